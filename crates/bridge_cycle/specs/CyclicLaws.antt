@@ -41,7 +41,7 @@ placed {S} (e ∷ f ∷ es) start cycle p x w a b h = elim (cases_lt p (start + 
 ]
 
 -- what the turn at a moment is
-turn_back : {S : Type 0} (t p : ℕ) (o : Option (Place S)) (x : Turn S) → turn_of t p o ≡ Some x → (y : Place S) × (o ≡ Some y) × (turn_of t p (Some y) ≡ Some x)
+pub turn_back : {S : Type 0} (t p : ℕ) (o : Option (Place S)) (x : Turn S) → turn_of t p o ≡ Some x → (y : Place S) × (o ≡ Some y) × (turn_of t p (Some y) ≡ Some x)
 turn_back t p None x h = absurd (cc)
 turn_back t p (Some y) x h = (y, refl, h)
 

@@ -3,3 +3,6 @@ pub mod Opens
 pub mod Cyclic
 pub mod Ends
 pub mod CyclicLaws
+pub mod Runs
+pub mod Fitting
+pub mod Entries

@@ -5,8 +5,11 @@
 
 pub mod cyclic;
 pub mod fit;
+pub mod laws;
+pub mod run;
 pub mod timeline;
 
 pub use cyclic::{CyclicList, ListFault, NoMemory};
 pub use fit::first_fit;
+pub use run::{Run, longest_run};
 pub use timeline::{Timeline, Turn};
