@@ -5,7 +5,7 @@ ghost use Rattle.bridge_cycle.specs.Cyclic as cyclic;
 ghost use Rattle.bridge_cycle.specs.Ends as running;
 
 use crate::timeline::{Timeline, Turn};
-use std::alloc::Allocator;
+use std::alloc::{AllocError, Allocator};
 use std::marker::Model;
 use thiserror::Error;
 
@@ -37,14 +37,30 @@ pub enum ListFault {
 #[error("no memory")]
 pub struct NoMemory;
 
+impl From<AllocError> for ListFault {
+    ghost from_gives = { λ _ e. e ≡ fault.NoMemory };
+
+    fn from(_error: AllocError) -> ListFault {
+        ListFault::NoMemory
+    }
+}
+
+impl From<AllocError> for NoMemory {
+    fn from(_error: AllocError) -> NoMemory {
+        NoMemory
+    }
+}
+
 const MOST_ENTRIES: usize = 256;
 
 const LONGEST_CYCLE: u64 = 1_000_000_000;
 
-/// States that follow one another in each cycle, each for its interval in ns; the last one lasts to the end of the cycle.
+/// States that follow one another in each cycle, each for its interval in ns; the last one lasts to
+/// the end of the cycle.
 ///
-/// A cycle begins at `base`, and there is one at every moment, also before the base. Each turn of an entry in each cycle is an interval of its own, also
-/// between equal neighbours (the gate control list of IEEE 802.1Q-2018 8.6.8 and the list of a stream gate of 8.6.5).
+/// A cycle begins at the base, and there are cycles before it too, so that each moment has a state.
+/// Each turn of an entry in each cycle is an interval of its own, also between equal neighbours (the
+/// gate control list of IEEE 802.1Q-2018 8.6.8, and the list of a stream gate of 8.6.5).
 #[derive(Drop)]
 pub struct CyclicList<S, A: Allocator + Copy> {
     base: u64,
@@ -62,10 +78,11 @@ impl<S, A: Allocator + Copy> Model for CyclicList<S, A> {
 }
 
 impl<S: Copy, A: Allocator + Copy> CyclicList<S, A> {
-    /// A list of a base and a cycle in ns, and of entries with their intervals in ns.
+    /// A list of a base and a cycle in ns, and of states with their intervals in ns.
     ///
-    /// Tested in the order Empty, TooManyEntries, CycleOutOfRange, ZeroInterval, OverCycle; NoMemory only where a growth was refused. What is refused is
-    /// dropped. Intervals that add up to less than the cycle are fine.
+    /// The tests go in the order Empty, TooManyEntries, CycleOutOfRange, ZeroInterval, OverCycle, and
+    /// `NoMemory` comes only where a growth was refused. Intervals that add up to less than the cycle
+    /// are fine. Where the parts are refused, the entries are dropped.
     pub fn new(
         alloc: A,
         base: u64,
@@ -80,9 +97,7 @@ impl<S: Copy, A: Allocator + Copy> CyclicList<S, A> {
         if let Some(fault) = fault_of(cycle, &entries) {
             return Err(fault);
         }
-        let Ok(ends) = ends_of(alloc, &entries) else {
-            return Err(ListFault::NoMemory);
-        };
+        let ends = ends_of(alloc, &entries)?;
         Ok(CyclicList {
             base,
             cycle,
@@ -95,17 +110,11 @@ impl<S: Copy, A: Allocator + Copy> CyclicList<S, A> {
     pub fn copy(&self, alloc: A) -> Result<Self, NoMemory>
         ensures equal { IfOk result (λ l. l ≡ self.now) }
     {
-        let Ok(entries) = self.entries.iter().copied().collect(alloc) else {
-            return Err(NoMemory);
-        };
-        let Ok(ends) = self.ends.iter().copied().collect(alloc) else {
-            return Err(NoMemory);
-        };
         Ok(CyclicList {
             base: self.base,
             cycle: self.cycle,
-            entries,
-            ends,
+            entries: self.entries.iter().copied().collect(alloc)?,
+            ends: self.ends.iter().copied().collect(alloc)?,
         })
     }
 
@@ -170,19 +179,15 @@ fn is_within<S: Copy>(entries: &[(S, u64)], cycle: u64) -> bool
 fn ends_of<S: Copy, A: Allocator + Copy>(
     alloc: A,
     entries: &[(S, u64)],
-) -> Result<Vec<u64, A>, NoMemory>
+) -> Result<Vec<u64, A>, AllocError>
     requires { cyclic.total entries.now ≤ 1_000_000_000 }
     ensures { IfOk result (λ v. running.AreEnds entries.now v.items) }
 {
-    let Ok(mut ends) = Vec::with_capacity(alloc, entries.len()) else {
-        return Err(NoMemory);
-    };
+    let mut ends = Vec::with_capacity(alloc, entries.len())?;
     let mut end = 0;
     for entry in entries {
         end += entry.1;
-        if ends.push(end).is_err() {
-            return Err(NoMemory);
-        }
+        ends.push(end)?;
     }
     Ok(ends)
 }

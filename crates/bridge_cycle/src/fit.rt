@@ -4,9 +4,10 @@ ghost use Rattle.bridge_cycle.specs.Opens.{opens_in};
 
 use crate::timeline::Timeline;
 
-/// The least moment from `from` on at which `class` stays open for `occ` ns (the time check of the transmission gates, IEEE 802.1Q-2018 8.6.8).
+/// The least moment from `from` on at which a frame fits that occupies the link for `occ` ns: `class`
+/// is open at all of these moments (the time check of the transmission gates, IEEE 802.1Q-2018 8.6.8).
 ///
-/// Bit c of a state says that class c is open.
+/// Bit c of a state says that class c is open. Times are in ns.
 pub fn first_fit<L: Timeline<State = u8>>(timeline: &L, class: u8, occ: u64, from: u64) -> u64
     requires class { class < 8 }
     requires occ { occ ≤ 1_000_000_000 }

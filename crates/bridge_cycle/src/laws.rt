@@ -9,12 +9,14 @@ ghost use Rattle.bridge_cycle.specs.Moments.{Fits, Repeats};
 ghost use Rattle.bridge_cycle.specs.Opens.{opens_in};
 ghost use Rattle.bridge_cycle.specs.Runs.{IsLongestRun, Allows};
 
-/// Where what is open repeats with the cycle, a length fits at some moment exactly if it fits at one of the first cycle.
+/// Where what is open repeats with the cycle, a length fits at some moment exactly if it fits at one
+/// of the first cycle.
 pub fn some_fits_is_fits()
     ensures { (opens : ℕ → Bool) (cycle occ : ℕ) → 0 < cycle → Repeats opens cycle → (some_fits opens cycle occ ≡ true) ↔ ((t : ℕ) × Fits opens occ t) }
 {}
 
-/// Where what is open repeats with the cycle, a length that fits somewhere fits within a cycle of any moment.
+/// Where what is open repeats with the cycle, a length that fits somewhere fits within a cycle of any
+/// moment.
 pub fn fits_near()
     ensures { (opens : ℕ → Bool) (cycle occ t from : ℕ) → 0 < cycle → Repeats opens cycle → Fits opens occ t → (u : ℕ) × (from ≤ u) × (u < from + cycle) × Fits opens occ u }
 {}
