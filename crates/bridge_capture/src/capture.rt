@@ -127,4 +127,36 @@ impl Capture {
             }
         }
     }
+
+    /// All the packets that are still to come, to the end of the capture. Where a growth for the
+    /// list is refused, packets are lost, and the capture is refused with `NoMemory` from then on.
+    pub fn rest<R: ByteSource, A: Allocator + Copy>(
+        &mut self,
+        alloc: A,
+        source: &mut R,
+    ) -> Result<Vec<Packet<A>, A>, CaptureFault>
+        ensures whole { (text : List ℕ) (given : List Captured) → StandsFor self.old (R.remaining source.old) text given →
+            IfOk result (λ packets. Records text (given ++ views packets.items) AtEnd) }
+        ensures refused { (text : List ℕ) (given : List Captured) → StandsFor self.old (R.remaining source.old) text given →
+            IfErr result (λ fault. (more : List Captured) × RefusedSo fault text (given ++ more)) }
+
+        // Its end and its refusal are for good.
+        ensures ends { OnOk result (HasEnded self.new) }
+        ensures refuses { IfErr result (λ fault. HasRefused self.new fault) }
+        ensures again { (fault : _) → HasRefused self.old fault → result ≡ Err fault }
+
+        // Only a source that has failed is answered so, and each such source is.
+        ensures read { result ≡ Err CaptureFault.Read → IsReading self.old → R.has_failed source.new ≡ true }
+        ensures broken { R.has_failed source.old ≡ true → IsReading self.old → result ≡ Err CaptureFault.Read }
+        ensures no_write { result ≢ Err CaptureFault.Write }
+    {
+        let mut packets = Vec::new(alloc);
+        while let Some(packet) = self.next(alloc, source)? {
+            if packets.push(packet).is_err() {
+                self.progress = Progress::Refused(CaptureFault::NoMemory);
+                return Err(CaptureFault::NoMemory);
+            }
+        }
+        Ok(packets)
+    }
 }
