@@ -1,0 +1,6 @@
+#![tactic(auto)]
+//! The worked examples of the bridge, as tests on the public calls of its parts.
+
+#[cfg(test)]
+mod capture;
+pub mod refusing;
