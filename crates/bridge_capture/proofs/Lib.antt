@@ -6,3 +6,4 @@ pub mod Parts
 pub mod Steps
 pub mod Turns
 pub mod Written
+pub mod Rising

@@ -1,5 +1,5 @@
 -- A capture that is being read, and the text that its source had when it began.
-use Rattle.std.specs.Prelude.{◌≡◌, ℕ, ◌+◌, ◌-◌, map, List, [], ◌∷◌, ◌++◌, Option, Some, None, Result, Ok, Err, drop}
+use Rattle.std.specs.Prelude.{◌≡◌, ℕ, ◌+◌, ◌-◌, ◌*◌, ◌^◌, ◌<◌, ◌≤◌, length, map, List, [], ◌∷◌, ◌++◌, Option, Some, None, Result, Ok, Err, drop}
 use Rattle.bridge_capture.specs.declared.form.Form.{Form}
 use Rattle.bridge_capture.specs.declared.fault.CaptureFault.{CaptureFault}
 use Rattle.bridge_capture.specs.declared.fault.CaptureFault.TheVariants as faults
@@ -72,3 +72,13 @@ abbrev pub Answers : {A : Type 0} → CaptureState → Option (List ℕ) → Lis
 Answers capture remaining text given (Ok (Some packet)) = StandsFor capture remaining text (given ++ view packet ∷ []) × Gave text (given ++ view packet ∷ [])
 Answers capture remaining text given (Ok None) = StandsFor capture remaining text given × Records text given AtEnd
 Answers capture remaining text given (Err fault) = StandsFor capture remaining text given × RefusedSo fault text given
+
+-- frames whose times don't fall from this one on, each below 4*10^18 ns, and whose octets are no more than their lengths
+abbrev pub AreInOrder : ℕ → List Captured → Type 0
+AreInOrder earliest [] = Unit {0}
+AreInOrder earliest (captured ∷ more) = ((earliest ≤ captured.time) × (captured.time < 4 * 10 ^ 18) × (length captured.octets ≤ 262144) × (length captured.octets ≤ captured.len)) × AreInOrder captured.time more
+
+-- the time of the last of some frames, or another one
+abbrev pub last_time : ℕ → List Captured → ℕ
+last_time earliest [] = earliest
+last_time earliest (captured ∷ more) = last_time captured.time more

@@ -39,7 +39,7 @@ impl Capture {
     ghost use Rattle.std.specs.Prelude.{◌≡◌, ◌≢◌, ◌≤◌, ◌<◌, ◌+◌, ◌*◌, ◌^◌, ◌++◌, ℕ, List, [], length, Result, Ok, Err, Some, None, true, IfOk, IfErr, OnOk};
     ghost use Rattle.bridge_capture.specs.Grammar.{Captured, Records, AtEnd};
     ghost use Rattle.bridge_capture.specs.Reading.{IfPacket};
-    ghost use Rattle.bridge_capture.specs.Standing.{StandsFor, Begins, Answers, RefusedSo, IsReading, HasEnded, HasRefused, records_left, views};
+    ghost use Rattle.bridge_capture.specs.Standing.{StandsFor, Begins, Answers, RefusedSo, IsReading, HasEnded, HasRefused, records_left, views, AreInOrder};
 
     /// Reads the header of a capture. Takes no memory.
     pub fn begin<R: ByteSource>(source: &mut R) -> Result<Capture, CaptureFault>
@@ -139,6 +139,10 @@ impl Capture {
             IfOk result (λ packets. Records text (given ++ views packets.items) AtEnd) }
         ensures refused { (text : List ℕ) (given : List Captured) → StandsFor self.old (R.remaining source.old) text given →
             IfErr result (λ fault. (more : List Captured) × RefusedSo fault text (given ++ more)) }
+
+        // What holds of the packets, whatever the source tells.
+        ensures in_order { IfOk result (λ packets. AreInOrder self.old.latest (views packets.items)) }
+        ensures few { IfOk result (λ packets. length packets.items ≤ records_left self.old) }
 
         // Its end and its refusal are for good.
         ensures ends { OnOk result (HasEnded self.new) }
