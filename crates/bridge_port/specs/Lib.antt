@@ -4,3 +4,4 @@ pub mod Solo
 pub mod Standing
 pub mod Rings
 pub mod Heads
+pub mod Seen

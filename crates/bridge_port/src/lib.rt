@@ -10,5 +10,5 @@ mod queues;
 
 pub use bridge_cycle::NoMemory;
 pub use item::{Item, Refusal};
-pub use law::{alone_follows, own_windows_isolate};
+pub use law::{alone_follows, ever_is_fitting, own_windows_isolate};
 pub use port::Port;

@@ -140,6 +140,7 @@ impl<T: Drop, A: Allocator + Copy> Port<T, A> {
         ensures stands { (xs : List (Copy (Item T))) → StandsFor self.old xs → IsBegun self.new result.1 (self.new.earliest - 1) result.0 xs }
         ensures counts { (f : Item T → Bool) → count_queued f self.old ≡ (if f result.0 then 1 else 0) + count_queued f self.new }
         ensures bounded { self.new.free < limit (self.old.started + 1) }
+        ensures early { self.new.free < 4_100_000_000_000_000_000 }
     {
         let next = self.next();
         match next {
