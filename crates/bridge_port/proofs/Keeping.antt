@@ -133,3 +133,9 @@ pub started_which : {T : Type 0} (old new : State T) (k c : ℕ) (x : Item T) �
 started_which {T} old new k c x next moved l d y n =
     let one = next_one old k c x l d y next n in
     (ap (λ (p : State T). p.earliest) moved ∙ ap (λ m. m + 1) one.0, one.1, one.2)
+
+-- the head that starts next is no longer than a frame may be
+pub next_short : {T : Type 0} (p : State T) (k c : ℕ) (x : Item T) → IsKept p → IsNext p k c x → x.len ≤ 9216
+next_short {T} p k c x kept next =
+    let all : AllStartable p.list p.speed c (x ∷ next.rest) = subst (AllStartable p.list p.speed c) next.is_head (kept.startable c) in
+    all.0.1

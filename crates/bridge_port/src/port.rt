@@ -141,6 +141,7 @@ impl<T: Drop, A: Allocator + Copy> Port<T, A> {
         ensures counts { (f : Item T → Bool) → count_queued f self.old ≡ (if f result.0 then 1 else 0) + count_queued f self.new }
         ensures bounded { self.new.free < limit (self.old.started + 1) }
         ensures early { self.new.free < 4_100_000_000_000_000_000 }
+        ensures length { result.0.len ≤ 9216 }
     {
         let next = self.next();
         match next {

@@ -1,5 +1,5 @@
 use Rattle.std.proofs.Common.{rules}
-use Rattle.bridge_port.proofs.Keeping.{started_stands, started_counts, started_which}
+use Rattle.bridge_port.proofs.Keeping.{started_stands, started_counts, started_which, next_short}
 use Rattle.bridge_port.proofs.port.Port.start.Goals as goal
 
 pub returns-clause-next : goal.returns-clause-next
@@ -16,3 +16,6 @@ returns-clause-stands g c = started_stands _ _ _ _ _ (returns-clause-next g c) (
 
 pub returns-clause-counts : goal.returns-clause-counts
 returns-clause-counts g c = started_counts _ _ _ _ _ (returns-clause-next g c) (returns-clause-moved g c)
+
+pub returns-clause-length : goal.returns-clause-length
+returns-clause-length g c = next_short _ _ _ _ c.in-Some.ensures.kept (returns-clause-next g c)
