@@ -1,6 +1,6 @@
 -- Frames of a capture, one after the other.
-use Rattle.std.proofs.Common.{◌≡◌, ◌≢◌, ℕ, Bool, true, false, ◌+◌, ◌<◌, ◌≤◌, List, [], ◌∷◌, ◌++◌, length, refl, ap, ◌∙◌, sym, subst, arith, ◌⊎◌, inl, inr, Option, Some, None, Result, Ok, Err, append_assoc, length-append, reverse, add-zero, zero-add}
-use Rattle.std.specs.Prelude.{not, ◌&&◌, map, filter, count_by, Vec, if◌then◌else◌, is_none, slice_index_or, slice_set, IsErr}
+use Rattle.std.proofs.Common.{◌≡◌, ℕ, Bool, true, false, ◌+◌, ◌≤◌, List, [], ◌∷◌, ◌++◌, length, refl, ap, ◌∙◌, sym, subst, arith, inl, inr, Option, Some, None, Result, Ok, Err, append_assoc, length-append, reverse, add-zero, zero-add}
+use Rattle.std.specs.Prelude.{not, ◌&&◌, map, filter, count_by, Vec, if◌then◌else◌, is_none, slice_index_or, IsErr}
 use Rattle.std.specs.List.{flat_map}
 use Rattle.std.specs.Io.KnownBytes.{Appends}
 use Rattle.std.proofs.KnownBytes.{Appends-trans}
@@ -14,27 +14,26 @@ use Rattle.bridge_capture.specs.Standing.{last_time}
 use Rattle.bridge_capture.specs.Written.{written_item, written_text, written_header}
 use Rattle.bridge_capture.specs.Sinks.{AppendsFront}
 use Rattle.bridge_capture.proofs.Written.{front_of_second}
-use Rattle.bridge_cycle.specs.Entries.{In}
 use Rattle.bridge_cycle.specs.Cyclic.{Cyclic}
 use Rattle.bridge_port.specs.declared.item.Item.{Item}
 use Rattle.bridge_port.specs.declared.item.Refusal.{Refusal}
 use Rattle.bridge_port.specs.declared.item.Refusal.TheVariants as refusal
-use Rattle.bridge_port.specs.Schedule.{Fate, Never, Full, Queued, Started, Copy, Rules, IsLawful, is_accepted}
-use Rattle.bridge_port.specs.Seen.{all_seen, rules_seen, SameRooms}
+use Rattle.bridge_port.specs.Schedule.{Started, Copy, IsLawful, is_accepted}
+use Rattle.bridge_port.specs.Seen.{all_seen, SameRooms}
 use Rattle.bridge_port.specs.Opening.{opens_of, ever_of}
-use Rattle.bridge_port.specs.Standing.{State, StandsFor, NoStartBefore, IsDue, IsIdle, rules_of, refusal_of, fate_of, copy_of, offered_state, answer_of, queues_with, count_queued}
+use Rattle.bridge_port.specs.Standing.{State, StandsFor, NoStartBefore, IsDue, rules_of, refusal_of, fate_of, copy_of, offered_state, answer_of, count_queued}
 use Rattle.bridge_port.proofs.Laws.{by_bool, not_lt}
 use Rattle.bridge_port.proofs.Ports.{idle_calm}
 use Rattle.bridge_port.proofs.Watched.{lawful_seen}
 use Rattle.bridge_core.specs.declared.count.WireCount.{WireCount}
 use Rattle.bridge_core.specs.declared.fault.RunFault.{RunFault}
-use Rattle.bridge_core.specs.Wire.{Frame, Offer, one_queue, offer_of, offers_of, offered, is_well_formed, departure, Departs, IsOutput, GoesThrough}
-use Rattle.bridge_core.specs.Sending.{frame_of, is_overlong, AreOfClass, IsOneQueue, Sends, NotBefore, IsRunning, StopsAfter, Continues}
+use Rattle.bridge_core.specs.Wire.{Frame, Offer, one_queue, offer_of, offers_of, is_well_formed, IsOutput, GoesThrough}
+use Rattle.bridge_core.specs.Sending.{frame_of, is_overlong, AreOfClass, Sends, NotBefore, IsRunning, StopsAfter, Continues}
 
 -- no start is asked for before a moment that is not after the next one
 pub calm_before : {T : Type 0} (p : State T) (t : ℕ) (next : Option ℕ) → IsDue p next → NotBefore t next → NoStartBefore p t
 calm_before p t None due n = idle_calm p t due
-calm_before p t (Some k) due n = λ c x rest e u a f l. due.2.least c x rest e u a f (omega arith)
+calm_before p t (Some k) due n = λ c x rest e u a f l. due.2.least c x rest e u a f (let late = n.0 in omega arith)
 
 -- One frame more.
 
@@ -98,31 +97,31 @@ goes_through {A} speed room frames p sent full left no_list pace places s =
       output = subst (λ v. IsOutput v (all_seen frame_of s.copies) left) pace s.output;
     }
 
-written_more : (left gone : List Captured) → written_text (left ++ gone) ≡ written_text left ++ flat_map written_item gone
+pub written_more : (left gone : List Captured) → written_text (left ++ gone) ≡ written_text left ++ flat_map written_item gone
 written_more left gone = ap (λ l. written_header ++ l) (flat_map-append written_item left gone) ∙ sym (append_assoc written_header (flat_map written_item left) (flat_map written_item gone))
 
 -- the sink failed while frames left
 pub stops_after : {A : Type 0} (speed : Speed) (room : ℕ) (frames : List Captured) (old new : State (Vec ℕ A)) (count : WireCount) (began now failed : Option (List ℕ)) → (r : IsRunning speed room frames old count began now) → new.list ≡ old.list → new.speed ≡ old.speed → new.rooms ≡ old.rooms → (gone : List Captured) → Sends new (offers_of frames) count.sent count.full (r.left ++ gone) → AppendsFront now failed (flat_map written_item gone) → StopsAfter speed room frames began failed
 stops_after {A} speed room frames old new count began now failed r list pace places gone s front = record {
-    copies = all_seen frame_of s.copies;
-    left = r.left ++ gone;
-    goes = goes_through speed room frames new count.sent count.full (r.left ++ gone) (list ∙ r.queue.list) (pace ∙ r.queue.pace) (ap (λ l. slice_index_or l 0 0) places ∙ r.queue.places) s;
-    writes = subst (AppendsFront began failed) (sym (written_more r.left gone)) (front_of_second began now failed (written_text r.left) (flat_map written_item gone) r.writes front);
-  }
+  copies = all_seen frame_of s.copies;
+  left = r.left ++ gone;
+  goes = goes_through speed room frames new count.sent count.full (r.left ++ gone) (list ∙ r.queue.list) (pace ∙ r.queue.pace) (ap (λ l. slice_index_or l 0 0) places ∙ r.queue.places) s;
+  writes = subst (AppendsFront began failed) (sym (written_more r.left gone)) (front_of_second began now failed (written_text r.left) (flat_map written_item gone) r.writes front);
+}
 
 -- An offer.
 
 output_offer : (speed : Speed) (x : Copy Frame) (xs : List (Copy Frame)) (left : List Captured) → ((s : ℕ) → x.fate ≡ Started s → ⊥) → IsOutput speed xs left → IsOutput speed (x ∷ xs) left
 output_offer speed x xs left waits o = record {
-    rises = o.rises;
-    members = λ d. (
-      (λ h. let was = (o.members d).0 h in record { copy = was.copy; start = was.start; listed = inr was.listed; started = was.started; is = was.is }),
-      (λ h. elim h.listed [
-        inl e ↦ absurd (waits h.start (ap (λ (y : Copy Frame). y.fate) (sym e) ∙ h.started))
-        | inr l ↦ (o.members d).1 (record { copy = h.copy; start = h.start; listed = l; started = h.started; is = h.is })
-      ])
-    );
-  }
+  rises = o.rises;
+  members = λ d. (
+    (λ h. let was = (o.members d).0 h in record { copy = was.copy; start = was.start; listed = inr was.listed; started = was.started; is = was.is }),
+    (λ h. elim h.listed [
+      | inl e ↦ absurd (waits h.start (ap (λ (y : Copy Frame). y.fate) (sym e) ∙ h.started))
+      | inr l ↦ (o.members d).1 (record { copy = h.copy; start = h.start; listed = l; started = h.started; is = h.is })
+    ]),
+  );
+}
 
 not_started : (o : Option Refusal) (s : ℕ) → fate_of o ≡ Started s → ⊥
 not_started None s h = cc

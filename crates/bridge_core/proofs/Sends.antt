@@ -1,5 +1,5 @@
 -- What offers and starts do to what a port of one queue stands for.
-use Rattle.std.proofs.Common.{◌≡◌, ℕ, Bool, true, false, ◌+◌, ◌<◌, ◌≤◌, List, [], ◌∷◌, ◌++◌, length, refl, ap, ◌∙◌, sym, subst, arith, ◌⊎◌, inl, inr, Option, Some, None, Result, Ok, Err, append_assoc, append-nil}
+use Rattle.std.proofs.Common.{◌≡◌, ℕ, Bool, ◌+◌, ◌≤◌, List, [], ◌∷◌, ◌++◌, refl, ap, ◌∙◌, sym, subst, arith, inl, inr, Option, Result, Ok, Err, append_assoc, append-nil}
 use Rattle.std.specs.Prelude.{not, count_by, Vec, if◌then◌else◌, IsErr}
 use Rattle.std.specs.List.{flat_map}
 use Rattle.std.specs.Io.KnownBytes.{Appends}
@@ -15,13 +15,13 @@ use Rattle.bridge_capture.specs.Sinks.{AppendsFront}
 use Rattle.bridge_capture.proofs.Written.{front_of_second}
 use Rattle.bridge_cycle.specs.Entries.{In}
 use Rattle.bridge_port.specs.declared.item.Item.{Item}
-use Rattle.bridge_port.specs.Schedule.{Fate, Never, Full, Queued, Started, Copy, Begun, here, there, is_accepted}
+use Rattle.bridge_port.specs.Schedule.{Fate, Queued, Started, Copy, Begun, here, there, is_accepted}
 use Rattle.bridge_port.specs.Seen.{all_seen}
 use Rattle.bridge_port.specs.Standing.{State, StandsFor, IsNext, IsBegun, started_state}
 use Rattle.bridge_port.proofs.Watched.{begun_seen}
 use Rattle.bridge_port.proofs.Members.{begun_to, begun_from, begun_there}
 use Rattle.bridge_core.specs.declared.fault.RunFault.{RunFault}
-use Rattle.bridge_core.specs.Wire.{Frame, Offer, offered, departure, Departs, IsRising, IsOutput}
+use Rattle.bridge_core.specs.Wire.{Frame, Offer, offered, departure, IsOutput}
 use Rattle.bridge_core.specs.Sending.{frame_of, AreOfClass, Sends, Goes}
 use Rattle.bridge_core.proofs.Lists.{in_left, in_last, in_push, rising_push}
 

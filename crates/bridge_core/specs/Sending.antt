@@ -14,7 +14,8 @@ use Rattle.bridge_port.specs.Standing.{State, StandsFor, count_queued}
 use Rattle.bridge_core.specs.declared.count.WireCount.{WireCount}
 use Rattle.bridge_core.specs.declared.fault.RunFault.{RunFault}
 use Rattle.bridge_capture.specs.Standing.{last_time}
-use Rattle.bridge_core.specs.Wire.{Frame, Offer, offered, offers_of, is_well_formed, IsOutput, GoesThrough}
+use Rattle.bridge_core.specs.Wire.{Frame, Offer, offered, offers_of, is_well_formed, IsOutput, GoesThrough, IsWireRun}
+use Rattle.bridge_core.specs.declared.fault.RunFault.TheVariants as run
 
 -- a queued frame as a frame
 abbrev pub frame_of : {A : Type 0} → Item (Vec ℕ A) → Frame
@@ -55,7 +56,7 @@ Goes p offers sent full left old new (Err e) = (gone : List Captured) × Sends p
 -- a moment that is not before another one, where there is one
 abbrev pub NotBefore : ℕ → Option ℕ → Type 0
 NotBefore t None = Unit {0}
-NotBefore t (Some k) = t ≤ k
+NotBefore t (Some k) = (t ≤ k) × (k < 4100000000000000000)
 
 -- after these frames of a capture: the port, the counts, and the sink with what left so far
 pub record IsRunning {A : Type 0} (speed : Speed) (room : ℕ) (frames : List Captured) (p : State (Vec ℕ A)) (count : WireCount) (began now : Option (List ℕ)) : Type 0 where
@@ -80,3 +81,10 @@ pub record StopsAfter (speed : Speed) (room : ℕ) (frames : List Captured) (beg
 abbrev pub Continues : {A : Type 0} → Speed → ℕ → List Captured → Captured → State (Vec ℕ A) → WireCount → Option (List ℕ) → Option (List ℕ) → Result (Unit {0}) RunFault → Type 0
 Continues speed room frames next p count began now (Ok u) = IsRunning speed room (frames ++ next ∷ []) p count began now
 Continues speed room frames next p count began now (Err e) = StopsAfter speed room frames began now
+
+-- what came of the frames of a capture, where the port and the sink were new
+abbrev pub EndsSo : Speed → ℕ → List Captured → Option (List ℕ) → Option (List ℕ) → Result WireCount RunFault → Type 0
+EndsSo speed room frames old new (Ok count) = (left : List Captured) × IsWireRun speed room frames left count × Appends old new (written_text left)
+EndsSo speed room frames old new (Err (run.Capture port fault)) = ⊥
+EndsSo speed room frames old new (Err (run.Write port)) = (front : List Captured) × (more : List Captured) × (frames ≡ front ++ more) × StopsAfter speed room front old new
+EndsSo speed room frames old new (Err run.NoMemory) = Unit {0}

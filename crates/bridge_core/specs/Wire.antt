@@ -1,5 +1,5 @@
 -- One capture through one queue: what a run over a text is.
-use Rattle.std.specs.Prelude.{◌≡◌, ℕ, Bool, true, ◌+◌, ◌<◌, not, nat_eq, is_ok, List, [], ◌∷◌, ◌++◌, length, map, filter, reverse, count_by, Option, ◌↔◌}
+use Rattle.std.specs.Prelude.{◌≡◌, ℕ, Bool, true, ◌+◌, ◌<◌, not, is_ok, List, [], ◌∷◌, ◌++◌, length, map, filter, reverse, count_by, Option, ◌↔◌}
 use Rattle.std.specs.Io.KnownBytes.{Appends}
 use Rattle.bridge_frame.specs.declared.Speed.{Speed}
 use Rattle.bridge_frame.specs.Frames.{head}
@@ -10,7 +10,7 @@ use Rattle.bridge_capture.specs.Grammar.{Captured, Records, AtEnd, AtFault}
 use Rattle.bridge_capture.specs.Written.{written_text}
 use Rattle.bridge_capture.specs.Sinks.{AppendsFront}
 use Rattle.bridge_cycle.specs.Entries.{In}
-use Rattle.bridge_port.specs.Schedule.{Fate, Started, Copy, Rules, IsLawful, is_accepted}
+use Rattle.bridge_port.specs.Schedule.{Started, Copy, Rules, IsLawful, is_accepted}
 use Rattle.bridge_port.specs.Solo.{IsWhole}
 use Rattle.bridge_core.specs.declared.count.WireCount.{WireCount}
 use Rattle.bridge_core.specs.declared.fault.RunFault.{RunFault}
@@ -127,3 +127,8 @@ abbrev pub IsOfReading : RunFault → Type 0
 IsOfReading (run.Capture port fault) = Unit {0}
 IsOfReading (run.Write port) = ⊥
 IsOfReading run.NoMemory = Unit {0}
+
+-- the fault of a run for one of its only capture
+abbrev pub fault_of_reading : CaptureFault → RunFault
+fault_of_reading faults.NoMemory = run.NoMemory
+fault_of_reading fault = run.Capture 1 fault

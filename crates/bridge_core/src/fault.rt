@@ -20,6 +20,14 @@ pub enum RunFault {
     NoMemory,
 }
 
+impl From<bridge_port::NoMemory> for RunFault {
+    ghost from_gives = { λ _ e. e ≡ no_memory };
+
+    fn from(_: bridge_port::NoMemory) -> RunFault {
+        RunFault::NoMemory
+    }
+}
+
 impl From<AllocError> for RunFault {
     ghost from_gives = { λ _ e. e ≡ no_memory };
 

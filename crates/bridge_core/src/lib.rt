@@ -3,8 +3,9 @@
 
 mod count;
 mod fault;
+mod queue;
 mod sending;
-mod wire;
 
 pub use count::WireCount;
 pub use fault::RunFault;
+pub use queue::wire;

@@ -123,6 +123,7 @@ impl<T: Drop, A: Allocator + Copy> Port<T, A> {
         ensures idle { (xs : List (Copy (Item T))) → StandsFor self.now xs → IfNone result ((h : ℕ) → self.now.earliest ≤ h → IsLawful (rules_of self.now) h xs) }
         ensures whole { (xs : List (Copy (Item T))) → StandsFor self.now xs → IfNone result (IsWhole xs) }
         ensures bounded { IfSome result (λ k. k < limit (self.now.started + 1)) }
+        ensures early { IfSome result (λ k. k < 4_100_000_000_000_000_000) }
     {
         let next = self.next();
         match next {

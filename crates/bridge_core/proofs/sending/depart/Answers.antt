@@ -1,10 +1,10 @@
-use Rattle.std.proofs.Common.{◌≡◌, ◌+◌, ◌-◌, ℕ, Ok, Err, ap, sym, ◌∙◌, subst, append-nil, [], ◌∷◌, ◌++◌}
+use Rattle.std.proofs.Common.{◌≡◌, ◌+◌, ◌-◌, ap, sym, ◌∙◌, subst, append-nil, [], ◌∷◌, ◌++◌}
 use Rattle.std.specs.Io.KnownBytes.{Appends}
 use Rattle.bridge_frame.specs.Link.{occupied}
 use Rattle.bridge_capture.specs.Written.{written_record, written_item}
 use Rattle.bridge_capture.specs.Sinks.{AppendsFront}
 use Rattle.bridge_core.specs.Wire.{departure}
-use Rattle.bridge_core.specs.Sending.{frame_of, Goes}
+use Rattle.bridge_core.specs.Sending.{frame_of}
 use Rattle.bridge_core.proofs.Sends.{sends_start}
 use Rattle.bridge_core.proofs.sending.depart.Goals as goal
 

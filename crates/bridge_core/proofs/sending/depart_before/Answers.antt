@@ -1,5 +1,4 @@
-use Rattle.std.proofs.Common.{◌≡◌, ◌≤◌, ◌<◌, ◌+◌, ◌++◌, ℕ, Ok, Err, ap, sym, ◌∙◌, subst, arith, rules}
-use Rattle.bridge_core.specs.Sending.{Goes}
+use Rattle.std.proofs.Common.{◌≡◌, ◌+◌, ◌++◌, Ok, Err, ◌∙◌, arith, rules}
 use Rattle.bridge_core.proofs.Sends.{goes_none, goes_after, goes_err}
 use Rattle.bridge_core.proofs.sending.depart_before.Goals as goal
 
