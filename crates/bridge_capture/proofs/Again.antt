@@ -11,22 +11,22 @@ use Rattle.bridge_capture.specs.Written.{written_form, written_header, written_w
 use Rattle.bridge_capture.specs.Laws.{WrittenIsRead}
 use Rattle.bridge_capture.proofs.Fronts.{fault_none, whole_record}
 
-words_length : (t c o : ℕ) → length (written_words t c o) ≡ 16
+pub words_length : (t c o : ℕ) → length (written_words t c o) ≡ 16
 unfolding written_words
 words_length t c o = refl
 
-words_time : (t c o : ℕ) → t < 4 * 10 ^ 18 → time_of written_form (written_words t c o) ≡ t
+pub words_time : (t c o : ℕ) → t < 4 * 10 ^ 18 → time_of written_form (written_words t c o) ≡ t
 unfolding written_words
 words_time t c o lt =
     let a = from_le_bytes-to_le_bytes_4 (t / 10 ^ 9) (omega arith) in
     let b = from_le_bytes-to_le_bytes_4 (t % 10 ^ 9) (omega arith) in
     rw (a, b) (omega arith)
 
-words_captured : (t c o : ℕ) → c < 2 ^ 32 → captured_of written_form (written_words t c o) ≡ c
+pub words_captured : (t c o : ℕ) → c < 2 ^ 32 → captured_of written_form (written_words t c o) ≡ c
 unfolding written_words
 words_captured t c o lt = from_le_bytes-to_le_bytes_4 c lt
 
-words_original : (t c o : ℕ) → o < 2 ^ 32 → original_of written_form (written_words t c o) ≡ o
+pub words_original : (t c o : ℕ) → o < 2 ^ 32 → original_of written_form (written_words t c o) ≡ o
 unfolding written_words
 words_original t c o lt = from_le_bytes-to_le_bytes_4 o lt
 

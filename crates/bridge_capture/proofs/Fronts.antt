@@ -17,13 +17,13 @@ use Rattle.bridge_capture.specs.Grammar.{Place, Front, Nothing, Fault, Record, o
 pub octets_front : (from count : ℕ) (w r : List ℕ) → from + count ≤ length w → octets_at from count (w ++ r) ≡ octets_at from count w
 octets_front from count w r le = rw (drop-append-le from w r (omega arith)) (take-append-le count (drop from w) r (omega (arith, length-drop from w)))
 
-time_front : (form : Form) (w r : List ℕ) → length w ≡ 16 → time_of form (w ++ r) ≡ time_of form w
+pub time_front : (form : Form) (w r : List ℕ) → length w ≡ 16 → time_of form (w ++ r) ≡ time_of form w
 time_front form w r len = rw (octets_front 0 4 w r (omega arith), octets_front 4 4 w r (omega arith)) refl
 
-captured_front : (form : Form) (w r : List ℕ) → length w ≡ 16 → captured_of form (w ++ r) ≡ captured_of form w
+pub captured_front : (form : Form) (w r : List ℕ) → length w ≡ 16 → captured_of form (w ++ r) ≡ captured_of form w
 captured_front form w r len = rw (octets_front 8 4 w r (omega arith)) refl
 
-original_front : (form : Form) (w r : List ℕ) → length w ≡ 16 → original_of form (w ++ r) ≡ original_of form w
+pub original_front : (form : Form) (w r : List ℕ) → length w ≡ 16 → original_of form (w ++ r) ≡ original_of form w
 original_front form w r len = rw (octets_front 12 4 w r (omega arith)) refl
 
 not_zero : (n : ℕ) → 0 < n → nat_eq n 0 ≡ false

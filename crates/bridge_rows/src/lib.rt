@@ -4,3 +4,5 @@
 #[cfg(test)]
 mod capture;
 pub mod refusing;
+#[cfg(test)]
+mod text;
