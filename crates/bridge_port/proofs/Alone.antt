@@ -1,9 +1,8 @@
-use Rattle.std.proofs.Common.{◌≡◌, ℕ, Bool, true, false, ◌+◌, ◌<◌, ◌≤◌, List, [], ◌∷◌, arith, refl, ap, ◌∙◌, sym, subst, ◌⊎◌, inl, inr}
+use Rattle.std.proofs.Common.{◌≡◌, ℕ, Bool, true, false, List, [], ◌∷◌, arith, refl, ap, sym, subst, inl, inr}
 use Rattle.std.proofs.lemmas.Bool.{cases_order}
-use Rattle.std.specs.Prelude.{max}
-use Rattle.bridge_cycle.specs.Moments.{Fits, IsFirst}
-use Rattle.bridge_port.specs.Schedule.{Fate, Never, Full, Queued, Started, Copy, Rules, waiting}
-use Rattle.bridge_port.specs.Solo.{last_done, IsSoloFate, IsSolo, SameOffers}
+use Rattle.bridge_cycle.specs.Moments.{IsFirst}
+use Rattle.bridge_port.specs.Schedule.{Fate, Never, Full, Queued, Started, Copy, Rules}
+use Rattle.bridge_port.specs.Solo.{IsSoloFate, IsSolo, SameOffers}
 
 first_one : (opens : ℕ → Bool) (occ from s t : ℕ) → IsFirst opens occ from s → IsFirst opens occ from t → s ≡ t
 first_one opens occ from s t a b = elim (cases_order s t) [

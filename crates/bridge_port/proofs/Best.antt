@@ -1,8 +1,8 @@
 -- The best of the heads, class by class, and the next start.
-use Rattle.std.proofs.Common.{◌≡◌, ℕ, Bool, true, false, ◌<◌, ◌≤◌, ◌+◌, ◌^◌, List, [], ◌∷◌, length, arith, refl, ap, ◌∙◌, sym, subst, ◌⊎◌, inl, inr, Option, Some, None, suc, zero, max}
+use Rattle.std.proofs.Common.{◌≡◌, ℕ, true, ◌<◌, ◌≤◌, ◌+◌, ◌^◌, List, [], ◌∷◌, length, arith, refl, ap, ◌∙◌, sym, subst, inl, inr, Option, Some, None, suc, zero, max}
 use Rattle.std.proofs.lemmas.Bool.Decides.{nat_tests}
 use Rattle.std.proofs.lemmas.Bool.{cases_lt}
-use Rattle.std.specs.Prelude.{if◌then◌else◌, nat_lt, nat_eq, slice_index_or, slice_get, drop, MatchOption}
+use Rattle.std.specs.Prelude.{nat_lt, slice_index_or, slice_get, drop, MatchOption}
 use Rattle.std.proofs.lemmas.Grind.{common_steps}
 use Rattle.bridge_frame.specs.declared.Speed.{Speed}
 use Rattle.bridge_frame.specs.Link.{occupied}
@@ -10,7 +10,7 @@ use Rattle.bridge_cycle.specs.Cyclic.{Cyclic}
 use Rattle.bridge_cycle.specs.Moments.{Fits, IsFirst}
 use Rattle.bridge_port.specs.declared.item.Item.{Item}
 use Rattle.bridge_port.specs.Heads.{IsBestHead, IsBest, sooner, StartsNext}
-use Rattle.bridge_port.specs.Standing.{State, queue_of, IsIdle, IsNext, AllStartable, NoStartBefore}
+use Rattle.bridge_port.specs.Standing.{State, IsIdle, AllStartable, NoStartBefore}
 use Rattle.bridge_port.specs.Opening.{opens_of, ever_of}
 use Rattle.bridge_port.proofs.Laws.{by_bool}
 use Rattle.bridge_port.proofs.Ports.{heads, nil_cons, some_is}

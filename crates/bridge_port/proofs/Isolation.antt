@@ -1,9 +1,8 @@
-use Rattle.std.proofs.Common.{◌≡◌, ℕ, Bool, true, false, ◌+◌, ◌<◌, ◌≤◌, ◌++◌, List, [], ◌∷◌, length, arith, refl, ap, ◌∙◌, sym, subst, ◌⊎◌, inl, inr, Option, Some, None, append_assoc}
+use Rattle.std.proofs.Common.{◌≡◌, ℕ, true, false, ◌+◌, ◌<◌, ◌≤◌, ◌++◌, List, [], ◌∷◌, length, arith, refl, ap, ◌∙◌, sym, subst, inl, inr, Option, Some, None, append_assoc}
 use Rattle.std.proofs.lemmas.Bool.Decides.{nat_tests}
-use Rattle.std.proofs.lemmas.Bool.{cases_lt}
-use Rattle.std.specs.Prelude.{if◌then◌else◌, nat_le, nat_lt, nat_eq, not, ◌&&◌, ◌||◌, max}
-use Rattle.bridge_cycle.specs.Moments.{Fits, IsFirst}
-use Rattle.bridge_port.specs.Schedule.{Fate, Never, Full, Queued, Started, Copy, Rules, is_accepted, starts_before, is_there, occupies, waiting, is_free, head, or_newer, fate_at, IsAnswer, Answered, IsStart, StartsFit, Apart, ApartFrom, AllApart, InTurn, InTurnWith, AllInTurn, OfferedUpTo, Serves, NoneMissed, IsLawful, is_queued}
+use Rattle.std.specs.Prelude.{nat_le, nat_lt, nat_eq, ◌&&◌}
+use Rattle.bridge_cycle.specs.Moments.{Fits}
+use Rattle.bridge_port.specs.Schedule.{Fate, Never, Full, Queued, Started, Copy, Rules, is_there, occupies, waiting, is_free, head, fate_at, IsAnswer, Answered, IsStart, StartsFit, Apart, ApartFrom, AllApart, InTurn, InTurnWith, AllInTurn, OfferedUpTo, IsLawful, is_queued}
 use Rattle.bridge_port.specs.Solo.{done_or, only, last_done, IsSoloFate, IsSolo, IsWhole, HasOwnWindow}
 use Rattle.bridge_port.proofs.Laws.{by_bool, fate_older, and_false}
 

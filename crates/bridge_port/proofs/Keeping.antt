@@ -1,18 +1,17 @@
 -- What a port keeps over offers and starts.
-use Rattle.std.proofs.Common.{◌≡◌, ◌≢◌, ℕ, Bool, true, false, ◌+◌, ◌*◌, ◌^◌, ◌<◌, ◌≤◌, ◌++◌, List, [], ◌∷◌, length, arith, refl, ap, ◌∙◌, sym, subst, Option, Some, None, max, get_or-set_same, get_or-set_other, length-set, append-nil}
+use Rattle.std.proofs.Common.{◌≡◌, ◌≢◌, ℕ, Bool, true, ◌+◌, ◌*◌, ◌^◌, ◌<◌, ◌≤◌, ◌++◌, List, [], ◌∷◌, length, arith, refl, ap, ◌∙◌, sym, subst, Option, Some, None, max, get_or-set_same, get_or-set_other, length-set}
 use Rattle.std.proofs.lemmas.Bool.Decides.{nat_tests}
 use Rattle.std.proofs.lemmas.List.Sums.{sum_by-set, sum_by_push, sum_by-cons}
-use Rattle.std.specs.Prelude.{if◌then◌else◌, nat_le, nat_eq, not, ◌&&◌, is_none, slice_index_or, slice_set, drop, sum_by, count_by}
+use Rattle.std.specs.Prelude.{if◌then◌else◌, nat_le, nat_eq, ◌&&◌, is_none, slice_index_or, slice_set, drop, sum_by, count_by}
 use Rattle.bridge_frame.specs.declared.Speed.{Speed}
 use Rattle.bridge_frame.specs.Link.{occupied}
 use Rattle.bridge_cycle.specs.Cyclic.{Cyclic}
 use Rattle.bridge_port.specs.declared.item.Item.{Item}
-use Rattle.bridge_port.specs.declared.item.Refusal.{Refusal}
 use Rattle.bridge_port.specs.declared.item.Refusal.TheVariants as refusal
-use Rattle.bridge_port.specs.Standing.{State, queue_of, refusal_of, AllStartable, IsKept, IsNext, limit, started_state, queues_with, offered_state, copy_of, count_queued, NoStartBefore, StandsFor, IsBegun}
+use Rattle.bridge_port.specs.Standing.{State, queue_of, refusal_of, AllStartable, IsKept, IsNext, started_state, queues_with, offered_state, copy_of, count_queued, NoStartBefore, StandsFor, IsBegun}
 use Rattle.bridge_port.specs.Opening.{ever_of}
 use Rattle.bridge_port.proofs.Laws.{by_bool}
-use Rattle.bridge_port.proofs.Ports.{le_false, nil_cons, tails, tail_is, below_length, stands_offered, stands_started, next_one}
+use Rattle.bridge_port.proofs.Ports.{le_false, tail_is, below_length, stands_offered, stands_started, next_one}
 use Rattle.bridge_port.specs.Schedule.{Copy}
 
 none_is_some : {A : Type 0} (a : A) → Some a ≡ None → ⊥

@@ -1,7 +1,7 @@
 -- What a start does to the copies of a schedule.
-use Rattle.std.proofs.Common.{◌≡◌, ℕ, ◌≤◌, List, [], ◌∷◌, ap, refl, ◌∙◌, sym, ◌⊎◌, inl, inr}
+use Rattle.std.proofs.Common.{◌≡◌, ℕ, List, ap, refl, ◌∙◌, sym, ◌⊎◌, inl, inr}
 use Rattle.bridge_cycle.specs.Entries.{In}
-use Rattle.bridge_port.specs.Schedule.{Fate, Queued, Started, Copy, Begun, here, there}
+use Rattle.bridge_port.specs.Schedule.{Queued, Started, Copy, Begun, here, there}
 
 -- each copy after it was there before, or is the one that started
 pub begun_to : {X : Type 0} (c s i : ℕ) (item : X) (xs ys : List (Copy X)) → Begun c s i item xs ys → (y : Copy X) → In y ys → In y xs ⊎ ((y.fate ≡ Started s) × (y.item ≡ item) × (y.class ≡ c))

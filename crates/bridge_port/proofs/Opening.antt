@@ -1,5 +1,5 @@
 -- What fits at some moment of a port.
-use Rattle.std.proofs.Common.{◌≡◌, ◌≢◌, ℕ, Bool, true, false, ◌<◌, ◌≤◌, ◌+◌, ◌^◌, Option, Some, None, List, arith, refl, ap, sym, subst, inl, inr, below_more, get_or-set_other, get_or-set_same}
+use Rattle.std.proofs.Common.{◌≡◌, ◌≢◌, ℕ, Bool, true, false, ◌<◌, ◌≤◌, ◌+◌, Option, Some, None, List, arith, refl, sym, subst, inl, inr, get_or-set_other, get_or-set_same}
 use Rattle.std.specs.Prelude.{◌↔◌, IsTrue, slice_index_or, slice_set, length}
 use Rattle.std.proofs.lemmas.Bool.{cases_lt}
 use Rattle.bridge_cycle.specs.Moments.{Fits, IsFirst}

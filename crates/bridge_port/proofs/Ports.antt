@@ -1,20 +1,20 @@
 -- What offers and starts do to the schedule that a port stands for.
-use Rattle.std.proofs.Common.{◌≡◌, ◌≢◌, ℕ, Bool, true, false, ◌+◌, ◌<◌, ◌≤◌, ◌++◌, List, [], ◌∷◌, length, arith, refl, ap, ◌∙◌, sym, subst, ◌⊎◌, inl, inr, Option, Some, None, suc, zero, append-nil, length-append, get_or-set_same, get_or-set_other}
+use Rattle.std.proofs.Common.{◌≡◌, ◌≢◌, ℕ, Bool, true, false, ◌+◌, ◌<◌, ◌≤◌, ◌++◌, List, [], ◌∷◌, length, arith, refl, ap, ◌∙◌, sym, subst, inl, inr, Option, Some, None, suc, zero, append-nil, length-append, get_or-set_same, get_or-set_other}
 use Rattle.std.proofs.lemmas.Bool.Decides.{nat_tests}
-use Rattle.std.proofs.lemmas.Bool.{cases_lt, cases_order}
-use Rattle.std.specs.Prelude.{if◌then◌else◌, nat_le, nat_lt, nat_eq, not, ◌&&◌, ◌||◌, slice_index_or, slice_set, slice_get, drop, max}
+use Rattle.std.proofs.lemmas.Bool.{cases_order}
+use Rattle.std.specs.Prelude.{if◌then◌else◌, nat_le, nat_lt, nat_eq, not, ◌&&◌, slice_index_or, slice_set, drop}
 use Rattle.std.proofs.lemmas.Grind.{common_steps}
 use Rattle.bridge_frame.specs.Link.{occupied}
-use Rattle.bridge_cycle.specs.Moments.{Fits, IsFirst}
+use Rattle.bridge_cycle.specs.Moments.{Fits}
 use Rattle.bridge_port.specs.declared.item.Item.{Item}
 use Rattle.bridge_port.specs.declared.item.Refusal.{Refusal}
 use Rattle.bridge_port.specs.declared.item.Refusal.TheVariants as refusal
-use Rattle.bridge_port.specs.Schedule.{Fate, Never, Full, Queued, Started, Copy, Rules, is_accepted, starts_before, is_there, occupies, waiting, is_free, head, IsAnswer, IsStart, StartsFit, OfferedUpTo, IsLawful, is_queued, has_queued, queue, Begun, here, there}
+use Rattle.bridge_port.specs.Schedule.{Fate, Never, Full, Queued, Started, Copy, Rules, is_there, occupies, waiting, is_free, head, IsAnswer, StartsFit, IsLawful, is_queued, queue, Begun, here, there}
 use Rattle.bridge_port.specs.Solo.{IsWhole}
 use Rattle.bridge_port.specs.Opening.{opens_of, ever_of}
-use Rattle.bridge_port.specs.Standing.{State, rules_of, queue_of, StandsFor, NoStartBefore, IsNext, IsBegun, IsIdle, IsDue, refusal_of, fate_of, queues_with, offered_state, copy_of, started_state}
+use Rattle.bridge_port.specs.Standing.{State, rules_of, queue_of, StandsFor, NoStartBefore, IsNext, IsBegun, IsIdle, refusal_of, fate_of, queues_with, offered_state, copy_of, started_state}
 use Rattle.bridge_port.proofs.Laws.{by_bool, IsUnstarted, Idle, lawful_later, lawful_offer, free_new, offered_later}
-use Rattle.bridge_port.proofs.Starts.{front, IsFront, IsBare, there_no, there_yes, started_of, IsStarted, lawful_start, queue_begun, queue_other}
+use Rattle.bridge_port.proofs.Starts.{front, there_no, started_of, IsStarted, lawful_start, queue_begun, queue_other}
 
 pub le_true : (a b : ℕ) → nat_le a b ≡ true → a ≤ b
 le_true a b h = grind (arith, nat_tests)

@@ -1,5 +1,5 @@
 -- What contracts see of a ring that is put back.
-use Rattle.std.proofs.Common.{◌≡◌, ◌<◌, ℕ, [], List, length, map, ap, sym, ◌∙◌, refl}
+use Rattle.std.proofs.Common.{◌≡◌, ◌<◌, ℕ, [], List, length, ap, sym, ◌∙◌}
 use Rattle.std.specs.Prelude.{slice_set, slice_index_or}
 use Rattle.std.proofs.lemmas.List.{map-set, get_or-map}
 use Rattle.std.proofs.Math.Seq.{map-set_same}

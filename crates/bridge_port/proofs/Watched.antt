@@ -1,10 +1,10 @@
 -- What is seen of a schedule.
-use Rattle.std.proofs.Common.{◌≡◌, ℕ, Bool, true, false, List, [], ◌∷◌, length, refl, ap, ◌∙◌, sym, subst, Option, Some, None, ◌≤◌, ◌<◌}
+use Rattle.std.proofs.Common.{◌≡◌, ℕ, Bool, true, false, List, [], ◌∷◌, length, refl, ap, ◌∙◌, sym, subst, Option, Some, None}
 use Rattle.std.specs.Prelude.{if◌then◌else◌, nat_eq, nat_le, ◌&&◌}
 use Rattle.bridge_cycle.specs.Moments.{Fits}
 use Rattle.bridge_port.specs.Schedule.{Fate, Never, Full, Queued, Started, Copy, Rules, is_there, waiting, is_free, head, or_newer, fate_at, IsAnswer, Answered, IsStart, StartsFit, Apart, ApartFrom, AllApart, InTurnWith, AllInTurn, OfferedUpTo, Serves, IsLawful}
 use Rattle.bridge_port.specs.Solo.{IsWhole}
-use Rattle.bridge_port.specs.Schedule.{Begun, here, there, has_queued, is_queued}
+use Rattle.bridge_port.specs.Schedule.{Begun, here, there, has_queued}
 use Rattle.bridge_port.specs.Seen.{seen, all_seen, rules_seen, SameRooms}
 
 abbrev pub see : {X Y : Type 0} → (X → Y) → Option (ℕ × X) → Option (ℕ × Y)

@@ -1,5 +1,5 @@
 -- The best of the heads of a port: the one that fits first, and of several the one of the highest class.
-use Rattle.std.specs.Prelude.{◌≡◌, ℕ, Bool, ◌<◌, ◌≤◌, ◌+◌, ◌^◌, max, length, nat_lt, Option, Some, None, List, [], ◌∷◌, slice_index_or, if◌then◌else◌}
+use Rattle.std.specs.Prelude.{◌≡◌, ℕ, ◌<◌, ◌≤◌, ◌+◌, ◌^◌, max, length, nat_lt, Option, Some, None, List, [], ◌∷◌, slice_index_or, if◌then◌else◌}
 use Rattle.bridge_frame.specs.declared.Speed.{Speed}
 use Rattle.bridge_frame.specs.Link.{occupied}
 use Rattle.bridge_cycle.specs.Moments.{Fits}

@@ -1,5 +1,5 @@
 -- When the classes of a port are open, and how long.
-use Rattle.std.specs.Prelude.{◌≡◌, ℕ, Bool, true, ◌<◌, Option, Some, None, List, length, slice_index_or}
+use Rattle.std.specs.Prelude.{ℕ, Bool, true, ◌<◌, Option, Some, None, List, slice_index_or}
 use Rattle.bridge_cycle.specs.Opens.{opens_in}
 use Rattle.bridge_cycle.specs.Cyclic.{Cyclic, turn_at, IsLawful}
 use Rattle.bridge_cycle.specs.Fitting.{some_fits}

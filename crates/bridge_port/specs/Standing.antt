@@ -1,5 +1,5 @@
 -- What contracts see of a port, what it answers and how it moves, and the schedules that it stands for.
-use Rattle.std.specs.Prelude.{◌≡◌, ℕ, Bool, true, false, ◌<◌, ◌≤◌, ◌+◌, ◌*◌, ◌^◌, ◌↔◌, nat_le, not, Option, Some, None, List, [], ◌∷◌, ◌++◌, length, Result, Ok, Err, slice_index_or, slice_set, drop, sum_by, count_by, if◌then◌else◌}
+use Rattle.std.specs.Prelude.{◌≡◌, ℕ, Bool, true, ◌<◌, ◌≤◌, ◌+◌, ◌*◌, ◌^◌, nat_le, not, Option, Some, None, List, [], ◌∷◌, ◌++◌, length, Result, Ok, Err, slice_index_or, slice_set, drop, sum_by, count_by, if◌then◌else◌}
 use Rattle.bridge_frame.specs.declared.Speed.{Speed}
 use Rattle.bridge_frame.specs.Link.{occupied}
 use Rattle.bridge_cycle.specs.Moments.{Fits}
@@ -10,7 +10,7 @@ use Rattle.bridge_port.specs.declared.item.Refusal.{Refusal}
 use Rattle.bridge_port.specs.declared.item.Refusal.TheVariants as refusal
 use Rattle.bridge_port.specs.Rings.{queues_of, rooms_of}
 use Rattle.circular_buffer.specs.Buffer.{Buffer}
-use Rattle.bridge_port.specs.Schedule.{Fate, Never, Full, Queued, Started, Copy, Rules, IsLawful, is_free, queue, Begun}
+use Rattle.bridge_port.specs.Schedule.{Fate, Never, Full, Queued, Copy, Rules, IsLawful, is_free, queue, Begun}
 
 -- What a port keeps: its queues by class, the oldest item first, the moment from which its link is free, and the least
 -- moment that the next offer may have.

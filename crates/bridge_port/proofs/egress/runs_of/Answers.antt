@@ -1,4 +1,4 @@
-use Rattle.std.proofs.Common.{Some, ◌<◌, ◌≡◌, length, length-set, arith, ◌∙◌}
+use Rattle.std.proofs.Common.{Some, length-set, arith, ◌∙◌}
 use Rattle.bridge_port.proofs.Opening.{runs_more}
 use Rattle.bridge_port.proofs.egress.runs_of.Goals as goal
 

@@ -1,9 +1,8 @@
-use Rattle.std.proofs.Common.{◌≡◌, ◌<◌, ◌≤◌, ◌+◌, ℕ, List, [], ◌∷◌, Some, None, ap, sym, ◌∙◌, subst, arith, slice_index_or, true}
-use Rattle.std.specs.Prelude.{slice_get, drop}
+use Rattle.std.proofs.Common.{◌≡◌, ◌≤◌, ℕ, [], ◌∷◌, ap, sym, ◌∙◌, subst, arith, slice_index_or}
+use Rattle.std.specs.Prelude.{drop}
 use Rattle.bridge_frame.specs.Link.{occupied}
 use Rattle.bridge_cycle.specs.Moments.{IsFirst}
 use Rattle.bridge_port.specs.Rings.{queues_of}
-use Rattle.bridge_port.specs.Heads.{IsBest}
 use Rattle.bridge_port.specs.Opening.{opens_of, ever_of}
 use Rattle.bridge_port.proofs.Best.{best_skip, best_more, head_some, head_none, startable_head}
 use Rattle.bridge_port.proofs.heads.with_class.Goals as goal

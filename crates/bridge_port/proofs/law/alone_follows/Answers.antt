@@ -1,4 +1,3 @@
-use Rattle.std.proofs.Common.{◌≡◌}
 use Rattle.bridge_port.proofs.Alone.{one_outcome}
 use Rattle.bridge_port.proofs.law.alone_follows.Goals as goal
 

@@ -1,4 +1,3 @@
-use Rattle.std.proofs.Common.{◌≡◌, ℕ, []}
 use Rattle.bridge_port.proofs.Isolation.{solo}
 use Rattle.bridge_port.proofs.law.own_windows_isolate.Goals as goal
 

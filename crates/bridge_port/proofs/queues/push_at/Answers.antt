@@ -1,7 +1,5 @@
 use Rattle.std.proofs.Common.{◌<◌, length, rules}
-use Rattle.std.proofs.Common.{◌≡◌, ◌++◌, [], ◌∷◌, sym, ap, ◌∙◌}
-use Rattle.std.specs.Prelude.{slice_set}
-use Rattle.bridge_port.specs.Rings.{queues_of}
+use Rattle.std.proofs.Common.{◌++◌, [], ◌∷◌}
 use Rattle.bridge_port.proofs.Rings.{queues_set, rooms_set, items_at}
 use Rattle.bridge_port.proofs.queues.push_at.Goals as goal
 

@@ -1,4 +1,4 @@
-use Rattle.std.proofs.Common.{◌≡◌, [], length, replicate, take}
+use Rattle.std.proofs.Common.{◌≡◌, [], replicate, take}
 use Rattle.bridge_port.specs.Rings.{queues_of, rooms_of}
 use Rattle.bridge_port.proofs.queues.with_rooms.Given as goal
 

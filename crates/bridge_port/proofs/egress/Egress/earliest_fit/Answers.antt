@@ -1,4 +1,4 @@
-use Rattle.std.proofs.Common.{sym, Some, ◌≡◌, ℕ, Option, true, subst, ◌∙◌, ◌≤◌, ◌+◌, arith}
+use Rattle.std.proofs.Common.{sym, Some, ◌≡◌, ℕ, Option, true, subst, ◌∙◌, arith}
 use Rattle.bridge_cycle.specs.Cyclic.{Cyclic, IsLawful}
 use Rattle.bridge_cycle.specs.Moments.{IsFirst}
 use Rattle.bridge_port.specs.Opening.{ever_of, opens_of, IsMade}

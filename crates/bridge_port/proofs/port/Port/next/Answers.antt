@@ -1,4 +1,4 @@
-use Rattle.std.proofs.Common.{◌≡◌, ℕ, ap, sym, ◌∙◌, Some, None, subst, max}
+use Rattle.std.proofs.Common.{ℕ, sym, subst, max}
 use Rattle.std.specs.Prelude.{MatchOption, length}
 use Rattle.bridge_port.specs.Heads.{StartsNext, IsBest}
 use Rattle.bridge_port.specs.Standing.{State, state, IsIdle}

@@ -1,7 +1,6 @@
-use Rattle.std.proofs.Common.{◌≡◌, ℕ, ap, sym, ◌∙◌, Some, None, subst, rules, ◌≤◌, ◌<◌, ◌+◌, refl}
+use Rattle.std.proofs.Common.{◌≡◌, sym, None, subst, rules, ◌<◌, refl}
 use Rattle.std.specs.Prelude.{length, slice_index_or}
-use Rattle.bridge_port.specs.declared.item.Item.{Item}
-use Rattle.bridge_port.specs.Standing.{State, state, refusal_of, IsKept, queue_of, queues_with}
+use Rattle.bridge_port.specs.Standing.{State, state, refusal_of, IsKept, queue_of}
 use Rattle.bridge_port.proofs.Keeping.{admitted, kept_offered, offered_stands, offered_counts}
 use Rattle.bridge_port.proofs.port.Port.offer.Goals as goal
 

@@ -1,8 +1,6 @@
-use Rattle.std.proofs.Common.{◌≡◌, ℕ, ap, sym, ◌∙◌, Some, None, true, false, subst, refl}
-use Rattle.std.specs.Prelude.{nat_le, length}
+use Rattle.std.proofs.Common.{◌≡◌, ap, sym, ◌∙◌, None, true, subst, refl}
 use Rattle.bridge_frame.specs.Link.{occupied}
-use Rattle.bridge_port.specs.declared.item.Item.{Item}
-use Rattle.bridge_port.specs.Standing.{State, refusal_of, state, queue_of}
+use Rattle.bridge_port.specs.Standing.{State, refusal_of, state}
 use Rattle.bridge_port.specs.Opening.{ever_of}
 use Rattle.bridge_port.proofs.port.Port.refusal.Goals as goal
 
