@@ -36,7 +36,7 @@ running_begin : {A : Type 0} (speed : Speed) (room : ℕ) (began now : Option (L
 running_begin speed room began now stands header = record {
   left = [];
   queue = record { list = refl; pace = refl; places = refl; within = refl };
-  sends = record { copies = []; stands = stands; offered_so = refl; class = tt; accepted = refl; refused = refl; output = none_left speed; free = λ d h. absurd h };
+  sends = record { copies = []; stands = stands; offered_so = refl; class = tt; accepted = refl; refused = refl; output = none_left speed; short = λ k d h. absurd (omega arith); free = λ d h. absurd h };
   writes = header;
   all = refl;
   malformed = refl;
@@ -123,6 +123,7 @@ run_ends speed room frames old new count began now after r gone idle =
         copies = all_seen frame_of s.copies;
         goes = goes_through speed room frames new count.sent count.full (r.left ++ g.0) list pace places s;
         whole = whole_seen frame_of s.copies (idle_whole new s.copies s.stands idle);
+        short = s.short;
         all = r.all;
         malformed = r.malformed;
         sent = sym s.accepted;

@@ -151,6 +151,7 @@ sends_offer {A} p new t x moved stands offers sent full left s =
       accepted = count_cons (λ (y : Copy Frame). is_accepted y.fate) copy seen ∙ (ap (λ b. (if b then 1 else 0) + count_by (λ (y : Copy Frame). is_accepted y.fate) seen) (accepted_by o) ∙ ap (λ n. (if is_none o then 1 else 0) + n) s.accepted);
       refused = count_cons (λ (y : Copy Frame). not (is_accepted y.fate)) copy seen ∙ (ap (λ b. (if not b then 1 else 0) + count_by (λ (y : Copy Frame). not (is_accepted y.fate)) seen) (accepted_by o) ∙ ap (λ n. (if not (is_none o) then 1 else 0) + n) s.refused);
       output = subst (λ v. IsOutput v (copy ∷ seen) left) (sym speed) (output_offer p.speed copy seen left (not_started o) s.output);
+      short = s.short;
       free = λ d h. let z = s.free d h in omega arith;
     }
 

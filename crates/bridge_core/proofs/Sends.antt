@@ -1,11 +1,12 @@
 -- What offers and starts do to what a port of one queue stands for.
-use Rattle.std.proofs.Common.{◌≡◌, ℕ, Bool, ◌+◌, ◌≤◌, List, [], ◌∷◌, ◌++◌, refl, ap, ◌∙◌, sym, subst, arith, inl, inr, Option, Result, Ok, Err, append_assoc, append-nil}
-use Rattle.std.specs.Prelude.{not, count_by, Vec, if◌then◌else◌, IsErr}
+use Rattle.std.proofs.Common.{◌≡◌, true, false, zero, suc, ℕ, Bool, ◌+◌, ◌≤◌, List, [], ◌∷◌, ◌++◌, refl, ap, ◌∙◌, sym, subst, arith, inl, inr, Option, Result, Ok, Err, append_assoc, append-nil}
+use Rattle.std.specs.Prelude.{not, count_by, Vec, if◌then◌else◌, IsErr, All}
 use Rattle.std.specs.List.{flat_map}
 use Rattle.std.specs.Io.KnownBytes.{Appends}
 use Rattle.std.proofs.KnownBytes.{Appends-trans, Appends-nil}
 use Rattle.std.proofs.lemmas.List.Sums.{sum_by-cons}
 use Rattle.std.proofs.lemmas.Grind.{flat_map-append}
+use Rattle.std.proofs.lemmas.List.Elements.{All-append}
 use Rattle.bridge_frame.specs.declared.Speed.{Speed}
 use Rattle.bridge_frame.specs.Link.{occupied}
 use Rattle.bridge_frame.proofs.Times.{occupied_some}
@@ -21,7 +22,7 @@ use Rattle.bridge_port.specs.Standing.{State, StandsFor, IsNext, IsBegun, starte
 use Rattle.bridge_port.proofs.Watched.{begun_seen}
 use Rattle.bridge_port.proofs.Members.{begun_to, begun_from, begun_there}
 use Rattle.bridge_core.specs.declared.fault.RunFault.{RunFault}
-use Rattle.bridge_core.specs.Wire.{Frame, Offer, offered, departure, IsOutput}
+use Rattle.bridge_core.specs.Wire.{IsShort, Frame, Offer, offered, departure, IsOutput}
 use Rattle.bridge_core.specs.Sending.{frame_of, AreOfClass, Sends, Goes}
 use Rattle.bridge_core.proofs.Lists.{in_left, in_last, in_push, rising_push}
 
@@ -49,6 +50,18 @@ count_begun f c s i item xs0 ys0 e (there x {xs = xs} {ys = ys} b) =
 started_is : (s t : ℕ) → Started s ≡ Started t → s ≡ t
 started_is s t h = cc
 
+-- no more octets than the frame had
+pub within_of : (b : Bool) (n m : ℕ) → m ≡ (if b then 1 else 0) + n → m ≡ 0 → b ≡ false
+within_of true n m e z = absurd (omega arith)
+within_of false n m e z = refl
+
+all_one : (P : Captured → Type 0) (x : Captured) → P x → All P (x ∷ [])
+all_one P x p zero d h = p
+all_one P x p (suc k) d h = absurd (omega arith)
+
+all_push : (P : Captured → Type 0) (xs : List Captured) (x : Captured) → All P xs → P x → All P (xs ++ x ∷ [])
+all_push P xs x a p = All-append P xs (x ∷ []) a (all_one P x p)
+
 -- the frame that starts leaves after all that left before
 output_start : (speed : Speed) (k c i : ℕ) (frame : Frame) (xs ys : List (Copy Frame)) (left : List Captured) → Begun c k i frame xs ys → IsOutput speed xs left → ((d : Captured) → In d left → d.time ≤ k) → IsOutput speed ys (left ++ departure speed k frame ∷ [])
 output_start speed k c i frame xs ys left b o before =
@@ -74,8 +87,8 @@ output_start speed k c i frame xs ys left b o before =
       );
     }
 
-pub sends_start : {A : Type 0} (old new : State (Vec ℕ A)) (k c : ℕ) (x : Item (Vec ℕ A)) → IsNext old k c x → new ≡ started_state old k c x → ((xs : List (Copy (Item (Vec ℕ A)))) → StandsFor old xs → IsBegun new c k x xs) → (offers : List Offer) (sent full : ℕ) (left : List Captured) → Sends old offers sent full left → Sends new offers sent full (left ++ departure old.speed k (frame_of x) ∷ [])
-sends_start {A} old new k c x next moved begins offers sent full left s =
+pub sends_start : {A : Type 0} (old new : State (Vec ℕ A)) (k c : ℕ) (x : Item (Vec ℕ A)) → IsNext old k c x → new ≡ started_state old k c x → ((xs : List (Copy (Item (Vec ℕ A)))) → StandsFor old xs → IsBegun new c k x xs) → IsShort (departure old.speed k (frame_of x)) → (offers : List Offer) (sent full : ℕ) (left : List Captured) → Sends old offers sent full left → Sends new offers sent full (left ++ departure old.speed k (frame_of x) ∷ [])
+sends_start {A} old new k c x next moved begins short offers sent full left s =
     let b = begins s.copies s.stands in
     let seen = begun_seen frame_of c k b.place x s.copies b.after b.begun in
     let speed : new.speed ≡ old.speed = ap (λ (p : State (Vec ℕ A)). p.speed) moved in
@@ -91,6 +104,7 @@ sends_start {A} old new k c x next moved begins offers sent full left s =
       accepted = count_begun is_accepted c k b.place frame (all_seen frame_of s.copies) (all_seen frame_of b.after) refl seen ∙ s.accepted;
       refused = count_begun (λ f. not (is_accepted f)) c k b.place frame (all_seen frame_of s.copies) (all_seen frame_of b.after) refl seen ∙ s.refused;
       output = subst (λ v. IsOutput v (all_seen frame_of b.after) (left ++ departure old.speed k frame ∷ [])) (sym speed) (output_start old.speed k c b.place frame (all_seen frame_of s.copies) (all_seen frame_of b.after) left seen s.output before);
+      short = all_push IsShort left (departure old.speed k frame) s.short short;
       free = λ d h. rw free (elim (in_push d (departure old.speed k frame) left h) [
         | inl l ↦ let y = before d l in omega arith
         | inr e ↦ let y : d.time ≡ k + occupied x.len old.speed = ap (λ (z : Captured). z.time) e in omega arith

@@ -1,5 +1,5 @@
 -- What a port of one queue stands for while its frames leave.
-use Rattle.std.specs.Prelude.{◌≡◌, ℕ, Bool, ◌+◌, ◌≤◌, ◌<◌, not, nat_lt, List, [], ◌∷◌, ◌++◌, length, Option, Some, None, Result, Ok, Err, slice_index_or, count_by, Vec}
+use Rattle.std.specs.Prelude.{◌≡◌, ℕ, Bool, ◌+◌, ◌≤◌, ◌<◌, not, nat_lt, List, [], ◌∷◌, ◌++◌, length, Option, Some, None, Result, Ok, Err, slice_index_or, count_by, Vec, All}
 use Rattle.std.specs.List.{flat_map}
 use Rattle.std.specs.Io.KnownBytes.{Appends}
 use Rattle.bridge_frame.specs.declared.Speed.{Speed}
@@ -14,7 +14,7 @@ use Rattle.bridge_port.specs.Standing.{State, StandsFor, count_queued}
 use Rattle.bridge_core.specs.declared.count.WireCount.{WireCount}
 use Rattle.bridge_core.specs.declared.fault.RunFault.{RunFault}
 use Rattle.bridge_capture.specs.Standing.{last_time}
-use Rattle.bridge_core.specs.Wire.{Frame, Offer, offered, offers_of, is_well_formed, IsOutput, GoesThrough, IsWireRun}
+use Rattle.bridge_core.specs.Wire.{Frame, Offer, offered, offers_of, is_well_formed, IsShort, IsOutput, GoesThrough, IsWireRun}
 use Rattle.bridge_core.specs.declared.fault.RunFault.TheVariants as run
 
 -- a queued frame as a frame
@@ -46,6 +46,7 @@ pub record Sends {A : Type 0} (p : State (Vec ℕ A)) (offers : List Offer) (sen
   pub accepted : count_by (λ x. is_accepted x.fate) (all_seen frame_of copies) ≡ sent
   pub refused : count_by (λ x. not (is_accepted x.fate)) (all_seen frame_of copies) ≡ full
   pub output : IsOutput p.speed (all_seen frame_of copies) left
+  pub short : All IsShort left
   pub free : (d : Captured) → In d left → d.time ≤ p.free
 
 -- some frames left more, and the sink has their records, or a front of these where it failed

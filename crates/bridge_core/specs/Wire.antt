@@ -1,5 +1,5 @@
 -- One capture through one queue: what a run over a text is.
-use Rattle.std.specs.Prelude.{◌≡◌, ℕ, Bool, true, ◌+◌, ◌<◌, not, is_ok, List, [], ◌∷◌, ◌++◌, length, map, filter, reverse, count_by, Option, ◌↔◌}
+use Rattle.std.specs.Prelude.{◌≡◌, ℕ, Bool, true, ◌+◌, ◌<◌, ◌≤◌, All, not, is_ok, List, [], ◌∷◌, ◌++◌, length, map, filter, reverse, count_by, Option, ◌↔◌}
 use Rattle.std.specs.Io.KnownBytes.{Appends}
 use Rattle.bridge_frame.specs.declared.Speed.{Speed}
 use Rattle.bridge_frame.specs.Frames.{head}
@@ -70,6 +70,10 @@ pub record IsOutput (speed : Speed) (copies : List (Copy Frame)) (left : List Ca
   pub rises : IsRising left
   pub members : (d : Captured) → In d left ↔ Departs speed copies d
 
+-- a frame as it may leave: no longer than a frame may be, and no more octets than it is long
+abbrev pub IsShort : Captured → Type 0
+IsShort c = (c.len ≤ 9216) × (length c.octets ≤ c.len)
+
 -- the frames went through one queue up to some moment, and these have left
 pub record GoesThrough (speed : Speed) (room : ℕ) (frames : List Captured) (copies : List (Copy Frame)) (left : List Captured) : Type 0 where
   pub offers : offered copies ≡ offers_of frames
@@ -82,6 +86,7 @@ pub record IsWireRun (speed : Speed) (room : ℕ) (frames : List Captured) (left
   pub copies : List (Copy Frame)
   pub goes : GoesThrough speed room frames copies left
   pub whole : IsWhole copies
+  pub short : All IsShort left
   pub all : count.frames ≡ length frames
   pub malformed : count.malformed ≡ count_by (λ c. not (is_well_formed c)) frames
   pub sent : count.sent ≡ count_by (λ x. is_accepted x.fate) copies

@@ -1,8 +1,8 @@
-use Rattle.std.proofs.Common.{◌≡◌, ◌≤◌, ◌+◌, ◌++◌, ◌∷◌, [], ℕ, List, length, rules, arith, length-append, append_assoc, ◌∙◌, sym, ap}
+use Rattle.std.proofs.Common.{◌≡◌, ◌+◌, ◌++◌, ◌∷◌, [], length, rules, arith, length-append, append_assoc, ◌∙◌, sym}
 use Rattle.bridge_capture.specs.Reading.{view}
 use Rattle.std.proofs.lemmas.List.{map-append}
 use Rattle.std.proofs.lemmas.Grind.{common_steps}
-use Rattle.bridge_capture.specs.Standing.{AreInOrder, last_time, views}
+use Rattle.bridge_capture.specs.Standing.{views}
 use Rattle.bridge_capture.proofs.Rising.{in_order_push, last_time_push}
 use Rattle.bridge_capture.proofs.capture.Capture.rest.Goals as goal
 
