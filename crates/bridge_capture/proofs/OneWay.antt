@@ -1,10 +1,11 @@
 -- Each text is a capture of one list of frames, with one ending.
-use Rattle.std.proofs.Common.{◌≡◌, ℕ, zero, suc, ◌+◌, ◌<◌, ◌≤◌, Bool, true, false, if◌then◌else◌, List, [], ◌∷◌, length, drop, nat_lt, Option, Some, None, Result, Ok, Err, refl, sym, ap, ◌∙◌, subst, arith}
+use Rattle.std.proofs.Common.{◌≡◌, ℕ, zero, suc, ◌+◌, ◌<◌, ◌≤◌, Bool, true, false, if◌then◌else◌, List, [], ◌∷◌, length, drop, nat_lt, ◌==◌, Option, Some, None, Result, Ok, Err, refl, sym, ap, ◌∙◌, subst, arith}
 use Rattle.std.proofs.lemmas.Bool.{ltb-false}
 use Rattle.std.proofs.lemmas.List.{length-drop}
 use Rattle.bridge_capture.specs.declared.form.Form.{Form}
 use Rattle.bridge_capture.specs.declared.fault.CaptureFault.{CaptureFault}
-use Rattle.bridge_capture.specs.Grammar.{Captured, Place, Front, Nothing, Fault, Record, Ending, AtEnd, AtFault, EndsWith, Reads, ReadsAfter, after, first_place, front_of, header_of, record_with_head, captured_of}
+use Rattle.bridge_capture.specs.declared.fault.CaptureFault.TheVariants.{RecordCut, TooManyRecords}
+use Rattle.bridge_capture.specs.Grammar.{Captured, Place, Front, Nothing, Fault, Record, Ending, AtEnd, AtFault, EndsWith, Reads, ReadsAfter, after, first_place, front_of, header_of, record_with_head, head_fault, time_of, captured_of, original_of}
 use Rattle.bridge_capture.specs.Laws.{ReadsOneWay}
 
 -- ---- at most one
@@ -58,11 +59,14 @@ rest_is form place octets None captured rest e =
 shorter : (form : Form) (place : Place) (octets : List ℕ) (captured : Captured) (rest : List ℕ) → front_of form place octets ≡ Record captured rest → length rest < length octets
 unfolding front_of
 shorter form place octets captured rest e =
-    let some = if_not _ _ _ (Record captured rest) (nothing_differs captured rest) e in
-    let few = if_not _ _ _ (Record captured rest) (fault_differs _ captured rest) some.1 in
-    let words = if_not (nat_lt (length octets) 16) _ _ (Record captured rest) (fault_differs _ captured rest) few.1 in
+    let here : Front = Record captured rest in
+    let whole : Front = record_with_head form place octets (head_fault place (time_of form octets) (captured_of form octets) (original_of form octets)) in
+    let cut : Front = if nat_lt (length octets) 16 then Fault (RecordCut place.number) else whole in
+    let some = if_not (length octets == 0) Nothing (if nat_lt 1000000 place.number then Fault TooManyRecords else cut) here (nothing_differs captured rest) e in
+    let few = if_not (nat_lt 1000000 place.number) (Fault TooManyRecords) cut here (fault_differs TooManyRecords captured rest) some.1 in
+    let words = if_not (nat_lt (length octets) 16) (Fault (RecordCut place.number)) whole here (fault_differs (RecordCut place.number) captured rest) few.1 in
     let long : 16 ≤ length octets = ltb-false (length octets) 16 words.0 in
-    let is = rest_is form place octets _ captured rest words.1 in
+    let is : rest ≡ drop (16 + captured_of form octets) octets = rest_is form place octets _ captured rest words.1 in
     omega (arith, ap length is, length-drop (16 + captured_of form octets) octets)
 
 abbrev Found : Form → Place → List ℕ → Type 0

@@ -1,4 +1,6 @@
 //! Rows for captures.
+ghost use Rattle.std.specs.Prelude.{◌≤◌};
+
 use crate::refusing::RefusesOne;
 use bridge_capture::{
     ByteSink, ByteSource, Capture, CaptureFault, FromRead, FromWrite, Order, Packet, SliceSource,
@@ -184,6 +186,31 @@ fn the_largest_record_is_read(rt: HostRuntime) -> Result<(), Fail> {
     let mut text = capture_of(rt.alloc(), &[[0, 0, 262_144, 262_144]])?;
     text.resize(24 + 16 + 262_144, 0)?;
     assert_eq!(rt; outcome_of(rt.alloc(), &text), (1, None));
+    Ok(())
+}
+
+/// A capture of so many records without an octet at time 0, and then some octets.
+fn many(alloc: Global, records: usize, more: usize) -> Result<Vec<u8>, AllocError>
+    requires few { records ≤ 1000000 }
+    requires short { more ≤ 16 }
+{
+    let mut text = capture_of(alloc, &[])?;
+    text.resize(24 + 16 * records + more, 0)?;
+    Ok(text)
+}
+
+#[test]
+fn a_capture_has_a_million_records_at_most(rt: HostRuntime) -> Result<(), Fail> {
+    let text = many(rt.alloc(), 1_000_000, 0)?;
+    assert_eq!(rt; outcome_of(rt.alloc(), &text), (1_000_000, None));
+    let mut source = SliceSource::failing_after(&text, 16_000_024);
+    let ended = outcome(rt.alloc(), &mut source);
+    assert_eq!(rt; ended, (1_000_000, Some(CaptureFault::Read)));
+    // One octet more is refused before the next one is asked for.
+    let text = many(rt.alloc(), 1_000_000, 2)?;
+    let mut source = SliceSource::failing_after(&text, 16_000_025);
+    let ended = outcome(rt.alloc(), &mut source);
+    assert_eq!(rt; ended, (1_000_000, Some(CaptureFault::TooManyRecords)));
     Ok(())
 }
 
