@@ -1,5 +1,6 @@
 ghost use Rattle.std.specs.Prelude.{◌≡◌, ◌<◌, Some, IfOk};
-ghost use Rattle.bridge_gate.specs.Schedules.{turn_at, IsLawful};
+ghost use Rattle.std.specs.List.{list_all};
+ghost use Rattle.bridge_gate.specs.Schedules.{turn_at, IsLawful, is_priority, has_priorities};
 
 use bridge_cycle::{CyclicList, NoMemory, Timeline, Turn};
 use std::alloc::Allocator;
@@ -56,6 +57,16 @@ impl<A: Allocator + Copy> Schedule<A> {
         }
     }
 
+    /// Whether each internal priority value is a priority, 0 to 7.
+    pub fn has_priorities(&self) -> bool
+        ensures { result ≡ has_priorities self.now }
+    {
+        match self {
+            Schedule::Fixed { lets: _, ipv } => is_priority(*ipv),
+            Schedule::Cyclic(list) => are_priorities(list.entries()),
+        }
+    }
+
     /// An equal schedule.
     pub fn copy(&self, alloc: A) -> Result<Self, NoMemory>
         ensures equal { IfOk result (λ s. s ≡ self.now) }
@@ -68,6 +79,23 @@ impl<A: Allocator + Copy> Schedule<A> {
             Schedule::Cyclic(list) => Ok(Schedule::Cyclic(list.copy(alloc)?)),
         }
     }
+}
+
+/// Whether an internal priority value is 0 to 7, where there is one.
+fn is_priority(ipv: Option<u8>) -> bool
+    ensures { result ≡ is_priority ipv }
+{
+    match ipv {
+        Some(ipv) => ipv <= 7,
+        None => true,
+    }
+}
+
+/// Whether the internal priority value of each entry is 0 to 7, where it has one.
+fn are_priorities(entries: &[(GateEntry, u64)]) -> bool
+    ensures { result ≡ list_all (λ e. is_priority e.0.ipv) entries.now }
+{
+    entries.iter().all(|entry| is_priority(entry.0.ipv))
 }
 
 impl<A: Allocator + Copy> GatePlan<A> {

@@ -1,0 +1,8 @@
+#![tactic(auto)]
+//! The worked examples of the bridge, as tests on the public calls of its parts.
+
+#[cfg(test)]
+mod cycle;
+#[cfg(test)]
+mod gate;
+pub mod refusing;
