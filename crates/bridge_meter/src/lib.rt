@@ -1,6 +1,6 @@
+#![tactic(auto)]
 //! Two-rate, three-colour meters of streams, in the manner of the bandwidth profiles of MEF
 //! (IEEE 802.1Q-2018, 8.6.5: flow meters).
-#![tactic(auto)]
 
 ghost use Rattle.std.specs.Prelude.{◌≡◌, ℕ, ◌≤◌, ◌+◌, ◌-◌, ◌*◌, ◌↔◌, ◌&&◌, IsTrue, false, min, List, ◌∷◌, [], if◌then◌else◌};
 ghost use Rattle.bridge_meter.specs.declared.MeterPlan.{MeterPlan};
