@@ -1,0 +1,166 @@
+#![tactic(auto)]
+//! Ethernet frames as a time-aware bridge sees them: their heads (IEEE 802.1Q-2018, clause 9), the time for which
+//! they occupy a link, and the drop eligible indication. Nothing here takes memory.
+
+ghost use Rattle.std.specs.Prelude.{◌≡◌, ◌≤◌, ◌<◌, length};
+ghost use Rattle.bridge_frame.specs.Frames.{drop_eligible, has_tag, head, is_tagged, tag_in};
+ghost use Rattle.bridge_frame.specs.Link.{occupied, speed_of};
+
+use thiserror::Error;
+
+/// The longest frame, in octets without frame check sequence.
+pub const MAX_LENGTH: u32 = 9_216;
+
+/// A C-VLAN tag: priority code point (0 to 7), drop eligible indication, VLAN identifier (0 to 4095; 0 is a priority tag).
+#[derive(Clone, Copy, Debug, PartialEq, Eq)]
+pub struct Tag {
+    pub pcp: u8,
+    pub dei: bool,
+    pub vid: u16,
+}
+
+/// The head of a frame: destination and source address, the tag, and the octets of the service data unit, which are
+/// the frame's length without the addresses and without a tag.
+#[derive(Clone, Copy, Debug, PartialEq, Eq)]
+pub struct Head {
+    pub da: [u8; 6],
+    pub sa: [u8; 6],
+    pub tag: Option<Tag>,
+    pub sdu: u32,
+}
+
+/// Why a frame is malformed.
+#[derive(Clone, Copy, Debug, PartialEq, Eq, Error)]
+pub enum FrameFault {
+    /// Fewer octets than a head has: 14, or 18 with a tag.
+    #[error("the frame is too short")]
+    TooShort,
+    /// A length above 9,216 octets.
+    #[error("the frame is too long")]
+    TooLong,
+}
+
+/// The speed of a link.
+#[derive(Clone, Copy, Debug, PartialEq, Eq)]
+pub enum Speed {
+    Mbps10,
+    Mbps100,
+    Mbps1000,
+    Mbps2500,
+    Mbps10000,
+}
+
+impl Speed {
+    /// The speed of 10, 100, 1000, 2500 or 10000 Mb/s; `None` for any other number.
+    pub fn of(mbps: u32) -> Option<Speed>
+        ensures { result ≡ speed_of mbps }
+    {
+        match mbps {
+            10 => Some(Speed::Mbps10),
+            100 => Some(Speed::Mbps100),
+            1000 => Some(Speed::Mbps1000),
+            2500 => Some(Speed::Mbps2500),
+            10000 => Some(Speed::Mbps10000),
+            _ => None,
+        }
+    }
+}
+
+/// The tag of a frame whose octets 12 and 13 are 81 00.
+fn read_tag(octets: &[u8]) -> Tag
+    requires { 18 ≤ length octets.now }
+    ensures { result ≡ tag_in octets.now }
+{
+    let control = octets[14];
+    Tag {
+        pcp: control / 32,
+        dei: control / 16 % 2 == 1,
+        vid: u16::from(control % 16) * 256 + u16::from(octets[15]),
+    }
+}
+
+/// Whether octets 12 and 13 are 81 00.
+fn carries_tag(octets: &[u8]) -> bool
+    requires { 14 ≤ length octets.now }
+    ensures { result ≡ is_tagged octets.now }
+{
+    octets[12] == 0x81 && octets[13] == 0x00
+}
+
+/// The head of a frame, from its captured octets and its length in octets without frame check sequence
+/// (IEEE 802.1Q-2018, clause 9.6).
+///
+/// `TooShort` where fewer octets are captured than the head has, else `TooLong` where the length is above 9,216.
+pub fn parse(octets: &[u8], len: u32) -> Result<Head, FrameFault>
+    requires captured { length octets.now ≤ 262144 }
+    requires original { length octets.now ≤ len }
+    ensures { result ≡ head octets.now len }
+{
+    if octets.len() < 14 {
+        return Err(FrameFault::TooShort);
+    }
+    let tagged = carries_tag(octets);
+    if tagged && octets.len() < 18 {
+        return Err(FrameFault::TooShort);
+    }
+    if len > MAX_LENGTH {
+        return Err(FrameFault::TooLong);
+    }
+    let da = [
+        octets[0], octets[1], octets[2], octets[3], octets[4], octets[5],
+    ];
+    let sa = [
+        octets[6], octets[7], octets[8], octets[9], octets[10], octets[11],
+    ];
+    if tagged {
+        let tag = read_tag(octets);
+        Ok(Head {
+            da,
+            sa,
+            tag: Some(tag),
+            sdu: len - 16,
+        })
+    } else {
+        Ok(Head {
+            da,
+            sa,
+            tag: None,
+            sdu: len - 12,
+        })
+    }
+}
+
+/// Sets the drop eligible indication of a tagged frame, and says whether there was a tag. Every other bit stays.
+///
+/// Fewer than 18 octets count as untagged, and stay.
+pub fn mark_drop_eligible(octets: &mut [u8]) -> bool
+    ensures tagged { result ≡ has_tag octets.old }
+    ensures marked { octets.new ≡ drop_eligible octets.old }
+{
+    if octets.len() < 18 || !carries_tag(octets) {
+        return false;
+    }
+    let control = octets[14];
+    if control / 16 % 2 == 0 {
+        octets[14] = control + 16;
+    }
+    true
+}
+
+/// How long a frame of this length occupies a link, in nanoseconds, rounded up: padded to 60 octets, with frame check
+/// sequence (4 octets), preamble and delimiter (8) and gap (12).
+#[tactic(auto, unfolding(crate::specs::Link::occupied))]
+pub fn occupation(len: u32, speed: Speed) -> u64
+    ensures exact { result ≡ occupied len speed }
+    ensures some { 0 < result }
+    ensures bounded { len ≤ 9216 → result ≤ 7_392_000 }
+{
+    let octets = u64::from(len.max(60)) + 24;
+    match speed {
+        Speed::Mbps10 => octets * 800,
+        Speed::Mbps100 => octets * 80,
+        Speed::Mbps1000 => octets * 8,
+        Speed::Mbps2500 => (octets * 16).div_ceil(5),
+        Speed::Mbps10000 => (octets * 4).div_ceil(5),
+    }
+}
