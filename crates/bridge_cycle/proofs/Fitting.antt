@@ -1,0 +1,57 @@
+use Rattle.std.proofs.Common.{◌≡◌, ℕ, zero, suc, Bool, true, false, ◌+◌, ◌<◌, ◌≤◌, arith, ◌⊎◌, inl, inr, refl, ap, ◌∙◌}
+use Rattle.std.proofs.lemmas.Bool.{cases_lt}
+use Rattle.std.specs.Prelude.{◌&&◌, ◌||◌, ◌↔◌}
+use Rattle.bridge_cycle.specs.Moments.{Fits, Repeats}
+use Rattle.bridge_cycle.specs.Fitting.{all_open, some_fits}
+use Rattle.bridge_cycle.proofs.Repeats.{fits_near}
+
+and_both : (a b : Bool) → a && b ≡ true → (a ≡ true) × (b ≡ true)
+and_both true b h = (refl, h)
+and_both false b h = absurd (cc)
+
+and_make : (a b : Bool) → a ≡ true → b ≡ true → a && b ≡ true
+and_make a b h k = rw (h, k) refl
+
+or_either : (a b : Bool) → a || b ≡ true → (a ≡ true) ⊎ (b ≡ true)
+or_either true b h = inl refl
+or_either false b h = inr h
+
+or_left : (a b : Bool) → a ≡ true → a || b ≡ true
+or_left a b h = rw h refl
+
+or_right : (a b : Bool) → b ≡ true → a || b ≡ true
+or_right true b h = refl
+or_right false b h = h
+
+pub all_open_gives : (opens : ℕ → Bool) (t n : ℕ) → all_open opens t n ≡ true → Fits opens n t
+unfolding all_open
+all_open_gives opens t zero h u p q = absurd (omega arith)
+all_open_gives opens t (suc n) h u p q =
+    let b = and_both (opens (t + n)) (all_open opens t n) h in
+    elim (cases_lt u (t + n)) [ inl a ↦ all_open_gives opens t n b.1 u p a | inr a ↦ let e : u ≡ t + n = omega arith in ap opens e ∙ b.0 ]
+
+pub all_open_from : (opens : ℕ → Bool) (t n : ℕ) → Fits opens n t → all_open opens t n ≡ true
+unfolding all_open
+all_open_from opens t zero f = refl
+all_open_from opens t (suc n) f = and_make (opens (t + n)) (all_open opens t n) (f (t + n) (omega arith) (omega arith)) (all_open_from opens t n (λ u p q. f u p (omega arith)))
+
+pub some_fits_gives : (opens : ℕ → Bool) (n occ : ℕ) → some_fits opens n occ ≡ true → (t : ℕ) × Fits opens occ t
+unfolding some_fits
+some_fits_gives opens zero occ h = absurd (cc)
+some_fits_gives opens (suc n) occ h = elim (or_either (all_open opens n occ) (some_fits opens n occ) h) [
+  | inl a ↦ (n, all_open_gives opens n occ a)
+  | inr b ↦ some_fits_gives opens n occ b
+]
+
+pub some_fits_from : (opens : ℕ → Bool) (n occ t : ℕ) → t < n → Fits opens occ t → some_fits opens n occ ≡ true
+unfolding some_fits
+some_fits_from opens zero occ t h f = absurd (omega arith)
+some_fits_from opens (suc n) occ t h f = elim (cases_lt t n) [
+  | inl a ↦ or_right (all_open opens n occ) (some_fits opens n occ) (some_fits_from opens n occ t a f)
+  | inr b ↦ let e : t ≡ n = omega arith in or_left (all_open opens n occ) (some_fits opens n occ) (all_open_from opens n occ (rw e at f))
+]
+
+-- a length fits at some moment exactly if it fits at one of the first cycle
+pub some_fits_is : (opens : ℕ → Bool) (cycle occ : ℕ) → 0 < cycle → Repeats opens cycle → (some_fits opens cycle occ ≡ true) ↔ ((t : ℕ) × Fits opens occ t)
+some_fits_is opens cycle occ some r =
+    (some_fits_gives opens cycle occ, λ f. let near : (u : ℕ) × (0 ≤ u) × (u < 0 + cycle) × Fits opens occ u = fits_near opens cycle occ f.0 0 some r f.1 in some_fits_from opens cycle occ near.0 (let k = near.2 in omega arith) near.3)

@@ -1,0 +1,7 @@
+pub mod Searching
+pub mod Turns
+pub mod Totals
+pub mod Repeats
+pub mod Runs
+pub mod Fitting
+pub mod Lists

@@ -1,0 +1,66 @@
+use Rattle.std.specs.Prelude.{◌≡◌, ℕ, Bool, false, ◌<◌, ◌≤◌, ◌+◌, ◌-◌, ◌%◌, Option, Some, None, List, [], ◌∷◌, length, nat_lt, if◌then◌else◌, pos, ◌-ℤ◌}
+use Rattle.std.specs.Prelude.{nat_eq, ◌||◌}
+use Rattle.std.specs.List.{list_any}
+use Rattle.bridge_cycle.specs.declared.cyclic.ListFault.{ListFault}
+use Rattle.bridge_cycle.specs.declared.cyclic.ListFault.TheVariants.{Empty, ZeroInterval, OverCycle, CycleOutOfRange, TooManyEntries}
+use Rattle.bridge_cycle.specs.declared.timeline.Turn.{Turn}
+
+-- a list that repeats: a moment at which a cycle begins, the length of a cycle, and the states with their intervals
+pub record Cyclic (S : Type 0) : Type 0 where
+  pub base : ℕ
+  pub cycle : ℕ
+  pub entries : List (S × ℕ)
+
+-- how far a moment is into its cycle, also before the base
+abbrev pub phase : ℕ → ℕ → ℕ → ℕ
+phase base cycle t = (t + (cycle - base % cycle)) % cycle
+
+-- an entry's state, and the phases at which it begins and ends
+pub record Place (S : Type 0) : Type 0 where
+  pub state : S
+  pub start : ℕ
+  pub end : ℕ
+
+-- the entry whose interval has the phase p, where the intervals lie end to end from `start` on and the last one lasts to the end of the cycle
+abbrev pub place : {S : Type 0} → List (S × ℕ) → ℕ → ℕ → ℕ → Option (Place S)
+place [] start cycle p = None
+place (e ∷ []) start cycle p = Some (record { state = e.0; start = start; end = cycle })
+place (e ∷ f ∷ es) start cycle p = if nat_lt p (start + e.1) then Some (record { state = e.0; start = start; end = start + e.1 }) else place (f ∷ es) (start + e.1) cycle p
+
+-- the turn of a place that has the moment t, which is p into its cycle
+abbrev pub turn_of : {S : Type 0} → ℕ → ℕ → Option (Place S) → Option (Turn S)
+turn_of t p None = None
+turn_of t p (Some x) = Some (record { state = x.state; start = pos t -ℤ pos (p - x.start); end = t + (x.end - p) })
+
+-- the turn that has the moment t
+abbrev pub turn_at : {S : Type 0} → Cyclic S → ℕ → Option (Turn S)
+turn_at l t = let p = phase l.base l.cycle t in turn_of t p (place l.entries 0 l.cycle p)
+
+-- the sum of the intervals
+abbrev pub total : {S : Type 0} → List (S × ℕ) → ℕ
+total [] = 0
+total (e ∷ es) = e.1 + total es
+
+-- whether an interval is 0
+abbrev pub has_zero : {S : Type 0} → List (S × ℕ) → Bool
+has_zero es = list_any (λ e. nat_eq e.1 0) es
+
+-- the first fault of the parts of a list, in the order of the tests
+abbrev pub fault_of : {S : Type 0} → ℕ → List (S × ℕ) → Option ListFault
+fault_of cycle es =
+    if nat_eq (length es) 0 then Some Empty
+    else if nat_lt 256 (length es) then Some TooManyEntries
+    else if nat_eq cycle 0 || nat_lt 1000000000 cycle then Some CycleOutOfRange
+    else if has_zero es then Some ZeroInterval
+    else if nat_lt cycle (total es) then Some OverCycle
+    else None
+
+-- what holds of every list that was made
+pub record IsLawful {S : Type 0} (l : Cyclic S) : Type 0 where
+  pub some : 0 < length l.entries
+  pub few : length l.entries ≤ 256
+  pub base : l.base < 4000000000000000000
+  pub cycle : l.cycle ≤ 1000000000
+  pub cycle_some : 0 < l.cycle
+  pub intervals : has_zero l.entries ≡ false
+  pub within : total l.entries ≤ l.cycle
