@@ -166,17 +166,3 @@ step_at m at octets dei =
     let c = colour_at m.plan b octets dei in
     let P : Bool → Type 0 = λ z. (if z then m else judged_with m.plan octets dei b).buckets.at ≡ (if z then m.buckets.at else at) in
     elim m.buckets.all_red as P [ true ↦ refl | false ↦ taken_at b octets c (m.plan.mark_all_red && is_red c) ∙ refill_at (limits m.plan) m.buckets at ]
-
--- a clear of the red flag leaves the judged frames
-pub stands_cleared : (plan : MeterPlan) (m n : MeterState) (events : List MeterEvent) → StandsFor plan m events → n.plan ≡ m.plan → n.buckets ≡ record m.buckets { all_red = false } → StandsFor plan n (Cleared ∷ events)
-stands_cleared plan m n events st same buckets =
-    let x = past plan events in
-    record {
-      plan_is = same ∙ st.plan_is;
-      buckets_are = buckets ∙ ap (λ (q : Buckets). let z : Buckets = record q { all_red = false } in z) st.buckets_are ∙ cleared (limits plan) x.all_red x.judged;
-      in_order = st.in_order;
-    }
-  where
-    cleared : (l : Limits) (red : Bool) (js : List Judged) → (let q = held_after l red js in let z : Buckets = record q { all_red = false } in z) ≡ held_after l false js
-    cleared l red [] = refl
-    cleared l red (f ∷ fs) = refl

@@ -1,4 +1,4 @@
-use Rattle.std.specs.Prelude.{ℕ, Bool, true, false, ◌-◌, ◌*◌, ◌≤◌, not, ◌&&◌, ◌||◌, nat_le, List, [], ◌∷◌, if◌then◌else◌}
+use Rattle.std.specs.Prelude.{ℕ, Bool, true, false, ◌-◌, ◌*◌, not, ◌&&◌, ◌||◌, nat_le, List, [], ◌∷◌, if◌then◌else◌}
 use Rattle.bridge_meter.specs.declared.Colour.{Colour}
 use Rattle.bridge_meter.specs.declared.Colour.TheVariants.{Green, Yellow, Red}
 use Rattle.bridge_meter.specs.declared.MeterPlan.{MeterPlan}
@@ -19,12 +19,9 @@ unit = 8000000000
 abbrev pub limits : MeterPlan → Limits
 limits p = record { cir = p.cir; cbs = p.cbs * unit; eir = p.eir; ebs = p.ebs * unit; coupling = p.coupling }
 
--- a plan's rates are at most 100 Gbit/s, and its bursts below 2^32 octets
-pub record IsWithinLimits (p : MeterPlan) : Type 0 where
-  pub cir : p.cir ≤ 100000000000
-  pub eir : p.eir ≤ 100000000000
-  pub cbs : p.cbs ≤ 4294967295
-  pub ebs : p.ebs ≤ 4294967295
+-- whether a plan's rates are at most 100 Gbit/s, and its bursts below 2^32 octets
+abbrev pub is_within_limits : MeterPlan → Bool
+is_within_limits p = nat_le p.cir 100000000000 && nat_le p.eir 100000000000 && nat_le p.cbs 4294967295 && nat_le p.ebs 4294967295
 
 -- whether a frame may be green: in the colour-aware mode one that is drop eligible may not
 abbrev pub may_be_green : MeterPlan → Bool → Bool

@@ -5,10 +5,10 @@
 ghost use Rattle.std.specs.Prelude.{◌≡◌, ℕ, ◌≤◌, ◌+◌, ◌-◌, ◌*◌, ◌↔◌, ◌&&◌, IsTrue, false, min, List, ◌∷◌, [], if◌then◌else◌};
 ghost use Rattle.bridge_meter.specs.declared.MeterPlan.{MeterPlan};
 ghost use Rattle.bridge_meter.specs.Bounds as bounds;
-ghost use Rattle.bridge_meter.specs.Colours.{MeterEvent, Came, Cleared, past, colour_of, buckets_after, limits, unit, is_red, IsWithinLimits};
+ghost use Rattle.bridge_meter.specs.Colours.{MeterEvent, Came, Cleared, past, colour_of, buckets_after, limits, unit, is_red, is_within_limits};
 ghost use Rattle.bridge_meter.specs.Standing.{InOrder, StandsFor};
 ghost use Rattle.bridge_meter.specs.Covers.{IsCovered};
-ghost use Rattle.bridge_meter.specs.Steps.{step, reply, refill, colour_at, taken};
+ghost use Rattle.bridge_meter.specs.Steps.{IsWithinLimits, step, reply, refill, colour_at, taken};
 
 use std::marker::Model;
 
@@ -51,7 +51,7 @@ pub struct MeterPlan {
 impl MeterPlan {
     /// Whether the rates and sizes are within the limits of a meter.
     pub fn is_within_limits(&self) -> bool
-        ensures { IsTrue result ↔ IsWithinLimits self.now }
+        ensures { result ≡ is_within_limits self.now }
     {
         self.cir <= 100_000_000_000
             && self.eir <= 100_000_000_000
@@ -82,8 +82,9 @@ pub struct Meter {
 
 impl Model for Meter {
     ghost use Rattle.std.specs.Prelude.{◌≤◌, ◌*◌};
-    ghost use Rattle.bridge_meter.specs.Colours.{IsWithinLimits, unit};
+    ghost use Rattle.bridge_meter.specs.Colours.{unit};
     ghost use Rattle.bridge_meter.specs.Standing.{MeterState};
+    ghost use Rattle.bridge_meter.specs.Steps.{IsWithinLimits};
 
     ghost Value = { MeterState };
 
@@ -95,7 +96,7 @@ impl Model for Meter {
 impl Meter {
     /// A meter with full buckets. It takes no memory.
     pub fn new(plan: MeterPlan) -> Meter
-        requires { IsWithinLimits plan }
+        requires { IsTrue (is_within_limits plan) }
         ensures { StandsFor plan result [] }
     {
         let buckets = Buckets {
@@ -105,6 +106,14 @@ impl Meter {
             all_red: false,
         };
         Meter { plan, buckets }
+    }
+
+    /// The rates, sizes and switches.
+    pub fn plan(&self) -> MeterPlan
+        ensures plan { result ≡ self.now.plan }
+        ensures stands { (plan : MeterPlan) (events : List MeterEvent) → StandsFor plan self.now events → result ≡ plan }
+    {
+        self.plan
     }
 
     /// The colour of a frame of `octets` metered octets that comes at `t` ns, drop eligible or not.
