@@ -113,8 +113,8 @@ impl<S: Copy, A: Allocator + Copy> CyclicList<S, A> {
         Ok(CyclicList {
             base: self.base,
             cycle: self.cycle,
-            entries: self.entries.iter().copied().collect(alloc)?,
-            ends: self.ends.iter().copied().collect(alloc)?,
+            entries: Vec::from_slice(alloc, &self.entries)?,
+            ends: Vec::from_slice(alloc, &self.ends)?,
         })
     }
 

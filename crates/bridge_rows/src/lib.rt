@@ -2,6 +2,11 @@
 //! The worked examples of the bridge, as tests on the public calls of its parts.
 
 #[cfg(test)]
+mod cycle;
+#[cfg(test)]
+mod gate;
+#[cfg(test)]
 mod ident;
 #[cfg(test)]
 mod meter;
+pub mod refusing;
