@@ -1,4 +1,4 @@
-use Rattle.std.proofs.Common.{◌≡◌, ℕ, Bool, true, false, List, [], ◌∷◌, ◌++◌, arith, refl, ap, ◌∙◌, sym, subst, Option, Some, None, min, ◌<◌, ◌≤◌}
+use Rattle.std.proofs.Common.{◌≡◌, ℕ, Bool, true, false, List, [], ◌∷◌, arith, refl, ap, ◌∙◌, sym, Option, Some, None, min, ◌<◌, ◌≤◌}
 use Rattle.std.proofs.lemmas.Bool.Decides.{nat_tests}
 use Rattle.std.specs.Prelude.{◌&&◌, ◌||◌, if◌then◌else◌, nat_eq, nat_lt}
 use Rattle.std.specs.Option.{option_map, option_eq}
@@ -21,7 +21,7 @@ first_lesser n None (Some b) = refl
 first_lesser n (Some a) None = refl
 first_lesser n (Some a) (Some b) = ap Some (omega arith)
 
-second_lesser : (n : ℕ) (a b : Option ℕ) → lesser_number (Some n) (lesser_number a b) ≡ lesser_number a (lesser_number (Some n) b)
+pub second_lesser : (n : ℕ) (a b : Option ℕ) → lesser_number (Some n) (lesser_number a b) ≡ lesser_number a (lesser_number (Some n) b)
 second_lesser n None b = refl
 second_lesser n (Some a) None = ap Some (omega arith)
 second_lesser n (Some a) (Some b) = ap Some (omega arith)

@@ -1,5 +1,5 @@
 use Rattle.std.proofs.Common.{◌≡◌, ℕ, Bool, true, false, List, [], ◌∷◌, ◌++◌, ◌+◌, ◌≤◌, arith, refl, ap, ◌∙◌, sym, subst, length}
-use Rattle.std.specs.Prelude.{nat_eq, if◌then◌else◌, ◌&&◌, ◌||◌, Option, Some, None, count_by, IsSome}
+use Rattle.std.specs.Prelude.{nat_eq, if◌then◌else◌, ◌&&◌, ◌||◌, Option, Some, None, count_by}
 use Rattle.bridge_meter.specs.Standing as meter
 use Rattle.bridge_gate.specs.Standing as gate
 use Rattle.bridge_filter.specs.declared.FilterPlan.{FilterPlan}
@@ -15,7 +15,7 @@ use Rattle.std.specs.Map.{lookup, set_value}
 use Rattle.std.specs.Option.{option_map}
 use Rattle.std.proofs.lemmas.List.{length-append, append-nil}
 use Rattle.std.proofs.lemmas.List.Sums.{sum_by-append}
-use Rattle.bridge_filter.proofs.Numbered.{by_bool, some_is, same_eq, is_eq, Changes, each_after}
+use Rattle.bridge_filter.proofs.Numbered.{by_bool, some_is, same_eq, Changes, each_after}
 use Rattle.bridge_filter.proofs.Shares.{gate_share-refused, meter_share-refused, gates_stand_same, meters_stand_same}
 
 refused_by : (a b : Bool) (v z : Verdict) → (if a then Some verdict.Blocked else (if b then Some verdict.Oversize else None)) ≡ Some v → v ≡ (if a then verdict.Blocked else (if b then verdict.Oversize else z))

@@ -5,3 +5,5 @@ pub mod Judging
 pub mod Flows
 pub mod Passing
 pub mod Shown
+pub mod Made
+pub mod Starting

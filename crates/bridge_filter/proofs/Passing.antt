@@ -1,16 +1,14 @@
-use Rattle.std.proofs.Common.{◌≡◌, ℕ, List, ◌∷◌, ◌+◌, ◌≤◌, arith, refl, ap, ◌∙◌, sym, subst, true}
-use Rattle.std.specs.Prelude.{nat_eq, Option, Some, None}
-use Rattle.std.specs.Map.{lookup}
+use Rattle.std.proofs.Common.{◌≡◌, ℕ, List, ◌∷◌, ◌+◌, ◌≤◌, arith, ap, ◌∙◌, sym, subst}
+use Rattle.std.specs.Prelude.{Some, None}
 use Rattle.indexmap.specs.IndexMap.{IndexMap}
 use Rattle.bridge_meter.specs.Standing as meter
 use Rattle.bridge_gate.specs.Standing as gate
 use Rattle.bridge_filter.specs.declared.FilterPlan.{FilterPlan}
 use Rattle.bridge_filter.specs.declared.Verdict.{Verdict}
-use Rattle.bridge_filter.specs.declared.Ruling.{Ruling}
 use Rattle.bridge_filter.specs.declared.filter.Filter.{Filter}
 use Rattle.bridge_filter.specs.declared.find.Key.{Key}
-use Rattle.bridge_filter.specs.Verdicts.{Plans, Call, Event, Came, Step, Unfiltered, Judged, flow, verdict_of, judged, told, ruled}
-use Rattle.bridge_filter.specs.Standing.{PoliceState, Stands, AreKept, IsKept}
+use Rattle.bridge_filter.specs.Verdicts.{Plans, Call, Event, Came, Step, Unfiltered, Judged, flow, verdict_of, judged, told}
+use Rattle.bridge_filter.specs.Standing.{PoliceState, Stands, AreKept}
 use Rattle.bridge_filter.specs.Steps.{ArePoliced, HaveInstances, GatesBefore, MetersBefore, IsSound, plans_in}
 use Rattle.bridge_filter.proofs.Judging.{instances_later}
 

@@ -8,7 +8,7 @@ use Rattle.bridge_filter.specs.declared.Verdict.{Verdict}
 use Rattle.bridge_filter.specs.declared.Verdict.TheVariants as verdict
 use Rattle.bridge_filter.specs.declared.Counters.{Counters}
 use Rattle.bridge_filter.specs.declared.Flags.{Flags}
-use Rattle.bridge_filter.specs.Verdicts.{Event, Came, ClearedBlocked, ClearedRxOf, ClearedOctetsOf, ClearedRedOf, Call, Plans, Step, Unfiltered, Judged, Command, gate_share, meter_share, is_blocked, is_oversize, reached_gate, passed_gate}
+use Rattle.bridge_filter.specs.Verdicts.{Event, Came, ClearedBlocked, ClearedRxOf, ClearedOctetsOf, ClearedRedOf, Plans, Step, Unfiltered, Judged, Command, gate_share, meter_share, is_blocked, is_oversize, reached_gate, passed_gate}
 
 -- the verdicts of a filter, in the order of its frames
 abbrev pub verdicts_of : ℕ → List Step → List Verdict

@@ -1,8 +1,11 @@
 -- What the private functions of the police keep and do in one step. No public clause speaks of it.
-use Rattle.std.specs.Prelude.{◌≡◌, ℕ, Bool, ◌+◌, ◌≤◌, ◌&&◌, ◌||◌, nat_eq, map, true, Option, Some, None, List, IsSome, if◌then◌else◌}
+use Rattle.std.specs.Prelude.{◌≡◌, ℕ, Bool, ◌+◌, ◌≤◌, ◌&&◌, ◌||◌, nat_eq, map, true, false, Option, Some, None, List, [], IsSome, if◌then◌else◌}
 use Rattle.std.specs.Map.{lookup}
 use Rattle.indexmap.specs.IndexMap.{IndexMap, get}
+use Rattle.bridge_meter.specs.declared.MeterPlan.{MeterPlan}
 use Rattle.bridge_meter.specs.Standing as meter
+use Rattle.bridge_gate.specs.declared.schedule.GatePlan.{GatePlan}
+use Rattle.bridge_gate.specs.Schedules.{rules_of}
 use Rattle.bridge_gate.specs.Standing as gate
 use Rattle.bridge_filter.specs.declared.FilterPlan.{FilterPlan}
 use Rattle.bridge_filter.specs.declared.Verdict.{Verdict}
@@ -98,3 +101,30 @@ pub record IsSound {A S : Type 0} (filters : List (ℕ × Filter)) (firsts : Ind
   pub instances : HaveInstances filters gates meters calls
   pub asked : GatesBefore gates earliest
   pub judged : MetersBefore meters earliest
+
+-- what is made of each plan, where there is one
+abbrev pub Made : {P X : Type 0} → (P → X → Type 0) → Option P → Option X → Type 0
+Made R None None = Unit {0}
+Made R None (Some x) = ⊥
+Made R (Some p) None = ⊥
+Made R (Some p) (Some x) = R p x
+
+-- by each number, one was made of each plan
+abbrev pub AreMade : {P X : Type 0} → (P → X → Type 0) → List (ℕ × P) → List (ℕ × X) → Type 0
+AreMade R plans made = (n : ℕ) → Made R (lookup (nat_eq n) plans) (lookup (nat_eq n) made)
+
+-- a gate of a plan that no frame has reached
+pub record IsNewGate {A : Type 0} (plan : GatePlan A) (g : gate.Gate A) : Type 0 where
+  pub stands : gate.StandsFor (rules_of plan) g []
+  pub earliest : g.earliest ≡ 0
+
+-- a meter of a plan that no frame has reached
+pub record IsNewMeter (plan : MeterPlan) (m : meter.MeterState) : Type 0 where
+  pub stands : meter.StandsFor plan m []
+
+-- a filter that no frame has reached
+abbrev pub new_filter : FilterPlan → Filter
+new_filter plan = record { plan = plan; counters = record { matching = 0; sdu_passed = 0; sdu_refused = 0; gate_passed = 0; gate_refused = 0; red = 0 }; blocked = false }
+
+abbrev pub new_filters : List (ℕ × FilterPlan) → List (ℕ × Filter)
+new_filters fs = map (λ f. (f.0, new_filter f.1)) fs

@@ -1,5 +1,5 @@
 -- The verdicts of stream filters over a list of frames and commands (IEEE 802.1Q-2018, 8.6.5.3: per-stream filtering and policing).
-use Rattle.std.specs.Prelude.{ℕ, Bool, true, false, ◌+◌, ◌&&◌, ◌||◌, not, nat_lt, nat_eq, Option, Some, None, List, [], ◌∷◌, if◌then◌else◌}
+use Rattle.std.specs.Prelude.{ℕ, Bool, true, false, ◌&&◌, ◌||◌, not, nat_lt, nat_eq, Option, Some, None, List, [], ◌∷◌, if◌then◌else◌}
 use Rattle.bridge_meter.specs.declared.Colour.{Colour}
 use Rattle.bridge_meter.specs.declared.Colour.TheVariants as colour
 use Rattle.bridge_meter.specs.declared.MeterPlan.{MeterPlan}

@@ -1,7 +1,7 @@
 //! What the police keeps of a filter.
 
-ghost use Rattle.std.specs.Prelude.{◌≡◌, false};
-ghost use Rattle.bridge_filter.specs.Steps.{refusal, noted, AreAtMost};
+ghost use Rattle.std.specs.Prelude.{◌≡◌};
+ghost use Rattle.bridge_filter.specs.Steps.{refusal, noted, new_filter, AreAtMost};
 
 use crate::{Counters, FilterPlan, Verdict};
 
@@ -16,7 +16,7 @@ pub(crate) struct Filter {
 impl Filter {
     /// A filter that no frame has reached.
     pub(crate) fn new(plan: FilterPlan) -> Filter
-        ensures { result ≡ record { plan = plan; counters = record { matching = 0; sdu_passed = 0; sdu_refused = 0; gate_passed = 0; gate_refused = 0; red = 0 }; blocked = false } }
+        ensures { result ≡ new_filter plan }
     {
         Filter {
             plan,

@@ -6,10 +6,11 @@ mod filter;
 mod find;
 mod instances;
 mod judge;
+mod making;
 mod police;
 
 pub use police::Police;
-use std::alloc::{AllocError, AllocFailed};
+use std::alloc::AllocError;
 use thiserror::Error;
 
 /// How a stream filter is set.

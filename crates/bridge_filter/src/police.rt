@@ -1,13 +1,13 @@
 //! The police: all filters with their gates and meters.
 
-ghost use Rattle.std.specs.Prelude.{◌≡◌, ℕ, Bool, List, [], ◌∷◌, ◌+◌, ◌<◌, ◌≤◌, ◌^◌, nat_eq, Option, Some, IsSome, IfSome, IsTrue};
+ghost use Rattle.std.specs.Prelude.{◌≡◌, ℕ, Bool, List, [], ◌∷◌, ◌+◌, ◌<◌, ◌≤◌, ◌^◌, nat_eq, Option, Some, IsSome, IfSome, IfOk, IsTrue};
 ghost use Rattle.std.specs.Option.{option_map};
 ghost use Rattle.std.specs.Map.{lookup};
 ghost use Rattle.bridge_filter.specs.declared.FilterPlan.{FilterPlan};
 ghost use Rattle.bridge_filter.specs.declared.Ruling.{Ruling};
 ghost use Rattle.bridge_filter.specs.Verdicts.{Plans, Event, Came, call, flow, judged, told, ruled};
 ghost use Rattle.bridge_filter.specs.Counts.{verdicts_of, counters_of, flags_of, buckets_by, frames_in, last_moment};
-ghost use Rattle.bridge_filter.specs.Plans.{is_there};
+ghost use Rattle.bridge_filter.specs.Plans.{is_there, are_distinct, have_instances, all_have_priorities, all_within_limits, plans_of};
 ghost use Rattle.bridge_filter.specs.Standing.{Stands};
 ghost use Rattle.bridge_filter.specs.Steps.{HasMeter, HasPriority};
 
@@ -15,9 +15,10 @@ use crate::filter::Filter;
 use crate::find::{Firsts, filter_of};
 use crate::instances::{Frame, Numbered, gate_flags, meter_state};
 use crate::judge::judge;
-use crate::{Counters, Flags, Ruling};
-use bridge_gate::StreamGate;
-use bridge_meter::{Buckets, Meter};
+use crate::making::{filters_of, firsts_of, gates_of, meters_of};
+use crate::{Counters, FilterPlan, Flags, NoMemory, Ruling};
+use bridge_gate::{GatePlan, StreamGate};
+use bridge_meter::{Buckets, Meter, MeterPlan};
 use std::alloc::Allocator;
 use std::marker::Model;
 
@@ -44,6 +45,34 @@ impl<A: Allocator + Copy> Model for Police<A> {
 }
 
 impl<A: Allocator + Copy> Police<A> {
+    /// The police of these filters, gates and meters, each with its number; filters may come in any order. No frame
+    /// has come yet. What it was handed is dropped where it refuses.
+    ///
+    /// The filter of a frame is later found by at most four look-ups, however many filters there are.
+    pub fn new(
+        alloc: A,
+        filters: Vec<(u32, FilterPlan), A>,
+        gates: Vec<(u32, GatePlan<A>), A>,
+        meters: Vec<(u32, MeterPlan), A>,
+    ) -> Result<Police<A>, NoMemory>
+        requires filters { IsTrue (are_distinct filters.items) }
+        requires gates { IsTrue (are_distinct gates.items) }
+        requires meters { IsTrue (are_distinct meters.items) }
+        requires instances { IsTrue (have_instances filters.items gates.items meters.items) }
+        requires priorities { IsTrue (all_have_priorities gates.items) }
+        requires limits { IsTrue (all_within_limits meters.items) }
+        ensures { IfOk result (λ p. Stands (plans_of filters.items gates.items meters.items) p []) }
+    {
+        Ok(Police {
+            filters: filters_of(alloc, &filters)?,
+            firsts: firsts_of(alloc, &filters)?,
+            gates: gates_of(alloc, gates)?,
+            meters: meters_of(alloc, &meters)?,
+            calls: 0,
+            earliest: 0,
+        })
+    }
+
     /// What becomes of a frame that comes at `t` ns with this stream handle, priority (0 to 7) and drop eligible
     /// indication, with `sdu` octets of service data unit and `octets` metered octets: its filter and its verdict, or
     /// `None` where no filter matches. It takes no memory.

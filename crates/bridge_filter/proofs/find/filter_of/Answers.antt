@@ -1,7 +1,5 @@
-use Rattle.std.proofs.Common.{◌≡◌, ◌∙◌, Option, Some, None}
 use Rattle.indexmap.specs.IndexMap.{get}
-use Rattle.bridge_filter.specs.declared.find.Key.{Key}
-use Rattle.bridge_filter.specs.Finding.{same_key, lesser_number, least_with}
+use Rattle.bridge_filter.specs.Finding.{same_key}
 use Rattle.bridge_filter.proofs.Found.{looked_up_any, looked_up_own}
 use Rattle.bridge_filter.proofs.find.filter_of.Goals as goal
 

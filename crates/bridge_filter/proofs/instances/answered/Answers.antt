@@ -1,4 +1,4 @@
-use Rattle.std.proofs.Common.{◌≡◌, ◌∙◌, ℕ, sym, nat_eq, ◌∷◌}
+use Rattle.std.proofs.Common.{◌∙◌, sym, nat_eq, ◌∷◌}
 use Rattle.std.specs.Prelude.{if◌then◌else◌}
 use Rattle.bridge_meter.specs.Colours.{Came}
 use Rattle.bridge_filter.specs.Verdicts.{call, Judged, meter_share}

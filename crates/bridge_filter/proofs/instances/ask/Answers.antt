@@ -1,7 +1,5 @@
-use Rattle.std.proofs.Common.{rules, ◌≡◌, ℕ, Some, nat_eq, sym, ap}
-use Rattle.std.specs.Map.{lookup}
+use Rattle.std.proofs.Common.{rules, sym}
 use Rattle.bridge_gate.specs.Gates.{Asked}
-use Rattle.bridge_gate.specs.Standing.{Gate}
 use Rattle.bridge_filter.proofs.Numbered.{Changes}
 use Rattle.bridge_filter.proofs.Shares.{gates_after}
 use Rattle.bridge_filter.proofs.instances.ask.Goals as goal

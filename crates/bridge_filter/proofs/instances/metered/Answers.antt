@@ -1,5 +1,4 @@
-use Rattle.std.proofs.Common.{rules, ◌≡◌, ◌∙◌, ℕ, Some, nat_eq, sym, ap}
-use Rattle.std.specs.Map.{lookup}
+use Rattle.std.proofs.Common.{rules, ◌∙◌, sym, ap}
 use Rattle.bridge_meter.specs.declared.MeterPlan.{MeterPlan}
 use Rattle.bridge_meter.specs.declared.Colour.{Colour}
 use Rattle.bridge_meter.specs.Colours.{Came}

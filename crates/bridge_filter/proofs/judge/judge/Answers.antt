@@ -1,8 +1,8 @@
-use Rattle.std.proofs.Common.{rules, arith, ◌≡◌, ◌∙◌, ℕ, Some, nat_eq, sym, subst, refl, ap, List, ◌∷◌}
-use Rattle.std.specs.Map.{lookup, set_value}
+use Rattle.std.proofs.Common.{rules, ◌≡◌, ◌∙◌, nat_eq, sym, subst, refl, ap, ◌∷◌}
+use Rattle.std.specs.Map.{set_value}
 use Rattle.bridge_filter.specs.declared.FilterPlan.{FilterPlan}
 use Rattle.bridge_filter.specs.Verdicts.{call, Judged, verdict_of}
-use Rattle.bridge_filter.specs.Steps.{noted, ArePoliced, plans_in}
+use Rattle.bridge_filter.specs.Steps.{noted, ArePoliced}
 use Rattle.bridge_filter.proofs.Numbered.{Changes}
 use Rattle.bridge_filter.proofs.Judging.{kept_after, instances_after, plan_found, plans_in-set_value}
 use Rattle.bridge_filter.proofs.judge.judge.Goals as goal

@@ -1,4 +1,4 @@
-use Rattle.std.proofs.Common.{◌≡◌, ◌∙◌, sym}
+use Rattle.std.proofs.Common.{◌∙◌, sym}
 use Rattle.bridge_filter.specs.Verdicts.{call}
 use Rattle.bridge_filter.proofs.Judging.{refusal_is_verdict, admitted_verdict, refused_shares}
 use Rattle.bridge_filter.proofs.judge.verdict_for.Goals as goal

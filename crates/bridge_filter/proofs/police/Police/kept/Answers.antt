@@ -1,4 +1,4 @@
-use Rattle.std.proofs.Common.{◌≡◌, ℕ, nat_eq, sym, subst, Some}
+use Rattle.std.proofs.Common.{◌≡◌, nat_eq, sym, subst, Some}
 use Rattle.std.specs.Prelude.{IsTrue}
 use Rattle.std.specs.Map.{lookup}
 use Rattle.bridge_filter.specs.Plans.{is_there}

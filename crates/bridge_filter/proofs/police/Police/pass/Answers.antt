@@ -1,10 +1,8 @@
-use Rattle.std.proofs.Common.{arith, ◌≡◌, ◌≤◌, ◌<◌, ◌^◌, ◌∙◌, ℕ, Some, None, nat_eq, sym, subst, refl, ap, ◌∷◌}
-use Rattle.std.specs.Option.{option_map}
-use Rattle.bridge_filter.specs.declared.FilterPlan.{FilterPlan}
-use Rattle.bridge_filter.specs.Verdicts.{Unfiltered, Judged, call, flow, told, ruled}
+use Rattle.std.proofs.Common.{arith, ◌≤◌, ◌<◌, ◌^◌, ◌∙◌, sym, subst, refl, ap}
+use Rattle.bridge_filter.specs.Verdicts.{Unfiltered, Judged, call, told, ruled}
 use Rattle.bridge_filter.specs.Standing.{PoliceState, Stands}
 use Rattle.bridge_filter.specs.Steps.{plans_in}
-use Rattle.bridge_filter.proofs.Flows.{IsFlow, flow_numbered, flow_none, kept_there}
+use Rattle.bridge_filter.proofs.Flows.{flow_numbered, flow_none, kept_there}
 use Rattle.bridge_filter.proofs.Passing.{stands_after, are_policed, kept_unfiltered, policed_unfiltered, judged_unfiltered, judged_by, have_later, sound_unfiltered, sound_judged}
 use Rattle.bridge_filter.proofs.police.Police.pass.Goals as goal
 
