@@ -4,6 +4,8 @@
 #[cfg(test)]
 mod cycle;
 #[cfg(test)]
+mod filter;
+#[cfg(test)]
 mod gate;
 #[cfg(test)]
 mod ident;
