@@ -6,7 +6,13 @@ mod capture;
 #[cfg(test)]
 mod cycle;
 #[cfg(test)]
+mod filter;
+#[cfg(test)]
 mod gate;
+#[cfg(test)]
+mod ident;
+#[cfg(test)]
+mod meter;
 pub mod refusing;
 #[cfg(test)]
 mod text;

@@ -1,0 +1,158 @@
+use Rattle.std.proofs.Common.{◌≡◌, ℕ, Bool, true, false, List, [], ◌∷◌, ◌++◌, ◌+◌, ◌≤◌, arith, refl, ap, ◌∙◌, sym, subst, length}
+use Rattle.std.specs.Prelude.{nat_eq, if◌then◌else◌, ◌&&◌, ◌||◌, Option, Some, None, count_by}
+use Rattle.bridge_meter.specs.Standing as meter
+use Rattle.bridge_gate.specs.Standing as gate
+use Rattle.bridge_filter.specs.declared.FilterPlan.{FilterPlan}
+use Rattle.bridge_filter.specs.declared.Verdict.{Verdict}
+use Rattle.bridge_filter.specs.declared.Verdict.TheVariants as verdict
+use Rattle.bridge_filter.specs.declared.Counters.{Counters}
+use Rattle.bridge_filter.specs.declared.filter.Filter.{Filter}
+use Rattle.bridge_filter.specs.Verdicts.{Plans, Step, Judged, Call, verdict_of, by_answer, gate_answer, gate_share, meter_share, is_above, is_blocked, is_oversize, reached_gate, passed_gate}
+use Rattle.bridge_filter.specs.Counts.{verdicts_of, counters_of, refused_by_gate, dropped_by_meter}
+use Rattle.bridge_filter.specs.Standing.{IsKept, AreKept}
+use Rattle.bridge_filter.specs.Steps.{refusal, ArePoliced, counted, noted, one_if, AreAtMost, HasMeter, HasInstances, HaveInstances, SameNumbers, plans_in}
+use Rattle.std.specs.Map.{lookup, set_value}
+use Rattle.std.specs.Option.{option_map}
+use Rattle.std.proofs.lemmas.List.{length-append, append-nil}
+use Rattle.std.proofs.lemmas.List.Sums.{sum_by-append}
+use Rattle.bridge_filter.proofs.Numbered.{by_bool, some_is, same_eq, Changes, each_after}
+use Rattle.bridge_filter.proofs.Shares.{gate_share-refused, meter_share-refused, gates_stand_same, meters_stand_same}
+
+refused_by : (a b : Bool) (v z : Verdict) → (if a then Some verdict.Blocked else (if b then Some verdict.Oversize else None)) ≡ Some v → v ≡ (if a then verdict.Blocked else (if b then verdict.Oversize else z))
+refused_by true b v z h = sym (some_is _ _ h)
+refused_by false true v z h = sym (some_is _ _ h)
+refused_by false false v z h = absurd (cc)
+
+admitted_by : (a b : Bool) (z : Verdict) → (if a then Some verdict.Blocked else (if b then Some verdict.Oversize else None)) ≡ None → z ≡ (if a then verdict.Blocked else (if b then verdict.Oversize else z))
+admitted_by true b z h = absurd (cc)
+admitted_by false true z h = absurd (cc)
+admitted_by false false z h = refl
+
+-- a refusal before the gate is the verdict
+pub refusal_is_verdict : (p : Plans) (ss : List Step) (c : Call) (n : ℕ) (f : Filter) (v : Verdict) → IsKept n f ss → refusal f c.sdu ≡ Some v → v ≡ verdict_of p ss c n f.plan
+refusal_is_verdict p ss c n f v k h =
+    refused_by (f.plan.block_oversize && is_blocked n ss) (is_above f.plan.max_sdu c.sdu) v (by_answer p ss c f.plan (gate_answer p ss c f.plan.gate))
+    (subst (λ (b : Bool). (if b then Some verdict.Blocked else (if is_above f.plan.max_sdu c.sdu then Some verdict.Oversize else None)) ≡ Some v) k.blocked h)
+
+-- with no refusal, the verdict is that of the gate and the meter
+pub admitted_verdict : (p : Plans) (ss : List Step) (c : Call) (n : ℕ) (f : Filter) → IsKept n f ss → refusal f c.sdu ≡ None → by_answer p ss c f.plan (gate_answer p ss c f.plan.gate) ≡ verdict_of p ss c n f.plan
+admitted_verdict p ss c n f k h =
+    admitted_by (f.plan.block_oversize && is_blocked n ss) (is_above f.plan.max_sdu c.sdu) (by_answer p ss c f.plan (gate_answer p ss c f.plan.gate))
+    (subst (λ (b : Bool). (if b then Some verdict.Blocked else (if is_above f.plan.max_sdu c.sdu then Some verdict.Oversize else None)) ≡ None) k.blocked h)
+
+refused_early : (a b : Bool) (v : Verdict) → (if a then Some verdict.Blocked else (if b then Some verdict.Oversize else None)) ≡ Some v → (reached_gate v ≡ false) × (passed_gate v ≡ false)
+refused_early true b v h = let e = sym (some_is _ _ h) in rw e (refl, refl)
+refused_early false true v h = let e = sym (some_is _ _ h) in rw e (refl, refl)
+refused_early false false v h = absurd (cc)
+
+-- a frame that is refused before the gate has a share of no gate and no meter
+pub refused_shares : {A : Type 0} (p : Plans) (gates : List (ℕ × gate.Gate A)) (meters : List (ℕ × meter.MeterState)) (ss : List Step) (c : Call) (n : ℕ) (f : Filter) (v : Verdict) → refusal f c.sdu ≡ Some v → ArePoliced p gates meters ss → ArePoliced p gates meters (Judged c n f.plan v ∷ ss)
+refused_shares p gates meters ss c n f v h are =
+    let early = refused_early f.blocked (is_above f.plan.max_sdu c.sdu) v h in
+    record {
+      gates_stand = gates_stand_same p.gates gates (λ k. gate_share k ss) (λ k. gate_share k (Judged c n f.plan v ∷ ss)) (λ k. gate_share-refused k n c f.plan v ss early.0) are.gates_stand;
+      meters_stand = meters_stand_same p.meters meters (λ k. meter_share k ss) (λ k. meter_share k (Judged c n f.plan v ∷ ss)) (λ k. meter_share-refused k n c f.plan v ss early.1) are.meters_stand;
+    }
+
+-- one more verdict
+
+count_by-more : (p : Verdict → Bool) (vs : List Verdict) (v : Verdict) → count_by p (vs ++ v ∷ []) ≡ count_by p vs + one_if (p v)
+count_by-more p vs v = sum_by-append (λ (x : Verdict). one_if (p x)) vs (v ∷ []) ∙ omega arith
+
+length-more : (vs : List Verdict) (v : Verdict) → length (vs ++ v ∷ []) ≡ length vs + 1
+length-more vs v = length-append vs (v ∷ []) ∙ omega arith
+
+-- the counters of one more verdict
+pub counters_of-more : (vs : List Verdict) (v : Verdict) → counters_of (vs ++ v ∷ []) ≡ counted (counters_of vs) v
+counters_of-more vs v = rw (length-more vs v, count_by-more reached_gate vs v, count_by-more is_oversize vs v, count_by-more passed_gate vs v, count_by-more refused_by_gate vs v, count_by-more dropped_by_meter vs v) refl
+
+blocked_more : (enabled over was : Bool) → (enabled && was) || (enabled && over) ≡ enabled && (over || was)
+blocked_more true true true = refl
+blocked_more true true false = refl
+blocked_more true false true = refl
+blocked_more true false false = refl
+blocked_more false over was = refl
+
+-- what is kept of a filter after a frame of its own
+pub kept_own : (n : ℕ) (f : Filter) (c : Call) (plan : FilterPlan) (v : Verdict) (ss : List Step) → IsKept n f ss → IsKept n (noted f v) (Judged c n plan v ∷ ss)
+kept_own n f c plan v ss k = record {
+  counters = rw (same_eq n, k.counters) (sym (counters_of-more (verdicts_of n ss) v));
+  blocked = rw (same_eq n, k.blocked) (blocked_more f.plan.block_oversize (is_oversize v) (is_blocked n ss));
+}
+
+-- and after a frame of another filter
+pub kept_other : (n m : ℕ) (f : Filter) (c : Call) (plan : FilterPlan) (v : Verdict) (ss : List Step) → nat_eq m n ≡ false → IsKept n f ss → IsKept n f (Judged c m plan v ∷ ss)
+kept_other n m f c plan v ss differ k = record {
+  counters = rw (differ, append-nil (verdicts_of n ss)) k.counters;
+  blocked = rw differ k.blocked;
+}
+
+pub kept_after : (old new : List (ℕ × Filter)) (n : ℕ) (f : Filter) (c : Call) (plan : FilterPlan) (v : Verdict) (ss : List Step) → Changes old new n f (noted f v) → AreKept old ss → AreKept new (Judged c n plan v ∷ ss)
+kept_after old new n f c plan v ss change kept =
+    each_after old new n f (noted f v) (λ k z. IsKept k z ss) (λ k z. IsKept k z (Judged c n plan v ∷ ss)) change kept (kept_own n f c plan v ss) (λ k z differ. kept_other k n z c plan v ss differ)
+
+-- counters stay in range
+
+at_most_more : (b : Bool) (x m : ℕ) → x ≤ m → x + one_if b ≤ m + 1
+at_most_more true x m h = omega arith
+at_most_more false x m h = omega arith
+
+at_most_counted : (c : Counters) (v : Verdict) (m : ℕ) → AreAtMost c m → AreAtMost (counted c v) (m + 1)
+at_most_counted c v m h = record {
+  matching = at_most_more true c.matching m h.matching;
+  sdu_passed = at_most_more (reached_gate v) c.sdu_passed m h.sdu_passed;
+  sdu_refused = at_most_more (is_oversize v) c.sdu_refused m h.sdu_refused;
+  gate_passed = at_most_more (passed_gate v) c.gate_passed m h.gate_passed;
+  gate_refused = at_most_more (refused_by_gate v) c.gate_refused m h.gate_refused;
+  red = at_most_more (dropped_by_meter v) c.red m h.red;
+}
+
+pub at_most_later : (c : Counters) (m n : ℕ) → m ≤ n → AreAtMost c m → AreAtMost c n
+at_most_later c m n le h =
+    let a = h.matching in
+    let b = h.sdu_passed in
+    let d = h.sdu_refused in
+    let e = h.gate_passed in
+    let f = h.gate_refused in
+    let g = h.red in
+    record { matching = omega arith; sdu_passed = omega arith; sdu_refused = omega arith; gate_passed = omega arith; gate_refused = omega arith; red = omega arith }
+
+has_meter_later : {X Y : Type 0} (o : Option ℕ) (xs : List (ℕ × X)) (ys : List (ℕ × Y)) → SameNumbers xs ys → HasMeter o xs → HasMeter o ys
+has_meter_later None xs ys same h = h
+has_meter_later (Some n) xs ys same h = same n h
+
+pub instances_later : {A : Type 0} (f : Filter) (gates more_gates : List (ℕ × gate.Gate A)) (meters more_meters : List (ℕ × meter.MeterState)) (calls later : ℕ) → SameNumbers gates more_gates → SameNumbers meters more_meters → calls ≤ later → HasInstances f gates meters calls → HasInstances f more_gates more_meters later
+instances_later f gates more_gates meters more_meters calls later g m le h = record {
+  gate = g f.plan.gate h.gate;
+  meter = has_meter_later f.plan.meter meters more_meters m h.meter;
+  few = at_most_later f.counters calls later le h.few;
+}
+
+pub instances_after : {A : Type 0} (old new : List (ℕ × Filter)) (n : ℕ) (f : Filter) (v : Verdict) (gates more_gates : List (ℕ × gate.Gate A)) (meters more_meters : List (ℕ × meter.MeterState)) (calls : ℕ) → Changes old new n f (noted f v) → SameNumbers gates more_gates → SameNumbers meters more_meters → HaveInstances old gates meters calls → HaveInstances new more_gates more_meters (calls + 1)
+instances_after old new n f v gates more_gates meters more_meters calls change g m have =
+    each_after old new n f (noted f v) (λ k z. HasInstances z gates meters calls) (λ k z. HasInstances z more_gates more_meters (calls + 1)) change have
+    (λ h. record {
+      gate = g f.plan.gate h.gate;
+      meter = has_meter_later f.plan.meter meters more_meters m h.meter;
+      few = at_most_counted f.counters v calls h.few;
+    })
+    (λ k z differ h. instances_later z gates more_gates meters more_meters calls (calls + 1) g m (omega arith) h)
+
+-- plans of the filters that are kept
+
+pub lookup-plans_in : (n : ℕ) (fs : List (ℕ × Filter)) → lookup (nat_eq n) (plans_in fs) ≡ option_map (λ (f : Filter). f.plan) (lookup (nat_eq n) fs)
+lookup-plans_in n [] = refl
+lookup-plans_in n (f ∷ fs) = by_bool (nat_eq n f.0) (λ e. rw e refl) (λ e. rw e (lookup-plans_in n fs))
+
+-- a look-up finds the plan of what is kept
+pub plan_found : (n : ℕ) (fs : List (ℕ × Filter)) (f : Filter) (plan : FilterPlan) → lookup (nat_eq n) fs ≡ Some f → lookup (nat_eq n) (plans_in fs) ≡ Some plan → f.plan ≡ plan
+plan_found n fs f plan h k = some_is f.plan plan (ap (option_map (λ (x : Filter). x.plan)) (sym h) ∙ (sym (lookup-plans_in n fs) ∙ k))
+
+-- plans stay where one filter is kept with the plan that it had
+pub plans_in-set_value : (n : ℕ) (fs : List (ℕ × Filter)) (f g : Filter) → lookup (nat_eq n) fs ≡ Some f → g.plan ≡ f.plan → plans_in (set_value (nat_eq n) fs g) ≡ plans_in fs
+plans_in-set_value n [] f g h k = refl
+plans_in-set_value n (x ∷ fs) f g h k = by_bool (nat_eq n x.0)
+    (λ e.
+    let it : x.1 ≡ f = some_is x.1 f (rw e at h) in
+    rw (e, k, ← it) refl)
+    (λ e. let there : lookup (nat_eq n) fs ≡ Some f = rw e at h in rw e (ap (λ (z : List (ℕ × FilterPlan)). (x.0, x.1.plan) ∷ z) (plans_in-set_value n fs f g there k)))

@@ -1,0 +1,180 @@
+use Rattle.std.proofs.Common.{◌≡◌, ℕ, Bool, true, false, List, [], ◌∷◌, ◌++◌, ◌+◌, ◌<◌, arith, refl, ap, ◌∙◌, sym, subst, length, take, drop, get_or, drop-cons, add-one}
+use Rattle.std.proofs.lemmas.List.{take_more, map-append, take-append-drop, append_assoc, append-nil}
+use Rattle.std.proofs.lemmas.Bool.Decides.{nat_tests}
+use Rattle.std.specs.Prelude.{nat_eq, if◌then◌else◌, not, ◌&&◌, Option, Some, None}
+use Rattle.std.specs.Option.{option_map, option_eq}
+use Rattle.std.specs.Map.{lookup}
+use Rattle.std.specs.List.{list_all}
+use Rattle.bridge_filter.specs.declared.FilterPlan.{FilterPlan}
+use Rattle.bridge_filter.specs.declared.find.Key.{Key}
+use Rattle.bridge_filter.specs.Plans.{is_there, are_distinct}
+use Rattle.bridge_filter.specs.Finding.{same_key, key_of, lesser_number, least_by, least_with}
+use Rattle.bridge_filter.specs.Steps.{Made, AreMade, new_filter, new_filters, plans_in}
+use Rattle.bridge_filter.proofs.Numbered.{by_bool, is_eq, same_eq}
+use Rattle.bridge_filter.proofs.Found.{second_lesser}
+
+-- numbers of a list with one more at its end
+
+is_there_inside : {X : Type 0} (k : ℕ) (p : X) (xs ys : List (ℕ × X)) → is_there k (xs ++ (k, p) ∷ ys) ≡ true
+is_there_inside k p [] ys = rw (same_eq k) refl
+is_there_inside k p (x ∷ xs) ys = by_bool (nat_eq k x.0) (λ e. rw e refl) (λ e. rw e (is_there_inside k p xs ys))
+
+both_hold : (a b : Bool) → not a && b ≡ true → (a ≡ false) × (b ≡ true)
+both_hold true b h = absurd (cc)
+both_hold false b h = (refl, h)
+
+-- a number that comes later isn't among those before
+pub lookup_before : {X : Type 0} (k : ℕ) (p : X) (xs ys : List (ℕ × X)) → are_distinct (xs ++ (k, p) ∷ ys) ≡ true → lookup (nat_eq k) xs ≡ None
+lookup_before k p [] ys h = refl
+lookup_before k p (x ∷ xs) ys h =
+    let apart = both_hold (is_there x.0 (xs ++ (k, p) ∷ ys)) (are_distinct (xs ++ (k, p) ∷ ys)) h in
+    by_bool (nat_eq k x.0)
+    (λ e. absurd (let there = subst (λ (n : ℕ). is_there n (xs ++ (k, p) ∷ ys) ≡ true) (is_eq k x.0 e) (is_there_inside k p xs ys) in let away = apart.0 in cc))
+    (λ e. rw e (lookup_before k p xs ys apart.1))
+
+lookup-more_other : {X : Type 0} (q k : ℕ) (p : X) (xs : List (ℕ × X)) → nat_eq q k ≡ false → lookup (nat_eq q) (xs ++ (k, p) ∷ []) ≡ lookup (nat_eq q) xs
+lookup-more_other q k p [] h = rw h refl
+lookup-more_other q k p (x ∷ xs) h = by_bool (nat_eq q x.0) (λ e. rw e refl) (λ e. rw e (lookup-more_other q k p xs h))
+
+lookup-more_own : {X : Type 0} (k : ℕ) (p : X) (xs : List (ℕ × X)) → lookup (nat_eq k) xs ≡ None → lookup (nat_eq k) (xs ++ (k, p) ∷ []) ≡ Some p
+lookup-more_own k p [] h = rw (same_eq k) refl
+lookup-more_own k p (x ∷ xs) h = by_bool (nat_eq k x.0)
+    (λ e. absurd (let z = rw e at h in cc))
+    (λ e. let z : lookup (nat_eq k) xs ≡ None = rw e at h in rw e (lookup-more_own k p xs z))
+
+swapped : (m n : ℕ) → nat_eq m n ≡ false → nat_eq n m ≡ false
+swapped m n h = grind (arith, nat_tests)
+
+-- one more is made
+pub made_more : {P X : Type 0} (R : P → X → Type 0) (plans : List (ℕ × P)) (made new : List (ℕ × X)) (k : ℕ) (p : P) (x : X) → lookup (nat_eq k) plans ≡ None → ((q : ℕ) → lookup (nat_eq q) new ≡ (if nat_eq k q then Some x else lookup (nat_eq q) made)) → R p x → AreMade R plans made → AreMade R (plans ++ (k, p) ∷ []) new
+made_more R plans made new k p x absent update r all q = by_bool (nat_eq k q)
+    (λ e.
+    let same : k ≡ q = is_eq k q e in
+    let here : lookup (nat_eq k) new ≡ Some x = update k ∙ rw (same_eq k) refl in
+    subst (λ (n : ℕ). Made R (lookup (nat_eq n) (plans ++ (k, p) ∷ [])) (lookup (nat_eq n) new)) same (rw (lookup-more_own k p plans absent, here) r))
+    (λ e.
+    let there : lookup (nat_eq q) new ≡ lookup (nat_eq q) made = update q ∙ rw e refl in
+    rw (lookup-more_other q k p plans (swapped k q e), there) (all q))
+
+-- a list around one place
+around : {X : Type 0} (xs : List X) (i : ℕ) (d : X) → i < length xs → take i xs ++ get_or xs i d ∷ drop (i + 1) xs ≡ xs
+around xs i d h = rw (add-one, ← drop-cons xs i d) (take-append-drop i xs)
+
+pub distinct_at : {X : Type 0} (xs : List (ℕ × X)) (i : ℕ) (d : ℕ × X) → i < length xs → are_distinct xs ≡ true → lookup (nat_eq (get_or xs i d).0) (take i xs) ≡ None
+distinct_at {X} xs i d h distinct =
+    let x = get_or xs i d in
+    lookup_before x.0 x.1 (take i xs) (drop (i + 1) xs) (subst (λ (z : List (ℕ × X)). are_distinct z ≡ true) (sym (around xs i d h)) distinct)
+
+pub made_at : {P X : Type 0} (R : P → X → Type 0) (plans : List (ℕ × P)) (i : ℕ) (d : ℕ × P) (made new : List (ℕ × X)) (x : X) → i < length plans → are_distinct plans ≡ true → ((q : ℕ) → lookup (nat_eq q) new ≡ (if nat_eq (get_or plans i d).0 q then Some x else lookup (nat_eq q) made)) → R (get_or plans i d).1 x → AreMade R (take i plans) made → AreMade R (take (i + 1) plans) new
+made_at R plans i d made new x h distinct update r all =
+    let p = get_or plans i d in
+    subst (λ (z : List _). AreMade R z new) (sym (take_more plans i d h)) (made_more R (take i plans) made new p.0 p.1 x (distinct_at plans i d h distinct) update r all)
+
+-- filters
+
+pub lookup-new_filters : (n : ℕ) (fs : List (ℕ × FilterPlan)) → lookup (nat_eq n) (new_filters fs) ≡ option_map new_filter (lookup (nat_eq n) fs)
+lookup-new_filters n [] = refl
+lookup-new_filters n (f ∷ fs) = by_bool (nat_eq n f.0) (λ e. rw e refl) (λ e. rw e (lookup-new_filters n fs))
+
+pub plans_in-new_filters : (fs : List (ℕ × FilterPlan)) → plans_in (new_filters fs) ≡ fs
+plans_in-new_filters [] = refl
+plans_in-new_filters (f ∷ fs) = ap (λ (z : List (ℕ × FilterPlan)). f ∷ z) (plans_in-new_filters fs)
+
+pub new_filters-more : (fs : List (ℕ × FilterPlan)) (i : ℕ) (d : ℕ × FilterPlan) → i < length fs → new_filters (take i fs) ++ ((get_or fs i d).0, new_filter (get_or fs i d).1) ∷ [] ≡ new_filters (take (i + 1) fs)
+new_filters-more fs i d h = rw (take_more fs i d h) (sym (map-append (λ (f : ℕ × FilterPlan). (f.0, new_filter f.1)) (take i fs) (get_or fs i d ∷ [])))
+
+pub new_filter_absent : (fs : List (ℕ × FilterPlan)) (i : ℕ) (d : ℕ × FilterPlan) → i < length fs → are_distinct fs ≡ true → lookup (nat_eq (get_or fs i d).0) (new_filters (take i fs)) ≡ None
+new_filter_absent fs i d h distinct = lookup-new_filters (get_or fs i d).0 (take i fs) ∙ ap (option_map new_filter) (distinct_at fs i d h distinct)
+
+-- the least numbers
+
+least_step : (a b : Bool) (m n : ℕ) (o rest : Option ℕ) → rest ≡ (if b then lesser_number (Some n) o else o) → (if a then lesser_number (Some m) rest else rest) ≡ (if b then lesser_number (Some n) (if a then lesser_number (Some m) o else o) else (if a then lesser_number (Some m) o else o))
+least_step true true m n o rest h = rw h (second_lesser m (Some n) o)
+least_step true false m n o rest h = rw h refl
+least_step false true m n o rest h = h
+least_step false false m n o rest h = h
+
+pub least_by-more : (test : FilterPlan → Bool) (fs : List (ℕ × FilterPlan)) (f : ℕ × FilterPlan) → least_by test (fs ++ f ∷ []) ≡ (if test f.1 then lesser_number (Some f.0) (least_by test fs) else least_by test fs)
+least_by-more test [] f = refl
+least_by-more test (g ∷ fs) f = least_step (test g.1) (test f.1) g.0 f.0 (least_by test fs) (least_by test (fs ++ f ∷ [])) (least_by-more test fs f)
+
+pub least_with-more : (k : Key) (fs : List (ℕ × FilterPlan)) (i : ℕ) (d : ℕ × FilterPlan) → i < length fs → least_with k (take (i + 1) fs) ≡ (if same_key k (key_of (get_or fs i d).1) then lesser_number (Some (get_or fs i d).0) (least_with k (take i fs)) else least_with k (take i fs))
+least_with-more k fs i d h = rw (take_more fs i d h) (least_by-more (λ f. same_key k (key_of f)) (take i fs) (get_or fs i d))
+
+both_true : (a b : Bool) → a && b ≡ true → (a ≡ true) × (b ≡ true)
+both_true true b h = (refl, h)
+both_true false b h = absurd (cc)
+
+option_is : (a b : Option ℕ) → option_eq nat_eq a b ≡ true → a ≡ b
+option_is None None h = refl
+option_is None (Some y) h = absurd (cc)
+option_is (Some x) None h = absurd (cc)
+option_is (Some x) (Some y) h = ap Some (is_eq x y h)
+
+pub same_key_is : (a b : Key) → same_key a b ≡ true → a ≡ b
+same_key_is a b h =
+    let k = both_true (option_eq nat_eq a.handle b.handle) (option_eq nat_eq a.priority b.priority) h in
+    let x : a.handle ≡ b.handle = option_is a.handle b.handle k.0 in
+    let y : a.priority ≡ b.priority = option_is a.priority b.priority k.1 in
+    let named : Option ℕ → Option ℕ → Key = λ u v. record { handle = u; priority = v } in
+    ap (λ u. named u a.priority) x ∙ ap (named b.handle) y
+
+option_same : (a : Option ℕ) → option_eq nat_eq a a ≡ true
+option_same None = refl
+option_same (Some x) = same_eq x
+
+pub same_key_self : (a : Key) → same_key a a ≡ true
+same_key_self a = rw (option_same a.handle, option_same a.priority) refl
+
+pub same_key_swapped : (a b : Key) → same_key a b ≡ same_key b a
+same_key_swapped a b = by_bool (same_key a b)
+    (λ e. let k = same_key_is a b e in e ∙ sym (subst (λ (z : Key). same_key z a ≡ true) k (same_key_self a)))
+    (λ e. by_bool (same_key b a) (λ f. let k = same_key_is b a f in absurd (let z = subst (λ (y : Key). same_key y b ≡ true) k (same_key_self b) in cc)) (λ f. e ∙ sym f))
+
+-- the number at a key after one more was kept
+pub kept_least : (old new : Key → Option ℕ) (key : Key) (number least : ℕ) → Some least ≡ lesser_number (Some number) (old key) → ((k : Key) → new k ≡ (if same_key key k then Some least else old k)) → (k : Key) → new k ≡ (if same_key k key then lesser_number (Some number) (old k) else old k)
+kept_least old new key number least h update k = by_bool (same_key k key)
+    (λ e.
+    let same : key ≡ k = sym (same_key_is k key e) in
+    let swap : same_key key k ≡ true = same_key_swapped key k ∙ e in
+    update k ∙ (rw (swap, e) (h ∙ ap (λ (z : Key). lesser_number (Some number) (old z)) same)))
+    (λ e. let swap : same_key key k ≡ false = same_key_swapped key k ∙ e in update k ∙ rw (swap, e) refl)
+
+-- one of a list that all pass
+pub passes_inside : {X : Type 0} (p : X → Bool) (xs : List X) (y : X) (ys : List X) → list_all p (xs ++ y ∷ ys) ≡ true → p y ≡ true
+passes_inside p [] y ys h = (both_true (p y) (list_all p ys) h).0
+passes_inside p (x ∷ xs) y ys h = passes_inside p xs y ys (both_true (p x) (list_all p (xs ++ y ∷ ys)) h).1
+
+-- a list taken one by one: what was taken and what is left make it up
+
+pub taken_whole : {X : Type 0} (taken before : List X) (x : X) (after all : List X) → taken ++ before ≡ all → before ≡ x ∷ after → taken ++ x ∷ after ≡ all
+taken_whole taken before x after all h e = ap (λ (z : List _). taken ++ z) (sym e) ∙ h
+
+pub taken_more : {X : Type 0} (taken before : List X) (x : X) (after all : List X) → taken ++ before ≡ all → before ≡ x ∷ after → taken ++ x ∷ [] ++ after ≡ all
+taken_more taken before x after all h e = append_assoc taken (x ∷ []) after ∙ taken_whole taken before x after all h e
+
+pub taken_all : {X : Type 0} (taken before all : List X) → taken ++ before ≡ all → before ≡ [] → all ≡ taken
+taken_all taken before all h e = sym h ∙ (ap (λ (z : List _). taken ++ z) e ∙ append-nil taken)
+
+-- one more is made of such a list
+pub made_taken : {P X : Type 0} (R : P → X → Type 0) (taken before after all : List (ℕ × P)) (made new : List (ℕ × X)) (k : ℕ) (p : P) (x : X) → taken ++ before ≡ all → before ≡ (k, p) ∷ after → are_distinct all ≡ true → ((q : ℕ) → lookup (nat_eq q) new ≡ (if nat_eq k q then Some x else lookup (nat_eq q) made)) → R p x → AreMade R taken made → AreMade R (taken ++ (k, p) ∷ []) new
+made_taken R taken before after all made new k p x h e distinct update r are =
+    let whole = taken_whole taken before (k, p) after all h e in
+    made_more R taken made new k p x (lookup_before k p taken after (subst (λ (z : List _). are_distinct z ≡ true) (sym whole) distinct)) update r are
+
+pub passes_taken : {X : Type 0} (test : X → Bool) (taken before : List X) (x : X) (after all : List X) → taken ++ before ≡ all → before ≡ x ∷ after → list_all test all ≡ true → test x ≡ true
+passes_taken test taken before x after all h e pass = passes_inside test taken x after (subst (λ (z : List _). list_all test z ≡ true) (sym (taken_whole taken before x after all h e)) pass)
+
+-- how many are left
+
+length-cons : {X : Type 0} (x : X) (xs : List X) → length (x ∷ xs) ≡ length xs + 1
+length-cons x xs = omega arith
+
+pub left_more : {X : Type 0} (n m : ℕ) (before after : List X) (x : X) → n ≡ length before → before ≡ x ∷ after → m + 1 ≡ n → m ≡ length after
+left_more n m before after x h e k =
+    let l : length before ≡ length after + 1 = ap length e ∙ length-cons x after in
+    omega arith
+
+pub none_left : {X : Type 0} (n : ℕ) (left : List X) → n ≡ length left → n ≡ 0 → left ≡ []
+none_left n [] h k = refl
+none_left n (x ∷ xs) h k = absurd (let l = length-cons x xs in omega arith)

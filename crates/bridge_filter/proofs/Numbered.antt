@@ -1,0 +1,45 @@
+use Rattle.std.proofs.Common.{◌≡◌, ℕ, Bool, true, false, List, arith, refl, ◌∙◌, sym, subst, Option, Some}
+use Rattle.std.proofs.lemmas.Bool.Decides.{nat_tests}
+use Rattle.std.specs.Prelude.{nat_eq, IsSome}
+use Rattle.std.specs.Map.{lookup}
+use Rattle.bridge_filter.specs.Steps.{SameNumbers}
+
+pub by_bool : {C : Type 0} (b : Bool) → (b ≡ true → C) → (b ≡ false → C) → C
+by_bool true p q = p refl
+by_bool false p q = q refl
+
+pub is_eq : (m n : ℕ) → nat_eq m n ≡ true → m ≡ n
+is_eq m n h = grind (arith, nat_tests)
+
+pub not_eq : (m n : ℕ) → nat_eq m n ≡ false → m ≡ n → ⊥
+not_eq m n h e = absurd (let z : nat_eq m n ≡ true = grind (arith, nat_tests) in cc)
+
+pub same_eq : (n : ℕ) → nat_eq n n ≡ true
+same_eq n = grind (arith, nat_tests)
+
+pub some_is : {A : Type 0} (a b : A) → Some a ≡ Some b → a ≡ b
+some_is a b h = cc
+
+-- a list by number in which the value of one number, which was x, is y now, and each other number has what it had
+pub record Changes {X : Type 0} (old new : List (ℕ × X)) (n : ℕ) (x y : X) : Type 0 where
+  pub there : lookup (nat_eq n) old ≡ Some x
+  pub own : lookup (nat_eq n) new ≡ Some y
+  pub others : (k : ℕ) → (k ≡ n → ⊥) → lookup (nat_eq k) new ≡ lookup (nat_eq k) old
+
+-- what holds of each value holds of each after such a change, where it holds of the new one
+pub each_after : {X : Type 0} (old new : List (ℕ × X)) (n : ℕ) (x y : X) (P Q : ℕ → X → Type 0) → Changes old new n x y → ((k : ℕ) (z : X) → lookup (nat_eq k) old ≡ Some z → P k z) → (P n x → Q n y) → ((k : ℕ) (z : X) → nat_eq n k ≡ false → P k z → Q k z) → (k : ℕ) (z : X) → lookup (nat_eq k) new ≡ Some z → Q k z
+each_after {X} old new n x y P Q h each own others k z found = by_bool (nat_eq n k)
+    (λ same.
+    let at : n ≡ k = is_eq n k same in
+    let it : y ≡ z = some_is y z (sym h.own ∙ subst (λ (m : ℕ). lookup (nat_eq m) new ≡ Some z) (sym at) found) in
+    subst (λ (w : X). Q k w) it (subst (λ (m : ℕ). Q m y) at (own (each n x h.there))))
+    (λ differ. others k z differ (each k z (sym (h.others k (λ e. not_eq n k differ (sym e))) ∙ found)))
+
+some_there : {X : Type 0} (o : Option X) (x : X) → o ≡ Some x → IsSome o
+some_there o x h = rw h refl
+
+-- the numbers stay
+pub same_after : {X : Type 0} (old new : List (ℕ × X)) (n : ℕ) (x y : X) → Changes old new n x y → SameNumbers old new
+same_after {X} old new n x y h k there = by_bool (nat_eq n k)
+    (λ same. subst (λ (m : ℕ). IsSome (lookup (nat_eq m) new)) (is_eq n k same) (some_there (lookup (nat_eq n) new) y h.own))
+    (λ differ. subst (λ (o : Option X). IsSome o) (sym (h.others k (λ e. not_eq n k differ (sym e)))) there)

@@ -1,0 +1,19 @@
+use Rattle.std.proofs.Common.{◌∙◌, sym}
+use Rattle.bridge_filter.specs.Verdicts.{call}
+use Rattle.bridge_filter.proofs.Judging.{refusal_is_verdict, admitted_verdict, refused_shares}
+use Rattle.bridge_filter.proofs.judge.verdict_for.Goals as goal
+
+pub returns-in-Some-clause-verdict : goal.returns-in-Some-clause-verdict
+returns-in-Some-clause-verdict g c = λ p ss n handle priority are kept.
+    let frame = c.args.frame in
+    refusal_is_verdict p ss (call frame.at handle priority frame.dei frame.sdu frame.octets) n c.args.filter.now c.in-Some.refusal kept (sym c.refusal.ensures ∙ c.in-Some.is)
+
+pub returns-in-Some-clause-policed : goal.returns-in-Some-clause-policed
+returns-in-Some-clause-policed g c = λ p ss n handle priority are.
+    let frame = c.args.frame in
+    refused_shares p c.args.gates.now.entries c.args.meters.now.entries ss (call frame.at handle priority frame.dei frame.sdu frame.octets) n c.args.filter.now c.in-Some.refusal (sym c.refusal.ensures ∙ c.in-Some.is) are
+
+pub returns-in-None-clause-verdict : goal.returns-in-None-clause-verdict
+returns-in-None-clause-verdict g c = λ p ss n handle priority are kept.
+    let frame = c.args.frame in
+    c.policed.ensures.verdict p ss handle priority are ∙ admitted_verdict p ss (call frame.at handle priority frame.dei frame.sdu frame.octets) n c.args.filter.now kept (sym c.refusal.ensures ∙ c.in-None.is)

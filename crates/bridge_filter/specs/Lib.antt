@@ -1,0 +1,6 @@
+pub mod Verdicts
+pub mod Counts
+pub mod Plans
+pub mod Standing
+pub mod Finding
+pub mod Steps

@@ -1,0 +1,46 @@
+use Rattle.std.specs.Prelude.{◌≡◌, ℕ, ◌&&◌, nat_eq, Some, List}
+use Rattle.std.specs.Map.{lookup}
+use Rattle.bridge_meter.specs.declared.MeterPlan.{MeterPlan}
+use Rattle.bridge_meter.specs.Colours.{MeterEvent}
+use Rattle.bridge_meter.specs.Standing as meter
+use Rattle.bridge_gate.specs.Gates.{GateRules, GateEvent}
+use Rattle.bridge_gate.specs.Standing as gate
+use Rattle.bridge_filter.specs.declared.FilterPlan.{FilterPlan}
+use Rattle.bridge_filter.specs.declared.filter.Filter.{Filter}
+use Rattle.bridge_filter.specs.Verdicts.{Plans, Event, Step, told, gate_share, meter_share, is_blocked}
+use Rattle.bridge_filter.specs.Counts.{verdicts_of, counters_of, frames_in, last_moment}
+
+-- What the police shows of itself: its filters, what it keeps of each, its gates and its meters, all by number, how many frames came, and the moment of the last one.
+pub record PoliceState (A : Type 0) : Type 0 where
+  pub filters : List (ℕ × FilterPlan)
+  pub kept : List (ℕ × Filter)
+  pub gates : List (ℕ × gate.Gate A)
+  pub meters : List (ℕ × meter.MeterState)
+  pub calls : ℕ
+  pub earliest : ℕ
+
+-- each gate stands for its share
+abbrev pub GatesStand : {A : Type 0} → (ℕ → GateRules) → List (ℕ × gate.Gate A) → (ℕ → List GateEvent) → Type 0
+GatesStand {A} rules gates share = (n : ℕ) (g : gate.Gate A) → lookup (nat_eq n) gates ≡ Some g → gate.StandsFor (rules n) g (share n)
+
+-- each meter stands for its share
+abbrev pub MetersStand : (ℕ → MeterPlan) → List (ℕ × meter.MeterState) → (ℕ → List MeterEvent) → Type 0
+MetersStand plans meters share = (n : ℕ) (m : meter.MeterState) → lookup (nat_eq n) meters ≡ Some m → meter.StandsFor (plans n) m (share n)
+
+-- what is kept of a filter is what its verdicts give
+pub record IsKept (n : ℕ) (f : Filter) (ss : List Step) : Type 0 where
+  pub counters : f.counters ≡ counters_of (verdicts_of n ss)
+  pub blocked : f.blocked ≡ f.plan.block_oversize && is_blocked n ss
+
+-- what is kept of each filter is what its verdicts give
+abbrev pub AreKept : List (ℕ × Filter) → List Step → Type 0
+AreKept kept ss = (n : ℕ) (f : Filter) → lookup (nat_eq n) kept ≡ Some f → IsKept n f ss
+
+-- the police of these plans after these events, newest first
+pub record Stands {A : Type 0} (p : Plans) (s : PoliceState A) (es : List Event) : Type 0 where
+  pub filters : s.filters ≡ p.filters
+  pub kept : AreKept s.kept (told p es)
+  pub gates : GatesStand p.gates s.gates (λ n. gate_share n (told p es))
+  pub meters : MetersStand p.meters s.meters (λ n. meter_share n (told p es))
+  pub calls : s.calls ≡ frames_in es
+  pub earliest : s.earliest ≡ last_moment es

@@ -1,0 +1,181 @@
+-- The verdicts of stream filters over a list of frames and commands (IEEE 802.1Q-2018, 8.6.5.3: per-stream filtering and policing).
+use Rattle.std.specs.Prelude.{ℕ, Bool, true, false, ◌&&◌, ◌||◌, not, nat_lt, nat_eq, Option, Some, None, List, [], ◌∷◌, if◌then◌else◌}
+use Rattle.bridge_meter.specs.declared.Colour.{Colour}
+use Rattle.bridge_meter.specs.declared.Colour.TheVariants as colour
+use Rattle.bridge_meter.specs.declared.MeterPlan.{MeterPlan}
+use Rattle.bridge_meter.specs.Colours as meter
+use Rattle.bridge_gate.specs.declared.gate.GateAnswer.{GateAnswer}
+use Rattle.bridge_gate.specs.declared.gate.GateAnswer.TheVariants as gate
+use Rattle.bridge_gate.specs.Gates.{GateRules, GateEvent, Asked, ClearedRx, ClearedOctets, steps, answer}
+use Rattle.bridge_filter.specs.declared.FilterPlan.{FilterPlan}
+use Rattle.bridge_filter.specs.declared.Verdict.{Verdict}
+use Rattle.bridge_filter.specs.declared.Verdict.TheVariants as verdict
+use Rattle.bridge_filter.specs.declared.Ruling.{Ruling}
+
+-- A frame that reached the filters: its moment, its stream handle, its priority, its drop eligible indication, the octets of its service data unit and those that a meter counts.
+pub record Call : Type 0 where
+  pub at : ℕ
+  pub handle : Option ℕ
+  pub priority : ℕ
+  pub dei : Bool
+  pub sdu : ℕ
+  pub octets : ℕ
+
+abbrev pub call : ℕ → Option ℕ → ℕ → Bool → ℕ → ℕ → Call
+call at handle priority dei sdu octets = record { at = at; handle = handle; priority = priority; dei = dei; sdu = sdu; octets = octets }
+
+-- A frame, or a command that clears a flag: the blocked flag of the filter with that number, the receive or the octets flag of a gate, the red flag of a meter.
+-- Events are listed newest first.
+pub data Event : Type 0 where
+  Came : Call → Event
+  ClearedBlocked : ℕ → Event
+  ClearedRxOf : ℕ → Event
+  ClearedOctetsOf : ℕ → Event
+  ClearedRedOf : ℕ → Event
+
+-- The filters with their numbers, and how the gate and the meter of each number are set.
+pub record Plans : Type 0 where
+  pub filters : List (ℕ × FilterPlan)
+  pub gates : ℕ → GateRules
+  pub meters : ℕ → MeterPlan
+
+-- a filter's stream handle, where a wildcard also takes frames without one
+abbrev pub takes_handle : Option ℕ → Option ℕ → Bool
+takes_handle None h = true
+takes_handle (Some m) None = false
+takes_handle (Some m) (Some n) = nat_eq m n
+
+-- a filter's priority, or a wildcard
+abbrev pub takes_priority : Option ℕ → ℕ → Bool
+takes_priority None k = true
+takes_priority (Some m) k = nat_eq m k
+
+-- whether a filter matches a frame
+abbrev pub is_match : FilterPlan → Call → Bool
+is_match f c = takes_handle f.handle c.handle && takes_priority f.priority c.priority
+
+-- the one of two filters that has the lesser number, where the second may be none
+abbrev pub lesser : (ℕ × FilterPlan) → Option (ℕ × FilterPlan) → Option (ℕ × FilterPlan)
+lesser f None = Some f
+lesser f (Some g) = if nat_lt g.0 f.0 then Some g else Some f
+
+-- a frame's flow: the matching filter with the least number
+abbrev pub flow : List (ℕ × FilterPlan) → Call → Option (ℕ × FilterPlan)
+flow [] c = None
+flow (f ∷ fs) c = if is_match f.1 c then lesser f (flow fs c) else flow fs c
+
+-- What came of an event: a frame without a filter, a frame with its filter and its verdict, or a command. Steps are listed newest first.
+pub data Step : Type 0 where
+  Unfiltered : Call → Step
+  Judged : Call → ℕ → FilterPlan → Verdict → Step
+  Command : Event → Step
+
+-- whether the gate was asked
+abbrev pub reached_gate : Verdict → Bool
+reached_gate verdict.Blocked = false
+reached_gate verdict.Oversize = false
+reached_gate v = true
+
+-- whether the gate let the frame through
+abbrev pub passed_gate : Verdict → Bool
+passed_gate verdict.Red = true
+passed_gate verdict.YellowDropped = true
+passed_gate (verdict.Pass ipv eligible) = true
+passed_gate v = false
+
+-- a gate's share of the steps: the frames of all filters with that gate that reached it, and the commands that name it
+abbrev pub gate_share : ℕ → List Step → List GateEvent
+gate_share g [] = []
+gate_share g (Unfiltered c ∷ ss) = gate_share g ss
+gate_share g (Judged c n f v ∷ ss) = if nat_eq f.gate g && reached_gate v then Asked c.at c.sdu ∷ gate_share g ss else gate_share g ss
+gate_share g (Command (Came c) ∷ ss) = gate_share g ss
+gate_share g (Command (ClearedBlocked n) ∷ ss) = gate_share g ss
+gate_share g (Command (ClearedRxOf n) ∷ ss) = if nat_eq n g then ClearedRx ∷ gate_share g ss else gate_share g ss
+gate_share g (Command (ClearedOctetsOf n) ∷ ss) = if nat_eq n g then ClearedOctets ∷ gate_share g ss else gate_share g ss
+gate_share g (Command (ClearedRedOf n) ∷ ss) = gate_share g ss
+
+-- whether a filter's meter, where it has one, is that one
+abbrev pub is_meter : Option ℕ → ℕ → Bool
+is_meter None m = false
+is_meter (Some n) m = nat_eq n m
+
+-- a meter's share of the steps: the frames of all filters with that meter that their gates let through, and the commands that name it
+abbrev pub meter_share : ℕ → List Step → List meter.MeterEvent
+meter_share m [] = []
+meter_share m (Unfiltered c ∷ ss) = meter_share m ss
+meter_share m (Judged c n f v ∷ ss) = if is_meter f.meter m && passed_gate v then meter.Came c.at c.octets c.dei ∷ meter_share m ss else meter_share m ss
+meter_share m (Command (Came c) ∷ ss) = meter_share m ss
+meter_share m (Command (ClearedBlocked n) ∷ ss) = meter_share m ss
+meter_share m (Command (ClearedRxOf n) ∷ ss) = meter_share m ss
+meter_share m (Command (ClearedOctetsOf n) ∷ ss) = meter_share m ss
+meter_share m (Command (ClearedRedOf n) ∷ ss) = if nat_eq n m then meter.Cleared ∷ meter_share m ss else meter_share m ss
+
+abbrev pub is_oversize : Verdict → Bool
+is_oversize verdict.Oversize = true
+is_oversize v = false
+
+-- whether the filter of that number gave the verdict Oversize, and no command cleared its flag since
+abbrev pub is_blocked : ℕ → List Step → Bool
+is_blocked n [] = false
+is_blocked n (Unfiltered c ∷ ss) = is_blocked n ss
+is_blocked n (Judged c m f v ∷ ss) = (nat_eq m n && is_oversize v) || is_blocked n ss
+is_blocked n (Command (Came c) ∷ ss) = is_blocked n ss
+is_blocked n (Command (ClearedBlocked m) ∷ ss) = not (nat_eq m n) && is_blocked n ss
+is_blocked n (Command (ClearedRxOf m) ∷ ss) = is_blocked n ss
+is_blocked n (Command (ClearedOctetsOf m) ∷ ss) = is_blocked n ss
+is_blocked n (Command (ClearedRedOf m) ∷ ss) = is_blocked n ss
+
+-- whether octets are above a maximum, where there is one
+abbrev pub is_above : Option ℕ → ℕ → Bool
+is_above None n = false
+is_above (Some most) n = nat_lt most n
+
+-- the verdict by the colour of a meter
+abbrev pub by_colour : MeterPlan → Option ℕ → Colour → Verdict
+by_colour m ipv colour.Green = verdict.Pass ipv false
+by_colour m ipv colour.Yellow = if m.drop_yellow then verdict.YellowDropped else verdict.Pass ipv true
+by_colour m ipv colour.Red = verdict.Red
+
+-- the verdict of a frame that the gate let through, by the filter's meter, where it has one
+abbrev pub by_meter : Plans → List Step → Call → Option ℕ → Option ℕ → Verdict
+by_meter p ss c ipv None = verdict.Pass ipv false
+by_meter p ss c ipv (Some m) = by_colour (p.meters m) ipv (meter.colour_of (p.meters m) (meter.past (p.meters m) (meter_share m ss)) c.at c.octets c.dei)
+
+-- the verdict by the answer of the gate
+abbrev pub by_answer : Plans → List Step → Call → FilterPlan → GateAnswer → Verdict
+by_answer p ss c f (gate.Through ipv) = by_meter p ss c ipv f.meter
+by_answer p ss c f gate.Closed = verdict.GateClosed
+by_answer p ss c f gate.ShutByRx = verdict.ShutByRx
+by_answer p ss c f gate.ShutByOctets = verdict.ShutByOctets
+by_answer p ss c f gate.OctetsExceeded = verdict.OctetsExceeded
+
+-- the gate's answer to a frame after these steps
+abbrev pub gate_answer : Plans → List Step → Call → ℕ → GateAnswer
+gate_answer p ss c g = answer (p.gates g) (steps (p.gates g) (gate_share g ss)) c.at c.sdu
+
+-- the verdict of a frame of a filter after these steps: the blocked flag, the maximum of the service data unit, the gate and the meter, in this order
+abbrev pub verdict_of : Plans → List Step → Call → ℕ → FilterPlan → Verdict
+verdict_of p ss c n f =
+    if f.block_oversize && is_blocked n ss then verdict.Blocked
+    else if is_above f.max_sdu c.sdu then verdict.Oversize
+    else by_answer p ss c f (gate_answer p ss c f.gate)
+
+-- what comes of a frame after these steps, by its flow
+abbrev pub judged : Plans → List Step → Call → Option (ℕ × FilterPlan) → Step
+judged p ss c None = Unfiltered c
+judged p ss c (Some f) = Judged c f.0 f.1 (verdict_of p ss c f.0 f.1)
+
+-- what came of these events
+abbrev pub told : Plans → List Event → List Step
+told p [] = []
+told p (Came c ∷ es) = judged p (told p es) c (flow p.filters c) ∷ told p es
+told p (ClearedBlocked n ∷ es) = Command (ClearedBlocked n) ∷ told p es
+told p (ClearedRxOf n ∷ es) = Command (ClearedRxOf n) ∷ told p es
+told p (ClearedOctetsOf n ∷ es) = Command (ClearedOctetsOf n) ∷ told p es
+told p (ClearedRedOf n ∷ es) = Command (ClearedRedOf n) ∷ told p es
+
+-- the answer to a frame, by what came of it
+abbrev pub ruled : Step → Option Ruling
+ruled (Unfiltered c) = None
+ruled (Judged c n f v) = Some (record { filter = n; verdict = v })
+ruled (Command e) = None

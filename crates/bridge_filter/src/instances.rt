@@ -1,0 +1,181 @@
+//! Gates and meters by number, and what they say to a frame.
+
+ghost use Rattle.std.specs.Prelude.{◌≡◌, ℕ, ◌<◌, ◌≤◌, ◌&&◌, nat_eq, IsSome, Some, true, Bool, Option, List, ◌∷◌, if◌then◌else◌};
+ghost use Rattle.std.specs.Map.{lookup};
+ghost use Rattle.bridge_meter.specs.declared.MeterPlan.{MeterPlan};
+ghost use Rattle.bridge_meter.specs.Colours as colours;
+ghost use Rattle.bridge_gate.specs.declared.gate.GateAnswer.TheVariants as gate;
+ghost use Rattle.bridge_gate.specs.Gates.{GateRules, GateEvent, Asked, answer, steps, is_shut_by_rx, is_shut_by_octets};
+ghost use Rattle.bridge_filter.specs.Verdicts.{Plans, Step, Judged, call, by_answer, by_colour, gate_answer, gate_share, meter_share, passed_gate, reached_gate};
+ghost use Rattle.bridge_filter.specs.Standing.{GatesStand, MetersStand};
+ghost use Rattle.bridge_filter.specs.Steps.{GatesBefore, MetersBefore, ArePoliced, SameNumbers, HasMeter, HasPriority};
+
+use crate::{FilterPlan, Verdict};
+use bridge_gate::{GateAnswer, StreamGate};
+use bridge_meter::{Buckets, Colour, Meter};
+use indexmap::IndexMap;
+use std::alloc::Allocator;
+use std::hash::{BuildHasherDefault, FoldHasher};
+
+/// Things by number.
+pub(crate) type Numbered<T, A> = IndexMap<u32, T, BuildHasherDefault<FoldHasher>, A>;
+
+/// What gates and meters read of a frame.
+#[derive(Clone, Copy)]
+pub(crate) struct Frame {
+    pub at: u64,
+    pub dei: bool,
+    pub sdu: u32,
+    pub octets: u32,
+}
+
+/// Asks the gate of that number.
+fn ask<A: Allocator + Copy>(
+    gates: &mut Numbered<StreamGate<A>, A>,
+    number: u32,
+    at: u64,
+    sdu: u32,
+) -> GateAnswer
+    requires there { IsSome (lookup (nat_eq number) gates.old.entries) }
+    requires before { GatesBefore gates.old.entries at }
+    requires range { at < 4_000_000_000_000_000_000 }
+    ensures stand { (rules : ℕ → GateRules) (share : ℕ → List GateEvent) → GatesStand rules gates.old.entries share → GatesStand rules gates.new.entries (λ n. if nat_eq number n then Asked at sdu ∷ share n else share n) }
+    ensures answer { (rules : ℕ → GateRules) (share : ℕ → List GateEvent) → GatesStand rules gates.old.entries share → result ≡ answer (rules number) (steps (rules number) (share number)) at sdu }
+    ensures priority { (ipv : ℕ) → result ≡ gate.Through (Some ipv) → ipv ≤ 7 }
+    ensures before { GatesBefore gates.new.entries at }
+    ensures same { SameNumbers gates.old.entries gates.new.entries }
+{
+    match gates.get_mut(&number) {
+        Some(gate) => gate.ask(at, sdu),
+        None => unreachable!(),
+    }
+}
+
+/// The verdict of a frame that its gate let through, by the meter of that number.
+fn metered<A: Allocator + Copy>(
+    meters: &mut Numbered<Meter, A>,
+    number: u32,
+    frame: Frame,
+    ipv: Option<u8>,
+) -> Verdict
+    requires there { IsSome (lookup (nat_eq number) meters.old.entries) }
+    requires before { MetersBefore meters.old.entries frame.at }
+    ensures stand { (plans : ℕ → MeterPlan) (share : ℕ → List colours.MeterEvent) → MetersStand plans meters.old.entries share → MetersStand plans meters.new.entries (λ n. if nat_eq number n then colours.Came frame.at frame.octets frame.dei ∷ share n else share n) }
+    ensures verdict { (plans : ℕ → MeterPlan) (share : ℕ → List colours.MeterEvent) → MetersStand plans meters.old.entries share → result ≡ by_colour (plans number) ipv (colours.colour_of (plans number) (colours.past (plans number) (share number)) frame.at frame.octets frame.dei) }
+    ensures passed { passed_gate result ≡ true }
+    ensures priority { ((i : ℕ) → ipv ≡ Some i → i ≤ 7) → HasPriority result }
+    ensures before { MetersBefore meters.new.entries frame.at }
+    ensures same { SameNumbers meters.old.entries meters.new.entries }
+{
+    match meters.get_mut(&number) {
+        Some(meter) => {
+            let drop_yellow = meter.plan().drop_yellow;
+            let colour = meter.colour(frame.at, frame.octets, frame.dei);
+            verdict_by(colour, drop_yellow, ipv)
+        }
+        None => unreachable!(),
+    }
+}
+
+/// The verdict by a colour.
+fn verdict_by(colour: Colour, drop_yellow: bool, ipv: Option<u8>) -> Verdict
+    ensures verdict { (plan : MeterPlan) → plan.drop_yellow ≡ drop_yellow → result ≡ by_colour plan ipv colour }
+    ensures passed { passed_gate result ≡ true }
+    ensures priority { ((i : ℕ) → ipv ≡ Some i → i ≤ 7) → HasPriority result }
+{
+    match colour {
+        Colour::Green => Verdict::Pass {
+            ipv,
+            eligible: false,
+        },
+        Colour::Yellow if drop_yellow => Verdict::YellowDropped,
+        Colour::Yellow => Verdict::Pass {
+            ipv,
+            eligible: true,
+        },
+        Colour::Red => Verdict::Red,
+    }
+}
+
+/// The verdict by the answer of the gate, and by the meter where the gate let the frame through.
+fn answered<A: Allocator + Copy>(
+    answer: GateAnswer,
+    meter: Option<u32>,
+    meters: &mut Numbered<Meter, A>,
+    frame: Frame,
+) -> Verdict
+    requires meter { HasMeter meter meters.old.entries }
+    requires before { MetersBefore meters.old.entries frame.at }
+    requires priority { (ipv : ℕ) → answer ≡ gate.Through (Some ipv) → ipv ≤ 7 }
+    ensures verdict { (p : Plans) (ss : List Step) (f : FilterPlan) (handle : Option ℕ) (priority : ℕ) → f.meter ≡ meter → MetersStand p.meters meters.old.entries (λ n. meter_share n ss) → result ≡ by_answer p ss (call frame.at handle priority frame.dei frame.sdu frame.octets) f answer }
+    ensures stand { (plans : ℕ → MeterPlan) (ss : List Step) (k : ℕ) (f : FilterPlan) (handle : Option ℕ) (priority : ℕ) → f.meter ≡ meter → MetersStand plans meters.old.entries (λ n. meter_share n ss) → MetersStand plans meters.new.entries (λ n. meter_share n (Judged (call frame.at handle priority frame.dei frame.sdu frame.octets) k f result ∷ ss)) }
+    ensures reached { reached_gate result ≡ true }
+    ensures priority { HasPriority result }
+    ensures before { MetersBefore meters.new.entries frame.at }
+    ensures same { SameNumbers meters.old.entries meters.new.entries }
+{
+    match answer {
+        GateAnswer::Through(ipv) => match meter {
+            Some(meter) => metered(meters, meter, frame, ipv),
+            None => Verdict::Pass {
+                ipv,
+                eligible: false,
+            },
+        },
+        GateAnswer::Closed => Verdict::GateClosed,
+        GateAnswer::ShutByRx => Verdict::ShutByRx,
+        GateAnswer::ShutByOctets => Verdict::ShutByOctets,
+        GateAnswer::OctetsExceeded => Verdict::OctetsExceeded,
+    }
+}
+
+/// The verdict of a frame that reached its gate.
+pub(crate) fn policed<A: Allocator + Copy>(
+    plan: FilterPlan,
+    gates: &mut Numbered<StreamGate<A>, A>,
+    meters: &mut Numbered<Meter, A>,
+    frame: Frame,
+) -> Verdict
+    requires gate { IsSome (lookup (nat_eq plan.gate) gates.old.entries) }
+    requires meter { HasMeter plan.meter meters.old.entries }
+    requires asked { GatesBefore gates.old.entries frame.at }
+    requires judged { MetersBefore meters.old.entries frame.at }
+    requires range { frame.at < 4_000_000_000_000_000_000 }
+    ensures verdict { (p : Plans) (ss : List Step) (handle : Option ℕ) (priority : ℕ) → ArePoliced p gates.old.entries meters.old.entries ss → result ≡ by_answer p ss (call frame.at handle priority frame.dei frame.sdu frame.octets) plan (gate_answer p ss (call frame.at handle priority frame.dei frame.sdu frame.octets) plan.gate) }
+    ensures reached { reached_gate result ≡ true }
+    ensures gates { (p : Plans) (ss : List Step) (n : ℕ) (handle : Option ℕ) (priority : ℕ) → ArePoliced p gates.old.entries meters.old.entries ss → ArePoliced p gates.new.entries meters.new.entries (Judged (call frame.at handle priority frame.dei frame.sdu frame.octets) n plan result ∷ ss) }
+    ensures priority { HasPriority result }
+    ensures asked { GatesBefore gates.new.entries frame.at }
+    ensures judged { MetersBefore meters.new.entries frame.at }
+    ensures same_gates { SameNumbers gates.old.entries gates.new.entries }
+    ensures same_meters { SameNumbers meters.old.entries meters.new.entries }
+{
+    let answer = ask(gates, plan.gate, frame.at, frame.sdu);
+    answered(answer, plan.meter, meters, frame)
+}
+
+/// The flags of the gate of that number.
+pub(crate) fn gate_flags<A: Allocator + Copy>(
+    gates: &Numbered<StreamGate<A>, A>,
+    number: u32,
+) -> (bool, bool)
+    requires { IsSome (lookup (nat_eq number) gates.now.entries) }
+    ensures rx { (rules : ℕ → GateRules) (share : ℕ → List GateEvent) → GatesStand rules gates.now.entries share → result.0 ≡ (rules number).shut_on_rx && is_shut_by_rx (steps (rules number) (share number)) }
+    ensures octets { (rules : ℕ → GateRules) (share : ℕ → List GateEvent) → GatesStand rules gates.now.entries share → result.1 ≡ (rules number).shut_on_octets && is_shut_by_octets (steps (rules number) (share number)) }
+{
+    match gates.get(&number) {
+        Some(gate) => gate.flags(),
+        None => unreachable!(),
+    }
+}
+
+/// What the buckets of the meter of that number hold.
+pub(crate) fn meter_state<A: Allocator + Copy>(meters: &Numbered<Meter, A>, number: u32) -> Buckets
+    requires { IsSome (lookup (nat_eq number) meters.now.entries) }
+    ensures { (plans : ℕ → MeterPlan) (share : ℕ → List colours.MeterEvent) → MetersStand plans meters.now.entries share → result ≡ colours.buckets_after (plans number) (colours.past (plans number) (share number)) }
+{
+    match meters.get(&number) {
+        Some(meter) => meter.state(),
+        None => unreachable!(),
+    }
+}

@@ -1,0 +1,185 @@
+//! The police: all filters with their gates and meters.
+
+ghost use Rattle.std.specs.Prelude.{◌≡◌, ℕ, Bool, List, [], ◌∷◌, ◌+◌, ◌<◌, ◌≤◌, ◌^◌, nat_eq, Option, Some, IsSome, IfSome, IfOk, IsTrue};
+ghost use Rattle.std.specs.Option.{option_map};
+ghost use Rattle.std.specs.Map.{lookup};
+ghost use Rattle.bridge_filter.specs.declared.FilterPlan.{FilterPlan};
+ghost use Rattle.bridge_filter.specs.declared.Ruling.{Ruling};
+ghost use Rattle.bridge_filter.specs.Verdicts.{Plans, Event, Came, call, flow, judged, told, ruled};
+ghost use Rattle.bridge_filter.specs.Counts.{verdicts_of, counters_of, flags_of, buckets_by, frames_in, last_moment};
+ghost use Rattle.bridge_filter.specs.Plans.{is_there, are_distinct, have_instances, all_have_priorities, all_within_limits, plans_of};
+ghost use Rattle.bridge_filter.specs.Standing.{Stands};
+ghost use Rattle.bridge_filter.specs.Steps.{HasMeter, HasPriority};
+
+use crate::filter::Filter;
+use crate::find::{Firsts, filter_of};
+use crate::instances::{Frame, Numbered, gate_flags, meter_state};
+use crate::judge::judge;
+use crate::making::{filters_of, firsts_of, gates_of, meters_of};
+use crate::{Counters, FilterPlan, Flags, NoMemory, Ruling};
+use bridge_gate::{GatePlan, StreamGate};
+use bridge_meter::{Buckets, Meter, MeterPlan};
+use std::alloc::Allocator;
+use std::marker::Model;
+
+/// The stream filters of a bridge, with their gates and meters, all by number.
+#[derive(Drop)]
+pub struct Police<A: Allocator + Copy> {
+    filters: Numbered<Filter, A>,
+    firsts: Firsts<A>,
+    gates: Numbered<StreamGate<A>, A>,
+    meters: Numbered<Meter, A>,
+    calls: u64,
+    earliest: u64,
+}
+
+impl<A: Allocator + Copy> Model for Police<A> {
+    ghost use Rattle.bridge_filter.specs.Standing.{PoliceState};
+    ghost use Rattle.bridge_filter.specs.Steps.{IsSound, plans_in};
+
+    ghost Value = { PoliceState A };
+
+    ghost view = { λ p. record { filters = plans_in p.filters.entries; kept = p.filters.entries; gates = p.gates.entries; meters = p.meters.entries; calls = p.calls; earliest = p.earliest } };
+
+    ghost invariant = { λ p. IsSound p.filters.entries p.firsts p.gates.entries p.meters.entries p.calls p.earliest };
+}
+
+impl<A: Allocator + Copy> Police<A> {
+    /// The police of these filters, gates and meters, each with its number; filters may come in any order. No frame
+    /// has come yet. What it was handed is dropped where it refuses.
+    ///
+    /// The filter of a frame is later found by at most four look-ups, however many filters there are.
+    pub fn new(
+        alloc: A,
+        filters: Vec<(u32, FilterPlan), A>,
+        gates: Vec<(u32, GatePlan<A>), A>,
+        meters: Vec<(u32, MeterPlan), A>,
+    ) -> Result<Police<A>, NoMemory>
+        requires filters { IsTrue (are_distinct filters.items) }
+        requires gates { IsTrue (are_distinct gates.items) }
+        requires meters { IsTrue (are_distinct meters.items) }
+        requires instances { IsTrue (have_instances filters.items gates.items meters.items) }
+        requires priorities { IsTrue (all_have_priorities gates.items) }
+        requires limits { IsTrue (all_within_limits meters.items) }
+        ensures { IfOk result (λ p. Stands (plans_of filters.items gates.items meters.items) p []) }
+    {
+        Ok(Police {
+            filters: filters_of(alloc, &filters)?,
+            firsts: firsts_of(alloc, &filters)?,
+            gates: gates_of(alloc, gates)?,
+            meters: meters_of(alloc, &meters)?,
+            calls: 0,
+            earliest: 0,
+        })
+    }
+
+    /// What becomes of a frame that comes at `t` ns with this stream handle, priority (0 to 7) and drop eligible
+    /// indication, with `sdu` octets of service data unit and `octets` metered octets: its filter and its verdict, or
+    /// `None` where no filter matches. It takes no memory.
+    pub fn pass(
+        &mut self,
+        t: u64,
+        handle: Option<u32>,
+        priority: u8,
+        dei: bool,
+        sdu: u32,
+        octets: u32,
+    ) -> Option<Ruling>
+        requires time { self.old.earliest ≤ t }
+        requires range { t < 4_000_000_000_000_000_000 }
+        requires few { self.old.calls < 2 ^ 63 }
+        ensures stands { (p : Plans) (es : List Event) → Stands p self.old es → Stands p self.new (Came (call t handle priority dei sdu octets) ∷ es) }
+        ensures answer { (p : Plans) (es : List Event) → Stands p self.old es → result ≡ ruled (judged p (told p es) (call t handle priority dei sdu octets) (flow p.filters (call t handle priority dei sdu octets))) }
+        ensures filter { option_map (λ r. r.filter) result ≡ option_map (λ f. f.0) (flow self.old.filters (call t handle priority dei sdu octets)) }
+        ensures priority { IfSome result (λ r. HasPriority r.verdict) }
+        ensures filters { self.new.filters ≡ self.old.filters }
+        ensures calls { self.new.calls ≡ self.old.calls + 1 }
+        ensures earliest { self.new.earliest ≡ t }
+    {
+        let frame = Frame {
+            at: t,
+            dei,
+            sdu,
+            octets,
+        };
+        self.calls += 1;
+        self.earliest = t;
+        let filter = filter_of(&self.firsts, handle, priority)?;
+        let verdict = judge(
+            &mut self.filters,
+            &mut self.gates,
+            &mut self.meters,
+            filter,
+            frame,
+        );
+        Some(Ruling { filter, verdict })
+    }
+
+    /// How many frames came.
+    pub fn calls(&self) -> u64
+        ensures calls { result ≡ self.now.calls }
+        ensures frames { (p : Plans) (es : List Event) → Stands p self.now es → result ≡ frames_in es }
+    {
+        self.calls
+    }
+
+    /// The least moment at which a frame may still come, in ns: that of the last one, 0 before any.
+    pub fn earliest(&self) -> u64
+        ensures earliest { result ≡ self.now.earliest }
+        ensures last { (p : Plans) (es : List Event) → Stands p self.now es → result ≡ last_moment es }
+    {
+        self.earliest
+    }
+
+    /// The counters of the filter with that number.
+    pub fn counters(&self, filter: u32) -> Counters
+        requires { IsTrue (is_there filter self.now.filters) }
+        ensures { (p : Plans) (es : List Event) → Stands p self.now es → result ≡ counters_of (verdicts_of filter (told p es)) }
+    {
+        self.kept(filter).counters
+    }
+
+    /// The flags of the filter with that number, of its gate and of its meter.
+    pub fn flags(&self, filter: u32) -> Flags
+        requires { IsTrue (is_there filter self.now.filters) }
+        ensures { (p : Plans) (es : List Event) (f : FilterPlan) → Stands p self.now es → lookup (nat_eq filter) p.filters ≡ Some f → result ≡ flags_of p filter f (told p es) }
+    {
+        let kept = self.kept(filter);
+        let (rx, octets) = gate_flags(&self.gates, kept.plan.gate);
+        let red = match kept.plan.meter {
+            Some(meter) => meter_state(&self.meters, meter).all_red,
+            None => false,
+        };
+        Flags {
+            blocked: kept.blocked,
+            rx,
+            octets,
+            red,
+        }
+    }
+
+    /// What the buckets of the meter of the filter with that number hold; `None` where it has no meter.
+    pub fn buckets(&self, filter: u32) -> Option<Buckets>
+        requires { IsTrue (is_there filter self.now.filters) }
+        ensures { (p : Plans) (es : List Event) (f : FilterPlan) → Stands p self.now es → lookup (nat_eq filter) p.filters ≡ Some f → result ≡ buckets_by p f.meter (told p es) }
+    {
+        match self.kept(filter).plan.meter {
+            Some(meter) => Some(meter_state(&self.meters, meter)),
+            None => None,
+        }
+    }
+
+    /// What is kept of the filter with that number.
+    fn kept(&self, filter: u32) -> Filter
+        requires { IsTrue (is_there filter self.now.filters) }
+        ensures kept { lookup (nat_eq filter) self.now.kept ≡ Some result }
+        ensures plan { lookup (nat_eq filter) self.now.filters ≡ Some result.plan }
+        ensures gate { IsSome (lookup (nat_eq result.plan.gate) self.now.gates) }
+        ensures meter { HasMeter result.plan.meter self.now.meters }
+    {
+        match self.filters.get(&filter) {
+            Some(kept) => *kept,
+            None => unreachable!(),
+        }
+    }
+}

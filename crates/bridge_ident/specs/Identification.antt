@@ -1,0 +1,35 @@
+-- Stream identification by the destination or the source address (IEEE 802.1CB-2017, 6.4 and 6.5).
+use Rattle.std.specs.Prelude.{ℕ, Bool, true, false, not, ◌&&◌, nat_eq, Option, Some, None, List, [], ◌∷◌, if◌then◌else◌}
+use Rattle.std.specs.Str.{bytes_eq}
+use Rattle.bridge_frame.specs.declared.Head.{Head}
+use Rattle.bridge_frame.specs.declared.Tag.{Tag}
+use Rattle.bridge_ident.specs.declared.Kind.{Kind}
+use Rattle.bridge_ident.specs.declared.Kind.TheVariants.{Null, Source}
+use Rattle.bridge_ident.specs.declared.TagKind.{TagKind}
+use Rattle.bridge_ident.specs.declared.TagKind.TheVariants.{Tagged, Priority, All}
+use Rattle.bridge_ident.specs.declared.StreamEntry.{StreamEntry}
+
+-- the address of a head that an entry of that kind compares: null the destination, source the source
+abbrev pub compared_address : Kind → Head → List ℕ
+compared_address Null head = head.da
+compared_address Source head = head.sa
+
+-- a frame is VLAN-tagged where it has a tag whose VLAN identifier isn't 0
+abbrev pub names_vlan : Option Tag → Bool
+names_vlan None = false
+names_vlan (Some tag) = not (nat_eq tag.vid 0)
+
+-- whether an entry of that tag kind takes a frame with this tag or none
+abbrev pub takes_tag : TagKind → Option Tag → Bool
+takes_tag Tagged tag = names_vlan tag
+takes_tag Priority tag = not (names_vlan tag)
+takes_tag All tag = true
+
+-- an entry matches a frame that came on its port, in its VLAN, with its address and a tag that it takes
+abbrev pub is_match : StreamEntry → ℕ → Head → ℕ → Bool
+is_match e port head vid = nat_eq e.port port && nat_eq e.vid vid && bytes_eq e.address (compared_address e.kind head) && takes_tag e.tag head.tag
+
+-- the stream handle of the first entry that matches
+abbrev pub handle_in : List StreamEntry → ℕ → Head → ℕ → Option ℕ
+handle_in [] port head vid = None
+handle_in (e ∷ es) port head vid = if is_match e port head vid then Some e.handle else handle_in es port head vid

@@ -1,0 +1,124 @@
+#![tactic(auto)]
+//! Stream identification (IEEE 802.1CB-2017, 6.4 null and 6.5 source MAC and VLAN identification): which stream
+//! handle a frame has.
+
+ghost use Rattle.std.specs.Prelude.{◌≡◌};
+ghost use Rattle.bridge_ident.specs.Identification.{handle_in, is_match, names_vlan};
+
+use bridge_frame::{Head, Tag};
+use std::alloc::Allocator;
+use std::marker::Model;
+
+/// Which address an entry compares.
+#[derive(Clone, Copy, Debug, PartialEq, Eq)]
+pub enum Kind {
+    /// The destination address.
+    Null,
+    /// The source address.
+    Source,
+}
+
+/// Which frames an entry takes, by their tag.
+#[derive(Clone, Copy, Debug, PartialEq, Eq)]
+pub enum TagKind {
+    /// Tagged frames whose VLAN identifier isn't 0.
+    Tagged,
+    /// Untagged frames, and tagged ones whose VLAN identifier is 0.
+    Priority,
+    /// All frames.
+    All,
+}
+
+/// An entry of the stream identification table.
+#[derive(Clone, Copy, Debug, PartialEq, Eq)]
+pub struct StreamEntry {
+    /// The stream handle that it gives.
+    pub handle: u32,
+    /// The ingress port on which it stands.
+    pub port: u8,
+    pub kind: Kind,
+    /// The address that it asks for.
+    pub address: [u8; 6],
+    /// The VLAN identifier in which a frame has to be classified.
+    pub vid: u16,
+    pub tag: TagKind,
+}
+
+impl StreamEntry {
+    /// Whether the entry matches a frame that came on a port and was classified in a VLAN.
+    fn matches(&self, port: u8, head: &Head, vid: u16) -> bool
+        ensures { result ≡ is_match self.now port head.now vid }
+    {
+        let address = match self.kind {
+            Kind::Null => head.da,
+            Kind::Source => head.sa,
+        };
+        let takes_tag = match self.tag {
+            TagKind::Tagged => names_vlan(head.tag),
+            TagKind::Priority => !names_vlan(head.tag),
+            TagKind::All => true,
+        };
+        self.port == port && self.vid == vid && self.address == address && takes_tag
+    }
+}
+
+/// Whether there is a tag with a VLAN identifier other than 0.
+fn names_vlan(tag: Option<Tag>) -> bool
+    ensures { result ≡ names_vlan tag }
+{
+    match tag {
+        Some(tag) => tag.vid != 0,
+        None => false,
+    }
+}
+
+/// The handle of the first entry that matches.
+fn first_handle(entries: &[StreamEntry], port: u8, head: &Head, vid: u16) -> Option<u32>
+    ensures { result ≡ handle_in entries.now port head.now vid }
+{
+    for entry in entries {
+        if entry.matches(port, head, vid) {
+            return Some(entry.handle);
+        }
+    }
+    None
+}
+
+/// A stream identification table. Contracts see it as the list of its entries, in the order given.
+#[derive(Drop)]
+pub struct Ident<A: Allocator + Copy> {
+    entries: Vec<StreamEntry, A>,
+}
+
+impl<A: Allocator + Copy> Model for Ident<A> {
+    ghost use Rattle.std.specs.Prelude.{List};
+    ghost use Rattle.bridge_ident.specs.declared.StreamEntry.{StreamEntry};
+
+    ghost Value = { List StreamEntry };
+
+    ghost view = { λ t. t.entries.items };
+}
+
+impl<A: Allocator + Copy> Ident<A> {
+    /// The table of these entries. It takes no memory.
+    pub fn new(entries: Vec<StreamEntry, A>) -> Ident<A>
+        ensures { result ≡ entries.items }
+    {
+        Ident { entries }
+    }
+
+    /// The entries, in the order given.
+    pub fn entries(&self) -> &[StreamEntry]
+        ensures { result.now ≡ self.now }
+    {
+        self.entries.as_slice()
+    }
+
+    /// The stream handle of a frame that came on `port` and was classified in the VLAN `vid`: that of the first
+    /// entry that matches, and `None` where none does.
+    pub fn handle_of(&self, port: u8, head: &Head, vid: u16) -> Option<u32>
+        ensures { result ≡ handle_in self.now port head.now vid }
+    {
+        first_handle(&self.entries, port, head, vid)
+    }
+}

@@ -1,0 +1,5 @@
+pub mod Bounds
+pub mod Colours
+pub mod Covers
+pub mod Standing
+pub mod Steps
