@@ -3,6 +3,7 @@ use Rattle.std.proofs.lemmas.Bool.Decides.{nat_tests}
 use Rattle.std.proofs.lemmas.Bool.{cases_lt}
 use Rattle.std.specs.Prelude.{nat_le, nat_lt, nat_eq, ◌&&◌}
 use Rattle.bridge_cycle.specs.Moments.{Fits}
+use Rattle.bridge_cycle.specs.Entries.{In}
 use Rattle.bridge_port.specs.Schedule.{Fate, Never, Full, Queued, Started, Copy, Rules, occupies, is_free, head, or_newer, fate_at, IsAnswer, IsStart, StartsFit, Apart, ApartFrom, InTurn, InTurnWith, OfferedUpTo, Serves, IsLawful}
 
 pub not_lt : (k u : ℕ) → u ≤ k → nat_lt k u ≡ false
@@ -53,11 +54,43 @@ lawful_later r h k xs l w idle =
       none_missed = λ u below free c p is fits. elim (cases_lt u h) [ inl a ↦ w.none_missed u a free c p is fits | inr b ↦ absurd (idle u b below free c p is fits) ];
     }
 
+-- A lower moment after the last start and not before the last offer.
+
+-- every start is below a moment
+abbrev pub StartsBefore : {X : Type 0} → ℕ → List (Copy X) → Type 0
+StartsBefore {X} k xs = (s : ℕ) (x : Copy X) → In x xs → x.fate ≡ Started s → s < k
+
+start_earlier : {X : Type 0} (r : Rules X) (h k : ℕ) (x : Copy X) (f : Fate) → ((s : ℕ) → f ≡ Started s → s < k) → IsStart r h x f → IsStart r k x f
+start_earlier r h k x Never before a = tt
+start_earlier r h k x Full before a = tt
+start_earlier r h k x Queued before a = tt
+start_earlier r h k x (Started s) before a = (before s refl, a.1, a.2)
+
+starts_earlier : {X : Type 0} (r : Rules X) (h k : ℕ) (xs : List (Copy X)) → StartsBefore k xs → StartsFit r h xs → StartsFit r k xs
+starts_earlier r h k [] before a = tt
+starts_earlier r h k (x ∷ xs) before a = (start_earlier r h k x x.fate (λ s e. before s x (inl refl) e) a.0, starts_earlier r h k xs (λ s y l e. before s y (inr l) e) a.1)
+
+pub lawful_earlier : {X : Type 0} (r : Rules X) (h k : ℕ) (xs : List (Copy X)) → k ≤ h → OfferedUpTo k xs → StartsBefore k xs → IsLawful r h xs → IsLawful r k xs
+lawful_earlier r h k xs l offered before w = record {
+  offers = offered;
+  answers = w.answers;
+  starts = starts_earlier r h k xs before w.starts;
+  apart = w.apart;
+  in_turn = w.in_turn;
+  none_missed = λ u below. w.none_missed u (omega arith);
+}
+
 -- An offer at h.
 
 abbrev pub IsUnstarted : Fate → Type 0
 IsUnstarted (Started s) = ⊥
 IsUnstarted f = Unit {0}
+
+pub unstarted : (f : Fate) → ((s : ℕ) → f ≡ Started s → ⊥) → IsUnstarted f
+unstarted Never h = tt
+unstarted Full h = tt
+unstarted Queued h = tt
+unstarted (Started s) h = h s refl
 
 start_new : {X : Type 0} (r : Rules X) (h : ℕ) (x : Copy X) (f : Fate) → IsUnstarted f → IsStart r h x f
 start_new r h x Never l = tt

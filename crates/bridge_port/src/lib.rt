@@ -10,5 +10,8 @@ mod queues;
 
 pub use bridge_cycle::NoMemory;
 pub use item::{Item, Refusal};
-pub use law::{alone_follows, ever_is_fitting, own_windows_isolate};
+pub use law::{
+    alone_follows, ever_is_fitting, lawful_up_to_a_later_moment, lawful_up_to_a_lower_moment,
+    lawful_with_a_start, lawful_with_an_offer, own_windows_isolate,
+};
 pub use port::Port;
