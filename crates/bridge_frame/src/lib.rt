@@ -137,6 +137,7 @@ pub fn parse(octets: &[u8], len: u32) -> Result<Head, FrameFault>
 pub fn mark_drop_eligible(octets: &mut [u8]) -> bool
     ensures tagged { result ≡ has_tag octets.old }
     ensures marked { octets.new ≡ drop_eligible octets.old }
+    ensures kept { length octets.new ≡ length octets.old }
 {
     if octets.len() < 18 || !carries_tag(octets) {
         return false;
