@@ -117,7 +117,7 @@ at_most_later c m n le h =
     let g = h.red in
     record { matching = omega arith; sdu_passed = omega arith; sdu_refused = omega arith; gate_passed = omega arith; gate_refused = omega arith; red = omega arith }
 
-has_meter_later : {X Y : Type 0} (o : Option ℕ) (xs : List (ℕ × X)) (ys : List (ℕ × Y)) → SameNumbers xs ys → HasMeter o xs → HasMeter o ys
+pub has_meter_later : {X Y : Type 0} (o : Option ℕ) (xs : List (ℕ × X)) (ys : List (ℕ × Y)) → SameNumbers xs ys → HasMeter o xs → HasMeter o ys
 has_meter_later None xs ys same h = h
 has_meter_later (Some n) xs ys same h = same n h
 

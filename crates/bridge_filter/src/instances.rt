@@ -6,9 +6,9 @@ ghost use Rattle.bridge_meter.specs.declared.MeterPlan.{MeterPlan};
 ghost use Rattle.bridge_meter.specs.Colours as colours;
 ghost use Rattle.bridge_gate.specs.declared.gate.GateAnswer.TheVariants as gate;
 ghost use Rattle.bridge_gate.specs.Gates.{GateRules, GateEvent, Asked, answer, steps, is_shut_by_rx, is_shut_by_octets};
-ghost use Rattle.bridge_filter.specs.Verdicts.{Plans, Step, Judged, call, by_answer, by_colour, gate_answer, gate_share, meter_share, passed_gate, reached_gate};
+ghost use Rattle.bridge_filter.specs.Verdicts.{Plans, Step, Judged, call, by_answer, by_colour, gate_answer, gate_share, meter_share, passed_gate, reached_gate, HasPriority};
 ghost use Rattle.bridge_filter.specs.Standing.{GatesStand, MetersStand};
-ghost use Rattle.bridge_filter.specs.Steps.{GatesBefore, MetersBefore, ArePoliced, SameNumbers, HasMeter, HasPriority};
+ghost use Rattle.bridge_filter.specs.Steps.{GatesBefore, MetersBefore, ArePoliced, SameNumbers, HasMeter};
 
 use crate::{FilterPlan, Verdict};
 use bridge_gate::{GateAnswer, StreamGate};

@@ -3,9 +3,9 @@
 ghost use Rattle.std.specs.Prelude.{◌≡◌, ℕ, ◌<◌, ◌+◌, nat_eq, IsSome, Some, true, Bool, Option, List, ◌∷◌};
 ghost use Rattle.std.specs.Map.{lookup};
 ghost use Rattle.bridge_filter.specs.declared.FilterPlan.{FilterPlan};
-ghost use Rattle.bridge_filter.specs.Verdicts.{Plans, Step, Judged, call, verdict_of};
+ghost use Rattle.bridge_filter.specs.Verdicts.{Plans, Step, Judged, call, verdict_of, HasPriority};
 ghost use Rattle.bridge_filter.specs.Standing.{AreKept, IsKept};
-ghost use Rattle.bridge_filter.specs.Steps.{GatesBefore, MetersBefore, ArePoliced, SameNumbers, HasMeter, HaveInstances, HasPriority, plans_in};
+ghost use Rattle.bridge_filter.specs.Steps.{GatesBefore, MetersBefore, ArePoliced, SameNumbers, HasMeter, HaveInstances, plans_in};
 
 use crate::Verdict;
 use crate::filter::Filter;
