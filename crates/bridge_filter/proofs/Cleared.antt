@@ -1,5 +1,5 @@
-use Rattle.std.proofs.Common.{◌≡◌, ℕ, Bool, true, false, List, ◌∷◌, ◌≤◌, arith, refl, ap, ◌∙◌, sym, subst}
-use Rattle.std.specs.Prelude.{nat_eq, not, ◌&&◌, Option, Some, None, IsSome, IsTrue, if◌then◌else◌}
+use Rattle.std.proofs.Common.{◌≡◌, ℕ, Bool, true, false, List, ◌∷◌, refl, ap, ◌∙◌, sym, subst}
+use Rattle.std.specs.Prelude.{nat_eq, ◌&&◌, Option, Some, None, IsSome, IsTrue, if◌then◌else◌}
 use Rattle.std.specs.Option.{option_map, is_some}
 use Rattle.std.specs.Map.{lookup}
 use Rattle.indexmap.specs.IndexMap.{IndexMap}
@@ -14,10 +14,9 @@ use Rattle.bridge_filter.specs.declared.FilterPlan.{FilterPlan}
 use Rattle.bridge_filter.specs.Plans.{is_there}
 use Rattle.bridge_filter.specs.declared.filter.Filter.{Filter}
 use Rattle.bridge_filter.specs.declared.find.Key.{Key}
-use Rattle.bridge_filter.specs.Verdicts.{Plans, Event, ClearedBlocked, ClearedRxOf, ClearedOctetsOf, ClearedRedOf, cleared, Step, Command, told, gate_share, meter_share, is_blocked}
-use Rattle.bridge_filter.specs.Counts.{verdicts_of, counters_of}
+use Rattle.bridge_filter.specs.Verdicts.{Plans, Event, ClearedBlocked, ClearedRxOf, ClearedOctetsOf, ClearedRedOf, cleared, Step, Command, told, gate_share, meter_share}
 use Rattle.bridge_filter.specs.Standing.{PoliceState, Stands, has_instance, AreKept, IsKept, GatesStand, MetersStand}
-use Rattle.bridge_filter.specs.Steps.{GatesBefore, MetersBefore, SameNumbers, InstancesStay, HaveInstances, HasInstances, AreAtMost, IsSound, plans_in}
+use Rattle.bridge_filter.specs.Steps.{GatesBefore, MetersBefore, SameNumbers, InstancesStay, HaveInstances, IsSound, plans_in}
 use Rattle.bridge_filter.proofs.Numbered.{Changes, each_after, same_eq}
 use Rattle.bridge_filter.proofs.Judging.{has_meter_later, lookup-plans_in}
 use Rattle.bridge_filter.proofs.Flows.{is_there-lookup}

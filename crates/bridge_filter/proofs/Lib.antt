@@ -8,3 +8,4 @@ pub mod Shown
 pub mod Made
 pub mod Starting
 pub mod Cleared
+pub mod Owned

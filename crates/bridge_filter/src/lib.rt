@@ -7,6 +7,7 @@ mod filter;
 mod find;
 mod instances;
 mod judge;
+pub mod laws;
 mod making;
 mod police;
 

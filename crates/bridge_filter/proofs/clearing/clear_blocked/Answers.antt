@@ -1,5 +1,5 @@
-use Rattle.std.proofs.Common.{rules, ◌≡◌, ℕ, Some, false, nat_eq, sym, refl}
-use Rattle.std.specs.Map.{lookup, set_value}
+use Rattle.std.proofs.Common.{rules, ◌≡◌, false, nat_eq, sym, refl}
+use Rattle.std.specs.Map.{set_value}
 use Rattle.bridge_filter.specs.declared.filter.Filter.{Filter}
 use Rattle.bridge_filter.proofs.Numbered.{Changes}
 use Rattle.bridge_filter.proofs.Judging.{plans_in-set_value}

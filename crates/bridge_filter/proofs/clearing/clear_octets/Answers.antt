@@ -1,5 +1,4 @@
-use Rattle.std.proofs.Common.{rules, ◌≡◌, ℕ, Some, nat_eq, sym}
-use Rattle.std.specs.Map.{lookup}
+use Rattle.std.proofs.Common.{rules, sym}
 use Rattle.bridge_gate.specs.Gates.{ClearedOctets}
 use Rattle.bridge_filter.proofs.Numbered.{Changes}
 use Rattle.bridge_filter.proofs.Shares.{gates_after}

@@ -1,4 +1,4 @@
-use Rattle.std.proofs.Common.{◌≡◌, sym, subst, refl}
+use Rattle.std.proofs.Common.{sym, subst, refl}
 use Rattle.std.specs.Prelude.{IsTrue}
 use Rattle.bridge_filter.specs.Verdicts.{told}
 use Rattle.bridge_filter.specs.Standing.{PoliceState, Stands, has_instance}
