@@ -11,12 +11,12 @@ use Rattle.bridge_meter.specs.declared.MeterPlan.{MeterPlan}
 use Rattle.bridge_filter.specs.declared.Clear.{Clear}
 use Rattle.bridge_filter.specs.declared.Clear.TheVariants as clear
 use Rattle.bridge_filter.specs.declared.FilterPlan.{FilterPlan}
-use Rattle.bridge_filter.specs.Plans.{is_there}
+use Rattle.bridge_filter.specs.Plans.{KeepsNumbers, is_there}
 use Rattle.bridge_filter.specs.declared.filter.Filter.{Filter}
 use Rattle.bridge_filter.specs.declared.find.Key.{Key}
 use Rattle.bridge_filter.specs.Verdicts.{Plans, Event, ClearedBlocked, ClearedRxOf, ClearedOctetsOf, ClearedRedOf, cleared, Step, Command, told, gate_share, meter_share}
 use Rattle.bridge_filter.specs.Standing.{PoliceState, Stands, has_instance, AreKept, IsKept, GatesStand, MetersStand}
-use Rattle.bridge_filter.specs.Steps.{GatesBefore, MetersBefore, SameNumbers, InstancesStay, HaveInstances, IsSound, plans_in}
+use Rattle.bridge_filter.specs.Steps.{GatesBefore, MetersBefore, InstancesStay, HaveInstances, IsSound, plans_in}
 use Rattle.bridge_filter.proofs.Numbered.{Changes, each_after, same_eq}
 use Rattle.bridge_filter.proofs.Judging.{has_meter_later, lookup-plans_in}
 use Rattle.bridge_filter.proofs.Flows.{is_there-lookup}
@@ -70,7 +70,7 @@ sound_filters old new firsts gates meters calls earliest same stay h = record {
   judged = h.judged;
 }
 
-pub sound_gates : {A S : Type 0} (filters : List (ℕ × Filter)) (firsts : IndexMap Key ℕ S) (old new : List (ℕ × gate.Gate A)) (meters : List (ℕ × meter.MeterState)) (calls earliest : ℕ) → SameNumbers old new → ((t : ℕ) → GatesBefore old t → GatesBefore new t) → IsSound filters firsts old meters calls earliest → IsSound filters firsts new meters calls earliest
+pub sound_gates : {A S : Type 0} (filters : List (ℕ × Filter)) (firsts : IndexMap Key ℕ S) (old new : List (ℕ × gate.Gate A)) (meters : List (ℕ × meter.MeterState)) (calls earliest : ℕ) → KeepsNumbers old new → ((t : ℕ) → GatesBefore old t → GatesBefore new t) → IsSound filters firsts old meters calls earliest → IsSound filters firsts new meters calls earliest
 sound_gates filters firsts old new meters calls earliest same before h = record {
   distinct = h.distinct;
   first = h.first;
@@ -79,7 +79,7 @@ sound_gates filters firsts old new meters calls earliest same before h = record 
   judged = h.judged;
 }
 
-pub sound_meters : {A S : Type 0} (filters : List (ℕ × Filter)) (firsts : IndexMap Key ℕ S) (gates : List (ℕ × gate.Gate A)) (old new : List (ℕ × meter.MeterState)) (calls earliest : ℕ) → SameNumbers old new → ((t : ℕ) → MetersBefore old t → MetersBefore new t) → IsSound filters firsts gates old calls earliest → IsSound filters firsts gates new calls earliest
+pub sound_meters : {A S : Type 0} (filters : List (ℕ × Filter)) (firsts : IndexMap Key ℕ S) (gates : List (ℕ × gate.Gate A)) (old new : List (ℕ × meter.MeterState)) (calls earliest : ℕ) → KeepsNumbers old new → ((t : ℕ) → MetersBefore old t → MetersBefore new t) → IsSound filters firsts gates old calls earliest → IsSound filters firsts gates new calls earliest
 sound_meters filters firsts gates old new calls earliest same before h = record {
   distinct = h.distinct;
   first = h.first;

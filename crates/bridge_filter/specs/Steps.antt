@@ -66,10 +66,6 @@ pub record ArePoliced {A : Type 0} (p : Plans) (gates : List (ℕ × gate.Gate A
   pub gates_stand : GatesStand p.gates gates (λ n. gate_share n ss)
   pub meters_stand : MetersStand p.meters meters (λ n. meter_share n ss)
 
--- two lists by number have the same numbers
-abbrev pub SameNumbers : {X Y : Type 0} → List (ℕ × X) → List (ℕ × Y) → Type 0
-SameNumbers xs ys = (n : ℕ) → IsSome (lookup (nat_eq n) xs) → IsSome (lookup (nat_eq n) ys)
-
 -- the meter that a filter names is there, where it names one
 abbrev pub HasMeter : {X : Type 0} → Option ℕ → List (ℕ × X) → Type 0
 HasMeter None meters = Unit {0}

@@ -7,7 +7,7 @@ ghost use Rattle.bridge_filter.specs.declared.FilterPlan.{FilterPlan};
 ghost use Rattle.bridge_filter.specs.declared.Ruling.{Ruling};
 ghost use Rattle.bridge_filter.specs.Verdicts.{Plans, Event, Came, call, flow, judged, told, ruled, cleared, HasPriority};
 ghost use Rattle.bridge_filter.specs.Counts.{verdicts_of, counters_of, flags_of, buckets_by, frames_in, last_moment};
-ghost use Rattle.bridge_filter.specs.Plans.{is_there, are_distinct, have_instances, all_have_priorities, all_within_limits, plans_of};
+ghost use Rattle.bridge_filter.specs.Plans.{KeepsNumbers, is_there, are_distinct, have_instances, all_have_priorities, all_within_limits, plans_of};
 ghost use Rattle.bridge_filter.specs.Standing.{Stands, has_instance};
 ghost use Rattle.bridge_filter.specs.Steps.{HasMeter};
 
@@ -62,7 +62,9 @@ impl<A: Allocator + Copy> Police<A> {
         requires instances { IsTrue (have_instances filters.items gates.items meters.items) }
         requires priorities { IsTrue (all_have_priorities gates.items) }
         requires limits { IsTrue (all_within_limits meters.items) }
-        ensures { IfOk result (λ p. Stands (plans_of filters.items gates.items meters.items) p []) }
+        ensures stands { IfOk result (λ p. Stands (plans_of filters.items gates.items meters.items) p []) }
+        ensures gates { IfOk result (λ p. KeepsNumbers gates.items p.gates) }
+        ensures meters { IfOk result (λ p. KeepsNumbers meters.items p.meters) }
     {
         Ok(Police {
             filters: filters_of(alloc, &filters)?,
@@ -94,6 +96,8 @@ impl<A: Allocator + Copy> Police<A> {
         ensures filter { option_map (λ r. r.filter) result ≡ option_map (λ f. f.0) (flow self.old.filters (call t handle priority dei sdu octets)) }
         ensures priority { IfSome result (λ r. HasPriority r.verdict) }
         ensures filters { self.new.filters ≡ self.old.filters }
+        ensures gates { KeepsNumbers self.old.gates self.new.gates }
+        ensures meters { KeepsNumbers self.old.meters self.new.meters }
         ensures calls { self.new.calls ≡ self.old.calls + 1 }
         ensures earliest { self.new.earliest ≡ t }
     {
@@ -123,6 +127,8 @@ impl<A: Allocator + Copy> Police<A> {
         requires { IsTrue (has_instance clear number self.old) }
         ensures stands { (p : Plans) (es : List Event) → Stands p self.old es → Stands p self.new (cleared clear number ∷ es) }
         ensures filters { self.new.filters ≡ self.old.filters }
+        ensures gates { KeepsNumbers self.old.gates self.new.gates }
+        ensures meters { KeepsNumbers self.old.meters self.new.meters }
         ensures calls { self.new.calls ≡ self.old.calls }
         ensures earliest { self.new.earliest ≡ self.old.earliest }
     {
