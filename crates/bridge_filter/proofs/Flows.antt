@@ -12,8 +12,7 @@ use Rattle.bridge_filter.proofs.Judging.{lookup-plans_in}
 
 -- a number is in a list exactly where a look-up finds it
 pub is_there-lookup : {X : Type 0} (n : ℕ) (xs : List (ℕ × X)) → is_there n xs ≡ is_some (lookup (nat_eq n) xs)
-is_there-lookup n [] = refl
-is_there-lookup n (x ∷ xs) = by_bool (nat_eq n x.0) (λ e. rw e refl) (λ e. rw e (is_there-lookup n xs))
+is_there-lookup n xs = refl
 
 found_there : {X : Type 0} (n : ℕ) (xs : List (ℕ × X)) (y : X) → lookup (nat_eq n) xs ≡ Some y → is_there n xs ≡ true
 found_there n xs y h = is_there-lookup n xs ∙ ap is_some h

@@ -2,6 +2,7 @@ use Rattle.std.proofs.Common.{◌≡◌, ℕ, Bool, true, false, List, [], ◌�
 use Rattle.std.specs.Prelude.{nat_eq, if◌then◌else◌, ◌&&◌, ◌||◌, Option, Some, None, count_by}
 use Rattle.bridge_meter.specs.Standing as meter
 use Rattle.bridge_gate.specs.Standing as gate
+use Rattle.bridge_filter.specs.Plans.{KeepsNumbers}
 use Rattle.bridge_filter.specs.declared.FilterPlan.{FilterPlan}
 use Rattle.bridge_filter.specs.declared.Verdict.{Verdict}
 use Rattle.bridge_filter.specs.declared.Verdict.TheVariants as verdict
@@ -10,7 +11,7 @@ use Rattle.bridge_filter.specs.declared.filter.Filter.{Filter}
 use Rattle.bridge_filter.specs.Verdicts.{Plans, Step, Judged, Call, verdict_of, by_answer, gate_answer, gate_share, meter_share, is_above, is_blocked, is_oversize, reached_gate, passed_gate}
 use Rattle.bridge_filter.specs.Counts.{verdicts_of, counters_of, refused_by_gate, dropped_by_meter}
 use Rattle.bridge_filter.specs.Standing.{IsKept, AreKept}
-use Rattle.bridge_filter.specs.Steps.{refusal, ArePoliced, counted, noted, one_if, AreAtMost, HasMeter, HasInstances, HaveInstances, SameNumbers, plans_in}
+use Rattle.bridge_filter.specs.Steps.{refusal, ArePoliced, counted, noted, one_if, AreAtMost, HasMeter, HasInstances, HaveInstances, plans_in}
 use Rattle.std.specs.Map.{lookup, set_value}
 use Rattle.std.specs.Option.{option_map}
 use Rattle.std.proofs.lemmas.List.{length-append, append-nil}
@@ -117,18 +118,18 @@ at_most_later c m n le h =
     let g = h.red in
     record { matching = omega arith; sdu_passed = omega arith; sdu_refused = omega arith; gate_passed = omega arith; gate_refused = omega arith; red = omega arith }
 
-has_meter_later : {X Y : Type 0} (o : Option ℕ) (xs : List (ℕ × X)) (ys : List (ℕ × Y)) → SameNumbers xs ys → HasMeter o xs → HasMeter o ys
+pub has_meter_later : {X Y : Type 0} (o : Option ℕ) (xs : List (ℕ × X)) (ys : List (ℕ × Y)) → KeepsNumbers xs ys → HasMeter o xs → HasMeter o ys
 has_meter_later None xs ys same h = h
 has_meter_later (Some n) xs ys same h = same n h
 
-pub instances_later : {A : Type 0} (f : Filter) (gates more_gates : List (ℕ × gate.Gate A)) (meters more_meters : List (ℕ × meter.MeterState)) (calls later : ℕ) → SameNumbers gates more_gates → SameNumbers meters more_meters → calls ≤ later → HasInstances f gates meters calls → HasInstances f more_gates more_meters later
+pub instances_later : {A : Type 0} (f : Filter) (gates more_gates : List (ℕ × gate.Gate A)) (meters more_meters : List (ℕ × meter.MeterState)) (calls later : ℕ) → KeepsNumbers gates more_gates → KeepsNumbers meters more_meters → calls ≤ later → HasInstances f gates meters calls → HasInstances f more_gates more_meters later
 instances_later f gates more_gates meters more_meters calls later g m le h = record {
   gate = g f.plan.gate h.gate;
   meter = has_meter_later f.plan.meter meters more_meters m h.meter;
   few = at_most_later f.counters calls later le h.few;
 }
 
-pub instances_after : {A : Type 0} (old new : List (ℕ × Filter)) (n : ℕ) (f : Filter) (v : Verdict) (gates more_gates : List (ℕ × gate.Gate A)) (meters more_meters : List (ℕ × meter.MeterState)) (calls : ℕ) → Changes old new n f (noted f v) → SameNumbers gates more_gates → SameNumbers meters more_meters → HaveInstances old gates meters calls → HaveInstances new more_gates more_meters (calls + 1)
+pub instances_after : {A : Type 0} (old new : List (ℕ × Filter)) (n : ℕ) (f : Filter) (v : Verdict) (gates more_gates : List (ℕ × gate.Gate A)) (meters more_meters : List (ℕ × meter.MeterState)) (calls : ℕ) → Changes old new n f (noted f v) → KeepsNumbers gates more_gates → KeepsNumbers meters more_meters → HaveInstances old gates meters calls → HaveInstances new more_gates more_meters (calls + 1)
 instances_after old new n f v gates more_gates meters more_meters calls change g m have =
     each_after old new n f (noted f v) (λ k z. HasInstances z gates meters calls) (λ k z. HasInstances z more_gates more_meters (calls + 1)) change have
     (λ h. record {

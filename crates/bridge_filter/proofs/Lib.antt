@@ -7,3 +7,5 @@ pub mod Passing
 pub mod Shown
 pub mod Made
 pub mod Starting
+pub mod Cleared
+pub mod Owned

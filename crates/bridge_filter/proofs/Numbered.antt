@@ -2,7 +2,6 @@ use Rattle.std.proofs.Common.{◌≡◌, ℕ, Bool, true, false, List, arith, re
 use Rattle.std.proofs.lemmas.Bool.Decides.{nat_tests}
 use Rattle.std.specs.Prelude.{nat_eq, IsSome}
 use Rattle.std.specs.Map.{lookup}
-use Rattle.bridge_filter.specs.Steps.{SameNumbers}
 
 pub by_bool : {C : Type 0} (b : Bool) → (b ≡ true → C) → (b ≡ false → C) → C
 by_bool true p q = p refl
@@ -34,12 +33,3 @@ each_after {X} old new n x y P Q h each own others k z found = by_bool (nat_eq n
     let it : y ≡ z = some_is y z (sym h.own ∙ subst (λ (m : ℕ). lookup (nat_eq m) new ≡ Some z) (sym at) found) in
     subst (λ (w : X). Q k w) it (subst (λ (m : ℕ). Q m y) at (own (each n x h.there))))
     (λ differ. others k z differ (each k z (sym (h.others k (λ e. not_eq n k differ (sym e))) ∙ found)))
-
-some_there : {X : Type 0} (o : Option X) (x : X) → o ≡ Some x → IsSome o
-some_there o x h = rw h refl
-
--- the numbers stay
-pub same_after : {X : Type 0} (old new : List (ℕ × X)) (n : ℕ) (x y : X) → Changes old new n x y → SameNumbers old new
-same_after {X} old new n x y h k there = by_bool (nat_eq n k)
-    (λ same. subst (λ (m : ℕ). IsSome (lookup (nat_eq m) new)) (is_eq n k same) (some_there (lookup (nat_eq n) new) y h.own))
-    (λ differ. subst (λ (o : Option X). IsSome o) (sym (h.others k (λ e. not_eq n k differ (sym e)))) there)

@@ -4,3 +4,4 @@ pub mod Plans
 pub mod Standing
 pub mod Finding
 pub mod Steps
+pub mod Own

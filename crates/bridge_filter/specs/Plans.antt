@@ -1,6 +1,7 @@
 -- Lists of filters, gates and meters by number, and when they go together.
-use Rattle.std.specs.Prelude.{ℕ, Bool, true, false, ◌&&◌, not, nat_eq, Option, Some, None, List, [], ◌∷◌}
-use Rattle.std.specs.List.{list_all, list_any}
+use Rattle.std.specs.Prelude.{ℕ, Bool, true, false, ◌&&◌, not, nat_eq, Option, Some, None, List, [], ◌∷◌, IsTrue}
+use Rattle.std.specs.List.{list_all}
+use Rattle.std.specs.Option.{is_some}
 use Rattle.std.specs.Map.{lookup}
 use Rattle.bridge_meter.specs.declared.MeterPlan.{MeterPlan}
 use Rattle.bridge_meter.specs.Colours.{is_within_limits}
@@ -12,7 +13,11 @@ use Rattle.bridge_filter.specs.Verdicts.{Plans}
 
 -- whether a number is in a list
 abbrev pub is_there : {X : Type 0} → ℕ → List (ℕ × X) → Bool
-is_there n xs = list_any (λ x. nat_eq n x.0) xs
+is_there n xs = is_some (lookup (nat_eq n) xs)
+
+-- each number of a list is one of another
+abbrev pub KeepsNumbers : {X Y : Type 0} → List (ℕ × X) → List (ℕ × Y) → Type 0
+KeepsNumbers xs ys = (n : ℕ) → IsTrue (is_there n xs) → IsTrue (is_there n ys)
 
 -- whether the numbers of a list differ from one another
 abbrev pub are_distinct : {X : Type 0} → List (ℕ × X) → Bool

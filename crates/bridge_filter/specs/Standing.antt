@@ -1,12 +1,15 @@
-use Rattle.std.specs.Prelude.{◌≡◌, ℕ, ◌&&◌, nat_eq, Some, List}
+use Rattle.std.specs.Prelude.{◌≡◌, ℕ, Bool, ◌&&◌, nat_eq, Some, List}
 use Rattle.std.specs.Map.{lookup}
 use Rattle.bridge_meter.specs.declared.MeterPlan.{MeterPlan}
 use Rattle.bridge_meter.specs.Colours.{MeterEvent}
 use Rattle.bridge_meter.specs.Standing as meter
 use Rattle.bridge_gate.specs.Gates.{GateRules, GateEvent}
 use Rattle.bridge_gate.specs.Standing as gate
+use Rattle.bridge_filter.specs.declared.Clear.{Clear}
+use Rattle.bridge_filter.specs.declared.Clear.TheVariants as clear
 use Rattle.bridge_filter.specs.declared.FilterPlan.{FilterPlan}
 use Rattle.bridge_filter.specs.declared.filter.Filter.{Filter}
+use Rattle.bridge_filter.specs.Plans.{is_there}
 use Rattle.bridge_filter.specs.Verdicts.{Plans, Event, Step, told, gate_share, meter_share, is_blocked}
 use Rattle.bridge_filter.specs.Counts.{verdicts_of, counters_of, frames_in, last_moment}
 
@@ -18,6 +21,13 @@ pub record PoliceState (A : Type 0) : Type 0 where
   pub meters : List (ℕ × meter.MeterState)
   pub calls : ℕ
   pub earliest : ℕ
+
+-- whether the police has the filter, the gate or the meter whose flag a command clears
+abbrev pub has_instance : {A : Type 0} → Clear → ℕ → PoliceState A → Bool
+has_instance clear.Blocked n s = is_there n s.filters
+has_instance clear.Rx n s = is_there n s.gates
+has_instance clear.Octets n s = is_there n s.gates
+has_instance clear.Red n s = is_there n s.meters
 
 -- each gate stands for its share
 abbrev pub GatesStand : {A : Type 0} → (ℕ → GateRules) → List (ℕ × gate.Gate A) → (ℕ → List GateEvent) → Type 0

@@ -53,11 +53,6 @@ pub record AreAtMost (c : Counters) (n : ℕ) : Type 0 where
   pub gate_refused : c.gate_refused ≤ n
   pub red : c.red ≤ n
 
--- an internal priority value, where a verdict has one, is a priority
-abbrev pub HasPriority : Verdict → Type 0
-HasPriority (verdict.Pass (Some ipv) eligible) = ipv ≤ 7
-HasPriority v = Unit {0}
-
 -- no gate was asked after a moment
 abbrev pub GatesBefore : {A : Type 0} → List (ℕ × gate.Gate A) → ℕ → Type 0
 GatesBefore {A} gates t = (n : ℕ) (g : gate.Gate A) → lookup (nat_eq n) gates ≡ Some g → g.earliest ≤ t
@@ -70,10 +65,6 @@ MetersBefore meters t = (n : ℕ) (m : meter.MeterState) → lookup (nat_eq n) m
 pub record ArePoliced {A : Type 0} (p : Plans) (gates : List (ℕ × gate.Gate A)) (meters : List (ℕ × meter.MeterState)) (ss : List Step) : Type 0 where
   pub gates_stand : GatesStand p.gates gates (λ n. gate_share n ss)
   pub meters_stand : MetersStand p.meters meters (λ n. meter_share n ss)
-
--- two lists by number have the same numbers
-abbrev pub SameNumbers : {X Y : Type 0} → List (ℕ × X) → List (ℕ × Y) → Type 0
-SameNumbers xs ys = (n : ℕ) → IsSome (lookup (nat_eq n) xs) → IsSome (lookup (nat_eq n) ys)
 
 -- the meter that a filter names is there, where it names one
 abbrev pub HasMeter : {X : Type 0} → Option ℕ → List (ℕ × X) → Type 0
@@ -89,6 +80,17 @@ pub record HasInstances {A : Type 0} (f : Filter) (gates : List (ℕ × gate.Gat
 -- each filter has its instances
 abbrev pub HaveInstances : {A : Type 0} → List (ℕ × Filter) → List (ℕ × gate.Gate A) → List (ℕ × meter.MeterState) → ℕ → Type 0
 HaveInstances filters gates meters calls = (n : ℕ) (f : Filter) → lookup (nat_eq n) filters ≡ Some f → HasInstances f gates meters calls
+
+-- a filter with the plan and the counters of the one at that number
+pub record IsSameFilter (old : List (ℕ × Filter)) (n : ℕ) (g : Filter) : Type 0 where
+  pub was : Filter
+  pub found : lookup (nat_eq n) old ≡ Some was
+  pub plan : g.plan ≡ was.plan
+  pub counters : g.counters ≡ was.counters
+
+-- each filter names the instances that it named, and has counted no more
+abbrev pub InstancesStay : List (ℕ × Filter) → List (ℕ × Filter) → Type 0
+InstancesStay old new = (n : ℕ) (g : Filter) → lookup (nat_eq n) new ≡ Some g → IsSameFilter old n g
 
 -- the plans of the filters, by number
 abbrev pub plans_in : List (ℕ × Filter) → List (ℕ × FilterPlan)

@@ -1,5 +1,5 @@
 -- The verdicts of stream filters over a list of frames and commands (IEEE 802.1Q-2018, 8.6.5.3: per-stream filtering and policing).
-use Rattle.std.specs.Prelude.{ℕ, Bool, true, false, ◌&&◌, ◌||◌, not, nat_lt, nat_eq, Option, Some, None, List, [], ◌∷◌, if◌then◌else◌}
+use Rattle.std.specs.Prelude.{ℕ, ◌≤◌, Bool, true, false, ◌&&◌, ◌||◌, not, nat_lt, nat_eq, Option, Some, None, List, [], ◌∷◌, if◌then◌else◌}
 use Rattle.bridge_meter.specs.declared.Colour.{Colour}
 use Rattle.bridge_meter.specs.declared.Colour.TheVariants as colour
 use Rattle.bridge_meter.specs.declared.MeterPlan.{MeterPlan}
@@ -7,6 +7,8 @@ use Rattle.bridge_meter.specs.Colours as meter
 use Rattle.bridge_gate.specs.declared.gate.GateAnswer.{GateAnswer}
 use Rattle.bridge_gate.specs.declared.gate.GateAnswer.TheVariants as gate
 use Rattle.bridge_gate.specs.Gates.{GateRules, GateEvent, Asked, ClearedRx, ClearedOctets, steps, answer}
+use Rattle.bridge_filter.specs.declared.Clear.{Clear}
+use Rattle.bridge_filter.specs.declared.Clear.TheVariants as clear
 use Rattle.bridge_filter.specs.declared.FilterPlan.{FilterPlan}
 use Rattle.bridge_filter.specs.declared.Verdict.{Verdict}
 use Rattle.bridge_filter.specs.declared.Verdict.TheVariants as verdict
@@ -32,6 +34,13 @@ pub data Event : Type 0 where
   ClearedRxOf : ℕ → Event
   ClearedOctetsOf : ℕ → Event
   ClearedRedOf : ℕ → Event
+
+-- the event of a command that clears a flag of the instance with a number
+abbrev pub cleared : Clear → ℕ → Event
+cleared clear.Blocked n = ClearedBlocked n
+cleared clear.Rx n = ClearedRxOf n
+cleared clear.Octets n = ClearedOctetsOf n
+cleared clear.Red n = ClearedRedOf n
 
 -- The filters with their numbers, and how the gate and the meter of each number are set.
 pub record Plans : Type 0 where
@@ -82,6 +91,11 @@ passed_gate verdict.Red = true
 passed_gate verdict.YellowDropped = true
 passed_gate (verdict.Pass ipv eligible) = true
 passed_gate v = false
+
+-- an internal priority value, where a verdict has one, is a priority
+abbrev pub HasPriority : Verdict → Type 0
+HasPriority (verdict.Pass (Some ipv) eligible) = ipv ≤ 7
+HasPriority v = Unit {0}
 
 -- a gate's share of the steps: the frames of all filters with that gate that reached it, and the commands that name it
 abbrev pub gate_share : ℕ → List Step → List GateEvent

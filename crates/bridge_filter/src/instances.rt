@@ -6,9 +6,10 @@ ghost use Rattle.bridge_meter.specs.declared.MeterPlan.{MeterPlan};
 ghost use Rattle.bridge_meter.specs.Colours as colours;
 ghost use Rattle.bridge_gate.specs.declared.gate.GateAnswer.TheVariants as gate;
 ghost use Rattle.bridge_gate.specs.Gates.{GateRules, GateEvent, Asked, answer, steps, is_shut_by_rx, is_shut_by_octets};
-ghost use Rattle.bridge_filter.specs.Verdicts.{Plans, Step, Judged, call, by_answer, by_colour, gate_answer, gate_share, meter_share, passed_gate, reached_gate};
+ghost use Rattle.bridge_filter.specs.Plans.{KeepsNumbers};
+ghost use Rattle.bridge_filter.specs.Verdicts.{Plans, Step, Judged, call, by_answer, by_colour, gate_answer, gate_share, meter_share, passed_gate, reached_gate, HasPriority};
 ghost use Rattle.bridge_filter.specs.Standing.{GatesStand, MetersStand};
-ghost use Rattle.bridge_filter.specs.Steps.{GatesBefore, MetersBefore, ArePoliced, SameNumbers, HasMeter, HasPriority};
+ghost use Rattle.bridge_filter.specs.Steps.{GatesBefore, MetersBefore, ArePoliced, HasMeter};
 
 use crate::{FilterPlan, Verdict};
 use bridge_gate::{GateAnswer, StreamGate};
@@ -43,7 +44,7 @@ fn ask<A: Allocator + Copy>(
     ensures answer { (rules : ℕ → GateRules) (share : ℕ → List GateEvent) → GatesStand rules gates.old.entries share → result ≡ answer (rules number) (steps (rules number) (share number)) at sdu }
     ensures priority { (ipv : ℕ) → result ≡ gate.Through (Some ipv) → ipv ≤ 7 }
     ensures before { GatesBefore gates.new.entries at }
-    ensures same { SameNumbers gates.old.entries gates.new.entries }
+    ensures same { KeepsNumbers gates.old.entries gates.new.entries }
 {
     match gates.get_mut(&number) {
         Some(gate) => gate.ask(at, sdu),
@@ -65,7 +66,7 @@ fn metered<A: Allocator + Copy>(
     ensures passed { passed_gate result ≡ true }
     ensures priority { ((i : ℕ) → ipv ≡ Some i → i ≤ 7) → HasPriority result }
     ensures before { MetersBefore meters.new.entries frame.at }
-    ensures same { SameNumbers meters.old.entries meters.new.entries }
+    ensures same { KeepsNumbers meters.old.entries meters.new.entries }
 {
     match meters.get_mut(&number) {
         Some(meter) => {
@@ -112,7 +113,7 @@ fn answered<A: Allocator + Copy>(
     ensures reached { reached_gate result ≡ true }
     ensures priority { HasPriority result }
     ensures before { MetersBefore meters.new.entries frame.at }
-    ensures same { SameNumbers meters.old.entries meters.new.entries }
+    ensures same { KeepsNumbers meters.old.entries meters.new.entries }
 {
     match answer {
         GateAnswer::Through(ipv) => match meter {
@@ -147,8 +148,8 @@ pub(crate) fn policed<A: Allocator + Copy>(
     ensures priority { HasPriority result }
     ensures asked { GatesBefore gates.new.entries frame.at }
     ensures judged { MetersBefore meters.new.entries frame.at }
-    ensures same_gates { SameNumbers gates.old.entries gates.new.entries }
-    ensures same_meters { SameNumbers meters.old.entries meters.new.entries }
+    ensures same_gates { KeepsNumbers gates.old.entries gates.new.entries }
+    ensures same_meters { KeepsNumbers meters.old.entries meters.new.entries }
 {
     let answer = ask(gates, plan.gate, frame.at, frame.sdu);
     answered(answer, plan.meter, meters, frame)

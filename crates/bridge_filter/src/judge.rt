@@ -2,10 +2,11 @@
 
 ghost use Rattle.std.specs.Prelude.{◌≡◌, ℕ, ◌<◌, ◌+◌, nat_eq, IsSome, Some, true, Bool, Option, List, ◌∷◌};
 ghost use Rattle.std.specs.Map.{lookup};
+ghost use Rattle.bridge_filter.specs.Plans.{KeepsNumbers};
 ghost use Rattle.bridge_filter.specs.declared.FilterPlan.{FilterPlan};
-ghost use Rattle.bridge_filter.specs.Verdicts.{Plans, Step, Judged, call, verdict_of};
+ghost use Rattle.bridge_filter.specs.Verdicts.{Plans, Step, Judged, call, verdict_of, HasPriority};
 ghost use Rattle.bridge_filter.specs.Standing.{AreKept, IsKept};
-ghost use Rattle.bridge_filter.specs.Steps.{GatesBefore, MetersBefore, ArePoliced, SameNumbers, HasMeter, HaveInstances, HasPriority, plans_in};
+ghost use Rattle.bridge_filter.specs.Steps.{GatesBefore, MetersBefore, ArePoliced, HasMeter, HaveInstances, plans_in};
 
 use crate::Verdict;
 use crate::filter::Filter;
@@ -31,8 +32,8 @@ fn verdict_for<A: Allocator + Copy>(
     ensures priority { HasPriority result }
     ensures asked { GatesBefore gates.new.entries frame.at }
     ensures judged { MetersBefore meters.new.entries frame.at }
-    ensures same_gates { SameNumbers gates.old.entries gates.new.entries }
-    ensures same_meters { SameNumbers meters.old.entries meters.new.entries }
+    ensures same_gates { KeepsNumbers gates.old.entries gates.new.entries }
+    ensures same_meters { KeepsNumbers meters.old.entries meters.new.entries }
 {
     match filter.refusal(frame.sdu) {
         Some(refusal) => refusal,
@@ -61,6 +62,8 @@ pub(crate) fn judge<A: Allocator + Copy>(
     ensures instances { (calls : ℕ) → HaveInstances filters.old.entries gates.old.entries meters.old.entries calls → HaveInstances filters.new.entries gates.new.entries meters.new.entries (calls + 1) }
     ensures asked { GatesBefore gates.new.entries frame.at }
     ensures judged { MetersBefore meters.new.entries frame.at }
+    ensures same_gates { KeepsNumbers gates.old.entries gates.new.entries }
+    ensures same_meters { KeepsNumbers meters.old.entries meters.new.entries }
 {
     match filters.get_mut(&number) {
         Some(filter) => {

@@ -2,10 +2,12 @@
 //! Stream filters with their gates and meters (IEEE 802.1Q-2018, 8.6.5: per-stream filtering and policing): what
 //! becomes of each frame, and what is counted.
 
+mod clearing;
 mod filter;
 mod find;
 mod instances;
 mod judge;
+pub mod laws;
 mod making;
 mod police;
 
@@ -91,6 +93,19 @@ pub struct Flags {
     pub octets: bool,
     /// The meter makes every further frame red.
     pub red: bool,
+}
+
+/// Which flag a command clears, of the instance with the number that it names.
+#[derive(Clone, Copy, Debug, PartialEq, Eq)]
+pub enum Clear {
+    /// The blocked flag of a filter.
+    Blocked,
+    /// The receive flag of a gate.
+    Rx,
+    /// The octets flag of a gate.
+    Octets,
+    /// The red flag of a meter.
+    Red,
 }
 
 /// A growth was refused.

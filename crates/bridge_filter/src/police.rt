@@ -5,18 +5,19 @@ ghost use Rattle.std.specs.Option.{option_map};
 ghost use Rattle.std.specs.Map.{lookup};
 ghost use Rattle.bridge_filter.specs.declared.FilterPlan.{FilterPlan};
 ghost use Rattle.bridge_filter.specs.declared.Ruling.{Ruling};
-ghost use Rattle.bridge_filter.specs.Verdicts.{Plans, Event, Came, call, flow, judged, told, ruled};
+ghost use Rattle.bridge_filter.specs.Verdicts.{Plans, Event, Came, call, flow, judged, told, ruled, cleared, HasPriority};
 ghost use Rattle.bridge_filter.specs.Counts.{verdicts_of, counters_of, flags_of, buckets_by, frames_in, last_moment};
-ghost use Rattle.bridge_filter.specs.Plans.{is_there, are_distinct, have_instances, all_have_priorities, all_within_limits, plans_of};
-ghost use Rattle.bridge_filter.specs.Standing.{Stands};
-ghost use Rattle.bridge_filter.specs.Steps.{HasMeter, HasPriority};
+ghost use Rattle.bridge_filter.specs.Plans.{KeepsNumbers, is_there, are_distinct, have_instances, all_have_priorities, all_within_limits, plans_of};
+ghost use Rattle.bridge_filter.specs.Standing.{Stands, has_instance};
+ghost use Rattle.bridge_filter.specs.Steps.{HasMeter};
 
+use crate::clearing::{clear_blocked, clear_octets, clear_red, clear_rx};
 use crate::filter::Filter;
 use crate::find::{Firsts, filter_of};
 use crate::instances::{Frame, Numbered, gate_flags, meter_state};
 use crate::judge::judge;
 use crate::making::{filters_of, firsts_of, gates_of, meters_of};
-use crate::{Counters, FilterPlan, Flags, NoMemory, Ruling};
+use crate::{Clear, Counters, FilterPlan, Flags, NoMemory, Ruling};
 use bridge_gate::{GatePlan, StreamGate};
 use bridge_meter::{Buckets, Meter, MeterPlan};
 use std::alloc::Allocator;
@@ -61,7 +62,9 @@ impl<A: Allocator + Copy> Police<A> {
         requires instances { IsTrue (have_instances filters.items gates.items meters.items) }
         requires priorities { IsTrue (all_have_priorities gates.items) }
         requires limits { IsTrue (all_within_limits meters.items) }
-        ensures { IfOk result (λ p. Stands (plans_of filters.items gates.items meters.items) p []) }
+        ensures stands { IfOk result (λ p. Stands (plans_of filters.items gates.items meters.items) p []) }
+        ensures gates { IfOk result (λ p. KeepsNumbers gates.items p.gates) }
+        ensures meters { IfOk result (λ p. KeepsNumbers meters.items p.meters) }
     {
         Ok(Police {
             filters: filters_of(alloc, &filters)?,
@@ -93,6 +96,8 @@ impl<A: Allocator + Copy> Police<A> {
         ensures filter { option_map (λ r. r.filter) result ≡ option_map (λ f. f.0) (flow self.old.filters (call t handle priority dei sdu octets)) }
         ensures priority { IfSome result (λ r. HasPriority r.verdict) }
         ensures filters { self.new.filters ≡ self.old.filters }
+        ensures gates { KeepsNumbers self.old.gates self.new.gates }
+        ensures meters { KeepsNumbers self.old.meters self.new.meters }
         ensures calls { self.new.calls ≡ self.old.calls + 1 }
         ensures earliest { self.new.earliest ≡ t }
     {
@@ -113,6 +118,26 @@ impl<A: Allocator + Copy> Police<A> {
             frame,
         );
         Some(Ruling { filter, verdict })
+    }
+
+    /// Clears a flag of the instance with that number, so that frames are judged again as if it had never been set.
+    ///
+    /// Counters, the octets used in a turn and the buckets stay, and clearing a flag that isn't set changes nothing.
+    pub fn clear(&mut self, clear: Clear, number: u32)
+        requires { IsTrue (has_instance clear number self.old) }
+        ensures stands { (p : Plans) (es : List Event) → Stands p self.old es → Stands p self.new (cleared clear number ∷ es) }
+        ensures filters { self.new.filters ≡ self.old.filters }
+        ensures gates { KeepsNumbers self.old.gates self.new.gates }
+        ensures meters { KeepsNumbers self.old.meters self.new.meters }
+        ensures calls { self.new.calls ≡ self.old.calls }
+        ensures earliest { self.new.earliest ≡ self.old.earliest }
+    {
+        match clear {
+            Clear::Blocked => clear_blocked(&mut self.filters, number),
+            Clear::Rx => clear_rx(&mut self.gates, number),
+            Clear::Octets => clear_octets(&mut self.gates, number),
+            Clear::Red => clear_red(&mut self.meters, number),
+        }
     }
 
     /// How many frames came.

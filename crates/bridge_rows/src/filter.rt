@@ -2,14 +2,14 @@
 ghost use Rattle.std.specs.Prelude.{◌≡◌, ◌⊎◌, Some, None, true, IfOk, IsTrue};
 ghost use Rattle.bridge_meter.specs.Colours.{is_within_limits};
 ghost use Rattle.bridge_gate.specs.Schedules.{has_priorities};
-ghost use Rattle.bridge_filter.specs.Plans.{is_there};
+ghost use Rattle.bridge_filter.specs.Plans.{KeepsNumbers, is_there, are_distinct, all_have_priorities};
 
 use crate::refusing::RefusesOne;
 use bridge_cycle::CyclicList;
 use bridge_filter::Verdict::{
     Blocked, GateClosed, OctetsExceeded, Oversize, Red, ShutByOctets, ShutByRx, YellowDropped,
 };
-use bridge_filter::{Counters, FilterPlan, Flags, NoMemory, Police, Ruling, Verdict};
+use bridge_filter::{Clear, Counters, FilterPlan, Flags, NoMemory, Police, Ruling, Verdict};
 use bridge_gate::{GateEntry, GatePlan, Schedule};
 use bridge_meter::{Buckets, MeterPlan};
 use std::alloc::Allocator;
@@ -96,21 +96,17 @@ fn window<A: Allocator + Copy>(
     }
 }
 
-/// The police of filter 10 for one stream and filter 99 for all others, given in this order from behind, with the
-/// gates 1 and 99 and meter 5.
-fn police_of<A: Allocator + Copy>(
+/// The gates 1, with this plan, and 99, which is always open.
+fn gates_of<A: Allocator + Copy>(
     alloc: A,
-    own: FilterPlan,
     window: GatePlan<A>,
-    meter: MeterPlan,
-) -> Result<Police<A>, NoMemory>
-    requires gate { own.gate ≡ 1 }
-    requires own_meter { (own.meter ≡ None) ⊎ (own.meter ≡ Some 5) }
-    requires window { has_priorities window.schedule ≡ true }
-    requires meter { IsTrue (is_within_limits meter) }
-    ensures { IfOk result (λ p. IsTrue (is_there 10 p.filters)) }
+) -> Result<Vec<(u32, GatePlan<A>), A>, NoMemory>
+    requires { has_priorities window.schedule ≡ true }
+    ensures distinct { IfOk result (λ v. are_distinct v.items ≡ true) }
+    ensures priorities { IfOk result (λ v. all_have_priorities v.items ≡ true) }
+    ensures first { IfOk result (λ v. is_there 1 v.items ≡ true) }
+    ensures last { IfOk result (λ v. is_there 99 v.items ≡ true) }
 {
-    let filters = Vec::from_slice(alloc, &[(99, OTHERS), (10, own)])?;
     let open = GatePlan {
         shut_on_rx: false,
         shut_on_octets: false,
@@ -123,6 +119,27 @@ fn police_of<A: Allocator + Copy>(
     if gates.push((1, window)).is_err() || gates.push((99, open)).is_err() {
         return Err(NoMemory);
     }
+    Ok(gates)
+}
+
+/// The police of filter 10 for one stream and filter 99 for all others, given in this order from behind, with the
+/// gates 1 and 99 and meter 5.
+fn police_of<A: Allocator + Copy>(
+    alloc: A,
+    own: FilterPlan,
+    window: GatePlan<A>,
+    meter: MeterPlan,
+) -> Result<Police<A>, NoMemory>
+    requires gate { own.gate ≡ 1 }
+    requires own_meter { (own.meter ≡ None) ⊎ (own.meter ≡ Some 5) }
+    requires window { has_priorities window.schedule ≡ true }
+    requires meter { IsTrue (is_within_limits meter) }
+    ensures filter { IfOk result (λ p. IsTrue (is_there 10 p.filters)) }
+    ensures window { IfOk result (λ p. IsTrue (is_there 1 p.gates)) }
+    ensures meter { IfOk result (λ p. IsTrue (is_there 5 p.meters)) }
+{
+    let filters = Vec::from_slice(alloc, &[(99, OTHERS), (10, own)])?;
+    let gates = gates_of(alloc, window)?;
     let meters = Vec::from_slice(alloc, &[(5, meter)])?;
     Police::new(alloc, filters, gates, meters)
 }
@@ -133,7 +150,9 @@ fn verdicts<A: Allocator + Copy>(
     police: &mut Police<A>,
     frames: &[(u64, u32, Verdict)],
 )
-    ensures { police.new.filters ≡ police.old.filters }
+    ensures filters { police.new.filters ≡ police.old.filters }
+    ensures gates { KeepsNumbers police.old.gates police.new.gates }
+    ensures meters { KeepsNumbers police.old.meters police.new.meters }
 {
     for (t, sdu, wanted) in frames {
         assert!(rt;
@@ -398,4 +417,79 @@ fn each_growth_of_a_police_is_refused_in_turn(rt: HostRuntime) {
         assert!(rt; !made, "growth {n}");
     }
     assert!(rt; false, "too many growths");
+}
+
+#[test]
+fn cleared_filter_takes_frames_again(rt: HostRuntime) -> Result<(), Fail> {
+    let own = FilterPlan {
+        block_oversize: true,
+        ..OWN
+    };
+    let gate = window(rt.alloc(), false, false)?;
+    let mut police = police_of(rt.alloc(), own, gate, ONE_FRAME)?;
+    verdicts(
+        &rt,
+        &mut police,
+        &[(10_000, 500, PASS), (20_000, 501, Oversize)],
+    );
+    police.clear(Clear::Blocked, 10);
+    assert!(rt; police.flags(10) == NO_FLAGS);
+    verdicts(&rt, &mut police, &[(30_000, 44, PASS)]);
+    assert!(rt; police.counters(10) == counters(3, (2, 1), (2, 0), 0));
+    Ok(())
+}
+
+#[test]
+fn cleared_gate_takes_frames_again(rt: HostRuntime) -> Result<(), Fail> {
+    let gate = window(rt.alloc(), true, false)?;
+    let mut police = police_of(rt.alloc(), OWN, gate, ONE_FRAME)?;
+    verdicts(
+        &rt,
+        &mut police,
+        &[(299_999, 44, PASS), (300_000, 44, GateClosed)],
+    );
+    police.clear(Clear::Rx, 1);
+    verdicts(&rt, &mut police, &[(1_000_000, 44, PASS)]);
+
+    for (sdu, wanted) in [(100, PASS), (101, OctetsExceeded)] {
+        let gate = window(rt.alloc(), false, true)?;
+        let mut police = police_of(rt.alloc(), OWN, gate, ONE_FRAME)?;
+        verdicts(
+            &rt,
+            &mut police,
+            &[(10_000, 500, PASS), (20_000, 101, OctetsExceeded)],
+        );
+        police.clear(Clear::Octets, 1);
+        verdicts(&rt, &mut police, &[(40_000, sdu, wanted)]);
+    }
+    Ok(())
+}
+
+#[test]
+fn cleared_meter_judges_again(rt: HostRuntime) -> Result<(), Fail> {
+    let own = FilterPlan {
+        meter: Some(5),
+        ..OWN
+    };
+    let meter = MeterPlan {
+        cir: 8_000_000,
+        cbs: 128,
+        ebs: 0,
+        mark_all_red: true,
+        ..ONE_FRAME
+    };
+    let gate = window(rt.alloc(), false, false)?;
+    let mut police = police_of(rt.alloc(), own, gate, meter)?;
+    let first = [(0, 44, PASS), (0, 44, PASS), (63_999, 44, Red)];
+    verdicts(&rt, &mut police, &first);
+    police.clear(Clear::Red, 5);
+    verdicts(&rt, &mut police, &[(2_000_000, 44, PASS)]);
+    let left = Buckets {
+        committed: 512_000_000_000,
+        excess: 0,
+        at: 2_000_000,
+        all_red: false,
+    };
+    assert!(rt; police.buckets(10) == Some(left));
+    Ok(())
 }

@@ -1,0 +1,163 @@
+use Rattle.std.proofs.Common.{◌≡◌, ℕ, Bool, true, false, List, ◌∷◌, refl, ap, ◌∙◌, sym, subst}
+use Rattle.std.specs.Prelude.{nat_eq, ◌&&◌, Option, Some, None, IsSome, IsTrue, if◌then◌else◌}
+use Rattle.std.specs.Option.{option_map, is_some}
+use Rattle.std.specs.Map.{lookup}
+use Rattle.indexmap.specs.IndexMap.{IndexMap}
+use Rattle.bridge_meter.specs.Standing as meter
+use Rattle.bridge_gate.specs.Standing as gate
+use Rattle.bridge_gate.specs.Gates as gates
+use Rattle.bridge_meter.specs.Colours as colours
+use Rattle.bridge_meter.specs.declared.MeterPlan.{MeterPlan}
+use Rattle.bridge_filter.specs.declared.Clear.{Clear}
+use Rattle.bridge_filter.specs.declared.Clear.TheVariants as clear
+use Rattle.bridge_filter.specs.declared.FilterPlan.{FilterPlan}
+use Rattle.bridge_filter.specs.Plans.{KeepsNumbers, is_there}
+use Rattle.bridge_filter.specs.declared.filter.Filter.{Filter}
+use Rattle.bridge_filter.specs.declared.find.Key.{Key}
+use Rattle.bridge_filter.specs.Verdicts.{Plans, Event, ClearedBlocked, ClearedRxOf, ClearedOctetsOf, ClearedRedOf, cleared, Step, Command, told, gate_share, meter_share}
+use Rattle.bridge_filter.specs.Standing.{PoliceState, Stands, has_instance, AreKept, IsKept, GatesStand, MetersStand}
+use Rattle.bridge_filter.specs.Steps.{GatesBefore, MetersBefore, InstancesStay, HaveInstances, IsSound, plans_in}
+use Rattle.bridge_filter.proofs.Numbered.{Changes, each_after, same_eq}
+use Rattle.bridge_filter.proofs.Judging.{has_meter_later, lookup-plans_in}
+use Rattle.bridge_filter.proofs.Flows.{is_there-lookup}
+
+none_blocked : (b : Bool) → false ≡ b && false
+none_blocked true = refl
+none_blocked false = refl
+
+cleared_own : (n : ℕ) (f : Filter) (ss : List Step) → IsKept n f ss → IsKept n (record { plan = f.plan; counters = f.counters; blocked = false }) (Command (ClearedBlocked n) ∷ ss)
+cleared_own n f ss k = record {
+  counters = k.counters;
+  blocked = rw (same_eq n) (none_blocked f.plan.block_oversize);
+}
+
+cleared_other : (n m : ℕ) (f : Filter) (ss : List Step) → nat_eq m n ≡ false → IsKept n f ss → IsKept n f (Command (ClearedBlocked m) ∷ ss)
+cleared_other n m f ss differ k = record {
+  counters = k.counters;
+  blocked = rw differ k.blocked;
+}
+
+-- what is kept after the blocked flag of one filter was cleared
+pub kept_cleared : (old new : List (ℕ × Filter)) (n : ℕ) (f : Filter) (ss : List Step) → Changes old new n f (record { plan = f.plan; counters = f.counters; blocked = false }) → AreKept old ss → AreKept new (Command (ClearedBlocked n) ∷ ss)
+kept_cleared old new n f ss change kept =
+    let clear : Filter = record { plan = f.plan; counters = f.counters; blocked = false } in
+    each_after old new n f clear (λ k z. IsKept k z ss) (λ k z. IsKept k z (Command (ClearedBlocked n) ∷ ss)) change kept (cleared_own n f ss) (λ k z differ. cleared_other k n z ss differ)
+
+-- other commands leave what is kept of filters
+pub kept_rx : (kept : List (ℕ × Filter)) (m : ℕ) (ss : List Step) → AreKept kept ss → AreKept kept (Command (ClearedRxOf m) ∷ ss)
+kept_rx kept m ss h n f found = let k = h n f found in record { counters = k.counters; blocked = k.blocked }
+
+pub kept_octets : (kept : List (ℕ × Filter)) (m : ℕ) (ss : List Step) → AreKept kept ss → AreKept kept (Command (ClearedOctetsOf m) ∷ ss)
+kept_octets kept m ss h n f found = let k = h n f found in record { counters = k.counters; blocked = k.blocked }
+
+pub kept_red : (kept : List (ℕ × Filter)) (m : ℕ) (ss : List Step) → AreKept kept ss → AreKept kept (Command (ClearedRedOf m) ∷ ss)
+kept_red kept m ss h n f found = let k = h n f found in record { counters = k.counters; blocked = k.blocked }
+
+instances_stay : {A : Type 0} (old new : List (ℕ × Filter)) (gates : List (ℕ × gate.Gate A)) (meters : List (ℕ × meter.MeterState)) (calls : ℕ) → InstancesStay old new → HaveInstances old gates meters calls → HaveInstances new gates meters calls
+instances_stay old new gates meters calls stay have n g found =
+    let s = stay n g found in
+    let h = have n s.was s.found in
+    record { gate = rw s.plan h.gate; meter = rw s.plan h.meter; few = rw s.counters h.few }
+
+-- what the police keeps goes together after a command
+
+pub sound_filters : {A S : Type 0} (old new : List (ℕ × Filter)) (firsts : IndexMap Key ℕ S) (gates : List (ℕ × gate.Gate A)) (meters : List (ℕ × meter.MeterState)) (calls earliest : ℕ) → plans_in new ≡ plans_in old → InstancesStay old new → IsSound old firsts gates meters calls earliest → IsSound new firsts gates meters calls earliest
+sound_filters old new firsts gates meters calls earliest same stay h = record {
+  distinct = rw same h.distinct;
+  first = λ k. rw same (h.first k);
+  instances = instances_stay old new gates meters calls stay h.instances;
+  asked = h.asked;
+  judged = h.judged;
+}
+
+pub sound_gates : {A S : Type 0} (filters : List (ℕ × Filter)) (firsts : IndexMap Key ℕ S) (old new : List (ℕ × gate.Gate A)) (meters : List (ℕ × meter.MeterState)) (calls earliest : ℕ) → KeepsNumbers old new → ((t : ℕ) → GatesBefore old t → GatesBefore new t) → IsSound filters firsts old meters calls earliest → IsSound filters firsts new meters calls earliest
+sound_gates filters firsts old new meters calls earliest same before h = record {
+  distinct = h.distinct;
+  first = h.first;
+  instances = λ n f found. let i = h.instances n f found in record { gate = same f.plan.gate i.gate; meter = i.meter; few = i.few };
+  asked = before earliest h.asked;
+  judged = h.judged;
+}
+
+pub sound_meters : {A S : Type 0} (filters : List (ℕ × Filter)) (firsts : IndexMap Key ℕ S) (gates : List (ℕ × gate.Gate A)) (old new : List (ℕ × meter.MeterState)) (calls earliest : ℕ) → KeepsNumbers old new → ((t : ℕ) → MetersBefore old t → MetersBefore new t) → IsSound filters firsts gates old calls earliest → IsSound filters firsts gates new calls earliest
+sound_meters filters firsts gates old new calls earliest same before h = record {
+  distinct = h.distinct;
+  first = h.first;
+  instances = λ n f found. let i = h.instances n f found in record { gate = i.gate; meter = has_meter_later f.plan.meter old new same i.meter; few = i.few };
+  asked = h.asked;
+  judged = before earliest h.judged;
+}
+
+-- an instance that is there is found
+
+there_found : {X : Type 0} (n : ℕ) (xs : List (ℕ × X)) → is_there n xs ≡ true → IsSome (lookup (nat_eq n) xs)
+there_found n xs h = sym (is_there-lookup n xs) ∙ h
+
+is_some-option_map : (o : Option Filter) → is_some (option_map (λ (f : Filter). f.plan) o) ≡ is_some o
+is_some-option_map None = refl
+is_some-option_map (Some f) = refl
+
+pub filter_there : {A : Type 0} (c : Clear) (n : ℕ) (s : PoliceState A) (fs : List (ℕ × Filter)) → c ≡ clear.Blocked → s.filters ≡ plans_in fs → IsTrue (has_instance c n s) → IsSome (lookup (nat_eq n) fs)
+filter_there {A} c n s fs e same h =
+    let there : is_there n s.filters ≡ true = subst (λ (x : Clear). has_instance x n s ≡ true) e h in
+    let found = there_found n (plans_in fs) (subst (λ (z : List (ℕ × FilterPlan)). is_there n z ≡ true) same there) in
+    sym (is_some-option_map (lookup (nat_eq n) fs)) ∙ (sym (ap is_some (lookup-plans_in n fs)) ∙ found)
+
+pub gate_there_rx : {A : Type 0} (c : Clear) (n : ℕ) (s : PoliceState A) → c ≡ clear.Rx → IsTrue (has_instance c n s) → IsSome (lookup (nat_eq n) s.gates)
+gate_there_rx c n s e h = there_found n s.gates (subst (λ (x : Clear). has_instance x n s ≡ true) e h)
+
+pub gate_there_octets : {A : Type 0} (c : Clear) (n : ℕ) (s : PoliceState A) → c ≡ clear.Octets → IsTrue (has_instance c n s) → IsSome (lookup (nat_eq n) s.gates)
+gate_there_octets c n s e h = there_found n s.gates (subst (λ (x : Clear). has_instance x n s ≡ true) e h)
+
+pub meter_there_red : {A : Type 0} (c : Clear) (n : ℕ) (s : PoliceState A) → c ≡ clear.Red → IsTrue (has_instance c n s) → IsSome (lookup (nat_eq n) s.meters)
+meter_there_red c n s e h = there_found n s.meters (subst (λ (x : Clear). has_instance x n s ≡ true) e h)
+
+-- the police after a command
+
+pub stands_blocked : {A : Type 0} (p : Plans) (s : PoliceState A) (es : List Event) (c : Clear) (n : ℕ) (fs : List (ℕ × FilterPlan)) (kept : List (ℕ × Filter)) → c ≡ clear.Blocked → fs ≡ s.filters → Stands p s es → (AreKept s.kept (told p es) → AreKept kept (Command (ClearedBlocked n) ∷ told p es)) → Stands p (record { filters = fs; kept = kept; gates = s.gates; meters = s.meters; calls = s.calls; earliest = s.earliest }) (cleared c n ∷ es)
+stands_blocked {A} p s es c n fs kept e same st step =
+    let t : PoliceState A = record { filters = fs; kept = kept; gates = s.gates; meters = s.meters; calls = s.calls; earliest = s.earliest } in
+    subst (λ (x : Clear). Stands p t (cleared x n ∷ es)) (sym e) (record {
+      filters = same ∙ st.filters;
+      kept = step st.kept;
+      gates = st.gates;
+      meters = st.meters;
+      calls = st.calls;
+      earliest = st.earliest;
+    })
+
+pub stands_rx : {A : Type 0} (p : Plans) (s : PoliceState A) (es : List Event) (c : Clear) (n : ℕ) (new : List (ℕ × gate.Gate A)) → c ≡ clear.Rx → Stands p s es → ((rules : ℕ → gates.GateRules) (share : ℕ → List gates.GateEvent) → GatesStand rules s.gates share → GatesStand rules new (λ k. if nat_eq n k then gates.ClearedRx ∷ share k else share k)) → Stands p (record s { gates = new }) (cleared c n ∷ es)
+stands_rx {A} p s es c n new e st step =
+    let t : PoliceState A = record s { gates = new } in
+    subst (λ (x : Clear). Stands p t (cleared x n ∷ es)) (sym e) (record {
+      filters = st.filters;
+      kept = kept_rx s.kept n (told p es) st.kept;
+      gates = step p.gates (λ k. gate_share k (told p es)) st.gates;
+      meters = st.meters;
+      calls = st.calls;
+      earliest = st.earliest;
+    })
+
+pub stands_octets : {A : Type 0} (p : Plans) (s : PoliceState A) (es : List Event) (c : Clear) (n : ℕ) (new : List (ℕ × gate.Gate A)) → c ≡ clear.Octets → Stands p s es → ((rules : ℕ → gates.GateRules) (share : ℕ → List gates.GateEvent) → GatesStand rules s.gates share → GatesStand rules new (λ k. if nat_eq n k then gates.ClearedOctets ∷ share k else share k)) → Stands p (record s { gates = new }) (cleared c n ∷ es)
+stands_octets {A} p s es c n new e st step =
+    let t : PoliceState A = record s { gates = new } in
+    subst (λ (x : Clear). Stands p t (cleared x n ∷ es)) (sym e) (record {
+      filters = st.filters;
+      kept = kept_octets s.kept n (told p es) st.kept;
+      gates = step p.gates (λ k. gate_share k (told p es)) st.gates;
+      meters = st.meters;
+      calls = st.calls;
+      earliest = st.earliest;
+    })
+
+pub stands_red : {A : Type 0} (p : Plans) (s : PoliceState A) (es : List Event) (c : Clear) (n : ℕ) (new : List (ℕ × meter.MeterState)) → c ≡ clear.Red → Stands p s es → ((plans : ℕ → MeterPlan) (share : ℕ → List colours.MeterEvent) → MetersStand plans s.meters share → MetersStand plans new (λ k. if nat_eq n k then colours.Cleared ∷ share k else share k)) → Stands p (record s { meters = new }) (cleared c n ∷ es)
+stands_red {A} p s es c n new e st step =
+    let t : PoliceState A = record s { meters = new } in
+    subst (λ (x : Clear). Stands p t (cleared x n ∷ es)) (sym e) (record {
+      filters = st.filters;
+      kept = kept_red s.kept n (told p es) st.kept;
+      gates = st.gates;
+      meters = step p.meters (λ k. meter_share k (told p es)) st.meters;
+      calls = st.calls;
+      earliest = st.earliest;
+    })

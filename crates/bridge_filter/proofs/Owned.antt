@@ -1,0 +1,142 @@
+use Rattle.std.proofs.Common.{◌≡◌, ℕ, true, false, List, [], ◌∷◌, arith, refl, ap, sym, subst, inl, inr, Option, Some, None}
+use Rattle.std.proofs.lemmas.Bool.Decides.{nat_tests}
+use Rattle.std.specs.Prelude.{if◌then◌else◌, nat_eq, nat_lt, ◌&&◌}
+use Rattle.bridge_filter.specs.declared.FilterPlan.{FilterPlan}
+use Rattle.bridge_filter.specs.declared.Verdict.{Verdict}
+use Rattle.bridge_filter.specs.declared.Verdict.TheVariants as verdict
+use Rattle.bridge_gate.specs.declared.gate.GateAnswer.{GateAnswer}
+use Rattle.bridge_gate.specs.declared.gate.GateAnswer.TheVariants as gate
+use Rattle.bridge_filter.specs.Verdicts.{Plans, Call, Event, Came, ClearedBlocked, ClearedRxOf, ClearedOctetsOf, ClearedRedOf, Step, Unfiltered, Judged, Command, gate_share, meter_share, is_blocked, is_meter, is_match, lesser, flow, verdict_of, judged, told, is_above, by_answer, by_meter, gate_answer}
+use Rattle.bridge_filter.specs.Own.{In, own_events, is_own_step, own_steps, IsApart}
+use Rattle.bridge_filter.proofs.Numbered.{by_bool, some_is, is_eq, not_eq}
+
+-- each judged step is of a filter of the plan
+abbrev pub IsListed : Plans → Step → Type 0
+IsListed p (Judged c n g v) = In (n, g) p.filters
+IsListed p x = Unit {0}
+
+abbrev pub AreListed : Plans → List Step → Type 0
+AreListed p [] = Unit {0}
+AreListed p (x ∷ xs) = IsListed p x × AreListed p xs
+
+lesser_listed : (f x : ℕ × FilterPlan) (fs : List (ℕ × FilterPlan)) (o : Option (ℕ × FilterPlan)) → ((y : ℕ × FilterPlan) → o ≡ Some y → In y fs) → lesser f o ≡ Some x → In x (f ∷ fs)
+lesser_listed f x fs None ih h = inl (sym (some_is f x h))
+lesser_listed f x fs (Some g) ih h = by_bool (nat_lt g.0 f.0)
+    (λ e. let k : Some g ≡ Some x = rw e at h in inr (ih x k))
+    (λ e. let k : Some f ≡ Some x = rw e at h in inl (sym (some_is f x k)))
+
+-- a flow is one of the filters
+pub flow_listed : (fs : List (ℕ × FilterPlan)) (c : Call) (x : ℕ × FilterPlan) → flow fs c ≡ Some x → In x fs
+flow_listed [] c x h = absurd (cc)
+flow_listed (f ∷ fs) c x h = by_bool (is_match f.1 c)
+    (λ e. let k : lesser f (flow fs c) ≡ Some x = rw e at h in lesser_listed f x fs (flow fs c) (flow_listed fs c) k)
+    (λ e. let k : flow fs c ≡ Some x = rw e at h in inr (flow_listed fs c x k))
+
+judged_listed : (p : Plans) (ss : List Step) (c : Call) (o : Option (ℕ × FilterPlan)) → ((x : ℕ × FilterPlan) → o ≡ Some x → In x p.filters) → IsListed p (judged p ss c o)
+judged_listed p ss c None h = tt
+judged_listed p ss c (Some x) h = h x refl
+
+pub told_listed : (p : Plans) (es : List Event) → AreListed p (told p es)
+told_listed p [] = tt
+told_listed p (Came c ∷ es) = (judged_listed p (told p es) c (flow p.filters c) (flow_listed p.filters c), told_listed p es)
+told_listed p (ClearedBlocked n ∷ es) = (tt, told_listed p es)
+told_listed p (ClearedRxOf n ∷ es) = (tt, told_listed p es)
+told_listed p (ClearedOctetsOf n ∷ es) = (tt, told_listed p es)
+told_listed p (ClearedRedOf n ∷ es) = (tt, told_listed p es)
+
+pub differs : (m n : ℕ) → (m ≡ n → ⊥) → nat_eq m n ≡ false
+differs m n h = by_bool (nat_eq m n) (λ k. absurd (h (is_eq m n k))) (λ k. k)
+
+pub gate_own : (p : Plans) (s : ℕ) (f : FilterPlan) → IsApart p s f → (ss : List Step) → AreListed p ss → gate_share f.gate (own_steps s f ss) ≡ gate_share f.gate ss
+gate_own p s f a [] l = refl
+gate_own p s f a (Unfiltered c ∷ ss) l = gate_own p s f a ss l.1
+gate_own p s f a (Judged c n g v ∷ ss) l = by_bool (nat_eq n s)
+    (λ k. rw (k, gate_own p s f a ss l.1) refl)
+    (λ k. let e : nat_eq g.gate f.gate ≡ false = differs g.gate f.gate (λ q. not_eq n s k (a.gate n g l.0 q)) in rw (k, e) (gate_own p s f a ss l.1))
+gate_own p s f a (Command (Came c) ∷ ss) l = gate_own p s f a ss l.1
+gate_own p s f a (Command (ClearedBlocked n) ∷ ss) l = by_bool (nat_eq n s) (λ k. rw k (gate_own p s f a ss l.1)) (λ k. rw k (gate_own p s f a ss l.1))
+gate_own p s f a (Command (ClearedRxOf n) ∷ ss) l = by_bool (nat_eq n f.gate) (λ k. rw (k, k, gate_own p s f a ss l.1) refl) (λ k. rw k (gate_own p s f a ss l.1))
+gate_own p s f a (Command (ClearedOctetsOf n) ∷ ss) l = by_bool (nat_eq n f.gate) (λ k. rw (k, k, gate_own p s f a ss l.1) refl) (λ k. rw k (gate_own p s f a ss l.1))
+gate_own p s f a (Command (ClearedRedOf n) ∷ ss) l = by_bool (is_meter f.meter n) (λ k. rw k (gate_own p s f a ss l.1)) (λ k. rw k (gate_own p s f a ss l.1))
+
+is_meter_some : (o : Option ℕ) (m : ℕ) → is_meter o m ≡ true → o ≡ Some m
+is_meter_some None m h = cc
+is_meter_some (Some n) m h = ap Some (is_eq n m h)
+
+swapped : (m n : ℕ) → nat_eq n m ≡ true → nat_eq m n ≡ true
+swapped m n h = grind (arith, nat_tests)
+
+-- a command that names the meter is the filter's own, and another one is in no share of it
+command_own : (p : Plans) (s m n : ℕ) (f : FilterPlan) → f.meter ≡ Some m → (ss : List Step) → meter_share m (own_steps s f ss) ≡ meter_share m ss → meter_share m (own_steps s f (Command (ClearedRedOf n) ∷ ss)) ≡ meter_share m (Command (ClearedRedOf n) ∷ ss)
+command_own p s m n f e ss h = by_bool (nat_eq n m)
+    (λ k.
+    let named : is_meter f.meter n ≡ true = rw e (swapped m n k) in
+    rw (named, k, h) refl)
+    (λ k. by_bool (is_meter f.meter n)
+    (λ y. rw (y, k) h)
+    (λ y. rw (y, k) h))
+
+pub meter_own : (p : Plans) (s m : ℕ) (f : FilterPlan) → IsApart p s f → f.meter ≡ Some m → (ss : List Step) → AreListed p ss → meter_share m (own_steps s f ss) ≡ meter_share m ss
+meter_own p s m f a e [] l = refl
+meter_own p s m f a e (Unfiltered c ∷ ss) l = meter_own p s m f a e ss l.1
+meter_own p s m f a e (Judged c n g v ∷ ss) l = by_bool (nat_eq n s)
+    (λ k. rw (k, meter_own p s m f a e ss l.1) refl)
+    (λ k. let z : is_meter g.meter m ≡ false = by_bool (is_meter g.meter m) (λ y. absurd (not_eq n s k (a.meter n m g e l.0 (is_meter_some g.meter m y)))) (λ y. y) in rw (k, z) (meter_own p s m f a e ss l.1))
+meter_own p s m f a e (Command (Came c) ∷ ss) l = meter_own p s m f a e ss l.1
+meter_own p s m f a e (Command (ClearedBlocked n) ∷ ss) l = by_bool (nat_eq n s) (λ k. rw k (meter_own p s m f a e ss l.1)) (λ k. rw k (meter_own p s m f a e ss l.1))
+meter_own p s m f a e (Command (ClearedRxOf n) ∷ ss) l = by_bool (nat_eq n f.gate) (λ k. rw k (meter_own p s m f a e ss l.1)) (λ k. rw k (meter_own p s m f a e ss l.1))
+meter_own p s m f a e (Command (ClearedOctetsOf n) ∷ ss) l = by_bool (nat_eq n f.gate) (λ k. rw k (meter_own p s m f a e ss l.1)) (λ k. rw k (meter_own p s m f a e ss l.1))
+meter_own p s m f a e (Command (ClearedRedOf n) ∷ ss) l = command_own p s m n f e ss (meter_own p s m f a e ss l.1)
+
+pub blocked_own : (s : ℕ) (f : FilterPlan) (ss : List Step) → is_blocked s (own_steps s f ss) ≡ is_blocked s ss
+blocked_own s f [] = refl
+blocked_own s f (Unfiltered c ∷ ss) = blocked_own s f ss
+blocked_own s f (Judged c n g v ∷ ss) = by_bool (nat_eq n s) (λ k. rw (k, k, blocked_own s f ss) refl) (λ k. rw (k) (blocked_own s f ss))
+blocked_own s f (Command (Came c) ∷ ss) = blocked_own s f ss
+blocked_own s f (Command (ClearedBlocked n) ∷ ss) = by_bool (nat_eq n s) (λ k. rw (k, k) refl) (λ k. rw (k) (blocked_own s f ss))
+blocked_own s f (Command (ClearedRxOf n) ∷ ss) = by_bool (nat_eq n f.gate) (λ k. rw k (blocked_own s f ss)) (λ k. rw k (blocked_own s f ss))
+blocked_own s f (Command (ClearedOctetsOf n) ∷ ss) = by_bool (nat_eq n f.gate) (λ k. rw k (blocked_own s f ss)) (λ k. rw k (blocked_own s f ss))
+blocked_own s f (Command (ClearedRedOf n) ∷ ss) = by_bool (is_meter f.meter n) (λ k. rw k (blocked_own s f ss)) (λ k. rw k (blocked_own s f ss))
+
+by_meter_own : (p : Plans) (s : ℕ) (f : FilterPlan) → IsApart p s f → (ss : List Step) → AreListed p ss → (c : Call) (ipv m : Option ℕ) → f.meter ≡ m → by_meter p (own_steps s f ss) c ipv m ≡ by_meter p ss c ipv m
+by_meter_own p s f a ss l c ipv None e = refl
+by_meter_own p s f a ss l c ipv (Some m) e = rw (meter_own p s m f a e ss l) refl
+
+by_answer_own : (p : Plans) (s : ℕ) (f : FilterPlan) → IsApart p s f → (ss : List Step) → AreListed p ss → (c : Call) (g : GateAnswer) → by_answer p (own_steps s f ss) c f g ≡ by_answer p ss c f g
+by_answer_own p s f a ss l c (gate.Through ipv) = by_meter_own p s f a ss l c ipv f.meter refl
+by_answer_own p s f a ss l c gate.Closed = refl
+by_answer_own p s f a ss l c gate.ShutByRx = refl
+by_answer_own p s f a ss l c gate.ShutByOctets = refl
+by_answer_own p s f a ss l c gate.OctetsExceeded = refl
+
+-- a verdict of the filter needs only its own steps
+pub verdict_own : (p : Plans) (s : ℕ) (f : FilterPlan) → IsApart p s f → (ss : List Step) → AreListed p ss → (c : Call) → verdict_of p (own_steps s f ss) c s f ≡ verdict_of p ss c s f
+verdict_own p s f a ss l c = rw (blocked_own s f ss, gate_own p s f a ss l) (ap (λ (v : Verdict). if f.block_oversize && is_blocked s ss then verdict.Blocked else if is_above f.max_sdu c.sdu then verdict.Oversize else v) (by_answer_own p s f a ss l c (gate_answer p ss c f.gate)))
+
+listed_own : (p : Plans) (s : ℕ) (f : FilterPlan) (ss : List Step) → AreListed p ss → AreListed p (own_steps s f ss)
+listed_own p s f [] l = tt
+listed_own p s f (x ∷ xs) l = by_bool (is_own_step s f x) (λ k. rw k (l.0, listed_own p s f xs l.1)) (λ k. rw k (listed_own p s f xs l.1))
+
+none_none : {A : Type 0} (x : A) → Some x ≡ None → ⊥
+none_none x h = cc
+
+came_own : (p : Plans) (s : ℕ) (f : FilterPlan) → IsApart p s f → (c : Call) (es : List Event) → told p (own_events p s f es) ≡ own_steps s f (told p es) → (o : Option (ℕ × FilterPlan)) → flow p.filters c ≡ o → told p (own_events p s f (Came c ∷ es)) ≡ own_steps s f (told p (Came c ∷ es))
+came_own p s f a c es ih None e = rw e ih
+came_own p s f a c es ih (Some x) e = by_bool (nat_eq x.0 s)
+    (λ k.
+    let same : x.0 ≡ s = is_eq x.0 s k in
+    let there : In x p.filters = flow_listed p.filters c x e in
+    let plan : f ≡ x.1 = a.one x.1 (subst (λ (n : ℕ). In (n, x.1) p.filters) same there) in
+    let v : verdict_of p (own_steps s f (told p es)) c s f ≡ verdict_of p (told p es) c s f = verdict_own p s f a (told p es) (told_listed p es) c in
+    let both : (n : ℕ) (g : FilterPlan) → n ≡ s → f ≡ g → verdict_of p (own_steps s f (told p es)) c n g ≡ verdict_of p (told p es) c n g = λ n g q r. rw (q, ← r) v in
+    rw (e, k, ih, e, both x.0 x.1 same plan) refl)
+    (λ k. rw (e, k) ih)
+
+-- what came of a filter's own events is its part of what came of all
+pub told_own : (p : Plans) (s : ℕ) (f : FilterPlan) → IsApart p s f → (es : List Event) → told p (own_events p s f es) ≡ own_steps s f (told p es)
+told_own p s f a [] = refl
+told_own p s f a (Came c ∷ es) = came_own p s f a c es (told_own p s f a es) (flow p.filters c) refl
+told_own p s f a (ClearedBlocked n ∷ es) = by_bool (nat_eq n s) (λ k. rw (k, told_own p s f a es) refl) (λ k. rw k (told_own p s f a es))
+told_own p s f a (ClearedRxOf n ∷ es) = by_bool (nat_eq n f.gate) (λ k. rw (k, told_own p s f a es) refl) (λ k. rw k (told_own p s f a es))
+told_own p s f a (ClearedOctetsOf n ∷ es) = by_bool (nat_eq n f.gate) (λ k. rw (k, told_own p s f a es) refl) (λ k. rw k (told_own p s f a es))
+told_own p s f a (ClearedRedOf n ∷ es) = by_bool (is_meter f.meter n) (λ k. rw (k, told_own p s f a es) refl) (λ k. rw k (told_own p s f a es))

@@ -1,0 +1,67 @@
+use Rattle.std.proofs.Common.{sym, subst, refl}
+use Rattle.std.specs.Prelude.{IsTrue}
+use Rattle.bridge_filter.specs.Verdicts.{told}
+use Rattle.bridge_filter.specs.Standing.{PoliceState, Stands, has_instance}
+use Rattle.bridge_filter.specs.Steps.{plans_in}
+use Rattle.bridge_filter.proofs.Cleared.{sound_filters, sound_gates, sound_meters, filter_there, gate_there_rx, gate_there_octets, meter_there_red, stands_blocked, stands_rx, stands_octets, stands_red}
+use Rattle.bridge_filter.proofs.police.Police.clear.Goals as goal
+
+pub clear_blocked-requires : goal.clear_blocked-requires
+clear_blocked-requires g c = filter_there c.args.clear c.args.number _ c.self.inside.filters.entries c.in-Blocked.is refl (subst (λ (z : PoliceState _). IsTrue (has_instance c.args.clear c.args.number z)) (sym c.self.view_is) c.requires)
+
+pub invariant_of-self : goal.invariant_of-self
+invariant_of-self g c =
+    let i = c.self.inside in
+    let r = c.clear_blocked in
+    sound_filters i.filters.entries r.new.filters.entries i.firsts i.gates.entries i.meters.entries i.calls i.earliest r.ensures.plans r.ensures.instances c.self.invariant
+
+pub clear_rx-requires : goal.clear_rx-requires
+clear_rx-requires g c = gate_there_rx c.args.clear c.args.number _ c.in-Rx.is (subst (λ (z : PoliceState _). IsTrue (has_instance c.args.clear c.args.number z)) (sym c.self.view_is) c.requires)
+
+pub invariant_of-self-in-Rx : goal.invariant_of-self-in-Rx
+invariant_of-self-in-Rx g c =
+    let i = c.self.inside in
+    let r = c.clear_rx in
+    sound_gates i.filters.entries i.firsts i.gates.entries r.new.gates.entries i.meters.entries i.calls i.earliest r.ensures.same r.ensures.before c.self.invariant
+
+pub clear_octets-requires : goal.clear_octets-requires
+clear_octets-requires g c = gate_there_octets c.args.clear c.args.number _ c.in-Octets.is (subst (λ (z : PoliceState _). IsTrue (has_instance c.args.clear c.args.number z)) (sym c.self.view_is) c.requires)
+
+pub invariant_of-self-in-Octets : goal.invariant_of-self-in-Octets
+invariant_of-self-in-Octets g c =
+    let i = c.self.inside in
+    let r = c.clear_octets in
+    sound_gates i.filters.entries i.firsts i.gates.entries r.new.gates.entries i.meters.entries i.calls i.earliest r.ensures.same r.ensures.before c.self.invariant
+
+pub clear_red-requires : goal.clear_red-requires
+clear_red-requires g c = meter_there_red c.args.clear c.args.number _ c.in-Red.is (subst (λ (z : PoliceState _). IsTrue (has_instance c.args.clear c.args.number z)) (sym c.self.view_is) c.requires)
+
+pub invariant_of-self-in-Red : goal.invariant_of-self-in-Red
+invariant_of-self-in-Red g c =
+    let i = c.self.inside in
+    let r = c.clear_red in
+    sound_meters i.filters.entries i.firsts i.gates.entries i.meters.entries r.new.meters.entries i.calls i.earliest r.ensures.same r.ensures.before c.self.invariant
+
+pub returns-in-Blocked-clause-stands : goal.returns-in-Blocked-clause-stands
+returns-in-Blocked-clause-stands g c = λ p es stands.
+    let r = c.clear_blocked in
+    let st = subst (λ (z : PoliceState _). Stands p z es) (sym c.self.view_is) stands in
+    stands_blocked p _ es c.args.clear c.args.number (plans_in r.new.filters.entries) r.new.filters.entries c.in-Blocked.is r.ensures.plans st (r.ensures.kept (told p es))
+
+pub returns-in-Rx-clause-stands : goal.returns-in-Rx-clause-stands
+returns-in-Rx-clause-stands g c = λ p es stands.
+    let r = c.clear_rx in
+    let st = subst (λ (z : PoliceState _). Stands p z es) (sym c.self.view_is) stands in
+    stands_rx p _ es c.args.clear c.args.number r.new.gates.entries c.in-Rx.is st r.ensures.stand
+
+pub returns-in-Octets-clause-stands : goal.returns-in-Octets-clause-stands
+returns-in-Octets-clause-stands g c = λ p es stands.
+    let r = c.clear_octets in
+    let st = subst (λ (z : PoliceState _). Stands p z es) (sym c.self.view_is) stands in
+    stands_octets p _ es c.args.clear c.args.number r.new.gates.entries c.in-Octets.is st r.ensures.stand
+
+pub returns-in-Red-clause-stands : goal.returns-in-Red-clause-stands
+returns-in-Red-clause-stands g c = λ p es stands.
+    let r = c.clear_red in
+    let st = subst (λ (z : PoliceState _). Stands p z es) (sym c.self.view_is) stands in
+    stands_red p _ es c.args.clear c.args.number r.new.meters.entries c.in-Red.is st r.ensures.stand

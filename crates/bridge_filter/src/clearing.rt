@@ -1,0 +1,69 @@
+//! Commands that clear a flag.
+
+ghost use Rattle.std.specs.Prelude.{◌≡◌, ℕ, ◌<◌, nat_eq, IsSome, false, List, ◌∷◌, if◌then◌else◌};
+ghost use Rattle.std.specs.Map.{lookup};
+ghost use Rattle.bridge_meter.specs.declared.MeterPlan.{MeterPlan};
+ghost use Rattle.bridge_meter.specs.Colours as colours;
+ghost use Rattle.bridge_gate.specs.Gates.{GateRules, GateEvent, ClearedRx, ClearedOctets};
+ghost use Rattle.bridge_filter.specs.Plans.{KeepsNumbers};
+ghost use Rattle.bridge_filter.specs.Verdicts.{Step, Command, ClearedBlocked};
+ghost use Rattle.bridge_filter.specs.Standing.{GatesStand, MetersStand, AreKept};
+ghost use Rattle.bridge_filter.specs.Steps.{GatesBefore, MetersBefore, InstancesStay, plans_in};
+
+use crate::filter::Filter;
+use crate::instances::Numbered;
+use bridge_gate::StreamGate;
+use bridge_meter::Meter;
+use std::alloc::Allocator;
+
+/// Clears the blocked flag of the filter with that number.
+pub(crate) fn clear_blocked<A: Allocator + Copy>(filters: &mut Numbered<Filter, A>, number: u32)
+    requires { IsSome (lookup (nat_eq number) filters.old.entries) }
+    ensures kept { (ss : List Step) → AreKept filters.old.entries ss → AreKept filters.new.entries (Command (ClearedBlocked number) ∷ ss) }
+    ensures plans { plans_in filters.new.entries ≡ plans_in filters.old.entries }
+    ensures instances { InstancesStay filters.old.entries filters.new.entries }
+{
+    match filters.get_mut(&number) {
+        Some(filter) => filter.blocked = false,
+        None => unreachable!(),
+    }
+}
+
+/// Clears the receive flag of the gate with that number.
+pub(crate) fn clear_rx<A: Allocator + Copy>(gates: &mut Numbered<StreamGate<A>, A>, number: u32)
+    requires { IsSome (lookup (nat_eq number) gates.old.entries) }
+    ensures stand { (rules : ℕ → GateRules) (share : ℕ → List GateEvent) → GatesStand rules gates.old.entries share → GatesStand rules gates.new.entries (λ n. if nat_eq number n then ClearedRx ∷ share n else share n) }
+    ensures before { (t : ℕ) → GatesBefore gates.old.entries t → GatesBefore gates.new.entries t }
+    ensures same { KeepsNumbers gates.old.entries gates.new.entries }
+{
+    match gates.get_mut(&number) {
+        Some(gate) => gate.clear_rx(),
+        None => unreachable!(),
+    }
+}
+
+/// Clears the octets flag of the gate with that number.
+pub(crate) fn clear_octets<A: Allocator + Copy>(gates: &mut Numbered<StreamGate<A>, A>, number: u32)
+    requires { IsSome (lookup (nat_eq number) gates.old.entries) }
+    ensures stand { (rules : ℕ → GateRules) (share : ℕ → List GateEvent) → GatesStand rules gates.old.entries share → GatesStand rules gates.new.entries (λ n. if nat_eq number n then ClearedOctets ∷ share n else share n) }
+    ensures before { (t : ℕ) → GatesBefore gates.old.entries t → GatesBefore gates.new.entries t }
+    ensures same { KeepsNumbers gates.old.entries gates.new.entries }
+{
+    match gates.get_mut(&number) {
+        Some(gate) => gate.clear_octets(),
+        None => unreachable!(),
+    }
+}
+
+/// Clears the red flag of the meter with that number.
+pub(crate) fn clear_red<A: Allocator + Copy>(meters: &mut Numbered<Meter, A>, number: u32)
+    requires { IsSome (lookup (nat_eq number) meters.old.entries) }
+    ensures stand { (plans : ℕ → MeterPlan) (share : ℕ → List colours.MeterEvent) → MetersStand plans meters.old.entries share → MetersStand plans meters.new.entries (λ n. if nat_eq number n then colours.Cleared ∷ share n else share n) }
+    ensures before { (t : ℕ) → MetersBefore meters.old.entries t → MetersBefore meters.new.entries t }
+    ensures same { KeepsNumbers meters.old.entries meters.new.entries }
+{
+    match meters.get_mut(&number) {
+        Some(meter) => meter.clear_red(),
+        None => unreachable!(),
+    }
+}
