@@ -1,5 +1,4 @@
-ghost use Rattle.std.specs.Prelude.{◌≡◌, ℕ, ◌+◌, ◌*◌, ◌^◌, ◌<◌, ◌≤◌, pos, ◌≤ℤ◌, ℤ, Option, Some, length, List, ◌∷◌, [], None, IsTrue, ◌↔◌, IfOk, IfErr, unwrap_or};
-ghost use Rattle.bridge_cycle.specs.declared.timeline.Turn.{Turn};
+ghost use Rattle.std.specs.Prelude.{◌≡◌, ◌<◌, ◌≤◌, Some, None, length, IsTrue, ◌↔◌, IfOk, IfErr, unwrap_or};
 ghost use Rattle.bridge_cycle.specs.declared.cyclic.ListFault.TheVariants as fault;
 ghost use Rattle.bridge_cycle.specs.Cyclic as cyclic;
 ghost use Rattle.bridge_cycle.specs.Ends as running;
@@ -113,8 +112,8 @@ impl<S: Copy, A: Allocator + Copy> CyclicList<S, A> {
         Ok(CyclicList {
             base: self.base,
             cycle: self.cycle,
-            entries: self.entries.iter().copied().collect(alloc)?,
-            ends: self.ends.iter().copied().collect(alloc)?,
+            entries: Vec::from_slice(alloc, &self.entries)?,
+            ends: Vec::from_slice(alloc, &self.ends)?,
         })
     }
 

@@ -1,9 +1,9 @@
+#![tactic(auto)]
 //! States that change by the clock: lists of states that repeat in cycles, and the moments at which
 //! a class of frames fits.
 //!
 //! A gate control list (IEEE 802.1Q-2018 8.6.8) and the list of a stream gate (8.6.5) are both a
 //! `CyclicList`.
-#![tactic(auto)]
 
 pub mod cyclic;
 pub mod fit;

@@ -1,8 +1,7 @@
-ghost use Rattle.std.specs.Prelude.{◌≡◌, ℕ, ◌+◌, ◌*◌, ◌^◌, ◌<◌, ◌≤◌};
+ghost use Rattle.std.specs.Prelude.{◌*◌, ◌<◌};
 ghost use Rattle.bridge_cycle.specs.Cyclic.{turn_at};
-ghost use Rattle.bridge_cycle.specs.Moments.{Fits};
 ghost use Rattle.bridge_cycle.specs.Opens.{opens_in};
-ghost use Rattle.bridge_cycle.specs.Runs.{IsLongestRun, IsLongestBefore, IsShorter};
+ghost use Rattle.bridge_cycle.specs.Runs.{FitsSoon, IsLongestRun, IsLongestBefore, IsShorter};
 
 use crate::cyclic::CyclicList;
 use crate::timeline::Timeline;
@@ -19,13 +18,15 @@ pub enum Run {
     Always,
 }
 
-/// The longest time for which a list keeps `class` open without a break, also over the end of the cycle.
+/// The longest time for which a list keeps `class` open without a break, also over the end of the
+/// cycle. A frame that occupies the link for no longer fits at most a second after any moment.
 ///
 /// Bit c of a state says that class c is open.
 pub fn longest_run<A: Allocator + Copy>(list: &CyclicList<u8, A>, class: u8) -> Run
     requires { class < 8 }
     ensures longest { IsLongestRun (λ v. opens_in (turn_at list.now v) class) result }
     ensures shorter { IsShorter result list.now.cycle }
+    ensures soon { FitsSoon (λ v. opens_in (turn_at list.now v) class) result }
 {
     let cycle = list.cycle();
     let longest = longest_open(list, class);

@@ -3,6 +3,10 @@
 
 #[cfg(test)]
 mod capture;
+#[cfg(test)]
+mod cycle;
+#[cfg(test)]
+mod gate;
 pub mod refusing;
 #[cfg(test)]
 mod text;

@@ -1,0 +1,2 @@
+pub mod ScheduleLaws
+pub mod Asks
