@@ -6,7 +6,15 @@ mod capture;
 #[cfg(test)]
 mod cycle;
 #[cfg(test)]
+mod frame;
+#[cfg(test)]
 mod gate;
+#[cfg(test)]
+mod port;
+#[cfg(test)]
+mod program;
 pub mod refusing;
 #[cfg(test)]
 mod text;
+#[cfg(test)]
+mod wire;
