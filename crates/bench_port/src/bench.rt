@@ -17,21 +17,27 @@ pub struct Tally {
     pub time: Duration,
 }
 
-/// Offers a frame of 60 octets to a class at the least moment that an offer may have, and says whether it is queued.
+/// Offers a frame of 60 to 67 octets to a class at the least moment that an offer may have, and says whether it is
+/// queued.
 fn offer_one(port: &mut Port<u32, Global>, class: u8) -> bool {
     let t = port.earliest();
     if class >= 8 || t >= 4_000_000_000_000_000_000 || port.offered() >= 16_000_000 {
         return false;
     }
-    port.offer(t, class, Item { len: 60, load: 0 }).is_ok()
+    let len = 60 + u32::from(class);
+    port.offer(t, class, Item { len, load: len }).is_ok()
 }
 
-/// Makes the next start, and says of which class.
+/// Makes the next start, and says of which class, if the item is as it was offered.
 fn start_one(port: &mut Port<u32, Global>) -> Option<u8> {
     match port.next_start() {
         Some(_) => {
-            let (_, class) = port.start();
-            Some(class)
+            let (item, class) = port.start();
+            if item.len == item.load {
+                Some(class)
+            } else {
+                None
+            }
         }
         None => None,
     }
@@ -72,7 +78,7 @@ pub fn measure_starts(
     Ok(Tally { count, time })
 }
 
-/// Fills the queues of so many new ports.
+/// Fills the queues of so many new ports, and makes all their starts beside the clock.
 pub fn measure_offers(
     clock: &impl Clock,
     alloc: Global,
@@ -86,7 +92,11 @@ pub fn measure_offers(
         let begin = Instant::now(clock)?;
         let taken = fill(&mut port);
         time = time.saturating_add(begin.elapsed(clock)?);
-        count = count.saturating_add(taken);
+        for _ in 0..taken {
+            if start_one(&mut port).is_some() {
+                count = count.saturating_add(1);
+            }
+        }
     }
     Ok(Tally { count, time })
 }
