@@ -8,11 +8,19 @@ mod cycle;
 #[cfg(test)]
 mod filter;
 #[cfg(test)]
+mod frame;
+#[cfg(test)]
 mod gate;
 #[cfg(test)]
 mod ident;
 #[cfg(test)]
 mod meter;
+#[cfg(test)]
+mod port;
+#[cfg(test)]
+mod program;
 pub mod refusing;
 #[cfg(test)]
 mod text;
+#[cfg(test)]
+mod wire;

@@ -1,0 +1,102 @@
+//! What is measured.
+use anyhow::Result;
+use bridge_cycle::CyclicList;
+use bridge_frame::Speed;
+use bridge_port::{Item, Port};
+use std::alloc::Global;
+use std::rt::Clock;
+use std::time::{Duration, Instant};
+
+/// The frames that each queue holds.
+const ROOM: u16 = 64;
+
+/// How often something was done, and for how long.
+#[derive(Clone, Copy, Debug)]
+pub struct Tally {
+    pub count: u64,
+    pub time: Duration,
+}
+
+/// Offers a frame of 60 to 67 octets to a class at the least moment that an offer may have, and says whether it is
+/// queued.
+fn offer_one(port: &mut Port<u32, Global>, class: u8) -> bool {
+    let t = port.earliest();
+    if class >= 8 || t >= 4_000_000_000_000_000_000 || port.offered() >= 16_000_000 {
+        return false;
+    }
+    let len = 60 + u32::from(class);
+    port.offer(t, class, Item { len, load: len }).is_ok()
+}
+
+/// Makes the next start, and says of which class, if the item is as it was offered.
+fn start_one(port: &mut Port<u32, Global>) -> Option<u8> {
+    match port.next_start() {
+        Some(_) => {
+            let (item, class) = port.start();
+            if item.len == item.load {
+                Some(class)
+            } else {
+                None
+            }
+        }
+        None => None,
+    }
+}
+
+/// Fills the eight queues, and says how many frames they took.
+fn fill(port: &mut Port<u32, Global>) -> u64 {
+    let mut count = 0u64;
+    for _ in 0..ROOM {
+        for class in 0..8 {
+            if offer_one(port, class) {
+                count = count.saturating_add(1);
+            }
+        }
+    }
+    count
+}
+
+/// Asks for the next start and makes it, with eight full queues, and fills its place again.
+pub fn measure_starts(
+    clock: &impl Clock,
+    alloc: Global,
+    list: CyclicList<u8, Global>,
+    rounds: u64,
+) -> Result<Tally> {
+    let mut port = Port::new(alloc, Speed::Mbps1000, Some(list), [ROOM; 8])?;
+    fill(&mut port);
+    let mut count = 0;
+    let begin = Instant::now(clock)?;
+    for round in 0..rounds {
+        let Some(class) = start_one(&mut port) else {
+            break;
+        };
+        offer_one(&mut port, class);
+        count = round + 1;
+    }
+    let time = begin.elapsed(clock)?;
+    Ok(Tally { count, time })
+}
+
+/// Fills the queues of so many new ports, and makes all their starts beside the clock.
+pub fn measure_offers(
+    clock: &impl Clock,
+    alloc: Global,
+    list: &CyclicList<u8, Global>,
+    fills: u64,
+) -> Result<Tally> {
+    let mut count = 0u64;
+    let mut time = Duration::ZERO;
+    for _ in 0..fills {
+        let mut port = Port::new(alloc, Speed::Mbps1000, Some(list.copy(alloc)?), [ROOM; 8])?;
+        let begin = Instant::now(clock)?;
+        let taken = fill(&mut port);
+        time = time.saturating_add(begin.elapsed(clock)?);
+        for _ in 0..taken {
+            if start_one(&mut port).is_some() {
+                count = count.saturating_add(1);
+            }
+        }
+    }
+    Ok(Tally { count, time })
+}
