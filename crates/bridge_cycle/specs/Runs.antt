@@ -15,6 +15,10 @@ Allows Never occ = occ ≡ 0
 Allows (For r) occ = occ ≤ r
 Allows Always occ = Unit {0}
 
+-- what a run allows fits at most a second after any moment
+abbrev pub FitsSoon : (ℕ → Bool) → Run → Type 0
+FitsSoon opens run = (occ from : ℕ) → Allows run occ → (u : ℕ) × (from ≤ u) × (u ≤ from + 1000000000) × Fits opens occ u
+
 -- a run that ends is shorter than the cycle
 abbrev pub IsShorter : Run → ℕ → Type 0
 IsShorter (For r) cycle = r < cycle

@@ -1,5 +1,4 @@
-ghost use Rattle.std.specs.Prelude.{◌≡◌, ℕ, ◌+◌, ◌*◌, ◌^◌, ◌<◌, ◌≤◌, pos, ◌≤ℤ◌, ℤ, Option, Some, length, List, ◌∷◌, [], None, IsTrue, ◌↔◌, IfOk, IfErr, unwrap_or};
-ghost use Rattle.bridge_cycle.specs.declared.timeline.Turn.{Turn};
+ghost use Rattle.std.specs.Prelude.{◌≡◌, ◌<◌, ◌≤◌, Some, None, length, IsTrue, ◌↔◌, IfOk, IfErr, unwrap_or};
 ghost use Rattle.bridge_cycle.specs.declared.cyclic.ListFault.TheVariants as fault;
 ghost use Rattle.bridge_cycle.specs.Cyclic as cyclic;
 ghost use Rattle.bridge_cycle.specs.Ends as running;

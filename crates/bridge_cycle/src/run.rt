@@ -1,8 +1,7 @@
-ghost use Rattle.std.specs.Prelude.{◌≡◌, ℕ, ◌+◌, ◌*◌, ◌^◌, ◌<◌, ◌≤◌};
+ghost use Rattle.std.specs.Prelude.{◌*◌, ◌<◌};
 ghost use Rattle.bridge_cycle.specs.Cyclic.{turn_at};
-ghost use Rattle.bridge_cycle.specs.Moments.{Fits};
 ghost use Rattle.bridge_cycle.specs.Opens.{opens_in};
-ghost use Rattle.bridge_cycle.specs.Runs.{Allows, IsLongestRun, IsLongestBefore, IsShorter};
+ghost use Rattle.bridge_cycle.specs.Runs.{FitsSoon, IsLongestRun, IsLongestBefore, IsShorter};
 
 use crate::cyclic::CyclicList;
 use crate::timeline::Timeline;
@@ -27,7 +26,7 @@ pub fn longest_run<A: Allocator + Copy>(list: &CyclicList<u8, A>, class: u8) -> 
     requires { class < 8 }
     ensures longest { IsLongestRun (λ v. opens_in (turn_at list.now v) class) result }
     ensures shorter { IsShorter result list.now.cycle }
-    ensures soon { (occ from : ℕ) → Allows result occ → (u : ℕ) × (from ≤ u) × (u ≤ from + 1_000_000_000) × Fits (λ v. opens_in (turn_at list.now v) class) occ u }
+    ensures soon { FitsSoon (λ v. opens_in (turn_at list.now v) class) result }
 {
     let cycle = list.cycle();
     let longest = longest_open(list, class);

@@ -39,14 +39,28 @@ pub trait Timeline {
     ghost is_there: { (a : Self) (t : ℕ) → is_lawful a → (x : Turn Self.State) × (turn_at a t ≡ Some x) };
 
     /// The turn that has a moment doesn't start after it.
-    ghost begins: { (a : Self) (t : ℕ) (x : Turn Self.State) → is_lawful a → turn_at a t ≡ Some x → x.start ≤ℤ pos t };
+    ghost begins: { (a : Self) (t : ℕ) (x : Turn Self.State)
+        → is_lawful a
+        → turn_at a t ≡ Some x
+        → x.start ≤ℤ pos t };
 
     /// The turn that has a moment ends after it.
-    ghost goes_on: { (a : Self) (t : ℕ) (x : Turn Self.State) → is_lawful a → turn_at a t ≡ Some x → t < x.end };
+    ghost goes_on: { (a : Self) (t : ℕ) (x : Turn Self.State)
+        → is_lawful a
+        → turn_at a t ≡ Some x
+        → t < x.end };
 
     /// Every moment of a turn has that same turn.
-    ghost same: { (a : Self) (t u : ℕ) (x : Turn Self.State) → is_lawful a → turn_at a t ≡ Some x → x.start ≤ℤ pos u → u < x.end → turn_at a u ≡ Some x };
+    ghost same: { (a : Self) (t u : ℕ) (x : Turn Self.State)
+        → is_lawful a
+        → turn_at a t ≡ Some x
+        → x.start ≤ℤ pos u
+        → u < x.end
+        → turn_at a u ≡ Some x };
 
     /// A turn ends within a cycle of each of its moments.
-    ghost soon: { (a : Self) (t : ℕ) (x : Turn Self.State) → is_lawful a → turn_at a t ≡ Some x → x.end ≤ t + cycle_of a };
+    ghost soon: { (a : Self) (t : ℕ) (x : Turn Self.State)
+        → is_lawful a
+        → turn_at a t ≡ Some x
+        → x.end ≤ t + cycle_of a };
 }

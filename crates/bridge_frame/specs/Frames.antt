@@ -1,5 +1,5 @@
 -- The head of an Ethernet frame with an optional C-VLAN tag (IEEE 802.1Q-2018, clause 9).
-use Rattle.std.specs.Prelude.{ℕ, Bool, true, false, ◌+◌, ◌-◌, ◌*◌, ◌/◌, ◌%◌, ◌&&◌, not, nat_lt, nat_le, nat_eq, List, length, take, drop, slice_index, slice_set, Option, Some, None, Result, Ok, Err, if◌then◌else◌}
+use Rattle.std.specs.Prelude.{ℕ, Bool, ◌+◌, ◌-◌, ◌*◌, ◌/◌, ◌%◌, ◌&&◌, nat_lt, nat_le, nat_eq, List, length, take, drop, slice_index, slice_set, Some, None, Result, Ok, Err, if◌then◌else◌}
 use Rattle.bridge_frame.specs.declared.Head.{Head}
 use Rattle.bridge_frame.specs.declared.Tag.{Tag}
 use Rattle.bridge_frame.specs.declared.FrameFault.{FrameFault}

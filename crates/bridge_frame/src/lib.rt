@@ -2,7 +2,7 @@
 //! Ethernet frames as a time-aware bridge sees them: their heads (IEEE 802.1Q-2018, clause 9), the time for which
 //! they occupy a link, and the drop eligible indication. Nothing here takes memory.
 
-ghost use Rattle.std.specs.Prelude.{◌≡◌, ◌≤◌, ◌<◌, length};
+ghost use Rattle.std.specs.Prelude.{◌≡◌, ◌≤◌, ◌<◌, length, OnOk};
 ghost use Rattle.bridge_frame.specs.Frames.{drop_eligible, has_tag, head, is_tagged, tag_in};
 ghost use Rattle.bridge_frame.specs.Link.{occupied, speed_of};
 
@@ -94,7 +94,8 @@ fn carries_tag(octets: &[u8]) -> bool
 pub fn parse(octets: &[u8], len: u32) -> Result<Head, FrameFault>
     requires captured { length octets.now ≤ 262144 }
     requires original { length octets.now ≤ len }
-    ensures { result ≡ head octets.now len }
+    ensures exact { result ≡ head octets.now len }
+    ensures short { OnOk result (len ≤ 9216) }
 {
     if octets.len() < 14 {
         return Err(FrameFault::TooShort);
@@ -136,6 +137,7 @@ pub fn parse(octets: &[u8], len: u32) -> Result<Head, FrameFault>
 pub fn mark_drop_eligible(octets: &mut [u8]) -> bool
     ensures tagged { result ≡ has_tag octets.old }
     ensures marked { octets.new ≡ drop_eligible octets.old }
+    ensures kept { length octets.new ≡ length octets.old }
 {
     if octets.len() < 18 || !carries_tag(octets) {
         return false;

@@ -69,8 +69,12 @@ impl<A: Allocator + Copy> StreamGate<A> {
     pub fn ask(&mut self, t: u64, sdu: u32) -> GateAnswer
         requires time { self.old.earliest ≤ t }
         requires range { t < 4_000_000_000_000_000_000 }
-        ensures stands { (r : GateRules) (es : List GateEvent) → StandsFor r self.old es → StandsFor r self.new (Asked t sdu ∷ es) }
-        ensures answer { (r : GateRules) (es : List GateEvent) → StandsFor r self.old es → result ≡ answer r (steps r es) t sdu }
+        ensures stands { (r : GateRules) (es : List GateEvent)
+            → StandsFor r self.old es
+            → StandsFor r self.new (Asked t sdu ∷ es) }
+        ensures answer { (r : GateRules) (es : List GateEvent)
+            → StandsFor r self.old es
+            → result ≡ answer r (steps r es) t sdu }
         ensures priority { (ipv : ℕ) → result ≡ gate.Through (Some ipv) → ipv ≤ 7 }
         ensures plan { self.new.plan ≡ self.old.plan }
         ensures earliest { self.new.earliest ≡ t }
@@ -81,7 +85,9 @@ impl<A: Allocator + Copy> StreamGate<A> {
 
     /// Clears the receive flag.
     pub fn clear_rx(&mut self)
-        ensures stands { (r : GateRules) (es : List GateEvent) → StandsFor r self.old es → StandsFor r self.new (ClearedRx ∷ es) }
+        ensures stands { (r : GateRules) (es : List GateEvent)
+            → StandsFor r self.old es
+            → StandsFor r self.new (ClearedRx ∷ es) }
         ensures plan { self.new.plan ≡ self.old.plan }
         ensures earliest { self.new.earliest ≡ self.old.earliest }
     {
@@ -90,7 +96,9 @@ impl<A: Allocator + Copy> StreamGate<A> {
 
     /// Clears the octets flag. The octets used in the turn stay.
     pub fn clear_octets(&mut self)
-        ensures stands { (r : GateRules) (es : List GateEvent) → StandsFor r self.old es → StandsFor r self.new (ClearedOctets ∷ es) }
+        ensures stands { (r : GateRules) (es : List GateEvent)
+            → StandsFor r self.old es
+            → StandsFor r self.new (ClearedOctets ∷ es) }
         ensures plan { self.new.plan ≡ self.old.plan }
         ensures earliest { self.new.earliest ≡ self.old.earliest }
     {
@@ -99,8 +107,12 @@ impl<A: Allocator + Copy> StreamGate<A> {
 
     /// The receive flag and the octets flag.
     pub fn flags(&self) -> (bool, bool)
-        ensures rx { (r : GateRules) (es : List GateEvent) → StandsFor r self.now es → result.0 ≡ r.shut_on_rx && is_shut_by_rx (steps r es) }
-        ensures octets { (r : GateRules) (es : List GateEvent) → StandsFor r self.now es → result.1 ≡ r.shut_on_octets && is_shut_by_octets (steps r es) }
+        ensures rx { (r : GateRules) (es : List GateEvent)
+            → StandsFor r self.now es
+            → result.0 ≡ r.shut_on_rx && is_shut_by_rx (steps r es) }
+        ensures octets { (r : GateRules) (es : List GateEvent)
+            → StandsFor r self.now es
+            → result.1 ≡ r.shut_on_octets && is_shut_by_octets (steps r es) }
     {
         (self.rx, self.octets)
     }
@@ -108,7 +120,9 @@ impl<A: Allocator + Copy> StreamGate<A> {
     /// The least moment at which a frame may still come, in ns: that of the last one, 0 before any.
     pub fn earliest(&self) -> u64
         ensures earliest { result ≡ self.now.earliest }
-        ensures last { (r : GateRules) (es : List GateEvent) → StandsFor r self.now es → result ≡ last_asked es }
+        ensures last { (r : GateRules) (es : List GateEvent)
+            → StandsFor r self.now es
+            → result ≡ last_asked es }
     {
         self.earliest
     }
@@ -142,8 +156,13 @@ impl<A: Allocator + Copy> StreamGate<A> {
 
     /// The answer in a turn, where `total` octets go through with this frame.
     fn reply(&self, turn: &Turn<GateEntry>, total: u64) -> GateAnswer
-        ensures reply { (sdu : ℕ) → total ≡ count_in self.now turn.now.start + sdu → result ≡ reply self.now turn.now sdu }
-        ensures few { (ipv : Option ℕ) → result ≡ gate.Through ipv → IsSome turn.now.state.octets → total < 2 ^ 32 }
+        ensures reply { (sdu : ℕ)
+            → total ≡ count_in self.now turn.now.start + sdu
+            → result ≡ reply self.now turn.now sdu }
+        ensures few { (ipv : Option ℕ)
+            → result ≡ gate.Through ipv
+            → IsSome turn.now.state.octets
+            → total < 2 ^ 32 }
     {
         if self.rx {
             return GateAnswer::ShutByRx;

@@ -2,6 +2,8 @@
 //! The worked examples of the bridge, as tests on the public calls of its parts.
 
 #[cfg(test)]
+mod capture;
+#[cfg(test)]
 mod cycle;
 #[cfg(test)]
 mod filter;
@@ -12,3 +14,5 @@ mod ident;
 #[cfg(test)]
 mod meter;
 pub mod refusing;
+#[cfg(test)]
+mod text;

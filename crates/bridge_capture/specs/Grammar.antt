@@ -1,0 +1,153 @@
+-- The classic capture file, by cases on its octets.
+use Rattle.std.specs.Prelude.{◌≡◌, ℕ, ◌+◌, ◌*◌, ◌^◌, List, [], ◌∷◌, length, take, drop, Option, Some, None, Result, Ok, Err, nat_lt, nat_le, ◌==◌, if◌then◌else◌}
+use Rattle.std.specs.Int.{w16, w32, from_be_bytes, from_le_bytes}
+use Rattle.bridge_capture.specs.declared.form.Order.{Order}
+use Rattle.bridge_capture.specs.declared.form.Order.TheVariants.{Little, Big}
+use Rattle.bridge_capture.specs.declared.form.Unit.{Unit as FractionUnit}
+use Rattle.bridge_capture.specs.declared.form.Unit.TheVariants.{Micro, Nano}
+use Rattle.bridge_capture.specs.declared.form.Form.{Form}
+use Rattle.bridge_capture.specs.declared.fault.CaptureFault.{CaptureFault}
+use Rattle.bridge_capture.specs.declared.fault.CaptureFault.TheVariants.{BadMagic, BadVersion, BadLinkType, HeaderCut, RecordCut, LengthsCross, RecordTooLarge, TimeBack, TimeTooLate, TooManyRecords}
+
+-- ---- words
+
+-- so many of the octets, from this place on
+abbrev pub octets_at : ℕ → ℕ → List ℕ → List ℕ
+octets_at from count octets = take count (drop from octets)
+
+-- four octets as a word
+abbrev pub word32 : Order → List ℕ → ℕ
+word32 Little octets = from_le_bytes w32 octets
+word32 Big octets = from_be_bytes w32 octets
+
+-- two octets as a word
+abbrev pub word16 : Order → List ℕ → ℕ
+word16 Little octets = from_le_bytes w16 octets
+word16 Big octets = from_be_bytes w16 octets
+
+-- the nanoseconds in one unit of a fraction
+abbrev pub nanoseconds : FractionUnit → ℕ
+nanoseconds Micro = 1000
+nanoseconds Nano = 1
+
+-- ---- the header
+
+-- what a magic shows, by its value in little order
+abbrev pub form_of_magic : ℕ → Option Form
+form_of_magic magic =
+    if magic == 0xA1B23C4D then Some (record { order = Little; unit = Nano })
+    else if magic == 0xA1B2C3D4 then Some (record { order = Little; unit = Micro })
+    else if magic == 0x4D3CB2A1 then Some (record { order = Big; unit = Nano })
+    else if magic == 0xD4C3B2A1 then Some (record { order = Big; unit = Micro })
+    else None
+
+-- the form of a header whose magic shows this, or its first fault
+abbrev pub judged_header : Option Form → List ℕ → Result Form CaptureFault
+judged_header None octets = Err BadMagic
+judged_header (Some form) octets =
+    if (word16 form.order (octets_at 4 2 octets) == 2) then
+    (if (word16 form.order (octets_at 6 2 octets) == 4) then
+    (if (word32 form.order (octets_at 20 4 octets) == 1) then Ok form else Err BadLinkType)
+    else Err BadVersion)
+    else Err BadVersion
+
+-- the form that the header of a text shows, or its first fault
+unfoldable pub header_of : List ℕ → Result Form CaptureFault
+header_of text =
+    if nat_lt (length text) 24 then Err HeaderCut
+    else judged_header (form_of_magic (from_le_bytes w32 (take 4 text))) text
+
+-- ---- records
+
+-- a captured frame: when it was received, in ns, the length that it had on the link, and the octets of it that were captured
+pub record Captured : Type 0 where
+  pub time : ℕ
+  pub len : ℕ
+  pub octets : List ℕ
+
+-- where a record may stand: its number, and the time of the record before it
+pub record Place : Type 0 where
+  pub number : ℕ
+  pub earliest : ℕ
+
+-- where the first record stands
+abbrev pub first_place : Place
+first_place = record { number = 1; earliest = 0 }
+
+-- where the next record stands
+abbrev pub after : Place → Captured → Place
+after place captured = record { number = place.number + 1; earliest = captured.time }
+
+-- what stands at a place: nothing, a fault, or a record with the octets behind it
+pub data Front : Type 0 where
+  Nothing : Front
+  Fault : CaptureFault → Front
+  Record : Captured → List ℕ → Front
+
+-- the first two words of a record, as nanoseconds
+abbrev pub time_of : Form → List ℕ → ℕ
+time_of form octets = word32 form.order (octets_at 0 4 octets) * 10 ^ 9 + word32 form.order (octets_at 4 4 octets) * nanoseconds form.unit
+
+-- the third word of a record, its captured length
+abbrev pub captured_of : Form → List ℕ → ℕ
+captured_of form octets = word32 form.order (octets_at 8 4 octets)
+
+-- the fourth word of a record, its original length
+abbrev pub original_of : Form → List ℕ → ℕ
+original_of form octets = word32 form.order (octets_at 12 4 octets)
+
+-- the first fault of a record's words
+abbrev pub head_fault : Place → ℕ → ℕ → ℕ → Option CaptureFault
+head_fault place time captured original =
+    if nat_lt 262144 captured then Some (RecordTooLarge place.number)
+    else if nat_lt original captured then Some (LengthsCross place.number)
+    else if nat_le (4 * 10 ^ 18) time then Some (TimeTooLate place.number)
+    else if nat_lt time place.earliest then Some (TimeBack place.number)
+    else None
+
+-- a record whose words have this fault, or none
+abbrev pub record_with_head : Form → Place → List ℕ → Option CaptureFault → Front
+record_with_head form place octets (Some fault) = Fault fault
+record_with_head form place octets None =
+    if nat_lt (length octets) (16 + captured_of form octets) then Fault (RecordCut place.number)
+    else Record (record { time = time_of form octets; len = original_of form octets; octets = octets_at 16 (captured_of form octets) octets }) (drop (16 + captured_of form octets) octets)
+
+-- what stands at this place, at the front of these octets
+unfoldable pub front_of : Form → Place → List ℕ → Front
+front_of form place octets =
+    if length octets == 0 then Nothing
+    else if nat_lt 1000000 place.number then Fault TooManyRecords
+    else if nat_lt (length octets) 16 then Fault (RecordCut place.number)
+    else record_with_head form place octets (head_fault place (time_of form octets) (captured_of form octets) (original_of form octets))
+
+-- ---- a whole text
+
+-- how a text ends
+pub data Ending : Type 0 where
+  AtEnd : Ending
+  AtFault : CaptureFault → Ending
+
+-- what stands here ends the text so
+abbrev pub EndsWith : Front → Ending → Type 0
+EndsWith Nothing ending = ending ≡ AtEnd
+EndsWith (Fault fault) ending = ending ≡ AtFault fault
+EndsWith (Record captured rest) ending = ⊥
+
+-- from this place on the octets are these frames, and then comes the ending
+abbrev pub Reads : Form → Place → List ℕ → List Captured → Ending → Type 0
+Reads form place octets [] ending = EndsWith (front_of form place octets) ending
+Reads form place octets (captured ∷ more) ending = (rest : List ℕ) × (front_of form place octets ≡ Record captured rest) × Reads form (after place captured) rest more ending
+
+-- from this place on the octets begin with these frames, and then come the other place and the rest
+abbrev pub BeginsWith : Form → Place → List ℕ → List Captured → Place → List ℕ → Type 0
+BeginsWith form place octets [] next rest = (next ≡ place) × (rest ≡ octets)
+BeginsWith form place octets (captured ∷ more) next rest = (mid : List ℕ) × (front_of form place octets ≡ Record captured mid) × BeginsWith form (after place captured) mid more next rest
+
+-- a text whose header is this is a capture of these frames with this ending
+abbrev pub ReadsAfter : Result Form CaptureFault → List ℕ → List Captured → Ending → Type 0
+ReadsAfter (Ok form) text frames ending = Reads form first_place (drop 24 text) frames ending
+ReadsAfter (Err fault) text frames ending = (frames ≡ []) × (ending ≡ AtFault fault)
+
+-- the text is a capture of these frames, and ends so
+abbrev pub Records : List ℕ → List Captured → Ending → Type 0
+Records text frames ending = ReadsAfter (header_of text) text frames ending

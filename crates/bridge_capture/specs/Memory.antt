@@ -1,0 +1,9 @@
+-- A source or a sink over memory.
+use Rattle.std.specs.Prelude.{ℕ, List, Option, Bool}
+
+-- the octets that it has left or holds, how many more it moves before it fails (none: it goes on), the most that it moves a call, and whether it has failed
+pub record MemoryDevice : Type 0 where
+  pub octets : List ℕ
+  pub allowance : Option ℕ
+  pub step : ℕ
+  pub is_broken : Bool

@@ -1,0 +1,40 @@
+-- What reading one record gives.
+use Rattle.std.specs.Prelude.{◌≡◌, ◌<◌, ℕ, List, length, Option, Some, None, Result, Ok, Err, Vec}
+use Rattle.std.specs.Io.KnownBytes.{Consumes, IsAtEnd}
+use Rattle.bridge_capture.specs.declared.fault.CaptureFault.{CaptureFault}
+use Rattle.bridge_capture.specs.declared.fault.CaptureFault.TheVariants as faults
+use Rattle.bridge_capture.specs.declared.packet.Packet.{Packet}
+use Rattle.bridge_capture.specs.Grammar.{Captured, Front, Nothing, Fault, Record}
+
+-- a packet without where it lies in memory
+abbrev pub view : {A : Type 0} → Packet A → Captured
+view p = record { time = p.time; len = p.len; octets = p.octets.items }
+
+-- a fact of the packet, where a call gave one
+abbrev pub IfPacket : {A : Type 0} → Result (Option (Packet A)) CaptureFault → (Packet A → Type 0) → Type 0
+IfPacket (Ok (Some packet)) P = P packet
+IfPacket (Ok None) P = Unit {0}
+IfPacket (Err fault) P = Unit {0}
+
+-- a fault is what stands there, unless the device or memory refused
+abbrev pub Fails : CaptureFault → Front → Type 0
+Fails faults.Read front = Unit {0}
+Fails faults.NoMemory front = Unit {0}
+Fails fault front = front ≡ Fault fault
+
+-- what a call took from what stood there
+abbrev pub Takes : {A : Type 0} → Front → Option (List ℕ) → Result (Option (Packet A)) CaptureFault → Type 0
+Takes front rest (Ok None) = front ≡ Nothing
+Takes front rest (Ok (Some p)) = (more : List ℕ) × (front ≡ Record (view p) more) × (rest ≡ Some more)
+Takes front rest (Err fault) = Fails fault front
+
+-- a record's octets were cut, unless the device or memory refused
+abbrev pub CutsOctets : ℕ → ℕ → Option (List ℕ) → Option (List ℕ) → CaptureFault → Type 0
+CutsOctets number count old new faults.Read = Unit {0}
+CutsOctets number count old new faults.NoMemory = Unit {0}
+CutsOctets number count old new fault = (fault ≡ faults.RecordCut number) × (IsAtEnd new × ((octets : List ℕ) × (length octets < count) × Consumes old new octets))
+
+-- what a call took as the octets of a record
+abbrev pub TakesOctets : {A : Type 0} → ℕ → ℕ → Option (List ℕ) → Option (List ℕ) → Result (Vec ℕ A) CaptureFault → Type 0
+TakesOctets number count old new (Ok octets) = (length octets.items ≡ count) × Consumes old new octets.items
+TakesOctets number count old new (Err fault) = CutsOctets number count old new fault

@@ -1,0 +1,37 @@
+-- What is written for a capture.
+use Rattle.std.specs.Prelude.{ℕ, ◌*◌, ◌/◌, ◌%◌, ◌^◌, ◌<◌, ◌≤◌, ◌+◌, List, [], ◌∷◌, ◌++◌, length}
+use Rattle.std.specs.Int.{w32, to_le_bytes}
+use Rattle.std.specs.List.{flat_map}
+use Rattle.bridge_capture.specs.declared.form.Form.{Form}
+use Rattle.bridge_capture.specs.declared.form.Order.TheVariants.{Little}
+use Rattle.bridge_capture.specs.declared.form.Unit.TheVariants.{Nano}
+use Rattle.bridge_capture.specs.Grammar.{Captured}
+
+-- captures are written in little order, with fractions in nanoseconds
+abbrev pub written_form : Form
+written_form = record { order = Little; unit = Nano }
+
+-- the header: magic, version 2.4, two words of 0, snap length 65,535, link type 1
+abbrev pub written_header : List ℕ
+written_header = 0x4d ∷ 0x3c ∷ 0xb2 ∷ 0xa1 ∷ 2 ∷ 0 ∷ 4 ∷ 0 ∷ 0 ∷ 0 ∷ 0 ∷ 0 ∷ 0 ∷ 0 ∷ 0 ∷ 0 ∷ 0xff ∷ 0xff ∷ 0 ∷ 0 ∷ 1 ∷ 0 ∷ 0 ∷ 0 ∷ []
+
+-- the four words of a record: whole seconds, nanoseconds behind them, captured length, original length
+unfoldable pub written_words : ℕ → ℕ → ℕ → List ℕ
+written_words done captured len = to_le_bytes w32 (done / 10 ^ 9) ++ to_le_bytes w32 (done % 10 ^ 9) ++ to_le_bytes w32 captured ++ to_le_bytes w32 len
+
+-- a record
+abbrev pub written_record : ℕ → ℕ → List ℕ → List ℕ
+written_record done len octets = written_words done (length octets) len ++ octets
+
+-- the record of a frame
+abbrev pub written_item : Captured → List ℕ
+written_item captured = written_record captured.time captured.len captured.octets
+
+-- the capture of some frames
+abbrev pub written_text : List Captured → List ℕ
+written_text frames = written_header ++ flat_map written_item frames
+
+-- from this number and time on, these frames can be written and read again: not too many, times that don't fall, lengths in range
+abbrev pub AreWritable : ℕ → ℕ → List Captured → Type 0
+AreWritable number earliest [] = Unit {0}
+AreWritable number earliest (captured ∷ more) = (number ≤ 1000000) × (earliest ≤ captured.time) × (captured.time < 4 * 10 ^ 18) × (length captured.octets ≤ 65535) × (length captured.octets ≤ captured.len) × (captured.len < 2 ^ 32) × AreWritable (number + 1) captured.time more

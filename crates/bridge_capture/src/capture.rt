@@ -1,0 +1,166 @@
+//! A capture that is being read.
+use crate::fault::CaptureFault;
+use crate::form::Form;
+use crate::header::{HEADER_LEN, judge};
+use crate::packet::Packet;
+use crate::progress::Progress;
+use crate::record::front_record;
+use crate::source::ByteSource;
+use crate::transfer::fill;
+use std::alloc::Allocator;
+use std::marker::Model;
+
+/// A capture that is being read. It keeps no source: each call is lent the one that the capture
+/// was begun on, untouched in between.
+#[derive(Debug, Drop)]
+pub struct Capture {
+    form: Form,
+    /// The records so far.
+    records: u32,
+    /// The time of the last of them, in ns; 0 before any.
+    latest: u64,
+    progress: Progress,
+}
+
+impl Model for Capture {
+    ghost use Rattle.std.specs.Prelude.{◌≤◌, ◌≢◌};
+    ghost use Rattle.bridge_capture.specs.declared.fault.CaptureFault.TheVariants.{Write};
+    ghost use Rattle.bridge_capture.specs.declared.progress.Progress.TheVariants.{Refused};
+    ghost use Rattle.bridge_capture.specs.Standing.{CaptureState};
+
+    ghost Value = { CaptureState };
+
+    ghost view = { λ c. record { form = c.form; records = c.records; latest = c.latest; progress = c.progress } };
+
+    ghost invariant = { λ c. (c.records ≤ 1000000) × (c.progress ≢ Refused Write) };
+}
+
+impl Capture {
+    ghost use Rattle.std.specs.Prelude.{◌≡◌, ◌≢◌, ◌≤◌, ◌<◌, ◌+◌, ◌*◌, ◌^◌, ◌++◌, ℕ, List, [], length, Result, Ok, Err, Some, None, true, IfOk, IfErr, OnOk};
+    ghost use Rattle.bridge_capture.specs.Grammar.{Captured, Records, AtEnd};
+    ghost use Rattle.bridge_capture.specs.Reading.{IfPacket};
+    ghost use Rattle.bridge_capture.specs.Standing.{StandsFor, Begins, Answers, RefusedSo, IsReading, HasEnded, HasRefused, records_left, views, AreInOrder};
+
+    /// Reads the header of a capture. Takes no memory.
+    pub fn begin<R: ByteSource>(source: &mut R) -> Result<Capture, CaptureFault>
+        ensures stands { (text : List ℕ) → R.remaining source.old ≡ Some text → Begins text (R.remaining source.new) result }
+
+        // A new capture is being read, and has given no record.
+        ensures reading { IfOk result (λ capture. IsReading capture) }
+        ensures none { IfOk result (λ capture. records_left capture ≡ 1000000) }
+        ensures zero { IfOk result (λ capture. capture.latest ≡ 0) }
+
+        // Only a source that has failed is answered so, and each such source is.
+        ensures read { result ≡ Err CaptureFault.Read → R.has_failed source.new ≡ true }
+        ensures broken { R.has_failed source.old ≡ true → result ≡ Err CaptureFault.Read }
+        ensures no_write { result ≢ Err CaptureFault.Write }
+        ensures no_memory { result ≢ Err CaptureFault.NoMemory }
+    {
+        let mut octets = [0u8; HEADER_LEN];
+        let count = match fill(source, &mut octets) {
+            Ok(count) => count,
+            Err(_) => return Err(CaptureFault::Read),
+        };
+        if count < HEADER_LEN {
+            return Err(CaptureFault::HeaderCut);
+        }
+        match judge(&octets) {
+            Ok(form) => Ok(Capture {
+                form,
+                records: 0,
+                latest: 0,
+                progress: Progress::Reading,
+            }),
+            Err(fault) => Err(fault),
+        }
+    }
+
+    /// The next packet, or None at the end of the capture. One growth of memory at most, for the
+    /// packet's octets.
+    pub fn next<R: ByteSource, A: Allocator>(
+        &mut self,
+        alloc: A,
+        source: &mut R,
+    ) -> Result<Option<Packet<A>>, CaptureFault>
+        ensures stands { (text : List ℕ) (given : List Captured) → StandsFor self.old (R.remaining source.old) text given →
+            Answers self.new (R.remaining source.new) text given result }
+
+        // What holds of a packet, whatever the source tells.
+        ensures early { IfPacket result (λ packet. packet.time < 4 * 10 ^ 18) }
+        ensures onward { IfPacket result (λ packet. self.old.latest ≤ packet.time) }
+        ensures latest { IfPacket result (λ packet. self.new.latest ≡ packet.time) }
+        ensures small { IfPacket result (λ packet. length packet.octets.items ≤ 262144) }
+        ensures within { IfPacket result (λ packet. length packet.octets.items ≤ packet.len) }
+        ensures fewer { IfPacket result (λ _. records_left self.old ≡ records_left self.new + 1) }
+        ensures reading { IfPacket result (λ _. IsReading self.new) }
+
+        // Its end and its refusal are for good.
+        ensures ends { result ≡ Ok None → HasEnded self.new }
+        ensures ended { HasEnded self.old → result ≡ Ok None }
+        ensures refuses { IfErr result (λ fault. HasRefused self.new fault) }
+        ensures again { (fault : _) → HasRefused self.old fault → result ≡ Err fault }
+
+        // Only a source that has failed is answered so, and each such source is.
+        ensures read { result ≡ Err CaptureFault.Read → IsReading self.old → R.has_failed source.new ≡ true }
+        ensures broken { R.has_failed source.old ≡ true → IsReading self.old → result ≡ Err CaptureFault.Read }
+        ensures no_write { result ≢ Err CaptureFault.Write }
+    {
+        match self.progress {
+            Progress::Ended => Ok(None),
+            Progress::Refused(fault) => Err(fault),
+            Progress::Reading => {
+                match front_record(self.form, self.records + 1, self.latest, alloc, source) {
+                    Ok(Some(packet)) => {
+                        self.records += 1;
+                        self.latest = packet.time;
+                        Ok(Some(packet))
+                    }
+                    Ok(None) => {
+                        self.progress = Progress::Ended;
+                        Ok(None)
+                    }
+                    Err(fault) => {
+                        self.progress = Progress::Refused(fault);
+                        Err(fault)
+                    }
+                }
+            }
+        }
+    }
+
+    /// All the packets that are still to come, to the end of the capture. Where a growth for the
+    /// list is refused, packets are lost, and the capture is refused with `NoMemory` from then on.
+    pub fn rest<R: ByteSource, A: Allocator + Copy>(
+        &mut self,
+        alloc: A,
+        source: &mut R,
+    ) -> Result<Vec<Packet<A>, A>, CaptureFault>
+        ensures whole { (text : List ℕ) (given : List Captured) → StandsFor self.old (R.remaining source.old) text given →
+            IfOk result (λ packets. Records text (given ++ views packets.items) AtEnd) }
+        ensures refused { (text : List ℕ) (given : List Captured) → StandsFor self.old (R.remaining source.old) text given →
+            IfErr result (λ fault. (more : List Captured) × RefusedSo fault text (given ++ more)) }
+
+        // What holds of the packets, whatever the source tells.
+        ensures in_order { IfOk result (λ packets. AreInOrder self.old.latest (views packets.items)) }
+        ensures few { IfOk result (λ packets. length packets.items ≤ records_left self.old) }
+
+        // Its end and its refusal are for good.
+        ensures ends { OnOk result (HasEnded self.new) }
+        ensures refuses { IfErr result (λ fault. HasRefused self.new fault) }
+        ensures again { (fault : _) → HasRefused self.old fault → result ≡ Err fault }
+
+        // Only a source that has failed is answered so, and each such source is.
+        ensures read { result ≡ Err CaptureFault.Read → IsReading self.old → R.has_failed source.new ≡ true }
+        ensures broken { R.has_failed source.old ≡ true → IsReading self.old → result ≡ Err CaptureFault.Read }
+        ensures no_write { result ≢ Err CaptureFault.Write }
+    {
+        let mut packets = Vec::new(alloc);
+        while let Some(packet) = self.next(alloc, source)? {
+            if packets.push(packet).is_err() {
+                self.progress = Progress::Refused(CaptureFault::NoMemory);
+                return Err(CaptureFault::NoMemory);
+            }
+        }
+        Ok(packets)
+    }
+}

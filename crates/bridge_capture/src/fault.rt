@@ -1,0 +1,46 @@
+//! Why a capture is refused.
+use thiserror::Error;
+
+/// Why a capture can't be read or written. A number is that of the record, from 1.
+#[derive(Clone, Copy, Debug, PartialEq, Eq, Error)]
+pub enum CaptureFault {
+    /// The first four octets are none of the four magics.
+    #[error("the magic is not that of a classic capture")]
+    BadMagic,
+    /// The two words of the version are not 2 and 4.
+    #[error("the version is not 2.4")]
+    BadVersion,
+    /// The link type is not 1, Ethernet.
+    #[error("the link type is not 1")]
+    BadLinkType,
+    /// There are fewer than the 24 octets of a header.
+    #[error("the header is cut")]
+    HeaderCut,
+    /// The text ends within this record.
+    #[error("record {0} is cut")]
+    RecordCut(u32),
+    /// More octets of the frame are captured than it had.
+    #[error("record {0} has more octets captured than the frame had")]
+    LengthsCross(u32),
+    /// More than `MAX_CAPTURED` octets are captured.
+    #[error("record {0} is too large")]
+    RecordTooLarge(u32),
+    /// Its time is before that of the record before it.
+    #[error("record {0} is earlier than the one before")]
+    TimeBack(u32),
+    /// Its time is at `TIME_LIMIT` or after.
+    #[error("record {0} is too late")]
+    TimeTooLate(u32),
+    /// Something follows record `MAX_RECORDS`.
+    #[error("there are too many records")]
+    TooManyRecords,
+    /// The source failed.
+    #[error("the source failed")]
+    Read,
+    /// The sink failed.
+    #[error("the sink failed")]
+    Write,
+    /// A growth of memory was refused.
+    #[error("no memory")]
+    NoMemory,
+}

@@ -1,0 +1,56 @@
+//! std's readers as sources.
+ghost use Rattle.std.specs.Prelude.{◌≡◌, false};
+
+use crate::source::{Broken, ByteSource};
+use std::io::Read;
+
+/// A reader as a source. Any error of the reader is for good, an interrupted call too.
+#[derive(Debug, Drop)]
+pub struct FromRead<R: Read> {
+    reader: R,
+    is_broken: bool,
+}
+
+impl<R: Read> FromRead<R> {
+    /// A source of what the reader gives.
+    pub fn new(reader: R) -> FromRead<R>
+        ensures remaining { ⟦<FromRead<R> as ByteSource>⟧.remaining result ≡ R.remaining reader }
+        ensures sound { ⟦<FromRead<R> as ByteSource>⟧.has_failed result ≡ false }
+    {
+        FromRead {
+            reader,
+            is_broken: false,
+        }
+    }
+
+    /// The reader, with what it has left.
+    pub fn into_inner(self) -> R
+        ensures { R.remaining result ≡ ⟦<FromRead<R> as ByteSource>⟧.remaining self }
+    {
+        let FromRead { reader, .. } = self;
+        reader
+    }
+}
+
+impl<R: Read> ByteSource for FromRead<R> {
+    ghost remaining = { λ s. R.remaining s.reader };
+
+    ghost has_failed = { λ s. s.is_broken };
+
+    fn read(&mut self, buf: &mut [u8]) -> Result<usize, Broken> {
+        if self.is_broken {
+            return Err(Broken);
+        }
+        match self.reader.read(buf) {
+            Ok(count) => Ok(count),
+            Err(_) => {
+                self.is_broken = true;
+                Err(Broken)
+            }
+        }
+    }
+
+    fn failed(&self) -> bool {
+        self.is_broken
+    }
+}

@@ -1,0 +1,58 @@
+//! std's writers as sinks.
+ghost use Rattle.std.specs.Prelude.{◌≡◌, false};
+
+use crate::sink::ByteSink;
+use crate::source::Broken;
+use std::io::Write;
+
+/// A writer as a sink. Any error of the writer is for good, an interrupted call and a write of
+/// nothing too.
+#[derive(Debug, Drop)]
+pub struct FromWrite<W: Write> {
+    writer: W,
+    is_broken: bool,
+}
+
+impl<W: Write> FromWrite<W> {
+    /// A sink into the writer.
+    pub fn new(writer: W) -> FromWrite<W>
+        ensures contents { ⟦<FromWrite<W> as ByteSink>⟧.contents result ≡ W.contents writer }
+        ensures sound { ⟦<FromWrite<W> as ByteSink>⟧.has_failed result ≡ false }
+    {
+        FromWrite {
+            writer,
+            is_broken: false,
+        }
+    }
+
+    /// The writer, with what it holds.
+    pub fn into_inner(self) -> W
+        ensures { W.contents result ≡ ⟦<FromWrite<W> as ByteSink>⟧.contents self }
+    {
+        let FromWrite { writer, .. } = self;
+        writer
+    }
+}
+
+impl<W: Write> ByteSink for FromWrite<W> {
+    ghost contents = { λ s. W.contents s.writer };
+
+    ghost has_failed = { λ s. s.is_broken };
+
+    fn write(&mut self, octets: &[u8]) -> Result<usize, Broken> {
+        if self.is_broken {
+            return Err(Broken);
+        }
+        match self.writer.write(octets) {
+            Ok(count) if count > 0 || octets.is_empty() => Ok(count),
+            _ => {
+                self.is_broken = true;
+                Err(Broken)
+            }
+        }
+    }
+
+    fn failed(&self) -> bool {
+        self.is_broken
+    }
+}

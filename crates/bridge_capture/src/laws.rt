@@ -1,0 +1,14 @@
+//! Laws of the format, over its definitions alone.
+ghost use Rattle.std.specs.Prelude.{ℕ, List};
+ghost use Rattle.bridge_capture.specs.Laws.{WrittenIsRead, ReadsOneWay};
+
+/// What was written is read again: at most 1,000,000 frames with times that don't fall, all below
+/// `TIME_LIMIT`, of at most 65,535 octets captured and no more than the frame had.
+pub fn written_is_read()
+    ensures { WrittenIsRead }
+{}
+
+/// Each text is a capture of exactly one list of frames, with exactly one ending.
+pub fn each_text_reads_one_way()
+    ensures { (text : List ℕ) → ReadsOneWay text }
+{}

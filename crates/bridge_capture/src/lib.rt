@@ -1,0 +1,37 @@
+#![tactic(auto)]
+//! Classic capture files: sources and sinks of octets, reading a capture record by record, and writing one.
+//!
+//! A capture is a header of 24 octets and records of four 32-bit words and the octets that were
+//! captured. All four magics are read: either order of octets, fractions of a second in
+//! microseconds or nanoseconds. What is written is little-endian, in nanoseconds.
+
+mod capture;
+mod fault;
+mod form;
+mod from_read;
+mod from_write;
+mod header;
+mod laws;
+mod packet;
+mod progress;
+mod record;
+mod sink;
+mod slice_source;
+mod source;
+mod transfer;
+mod vec_sink;
+mod writer;
+
+pub use capture::Capture;
+pub use fault::CaptureFault;
+pub use form::{Form, Order, Unit};
+pub use from_read::FromRead;
+pub use from_write::FromWrite;
+pub use laws::{each_text_reads_one_way, written_is_read};
+pub use packet::Packet;
+pub use record::{MAX_CAPTURED, MAX_RECORDS, TIME_LIMIT};
+pub use sink::ByteSink;
+pub use slice_source::SliceSource;
+pub use source::{Broken, ByteSource};
+pub use vec_sink::VecSink;
+pub use writer::Writer;

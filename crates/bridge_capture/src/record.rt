@@ -1,0 +1,148 @@
+//! One record of a capture.
+ghost use Rattle.std.specs.Prelude.{◌≡◌, ◌≢◌, ◌≤◌, ◌<◌, ◌*◌, ◌^◌, Some, None, Err, true, length, IfSome, MatchResult};
+ghost use Rattle.bridge_capture.specs.Grammar.{time_of, captured_of, original_of, head_fault, front_of};
+ghost use Rattle.bridge_capture.specs.Reading.{Takes, TakesOctets, IfPacket};
+
+use crate::fault::CaptureFault;
+use crate::form::{Form, Unit};
+use crate::header::word;
+use crate::packet::Packet;
+use crate::source::ByteSource;
+use crate::transfer::fill;
+use std::alloc::Allocator;
+
+/// The most records that a capture may have.
+pub const MAX_RECORDS: u32 = 1_000_000;
+
+/// The most octets that a record may have captured.
+pub const MAX_CAPTURED: u32 = 262_144;
+
+/// Each record's time is below this moment, in ns.
+pub const TIME_LIMIT: u64 = 4_000_000_000_000_000_000;
+
+/// The four words of a record.
+#[derive(Clone, Copy)]
+struct Head {
+    /// In ns.
+    time: u64,
+    captured: u32,
+    original: u32,
+}
+
+/// The words that the sixteen octets are.
+fn head_of(form: Form, octets: &[u8]) -> Head
+    requires { length octets.now ≡ 16 }
+    ensures time { result.time ≡ time_of form octets.now }
+    ensures captured { result.captured ≡ captured_of form octets.now }
+    ensures original { result.original ≡ original_of form octets.now }
+{
+    let seconds = word(form.order, &octets[..4]) as u64;
+    let fraction = word(form.order, &octets[4..8]) as u64;
+    let unit: u64 = match form.unit {
+        Unit::Micro => 1000,
+        Unit::Nano => 1,
+    };
+    Head {
+        time: seconds * 1_000_000_000 + fraction * unit,
+        captured: word(form.order, &octets[8..12]),
+        original: word(form.order, &octets[12..16]),
+    }
+}
+
+/// Whether record `number`, after one at `earliest`, may have these words; else their first fault.
+fn judge_head(number: u32, earliest: u64, head: Head) -> Result<(), CaptureFault>
+    ensures { let fault = head_fault (record { number = number; earliest = earliest }) head.time head.captured head.original in
+        MatchResult result (λ _. fault ≡ None) (λ f. fault ≡ Some f) }
+{
+    if head.captured > MAX_CAPTURED {
+        return Err(CaptureFault::RecordTooLarge(number));
+    }
+    if head.original < head.captured {
+        return Err(CaptureFault::LengthsCross(number));
+    }
+    if head.time >= TIME_LIMIT {
+        return Err(CaptureFault::TimeTooLate(number));
+    }
+    if head.time < earliest {
+        return Err(CaptureFault::TimeBack(number));
+    }
+    Ok(())
+}
+
+/// Takes the octets of record `number`, so many.
+fn take_octets<R: ByteSource, A: Allocator>(
+    number: u32,
+    captured: u32,
+    alloc: A,
+    source: &mut R,
+) -> Result<Vec<u8, A>, CaptureFault>
+    ensures octets { TakesOctets number captured (R.remaining source.old) (R.remaining source.new) result }
+    ensures failed { result ≡ Err CaptureFault.Read → R.has_failed source.new ≡ true }
+{
+    let mut octets = match Vec::from_elem(alloc, 0u8, captured as usize) {
+        Ok(octets) => octets,
+        Err(_) => return Err(CaptureFault::NoMemory),
+    };
+    let count = match fill(source, &mut octets) {
+        Ok(count) => count,
+        Err(_) => return Err(CaptureFault::Read),
+    };
+    if count < octets.len() {
+        return Err(CaptureFault::RecordCut(number));
+    }
+    Ok(octets)
+}
+
+/// Takes the record at the front of what the source has left, if there is one: record `number`,
+/// after one at `earliest`.
+pub fn front_record<R: ByteSource, A: Allocator>(
+    form: Form,
+    number: u32,
+    earliest: u64,
+    alloc: A,
+    source: &mut R,
+) -> Result<Option<Packet<A>>, CaptureFault>
+    ensures record { IfSome (R.remaining source.old) (λ octets.
+        Takes (front_of form (record { number = number; earliest = earliest }) octets) (R.remaining source.new) result) }
+    ensures few { IfPacket result (λ _. number ≤ 1000000) }
+    ensures early { IfPacket result (λ packet. packet.time < 4 * 10 ^ 18) }
+    ensures onward { IfPacket result (λ packet. earliest ≤ packet.time) }
+    ensures small { IfPacket result (λ packet. length packet.octets.items ≤ 262144) }
+    ensures within { IfPacket result (λ packet. length packet.octets.items ≤ packet.len) }
+    ensures failed { result ≡ Err CaptureFault.Read → R.has_failed source.new ≡ true }
+    ensures broken { R.has_failed source.old ≡ true → result ≡ Err CaptureFault.Read }
+    ensures no_write { result ≢ Err CaptureFault.Write }
+{
+    if number > MAX_RECORDS {
+        // One octet is too much already, so no more is asked for.
+        let mut octet = [0u8; 1];
+        return match fill(source, &mut octet) {
+            Ok(count) if count > 0 => Err(CaptureFault::TooManyRecords),
+            Ok(_) => Ok(None),
+            Err(_) => Err(CaptureFault::Read),
+        };
+    }
+    let mut words = [0u8; 16];
+    let count = match fill(source, &mut words) {
+        Ok(count) => count,
+        Err(_) => return Err(CaptureFault::Read),
+    };
+    if count == 0 {
+        return Ok(None);
+    }
+    if count < 16 {
+        return Err(CaptureFault::RecordCut(number));
+    }
+    let head = head_of(form, &words);
+    if let Err(fault) = judge_head(number, earliest, head) {
+        return Err(fault);
+    }
+    match take_octets(number, head.captured, alloc, source) {
+        Ok(octets) => Ok(Some(Packet {
+            time: head.time,
+            len: head.original,
+            octets,
+        })),
+        Err(fault) => Err(fault),
+    }
+}

@@ -1,0 +1,26 @@
+//! Where octets go.
+ghost use Rattle.std.specs.Prelude.{◌≡◌, ◌≤◌, ◌<◌, ℕ, List, Option, Bool, true, length, IsErr, IfOk, OnErr};
+ghost use Rattle.std.specs.Io.KnownBytes.{WriteAppends};
+
+use crate::source::Broken;
+
+/// Takes octets, one after another.
+pub trait ByteSink {
+    /// The octets that it holds, where it tells them.
+    ghost contents: { Self → Option (List ℕ) };
+
+    /// Whether it has failed, for good.
+    ghost has_failed: { Self → Bool };
+
+    /// Takes octets from the front of the slice and says how many: at least one, where there is one.
+    fn write(&mut self, octets: &[u8]) -> Result<usize, Broken>
+        ensures count { IfOk result (λ n. n ≤ length octets.now) }
+        ensures some { IfOk result (λ n. 0 < length octets.now → 0 < n) }
+        ensures bytes { WriteAppends (contents self.old) (contents self.new) result octets.now }
+        ensures fails { OnErr result (has_failed self.new ≡ true) }
+        ensures stays { has_failed self.old ≡ true → IsErr result };
+
+    /// Whether it has failed.
+    fn failed(&self) -> bool
+        ensures { result ≡ has_failed self.now };
+}

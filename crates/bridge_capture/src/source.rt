@@ -1,0 +1,31 @@
+//! Where octets come from.
+ghost use Rattle.std.specs.Prelude.{◌≡◌, ◌≤◌, ℕ, List, Option, Bool, true, length, IsErr, IfOk, OnErr};
+ghost use Rattle.std.specs.Io.KnownBytes.{ReadConsumes};
+
+use thiserror::Error;
+
+/// A source or a sink has failed. It stays so.
+#[derive(Clone, Copy, Debug, PartialEq, Eq, Error)]
+#[error("the device failed")]
+pub struct Broken;
+
+/// Gives octets, one after another.
+pub trait ByteSource {
+    /// The octets that it has left, where it tells them.
+    ghost remaining: { Self → Option (List ℕ) };
+
+    /// Whether it has failed, for good.
+    ghost has_failed: { Self → Bool };
+
+    /// Puts the next octets at the front of the buffer and says how many: at most those that it
+    /// has left. 0 for a buffer with room means that there is none left.
+    fn read(&mut self, buf: &mut [u8]) -> Result<usize, Broken>
+        ensures count { IfOk result (λ n. n ≤ length buf.new) }
+        ensures bytes { ReadConsumes (remaining self.old) (remaining self.new) result buf.new }
+        ensures fails { OnErr result (has_failed self.new ≡ true) }
+        ensures stays { has_failed self.old ≡ true → IsErr result };
+
+    /// Whether it has failed.
+    fn failed(&self) -> bool
+        ensures { result ≡ has_failed self.now };
+}

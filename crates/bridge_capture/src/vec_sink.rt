@@ -1,0 +1,129 @@
+//! A sink into memory, which tells what it holds and can fail at a stated place.
+ghost use Rattle.std.specs.Prelude.{◌≡◌, ◌≤◌, ◌-◌, ◌<◌, length, Some, true, IfOk, OnErr, IsErr, option_map};
+ghost use Rattle.std.specs.Io.KnownBytes.{WriteAppends};
+
+use crate::sink::ByteSink;
+use crate::source::Broken;
+use std::alloc::Allocator;
+use std::marker::Model;
+
+/// A sink that holds what it took.
+#[derive(Debug, Drop)]
+pub struct VecSink<A: Allocator> {
+    octets: Vec<u8, A>,
+    /// How many octets it still takes before it fails, if it is to fail.
+    allowance: Option<usize>,
+    /// The most that it takes a call.
+    step: usize,
+    is_broken: bool,
+}
+
+impl<A: Allocator> Model for VecSink<A> {
+    ghost use Rattle.std.specs.Prelude.{◌<◌};
+    ghost use Rattle.bridge_capture.specs.Memory.{MemoryDevice};
+
+    ghost Value = { MemoryDevice };
+
+    ghost view = { λ s. record { octets = s.octets.items; allowance = s.allowance; step = s.step; is_broken = s.is_broken } };
+
+    ghost invariant = { λ s. 0 < s.step };
+}
+
+impl<A: Allocator> VecSink<A> {
+    ghost use Rattle.std.specs.Prelude.{◌≡◌, ◌<◌, [], Some, None, false};
+
+    /// An empty sink that fails only where its growth is refused.
+    pub fn new(alloc: A) -> VecSink<A>
+        ensures octets { result.octets ≡ [] }
+        ensures never { result.allowance ≡ None }
+        ensures sound { result.is_broken ≡ false }
+    {
+        VecSink::with(alloc, None, usize::MAX)
+    }
+
+    /// An empty sink that fails at the first octet more once it has taken `count`, and where its
+    /// growth is refused.
+    pub fn failing_after(alloc: A, count: usize) -> VecSink<A>
+        ensures octets { result.octets ≡ [] }
+        ensures after { result.allowance ≡ Some count }
+        ensures sound { result.is_broken ≡ false }
+    {
+        VecSink::with(alloc, Some(count), usize::MAX)
+    }
+
+    /// An empty sink that takes at most one octet a call, and fails only where its growth is refused.
+    pub fn one_by_one(alloc: A) -> VecSink<A>
+        ensures octets { result.octets ≡ [] }
+        ensures never { result.allowance ≡ None }
+        ensures single { result.step ≡ 1 }
+        ensures sound { result.is_broken ≡ false }
+    {
+        VecSink::with(alloc, None, 1)
+    }
+
+    fn with(alloc: A, allowance: Option<usize>, step: usize) -> VecSink<A>
+        requires { 0 < step }
+        ensures { result ≡ record { octets = []; allowance = allowance; step = step; is_broken = false } }
+    {
+        VecSink {
+            octets: Vec::new(alloc),
+            allowance,
+            step,
+            is_broken: false,
+        }
+    }
+
+    /// What it holds.
+    pub fn octets(&self) -> &[u8]
+        ensures { result.now ≡ self.now.octets }
+    {
+        &self.octets
+    }
+}
+
+impl<A: Allocator> ByteSink for VecSink<A> {
+    ghost contents = { λ s. Some s.octets };
+
+    ghost has_failed = { λ s. s.is_broken };
+
+    fn write(&mut self, octets: &[u8]) -> Result<usize, Broken>
+        ensures count { IfOk result (λ n. n ≤ length octets.now) }
+        ensures some { IfOk result (λ n. 0 < length octets.now → 0 < n) }
+        ensures bytes { WriteAppends (Some self.old.octets) (Some self.new.octets) result octets.now }
+        ensures fails { OnErr result (self.new.is_broken ≡ true) }
+        ensures stays { self.old.is_broken ≡ true → IsErr result }
+
+        // It counts what it takes.
+        ensures counted { IfOk result (λ n. self.new.allowance ≡ option_map (λ left. left - n) self.old.allowance) }
+        ensures step { IfOk result (λ n. n ≤ self.old.step) }
+        ensures spent { self.old.allowance ≡ Some 0 → 0 < length octets.now → IsErr result }
+    {
+        if self.is_broken {
+            return Err(Broken);
+        }
+        let mut count = self.step.min(octets.len());
+        if let Some(left) = self.allowance {
+            if left == 0 && !octets.is_empty() {
+                self.is_broken = true;
+                return Err(Broken);
+            }
+            count = count.min(left);
+        }
+        match self.octets.extend_from_slice(&octets[..count]) {
+            Ok(()) => {
+                if let Some(left) = self.allowance {
+                    self.allowance = Some(left - count);
+                }
+                Ok(count)
+            }
+            Err(_) => {
+                self.is_broken = true;
+                Err(Broken)
+            }
+        }
+    }
+
+    fn failed(&self) -> bool {
+        self.is_broken
+    }
+}

@@ -1,0 +1,96 @@
+//! Writing a capture.
+ghost use Rattle.std.specs.Prelude.{◌≡◌, ◌≤◌, ◌<◌, ◌*◌, ◌^◌, length, true, Err, OnOk, OnErr};
+ghost use Rattle.std.specs.Io.KnownBytes.{Appends};
+ghost use Rattle.bridge_capture.specs.Sinks.{AppendsFront};
+ghost use Rattle.bridge_capture.specs.Written.{written_header, written_words, written_record};
+
+use crate::fault::CaptureFault;
+use crate::sink::ByteSink;
+use crate::transfer::write_all;
+
+/// A capture that is being written, in little order with nanoseconds. It keeps no sink: each call
+/// is lent the one that the capture was begun on, untouched in between.
+#[derive(Debug, Drop)]
+pub struct Writer {
+    begun: (),
+}
+
+impl Writer {
+    /// Writes the header. Takes no memory. Where the sink fails, it holds a front of the header.
+    pub fn begin<W: ByteSink>(sink: &mut W) -> Result<Writer, CaptureFault>
+        ensures ok { OnOk result (Appends (W.contents sink.old) (W.contents sink.new) written_header) }
+        ensures err { OnErr result (AppendsFront (W.contents sink.old) (W.contents sink.new) written_header) }
+        ensures only { OnErr result (result ≡ Err CaptureFault.Write) }
+        ensures fails { OnErr result (W.has_failed sink.new ≡ true) }
+        ensures again { W.has_failed sink.old ≡ true → result ≡ Err CaptureFault.Write }
+    {
+        let header = [
+            0x4d, 0x3c, 0xb2, 0xa1, 2, 0, 4, 0, 0, 0, 0, 0, 0, 0, 0, 0, 0xff, 0xff, 0, 0, 1, 0, 0,
+            0,
+        ];
+        match write_all(sink, &header) {
+            Ok(()) => Ok(Writer { begun: () }),
+            Err(_) => Err(CaptureFault::Write),
+        }
+    }
+
+    /// Writes a record: the moment `done`, in ns, at which the frame had left, the length `len` that
+    /// it had on the link, and its octets. Takes no memory. Where the sink fails, it holds a front
+    /// of the record.
+    pub fn put<W: ByteSink>(
+        &mut self,
+        sink: &mut W,
+        done: u64,
+        len: u32,
+        octets: &[u8],
+    ) -> Result<(), CaptureFault>
+        requires seconds { done < 2 ^ 32 * 10 ^ 9 }
+        requires captured { length octets.now ≤ 65535 }
+        requires original { length octets.now ≤ len }
+        ensures ok { OnOk result (Appends (W.contents sink.old) (W.contents sink.new) (written_record done len octets.now)) }
+        ensures err { OnErr result (AppendsFront (W.contents sink.old) (W.contents sink.new) (written_record done len octets.now)) }
+        ensures only { OnErr result (result ≡ Err CaptureFault.Write) }
+        ensures fails { OnErr result (W.has_failed sink.new ≡ true) }
+        ensures again { W.has_failed sink.old ≡ true → result ≡ Err CaptureFault.Write }
+    {
+        let words = head_words(done, len, octets.len() as u32);
+        match write_all(sink, &words) {
+            Ok(()) => {}
+            Err(_) => return Err(CaptureFault::Write),
+        }
+        match write_all(sink, octets) {
+            Ok(()) => Ok(()),
+            Err(_) => Err(CaptureFault::Write),
+        }
+    }
+}
+
+/// The four words of a record.
+#[tactic(auto, unfolding(crate::specs::Written::written_words))]
+fn head_words(done: u64, len: u32, captured: u32) -> [u8; 16]
+    requires { done < 2 ^ 32 * 10 ^ 9 }
+    ensures { result ≡ written_words done captured len }
+{
+    let seconds = ((done / 1_000_000_000) as u32).to_le_bytes();
+    let fraction = ((done % 1_000_000_000) as u32).to_le_bytes();
+    let captured = captured.to_le_bytes();
+    let original = len.to_le_bytes();
+    [
+        seconds[0],
+        seconds[1],
+        seconds[2],
+        seconds[3],
+        fraction[0],
+        fraction[1],
+        fraction[2],
+        fraction[3],
+        captured[0],
+        captured[1],
+        captured[2],
+        captured[3],
+        original[0],
+        original[1],
+        original[2],
+        original[3],
+    ]
+}

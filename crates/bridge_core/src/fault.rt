@@ -1,0 +1,45 @@
+//! Why a run stops.
+ghost use Rattle.std.specs.Prelude.{◌≡◌};
+ghost use Rattle.bridge_core.specs.declared.fault.RunFault.TheVariants.{NoMemory as no_memory};
+
+use bridge_capture::CaptureFault;
+use std::alloc::{AllocError, AllocFailed};
+use thiserror::Error;
+
+/// Why a run stops. A capture's or a writer's own want of memory is `NoMemory`.
+#[derive(Clone, Copy, Debug, PartialEq, Eq, Error)]
+pub enum RunFault {
+    /// The capture of a port was refused, or could not be read.
+    #[error("capture {port}: {fault}")]
+    Capture { port: u8, fault: CaptureFault },
+    /// The capture of a port could not be written.
+    #[error("capture {port} not written")]
+    Write { port: u8 },
+    /// A growth was refused.
+    #[error("no memory")]
+    NoMemory,
+}
+
+impl From<bridge_port::NoMemory> for RunFault {
+    ghost from_gives = { λ _ e. e ≡ no_memory };
+
+    fn from(_: bridge_port::NoMemory) -> RunFault {
+        RunFault::NoMemory
+    }
+}
+
+impl From<AllocError> for RunFault {
+    ghost from_gives = { λ _ e. e ≡ no_memory };
+
+    fn from(_: AllocError) -> RunFault {
+        RunFault::NoMemory
+    }
+}
+
+impl<T: Drop> From<AllocFailed<T>> for RunFault {
+    ghost from_gives = { λ _ e. e ≡ no_memory };
+
+    fn from(_: AllocFailed<T>) -> RunFault {
+        RunFault::NoMemory
+    }
+}

@@ -1,0 +1,11 @@
+pub mod Laws
+pub mod Starts
+pub mod Ports
+pub mod Rings
+pub mod Watched
+pub mod Members
+pub mod Opening
+pub mod Keeping
+pub mod Best
+pub mod Isolation
+pub mod Alone

@@ -1,0 +1,40 @@
+use Rattle.std.proofs.Common.{◌≡◌, sym, None, subst, rules, ◌<◌, refl}
+use Rattle.std.specs.Prelude.{length, slice_index_or}
+use Rattle.bridge_port.specs.Standing.{State, state, refusal_of, IsKept, queue_of}
+use Rattle.bridge_port.proofs.Keeping.{admitted, kept_offered, offered_stands, offered_counts}
+use Rattle.bridge_port.proofs.port.Port.offer.Goals as goal
+
+pub push_at-requires-clause-room : goal.push_at-requires-clause-room
+push_at-requires-clause-room g c =
+    let P : State _ → Type 0 = λ q. length (queue_of q c.args.class) < slice_index_or q.rooms c.args.class 0 in
+    subst P (sym c.self.view_is) (admitted c.args.self.now c.args.class c.args.item (sym (c.in-None.ensures c.args.item refl))).1
+
+pub invariant_of-self-in-None : goal.invariant_of-self-in-None
+invariant_of-self-in-None g c =
+    let f = c.self.inside in
+    let p = state f.speed f.egress f.rings.items f.free f.earliest f.offered f.started in
+    let P : State _ → Type 0 = λ q. refusal_of q c.args.class c.args.item ≡ None in
+    let none : refusal_of p c.args.class c.args.item ≡ None = subst P (sym c.self.view_is) (sym (c.in-None.ensures c.args.item refl)) in
+    let Q : State _ → Type 0 = λ q. q.offered < 16000000 in
+    rw (c.push_at.ensures.queues, c.push_at.ensures.rooms) (kept_offered p c.args.t c.args.class c.args.item c.self.invariant c.requires.class none c.requires.length c.requires.time.1 (subst Q (sym c.self.view_is) c.requires.few))
+
+pub returns-in-Some-clause-moved : goal.returns-in-Some-clause-moved
+returns-in-Some-clause-moved g c = search rules
+
+pub returns-in-None-clause-moved : goal.returns-in-None-clause-moved
+returns-in-None-clause-moved g c = search rules
+
+pub returns-in-Some-clause-stands : goal.returns-in-Some-clause-stands
+returns-in-Some-clause-stands g c =
+    let kept : IsKept c.args.self.now = subst IsKept c.self.view_is c.self.invariant in
+    offered_stands c.args.self.now _ c.args.t c.args.class c.args.item kept (returns-in-Some-clause-moved g c) c.requires.class c.requires.time.0 c.requires.not_late
+
+pub returns-in-None-clause-stands : goal.returns-in-None-clause-stands
+returns-in-None-clause-stands g c =
+    let kept : IsKept c.args.self.now = subst IsKept c.self.view_is c.self.invariant in
+    offered_stands c.args.self.now _ c.args.t c.args.class c.args.item kept (returns-in-None-clause-moved g c) c.requires.class c.requires.time.0 c.requires.not_late
+
+pub returns-in-None-clause-counts : goal.returns-in-None-clause-counts
+returns-in-None-clause-counts g c =
+    let kept : IsKept c.args.self.now = subst IsKept c.self.view_is c.self.invariant in
+    offered_counts c.args.self.now _ c.args.t c.args.class c.args.item kept (returns-in-None-clause-moved g c) (sym (c.in-None.ensures c.args.item refl)) c.requires.class

@@ -1,0 +1,17 @@
+#![tactic(auto)]
+//! One egress port of a bridge: eight queues, eight transmission gates and strict priority (IEEE 802.1Q-2018, clause 8.6.8).
+
+mod egress;
+mod heads;
+mod item;
+mod law;
+mod port;
+mod queues;
+
+pub use bridge_cycle::NoMemory;
+pub use item::{Item, Refusal};
+pub use law::{
+    alone_follows, ever_is_fitting, lawful_up_to_a_later_moment, lawful_up_to_a_lower_moment,
+    lawful_with_a_start, lawful_with_an_offer, own_windows_isolate,
+};
+pub use port::Port;

@@ -1,0 +1,188 @@
+//! The port.
+ghost use Rattle.std.specs.Prelude.{◌≡◌, ◌<◌, ◌≤◌, ◌+◌, ◌-◌, ◌*◌, ◌^◌, ◌&&◌, ℕ, Bool, true, Option, Some, None, IfOk, IfSome, IfNone, List, [], ◌∷◌, length, map, max, replicate, is_none, MatchOption, if◌then◌else◌};
+
+use crate::egress::Egress;
+use crate::heads::best_head;
+use crate::item::{Item, Refusal};
+use crate::queues::{is_full, pop_at, push_at, with_rooms};
+use bridge_cycle::{CyclicList, NoMemory};
+use bridge_frame::{Speed, occupation};
+use circular_buffer::HeapCircularBuffer;
+use std::alloc::Allocator;
+use std::marker::Model;
+
+/// An egress port: eight queues with their transmission gates, served in strict priority. A frame starts only where its
+/// class stays open until the link is free again (IEEE 802.1Q-2018, clause 8.6.8).
+///
+/// It stands for the list of copies that were offered to it, each with what became of it.
+#[derive(Drop)]
+pub struct Port<T: Drop, A: Allocator + Copy> {
+    speed: Speed,
+    egress: Egress<A>,
+    rings: Vec<HeapCircularBuffer<Item<T>, A>, A>,
+    free: u64,
+    earliest: u64,
+    offered: u64,
+    started: u64,
+}
+
+impl<T: Drop, A: Allocator + Copy> Model for Port<T, A> {
+    ghost use Rattle.bridge_port.specs.Rings.{queues_of, rooms_of};
+    ghost use Rattle.bridge_port.specs.Standing.{State, state, IsKept};
+
+    ghost Value = { State T };
+
+    ghost view = { λ p. state p.speed p.egress p.rings.items p.free p.earliest p.offered p.started };
+
+    ghost invariant = { λ p. IsKept (state p.speed p.egress p.rings.items p.free p.earliest p.offered p.started) };
+}
+
+impl<T: Drop, A: Allocator + Copy> Port<T, A> {
+    ghost use Rattle.bridge_port.specs.declared.item.Item.{Item};
+    ghost use Rattle.bridge_port.specs.Schedule.{Copy, IsLawful};
+    ghost use Rattle.bridge_port.specs.Heads.{StartsNext};
+    ghost use Rattle.bridge_port.specs.Solo.{IsWhole};
+    ghost use Rattle.bridge_port.specs.Standing.{answer_of, copy_of, count_queued, IsBegun, IsDue, IsIdle, IsKept, IsNext, limit, NoStartBefore, offered_state, refusal_of, rules_of, StandsFor, started_state};
+
+    /// An idle port of this speed and with these rooms of frames (1 to 4096) for the classes from 0 to 7. Without a list
+    /// all classes are always open; bit c of a list's state says whether class c is.
+    pub fn new(
+        alloc: A,
+        speed: Speed,
+        list: Option<CyclicList<u8, A>>,
+        rooms: [u16; 8],
+    ) -> Result<Port<T, A>, NoMemory>
+        ensures new { IfOk result (λ p. p ≡ record { speed = speed; list = list; rooms = rooms; queues = replicate 8 []; free = 0; earliest = 0; offered = 0; started = 0 }) }
+        ensures stands { IfOk result (λ p. StandsFor p []) }
+    {
+        let rings = with_rooms(alloc, &rooms)?;
+        Ok(Port {
+            speed,
+            egress: Egress::new(list),
+            rings,
+            free: 0,
+            earliest: 0,
+            offered: 0,
+            started: 0,
+        })
+    }
+
+    /// Why an item would be refused now.
+    fn refusal(&self, class: usize, len: u32) -> Option<Refusal>
+        requires { class < 8 }
+        ensures { (x : Item T) → x.len ≡ len → result ≡ refusal_of self.now class x }
+    {
+        if !self.egress.can_fit(class, occupation(len, self.speed)) {
+            Some(Refusal::NeverFits)
+        } else if is_full(&self.rings, class) {
+            Some(Refusal::Full)
+        } else {
+            None
+        }
+    }
+
+    /// Offers an item to the queue of a class (0 to 7) at a moment in ns. A refused item comes back, with the first
+    /// reason that applies: no moment fits it, its queue is full.
+    pub fn offer(&mut self, t: u64, class: u8, item: Item<T>) -> Result<(), (Item<T>, Refusal)>
+        requires class { class < 8 }
+        requires time { (self.old.earliest ≤ t) × (t < 4_000_000_000_000_000_000) }
+        requires not_late { NoStartBefore self.old t }
+        requires length { item.len ≤ 9216 }
+        requires few { self.old.offered < 16_000_000 }
+        ensures answer { result ≡ answer_of (refusal_of self.old class item) item }
+        ensures moved { self.new ≡ offered_state self.old t class item }
+        ensures stands { (xs : List (Copy (Item T))) → StandsFor self.old xs → StandsFor self.new (copy_of self.old t class item ∷ xs) }
+        ensures counts { (f : Item T → Bool) → count_queued f self.new ≡ (if is_none (refusal_of self.old class item) && f item then 1 else 0) + count_queued f self.old }
+    {
+        let class = class as usize;
+        let refusal = self.refusal(class, item.len);
+        self.earliest = t;
+        self.offered += 1;
+        match refusal {
+            Some(refusal) => Err((item, refusal)),
+            None => {
+                push_at(&mut self.rings, class, item);
+                Ok(())
+            }
+        }
+    }
+
+    /// The moment and the class of the next start.
+    fn next(&self) -> Option<(u64, usize)>
+        ensures next { MatchOption result (IsIdle self.now) (λ b. StartsNext self.now b.0 b.1) }
+        ensures kept { IsKept self.now }
+    {
+        let from = self.free.max(self.earliest);
+        best_head(&self.egress, self.speed, &self.rings, from)
+    }
+
+    /// The moment in ns of the next start, if nothing else is offered; `None` where nothing is queued.
+    pub fn next_start(&self) -> Option<u64>
+        ensures due { IsDue self.now result }
+        ensures lawful { (xs : List (Copy (Item T))) → StandsFor self.now xs → IfSome result (λ k. (h : ℕ) → self.now.earliest ≤ h → h ≤ k → IsLawful (rules_of self.now) h xs) }
+        ensures idle { (xs : List (Copy (Item T))) → StandsFor self.now xs → IfNone result ((h : ℕ) → self.now.earliest ≤ h → IsLawful (rules_of self.now) h xs) }
+        ensures whole { (xs : List (Copy (Item T))) → StandsFor self.now xs → IfNone result (IsWhole xs) }
+        ensures bounded { IfSome result (λ k. k < limit (self.now.started + 1)) }
+        ensures early { IfSome result (λ k. k < 4_100_000_000_000_000_000) }
+    {
+        let next = self.next();
+        match next {
+            Some((k, _)) => Some(k),
+            None => None,
+        }
+    }
+
+    /// Makes the next start, and gives the item with its class (0 to 7). The port's `earliest` is then one ns after it.
+    pub fn start(&mut self) -> (Item<T>, u8)
+        requires { (k : ℕ) × IsDue self.old (Some k) }
+        ensures next { IsNext self.old (self.new.earliest - 1) result.1 result.0 }
+        ensures moved { self.new ≡ started_state self.old (self.new.earliest - 1) result.1 result.0 }
+        ensures which { (k c : ℕ) (x : Item T) → IsNext self.old k c x → (self.new.earliest ≡ k + 1) × (result.1 ≡ c) × (result.0 ≡ x) }
+        ensures stands { (xs : List (Copy (Item T))) → StandsFor self.old xs → IsBegun self.new result.1 (self.new.earliest - 1) result.0 xs }
+        ensures counts { (f : Item T → Bool) → count_queued f self.old ≡ (if f result.0 then 1 else 0) + count_queued f self.new }
+        ensures bounded { self.new.free < limit (self.old.started + 1) }
+        ensures early { self.new.free < 4_100_000_000_000_000_000 }
+        ensures length { result.0.len ≤ 9216 }
+    {
+        let next = self.next();
+        match next {
+            Some((k, class)) => {
+                let taken = pop_at(&mut self.rings, class);
+                match taken {
+                    Some(item) => {
+                        let occ = occupation(item.len, self.speed);
+                        self.free = k + occ;
+                        self.earliest = k + 1;
+                        self.started += 1;
+                        (item, class as u8)
+                    }
+                    None => unreachable!(),
+                }
+            }
+            None => unreachable!(),
+        }
+    }
+
+    /// The offers so far.
+    pub fn offered(&self) -> u64
+        ensures offered { result ≡ self.now.offered }
+        ensures counted { self.now.started + count_queued (λ x. true) self.now ≤ result }
+    {
+        self.offered
+    }
+
+    /// The starts so far.
+    pub fn started(&self) -> u64
+        ensures { result ≡ self.now.started }
+    {
+        self.started
+    }
+
+    /// The least moment in ns that the next offer may have.
+    pub fn earliest(&self) -> u64
+        ensures earliest { result ≡ self.now.earliest }
+        ensures bounded { result ≤ limit self.now.started }
+    {
+        self.earliest
+    }
+}

@@ -1,0 +1,34 @@
+-- With what the program ends.
+use Rattle.std.specs.Prelude.{ℕ}
+use Rattle.bridge_capture.specs.declared.fault.CaptureFault.{CaptureFault}
+use Rattle.bridge_capture.specs.declared.fault.CaptureFault.TheVariants as capture
+use Rattle.bridge_core.specs.declared.fault.RunFault.{RunFault}
+use Rattle.bridge_core.specs.declared.fault.RunFault.TheVariants as run
+use Rattle.bridge_program.specs.declared.fault.TextFault.{TextFault}
+use Rattle.bridge_program.specs.declared.fault.TextFault.TheVariants as text
+use Rattle.bridge_program.specs.declared.fault.Fault.{Fault}
+use Rattle.bridge_program.specs.declared.fault.Fault.TheVariants as fault
+
+-- a capture that is refused, or a device or memory that failed
+abbrev pub status_of_capture : CaptureFault → ℕ
+status_of_capture capture.Read = 3
+status_of_capture capture.Write = 3
+status_of_capture capture.NoMemory = 3
+status_of_capture f = 2
+
+abbrev pub status_of_run : RunFault → ℕ
+status_of_run (run.Capture port f) = status_of_capture f
+status_of_run (run.Write port) = 3
+status_of_run run.NoMemory = 3
+
+abbrev pub status_of_text : TextFault → ℕ
+status_of_text text.NotHex = 2
+status_of_text text.TooLong = 2
+status_of_text (text.Run f) = status_of_run f
+
+-- the status of a fault: 2 for a text or a capture, 3 for a file, a device or memory, 4 for the command line
+abbrev pub status_of : Fault → ℕ
+status_of (fault.Text f) = status_of_text f
+status_of (fault.Run f) = status_of_run f
+status_of fault.Words = 4
+status_of (fault.File path) = 3

@@ -1,0 +1,62 @@
+//! Why the program stops.
+ghost use Rattle.std.specs.Prelude.{◌≡◌};
+ghost use Rattle.bridge_program.specs.Text.{text_fault_of};
+
+use bridge_core::RunFault;
+use bridge_text::HexFault;
+use std::alloc::{AllocError, AllocFailed};
+use thiserror::Error;
+
+/// A growth was refused.
+#[derive(Clone, Copy, Debug, PartialEq, Eq, Error)]
+#[error("no memory")]
+pub struct NoMemory;
+
+impl From<AllocError> for NoMemory {
+    fn from(_: AllocError) -> NoMemory {
+        NoMemory
+    }
+}
+
+impl<T: Drop> From<AllocFailed<T>> for NoMemory {
+    fn from(_: AllocFailed<T>) -> NoMemory {
+        NoMemory
+    }
+}
+
+/// Why a text is not run.
+#[derive(Clone, Copy, Debug, PartialEq, Eq, Error)]
+pub enum TextFault {
+    /// The text is no hexadecimal text.
+    #[error("the text is not hexadecimal")]
+    NotHex,
+    /// The text is longer than 4,194,304 bytes or spells more than 1,048,576 octets.
+    #[error("the text is too long")]
+    TooLong,
+    /// The run over its octets stopped, or a growth was refused.
+    #[error("{0}")]
+    Run(RunFault),
+}
+
+impl From<HexFault> for TextFault {
+    ghost from_gives = { λ fault e. e ≡ text_fault_of fault };
+
+    fn from(fault: HexFault) -> TextFault {
+        match fault {
+            HexFault::NotHex => TextFault::NotHex,
+            HexFault::TooLong => TextFault::TooLong,
+            HexFault::NoMemory => TextFault::Run(RunFault::NoMemory),
+        }
+    }
+}
+
+/// Why the program stops. Standard input or output that fails is a file of the path `-`.
+#[derive(Debug, Drop)]
+pub enum Fault {
+    Text(TextFault),
+    Run(RunFault),
+    /// The words of the command line.
+    Words,
+    /// A file that can't be opened, made, read or written, by its path as given.
+    File(String),
+}

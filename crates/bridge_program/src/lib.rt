@@ -1,0 +1,10 @@
+#![tactic(auto)]
+//! What the program does and says: its jobs over text, and the line and the status of each fault.
+
+mod fault;
+mod line;
+mod text;
+
+pub use fault::{Fault, NoMemory, TextFault};
+pub use line::fault_line;
+pub use text::wire_text;

@@ -1,0 +1,383 @@
+//! Rows for captures.
+ghost use Rattle.std.specs.Prelude.{◌≤◌};
+
+use crate::refusing::RefusesOne;
+use bridge_capture::{
+    ByteSink, ByteSource, Capture, CaptureFault, FromRead, FromWrite, Order, Packet, SliceSource,
+    VecSink, Writer, each_text_reads_one_way, written_is_read,
+};
+use std::alloc::{AllocError, Allocator, Global};
+use std::io::Cursor;
+use std::test::Fail;
+
+const HEADER: [u8; 24] = [
+    0x4d, 0x3c, 0xb2, 0xa1, 2, 0, 4, 0, 0, 0, 0, 0, 0, 0, 0, 0, 0xff, 0xff, 0, 0, 1, 0, 0, 0,
+];
+
+/// The octets of a tagged frame, of which 18 are captured.
+const FRAME: [u8; 18] = [
+    2, 0, 0, 0, 0, 0x0a, 2, 0, 0, 0, 0, 1, 0x81, 0, 0, 0x0a, 0x88, 0xb5,
+];
+
+/// A record: seconds, fraction, captured length, original length.
+type Words = [u32; 4];
+
+const FIRST: Words = [0, 100_000, 18, 60];
+
+const SECOND: Words = [0, 100_001, 18, 60];
+
+fn push_word(text: &mut Vec<u8>, order: Order, word: u32) -> Result<(), AllocError> {
+    let octets = match order {
+        Order::Little => word.to_le_bytes(),
+        Order::Big => word.to_be_bytes(),
+    };
+    text.extend_from_slice(&octets)
+}
+
+/// A capture under this magic: its records' words, each with the frame.
+fn capture_under(
+    alloc: Global,
+    magic: u32,
+    order: Order,
+    records: &[Words],
+) -> Result<Vec<u8>, AllocError> {
+    let mut text = Vec::new(alloc);
+    push_word(&mut text, order, magic)?;
+    let version = match order {
+        Order::Little => [2, 0, 4, 0],
+        Order::Big => [0, 2, 0, 4],
+    };
+    text.extend_from_slice(&version)?;
+    for word in [0, 0, 65_535, 1] {
+        push_word(&mut text, order, word)?;
+    }
+    for words in records {
+        for word in words {
+            push_word(&mut text, order, *word)?;
+        }
+        text.extend_from_slice(&FRAME)?;
+    }
+    Ok(text)
+}
+
+/// A capture in the written form: its records' words, each with the frame.
+fn capture_of(alloc: Global, records: &[Words]) -> Result<Vec<u8>, AllocError> {
+    capture_under(alloc, 0xA1B2_3C4D, Order::Little, records)
+}
+
+/// How many packets a source gives, and its fault.
+fn outcome<R: ByteSource, A: Allocator + Copy>(
+    alloc: A,
+    source: &mut R,
+) -> (u32, Option<CaptureFault>) {
+    let mut capture = match Capture::begin(source) {
+        Ok(capture) => capture,
+        Err(fault) => return (0, Some(fault)),
+    };
+    for count in 0..2_000_000 {
+        match capture.next(alloc, source) {
+            Ok(Some(_)) => {}
+            Ok(None) => return (count, None),
+            Err(fault) => return (count, Some(fault)),
+        }
+    }
+    (2_000_000, None)
+}
+
+/// The same of a text.
+fn outcome_of(alloc: Global, text: &[u8]) -> (u32, Option<CaptureFault>) {
+    outcome(alloc, &mut SliceSource::new(text))
+}
+
+/// The packets of a source.
+fn packets_of<R: ByteSource, A: Allocator + Copy>(
+    alloc: A,
+    source: &mut R,
+) -> Result<Vec<Packet<A>, A>, CaptureFault> {
+    Capture::begin(source)?.rest(alloc, source)
+}
+
+/// Whether these are the two frames.
+fn are_both<A: Allocator>(packets: &[Packet<A>]) -> bool {
+    match packets {
+        [first, second] => {
+            first.time == 100_000
+                && second.time == 100_001
+                && first.len == 60
+                && second.len == 60
+                && first.octets.as_slice() == FRAME.as_slice()
+                && second.octets.as_slice() == FRAME.as_slice()
+        }
+        _ => false,
+    }
+}
+
+#[test]
+fn a_capture_is_cut_anywhere(rt: HostRuntime) -> Result<(), Fail> {
+    let text = capture_of(rt.alloc(), &[FIRST, SECOND])?;
+    assert_eq!(rt; text.len(), 92);
+    for n in 0..93 {
+        let want = match n {
+            0..24 => (0, Some(CaptureFault::HeaderCut)),
+            24 => (0, None),
+            25..58 => (0, Some(CaptureFault::RecordCut(1))),
+            58 => (1, None),
+            59..92 => (1, Some(CaptureFault::RecordCut(2))),
+            _ => (2, None),
+        };
+        assert!(rt; n <= text.len());
+        assert_eq!(rt; outcome_of(rt.alloc(), &text[..n]), want, "of {n} octets");
+    }
+    Ok(())
+}
+
+#[test]
+fn a_header_is_judged(rt: HostRuntime) -> Result<(), Fail> {
+    let rows = [
+        (0, CaptureFault::BadMagic),
+        (4, CaptureFault::BadVersion),
+        (20, CaptureFault::BadLinkType),
+    ];
+    for (place, fault) in rows {
+        let mut text = capture_of(rt.alloc(), &[FIRST, SECOND])?;
+        assert!(rt; place < text.len());
+        text[place] = 9;
+        assert_eq!(rt;
+            outcome_of(rt.alloc(), &text),
+            (0, Some(fault)),
+            "octet {place}"
+        );
+    }
+    Ok(())
+}
+
+#[test]
+fn the_words_of_records_are_judged(rt: HostRuntime) -> Result<(), Fail> {
+    let rows: [(&[Words], (u32, Option<CaptureFault>)); 7] = [
+        (
+            &[[0, 5, 18, 60], [0, 4, 18, 60]],
+            (1, Some(CaptureFault::TimeBack(2))),
+        ),
+        (&[[0, 5, 18, 60], [0, 5, 18, 60]], (2, None)),
+        (&[[3_999_999_999, 999_999_999, 18, 60]], (1, None)),
+        (
+            &[[3_999_999_999, 1_000_000_000, 18, 60]],
+            (0, Some(CaptureFault::TimeTooLate(1))),
+        ),
+        (&[[0, 0, 61, 60]], (0, Some(CaptureFault::LengthsCross(1)))),
+        (
+            &[FIRST, SECOND, [0, 100_002, 19, 60]],
+            (2, Some(CaptureFault::RecordCut(3))),
+        ),
+        (
+            &[[0, 0, 262_145, 262_145]],
+            (0, Some(CaptureFault::RecordTooLarge(1))),
+        ),
+    ];
+    for (records, want) in rows {
+        let text = capture_of(rt.alloc(), records)?;
+        assert_eq!(rt; outcome_of(rt.alloc(), &text), want);
+    }
+    Ok(())
+}
+
+#[test]
+fn the_largest_record_is_read(rt: HostRuntime) -> Result<(), Fail> {
+    let mut text = capture_of(rt.alloc(), &[[0, 0, 262_144, 262_144]])?;
+    text.resize(24 + 16 + 262_144, 0)?;
+    assert_eq!(rt; outcome_of(rt.alloc(), &text), (1, None));
+    Ok(())
+}
+
+/// A capture of so many records without an octet at time 0, and then some octets.
+fn many(alloc: Global, records: usize, more: usize) -> Result<Vec<u8>, AllocError>
+    requires few { records ≤ 1000000 }
+    requires short { more ≤ 16 }
+{
+    let mut text = capture_of(alloc, &[])?;
+    text.resize(24 + 16 * records + more, 0)?;
+    Ok(text)
+}
+
+#[test]
+fn a_capture_has_a_million_records_at_most(rt: HostRuntime) -> Result<(), Fail> {
+    let text = many(rt.alloc(), 1_000_000, 0)?;
+    assert_eq!(rt; outcome_of(rt.alloc(), &text), (1_000_000, None));
+    let mut source = SliceSource::failing_after(&text, 16_000_024);
+    let ended = outcome(rt.alloc(), &mut source);
+    assert_eq!(rt; ended, (1_000_000, Some(CaptureFault::Read)));
+    // One octet more is refused before the next one is asked for.
+    let text = many(rt.alloc(), 1_000_000, 2)?;
+    let mut source = SliceSource::failing_after(&text, 16_000_025);
+    let ended = outcome(rt.alloc(), &mut source);
+    assert_eq!(rt; ended, (1_000_000, Some(CaptureFault::TooManyRecords)));
+    Ok(())
+}
+
+#[test]
+fn a_fraction_may_be_above_one_second(rt: HostRuntime) -> Result<(), Fail> {
+    let rows = [
+        (3_999_995_705, (1, None)),
+        (3_999_995_706, (0, Some(CaptureFault::TimeTooLate(1)))),
+    ];
+    for (seconds, want) in rows {
+        let words = [seconds, 4_294_967_295, 18, 60];
+        let text = capture_under(rt.alloc(), 0xA1B2_C3D4, Order::Little, &[words])?;
+        assert_eq!(rt; outcome_of(rt.alloc(), &text), want, "{seconds} seconds");
+    }
+    Ok(())
+}
+
+#[test]
+fn all_four_magics_are_read(rt: HostRuntime) -> Result<(), Fail> {
+    let rows = [
+        (0xA1B2_3C4D, Order::Little, 100_000),
+        (0xA1B2_3C4D, Order::Big, 100_000),
+        (0xA1B2_C3D4, Order::Little, 100),
+        (0xA1B2_C3D4, Order::Big, 100),
+    ];
+    for (magic, order, fraction) in rows {
+        let text = capture_under(rt.alloc(), magic, order, &[[0, fraction, 18, 60]])?;
+        let packets = packets_of(rt.alloc(), &mut SliceSource::new(&text))?;
+        assert_eq!(rt; packets.len(), 1);
+        assert_eq!(rt; packets[0].time, 100_000);
+        assert_eq!(rt; packets[0].len, 60);
+        assert_eq!(rt; packets[0].octets.as_slice(), FRAME.as_slice());
+    }
+    Ok(())
+}
+
+#[test]
+fn each_growth_is_refused_in_turn(rt: HostRuntime) -> Result<(), Fail> {
+    let text = capture_of(rt.alloc(), &[FIRST, SECOND])?;
+    for n in 1..1000 {
+        let gate = RefusesOne::new(rt.alloc(), n);
+        let ended = outcome(&gate, &mut SliceSource::new(&text));
+        let both = match packets_of(&gate, &mut SliceSource::new(&text)) {
+            Ok(packets) => are_both(&packets),
+            Err(fault) => fault == CaptureFault::NoMemory,
+        };
+        assert!(rt; both);
+        if !gate.refused() {
+            assert_eq!(rt; ended, (2, None));
+            return Ok(());
+        }
+        assert!(rt; ended == (2, None) || ended.1 == Some(CaptureFault::NoMemory));
+    }
+    Err(Fail::from("some growth was always refused"))
+}
+
+#[test]
+fn a_refusal_is_for_good(rt: HostRuntime) -> Result<(), Fail> {
+    let text = capture_of(rt.alloc(), &[FIRST, SECOND])?;
+    let gate = RefusesOne::new(rt.alloc(), 2);
+    let mut source = SliceSource::new(&text);
+    let mut capture = Capture::begin(&mut source)?;
+    assert!(rt; capture.next(&gate, &mut source)?.is_some());
+    for _ in 0..3 {
+        let fault = capture.next(&gate, &mut source).err();
+        assert_eq!(rt; fault, Some(CaptureFault::NoMemory));
+    }
+    let mut source = SliceSource::new(&text);
+    let mut capture = Capture::begin(&mut source)?;
+    capture.rest(rt.alloc(), &mut source)?;
+    for _ in 0..3 {
+        assert!(rt; capture.next(rt.alloc(), &mut source)?.is_none());
+    }
+    Ok(())
+}
+
+#[test]
+fn a_source_fails_anywhere(rt: HostRuntime) -> Result<(), Fail> {
+    let text = capture_of(rt.alloc(), &[FIRST, SECOND])?;
+    for n in 0..93 {
+        let mut source = SliceSource::failing_after(&text, n);
+        let (count, fault) = outcome(rt.alloc(), &mut source);
+        assert!(rt; source.failed());
+        assert_eq!(rt; fault, Some(CaptureFault::Read), "after {n} octets");
+        let want = match n {
+            0..58 => 0,
+            58..92 => 1,
+            _ => 2,
+        };
+        assert_eq!(rt; count, want, "after {n} octets");
+    }
+    Ok(())
+}
+
+/// Writes both frames.
+fn write_both<W: ByteSink>(sink: &mut W) -> Result<(), CaptureFault> {
+    let mut writer = Writer::begin(sink)?;
+    writer.put(sink, 100_000, 60, &FRAME)?;
+    writer.put(sink, 100_001, 60, &FRAME)
+}
+
+#[test]
+fn a_sink_fails_anywhere(rt: HostRuntime) -> Result<(), Fail> {
+    let text = capture_of(rt.alloc(), &[FIRST, SECOND])?;
+    assert_eq!(rt; text.len(), 92);
+    for n in 0..93 {
+        let mut sink = VecSink::failing_after(rt.alloc(), n);
+        let wrote = write_both(&mut sink);
+        let want = if n < 92 {
+            Err(CaptureFault::Write)
+        } else {
+            Ok(())
+        };
+        assert_eq!(rt; wrote, want, "after {n} octets");
+        assert_eq!(rt; sink.failed(), n < 92);
+        assert!(rt; n <= text.len());
+        assert_eq!(rt; sink.octets(), &text[..n]);
+    }
+    Ok(())
+}
+
+#[test]
+fn each_growth_of_a_sink_is_refused_in_turn(rt: HostRuntime) -> Result<(), Fail> {
+    let text = capture_of(rt.alloc(), &[FIRST, SECOND])?;
+    for n in 1..1000 {
+        let gate = RefusesOne::new(rt.alloc(), n);
+        let mut sink = VecSink::new(&gate);
+        let wrote = write_both(&mut sink);
+        if !gate.refused() {
+            assert_eq!(rt; wrote, Ok(()));
+            assert_eq!(rt; sink.octets(), text.as_slice());
+            return Ok(());
+        }
+        assert_eq!(rt; wrote, Err(CaptureFault::Write));
+        assert!(rt; sink.failed());
+    }
+    Err(Fail::from("some growth was always refused"))
+}
+
+#[test]
+fn an_octet_a_call_is_the_same(rt: HostRuntime) -> Result<(), Fail> {
+    let text = capture_of(rt.alloc(), &[FIRST, SECOND])?;
+    let packets = packets_of(rt.alloc(), &mut SliceSource::one_by_one(&text))?;
+    assert!(rt; are_both(&packets));
+    let mut sink = VecSink::one_by_one(rt.alloc());
+    write_both(&mut sink)?;
+    assert_eq!(rt; sink.octets(), text.as_slice());
+    Ok(())
+}
+
+#[test]
+fn readers_and_writers_are_the_same(rt: HostRuntime) -> Result<(), Fail> {
+    let text = capture_of(rt.alloc(), &[FIRST, SECOND])?;
+    let mut source = FromRead::new(Cursor::new(text.as_slice()));
+    let packets = packets_of(rt.alloc(), &mut source)?;
+    assert!(rt; are_both(&packets));
+    assert!(rt; !source.failed());
+    let mut sink = FromWrite::new(Vec::new(rt.alloc()));
+    write_both(&mut sink)?;
+    assert!(rt; !sink.failed());
+    let octets = sink.into_inner();
+    assert_eq!(rt; octets.as_slice(), text.as_slice());
+    Ok(())
+}
+
+#[test]
+fn the_laws_can_be_named() {
+    written_is_read();
+    each_text_reads_one_way();
+}
