@@ -12,7 +12,12 @@ use std::alloc::Allocator;
 fn is_listed<X>(list: &[(u32, X)], number: u32) -> bool
     ensures { result ≡ is_there number list.now }
 {
-    list.iter().any(|item| number == item.0)
+    for item in list {
+        if number == item.0 {
+            return true;
+        }
+    }
+    false
 }
 
 /// Whether the numbers of a list differ from one another.
