@@ -1,0 +1,3 @@
+pub mod Keys
+pub mod Readers
+pub mod Texts
