@@ -1,5 +1,6 @@
 //! Whether a key must be there, and what stands for one that is absent.
-ghost use Rattle.std.specs.Prelude.{◌≡◌, IfOk, option_map};
+ghost use Rattle.std.specs.Prelude.{◌≡◌, IfOk, IfErr, option_map};
+ghost use Rattle.bridge_keys.specs.declared.fault.PlanFault.TheVariants.{NoMemory};
 ghost use Rattle.std.specs.Option.{ForSome};
 ghost use Rattle.toml.specs.Data.{get_member};
 ghost use Rattle.toml.specs.View.{view, table_view};
@@ -25,7 +26,8 @@ pub fn has_key(table: &Table, key: Field) -> bool
 }
 
 fn flawed(place: Place, flaw: Flaw) -> PlanFault
-    ensures { result ≡ spec.flawed place flaw }
+    ensures flawed { result ≡ spec.flawed place flaw }
+    ensures takes_no_memory { ¬ (result ≡ NoMemory) }
 {
     match flaw {
         Flaw::WrongKind => PlanFault::WrongKind(place),
@@ -37,6 +39,7 @@ fn flawed(place: Place, flaw: Flaw) -> PlanFault
 fn required_in<K: Kind>(place: Place, kind: &K, value: Option<&Value>) -> Result<K::Out, PlanFault>
     ensures reads { Gives result (spec.required_in place (K.reading kind.now) (option_map (λ v. view v.now) value.entry)) }
     ensures fits { IfOk result (K.Fits kind.now) }
+    ensures takes_no_memory { IfErr result (λ e. ¬ (e ≡ NoMemory)) }
 {
     match value {
         None => Err(PlanFault::Missing(place)),
@@ -57,6 +60,7 @@ pub fn required<K: Kind>(
 ) -> Result<K::Out, PlanFault>
     ensures reads { Gives result (spec.required place key (K.reading kind.now) (table_view table.now)) }
     ensures fits { IfOk result (K.Fits kind.now) }
+    ensures takes_no_memory { IfErr result (λ e. ¬ (e ≡ NoMemory)) }
 {
     required_in(place, kind, value_at(table, key.key()))
 }
@@ -68,6 +72,7 @@ fn optional_in<K: Kind>(
 ) -> Result<Option<K::Out>, PlanFault>
     ensures reads { Gives result (spec.optional_in place (K.reading kind.now) (option_map (λ v. view v.now) value.entry)) }
     ensures fits { IfOk result (λ x. ForSome x (K.Fits kind.now)) }
+    ensures takes_no_memory { IfErr result (λ e. ¬ (e ≡ NoMemory)) }
 {
     match value {
         None => Ok(None),
@@ -88,6 +93,7 @@ pub fn optional<K: Kind>(
 ) -> Result<Option<K::Out>, PlanFault>
     ensures reads { Gives result (spec.optional place key (K.reading kind.now) (table_view table.now)) }
     ensures fits { IfOk result (λ x. ForSome x (K.Fits kind.now)) }
+    ensures takes_no_memory { IfErr result (λ e. ¬ (e ≡ NoMemory)) }
 {
     optional_in(place, kind, value_at(table, key.key()))
 }
@@ -103,6 +109,7 @@ where
     requires { K.Fits kind.now default }
     ensures reads { Gives result (spec.default_in default place (K.reading kind.now) (option_map (λ v. view v.now) value.entry)) }
     ensures fits { IfOk result (K.Fits kind.now) }
+    ensures takes_no_memory { IfErr result (λ e. ¬ (e ≡ NoMemory)) }
 {
     match value {
         None => Ok(default),
@@ -128,6 +135,7 @@ where
     requires fits { K.Fits kind.now default }
     ensures reads { Gives result (spec.default_to default place key (K.reading kind.now) (table_view table.now)) }
     ensures fits { IfOk result (K.Fits kind.now) }
+    ensures takes_no_memory { IfErr result (λ e. ¬ (e ≡ NoMemory)) }
 {
     default_in(default, place, kind, value_at(table, key.key()))
 }
@@ -147,6 +155,7 @@ where
     requires fits { K.Fits kind.now absent }
     ensures reads { Gives result (spec.only_with other absent (spec.required place key (K.reading kind.now) (table_view table.now)) (table_view table.now)) }
     ensures fits { IfOk result (K.Fits kind.now) }
+    ensures takes_no_memory { IfErr result (λ e. ¬ (e ≡ NoMemory)) }
 {
     if has_key(table, other) {
         required(table, place, key, kind)
@@ -170,6 +179,7 @@ where
     requires fits { K.Fits kind.now absent }
     ensures reads { Gives result (spec.only_without other absent (spec.required place key (K.reading kind.now) (table_view table.now)) (table_view table.now)) }
     ensures fits { IfOk result (K.Fits kind.now) }
+    ensures takes_no_memory { IfErr result (λ e. ¬ (e ≡ NoMemory)) }
 {
     if has_key(table, other) {
         Ok(absent)
