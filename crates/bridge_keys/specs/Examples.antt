@@ -7,7 +7,7 @@ use Rattle.bridge_keys.specs.declared.fault.Flaw.TheVariants as flaw
 use Rattle.bridge_keys.specs.declared.fault.Place.{Place}
 use Rattle.bridge_keys.specs.declared.fault.PlanFault.{PlanFault}
 use Rattle.bridge_keys.specs.declared.fault.PlanFault.TheVariants as fault
-use Rattle.bridge_keys.specs.Readers.{between, switch, one_of, speeds, known, text, numbers, set_of, eight, required, optional, default_to, only_with, only_without, are_known, are_known_at, with_key, without_key, list_of, list_at, instances}
+use Rattle.bridge_keys.specs.Readers.{between, switch, one_of, speeds, known, text, numbers, set_of, ports_of, eight, required, optional, default_to, only_with, only_without, are_known, are_known_at, with_key, without_key, list_of, list_at, instances}
 use Rattle.bridge_keys.specs.Texts.{address_of, openness_of}
 
 -- a number of TOML
@@ -177,6 +177,22 @@ kinds_before_the_range = refl
 set_of_a_number : set_of 0 7 (n 3) ≡ Err flaw.WrongKind
 unfolding set_of numbers
 set_of_a_number = refl
+
+ports_there : ports_of 5 (ns (1 ∷ 3 ∷ [])) ≡ Ok 5
+unfolding ports_of set_of numbers
+ports_there = refl
+
+no_ports_there : ports_of 5 (ns []) ≡ Ok 0
+unfolding ports_of set_of numbers
+no_ports_there = refl
+
+port_absent : ports_of 5 (ns (1 ∷ 2 ∷ [])) ≡ Err flaw.Unresolved
+unfolding ports_of set_of numbers
+port_absent = refl
+
+range_before_the_plan : ports_of 5 (ns (2 ∷ 17 ∷ [])) ≡ Err flaw.OutOfRange
+unfolding ports_of set_of numbers
+range_before_the_plan = refl
 
 eight_numbers : eight 0 7 (ns (0 ∷ 1 ∷ 2 ∷ 3 ∷ 4 ∷ 5 ∷ 6 ∷ 7 ∷ [])) ≡ Ok (0 ∷ 1 ∷ 2 ∷ 3 ∷ 4 ∷ 5 ∷ 6 ∷ 7 ∷ [])
 unfolding eight numbers

@@ -1,5 +1,5 @@
 -- How the keys of a table are read: the kinds of values, their presence, and which keys are known.
-use Rattle.std.specs.Prelude.{ℕ, zero, suc, pos, negsuc, ◌+◌, ◌-◌, ◌^◌, ◌≡◌, Bool, true, false, not, ◌&&◌, List, [], ◌∷◌, ◌++◌, length, Option, Some, None, is_some, Result, Ok, Err, nat_le, nat_eq, bit_or, if◌then◌else◌}
+use Rattle.std.specs.Prelude.{ℕ, zero, suc, pos, negsuc, ◌+◌, ◌-◌, ◌^◌, ◌≡◌, Bool, true, false, not, ◌&&◌, List, [], ◌∷◌, ◌++◌, length, Option, Some, None, is_some, Result, Ok, Err, nat_le, nat_eq, bit_and, bit_or, if◌then◌else◌}
 use Rattle.std.specs.List.{list_any, list_all}
 use Rattle.std.specs.Cmp.Lexicographic.{pointwise}
 use Rattle.toml.specs.Data.{Data, string, integer, float, boolean, datetime, array, table, Items, no_items, item, Members, no_members, member, get_member}
@@ -118,6 +118,14 @@ set_with low bits (n ∷ ns) = set_with low (bit_or bits (2 ^ (n - low))) ns
 -- an array of numbers from low to high, as a set
 unfoldable pub set_of : ℕ → ℕ → Data → Result ℕ Flaw
 set_of low high d = numbers low high d >>= λ ns. Ok (set_with low 0 ns)
+
+-- whether a set has nothing that another doesn't have
+abbrev pub is_subset : ℕ → ℕ → Bool
+is_subset set all = nat_eq (bit_and set all) set
+
+-- an array of ports that the plan has; all of them are known to be numbers of ports before one is looked up
+unfoldable pub ports_of : ℕ → Data → Result ℕ Flaw
+ports_of all d = set_of 1 16 d >>= λ set. if is_subset set all then Ok set else Err flaw.Unresolved
 
 -- an array of eight numbers from low to high
 unfoldable pub eight : ℕ → ℕ → Data → Result (List ℕ) Flaw

@@ -121,6 +121,31 @@ impl Kind for SetOf {
     }
 }
 
+/// A list of ports that the plan has: an array of numbers from 1 to 16, as a set from port 1 on.
+#[derive(Clone, Copy)]
+pub struct PortsOf {
+    /// The ports of the plan: bit `n - 1` says whether it has port `n`.
+    pub all: u16,
+}
+
+impl Kind for PortsOf {
+    type Out = u16;
+
+    ghost reading = { λ k. spec.ports_of k.all };
+
+    ghost Fits = { λ k ports. spec.is_subset ports k.all ≡ true };
+
+    #[tactic(auto, unfolding(crate::specs::Readers::ports_of))]
+    fn read(&self, value: &Value) -> Result<u16, Flaw> {
+        let ports = (SetOf { low: 1, high: 16 }).read(value)?;
+        if ports & self.all == ports {
+            Ok(ports)
+        } else {
+            Err(Flaw::Unresolved)
+        }
+    }
+}
+
 #[tactic(auto, using(crate::proofs::Sets::count_of_view))]
 fn has_eight(items: &[Value]) -> bool
     ensures numbers { result ≡ nat_eq (length (spec.numbers_of (items_view items.now))) 8 }

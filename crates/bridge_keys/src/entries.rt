@@ -1,5 +1,6 @@
 //! The entries of a list inside an instance, table by table.
-ghost use Rattle.std.specs.Prelude.{◌≡◌, Result, option_map};
+ghost use Rattle.std.specs.Prelude.{◌≡◌, All, IfOk, Result, option_map};
+ghost use Rattle.std.specs.Option.{ForSome};
 ghost use Rattle.toml.specs.Data.{Members};
 ghost use Rattle.toml.specs.View.{view, table_view, items_view};
 ghost use Rattle.bridge_keys.specs.declared.fault.PlanFault.{PlanFault as Fault};
@@ -19,9 +20,13 @@ pub trait Entry {
     /// What a table stands for, or its first fault.
     ghost reading: { Self → Members → Result Self.Out Fault };
 
+    /// What holds of each entry.
+    ghost Fits: { Self → Self.Out → Type 0 };
+
     /// What a table stands for, or its first fault.
     fn read(&self, table: &Table) -> Result<Self::Out, PlanFault>
-        ensures reads { Gives result (reading self.now (table_view table.now)) };
+        ensures reads { Gives result (reading self.now (table_view table.now)) }
+        ensures fits { IfOk result (Fits self.now) };
 }
 
 fn entries_of<A: Allocator + Copy, E: Entry>(
@@ -31,7 +36,8 @@ fn entries_of<A: Allocator + Copy, E: Entry>(
 ) -> Result<Vec<E::Out, A>, PlanFault>
 where
     E::Out: Drop,
-    ensures { GivesAs (λ v. v.items) result (spec.each (E.reading entry.now) (items_view items.now)) }
+    ensures reads { GivesAs (λ v. v.items) result (spec.each (E.reading entry.now) (items_view items.now)) }
+    ensures fits { IfOk result (λ v. All (E.Fits entry.now) v.items) }
 {
     let mut list = Vec::new(alloc);
     'items: for item in items {
@@ -55,6 +61,7 @@ pub fn list_at<A: Allocator + Copy, E: Entry>(
 where
     E::Out: Drop,
     ensures reads { GivesAs (λ x. option_map (λ v. v.items) x) result (spec.list_at place (E.reading entry.now) (option_map (λ v. view v.now) value.entry)) }
+    ensures fits { IfOk result (λ x. ForSome x (λ v. All (E.Fits entry.now) v.items)) }
 {
     match value {
         None => Ok(None),

@@ -15,7 +15,7 @@ pub mod known;
 pub mod presence;
 pub mod texts;
 
-pub use arrays::{Classes, Rooms, SetOf};
+pub use arrays::{Classes, PortsOf, Rooms, SetOf, are_tables, with_bit};
 pub use entries::{Entry, list_at};
 pub use fault::{Field, Flaw, Place, PlanFault, Section};
 pub use instances::{SectionReader, read_instances};
