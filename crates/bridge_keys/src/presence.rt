@@ -181,9 +181,9 @@ where
     ensures fits { IfOk result (K.Fits kind.now) }
     ensures takes_no_memory { IfErr result (λ e. ¬ (e ≡ NoMemory)) }
 {
-    if has_key(table, other) {
-        Ok(absent)
-    } else {
+    if !has_key(table, other) {
         required(table, place, key, kind)
+    } else {
+        Ok(absent)
     }
 }
