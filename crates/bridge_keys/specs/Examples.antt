@@ -86,20 +86,20 @@ speed_of_text = refl
 
 -- A NUMBER THAT STANDS ALREADY: 3 IS THERE
 
-known_there : known (nat_eq 3) (between 1 16) (n 3) ≡ Ok 3
-unfolding known between
+known_there : known (nat_eq 3) 1 16 (n 3) ≡ Ok 3
+unfolding known
 known_there = refl
 
-known_absent : known (nat_eq 3) (between 1 16) (n 4) ≡ Err flaw.Unresolved
-unfolding known between
+known_absent : known (nat_eq 3) 1 16 (n 4) ≡ Err flaw.Unresolved
+unfolding known
 known_absent = refl
 
-known_out_of_range : known (nat_eq 3) (between 1 16) (n 17) ≡ Err flaw.OutOfRange
-unfolding known between
-known_out_of_range = refl
+known_of_no_range : known (nat_eq 3) 1 16 (n 17) ≡ Err flaw.Unresolved
+unfolding known
+known_of_no_range = refl
 
-known_of_switch : known (nat_eq 3) (between 1 16) (boolean true) ≡ Err flaw.WrongKind
-unfolding known between
+known_of_switch : known (nat_eq 3) 1 16 (boolean true) ≡ Err flaw.WrongKind
+unfolding known
 known_of_switch = refl
 
 -- TEXTS
@@ -179,20 +179,20 @@ unfolding set_of numbers
 set_of_a_number = refl
 
 ports_there : ports_of 5 (ns (1 ∷ 3 ∷ [])) ≡ Ok 5
-unfolding ports_of set_of numbers
+unfolding ports_of
 ports_there = refl
 
 no_ports_there : ports_of 5 (ns []) ≡ Ok 0
-unfolding ports_of set_of numbers
+unfolding ports_of
 no_ports_there = refl
 
 port_absent : ports_of 5 (ns (1 ∷ 2 ∷ [])) ≡ Err flaw.Unresolved
-unfolding ports_of set_of numbers
+unfolding ports_of
 port_absent = refl
 
-range_before_the_plan : ports_of 5 (ns (2 ∷ 17 ∷ [])) ≡ Err flaw.OutOfRange
-unfolding ports_of set_of numbers
-range_before_the_plan = refl
+no_such_port : ports_of 5 (ns (1 ∷ 17 ∷ [])) ≡ Err flaw.Unresolved
+unfolding ports_of
+no_such_port = refl
 
 eight_numbers : eight 0 7 (ns (0 ∷ 1 ∷ 2 ∷ 3 ∷ 4 ∷ 5 ∷ 6 ∷ 7 ∷ [])) ≡ Ok (0 ∷ 1 ∷ 2 ∷ 3 ∷ 4 ∷ 5 ∷ 6 ∷ 7 ∷ [])
 unfolding eight numbers
@@ -239,8 +239,8 @@ required_of_another_kind : required place field.Vid (between 1 4094) (one_key (c
 unfolding required between
 required_of_another_kind = refl
 
-required_unresolved : required place field.Vid (known (nat_eq 3) (between 1 4094)) (one_key (codes "vid") (n 4)) ≡ Err (fault.Unresolved place)
-unfolding required known between
+required_unresolved : required place field.Vid (known (nat_eq 3) 1 4094) (one_key (codes "vid") (n 4)) ≡ Err (fault.Unresolved place)
+unfolding required known
 required_unresolved = refl
 
 optional_there : optional place field.Vid (between 1 4094) (one_key (codes "vid") (n 1)) ≡ Ok (Some 1)

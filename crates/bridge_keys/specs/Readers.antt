@@ -54,9 +54,11 @@ one_of allowed _ = Err flaw.WrongKind
 abbrev pub speeds : List ℕ
 speeds = 10 ∷ 100 ∷ 1000 ∷ 2500 ∷ 10000 ∷ []
 
--- a number that something before it has
-unfoldable pub known : (ℕ → Bool) → (Data → Result ℕ Flaw) → Data → Result ℕ Flaw
-known has kind d = kind d >>= λ n. if has n then Ok n else Err flaw.Unresolved
+-- a number from low to high that stands in the plan already; every other number is of nothing there
+unfoldable pub known : (ℕ → Bool) → ℕ → ℕ → Data → Result ℕ Flaw
+known has low high (integer (pos n)) = if (nat_le low n && nat_le n high) && has n then Ok n else Err flaw.Unresolved
+known has low high (integer (negsuc n)) = Err flaw.Unresolved
+known has low high _ = Err flaw.WrongKind
 
 -- what stands for nothing is out of range
 abbrev pub or_out_of_range : {A : Type 0} → Option A → Result A Flaw
@@ -123,9 +125,10 @@ set_of low high d = numbers low high d >>= λ ns. Ok (set_with low 0 ns)
 abbrev pub is_subset : ℕ → ℕ → Bool
 is_subset set all = nat_eq (bit_and set all) set
 
--- an array of ports that the plan has; all of them are known to be numbers of ports before one is looked up
+-- an array of ports that the plan has, as a set from port 1 on; every other number is of no port
 unfoldable pub ports_of : ℕ → Data → Result ℕ Flaw
-ports_of all d = set_of 1 16 d >>= λ set. if is_subset set all then Ok set else Err flaw.Unresolved
+ports_of all (array items) = if not (are_integers items) then Err flaw.WrongKind else if are_between 1 16 items && is_subset (set_with 1 0 (numbers_of items)) all then Ok (set_with 1 0 (numbers_of items)) else Err flaw.Unresolved
+ports_of all _ = Err flaw.WrongKind
 
 -- an array of eight numbers from low to high
 unfoldable pub eight : ℕ → ℕ → Data → Result (List ℕ) Flaw

@@ -121,7 +121,8 @@ impl Kind for SetOf {
     }
 }
 
-/// A list of ports that the plan has: an array of numbers from 1 to 16, as a set from port 1 on.
+/// A list of ports that the plan has, as a set from port 1 on. Any other number is Unresolved, also one that no port
+/// can have.
 #[derive(Clone, Copy)]
 pub struct PortsOf {
     /// The ports of the plan: bit `n - 1` says whether it has port `n`.
@@ -137,11 +138,22 @@ impl Kind for PortsOf {
 
     #[tactic(auto, unfolding(crate::specs::Readers::ports_of))]
     fn read(&self, value: &Value) -> Result<u16, Flaw> {
-        let ports = (SetOf { low: 1, high: 16 }).read(value)?;
-        if ports & self.all == ports {
-            Ok(ports)
-        } else {
-            Err(Flaw::Unresolved)
+        match value {
+            Value::Array(items) => {
+                if !are_integers(items) {
+                    return Err(Flaw::WrongKind);
+                }
+                if !are_between(items, 1, 16) {
+                    return Err(Flaw::Unresolved);
+                }
+                let ports = set_of(items, 1, 16);
+                if ports & self.all == ports {
+                    Ok(ports)
+                } else {
+                    Err(Flaw::Unresolved)
+                }
+            }
+            _ => Err(Flaw::WrongKind),
         }
     }
 }

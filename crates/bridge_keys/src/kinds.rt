@@ -116,7 +116,7 @@ pub trait Finds {
         ensures among { result ≡ among self.now number };
 }
 
-/// A number of those that stand already in a plan.
+/// A number of those that stand already in a plan. Any other number is Unresolved, also outside the range.
 #[derive(Clone, Copy)]
 pub struct Known<F> {
     /// What stands already.
@@ -128,17 +128,25 @@ pub struct Known<F> {
 impl<F: Finds> Kind for Known<F> {
     type Out = u64;
 
-    ghost reading = { λ k. spec.known (F.among k.among) (spec.between k.range.low k.range.high) };
+    ghost reading = { λ k. spec.known (F.among k.among) k.range.low k.range.high };
 
     ghost Fits = { λ k n. (k.range.low ≤ n) × (n ≤ k.range.high) × (F.among k.among n ≡ true) };
 
     #[tactic(auto, unfolding(crate::specs::Readers::known))]
     fn read(&self, value: &Value) -> Result<u64, Flaw> {
-        let number = self.range.read(value)?;
-        if self.among.has(number) {
-            Ok(number)
-        } else {
-            Err(Flaw::Unresolved)
+        match value {
+            Value::Integer(number) => {
+                if *number < 0 {
+                    return Err(Flaw::Unresolved);
+                }
+                let number = *number as u64;
+                if self.range.low <= number && number <= self.range.high && self.among.has(number) {
+                    Ok(number)
+                } else {
+                    Err(Flaw::Unresolved)
+                }
+            }
+            _ => Err(Flaw::WrongKind),
         }
     }
 }
