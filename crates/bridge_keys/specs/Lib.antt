@@ -1,0 +1,4 @@
+pub mod Examples
+pub mod Keys
+pub mod Readers
+pub mod Texts

@@ -1,0 +1,27 @@
+#![tactic(auto)]
+//! The words in which a plan is read, key by key: what may stand at a key, whether the key must be
+//! there, which keys a table may have, and the fault where one of these is not met.
+//!
+//! A plan is a TOML document of sections, each an array of tables. A table's key is read by a `Kind`
+//! of value and by a word of presence (`required`, `optional`, `default_to`), and what is wrong with
+//! it is a `PlanFault` that names the section, the instance and the key.
+
+pub mod arrays;
+pub mod entries;
+pub mod fault;
+pub mod instances;
+pub mod kinds;
+pub mod known;
+pub mod presence;
+pub mod texts;
+
+pub use arrays::{Classes, PortsOf, Rooms, SetOf, are_tables, with_bit};
+pub use entries::{Entry, list_at};
+pub use fault::{Field, Flaw, Place, PlanFault, Section};
+pub use instances::{SectionReader, read_instances};
+pub use kinds::{Between, Finds, Kind, Known, Mbps, Switch};
+pub use known::{are_known, are_known_at};
+pub use presence::{
+    default_to, has_key, optional, required, required_with, required_without, value_at,
+};
+pub use texts::{Address, Meaning, Openness, Text};
