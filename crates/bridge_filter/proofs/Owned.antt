@@ -7,7 +7,8 @@ use Rattle.bridge_filter.specs.declared.Verdict.TheVariants as verdict
 use Rattle.bridge_gate.specs.declared.gate.GateAnswer.{GateAnswer}
 use Rattle.bridge_gate.specs.declared.gate.GateAnswer.TheVariants as gate
 use Rattle.bridge_filter.specs.Verdicts.{Plans, Call, Event, Came, ClearedBlocked, ClearedRxOf, ClearedOctetsOf, ClearedRedOf, Step, Unfiltered, Judged, Command, gate_share, meter_share, is_blocked, is_meter, is_match, lesser, flow, verdict_of, judged, told, is_above, by_answer, by_meter, gate_answer}
-use Rattle.bridge_filter.specs.Own.{In, own_events, is_own_step, own_steps, IsApart}
+use Rattle.bridge_cycle.specs.Entries.{In}
+use Rattle.bridge_filter.specs.Own.{own_events, is_own_step, own_steps, IsApart}
 use Rattle.bridge_filter.proofs.Numbered.{by_bool, some_is, is_eq, not_eq}
 
 -- each judged step is of a filter of the plan
