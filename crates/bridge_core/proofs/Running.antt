@@ -15,6 +15,7 @@ use Rattle.bridge_capture.specs.Written.{written_item, written_text, written_hea
 use Rattle.bridge_capture.specs.Sinks.{AppendsFront}
 use Rattle.bridge_capture.proofs.Written.{front_of_second}
 use Rattle.bridge_cycle.specs.Cyclic.{Cyclic}
+use Rattle.bridge_cycle.proofs.Cases.{by_bool}
 use Rattle.bridge_port.specs.declared.item.Item.{Item}
 use Rattle.bridge_port.specs.declared.item.Refusal.{Refusal}
 use Rattle.bridge_port.specs.declared.item.Refusal.TheVariants as refusal
@@ -22,7 +23,7 @@ use Rattle.bridge_port.specs.Schedule.{Started, Copy, IsLawful, is_accepted}
 use Rattle.bridge_port.specs.Seen.{all_seen, SameRooms}
 use Rattle.bridge_port.specs.Opening.{opens_of, ever_of}
 use Rattle.bridge_port.specs.Standing.{State, StandsFor, NoStartBefore, IsDue, rules_of, refusal_of, fate_of, copy_of, offered_state, answer_of, count_queued}
-use Rattle.bridge_port.proofs.Laws.{by_bool, not_lt}
+use Rattle.bridge_port.proofs.Laws.{not_lt}
 use Rattle.bridge_port.proofs.Ports.{idle_calm}
 use Rattle.bridge_port.proofs.Watched.{lawful_seen}
 use Rattle.bridge_core.specs.declared.count.WireCount.{WireCount}

@@ -1,3 +1,4 @@
+pub mod Cases
 pub mod Searching
 pub mod Turns
 pub mod Totals

@@ -5,6 +5,7 @@ use Rattle.std.specs.Prelude.{◌↔◌}
 use Rattle.bridge_cycle.specs.Moments.{Fits, Repeats}
 use Rattle.bridge_cycle.specs.Runs.{IsLongestBefore}
 use Rattle.bridge_cycle.proofs.Repeats.{turns, fits_near}
+use Rattle.bridge_cycle.proofs.Cases.{by_bool}
 
 -- what was seen up to a moment: the longest time open without a break, and the one that lasts there
 pub record Ran (opens : ℕ → Bool) (longest run seen : ℕ) : Type 0 where
@@ -93,10 +94,6 @@ most_of_all opens c longest occ t some r l less f =
       | inl a ↦ let k : c ≤ longest = l.most c near.0 (let m = near.2 in omega arith) (fits_less opens occ c near.0 (omega arith) near.3) in omega arith
       | inr b ↦ l.most occ near.0 (let m = near.2 in omega arith) near.3
     ]
-
-by_bool : {A : Type 0} (b : Bool) → (b ≡ true → A) → (b ≡ false → A) → A
-by_bool true f g = f refl
-by_bool false f g = g refl
 
 one_fits : (opens : ℕ → Bool) (t : ℕ) → opens t ≡ true → Fits opens 1 t
 one_fits opens t h u p q = let e : u ≡ t = omega arith in ap opens e ∙ h

@@ -4,6 +4,7 @@ use Rattle.std.proofs.lemmas.Bool.{cases_lt}
 use Rattle.std.proofs.lemmas.Bool.Decides.{nat_tests}
 use Rattle.std.proofs.lemmas.Nat.{mod-mul-add}
 use Rattle.std.proofs.Math.Nat.{mod-lt}
+use Rattle.std.proofs.lemmas.Option.{same_Some}
 use lib.IntN.{ℤ, pos, ◌-ℤ◌}
 use lib.Signed.{◌≤ℤ◌}
 use Rattle.bridge_cycle.specs.declared.timeline.Turn.{Turn}
@@ -14,9 +15,6 @@ place_here e f es start cycle p h = grind (arith, nat_tests)
 
 pub place_next : {S : Type 0} (e f : S × ℕ) (es : List (S × ℕ)) (start cycle p : ℕ) → start + e.1 ≤ p → place (e ∷ f ∷ es) start cycle p ≡ place (f ∷ es) (start + e.1) cycle p
 place_next e f es start cycle p h = grind (arith, nat_tests)
-
-some_is : {A : Type 0} (a b : A) → Some a ≡ Some b → a ≡ b
-some_is a b h = cc
 
 -- what the place of a phase is
 pub record IsPlaced {S : Type 0} (es : List (S × ℕ)) (start cycle p : ℕ) (x : Place S) : Type 0 where
@@ -30,11 +28,11 @@ pub placed : {S : Type 0} (es : List (S × ℕ)) (start cycle p : ℕ) (x : Plac
 placed [] start cycle p x w a b h = absurd (cc)
 placed {S} (e ∷ []) start cycle p x w a b h =
     let y : Place S = record { state = e.0; start = start; end = cycle } in
-    subst (IsPlaced (e ∷ []) start cycle p) (some_is y x h) (record { begins = a; ends = b; after = omega arith; within = omega arith; same = λ q k l. refl })
+    subst (IsPlaced (e ∷ []) start cycle p) (same_Some y x h) (record { begins = a; ends = b; after = omega arith; within = omega arith; same = λ q k l. refl })
 placed {S} (e ∷ f ∷ es) start cycle p x w a b h = elim (cases_lt p (start + e.1)) [
   | inl l ↦
       let y : Place S = record { state = e.0; start = start; end = start + e.1 } in
-      subst (IsPlaced (e ∷ f ∷ es) start cycle p) (some_is y x (sym (place_here e f es start cycle p l) ∙ h)) (record { begins = a; ends = l; after = omega arith; within = omega arith; same = λ q k m. place_here e f es start cycle q m })
+      subst (IsPlaced (e ∷ f ∷ es) start cycle p) (same_Some y x (sym (place_here e f es start cycle p l) ∙ h)) (record { begins = a; ends = l; after = omega arith; within = omega arith; same = λ q k m. place_here e f es start cycle q m })
   | inr r ↦
       let t : IsPlaced (f ∷ es) (start + e.1) cycle p x = placed (f ∷ es) (start + e.1) cycle p x (omega arith) r b (sym (place_next e f es start cycle p r) ∙ h) in
       record { begins = t.begins; ends = t.ends; after = let k = t.after in omega arith; within = t.within; same = λ q k m. place_next e f es start cycle q (let n = t.after in omega arith) ∙ t.same q k m }
@@ -68,7 +66,7 @@ turned {S} l t x lawful h =
     let s_begins : y.start ≤ p = s.begins in
     let s_ends : p < y.end = s.ends in
     let s_within : y.end ≤ l.cycle = s.within in
-    subst (IsTurn l t) (some_is (record { state = y.state; start = pos t -ℤ pos (p - y.start); end = t + (y.end - p) }) x b.2) (record {
+    subst (IsTurn l t) (same_Some (record { state = y.state; start = pos t -ℤ pos (p - y.start); end = t + (y.end - p) }) x b.2) (record {
       begins = omega (arith, ints);
       ends = omega arith;
       soon = omega arith;

@@ -2,12 +2,14 @@ use Rattle.std.proofs.Common.{◌≡◌, ℕ, Bool, true, false, List, [], ◌�
 use Rattle.std.specs.Prelude.{nat_eq, nat_lt, if◌then◌else◌, Option, Some, None, IsSome}
 use Rattle.std.specs.Option.{option_map, is_some}
 use Rattle.std.specs.Map.{lookup}
+use Rattle.std.proofs.lemmas.Option.{same_Some}
+use Rattle.bridge_cycle.proofs.Cases.{by_bool}
 use Rattle.bridge_filter.specs.declared.FilterPlan.{FilterPlan}
 use Rattle.bridge_filter.specs.declared.filter.Filter.{Filter}
 use Rattle.bridge_filter.specs.Verdicts.{Call, flow, lesser, is_match}
 use Rattle.bridge_filter.specs.Plans.{is_there, are_distinct}
 use Rattle.bridge_filter.specs.Steps.{plans_in}
-use Rattle.bridge_filter.proofs.Numbered.{by_bool, some_is, is_eq, same_eq}
+use Rattle.bridge_filter.proofs.Numbered.{is_eq, same_eq}
 use Rattle.bridge_filter.proofs.Judging.{lookup-plans_in}
 
 -- a number is in a list exactly where a look-up finds it
@@ -18,8 +20,8 @@ found_there : {X : Type 0} (n : ℕ) (xs : List (ℕ × X)) (y : X) → lookup (
 found_there n xs y h = is_there-lookup n xs ∙ ap is_some h
 
 lesser_cases : (b : Bool) (f g x : ℕ × FilterPlan) → (if b then Some g else Some f) ≡ Some x → (f ≡ x → ⊥) → g ≡ x
-lesser_cases true f g x h differ = some_is g x h
-lesser_cases false f g x h differ = absurd (differ (some_is f x h))
+lesser_cases true f g x h differ = same_Some g x h
+lesser_cases false f g x h differ = absurd (differ (same_Some f x h))
 
 head_apart : {X : Type 0} (x : ℕ × X) (xs : List (ℕ × X)) → are_distinct (x ∷ xs) ≡ true → (is_there x.0 xs ≡ false) × (are_distinct xs ≡ true)
 head_apart x xs h = by_bool (is_there x.0 xs) (λ e. absurd (let z = rw e at h in cc)) (λ e. (e, rw e at h))
@@ -40,10 +42,10 @@ found_later f x fs distinct h = by_bool (nat_eq x.0 f.0)
     (λ e. record { found = rw e h.found })
 
 found_lesser : (f x : ℕ × FilterPlan) (fs : List (ℕ × FilterPlan)) (o : Option (ℕ × FilterPlan)) → nat_eq f.0 f.0 ≡ true → are_distinct (f ∷ fs) ≡ true → ((y : ℕ × FilterPlan) → o ≡ Some y → IsFound fs y) → lesser f o ≡ Some x → IsFound (f ∷ fs) x
-found_lesser f x fs None same distinct ih h = found_first f x fs same (some_is f x h)
+found_lesser f x fs None same distinct ih h = found_first f x fs same (same_Some f x h)
 found_lesser f x fs (Some g) same distinct ih h = by_bool (nat_lt g.0 f.0)
     (λ e. let k : Some g ≡ Some x = rw e at h in found_later f x fs distinct (ih x k))
-    (λ e. let k : Some f ≡ Some x = rw e at h in found_first f x fs same (some_is f x k))
+    (λ e. let k : Some f ≡ Some x = rw e at h in found_first f x fs same (same_Some f x k))
 
 -- a flow is the filter with its number
 pub flow_found : (fs : List (ℕ × FilterPlan)) (c : Call) (x : ℕ × FilterPlan) → are_distinct fs ≡ true → flow fs c ≡ Some x → IsFound fs x
@@ -64,7 +66,7 @@ pub record IsFlow (fs : List (ℕ × FilterPlan)) (c : Call) (n : ℕ) : Type 0 
 numbered_flow : (fs : List (ℕ × FilterPlan)) (c : Call) (n : ℕ) (o : Option (ℕ × FilterPlan)) → are_distinct fs ≡ true → flow fs c ≡ o → Some n ≡ option_map (λ (x : ℕ × FilterPlan). x.0) o → IsFlow fs c n
 numbered_flow fs c n None distinct h k = absurd (cc)
 numbered_flow fs c n (Some x) distinct h k =
-    let e : x.0 ≡ n = sym (some_is n x.0 k) in
+    let e : x.0 ≡ n = sym (same_Some n x.0 k) in
     let f = flow_found fs c x distinct h in
     subst (λ (m : ℕ). IsFlow fs c m) e (record { plan = x.1; is = h; found = f.found })
 

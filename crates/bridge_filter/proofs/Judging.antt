@@ -2,6 +2,7 @@ use Rattle.std.proofs.Common.{◌≡◌, ℕ, Bool, true, false, List, [], ◌�
 use Rattle.std.specs.Prelude.{nat_eq, if◌then◌else◌, ◌&&◌, ◌||◌, Option, Some, None, count_by}
 use Rattle.bridge_meter.specs.Standing as meter
 use Rattle.bridge_gate.specs.Standing as gate
+use Rattle.bridge_cycle.proofs.Cases.{by_bool}
 use Rattle.bridge_filter.specs.Plans.{KeepsNumbers}
 use Rattle.bridge_filter.specs.declared.FilterPlan.{FilterPlan}
 use Rattle.bridge_filter.specs.declared.Verdict.{Verdict}
@@ -16,12 +17,13 @@ use Rattle.std.specs.Map.{lookup, set_value}
 use Rattle.std.specs.Option.{option_map}
 use Rattle.std.proofs.lemmas.List.{length-append, append-nil}
 use Rattle.std.proofs.lemmas.List.Sums.{sum_by-append}
-use Rattle.bridge_filter.proofs.Numbered.{by_bool, some_is, same_eq, Changes, each_after}
+use Rattle.std.proofs.lemmas.Option.{same_Some}
+use Rattle.bridge_filter.proofs.Numbered.{same_eq, Changes, each_after}
 use Rattle.bridge_filter.proofs.Shares.{gate_share-refused, meter_share-refused, gates_stand_same, meters_stand_same}
 
 refused_by : (a b : Bool) (v z : Verdict) → (if a then Some verdict.Blocked else (if b then Some verdict.Oversize else None)) ≡ Some v → v ≡ (if a then verdict.Blocked else (if b then verdict.Oversize else z))
-refused_by true b v z h = sym (some_is _ _ h)
-refused_by false true v z h = sym (some_is _ _ h)
+refused_by true b v z h = sym (same_Some _ _ h)
+refused_by false true v z h = sym (same_Some _ _ h)
 refused_by false false v z h = absurd (cc)
 
 admitted_by : (a b : Bool) (z : Verdict) → (if a then Some verdict.Blocked else (if b then Some verdict.Oversize else None)) ≡ None → z ≡ (if a then verdict.Blocked else (if b then verdict.Oversize else z))
@@ -42,8 +44,8 @@ admitted_verdict p ss c n f k h =
     (subst (λ (b : Bool). (if b then Some verdict.Blocked else (if is_above f.plan.max_sdu c.sdu then Some verdict.Oversize else None)) ≡ None) k.blocked h)
 
 refused_early : (a b : Bool) (v : Verdict) → (if a then Some verdict.Blocked else (if b then Some verdict.Oversize else None)) ≡ Some v → (reached_gate v ≡ false) × (passed_gate v ≡ false)
-refused_early true b v h = let e = sym (some_is _ _ h) in rw e (refl, refl)
-refused_early false true v h = let e = sym (some_is _ _ h) in rw e (refl, refl)
+refused_early true b v h = let e = sym (same_Some _ _ h) in rw e (refl, refl)
+refused_early false true v h = let e = sym (same_Some _ _ h) in rw e (refl, refl)
 refused_early false false v h = absurd (cc)
 
 -- a frame that is refused before the gate has a share of no gate and no meter
@@ -147,13 +149,13 @@ lookup-plans_in n (f ∷ fs) = by_bool (nat_eq n f.0) (λ e. rw e refl) (λ e. r
 
 -- a look-up finds the plan of what is kept
 pub plan_found : (n : ℕ) (fs : List (ℕ × Filter)) (f : Filter) (plan : FilterPlan) → lookup (nat_eq n) fs ≡ Some f → lookup (nat_eq n) (plans_in fs) ≡ Some plan → f.plan ≡ plan
-plan_found n fs f plan h k = some_is f.plan plan (ap (option_map (λ (x : Filter). x.plan)) (sym h) ∙ (sym (lookup-plans_in n fs) ∙ k))
+plan_found n fs f plan h k = same_Some f.plan plan (ap (option_map (λ (x : Filter). x.plan)) (sym h) ∙ (sym (lookup-plans_in n fs) ∙ k))
 
 -- plans stay where one filter is kept with the plan that it had
 pub plans_in-set_value : (n : ℕ) (fs : List (ℕ × Filter)) (f g : Filter) → lookup (nat_eq n) fs ≡ Some f → g.plan ≡ f.plan → plans_in (set_value (nat_eq n) fs g) ≡ plans_in fs
 plans_in-set_value n [] f g h k = refl
 plans_in-set_value n (x ∷ fs) f g h k = by_bool (nat_eq n x.0)
     (λ e.
-    let it : x.1 ≡ f = some_is x.1 f (rw e at h) in
+    let it : x.1 ≡ f = same_Some x.1 f (rw e at h) in
     rw (e, k, ← it) refl)
     (λ e. let there : lookup (nat_eq n) fs ≡ Some f = rw e at h in rw e (ap (λ (z : List (ℕ × FilterPlan)). (x.0, x.1.plan) ∷ z) (plans_in-set_value n fs f g there k)))

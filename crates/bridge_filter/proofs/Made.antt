@@ -5,12 +5,13 @@ use Rattle.std.specs.Prelude.{nat_eq, if◌then◌else◌, not, ◌&&◌, Option
 use Rattle.std.specs.Option.{option_map, option_eq}
 use Rattle.std.specs.Map.{lookup}
 use Rattle.std.specs.List.{list_all}
+use Rattle.bridge_cycle.proofs.Cases.{by_bool}
 use Rattle.bridge_filter.specs.declared.FilterPlan.{FilterPlan}
 use Rattle.bridge_filter.specs.declared.find.Key.{Key}
 use Rattle.bridge_filter.specs.Plans.{is_there, are_distinct}
 use Rattle.bridge_filter.specs.Finding.{same_key, key_of, lesser_number, least_by, least_with}
 use Rattle.bridge_filter.specs.Steps.{Made, AreMade, new_filter, new_filters, plans_in}
-use Rattle.bridge_filter.proofs.Numbered.{by_bool, is_eq, same_eq}
+use Rattle.bridge_filter.proofs.Numbered.{is_eq, same_eq}
 use Rattle.bridge_filter.proofs.Found.{second_lesser}
 
 -- numbers of a list with one more at its end

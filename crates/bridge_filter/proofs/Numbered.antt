@@ -2,10 +2,8 @@ use Rattle.std.proofs.Common.{◌≡◌, ℕ, Bool, true, false, List, arith, re
 use Rattle.std.proofs.lemmas.Bool.Decides.{nat_tests}
 use Rattle.std.specs.Prelude.{nat_eq}
 use Rattle.std.specs.Map.{lookup}
-
-pub by_bool : {C : Type 0} (b : Bool) → (b ≡ true → C) → (b ≡ false → C) → C
-by_bool true p q = p refl
-by_bool false p q = q refl
+use Rattle.std.proofs.lemmas.Option.{same_Some}
+use Rattle.bridge_cycle.proofs.Cases.{by_bool}
 
 pub is_eq : (m n : ℕ) → nat_eq m n ≡ true → m ≡ n
 is_eq m n h = grind (arith, nat_tests)
@@ -15,9 +13,6 @@ not_eq m n h e = absurd (let z : nat_eq m n ≡ true = grind (arith, nat_tests) 
 
 pub same_eq : (n : ℕ) → nat_eq n n ≡ true
 same_eq n = grind (arith, nat_tests)
-
-pub some_is : {A : Type 0} (a b : A) → Some a ≡ Some b → a ≡ b
-some_is a b h = cc
 
 -- a list by number in which the value of one number, which was x, is y now, and each other number has what it had
 pub record Changes {X : Type 0} (old new : List (ℕ × X)) (n : ℕ) (x y : X) : Type 0 where
@@ -30,6 +25,6 @@ pub each_after : {X : Type 0} (old new : List (ℕ × X)) (n : ℕ) (x y : X) (P
 each_after {X} old new n x y P Q h each own others k z found = by_bool (nat_eq n k)
     (λ same.
     let at : n ≡ k = is_eq n k same in
-    let it : y ≡ z = some_is y z (sym h.own ∙ subst (λ (m : ℕ). lookup (nat_eq m) new ≡ Some z) (sym at) found) in
+    let it : y ≡ z = same_Some y z (sym h.own ∙ subst (λ (m : ℕ). lookup (nat_eq m) new ≡ Some z) (sym at) found) in
     subst (λ (w : X). Q k w) it (subst (λ (m : ℕ). Q m y) at (own (each n x h.there))))
     (λ differ. others k z differ (each k z (sym (h.others k (λ e. not_eq n k differ (sym e))) ∙ found)))

@@ -1,15 +1,17 @@
 use Rattle.std.proofs.Common.{◌≡◌, ℕ, true, false, List, [], ◌∷◌, arith, refl, ap, sym, subst, inl, inr, Option, Some, None}
 use Rattle.std.proofs.lemmas.Bool.Decides.{nat_tests}
 use Rattle.std.specs.Prelude.{if◌then◌else◌, nat_eq, nat_lt, ◌&&◌}
+use Rattle.std.proofs.lemmas.Option.{same_Some}
+use Rattle.bridge_cycle.specs.Entries.{In}
+use Rattle.bridge_cycle.proofs.Cases.{by_bool}
 use Rattle.bridge_filter.specs.declared.FilterPlan.{FilterPlan}
 use Rattle.bridge_filter.specs.declared.Verdict.{Verdict}
 use Rattle.bridge_filter.specs.declared.Verdict.TheVariants as verdict
 use Rattle.bridge_gate.specs.declared.gate.GateAnswer.{GateAnswer}
 use Rattle.bridge_gate.specs.declared.gate.GateAnswer.TheVariants as gate
 use Rattle.bridge_filter.specs.Verdicts.{Plans, Call, Event, Came, ClearedBlocked, ClearedRxOf, ClearedOctetsOf, ClearedRedOf, Step, Unfiltered, Judged, Command, gate_share, meter_share, is_blocked, is_meter, is_match, lesser, flow, verdict_of, judged, told, is_above, by_answer, by_meter, gate_answer}
-use Rattle.bridge_cycle.specs.Entries.{In}
 use Rattle.bridge_filter.specs.Own.{own_events, is_own_step, own_steps, IsApart}
-use Rattle.bridge_filter.proofs.Numbered.{by_bool, some_is, is_eq, not_eq}
+use Rattle.bridge_filter.proofs.Numbered.{is_eq, not_eq}
 
 -- each judged step is of a filter of the plan
 abbrev pub IsListed : Plans → Step → Type 0
@@ -21,10 +23,10 @@ AreListed p [] = Unit {0}
 AreListed p (x ∷ xs) = IsListed p x × AreListed p xs
 
 lesser_listed : (f x : ℕ × FilterPlan) (fs : List (ℕ × FilterPlan)) (o : Option (ℕ × FilterPlan)) → ((y : ℕ × FilterPlan) → o ≡ Some y → In y fs) → lesser f o ≡ Some x → In x (f ∷ fs)
-lesser_listed f x fs None ih h = inl (sym (some_is f x h))
+lesser_listed f x fs None ih h = inl (sym (same_Some f x h))
 lesser_listed f x fs (Some g) ih h = by_bool (nat_lt g.0 f.0)
     (λ e. let k : Some g ≡ Some x = rw e at h in inr (ih x k))
-    (λ e. let k : Some f ≡ Some x = rw e at h in inl (sym (some_is f x k)))
+    (λ e. let k : Some f ≡ Some x = rw e at h in inl (sym (same_Some f x k)))
 
 -- a flow is one of the filters
 pub flow_listed : (fs : List (ℕ × FilterPlan)) (c : Call) (x : ℕ × FilterPlan) → flow fs c ≡ Some x → In x fs

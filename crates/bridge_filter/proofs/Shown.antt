@@ -2,6 +2,7 @@ use Rattle.std.proofs.Common.{◌≡◌, ℕ, Bool, false, List, refl, ap, ◌�
 use Rattle.std.specs.Prelude.{nat_eq, ◌&&◌, Option, Some, None, IsTrue}
 use Rattle.std.specs.Option.{option_map, is_some}
 use Rattle.std.specs.Map.{lookup}
+use Rattle.std.proofs.lemmas.Option.{same_Some}
 use Rattle.bridge_meter.specs.declared.Buckets.{Buckets}
 use Rattle.bridge_meter.specs.Colours as meter
 use Rattle.bridge_meter.proofs.Stands.{held_red}
@@ -13,7 +14,6 @@ use Rattle.bridge_filter.specs.Verdicts.{Plans, Step, gate_share, meter_share, i
 use Rattle.bridge_filter.specs.Counts.{flags_of, red_by, buckets_by}
 use Rattle.bridge_filter.specs.Plans.{is_there}
 use Rattle.bridge_filter.specs.Steps.{plans_in}
-use Rattle.bridge_filter.proofs.Numbered.{some_is}
 use Rattle.bridge_filter.proofs.Flows.{is_there-lookup}
 use Rattle.bridge_filter.proofs.Judging.{lookup-plans_in}
 
@@ -28,7 +28,7 @@ pub plan_shown : (n : ℕ) (fs : List (ℕ × Filter)) (f : Filter) → Some f �
 plan_shown n fs f h = lookup-plans_in n fs ∙ ap (option_map (λ (x : Filter). x.plan)) (sym h)
 
 pub same_plan : (n : ℕ) (fs gs : List (ℕ × FilterPlan)) (f g : FilterPlan) → fs ≡ gs → lookup (nat_eq n) fs ≡ Some f → lookup (nat_eq n) gs ≡ Some g → f ≡ g
-same_plan n fs gs f g e h k = some_is f g (sym h ∙ (ap (λ (z : List (ℕ × FilterPlan)). lookup (nat_eq n) z) e ∙ k))
+same_plan n fs gs f g e h k = same_Some f g (sym h ∙ (ap (λ (z : List (ℕ × FilterPlan)). lookup (nat_eq n) z) e ∙ k))
 
 pub buckets_shown : (p : Plans) (ss : List Step) (f : FilterPlan) (m : ℕ) (b : Buckets) → f.meter ≡ Some m → b ≡ meter.buckets_after (p.meters m) (meter.past (p.meters m) (meter_share m ss)) → Some b ≡ buckets_by p f.meter ss
 buckets_shown p ss f m b h e = ap Some e ∙ ap (λ (o : Option ℕ). buckets_by p o ss) (sym h)

@@ -3,12 +3,14 @@ use Rattle.std.specs.Prelude.{nat_eq, ◌&&◌, Option, Some, None, IsSome}
 use Rattle.std.specs.Option.{option_map, is_some}
 use Rattle.std.specs.Map.{lookup}
 use Rattle.std.specs.List.{list_all}
+use Rattle.std.proofs.lemmas.Option.{same_Some}
 use Rattle.indexmap.specs.IndexMap.{IndexMap, get}
 use Rattle.bridge_meter.specs.declared.Buckets.{Buckets}
 use Rattle.bridge_meter.specs.declared.MeterPlan.{MeterPlan}
 use Rattle.bridge_meter.specs.Standing as meter
 use Rattle.bridge_gate.specs.declared.schedule.GatePlan.{GatePlan}
 use Rattle.bridge_gate.specs.Standing as gate
+use Rattle.bridge_cycle.proofs.Cases.{by_bool}
 use Rattle.bridge_filter.specs.declared.FilterPlan.{FilterPlan}
 use Rattle.bridge_filter.specs.declared.filter.Filter.{Filter}
 use Rattle.bridge_filter.specs.declared.find.Key.{Key}
@@ -16,7 +18,6 @@ use Rattle.bridge_filter.specs.Finding.{same_key, least_with}
 use Rattle.bridge_filter.specs.Plans.{is_there, is_there_if_any, are_distinct, has_instances, have_instances, gate_or_closed, meter_or_empty, plans_of}
 use Rattle.bridge_filter.specs.Standing.{PoliceState, Stands, GatesStand, MetersStand, AreKept, IsKept}
 use Rattle.bridge_filter.specs.Steps.{Made, AreMade, IsNewGate, IsNewMeter, IsSound, GatesBefore, MetersBefore, HasInstances, HaveInstances, HasMeter, new_filter, new_filters, plans_in}
-use Rattle.bridge_filter.proofs.Numbered.{by_bool, some_is}
 use Rattle.bridge_filter.proofs.Flows.{is_there-lookup}
 use Rattle.bridge_filter.proofs.Made.{lookup-new_filters, plans_in-new_filters}
 
@@ -70,7 +71,7 @@ passes_found test [] n y h k = absurd (cc)
 passes_found test (x ∷ xs) n y h k =
     let p = both_true (test x.1) (list_all (λ (z : ℕ × _). test z.1) xs) h in
     by_bool (nat_eq n x.0)
-    (λ e. let it : x.1 ≡ y = some_is x.1 y (rw e at k) in subst (λ (z : _). test z ≡ true) it p.0)
+    (λ e. let it : x.1 ≡ y = same_Some x.1 y (rw e at k) in subst (λ (z : _). test z ≡ true) it p.0)
     (λ e. let later : lookup (nat_eq n) xs ≡ Some y = rw e at k in passes_found test xs n y p.1 later)
 
 -- a filter that is new is one of the plan at its number
@@ -81,7 +82,7 @@ pub record IsNewOf (fs : List (ℕ × FilterPlan)) (n : ℕ) (f : Filter) : Type
 
 new_of : (fs : List (ℕ × FilterPlan)) (n : ℕ) (f : Filter) (o : Option FilterPlan) → lookup (nat_eq n) fs ≡ o → option_map new_filter o ≡ Some f → IsNewOf fs n f
 new_of fs n f None h k = absurd (cc)
-new_of fs n f (Some p) h k = record { plan = p; found = h; is = sym (some_is (new_filter p) f k) }
+new_of fs n f (Some p) h k = record { plan = p; found = h; is = sym (same_Some (new_filter p) f k) }
 
 pub new_found : (fs : List (ℕ × FilterPlan)) (n : ℕ) (f : Filter) → lookup (nat_eq n) (new_filters fs) ≡ Some f → IsNewOf fs n f
 new_found fs n f h = new_of fs n f (lookup (nat_eq n) fs) refl (sym (lookup-new_filters n fs) ∙ h)

@@ -7,13 +7,14 @@ use Rattle.std.specs.Ordering.{int_eq}
 use lib.IntN.{ℤ}
 use lib.Signed.{◌≤ℤ◌}
 use Rattle.bridge_cycle.specs.declared.timeline.Turn.{Turn}
+use Rattle.bridge_cycle.proofs.Cases.{by_bool}
 use Rattle.bridge_gate.specs.declared.schedule.GateEntry.{GateEntry}
 use Rattle.bridge_gate.specs.declared.gate.GateAnswer.{GateAnswer}
 use Rattle.bridge_gate.specs.declared.gate.GateAnswer.TheVariants.{Through, Closed, ShutByRx, ShutByOctets, OctetsExceeded}
 use Rattle.bridge_gate.specs.Gates.{GateRules, GateEvent, Asked, ClearedRx, ClearedOctets, GateStep, Told, used, exceeds, answer, steps}
 use Rattle.bridge_gate.specs.Schedules.{rules_of, turn_at, has_priorities, is_priority}
 use Rattle.bridge_gate.specs.Standing.{Gate, count_in, StandsFor, reply, after, counting}
-use Rattle.bridge_gate.proofs.ScheduleLaws.{IsOrdered, by_bool, turn_priority}
+use Rattle.bridge_gate.proofs.ScheduleLaws.{IsOrdered, turn_priority}
 
 and_one : (a : Bool) → a ≡ a && true
 and_one true = refl

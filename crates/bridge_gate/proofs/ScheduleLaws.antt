@@ -2,6 +2,7 @@ use Rattle.std.proofs.Common.{◌≡◌, ℕ, Bool, true, false, ◌<◌, ◌≤
 use Rattle.std.proofs.lemmas.Int.{ints}
 use Rattle.std.specs.Prelude.{◌&&◌}
 use Rattle.std.specs.List.{list_all}
+use Rattle.std.proofs.lemmas.Option.{same_Some}
 use lib.IntN.{ℤ, pos}
 use lib.Signed.{◌≤ℤ◌, ◌<ℤ◌, le_z}
 use Rattle.bridge_cycle.specs.Cyclic as cyclic
@@ -9,20 +10,14 @@ use Rattle.bridge_cycle.specs.CyclicLaws.{turned}
 use Rattle.bridge_cycle.specs.Entries.{In}
 use Rattle.bridge_cycle.proofs.Lists.{among}
 use Rattle.bridge_cycle.specs.declared.timeline.Turn.{Turn}
+use Rattle.bridge_cycle.proofs.Cases.{by_bool}
 use Rattle.bridge_gate.specs.declared.schedule.GateEntry.{GateEntry}
 use Rattle.bridge_gate.specs.declared.schedule.Schedule.{Schedule}
 use Rattle.bridge_gate.specs.declared.schedule.Schedule.TheVariants.{Fixed, Cyclic}
 use Rattle.bridge_gate.specs.Schedules.{turn_at, IsLawful, is_priority, has_priorities}
 
-pub by_bool : {A : Type 0} (b : Bool) → (b ≡ true → A) → (b ≡ false → A) → A
-by_bool true f g = f refl
-by_bool false f g = g refl
-
 le_or : (a b : ℤ) → (a ≤ℤ b) ⊎ (b <ℤ a)
 le_or a b = by_bool (le_z a b) (λ e. inl (grind (arith, ints))) (λ e. inr (grind (arith, ints)))
-
-some_is : {A : Type 0} (a b : A) → Some a ≡ Some b → a ≡ b
-some_is a b h = cc
 
 -- turns come in order, and two turns that begin at one moment are one
 pub record IsOrdered (turn_at : ℕ → Option (Turn GateEntry)) : Type 0 where
@@ -36,7 +31,7 @@ list_rises l w t u x y h k le =
     elim (le_or y.start (pos t)) [
       | inl early ↦
           let m = b.ends in
-          let e : x ≡ y = some_is x y (sym h ∙ b.same t early (omega arith)) in
+          let e : x ≡ y = same_Some x y (sym h ∙ b.same t early (omega arith)) in
           subst (λ (z : Turn GateEntry). x.start ≤ℤ z.start) e (omega (arith, ints))
       | inr late ↦ let m = a.begins in omega (arith, ints)
     ]
@@ -48,13 +43,13 @@ list_one l w t u x y h k le e =
     let begins : x.start ≤ℤ pos t = a.begins in
     let ends : u < y.end = b.ends in
     let early : y.start ≤ℤ pos t = subst (λ (z : ℤ). z ≤ℤ pos t) e begins in
-    some_is x y (sym h ∙ b.same t early (omega arith))
+    same_Some x y (sym h ∙ b.same t early (omega arith))
 
 pub ordered : {A : Type 0} (s : Schedule A) → IsLawful s → IsOrdered (turn_at s)
 ordered (Fixed lets ipv) w =
     record {
-      rises = λ t u x y h k le. let e : x ≡ y = some_is x y (sym h ∙ k) in subst (λ (z : Turn GateEntry). x.start ≤ℤ z.start) e (omega (arith, ints));
-      one = λ t u x y h k le e. some_is x y (sym h ∙ k);
+      rises = λ t u x y h k le. let e : x ≡ y = same_Some x y (sym h ∙ k) in subst (λ (z : Turn GateEntry). x.start ≤ℤ z.start) e (omega (arith, ints));
+      one = λ t u x y h k le e. same_Some x y (sym h ∙ k);
     }
 ordered (Cyclic l) w = record { rises = list_rises l w; one = list_one l w }
 
@@ -73,7 +68,7 @@ all_in f (y ∷ ys) x h (inr i) = all_in f ys x (and_right (f y) (list_all f ys)
 
 -- the internal priority value of each turn is a priority
 pub turn_priority : {A : Type 0} (s : Schedule A) (t : ℕ) (x : Turn GateEntry) → has_priorities s ≡ true → turn_at s t ≡ Some x → is_priority x.state.ipv ≡ true
-turn_priority (Fixed lets ipv) t x p h = let e = some_is _ _ h in ap (λ (y : Turn GateEntry). is_priority y.state.ipv) (sym e) ∙ p
+turn_priority (Fixed lets ipv) t x p h = let e = same_Some _ _ h in ap (λ (y : Turn GateEntry). is_priority y.state.ipv) (sym e) ∙ p
 turn_priority (Cyclic l) t x p h =
     let a = among l t x h in
     ap (λ (y : GateEntry). is_priority y.ipv) (sym a.2) ∙ all_in (λ (e : GateEntry × ℕ). is_priority e.0.ipv) l.entries a.0 p a.1

@@ -1,10 +1,12 @@
 use Rattle.std.proofs.Common.{◌≡◌, ℕ, true, false, ◌+◌, ◌<◌, ◌≤◌, ◌++◌, List, [], ◌∷◌, length, arith, refl, ap, ◌∙◌, sym, subst, inl, inr, Option, Some, None, append_assoc}
 use Rattle.std.proofs.lemmas.Bool.Decides.{nat_tests}
 use Rattle.std.specs.Prelude.{nat_le, nat_lt, nat_eq, ◌&&◌}
+use Rattle.std.proofs.lemmas.Option.{same_Some}
 use Rattle.bridge_cycle.specs.Moments.{Fits}
+use Rattle.bridge_cycle.proofs.Cases.{by_bool}
 use Rattle.bridge_port.specs.Schedule.{Fate, Never, Full, Queued, Started, Copy, Rules, is_there, occupies, waiting, is_free, head, fate_at, IsAnswer, Answered, IsStart, StartsFit, Apart, ApartFrom, AllApart, InTurn, InTurnWith, AllInTurn, OfferedUpTo, IsLawful, is_queued}
 use Rattle.bridge_port.specs.Solo.{done_or, only, last_done, IsSoloFate, IsSolo, IsWhole, HasOwnWindow}
-use Rattle.bridge_port.proofs.Laws.{by_bool, fate_older, and_false}
+use Rattle.bridge_port.proofs.Laws.{fate_older, and_false}
 
 -- The older part of a list.
 
@@ -147,11 +149,8 @@ waiting_only c t (x ∷ xs) = by_bool (nat_eq x.class c) (λ k. rw (k, waiting_o
 started_is : (s t : ℕ) → Some (Started s) ≡ Some (Started t) → s ≡ t
 started_is s t h = cc
 
-some_is : {A : Type 0} (a b : A) → Some a ≡ Some b → a ≡ b
-some_is a b h = cc
-
 place_is : {X : Type 0} (i j : ℕ) (x y : X) → ◌≡◌ {A = Option (ℕ × X)} (Some (i, x)) (Some (j, y)) → i ≡ j
-place_is {X} i j x y h = let p : ℕ × X = (i, x) in let q : ℕ × X = (j, y) in ap (λ (z : ℕ × X). z.0) (some_is p q h)
+place_is {X} i j x y h = let p : ℕ × X = (i, x) in let q : ℕ × X = (j, y) in ap (λ (z : ℕ × X). z.0) (same_Some p q h)
 
 -- no earlier moment fits
 least_start : {X : Type 0} (r : Rules X) (c h s v : ℕ) (ns : List (Copy X)) (x : Copy X) (xs : List (Copy X)) → ((i : X) → 0 < r.occ i) → HasOwnWindow r c → IsLawful r h (ns ++ x ∷ xs) → IsWhole (ns ++ x ∷ xs) → x.class ≡ c → x.fate ≡ Started s → s < h → x.at ≤ v → last_done r (only c xs) ≤ v → v < s → ¬ Fits (r.opens c) (r.occ x.item) v

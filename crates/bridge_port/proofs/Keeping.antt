@@ -6,11 +6,11 @@ use Rattle.std.specs.Prelude.{if◌then◌else◌, nat_le, nat_eq, ◌&&◌, is_
 use Rattle.bridge_frame.specs.declared.Speed.{Speed}
 use Rattle.bridge_frame.specs.Link.{occupied}
 use Rattle.bridge_cycle.specs.Cyclic.{Cyclic}
+use Rattle.bridge_cycle.proofs.Cases.{by_bool}
 use Rattle.bridge_port.specs.declared.item.Item.{Item}
 use Rattle.bridge_port.specs.declared.item.Refusal.TheVariants as refusal
 use Rattle.bridge_port.specs.Standing.{State, queue_of, refusal_of, AllStartable, IsKept, IsNext, started_state, queues_with, offered_state, copy_of, count_queued, NoStartBefore, StandsFor, IsBegun}
 use Rattle.bridge_port.specs.Opening.{ever_of}
-use Rattle.bridge_port.proofs.Laws.{by_bool}
 use Rattle.bridge_port.proofs.Ports.{le_false, tail_is, below_length, stands_offered, stands_started, next_one}
 use Rattle.bridge_port.specs.Schedule.{Copy}
 

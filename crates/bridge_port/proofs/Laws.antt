@@ -4,6 +4,7 @@ use Rattle.std.proofs.lemmas.Bool.{cases_lt}
 use Rattle.std.specs.Prelude.{nat_le, nat_lt, nat_eq, ◌&&◌}
 use Rattle.bridge_cycle.specs.Moments.{Fits}
 use Rattle.bridge_cycle.specs.Entries.{In}
+use Rattle.bridge_cycle.proofs.Cases.{by_bool}
 use Rattle.bridge_port.specs.Schedule.{Fate, Never, Full, Queued, Started, Copy, Rules, occupies, is_free, head, or_newer, fate_at, IsAnswer, IsStart, StartsFit, Apart, ApartFrom, InTurn, InTurnWith, OfferedUpTo, Serves, IsLawful}
 
 pub not_lt : (k u : ℕ) → u ≤ k → nat_lt k u ≡ false
@@ -18,10 +19,6 @@ not_le k u h = grind (arith, nat_tests)
 pub and_false : (a : Bool) → a && false ≡ false
 and_false true = refl
 and_false false = refl
-
-pub by_bool : {A : Type 0} (b : Bool) → (b ≡ true → A) → (b ≡ false → A) → A
-by_bool true f g = f refl
-by_bool false f g = g refl
 
 -- A later moment at which nothing was missed.
 

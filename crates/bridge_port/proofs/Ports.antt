@@ -4,8 +4,10 @@ use Rattle.std.proofs.lemmas.Bool.Decides.{nat_tests}
 use Rattle.std.proofs.lemmas.Bool.{cases_order}
 use Rattle.std.specs.Prelude.{if◌then◌else◌, nat_le, nat_lt, nat_eq, not, ◌&&◌, slice_index_or, slice_set, drop}
 use Rattle.std.proofs.lemmas.Grind.{common_steps}
+use Rattle.std.proofs.lemmas.Option.{same_Some}
 use Rattle.bridge_frame.specs.Link.{occupied}
 use Rattle.bridge_cycle.specs.Moments.{Fits}
+use Rattle.bridge_cycle.proofs.Cases.{by_bool}
 use Rattle.bridge_port.specs.declared.item.Item.{Item}
 use Rattle.bridge_port.specs.declared.item.Refusal.{Refusal}
 use Rattle.bridge_port.specs.declared.item.Refusal.TheVariants as refusal
@@ -13,7 +15,7 @@ use Rattle.bridge_port.specs.Schedule.{Fate, Never, Full, Queued, Started, Copy,
 use Rattle.bridge_port.specs.Solo.{IsWhole}
 use Rattle.bridge_port.specs.Opening.{opens_of, ever_of}
 use Rattle.bridge_port.specs.Standing.{State, rules_of, queue_of, StandsFor, NoStartBefore, IsNext, IsBegun, IsIdle, refusal_of, fate_of, queues_with, offered_state, copy_of, started_state}
-use Rattle.bridge_port.proofs.Laws.{by_bool, IsUnstarted, Idle, lawful_later, lawful_offer, free_new, offered_later}
+use Rattle.bridge_port.proofs.Laws.{IsUnstarted, Idle, lawful_later, lawful_offer, free_new, offered_later}
 use Rattle.bridge_port.proofs.Starts.{front, there_no, started_of, IsStarted, lawful_start, queue_begun, queue_other}
 
 pub le_true : (a b : ℕ) → nat_le a b ≡ true → a ≤ b
@@ -24,9 +26,6 @@ le_false a b h = grind (arith, nat_tests)
 
 none_some : {A : Type 0} (a : A) → None ≡ Some a → ⊥
 none_some a h = cc
-
-pub some_is : {A : Type 0} (a b : A) → Some a ≡ Some b → a ≡ b
-some_is a b h = cc
 
 pub heads : {A : Type 0} (a b : A) (xs ys : List A) → a ∷ xs ≡ b ∷ ys → a ≡ b
 heads a b xs ys h = cc
@@ -42,7 +41,7 @@ pub idle_to : {T : Type 0} (p : State T) (xs : List (Copy (Item T))) (t : ℕ) �
 idle_to p xs t st calm u h below free c q is fits = elim (front (rules_of p) c 0 p.earliest u xs h st.lawful.starts (offered_later p.earliest u xs h st.lawful.offers)) [
   | inl b ↦ none_some q (sym b.no_head ∙ is)
   | inr f ↦
-      let e = some_is _ _ (sym f.is_head ∙ is) in
+      let e = same_Some _ _ (sym f.is_head ∙ is) in
       let fits2 : Fits (opens_of p.list c) (occupied f.item.len p.speed) u = rw (ap (λ (z : ℕ × _). occupied z.1.len p.speed) e) fits in
       calm c f.item (queue c f.after) (sym (st.queues c) ∙ queue_begun c 0 f.place f.item xs f.after f.begun) u h (le_true _ _ (sym (st.link u h) ∙ free)) below fits2
 ]
@@ -176,7 +175,7 @@ stands_started {T} p k c x xs n st = elim (front (rules_of p) c k p.earliest k x
               elim (front r d k p.earliest k xs n.after st.lawful.starts (offered_later p.earliest k xs n.after st.lawful.offers)) [
                 | inl b ↦ absurd (none_some y (sym b.no_head ∙ h))
                 | inr v ↦
-                    let ey = some_is _ _ (sym v.is_head ∙ h) in
+                    let ey = same_Some _ _ (sym v.is_head ∙ h) in
                     let fits2 : Fits (r.opens d) (r.occ v.item) k = rw (ap (λ (z : ℕ × _). r.occ z.1) ey) fits in
                     n.highest d v.item (queue d v.after) (sym (st.queues d) ∙ queue_begun d k v.place v.item xs v.after v.begun) fits2
               ]);

@@ -3,8 +3,9 @@ use Rattle.std.proofs.lemmas.Bool.Decides.{nat_tests}
 use Rattle.std.proofs.lemmas.Bool.{cases_lt}
 use Rattle.std.specs.Prelude.{nat_le, nat_lt, nat_eq, not, ◌&&◌, ◌||◌}
 use Rattle.bridge_cycle.specs.Moments.{Fits}
+use Rattle.bridge_cycle.proofs.Cases.{by_bool}
 use Rattle.bridge_port.specs.Schedule.{Fate, Never, Full, Queued, Started, Copy, Rules, is_there, occupies, waiting, is_free, head, fate_at, IsAnswer, Answered, IsStart, StartsFit, Apart, ApartFrom, AllApart, InTurn, InTurnWith, AllInTurn, OfferedUpTo, Serves, IsLawful, is_queued, has_queued, queue, Begun, here, there}
-use Rattle.bridge_port.proofs.Laws.{not_lt, by_bool, offered_later, starts_later, fate_older}
+use Rattle.bridge_port.proofs.Laws.{not_lt, offered_later, starts_later, fate_older}
 
 answer_same : {X : Type 0} (r : Rules X) (x : Copy X) (xs ys : List (Copy X)) (f : Fate) → waiting x.class x.at ys ≡ waiting x.class x.at xs → IsAnswer r x xs f → IsAnswer r x ys f
 answer_same r x xs ys Never e a = a

@@ -1,6 +1,7 @@
 -- What is seen of a schedule.
 use Rattle.std.proofs.Common.{◌≡◌, ℕ, Bool, true, false, List, [], ◌∷◌, length, refl, ap, ◌∙◌, sym, subst, Option, Some, None}
 use Rattle.std.specs.Prelude.{if◌then◌else◌, nat_eq, nat_le, ◌&&◌}
+use Rattle.std.proofs.lemmas.Option.{same_Some}
 use Rattle.bridge_cycle.specs.Moments.{Fits}
 use Rattle.bridge_port.specs.Schedule.{Fate, Never, Full, Queued, Started, Copy, Rules, is_there, waiting, is_free, head, or_newer, fate_at, IsAnswer, Answered, IsStart, StartsFit, Apart, ApartFrom, AllApart, InTurnWith, AllInTurn, OfferedUpTo, Serves, IsLawful}
 use Rattle.bridge_port.specs.Solo.{IsWhole}
@@ -83,9 +84,6 @@ pub whole_seen : {X Y : Type 0} (g : X → Y) (xs : List (Copy X)) → IsWhole x
 whole_seen g [] a = tt
 whole_seen g (x ∷ xs) a = (a.0, whole_seen g xs a.1)
 
-some_is : {A : Type 0} (a b : A) → Some a ≡ Some b → a ≡ b
-some_is a b h = cc
-
 serves_seen : {X Y : Type 0} (g : X → Y) (r : Rules X) (o : Y → ℕ) (m : ℕ → ℕ) → ((x : X) → o (g x) ≡ r.occ x) → (xs : List (Copy X)) (u c : ℕ) → Serves r xs u c → Serves (rules_seen r o m) (all_seen g xs) u c
 serves_seen g r o m h xs u c z = record {
   class = z.class;
@@ -101,7 +99,7 @@ missed_seen : {X Y : Type 0} (g : X → Y) (r : Rules X) (o : Y → ℕ) (m : �
 missed_seen g r o m h xs u c p None e k f w0 = cc
 missed_seen {X} {Y} g r o m h xs u c p (Some q) e k f w0 =
     let z : ℕ × Y = (q.0, g q.1) in
-    let same : z ≡ p = some_is z p k in
+    let same : z ≡ p = same_Some z p k in
     let item : g q.1 ≡ p.1 = ap (λ (w : ℕ × Y). w.1) same in
     w0 q e (subst (λ (n : ℕ). Fits (r.opens c) n u) (h q.1) (subst (λ (y : Y). Fits (r.opens c) (o y) u) (sym item) f))
 
