@@ -26,7 +26,7 @@ captured_front form w r len = rw (octets_front 8 4 w r (omega arith)) refl
 pub original_front : (form : Form) (w r : List ℕ) → length w ≡ 16 → original_of form (w ++ r) ≡ original_of form w
 original_front form w r len = rw (octets_front 12 4 w r (omega arith)) refl
 
-not_zero : (n : ℕ) → 0 < n → nat_eq n 0 ≡ false
+pub not_zero : (n : ℕ) → 0 < n → nat_eq n 0 ≡ false
 not_zero n h = grind arith
 
 -- nothing stands there

@@ -4,6 +4,7 @@ use Rattle.std.specs.Prelude.{map, replicate, Vec, slice_index_or}
 use Rattle.std.specs.List.{flat_map}
 use Rattle.std.specs.Io.KnownBytes.{Appends}
 use Rattle.std.proofs.KnownBytes.{Appends-trans}
+use Rattle.std.proofs.lemmas.Option.{none-some}
 use Rattle.bridge_frame.specs.declared.Speed.{Speed}
 use Rattle.bridge_capture.specs.declared.packet.Packet.{Packet}
 use Rattle.bridge_capture.specs.Grammar.{Captured}
@@ -12,7 +13,7 @@ use Rattle.bridge_capture.specs.Written.{written_item, written_text, written_hea
 use Rattle.bridge_capture.specs.Sinks.{AppendsFront}
 use Rattle.bridge_port.specs.Seen.{all_seen}
 use Rattle.bridge_port.specs.Standing.{State, StandsFor, IsDue, IsIdle}
-use Rattle.bridge_port.proofs.Ports.{idle_whole}
+use Rattle.bridge_port.proofs.Ports.{idle_whole, heads, tails}
 use Rattle.bridge_port.proofs.Watched.{whole_seen}
 use Rattle.bridge_core.specs.declared.count.WireCount.{WireCount}
 use Rattle.bridge_core.specs.declared.fault.RunFault.{RunFault}
@@ -49,9 +50,6 @@ pub running_new : {A : Type 0} (speed : Speed) (room : ℕ) (p : State (Vec ℕ 
 running_new {A} speed room p began now new stands header =
     subst (λ (q : State (Vec ℕ A)). IsRunning speed room [] q no_count began now) (sym new) (running_begin speed room began now (subst (λ (q : State (Vec ℕ A)). StandsFor q []) new stands) header)
 
-nothing_missed : {X : Type 0} (p : X) → None ≡ Some p → ⊥
-nothing_missed p h = cc
-
 -- the sink failed in the header
 pub stops_at_header : (speed : Speed) (room : ℕ) (began now : Option (List ℕ)) → AppendsFront began now written_header → StopsAfter speed room [] began now
 stops_at_header speed room began now front = record {
@@ -60,7 +58,7 @@ stops_at_header speed room began now front = record {
   goes = record {
     offers = refl;
     until = 0;
-    lawful = record { offers = tt; answers = tt; starts = tt; apart = tt; in_turn = tt; none_missed = λ u below free c p is fits. absurd (nothing_missed p is) };
+    lawful = record { offers = tt; answers = tt; starts = tt; apart = tt; in_turn = tt; none_missed = λ u below free c p is fits. absurd (none-some p is) };
     output = none_left speed;
   };
   writes = front;
@@ -72,12 +70,6 @@ pub record IsNextPacket {A : Type 0} (earliest : ℕ) (p : Packet A) : Type 0 wh
   pub early : p.time < 4 * 10 ^ 18
   pub small : length p.octets.items ≤ 262144
   pub within : length p.octets.items ≤ p.len
-
-heads : {X : Type 0} (x y : X) (xs ys : List X) → x ∷ xs ≡ y ∷ ys → x ≡ y
-heads x y xs ys h = cc
-
-tails : {X : Type 0} (x y : X) (xs ys : List X) → x ∷ xs ≡ y ∷ ys → xs ≡ ys
-tails x y xs ys h = cc
 
 pub packet_at : {A : Type 0} (earliest : ℕ) (packets yielded : List (Packet A)) (p : Packet A) → AreInOrder earliest (views packets) → map (λ y. y) yielded ≡ take (length yielded) packets → length yielded < length packets → p ≡ get_or packets (length yielded) p → IsNextPacket (last_time earliest (views yielded)) p
 packet_at {A} earliest [] yielded p a same below is = absurd (omega arith)

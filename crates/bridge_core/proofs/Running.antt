@@ -5,8 +5,8 @@ use Rattle.std.specs.List.{flat_map}
 use Rattle.std.specs.Io.KnownBytes.{Appends}
 use Rattle.std.proofs.KnownBytes.{Appends-trans}
 use Rattle.std.proofs.lemmas.List.{map-append, reverse-append, append-nil}
-use Rattle.std.proofs.lemmas.List.Sums.{sum_by-cons, sum_by_push}
 use Rattle.std.proofs.lemmas.Grind.{flat_map-append}
+use Rattle.std.proofs.lemmas.Bool.{le-ltb}
 use Rattle.bridge_frame.specs.declared.Speed.{Speed}
 use Rattle.bridge_frame.specs.Link.{occupied}
 use Rattle.bridge_capture.specs.Grammar.{Captured}
@@ -23,9 +23,9 @@ use Rattle.bridge_port.specs.Schedule.{Started, Copy, IsLawful, is_accepted}
 use Rattle.bridge_port.specs.Seen.{all_seen, SameRooms}
 use Rattle.bridge_port.specs.Opening.{opens_of, ever_of}
 use Rattle.bridge_port.specs.Standing.{State, StandsFor, NoStartBefore, IsDue, rules_of, refusal_of, fate_of, copy_of, offered_state, answer_of, count_queued}
-use Rattle.bridge_port.proofs.Laws.{not_lt}
 use Rattle.bridge_port.proofs.Ports.{idle_calm}
 use Rattle.bridge_port.proofs.Watched.{lawful_seen}
+use Rattle.bridge_port.proofs.Keeping.{count_cons, count_push}
 use Rattle.bridge_core.specs.declared.count.WireCount.{WireCount}
 use Rattle.bridge_core.specs.declared.fault.RunFault.{RunFault}
 use Rattle.bridge_core.specs.Wire.{Frame, Offer, one_queue, offer_of, offers_of, is_well_formed, IsOutput, GoesThrough}
@@ -41,9 +41,6 @@ calm_before p t (Some k) due n = λ c x rest e u a f l. due.2.least c x rest e u
 pub last_time_push : (earliest : ℕ) (frames : List Captured) (c : Captured) → last_time earliest (frames ++ c ∷ []) ≡ c.time
 last_time_push earliest [] c = refl
 last_time_push earliest (d ∷ frames) c = last_time_push d.time frames c
-
-count_push : {X : Type 0} (f : X → Bool) (q : List X) (x : X) → count_by f (q ++ x ∷ []) ≡ count_by f q + (if f x then 1 else 0)
-count_push f q x = sum_by_push (λ y. if f y then 1 else 0) q x
 
 length_push : {X : Type 0} (q : List X) (x : X) → length (q ++ x ∷ []) ≡ length q + 1
 length_push q x = grind (arith, length-append)
@@ -133,9 +130,6 @@ accepted_by : (o : Option Refusal) → is_accepted (fate_of o) ≡ is_none o
 accepted_by None = refl
 accepted_by (Some refusal.NeverFits) = refl
 accepted_by (Some refusal.Full) = refl
-
-count_cons : {X : Type 0} (f : X → Bool) (x : X) (q : List X) → count_by f (x ∷ q) ≡ (if f x then 1 else 0) + count_by f q
-count_cons f x q = sum_by-cons (λ y. if f y then 1 else 0) x q
 
 pub sends_offer : {A : Type 0} (p new : State (Vec ℕ A)) (t : ℕ) (x : Item (Vec ℕ A)) → new ≡ offered_state p t 0 x → ((xs : List (Copy (Item (Vec ℕ A)))) → StandsFor p xs → StandsFor new (copy_of p t 0 x ∷ xs)) → (offers : List Offer) (sent full : ℕ) (left : List Captured) → Sends p offers sent full left → Sends new (record { at = t; class = 0; frame = frame_of x } ∷ offers) ((if is_none (refusal_of p 0 x) then 1 else 0) + sent) ((if not (is_none (refusal_of p 0 x)) then 1 else 0) + full) left
 sends_offer {A} p new t x moved stands offers sent full left s =
@@ -236,4 +230,4 @@ answered_err (Some r) x e h = refl
 
 -- no more octets than the frame had
 pub not_overlong : {A : Type 0} (x : Item (Vec ℕ A)) → length x.load.items ≤ x.len → is_overlong x ≡ false
-not_overlong x h = not_lt x.len (length x.load.items) h
+not_overlong x h = le-ltb x.len (length x.load.items) h

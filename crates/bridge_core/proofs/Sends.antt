@@ -4,7 +4,6 @@ use Rattle.std.specs.Prelude.{not, count_by, Vec, if◌then◌else◌, IsErr, Al
 use Rattle.std.specs.List.{flat_map}
 use Rattle.std.specs.Io.KnownBytes.{Appends}
 use Rattle.std.proofs.KnownBytes.{Appends-trans, Appends-nil}
-use Rattle.std.proofs.lemmas.List.Sums.{sum_by-cons}
 use Rattle.std.proofs.lemmas.Grind.{flat_map-append}
 use Rattle.std.proofs.lemmas.List.Elements.{All-append}
 use Rattle.bridge_frame.specs.declared.Speed.{Speed}
@@ -21,6 +20,7 @@ use Rattle.bridge_port.specs.Seen.{all_seen}
 use Rattle.bridge_port.specs.Standing.{State, StandsFor, IsNext, IsBegun, started_state}
 use Rattle.bridge_port.proofs.Watched.{begun_seen}
 use Rattle.bridge_port.proofs.Members.{begun_to, begun_from, begun_there}
+use Rattle.bridge_port.proofs.Keeping.{count_cons}
 use Rattle.bridge_core.specs.declared.fault.RunFault.{RunFault}
 use Rattle.bridge_core.specs.Wire.{IsShort, Frame, Offer, offered, departure, IsOutput}
 use Rattle.bridge_core.specs.Sending.{frame_of, AreOfClass, Sends, Goes}
@@ -35,9 +35,6 @@ offered_begun c s i item xs0 ys0 (there x {xs = xs} {ys = ys} b) = ap (λ l. rec
 class_begun : {X : Type 0} (c s i : ℕ) (item : X) (xs ys : List (Copy X)) (d : ℕ) → Begun c s i item xs ys → AreOfClass d xs → AreOfClass d ys
 class_begun c s i item xs0 ys0 d (here t it xs n) a = a
 class_begun c s i item xs0 ys0 d (there x {xs = xs} {ys = ys} b) a = (a.0, class_begun c s i item xs ys d b a.1)
-
-count_cons : {X : Type 0} (f : X → Bool) (x : X) (q : List X) → count_by f (x ∷ q) ≡ (if f x then 1 else 0) + count_by f q
-count_cons f x q = sum_by-cons (λ y. if f y then 1 else 0) x q
 
 count_begun : (f : Fate → Bool) (c s i : ℕ) (item : Frame) (xs ys : List (Copy Frame)) → f (Started s) ≡ f Queued → Begun c s i item xs ys → count_by (λ x. f x.fate) ys ≡ count_by (λ x. f x.fate) xs
 count_begun f c s i item xs0 ys0 e (here t it xs n) =

@@ -1,44 +1,26 @@
-use Rattle.std.proofs.Common.{◌≡◌, ℕ, zero, suc, Bool, true, false, ◌+◌, ◌<◌, ◌≤◌, arith, ◌⊎◌, inl, inr, refl, ap, ◌∙◌}
-use Rattle.std.proofs.lemmas.Bool.{cases_lt}
-use Rattle.std.specs.Prelude.{◌&&◌, ◌||◌, ◌↔◌}
+use Rattle.std.proofs.Common.{◌≡◌, ℕ, zero, suc, Bool, true, ◌+◌, ◌<◌, ◌≤◌, arith, inl, inr, refl, ap, ◌∙◌}
+use Rattle.std.proofs.lemmas.Bool.{cases_lt, and_parts, and_from, or_cases, or_left, or_right}
+use Rattle.std.specs.Prelude.{◌↔◌}
 use Rattle.bridge_cycle.specs.Moments.{Fits, Repeats}
 use Rattle.bridge_cycle.specs.Fitting.{all_open, some_fits}
 use Rattle.bridge_cycle.proofs.Repeats.{fits_near}
-
-and_both : (a b : Bool) → a && b ≡ true → (a ≡ true) × (b ≡ true)
-and_both true b h = (refl, h)
-and_both false b h = absurd (cc)
-
-and_make : (a b : Bool) → a ≡ true → b ≡ true → a && b ≡ true
-and_make a b h k = rw (h, k) refl
-
-or_either : (a b : Bool) → a || b ≡ true → (a ≡ true) ⊎ (b ≡ true)
-or_either true b h = inl refl
-or_either false b h = inr h
-
-or_left : (a b : Bool) → a ≡ true → a || b ≡ true
-or_left a b h = rw h refl
-
-or_right : (a b : Bool) → b ≡ true → a || b ≡ true
-or_right true b h = refl
-or_right false b h = h
 
 pub all_open_gives : (opens : ℕ → Bool) (t n : ℕ) → all_open opens t n ≡ true → Fits opens n t
 unfolding all_open
 all_open_gives opens t zero h u p q = absurd (omega arith)
 all_open_gives opens t (suc n) h u p q =
-    let b = and_both (opens (t + n)) (all_open opens t n) h in
+    let b = and_parts (opens (t + n)) (all_open opens t n) h in
     elim (cases_lt u (t + n)) [ inl a ↦ all_open_gives opens t n b.1 u p a | inr a ↦ let e : u ≡ t + n = omega arith in ap opens e ∙ b.0 ]
 
 pub all_open_from : (opens : ℕ → Bool) (t n : ℕ) → Fits opens n t → all_open opens t n ≡ true
 unfolding all_open
 all_open_from opens t zero f = refl
-all_open_from opens t (suc n) f = and_make (opens (t + n)) (all_open opens t n) (f (t + n) (omega arith) (omega arith)) (all_open_from opens t n (λ u p q. f u p (omega arith)))
+all_open_from opens t (suc n) f = and_from (opens (t + n)) (all_open opens t n) (f (t + n) (omega arith) (omega arith)) (all_open_from opens t n (λ u p q. f u p (omega arith)))
 
 pub some_fits_gives : (opens : ℕ → Bool) (n occ : ℕ) → some_fits opens n occ ≡ true → (t : ℕ) × Fits opens occ t
 unfolding some_fits
 some_fits_gives opens zero occ h = absurd (cc)
-some_fits_gives opens (suc n) occ h = elim (or_either (all_open opens n occ) (some_fits opens n occ) h) [
+some_fits_gives opens (suc n) occ h = elim (or_cases (all_open opens n occ) (some_fits opens n occ) h) [
   | inl a ↦ (n, all_open_gives opens n occ a)
   | inr b ↦ some_fits_gives opens n occ b
 ]

@@ -1,5 +1,5 @@
-use Rattle.std.proofs.Common.{◌≡◌, ℕ, Bool, true, false, ◌+◌, ◌-◌, ◌*◌, ◌/◌, ◌%◌, ◌<◌, ◌≤◌, max, arith, inl, inr, refl, ap, ◌∙◌, sym}
-use Rattle.std.proofs.lemmas.Bool.{cases_lt}
+use Rattle.std.proofs.Common.{◌≡◌, ℕ, Bool, true, false, ◌+◌, ◌-◌, ◌*◌, ◌/◌, ◌%◌, ◌<◌, ◌≤◌, max, arith, inl, inr, ap, ◌∙◌, sym}
+use Rattle.std.proofs.lemmas.Bool.{cases_lt, both_ways}
 use Rattle.std.proofs.Math.Nat.{mod-lt}
 use Rattle.std.specs.Prelude.{◌↔◌}
 use Rattle.bridge_cycle.specs.Moments.{Fits, Repeats}
@@ -54,18 +54,15 @@ ran_open opens longest run seen end r h o =
       below = omega arith;
     }
 
-true_is_not_false : (b : Bool) → b ≡ true → b ≡ false → ⊥
-true_is_not_false b p q = cc
-
 pub ran_closed : (opens : ℕ → Bool) (longest run seen end : ℕ) → Ran opens longest run seen → seen < end → ((u : ℕ) → seen ≤ u → u < end → opens u ≡ false) → Ran opens longest 0 end
 ran_closed opens longest run seen end r h o =
     record {
       fits = r.fits;
       most = λ occ t k f. elim (cases_lt seen (t + occ)) [
         | inl a ↦ elim (cases_lt t seen) [
-          | inl b ↦ absurd (true_is_not_false (opens seen) (f seen (omega arith) a) (o seen (omega arith) h))
+          | inl b ↦ absurd (both_ways (opens seen) (o seen (omega arith) h) (f seen (omega arith) a))
           | inr b ↦ elim (cases_lt 0 occ) [
-            | inl c ↦ absurd (true_is_not_false (opens t) (f t (omega arith) (omega arith)) (o t b (omega arith)))
+            | inl c ↦ absurd (both_ways (opens t) (o t b (omega arith)) (f t (omega arith) (omega arith)))
             | inr c ↦ omega arith
           ]
         ]
@@ -74,7 +71,7 @@ ran_closed opens longest run seen end r h o =
       within = omega arith;
       open_there = λ u p q. absurd (omega arith);
       tail = λ t k f. elim (cases_lt t end) [
-        | inl b ↦ absurd (true_is_not_false (opens (end - 1)) (f (end - 1) (omega arith) (omega arith)) (o (end - 1) (omega arith) (omega arith)))
+        | inl b ↦ absurd (both_ways (opens (end - 1)) (o (end - 1) (omega arith) (omega arith)) (f (end - 1) (omega arith) (omega arith)))
         | inr b ↦ omega arith
       ];
       below = omega arith;

@@ -1,5 +1,5 @@
 use Rattle.std.proofs.Common.{◌≡◌, ℕ, Bool, true, false, ◌+◌, ◌<◌, ◌≤◌, arith, inl, inr}
-use Rattle.std.proofs.lemmas.Bool.{cases_lt}
+use Rattle.std.proofs.lemmas.Bool.{cases_lt, both_ways}
 use Rattle.bridge_cycle.specs.Moments.{Fits, IsFirst}
 
 -- no moment before start fits, and from start up to seen the class is open
@@ -21,9 +21,6 @@ searched_open opens occ from start seen end s h o =
       none = s.none;
     }
 
-true_is_not_false : (b : Bool) → b ≡ true → b ≡ false → ⊥
-true_is_not_false b p q = cc
-
 pub searched_closed : (opens : ℕ → Bool) (occ from start seen end : ℕ) → Searched opens occ from start seen → seen < end → seen < start + occ → ((u : ℕ) → seen ≤ u → u < end → opens u ≡ false) → Searched opens occ from end end
 searched_closed opens occ from start seen end s h room o =
     record {
@@ -33,8 +30,8 @@ searched_closed opens occ from start seen end s h room o =
       none = λ v p q f. elim (cases_lt v start) [
         | inl a ↦ s.none v p a f
         | inr b ↦ elim (cases_lt v seen) [
-          | inl a ↦ true_is_not_false (opens seen) (f seen (omega arith) (omega arith)) (o seen (omega arith) h)
-          | inr d ↦ true_is_not_false (opens v) (f v (omega arith) (omega arith)) (o v d q)
+          | inl a ↦ both_ways (opens seen) (o seen (omega arith) h) (f seen (omega arith) (omega arith))
+          | inr d ↦ both_ways (opens v) (o v d q) (f v (omega arith) (omega arith))
         ]
       ];
     }

@@ -1,7 +1,8 @@
-use Rattle.std.proofs.Common.{◌≡◌, ℕ, Bool, true, false, List, ◌∷◌, refl, ap, ◌∙◌, sym, subst}
-use Rattle.std.specs.Prelude.{nat_eq, ◌&&◌, Option, Some, None, IsSome, IsTrue, if◌then◌else◌}
+use Rattle.std.proofs.Common.{◌≡◌, ℕ, true, false, List, ◌∷◌, refl, ap, ◌∙◌, sym, subst}
+use Rattle.std.specs.Prelude.{nat_eq, Option, Some, None, IsSome, IsTrue, if◌then◌else◌}
 use Rattle.std.specs.Option.{option_map, is_some}
 use Rattle.std.specs.Map.{lookup}
+use Rattle.std.proofs.Math.Bool.{and-false}
 use Rattle.indexmap.specs.IndexMap.{IndexMap}
 use Rattle.bridge_meter.specs.Standing as meter
 use Rattle.bridge_gate.specs.Standing as gate
@@ -21,14 +22,10 @@ use Rattle.bridge_filter.proofs.Numbered.{Changes, each_after, same_eq}
 use Rattle.bridge_filter.proofs.Judging.{has_meter_later, lookup-plans_in}
 use Rattle.bridge_filter.proofs.Flows.{is_there-lookup}
 
-none_blocked : (b : Bool) → false ≡ b && false
-none_blocked true = refl
-none_blocked false = refl
-
 cleared_own : (n : ℕ) (f : Filter) (ss : List Step) → IsKept n f ss → IsKept n (record { plan = f.plan; counters = f.counters; blocked = false }) (Command (ClearedBlocked n) ∷ ss)
 cleared_own n f ss k = record {
   counters = k.counters;
-  blocked = rw (same_eq n) (none_blocked f.plan.block_oversize);
+  blocked = rw (same_eq n) (sym (and-false f.plan.block_oversize));
 }
 
 cleared_other : (n m : ℕ) (f : Filter) (ss : List Step) → nat_eq m n ≡ false → IsKept n f ss → IsKept n f (Command (ClearedBlocked m) ∷ ss)

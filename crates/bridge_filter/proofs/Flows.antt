@@ -3,13 +3,14 @@ use Rattle.std.specs.Prelude.{nat_eq, nat_lt, if◌then◌else◌, Option, Some,
 use Rattle.std.specs.Option.{option_map, is_some}
 use Rattle.std.specs.Map.{lookup}
 use Rattle.std.proofs.lemmas.Option.{same_Some}
+use Rattle.std.proofs.lemmas.Bool.{eqb-true}
 use Rattle.bridge_cycle.proofs.Cases.{by_bool}
 use Rattle.bridge_filter.specs.declared.FilterPlan.{FilterPlan}
 use Rattle.bridge_filter.specs.declared.filter.Filter.{Filter}
 use Rattle.bridge_filter.specs.Verdicts.{Call, flow, lesser, is_match}
 use Rattle.bridge_filter.specs.Plans.{is_there, are_distinct}
 use Rattle.bridge_filter.specs.Steps.{plans_in}
-use Rattle.bridge_filter.proofs.Numbered.{is_eq, same_eq}
+use Rattle.bridge_filter.proofs.Numbered.{same_eq}
 use Rattle.bridge_filter.proofs.Judging.{lookup-plans_in}
 
 -- a number is in a list exactly where a look-up finds it
@@ -36,7 +37,7 @@ found_first f x fs same e = subst (λ (z : ℕ × FilterPlan). IsFound (f ∷ fs
 found_later : (f x : ℕ × FilterPlan) (fs : List (ℕ × FilterPlan)) → are_distinct (f ∷ fs) ≡ true → IsFound fs x → IsFound (f ∷ fs) x
 found_later f x fs distinct h = by_bool (nat_eq x.0 f.0)
     (λ e.
-    let same : x.0 ≡ f.0 = is_eq x.0 f.0 e in
+    let same : x.0 ≡ f.0 = eqb-true x.0 f.0 e in
     let there : is_there f.0 fs ≡ true = subst (λ (n : ℕ). is_there n fs ≡ true) same (found_there x.0 fs x.1 h.found) in
     absurd (let apart = (head_apart f fs distinct).0 in cc))
     (λ e. record { found = rw e h.found })

@@ -5,13 +5,14 @@ use Rattle.std.specs.Prelude.{nat_eq, if◌then◌else◌, not, ◌&&◌, Option
 use Rattle.std.specs.Option.{option_map, option_eq}
 use Rattle.std.specs.Map.{lookup}
 use Rattle.std.specs.List.{list_all}
+use Rattle.std.proofs.lemmas.Bool.{and_parts, eqb-true}
 use Rattle.bridge_cycle.proofs.Cases.{by_bool}
 use Rattle.bridge_filter.specs.declared.FilterPlan.{FilterPlan}
 use Rattle.bridge_filter.specs.declared.find.Key.{Key}
 use Rattle.bridge_filter.specs.Plans.{is_there, are_distinct}
 use Rattle.bridge_filter.specs.Finding.{same_key, key_of, lesser_number, least_by, least_with}
 use Rattle.bridge_filter.specs.Steps.{Made, AreMade, new_filter, new_filters, plans_in}
-use Rattle.bridge_filter.proofs.Numbered.{is_eq, same_eq}
+use Rattle.bridge_filter.proofs.Numbered.{same_eq}
 use Rattle.bridge_filter.proofs.Found.{second_lesser}
 
 -- numbers of a list with one more at its end
@@ -30,7 +31,7 @@ lookup_before k p [] ys h = refl
 lookup_before k p (x ∷ xs) ys h =
     let apart = both_hold (is_there x.0 (xs ++ (k, p) ∷ ys)) (are_distinct (xs ++ (k, p) ∷ ys)) h in
     by_bool (nat_eq k x.0)
-    (λ e. absurd (let there = subst (λ (n : ℕ). is_there n (xs ++ (k, p) ∷ ys) ≡ true) (is_eq k x.0 e) (is_there_inside k p xs ys) in let away = apart.0 in cc))
+    (λ e. absurd (let there = subst (λ (n : ℕ). is_there n (xs ++ (k, p) ∷ ys) ≡ true) (eqb-true k x.0 e) (is_there_inside k p xs ys) in let away = apart.0 in cc))
     (λ e. rw e (lookup_before k p xs ys apart.1))
 
 lookup-more_other : {X : Type 0} (q k : ℕ) (p : X) (xs : List (ℕ × X)) → nat_eq q k ≡ false → lookup (nat_eq q) (xs ++ (k, p) ∷ []) ≡ lookup (nat_eq q) xs
@@ -50,7 +51,7 @@ swapped m n h = grind (arith, nat_tests)
 pub made_more : {P X : Type 0} (R : P → X → Type 0) (plans : List (ℕ × P)) (made new : List (ℕ × X)) (k : ℕ) (p : P) (x : X) → lookup (nat_eq k) plans ≡ None → ((q : ℕ) → lookup (nat_eq q) new ≡ (if nat_eq k q then Some x else lookup (nat_eq q) made)) → R p x → AreMade R plans made → AreMade R (plans ++ (k, p) ∷ []) new
 made_more R plans made new k p x absent update r all q = by_bool (nat_eq k q)
     (λ e.
-    let same : k ≡ q = is_eq k q e in
+    let same : k ≡ q = eqb-true k q e in
     let here : lookup (nat_eq k) new ≡ Some x = update k ∙ rw (same_eq k) refl in
     subst (λ (n : ℕ). Made R (lookup (nat_eq n) (plans ++ (k, p) ∷ [])) (lookup (nat_eq n) new)) same (rw (lookup-more_own k p plans absent, here) r))
     (λ e.
@@ -102,19 +103,15 @@ least_by-more test (g ∷ fs) f = least_step (test g.1) (test f.1) g.0 f.0 (leas
 pub least_with-more : (k : Key) (fs : List (ℕ × FilterPlan)) (i : ℕ) (d : ℕ × FilterPlan) → i < length fs → least_with k (take (i + 1) fs) ≡ (if same_key k (key_of (get_or fs i d).1) then lesser_number (Some (get_or fs i d).0) (least_with k (take i fs)) else least_with k (take i fs))
 least_with-more k fs i d h = rw (take_more fs i d h) (least_by-more (λ f. same_key k (key_of f)) (take i fs) (get_or fs i d))
 
-both_true : (a b : Bool) → a && b ≡ true → (a ≡ true) × (b ≡ true)
-both_true true b h = (refl, h)
-both_true false b h = absurd (cc)
-
 option_is : (a b : Option ℕ) → option_eq nat_eq a b ≡ true → a ≡ b
 option_is None None h = refl
 option_is None (Some y) h = absurd (cc)
 option_is (Some x) None h = absurd (cc)
-option_is (Some x) (Some y) h = ap Some (is_eq x y h)
+option_is (Some x) (Some y) h = ap Some (eqb-true x y h)
 
 pub same_key_is : (a b : Key) → same_key a b ≡ true → a ≡ b
 same_key_is a b h =
-    let k = both_true (option_eq nat_eq a.handle b.handle) (option_eq nat_eq a.priority b.priority) h in
+    let k = and_parts (option_eq nat_eq a.handle b.handle) (option_eq nat_eq a.priority b.priority) h in
     let x : a.handle ≡ b.handle = option_is a.handle b.handle k.0 in
     let y : a.priority ≡ b.priority = option_is a.priority b.priority k.1 in
     let named : Option ℕ → Option ℕ → Key = λ u v. record { handle = u; priority = v } in
@@ -143,8 +140,8 @@ kept_least old new key number least h update k = by_bool (same_key k key)
 
 -- one of a list that all pass
 pub passes_inside : {X : Type 0} (p : X → Bool) (xs : List X) (y : X) (ys : List X) → list_all p (xs ++ y ∷ ys) ≡ true → p y ≡ true
-passes_inside p [] y ys h = (both_true (p y) (list_all p ys) h).0
-passes_inside p (x ∷ xs) y ys h = passes_inside p xs y ys (both_true (p x) (list_all p (xs ++ y ∷ ys)) h).1
+passes_inside p [] y ys h = (and_parts (p y) (list_all p ys) h).0
+passes_inside p (x ∷ xs) y ys h = passes_inside p xs y ys (and_parts (p x) (list_all p (xs ++ y ∷ ys)) h).1
 
 -- a list taken one by one: what was taken and what is left make it up
 

@@ -2,6 +2,7 @@ use Rattle.std.proofs.Common.{◌≡◌, ℕ, true, false, List, [], ◌∷◌, 
 use Rattle.std.proofs.lemmas.Bool.Decides.{nat_tests}
 use Rattle.std.specs.Prelude.{if◌then◌else◌, nat_eq, nat_lt, ◌&&◌}
 use Rattle.std.proofs.lemmas.Option.{same_Some}
+use Rattle.std.proofs.lemmas.Bool.{eqb-true, eqb-false}
 use Rattle.bridge_cycle.specs.Entries.{In}
 use Rattle.bridge_cycle.proofs.Cases.{by_bool}
 use Rattle.bridge_filter.specs.declared.FilterPlan.{FilterPlan}
@@ -11,7 +12,6 @@ use Rattle.bridge_gate.specs.declared.gate.GateAnswer.{GateAnswer}
 use Rattle.bridge_gate.specs.declared.gate.GateAnswer.TheVariants as gate
 use Rattle.bridge_filter.specs.Verdicts.{Plans, Call, Event, Came, ClearedBlocked, ClearedRxOf, ClearedOctetsOf, ClearedRedOf, Step, Unfiltered, Judged, Command, gate_share, meter_share, is_blocked, is_meter, is_match, lesser, flow, verdict_of, judged, told, is_above, by_answer, by_meter, gate_answer}
 use Rattle.bridge_filter.specs.Own.{own_events, is_own_step, own_steps, IsApart}
-use Rattle.bridge_filter.proofs.Numbered.{is_eq, not_eq}
 
 -- each judged step is of a filter of the plan
 abbrev pub IsListed : Plans → Step → Type 0
@@ -48,14 +48,14 @@ told_listed p (ClearedOctetsOf n ∷ es) = (tt, told_listed p es)
 told_listed p (ClearedRedOf n ∷ es) = (tt, told_listed p es)
 
 pub differs : (m n : ℕ) → (m ≡ n → ⊥) → nat_eq m n ≡ false
-differs m n h = by_bool (nat_eq m n) (λ k. absurd (h (is_eq m n k))) (λ k. k)
+differs m n h = by_bool (nat_eq m n) (λ k. absurd (h (eqb-true m n k))) (λ k. k)
 
 pub gate_own : (p : Plans) (s : ℕ) (f : FilterPlan) → IsApart p s f → (ss : List Step) → AreListed p ss → gate_share f.gate (own_steps s f ss) ≡ gate_share f.gate ss
 gate_own p s f a [] l = refl
 gate_own p s f a (Unfiltered c ∷ ss) l = gate_own p s f a ss l.1
 gate_own p s f a (Judged c n g v ∷ ss) l = by_bool (nat_eq n s)
     (λ k. rw (k, gate_own p s f a ss l.1) refl)
-    (λ k. let e : nat_eq g.gate f.gate ≡ false = differs g.gate f.gate (λ q. not_eq n s k (a.gate n g l.0 q)) in rw (k, e) (gate_own p s f a ss l.1))
+    (λ k. let e : nat_eq g.gate f.gate ≡ false = differs g.gate f.gate (λ q. eqb-false n s k (a.gate n g l.0 q)) in rw (k, e) (gate_own p s f a ss l.1))
 gate_own p s f a (Command (Came c) ∷ ss) l = gate_own p s f a ss l.1
 gate_own p s f a (Command (ClearedBlocked n) ∷ ss) l = by_bool (nat_eq n s) (λ k. rw k (gate_own p s f a ss l.1)) (λ k. rw k (gate_own p s f a ss l.1))
 gate_own p s f a (Command (ClearedRxOf n) ∷ ss) l = by_bool (nat_eq n f.gate) (λ k. rw (k, k, gate_own p s f a ss l.1) refl) (λ k. rw k (gate_own p s f a ss l.1))
@@ -64,7 +64,7 @@ gate_own p s f a (Command (ClearedRedOf n) ∷ ss) l = by_bool (is_meter f.meter
 
 is_meter_some : (o : Option ℕ) (m : ℕ) → is_meter o m ≡ true → o ≡ Some m
 is_meter_some None m h = cc
-is_meter_some (Some n) m h = ap Some (is_eq n m h)
+is_meter_some (Some n) m h = ap Some (eqb-true n m h)
 
 swapped : (m n : ℕ) → nat_eq n m ≡ true → nat_eq m n ≡ true
 swapped m n h = grind (arith, nat_tests)
@@ -84,7 +84,7 @@ meter_own p s m f a e [] l = refl
 meter_own p s m f a e (Unfiltered c ∷ ss) l = meter_own p s m f a e ss l.1
 meter_own p s m f a e (Judged c n g v ∷ ss) l = by_bool (nat_eq n s)
     (λ k. rw (k, meter_own p s m f a e ss l.1) refl)
-    (λ k. let z : is_meter g.meter m ≡ false = by_bool (is_meter g.meter m) (λ y. absurd (not_eq n s k (a.meter n m g e l.0 (is_meter_some g.meter m y)))) (λ y. y) in rw (k, z) (meter_own p s m f a e ss l.1))
+    (λ k. let z : is_meter g.meter m ≡ false = by_bool (is_meter g.meter m) (λ y. absurd (eqb-false n s k (a.meter n m g e l.0 (is_meter_some g.meter m y)))) (λ y. y) in rw (k, z) (meter_own p s m f a e ss l.1))
 meter_own p s m f a e (Command (Came c) ∷ ss) l = meter_own p s m f a e ss l.1
 meter_own p s m f a e (Command (ClearedBlocked n) ∷ ss) l = by_bool (nat_eq n s) (λ k. rw k (meter_own p s m f a e ss l.1)) (λ k. rw k (meter_own p s m f a e ss l.1))
 meter_own p s m f a e (Command (ClearedRxOf n) ∷ ss) l = by_bool (nat_eq n f.gate) (λ k. rw k (meter_own p s m f a e ss l.1)) (λ k. rw k (meter_own p s m f a e ss l.1))
@@ -120,14 +120,11 @@ listed_own : (p : Plans) (s : ℕ) (f : FilterPlan) (ss : List Step) → AreList
 listed_own p s f [] l = tt
 listed_own p s f (x ∷ xs) l = by_bool (is_own_step s f x) (λ k. rw k (l.0, listed_own p s f xs l.1)) (λ k. rw k (listed_own p s f xs l.1))
 
-none_none : {A : Type 0} (x : A) → Some x ≡ None → ⊥
-none_none x h = cc
-
 came_own : (p : Plans) (s : ℕ) (f : FilterPlan) → IsApart p s f → (c : Call) (es : List Event) → told p (own_events p s f es) ≡ own_steps s f (told p es) → (o : Option (ℕ × FilterPlan)) → flow p.filters c ≡ o → told p (own_events p s f (Came c ∷ es)) ≡ own_steps s f (told p (Came c ∷ es))
 came_own p s f a c es ih None e = rw e ih
 came_own p s f a c es ih (Some x) e = by_bool (nat_eq x.0 s)
     (λ k.
-    let same : x.0 ≡ s = is_eq x.0 s k in
+    let same : x.0 ≡ s = eqb-true x.0 s k in
     let there : In x p.filters = flow_listed p.filters c x e in
     let plan : f ≡ x.1 = a.one x.1 (subst (λ (n : ℕ). In (n, x.1) p.filters) same there) in
     let v : verdict_of p (own_steps s f (told p es)) c s f ≡ verdict_of p (told p es) c s f = verdict_own p s f a (told p es) (told_listed p es) c in

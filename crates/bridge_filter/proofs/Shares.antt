@@ -1,5 +1,6 @@
-use Rattle.std.proofs.Common.{◌≡◌, ℕ, Bool, true, false, List, ◌∷◌, ◌≤◌, refl}
-use Rattle.std.specs.Prelude.{nat_eq, if◌then◌else◌, ◌&&◌, Option, Some, None}
+use Rattle.std.proofs.Common.{◌≡◌, ℕ, true, false, List, ◌∷◌, ◌≤◌, refl}
+use Rattle.std.specs.Prelude.{nat_eq, if◌then◌else◌, Option, Some, None}
+use Rattle.std.proofs.Math.Bool.{and-true, and-false}
 use Rattle.bridge_meter.specs.declared.MeterPlan.{MeterPlan}
 use Rattle.bridge_meter.specs.Colours.{MeterEvent, Came, colour_of, past}
 use Rattle.bridge_meter.specs.Standing as meter
@@ -36,28 +37,20 @@ meters_before old new n t g h change le before = each_after old new n g h (λ k 
 
 -- the shares with one more frame
 
-and_true : (b : Bool) → b && true ≡ b
-and_true true = refl
-and_true false = refl
-
-and_false : (b : Bool) → b && false ≡ false
-and_false true = refl
-and_false false = refl
-
 pub gate_share-reached : (g k : ℕ) (c : Call) (f : FilterPlan) (v : Verdict) (ss : List Step) → reached_gate v ≡ true → gate_share g (Judged c k f v ∷ ss) ≡ (if nat_eq f.gate g then Asked c.at c.sdu ∷ gate_share g ss else gate_share g ss)
-gate_share-reached g k c f v ss h = rw (h, and_true (nat_eq f.gate g)) refl
+gate_share-reached g k c f v ss h = rw (h, and-true (nat_eq f.gate g)) refl
 
 pub gate_share-refused : (g k : ℕ) (c : Call) (f : FilterPlan) (v : Verdict) (ss : List Step) → reached_gate v ≡ false → gate_share g (Judged c k f v ∷ ss) ≡ gate_share g ss
-gate_share-refused g k c f v ss h = rw (h, and_false (nat_eq f.gate g)) refl
+gate_share-refused g k c f v ss h = rw (h, and-false (nat_eq f.gate g)) refl
 
 pub meter_share-passed : (m n k : ℕ) (c : Call) (f : FilterPlan) (v : Verdict) (ss : List Step) → f.meter ≡ Some n → passed_gate v ≡ true → meter_share m (Judged c k f v ∷ ss) ≡ (if nat_eq n m then Came c.at c.octets c.dei ∷ meter_share m ss else meter_share m ss)
-meter_share-passed m n k c f v ss e h = rw (e, h, and_true (nat_eq n m)) refl
+meter_share-passed m n k c f v ss e h = rw (e, h, and-true (nat_eq n m)) refl
 
 pub meter_share-without : (m k : ℕ) (c : Call) (f : FilterPlan) (v : Verdict) (ss : List Step) → f.meter ≡ None → meter_share m (Judged c k f v ∷ ss) ≡ meter_share m ss
 meter_share-without m k c f v ss e = rw e refl
 
 pub meter_share-refused : (m k : ℕ) (c : Call) (f : FilterPlan) (v : Verdict) (ss : List Step) → passed_gate v ≡ false → meter_share m (Judged c k f v ∷ ss) ≡ meter_share m ss
-meter_share-refused m k c f v ss h = rw (h, and_false (is_meter f.meter m)) refl
+meter_share-refused m k c f v ss h = rw (h, and-false (is_meter f.meter m)) refl
 
 -- gates or meters that stand for shares stand for equal shares
 pub gates_stand_same : {A : Type 0} (rules : ℕ → GateRules) (gates : List (ℕ × gate.Gate A)) (share later : ℕ → List GateEvent) → ((n : ℕ) → later n ≡ share n) → GatesStand rules gates share → GatesStand rules gates later

@@ -1,9 +1,11 @@
-use Rattle.std.proofs.Common.{◌≡◌, ℕ, Bool, true, false, List, [], ◌∷◌, arith, refl, ap, ◌∙◌, sym, subst}
-use Rattle.std.specs.Prelude.{nat_eq, ◌&&◌, Option, Some, None, IsSome}
+use Rattle.std.proofs.Common.{◌≡◌, ℕ, Bool, true, List, [], ◌∷◌, arith, refl, ap, ◌∙◌, sym, subst}
+use Rattle.std.specs.Prelude.{nat_eq, Option, Some, None, IsSome}
 use Rattle.std.specs.Option.{option_map, is_some}
 use Rattle.std.specs.Map.{lookup}
 use Rattle.std.specs.List.{list_all}
 use Rattle.std.proofs.lemmas.Option.{same_Some}
+use Rattle.std.proofs.Math.Bool.{and-false}
+use Rattle.std.proofs.lemmas.Bool.{and_parts}
 use Rattle.indexmap.specs.IndexMap.{IndexMap, get}
 use Rattle.bridge_meter.specs.declared.Buckets.{Buckets}
 use Rattle.bridge_meter.specs.declared.MeterPlan.{MeterPlan}
@@ -61,15 +63,11 @@ meter_there : {X : Type 0} (R : MeterPlan → X → Type 0) (plans : List (ℕ �
 meter_there R plans made None are h = tt
 meter_there R plans made (Some n) are h = there_made R plans made n are h
 
-both_true : (a b : Bool) → a && b ≡ true → (a ≡ true) × (b ≡ true)
-both_true true b h = (refl, h)
-both_true false b h = absurd (cc)
-
 -- what holds of each of a list holds of the one that a look-up finds
 passes_found : {X : Type 0} (test : X → Bool) (xs : List (ℕ × X)) (n : ℕ) (y : X) → list_all (λ (x : ℕ × X). test x.1) xs ≡ true → lookup (nat_eq n) xs ≡ Some y → test y ≡ true
 passes_found test [] n y h k = absurd (cc)
 passes_found test (x ∷ xs) n y h k =
-    let p = both_true (test x.1) (list_all (λ (z : ℕ × _). test z.1) xs) h in
+    let p = and_parts (test x.1) (list_all (λ (z : ℕ × _). test z.1) xs) h in
     by_bool (nat_eq n x.0)
     (λ e. let it : x.1 ≡ y = same_Some x.1 y (rw e at k) in subst (λ (z : _). test z ≡ true) it p.0)
     (λ e. let later : lookup (nat_eq n) xs ≡ Some y = rw e at k in passes_found test xs n y p.1 later)
@@ -91,21 +89,17 @@ pub instances_start : {A : Type 0} (fs : List (ℕ × FilterPlan)) (gates : List
 instances_start fs gates meters made_gates made_meters have g m n f found =
     let new = new_found fs n f found in
     let test = passes_found (λ (p : FilterPlan). has_instances gates meters p) fs n new.plan have new.found in
-    let both = both_true (is_there new.plan.gate gates) (is_there_if_any new.plan.meter meters) test in
+    let both = and_parts (is_there new.plan.gate gates) (is_there_if_any new.plan.meter meters) test in
     subst (λ (z : Filter). HasInstances z made_gates made_meters 0) (sym new.is) (record {
       gate = there_made IsNewGate gates made_gates new.plan.gate g both.0;
       meter = meter_there IsNewMeter meters made_meters new.plan.meter m both.1;
       few = record { matching = omega arith; sdu_passed = omega arith; sdu_refused = omega arith; gate_passed = omega arith; gate_refused = omega arith; red = omega arith };
     })
 
-none_blocked : (b : Bool) → false ≡ b && false
-none_blocked true = refl
-none_blocked false = refl
-
 pub kept_start : (fs : List (ℕ × FilterPlan)) → AreKept (new_filters fs) []
 kept_start fs n f found =
     let new = new_found fs n f found in
-    subst (λ (z : Filter). IsKept n z []) (sym new.is) (record { counters = refl; blocked = none_blocked new.plan.block_oversize })
+    subst (λ (z : Filter). IsKept n z []) (sym new.is) (record { counters = refl; blocked = sym (and-false new.plan.block_oversize) })
 
 -- what a new police keeps goes together, and stands for no event
 

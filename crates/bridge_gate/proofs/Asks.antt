@@ -2,8 +2,9 @@ use Rattle.std.proofs.Common.{◌≡◌, ℕ, Bool, true, false, ◌+◌, ◌≤
 use Rattle.std.proofs.lemmas.Int.{ints}
 use Rattle.std.proofs.lemmas.Bool.{cases_lt}
 use Rattle.std.proofs.lemmas.Bool.Decides.{nat_tests, Decides-int_eq}
-use Rattle.std.specs.Prelude.{if◌then◌else◌, ◌&&◌}
+use Rattle.std.specs.Prelude.{if◌then◌else◌}
 use Rattle.std.specs.Ordering.{int_eq}
+use Rattle.std.proofs.Math.Bool.{and-true, and-false}
 use lib.IntN.{ℤ}
 use lib.Signed.{◌≤ℤ◌}
 use Rattle.bridge_cycle.specs.declared.timeline.Turn.{Turn}
@@ -15,14 +16,6 @@ use Rattle.bridge_gate.specs.Gates.{GateRules, GateEvent, Asked, ClearedRx, Clea
 use Rattle.bridge_gate.specs.Schedules.{rules_of, turn_at, has_priorities, is_priority}
 use Rattle.bridge_gate.specs.Standing.{Gate, count_in, StandsFor, reply, after, counting}
 use Rattle.bridge_gate.proofs.ScheduleLaws.{IsOrdered, turn_priority}
-
-and_one : (a : Bool) → a ≡ a && true
-and_one true = refl
-and_one false = refl
-
-and_none : (a : Bool) → false ≡ a && false
-and_none true = refl
-and_none false = refl
 
 none_exceeds : (o : Option ℕ) (n m : ℕ) → ((limit : ℕ) → o ≡ Some limit → n ≡ m) → exceeds o n ≡ exceeds o m
 none_exceeds None n m h = refl
@@ -112,7 +105,7 @@ stands_after r g es t n x (Through ipv) l st le h e = counts r g es t n ipv x x.
 stands_after r g es t n x Closed l st le h e =
     record {
       rules_are = st.rules_are;
-      rx = rw (← e) ((shut_is r g st.rules_are).0 ∙ and_one r.shut_on_rx);
+      rx = rw (← e) ((shut_is r g st.rules_are).0 ∙ sym (and-true r.shut_on_rx));
       octets = rw (← e) st.octets;
       last = refl;
       counted = λ u y limit later k q. rw (← e) (st.counted u y limit (omega arith) k q);
@@ -122,7 +115,7 @@ stands_after r g es t n x OctetsExceeded l st le h e =
     record {
       rules_are = st.rules_are;
       rx = rw (← e) st.rx;
-      octets = rw (← e) ((shut_is r g st.rules_are).1 ∙ and_one r.shut_on_octets);
+      octets = rw (← e) ((shut_is r g st.rules_are).1 ∙ sym (and-true r.shut_on_octets));
       last = refl;
       counted = λ u y limit later k q. rw (← e) (st.counted u y limit (omega arith) k q);
       begun = λ u y some later k. st.begun u y some (omega arith) k;
@@ -148,11 +141,11 @@ stands_after r g es t n x ShutByOctets l st le h e =
 
 -- a gate after a command that clears its receive flag
 pub stands_rx : {A : Type 0} (r : GateRules) (g : Gate A) (es : List GateEvent) → StandsFor r g es → StandsFor r (record g { rx = false }) (ClearedRx ∷ es)
-stands_rx r g es st = record { rules_are = st.rules_are; rx = and_none r.shut_on_rx; octets = st.octets; last = st.last; counted = st.counted; begun = st.begun }
+stands_rx r g es st = record { rules_are = st.rules_are; rx = sym (and-false r.shut_on_rx); octets = st.octets; last = st.last; counted = st.counted; begun = st.begun }
 
 -- a gate after a command that clears its octets flag
 pub stands_octets : {A : Type 0} (r : GateRules) (g : Gate A) (es : List GateEvent) → StandsFor r g es → StandsFor r (record g { octets = false }) (ClearedOctets ∷ es)
-stands_octets r g es st = record { rules_are = st.rules_are; rx = st.rx; octets = and_none r.shut_on_octets; last = st.last; counted = st.counted; begun = st.begun }
+stands_octets r g es st = record { rules_are = st.rules_are; rx = st.rx; octets = sym (and-false r.shut_on_octets); last = st.last; counted = st.counted; begun = st.begun }
 
 -- only a frame that goes through gets an internal priority value, that of the turn
 pub through_is : {A : Type 0} (g : Gate A) (x : Turn GateEntry) (sdu : ℕ) (ipv : Option ℕ) → reply g x sdu ≡ Through ipv → x.state.ipv ≡ ipv

@@ -1,8 +1,8 @@
-use Rattle.std.proofs.Common.{◌≡◌, ℕ, Bool, true, false, ◌<◌, ◌≤◌, List, [], ◌∷◌, arith, refl, ap, ◌∙◌, sym, subst, ◌⊎◌, inl, inr, Option, Some}
+use Rattle.std.proofs.Common.{◌≡◌, ℕ, Bool, true, ◌<◌, ◌≤◌, List, [], ◌∷◌, arith, ap, ◌∙◌, sym, subst, ◌⊎◌, inl, inr, Option, Some}
 use Rattle.std.proofs.lemmas.Int.{ints}
-use Rattle.std.specs.Prelude.{◌&&◌}
 use Rattle.std.specs.List.{list_all}
 use Rattle.std.proofs.lemmas.Option.{same_Some}
+use Rattle.std.proofs.lemmas.Bool.{and_parts}
 use lib.IntN.{ℤ, pos}
 use lib.Signed.{◌≤ℤ◌, ◌<ℤ◌, le_z}
 use Rattle.bridge_cycle.specs.Cyclic as cyclic
@@ -53,18 +53,10 @@ ordered (Fixed lets ipv) w =
     }
 ordered (Cyclic l) w = record { rises = list_rises l w; one = list_one l w }
 
-and_left : (a b : Bool) → a && b ≡ true → a ≡ true
-and_left true b h = refl
-and_left false b h = absurd (cc)
-
-and_right : (a b : Bool) → a && b ≡ true → b ≡ true
-and_right true b h = h
-and_right false b h = absurd (cc)
-
 all_in : {X : Type 0} (f : X → Bool) (xs : List X) (x : X) → list_all f xs ≡ true → In x xs → f x ≡ true
 all_in f [] x h i = absurd i
-all_in f (y ∷ ys) x h (inl e) = ap f e ∙ and_left (f y) (list_all f ys) h
-all_in f (y ∷ ys) x h (inr i) = all_in f ys x (and_right (f y) (list_all f ys) h) i
+all_in f (y ∷ ys) x h (inl e) = ap f e ∙ (and_parts (f y) (list_all f ys) h).0
+all_in f (y ∷ ys) x h (inr i) = all_in f ys x (and_parts (f y) (list_all f ys) h).1 i
 
 -- the internal priority value of each turn is a priority
 pub turn_priority : {A : Type 0} (s : Schedule A) (t : ℕ) (x : Turn GateEntry) → has_priorities s ≡ true → turn_at s t ≡ Some x → is_priority x.state.ipv ≡ true

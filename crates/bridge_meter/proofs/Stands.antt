@@ -1,6 +1,7 @@
 use Rattle.std.proofs.Common.{◌≡◌, ℕ, Bool, true, false, ◌+◌, ◌-◌, ◌*◌, ◌≤◌, min, List, [], ◌∷◌, arith, refl, ap, ◌∙◌, sym, subst}
 use Rattle.std.proofs.lemmas.Bool.Decides.{nat_tests}
 use Rattle.std.specs.Prelude.{if◌then◌else◌, nat_le, ◌&&◌}
+use Rattle.std.proofs.lemmas.Bool.{leb-true}
 use Rattle.bridge_meter.specs.declared.Colour.{Colour}
 use Rattle.bridge_meter.specs.declared.Colour.TheVariants.{Green, Yellow, Red}
 use Rattle.bridge_meter.specs.declared.MeterPlan.{MeterPlan}
@@ -28,11 +29,8 @@ both_true : (a : Bool) (m n : ℕ) → a && nat_le m n ≡ true → m ≤ n
 both_true true m n h = grind (arith, nat_tests)
 both_true false m n h = absurd (cc)
 
-one_true : (m n : ℕ) → nat_le m n ≡ true → m ≤ n
-one_true m n h = grind (arith, nat_tests)
-
 took : (p : MeterPlan) (js : List Judged) (at octets : ℕ) (dei : Bool) → ((judged_as at octets (colour_by p js at octets dei)).green ≤ committed (limits p) at js) × ((judged_as at octets (colour_by p js at octets dei)).yellow ≤ excess (limits p) at js)
-took p js at octets dei = took_by (may_be_green p dei && nat_le (octets * unit) (committed (limits p) at js)) (nat_le (octets * unit) (excess (limits p) at js)) at octets _ _ (both_true _ _ _) (one_true _ _)
+took p js at octets dei = took_by (may_be_green p dei && nat_le (octets * unit) (committed (limits p) at js)) (nat_le (octets * unit) (excess (limits p) at js)) at octets _ _ (both_true _ _ _) (leb-true _ _)
 
 after_covered : (p : MeterPlan) (x : Past) (at octets : ℕ) (dei : Bool) → (InOrder x.judged → IsCovered (limits p) x.judged) → InOrder (after_frame p x at octets dei).judged → IsCovered (limits p) (after_frame p x at octets dei).judged
 after_covered p x at octets dei h =

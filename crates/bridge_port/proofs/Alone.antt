@@ -1,5 +1,5 @@
-use Rattle.std.proofs.Common.{◌≡◌, ℕ, Bool, true, false, List, [], ◌∷◌, arith, refl, ap, sym, subst, inl, inr}
-use Rattle.std.proofs.lemmas.Bool.{cases_order}
+use Rattle.std.proofs.Common.{◌≡◌, ℕ, Bool, List, [], ◌∷◌, arith, refl, ap, sym, subst, inl, inr}
+use Rattle.std.proofs.lemmas.Bool.{cases_order, both_ways}
 use Rattle.bridge_cycle.specs.Moments.{IsFirst}
 use Rattle.bridge_port.specs.Schedule.{Fate, Never, Full, Queued, Started, Copy, Rules}
 use Rattle.bridge_port.specs.Solo.{IsSoloFate, IsSolo, SameOffers}
@@ -10,20 +10,17 @@ first_one opens occ from s t a b = elim (cases_order s t) [
   | inr q ↦ elim q [ inl l ↦ absurd (b.least s a.after l a.fits) | inr l ↦ absurd (a.least t b.after l b.fits) ]
 ]
 
-true_false : (b : Bool) → b ≡ true → b ≡ false → ⊥
-true_false b p q = cc
-
 one_fate : {X : Type 0} (r : Rules X) (x : Copy X) (xs : List (Copy X)) (f g : Fate) → IsSoloFate r x xs f → IsSoloFate r x xs g → f ≡ g
 one_fate r x xs Never Never a b = refl
-one_fate r x xs Never Full a b = absurd (true_false _ b.0 a)
+one_fate r x xs Never Full a b = absurd (both_ways _ a b.0)
 one_fate r x xs Never Queued a b = absurd b
-one_fate r x xs Never (Started t) a b = absurd (true_false _ b.0 a)
-one_fate r x xs Full Never a b = absurd (true_false _ a.0 b)
+one_fate r x xs Never (Started t) a b = absurd (both_ways _ a b.0)
+one_fate r x xs Full Never a b = absurd (both_ways _ b a.0)
 one_fate r x xs Full Full a b = refl
 one_fate r x xs Full Queued a b = absurd b
 one_fate r x xs Full (Started t) a b = absurd (let p = a.1 in let q = b.1 in omega arith)
 one_fate r x xs Queued g a b = absurd a
-one_fate r x xs (Started s) Never a b = absurd (true_false _ a.0 b)
+one_fate r x xs (Started s) Never a b = absurd (both_ways _ b a.0)
 one_fate r x xs (Started s) Full a b = absurd (let p = a.1 in let q = b.1 in omega arith)
 one_fate r x xs (Started s) Queued a b = absurd b
 one_fate r x xs (Started s) (Started t) a b = ap Started (first_one _ _ _ s t a.2 b.2)

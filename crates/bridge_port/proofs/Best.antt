@@ -14,7 +14,7 @@ use Rattle.bridge_port.specs.declared.item.Item.{Item}
 use Rattle.bridge_port.specs.Heads.{IsBestHead, IsBest, sooner, StartsNext}
 use Rattle.bridge_port.specs.Standing.{State, IsIdle, AllStartable, NoStartBefore}
 use Rattle.bridge_port.specs.Opening.{opens_of, ever_of}
-use Rattle.bridge_port.proofs.Ports.{heads, nil_cons}
+use Rattle.bridge_port.proofs.Ports.{heads, nil_cons, below_length}
 
 pub head_some : {X : Type 0} (q : List X) (x : X) → slice_get q 0 ≡ Some x → q ≡ x ∷ drop 1 q
 head_some [] x h = absurd (cc)
@@ -96,9 +96,6 @@ past_end [] c h = refl
 past_end (q ∷ qs) zero h = absurd (let e : length (q ∷ qs) ≡ length qs + 1 = grind arith in omega arith)
 past_end (q ∷ qs) (suc c) h = past_end qs c (let e : length (q ∷ qs) ≡ length qs + 1 = grind arith in omega arith)
 
-class_below : {X : Type 0} (qs : List (List X)) (c : ℕ) (x : X) (rest : List X) → slice_index_or qs c [] ≡ x ∷ rest → c < length qs
-class_below qs c x rest h = elim (cases_lt c (length qs)) [ inl a ↦ a | inr b ↦ absurd (nil_cons x rest (sym (past_end qs c b) ∙ h)) ]
-
 -- the best head of all classes is the next start
 pub best_is_next : {T : Type 0} (p : State T) (best : Option (ℕ × ℕ)) → IsBest p.list p.speed p.queues (max p.free p.earliest) (length p.queues) best → MatchOption best (IsIdle p) (λ b. StartsNext p b.0 b.1)
 best_is_next p None b = λ c. elim (cases_lt c (length p.queues)) [ inl a ↦ b c a | inr k ↦ past_end p.queues c k ]
@@ -112,8 +109,8 @@ best_is_next {T} p (Some h) b =
         after = omega arith;
         free = omega arith;
         fits = b.fits;
-        least = λ c x rest e u a f l. b.least c x rest (class_below p.queues c x rest e) e u (omega arith) l;
-        highest = λ d y others e z. b.highest d y others (class_below p.queues d y others e) e z;
+        least = λ c x rest e u a f l. b.least c x rest (below_length p.queues c x rest e) e u (omega arith) l;
+        highest = λ d y others e z. b.highest d y others (below_length p.queues d y others e) e z;
       };
       soon = b.soon;
       below = b.below;

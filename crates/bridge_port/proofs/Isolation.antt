@@ -2,11 +2,12 @@ use Rattle.std.proofs.Common.{◌≡◌, ℕ, true, false, ◌+◌, ◌<◌, ◌
 use Rattle.std.proofs.lemmas.Bool.Decides.{nat_tests}
 use Rattle.std.specs.Prelude.{nat_le, nat_lt, nat_eq, ◌&&◌}
 use Rattle.std.proofs.lemmas.Option.{same_Some}
+use Rattle.std.proofs.Math.Bool.{and-false}
 use Rattle.bridge_cycle.specs.Moments.{Fits}
 use Rattle.bridge_cycle.proofs.Cases.{by_bool}
 use Rattle.bridge_port.specs.Schedule.{Fate, Never, Full, Queued, Started, Copy, Rules, is_there, occupies, waiting, is_free, head, fate_at, IsAnswer, Answered, IsStart, StartsFit, Apart, ApartFrom, AllApart, InTurn, InTurnWith, AllInTurn, OfferedUpTo, IsLawful, is_queued}
 use Rattle.bridge_port.specs.Solo.{done_or, only, last_done, IsSoloFate, IsSolo, IsWhole, HasOwnWindow}
-use Rattle.bridge_port.proofs.Laws.{fate_older, and_false}
+use Rattle.bridge_port.proofs.Laws.{fate_older}
 
 -- The older part of a list.
 
@@ -66,7 +67,7 @@ own_class : (v n m : ℕ) (f : Fate) → done_or f n m ≤ v → occupies v n f 
 own_class v n m Never h = refl
 own_class v n m Full h = refl
 own_class v n m Queued h = refl
-own_class v n m (Started t) h = let e : nat_lt v (t + n) ≡ false = grind (arith, nat_tests) in rw (e, and_false) refl
+own_class v n m (Started t) h = let e : nat_lt v (t + n) ≡ false = grind (arith, nat_tests) in rw (e, and-false) refl
 
 done_fate : (s n m l : ℕ) (g : Fate) → Apart n (Started s) m g → InTurn (Started s) g → l ≤ s → done_or g m l ≤ s
 done_fate s n m l Never a t h = h
@@ -119,7 +120,7 @@ older_head r c v (x ∷ xs) p a t q d = by_bool (nat_eq x.class c)
     let d2 : done_or x.fate (r.occ x.item) (last_done r (only c xs)) ≤ v = rw k at d in
     let e = gone v (r.occ x.item) (last_done r (only c xs)) x.fate (p x.item) q.0 d2 in
     let d3 = done_fate_le (r.occ x.item) (last_done r (only c xs)) v x.fate (λ s f. done_before r c s 0 x xs same f a.0 t.0) d2 in
-    rw (older_head r c v xs p a.1 t.1 q.1 d3, e, and_false) refl)
+    rw (older_head r c v xs p a.1 t.1 q.1 d3, e, and-false) refl)
     (λ k.
     let d2 : last_done r (only c xs) ≤ v = rw k at d in
     rw (older_head r c v xs p a.1 t.1 q.1 d2, k) refl)

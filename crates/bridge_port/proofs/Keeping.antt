@@ -3,6 +3,8 @@ use Rattle.std.proofs.Common.{◌≡◌, ◌≢◌, ℕ, Bool, true, ◌+◌, �
 use Rattle.std.proofs.lemmas.Bool.Decides.{nat_tests}
 use Rattle.std.proofs.lemmas.List.Sums.{sum_by-set, sum_by_push, sum_by-cons}
 use Rattle.std.specs.Prelude.{if◌then◌else◌, nat_le, nat_eq, ◌&&◌, is_none, slice_index_or, slice_set, drop, sum_by, count_by}
+use Rattle.std.proofs.lemmas.Option.{none-some}
+use Rattle.std.proofs.lemmas.Bool.{leb-false}
 use Rattle.bridge_frame.specs.declared.Speed.{Speed}
 use Rattle.bridge_frame.specs.Link.{occupied}
 use Rattle.bridge_cycle.specs.Cyclic.{Cyclic}
@@ -11,11 +13,8 @@ use Rattle.bridge_port.specs.declared.item.Item.{Item}
 use Rattle.bridge_port.specs.declared.item.Refusal.TheVariants as refusal
 use Rattle.bridge_port.specs.Standing.{State, queue_of, refusal_of, AllStartable, IsKept, IsNext, started_state, queues_with, offered_state, copy_of, count_queued, NoStartBefore, StandsFor, IsBegun}
 use Rattle.bridge_port.specs.Opening.{ever_of}
-use Rattle.bridge_port.proofs.Ports.{le_false, tail_is, below_length, stands_offered, stands_started, next_one}
+use Rattle.bridge_port.proofs.Ports.{tail_is, below_length, stands_offered, stands_started, next_one}
 use Rattle.bridge_port.specs.Schedule.{Copy}
-
-none_is_some : {A : Type 0} (a : A) → Some a ≡ None → ⊥
-none_is_some a h = cc
 
 -- what is not refused fits at some moment, and its queue has room
 pub admitted : {T : Type 0} (p : State T) (c : ℕ) (x : Item T) → refusal_of p c x ≡ None → (ever_of p.list c (occupied x.len p.speed) ≡ true) × (length (queue_of p c) < slice_index_or p.rooms c 0)
@@ -23,15 +22,15 @@ admitted p c x h = by_bool (ever_of p.list c (occupied x.len p.speed))
     (λ can.
     let z : (if nat_le (slice_index_or p.rooms c 0) (length (queue_of p c)) then Some refusal.Full else None) ≡ None = rw can at h in
     by_bool (nat_le (slice_index_or p.rooms c 0) (length (queue_of p c)))
-    (λ full. absurd (none_is_some refusal.Full (rw full at z)))
-    (λ some. (can, le_false _ _ some)))
-    (λ never. absurd (none_is_some refusal.NeverFits (rw never at h)))
+    (λ full. absurd (none-some refusal.Full (sym (rw full at z))))
+    (λ some. (can, leb-false _ _ some)))
+    (λ never. absurd (none-some refusal.NeverFits (sym (rw never at h))))
 
 -- an item more at the end
-count_push : {X : Type 0} (f : X → Bool) (q : List X) (x : X) → count_by f (q ++ x ∷ []) ≡ count_by f q + (if f x then 1 else 0)
+pub count_push : {X : Type 0} (f : X → Bool) (q : List X) (x : X) → count_by f (q ++ x ∷ []) ≡ count_by f q + (if f x then 1 else 0)
 count_push f q x = sum_by_push (λ y. if f y then 1 else 0) q x
 
-count_cons : {X : Type 0} (f : X → Bool) (x : X) (q : List X) → count_by f (x ∷ q) ≡ (if f x then 1 else 0) + count_by f q
+pub count_cons : {X : Type 0} (f : X → Bool) (x : X) (q : List X) → count_by f (x ∷ q) ≡ (if f x then 1 else 0) + count_by f q
 count_cons f x q = sum_by-cons (λ y. if f y then 1 else 0) x q
 
 pub count_pushed : {X : Type 0} (f : X → Bool) (qs : List (List X)) (c : ℕ) (x : X) → c < length qs → sum_by (count_by f) (slice_set qs c (slice_index_or qs c [] ++ x ∷ [])) ≡ (if f x then 1 else 0) + sum_by (count_by f) qs

@@ -1,24 +1,12 @@
-use Rattle.std.proofs.Common.{◌≡◌, ℕ, Bool, true, false, ◌+◌, ◌<◌, ◌≤◌, List, [], ◌∷◌, length, arith, refl, ◌∙◌, sym, subst, inl, inr, Option, Some, None}
+use Rattle.std.proofs.Common.{◌≡◌, ℕ, true, false, ◌+◌, ◌<◌, ◌≤◌, List, [], ◌∷◌, length, arith, refl, ◌∙◌, sym, subst, inl, inr, Option, Some, None}
 use Rattle.std.proofs.lemmas.Bool.Decides.{nat_tests}
-use Rattle.std.proofs.lemmas.Bool.{cases_lt}
-use Rattle.std.specs.Prelude.{nat_le, nat_lt, nat_eq, ◌&&◌}
+use Rattle.std.proofs.lemmas.Bool.{cases_lt, lt-leb}
+use Rattle.std.specs.Prelude.{nat_eq}
+use Rattle.std.proofs.Math.Bool.{and-false}
 use Rattle.bridge_cycle.specs.Moments.{Fits}
 use Rattle.bridge_cycle.specs.Entries.{In}
 use Rattle.bridge_cycle.proofs.Cases.{by_bool}
 use Rattle.bridge_port.specs.Schedule.{Fate, Never, Full, Queued, Started, Copy, Rules, occupies, is_free, head, or_newer, fate_at, IsAnswer, IsStart, StartsFit, Apart, ApartFrom, InTurn, InTurnWith, OfferedUpTo, Serves, IsLawful}
-
-pub not_lt : (k u : ℕ) → u ≤ k → nat_lt k u ≡ false
-not_lt k u h = grind (arith, nat_tests)
-
-pub lt_false : (k u : ℕ) → nat_lt k u ≡ false → u ≤ k
-lt_false k u h = grind (arith, nat_tests)
-
-pub not_le : (k u : ℕ) → u < k → nat_le k u ≡ false
-not_le k u h = grind (arith, nat_tests)
-
-pub and_false : (a : Bool) → a && false ≡ false
-and_false true = refl
-and_false false = refl
 
 -- A later moment at which nothing was missed.
 
@@ -126,7 +114,7 @@ or_none None = refl
 or_none (Some p) = refl
 
 head_before : {X : Type 0} (c u : ℕ) (x : Copy X) (xs : List (Copy X)) → u < x.at → head c u (x ∷ xs) ≡ head c u xs
-head_before c u x xs h = let e = not_le x.at u h in rw (e, and_false) (or_none (head c u xs))
+head_before c u x xs h = let e = lt-leb x.at u h in rw (e, and-false) (or_none (head c u xs))
 
 pub free_new : {X : Type 0} (r : Rules X) (u : ℕ) (x : Copy X) (xs : List (Copy X)) → IsUnstarted x.fate → is_free r u (x ∷ xs) ≡ is_free r u xs
 free_new r u x xs l = rw (occupies_new u (r.occ x.item) x.fate l) refl

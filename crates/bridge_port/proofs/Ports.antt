@@ -1,10 +1,11 @@
 -- What offers and starts do to the schedule that a port stands for.
 use Rattle.std.proofs.Common.{◌≡◌, ◌≢◌, ℕ, Bool, true, false, ◌+◌, ◌<◌, ◌≤◌, ◌++◌, List, [], ◌∷◌, length, arith, refl, ap, ◌∙◌, sym, subst, inl, inr, Option, Some, None, suc, zero, append-nil, length-append, get_or-set_same, get_or-set_other}
 use Rattle.std.proofs.lemmas.Bool.Decides.{nat_tests}
-use Rattle.std.proofs.lemmas.Bool.{cases_order}
+use Rattle.std.proofs.lemmas.Bool.{cases_order, leb-true, leb-false}
 use Rattle.std.specs.Prelude.{if◌then◌else◌, nat_le, nat_lt, nat_eq, not, ◌&&◌, slice_index_or, slice_set, drop}
 use Rattle.std.proofs.lemmas.Grind.{common_steps}
-use Rattle.std.proofs.lemmas.Option.{same_Some}
+use Rattle.std.proofs.lemmas.Option.{same_Some, none-some}
+use Rattle.std.proofs.Math.Bool.{and-false}
 use Rattle.bridge_frame.specs.Link.{occupied}
 use Rattle.bridge_cycle.specs.Moments.{Fits}
 use Rattle.bridge_cycle.proofs.Cases.{by_bool}
@@ -18,15 +19,6 @@ use Rattle.bridge_port.specs.Standing.{State, rules_of, queue_of, StandsFor, NoS
 use Rattle.bridge_port.proofs.Laws.{IsUnstarted, Idle, lawful_later, lawful_offer, free_new, offered_later}
 use Rattle.bridge_port.proofs.Starts.{front, there_no, started_of, IsStarted, lawful_start, queue_begun, queue_other}
 
-pub le_true : (a b : ℕ) → nat_le a b ≡ true → a ≤ b
-le_true a b h = grind (arith, nat_tests)
-
-pub le_false : (a b : ℕ) → nat_le a b ≡ false → b < a
-le_false a b h = grind (arith, nat_tests)
-
-none_some : {A : Type 0} (a : A) → None ≡ Some a → ⊥
-none_some a h = cc
-
 pub heads : {A : Type 0} (a b : A) (xs ys : List A) → a ∷ xs ≡ b ∷ ys → a ≡ b
 heads a b xs ys h = cc
 
@@ -39,11 +31,11 @@ nil_cons a xs h = cc
 -- up to t nothing is asked for
 pub idle_to : {T : Type 0} (p : State T) (xs : List (Copy (Item T))) (t : ℕ) → StandsFor p xs → NoStartBefore p t → Idle (rules_of p) p.earliest t xs
 idle_to p xs t st calm u h below free c q is fits = elim (front (rules_of p) c 0 p.earliest u xs h st.lawful.starts (offered_later p.earliest u xs h st.lawful.offers)) [
-  | inl b ↦ none_some q (sym b.no_head ∙ is)
+  | inl b ↦ none-some q (sym b.no_head ∙ is)
   | inr f ↦
       let e = same_Some _ _ (sym f.is_head ∙ is) in
       let fits2 : Fits (opens_of p.list c) (occupied f.item.len p.speed) u = rw (ap (λ (z : ℕ × _). occupied z.1.len p.speed) e) fits in
-      calm c f.item (queue c f.after) (sym (st.queues c) ∙ queue_begun c 0 f.place f.item xs f.after f.begun) u h (le_true _ _ (sym (st.link u h) ∙ free)) below fits2
+      calm c f.item (queue c f.after) (sym (st.queues c) ∙ queue_begun c 0 f.place f.item xs f.after f.begun) u h (leb-true _ _ (sym (st.link u h) ∙ free)) below fits2
 ]
 
 -- the schedule is lawful up to each moment before which no start is asked for
@@ -78,12 +70,8 @@ waiting_is r h t c (x ∷ xs) l s = rw (there_is h t x.fate l (started_of r h x 
 waits : {T : Type 0} (p : State T) (xs : List (Copy (Item T))) (c t : ℕ) → StandsFor p xs → p.earliest ≤ t → waiting c t xs ≡ length (queue_of p c)
 waits p xs c t st h = waiting_is (rules_of p) p.earliest t c xs h st.lawful.starts ∙ ap length (st.queues c)
 
-and_off : (a : Bool) → a && false ≡ false
-and_off true = refl
-and_off false = refl
-
 not_pushed : {X : Type 0} (b : Bool) (x : X) (q : List X) → q ≡ q ++ (if b && false then x ∷ [] else [])
-not_pushed b x q = rw (and_off b) (sym (append-nil q))
+not_pushed b x q = rw (and-false b) (sym (append-nil q))
 
 pushed : {X : Type 0} (qs : List (List X)) (c : ℕ) (x : X) (d : ℕ) → c < length qs → slice_index_or (slice_set qs c (slice_index_or qs c [] ++ x ∷ [])) d [] ≡ slice_index_or qs d [] ++ (if nat_eq c d && true then x ∷ [] else [])
 pushed {X} qs c x d l = by_bool (nat_eq c d)
@@ -104,13 +92,13 @@ offered_by {T} p xs t c x o e l le calm st = by_bool (ever_of p.list c (occupied
     (λ full.
     let is : Some refusal.Full ≡ o = rw full at z in
     let copy : Copy (Item T) = record { at = t; class = c; item = x; fate = Full } in
-    let room : slice_index_or p.rooms c 0 ≤ length (queue_of p c) = le_true _ _ full in
+    let room : slice_index_or p.rooms c 0 ≤ length (queue_of p c) = leb-true _ _ full in
     let P : Option Refusal → Type 0 = λ o. StandsFor (record p { queues = queues_with o p.queues c x; earliest = t; offered = p.offered + 1 }) (record { at = t; class = c; item = x; fate = fate_of o } ∷ xs) in
     subst P is (stands_offer p p.queues (p.offered + 1) xs copy st le calm tt (can, rw (waits p xs c t st le) room) (λ n. not_pushed (nat_eq c n) x (queue_of p n))))
     (λ some.
     let is : None ≡ o = rw some at z in
     let copy : Copy (Item T) = record { at = t; class = c; item = x; fate = Queued } in
-    let room : length (queue_of p c) < slice_index_or p.rooms c 0 = le_false _ _ some in
+    let room : length (queue_of p c) < slice_index_or p.rooms c 0 = leb-false _ _ some in
     let P : Option Refusal → Type 0 = λ o. StandsFor (record p { queues = queues_with o p.queues c x; earliest = t; offered = p.offered + 1 }) (record { at = t; class = c; item = x; fate = fate_of o } ∷ xs) in
     subst P is (stands_offer p (queues_with None p.queues c x) (p.offered + 1) xs copy st le calm tt (can, rw (waits p xs c t st le) room) (λ n. pushed p.queues c x n l))))
     (λ never.
@@ -173,7 +161,7 @@ stands_started {T} p k c x xs n st = elim (front (rules_of p) c k p.earliest k x
         stands = record {
           lawful = lawful_start r c k w.place x xs w.after (up_to p xs k st n.after n.least) open_link begun is n.fits (λ d y h fits.
               elim (front r d k p.earliest k xs n.after st.lawful.starts (offered_later p.earliest k xs n.after st.lawful.offers)) [
-                | inl b ↦ absurd (none_some y (sym b.no_head ∙ h))
+                | inl b ↦ absurd (none-some y (sym b.no_head ∙ h))
                 | inr v ↦
                     let ey = same_Some _ _ (sym v.is_head ∙ h) in
                     let fits2 : Fits (r.opens d) (r.occ v.item) k = rw (ap (λ (z : ℕ × _). r.occ z.1) ey) fits in

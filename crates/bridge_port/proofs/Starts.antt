@@ -1,11 +1,11 @@
 use Rattle.std.proofs.Common.{◌≡◌, ℕ, Bool, true, false, ◌+◌, ◌<◌, ◌≤◌, List, [], ◌∷◌, length, arith, refl, ap, ◌∙◌, sym, subst, ◌⊎◌, inl, inr, Some, None, suc}
 use Rattle.std.proofs.lemmas.Bool.Decides.{nat_tests}
-use Rattle.std.proofs.lemmas.Bool.{cases_lt}
-use Rattle.std.specs.Prelude.{nat_le, nat_lt, nat_eq, not, ◌&&◌, ◌||◌}
+use Rattle.std.proofs.lemmas.Bool.{cases_lt, and_parts, or_parts, eq-eqb, le-ltb}
+use Rattle.std.specs.Prelude.{nat_le, nat_lt, nat_eq, not, ◌&&◌}
 use Rattle.bridge_cycle.specs.Moments.{Fits}
 use Rattle.bridge_cycle.proofs.Cases.{by_bool}
 use Rattle.bridge_port.specs.Schedule.{Fate, Never, Full, Queued, Started, Copy, Rules, is_there, occupies, waiting, is_free, head, fate_at, IsAnswer, Answered, IsStart, StartsFit, Apart, ApartFrom, AllApart, InTurn, InTurnWith, AllInTurn, OfferedUpTo, Serves, IsLawful, is_queued, has_queued, queue, Begun, here, there}
-use Rattle.bridge_port.proofs.Laws.{not_lt, offered_later, starts_later, fate_older}
+use Rattle.bridge_port.proofs.Laws.{offered_later, starts_later, fate_older}
 
 answer_same : {X : Type 0} (r : Rules X) (x : Copy X) (xs ys : List (Copy X)) (f : Fate) → waiting x.class x.at ys ≡ waiting x.class x.at xs → IsAnswer r x xs f → IsAnswer r x ys f
 answer_same r x xs ys Never e a = a
@@ -39,17 +39,9 @@ done_of n s Full e l = tt
 done_of n s Queued e l = tt
 done_of n s (Started t) e l = grind (arith, nat_tests)
 
-pub and_left : (a b : Bool) → a && b ≡ true → a ≡ true
-and_left true b h = refl
-and_left false b h = absurd (cc)
-
-and_right : (a b : Bool) → a && b ≡ true → b ≡ true
-and_right true b h = h
-and_right false b h = absurd (cc)
-
 all_done : {X : Type 0} (r : Rules X) (s : ℕ) (xs : List (Copy X)) → is_free r s xs ≡ true → StartsFit r s xs → AllDone r s xs
 all_done r s [] e l = tt
-all_done r s (x ∷ xs) e l = (done_of (r.occ x.item) s x.fate (and_left _ _ e) (started_of r s x x.fate l.0), all_done r s xs (and_right _ _ e) l.1)
+all_done r s (x ∷ xs) e l = (done_of (r.occ x.item) s x.fate (and_parts _ _ e).0 (started_of r s x x.fate l.0), all_done r s xs (and_parts _ _ e).1 l.1)
 
 apart_last : (n s m : ℕ) (g : Fate) → IsDone s m g → Apart n (Started s) m g
 apart_last n s m Never d = tt
@@ -73,17 +65,9 @@ turn_last c s r y Full q l e = tt
 turn_last c s r y Queued q l e = let k : nat_eq y.class c ≡ true = grind (arith, nat_tests) in absurd (let z = rw k at q in cc)
 turn_last c s r y (Started t) q l e = l.0
 
-or_left : (a b : Bool) → a || b ≡ false → a ≡ false
-or_left true b h = absurd (cc)
-or_left false b h = refl
-
-or_right : (a b : Bool) → a || b ≡ false → b ≡ false
-or_right true b h = absurd (cc)
-or_right false b h = h
-
 turn_all : {X : Type 0} (r : Rules X) (c s : ℕ) (x : Copy X) (xs : List (Copy X)) → x.class ≡ c → x.fate ≡ Started s → has_queued c xs ≡ false → StartsFit r s xs → InTurnWith x xs
 turn_all r c s x [] k f q l = tt
-turn_all r c s x (y ∷ ys) k f q l = (λ e. rw f (turn_last c s r y y.fate (or_left _ _ q) l.0 (sym k ∙ e)), turn_all r c s x ys k f (or_right _ _ q) l.1)
+turn_all r c s x (y ∷ ys) k f q l = (λ e. rw f (turn_last c s r y y.fate (or_parts _ _ q).0 l.0 (sym k ∙ e)), turn_all r c s x ys k f (or_parts _ _ q).1 l.1)
 
 turn_first : (s : ℕ) (f : Fate) → InTurn f Queued → InTurn f (Started s)
 turn_first s Never h = tt
@@ -97,15 +81,15 @@ module _ {X : Type 0} {c s : ℕ} where
   length_same (there x b) = ap suc (length_same b)
 
   head_same : (d u : ℕ) → u ≤ s → {i : ℕ} {item : X} {xs ys : List (Copy X)} → Begun c s i item xs ys → head d u ys ≡ head d u xs
-  head_same d u h (here t item xs n) = rw (not_lt s u h) refl
+  head_same d u h (here t item xs n) = rw (le-ltb s u h) refl
   head_same d u h (there x b) = rw (head_same d u h b, length_same b) refl
 
   free_same : (r : Rules X) (u : ℕ) → u ≤ s → {i : ℕ} {item : X} {xs ys : List (Copy X)} → Begun c s i item xs ys → is_free r u ys ≡ is_free r u xs
-  free_same r u h (here t item xs n) = rw (not_lt s u h) refl
+  free_same r u h (here t item xs n) = rw (le-ltb s u h) refl
   free_same r u h (there x b) = rw (free_same r u h b) refl
 
   waiting_same : (d u : ℕ) → u ≤ s → {i : ℕ} {item : X} {xs ys : List (Copy X)} → Begun c s i item xs ys → waiting d u ys ≡ waiting d u xs
-  waiting_same d u h (here t item xs n) = rw (not_lt s u h) refl
+  waiting_same d u h (here t item xs n) = rw (le-ltb s u h) refl
   waiting_same d u h (there x b) = rw (waiting_same d u h b) refl
 
   answers_begin : (r : Rules X) {i : ℕ} {item : X} {xs ys : List (Copy X)} → Begun c s i item xs ys → OfferedUpTo s xs → Answered r xs → Answered r ys
@@ -175,13 +159,10 @@ lawful_start r c s i item xs ys w free b is fits top =
 
 queue_none : {X : Type 0} (c : ℕ) (xs : List (Copy X)) → has_queued c xs ≡ false → queue c xs ≡ []
 queue_none c [] h = refl
-queue_none c (x ∷ xs) h = let a : nat_eq x.class c && is_queued x.fate ≡ false = or_left _ _ h in let b : queue c xs ≡ [] = queue_none c xs (or_right _ _ h) in rw (a, b) refl
-
-eq_self : (n : ℕ) → nat_eq n n ≡ true
-eq_self n = grind (arith, nat_tests)
+queue_none c (x ∷ xs) h = let a : nat_eq x.class c && is_queued x.fate ≡ false = (or_parts _ _ h).0 in let b : queue c xs ≡ [] = queue_none c xs (or_parts _ _ h).1 in rw (a, b) refl
 
 pub queue_begun : {X : Type 0} (c s i : ℕ) (item : X) (xs ys : List (Copy X)) → Begun c s i item xs ys → queue c xs ≡ item ∷ queue c ys
-queue_begun c s i0 item0 xs0 ys0 (here t item xs n) = let b : queue c xs ≡ [] = queue_none c xs n in rw (eq_self c, b) refl
+queue_begun c s i0 item0 xs0 ys0 (here t item xs n) = let b : queue c xs ≡ [] = queue_none c xs n in rw (eq-eqb c c refl, b) refl
 queue_begun c s i item xs0 ys0 (there x {xs = vs} {ys = ws} b) = rw (queue_begun c s i item vs ws b) refl
 
 pub queue_other : {X : Type 0} (c s i : ℕ) (item : X) (xs ys : List (Copy X)) (d : ℕ) → Begun c s i item xs ys → nat_eq c d ≡ false → queue d ys ≡ queue d xs
@@ -232,8 +213,8 @@ front {X} r c s h u (x ∷ xs) l k o =
       | inr q ↦ inr (record { place = q.place; item = q.item; after = x ∷ q.after; begun = there x q.begun; is_head = rw q.is_head refl })
       | inl n ↦ by_bool (nat_eq x.class c && is_queued x.fate)
           (λ e.
-          let q : is_queued x.fate ≡ true = and_right _ _ e in
-          let a : nat_eq x.class c ≡ true = and_left _ _ e in
+          let q : is_queued x.fate ≡ true = (and_parts _ _ e).1 in
+          let a : nat_eq x.class c ≡ true = (and_parts _ _ e).0 in
           let d : c ≡ x.class = grind (arith, nat_tests) in
           let P : ℕ → Type 0 = λ m. Begun c s (length xs) x.item (record { at = x.at; class = m; item = x.item; fate = Queued } ∷ xs) (record { at = x.at; class = c; item = x.item; fate = Started s } ∷ xs) in
           let Q : Fate → Type 0 = λ m. Begun c s (length xs) x.item (record { at = x.at; class = x.class; item = x.item; fate = m } ∷ xs) (record { at = x.at; class = c; item = x.item; fate = Started s } ∷ xs) in

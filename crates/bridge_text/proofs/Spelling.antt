@@ -1,7 +1,8 @@
 -- The octets of a text, pair by pair from the left.
-use Rattle.std.proofs.Common.{◌≡◌, ℕ, ◌-◌, ◌<◌, ◌≤◌, true, false, List, [], ◌∷◌, ◌++◌, Option, Some, None, Result, Ok, Err, refl, sym, ap, ◌∙◌, append_assoc, length, subst, nat_eq, arith}
+use Rattle.std.proofs.Common.{◌≡◌, ℕ, ◌-◌, ◌<◌, ◌≤◌, true, false, List, [], ◌∷◌, ◌++◌, Option, Some, None, Result, Ok, Err, refl, sym, ap, ◌∙◌, append_assoc, length, subst, arith}
 use Rattle.std.proofs.lemmas.Bool.{le-ltb}
 use Rattle.std.proofs.lemmas.List.{append-nil}
+use Rattle.bridge_capture.proofs.Fronts.{not_zero}
 use Rattle.bridge_text.specs.declared.fault.HexFault.{HexFault}
 use Rattle.bridge_text.specs.declared.fault.HexFault.TheVariants.{NotHex, TooLong}
 use Rattle.bridge_text.specs.Hex.{is_blank, octet_in, with_octet, octet_then, octets_within, octets_spelled}
@@ -75,9 +76,6 @@ pub at_no_room : (text octets : List ℕ) (room c d octet : ℕ) (rest behind mo
     → SpelledSoFar text octets room rest → octets_spelled text ≡ Err TooLong
 at_no_room text octets room c d octet rest behind more short is next sign some full h =
     in_limit text (Err TooLong) short (at_pair text octets room c d rest behind more (Some octet) is next sign some h ∙ ap (before octets) (joined_full room octet (octets_within (room - 1) more) full))
-
-not_zero : (n : ℕ) → 0 < n → nat_eq n 0 ≡ false
-not_zero n h = grind arith
 
 joined_free : (room octet : ℕ) (others : Result (List ℕ) HexFault) → 0 < room → octet_then (Some octet) room others ≡ with_octet octet others
 joined_free room octet others free = rw (not_zero room free) refl

@@ -7,7 +7,7 @@ use Rattle.bridge_core.specs.Wire.{departure, IsShort}
 use Rattle.bridge_core.specs.Sending.{frame_of, is_overlong}
 use Rattle.bridge_core.proofs.Sends.{sends_start, within_of}
 use Rattle.bridge_port.specs.Standing.{count_queued}
-use Rattle.bridge_port.proofs.Laws.{lt_false}
+use Rattle.std.proofs.lemmas.Bool.{ltb-false}
 use Rattle.bridge_core.proofs.sending.depart.Goals as goal
 
 pub returns-in-Ok-clause-goes : goal.returns-in-Ok-clause-goes
@@ -18,7 +18,7 @@ returns-in-Ok-clause-goes g c = λ offers sent full left s.
     let e = c.start-item.ensures in
     let octets = c.deref.result.now in
     let whole : is_overlong x ≡ false = within_of (is_overlong x) (count_queued is_overlong c.start-item.new.self) (count_queued is_overlong c.args.port.now) (e.counts is_overlong) c.requires.within in
-    let short : IsShort d = (e.length, lt_false x.len (length x.load.items) whole) in
+    let short : IsShort d = (e.length, ltb-false x.len (length x.load.items) whole) in
     let done : c.earliest.result - 1 + c.occupation.result ≡ d.time = ap (λ n. n - 1 + c.occupation.result) c.earliest.ensures.earliest ∙ ap (λ n. k + n) (c.occupation.ensures.exact ∙ ap (occupied x.len) (sym c.requires.speed)) in
     let text : written_record (c.earliest.result - 1 + c.occupation.result) x.len octets ≡ written_item d ++ [] = ap (λ n. written_record n x.len octets) done ∙ (ap (written_record d.time x.len) c.deref.ensures.value ∙ sym (append-nil (written_item d))) in
     (d ∷ [], sends_start c.args.port.now c.start-item.new.self k c.start-item.result.1 x e.next e.moved e.stands short offers sent full left s, subst (Appends _ _) text c.in-Ok.ensures.ok)
@@ -31,7 +31,7 @@ returns-clause-goes g c = λ offers sent full left s.
     let e = c.start-item.ensures in
     let octets = c.deref.result.now in
     let whole : is_overlong x ≡ false = within_of (is_overlong x) (count_queued is_overlong c.start-item.new.self) (count_queued is_overlong c.args.port.now) (e.counts is_overlong) c.requires.within in
-    let short : IsShort d = (e.length, lt_false x.len (length x.load.items) whole) in
+    let short : IsShort d = (e.length, ltb-false x.len (length x.load.items) whole) in
     let done : c.earliest.result - 1 + c.occupation.result ≡ d.time = ap (λ n. n - 1 + c.occupation.result) c.earliest.ensures.earliest ∙ ap (λ n. k + n) (c.occupation.ensures.exact ∙ ap (occupied x.len) (sym c.requires.speed)) in
     let text : written_record (c.earliest.result - 1 + c.occupation.result) x.len octets ≡ written_item d ++ [] = ap (λ n. written_record n x.len octets) done ∙ (ap (written_record d.time x.len) c.deref.ensures.value ∙ sym (append-nil (written_item d))) in
     (d ∷ [], sends_start c.args.port.now c.start-item.new.self k c.start-item.result.1 x e.next e.moved e.stands short offers sent full left s, subst (AppendsFront _ _) text c.in-Err.ensures.err)
