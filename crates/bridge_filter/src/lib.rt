@@ -11,9 +11,8 @@ pub mod laws;
 mod making;
 mod police;
 
+pub use bridge_cycle::NoMemory;
 pub use police::Police;
-use std::alloc::AllocError;
-use thiserror::Error;
 
 /// How a stream filter is set.
 #[derive(Clone, Copy, Debug, PartialEq, Eq)]
@@ -106,15 +105,4 @@ pub enum Clear {
     Octets,
     /// The red flag of a meter.
     Red,
-}
-
-/// A growth was refused.
-#[derive(Clone, Copy, Debug, PartialEq, Eq, Error)]
-#[error("no memory")]
-pub struct NoMemory;
-
-impl From<AllocError> for NoMemory {
-    fn from(_error: AllocError) -> NoMemory {
-        NoMemory
-    }
 }
