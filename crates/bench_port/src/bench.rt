@@ -12,9 +12,9 @@ const ROOM: u16 = 64;
 
 /// How often something was done, and for how long.
 #[derive(Clone, Copy, Debug)]
-pub struct Tally {
-    pub count: u64,
-    pub time: Duration,
+pub(crate) struct Tally {
+    pub(crate) count: u64,
+    pub(crate) time: Duration,
 }
 
 /// Offers a frame of 60 to 67 octets to a class at the least moment that an offer may have, and says whether it is
@@ -57,7 +57,7 @@ fn fill(port: &mut Port<u32, Global>) -> u64 {
 }
 
 /// Asks for the next start and makes it, with eight full queues, and fills its place again.
-pub fn measure_starts(
+pub(crate) fn measure_starts(
     clock: &impl Clock,
     alloc: Global,
     list: CyclicList<u8, Global>,
@@ -79,7 +79,7 @@ pub fn measure_starts(
 }
 
 /// Fills the queues of so many new ports, and makes all their starts beside the clock.
-pub fn measure_offers(
+pub(crate) fn measure_offers(
     clock: &impl Clock,
     alloc: Global,
     list: &CyclicList<u8, Global>,

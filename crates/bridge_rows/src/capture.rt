@@ -15,12 +15,12 @@ const HEADER: [u8; 24] = [
 ];
 
 /// The octets of a tagged frame, of which 18 are captured.
-pub const FRAME: [u8; 18] = [
+const FRAME: [u8; 18] = [
     2, 0, 0, 0, 0, 0x0a, 2, 0, 0, 0, 0, 1, 0x81, 0, 0, 0x0a, 0x88, 0xb5,
 ];
 
 /// A record: seconds, fraction, captured length, original length.
-pub type Words = [u32; 4];
+pub(crate) type Words = [u32; 4];
 
 const FIRST: Words = [0, 100_000, 18, 60];
 
@@ -35,7 +35,7 @@ fn push_word(text: &mut Vec<u8>, order: Order, word: u32) -> Result<(), AllocErr
 }
 
 /// A capture under this magic: its records' words, each with the frame.
-pub fn capture_under(
+fn capture_under(
     alloc: Global,
     magic: u32,
     order: Order,
@@ -61,7 +61,7 @@ pub fn capture_under(
 }
 
 /// A capture in the written form: its records' words, each with the frame.
-pub fn capture_of(alloc: Global, records: &[Words]) -> Result<Vec<u8>, AllocError> {
+pub(crate) fn capture_of(alloc: Global, records: &[Words]) -> Result<Vec<u8>, AllocError> {
     capture_under(alloc, 0xA1B2_3C4D, Order::Little, records)
 }
 

@@ -80,10 +80,67 @@ fn each_growth_of_a_text_is_refused_in_turn(rt: HostRuntime) -> Result<(), Fail>
     Err(Fail::from("some growth was always refused"))
 }
 
-/// A capture of a port with this fault.
-fn capture(port: u8, fault: CaptureFault) -> Fault {
-    Fault::Run(RunFault::Capture { port, fault })
-}
+/// Faults of captures: the port, the fault, its line and its status.
+const CAPTURES: [(u8, CaptureFault, &str, u8); 13] = [
+    (
+        1,
+        CaptureFault::HeaderCut,
+        "capture 1 refused: HeaderCut",
+        2,
+    ),
+    (2, CaptureFault::BadMagic, "capture 2 refused: BadMagic", 2),
+    (
+        3,
+        CaptureFault::BadVersion,
+        "capture 3 refused: BadVersion",
+        2,
+    ),
+    (
+        4,
+        CaptureFault::BadLinkType,
+        "capture 4 refused: BadLinkType",
+        2,
+    ),
+    (
+        1,
+        CaptureFault::RecordCut(3),
+        "capture 1 refused: RecordCut 3",
+        2,
+    ),
+    (
+        1,
+        CaptureFault::LengthsCross(1),
+        "capture 1 refused: LengthsCross 1",
+        2,
+    ),
+    (
+        1,
+        CaptureFault::RecordTooLarge(20),
+        "capture 1 refused: RecordTooLarge 20",
+        2,
+    ),
+    (
+        1,
+        CaptureFault::TimeBack(2),
+        "capture 1 refused: TimeBack 2",
+        2,
+    ),
+    (
+        1,
+        CaptureFault::TimeTooLate(1_000_000),
+        "capture 1 refused: TimeTooLate 1000000",
+        2,
+    ),
+    (
+        1,
+        CaptureFault::TooManyRecords,
+        "capture 1 refused: TooManyRecords",
+        2,
+    ),
+    (2, CaptureFault::Read, "capture 2 not read", 3),
+    (2, CaptureFault::Write, "capture 2 not written", 3),
+    (1, CaptureFault::NoMemory, "no memory", 3),
+];
 
 /// Each fault with its line and its status.
 fn said(alloc: Global) -> Result<Vec<(Fault, &'static str, u8)>, Fail> {
@@ -92,7 +149,8 @@ fn said(alloc: Global) -> Result<Vec<(Fault, &'static str, u8)>, Fail> {
         fault: CaptureFault::HeaderCut,
     };
     let path = String::from_str(alloc, "a/b.pcap")?;
-    let rows = [
+    let write = RunFault::Write { port: 3 };
+    let others = [
         (Fault::Text(TextFault::NotHex), "text refused: NotHex", 2),
         (Fault::Text(TextFault::TooLong), "text refused: TooLong", 2),
         (
@@ -100,69 +158,16 @@ fn said(alloc: Global) -> Result<Vec<(Fault, &'static str, u8)>, Fail> {
             "capture 1 refused: HeaderCut",
             2,
         ),
-        (
-            capture(1, CaptureFault::RecordCut(3)),
-            "capture 1 refused: RecordCut 3",
-            2,
-        ),
-        (
-            capture(2, CaptureFault::BadMagic),
-            "capture 2 refused: BadMagic",
-            2,
-        ),
-        (
-            capture(3, CaptureFault::BadVersion),
-            "capture 3 refused: BadVersion",
-            2,
-        ),
-        (
-            capture(4, CaptureFault::BadLinkType),
-            "capture 4 refused: BadLinkType",
-            2,
-        ),
-        (
-            capture(1, CaptureFault::HeaderCut),
-            "capture 1 refused: HeaderCut",
-            2,
-        ),
-        (
-            capture(1, CaptureFault::LengthsCross(1)),
-            "capture 1 refused: LengthsCross 1",
-            2,
-        ),
-        (
-            capture(1, CaptureFault::RecordTooLarge(20)),
-            "capture 1 refused: RecordTooLarge 20",
-            2,
-        ),
-        (
-            capture(1, CaptureFault::TimeBack(2)),
-            "capture 1 refused: TimeBack 2",
-            2,
-        ),
-        (
-            capture(1, CaptureFault::TimeTooLate(1_000_000)),
-            "capture 1 refused: TimeTooLate 1000000",
-            2,
-        ),
-        (
-            capture(1, CaptureFault::TooManyRecords),
-            "capture 1 refused: TooManyRecords",
-            2,
-        ),
-        (capture(2, CaptureFault::Read), "capture 2 not read", 3),
-        (capture(2, CaptureFault::Write), "capture 2 not written", 3),
-        (
-            Fault::Run(RunFault::Write { port: 3 }),
-            "capture 3 not written",
-            3,
-        ),
-        (capture(1, CaptureFault::NoMemory), "no memory", 3),
+        (Fault::Run(write), "capture 3 not written", 3),
         (Fault::Run(RunFault::NoMemory), "no memory", 3),
         (Fault::Words, "command line refused", 4),
         (Fault::File(path), "file a/b.pcap", 3),
     ];
-    Ok(Vec::from_array(alloc, rows)?)
+    let mut rows = Vec::from_array(alloc, others)?;
+    for (port, fault, line, status) in CAPTURES {
+        rows.push((Fault::Run(RunFault::Capture { port, fault }), line, status))?;
+    }
+    Ok(rows)
 }
 
 #[test]
