@@ -1,2 +1,3 @@
 pub mod Text
 pub mod Status
+pub mod Lines

@@ -3,6 +3,7 @@
 
 mod fault;
 mod line;
+mod status;
 mod text;
 
 pub use fault::{Fault, NoMemory, TextFault};
