@@ -1,3 +1,4 @@
 pub mod Text
 pub mod Status
 pub mod Lines
+pub mod PlanLines

@@ -3,6 +3,7 @@ ghost use Rattle.std.specs.Prelude.{◌≡◌};
 ghost use Rattle.bridge_program.specs.Text.{text_fault_of};
 
 use bridge_core::RunFault;
+use bridge_keys::PlanFault;
 use bridge_text::HexFault;
 use std::alloc::{AllocError, AllocFailed};
 use thiserror::Error;
@@ -55,6 +56,8 @@ impl From<HexFault> for TextFault {
 pub enum Fault {
     Text(TextFault),
     Run(RunFault),
+    /// A plan that is refused.
+    Plan(PlanFault),
     /// The words of the command line.
     Words,
     /// A file that can't be opened, made, read or written, by its path as given.

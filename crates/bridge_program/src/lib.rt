@@ -3,6 +3,7 @@
 
 mod fault;
 mod line;
+mod plan_line;
 mod status;
 mod text;
 

@@ -4,13 +4,14 @@ ghost use Rattle.bridge_program.specs.Lines.{line_of, line_of_capture, line_of_r
 ghost use Rattle.bridge_program.specs.Status.{status_of};
 
 use crate::fault::{Fault, NoMemory, TextFault};
+use crate::plan_line::said_of_plan;
 use crate::status::ending;
 use bridge_capture::CaptureFault;
 use bridge_core::RunFault;
 use std::alloc::Allocator;
 
 /// The line that the program prints for a fault on standard error, without its line feed, and the status with which it
-/// ends: 2 for a text or a capture that is refused, 3 for a file, a device or memory, 4 for the command line.
+/// ends: 1 for a plan that is refused, 2 for a text or a capture that is refused, 3 for a file, a device or memory, 4 for the command line.
 pub fn fault_line<A: Allocator + Copy>(alloc: A, fault: &Fault) -> Result<(String<A>, u8), NoMemory>
     ensures line { IfOk result (λ said. string_bytes said.0 ≡ line_of fault.now) }
     ensures status { IfOk result (λ said. said.1 ≡ status_of fault.now) }
@@ -26,6 +27,7 @@ fn said<A: Allocator + Copy>(alloc: A, fault: &Fault) -> Result<String<A>, NoMem
     match fault {
         Fault::Text(fault) => said_of_text(alloc, fault),
         Fault::Run(fault) => said_of_run(alloc, fault),
+        Fault::Plan(fault) => said_of_plan(alloc, fault),
         Fault::Words => Ok(String::from_str(alloc, "command line refused")?),
         Fault::File(path) => file_fault(alloc, path.as_str()),
     }
@@ -112,7 +114,7 @@ fn write_fault<A: Allocator + Copy>(alloc: A, port: u8) -> Result<String<A>, NoM
 }
 
 /// A growth was refused.
-fn memory_fault<A: Allocator + Copy>(alloc: A) -> Result<String<A>, NoMemory>
+pub fn memory_fault<A: Allocator + Copy>(alloc: A) -> Result<String<A>, NoMemory>
     ensures { IfOk result (λ line. string_bytes line ≡ codes "no memory") }
 {
     Ok(String::from_str(alloc, "no memory")?)

@@ -1,10 +1,15 @@
 //! The status of each fault.
 ghost use Rattle.std.specs.Prelude.{◌≡◌};
-ghost use Rattle.bridge_program.specs.Status.{status_of, status_of_capture, status_of_run, status_of_text};
+ghost use Rattle.bridge_program.specs.Status.{status_of, status_of_capture, status_of_list, status_of_plan, status_of_run, status_of_text};
 
 use crate::fault::{Fault, TextFault};
 use bridge_capture::CaptureFault;
 use bridge_core::RunFault;
+use bridge_cycle::ListFault;
+use bridge_keys::PlanFault;
+
+/// A plan that is refused.
+const REFUSED_PLAN: u8 = 1;
 
 /// A text or a capture that is refused.
 const REFUSED: u8 = 2;
@@ -22,6 +27,7 @@ pub fn ending(fault: &Fault) -> u8
     match fault {
         Fault::Text(fault) => ending_of_text(fault),
         Fault::Run(fault) => ending_of_run(fault),
+        Fault::Plan(fault) => ending_of_plan(fault),
         Fault::Words => WORDS,
         Fault::File(_) => FAILED,
     }
@@ -54,5 +60,26 @@ fn ending_of_capture(fault: &CaptureFault) -> u8
     match fault {
         CaptureFault::Read | CaptureFault::Write | CaptureFault::NoMemory => FAILED,
         _ => REFUSED,
+    }
+}
+
+/// The status of a plan that is refused.
+fn ending_of_plan(fault: &PlanFault) -> u8
+    ensures { result ≡ status_of_plan fault.now }
+{
+    match fault {
+        PlanFault::BadList(_, _, fault) => ending_of_list(fault),
+        PlanFault::NoMemory => FAILED,
+        _ => REFUSED_PLAN,
+    }
+}
+
+/// The status of a plan of which a list is refused.
+fn ending_of_list(fault: &ListFault) -> u8
+    ensures { result ≡ status_of_list fault.now }
+{
+    match fault {
+        ListFault::NoMemory => FAILED,
+        _ => REFUSED_PLAN,
     }
 }
