@@ -1,5 +1,7 @@
 //! Why the program stops.
 ghost use Rattle.std.specs.Prelude.{◌≡◌};
+ghost use Rattle.bridge_core.specs.declared.fault.RunFault.TheVariants.{NoMemory as no_memory};
+ghost use Rattle.bridge_program.specs.declared.fault.Fault.TheVariants.{Run as run};
 ghost use Rattle.bridge_program.specs.Text.{text_fault_of};
 
 use bridge_core::RunFault;
@@ -62,4 +64,12 @@ pub enum Fault {
     Words,
     /// A file that can't be opened, made, read or written, by its path as given.
     File(String),
+}
+
+impl From<AllocError> for Fault {
+    ghost from_gives = { λ _ e. e ≡ run no_memory };
+
+    fn from(_: AllocError) -> Fault {
+        Fault::Run(RunFault::NoMemory)
+    }
 }
