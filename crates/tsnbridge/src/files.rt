@@ -1,5 +1,6 @@
 //! Captures in files.
-ghost use Rattle.std.specs.Prelude.{◌≤◌};
+ghost use Rattle.std.specs.Prelude.{◌≤◌, IfErr, string_bytes};
+ghost use Rattle.tsnbridge.specs.Ending.{IsOfFiles};
 
 use bridge_capture::{FromRead, FromWrite};
 use bridge_core::{RunFault, WireCount, wire};
@@ -25,6 +26,7 @@ pub fn wire_files(
     output: String,
 ) -> Result<WireCount, Fault>
     requires { (1 ≤ room) × (room ≤ 4096) }
+    ensures { IfErr result (IsOfFiles (string_bytes input) (string_bytes output)) }
 {
     let Ok(from) = fs::open(rt, input.as_str()) else {
         return Err(Fault::File(input));
