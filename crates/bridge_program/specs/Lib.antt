@@ -1,2 +1,8 @@
 pub mod Text
 pub mod Status
+pub mod Lines
+pub mod PlanLines
+pub mod Numbers
+pub mod CommandLine
+pub mod Counts
+pub mod Examples

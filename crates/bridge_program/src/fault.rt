@@ -1,8 +1,11 @@
 //! Why the program stops.
 ghost use Rattle.std.specs.Prelude.{◌≡◌};
+ghost use Rattle.bridge_core.specs.declared.fault.RunFault.TheVariants.{NoMemory as no_memory};
+ghost use Rattle.bridge_program.specs.declared.fault.Fault.TheVariants.{Run as run};
 ghost use Rattle.bridge_program.specs.Text.{text_fault_of};
 
 use bridge_core::RunFault;
+use bridge_keys::PlanFault;
 use bridge_text::HexFault;
 use std::alloc::{AllocError, AllocFailed};
 use thiserror::Error;
@@ -55,8 +58,18 @@ impl From<HexFault> for TextFault {
 pub enum Fault {
     Text(TextFault),
     Run(RunFault),
+    /// A plan that is refused.
+    Plan(PlanFault),
     /// The words of the command line.
     Words,
     /// A file that can't be opened, made, read or written, by its path as given.
     File(String),
+}
+
+impl From<AllocError> for Fault {
+    ghost from_gives = { λ _ e. e ≡ run no_memory };
+
+    fn from(_: AllocError) -> Fault {
+        Fault::Run(RunFault::NoMemory)
+    }
 }

@@ -4,6 +4,8 @@
 #[cfg(test)]
 mod capture;
 #[cfg(test)]
+mod command;
+#[cfg(test)]
 mod cycle;
 #[cfg(test)]
 mod filter;

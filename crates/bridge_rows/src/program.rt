@@ -2,6 +2,8 @@
 use crate::refusing::RefusesOne;
 use bridge_capture::CaptureFault;
 use bridge_core::RunFault;
+use bridge_cycle::ListFault;
+use bridge_keys::{Field, Place, PlanFault, Section};
 use bridge_program::{Fault, NoMemory, TextFault, fault_line, wire_text};
 use std::alloc::Global;
 use std::test::Fail;
@@ -80,12 +82,12 @@ fn each_growth_of_a_text_is_refused_in_turn(rt: HostRuntime) -> Result<(), Fail>
     Err(Fail::from("some growth was always refused"))
 }
 
-/// Faults of captures: the port, the fault, its line and its status.
+/// A capture's fault by its port, with its line and its status.
 const CAPTURES: [(u8, CaptureFault, &str, u8); 13] = [
     (
         1,
-        CaptureFault::HeaderCut,
-        "capture 1 refused: HeaderCut",
+        CaptureFault::RecordCut(3),
+        "capture 1 refused: RecordCut 3",
         2,
     ),
     (2, CaptureFault::BadMagic, "capture 2 refused: BadMagic", 2),
@@ -103,8 +105,8 @@ const CAPTURES: [(u8, CaptureFault, &str, u8); 13] = [
     ),
     (
         1,
-        CaptureFault::RecordCut(3),
-        "capture 1 refused: RecordCut 3",
+        CaptureFault::HeaderCut,
+        "capture 1 refused: HeaderCut",
         2,
     ),
     (
@@ -126,9 +128,9 @@ const CAPTURES: [(u8, CaptureFault, &str, u8); 13] = [
         2,
     ),
     (
-        1,
+        16,
         CaptureFault::TimeTooLate(1_000_000),
-        "capture 1 refused: TimeTooLate 1000000",
+        "capture 16 refused: TimeTooLate 1000000",
         2,
     ),
     (
@@ -142,6 +144,107 @@ const CAPTURES: [(u8, CaptureFault, &str, u8); 13] = [
     (1, CaptureFault::NoMemory, "no memory", 3),
 ];
 
+const PORT_SPEED: Place = Place {
+    section: Section::Port,
+    index: 1,
+    field: Field::Mbps,
+};
+
+const GATE_BASE: Place = Place {
+    section: Section::Gate,
+    index: 2,
+    field: Field::Base,
+};
+
+const MEMBERS: Place = Place {
+    section: Section::Vlan,
+    index: 1,
+    field: Field::Members,
+};
+
+/// A plan's fault, with its line and its status.
+const PLANS: [(PlanFault, &str, u8); 19] = [
+    (PlanFault::Syntax, "plan refused: Syntax", 1),
+    (PlanFault::TooLong, "plan refused: TooLong", 1),
+    (PlanFault::NoPorts, "plan refused: NoPorts", 1),
+    (
+        PlanFault::UnknownKey(Section::Top, 0),
+        "plan refused: UnknownKey top",
+        1,
+    ),
+    (
+        PlanFault::UnknownKey(Section::Gate, 2),
+        "plan refused: UnknownKey gate 2",
+        1,
+    ),
+    (
+        PlanFault::NotAList(Section::Port),
+        "plan refused: NotAList port",
+        1,
+    ),
+    (
+        PlanFault::Missing(PORT_SPEED),
+        "plan refused: Missing port 1 mbps",
+        1,
+    ),
+    (
+        PlanFault::WrongKind(PORT_SPEED),
+        "plan refused: WrongKind port 1 mbps",
+        1,
+    ),
+    (
+        PlanFault::OutOfRange(GATE_BASE),
+        "plan refused: OutOfRange gate 2 base",
+        1,
+    ),
+    (
+        PlanFault::Duplicate(Section::Port, 2),
+        "plan refused: Duplicate port 2",
+        1,
+    ),
+    (
+        PlanFault::Unresolved(MEMBERS),
+        "plan refused: Unresolved vlan 1 members",
+        1,
+    ),
+    (
+        PlanFault::TooMany(Section::Gate),
+        "plan refused: TooMany gate",
+        1,
+    ),
+    (
+        PlanFault::BadList(Section::Port, 3, ListFault::OverCycle),
+        "plan refused: BadList port 3 OverCycle",
+        1,
+    ),
+    (
+        PlanFault::BadList(Section::Gate, 1, ListFault::Empty),
+        "plan refused: BadList gate 1 Empty",
+        1,
+    ),
+    (
+        PlanFault::BadList(Section::Gate, 1024, ListFault::ZeroInterval),
+        "plan refused: BadList gate 1024 ZeroInterval",
+        1,
+    ),
+    (
+        PlanFault::BadList(Section::Port, 16, ListFault::CycleOutOfRange),
+        "plan refused: BadList port 16 CycleOutOfRange",
+        1,
+    ),
+    (
+        PlanFault::BadList(Section::Port, 1, ListFault::TooManyEntries),
+        "plan refused: BadList port 1 TooManyEntries",
+        1,
+    ),
+    (
+        PlanFault::BadList(Section::Port, 1, ListFault::NoMemory),
+        "no memory",
+        3,
+    ),
+    (PlanFault::NoMemory, "no memory", 3),
+];
+
 /// Each fault with its line and its status.
 fn said(alloc: Global) -> Result<Vec<(Fault, &'static str, u8)>, Fail> {
     let cut = RunFault::Capture {
@@ -149,7 +252,6 @@ fn said(alloc: Global) -> Result<Vec<(Fault, &'static str, u8)>, Fail> {
         fault: CaptureFault::HeaderCut,
     };
     let path = String::from_str(alloc, "a/b.pcap")?;
-    let write = RunFault::Write { port: 3 };
     let others = [
         (Fault::Text(TextFault::NotHex), "text refused: NotHex", 2),
         (Fault::Text(TextFault::TooLong), "text refused: TooLong", 2),
@@ -158,14 +260,22 @@ fn said(alloc: Global) -> Result<Vec<(Fault, &'static str, u8)>, Fail> {
             "capture 1 refused: HeaderCut",
             2,
         ),
-        (Fault::Run(write), "capture 3 not written", 3),
+        (
+            Fault::Run(RunFault::Write { port: 3 }),
+            "capture 3 not written",
+            3,
+        ),
         (Fault::Run(RunFault::NoMemory), "no memory", 3),
         (Fault::Words, "command line refused", 4),
         (Fault::File(path), "file a/b.pcap", 3),
     ];
     let mut rows = Vec::from_array(alloc, others)?;
     for (port, fault, line, status) in CAPTURES {
-        rows.push((Fault::Run(RunFault::Capture { port, fault }), line, status))?;
+        let fault = Fault::Run(RunFault::Capture { port, fault });
+        rows.push((fault, line, status))?;
+    }
+    for (fault, line, status) in PLANS {
+        rows.push((Fault::Plan(fault), line, status))?;
     }
     Ok(rows)
 }

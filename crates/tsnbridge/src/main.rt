@@ -1,13 +1,16 @@
 #![tactic(auto)]
 //! The program: it reads its job, does it, and ends with the status and the line of the first fault.
 
+mod files;
+
 use bridge_core::RunFault;
-use bridge_program::{Fault, fault_line, wire_text};
+use bridge_program::{Fault, Job, fault_line, job_of, wire_line, wire_text};
+use files::wire_files;
 use std::alloc::Global;
 use std::env;
-use std::io::Read;
+use std::io::{ErrorKind, Read};
 use std::process::ExitCode;
-use std::rt::Env;
+use std::rt::{Env, Files};
 
 /// The most octets of standard input that are looked at: one more than a text may have.
 const MAX_INPUT: usize = 4_194_305;
@@ -22,21 +25,58 @@ fn main(rt: HostRuntime) -> ExitCode {
     }
 }
 
-/// Does the job that the words name: without words, the text of standard input goes through one queue.
-fn run(rt: &(impl Input + AllocGlobal + Print + Env)) -> Result<(), Fault> {
-    let Ok(words) = env::args(rt) else {
-        return Err(Fault::Run(RunFault::NoMemory));
-    };
-    if words.skip(1).next().is_some() {
-        return Err(Fault::Words);
+/// Does the job that the words ask for.
+fn run(rt: &(impl Input + AllocGlobal + Print + Env + Files)) -> Result<(), Fault> {
+    let words = words_of(rt)?;
+    match job_of(rt.alloc(), &words)? {
+        Job::Text => run_text(rt),
+        Job::Wire {
+            speed,
+            room,
+            input,
+            output,
+        } => {
+            let count = wire_files(rt, speed, room, input, output)?;
+            match wire_line(rt.alloc(), &count) {
+                Ok(line) => print(rt, line.as_str()),
+                Err(_) => Err(Fault::Run(RunFault::NoMemory)),
+            }
+        }
     }
+}
+
+/// The words after the program's name. A word that isn't UTF-8 is no word of a command.
+fn words_of(rt: &(impl AllocGlobal + Env)) -> Result<Vec<String>, Fault> {
+    let words = match env::args(rt) {
+        Ok(words) => words,
+        Err(error) if error.kind() == ErrorKind::OutOfMemory => {
+            return Err(Fault::Run(RunFault::NoMemory));
+        }
+        Err(_) => return Err(Fault::Words),
+    };
+    let mut after = Vec::new(rt.alloc());
+    for word in words.skip(1) {
+        if after.push(word).is_err() {
+            return Err(Fault::Run(RunFault::NoMemory));
+        }
+    }
+    Ok(after)
+}
+
+/// Sends the text of standard input through one queue.
+fn run_text(rt: &(impl Input + AllocGlobal + Print)) -> Result<(), Fault> {
     let text = read_input(rt)?;
     match wire_text(rt.alloc(), &text) {
-        Ok(lines) => match rt.print(lines.as_str()) {
-            Ok(()) => Ok(()),
-            Err(_) => Err(standard_file(rt.alloc())),
-        },
+        Ok(lines) => print(rt, lines.as_str()),
         Err(fault) => Err(Fault::Text(fault)),
+    }
+}
+
+/// Prints what a job says.
+fn print(rt: &(impl AllocGlobal + Print), text: &str) -> Result<(), Fault> {
+    match rt.print(text) {
+        Ok(()) => Ok(()),
+        Err(_) => Err(standard_file(rt.alloc())),
     }
 }
 

@@ -1,0 +1,53 @@
+#!/usr/bin/env python3
+"""Refuses growths of memory in the program, one a run: refuse.py FIRST LAST WORD..
+
+The program runs on the words with growth FIRST refused, then the next one, up to LAST (`rt try --fail-alloc`). A word
+`in.pcap` is a capture of two frames. Each run has to end as the program ends with memory, or with `no memory` and
+status 3; any other run is told, and the script then ends with status 1. It takes some seconds a run.
+"""
+import os
+import subprocess
+import sys
+import tempfile
+
+import captures
+
+TOP = os.path.dirname(os.path.dirname(os.path.abspath(__file__)))
+NEVER = 1_000_000_000
+
+
+def ending(growth, words, capture):
+    """What a run prints, and its status, where this growth is refused."""
+    line = ["rt", "try", "--fail-alloc", str(growth), "--data", "in.pcap=" + capture, "--", *words]
+    done = subprocess.run(line, cwd=os.path.join(TOP, "crates", "tsnbridge"), stdin=subprocess.DEVNULL,
+                          stdout=subprocess.PIPE, stderr=subprocess.STDOUT, text=True)
+    said = [text for text in done.stdout.splitlines()
+            if text and not text.startswith(("allocations:", "checked:", "interpreter:", "run="))]
+    status = [word for text in done.stdout.splitlines() if text.startswith("run=ended") for word in text.split()
+              if word.startswith("status=")]
+    return said, status
+
+
+def main():
+    if len(sys.argv) < 3:
+        sys.exit(__doc__)
+    first, last, words = int(sys.argv[1]), int(sys.argv[2]), sys.argv[3:]
+    with tempfile.TemporaryDirectory() as folder:
+        capture = os.path.join(folder, "in.pcap")
+        captures.write(capture, 2, "64")
+        wanted = ending(NEVER, words, capture)
+        print("with memory:", wanted, flush=True)
+        refused, other = 0, 0
+        for growth in range(first, last + 1):
+            ended = ending(growth, words, capture)
+            if ended == (["no memory"], ["status=3"]):
+                refused += 1
+            elif ended != wanted:
+                other += 1
+                print(f"growth {growth}:", ended, flush=True)
+        print(f"growths {first} to {last}: {refused} answered no memory, {last - first + 1 - refused - other} as with memory, {other} otherwise")
+    sys.exit(1 if other else 0)
+
+
+if __name__ == "__main__":
+    main()

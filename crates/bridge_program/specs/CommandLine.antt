@@ -1,0 +1,65 @@
+-- The command line: its words, as `clap` reads them, and the job that they ask for.
+use Rattle.std.specs.Prelude.{◌≡◌, ◌≤◌, ℕ, List, [], Some, true, codes, string_bytes}
+use Rattle.std.specs.Str.Parse.{digits_value}
+use Rattle.bridge_frame.specs.declared.Speed.{Speed}
+use Rattle.bridge_core.specs.declared.fault.RunFault.TheVariants as run
+use Rattle.clap.specs.Words.{App, Row, Rule, Text, fault_of, first_of, new_app, new_rule, subcommand_of, with_rule, with_subcommand}
+use Rattle.clap.specs.Simple.{on_top}
+use Rattle.clap.specs.declared.error.kind.ErrorKind.{ErrorKind}
+use Rattle.clap.specs.declared.error.kind.ErrorKind.TheVariants as kind
+use Rattle.bridge_program.specs.declared.fault.Fault.{Fault}
+use Rattle.bridge_program.specs.declared.fault.Fault.TheVariants as fault
+use Rattle.bridge_program.specs.declared.job.Job.{Job}
+use Rattle.bridge_program.specs.declared.job.Job.TheVariants as job
+use Rattle.bridge_program.specs.Numbers.{IsRoom, IsSpeed}
+
+-- a word that has to be there
+abbrev pub word_named : Text → Rule
+word_named name = record (new_rule name) { required = true }
+
+-- `wire MBPS ROOM IN OUT`
+abbrev pub wire_command : App
+wire_command = with_rule (with_rule (with_rule (with_rule (new_app (codes "wire"))
+    (word_named (codes "mbps"))) (word_named (codes "room"))) (word_named (codes "input"))) (word_named (codes "output"))
+
+-- the commands, by words that don't begin with the program's name
+abbrev pub commands : App
+commands = with_subcommand (on_top (λ s. record s { no_binary_name = true }) (new_app (codes "tsnbridge"))) wire_command.top
+
+-- the fault of words that `clap` refuses
+abbrev pub fault_of_kind : ErrorKind → Fault
+fault_of_kind kind.OutOfMemory = fault.Run run.NoMemory
+fault_of_kind _ = fault.Words
+
+-- nothing is wrong with the words, and they name this command with these values
+pub record Names (words : List Text) (name : Text) (values : List Row) : Type 0 where
+  pub faultless : fault_of commands words ≡ []
+  pub named : subcommand_of commands words ≡ Some (name, values)
+
+-- the values of `wire` give a speed, a room and two paths
+pub record AsksForWire (values : List Row) (speed : Speed) (room : ℕ) (input output : Text) : Type 0 where
+  pub mbps_word : Text
+  pub mbps_is : first_of (codes "mbps") values ≡ Some mbps_word
+  pub speed_is : IsSpeed mbps_word speed
+  pub room_word : Text
+  pub room_is : first_of (codes "room") values ≡ Some room_word
+  pub is_room : IsRoom room_word
+  pub value_is : digits_value 10 room_word ≡ room
+  pub input_is : first_of (codes "input") values ≡ Some input
+  pub output_is : first_of (codes "output") values ≡ Some output
+
+-- a job of `wire`, by the values of the command
+abbrev pub IsWireJob : List Row → Job → Type 0
+IsWireJob values job.Text = ⊥
+IsWireJob values (job.Wire speed room input output) = AsksForWire values speed room (string_bytes input) (string_bytes output)
+
+-- the words ask for this job
+abbrev pub AsksFor : List Text → Job → Type 0
+AsksFor words job.Text = words ≡ []
+AsksFor words (job.Wire speed room input output) =
+    (values : List Row) × Names words (codes "wire") values × AsksForWire values speed room (string_bytes input) (string_bytes output)
+
+-- the room of a job's queue, if it has one, is 1 to 4096
+abbrev pub HasRoom : Job → Type 0
+HasRoom job.Text = Unit {0}
+HasRoom (job.Wire speed room input output) = (1 ≤ room) × (room ≤ 4096)

@@ -1,0 +1,54 @@
+-- Words of the command line, computed.
+use Rattle.std.specs.Prelude.{◌≡◌, [], ◌∷◌, List, Some, codes, option_map, refl}
+use Rattle.clap.specs.Words.{Text, fault_of, first_of, subcommand_of}
+use Rattle.clap.specs.declared.error.kind.ErrorKind.TheVariants.{DisplayHelp, MissingRequiredArgument, UnknownArgument}
+use Rattle.clap.proofs.OnLiterals.{clap_on_literals}
+use Rattle.bridge_program.specs.CommandLine.{commands}
+
+-- `wire 1000 4 a.pcap b.pcap`
+abbrev wire_words : List Text
+wire_words = codes "wire" ∷ codes "1000" ∷ codes "4" ∷ codes "a.pcap" ∷ codes "b.pcap" ∷ []
+
+-- nothing is wrong with these words
+pub wire_faultless : fault_of commands wire_words ≡ []
+unfolding clap_on_literals
+wire_faultless = refl
+
+-- they name `wire`
+pub wire_named : option_map (λ p. p.0) (subcommand_of commands wire_words) ≡ Some (codes "wire")
+unfolding clap_on_literals
+wire_named = refl
+
+-- each value goes by its name
+pub wire_mbps : option_map (λ p. first_of (codes "mbps") p.1) (subcommand_of commands wire_words) ≡ Some (Some (codes "1000"))
+unfolding clap_on_literals
+wire_mbps = refl
+
+pub wire_room : option_map (λ p. first_of (codes "room") p.1) (subcommand_of commands wire_words) ≡ Some (Some (codes "4"))
+unfolding clap_on_literals
+wire_room = refl
+
+pub wire_input : option_map (λ p. first_of (codes "input") p.1) (subcommand_of commands wire_words) ≡ Some (Some (codes "a.pcap"))
+unfolding clap_on_literals
+wire_input = refl
+
+pub wire_output : option_map (λ p. first_of (codes "output") p.1) (subcommand_of commands wire_words) ≡ Some (Some (codes "b.pcap"))
+unfolding clap_on_literals
+wire_output = refl
+
+-- a missing word, a word too many, a request for help or for a version
+pub one_missing : fault_of commands (codes "wire" ∷ codes "1000" ∷ codes "4" ∷ codes "a.pcap" ∷ []) ≡ MissingRequiredArgument ∷ []
+unfolding clap_on_literals
+one_missing = refl
+
+pub one_too_many : fault_of commands (codes "wire" ∷ codes "1000" ∷ codes "4" ∷ codes "a" ∷ codes "b" ∷ codes "c" ∷ []) ≡ UnknownArgument ∷ []
+unfolding clap_on_literals
+one_too_many = refl
+
+pub help_asked : fault_of commands (codes "--help" ∷ []) ≡ DisplayHelp ∷ []
+unfolding clap_on_literals
+help_asked = refl
+
+pub version_asked : fault_of commands (codes "--version" ∷ []) ≡ UnknownArgument ∷ []
+unfolding clap_on_literals
+version_asked = refl

@@ -1,0 +1,13 @@
+-- What a word of the command line stands for as a number: decimal digits alone, one or more, without a sign.
+use Rattle.std.specs.Prelude.{◌≡◌, ℕ, ◌≤◌, List, Some}
+use Rattle.std.specs.Str.Parse.{IsNumeral, digits_value}
+use Rattle.bridge_frame.specs.declared.Speed.{Speed}
+use Rattle.bridge_frame.specs.Link.{speed_of}
+
+-- the word gives the room of a queue, 1 to 4096 frames
+abbrev pub IsRoom : List ℕ → Type 0
+IsRoom word = IsNumeral 10 word × (1 ≤ digits_value 10 word) × (digits_value 10 word ≤ 4096)
+
+-- the word gives this speed, by its number of megabits a second
+abbrev pub IsSpeed : List ℕ → Speed → Type 0
+IsSpeed word speed = IsNumeral 10 word × (speed_of (digits_value 10 word) ≡ Some speed)

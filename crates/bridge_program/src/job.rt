@@ -1,0 +1,108 @@
+//! The job that the words of the command line ask for.
+ghost use Rattle.std.specs.Prelude.{◌≡◌, ◌⊎◌, Err, IfOk, IfErr, ℕ, map, option_map, string_bytes};
+ghost use Rattle.bridge_frame.specs.declared.Speed.{Speed};
+ghost use Rattle.bridge_core.specs.declared.fault.RunFault.{RunFault};
+ghost use Rattle.clap.specs.Words.{Text, first_of, found_of, kind_of, rows_of};
+ghost use Rattle.bridge_program.specs.declared.job.Job.{Job};
+ghost use Rattle.bridge_program.specs.CommandLine.{AsksFor, AsksForWire, HasRoom, IsWireJob, fault_of_kind};
+
+use crate::command::matches_of;
+use crate::fault::Fault;
+use crate::number::{room_of, speed_of};
+use bridge_core::RunFault;
+use bridge_frame::Speed;
+use clap::error::ErrorKind;
+use clap::{ArgMatches, Error};
+use std::alloc::Global;
+
+/// What the program is to do.
+#[derive(Debug, Drop)]
+pub enum Job {
+    /// The hexadecimal text of a capture, from standard input, through one queue.
+    Text,
+    /// A capture file through one queue into another one.
+    Wire {
+        /// The speed of the link.
+        speed: Speed,
+        /// The room of the queue, 1 to 4096 frames.
+        room: u16,
+        /// The path of the capture that is read.
+        input: String,
+        /// The path of the capture that is written.
+        output: String,
+    },
+}
+
+/// The job that the words after the program's name ask for: `Text` without words, `Wire` for `wire MBPS ROOM IN OUT`.
+///
+/// MBPS is 10, 100, 1000, 2500 or 10000 and ROOM is 1 to 4096, both as decimal digits alone. `Words` for all other words,
+/// also for a request for help or for a version, and `Run` with `NoMemory` where a growth was refused.
+pub fn job_of(alloc: Global, words: &[String]) -> Result<Job, Fault>
+    ensures ok { IfOk result (AsksFor (map string_bytes words.now)) }
+    ensures room { IfOk result HasRoom }
+    ensures words { result ≡ Err Fault.Words → (job : Job) → ¬ AsksFor (map string_bytes words.now) job }
+    ensures only { IfErr result (λ fault. (fault ≡ Fault.Words) ⊎ (fault ≡ Fault.Run RunFault.NoMemory)) }
+{
+    if words.is_empty() {
+        return Ok(Job::Text);
+    }
+    match matches_of(alloc, words) {
+        Ok(matches) => match matches.subcommand_matches("wire") {
+            Some(values) => wire_job(alloc, values),
+            None => Err(Fault::Words),
+        },
+        Err(error) => Err(fault_of(&error)),
+    }
+}
+
+/// The job of a `wire` command with these values.
+fn wire_job(alloc: Global, values: &ArgMatches) -> Result<Job, Fault>
+    ensures ok { IfOk result (IsWireJob (rows_of (found_of values.now))) }
+    ensures room { IfOk result HasRoom }
+    ensures words { result ≡ Err Fault.Words → (speed : Speed) (room : ℕ) (input output : Text) → ¬ AsksForWire (rows_of (found_of values.now)) speed room input output }
+    ensures only { IfErr result (λ fault. (fault ≡ Fault.Words) ⊎ (fault ≡ Fault.Run RunFault.NoMemory)) }
+{
+    let Some(mbps) = value_of(values, "mbps") else {
+        return Err(Fault::Words);
+    };
+    let Some(speed) = speed_of(mbps) else {
+        return Err(Fault::Words);
+    };
+    let Some(places) = value_of(values, "room") else {
+        return Err(Fault::Words);
+    };
+    let Some(room) = room_of(places) else {
+        return Err(Fault::Words);
+    };
+    let Some(from) = value_of(values, "input") else {
+        return Err(Fault::Words);
+    };
+    let Some(to) = value_of(values, "output") else {
+        return Err(Fault::Words);
+    };
+    let input = String::from_str(alloc, from)?;
+    let output = String::from_str(alloc, to)?;
+    Ok(Job::Wire {
+        speed,
+        room,
+        input,
+        output,
+    })
+}
+
+/// The value of a command by its name.
+fn value_of<'a>(values: &ArgMatches<'a>, name: &str) -> Option<&'a str>
+    ensures { option_map (λ s. s.now) result ≡ first_of name.now (rows_of (found_of values.now)) }
+{
+    values.get_str(name)
+}
+
+/// The fault of words that `clap` refuses.
+fn fault_of(error: &Error) -> Fault
+    ensures { result ≡ fault_of_kind (kind_of error.now) }
+{
+    match error.kind() {
+        ErrorKind::OutOfMemory => Fault::Run(RunFault::NoMemory),
+        _ => Fault::Words,
+    }
+}
