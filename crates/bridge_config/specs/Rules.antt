@@ -1,0 +1,74 @@
+-- What the instances of each section of a plan keep.
+use Rattle.std.specs.Prelude.{◌≡◌, ◌≤◌, ◌<◌, ℕ, Bool, true, not, ◌&&◌, IsTrue, List, [], ◌∷◌, length, Option, Some, None, nat_eq, All}
+use Rattle.std.specs.List.{list_any}
+use Rattle.std.specs.Option.{ForSome}
+use Rattle.bridge_cycle.specs.Cyclic.{Cyclic, IsLawful}
+use Rattle.bridge_meter.specs.declared.MeterPlan.{MeterPlan}
+use Rattle.bridge_gate.specs.declared.schedule.GatePlan.{GatePlan}
+use Rattle.bridge_gate.specs.Schedules as schedules
+use Rattle.bridge_ident.specs.declared.StreamEntry.{StreamEntry}
+use Rattle.bridge_filter.specs.declared.FilterPlan.{FilterPlan}
+use Rattle.bridge_filter.specs.Plans.{are_distinct, is_there, have_instances, all_have_priorities, all_within_limits}
+use Rattle.bridge_keys.specs.Readers.{are_within}
+use Rattle.bridge_config.specs.declared.ports.PortPlan.{PortPlan}
+
+-- whether no two of a list are alike
+abbrev pub are_own : {X : Type 0} → (X → X → Bool) → List X → Bool
+are_own same [] = true
+are_own same (x ∷ xs) = not (list_any (λ y. same x y) xs) && are_own same xs
+
+-- whether a port has the number
+abbrev pub has_port : {A : Type 0} → List (PortPlan A) → ℕ → Bool
+has_port ports n = list_any (λ p. nat_eq p.number n) ports
+
+-- a gate control list opens classes 0 to 7, and is lawful
+pub record IsPortList (l : Cyclic ℕ) : Type 0 where
+  pub lawful : IsLawful l
+  pub classes : All (λ e. e.0 < 256) l.entries
+
+-- the ranges of a port
+pub record IsPort {A : Type 0} (p : PortPlan A) : Type 0 where
+  pub number_from : 1 ≤ p.number
+  pub number_to : p.number ≤ 16
+  pub vid_from : 1 ≤ p.vid
+  pub vid_to : p.vid ≤ 4094
+  pub priority : p.priority ≤ 7
+  pub classes : are_within 0 7 p.classes ≡ true
+  pub eight_classes : length p.classes ≡ 8
+  pub rooms : are_within 1 4096 p.rooms ≡ true
+  pub eight_rooms : length p.rooms ≡ 8
+  pub list : ForSome p.list IsPortList
+
+-- ports whose numbers differ
+pub record ArePorts {A : Type 0} (ports : List (PortPlan A)) : Type 0 where
+  pub each : All IsPort ports
+  pub own : are_own (λ p q. nat_eq p.number q.number) ports ≡ true
+
+-- a stream identification on a port of the plan
+pub record IsStream {A : Type 0} (ports : List (PortPlan A)) (s : StreamEntry) : Type 0 where
+  pub port : has_port ports s.port ≡ true
+  pub vid_from : 1 ≤ s.vid
+  pub vid_to : s.vid ≤ 4094
+  pub address : length s.address ≡ 6
+
+-- gates whose numbers differ, with lawful lists
+pub record AreGates {A : Type 0} (gates : List (ℕ × GatePlan A)) : Type 0 where
+  pub own : IsTrue (are_distinct gates)
+  pub priorities : IsTrue (all_have_priorities gates)
+  pub lawful : All (λ g. schedules.IsLawful g.1.schedule) gates
+
+-- meters whose numbers differ, within the limits of a meter
+pub record AreMeters (meters : List (ℕ × MeterPlan)) : Type 0 where
+  pub own : IsTrue (are_distinct meters)
+  pub limits : IsTrue (all_within_limits meters)
+
+-- the ranges of a filter
+pub record IsFilter (f : ℕ × FilterPlan) : Type 0 where
+  pub priority : ForSome f.1.priority (λ n. n ≤ 7)
+  pub max_sdu : ForSome f.1.max_sdu (λ n. n ≤ 65535)
+
+-- filters whose numbers differ, and whose gates and meters are there
+pub record AreFilters {A : Type 0} (gates : List (ℕ × GatePlan A)) (meters : List (ℕ × MeterPlan)) (filters : List (ℕ × FilterPlan)) : Type 0 where
+  pub each : All IsFilter filters
+  pub own : IsTrue (are_distinct filters)
+  pub instances : IsTrue (have_instances filters gates meters)

@@ -1,0 +1,12 @@
+#![tactic(auto)]
+//! The plan of a bridge: its ports, VLANs, streams, gates, meters and filters.
+
+pub mod filters;
+pub mod gates;
+pub mod lists;
+pub mod meters;
+pub mod numbers;
+pub mod ports;
+pub mod streams;
+
+pub use ports::PortPlan;
