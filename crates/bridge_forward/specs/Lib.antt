@@ -1,3 +1,4 @@
 pub mod Ports
 pub mod Database
+pub mod Kept
 pub mod Forward

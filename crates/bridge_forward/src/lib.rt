@@ -2,8 +2,11 @@
 //! Where a bridge sends a frame: the filtering database with ingress filtering always on (IEEE 802.1Q-2018, 8.6.1
 //! to 8.6.3, with the static filtering entries of 8.8.1).
 
+mod forwarding;
+mod index;
 mod port_set;
 
+pub use forwarding::Forwarding;
 pub use port_set::PortSet;
 use std::alloc::{AllocError, AllocFailed};
 use thiserror::Error;

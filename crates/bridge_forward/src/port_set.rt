@@ -1,7 +1,7 @@
 //! Sets of ports.
 
-ghost use Rattle.std.specs.Prelude.{◌≡◌, ◌≤◌};
-ghost use Rattle.bridge_forward.specs.Ports.{has};
+ghost use Rattle.std.specs.Prelude.{◌≡◌, ◌≤◌, bit_and};
+ghost use Rattle.bridge_forward.specs.Ports.{has, without};
 
 use std::marker::Model;
 
@@ -43,5 +43,25 @@ impl PortSet {
         ensures { result ≡ has self port }
     {
         self.bits >> (port - 1) & 1 == 1
+    }
+
+    /// The ports that are in both sets.
+    pub(crate) fn both(self, other: PortSet) -> PortSet
+        ensures { result ≡ bit_and self other }
+    {
+        PortSet {
+            bits: self.bits & other.bits,
+        }
+    }
+
+    /// The set with a port, 1 to 16, taken away.
+    pub(crate) fn without(self, port: u8) -> PortSet
+        requires from { 1 ≤ port }
+        requires to { port ≤ 16 }
+        ensures { result ≡ without self port }
+    {
+        PortSet {
+            bits: self.bits & !(1 << (port - 1)),
+        }
     }
 }
