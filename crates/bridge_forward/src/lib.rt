@@ -4,6 +4,7 @@
 
 mod forwarding;
 mod index;
+pub mod laws;
 mod port_set;
 
 pub use forwarding::Forwarding;
