@@ -12,10 +12,13 @@ use Rattle.bridge_meter.specs.declared.MeterPlan.{MeterPlan}
 use Rattle.bridge_meter.specs.Colours.{is_within_limits}
 use Rattle.bridge_gate.specs.declared.schedule.GatePlan.{GatePlan}
 use Rattle.bridge_gate.specs.Schedules as schedules
+use Rattle.std.specs.Str.{bytes_eq}
+use Rattle.bridge_forward.specs.declared.Vlan.{Vlan}
+use Rattle.bridge_forward.specs.declared.StaticEntry.{StaticEntry}
 use Rattle.bridge_filter.specs.declared.FilterPlan.{FilterPlan}
 use Rattle.bridge_filter.specs.Plans.{is_there, is_there_if_any, are_distinct, has_instances, have_instances, all_have_priorities, all_within_limits}
 use Rattle.bridge_config.specs.declared.ports.PortPlan.{PortPlan}
-use Rattle.bridge_config.specs.Rules.{are_own, has_port, IsPort, ArePorts, AreGates, AreMeters, IsFilter, AreFilters}
+use Rattle.bridge_config.specs.Rules.{are_own, has_port, has_vlan, has_static, IsVlan, AreVlans, IsStatic, AreStatics, IsPort, ArePorts, AreGates, AreMeters, IsFilter, AreFilters}
 use Rattle.bridge_config.specs.Sections.{has_number}
 
 both_false : (a b : Bool) → (a || b) ≡ false → (a ≡ false) × (b ≡ false)
@@ -37,6 +40,18 @@ pub ports_push : {A : Type 0} (ports : List (PortPlan A)) (p : PortPlan A) → A
 ports_push ports p are new is = record {
   each = each_push IsPort ports p are.each is;
   own = are_own-push (λ p q. nat_eq p.number q.number) ports p are.own new;
+}
+
+pub vlans_push : (all : ℕ) (vlans : List Vlan) (v : Vlan) → AreVlans all vlans → has_vlan vlans v.vid ≡ false → IsVlan all v → AreVlans all (vlans ++ v ∷ [])
+vlans_push all vlans v are new is = record {
+  each = each_push (IsVlan all) vlans v are.each is;
+  own = are_own-push (λ v w. nat_eq v.vid w.vid) vlans v are.own new;
+}
+
+pub statics_push : (all : ℕ) (vlans : List Vlan) (statics : List StaticEntry) (s : StaticEntry) → AreStatics all vlans statics → has_static statics s.vid s.address ≡ false → IsStatic all vlans s → AreStatics all vlans (statics ++ s ∷ [])
+statics_push all vlans statics s are new is = record {
+  each = each_push (IsStatic all vlans) statics s are.each is;
+  own = are_own-push (λ s t. nat_eq s.vid t.vid && bytes_eq s.address t.address) statics s are.own new;
 }
 
 -- what isn't found in a list isn't at its head, and isn't in the rest

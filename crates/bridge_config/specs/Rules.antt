@@ -1,5 +1,5 @@
 -- What the instances of each section of a plan keep.
-use Rattle.std.specs.Prelude.{◌≡◌, ◌≤◌, ◌<◌, ℕ, Bool, true, not, ◌&&◌, IsTrue, List, [], ◌∷◌, length, Option, Some, None, nat_eq, All}
+use Rattle.std.specs.Prelude.{◌≡◌, ◌≤◌, ◌<◌, ℕ, Bool, true, not, ◌&&◌, IsTrue, List, [], ◌∷◌, length, nat_eq, map, All}
 use Rattle.std.specs.List.{list_any}
 use Rattle.std.specs.Option.{ForSome}
 use Rattle.bridge_cycle.specs.Cyclic.{Cyclic, IsLawful}
@@ -9,7 +9,10 @@ use Rattle.bridge_gate.specs.Schedules as schedules
 use Rattle.bridge_ident.specs.declared.StreamEntry.{StreamEntry}
 use Rattle.bridge_filter.specs.declared.FilterPlan.{FilterPlan}
 use Rattle.bridge_filter.specs.Plans.{are_distinct, is_there, have_instances, all_have_priorities, all_within_limits}
-use Rattle.bridge_keys.specs.Readers.{are_within}
+use Rattle.std.specs.Str.{bytes_eq}
+use Rattle.bridge_forward.specs.declared.Vlan.{Vlan}
+use Rattle.bridge_forward.specs.declared.StaticEntry.{StaticEntry}
+use Rattle.bridge_keys.specs.Readers.{are_within, is_subset, set_with}
 use Rattle.bridge_config.specs.declared.ports.PortPlan.{PortPlan}
 
 -- whether no two of a list are alike
@@ -43,6 +46,40 @@ pub record IsPort {A : Type 0} (p : PortPlan A) : Type 0 where
 pub record ArePorts {A : Type 0} (ports : List (PortPlan A)) : Type 0 where
   pub each : All IsPort ports
   pub own : are_own (λ p q. nat_eq p.number q.number) ports ≡ true
+
+-- the set of the numbers of all ports
+abbrev pub port_set : {A : Type 0} → List (PortPlan A) → ℕ
+port_set ports = set_with 1 0 (map (λ p. p.number) ports)
+
+-- whether a VLAN has the number
+abbrev pub has_vlan : List Vlan → ℕ → Bool
+has_vlan vlans n = list_any (λ v. nat_eq v.vid n) vlans
+
+-- a VLAN of ports that are there, by the set of all ports
+pub record IsVlan (all : ℕ) (v : Vlan) : Type 0 where
+  pub vid_from : 1 ≤ v.vid
+  pub vid_to : v.vid ≤ 4094
+  pub members : is_subset v.members all ≡ true
+
+-- VLANs whose numbers differ
+pub record AreVlans (all : ℕ) (vlans : List Vlan) : Type 0 where
+  pub each : All (IsVlan all) vlans
+  pub own : are_own (λ v w. nat_eq v.vid w.vid) vlans ≡ true
+
+-- whether a static entry has the VLAN and the address
+abbrev pub has_static : List StaticEntry → ℕ → List ℕ → Bool
+has_static statics vid address = list_any (λ s. nat_eq s.vid vid && bytes_eq s.address address) statics
+
+-- a static entry of a VLAN and of ports that are there
+pub record IsStatic (all : ℕ) (vlans : List Vlan) (s : StaticEntry) : Type 0 where
+  pub vlan : has_vlan vlans s.vid ≡ true
+  pub address : length s.address ≡ 6
+  pub ports : is_subset s.ports all ≡ true
+
+-- static entries no two of which have the same VLAN and address
+pub record AreStatics (all : ℕ) (vlans : List Vlan) (statics : List StaticEntry) : Type 0 where
+  pub each : All (IsStatic all vlans) statics
+  pub own : are_own (λ s t. nat_eq s.vid t.vid && bytes_eq s.address t.address) statics ≡ true
 
 -- a stream identification on a port of the plan
 pub record IsStream {A : Type 0} (ports : List (PortPlan A)) (s : StreamEntry) : Type 0 where

@@ -12,6 +12,8 @@ use Rattle.bridge_gate.specs.declared.schedule.Schedule.TheVariants as schedule
 use Rattle.bridge_ident.specs.declared.StreamEntry.{StreamEntry}
 use Rattle.bridge_filter.specs.declared.FilterPlan.{FilterPlan}
 use Rattle.bridge_filter.specs.Plans.{is_there}
+use Rattle.bridge_forward.specs.declared.Vlan.{Vlan}
+use Rattle.bridge_forward.specs.declared.StaticEntry.{StaticEntry}
 use Rattle.bridge_keys.specs.declared.fault.Section.{Section}
 use Rattle.bridge_keys.specs.declared.fault.Section.TheVariants as section
 use Rattle.bridge_keys.specs.declared.fault.Field.{Field}
@@ -20,10 +22,10 @@ use Rattle.bridge_keys.specs.declared.fault.Place.{Place}
 use Rattle.bridge_keys.specs.declared.fault.PlanFault.{PlanFault}
 use Rattle.bridge_keys.specs.declared.fault.PlanFault.TheVariants as fault
 use Rattle.bridge_keys.specs.Keys.{key_of}
-use Rattle.bridge_keys.specs.Readers.{◌>>=◌, required, optional, default_to, only_with, only_without, between, switch, speed, known, text, set_of, eight, list_at, are_known, are_known_at, with_key, without_key}
+use Rattle.bridge_keys.specs.Readers.{◌>>=◌, required, optional, default_to, only_with, only_without, between, switch, speed, known, text, set_of, ports_of, eight, list_at, are_known, are_known_at, with_key, without_key}
 use Rattle.bridge_keys.specs.Texts.{address_of, openness_of}
 use Rattle.bridge_config.specs.Texts.{kind_of, tag_of, awareness_of}
-use Rattle.bridge_config.specs.Rules.{has_port}
+use Rattle.bridge_config.specs.Rules.{has_port, has_vlan, has_static}
 use Rattle.bridge_config.specs.declared.ports.PortPlan.{PortPlan}
 
 -- goes on where a test holds, else a fault
@@ -85,6 +87,35 @@ port_at ports index members =
       list ← port_list index members
       own ← no_duplicate section.Port index (has_port ports number)
       Ok (record { number = number; speed = speed; vid = vid; priority = priority; classes = classes; rooms = rooms; list = list })
+
+-- VLAN
+
+abbrev pub has_vlan_keys : Members → Bool
+has_vlan_keys members = are_known (field.Vid ∷ field.Members ∷ []) members
+
+unfoldable pub vlan_at : ℕ → List Vlan → ℕ → Members → Result Vlan PlanFault
+vlan_at all vlans index members =
+    let at : Field → Place = λ key. record { section = section.Vlan; index = index; field = key } in do
+      keys ← provided (has_vlan_keys members) (fault.UnknownKey section.Vlan index)
+      vid ← required (at field.Vid) field.Vid (between 1 4094) members
+      set ← required (at field.Members) field.Members (ports_of all) members
+      own ← no_duplicate section.Vlan index (has_vlan vlans vid)
+      Ok (record { vid = vid; members = set })
+
+-- STATIC
+
+abbrev pub has_static_keys : Members → Bool
+has_static_keys members = are_known (field.Vid ∷ field.Address ∷ field.Ports ∷ []) members
+
+unfoldable pub static_at : ℕ → List Vlan → List StaticEntry → ℕ → Members → Result StaticEntry PlanFault
+static_at all vlans statics index members =
+    let at : Field → Place = λ key. record { section = section.Static; index = index; field = key } in do
+      keys ← provided (has_static_keys members) (fault.UnknownKey section.Static index)
+      vid ← required (at field.Vid) field.Vid (known (has_vlan vlans) 1 4094) members
+      address ← required (at field.Address) field.Address (text address_of) members
+      set ← required (at field.Ports) field.Ports (ports_of all) members
+      own ← no_duplicate section.Static index (has_static statics vid address)
+      Ok (record { vid = vid; address = address; ports = set })
 
 -- STREAM
 

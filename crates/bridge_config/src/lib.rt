@@ -7,6 +7,8 @@ pub mod lists;
 pub mod meters;
 pub mod numbers;
 pub mod ports;
+pub mod statics;
 pub mod streams;
+pub mod vlans;
 
 pub use ports::PortPlan;
