@@ -14,6 +14,7 @@ use Rattle.bridge_forward.specs.declared.Vlan.{Vlan}
 use Rattle.bridge_forward.specs.declared.StaticEntry.{StaticEntry}
 use Rattle.bridge_keys.specs.Readers.{are_within, is_subset, set_with}
 use Rattle.bridge_config.specs.declared.ports.PortPlan.{PortPlan}
+use Rattle.bridge_config.specs.Model.{Policing, Plan}
 
 -- whether no two of a list are alike
 abbrev pub are_own : {X : Type 0} → (X → X → Bool) → List X → Bool
@@ -109,3 +110,30 @@ pub record AreFilters {A : Type 0} (gates : List (ℕ × GatePlan A)) (meters : 
   pub each : All IsFilter filters
   pub own : IsTrue (are_distinct filters)
   pub instances : IsTrue (have_instances filters gates meters)
+
+-- the rules of gates, meters and filters
+pub record IsPolicing {A : Type 0} (p : Policing A) : Type 0 where
+  pub few_gates : length p.gates ≤ 1024
+  pub few_meters : length p.meters ≤ 1024
+  pub few_filters : length p.filters ≤ 1024
+  pub gates : AreGates p.gates
+  pub meters : AreMeters p.meters
+  pub filters : AreFilters p.gates p.meters p.filters
+
+-- the rules of a plan
+pub record IsPlan {A : Type 0} (p : Plan A) : Type 0 where
+  pub some_port : 0 < length p.ports
+  pub few_ports : length p.ports ≤ 16
+  pub few_vlans : length p.database.vlans ≤ 4094
+  pub few_statics : length p.database.statics ≤ 4096
+  pub few_streams : length p.streams ≤ 4096
+  pub few_gates : length p.gates ≤ 1024
+  pub few_meters : length p.meters ≤ 1024
+  pub few_filters : length p.filters ≤ 1024
+  pub ports : ArePorts p.ports
+  pub vlans : AreVlans (port_set p.ports) p.database.vlans
+  pub statics : AreStatics (port_set p.ports) p.database.vlans p.database.statics
+  pub streams : All (IsStream p.ports) p.streams
+  pub gates : AreGates p.gates
+  pub meters : AreMeters p.meters
+  pub filters : AreFilters p.gates p.meters p.filters

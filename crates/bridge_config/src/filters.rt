@@ -1,9 +1,9 @@
 //! Stream filters of a plan.
-ghost use Rattle.std.specs.Prelude.{◌≡◌, IfOk, false, true};
-ghost use Rattle.toml.specs.View.{table_view};
+ghost use Rattle.std.specs.Prelude.{◌≡◌, ◌≤◌, IfOk, false, true, length};
+ghost use Rattle.toml.specs.View.{table_view, items_view};
 ghost use Rattle.bridge_filter.specs.Plans.{has_instances};
 ghost use Rattle.bridge_keys.specs.declared.fault.Section.TheVariants as the_section;
-ghost use Rattle.bridge_keys.specs.Readers.{Gives};
+ghost use Rattle.bridge_keys.specs.Readers.{Gives, GivesAs, instances};
 ghost use Rattle.bridge_config.specs.Sections as sections;
 ghost use Rattle.bridge_config.specs.Rules as rules;
 
@@ -12,11 +12,11 @@ use bridge_filter::FilterPlan;
 use bridge_gate::GatePlan;
 use bridge_keys::{
     Between, Field, Known, Place, PlanFault, Section, SectionReader, Switch, are_known, default_to,
-    optional, required,
+    optional, read_instances, required,
 };
 use bridge_meter::MeterPlan;
 use std::alloc::Allocator;
-use toml::Table;
+use toml::{Table, Value};
 
 /// The number of an instance.
 const NUMBER: Between = Between {
@@ -135,9 +135,9 @@ fn filter_of<A: Allocator + Copy>(
 
 /// The section of filters, where these are the gates and meters.
 #[derive(Clone, Copy)]
-pub(crate) struct Filters<'a, A: Allocator + Copy> {
-    pub gates: &'a [(u32, GatePlan<A>)],
-    pub meters: &'a [(u32, MeterPlan)],
+struct Filters<'a, A: Allocator + Copy> {
+    gates: &'a [(u32, GatePlan<A>)],
+    meters: &'a [(u32, MeterPlan)],
 }
 
 impl<'a, A: Allocator + Copy> SectionReader<A> for Filters<'a, A> {
@@ -157,4 +157,19 @@ impl<'a, A: Allocator + Copy> SectionReader<A> for Filters<'a, A> {
     ) -> Result<(u32, FilterPlan), PlanFault> {
         filter_of(self.gates, self.meters, earlier, index, table)
     }
+}
+
+/// The filters of an array, where these are the gates and meters.
+pub(crate) fn filters_of<A: Allocator + Copy>(
+    alloc: A,
+    gates: &[(u32, GatePlan<A>)],
+    meters: &[(u32, MeterPlan)],
+    items: &[Value],
+) -> Result<Vec<(u32, FilterPlan), A>, PlanFault>
+    requires { length items.now ≤ 1024 }
+    ensures reads { GivesAs (λ v. v.items) result (instances (sections.filter_at gates.now meters.now) (items_view items.now)) }
+    ensures keeps { IfOk result (λ v. rules.AreFilters gates.now meters.now v.items) }
+    ensures few { IfOk result (λ v. length v.items ≤ 1024) }
+{
+    read_instances(alloc, &Filters { gates, meters }, items)
 }
