@@ -1,5 +1,5 @@
 -- What the instances of each section of a plan keep.
-use Rattle.std.specs.Prelude.{◌≡◌, ◌≤◌, ◌<◌, ℕ, Bool, true, not, ◌&&◌, IsTrue, List, [], ◌∷◌, length, nat_eq, map, All}
+use Rattle.std.specs.Prelude.{◌≡◌, ◌≤◌, ◌<◌, ℕ, Bool, true, not, ◌&&◌, IsTrue, List, [], ◌∷◌, length, nat_eq, map, All, Option, Some, None, if◌then◌else◌}
 use Rattle.std.specs.List.{list_any}
 use Rattle.std.specs.Option.{ForSome}
 use Rattle.bridge_cycle.specs.Cyclic.{Cyclic, IsLawful}
@@ -24,6 +24,11 @@ are_own same (x ∷ xs) = not (list_any (λ y. same x y) xs) && are_own same xs
 -- whether a port has the number
 abbrev pub has_port : {A : Type 0} → List (PortPlan A) → ℕ → Bool
 has_port ports n = list_any (λ p. nat_eq p.number n) ports
+
+-- the port of a number, the first where there are several
+abbrev pub port_at : {A : Type 0} → List (PortPlan A) → ℕ → Option (PortPlan A)
+port_at [] n = None
+port_at (p ∷ ps) n = if nat_eq p.number n then Some p else port_at ps n
 
 -- a gate control list opens classes 0 to 7, and is lawful
 pub record IsPortList (l : Cyclic ℕ) : Type 0 where
@@ -84,6 +89,8 @@ pub record AreStatics (all : ℕ) (vlans : List Vlan) (statics : List StaticEntr
 
 -- a stream identification on a port of the plan
 pub record IsStream {A : Type 0} (ports : List (PortPlan A)) (s : StreamEntry) : Type 0 where
+  pub port_from : 1 ≤ s.port
+  pub port_to : s.port ≤ 16
   pub port : has_port ports s.port ≡ true
   pub vid_from : 1 ≤ s.vid
   pub vid_to : s.vid ≤ 4094

@@ -1,5 +1,5 @@
 //! A plan, and how it is made of a text.
-ghost use Rattle.std.specs.Prelude.{◌≡◌, ◌<◌, ◌≤◌, IfOk};
+ghost use Rattle.std.specs.Prelude.{◌≡◌, ◌<◌, ◌≤◌, IfOk, option_map};
 ghost use Rattle.toml.specs.View.{table_view};
 ghost use Rattle.bridge_forward.specs.Forward.{forward};
 ghost use Rattle.bridge_keys.specs.Readers.{Gives, GivesAs};
@@ -51,9 +51,18 @@ impl<A: Allocator + Copy> Model for Plan<A> {
 impl<A: Allocator + Copy> Plan<A> {
     /// The ports, in the order of the text.
     pub fn ports(&self) -> &[PortPlan<A>]
-        ensures { result.now ≡ self.now.ports }
+        ensures ports { result.now ≡ self.now.ports }
+        ensures rules { rules.IsPlan self.now }
     {
         &self.ports
+    }
+
+    /// The port of a number, where the plan has it.
+    pub fn port(&self, number: u8) -> Option<&PortPlan<A>>
+        ensures port { option_map (λ p. p.now) result ≡ rules.port_at self.now.ports number }
+        ensures rules { rules.IsPlan self.now }
+    {
+        port_in(&self.ports, number)
     }
 
     /// The VLANs, in the order of the text.
@@ -107,6 +116,18 @@ impl<A: Allocator + Copy> Plan<A> {
     {
         self.forwarding.forward(port, vid, da)
     }
+}
+
+/// The port of a number.
+fn port_in<A: Allocator + Copy>(ports: &[PortPlan<A>], number: u8) -> Option<&PortPlan<A>>
+    ensures { option_map (λ p. p.now) result ≡ rules.port_at ports.now number }
+{
+    for port in ports {
+        if port.number == number {
+            return Some(port);
+        }
+    }
+    None
 }
 
 /// The set of the numbers of all ports.
@@ -209,7 +230,8 @@ pub fn plan_of<A: Allocator + Copy>(
     heap: Global,
     text: &[u8],
 ) -> Result<Plan<A>, PlanFault>
-    ensures { Gives result (doc.plan_of_text text.now) }
+    ensures reads { Gives result (doc.plan_of_text text.now) }
+    ensures rules { IfOk result rules.IsPlan }
 {
     let document = document_of(heap, text)?;
     let arrays = first_pass(&document)?;
