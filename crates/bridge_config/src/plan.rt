@@ -81,28 +81,32 @@ impl<A: Allocator + Copy> Plan<A> {
 
     /// The stream identifications, in the order of the text.
     pub fn streams(&self) -> &[StreamEntry]
-        ensures { result.now ≡ self.now.streams }
+        ensures streams { result.now ≡ self.now.streams }
+        ensures rules { rules.IsPlan self.now }
     {
         &self.streams
     }
 
     /// The stream gates with their numbers, in the order of the text.
     pub fn gates(&self) -> &[(u32, GatePlan<A>)]
-        ensures { result.now ≡ self.now.gates }
+        ensures gates { result.now ≡ self.now.gates }
+        ensures rules { rules.IsPlan self.now }
     {
         &self.gates
     }
 
     /// The flow meters with their numbers, in the order of the text.
     pub fn meters(&self) -> &[(u32, MeterPlan)]
-        ensures { result.now ≡ self.now.meters }
+        ensures meters { result.now ≡ self.now.meters }
+        ensures rules { rules.IsPlan self.now }
     {
         &self.meters
     }
 
     /// The stream filters with their numbers, in the order of the text.
     pub fn filters(&self) -> &[(u32, FilterPlan)]
-        ensures { result.now ≡ self.now.filters }
+        ensures filters { result.now ≡ self.now.filters }
+        ensures rules { rules.IsPlan self.now }
     {
         &self.filters
     }

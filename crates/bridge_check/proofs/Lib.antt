@@ -1,0 +1,4 @@
+pub mod Runs
+pub mod Told
+pub mod Others
+pub mod Least
