@@ -2,3 +2,4 @@ pub mod Runs
 pub mod Told
 pub mod Others
 pub mod Least
+pub mod Isolated

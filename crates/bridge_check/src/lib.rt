@@ -4,6 +4,7 @@
 
 mod accepted;
 mod fault;
+pub mod laws;
 mod queues;
 mod reach;
 mod tests;
