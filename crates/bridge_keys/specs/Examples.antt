@@ -1,13 +1,14 @@
 -- The kinds of values, the words of presence and the known keys, computed: the first and the last value, one past, another kind.
 use Rattle.std.specs.Prelude.{◌≡◌, ◌+◌, ℕ, Bool, true, false, nat_eq, List, [], ◌∷◌, codes, Option, Some, None, Result, Ok, Err, pos, negsuc, refl}
 use Rattle.toml.specs.Data.{Data, string, integer, boolean, array, table, Items, no_items, item, Members, no_members, member}
+use Rattle.bridge_frame.specs.declared.Speed.TheVariants.{Mbps10, Mbps10000}
 use Rattle.bridge_keys.specs.declared.fault.Section.TheVariants as section
 use Rattle.bridge_keys.specs.declared.fault.Field.TheVariants as field
 use Rattle.bridge_keys.specs.declared.fault.Flaw.TheVariants as flaw
 use Rattle.bridge_keys.specs.declared.fault.Place.{Place}
 use Rattle.bridge_keys.specs.declared.fault.PlanFault.{PlanFault}
 use Rattle.bridge_keys.specs.declared.fault.PlanFault.TheVariants as fault
-use Rattle.bridge_keys.specs.Readers.{between, switch, one_of, speeds, known, text, numbers, set_of, ports_of, eight, required, optional, default_to, only_with, only_without, are_known, are_known_at, with_key, without_key, list_of, list_at, instances}
+use Rattle.bridge_keys.specs.Readers.{between, switch, speed, known, text, numbers, set_of, ports_of, eight, required, optional, default_to, only_with, only_without, are_known, are_known_at, with_key, without_key, list_of, list_at, instances}
 use Rattle.bridge_keys.specs.Texts.{address_of, openness_of}
 
 -- a number of TOML
@@ -64,24 +65,24 @@ switch_of_number = refl
 
 -- A SPEED
 
-slowest : one_of speeds (n 10) ≡ Ok 10
-unfolding one_of
+slowest : speed (n 10) ≡ Ok Mbps10
+unfolding speed
 slowest = refl
 
-fastest : one_of speeds (n 10000) ≡ Ok 10000
-unfolding one_of
+fastest : speed (n 10000) ≡ Ok Mbps10000
+unfolding speed
 fastest = refl
 
-no_speed : one_of speeds (n 10001) ≡ Err flaw.OutOfRange
-unfolding one_of
+no_speed : speed (n 10001) ≡ Err flaw.OutOfRange
+unfolding speed
 no_speed = refl
 
-negative_speed : one_of speeds (integer (negsuc 9)) ≡ Err flaw.OutOfRange
-unfolding one_of
+negative_speed : speed (integer (negsuc 9)) ≡ Err flaw.OutOfRange
+unfolding speed
 negative_speed = refl
 
-speed_of_text : one_of speeds (string (codes "1000")) ≡ Err flaw.WrongKind
-unfolding one_of
+speed_of_text : speed (string (codes "1000")) ≡ Err flaw.WrongKind
+unfolding speed
 speed_of_text = refl
 
 -- A NUMBER THAT STANDS ALREADY: 3 IS THERE

@@ -3,6 +3,8 @@ use Rattle.std.specs.Prelude.{ℕ, zero, suc, pos, negsuc, ◌+◌, ◌-◌, ◌
 use Rattle.std.specs.List.{list_any, list_all}
 use Rattle.std.specs.Cmp.Lexicographic.{pointwise}
 use Rattle.toml.specs.Data.{Data, string, integer, float, boolean, datetime, array, table, Items, no_items, item, Members, no_members, member, get_member}
+use Rattle.bridge_frame.specs.declared.Speed.{Speed}
+use Rattle.bridge_frame.specs.Link.{speed_of}
 use Rattle.bridge_keys.specs.declared.fault.Field.{Field}
 use Rattle.bridge_keys.specs.declared.fault.Flaw.{Flaw}
 use Rattle.bridge_keys.specs.declared.fault.Flaw.TheVariants as flaw
@@ -44,16 +46,6 @@ unfoldable pub switch : Data → Result Bool Flaw
 switch (boolean b) = Ok b
 switch _ = Err flaw.WrongKind
 
--- a number of a fixed set
-unfoldable pub one_of : List ℕ → Data → Result ℕ Flaw
-one_of allowed (integer (pos n)) = if list_any (λ m. nat_eq m n) allowed then Ok n else Err flaw.OutOfRange
-one_of allowed (integer (negsuc n)) = Err flaw.OutOfRange
-one_of allowed _ = Err flaw.WrongKind
-
--- the speeds of ports, in megabits a second
-abbrev pub speeds : List ℕ
-speeds = 10 ∷ 100 ∷ 1000 ∷ 2500 ∷ 10000 ∷ []
-
 -- a number from low to high that stands in the plan already; every other number is of nothing there
 unfoldable pub known : (ℕ → Bool) → ℕ → ℕ → Data → Result ℕ Flaw
 known has low high (integer (pos n)) = if (nat_le low n && nat_le n high) && has n then Ok n else Err flaw.Unresolved
@@ -64,6 +56,12 @@ known has low high _ = Err flaw.WrongKind
 abbrev pub or_out_of_range : {A : Type 0} → Option A → Result A Flaw
 or_out_of_range (Some x) = Ok x
 or_out_of_range None = Err flaw.OutOfRange
+
+-- the speed of a port, in megabits a second
+unfoldable pub speed : Data → Result Speed Flaw
+speed (integer (pos n)) = or_out_of_range (speed_of n)
+speed (integer (negsuc n)) = Err flaw.OutOfRange
+speed _ = Err flaw.WrongKind
 
 -- a text that stands for a value
 unfoldable pub text : {A : Type 0} → (List ℕ → Option A) → Data → Result A Flaw

@@ -7,6 +7,7 @@ ghost use Rattle.bridge_keys.specs.declared.fault.Flaw.{Flaw};
 ghost use Rattle.bridge_keys.specs.Readers as spec;
 
 use crate::fault::Flaw;
+use bridge_frame::Speed;
 use toml::Value;
 
 /// A kind of value.
@@ -86,21 +87,20 @@ impl Kind for Switch {
 pub struct Mbps;
 
 impl Kind for Mbps {
-    type Out = u32;
+    type Out = Speed;
 
-    ghost reading = { λ _. spec.one_of spec.speeds };
+    ghost reading = { λ _. spec.speed };
 
-    ghost Fits = { λ _ n. list_any (λ m. nat_eq m n) spec.speeds ≡ true };
+    ghost Fits = { λ _ _. ⊤ };
 
-    #[tactic(auto, unfolding(crate::specs::Readers::one_of))]
-    fn read(&self, value: &Value) -> Result<u32, Flaw> {
+    #[tactic(auto, unfolding(crate::specs::Readers::speed))]
+    fn read(&self, value: &Value) -> Result<Speed, Flaw> {
         match value {
-            Value::Integer(10) => Ok(10),
-            Value::Integer(100) => Ok(100),
-            Value::Integer(1000) => Ok(1000),
-            Value::Integer(2500) => Ok(2500),
-            Value::Integer(10000) => Ok(10000),
-            Value::Integer(_) => Err(Flaw::OutOfRange),
+            Value::Integer(number) if *number < 0 || *number > 10_000 => Err(Flaw::OutOfRange),
+            Value::Integer(number) => match Speed::of(*number as u32) {
+                Some(speed) => Ok(speed),
+                None => Err(Flaw::OutOfRange),
+            },
             _ => Err(Flaw::WrongKind),
         }
     }

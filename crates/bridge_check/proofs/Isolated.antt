@@ -1,0 +1,319 @@
+-- What the tests of a filter say of frames.
+use Rattle.std.proofs.Common.{◌≡◌, ◌≢◌, ◌<◌, ◌≤◌, ◌+◌, ◌-◌, ◌*◌, ◌/◌, ◌%◌, ◌^◌, ℕ, zero, suc, Bool, true, false, not, ◌&&◌, ◌||◌, List, [], ◌∷◌, Option, Some, None, nat_eq, nat_le, refl, sym, ap, ◌∙◌, arith, subst, inl, inr, All, get_or, length, cond, ◌⊎◌}
+use Rattle.std.specs.Prelude.{option_map, slice_index, is_some}
+use Rattle.std.specs.List.{list_any, list_all}
+use Rattle.std.proofs.lemmas.Bool.{and_parts, false≢true, cases_lt}
+use Rattle.std.specs.Option.{ForSome}
+use Rattle.std.specs.Bool.{if◌then◌else◌}
+use Rattle.std.proofs.lemmas.Bool.Decides.{nat_tests}
+use Rattle.std.proofs.lemmas.List.Sums.{AllPass-from_list_all}
+use Rattle.std.proofs.Math.Nat.{div-eq_of_lt, pow-le-pow_right, zero-lt-suc}
+use Rattle.bridge_cycle.specs.Cyclic.{Cyclic, IsLawful, turn_at}
+use Rattle.bridge_cycle.specs.Entries.{In}
+use Rattle.bridge_cycle.specs.Moments.{is_open, Fits}
+use Rattle.bridge_cycle.specs.Opens.{opens_in}
+use Rattle.bridge_cycle.specs.declared.timeline.Turn.{Turn}
+use Rattle.bridge_cycle.proofs.Lists.{among}
+use Rattle.bridge_frame.specs.Link.{occupied}
+use Rattle.bridge_filter.specs.declared.FilterPlan.{FilterPlan}
+use Rattle.bridge_filter.specs.Finding.{lesser_number}
+use Rattle.bridge_port.specs.Opening.{opens_of, ever_of, IsMade}
+use Rattle.bridge_port.proofs.Opening.{ever_is}
+use Rattle.bridge_keys.specs.Readers.{are_within}
+use Rattle.bridge_config.specs.declared.ports.PortPlan.{PortPlan}
+use Rattle.bridge_config.specs.Model.{Plan}
+use Rattle.bridge_config.specs.Rules.{port_at, IsPlan, IsPort, IsPortList}
+use Rattle.bridge_check.specs.declared.fault.CheckFault.{CheckFault}
+use Rattle.bridge_check.specs.declared.fault.CheckFault.TheVariants as fault
+use Rattle.bridge_check.specs.Reach.{any_below, reaches, reaches_class, reaches_port, reaches_priority}
+use Rattle.bridge_check.specs.Windows.{is_shared, shared_from, shared_at, longest_frame, ever_fits}
+use Rattle.bridge_check.specs.Faults.{first_of, first_below, fault_unless, is_gate_shared, is_meter_shared, is_one_meter, is_greatest, has_catch_all, other_at, shared_on, never_fits, fault_of, first_in_reach}
+use Rattle.bridge_check.specs.Acceptable.{IsIsolated}
+
+-- TESTS
+
+both_none : {X : Type 0} (a b : Option X) → first_of a b ≡ None → (a ≡ None) × (b ≡ None)
+both_none None b h = (refl, h)
+both_none (Some x) b h = absurd (cc)
+
+holds : (b : Bool) (e : CheckFault) → fault_unless b e ≡ None → b ≡ true
+holds true e h = refl
+holds false e h = absurd (cc)
+
+not_true : (b : Bool) → not b ≡ true → b ≡ false
+not_true true h = sym h
+not_true false h = refl
+
+not_false : (b : Bool) → not b ≡ false → b ≡ true
+not_false true h = refl
+not_false false h = absurd (false≢true (sym h))
+
+is_eq : (m n : ℕ) → nat_eq m n ≡ true → m ≡ n
+is_eq m n h = grind (arith, nat_tests)
+
+same_eq : (n : ℕ) → nat_eq n n ≡ true
+same_eq n = grind (arith, nat_tests)
+
+some_of : {X : Type 0} (o : Option X) → is_some o ≡ true → (x : X) × (o ≡ Some x)
+some_of (Some x) h = (x, refl)
+some_of None h = absurd (false≢true h)
+
+none_by : {X : Type 0} (o : Option X) → not (is_some o) ≡ true → o ≡ None
+none_by None h = refl
+none_by (Some x) h = absurd (false≢true h)
+
+or_false : (a b : Bool) → (a || b) ≡ false → (a ≡ false) × (b ≡ false)
+or_false true b h = absurd (false≢true (sym h))
+or_false false b h = (refl, h)
+
+-- what no element of a list passes, none in it passes
+none_passes : {X : Type 0} (t : X → Bool) (xs : List X) (x : X) → list_any t xs ≡ false → In x xs → t x ≡ false
+none_passes t [] x h i = absurd i
+none_passes t (y ∷ ys) x h (inl e) = let (here, rest) = or_false (t y) (list_any t ys) h in ap t e ∙ here
+none_passes t (y ∷ ys) x h (inr i) = let (here, rest) = or_false (t y) (list_any t ys) h in none_passes t ys x rest i
+
+one_passes_by : {X : Type 0} (b : Bool) (t : X → Bool) (y : X) (ys : List X) → t y ≡ b → (b || list_any t ys) ≡ true → (list_any t ys ≡ true → (x : X) × In x ys × (t x ≡ true)) → (x : X) × In x (y ∷ ys) × (t x ≡ true)
+one_passes_by true t y ys e h more = (y, inl refl, e)
+one_passes_by false t y ys e h more = let (x, i, passes) = more h in (x, inr i, passes)
+
+one_passes : {X : Type 0} (t : X → Bool) (xs : List X) → list_any t xs ≡ true → (x : X) × In x xs × (t x ≡ true)
+one_passes t [] h = absurd (false≢true h)
+one_passes t (y ∷ ys) h = one_passes_by (t y) t y ys refl h (one_passes t ys)
+
+each_passes : {X : Type 0} (t : X → Bool) (xs : List X) (x : X) → list_all t xs ≡ true → In x xs → t x ≡ true
+each_passes t [] x h i = absurd i
+each_passes t (y ∷ ys) x h (inl e) = let (here, rest) = and_parts (t y) (list_all t ys) h in ap t e ∙ here
+each_passes t (y ∷ ys) x h (inr i) = let (here, rest) = and_parts (t y) (list_all t ys) h in each_passes t ys x rest i
+
+-- what is told of no number below n is told of none of them
+none_told : {X : Type 0} (n k : ℕ) (tell : ℕ → Option X) → first_below n tell ≡ None → k < n → tell k ≡ None
+unfolding first_below
+none_told zero k tell h lt = absurd (omega (arith, lt))
+none_told (suc n) k tell h lt =
+    let (before, last) = both_none (first_below n tell) (tell n) h in
+    elim (cases_lt k n) [
+      | inl a ↦ none_told n k tell before a
+      | inr a ↦ let same : n ≡ k = omega (arith, lt, a) in subst (λ (i : ℕ). tell i ≡ None) same last
+    ]
+
+any_told : (n : ℕ) (t : ℕ → Bool) → any_below n t ≡ true → (k : ℕ) × (k < n) × (t k ≡ true)
+any_told zero t h = absurd (false≢true h)
+any_told (suc n) t h = elim (either (any_below n t) (t n) h) [
+  | inl a ↦ let (k, lt, passes) = any_told n t a in (k, (omega (arith, lt)), passes)
+  | inr a ↦ (n, (omega (arith)), a)
+]
+ where
+  either : (a b : Bool) → (a || b) ≡ true → (a ≡ true) ⊎ (b ≡ true)
+  either true b h = inl refl
+  either false b h = inr h
+
+none_below : (n k : ℕ) (t : ℕ → Bool) → any_below n t ≡ false → k < n → t k ≡ false
+none_below zero k t h lt = absurd (omega (arith, lt))
+none_below (suc n) k t h lt =
+    let (before, last) = or_false (any_below n t) (t n) h in
+    elim (cases_lt k n) [
+      | inl a ↦ none_below n k t before a
+      | inr a ↦ let same : n ≡ k = omega (arith, lt, a) in subst (λ (i : ℕ). t i ≡ false) same last
+    ]
+
+-- PORTS AND CLASSES
+
+found_by : {A : Type 0} (b : Bool) (p : PortPlan A) (ps : List (PortPlan A)) (q : ℕ) (port : PortPlan A) → nat_eq p.number q ≡ b → cond b (Some p) (port_at ps q) ≡ Some port → (port_at ps q ≡ Some port → In port ps × (port.number ≡ q)) → In port (p ∷ ps) × (port.number ≡ q)
+found_by true p ps q port e h more = let same : port ≡ p = cc in (inl same, ap (λ x. x.number) same ∙ is_eq p.number q e)
+found_by false p ps q port e h more = let (i, n) = more h in (inr i, n)
+
+found : {A : Type 0} (ps : List (PortPlan A)) (q : ℕ) (port : PortPlan A) → port_at ps q ≡ Some port → In port ps × (port.number ≡ q)
+found [] q port h = absurd (cc)
+found (p ∷ ps) q port h = found_by (nat_eq p.number q) p ps q port refl h (found ps q port)
+
+all_in : {X : Type 0} (P : X → Type 0) (xs : List X) (x : X) → All P xs → In x xs → P x
+all_in P [] x all i = absurd i
+all_in P (y ∷ ys) x all (inl e) = subst P (sym e) (all 0 y (omega (arith)))
+all_in P (y ∷ ys) x all (inr i) = all_in P ys x (λ k d lt. all (suc k) d (omega (arith, lt))) i
+
+is_port : {A : Type 0} (p : Plan A) (q : ℕ) (port : PortPlan A) → IsPlan p → port_at p.ports q ≡ Some port → IsPort port × (port.number ≡ q)
+is_port p q port plan at = let (i, n) = found p.ports q port at in (all_in IsPort p.ports port plan.ports.each i, n)
+
+pub record IsReached {A : Type 0} (p : Plan A) (q c : ℕ) : Type 0 where
+  pub port : PortPlan A
+  pub at : port_at p.ports q ≡ Some port
+  pub is : IsPort port
+  pub from : 1 ≤ q
+  pub to : q ≤ 16
+  pub class : c < 8
+
+classed : {A : Type 0} (p : Plan A) (f : FilterPlan) (o : Option (PortPlan A)) (c : ℕ) → reaches_class p f o c ≡ true → (port : PortPlan A) × (o ≡ Some port) × (k : ℕ) × (k < 8) × (slice_index port.classes k ≡ c)
+classed p f None c h = absurd (false≢true h)
+classed p f (Some port) c h =
+    let (k, lt, passes) = any_told 8 (λ k. reaches_priority p f k && nat_eq (slice_index port.classes k) c) h in
+    let (opened, same) = and_parts (reaches_priority p f k) (nat_eq (slice_index port.classes k) c) passes in
+    (port, refl, k, lt, is_eq (slice_index port.classes k) c same)
+
+class_below : (classes : List ℕ) (k c : ℕ) → are_within 0 7 classes ≡ true → length classes ≡ 8 → k < 8 → slice_index classes k ≡ c → c < 8
+class_below classes k c within eight lt e =
+    let all = AllPass-from_list_all (λ n. nat_le 0 n && nat_le n 7) classes within in
+    let inside : k < length classes = omega (arith, eight, lt) in
+    let (above, below) = and_parts (nat_le 0 (slice_index classes k)) (nat_le (slice_index classes k) 7) (all k 0 inside) in
+    let small : slice_index classes k ≤ 7 = at_most (slice_index classes k) below in
+    omega (arith, e, small)
+ where
+  at_most : (n : ℕ) → nat_le n 7 ≡ true → n ≤ 7
+  at_most n h = grind (arith, nat_tests)
+
+reached : {A : Type 0} (p : Plan A) (f : FilterPlan) (q c : ℕ) → IsPlan p → reaches p f q c ≡ true → IsReached p q c
+reached p f q c plan h =
+    let (out, class) = and_parts (reaches_port p f.handle q) (reaches_class p f (port_at p.ports q) c) h in
+    let (port, at, k, lt, same) = classed p f (port_at p.ports q) c class in
+    let (is, number) = is_port p q port plan at in
+    record {
+      port = port;
+      at = at;
+      is = is;
+      from = omega (arith, number, is.number_from);
+      to = omega (arith, number, is.number_to);
+      class = class_below port.classes k c is.classes is.eight_classes lt same;
+    }
+
+-- what is told of no queue of the reach
+not_told : {A : Type 0} (p : Plan A) (f : FilterPlan) (q c : ℕ) (tell : ℕ → ℕ → Option CheckFault) → first_in_reach p f tell ≡ None → IsReached p q c → reaches p f q c ≡ true → tell q c ≡ None
+not_told p f q c tell h r is =
+    let before : q - 1 < 16 = omega (arith, r.from, r.to) in
+    let back : (q - 1) + 1 ≡ q = omega (arith, r.from) in
+    let on : first_below 8 (λ d. if reaches p f ((q - 1) + 1) d then tell ((q - 1) + 1) d else None) ≡ None = none_told 16 (q - 1) (λ i. first_below 8 (λ d. if reaches p f (i + 1) d then tell (i + 1) d else None)) h before in
+    let here : (if reaches p f ((q - 1) + 1) c then tell ((q - 1) + 1) c else None) ≡ None = none_told 8 c (λ d. if reaches p f ((q - 1) + 1) d then tell ((q - 1) + 1) d else None) on r.class in
+    let there : (if reaches p f q c then tell q c else None) ≡ None = subst (λ (i : ℕ). (if reaches p f i c then tell i c else None) ≡ None) back here in
+    (rw is at there)
+
+-- OTHER FILTERS
+
+lesser_is_some : (m : ℕ) (o : Option ℕ) → lesser_number (Some m) o ≡ None → ⊥
+lesser_is_some m None h = absurd (cc)
+lesser_is_some m (Some n) h = absurd (cc)
+
+passed_over : (b : Bool) (m : ℕ) (o : Option ℕ) → cond b (lesser_number (Some m) o) o ≡ None → (b ≡ false) × (o ≡ None)
+passed_over true m o h = absurd (lesser_is_some m o h)
+passed_over false m o h = (refl, h)
+
+told_none : {X Y : Type 0} (g : X → Y) (o : Option X) → option_map g o ≡ None → o ≡ None
+told_none g None h = refl
+told_none g (Some x) h = absurd (cc)
+
+no_other : {A : Type 0} (p : Plan A) (gs : List (ℕ × FilterPlan)) (n q c k : ℕ) (g : FilterPlan) → other_at p gs n q c ≡ None → In (k, g) gs → reaches p g q c ≡ true → k ≡ n
+no_other p [] n q c k g h i r = absurd i
+no_other p (y ∷ ys) n q c k g h (inl e) r =
+    let (not_it, rest) = passed_over (not (nat_eq y.0 n) && reaches p y.1 q c) y.0 (other_at p ys n q c) h in
+    let own : (not (nat_eq k n) && reaches p g q c) ≡ false = ap (λ (z : ℕ × FilterPlan). not (nat_eq z.0 n) && reaches p z.1 q c) e ∙ not_it in
+    is_eq k n (not_false (nat_eq k n) (left_false (not (nat_eq k n)) (reaches p g q c) own r))
+ where
+  left_false : (a b : Bool) → (a && b) ≡ false → b ≡ true → a ≡ false
+  left_false true b h t = absurd (false≢true (sym h ∙ t))
+  left_false false b h t = refl
+no_other p (y ∷ ys) n q c k g h (inr i) r =
+    let (not_it, rest) = passed_over (not (nat_eq y.0 n) && reaches p y.1 q c) y.0 (other_at p ys n q c) h in
+    no_other p ys n q c k g rest i r
+
+alone_false : (a b : Bool) → (a && b) ≡ false → b ≡ true → a ≡ false
+alone_false true b h t = absurd (false≢true (sym h ∙ t))
+alone_false false b h t = refl
+
+only_gate : (fs : List (ℕ × FilterPlan)) (n : ℕ) (f : FilterPlan) (k : ℕ) (g : FilterPlan) → is_gate_shared fs n f ≡ false → In (k, g) fs → g.gate ≡ f.gate → k ≡ n
+only_gate fs n f k g h i e =
+    let none : (not (nat_eq k n) && nat_eq g.gate f.gate) ≡ false = none_passes (λ (x : ℕ × FilterPlan). not (nat_eq x.0 n) && nat_eq x.1.gate f.gate) fs (k, g) h i in
+    let same : nat_eq g.gate f.gate ≡ true = rw e (same_eq f.gate) in
+    is_eq k n (not_false (nat_eq k n) (alone_false (not (nat_eq k n)) (nat_eq g.gate f.gate) none same))
+
+only_meter : (fs : List (ℕ × FilterPlan)) (n : ℕ) (f : FilterPlan) (k m : ℕ) (g : FilterPlan) → is_meter_shared fs n f ≡ false → f.meter ≡ Some m → In (k, g) fs → g.meter ≡ Some m → k ≡ n
+only_meter fs n f k m g h own i e =
+    let none : (not (nat_eq k n) && is_one_meter g.meter f.meter) ≡ false = none_passes (λ (x : ℕ × FilterPlan). not (nat_eq x.0 n) && is_one_meter x.1.meter f.meter) fs (k, g) h i in
+    let same : is_one_meter g.meter f.meter ≡ true = rw (e, own) (same_eq m) in
+    is_eq k n (not_false (nat_eq k n) (alone_false (not (nat_eq k n)) (is_one_meter g.meter f.meter) none same))
+
+caught : (fs : List (ℕ × FilterPlan)) → has_catch_all fs ≡ true → (k : ℕ) × (g : FilterPlan) × In (k, g) fs × (g.handle ≡ None) × (g.priority ≡ None) × ((j : ℕ) (e : FilterPlan) → In (j, e) fs → j ≤ k)
+caught fs h =
+    let (x, i, passes) = one_passes (λ (x : ℕ × FilterPlan). is_greatest fs x.0 && not (is_some x.1.handle) && not (is_some x.1.priority)) fs h in
+    let (first, priority) = and_parts (is_greatest fs x.0 && not (is_some x.1.handle)) (not (is_some x.1.priority)) passes in
+    let (greatest, handle) = and_parts (is_greatest fs x.0) (not (is_some x.1.handle)) first in
+    (x.0, x.1, i, none_by x.1.handle handle, none_by x.1.priority priority, λ j e m. at_most j x.0 (each_passes (λ (y : ℕ × FilterPlan). nat_le y.0 x.0) fs (j, e) greatest m))
+ where
+  at_most : (a b : ℕ) → nat_le a b ≡ true → a ≤ b
+  at_most a b h = grind (arith, nat_tests)
+
+-- WINDOWS AND SIZES
+
+not_first : (b : Bool) (x : ℕ) (o : Option ℕ) → cond b (Some x) o ≡ None → (b ≡ false) × (o ≡ None)
+not_first true x o h = absurd (cc)
+not_first false x o h = (refl, h)
+
+none_shared : (es : List (ℕ × ℕ)) (start c : ℕ) (e : ℕ × ℕ) → shared_from es start c ≡ None → In e es → is_shared e.0 c ≡ false
+none_shared [] start c e h i = absurd i
+none_shared (y ∷ ys) start c e h (inl same) = let (here, rest) = not_first (is_shared y.0 c) start (shared_from ys (start + y.1) c) h in ap (λ (z : ℕ × ℕ). is_shared z.0 c) same ∙ here
+none_shared (y ∷ ys) start c e h (inr i) = let (here, rest) = not_first (is_shared y.0 c) start (shared_from ys (start + y.1) c) h in none_shared ys (start + y.1) c e rest i
+
+turn_open : (o : Option (Turn ℕ)) (c : ℕ) → opens_in o c ≡ true → (x : Turn ℕ) × (o ≡ Some x) × (is_open x.state c ≡ true)
+turn_open None c h = absurd (false≢true h)
+turn_open (Some x) c h = (x, refl, h)
+
+no_class : (s d : ℕ) → s < 256 → 8 ≤ d → is_open s d ≡ false
+no_class s d small from =
+    let large : s < 2 ^ d = (let more = pow-le-pow_right {n = 2} (zero-lt-suc 1) {i = 8} {j = d} from in omega (arith, small, more)) in
+    rw (div-eq_of_lt large) refl
+
+open_below : (s d : ℕ) → s < 256 → is_open s d ≡ true → d < 8
+open_below s d small h = elim (cases_lt d 8) [ inl a ↦ a | inr a ↦ absurd (false≢true (sym (no_class s d small a) ∙ h)) ]
+
+not_beside : (s c d : ℕ) → s < 256 → is_shared s c ≡ false → is_open s c ≡ true → is_open s d ≡ true → d ≡ c
+not_beside s c d small h oc od =
+    let beside : any_below 8 (λ e. not (nat_eq e c) && is_open s e) ≡ false = right_false (is_open s c) (any_below 8 (λ e. not (nat_eq e c) && is_open s e)) h oc in
+    let none : (not (nat_eq d c) && is_open s d) ≡ false = none_below 8 d (λ e. not (nat_eq e c) && is_open s e) beside (open_below s d small od) in
+    is_eq d c (not_false (nat_eq d c) (alone_false (not (nat_eq d c)) (is_open s d) none od))
+ where
+  right_false : (a b : Bool) → (a && b) ≡ false → a ≡ true → b ≡ false
+  right_false true b h t = h
+  right_false false b h t = absurd (false≢true t)
+
+open_alone : (list : Option (Cyclic ℕ)) (c d u : ℕ) → ForSome list IsPortList → shared_at list c ≡ None → opens_of list c u ≡ true → opens_of list d u ≡ true → d ≡ c
+open_alone None c d u is h oc od = absurd (cc)
+open_alone (Some l) c d u is h oc od =
+    let (x, at, opened) = turn_open (turn_at l u) c oc in
+    let other : is_open x.state d ≡ true = ap (λ o. opens_in o d) (sym at) ∙ od in
+    let (e, i, state) = among l u x at in
+    let own = is l refl in
+    let small : x.state < 256 = subst (λ (z : ℕ). z < 256) state (all_in (λ (y : ℕ × ℕ). y.0 < 256) l.entries e own.classes i) in
+    let alone : is_shared x.state c ≡ false = subst (λ (z : ℕ). is_shared z c ≡ false) state (none_shared l.entries 0 c e h i) in
+    not_beside x.state c d small alone opened other
+
+made : (list : Option (Cyclic ℕ)) → ForSome list IsPortList → IsMade list
+made None is = tt
+made (Some l) is = (is l refl).lawful
+
+pub isolated : {A : Type 0} (p : Plan A) (n : ℕ) (f : FilterPlan) → IsPlan p → In (n, f) p.filters → fault_of p n f ≡ None → IsIsolated p n f
+isolated p n f plan listed h =
+    let (handle, h1) = both_none _ _ h in
+    let (sdu, h2) = both_none _ _ h1 in
+    let (gate, h3) = both_none _ _ h2 in
+    let (meter, h4) = both_none _ _ h3 in
+    let (catches, h5) = both_none _ _ h4 in
+    let (queue, h6) = both_none _ _ h5 in
+    let (window, h7) = both_none _ _ h6 in
+    let (size, h8) = both_none _ _ h7 in
+    record {
+      handle = some_of f.handle (holds (is_some f.handle) _ handle);
+      max_sdu = some_of f.max_sdu (holds (is_some f.max_sdu) _ sdu);
+      gate = λ k g i e. only_gate p.filters n f k g (not_true (is_gate_shared p.filters n f) (holds (not (is_gate_shared p.filters n f)) _ gate)) i e;
+      meter = λ k m g own i e. only_meter p.filters n f k m g (not_true (is_meter_shared p.filters n f) (holds (not (is_meter_shared p.filters n f)) _ meter)) own i e;
+      catches = caught p.filters (holds (has_catch_all p.filters) _ catches);
+      queue = λ k q c g i own other. no_other p p.filters n q c k g (told_none (fault.QueueShared n q c) (other_at p p.filters n q c) (not_told p f q c (λ q c. option_map (fault.QueueShared n q c) (other_at p p.filters n q c)) queue (reached p f q c plan own) own)) i other;
+      window = λ q c port at own d u oc od.
+        let r = reached p f q c plan own in
+        let told : option_map (fault.WindowShared n q c) (shared_on (port_at p.ports q) c) ≡ None = not_told p f q c (λ q c. option_map (fault.WindowShared n q c) (shared_on (port_at p.ports q) c)) window r own in
+        let none : shared_at port.list c ≡ None = subst (λ (o : Option (PortPlan _)). shared_on o c ≡ None) at (told_none (fault.WindowShared n q c) (shared_on (port_at p.ports q) c) told) in
+        let (is, number) = is_port p q port plan at in
+        open_alone port.list c d u is.list none oc od;
+      fits = λ q c m port at own e.
+        let r = reached p f q c plan own in
+        let told : fault_unless (not (never_fits (port_at p.ports q) c f.max_sdu)) (fault.MaxSduNeverFits n q c) ≡ None = not_told p f q c (λ q c. fault_unless (not (never_fits (port_at p.ports q) c f.max_sdu)) (fault.MaxSduNeverFits n q c)) size r own in
+        let fitting : never_fits (port_at p.ports q) c f.max_sdu ≡ false = not_true (never_fits (port_at p.ports q) c f.max_sdu) (holds (not (never_fits (port_at p.ports q) c f.max_sdu)) _ told) in
+        let ever : not (ever_fits port c m) ≡ false = subst (λ (o : Option (PortPlan _)). never_fits o c (Some m) ≡ false) at (subst (λ (s : Option ℕ). never_fits (port_at p.ports q) c s ≡ false) e fitting) in
+        let (is, number) = is_port p q port plan at in
+        (ever_is port.list c (occupied (longest_frame m) port.speed) (made port.list is.list)).0 (not_false (ever_fits port c m) ever);
+    }

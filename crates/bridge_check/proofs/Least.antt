@@ -1,0 +1,79 @@
+-- The fault of the least number, one filter more at a time.
+use Rattle.std.proofs.Common.{◌≡◌, ◌<◌, ◌≤◌, ℕ, Bool, true, false, List, [], ◌∷◌, Option, Some, None, nat_lt, refl, sym, ap, ◌∙◌, arith, subst, inl, inr, cond}
+use Rattle.std.specs.Prelude.{option_map}
+use Rattle.std.proofs.lemmas.Bool.Decides.{nat_tests}
+use Rattle.bridge_cycle.specs.Entries.{In}
+use Rattle.bridge_filter.specs.declared.FilterPlan.{FilterPlan}
+use Rattle.bridge_config.specs.Model.{Plan}
+use Rattle.bridge_check.specs.declared.fault.CheckFault.{CheckFault}
+use Rattle.bridge_check.specs.Faults.{lesser_fault, fault_of, numbered_fault, least_fault, first_fault}
+use Rattle.bridge_check.specs.Acceptable.{IsAcceptable}
+
+by_bool : {C : Type 0} (b : Bool) → (b ≡ true → C) → (b ≡ false → C) → C
+by_bool true p q = p refl
+by_bool false p q = q refl
+
+below : (a b : ℕ) → nat_lt a b ≡ true → a < b
+below a b h = grind (arith, nat_tests)
+
+not_below : (a b : ℕ) → nat_lt a b ≡ false → b ≤ a
+not_below a b h = grind (arith, nat_tests)
+
+is_below : (a b : ℕ) → a < b → nat_lt a b ≡ true
+is_below a b h = grind (arith, nat_tests)
+
+is_not_below : (a b : ℕ) → b ≤ a → nat_lt a b ≡ false
+is_not_below a b h = grind (arith, nat_tests)
+
+abbrev Numbered : Type 0
+Numbered = ℕ × CheckFault
+
+three : (a b c : Numbered) → lesser_fault (lesser_fault (Some a) (Some b)) (Some c) ≡ lesser_fault (Some a) (lesser_fault (Some b) (Some c))
+three a b c = by_bool (nat_lt b.0 a.0)
+    (λ ba. by_bool (nat_lt c.0 b.0)
+        (λ cb. let ca : nat_lt c.0 a.0 ≡ true = is_below c.0 a.0 (let h = below b.0 a.0 ba in let k = below c.0 b.0 cb in omega (arith, h, k)) in rw (ba, cb, ca) refl)
+        (λ cb. rw (ba, cb) (sym (rw ba refl))))
+    (λ ba. by_bool (nat_lt c.0 b.0)
+        (λ cb. rw (ba, cb) refl)
+        (λ cb. let ca : nat_lt c.0 a.0 ≡ false = is_not_below c.0 a.0 (let h = not_below b.0 a.0 ba in let k = not_below c.0 b.0 cb in omega (arith, h, k)) in rw (ba, cb) (rw (ba, ca) refl)))
+
+pub lesser_none : (a : Option Numbered) → lesser_fault a None ≡ a
+lesser_none None = refl
+lesser_none (Some a) = refl
+
+pub lesser_assoc : (a b c : Option Numbered) → lesser_fault (lesser_fault a b) c ≡ lesser_fault a (lesser_fault b c)
+lesser_assoc None b c = refl
+lesser_assoc (Some a) None c = refl
+lesser_assoc (Some a) (Some b) None = lesser_none (lesser_fault (Some a) (Some b))
+lesser_assoc (Some a) (Some b) (Some c) = three a b c
+
+neither_by : (x : Bool) (a b : Numbered) → cond x (Some b) (Some a) ≡ None → ⊥
+neither_by true a b h = absurd (cc)
+neither_by false a b h = absurd (cc)
+
+neither : (a b : Option Numbered) → lesser_fault a b ≡ None → (a ≡ None) × (b ≡ None)
+neither None b h = (refl, h)
+neither (Some a) None h = absurd (cc)
+neither (Some a) (Some b) h = absurd (neither_by (nat_lt b.0 a.0) a b h)
+
+no_fault : (n : ℕ) (o : Option CheckFault) → option_map {U = Numbered} (λ e. (n, e)) o ≡ None → o ≡ None
+no_fault n None h = refl
+no_fault n (Some e) h = absurd (cc)
+
+-- where no filter has a fault, none that is protected has one
+none_of : {A : Type 0} (p : Plan A) (fs : List (ℕ × FilterPlan)) → least_fault p fs ≡ None → (n : ℕ) (f : FilterPlan) → In (n, f) fs → f.protected ≡ true → fault_of p n f ≡ None
+none_of p [] h n f i is = absurd i
+none_of p (g ∷ gs) h n f (inl e) is =
+    let (here, rest) = neither (numbered_fault p g) (least_fault p gs) h in
+    let own : numbered_fault p (n, f) ≡ None = ap (numbered_fault p) e ∙ here in
+    no_fault n (fault_of p n f) (rw is at own)
+none_of p (g ∷ gs) h n f (inr i) is =
+    let (here, rest) = neither (numbered_fault p g) (least_fault p gs) h in
+    none_of p gs rest n f i is
+
+no_first : (o : Option Numbered) → option_map (λ x. x.1) o ≡ None → o ≡ None
+no_first None h = refl
+no_first (Some x) h = absurd (cc)
+
+pub acceptable : {A : Type 0} (p : Plan A) → first_fault p ≡ None → IsAcceptable p
+acceptable p h = none_of p p.filters (no_first (least_fault p p.filters) h)

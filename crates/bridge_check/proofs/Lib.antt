@@ -1,0 +1,5 @@
+pub mod Runs
+pub mod Told
+pub mod Others
+pub mod Least
+pub mod Isolated

@@ -1,0 +1,5 @@
+pub mod Reach
+pub mod Windows
+pub mod Faults
+pub mod Acceptable
+pub mod Reached

@@ -1,0 +1,66 @@
+//! Why a plan is refused.
+ghost use Rattle.std.specs.Prelude.{◌≡◌};
+ghost use Rattle.bridge_check.specs.declared.fault.CheckFault.TheVariants.{NoMemory};
+
+use std::alloc::{AllocError, AllocFailed};
+use thiserror::Error;
+
+/// Why a plan doesn't isolate a protected filter, in the order of the tests. A filter is named by its number, a port by
+/// its number, 1 to 16, a class is 0 to 7.
+#[derive(Clone, Copy, Debug, PartialEq, Eq, Error)]
+pub enum CheckFault {
+    /// The filter names no stream handle, so it takes frames of any stream.
+    #[error("a protected filter without a stream handle")]
+    ProtectedWildcard { filter: u32 },
+    /// It has no largest service data unit.
+    #[error("a protected filter without a largest service data unit")]
+    NoMaxSdu { filter: u32 },
+    /// Another filter uses its gate.
+    #[error("a gate that another filter uses")]
+    GateShared { filter: u32 },
+    /// Another filter uses its meter.
+    #[error("a meter that another filter uses")]
+    MeterShared { filter: u32 },
+    /// The filter with the greatest number doesn't take every frame, so that some frames may be unpoliced.
+    #[error("no last filter that takes every frame")]
+    NoCatchAll { filter: u32 },
+    /// Frames of another filter may be queued in a queue of its frames; the other is the least such.
+    #[error("a queue that another filter reaches")]
+    QueueShared {
+        filter: u32,
+        port: u8,
+        class: u8,
+        other: u32,
+    },
+    /// The port opens the class of a queue of its frames beside another class, first from this phase of its list on, in
+    /// ns; 0 without a list.
+    #[error("a window that another class shares")]
+    WindowShared {
+        filter: u32,
+        port: u8,
+        class: u8,
+        at: u64,
+    },
+    /// Its longest frame fits in the class at no moment.
+    #[error("a longest frame that never fits")]
+    MaxSduNeverFits { filter: u32, port: u8, class: u8 },
+    /// A growth was refused.
+    #[error("no memory")]
+    NoMemory,
+}
+
+impl From<AllocError> for CheckFault {
+    ghost from_gives = { λ _ e. e ≡ NoMemory };
+
+    fn from(_error: AllocError) -> CheckFault {
+        CheckFault::NoMemory
+    }
+}
+
+impl<T: Drop> From<AllocFailed<T>> for CheckFault {
+    ghost from_gives = { λ _ e. e ≡ NoMemory };
+
+    fn from(_error: AllocFailed<T>) -> CheckFault {
+        CheckFault::NoMemory
+    }
+}

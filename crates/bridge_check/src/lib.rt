@@ -1,0 +1,14 @@
+#![tactic(auto)]
+//! Whether a plan isolates its protected filters: yes exactly where each has its gate, its meter, its queues and their
+//! windows for itself, and otherwise the first reason, by filter, port and class.
+
+mod accepted;
+mod fault;
+pub mod laws;
+mod queues;
+mod reach;
+mod tests;
+mod windows;
+
+pub use accepted::{Accepted, Refused, check};
+pub use fault::CheckFault;

@@ -1,0 +1,182 @@
+//! Which ports and priorities the frames of a filter may have.
+ghost use Rattle.std.specs.Prelude.{◌≡◌, ◌≤◌, ◌+◌, map};
+ghost use Rattle.bridge_check.specs.Reach as spec;
+ghost use Rattle.bridge_check.specs.Reached as reached;
+
+use bridge_config::Plan;
+use bridge_filter::FilterPlan;
+use bridge_gate::{GateEntry, GatePlan, Schedule};
+use bridge_ident::{Kind, StreamEntry};
+use std::alloc::Allocator;
+
+/// Whether an identification compares the destination address.
+fn is_null(kind: Kind) -> bool
+    ensures { result ≡ spec.is_null kind }
+{
+    match kind {
+        Kind::Null => true,
+        Kind::Source => false,
+    }
+}
+
+/// Whether all identifications that give a handle compare the destination address.
+fn are_null(handle: u32, streams: &[StreamEntry]) -> bool
+    ensures { result ≡ spec.are_null handle streams.now }
+{
+    streams
+        .iter()
+        .all(|e| e.handle != handle || is_null(e.kind))
+}
+
+/// Whether frames that an identification of the handle asks for go out of a port.
+fn leads_to<A: Allocator + Copy>(plan: &Plan<A>, handle: u32, port: u8) -> bool
+    requires from { 1 ≤ port }
+    requires to { port ≤ 16 }
+    ensures { result ≡ spec.leads_to plan.now.database handle port plan.now.streams }
+{
+    for stream in plan.streams() {
+        if stream.handle == handle
+            && plan
+                .forward(stream.port, stream.vid, &stream.address)
+                .has(port)
+        {
+            return true;
+        }
+    }
+    false
+}
+
+/// Whether frames of a handle, or without one of any, may go out of a port.
+fn reaches_port<A: Allocator + Copy>(plan: &Plan<A>, handle: Option<u32>, port: u8) -> bool
+    requires from { 1 ≤ port }
+    requires to { port ≤ 16 }
+    ensures { result ≡ spec.reaches_port plan.now handle port }
+{
+    match handle {
+        None => true,
+        Some(handle) => !are_null(handle, plan.streams()) || leads_to(plan, handle, port),
+    }
+}
+
+/// Whether an entry lets frames through with a priority.
+fn gives(entry: &GateEntry, priority: Option<u8>, k: u8) -> bool
+    ensures { result ≡ spec.gives entry.now priority k }
+{
+    if !entry.lets {
+        return false;
+    }
+    match (entry.ipv, priority) {
+        (Some(ipv), _) => ipv == k,
+        (None, Some(own)) => own == k,
+        (None, None) => true,
+    }
+}
+
+/// Whether an entry of a list does.
+fn lets_in(entries: &[(GateEntry, u64)], priority: Option<u8>, k: u8) -> bool
+    ensures { result ≡ spec.lets (map (λ e. e.0) entries.now) priority k }
+{
+    for entry in entries {
+        if gives(&entry.0, priority, k) {
+            return true;
+        }
+    }
+    false
+}
+
+/// Whether a schedule lets frames through with a priority.
+fn lets<A: Allocator + Copy>(schedule: &Schedule<A>, priority: Option<u8>, k: u8) -> bool
+    ensures { result ≡ spec.lets (spec.entries_of schedule.now) priority k }
+{
+    match schedule {
+        Schedule::Fixed { lets, ipv } => {
+            let entry = GateEntry {
+                lets: *lets,
+                ipv: *ipv,
+                octets: None,
+            };
+            gives(&entry, priority, k)
+        }
+        Schedule::Cyclic(list) => lets_in(list.entries(), priority, k),
+    }
+}
+
+/// Whether the gate of a number lets frames through with a priority.
+fn gate_lets<A: Allocator + Copy>(
+    gates: &[(u32, GatePlan<A>)],
+    number: u32,
+    priority: Option<u8>,
+    k: u8,
+) -> bool
+    ensures { result ≡ spec.lets (spec.entries_at gates.now number) priority k }
+{
+    for gate in gates {
+        if gate.0 == number {
+            return lets(&gate.1.schedule, priority, k);
+        }
+    }
+    false
+}
+
+/// What the frames of a filter may come to.
+#[derive(Clone, Copy)]
+pub(crate) struct Reach {
+    /// Whether they may go out of each port, from port 1.
+    pub ports: [bool; 16],
+    /// Whether they may have each priority.
+    pub priorities: [bool; 8],
+}
+
+/// Whether they may go out of each port.
+fn ports_of<A: Allocator + Copy>(plan: &Plan<A>, handle: Option<u32>) -> [bool; 16]
+    ensures { result ≡ reached.told_below 16 (λ i. spec.reaches_port plan.now handle (i + 1)) }
+{
+    let mut ports = [false; 16];
+    for i in 0..16usize {
+        ports[i] = reaches_port(plan, handle, i as u8 + 1);
+    }
+    ports
+}
+
+/// Whether they may have each priority.
+fn priorities_of<A: Allocator + Copy>(plan: &Plan<A>, filter: &FilterPlan) -> [bool; 8]
+    ensures { result ≡ reached.told_below 8 (spec.reaches_priority plan.now filter.now) }
+{
+    let mut priorities = [false; 8];
+    for k in 0..8usize {
+        priorities[k] = gate_lets(plan.gates(), filter.gate, filter.priority, k as u8);
+    }
+    priorities
+}
+
+/// What the frames of a filter may come to.
+pub(crate) fn reach_of<A: Allocator + Copy>(plan: &Plan<A>, filter: &FilterPlan) -> Reach
+    ensures { result ≡ reached.reach_of plan.now filter.now }
+{
+    Reach {
+        ports: ports_of(plan, filter.handle),
+        priorities: priorities_of(plan, filter),
+    }
+}
+
+impl Reach {
+    /// Whether the frames may be queued in a class of a port that has these classes for its priorities.
+    pub(crate) fn has(&self, port: u8, classes: &[u8; 8], class: u8) -> bool
+        requires from { 1 ≤ port }
+        requires to { port ≤ 16 }
+        ensures { result ≡ reached.is_in self.now port classes.now class }
+    {
+        self.ports[port as usize - 1] && self.has_class(classes, class)
+    }
+
+    /// Whether some priority of theirs has the class.
+    fn has_class(&self, classes: &[u8; 8], class: u8) -> bool
+        ensures { result ≡ reached.has_class self.now.priorities classes.now class }
+    {
+        let mut found = false;
+        for k in 0..8usize {
+            found = found || (self.priorities[k] && classes[k] == class);
+        }
+        found
+    }
+}

@@ -1,0 +1,98 @@
+//! When a class of a port is open alone, and which frames fit.
+ghost use Rattle.std.specs.Prelude.{◌≡◌, ◌<◌, ◌≤◌, ◌↔◌, IsTrue, Some, not, ◌&&◌, nat_eq};
+ghost use Rattle.bridge_cycle.specs.Moments.{is_open};
+ghost use Rattle.bridge_cycle.specs.Runs.{Allows};
+ghost use Rattle.bridge_port.specs.Opening.{ever_of};
+ghost use Rattle.bridge_check.specs.Reach.{any_below};
+ghost use Rattle.bridge_check.specs.Windows as spec;
+
+use bridge_config::PortPlan;
+use bridge_cycle::{CyclicList, Run, Timeline, longest_run};
+use bridge_frame::{MAX_LENGTH, occupation};
+use std::alloc::Allocator;
+
+/// Whether a state opens a class and another one beside it.
+fn is_shared(state: u8, class: u8) -> bool
+    requires { class < 8 }
+    ensures { result ≡ spec.is_shared state class }
+{
+    opens(state, class) && opens_another(state, class)
+}
+
+/// Whether a state opens a class.
+fn opens(state: u8, class: u8) -> bool
+    requires { class < 8 }
+    ensures { result ≡ is_open state class }
+{
+    (state >> class) % 2 == 1
+}
+
+/// Whether a state opens a class other than this one.
+fn opens_another(state: u8, class: u8) -> bool
+    ensures { result ≡ any_below 8 (λ d. not (nat_eq d class) && is_open state d) }
+{
+    let mut found = false;
+    for other in 0..8u8 {
+        found = found || (other != class && opens(state, other));
+    }
+    found
+}
+
+/// The phase, in ns, at which the first entry begins that opens the class and another one.
+fn shared_from<A: Allocator + Copy>(list: &CyclicList<u8, A>, class: u8) -> Option<u64>
+    requires { class < 8 }
+    ensures { result ≡ spec.shared_from list.now.entries 0 class }
+{
+    let mut start = 0;
+    for entry in list.entries() {
+        if is_shared(entry.0, class) {
+            return Some(start);
+        }
+        start += entry.1;
+    }
+    None
+}
+
+/// The phase, in ns, from which a port opens the class beside another one; 0 where it has no list.
+pub(crate) fn shared_at<A: Allocator + Copy>(port: &PortPlan<A>, class: u8) -> Option<u64>
+    requires { class < 8 }
+    ensures { result ≡ spec.shared_at port.now.list class }
+{
+    match &port.list {
+        Some(list) => shared_from(list, class),
+        None => Some(0),
+    }
+}
+
+/// Whether the longest frame with a service data unit of so many octets fits in the class at some moment.
+pub(crate) fn ever_fits<A: Allocator + Copy>(port: &PortPlan<A>, class: u8, sdu: u32) -> bool
+    requires class { class < 8 }
+    requires sdu { sdu ≤ 65535 }
+    ensures { result ≡ spec.ever_fits port.now class sdu }
+{
+    let occupied = occupation((sdu + 16).min(MAX_LENGTH), port.speed);
+    match &port.list {
+        Some(list) => is_ever_open(list, class, occupied),
+        None => true,
+    }
+}
+
+/// Whether a list opens the class for so many ns without a break at some moment.
+fn is_ever_open<A: Allocator + Copy>(list: &CyclicList<u8, A>, class: u8, occupied: u64) -> bool
+    requires { class < 8 }
+    ensures { result ≡ ever_of (Some list.now) class occupied }
+{
+    let _ = list.cycle();
+    allows(longest_run(list, class), occupied)
+}
+
+/// Whether a run is as long as this.
+fn allows(run: Run, occupied: u64) -> bool
+    ensures { IsTrue result ↔ Allows run occupied }
+{
+    match run {
+        Run::Never => occupied == 0,
+        Run::For(longest) => occupied <= longest,
+        Run::Always => true,
+    }
+}

@@ -1,0 +1,106 @@
+-- One instance more, that none before it equals.
+use Rattle.std.proofs.Common.{◌≡◌, ℕ, Bool, true, false, not, ◌||◌, ◌&&◌, nat_eq, List, [], ◌∷◌, ◌++◌, refl, sym, ap, ◌∙◌, arith, All, IsTrue, Option, Some, None, cond}
+use Rattle.std.specs.Option.{is_some}
+use Rattle.std.specs.Map.{lookup}
+use Rattle.std.specs.List.{list_any, list_all}
+use Rattle.std.proofs.lemmas.Bool.{and_parts, false≢true}
+use Rattle.std.proofs.lemmas.Bool.Decides.{nat_tests}
+use Rattle.std.proofs.lemmas.Grind.{common_steps}
+use Rattle.std.proofs.lemmas.List.Folds.{list_any-append, list_all-append}
+use Rattle.std.proofs.lemmas.List.Elements.{All-append, All-cons, All-nil}
+use Rattle.bridge_meter.specs.declared.MeterPlan.{MeterPlan}
+use Rattle.bridge_meter.specs.Colours.{is_within_limits}
+use Rattle.bridge_gate.specs.declared.schedule.GatePlan.{GatePlan}
+use Rattle.bridge_gate.specs.Schedules as schedules
+use Rattle.std.specs.Str.{bytes_eq}
+use Rattle.bridge_forward.specs.declared.Vlan.{Vlan}
+use Rattle.bridge_forward.specs.declared.StaticEntry.{StaticEntry}
+use Rattle.bridge_filter.specs.declared.FilterPlan.{FilterPlan}
+use Rattle.bridge_filter.specs.Plans.{is_there, is_there_if_any, are_distinct, has_instances, have_instances, all_have_priorities, all_within_limits}
+use Rattle.bridge_config.specs.declared.ports.PortPlan.{PortPlan}
+use Rattle.bridge_config.specs.Rules.{are_own, has_port, has_vlan, has_static, IsVlan, AreVlans, IsStatic, AreStatics, IsPort, ArePorts, AreGates, AreMeters, IsFilter, AreFilters}
+use Rattle.bridge_config.specs.Sections.{has_number}
+
+both_false : (a b : Bool) → (a || b) ≡ false → (a ≡ false) × (b ≡ false)
+both_false true b h = absurd (false≢true (sym h))
+both_false false b h = (refl, h)
+
+pub are_own-push : {X : Type 0} (same : X → X → Bool) (xs : List X) (y : X) → are_own same xs ≡ true → list_any (λ x. same x y) xs ≡ false → are_own same (xs ++ y ∷ []) ≡ true
+are_own-push same [] y own new = refl
+are_own-push same (x ∷ xs) y own new =
+    let (here, more) = and_parts (not (list_any (λ z. same x z) xs)) (are_own same xs) own in
+    let (other, others) = both_false (same x y) (list_any (λ z. same z y) xs) new in
+    let none : list_any (λ z. same x z) xs ≡ false = grind (arith, common_steps) in
+    rw (list_any-append (λ z. same x z) xs (y ∷ []), none, other, are_own-push same xs y more others) refl
+
+pub each_push : {X : Type 0} (P : X → Type 0) (xs : List X) (x : X) → All P xs → P x → All P (xs ++ x ∷ [])
+each_push P xs x each one = All-append P xs (x ∷ []) each (All-cons P x [] one (All-nil P))
+
+pub ports_push : {A : Type 0} (ports : List (PortPlan A)) (p : PortPlan A) → ArePorts ports → has_port ports p.number ≡ false → IsPort p → ArePorts (ports ++ p ∷ [])
+ports_push ports p are new is = record {
+  each = each_push IsPort ports p are.each is;
+  own = are_own-push (λ p q. nat_eq p.number q.number) ports p are.own new;
+}
+
+pub vlans_push : (all : ℕ) (vlans : List Vlan) (v : Vlan) → AreVlans all vlans → has_vlan vlans v.vid ≡ false → IsVlan all v → AreVlans all (vlans ++ v ∷ [])
+vlans_push all vlans v are new is = record {
+  each = each_push (IsVlan all) vlans v are.each is;
+  own = are_own-push (λ v w. nat_eq v.vid w.vid) vlans v are.own new;
+}
+
+pub statics_push : (all : ℕ) (vlans : List Vlan) (statics : List StaticEntry) (s : StaticEntry) → AreStatics all vlans statics → has_static statics s.vid s.address ≡ false → IsStatic all vlans s → AreStatics all vlans (statics ++ s ∷ [])
+statics_push all vlans statics s are new is = record {
+  each = each_push (IsStatic all vlans) statics s are.each is;
+  own = are_own-push (λ s t. nat_eq s.vid t.vid && bytes_eq s.address t.address) statics s are.own new;
+}
+
+-- what isn't found in a list isn't at its head, and isn't in the rest
+past_head : {X : Type 0} (b : Bool) (v : X) (o : Option X) → is_some (cond b (Some v) o) ≡ false → (b ≡ false) × (is_some o ≡ false)
+past_head true v o h = absurd (false≢true (sym h))
+past_head false v o h = (refl, h)
+
+-- a number that isn't there isn't there with another one more
+pub apart : {X : Type 0} (n : ℕ) (xs : List (ℕ × X)) (y : ℕ × X) → nat_eq n y.0 ≡ false → is_there n xs ≡ false → is_there n (xs ++ y ∷ []) ≡ false
+apart n [] y differ none = rw differ refl
+apart n (x ∷ xs) y differ none =
+    let (other, more) = past_head (nat_eq n x.0) x.1 (lookup (nat_eq n) xs) none in
+    rw other (apart n xs y differ more)
+
+turned : (b : Bool) → not b ≡ true → b ≡ false
+turned true h = sym h
+turned false h = refl
+
+swapped : (m n : ℕ) → nat_eq m n ≡ false → nat_eq n m ≡ false
+swapped m n h = grind (arith, nat_tests)
+
+pub distinct_push : {X : Type 0} (xs : List (ℕ × X)) (y : ℕ × X) → IsTrue (are_distinct xs) → has_number xs y.0 ≡ false → IsTrue (are_distinct (xs ++ y ∷ []))
+distinct_push [] y own new = refl
+distinct_push (x ∷ xs) y own new =
+    let (here, more) = and_parts (not (is_there x.0 xs)) (are_distinct xs) own in
+    let (other, others) = past_head (nat_eq y.0 x.0) x.1 (lookup (nat_eq y.0) xs) new in
+    rw (apart x.0 xs y (swapped y.0 x.0 other) (turned (is_there x.0 xs) here), distinct_push xs y more others) refl
+
+-- a number that may be none is there where each one is
+pub there_if_any : {X : Type 0} (o : Option ℕ) (xs : List (ℕ × X)) → ((n : ℕ) → o ≡ Some n → is_there n xs ≡ true) → is_there_if_any o xs ≡ true
+there_if_any None xs h = refl
+there_if_any (Some n) xs h = h n refl
+
+pub gates_push : {A : Type 0} (gates : List (ℕ × GatePlan A)) (g : ℕ × GatePlan A) → AreGates gates → has_number gates g.0 ≡ false → schedules.has_priorities g.1.schedule ≡ true → schedules.IsLawful g.1.schedule → AreGates (gates ++ g ∷ [])
+gates_push gates g are new priorities lawful = record {
+  own = distinct_push gates g are.own new;
+  priorities = rw (list_all-append (λ h. schedules.has_priorities h.1.schedule) gates (g ∷ []), are.priorities, priorities) refl;
+  lawful = each_push (λ h. schedules.IsLawful h.1.schedule) gates g are.lawful lawful;
+}
+
+pub meters_push : (meters : List (ℕ × MeterPlan)) (m : ℕ × MeterPlan) → AreMeters meters → has_number meters m.0 ≡ false → is_within_limits m.1 ≡ true → AreMeters (meters ++ m ∷ [])
+meters_push meters m are new limits = record {
+  own = distinct_push meters m are.own new;
+  limits = rw (list_all-append (λ n. is_within_limits n.1) meters (m ∷ []), are.limits, limits) refl;
+}
+
+pub filters_push : {A : Type 0} (gates : List (ℕ × GatePlan A)) (meters : List (ℕ × MeterPlan)) (filters : List (ℕ × FilterPlan)) (f : ℕ × FilterPlan) → AreFilters gates meters filters → has_number filters f.0 ≡ false → IsFilter f → has_instances gates meters f.1 ≡ true → AreFilters gates meters (filters ++ f ∷ [])
+filters_push gates meters filters f are new is there = record {
+  each = each_push IsFilter filters f are.each is;
+  own = distinct_push filters f are.own new;
+  instances = rw (list_all-append (λ g. has_instances gates meters g.1) filters (f ∷ []), are.instances, there) refl;
+}

@@ -1,0 +1,34 @@
+use Rattle.std.proofs.Common.{◌≡◌, ℕ, List, ◌∙◌, sym, ap, subst, arith, All}
+use Rattle.bridge_forward.specs.declared.Vlan.{Vlan}
+use Rattle.bridge_forward.specs.declared.StaticEntry.{StaticEntry}
+use Rattle.bridge_config.specs.Rules.{port_set, AreVlans, AreStatics, IsStream}
+use Rattle.bridge_config.proofs.Counts.{as_many}
+use Rattle.bridge_config.proofs.plan.second_pass.Goals as goal
+
+pub invariant_of-result : goal.invariant_of-result
+invariant_of-result g c =
+    let ports = c.in_ok-ports.ports.items in
+    let vlans = c.in_ok-vlans.vlans.items in
+    let statics = c.in_ok-statics.statics.items in
+    let same_vlans : c.in-Ok.forwarding.vlans ≡ vlans = ap (λ d. d.vlans) c.in-Ok.ensures in
+    let same_statics : c.in-Ok.forwarding.statics ≡ statics = ap (λ d. d.statics) c.in-Ok.ensures in
+    let all : c.port_set-all.result ≡ port_set ports = c.port_set-all.ensures ∙ ap port_set c.deref.ensures.value in
+    let V : ℕ → Type 0 = λ a. AreVlans a vlans in
+    let S : ℕ → Type 0 = λ a. AreStatics a vlans statics in
+    record {
+      some_port = as_many ports c.args.arrays.ports.now c.in_ok-ports.ensures.reads c.requires.tables c.requires.some_port;
+      few_ports = omega (arith, c.in_ok-ports.ensures.few, c.requires.ports);
+      few_vlans = rw same_vlans (omega (arith, c.in_ok-vlans.ensures.few, c.requires.vlans));
+      few_statics = rw same_statics (omega (arith, c.in_ok-statics.ensures.few, c.requires.statics));
+      few_streams = omega (arith, c.in_ok-streams.ensures.few, c.requires.streams);
+      few_gates = c.policing.invariant.few_gates;
+      few_meters = c.policing.invariant.few_meters;
+      few_filters = c.policing.invariant.few_filters;
+      ports = c.in_ok-ports.ensures.keeps;
+      vlans = rw same_vlans (subst V all c.in_ok-vlans.ensures.keeps);
+      statics = rw (same_vlans, same_statics) (subst S all (rw (sym c.deref-2.ensures.value) c.in_ok-statics.ensures.keeps));
+      streams = rw (sym c.deref-3.ensures.value) c.in_ok-streams.ensures.keeps;
+      gates = c.policing.invariant.gates;
+      meters = c.policing.invariant.meters;
+      filters = c.policing.invariant.filters;
+    }

@@ -1,0 +1,30 @@
+-- What the arrays of a document's sections keep. No public clause speaks of it.
+use Rattle.std.specs.Prelude.{◌≡◌, ◌<◌, ◌≤◌, ℕ, true, length}
+use Rattle.toml.specs.View.{items_view}
+use Rattle.bridge_keys.specs.Readers.{are_tables}
+use Rattle.bridge_config.specs.declared.arrays.Arrays.{Arrays}
+use Rattle.bridge_config.specs.Document as doc
+
+-- the items that the arrays hold
+abbrev pub items_of_arrays : Arrays → doc.Arrays
+items_of_arrays a = record {
+  ports = items_view a.ports.now;
+  vlans = items_view a.vlans.now;
+  statics = items_view a.statics.now;
+  streams = items_view a.streams.now;
+  gates = items_view a.gates.now;
+  meters = items_view a.meters.now;
+  filters = items_view a.filters.now;
+}
+
+-- each array has at most as many items as its section may have, and there is a port
+pub record AreFew (a : Arrays) : Type 0 where
+  pub some_port : 0 < length a.ports.now
+  pub tables : are_tables (items_view a.ports.now) ≡ true
+  pub ports : length a.ports.now ≤ 16
+  pub vlans : length a.vlans.now ≤ 4094
+  pub statics : length a.statics.now ≤ 4096
+  pub streams : length a.streams.now ≤ 4096
+  pub gates : length a.gates.now ≤ 1024
+  pub meters : length a.meters.now ≤ 1024
+  pub filters : length a.filters.now ≤ 1024

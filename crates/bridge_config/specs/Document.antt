@@ -1,0 +1,124 @@
+-- The plan of a text: the plan, or the first fault in order.
+use Rattle.std.specs.Prelude.{ℕ, suc, Bool, true, false, not, ◌&&◌, List, [], ◌∷◌, length, Option, Some, None, Result, Ok, Err, nat_le, nat_lt, nat_eq, if◌then◌else◌}
+use Rattle.std.specs.List.{list_any}
+use Rattle.std.specs.Cmp.Lexicographic.{pointwise}
+use Rattle.std.specs.Str.Lossy.{utf8_valid_len}
+use Rattle.toml.specs.Data.{Data, array, Items, no_items, item, Members, no_members, member, get_member}
+use Rattle.toml.specs.Parse.{parse_document}
+use Rattle.bridge_keys.specs.declared.fault.Section.{Section}
+use Rattle.bridge_keys.specs.declared.fault.Section.TheVariants as section
+use Rattle.bridge_keys.specs.declared.fault.PlanFault.{PlanFault}
+use Rattle.bridge_keys.specs.declared.fault.PlanFault.TheVariants as fault
+use Rattle.bridge_keys.specs.Keys.{name_of}
+use Rattle.bridge_keys.specs.Readers.{◌>>=◌, are_tables, instances}
+use Rattle.bridge_config.specs.Model.{Policing, Plan}
+use Rattle.bridge_config.specs.Rules.{port_set}
+use Rattle.bridge_config.specs.Sections.{provided, port_at, vlan_at, static_at, stream_at, gate_at, meter_at, filter_at}
+
+-- the most instances of a section
+abbrev pub limit_of : Section → ℕ
+limit_of section.Top = 0
+limit_of section.Port = 16
+limit_of section.Vlan = 4094
+limit_of section.Static = 4096
+limit_of section.Stream = 4096
+limit_of section.Gate = 1024
+limit_of section.Meter = 1024
+limit_of section.Filter = 1024
+
+-- how many items there are
+abbrev pub count_of : Items → ℕ
+count_of no_items = 0
+count_of (item d ds) = suc (count_of ds)
+
+-- whether there are no items
+abbrev pub is_empty : Items → Bool
+is_empty no_items = true
+is_empty _ = false
+
+-- a section's items, where it is an array of tables that are few enough; an absent one has none
+abbrev pub items_in : Section → Option Data → Result Items PlanFault
+items_in section None = Ok no_items
+items_in section (Some (array items)) =
+    if are_tables items then (if nat_le (count_of items) (limit_of section) then Ok items else Err (fault.TooMany section))
+    else Err (fault.NotAList section)
+items_in section (Some _) = Err (fault.NotAList section)
+
+-- the same of a section of a document
+abbrev pub items_of : Section → Members → Result Items PlanFault
+items_of section members = items_in section (get_member (name_of section) members)
+
+-- the sections of a plan
+abbrev pub plan_sections : List Section
+plan_sections = section.Port ∷ section.Vlan ∷ section.Static ∷ section.Stream ∷ section.Gate ∷ section.Meter ∷ section.Filter ∷ []
+
+-- whether a text is the name of one of the sections
+abbrev pub is_section : List Section → List ℕ → Bool
+is_section sections k = list_any (λ s. pointwise nat_eq (name_of s) k) sections
+
+-- whether a document has no key but these sections
+abbrev pub are_sections : List Section → Members → Bool
+are_sections sections no_members = true
+are_sections sections (member k d ms) = is_section sections k && are_sections sections ms
+
+-- the items of all sections
+pub record Arrays : Type 0 where
+  pub ports : Items
+  pub vlans : Items
+  pub statics : Items
+  pub streams : Items
+  pub gates : Items
+  pub meters : Items
+  pub filters : Items
+
+-- first pass: the sections, as arrays of tables
+unfoldable pub first_pass : Members → Result Arrays PlanFault
+first_pass members = do
+  keys ← provided (are_sections plan_sections members) (fault.UnknownKey section.Top 0)
+  ports ← items_of section.Port members
+  some ← provided (not (is_empty ports)) fault.NoPorts
+  vlans ← items_of section.Vlan members
+  statics ← items_of section.Static members
+  streams ← items_of section.Stream members
+  gates ← items_of section.Gate members
+  meters ← items_of section.Meter members
+  filters ← items_of section.Filter members
+  Ok (record { ports = ports; vlans = vlans; statics = statics; streams = streams; gates = gates; meters = meters; filters = filters })
+
+-- the gates, meters and filters, the last each by the gates and meters
+unfoldable pub policing_of : {A : Type 0} → Arrays → Result (Policing A) PlanFault
+policing_of arrays = do
+  gates ← instances gate_at arrays.gates
+  meters ← instances meter_at arrays.meters
+  filters ← instances (filter_at gates meters) arrays.filters
+  Ok (record { gates = gates; meters = meters; filters = filters })
+
+-- second pass: the instances, section by section, each by what stands before
+unfoldable pub second_pass : {A : Type 0} → Arrays → Result (Plan A) PlanFault
+second_pass arrays = do
+  ports ← instances port_at arrays.ports
+  vlans ← instances (vlan_at (port_set ports)) arrays.vlans
+  statics ← instances (static_at (port_set ports) vlans) arrays.statics
+  streams ← instances (stream_at ports) arrays.streams
+  policing ← policing_of arrays
+  Ok (record { ports = ports; database = record { vlans = vlans; statics = statics }; streams = streams; gates = policing.gates; meters = policing.meters; filters = policing.filters })
+
+-- the plan of a document
+abbrev pub plan_of_document : {A : Type 0} → Members → Result (Plan A) PlanFault
+plan_of_document members = first_pass members >>= second_pass
+
+-- the document of what TOML makes of a text
+abbrev pub document_in : Option Members → Result Members PlanFault
+document_in None = Err fault.Syntax
+document_in (Some members) = Ok members
+
+-- the document of a text, which is not too long and is UTF-8
+unfoldable pub document_of : List ℕ → Result Members PlanFault
+document_of text =
+    if nat_lt 1048576 (length text) then Err fault.TooLong
+    else if nat_eq (utf8_valid_len text) (length text) then document_in (parse_document text)
+    else Err fault.Syntax
+
+-- the plan of a text
+abbrev pub plan_of_text : {A : Type 0} → List ℕ → Result (Plan A) PlanFault
+plan_of_text text = document_of text >>= plan_of_document

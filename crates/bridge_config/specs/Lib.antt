@@ -1,0 +1,6 @@
+pub mod Texts
+pub mod Model
+pub mod Rules
+pub mod Sections
+pub mod Document
+pub mod Arrays

@@ -1,0 +1,23 @@
+-- What a plan holds.
+use Rattle.std.specs.Prelude.{ℕ, List}
+use Rattle.bridge_meter.specs.declared.MeterPlan.{MeterPlan}
+use Rattle.bridge_gate.specs.declared.schedule.GatePlan.{GatePlan}
+use Rattle.bridge_ident.specs.declared.StreamEntry.{StreamEntry}
+use Rattle.bridge_filter.specs.declared.FilterPlan.{FilterPlan}
+use Rattle.bridge_forward.specs.Database.{Database}
+use Rattle.bridge_config.specs.declared.ports.PortPlan.{PortPlan}
+
+-- the gates, meters and filters, each with its number
+pub record Policing (A : Type 0) : Type 0 where
+  pub gates : List (ℕ × GatePlan A)
+  pub meters : List (ℕ × MeterPlan)
+  pub filters : List (ℕ × FilterPlan)
+
+-- the ports, where frames go by VLANs and static entries, the streams, and the gates, meters and filters by number, each in the order of the text
+pub record Plan (A : Type 0) : Type 0 where
+  pub ports : List (PortPlan A)
+  pub database : Database
+  pub streams : List StreamEntry
+  pub gates : List (ℕ × GatePlan A)
+  pub meters : List (ℕ × MeterPlan)
+  pub filters : List (ℕ × FilterPlan)

@@ -1,0 +1,146 @@
+-- What the instances of each section of a plan keep.
+use Rattle.std.specs.Prelude.{◌≡◌, ◌≤◌, ◌<◌, ℕ, Bool, true, not, ◌&&◌, IsTrue, List, [], ◌∷◌, length, nat_eq, map, All, Option, Some, None, if◌then◌else◌}
+use Rattle.std.specs.List.{list_any}
+use Rattle.std.specs.Option.{ForSome}
+use Rattle.bridge_cycle.specs.Cyclic.{Cyclic, IsLawful}
+use Rattle.bridge_meter.specs.declared.MeterPlan.{MeterPlan}
+use Rattle.bridge_gate.specs.declared.schedule.GatePlan.{GatePlan}
+use Rattle.bridge_gate.specs.Schedules as schedules
+use Rattle.bridge_ident.specs.declared.StreamEntry.{StreamEntry}
+use Rattle.bridge_filter.specs.declared.FilterPlan.{FilterPlan}
+use Rattle.bridge_filter.specs.Plans.{are_distinct, is_there, have_instances, all_have_priorities, all_within_limits}
+use Rattle.std.specs.Str.{bytes_eq}
+use Rattle.bridge_forward.specs.declared.Vlan.{Vlan}
+use Rattle.bridge_forward.specs.declared.StaticEntry.{StaticEntry}
+use Rattle.bridge_keys.specs.Readers.{are_within, is_subset, set_with}
+use Rattle.bridge_config.specs.declared.ports.PortPlan.{PortPlan}
+use Rattle.bridge_config.specs.Model.{Policing, Plan}
+
+-- whether no two of a list are alike
+abbrev pub are_own : {X : Type 0} → (X → X → Bool) → List X → Bool
+are_own same [] = true
+are_own same (x ∷ xs) = not (list_any (λ y. same x y) xs) && are_own same xs
+
+-- whether a port has the number
+abbrev pub has_port : {A : Type 0} → List (PortPlan A) → ℕ → Bool
+has_port ports n = list_any (λ p. nat_eq p.number n) ports
+
+-- the port of a number, the first where there are several
+abbrev pub port_at : {A : Type 0} → List (PortPlan A) → ℕ → Option (PortPlan A)
+port_at [] n = None
+port_at (p ∷ ps) n = if nat_eq p.number n then Some p else port_at ps n
+
+-- a gate control list opens classes 0 to 7, and is lawful
+pub record IsPortList (l : Cyclic ℕ) : Type 0 where
+  pub lawful : IsLawful l
+  pub classes : All (λ e. e.0 < 256) l.entries
+
+-- the ranges of a port
+pub record IsPort {A : Type 0} (p : PortPlan A) : Type 0 where
+  pub number_from : 1 ≤ p.number
+  pub number_to : p.number ≤ 16
+  pub vid_from : 1 ≤ p.vid
+  pub vid_to : p.vid ≤ 4094
+  pub priority : p.priority ≤ 7
+  pub classes : are_within 0 7 p.classes ≡ true
+  pub eight_classes : length p.classes ≡ 8
+  pub rooms : are_within 1 4096 p.rooms ≡ true
+  pub eight_rooms : length p.rooms ≡ 8
+  pub list : ForSome p.list IsPortList
+
+-- ports whose numbers differ
+pub record ArePorts {A : Type 0} (ports : List (PortPlan A)) : Type 0 where
+  pub each : All IsPort ports
+  pub own : are_own (λ p q. nat_eq p.number q.number) ports ≡ true
+
+-- the set of the numbers of all ports
+abbrev pub port_set : {A : Type 0} → List (PortPlan A) → ℕ
+port_set ports = set_with 1 0 (map (λ p. p.number) ports)
+
+-- whether a VLAN has the number
+abbrev pub has_vlan : List Vlan → ℕ → Bool
+has_vlan vlans n = list_any (λ v. nat_eq v.vid n) vlans
+
+-- a VLAN of ports that are there, by the set of all ports
+pub record IsVlan (all : ℕ) (v : Vlan) : Type 0 where
+  pub vid_from : 1 ≤ v.vid
+  pub vid_to : v.vid ≤ 4094
+  pub members : is_subset v.members all ≡ true
+
+-- VLANs whose numbers differ
+pub record AreVlans (all : ℕ) (vlans : List Vlan) : Type 0 where
+  pub each : All (IsVlan all) vlans
+  pub own : are_own (λ v w. nat_eq v.vid w.vid) vlans ≡ true
+
+-- whether a static entry has the VLAN and the address
+abbrev pub has_static : List StaticEntry → ℕ → List ℕ → Bool
+has_static statics vid address = list_any (λ s. nat_eq s.vid vid && bytes_eq s.address address) statics
+
+-- a static entry of a VLAN and of ports that are there
+pub record IsStatic (all : ℕ) (vlans : List Vlan) (s : StaticEntry) : Type 0 where
+  pub vlan : has_vlan vlans s.vid ≡ true
+  pub address : length s.address ≡ 6
+  pub ports : is_subset s.ports all ≡ true
+
+-- static entries no two of which have the same VLAN and address
+pub record AreStatics (all : ℕ) (vlans : List Vlan) (statics : List StaticEntry) : Type 0 where
+  pub each : All (IsStatic all vlans) statics
+  pub own : are_own (λ s t. nat_eq s.vid t.vid && bytes_eq s.address t.address) statics ≡ true
+
+-- a stream identification on a port of the plan
+pub record IsStream {A : Type 0} (ports : List (PortPlan A)) (s : StreamEntry) : Type 0 where
+  pub port_from : 1 ≤ s.port
+  pub port_to : s.port ≤ 16
+  pub port : has_port ports s.port ≡ true
+  pub vid_from : 1 ≤ s.vid
+  pub vid_to : s.vid ≤ 4094
+  pub address : length s.address ≡ 6
+
+-- gates whose numbers differ, with lawful lists
+pub record AreGates {A : Type 0} (gates : List (ℕ × GatePlan A)) : Type 0 where
+  pub own : IsTrue (are_distinct gates)
+  pub priorities : IsTrue (all_have_priorities gates)
+  pub lawful : All (λ g. schedules.IsLawful g.1.schedule) gates
+
+-- meters whose numbers differ, within the limits of a meter
+pub record AreMeters (meters : List (ℕ × MeterPlan)) : Type 0 where
+  pub own : IsTrue (are_distinct meters)
+  pub limits : IsTrue (all_within_limits meters)
+
+-- the ranges of a filter
+pub record IsFilter (f : ℕ × FilterPlan) : Type 0 where
+  pub priority : ForSome f.1.priority (λ n. n ≤ 7)
+  pub max_sdu : ForSome f.1.max_sdu (λ n. n ≤ 65535)
+
+-- filters whose numbers differ, and whose gates and meters are there
+pub record AreFilters {A : Type 0} (gates : List (ℕ × GatePlan A)) (meters : List (ℕ × MeterPlan)) (filters : List (ℕ × FilterPlan)) : Type 0 where
+  pub each : All IsFilter filters
+  pub own : IsTrue (are_distinct filters)
+  pub instances : IsTrue (have_instances filters gates meters)
+
+-- the rules of gates, meters and filters
+pub record IsPolicing {A : Type 0} (p : Policing A) : Type 0 where
+  pub few_gates : length p.gates ≤ 1024
+  pub few_meters : length p.meters ≤ 1024
+  pub few_filters : length p.filters ≤ 1024
+  pub gates : AreGates p.gates
+  pub meters : AreMeters p.meters
+  pub filters : AreFilters p.gates p.meters p.filters
+
+-- the rules of a plan
+pub record IsPlan {A : Type 0} (p : Plan A) : Type 0 where
+  pub some_port : 0 < length p.ports
+  pub few_ports : length p.ports ≤ 16
+  pub few_vlans : length p.database.vlans ≤ 4094
+  pub few_statics : length p.database.statics ≤ 4096
+  pub few_streams : length p.streams ≤ 4096
+  pub few_gates : length p.gates ≤ 1024
+  pub few_meters : length p.meters ≤ 1024
+  pub few_filters : length p.filters ≤ 1024
+  pub ports : ArePorts p.ports
+  pub vlans : AreVlans (port_set p.ports) p.database.vlans
+  pub statics : AreStatics (port_set p.ports) p.database.vlans p.database.statics
+  pub streams : All (IsStream p.ports) p.streams
+  pub gates : AreGates p.gates
+  pub meters : AreMeters p.meters
+  pub filters : AreFilters p.gates p.meters p.filters

@@ -1,0 +1,222 @@
+-- The sections of a plan, key by key in the order of the table of keys.
+use Rattle.std.specs.Prelude.{◌≡◌, ℕ, ◌*◌, ◌-◌, ◌^◌, Bool, true, false, not, ◌&&◌, List, [], ◌∷◌, ◌++◌, Option, Some, None, Result, Ok, Err, nat_eq, replicate, if◌then◌else◌}
+use Rattle.std.specs.List.{list_any}
+use Rattle.toml.specs.Data.{Members, get_member}
+use Rattle.bridge_cycle.specs.Cyclic.{Cyclic, fault_of}
+use Rattle.bridge_cycle.specs.declared.cyclic.ListFault.{ListFault}
+use Rattle.bridge_meter.specs.declared.MeterPlan.{MeterPlan}
+use Rattle.bridge_gate.specs.declared.schedule.GateEntry.{GateEntry}
+use Rattle.bridge_gate.specs.declared.schedule.GatePlan.{GatePlan}
+use Rattle.bridge_gate.specs.declared.schedule.Schedule.{Schedule}
+use Rattle.bridge_gate.specs.declared.schedule.Schedule.TheVariants as schedule
+use Rattle.bridge_ident.specs.declared.StreamEntry.{StreamEntry}
+use Rattle.bridge_filter.specs.declared.FilterPlan.{FilterPlan}
+use Rattle.bridge_filter.specs.Plans.{is_there}
+use Rattle.bridge_forward.specs.declared.Vlan.{Vlan}
+use Rattle.bridge_forward.specs.declared.StaticEntry.{StaticEntry}
+use Rattle.bridge_keys.specs.declared.fault.Section.{Section}
+use Rattle.bridge_keys.specs.declared.fault.Section.TheVariants as section
+use Rattle.bridge_keys.specs.declared.fault.Field.{Field}
+use Rattle.bridge_keys.specs.declared.fault.Field.TheVariants as field
+use Rattle.bridge_keys.specs.declared.fault.Place.{Place}
+use Rattle.bridge_keys.specs.declared.fault.PlanFault.{PlanFault}
+use Rattle.bridge_keys.specs.declared.fault.PlanFault.TheVariants as fault
+use Rattle.bridge_keys.specs.Keys.{key_of}
+use Rattle.bridge_keys.specs.Readers.{◌>>=◌, required, optional, default_to, only_with, only_without, between, switch, speed, known, text, set_of, ports_of, eight, list_at, are_known, are_known_at, with_key, without_key}
+use Rattle.bridge_keys.specs.Texts.{address_of, openness_of}
+use Rattle.bridge_config.specs.Texts.{kind_of, tag_of, awareness_of}
+use Rattle.bridge_config.specs.Rules.{has_port, has_vlan, has_static}
+use Rattle.bridge_config.specs.declared.ports.PortPlan.{PortPlan}
+
+-- goes on where a test holds, else a fault
+abbrev pub provided : Bool → PlanFault → Result Bool PlanFault
+provided true e = Ok true
+provided false e = Err e
+
+-- goes on where no earlier instance is alike
+abbrev pub no_duplicate : Section → ℕ → Bool → Result Bool PlanFault
+no_duplicate section index stands = provided (not stands) (fault.Duplicate section index)
+
+-- the list of a base, a cycle and entries, or its fault
+abbrev pub list_of_parts : {S : Type 0} → Section → ℕ → ℕ → ℕ → List (S × ℕ) → Result (Cyclic S) PlanFault
+list_of_parts section index base cycle entries = elim (fault_of cycle entries) [ None ↦ Ok (record { base = base; cycle = cycle; entries = entries }) | Some e ↦ Err (fault.BadList section index e) ]
+
+-- the same where there are entries
+abbrev pub list_if : {S : Type 0} → Section → ℕ → ℕ → ℕ → Option (List (S × ℕ)) → Result (Option (Cyclic S)) PlanFault
+list_if section index base cycle None = Ok None
+list_if section index base cycle (Some entries) = list_of_parts section index base cycle entries >>= λ l. Ok (Some l)
+
+-- whether an instance has the number
+abbrev pub has_number : {X : Type 0} → List (ℕ × X) → ℕ → Bool
+has_number xs n = is_there n xs
+
+-- PORT
+
+-- the open classes, and the interval in ns
+abbrev pub port_entry : Place → Members → Result (ℕ × ℕ) PlanFault
+port_entry place members = do
+  classes ← required place field.Open (set_of 0 7) members
+  ns ← required place field.Ns (between 0 (2 ^ 63 - 1)) members
+  Ok (classes, ns)
+
+abbrev pub port_keys : Members → List Field
+port_keys members = field.Number ∷ field.Mbps ∷ field.Vid ∷ field.Priority ∷ field.Classes ∷ field.Rooms ∷ field.Gates ∷ with_key field.Gates (field.Base ∷ field.Cycle ∷ []) members
+
+abbrev pub has_port_keys : Members → Bool
+has_port_keys members = are_known (port_keys members) members && are_known_at (field.Open ∷ field.Ns ∷ []) (get_member (key_of field.Gates) members)
+
+-- the gate control list, where there is one: its base, its cycle and its entries
+unfoldable pub port_list : ℕ → Members → Result (Option (Cyclic ℕ)) PlanFault
+port_list index members =
+    let at : Field → Place = λ key. record { section = section.Port; index = index; field = key } in do
+      base ← default_to 0 (at field.Base) field.Base (between 0 (4 * 10 ^ 18 - 1)) members
+      cycle ← only_with field.Gates 0 (required (at field.Cycle) field.Cycle (between 0 (2 ^ 63 - 1)) members) members
+      gates ← list_at (at field.Gates) (port_entry (at field.Gates)) (get_member (key_of field.Gates) members)
+      list_if section.Port index base cycle gates
+
+unfoldable pub port_at : {A : Type 0} → List (PortPlan A) → ℕ → Members → Result (PortPlan A) PlanFault
+port_at ports index members =
+    let at : Field → Place = λ key. record { section = section.Port; index = index; field = key } in do
+      keys ← provided (has_port_keys members) (fault.UnknownKey section.Port index)
+      number ← required (at field.Number) field.Number (between 1 16) members
+      speed ← required (at field.Mbps) field.Mbps speed members
+      vid ← default_to 1 (at field.Vid) field.Vid (between 1 4094) members
+      priority ← default_to 0 (at field.Priority) field.Priority (between 0 7) members
+      classes ← default_to (0 ∷ 1 ∷ 2 ∷ 3 ∷ 4 ∷ 5 ∷ 6 ∷ 7 ∷ []) (at field.Classes) field.Classes (eight 0 7) members
+      rooms ← default_to (replicate 8 64) (at field.Rooms) field.Rooms (eight 1 4096) members
+      list ← port_list index members
+      own ← no_duplicate section.Port index (has_port ports number)
+      Ok (record { number = number; speed = speed; vid = vid; priority = priority; classes = classes; rooms = rooms; list = list })
+
+-- VLAN
+
+abbrev pub has_vlan_keys : Members → Bool
+has_vlan_keys members = are_known (field.Vid ∷ field.Members ∷ []) members
+
+unfoldable pub vlan_at : ℕ → List Vlan → ℕ → Members → Result Vlan PlanFault
+vlan_at all vlans index members =
+    let at : Field → Place = λ key. record { section = section.Vlan; index = index; field = key } in do
+      keys ← provided (has_vlan_keys members) (fault.UnknownKey section.Vlan index)
+      vid ← required (at field.Vid) field.Vid (between 1 4094) members
+      set ← required (at field.Members) field.Members (ports_of all) members
+      own ← no_duplicate section.Vlan index (has_vlan vlans vid)
+      Ok (record { vid = vid; members = set })
+
+-- STATIC
+
+abbrev pub has_static_keys : Members → Bool
+has_static_keys members = are_known (field.Vid ∷ field.Address ∷ field.Ports ∷ []) members
+
+unfoldable pub static_at : ℕ → List Vlan → List StaticEntry → ℕ → Members → Result StaticEntry PlanFault
+static_at all vlans statics index members =
+    let at : Field → Place = λ key. record { section = section.Static; index = index; field = key } in do
+      keys ← provided (has_static_keys members) (fault.UnknownKey section.Static index)
+      vid ← required (at field.Vid) field.Vid (known (has_vlan vlans) 1 4094) members
+      address ← required (at field.Address) field.Address (text address_of) members
+      set ← required (at field.Ports) field.Ports (ports_of all) members
+      own ← no_duplicate section.Static index (has_static statics vid address)
+      Ok (record { vid = vid; address = address; ports = set })
+
+-- STREAM
+
+abbrev pub has_stream_keys : Members → Bool
+has_stream_keys members = are_known (field.Handle ∷ field.Port ∷ field.Kind ∷ field.Address ∷ field.Vid ∷ field.Tag ∷ []) members
+
+unfoldable pub stream_at : {A : Type 0} → List (PortPlan A) → List StreamEntry → ℕ → Members → Result StreamEntry PlanFault
+stream_at ports earlier index members =
+    let at : Field → Place = λ key. record { section = section.Stream; index = index; field = key } in do
+      keys ← provided (has_stream_keys members) (fault.UnknownKey section.Stream index)
+      handle ← required (at field.Handle) field.Handle (between 0 4294967295) members
+      port ← required (at field.Port) field.Port (known (has_port ports) 1 16) members
+      kind ← required (at field.Kind) field.Kind (text kind_of) members
+      address ← required (at field.Address) field.Address (text address_of) members
+      vid ← required (at field.Vid) field.Vid (between 1 4094) members
+      tag ← required (at field.Tag) field.Tag (text tag_of) members
+      Ok (record { handle = handle; port = port; kind = kind; address = address; vid = vid; tag = tag })
+
+-- GATE
+
+-- the state with its internal priority value and its octets, and the interval in ns
+abbrev pub gate_entry : Place → Members → Result (GateEntry × ℕ) PlanFault
+gate_entry place members = do
+  lets ← required place field.Open switch members
+  ns ← required place field.Ns (between 0 (2 ^ 63 - 1)) members
+  ipv ← optional place field.Ipv (between 0 7) members
+  octets ← optional place field.Octets (between 0 4294967295) members
+  Ok (record { lets = lets; ipv = ipv; octets = octets }, ns)
+
+abbrev pub gate_keys : Members → List Field
+gate_keys members =
+    field.Number ∷ field.ShutOnRx ∷ field.ShutOnOctets ∷ field.Entries
+    ∷ (without_key field.Entries (field.State ∷ field.Ipv ∷ []) members ++ with_key field.Entries (field.Base ∷ field.Cycle ∷ []) members)
+
+abbrev pub has_gate_keys : Members → Bool
+has_gate_keys members = are_known (gate_keys members) members && are_known_at (field.Open ∷ field.Ns ∷ field.Ipv ∷ field.Octets ∷ []) (get_member (key_of field.Entries) members)
+
+-- the list, where there is one: its base, its cycle and its entries
+unfoldable pub gate_list : ℕ → Members → Result (Option (Cyclic GateEntry)) PlanFault
+gate_list index members =
+    let at : Field → Place = λ key. record { section = section.Gate; index = index; field = key } in do
+      base ← default_to 0 (at field.Base) field.Base (between 0 (4 * 10 ^ 18 - 1)) members
+      cycle ← only_with field.Entries 0 (required (at field.Cycle) field.Cycle (between 0 (2 ^ 63 - 1)) members) members
+      entries ← list_at (at field.Entries) (gate_entry (at field.Entries)) (get_member (key_of field.Entries) members)
+      list_if section.Gate index base cycle entries
+
+-- a list, or without one a state for good
+abbrev pub schedule_of : {A : Type 0} → Bool → Option ℕ → Option (Cyclic GateEntry) → Schedule A
+schedule_of lets ipv None = schedule.Fixed lets ipv
+schedule_of lets ipv (Some list) = schedule.Cyclic list
+
+unfoldable pub gate_at : {A : Type 0} → List (ℕ × GatePlan A) → ℕ → Members → Result (ℕ × GatePlan A) PlanFault
+gate_at gates index members =
+    let at : Field → Place = λ key. record { section = section.Gate; index = index; field = key } in do
+      keys ← provided (has_gate_keys members) (fault.UnknownKey section.Gate index)
+      number ← required (at field.Number) field.Number (between 0 4294967295) members
+      shut_on_rx ← default_to false (at field.ShutOnRx) field.ShutOnRx switch members
+      shut_on_octets ← default_to false (at field.ShutOnOctets) field.ShutOnOctets switch members
+      lets ← only_without field.Entries false (required (at field.State) field.State (text openness_of) members) members
+      ipv ← optional (at field.Ipv) field.Ipv (between 0 7) members
+      list ← gate_list index members
+      own ← no_duplicate section.Gate index (has_number gates number)
+      Ok (number, record { shut_on_rx = shut_on_rx; shut_on_octets = shut_on_octets; schedule = schedule_of lets ipv list })
+
+-- METER
+
+abbrev pub has_meter_keys : Members → Bool
+has_meter_keys members = are_known (field.Number ∷ field.Cir ∷ field.Cbs ∷ field.Eir ∷ field.Ebs ∷ field.Coupling ∷ field.Colour ∷ field.DropYellow ∷ field.MarkAllRed ∷ []) members
+
+unfoldable pub meter_at : List (ℕ × MeterPlan) → ℕ → Members → Result (ℕ × MeterPlan) PlanFault
+meter_at meters index members =
+    let at : Field → Place = λ key. record { section = section.Meter; index = index; field = key } in do
+      keys ← provided (has_meter_keys members) (fault.UnknownKey section.Meter index)
+      number ← required (at field.Number) field.Number (between 0 4294967295) members
+      cir ← required (at field.Cir) field.Cir (between 0 (10 ^ 11)) members
+      cbs ← required (at field.Cbs) field.Cbs (between 0 4294967295) members
+      eir ← required (at field.Eir) field.Eir (between 0 (10 ^ 11)) members
+      ebs ← required (at field.Ebs) field.Ebs (between 0 4294967295) members
+      coupling ← default_to false (at field.Coupling) field.Coupling switch members
+      aware ← default_to false (at field.Colour) field.Colour (text awareness_of) members
+      drop_yellow ← default_to false (at field.DropYellow) field.DropYellow switch members
+      mark_all_red ← default_to false (at field.MarkAllRed) field.MarkAllRed switch members
+      own ← no_duplicate section.Meter index (has_number meters number)
+      Ok (number, record { cir = cir; cbs = cbs; eir = eir; ebs = ebs; coupling = coupling; aware = aware; drop_yellow = drop_yellow; mark_all_red = mark_all_red })
+
+-- FILTER
+
+abbrev pub has_filter_keys : Members → Bool
+has_filter_keys members = are_known (field.Number ∷ field.Handle ∷ field.Priority ∷ field.Gate ∷ field.MaxSdu ∷ field.Meter ∷ field.BlockOversize ∷ field.Protected ∷ []) members
+
+unfoldable pub filter_at : {A : Type 0} → List (ℕ × GatePlan A) → List (ℕ × MeterPlan) → List (ℕ × FilterPlan) → ℕ → Members → Result (ℕ × FilterPlan) PlanFault
+filter_at gates meters filters index members =
+    let at : Field → Place = λ key. record { section = section.Filter; index = index; field = key } in do
+      keys ← provided (has_filter_keys members) (fault.UnknownKey section.Filter index)
+      number ← required (at field.Number) field.Number (between 0 4294967295) members
+      handle ← optional (at field.Handle) field.Handle (between 0 4294967295) members
+      priority ← optional (at field.Priority) field.Priority (between 0 7) members
+      gate ← required (at field.Gate) field.Gate (known (has_number gates) 0 4294967295) members
+      max_sdu ← optional (at field.MaxSdu) field.MaxSdu (between 0 65535) members
+      meter ← optional (at field.Meter) field.Meter (known (has_number meters) 0 4294967295) members
+      block_oversize ← default_to false (at field.BlockOversize) field.BlockOversize switch members
+      protected ← default_to false (at field.Protected) field.Protected switch members
+      own ← no_duplicate section.Filter index (has_number filters number)
+      Ok (number, record { handle = handle; priority = priority; gate = gate; max_sdu = max_sdu; meter = meter; block_oversize = block_oversize; protected = protected })

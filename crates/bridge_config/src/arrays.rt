@@ -1,0 +1,144 @@
+//! The sections of a document, as arrays of tables.
+ghost use Rattle.std.specs.Prelude.{◌≡◌, ◌<◌, ◌≤◌, ◌^◌, IfOk, length, nat_le, option_map, true, false};
+ghost use Rattle.toml.specs.View.{view, table_view, items_view};
+ghost use Rattle.bridge_keys.specs.Readers as spec;
+ghost use Rattle.bridge_keys.specs.Readers.{GivesAs};
+ghost use Rattle.bridge_config.specs.Document as doc;
+ghost use Rattle.bridge_config.specs.Arrays.{items_of_arrays, AreFew};
+
+use bridge_keys::{PlanFault, Section, are_tables, value_at};
+use toml::{Table, Value};
+
+/// The items of all sections of a plan.
+#[derive(Clone, Copy)]
+pub(crate) struct Arrays<'a> {
+    pub ports: &'a [Value],
+    pub vlans: &'a [Value],
+    pub statics: &'a [Value],
+    pub streams: &'a [Value],
+    pub gates: &'a [Value],
+    pub meters: &'a [Value],
+    pub filters: &'a [Value],
+}
+
+/// The most instances of a section.
+fn limit_of(section: Section) -> usize
+    ensures { result ≡ doc.limit_of section }
+{
+    match section {
+        Section::Top => 0,
+        Section::Port => 16,
+        Section::Vlan => 4094,
+        Section::Static => 4096,
+        Section::Stream => 4096,
+        Section::Gate => 1024,
+        Section::Meter => 1024,
+        Section::Filter => 1024,
+    }
+}
+
+/// Whether an array has at most as many items as its section may have.
+#[tactic(auto, using(crate::proofs::Counts::count_of_view))]
+fn are_few(items: &[Value], section: Section) -> bool
+    ensures count { result ≡ nat_le (doc.count_of (items_view items.now)) (doc.limit_of section) }
+    ensures few { result ≡ true → length items.now ≤ doc.limit_of section }
+{
+    items.len() <= limit_of(section)
+}
+
+/// The items of a section, where it is an array of tables that are few enough; an absent one has none.
+fn items_in<'a>(section: Section, value: Option<&'a Value>) -> Result<&'a [Value], PlanFault>
+    ensures reads { GivesAs (λ x. items_view x.now) result (doc.items_in section (option_map (λ v. view v.now) value.entry)) }
+    ensures few { IfOk result (λ x. length x.now ≤ doc.limit_of section) }
+    ensures tables { IfOk result (λ x. spec.are_tables (items_view x.now) ≡ true) }
+{
+    match value {
+        None => Ok(&[]),
+        Some(Value::Array(items)) => {
+            if !are_tables(items) {
+                return Err(PlanFault::NotAList(section));
+            }
+            if !are_few(items, section) {
+                return Err(PlanFault::TooMany(section));
+            }
+            Ok(items)
+        }
+        Some(_) => Err(PlanFault::NotAList(section)),
+    }
+}
+
+/// The items of a section of a document.
+fn items_of<'a>(section: Section, table: &'a Table) -> Result<&'a [Value], PlanFault>
+    ensures reads { GivesAs (λ x. items_view x.now) result (doc.items_of section (table_view table.now)) }
+    ensures few { IfOk result (λ x. length x.now ≤ doc.limit_of section) }
+    ensures tables { IfOk result (λ x. spec.are_tables (items_view x.now) ≡ true) }
+{
+    items_in(section, value_at(table, section.name()))
+}
+
+/// Whether there are no items.
+#[tactic(auto, using(crate::proofs::Counts::is_empty_view))]
+fn is_empty(items: &[Value]) -> bool
+    ensures empty { result ≡ doc.is_empty (items_view items.now) }
+    ensures some { result ≡ false → 0 < length items.now }
+{
+    items.len() == 0
+}
+
+/// Whether a text is the name of one of the sections.
+fn is_section(sections: &[Section], key: &str) -> bool
+    ensures { result ≡ doc.is_section sections.now key.now }
+{
+    sections.iter().any(|s| s.name() == key)
+}
+
+/// Whether a document has no key but these sections.
+fn are_sections(sections: &[Section], table: &Table) -> bool
+    ensures { result ≡ doc.are_sections sections.now (table_view table.now) }
+{
+    'members: for (key, _) in table.iter() {
+        if !is_section(sections, key.as_str()) {
+            return false;
+        }
+    }
+    true
+}
+
+/// The items of all sections of a plan's document.
+#[tactic(auto, unfolding(crate::specs::Document::first_pass))]
+pub(crate) fn first_pass<'a>(table: &'a Table) -> Result<Arrays<'a>, PlanFault>
+    ensures reads { GivesAs items_of_arrays result (doc.first_pass (table_view table.now)) }
+    ensures few { IfOk result AreFew }
+{
+    let sections = [
+        Section::Port,
+        Section::Vlan,
+        Section::Static,
+        Section::Stream,
+        Section::Gate,
+        Section::Meter,
+        Section::Filter,
+    ];
+    if !are_sections(&sections, table) {
+        return Err(PlanFault::UnknownKey(Section::Top, 0));
+    }
+    let ports = items_of(Section::Port, table)?;
+    if is_empty(ports) {
+        return Err(PlanFault::NoPorts);
+    }
+    let vlans = items_of(Section::Vlan, table)?;
+    let statics = items_of(Section::Static, table)?;
+    let streams = items_of(Section::Stream, table)?;
+    let gates = items_of(Section::Gate, table)?;
+    let meters = items_of(Section::Meter, table)?;
+    let filters = items_of(Section::Filter, table)?;
+    Ok(Arrays {
+        ports,
+        vlans,
+        statics,
+        streams,
+        gates,
+        meters,
+        filters,
+    })
+}

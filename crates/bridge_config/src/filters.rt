@@ -1,0 +1,175 @@
+//! Stream filters of a plan.
+ghost use Rattle.std.specs.Prelude.{◌≡◌, ◌≤◌, IfOk, false, true, length};
+ghost use Rattle.toml.specs.View.{table_view, items_view};
+ghost use Rattle.bridge_filter.specs.Plans.{has_instances};
+ghost use Rattle.bridge_keys.specs.declared.fault.Section.TheVariants as the_section;
+ghost use Rattle.bridge_keys.specs.Readers.{Gives, GivesAs, instances};
+ghost use Rattle.bridge_config.specs.Sections as sections;
+ghost use Rattle.bridge_config.specs.Rules as rules;
+
+use crate::numbers::{NumbersOf, has_number, in_8_bits, in_32_bits};
+use bridge_filter::FilterPlan;
+use bridge_gate::GatePlan;
+use bridge_keys::{
+    Between, Field, Known, Place, PlanFault, Section, SectionReader, Switch, are_known, default_to,
+    optional, read_instances, required,
+};
+use bridge_meter::MeterPlan;
+use std::alloc::Allocator;
+use toml::{Table, Value};
+
+/// The number of an instance.
+const NUMBER: Between = Between {
+    low: 0,
+    high: 4_294_967_295,
+};
+
+/// Whether a table has the keys of a filter alone.
+fn has_keys(table: &Table) -> bool
+    ensures { result ≡ sections.has_filter_keys (table_view table.now) }
+{
+    are_known(
+        table,
+        &[
+            Field::Number,
+            Field::Handle,
+            Field::Priority,
+            Field::Gate,
+            Field::MaxSdu,
+            Field::Meter,
+            Field::BlockOversize,
+            Field::Protected,
+        ],
+    )
+}
+
+/// The filter of a table with its number, by those before it, where these are the gates and meters.
+#[tactic(auto, unfolding(crate::specs::Sections::filter_at))]
+fn filter_of<A: Allocator + Copy>(
+    gates: &[(u32, GatePlan<A>)],
+    meters: &[(u32, MeterPlan)],
+    filters: &[(u32, FilterPlan)],
+    index: u32,
+    table: &Table,
+) -> Result<(u32, FilterPlan), PlanFault>
+    ensures reads { Gives result (sections.filter_at gates.now meters.now filters.now index (table_view table.now)) }
+    ensures own { IfOk result (λ f. sections.has_number filters.now f.0 ≡ false) }
+    ensures filter { IfOk result (λ f. rules.IsFilter f) }
+    ensures instances { IfOk result (λ f. has_instances gates.now meters.now f.1 ≡ true) }
+{
+    let at = |field: Field| -> Place
+        ensures { result ≡ record { section = the_section.Filter; index = index; field = field } }
+    {
+        Place {
+            section: Section::Filter,
+            index,
+            field,
+        }
+    };
+    if !has_keys(table) {
+        return Err(PlanFault::UnknownKey(Section::Filter, index));
+    }
+    let number = required(table, at(Field::Number), Field::Number, &NUMBER)?;
+    let handle = optional(table, at(Field::Handle), Field::Handle, &NUMBER)?;
+    let priority = optional(
+        table,
+        at(Field::Priority),
+        Field::Priority,
+        &Between { low: 0, high: 7 },
+    )?;
+    let gate = required(
+        table,
+        at(Field::Gate),
+        Field::Gate,
+        &Known {
+            among: NumbersOf { instances: gates },
+            range: NUMBER,
+        },
+    )?;
+    let max_sdu = optional(
+        table,
+        at(Field::MaxSdu),
+        Field::MaxSdu,
+        &Between {
+            low: 0,
+            high: 65_535,
+        },
+    )?;
+    let meter = optional(
+        table,
+        at(Field::Meter),
+        Field::Meter,
+        &Known {
+            among: NumbersOf { instances: meters },
+            range: NUMBER,
+        },
+    )?;
+    let block_oversize = default_to(
+        false,
+        table,
+        at(Field::BlockOversize),
+        Field::BlockOversize,
+        &Switch,
+    )?;
+    let protected = default_to(
+        false,
+        table,
+        at(Field::Protected),
+        Field::Protected,
+        &Switch,
+    )?;
+    if has_number(filters, number) {
+        return Err(PlanFault::Duplicate(Section::Filter, index));
+    }
+    let plan = FilterPlan {
+        handle: in_32_bits(handle),
+        priority: in_8_bits(priority),
+        gate: gate as u32,
+        max_sdu: in_32_bits(max_sdu),
+        meter: in_32_bits(meter),
+        block_oversize,
+        protected,
+    };
+    Ok((number as u32, plan))
+}
+
+/// The section of filters, where these are the gates and meters.
+#[derive(Clone, Copy)]
+struct Filters<'a, A: Allocator + Copy> {
+    gates: &'a [(u32, GatePlan<A>)],
+    meters: &'a [(u32, MeterPlan)],
+}
+
+impl<'a, A: Allocator + Copy> SectionReader<A> for Filters<'a, A> {
+    type Instance = (u32, FilterPlan);
+
+    ghost reading = { λ s. sections.filter_at s.gates.now s.meters.now };
+
+    ghost Keeps = { λ s. rules.AreFilters s.gates.now s.meters.now };
+
+    #[tactic(auto, using(crate::proofs::Own::filters_push))]
+    fn read(
+        &self,
+        _alloc: A,
+        earlier: &[(u32, FilterPlan)],
+        index: u32,
+        table: &Table,
+    ) -> Result<(u32, FilterPlan), PlanFault> {
+        filter_of(self.gates, self.meters, earlier, index, table)
+    }
+}
+
+/// The filters of an array, where these are the gates and meters.
+pub(crate) fn filters_of<A: Allocator + Copy>(
+    alloc: A,
+    gates: &[(u32, GatePlan<A>)],
+    meters: &[(u32, MeterPlan)],
+    items: &[Value],
+) -> Result<Vec<(u32, FilterPlan), A>, PlanFault>
+    requires { length items.now ≤ 1024 }
+    ensures reads { GivesAs (λ v. v.items) result (instances (sections.filter_at gates.now meters.now) (items_view items.now)) }
+    ensures keeps { IfOk result (λ v. rules.AreFilters gates.now meters.now v.items) }
+    ensures few { IfOk result (λ v. length v.items ≤ 1024) }
+{
+    read_instances(alloc, &Filters { gates, meters }, items)
+}

@@ -1,0 +1,17 @@
+#![tactic(auto)]
+//! The plan of a bridge: its ports, VLANs, streams, gates, meters and filters.
+
+mod arrays;
+mod filters;
+mod gates;
+mod lists;
+mod meters;
+mod numbers;
+mod plan;
+mod ports;
+mod statics;
+mod streams;
+mod vlans;
+
+pub use plan::{Plan, plan_of};
+pub use ports::PortPlan;

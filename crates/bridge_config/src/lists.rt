@@ -1,0 +1,40 @@
+//! The list of a port or a gate, where it has entries.
+ghost use Rattle.std.specs.Prelude.{◌≡◌, ◌<◌, IfOk, option_map};
+ghost use Rattle.std.specs.Option.{ForSome};
+ghost use Rattle.bridge_cycle.specs.Cyclic.{IsLawful};
+ghost use Rattle.bridge_keys.specs.Readers.{Gives};
+ghost use Rattle.bridge_config.specs.Sections as sections;
+
+use bridge_cycle::{CyclicList, ListFault};
+use bridge_keys::{PlanFault, Section};
+use std::alloc::Allocator;
+
+/// The largest number of a document.
+pub(crate) const LARGEST: u64 = 9_223_372_036_854_775_807;
+
+/// The largest moment, in ns, at which a cycle may begin.
+pub(crate) const LAST_BASE: u64 = 3_999_999_999_999_999_999;
+
+/// The list of a base, a cycle and entries, where there are entries.
+pub(crate) fn list_if<S: Copy, A: Allocator + Copy>(
+    alloc: A,
+    section: Section,
+    index: u32,
+    base: u64,
+    cycle: u64,
+    entries: Option<Vec<(S, u64), A>>,
+) -> Result<Option<CyclicList<S, A>>, PlanFault>
+    requires { base < 4_000_000_000_000_000_000 }
+    ensures reads { Gives result (sections.list_if section index base cycle (option_map (λ v. v.items) entries)) }
+    ensures lawful { IfOk result (λ l. ForSome l IsLawful) }
+    ensures entries { IfOk result (λ l. option_map (λ c. c.entries) l ≡ option_map (λ v. v.items) entries) }
+{
+    match entries {
+        None => Ok(None),
+        Some(entries) => match CyclicList::new(alloc, base, cycle, entries) {
+            Ok(list) => Ok(Some(list)),
+            Err(ListFault::NoMemory) => Err(PlanFault::NoMemory),
+            Err(fault) => Err(PlanFault::BadList(section, index, fault)),
+        },
+    }
+}

@@ -1,0 +1,169 @@
+//! Flow meters of a plan.
+ghost use Rattle.std.specs.Prelude.{◌≡◌, IfOk, false, true};
+ghost use Rattle.toml.specs.View.{table_view};
+ghost use Rattle.bridge_meter.specs.Colours.{is_within_limits};
+ghost use Rattle.bridge_keys.specs.declared.fault.Section.TheVariants as the_section;
+ghost use Rattle.bridge_keys.specs.Readers.{Gives};
+ghost use Rattle.bridge_config.specs.Sections as sections;
+ghost use Rattle.bridge_config.specs.Texts as texts;
+ghost use Rattle.bridge_config.specs.Rules as rules;
+
+use crate::numbers::has_number;
+use bridge_keys::{
+    Between, Field, Meaning, Place, PlanFault, Section, SectionReader, Switch, Text, are_known,
+    default_to, required,
+};
+use bridge_meter::MeterPlan;
+use std::alloc::Allocator;
+use toml::Table;
+
+/// A rate in bit/s.
+const RATE: Between = Between {
+    low: 0,
+    high: 100_000_000_000,
+};
+
+/// A burst in octets.
+const BURST: Between = Between {
+    low: 0,
+    high: 4_294_967_295,
+};
+
+/// Whether a meter looks at the drop eligible indication of a frame: `aware` or `blind`.
+#[derive(Clone, Copy)]
+struct ColourText;
+
+impl Meaning for ColourText {
+    type Out = bool;
+
+    ghost meaning = { λ _. texts.awareness_of };
+
+    fn meaning_of(&self, text: &str) -> Option<bool> {
+        if text == "aware" {
+            Some(true)
+        } else if text == "blind" {
+            Some(false)
+        } else {
+            None
+        }
+    }
+}
+
+/// Whether a table has the keys of a meter alone.
+fn has_keys(table: &Table) -> bool
+    ensures { result ≡ sections.has_meter_keys (table_view table.now) }
+{
+    are_known(
+        table,
+        &[
+            Field::Number,
+            Field::Cir,
+            Field::Cbs,
+            Field::Eir,
+            Field::Ebs,
+            Field::Coupling,
+            Field::Colour,
+            Field::DropYellow,
+            Field::MarkAllRed,
+        ],
+    )
+}
+
+/// The meter of a table with its number, by those before it.
+#[tactic(auto, unfolding(crate::specs::Sections::meter_at))]
+fn meter_of(
+    meters: &[(u32, MeterPlan)],
+    index: u32,
+    table: &Table,
+) -> Result<(u32, MeterPlan), PlanFault>
+    ensures reads { Gives result (sections.meter_at meters.now index (table_view table.now)) }
+    ensures own { IfOk result (λ m. sections.has_number meters.now m.0 ≡ false) }
+    ensures limits { IfOk result (λ m. is_within_limits m.1 ≡ true) }
+{
+    let at = |field: Field| -> Place
+        ensures { result ≡ record { section = the_section.Meter; index = index; field = field } }
+    {
+        Place {
+            section: Section::Meter,
+            index,
+            field,
+        }
+    };
+    if !has_keys(table) {
+        return Err(PlanFault::UnknownKey(Section::Meter, index));
+    }
+    let number = required(
+        table,
+        at(Field::Number),
+        Field::Number,
+        &Between {
+            low: 0,
+            high: 4_294_967_295,
+        },
+    )?;
+    let cir = required(table, at(Field::Cir), Field::Cir, &RATE)?;
+    let cbs = required(table, at(Field::Cbs), Field::Cbs, &BURST)?;
+    let eir = required(table, at(Field::Eir), Field::Eir, &RATE)?;
+    let ebs = required(table, at(Field::Ebs), Field::Ebs, &BURST)?;
+    let coupling = default_to(false, table, at(Field::Coupling), Field::Coupling, &Switch)?;
+    let aware = default_to(
+        false,
+        table,
+        at(Field::Colour),
+        Field::Colour,
+        &Text {
+            meaning: ColourText,
+        },
+    )?;
+    let drop_yellow = default_to(
+        false,
+        table,
+        at(Field::DropYellow),
+        Field::DropYellow,
+        &Switch,
+    )?;
+    let mark_all_red = default_to(
+        false,
+        table,
+        at(Field::MarkAllRed),
+        Field::MarkAllRed,
+        &Switch,
+    )?;
+    if has_number(meters, number) {
+        return Err(PlanFault::Duplicate(Section::Meter, index));
+    }
+    let plan = MeterPlan {
+        cir,
+        cbs,
+        eir,
+        ebs,
+        coupling,
+        aware,
+        drop_yellow,
+        mark_all_red,
+    };
+    Ok((number as u32, plan))
+}
+
+/// The section of meters.
+#[derive(Clone, Copy)]
+pub(crate) struct Meters;
+
+impl<A: Allocator + Copy> SectionReader<A> for Meters {
+    type Instance = (u32, MeterPlan);
+
+    ghost reading = { λ _. sections.meter_at };
+
+    ghost Keeps = { λ _. rules.AreMeters };
+
+    #[tactic(auto, using(crate::proofs::Own::meters_push))]
+    fn read(
+        &self,
+        _alloc: A,
+        earlier: &[(u32, MeterPlan)],
+        index: u32,
+        table: &Table,
+    ) -> Result<(u32, MeterPlan), PlanFault> {
+        meter_of(earlier, index, table)
+    }
+}

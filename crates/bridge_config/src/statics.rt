@@ -1,0 +1,109 @@
+//! Static filtering entries of a plan.
+ghost use Rattle.std.specs.Prelude.{◌≡◌, IfOk, false, true};
+ghost use Rattle.toml.specs.View.{table_view};
+ghost use Rattle.bridge_keys.specs.declared.fault.Section.TheVariants as the_section;
+ghost use Rattle.bridge_keys.specs.Readers.{Gives};
+ghost use Rattle.bridge_config.specs.Sections as sections;
+ghost use Rattle.bridge_config.specs.Rules as rules;
+
+use crate::vlans::VlanNumbers;
+use bridge_forward::{PortSet, StaticEntry, Vlan};
+use bridge_keys::{
+    Address, Between, Field, Known, Place, PlanFault, PortsOf, Section, SectionReader, Text,
+    are_known, required,
+};
+use std::alloc::Allocator;
+use toml::Table;
+
+/// Whether an entry has a VLAN and an address.
+fn has_static(statics: &[StaticEntry], vid: u64, address: &[u8; 6]) -> bool
+    ensures { result ≡ rules.has_static statics.now vid address.now }
+{
+    statics
+        .iter()
+        .any(|s| s.vid as u64 == vid && s.address == *address)
+}
+
+/// Whether a table has the keys of a static entry alone.
+fn has_keys(table: &Table) -> bool
+    ensures { result ≡ sections.has_static_keys (table_view table.now) }
+{
+    are_known(table, &[Field::Vid, Field::Address, Field::Ports])
+}
+
+/// The static entry of a table, by those before it, where these are all ports and VLANs.
+#[tactic(auto, unfolding(crate::specs::Sections::static_at))]
+fn static_of(
+    all: u16,
+    vlans: &[Vlan],
+    statics: &[StaticEntry],
+    index: u32,
+    table: &Table,
+) -> Result<StaticEntry, PlanFault>
+    ensures reads { Gives result (sections.static_at all vlans.now statics.now index (table_view table.now)) }
+    ensures own { IfOk result (λ s. rules.has_static statics.now s.vid s.address ≡ false) }
+    ensures entry { IfOk result (λ s. rules.IsStatic all vlans.now s) }
+{
+    let at = |field: Field| -> Place
+        ensures { result ≡ record { section = the_section.Static; index = index; field = field } }
+    {
+        Place {
+            section: Section::Static,
+            index,
+            field,
+        }
+    };
+    if !has_keys(table) {
+        return Err(PlanFault::UnknownKey(Section::Static, index));
+    }
+    let vid = required(
+        table,
+        at(Field::Vid),
+        Field::Vid,
+        &Known {
+            among: VlanNumbers { vlans },
+            range: Between { low: 1, high: 4094 },
+        },
+    )?;
+    let address = required(
+        table,
+        at(Field::Address),
+        Field::Address,
+        &Text { meaning: Address },
+    )?;
+    let ports = required(table, at(Field::Ports), Field::Ports, &PortsOf { all })?;
+    if has_static(statics, vid, &address) {
+        return Err(PlanFault::Duplicate(Section::Static, index));
+    }
+    Ok(StaticEntry {
+        vid: vid as u16,
+        address,
+        ports: PortSet::of_bits(ports),
+    })
+}
+
+/// The section of static entries, where these are all ports and VLANs.
+#[derive(Clone, Copy)]
+pub(crate) struct Statics<'a> {
+    pub all: u16,
+    pub vlans: &'a [Vlan],
+}
+
+impl<'a, A: Allocator + Copy> SectionReader<A> for Statics<'a> {
+    type Instance = StaticEntry;
+
+    ghost reading = { λ s. sections.static_at s.all s.vlans.now };
+
+    ghost Keeps = { λ s. rules.AreStatics s.all s.vlans.now };
+
+    #[tactic(auto, using(crate::proofs::Own::statics_push))]
+    fn read(
+        &self,
+        _alloc: A,
+        earlier: &[StaticEntry],
+        index: u32,
+        table: &Table,
+    ) -> Result<StaticEntry, PlanFault> {
+        static_of(self.all, self.vlans, earlier, index, table)
+    }
+}

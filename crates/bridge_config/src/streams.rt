@@ -1,0 +1,190 @@
+//! Stream identifications of a plan.
+ghost use Rattle.std.specs.Prelude.{◌≡◌, IfOk, All, ◌++◌, ◌∷◌, []};
+ghost use Rattle.toml.specs.View.{table_view};
+ghost use Rattle.bridge_keys.specs.declared.fault.Section.TheVariants as the_section;
+ghost use Rattle.bridge_keys.specs.Readers.{Gives};
+ghost use Rattle.bridge_config.specs.Sections as sections;
+ghost use Rattle.bridge_config.specs.Texts as texts;
+ghost use Rattle.bridge_config.specs.Rules as rules;
+
+use crate::ports::{PortPlan, has_port};
+use bridge_ident::{Kind, StreamEntry, TagKind};
+use bridge_keys::{
+    Address, Between, Field, Finds, Known, Meaning, Place, PlanFault, Section, SectionReader, Text,
+    are_known, required,
+};
+use std::alloc::Allocator;
+use toml::Table;
+
+/// Which address is compared: `null` or `source`.
+#[derive(Clone, Copy)]
+struct KindText;
+
+impl Meaning for KindText {
+    type Out = Kind;
+
+    ghost meaning = { λ _. texts.kind_of };
+
+    fn meaning_of(&self, text: &str) -> Option<Kind> {
+        if text == "null" {
+            Some(Kind::Null)
+        } else if text == "source" {
+            Some(Kind::Source)
+        } else {
+            None
+        }
+    }
+}
+
+/// Which frames are taken: `tagged`, `priority` or `all`.
+#[derive(Clone, Copy)]
+struct TagText;
+
+impl Meaning for TagText {
+    type Out = TagKind;
+
+    ghost meaning = { λ _. texts.tag_of };
+
+    fn meaning_of(&self, text: &str) -> Option<TagKind> {
+        if text == "tagged" {
+            Some(TagKind::Tagged)
+        } else if text == "priority" {
+            Some(TagKind::Priority)
+        } else if text == "all" {
+            Some(TagKind::All)
+        } else {
+            None
+        }
+    }
+}
+
+/// The numbers of the ports of a plan.
+#[derive(Clone, Copy)]
+struct PortNumbers<'a, A: Allocator + Copy> {
+    ports: &'a [PortPlan<A>],
+}
+
+impl<'a, A: Allocator + Copy> Finds for PortNumbers<'a, A> {
+    ghost among = { λ s. rules.has_port s.ports.now };
+
+    fn has(&self, number: u64) -> bool {
+        has_port(self.ports, number)
+    }
+}
+
+/// Whether a table has the keys of a stream identification alone.
+fn has_keys(table: &Table) -> bool
+    ensures { result ≡ sections.has_stream_keys (table_view table.now) }
+{
+    are_known(
+        table,
+        &[
+            Field::Handle,
+            Field::Port,
+            Field::Kind,
+            Field::Address,
+            Field::Vid,
+            Field::Tag,
+        ],
+    )
+}
+
+/// The stream identification of a table, where these are the ports.
+#[tactic(auto, unfolding(crate::specs::Sections::stream_at))]
+fn stream_of<A: Allocator + Copy>(
+    ports: &[PortPlan<A>],
+    earlier: &[StreamEntry],
+    index: u32,
+    table: &Table,
+) -> Result<StreamEntry, PlanFault>
+    ensures reads { Gives result (sections.stream_at ports.now earlier.now index (table_view table.now)) }
+    ensures stream { IfOk result (λ s. rules.IsStream ports.now s) }
+{
+    let at = |field: Field| -> Place
+        ensures { result ≡ record { section = the_section.Stream; index = index; field = field } }
+    {
+        Place {
+            section: Section::Stream,
+            index,
+            field,
+        }
+    };
+    if !has_keys(table) {
+        return Err(PlanFault::UnknownKey(Section::Stream, index));
+    }
+    let handle = required(
+        table,
+        at(Field::Handle),
+        Field::Handle,
+        &Between {
+            low: 0,
+            high: 4_294_967_295,
+        },
+    )?;
+    let port = required(
+        table,
+        at(Field::Port),
+        Field::Port,
+        &Known {
+            among: PortNumbers { ports },
+            range: Between { low: 1, high: 16 },
+        },
+    )?;
+    let kind = required(
+        table,
+        at(Field::Kind),
+        Field::Kind,
+        &Text { meaning: KindText },
+    )?;
+    let address = required(
+        table,
+        at(Field::Address),
+        Field::Address,
+        &Text { meaning: Address },
+    )?;
+    let vid = required(
+        table,
+        at(Field::Vid),
+        Field::Vid,
+        &Between { low: 1, high: 4094 },
+    )?;
+    let tag = required(
+        table,
+        at(Field::Tag),
+        Field::Tag,
+        &Text { meaning: TagText },
+    )?;
+    Ok(StreamEntry {
+        handle: handle as u32,
+        port: port as u8,
+        kind,
+        address,
+        vid: vid as u16,
+        tag,
+    })
+}
+
+/// The section of stream identifications, where these are the ports.
+#[derive(Clone, Copy)]
+pub(crate) struct Streams<'a, A: Allocator + Copy> {
+    pub ports: &'a [PortPlan<A>],
+}
+
+impl<'a, A: Allocator + Copy> SectionReader<A> for Streams<'a, A> {
+    type Instance = StreamEntry;
+
+    ghost reading = { λ s. sections.stream_at s.ports.now };
+
+    ghost Keeps = { λ s streams. All (rules.IsStream s.ports.now) streams };
+
+    #[tactic(auto, using(crate::proofs::Own::each_push))]
+    fn read(
+        &self,
+        _alloc: A,
+        earlier: &[StreamEntry],
+        index: u32,
+        table: &Table,
+    ) -> Result<StreamEntry, PlanFault> {
+        stream_of(self.ports, earlier, index, table)
+    }
+}

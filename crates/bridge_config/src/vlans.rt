@@ -1,0 +1,102 @@
+//! VLANs of a plan.
+ghost use Rattle.std.specs.Prelude.{◌≡◌, IfOk, false, true};
+ghost use Rattle.toml.specs.View.{table_view};
+ghost use Rattle.bridge_keys.specs.declared.fault.Section.TheVariants as the_section;
+ghost use Rattle.bridge_keys.specs.Readers.{Gives};
+ghost use Rattle.bridge_config.specs.Sections as sections;
+ghost use Rattle.bridge_config.specs.Rules as rules;
+
+use bridge_forward::{PortSet, Vlan};
+use bridge_keys::{
+    Between, Field, Finds, Place, PlanFault, PortsOf, Section, SectionReader, are_known, required,
+};
+use std::alloc::Allocator;
+use toml::Table;
+
+/// Whether a VLAN has a number.
+pub(crate) fn has_vlan(vlans: &[Vlan], vid: u64) -> bool
+    ensures { result ≡ rules.has_vlan vlans.now vid }
+{
+    vlans.iter().any(|v| v.vid as u64 == vid)
+}
+
+/// The numbers of the VLANs of a plan.
+#[derive(Clone, Copy)]
+pub(crate) struct VlanNumbers<'a> {
+    pub vlans: &'a [Vlan],
+}
+
+impl<'a> Finds for VlanNumbers<'a> {
+    ghost among = { λ s. rules.has_vlan s.vlans.now };
+
+    fn has(&self, number: u64) -> bool {
+        has_vlan(self.vlans, number)
+    }
+}
+
+/// Whether a table has the keys of a VLAN alone.
+fn has_keys(table: &Table) -> bool
+    ensures { result ≡ sections.has_vlan_keys (table_view table.now) }
+{
+    are_known(table, &[Field::Vid, Field::Members])
+}
+
+/// The VLAN of a table, by those before it, where these are all ports.
+#[tactic(auto, unfolding(crate::specs::Sections::vlan_at))]
+fn vlan_of(all: u16, vlans: &[Vlan], index: u32, table: &Table) -> Result<Vlan, PlanFault>
+    ensures reads { Gives result (sections.vlan_at all vlans.now index (table_view table.now)) }
+    ensures own { IfOk result (λ v. rules.has_vlan vlans.now v.vid ≡ false) }
+    ensures vlan { IfOk result (λ v. rules.IsVlan all v) }
+{
+    let at = |field: Field| -> Place
+        ensures { result ≡ record { section = the_section.Vlan; index = index; field = field } }
+    {
+        Place {
+            section: Section::Vlan,
+            index,
+            field,
+        }
+    };
+    if !has_keys(table) {
+        return Err(PlanFault::UnknownKey(Section::Vlan, index));
+    }
+    let vid = required(
+        table,
+        at(Field::Vid),
+        Field::Vid,
+        &Between { low: 1, high: 4094 },
+    )?;
+    let members = required(table, at(Field::Members), Field::Members, &PortsOf { all })?;
+    if has_vlan(vlans, vid) {
+        return Err(PlanFault::Duplicate(Section::Vlan, index));
+    }
+    Ok(Vlan {
+        vid: vid as u16,
+        members: PortSet::of_bits(members),
+    })
+}
+
+/// The section of VLANs, where these are all ports.
+#[derive(Clone, Copy)]
+pub(crate) struct Vlans {
+    pub all: u16,
+}
+
+impl<A: Allocator + Copy> SectionReader<A> for Vlans {
+    type Instance = Vlan;
+
+    ghost reading = { λ s. sections.vlan_at s.all };
+
+    ghost Keeps = { λ s. rules.AreVlans s.all };
+
+    #[tactic(auto, using(crate::proofs::Own::vlans_push))]
+    fn read(
+        &self,
+        _alloc: A,
+        earlier: &[Vlan],
+        index: u32,
+        table: &Table,
+    ) -> Result<Vlan, PlanFault> {
+        vlan_of(self.all, earlier, index, table)
+    }
+}

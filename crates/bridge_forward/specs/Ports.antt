@@ -1,0 +1,11 @@
+-- Sets of the ports 1 to 16, each as a number whose bit n - 1 stands for port n.
+use Rattle.std.specs.Prelude.{ℕ, Bool, ◌-◌, ◌^◌, nat_eq, bit_and}
+use Rattle.std.specs.Int.{bit_at}
+
+-- whether a port is in a set
+abbrev pub has : ℕ → ℕ → Bool
+has set port = nat_eq (bit_at set (port - 1)) 1
+
+-- a set with one port taken away
+abbrev pub without : ℕ → ℕ → ℕ
+without set port = bit_and set (65535 - 2 ^ (port - 1))

@@ -1,0 +1,122 @@
+//! The filtering database, and where it sends a frame.
+
+ghost use Rattle.std.specs.Prelude.{◌≡◌, ◌≤◌, ℕ, Option, IfOk};
+ghost use Rattle.bridge_forward.specs.Database.{members_at, entry_at};
+ghost use Rattle.bridge_forward.specs.Forward.{is_reserved, goes_to, forward};
+
+use crate::index::{Index, Key, entries_of, members_of};
+use crate::{NoMemory, PortSet, StaticEntry, Vlan};
+use std::alloc::Allocator;
+use std::marker::Model;
+
+/// Whether an address is one of 01-80-C2-00-00-00 to 01-80-C2-00-00-0F.
+fn is_reserved(da: &[u8; 6]) -> bool
+    ensures { result ≡ is_reserved da.now }
+{
+    da[..5] == [0x01, 0x80, 0xC2, 0x00, 0x00] && da[5] <= 0x0F
+}
+
+/// Where a frame goes, by the members of its VLAN, the ports of its static entry and the port on which it came.
+fn goes_to(members: Option<PortSet>, entry: Option<PortSet>, port: u8) -> PortSet
+    requires from { 1 ≤ port }
+    requires to { port ≤ 16 }
+    ensures { result ≡ goes_to members entry port }
+{
+    match members {
+        Some(members) if members.has(port) => {
+            let allowed = match entry {
+                Some(ports) => ports.both(members),
+                None => members,
+            };
+            allowed.without(port)
+        }
+        _ => PortSet::of_bits(0),
+    }
+}
+
+/// The filtering database: VLANs and static filtering entries. Contracts see both as lists, in the order given.
+#[derive(Drop)]
+pub struct Forwarding<A: Allocator + Copy> {
+    vlans: Vec<Vlan, A>,
+    statics: Vec<StaticEntry, A>,
+    members: Index<u16, A>,
+    entries: Index<Key, A>,
+}
+
+impl<A: Allocator + Copy> Model for Forwarding<A> {
+    ghost use Rattle.bridge_forward.specs.Database.{Database};
+    ghost use Rattle.bridge_forward.specs.Kept.{IsKept};
+
+    ghost Value = { Database };
+
+    ghost view = { λ f. record { vlans = f.vlans.items; statics = f.statics.items } };
+
+    ghost invariant = { λ f. IsKept f.vlans.items f.statics.items f.members f.entries };
+}
+
+impl<A: Allocator + Copy> Forwarding<A> {
+    /// The database of these VLANs and static entries. Of VLANs with one VLAN identifier, and of static entries with
+    /// one VLAN identifier and address, the first counts. What it was handed is dropped where memory runs out.
+    pub fn new(
+        alloc: A,
+        vlans: Vec<Vlan, A>,
+        statics: Vec<StaticEntry, A>,
+    ) -> Result<Forwarding<A>, NoMemory>
+        ensures { IfOk result (λ f. f ≡ record { vlans = vlans.items; statics = statics.items }) }
+    {
+        let members = members_of(alloc, &vlans)?;
+        let entries = entries_of(alloc, &statics)?;
+        Ok(Forwarding {
+            vlans,
+            statics,
+            members,
+            entries,
+        })
+    }
+
+    /// The VLANs, in the order given.
+    pub fn vlans(&self) -> &[Vlan]
+        ensures { result.now ≡ self.now.vlans }
+    {
+        self.vlans.as_slice()
+    }
+
+    /// The static entries, in the order given.
+    pub fn statics(&self) -> &[StaticEntry]
+        ensures { result.now ≡ self.now.statics }
+    {
+        self.statics.as_slice()
+    }
+
+    /// The ports to which a frame to `da` goes that came on `port`, 1 to 16, and was classified in the VLAN `vid`
+    /// (IEEE 802.1Q-2018, 8.6.1 to 8.6.3). It takes two look-ups, however many VLANs and entries there are, and no
+    /// memory.
+    ///
+    /// A frame to a reserved address goes nowhere, nor does one that came on a port that isn't a member of its VLAN.
+    /// Any other goes to the ports of the static entry of `vid` and `da`, or without one to the members of the VLAN,
+    /// in each case only to members, and never to `port`.
+    pub fn forward(&self, port: u8, vid: u16, da: &[u8; 6]) -> PortSet
+        requires from { 1 ≤ port }
+        requires to { port ≤ 16 }
+        ensures { result ≡ forward self.now port vid da.now }
+    {
+        if is_reserved(da) {
+            return PortSet::of_bits(0);
+        }
+        goes_to(self.members_at(vid), self.entry_at(vid, da), port)
+    }
+
+    /// The members of a VLAN.
+    fn members_at(&self, vid: u16) -> Option<PortSet>
+        ensures { result ≡ members_at self.now.vlans vid }
+    {
+        self.members.get(&vid).copied()
+    }
+
+    /// The ports of the static entry of a VLAN and an address.
+    fn entry_at(&self, vid: u16, da: &[u8; 6]) -> Option<PortSet>
+        ensures { result ≡ entry_at self.now.statics vid da.now }
+    {
+        self.entries.get(&Key { vid, address: *da }).copied()
+    }
+}

@@ -1,0 +1,50 @@
+#![tactic(auto)]
+//! Where a bridge sends a frame: the filtering database with ingress filtering always on (IEEE 802.1Q-2018, 8.6.1
+//! to 8.6.3, with the static filtering entries of 8.8.1).
+
+mod forwarding;
+mod index;
+pub mod laws;
+mod port_set;
+
+pub use forwarding::Forwarding;
+pub use port_set::PortSet;
+use std::alloc::{AllocError, AllocFailed};
+use thiserror::Error;
+
+/// A VLAN and the ports that belong to it (IEEE 802.1Q-2018, 8.8.2).
+#[derive(Clone, Copy, Debug, PartialEq, Eq)]
+pub struct Vlan {
+    /// The VLAN identifier.
+    pub vid: u16,
+    /// The member ports.
+    pub members: PortSet,
+}
+
+/// A static filtering entry: the ports to which frames to an address may go in a VLAN (IEEE 802.1Q-2018, 8.8.1).
+#[derive(Clone, Copy, Debug, PartialEq, Eq)]
+pub struct StaticEntry {
+    /// The VLAN identifier.
+    pub vid: u16,
+    /// The destination address, in the order in which it is sent.
+    pub address: [u8; 6],
+    /// The ports. Those that aren't members of the VLAN get no frame by it.
+    pub ports: PortSet,
+}
+
+/// A growth was refused.
+#[derive(Clone, Copy, Debug, PartialEq, Eq, Error)]
+#[error("no memory")]
+pub struct NoMemory;
+
+impl From<AllocError> for NoMemory {
+    fn from(_error: AllocError) -> NoMemory {
+        NoMemory
+    }
+}
+
+impl<T: Drop> From<AllocFailed<T>> for NoMemory {
+    fn from(_error: AllocFailed<T>) -> NoMemory {
+        NoMemory
+    }
+}
