@@ -3,3 +3,4 @@ pub mod Told
 pub mod Others
 pub mod Least
 pub mod Isolated
+pub mod Sound

@@ -3,3 +3,4 @@ pub mod Windows
 pub mod Faults
 pub mod Acceptable
 pub mod Reached
+pub mod Sending

@@ -1,9 +1,18 @@
 //! Laws of accepted plans, each the contract of a function that does nothing.
-ghost use Rattle.std.specs.Prelude.{◌≡◌, ℕ, None};
+ghost use Rattle.std.specs.Prelude.{◌≡◌, ◌≤◌, ℕ, Bool, List, Option, None, Some, true};
 ghost use Rattle.bridge_cycle.specs.Entries.{In};
+ghost use Rattle.bridge_frame.specs.declared.Head.{Head};
 ghost use Rattle.bridge_filter.specs.declared.FilterPlan.{FilterPlan};
+ghost use Rattle.bridge_filter.specs.declared.Verdict.TheVariants as verdict;
+ghost use Rattle.bridge_filter.specs.Plans.{plans_of};
+ghost use Rattle.bridge_filter.specs.Verdicts.{Call, Step, flow, verdict_of};
+ghost use Rattle.bridge_forward.specs.Ports.{has};
+ghost use Rattle.bridge_forward.specs.Forward.{forward};
+ghost use Rattle.bridge_config.specs.declared.ports.PortPlan.{PortPlan};
 ghost use Rattle.bridge_config.specs.Model.{Plan};
-ghost use Rattle.bridge_config.specs.Rules.{IsPlan};
+ghost use Rattle.bridge_config.specs.Rules.{IsPlan, port_at};
+ghost use Rattle.bridge_check.specs.Reach.{reaches};
+ghost use Rattle.bridge_check.specs.Sending.{vid_of, priority_of, call_of, class_of};
 ghost use Rattle.bridge_check.specs.Acceptable.{IsIsolated};
 ghost use Rattle.bridge_check.specs.Faults.{fault_of};
 
@@ -17,4 +26,26 @@ pub fn without_fault_is_isolated<A: Allocator + Copy>()
         → In (n, f) p.filters
         → fault_of p n f ≡ None
         → IsIsolated p n f }
+{}
+
+/// A frame that a filter passes, at any moment and after whatever came before, is queued in the filter's reach: on each
+/// port to which it goes, in the class that it has there by its internal priority value, else by its priority.
+pub fn reach_is_sound<A: Allocator + Copy>()
+    ensures { (p : Plan A) (port out : PortPlan A) (head : Head) (at octets n : ℕ) (f : FilterPlan) (ss : List Step) (ipv : Option ℕ) (eligible : Bool)
+        → IsPlan p
+        → port_at p.ports out.number ≡ Some out
+        → priority_of port head.tag ≤ 7
+        → has (forward p.database port.number (vid_of port head.tag) head.da) out.number ≡ true
+        → flow p.filters (call_of p port at head octets) ≡ Some (n, f)
+        → verdict_of (plans_of p.filters p.gates p.meters) ss (call_of p port at head octets) n f ≡ verdict.Pass ipv eligible
+        → reaches p f out.number (class_of out ipv (priority_of port head.tag)) ≡ true }
+{}
+
+/// Where a protected filter fails no test, every frame has a filter.
+pub fn every_frame_has_a_filter<A: Allocator + Copy>()
+    ensures { (p : Plan A) (n : ℕ) (f : FilterPlan) (c : Call)
+        → IsPlan p
+        → In (n, f) p.filters
+        → fault_of p n f ≡ None
+        → (g : ℕ × FilterPlan) × (flow p.filters c ≡ Some g) }
 {}

@@ -1,0 +1,305 @@
+-- The reach of a filter has each queue to which a frame comes that the filter passes.
+use Rattle.std.proofs.Common.{◌≡◌, ◌<◌, ◌≤◌, ◌+◌, ℕ, zero, suc, Bool, true, false, not, ◌&&◌, ◌||◌, List, [], ◌∷◌, map, Option, Some, None, cond, nat_eq, nat_le, nat_lt, refl, sym, ap, ◌∙◌, arith, subst, inl, inr, ◌⊎◌}
+use Rattle.std.specs.Prelude.{slice_index, unwrap_or}
+use Rattle.std.specs.List.{list_any, list_all}
+use Rattle.std.specs.Map.{lookup}
+use Rattle.std.specs.Str.{bytes_eq}
+use Rattle.std.proofs.lemmas.Bool.{and_parts, false≢true, cases_lt}
+use Rattle.std.proofs.lemmas.Bool.Decides.{nat_tests}
+use Rattle.std.proofs.lemmas.Option.{same_Some}
+use Rattle.std.proofs.lemmas.Slice.Eq.{bytes_eq-Decides}
+use Rattle.bridge_frame.specs.declared.Head.{Head}
+use Rattle.bridge_cycle.specs.Cyclic.{Cyclic}
+use Rattle.bridge_cycle.specs.Entries.{In}
+use Rattle.bridge_cycle.specs.declared.timeline.Turn.{Turn}
+use Rattle.bridge_cycle.proofs.Lists.{among}
+use Rattle.bridge_gate.specs.declared.gate.GateAnswer.{GateAnswer}
+use Rattle.bridge_gate.specs.declared.gate.GateAnswer.TheVariants as gate
+use Rattle.bridge_gate.specs.declared.schedule.GateEntry.{GateEntry}
+use Rattle.bridge_gate.specs.declared.schedule.GatePlan.{GatePlan}
+use Rattle.bridge_gate.specs.declared.schedule.Schedule.{Schedule}
+use Rattle.bridge_gate.specs.declared.schedule.Schedule.TheVariants as schedule
+use Rattle.bridge_gate.specs.Gates.{GateRules, GateStep, answer, answer_in, steps, exceeds, used, is_shut_by_rx, is_shut_by_octets}
+use Rattle.bridge_gate.specs.Schedules as schedules
+use Rattle.bridge_ident.specs.declared.Kind.TheVariants.{Null, Source}
+use Rattle.bridge_ident.specs.declared.StreamEntry.{StreamEntry}
+use Rattle.bridge_ident.specs.Identification as ident
+use Rattle.bridge_meter.specs.declared.Colour.{Colour}
+use Rattle.bridge_meter.specs.declared.Colour.TheVariants as colour
+use Rattle.bridge_meter.specs.declared.MeterPlan.{MeterPlan}
+use Rattle.bridge_filter.specs.declared.FilterPlan.{FilterPlan}
+use Rattle.bridge_filter.specs.declared.Verdict.{Verdict}
+use Rattle.bridge_filter.specs.declared.Verdict.TheVariants as verdict
+use Rattle.bridge_filter.specs.Plans.{plans_of, gate_or_closed}
+use Rattle.bridge_filter.specs.Verdicts.{Call, Plans, Step, flow, lesser, is_match, takes_handle, takes_priority, verdict_of, by_answer, by_meter, by_colour, gate_answer, gate_share, is_blocked, is_above}
+use Rattle.bridge_forward.specs.Ports.{has}
+use Rattle.bridge_forward.specs.Database.{Database}
+use Rattle.bridge_forward.specs.Forward.{forward}
+use Rattle.bridge_config.specs.declared.ports.PortPlan.{PortPlan}
+use Rattle.bridge_config.specs.Model.{Plan}
+use Rattle.bridge_config.specs.Rules.{IsPlan, port_at}
+use Rattle.bridge_check.specs.Faults.{fault_of}
+use Rattle.bridge_check.specs.Reach.{any_below, reaches, reaches_port, reaches_class, reaches_priority, are_null, is_null, leads_to, entries_of, entries_if, entries_at, has_value, gives, lets}
+use Rattle.bridge_check.specs.Sending.{vid_of, priority_of, call_of, class_of}
+use Rattle.bridge_check.specs.Acceptable.{IsIsolated}
+use Rattle.bridge_check.proofs.Isolated.{isolated}
+
+is_eq : (m n : ℕ) → nat_eq m n ≡ true → m ≡ n
+is_eq m n h = grind (arith, nat_tests)
+
+same_eq : (n : ℕ) → nat_eq n n ≡ true
+same_eq n = grind (arith, nat_tests)
+
+by_bool : {C : Type 0} (b : Bool) → (b ≡ true → C) → (b ≡ false → C) → C
+by_bool true p q = p refl
+by_bool false p q = q refl
+
+or_true : (b : Bool) → (b || true) ≡ true
+or_true true = refl
+or_true false = refl
+
+passes_any : {X : Type 0} (t : X → Bool) (xs : List X) (x : X) → In x xs → t x ≡ true → list_any t xs ≡ true
+passes_any t [] x i h = absurd i
+passes_any t (y ∷ ys) x (inl e) h = rw (sym (ap t e) ∙ h) refl
+passes_any t (y ∷ ys) x (inr i) h = rw (passes_any t ys x i h) (or_true (t y))
+
+each_passes : {X : Type 0} (t : X → Bool) (xs : List X) (x : X) → list_all t xs ≡ true → In x xs → t x ≡ true
+each_passes t [] x h i = absurd i
+each_passes t (y ∷ ys) x h (inl e) = let (here, rest) = and_parts (t y) (list_all t ys) h in ap t e ∙ here
+each_passes t (y ∷ ys) x h (inr i) = let (here, rest) = and_parts (t y) (list_all t ys) h in each_passes t ys x rest i
+
+below_any : (n k : ℕ) (t : ℕ → Bool) → k < n → t k ≡ true → any_below n t ≡ true
+below_any zero k t lt h = absurd (omega (arith, lt))
+below_any (suc n) k t lt h = elim (cases_lt k n) [
+  | inl a ↦ rw (below_any n k t a h) refl
+  | inr a ↦ let same : k ≡ n = omega (arith, lt, a) in rw (subst (λ (i : ℕ). t i ≡ true) same h) (or_true (any_below n t))
+]
+
+-- THE FLOW
+
+lesser_is : (f x : ℕ × FilterPlan) (o : Option (ℕ × FilterPlan)) (b : Bool) (g : ℕ × FilterPlan) → cond b (Some g) (Some f) ≡ Some x → (f ≡ x) ⊎ (g ≡ x)
+lesser_is f x o true g h = inr (same_Some _ _ h)
+lesser_is f x o false g h = inl (same_Some _ _ h)
+
+lesser_of : (f x : ℕ × FilterPlan) (o : Option (ℕ × FilterPlan)) → lesser f o ≡ Some x → (f ≡ x) ⊎ (o ≡ Some x)
+lesser_of f x None h = inl (same_Some _ _ h)
+lesser_of f x (Some g) h = elim (lesser_is f x None (nat_lt g.0 f.0) g h) [ inl e ↦ inl e | inr e ↦ inr (ap Some e) ]
+
+matches_by : (b : Bool) (f x : ℕ × FilterPlan) (fs : List (ℕ × FilterPlan)) (c : Call) → is_match f.1 c ≡ b → cond b (lesser f (flow fs c)) (flow fs c) ≡ Some x → (flow fs c ≡ Some x → is_match x.1 c ≡ true) → is_match x.1 c ≡ true
+matches_by true f x fs c e h more = elim (lesser_of f x (flow fs c) h) [ inl same ↦ subst (λ (z : ℕ × FilterPlan). is_match z.1 c ≡ true) same e | inr k ↦ more k ]
+matches_by false f x fs c e h more = more h
+
+matches : (fs : List (ℕ × FilterPlan)) (c : Call) (x : ℕ × FilterPlan) → flow fs c ≡ Some x → is_match x.1 c ≡ true
+matches [] c x h = absurd (cc)
+matches (f ∷ fs) c x h = matches_by (is_match f.1 c) f x fs c refl h (matches fs c x)
+
+lesser_some : (f : ℕ × FilterPlan) (o : Option (ℕ × FilterPlan)) → (g : ℕ × FilterPlan) × (lesser f o ≡ Some g)
+lesser_some f None = (f, refl)
+lesser_some f (Some g) = by_bool (nat_lt g.0 f.0) (λ e. (g, rw e refl)) (λ e. (f, rw e refl))
+
+has_flow : (fs : List (ℕ × FilterPlan)) (c : Call) (x : ℕ × FilterPlan) → In x fs → is_match x.1 c ≡ true → (g : ℕ × FilterPlan) × (flow fs c ≡ Some g)
+has_flow [] c x i m = absurd i
+has_flow (f ∷ fs) c x (inl e) m =
+    let own : is_match f.1 c ≡ true = subst (λ (z : ℕ × FilterPlan). is_match z.1 c ≡ true) e m in
+    let (g, is) = lesser_some f (flow fs c) in
+    (g, rw own is)
+has_flow (f ∷ fs) c x (inr i) m = by_bool (is_match f.1 c)
+    (λ own. let (g, is) = lesser_some f (flow fs c) in (g, rw own is))
+    (λ other. let (g, is) = has_flow fs c x i m in (g, rw other is))
+
+pub filtered : {A : Type 0} (p : Plan A) (n : ℕ) (f : FilterPlan) (c : Call) → IsPlan p → In (n, f) p.filters → fault_of p n f ≡ None → (g : ℕ × FilterPlan) × (flow p.filters c ≡ Some g)
+filtered p n f c plan listed h =
+    let (k, g, i, handle, priority, greatest) = (isolated p n f plan listed h).catches in
+    let takes : is_match g c ≡ true = rw (handle, priority) refl in
+    has_flow p.filters c (k, g) i takes
+
+-- THE PORT
+
+pub record IsFound (es : List StreamEntry) (port : ℕ) (head : Head) (vid h : ℕ) : Type 0 where
+  pub entry : StreamEntry
+  pub listed : In entry es
+  pub handle : entry.handle ≡ h
+  pub is : ident.is_match entry port head vid ≡ true
+
+found_by : (b : Bool) (e : StreamEntry) (es : List StreamEntry) (port : ℕ) (head : Head) (vid h : ℕ) → ident.is_match e port head vid ≡ b → cond b (Some e.handle) (ident.handle_in es port head vid) ≡ Some h → (ident.handle_in es port head vid ≡ Some h → IsFound es port head vid h) → IsFound (e ∷ es) port head vid h
+found_by true e es port head vid h is k more = record { entry = e; listed = inl refl; handle = same_Some _ _ k; is = is }
+found_by false e es port head vid h is k more = let f = more k in record { entry = f.entry; listed = inr f.listed; handle = f.handle; is = f.is }
+
+found : (es : List StreamEntry) (port : ℕ) (head : Head) (vid h : ℕ) → ident.handle_in es port head vid ≡ Some h → IsFound es port head vid h
+found [] port head vid h k = absurd (cc)
+found (e ∷ es) port head vid h k = found_by (ident.is_match e port head vid) e es port head vid h refl k (found es port head vid h)
+
+taken : (h : ℕ) (o : Option ℕ) → takes_handle (Some h) o ≡ true → o ≡ Some h
+taken h None k = absurd (false≢true k)
+taken h (Some m) k = ap Some (sym (is_eq h m k))
+
+null_address : (e : StreamEntry) (head : Head) → is_null e.kind ≡ true → ident.compared_address e.kind head ≡ head.da
+null_address e head h = null_of e.kind head h
+ where
+  null_of : (k : _) (head : Head) → is_null k ≡ true → ident.compared_address k head ≡ head.da
+  null_of Null head h = refl
+  null_of Source head h = absurd (false≢true h)
+
+same_bytes : (xs ys : List ℕ) → bytes_eq xs ys ≡ true → xs ≡ ys
+same_bytes xs ys h = (bytes_eq-Decides xs ys).0 h
+
+goes_by : {A : Type 0} (p : Plan A) (port : PortPlan A) (head : Head) (q h : ℕ) → IsFound p.streams port.number head (vid_of port head.tag) h → has (forward p.database port.number (vid_of port head.tag) head.da) q ≡ true → are_null h p.streams ≡ true → leads_to p.database h q p.streams ≡ true
+goes_by p port head q h f goes null =
+    let e = f.entry in
+    let vid = vid_of port head.tag in
+    let (abc, tag) = and_parts (nat_eq e.port port.number && nat_eq e.vid vid && bytes_eq e.address (ident.compared_address e.kind head)) (ident.takes_tag e.tag head.tag) f.is in
+    let (ab, address) = and_parts (nat_eq e.port port.number && nat_eq e.vid vid) (bytes_eq e.address (ident.compared_address e.kind head)) abc in
+    let (on, in_vlan) = and_parts (nat_eq e.port port.number) (nat_eq e.vid vid) ab in
+    let own : nat_eq e.handle h ≡ true = rw f.handle (same_eq h) in
+    let kind : (not (nat_eq e.handle h) || is_null e.kind) ≡ true = each_passes (λ (x : StreamEntry). not (nat_eq x.handle h) || is_null x.kind) p.streams e null f.listed in
+    let is : is_null e.kind ≡ true = rw own at kind in
+    let to : e.address ≡ head.da = same_bytes e.address (ident.compared_address e.kind head) address ∙ null_address e head is in
+    let port_is : e.port ≡ port.number = is_eq e.port port.number on in
+    let vid_is : e.vid ≡ vid = is_eq e.vid vid in_vlan in
+    let there : has (forward p.database e.port e.vid e.address) q ≡ true = rw (port_is, vid_is, to) goes in
+    let both : (nat_eq e.handle h && has (forward p.database e.port e.vid e.address) q) ≡ true = rw (own, there) refl in
+    passes_any (λ (x : StreamEntry). nat_eq x.handle h && has (forward p.database x.port x.vid x.address) q) p.streams e f.listed both
+
+port_reached : {A : Type 0} (p : Plan A) (port : PortPlan A) (head : Head) (q : ℕ) (o : Option ℕ) → has (forward p.database port.number (vid_of port head.tag) head.da) q ≡ true → takes_handle o (ident.handle_in p.streams port.number head (vid_of port head.tag)) ≡ true → reaches_port p o q ≡ true
+port_reached p port head q None goes takes = refl
+port_reached p port head q (Some h) goes takes =
+    let f = found p.streams port.number head (vid_of port head.tag) h (taken h (ident.handle_in p.streams port.number head (vid_of port head.tag)) takes) in
+    by_bool (are_null h p.streams)
+    (λ null. rw (goes_by p port head q h f goes null) (or_true (not (are_null h p.streams))))
+    (λ other. rw other refl)
+
+-- THE GATE
+
+pub record IsLet (r : GateRules) (t : ℕ) (ipv : Option ℕ) : Type 0 where
+  pub turn : Turn GateEntry
+  pub at : r.turn_at t ≡ Some turn
+  pub lets : turn.state.lets ≡ true
+  pub ipv_is : turn.state.ipv ≡ ipv
+
+let_by : (lets over : Bool) (i ipv : Option ℕ) → cond (not lets) gate.Closed (cond over gate.OctetsExceeded (gate.Through i)) ≡ gate.Through ipv → (lets ≡ true) × (i ≡ ipv)
+let_by false over i ipv h = absurd (cc)
+let_by true true i ipv h = absurd (cc)
+let_by true false i ipv h = (refl, through h)
+ where
+  through : gate.Through i ≡ gate.Through ipv → i ≡ ipv
+  through h = cc
+
+let_in : (r : GateRules) (ss : List GateStep) (sdu t : ℕ) (o : Option (Turn GateEntry)) (ipv : Option ℕ) → r.turn_at t ≡ o → answer_in r ss sdu o ≡ gate.Through ipv → IsLet r t ipv
+let_in r ss sdu t None ipv e h = absurd (cc)
+let_in r ss sdu t (Some x) ipv e h =
+    let (lets, same) = let_by x.state.lets (exceeds x.state.octets (used r.turn_at x.start ss + sdu)) x.state.ipv ipv h in
+    record { turn = x; at = e; lets = lets; ipv_is = same }
+
+unshut : (a b : Bool) (v : GateAnswer) (ipv : Option ℕ) → cond a gate.ShutByRx (cond b gate.ShutByOctets v) ≡ gate.Through ipv → v ≡ gate.Through ipv
+unshut true b v ipv h = absurd (cc)
+unshut false true v ipv h = absurd (cc)
+unshut false false v ipv h = h
+
+let_through : (r : GateRules) (ss : List GateStep) (t sdu : ℕ) (ipv : Option ℕ) → answer r ss t sdu ≡ gate.Through ipv → IsLet r t ipv
+let_through r ss t sdu ipv h = let_in r ss sdu t (r.turn_at t) ipv refl (unshut (r.shut_on_rx && is_shut_by_rx ss) (r.shut_on_octets && is_shut_by_octets ss) (answer_in r ss sdu (r.turn_at t)) ipv h)
+
+-- THE VERDICT
+
+same_ipv : (i ipv : Option ℕ) (e eligible : Bool) → verdict.Pass i e ≡ verdict.Pass ipv eligible → i ≡ ipv
+same_ipv i ipv e eligible h = cc
+
+yellow_by : (drop : Bool) (i ipv : Option ℕ) (eligible : Bool) → cond drop verdict.YellowDropped (verdict.Pass i true) ≡ verdict.Pass ipv eligible → i ≡ ipv
+yellow_by true i ipv eligible h = absurd (cc)
+yellow_by false i ipv eligible h = same_ipv i ipv true eligible h
+
+by_colour_passes : (m : MeterPlan) (i ipv : Option ℕ) (eligible : Bool) (c : Colour) → by_colour m i c ≡ verdict.Pass ipv eligible → i ≡ ipv
+by_colour_passes m i ipv eligible colour.Green h = same_ipv i ipv false eligible h
+by_colour_passes m i ipv eligible colour.Yellow h = yellow_by m.drop_yellow i ipv eligible h
+by_colour_passes m i ipv eligible colour.Red h = absurd (cc)
+
+by_meter_passes : (p : Plans) (ss : List Step) (c : Call) (i ipv o : Option ℕ) (eligible : Bool) → by_meter p ss c i o ≡ verdict.Pass ipv eligible → i ≡ ipv
+by_meter_passes p ss c i ipv None eligible h = same_ipv i ipv false eligible h
+by_meter_passes p ss c i ipv (Some m) eligible h = by_colour_passes (p.meters m) i ipv eligible _ h
+
+by_answer_passes : (p : Plans) (ss : List Step) (c : Call) (f : FilterPlan) (a : GateAnswer) (ipv : Option ℕ) (eligible : Bool) → by_answer p ss c f a ≡ verdict.Pass ipv eligible → a ≡ gate.Through ipv
+by_answer_passes p ss c f (gate.Through i) ipv eligible h = ap gate.Through (by_meter_passes p ss c i ipv f.meter eligible h)
+by_answer_passes p ss c f gate.Closed ipv eligible h = absurd (cc)
+by_answer_passes p ss c f gate.ShutByRx ipv eligible h = absurd (cc)
+by_answer_passes p ss c f gate.ShutByOctets ipv eligible h = absurd (cc)
+by_answer_passes p ss c f gate.OctetsExceeded ipv eligible h = absurd (cc)
+
+unrefused : (a b : Bool) (v : Verdict) (ipv : Option ℕ) (eligible : Bool) → cond a verdict.Blocked (cond b verdict.Oversize v) ≡ verdict.Pass ipv eligible → v ≡ verdict.Pass ipv eligible
+unrefused true b v ipv eligible h = absurd (cc)
+unrefused false true v ipv eligible h = absurd (cc)
+unrefused false false v ipv eligible h = h
+
+-- a frame that passes came through its gate by an open entry at that moment
+let_by_verdict : (p : Plans) (ss : List Step) (c : Call) (n : ℕ) (f : FilterPlan) (ipv : Option ℕ) (eligible : Bool) → verdict_of p ss c n f ≡ verdict.Pass ipv eligible → IsLet (p.gates f.gate) c.at ipv
+let_by_verdict p ss c n f ipv eligible h =
+    let v = unrefused (f.block_oversize && is_blocked n ss) (is_above f.max_sdu c.sdu) (by_answer p ss c f (gate_answer p ss c f.gate)) ipv eligible h in
+    let_through (p.gates f.gate) (steps (p.gates f.gate) (gate_share f.gate ss)) c.at c.sdu ipv (by_answer_passes p ss c f (gate_answer p ss c f.gate) ipv eligible v)
+
+-- ENTRIES
+
+in_map : {X Y : Type 0} (g : X → Y) (xs : List X) (x : X) → In x xs → In (g x) (map g xs)
+in_map g [] x i = absurd i
+in_map g (y ∷ ys) x (inl e) = inl (ap g e)
+in_map g (y ∷ ys) x (inr i) = inr (in_map g ys x i)
+
+pub record IsEntry (es : List GateEntry) (e : GateEntry) : Type 0 where
+  pub listed : In e es
+  pub priority : schedules.is_priority e.ipv ≡ true
+
+entry_of : {A : Type 0} (s : Schedule A) (t : ℕ) (x : Turn GateEntry) → schedules.turn_at s t ≡ Some x → schedules.has_priorities s ≡ true → IsEntry (entries_of s) x.state
+entry_of (schedule.Fixed lets ipv) t x h has =
+    let same : record { lets = lets; ipv = ipv; octets = None } ≡ x.state = ap (λ y. y.state) (same_Some _ _ h) in
+    record { listed = inl (sym same); priority = subst (λ (e : GateEntry). schedules.is_priority e.ipv ≡ true) same has }
+entry_of (schedule.Cyclic l) t x h has =
+    let (e, i, same) = among l t x h in
+    let own : schedules.is_priority e.0.ipv ≡ true = each_passes (λ (y : GateEntry × ℕ). schedules.is_priority y.0.ipv) l.entries e has i in
+    record {
+      listed = subst (λ (z : GateEntry). In z (map (λ (y : GateEntry × ℕ). y.0) l.entries)) same (in_map (λ (y : GateEntry × ℕ). y.0) l.entries e i);
+      priority = subst (λ (z : GateEntry). schedules.is_priority z.ipv ≡ true) same own;
+    }
+
+lookup_by : {A : Type 0} (b : Bool) (x : ℕ × GatePlan A) (xs : List (ℕ × GatePlan A)) (n : ℕ) (g : GatePlan A) → (schedules.has_priorities x.1.schedule && list_all (λ (y : ℕ × GatePlan A). schedules.has_priorities y.1.schedule) xs) ≡ true → cond b (Some x.1) (lookup (nat_eq n) xs) ≡ Some g → (list_all (λ (y : ℕ × GatePlan A). schedules.has_priorities y.1.schedule) xs ≡ true → lookup (nat_eq n) xs ≡ Some g → schedules.has_priorities g.schedule ≡ true) → schedules.has_priorities g.schedule ≡ true
+lookup_by {A} true x xs n g all h more = let (here, rest) = and_parts (schedules.has_priorities x.1.schedule) (list_all (λ (y : ℕ × GatePlan A). schedules.has_priorities y.1.schedule) xs) all in subst (λ (z : GatePlan A). schedules.has_priorities z.schedule ≡ true) (same_Some _ _ h) here
+lookup_by {A} false x xs n g all h more = let (here, rest) = and_parts (schedules.has_priorities x.1.schedule) (list_all (λ (y : ℕ × GatePlan A). schedules.has_priorities y.1.schedule) xs) all in more rest h
+
+looked_up : {A : Type 0} (gates : List (ℕ × GatePlan A)) (n : ℕ) (g : GatePlan A) → list_all (λ (y : ℕ × GatePlan A). schedules.has_priorities y.1.schedule) gates ≡ true → lookup (nat_eq n) gates ≡ Some g → schedules.has_priorities g.schedule ≡ true
+looked_up [] n g all h = absurd (cc)
+looked_up (x ∷ xs) n g all h = lookup_by (nat_eq n x.0) x xs n g all h (looked_up xs n g)
+
+gate_entry : {A : Type 0} (o : Option (GatePlan A)) (t : ℕ) (x : Turn GateEntry) → ((g : GatePlan A) → o ≡ Some g → schedules.has_priorities g.schedule ≡ true) → (gate_or_closed o).turn_at t ≡ Some x → IsEntry (entries_if o) x.state
+gate_entry None t x has h = absurd (cc)
+gate_entry (Some g) t x has h = entry_of g.schedule t x h (has g refl)
+
+value_of : (ipv own : Option ℕ) (k : ℕ) → takes_priority own k ≡ true → has_value ipv own (unwrap_or ipv k) ≡ true
+value_of (Some i) own k h = same_eq i
+value_of None None k h = refl
+value_of None (Some j) k h = h
+
+small_of : (ipv : Option ℕ) (k : ℕ) → schedules.is_priority ipv ≡ true → k ≤ 7 → unwrap_or ipv k < 8
+small_of None k h le = omega (arith, le)
+small_of (Some i) k h le = let most = at_most i h in omega (arith, most)
+ where
+  at_most : (i : ℕ) → nat_le i 7 ≡ true → i ≤ 7
+  at_most i h = grind (arith, nat_tests)
+
+pub sound : {A : Type 0} (p : Plan A) (port out : PortPlan A) (head : Head) (at octets n : ℕ) (f : FilterPlan) (ss : List Step) (ipv : Option ℕ) (eligible : Bool)
+    → IsPlan p
+    → port_at p.ports out.number ≡ Some out
+    → priority_of port head.tag ≤ 7
+    → has (forward p.database port.number (vid_of port head.tag) head.da) out.number ≡ true
+    → flow p.filters (call_of p port at head octets) ≡ Some (n, f)
+    → verdict_of (plans_of p.filters p.gates p.meters) ss (call_of p port at head octets) n f ≡ verdict.Pass ipv eligible
+    → reaches p f out.number (class_of out ipv (priority_of port head.tag)) ≡ true
+sound {A} p port out head at octets n f ss ipv eligible plan there few goes flows passes =
+    let c = call_of p port at head octets in
+    let k = priority_of port head.tag in
+    let (handle, priority) = and_parts (takes_handle f.handle c.handle) (takes_priority f.priority k) (matches p.filters c (n, f) flows) in
+    let gone : reaches_port p f.handle out.number ≡ true = port_reached p port head out.number f.handle goes handle in
+    let through = let_by_verdict (plans_of p.filters p.gates p.meters) ss c n f ipv eligible passes in
+    let entry = gate_entry (lookup (nat_eq f.gate) p.gates) at through.turn (λ g e. looked_up p.gates f.gate g plan.gates.priorities e) through.at in
+    let own : schedules.is_priority ipv ≡ true = subst (λ (i : Option ℕ). schedules.is_priority i ≡ true) through.ipv_is entry.priority in
+    let value : has_value through.turn.state.ipv f.priority (unwrap_or ipv k) ≡ true = rw through.ipv_is (value_of ipv f.priority k priority) in
+    let given : gives through.turn.state f.priority (unwrap_or ipv k) ≡ true = rw (through.lets, value) refl in
+    let open_for : reaches_priority p f (unwrap_or ipv k) ≡ true = passes_any (λ (e : GateEntry). gives e f.priority (unwrap_or ipv k)) (entries_at p.gates f.gate) through.turn.state entry.listed given in
+    let both : (reaches_priority p f (unwrap_or ipv k) && nat_eq (slice_index out.classes (unwrap_or ipv k)) (class_of out ipv k)) ≡ true = rw (open_for, same_eq (class_of out ipv k)) refl in
+    let class : reaches_class p f (Some out) (class_of out ipv k) ≡ true = below_any 8 (unwrap_or ipv k) (λ j. reaches_priority p f j && nat_eq (slice_index out.classes j) (class_of out ipv k)) (small_of ipv k own few) both in
+    rw (gone, there) class
