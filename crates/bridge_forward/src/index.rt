@@ -28,7 +28,8 @@ fn keep_first<K: Copy + Eq + Hash, A: Allocator + Copy>(
     key: K,
     ports: PortSet,
 ) -> Result<(), AllocError>
-    ensures { OnOk result ((k : K) → get K.eq index.new k ≡ option_or (get K.eq index.old k) (if K.eq key k then Some ports else None)) }
+    ensures { OnOk result ((k : K)
+        → get K.eq index.new k ≡ option_or (get K.eq index.old k) (if K.eq key k then Some ports else None)) }
 {
     if index.get(&key).is_none() {
         index.insert(key, ports)?;

@@ -8,6 +8,8 @@ mod cycle;
 #[cfg(test)]
 mod filter;
 #[cfg(test)]
+mod forward;
+#[cfg(test)]
 mod frame;
 #[cfg(test)]
 mod gate;
