@@ -14,6 +14,8 @@ mod policing;
 #[cfg(test)]
 mod ports;
 #[cfg(test)]
+mod readers;
+#[cfg(test)]
 mod streams;
 #[cfg(test)]
 mod whole;
