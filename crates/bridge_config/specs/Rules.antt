@@ -8,7 +8,7 @@ use Rattle.bridge_gate.specs.declared.schedule.GatePlan.{GatePlan}
 use Rattle.bridge_gate.specs.Schedules as schedules
 use Rattle.bridge_ident.specs.declared.StreamEntry.{StreamEntry}
 use Rattle.bridge_filter.specs.declared.FilterPlan.{FilterPlan}
-use Rattle.bridge_filter.specs.Plans.{are_distinct, is_there, have_instances, all_have_priorities, all_within_limits}
+use Rattle.bridge_filter.specs.Plans.{are_distinct, have_instances, all_have_priorities, all_within_limits}
 use Rattle.std.specs.Str.{bytes_eq}
 use Rattle.bridge_forward.specs.declared.Vlan.{Vlan}
 use Rattle.bridge_forward.specs.declared.StaticEntry.{StaticEntry}

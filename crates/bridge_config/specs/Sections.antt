@@ -1,9 +1,7 @@
 -- The sections of a plan, key by key in the order of the table of keys.
-use Rattle.std.specs.Prelude.{◌≡◌, ℕ, ◌*◌, ◌-◌, ◌^◌, Bool, true, false, not, ◌&&◌, List, [], ◌∷◌, ◌++◌, Option, Some, None, Result, Ok, Err, nat_eq, replicate, if◌then◌else◌}
-use Rattle.std.specs.List.{list_any}
+use Rattle.std.specs.Prelude.{ℕ, ◌*◌, ◌-◌, ◌^◌, Bool, true, false, not, ◌&&◌, List, [], ◌∷◌, ◌++◌, Option, Some, None, Result, Ok, Err, replicate}
 use Rattle.toml.specs.Data.{Members, get_member}
 use Rattle.bridge_cycle.specs.Cyclic.{Cyclic, fault_of}
-use Rattle.bridge_cycle.specs.declared.cyclic.ListFault.{ListFault}
 use Rattle.bridge_meter.specs.declared.MeterPlan.{MeterPlan}
 use Rattle.bridge_gate.specs.declared.schedule.GateEntry.{GateEntry}
 use Rattle.bridge_gate.specs.declared.schedule.GatePlan.{GatePlan}
@@ -59,9 +57,11 @@ port_entry place members = do
   ns ← required place field.Ns (between 0 (2 ^ 63 - 1)) members
   Ok (classes, ns)
 
+-- the keys that a port may have
 abbrev pub port_keys : Members → List Field
 port_keys members = field.Number ∷ field.Mbps ∷ field.Vid ∷ field.Priority ∷ field.Classes ∷ field.Rooms ∷ field.Gates ∷ with_key field.Gates (field.Base ∷ field.Cycle ∷ []) members
 
+-- whether a table has no key but those of a port, and each entry of its list none but its own
 abbrev pub has_port_keys : Members → Bool
 has_port_keys members = are_known (port_keys members) members && are_known_at (field.Open ∷ field.Ns ∷ []) (get_member (key_of field.Gates) members)
 
@@ -74,6 +74,7 @@ port_list index members =
       gates ← list_at (at field.Gates) (port_entry (at field.Gates)) (get_member (key_of field.Gates) members)
       list_if section.Port index base cycle gates
 
+-- a port, by those before it and its place
 unfoldable pub port_at : {A : Type 0} → List (PortPlan A) → ℕ → Members → Result (PortPlan A) PlanFault
 port_at ports index members =
     let at : Field → Place = λ key. record { section = section.Port; index = index; field = key } in do
@@ -90,9 +91,11 @@ port_at ports index members =
 
 -- VLAN
 
+-- whether a table has no key but those of a VLAN
 abbrev pub has_vlan_keys : Members → Bool
 has_vlan_keys members = are_known (field.Vid ∷ field.Members ∷ []) members
 
+-- a VLAN, by the set of all ports, the VLANs before it and its place
 unfoldable pub vlan_at : ℕ → List Vlan → ℕ → Members → Result Vlan PlanFault
 vlan_at all vlans index members =
     let at : Field → Place = λ key. record { section = section.Vlan; index = index; field = key } in do
@@ -104,9 +107,11 @@ vlan_at all vlans index members =
 
 -- STATIC
 
+-- whether a table has no key but those of a static entry
 abbrev pub has_static_keys : Members → Bool
 has_static_keys members = are_known (field.Vid ∷ field.Address ∷ field.Ports ∷ []) members
 
+-- a static entry, by the set of all ports, the VLANs, the entries before it and its place
 unfoldable pub static_at : ℕ → List Vlan → List StaticEntry → ℕ → Members → Result StaticEntry PlanFault
 static_at all vlans statics index members =
     let at : Field → Place = λ key. record { section = section.Static; index = index; field = key } in do
@@ -119,9 +124,11 @@ static_at all vlans statics index members =
 
 -- STREAM
 
+-- whether a table has no key but those of a stream
 abbrev pub has_stream_keys : Members → Bool
 has_stream_keys members = are_known (field.Handle ∷ field.Port ∷ field.Kind ∷ field.Address ∷ field.Vid ∷ field.Tag ∷ []) members
 
+-- a stream, by the ports and its place
 unfoldable pub stream_at : {A : Type 0} → List (PortPlan A) → List StreamEntry → ℕ → Members → Result StreamEntry PlanFault
 stream_at ports earlier index members =
     let at : Field → Place = λ key. record { section = section.Stream; index = index; field = key } in do
@@ -145,11 +152,13 @@ gate_entry place members = do
   octets ← optional place field.Octets (between 0 4294967295) members
   Ok (record { lets = lets; ipv = ipv; octets = octets }, ns)
 
+-- the keys that a gate may have
 abbrev pub gate_keys : Members → List Field
 gate_keys members =
     field.Number ∷ field.ShutOnRx ∷ field.ShutOnOctets ∷ field.Entries
     ∷ (without_key field.Entries (field.State ∷ field.Ipv ∷ []) members ++ with_key field.Entries (field.Base ∷ field.Cycle ∷ []) members)
 
+-- whether a table has no key but those of a gate, and each entry of its list none but its own
 abbrev pub has_gate_keys : Members → Bool
 has_gate_keys members = are_known (gate_keys members) members && are_known_at (field.Open ∷ field.Ns ∷ field.Ipv ∷ field.Octets ∷ []) (get_member (key_of field.Entries) members)
 
@@ -167,6 +176,7 @@ abbrev pub schedule_of : {A : Type 0} → Bool → Option ℕ → Option (Cyclic
 schedule_of lets ipv None = schedule.Fixed lets ipv
 schedule_of lets ipv (Some list) = schedule.Cyclic list
 
+-- a gate with its number, by those before it and its place
 unfoldable pub gate_at : {A : Type 0} → List (ℕ × GatePlan A) → ℕ → Members → Result (ℕ × GatePlan A) PlanFault
 gate_at gates index members =
     let at : Field → Place = λ key. record { section = section.Gate; index = index; field = key } in do
@@ -182,9 +192,11 @@ gate_at gates index members =
 
 -- METER
 
+-- whether a table has no key but those of a meter
 abbrev pub has_meter_keys : Members → Bool
 has_meter_keys members = are_known (field.Number ∷ field.Cir ∷ field.Cbs ∷ field.Eir ∷ field.Ebs ∷ field.Coupling ∷ field.Colour ∷ field.DropYellow ∷ field.MarkAllRed ∷ []) members
 
+-- a meter with its number, by those before it and its place
 unfoldable pub meter_at : List (ℕ × MeterPlan) → ℕ → Members → Result (ℕ × MeterPlan) PlanFault
 meter_at meters index members =
     let at : Field → Place = λ key. record { section = section.Meter; index = index; field = key } in do
@@ -203,9 +215,11 @@ meter_at meters index members =
 
 -- FILTER
 
+-- whether a table has no key but those of a filter
 abbrev pub has_filter_keys : Members → Bool
 has_filter_keys members = are_known (field.Number ∷ field.Handle ∷ field.Priority ∷ field.Gate ∷ field.MaxSdu ∷ field.Meter ∷ field.BlockOversize ∷ field.Protected ∷ []) members
 
+-- a filter with its number, by the gates, the meters, the filters before it and its place
 unfoldable pub filter_at : {A : Type 0} → List (ℕ × GatePlan A) → List (ℕ × MeterPlan) → List (ℕ × FilterPlan) → ℕ → Members → Result (ℕ × FilterPlan) PlanFault
 filter_at gates meters filters index members =
     let at : Field → Place = λ key. record { section = section.Filter; index = index; field = key } in do

@@ -48,12 +48,7 @@ impl Entry for Turns {
                 high: LARGEST,
             },
         )?;
-        let ipv = optional(
-            table,
-            self.place,
-            Field::Ipv,
-            &Between { low: 0, high: 7 },
-        )?;
+        let ipv = optional(table, self.place, Field::Ipv, &Between { low: 0, high: 7 })?;
         let octets = optional(
             table,
             self.place,

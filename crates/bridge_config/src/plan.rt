@@ -164,10 +164,7 @@ impl<A: Allocator + Copy> Model for Policing<A> {
 
 /// The gates, meters and filters of the arrays of a document.
 #[tactic(auto, unfolding(crate::specs::Document::policing_of))]
-fn policing_of<A: Allocator + Copy>(
-    alloc: A,
-    arrays: Arrays<'_>,
-) -> Result<Policing<A>, PlanFault>
+fn policing_of<A: Allocator + Copy>(alloc: A, arrays: Arrays<'_>) -> Result<Policing<A>, PlanFault>
     requires { AreFew arrays }
     ensures { Gives result (doc.policing_of (items_of_arrays arrays.entry)) }
 {

@@ -1,5 +1,5 @@
-use Rattle.std.proofs.Common.{◌≡◌, ◌≤◌, ◌∙◌, sym, refl, true}
-use Rattle.bridge_filter.specs.Plans.{is_there, is_there_if_any}
+use Rattle.std.proofs.Common.{◌≡◌, ◌∙◌, sym, refl, true}
+use Rattle.bridge_filter.specs.Plans.{is_there_if_any}
 use Rattle.bridge_config.proofs.Own.{there_if_any}
 use Rattle.bridge_config.proofs.filters.filter_of.Goals as goal
 

@@ -1,4 +1,3 @@
-use Rattle.std.proofs.Common.{refl}
 use Rattle.std.proofs.lemmas.List.Sums.{list_all-from_AllPass}
 use Rattle.bridge_gate.specs.Schedules.{is_priority}
 use Rattle.bridge_config.proofs.gates.schedule_of.Goals as goal

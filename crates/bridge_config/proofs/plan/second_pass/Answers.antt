@@ -1,7 +1,5 @@
-use Rattle.std.proofs.Common.{◌≡◌, ℕ, List, ◌∙◌, sym, ap, subst, arith, All}
-use Rattle.bridge_forward.specs.declared.Vlan.{Vlan}
-use Rattle.bridge_forward.specs.declared.StaticEntry.{StaticEntry}
-use Rattle.bridge_config.specs.Rules.{port_set, AreVlans, AreStatics, IsStream}
+use Rattle.std.proofs.Common.{◌≡◌, ℕ, ◌∙◌, sym, ap, subst, arith}
+use Rattle.bridge_config.specs.Rules.{port_set, AreVlans, AreStatics}
 use Rattle.bridge_config.proofs.Counts.{as_many}
 use Rattle.bridge_config.proofs.plan.second_pass.Goals as goal
 

@@ -1,0 +1,132 @@
+-- The base plan by computation, and the fault of each of some changes: a text in pieces, one of them replaced.
+use Rattle.std.proofs.Common.{◌≡◌, ℕ, true, false, List, [], ◌∷◌, ◌++◌, codes, map, Some, None, Result, Ok, Err, refl}
+use Rattle.std.specs.Str.{is_utf8, chars}
+use Rattle.std.specs.Str.Lossy.{utf8_valid_len}
+use Rattle.toml.proofs.OnLiterals.{toml_on_literals}
+use Rattle.bridge_cycle.specs.declared.cyclic.ListFault.TheVariants.{OverCycle}
+use Rattle.bridge_filter.specs.declared.FilterPlan.{FilterPlan}
+use Rattle.bridge_keys.specs.declared.fault.PlanFault.{PlanFault}
+use Rattle.bridge_keys.specs.declared.fault.PlanFault.TheVariants as fault
+use Rattle.bridge_keys.specs.declared.fault.Section.TheVariants as section
+use Rattle.bridge_keys.specs.declared.fault.Field.TheVariants as field
+use Rattle.bridge_keys.specs.Readers.{required, optional, default_to, between, switch, known, speed, text, numbers, set_of, eight, ports_of, list_of}
+use Rattle.bridge_keys.specs.Texts.{address_of}
+use Rattle.bridge_config.specs.Model.{Plan}
+use Rattle.bridge_config.specs.Sections.{port_at, port_list, vlan_at, static_at, stream_at, gate_at, gate_list, meter_at, filter_at}
+use Rattle.bridge_config.specs.Document.{first_pass, policing_of, second_pass, document_of, plan_of_text}
+
+-- THE PIECES
+
+-- a port
+abbrev port_1 : List ℕ
+port_1 = codes "[[port]]\nnumber = 1\nmbps = 1000\nrooms = [4, 4, 4, 4, 4, 4, 4, 4]\n"
+
+-- another one
+abbrev port_2 : List ℕ
+port_2 = codes "[[port]]\nnumber = 2\nmbps = 1000\nrooms = [4, 4, 4, 4, 4, 4, 4, 4]\n"
+
+-- the third port, by the length of its cycle
+abbrev port_3 : List ℕ → List ℕ
+port_3 cycle = codes "[[port]]\nnumber = 3\nmbps = 1000\nrooms = [4, 4, 4, 4, 4, 4, 4, 4]\ncycle = " ++ cycle ++ codes "\ngates = [{ open = [7], ns = 500000 }, { open = [0, 1, 2, 3, 4, 5, 6], ns = 500000 }]\n"
+
+-- the three ports
+abbrev ports : List ℕ
+ports = port_1 ++ port_2 ++ port_3 (codes "1000000")
+
+-- a VLAN, by its members
+abbrev vlan : List ℕ → List ℕ
+vlan members = codes "[[vlan]]\nvid = 10\nmembers = " ++ members ++ codes "\n"
+
+-- a static entry, by its address
+abbrev entry : List ℕ → List ℕ
+entry address = codes "[[static]]\nvid = 10\naddress = \"" ++ address ++ codes "\"\nports = [3]\n"
+
+-- where frames go
+abbrev forwarding : List ℕ
+forwarding = vlan (codes "[1, 2, 3]") ++ entry (codes "02-00-00-00-00-0A")
+
+-- a stream
+abbrev stream : List ℕ
+stream = codes "[[stream]]\nhandle = 1\nport = 1\nkind = \"null\"\naddress = \"02-00-00-00-00-0A\"\nvid = 10\ntag = \"tagged\"\n"
+
+-- the first gate, by a line of its own
+abbrev gates : List ℕ → List ℕ
+gates line = codes "[[gate]]\nnumber = 1\n" ++ line ++ codes "cycle = 1000000\nentries = [{ open = true, ns = 300000, ipv = 7, octets = 600 }, { open = false, ns = 700000 }]\n[[gate]]\nnumber = 99\nstate = \"open\"\nipv = 0\n"
+
+-- the filters, the first by its gate
+abbrev filters : List ℕ → List ℕ
+filters gate = codes "[[filter]]\nnumber = 10\nhandle = 1\ngate = " ++ gate ++ codes "\nmax_sdu = 500\nprotected = true\n[[filter]]\nnumber = 99\ngate = 99\n"
+
+-- all but ports, VLAN and entry
+abbrev rest : List ℕ
+rest = stream ++ gates [] ++ filters (codes "1")
+
+-- the plan of a text
+abbrev plan : List ℕ → Result (Plan (Unit {0})) PlanFault
+plan t = plan_of_text t
+
+-- what is seen of a plan: the numbers of its ports, of its gates, and its filters
+abbrev seen : Result (Plan (Unit {0})) PlanFault → List ℕ × List ℕ × List (ℕ × FilterPlan)
+seen (Ok p) = (map (λ q. q.number) p.ports, map (λ g. g.0) p.gates, p.filters)
+seen (Err e) = ([], [], [])
+
+-- THE PLAN
+
+base : seen (plan (ports ++ forwarding ++ rest)) ≡ (
+  1 ∷ 2 ∷ 3 ∷ [],
+  1 ∷ 99 ∷ [],
+  (10, record { handle = Some 1; priority = None; gate = 1; max_sdu = Some 500; meter = None; block_oversize = false; protected = true })
+      ∷ (99, record { handle = None; priority = None; gate = 99; max_sdu = None; meter = None; block_oversize = false; protected = false }) ∷ [],
+)
+unfolding toml_on_literals utf8_valid_len is_utf8 chars document_of first_pass second_pass policing_of port_at port_list vlan_at static_at stream_at gate_at gate_list meter_at filter_at required optional default_to between switch known speed text numbers set_of eight ports_of list_of address_of
+base = refl
+
+-- FAULTS
+
+no_ports : plan (codes "") ≡ Err (fault.NoPorts)
+unfolding toml_on_literals utf8_valid_len is_utf8 chars document_of first_pass
+no_ports = refl
+
+unknown_at_the_top : plan (codes "ports = []\n") ≡ Err (fault.UnknownKey section.Top 0)
+unfolding toml_on_literals utf8_valid_len is_utf8 chars document_of first_pass
+unknown_at_the_top = refl
+
+no_list : plan (codes "port = 3\n") ≡ Err (fault.NotAList section.Port)
+unfolding toml_on_literals utf8_valid_len is_utf8 chars document_of first_pass
+no_list = refl
+
+no_speed : plan (codes "[[port]]\nnumber = 1\n" ++ port_2 ++ forwarding ++ rest) ≡ Err (fault.Missing (record { section = section.Port; index = 1; field = field.Mbps }))
+unfolding toml_on_literals utf8_valid_len is_utf8 chars document_of first_pass second_pass policing_of port_at port_list vlan_at static_at stream_at gate_at gate_list meter_at filter_at required optional default_to between switch known speed text numbers set_of eight ports_of list_of address_of
+no_speed = refl
+
+speed_out_of_range : plan (codes "[[port]]\nnumber = 1\nmbps = 42\n" ++ port_2 ++ forwarding ++ rest) ≡ Err (fault.OutOfRange (record { section = section.Port; index = 1; field = field.Mbps }))
+unfolding toml_on_literals utf8_valid_len is_utf8 chars document_of first_pass second_pass policing_of port_at port_list vlan_at static_at stream_at gate_at gate_list meter_at filter_at required optional default_to between switch known speed text numbers set_of eight ports_of list_of address_of
+speed_out_of_range = refl
+
+speed_of_another_kind : plan (codes "[[port]]\nnumber = 1\nmbps = \"x\"\n" ++ port_2 ++ forwarding ++ rest) ≡ Err (fault.WrongKind (record { section = section.Port; index = 1; field = field.Mbps }))
+unfolding toml_on_literals utf8_valid_len is_utf8 chars document_of first_pass second_pass policing_of port_at port_list vlan_at static_at stream_at gate_at gate_list meter_at filter_at required optional default_to between switch known speed text numbers set_of eight ports_of list_of address_of
+speed_of_another_kind = refl
+
+two_of_a_number : plan (port_1 ++ port_1 ++ forwarding ++ rest) ≡ Err (fault.Duplicate section.Port 2)
+unfolding toml_on_literals utf8_valid_len is_utf8 chars document_of first_pass second_pass policing_of port_at port_list vlan_at static_at stream_at gate_at gate_list meter_at filter_at required optional default_to between switch known speed text numbers set_of eight ports_of list_of address_of
+two_of_a_number = refl
+
+no_such_member : plan (ports ++ vlan (codes "[1, 2, 4]") ++ rest) ≡ Err (fault.Unresolved (record { section = section.Vlan; index = 1; field = field.Members }))
+unfolding toml_on_literals utf8_valid_len is_utf8 chars document_of first_pass second_pass policing_of port_at port_list vlan_at static_at stream_at gate_at gate_list meter_at filter_at required optional default_to between switch known speed text numbers set_of eight ports_of list_of address_of
+no_such_member = refl
+
+five_pairs : plan (ports ++ vlan (codes "[1, 2, 3]") ++ entry (codes "02-00-00-00-0A") ++ rest) ≡ Err (fault.OutOfRange (record { section = section.Static; index = 1; field = field.Address }))
+unfolding toml_on_literals utf8_valid_len is_utf8 chars document_of first_pass second_pass policing_of port_at port_list vlan_at static_at stream_at gate_at gate_list meter_at filter_at required optional default_to between switch known speed text numbers set_of eight ports_of list_of address_of
+five_pairs = refl
+
+over_the_cycle : plan (port_1 ++ port_2 ++ port_3 (codes "999999") ++ forwarding ++ rest) ≡ Err (fault.BadList section.Port 3 OverCycle)
+unfolding toml_on_literals utf8_valid_len is_utf8 chars document_of first_pass second_pass policing_of port_at port_list vlan_at static_at stream_at gate_at gate_list meter_at filter_at required optional default_to between switch known speed text numbers set_of eight ports_of list_of address_of
+over_the_cycle = refl
+
+state_beside_entries : plan (ports ++ forwarding ++ stream ++ gates (codes "state = \"open\"\n") ++ filters (codes "1")) ≡ Err (fault.UnknownKey section.Gate 1)
+unfolding toml_on_literals utf8_valid_len is_utf8 chars document_of first_pass second_pass policing_of port_at port_list vlan_at static_at stream_at gate_at gate_list meter_at filter_at required optional default_to between switch known speed text numbers set_of eight ports_of list_of address_of
+state_beside_entries = refl
+
+no_such_gate : plan (ports ++ forwarding ++ stream ++ gates [] ++ filters (codes "5")) ≡ Err (fault.Unresolved (record { section = section.Filter; index = 1; field = field.Gate }))
+unfolding toml_on_literals utf8_valid_len is_utf8 chars document_of first_pass second_pass policing_of port_at port_list vlan_at static_at stream_at gate_at gate_list meter_at filter_at required optional default_to between switch known speed text numbers set_of eight ports_of list_of address_of
+no_such_gate = refl
