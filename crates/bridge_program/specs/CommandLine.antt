@@ -22,9 +22,13 @@ abbrev pub wire_command : App
 wire_command = with_rule (with_rule (with_rule (with_rule (new_app (codes "wire"))
     (word_named (codes "mbps"))) (word_named (codes "room"))) (word_named (codes "input"))) (word_named (codes "output"))
 
+-- `check PLAN`
+abbrev pub check_command : App
+check_command = with_rule (new_app (codes "check")) (word_named (codes "plan"))
+
 -- the commands, by words that don't begin with the program's name
 abbrev pub commands : App
-commands = with_subcommand (on_top (λ s. record s { no_binary_name = true }) (new_app (codes "tsnbridge"))) wire_command.top
+commands = with_subcommand (with_subcommand (on_top (λ s. record s { no_binary_name = true }) (new_app (codes "tsnbridge"))) wire_command.top) check_command.top
 
 -- the fault of words that `clap` refuses
 abbrev pub fault_of_kind : ErrorKind → Fault
@@ -48,18 +52,32 @@ pub record AsksForWire (values : List Row) (speed : Speed) (room : ℕ) (input o
   pub input_is : first_of (codes "input") values ≡ Some input
   pub output_is : first_of (codes "output") values ≡ Some output
 
+-- the value of `check` is this path
+abbrev pub AsksForCheck : List Row → Text → Type 0
+AsksForCheck values plan = first_of (codes "plan") values ≡ Some plan
+
 -- a job of `wire`, by the values of the command
 abbrev pub IsWireJob : List Row → Job → Type 0
 IsWireJob values job.Text = ⊥
+IsWireJob values (job.Check plan) = ⊥
 IsWireJob values (job.Wire speed room input output) = AsksForWire values speed room (string_bytes input) (string_bytes output)
+
+-- a job of `check`, by the values of the command
+abbrev pub IsCheckJob : List Row → Job → Type 0
+IsCheckJob values job.Text = ⊥
+IsCheckJob values (job.Wire speed room input output) = ⊥
+IsCheckJob values (job.Check plan) = AsksForCheck values (string_bytes plan)
 
 -- the words ask for this job
 abbrev pub AsksFor : List Text → Job → Type 0
 AsksFor words job.Text = words ≡ []
 AsksFor words (job.Wire speed room input output) =
     (values : List Row) × Names words (codes "wire") values × AsksForWire values speed room (string_bytes input) (string_bytes output)
+AsksFor words (job.Check plan) =
+    (values : List Row) × Names words (codes "check") values × AsksForCheck values (string_bytes plan)
 
 -- the room of a job's queue, if it has one, is 1 to 4096
 abbrev pub HasRoom : Job → Type 0
 HasRoom job.Text = Unit {0}
+HasRoom (job.Check plan) = Unit {0}
 HasRoom (job.Wire speed room input output) = (1 ≤ room) × (room ≤ 4096)

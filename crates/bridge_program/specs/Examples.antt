@@ -36,6 +36,25 @@ pub wire_output : option_map (λ p. first_of (codes "output") p.1) (subcommand_o
 unfolding clap_on_literals
 wire_output = refl
 
+-- `check plan.toml`
+abbrev check_words : List Text
+check_words = codes "check" ∷ codes "plan.toml" ∷ []
+
+-- nothing is wrong with these words
+pub check_faultless : fault_of commands check_words ≡ []
+unfolding clap_on_literals
+check_faultless = refl
+
+-- they name `check`
+pub check_named : option_map (λ p. p.0) (subcommand_of commands check_words) ≡ Some (codes "check")
+unfolding clap_on_literals
+check_named = refl
+
+-- the value goes by its name
+pub check_plan : option_map (λ p. first_of (codes "plan") p.1) (subcommand_of commands check_words) ≡ Some (Some (codes "plan.toml"))
+unfolding clap_on_literals
+check_plan = refl
+
 -- a missing word, a word too many, a request for help or for a version
 pub one_missing : fault_of commands (codes "wire" ∷ codes "1000" ∷ codes "4" ∷ codes "a.pcap" ∷ []) ≡ MissingRequiredArgument ∷ []
 unfolding clap_on_literals

@@ -2,6 +2,8 @@ pub mod Text
 pub mod Status
 pub mod Lines
 pub mod PlanLines
+pub mod CheckLines
+pub mod Accepting
 pub mod Numbers
 pub mod CommandLine
 pub mod Counts

@@ -6,6 +6,8 @@ use Rattle.bridge_core.specs.declared.fault.RunFault.{RunFault}
 use Rattle.bridge_core.specs.declared.fault.RunFault.TheVariants as run
 use Rattle.bridge_cycle.specs.declared.cyclic.ListFault.{ListFault}
 use Rattle.bridge_cycle.specs.declared.cyclic.ListFault.TheVariants as list
+use Rattle.bridge_check.specs.declared.fault.CheckFault.{CheckFault}
+use Rattle.bridge_check.specs.declared.fault.CheckFault.TheVariants as check
 use Rattle.bridge_keys.specs.declared.fault.PlanFault.{PlanFault}
 use Rattle.bridge_keys.specs.declared.fault.PlanFault.TheVariants as plan
 use Rattle.bridge_program.specs.declared.fault.TextFault.{TextFault}
@@ -41,10 +43,16 @@ status_of_plan (plan.BadList section index f) = status_of_list f
 status_of_plan plan.NoMemory = 3
 status_of_plan f = 1
 
+-- a plan that doesn't isolate a protected filter, unless memory failed
+abbrev pub status_of_check : CheckFault → ℕ
+status_of_check check.NoMemory = 3
+status_of_check f = 1
+
 -- the status of a fault: 1 for a plan, 2 for a text or a capture, 3 for a file, a device or memory, 4 for the command line
 abbrev pub status_of : Fault → ℕ
 status_of (fault.Text f) = status_of_text f
 status_of (fault.Run f) = status_of_run f
 status_of (fault.Plan f) = status_of_plan f
+status_of (fault.Check f) = status_of_check f
 status_of fault.Words = 4
 status_of (fault.File path) = 3

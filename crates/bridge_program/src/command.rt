@@ -2,7 +2,7 @@
 ghost use Rattle.std.specs.Prelude.{◌≡◌, ◌≢◌, [], IfOk, IfErr, false, map, string_bytes, codes};
 ghost use Rattle.clap.specs.Words.{app_of, fault_of, kind_of, rule_of, subcommand_of, subcommand_rows_of};
 ghost use Rattle.clap.specs.declared.builder.command.Command.TheViews.{out-Command as fields_of};
-ghost use Rattle.bridge_program.specs.CommandLine.{commands, wire_command, word_named};
+ghost use Rattle.bridge_program.specs.CommandLine.{check_command, commands, wire_command, word_named};
 
 use clap::error::ErrorKind;
 use clap::{Arg, ArgMatches, Command, Error};
@@ -23,9 +23,11 @@ fn commands_of<'a>(alloc: Global) -> Result<Command<'a>, AllocError>
     ensures { IfOk result (λ c. app_of c ≡ commands) }
 {
     let wire = wire_of(alloc)?;
+    let check = check_of(alloc)?;
     Command::new(alloc, "tsnbridge")
         .no_binary_name(true)
-        .subcommand(wire)
+        .subcommand(wire)?
+        .subcommand(check)
 }
 
 /// `wire MBPS ROOM IN OUT`.
@@ -38,6 +40,14 @@ fn wire_of<'a>(alloc: Global) -> Result<Command<'a>, AllocError>
         .arg(word(alloc, "room"))?
         .arg(word(alloc, "input"))?
         .arg(word(alloc, "output"))
+}
+
+/// `check PLAN`.
+fn check_of<'a>(alloc: Global) -> Result<Command<'a>, AllocError>
+    ensures command { IfOk result (λ c. app_of c ≡ check_command) }
+    ensures local { IfOk result (λ c. (fields_of c).has_globals ≡ false) }
+{
+    Command::new(alloc, "check").arg(word(alloc, "plan"))
 }
 
 /// A word that has to be there, by its name.

@@ -4,6 +4,7 @@ ghost use Rattle.bridge_core.specs.declared.fault.RunFault.TheVariants.{NoMemory
 ghost use Rattle.bridge_program.specs.declared.fault.Fault.TheVariants.{Run as run};
 ghost use Rattle.bridge_program.specs.Text.{text_fault_of};
 
+use bridge_check::CheckFault;
 use bridge_core::RunFault;
 use bridge_keys::PlanFault;
 use bridge_text::HexFault;
@@ -60,6 +61,8 @@ pub enum Fault {
     Run(RunFault),
     /// A plan that is refused.
     Plan(PlanFault),
+    /// A plan that doesn't isolate a protected filter.
+    Check(CheckFault),
     /// The words of the command line.
     Words,
     /// A file that can't be opened, made, read or written, by its path as given.

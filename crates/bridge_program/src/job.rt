@@ -4,7 +4,7 @@ ghost use Rattle.bridge_frame.specs.declared.Speed.{Speed};
 ghost use Rattle.bridge_core.specs.declared.fault.RunFault.{RunFault};
 ghost use Rattle.clap.specs.Words.{Text, first_of, found_of, kind_of, rows_of};
 ghost use Rattle.bridge_program.specs.declared.job.Job.{Job};
-ghost use Rattle.bridge_program.specs.CommandLine.{AsksFor, AsksForWire, HasRoom, IsWireJob, fault_of_kind};
+ghost use Rattle.bridge_program.specs.CommandLine.{AsksFor, AsksForCheck, AsksForWire, HasRoom, IsCheckJob, IsWireJob, fault_of_kind};
 
 use crate::command::matches_of;
 use crate::fault::Fault;
@@ -31,9 +31,15 @@ pub enum Job {
         /// The path of the capture that is written.
         output: String,
     },
+    /// Whether a plan isolates its protected filters.
+    Check {
+        /// The path of the plan.
+        plan: String,
+    },
 }
 
-/// The job that the words after the program's name ask for: `Text` without words, `Wire` for `wire MBPS ROOM IN OUT`.
+/// The job that the words after the program's name ask for: `Text` without words, `Wire` for `wire MBPS ROOM IN OUT`,
+/// `Check` for `check PLAN`.
 ///
 /// MBPS is 10, 100, 1000, 2500 or 10000 and ROOM is 1 to 4096, both as decimal digits alone. `Words` for all other words,
 /// also for a request for help or for a version, and `Run` with `NoMemory` where a growth was refused.
@@ -49,7 +55,10 @@ pub fn job_of(alloc: Global, words: &[String]) -> Result<Job, Fault>
     match matches_of(alloc, words) {
         Ok(matches) => match matches.subcommand_matches("wire") {
             Some(values) => wire_job(alloc, values),
-            None => Err(Fault::Words),
+            None => match matches.subcommand_matches("check") {
+                Some(values) => check_job(alloc, values),
+                None => Err(Fault::Words),
+            },
         },
         Err(error) => Err(fault_of(&error)),
     }
@@ -88,6 +97,20 @@ fn wire_job(alloc: Global, values: &ArgMatches) -> Result<Job, Fault>
         input,
         output,
     })
+}
+
+/// The job of a `check` command with these values.
+fn check_job(alloc: Global, values: &ArgMatches) -> Result<Job, Fault>
+    ensures ok { IfOk result (IsCheckJob (rows_of (found_of values.now))) }
+    ensures room { IfOk result HasRoom }
+    ensures words { result ≡ Err Fault.Words → (plan : Text) → ¬ AsksForCheck (rows_of (found_of values.now)) plan }
+    ensures only { IfErr result (λ fault. (fault ≡ Fault.Words) ⊎ (fault ≡ Fault.Run RunFault.NoMemory)) }
+{
+    let Some(path) = value_of(values, "plan") else {
+        return Err(Fault::Words);
+    };
+    let plan = String::from_str(alloc, path)?;
+    Ok(Job::Check { plan })
 }
 
 /// The value of a command by its name.

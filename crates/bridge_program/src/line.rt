@@ -4,6 +4,7 @@ ghost use Rattle.bridge_program.specs.Lines.{line_of, line_of_capture, line_of_r
 ghost use Rattle.bridge_program.specs.Status.{status_of};
 
 use crate::fault::{Fault, NoMemory, TextFault};
+use crate::isolation::said_of_check;
 use crate::plan_line::said_of_plan;
 use crate::status::ending;
 use bridge_capture::CaptureFault;
@@ -28,6 +29,7 @@ fn said<A: Allocator + Copy>(alloc: A, fault: &Fault) -> Result<String<A>, NoMem
         Fault::Text(fault) => said_of_text(alloc, fault),
         Fault::Run(fault) => said_of_run(alloc, fault),
         Fault::Plan(fault) => said_of_plan(alloc, fault),
+        Fault::Check(fault) => said_of_check(alloc, fault),
         Fault::Words => Ok(String::from_str(alloc, "command line refused")?),
         Fault::File(path) => file_fault(alloc, path.as_str()),
     }

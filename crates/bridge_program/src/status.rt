@@ -1,9 +1,10 @@
 //! The status of each fault.
 ghost use Rattle.std.specs.Prelude.{◌≡◌};
-ghost use Rattle.bridge_program.specs.Status.{status_of, status_of_capture, status_of_list, status_of_plan, status_of_run, status_of_text};
+ghost use Rattle.bridge_program.specs.Status.{status_of, status_of_capture, status_of_check, status_of_list, status_of_plan, status_of_run, status_of_text};
 
 use crate::fault::{Fault, TextFault};
 use bridge_capture::CaptureFault;
+use bridge_check::CheckFault;
 use bridge_core::RunFault;
 use bridge_cycle::ListFault;
 use bridge_keys::PlanFault;
@@ -28,6 +29,7 @@ pub fn ending(fault: &Fault) -> u8
         Fault::Text(fault) => ending_of_text(fault),
         Fault::Run(fault) => ending_of_run(fault),
         Fault::Plan(fault) => ending_of_plan(fault),
+        Fault::Check(fault) => ending_of_check(fault),
         Fault::Words => WORDS,
         Fault::File(_) => FAILED,
     }
@@ -70,6 +72,16 @@ fn ending_of_plan(fault: &PlanFault) -> u8
     match fault {
         PlanFault::BadList(_, _, fault) => ending_of_list(fault),
         PlanFault::NoMemory => FAILED,
+        _ => REFUSED_PLAN,
+    }
+}
+
+/// The status of a plan that doesn't isolate a protected filter.
+fn ending_of_check(fault: &CheckFault) -> u8
+    ensures { result ≡ status_of_check fault.now }
+{
+    match fault {
+        CheckFault::NoMemory => FAILED,
         _ => REFUSED_PLAN,
     }
 }

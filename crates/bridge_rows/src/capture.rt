@@ -35,7 +35,7 @@ fn push_word(text: &mut Vec<u8>, order: Order, word: u32) -> Result<(), AllocErr
 }
 
 /// A capture under this magic: its records' words, each with the frame.
-fn capture_under(
+pub(crate) fn capture_under(
     alloc: Global,
     magic: u32,
     order: Order,

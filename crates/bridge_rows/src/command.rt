@@ -76,8 +76,20 @@ fn a_path_is_taken_as_it_stands(rt: HostRuntime) -> Result<(), Fail> {
 }
 
 #[test]
+fn words_ask_for_a_check(rt: HostRuntime) -> Result<(), Fail> {
+    let words = words_of(rt.alloc(), &["check", "a b/PLAN"])?;
+    match job_of(rt.alloc(), &words) {
+        Ok(Job::Check { plan }) => {
+            assert_eq!(rt; plan.as_str(), "a b/PLAN");
+            Ok(())
+        }
+        _ => Err(Fail::from("no check of a plan")),
+    }
+}
+
+#[test]
 fn other_words_are_refused(rt: HostRuntime) -> Result<(), Fail> {
-    let rows: [&[&str]; 23] = [
+    let rows: [&[&str]; 27] = [
         &["wire", "999", "1", "IN", "OUT"],
         &["wire", "1000", "0", "IN", "OUT"],
         &["wire", "1000", "+1", "IN", "OUT"],
@@ -100,7 +112,11 @@ fn other_words_are_refused(rt: HostRuntime) -> Result<(), Fail> {
         &["help"],
         &["wire", "--help"],
         &["--version"],
-        &["check", "PLAN"],
+        &["check"],
+        &["check", "PLAN", "MORE"],
+        &["check", "-PLAN"],
+        &["check", "--help"],
+        &["run", "PLAN", "IN", "OUT"],
     ];
     for line in rows {
         let words = words_of(rt.alloc(), line)?;

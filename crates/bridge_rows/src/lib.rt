@@ -4,6 +4,8 @@
 #[cfg(test)]
 mod capture;
 #[cfg(test)]
+mod check;
+#[cfg(test)]
 mod command;
 #[cfg(test)]
 mod cycle;

@@ -1,6 +1,7 @@
 //! The program over text: worked examples, and the line and the status of each fault.
 use crate::refusing::RefusesOne;
 use bridge_capture::CaptureFault;
+use bridge_check::CheckFault;
 use bridge_core::RunFault;
 use bridge_cycle::ListFault;
 use bridge_keys::{Field, Place, PlanFault, Section};
@@ -266,6 +267,16 @@ fn said(alloc: Global) -> Result<Vec<(Fault, &'static str, u8)>, Fail> {
             3,
         ),
         (Fault::Run(RunFault::NoMemory), "no memory", 3),
+        (
+            Fault::Check(CheckFault::MaxSduNeverFits {
+                filter: 4_294_967_295,
+                port: 16,
+                class: 0,
+            }),
+            "plan refused: MaxSduNeverFits filter 4294967295 port 16 class 0",
+            1,
+        ),
+        (Fault::Check(CheckFault::NoMemory), "no memory", 3),
         (Fault::Words, "command line refused", 4),
         (Fault::File(path), "file a/b.pcap", 3),
     ];

@@ -2,10 +2,12 @@
 //! The program: it reads its job, does it, and ends with the status and the line of the first fault.
 
 mod files;
+mod plans;
 
 use bridge_core::RunFault;
-use bridge_program::{Fault, Job, fault_line, job_of, wire_line, wire_text};
+use bridge_program::{Fault, Job, check_line, fault_line, job_of, wire_line, wire_text};
 use files::wire_files;
+use plans::check_file;
 use std::alloc::Global;
 use std::env;
 use std::io::{ErrorKind, Read};
@@ -38,6 +40,13 @@ fn run(rt: &(impl Input + AllocGlobal + Print + Env + Files)) -> Result<(), Faul
         } => {
             let count = wire_files(rt, speed, room, input, output)?;
             match wire_line(rt.alloc(), &count) {
+                Ok(line) => print(rt, line.as_str()),
+                Err(_) => Err(Fault::Run(RunFault::NoMemory)),
+            }
+        }
+        Job::Check { plan } => {
+            let accepted = check_file(rt, plan)?;
+            match check_line(rt.alloc(), &accepted) {
                 Ok(line) => print(rt, line.as_str()),
                 Err(_) => Err(Fault::Run(RunFault::NoMemory)),
             }
