@@ -2,7 +2,7 @@
 """Refuses growths of memory in the program, one a run: refuse.py FIRST LAST WORD..
 
 The program runs on the words with growth FIRST refused, then the next one, up to LAST (`rt try --fail-alloc`). A word
-`in.pcap` is a capture of two frames. Each run has to end as the program ends with memory, or with `no memory` and
+`in.pcap` is a capture of two frames, a word `base.toml` the plan of `examples/`. Each run has to end as the program ends with memory, or with `no memory` and
 status 3; any other run is told, and the script then ends with status 1. It takes some seconds a run.
 """
 import os
@@ -13,12 +13,14 @@ import tempfile
 import captures
 
 TOP = os.path.dirname(os.path.dirname(os.path.abspath(__file__)))
+PLAN = os.path.join(TOP, "examples", "base.toml")
 NEVER = 1_000_000_000
 
 
 def ending(growth, words, capture):
     """What a run prints, and its status, where this growth is refused."""
-    line = ["rt", "try", "--fail-alloc", str(growth), "--data", "in.pcap=" + capture, "--", *words]
+    line = ["rt", "try", "--fail-alloc", str(growth), "--data", "in.pcap=" + capture,
+            "--data", "base.toml=" + PLAN, "--", *words]
     done = subprocess.run(line, cwd=os.path.join(TOP, "crates", "tsnbridge"), stdin=subprocess.DEVNULL,
                           stdout=subprocess.PIPE, stderr=subprocess.STDOUT, text=True)
     said = [text for text in done.stdout.splitlines()

@@ -1,5 +1,5 @@
 -- What the tests of a filter say of frames.
-use Rattle.std.proofs.Common.{◌≡◌, ◌≢◌, ◌<◌, ◌≤◌, ◌+◌, ◌-◌, ◌*◌, ◌/◌, ◌%◌, ◌^◌, ℕ, zero, suc, Bool, true, false, not, ◌&&◌, ◌||◌, List, [], ◌∷◌, Option, Some, None, nat_eq, nat_le, refl, sym, ap, ◌∙◌, arith, subst, inl, inr, All, get_or, length, cond, ◌⊎◌}
+use Rattle.std.proofs.Common.{◌≡◌, ◌<◌, ◌≤◌, ◌+◌, ◌-◌, ◌^◌, ℕ, zero, suc, Bool, true, false, not, ◌&&◌, ◌||◌, List, [], ◌∷◌, Option, Some, None, nat_eq, nat_le, refl, sym, ap, ◌∙◌, arith, subst, inl, inr, All, length, cond, ◌⊎◌}
 use Rattle.std.specs.Prelude.{option_map, slice_index, is_some}
 use Rattle.std.specs.List.{list_any, list_all}
 use Rattle.std.proofs.lemmas.Bool.{and_parts, false≢true, cases_lt}
@@ -8,16 +8,16 @@ use Rattle.std.specs.Bool.{if◌then◌else◌}
 use Rattle.std.proofs.lemmas.Bool.Decides.{nat_tests}
 use Rattle.std.proofs.lemmas.List.Sums.{AllPass-from_list_all}
 use Rattle.std.proofs.Math.Nat.{div-eq_of_lt, pow-le-pow_right, zero-lt-suc}
-use Rattle.bridge_cycle.specs.Cyclic.{Cyclic, IsLawful, turn_at}
+use Rattle.bridge_cycle.specs.Cyclic.{Cyclic, turn_at}
 use Rattle.bridge_cycle.specs.Entries.{In}
-use Rattle.bridge_cycle.specs.Moments.{is_open, Fits}
+use Rattle.bridge_cycle.specs.Moments.{is_open}
 use Rattle.bridge_cycle.specs.Opens.{opens_in}
 use Rattle.bridge_cycle.specs.declared.timeline.Turn.{Turn}
 use Rattle.bridge_cycle.proofs.Lists.{among}
 use Rattle.bridge_frame.specs.Link.{occupied}
 use Rattle.bridge_filter.specs.declared.FilterPlan.{FilterPlan}
 use Rattle.bridge_filter.specs.Finding.{lesser_number}
-use Rattle.bridge_port.specs.Opening.{opens_of, ever_of, IsMade}
+use Rattle.bridge_port.specs.Opening.{opens_of, IsMade}
 use Rattle.bridge_port.proofs.Opening.{ever_is}
 use Rattle.bridge_keys.specs.Readers.{are_within}
 use Rattle.bridge_config.specs.declared.ports.PortPlan.{PortPlan}
@@ -102,10 +102,10 @@ any_told (suc n) t h = elim (either (any_below n t) (t n) h) [
   | inl a ↦ let (k, lt, passes) = any_told n t a in (k, (omega (arith, lt)), passes)
   | inr a ↦ (n, (omega (arith)), a)
 ]
- where
-  either : (a b : Bool) → (a || b) ≡ true → (a ≡ true) ⊎ (b ≡ true)
-  either true b h = inl refl
-  either false b h = inr h
+  where
+    either : (a b : Bool) → (a || b) ≡ true → (a ≡ true) ⊎ (b ≡ true)
+    either true b h = inl refl
+    either false b h = inr h
 
 none_below : (n k : ℕ) (t : ℕ → Bool) → any_below n t ≡ false → k < n → t k ≡ false
 none_below zero k t h lt = absurd (omega (arith, lt))
@@ -156,9 +156,9 @@ class_below classes k c within eight lt e =
     let (above, below) = and_parts (nat_le 0 (slice_index classes k)) (nat_le (slice_index classes k) 7) (all k 0 inside) in
     let small : slice_index classes k ≤ 7 = at_most (slice_index classes k) below in
     omega (arith, e, small)
- where
-  at_most : (n : ℕ) → nat_le n 7 ≡ true → n ≤ 7
-  at_most n h = grind (arith, nat_tests)
+  where
+    at_most : (n : ℕ) → nat_le n 7 ≡ true → n ≤ 7
+    at_most n h = grind (arith, nat_tests)
 
 reached : {A : Type 0} (p : Plan A) (f : FilterPlan) (q c : ℕ) → IsPlan p → reaches p f q c ≡ true → IsReached p q c
 reached p f q c plan h =
@@ -204,10 +204,10 @@ no_other p (y ∷ ys) n q c k g h (inl e) r =
     let (not_it, rest) = passed_over (not (nat_eq y.0 n) && reaches p y.1 q c) y.0 (other_at p ys n q c) h in
     let own : (not (nat_eq k n) && reaches p g q c) ≡ false = ap (λ (z : ℕ × FilterPlan). not (nat_eq z.0 n) && reaches p z.1 q c) e ∙ not_it in
     is_eq k n (not_false (nat_eq k n) (left_false (not (nat_eq k n)) (reaches p g q c) own r))
- where
-  left_false : (a b : Bool) → (a && b) ≡ false → b ≡ true → a ≡ false
-  left_false true b h t = absurd (false≢true (sym h ∙ t))
-  left_false false b h t = refl
+  where
+    left_false : (a b : Bool) → (a && b) ≡ false → b ≡ true → a ≡ false
+    left_false true b h t = absurd (false≢true (sym h ∙ t))
+    left_false false b h t = refl
 no_other p (y ∷ ys) n q c k g h (inr i) r =
     let (not_it, rest) = passed_over (not (nat_eq y.0 n) && reaches p y.1 q c) y.0 (other_at p ys n q c) h in
     no_other p ys n q c k g rest i r
@@ -234,9 +234,9 @@ caught fs h =
     let (first, priority) = and_parts (is_greatest fs x.0 && not (is_some x.1.handle)) (not (is_some x.1.priority)) passes in
     let (greatest, handle) = and_parts (is_greatest fs x.0) (not (is_some x.1.handle)) first in
     (x.0, x.1, i, none_by x.1.handle handle, none_by x.1.priority priority, λ j e m. at_most j x.0 (each_passes (λ (y : ℕ × FilterPlan). nat_le y.0 x.0) fs (j, e) greatest m))
- where
-  at_most : (a b : ℕ) → nat_le a b ≡ true → a ≤ b
-  at_most a b h = grind (arith, nat_tests)
+  where
+    at_most : (a b : ℕ) → nat_le a b ≡ true → a ≤ b
+    at_most a b h = grind (arith, nat_tests)
 
 -- WINDOWS AND SIZES
 
@@ -266,10 +266,10 @@ not_beside s c d small h oc od =
     let beside : any_below 8 (λ e. not (nat_eq e c) && is_open s e) ≡ false = right_false (is_open s c) (any_below 8 (λ e. not (nat_eq e c) && is_open s e)) h oc in
     let none : (not (nat_eq d c) && is_open s d) ≡ false = none_below 8 d (λ e. not (nat_eq e c) && is_open s e) beside (open_below s d small od) in
     is_eq d c (not_false (nat_eq d c) (alone_false (not (nat_eq d c)) (is_open s d) none od))
- where
-  right_false : (a b : Bool) → (a && b) ≡ false → a ≡ true → b ≡ false
-  right_false true b h t = h
-  right_false false b h t = absurd (false≢true t)
+  where
+    right_false : (a b : Bool) → (a && b) ≡ false → a ≡ true → b ≡ false
+    right_false true b h t = h
+    right_false false b h t = absurd (false≢true t)
 
 open_alone : (list : Option (Cyclic ℕ)) (c d u : ℕ) → ForSome list IsPortList → shared_at list c ≡ None → opens_of list c u ≡ true → opens_of list d u ≡ true → d ≡ c
 open_alone None c d u is h oc od = absurd (cc)
@@ -304,16 +304,16 @@ isolated p n f plan listed h =
       catches = caught p.filters (holds (has_catch_all p.filters) _ catches);
       queue = λ k q c g i own other. no_other p p.filters n q c k g (told_none (fault.QueueShared n q c) (other_at p p.filters n q c) (not_told p f q c (λ q c. option_map (fault.QueueShared n q c) (other_at p p.filters n q c)) queue (reached p f q c plan own) own)) i other;
       window = λ q c port at own d u oc od.
-        let r = reached p f q c plan own in
-        let told : option_map (fault.WindowShared n q c) (shared_on (port_at p.ports q) c) ≡ None = not_told p f q c (λ q c. option_map (fault.WindowShared n q c) (shared_on (port_at p.ports q) c)) window r own in
-        let none : shared_at port.list c ≡ None = subst (λ (o : Option (PortPlan _)). shared_on o c ≡ None) at (told_none (fault.WindowShared n q c) (shared_on (port_at p.ports q) c) told) in
-        let (is, number) = is_port p q port plan at in
-        open_alone port.list c d u is.list none oc od;
+          let r = reached p f q c plan own in
+          let told : option_map (fault.WindowShared n q c) (shared_on (port_at p.ports q) c) ≡ None = not_told p f q c (λ q c. option_map (fault.WindowShared n q c) (shared_on (port_at p.ports q) c)) window r own in
+          let none : shared_at port.list c ≡ None = subst (λ (o : Option (PortPlan _)). shared_on o c ≡ None) at (told_none (fault.WindowShared n q c) (shared_on (port_at p.ports q) c) told) in
+          let (is, number) = is_port p q port plan at in
+          open_alone port.list c d u is.list none oc od;
       fits = λ q c m port at own e.
-        let r = reached p f q c plan own in
-        let told : fault_unless (not (never_fits (port_at p.ports q) c f.max_sdu)) (fault.MaxSduNeverFits n q c) ≡ None = not_told p f q c (λ q c. fault_unless (not (never_fits (port_at p.ports q) c f.max_sdu)) (fault.MaxSduNeverFits n q c)) size r own in
-        let fitting : never_fits (port_at p.ports q) c f.max_sdu ≡ false = not_true (never_fits (port_at p.ports q) c f.max_sdu) (holds (not (never_fits (port_at p.ports q) c f.max_sdu)) _ told) in
-        let ever : not (ever_fits port c m) ≡ false = subst (λ (o : Option (PortPlan _)). never_fits o c (Some m) ≡ false) at (subst (λ (s : Option ℕ). never_fits (port_at p.ports q) c s ≡ false) e fitting) in
-        let (is, number) = is_port p q port plan at in
-        (ever_is port.list c (occupied (longest_frame m) port.speed) (made port.list is.list)).0 (not_false (ever_fits port c m) ever);
+          let r = reached p f q c plan own in
+          let told : fault_unless (not (never_fits (port_at p.ports q) c f.max_sdu)) (fault.MaxSduNeverFits n q c) ≡ None = not_told p f q c (λ q c. fault_unless (not (never_fits (port_at p.ports q) c f.max_sdu)) (fault.MaxSduNeverFits n q c)) size r own in
+          let fitting : never_fits (port_at p.ports q) c f.max_sdu ≡ false = not_true (never_fits (port_at p.ports q) c f.max_sdu) (holds (not (never_fits (port_at p.ports q) c f.max_sdu)) _ told) in
+          let ever : not (ever_fits port c m) ≡ false = subst (λ (o : Option (PortPlan _)). never_fits o c (Some m) ≡ false) at (subst (λ (s : Option ℕ). never_fits (port_at p.ports q) c s ≡ false) e fitting) in
+          let (is, number) = is_port p q port plan at in
+          (ever_is port.list c (occupied (longest_frame m) port.speed) (made port.list is.list)).0 (not_false (ever_fits port c m) ever);
     }

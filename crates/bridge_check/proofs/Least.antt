@@ -1,5 +1,5 @@
 -- The fault of the least number, one filter more at a time.
-use Rattle.std.proofs.Common.{◌≡◌, ◌<◌, ◌≤◌, ℕ, Bool, true, false, List, [], ◌∷◌, Option, Some, None, nat_lt, refl, sym, ap, ◌∙◌, arith, subst, inl, inr, cond}
+use Rattle.std.proofs.Common.{◌≡◌, ◌<◌, ◌≤◌, ℕ, Bool, true, false, List, [], ◌∷◌, Option, Some, None, nat_lt, refl, sym, ap, ◌∙◌, arith, inl, inr, cond}
 use Rattle.std.specs.Prelude.{option_map}
 use Rattle.std.proofs.lemmas.Bool.Decides.{nat_tests}
 use Rattle.bridge_cycle.specs.Entries.{In}
@@ -31,11 +31,11 @@ Numbered = ℕ × CheckFault
 three : (a b c : Numbered) → lesser_fault (lesser_fault (Some a) (Some b)) (Some c) ≡ lesser_fault (Some a) (lesser_fault (Some b) (Some c))
 three a b c = by_bool (nat_lt b.0 a.0)
     (λ ba. by_bool (nat_lt c.0 b.0)
-        (λ cb. let ca : nat_lt c.0 a.0 ≡ true = is_below c.0 a.0 (let h = below b.0 a.0 ba in let k = below c.0 b.0 cb in omega (arith, h, k)) in rw (ba, cb, ca) refl)
-        (λ cb. rw (ba, cb) (sym (rw ba refl))))
+    (λ cb. let ca : nat_lt c.0 a.0 ≡ true = is_below c.0 a.0 (let h = below b.0 a.0 ba in let k = below c.0 b.0 cb in omega (arith, h, k)) in rw (ba, cb, ca) refl)
+    (λ cb. rw (ba, cb) (sym (rw ba refl))))
     (λ ba. by_bool (nat_lt c.0 b.0)
-        (λ cb. rw (ba, cb) refl)
-        (λ cb. let ca : nat_lt c.0 a.0 ≡ false = is_not_below c.0 a.0 (let h = not_below b.0 a.0 ba in let k = not_below c.0 b.0 cb in omega (arith, h, k)) in rw (ba, cb) (rw (ba, ca) refl)))
+    (λ cb. rw (ba, cb) refl)
+    (λ cb. let ca : nat_lt c.0 a.0 ≡ false = is_not_below c.0 a.0 (let h = not_below b.0 a.0 ba in let k = not_below c.0 b.0 cb in omega (arith, h, k)) in rw (ba, cb) (rw (ba, ca) refl)))
 
 pub lesser_none : (a : Option Numbered) → lesser_fault a None ≡ a
 lesser_none None = refl

@@ -1,5 +1,5 @@
 -- Which plans isolate their protected filters.
-use Rattle.std.specs.Prelude.{◌≡◌, ◌≢◌, ◌≤◌, ℕ, true, false, List, Option, Some, None}
+use Rattle.std.specs.Prelude.{◌≡◌, ◌≤◌, ℕ, true, Some, None}
 use Rattle.bridge_cycle.specs.Entries.{In}
 use Rattle.bridge_cycle.specs.Moments.{Fits}
 use Rattle.bridge_frame.specs.Link.{occupied}

@@ -1,5 +1,5 @@
 -- When a class of a port is open alone, and which frames fit.
-use Rattle.std.specs.Prelude.{ℕ, Bool, true, false, not, ◌+◌, ◌&&◌, min, List, [], ◌∷◌, Option, Some, None, nat_eq, if◌then◌else◌}
+use Rattle.std.specs.Prelude.{ℕ, Bool, not, ◌+◌, ◌&&◌, min, List, [], ◌∷◌, Option, Some, None, nat_eq, if◌then◌else◌}
 use Rattle.bridge_frame.specs.Link.{occupied}
 use Rattle.bridge_cycle.specs.Cyclic.{Cyclic}
 use Rattle.bridge_cycle.specs.Moments.{is_open}

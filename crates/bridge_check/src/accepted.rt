@@ -56,22 +56,13 @@ pub struct Refused<A: Allocator + Copy> {
 }
 
 /// The fault of the lesser number, where either may be none; of equal numbers the first.
-fn lesser(
-    a: Option<(u32, CheckFault)>,
-    b: Option<(u32, CheckFault)>,
-) -> Option<(u32, CheckFault)>
+fn lesser(a: Option<(u32, CheckFault)>, b: Option<(u32, CheckFault)>) -> Option<(u32, CheckFault)>
     ensures { result ≡ faults.lesser_fault a b }
 {
     match (a, b) {
         (None, b) => b,
         (Some(a), None) => Some(a),
-        (Some(a), Some(b)) => {
-            if b.0 < a.0 {
-                Some(b)
-            } else {
-                Some(a)
-            }
-        }
+        (Some(a), Some(b)) => { if b.0 < a.0 { Some(b) } else { Some(a) } }
     }
 }
 
@@ -123,10 +114,7 @@ fn least_fault<A: Allocator + Copy>(
 }
 
 /// The first fault of a plan.
-fn fault_in<A: Allocator + Copy>(
-    alloc: A,
-    plan: &Plan<A>,
-) -> Result<Option<CheckFault>, AllocError>
+fn fault_in<A: Allocator + Copy>(alloc: A, plan: &Plan<A>) -> Result<Option<CheckFault>, AllocError>
     ensures { IfOk result (λ f. f ≡ first_fault plan.now) }
 {
     let reaches = reaches_in(alloc, plan)?;

@@ -11,19 +11,29 @@ use thiserror::Error;
 pub enum CheckFault {
     /// The filter names no stream handle, so it takes frames of any stream.
     #[error("a protected filter without a stream handle")]
-    ProtectedWildcard { filter: u32 },
+    ProtectedWildcard {
+        filter: u32,
+    },
     /// It has no largest service data unit.
     #[error("a protected filter without a largest service data unit")]
-    NoMaxSdu { filter: u32 },
+    NoMaxSdu {
+        filter: u32,
+    },
     /// Another filter uses its gate.
     #[error("a gate that another filter uses")]
-    GateShared { filter: u32 },
+    GateShared {
+        filter: u32,
+    },
     /// Another filter uses its meter.
     #[error("a meter that another filter uses")]
-    MeterShared { filter: u32 },
+    MeterShared {
+        filter: u32,
+    },
     /// The filter with the greatest number doesn't take every frame, so that some frames may be unpoliced.
     #[error("no last filter that takes every frame")]
-    NoCatchAll { filter: u32 },
+    NoCatchAll {
+        filter: u32,
+    },
     /// Frames of another filter may be queued in a queue of its frames; the other is the least such.
     #[error("a queue that another filter reaches")]
     QueueShared {
@@ -43,7 +53,11 @@ pub enum CheckFault {
     },
     /// Its longest frame fits in the class at no moment.
     #[error("a longest frame that never fits")]
-    MaxSduNeverFits { filter: u32, port: u8, class: u8 },
+    MaxSduNeverFits {
+        filter: u32,
+        port: u8,
+        class: u8,
+    },
     /// A growth was refused.
     #[error("no memory")]
     NoMemory,

@@ -1,4 +1,4 @@
-use Rattle.std.proofs.Common.{◌≡◌, ◌∙◌, sym}
+use Rattle.std.proofs.Common.{◌∙◌, sym}
 use Rattle.bridge_check.proofs.Least.{acceptable}
 use Rattle.bridge_check.proofs.accepted.check.Goals as goal
 

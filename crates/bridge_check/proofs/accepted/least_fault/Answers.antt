@@ -1,4 +1,4 @@
-use Rattle.std.proofs.Common.{◌≡◌, All}
+use Rattle.std.proofs.Common.{All}
 use Rattle.bridge_config.specs.Rules.{IsFilter}
 use Rattle.bridge_check.proofs.accepted.least_fault.Goals as goal
 

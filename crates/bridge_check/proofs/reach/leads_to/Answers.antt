@@ -1,4 +1,4 @@
-use Rattle.std.proofs.Common.{◌≡◌, All}
+use Rattle.std.proofs.Common.{All}
 use Rattle.bridge_config.specs.Rules.{IsStream}
 use Rattle.bridge_check.proofs.reach.leads_to.Goals as goal
 

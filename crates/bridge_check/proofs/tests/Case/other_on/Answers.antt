@@ -1,4 +1,4 @@
-use Rattle.std.proofs.Common.{◌≡◌, ◌∙◌, ap}
+use Rattle.std.proofs.Common.{◌∙◌, ap}
 use Rattle.bridge_check.specs.Reached.{least_other}
 use Rattle.bridge_check.proofs.Told.{others}
 use Rattle.bridge_check.proofs.tests.Case.other_on.Goals as goal

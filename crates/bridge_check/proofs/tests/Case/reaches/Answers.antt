@@ -1,4 +1,4 @@
-use Rattle.std.proofs.Common.{◌≡◌, ◌∙◌, ap}
+use Rattle.std.proofs.Common.{◌∙◌, ap}
 use Rattle.bridge_check.specs.Reached.{is_in}
 use Rattle.bridge_check.proofs.Told.{in_reach}
 use Rattle.bridge_check.proofs.tests.Case.reaches.Goals as goal
