@@ -135,10 +135,10 @@ taken h (Some m) k = ap Some (sym (is_eq h m k))
 
 null_address : (e : StreamEntry) (head : Head) → is_null e.kind ≡ true → ident.compared_address e.kind head ≡ head.da
 null_address e head h = null_of e.kind head h
- where
-  null_of : (k : _) (head : Head) → is_null k ≡ true → ident.compared_address k head ≡ head.da
-  null_of Null head h = refl
-  null_of Source head h = absurd (false≢true h)
+  where
+    null_of : (k : _) (head : Head) → is_null k ≡ true → ident.compared_address k head ≡ head.da
+    null_of Null head h = refl
+    null_of Source head h = absurd (false≢true h)
 
 same_bytes : (xs ys : List ℕ) → bytes_eq xs ys ≡ true → xs ≡ ys
 same_bytes xs ys h = (bytes_eq-Decides xs ys).0 h
@@ -180,9 +180,9 @@ let_by : (lets over : Bool) (i ipv : Option ℕ) → cond (not lets) gate.Closed
 let_by false over i ipv h = absurd (cc)
 let_by true true i ipv h = absurd (cc)
 let_by true false i ipv h = (refl, through h)
- where
-  through : gate.Through i ≡ gate.Through ipv → i ≡ ipv
-  through h = cc
+  where
+    through : gate.Through i ≡ gate.Through ipv → i ≡ ipv
+    through h = cc
 
 let_in : (r : GateRules) (ss : List GateStep) (sdu t : ℕ) (o : Option (Turn GateEntry)) (ipv : Option ℕ) → r.turn_at t ≡ o → answer_in r ss sdu o ≡ gate.Through ipv → IsLet r t ipv
 let_in r ss sdu t None ipv e h = absurd (cc)
@@ -277,9 +277,9 @@ value_of None (Some j) k h = h
 small_of : (ipv : Option ℕ) (k : ℕ) → schedules.is_priority ipv ≡ true → k ≤ 7 → unwrap_or ipv k < 8
 small_of None k h le = omega (arith, le)
 small_of (Some i) k h le = let most = at_most i h in omega (arith, most)
- where
-  at_most : (i : ℕ) → nat_le i 7 ≡ true → i ≤ 7
-  at_most i h = grind (arith, nat_tests)
+  where
+    at_most : (i : ℕ) → nat_le i 7 ≡ true → i ≤ 7
+    at_most i h = grind (arith, nat_tests)
 
 pub sound : {A : Type 0} (p : Plan A) (port out : PortPlan A) (head : Head) (at octets n : ℕ) (f : FilterPlan) (ss : List Step) (ipv : Option ℕ) (eligible : Bool)
     → IsPlan p
