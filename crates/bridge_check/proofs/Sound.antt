@@ -9,7 +9,6 @@ use Rattle.std.proofs.lemmas.Bool.Decides.{nat_tests}
 use Rattle.std.proofs.lemmas.Option.{same_Some}
 use Rattle.std.proofs.lemmas.Slice.Eq.{bytes_eq-Decides}
 use Rattle.bridge_frame.specs.declared.Head.{Head}
-use Rattle.bridge_cycle.specs.Cyclic.{Cyclic}
 use Rattle.bridge_cycle.specs.Entries.{In}
 use Rattle.bridge_cycle.specs.declared.timeline.Turn.{Turn}
 use Rattle.bridge_cycle.proofs.Lists.{among}
@@ -33,7 +32,6 @@ use Rattle.bridge_filter.specs.declared.Verdict.TheVariants as verdict
 use Rattle.bridge_filter.specs.Plans.{plans_of, gate_or_closed}
 use Rattle.bridge_filter.specs.Verdicts.{Call, Plans, Step, flow, lesser, is_match, takes_handle, takes_priority, verdict_of, by_answer, by_meter, by_colour, gate_answer, gate_share, is_blocked, is_above}
 use Rattle.bridge_forward.specs.Ports.{has}
-use Rattle.bridge_forward.specs.Database.{Database}
 use Rattle.bridge_forward.specs.Forward.{forward}
 use Rattle.bridge_config.specs.declared.ports.PortPlan.{PortPlan}
 use Rattle.bridge_config.specs.Model.{Plan}
@@ -41,7 +39,6 @@ use Rattle.bridge_config.specs.Rules.{IsPlan, port_at}
 use Rattle.bridge_check.specs.Faults.{fault_of}
 use Rattle.bridge_check.specs.Reach.{any_below, reaches, reaches_port, reaches_class, reaches_priority, are_null, is_null, leads_to, entries_of, entries_if, entries_at, has_value, gives, lets}
 use Rattle.bridge_check.specs.Sending.{vid_of, priority_of, call_of, class_of}
-use Rattle.bridge_check.specs.Acceptable.{IsIsolated}
 use Rattle.bridge_check.proofs.Isolated.{isolated}
 
 is_eq : (m n : ℕ) → nat_eq m n ≡ true → m ≡ n
