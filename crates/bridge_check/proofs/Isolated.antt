@@ -2,7 +2,7 @@
 use Rattle.std.proofs.Common.{◌≡◌, ◌<◌, ◌≤◌, ◌+◌, ◌-◌, ◌^◌, ℕ, zero, suc, Bool, true, false, not, ◌&&◌, ◌||◌, List, [], ◌∷◌, Option, Some, None, nat_eq, nat_le, refl, sym, ap, ◌∙◌, arith, subst, inl, inr, All, length, cond, ◌⊎◌}
 use Rattle.std.specs.Prelude.{option_map, slice_index, is_some}
 use Rattle.std.specs.List.{list_any, list_all}
-use Rattle.std.proofs.lemmas.Bool.{and_parts, false≢true, cases_lt}
+use Rattle.std.proofs.lemmas.Bool.{and_parts, or_parts, eqb-true, not-true, not-false, false≢true, cases_lt}
 use Rattle.std.specs.Option.{ForSome}
 use Rattle.std.specs.Bool.{if◌then◌else◌}
 use Rattle.std.proofs.lemmas.Bool.Decides.{nat_tests}
@@ -17,6 +17,7 @@ use Rattle.bridge_cycle.proofs.Lists.{among}
 use Rattle.bridge_frame.specs.Link.{occupied}
 use Rattle.bridge_filter.specs.declared.FilterPlan.{FilterPlan}
 use Rattle.bridge_filter.specs.Finding.{lesser_number}
+use Rattle.bridge_filter.proofs.Numbered.{same_eq}
 use Rattle.bridge_port.specs.Opening.{opens_of, IsMade}
 use Rattle.bridge_port.proofs.Opening.{ever_is}
 use Rattle.bridge_keys.specs.Readers.{are_within}
@@ -40,20 +41,6 @@ holds : (b : Bool) (e : CheckFault) → fault_unless b e ≡ None → b ≡ true
 holds true e h = refl
 holds false e h = absurd (cc)
 
-not_true : (b : Bool) → not b ≡ true → b ≡ false
-not_true true h = sym h
-not_true false h = refl
-
-not_false : (b : Bool) → not b ≡ false → b ≡ true
-not_false true h = refl
-not_false false h = absurd (false≢true (sym h))
-
-is_eq : (m n : ℕ) → nat_eq m n ≡ true → m ≡ n
-is_eq m n h = grind (arith, nat_tests)
-
-same_eq : (n : ℕ) → nat_eq n n ≡ true
-same_eq n = grind (arith, nat_tests)
-
 some_of : {X : Type 0} (o : Option X) → is_some o ≡ true → (x : X) × (o ≡ Some x)
 some_of (Some x) h = (x, refl)
 some_of None h = absurd (false≢true h)
@@ -62,15 +49,11 @@ none_by : {X : Type 0} (o : Option X) → not (is_some o) ≡ true → o ≡ Non
 none_by None h = refl
 none_by (Some x) h = absurd (false≢true h)
 
-or_false : (a b : Bool) → (a || b) ≡ false → (a ≡ false) × (b ≡ false)
-or_false true b h = absurd (false≢true (sym h))
-or_false false b h = (refl, h)
-
 -- what no element of a list passes, none in it passes
 none_passes : {X : Type 0} (t : X → Bool) (xs : List X) (x : X) → list_any t xs ≡ false → In x xs → t x ≡ false
 none_passes t [] x h i = absurd i
-none_passes t (y ∷ ys) x h (inl e) = let (here, rest) = or_false (t y) (list_any t ys) h in ap t e ∙ here
-none_passes t (y ∷ ys) x h (inr i) = let (here, rest) = or_false (t y) (list_any t ys) h in none_passes t ys x rest i
+none_passes t (y ∷ ys) x h (inl e) = let (here, rest) = or_parts (t y) (list_any t ys) h in ap t e ∙ here
+none_passes t (y ∷ ys) x h (inr i) = let (here, rest) = or_parts (t y) (list_any t ys) h in none_passes t ys x rest i
 
 one_passes_by : {X : Type 0} (b : Bool) (t : X → Bool) (y : X) (ys : List X) → t y ≡ b → (b || list_any t ys) ≡ true → (list_any t ys ≡ true → (x : X) × In x ys × (t x ≡ true)) → (x : X) × In x (y ∷ ys) × (t x ≡ true)
 one_passes_by true t y ys e h more = (y, inl refl, e)
@@ -80,7 +63,7 @@ one_passes : {X : Type 0} (t : X → Bool) (xs : List X) → list_any t xs ≡ t
 one_passes t [] h = absurd (false≢true h)
 one_passes t (y ∷ ys) h = one_passes_by (t y) t y ys refl h (one_passes t ys)
 
-each_passes : {X : Type 0} (t : X → Bool) (xs : List X) (x : X) → list_all t xs ≡ true → In x xs → t x ≡ true
+pub each_passes : {X : Type 0} (t : X → Bool) (xs : List X) (x : X) → list_all t xs ≡ true → In x xs → t x ≡ true
 each_passes t [] x h i = absurd i
 each_passes t (y ∷ ys) x h (inl e) = let (here, rest) = and_parts (t y) (list_all t ys) h in ap t e ∙ here
 each_passes t (y ∷ ys) x h (inr i) = let (here, rest) = and_parts (t y) (list_all t ys) h in each_passes t ys x rest i
@@ -110,7 +93,7 @@ any_told (suc n) t h = elim (either (any_below n t) (t n) h) [
 none_below : (n k : ℕ) (t : ℕ → Bool) → any_below n t ≡ false → k < n → t k ≡ false
 none_below zero k t h lt = absurd (omega (arith, lt))
 none_below (suc n) k t h lt =
-    let (before, last) = or_false (any_below n t) (t n) h in
+    let (before, last) = or_parts (any_below n t) (t n) h in
     elim (cases_lt k n) [
       | inl a ↦ none_below n k t before a
       | inr a ↦ let same : n ≡ k = omega (arith, lt, a) in subst (λ (i : ℕ). t i ≡ false) same last
@@ -119,7 +102,7 @@ none_below (suc n) k t h lt =
 -- PORTS AND CLASSES
 
 found_by : {A : Type 0} (b : Bool) (p : PortPlan A) (ps : List (PortPlan A)) (q : ℕ) (port : PortPlan A) → nat_eq p.number q ≡ b → cond b (Some p) (port_at ps q) ≡ Some port → (port_at ps q ≡ Some port → In port ps × (port.number ≡ q)) → In port (p ∷ ps) × (port.number ≡ q)
-found_by true p ps q port e h more = let same : port ≡ p = cc in (inl same, ap (λ x. x.number) same ∙ is_eq p.number q e)
+found_by true p ps q port e h more = let same : port ≡ p = cc in (inl same, ap (λ x. x.number) same ∙ eqb-true p.number q e)
 found_by false p ps q port e h more = let (i, n) = more h in (inr i, n)
 
 found : {A : Type 0} (ps : List (PortPlan A)) (q : ℕ) (port : PortPlan A) → port_at ps q ≡ Some port → In port ps × (port.number ≡ q)
@@ -147,7 +130,7 @@ classed p f None c h = absurd (false≢true h)
 classed p f (Some port) c h =
     let (k, lt, passes) = any_told 8 (λ k. reaches_priority p f k && nat_eq (slice_index port.classes k) c) h in
     let (opened, same) = and_parts (reaches_priority p f k) (nat_eq (slice_index port.classes k) c) passes in
-    (port, refl, k, lt, is_eq (slice_index port.classes k) c same)
+    (port, refl, k, lt, eqb-true (slice_index port.classes k) c same)
 
 class_below : (classes : List ℕ) (k c : ℕ) → are_within 0 7 classes ≡ true → length classes ≡ 8 → k < 8 → slice_index classes k ≡ c → c < 8
 class_below classes k c within eight lt e =
@@ -203,7 +186,7 @@ no_other p [] n q c k g h i r = absurd i
 no_other p (y ∷ ys) n q c k g h (inl e) r =
     let (not_it, rest) = passed_over (not (nat_eq y.0 n) && reaches p y.1 q c) y.0 (other_at p ys n q c) h in
     let own : (not (nat_eq k n) && reaches p g q c) ≡ false = ap (λ (z : ℕ × FilterPlan). not (nat_eq z.0 n) && reaches p z.1 q c) e ∙ not_it in
-    is_eq k n (not_false (nat_eq k n) (left_false (not (nat_eq k n)) (reaches p g q c) own r))
+    eqb-true k n (not-false (nat_eq k n) (left_false (not (nat_eq k n)) (reaches p g q c) own r))
   where
     left_false : (a b : Bool) → (a && b) ≡ false → b ≡ true → a ≡ false
     left_false true b h t = absurd (false≢true (sym h ∙ t))
@@ -220,13 +203,13 @@ only_gate : (fs : List (ℕ × FilterPlan)) (n : ℕ) (f : FilterPlan) (k : ℕ)
 only_gate fs n f k g h i e =
     let none : (not (nat_eq k n) && nat_eq g.gate f.gate) ≡ false = none_passes (λ (x : ℕ × FilterPlan). not (nat_eq x.0 n) && nat_eq x.1.gate f.gate) fs (k, g) h i in
     let same : nat_eq g.gate f.gate ≡ true = rw e (same_eq f.gate) in
-    is_eq k n (not_false (nat_eq k n) (alone_false (not (nat_eq k n)) (nat_eq g.gate f.gate) none same))
+    eqb-true k n (not-false (nat_eq k n) (alone_false (not (nat_eq k n)) (nat_eq g.gate f.gate) none same))
 
 only_meter : (fs : List (ℕ × FilterPlan)) (n : ℕ) (f : FilterPlan) (k m : ℕ) (g : FilterPlan) → is_meter_shared fs n f ≡ false → f.meter ≡ Some m → In (k, g) fs → g.meter ≡ Some m → k ≡ n
 only_meter fs n f k m g h own i e =
     let none : (not (nat_eq k n) && is_one_meter g.meter f.meter) ≡ false = none_passes (λ (x : ℕ × FilterPlan). not (nat_eq x.0 n) && is_one_meter x.1.meter f.meter) fs (k, g) h i in
     let same : is_one_meter g.meter f.meter ≡ true = rw (e, own) (same_eq m) in
-    is_eq k n (not_false (nat_eq k n) (alone_false (not (nat_eq k n)) (is_one_meter g.meter f.meter) none same))
+    eqb-true k n (not-false (nat_eq k n) (alone_false (not (nat_eq k n)) (is_one_meter g.meter f.meter) none same))
 
 caught : (fs : List (ℕ × FilterPlan)) → has_catch_all fs ≡ true → (k : ℕ) × (g : FilterPlan) × In (k, g) fs × (g.handle ≡ None) × (g.priority ≡ None) × ((j : ℕ) (e : FilterPlan) → In (j, e) fs → j ≤ k)
 caught fs h =
@@ -265,7 +248,7 @@ not_beside : (s c d : ℕ) → s < 256 → is_shared s c ≡ false → is_open s
 not_beside s c d small h oc od =
     let beside : any_below 8 (λ e. not (nat_eq e c) && is_open s e) ≡ false = right_false (is_open s c) (any_below 8 (λ e. not (nat_eq e c) && is_open s e)) h oc in
     let none : (not (nat_eq d c) && is_open s d) ≡ false = none_below 8 d (λ e. not (nat_eq e c) && is_open s e) beside (open_below s d small od) in
-    is_eq d c (not_false (nat_eq d c) (alone_false (not (nat_eq d c)) (is_open s d) none od))
+    eqb-true d c (not-false (nat_eq d c) (alone_false (not (nat_eq d c)) (is_open s d) none od))
   where
     right_false : (a b : Bool) → (a && b) ≡ false → a ≡ true → b ≡ false
     right_false true b h t = h
@@ -299,8 +282,8 @@ isolated p n f plan listed h =
     record {
       handle = some_of f.handle (holds (is_some f.handle) _ handle);
       max_sdu = some_of f.max_sdu (holds (is_some f.max_sdu) _ sdu);
-      gate = λ k g i e. only_gate p.filters n f k g (not_true (is_gate_shared p.filters n f) (holds (not (is_gate_shared p.filters n f)) _ gate)) i e;
-      meter = λ k m g own i e. only_meter p.filters n f k m g (not_true (is_meter_shared p.filters n f) (holds (not (is_meter_shared p.filters n f)) _ meter)) own i e;
+      gate = λ k g i e. only_gate p.filters n f k g (not-true (is_gate_shared p.filters n f) (holds (not (is_gate_shared p.filters n f)) _ gate)) i e;
+      meter = λ k m g own i e. only_meter p.filters n f k m g (not-true (is_meter_shared p.filters n f) (holds (not (is_meter_shared p.filters n f)) _ meter)) own i e;
       catches = caught p.filters (holds (has_catch_all p.filters) _ catches);
       queue = λ k q c g i own other. no_other p p.filters n q c k g (told_none (fault.QueueShared n q c) (other_at p p.filters n q c) (not_told p f q c (λ q c. option_map (fault.QueueShared n q c) (other_at p p.filters n q c)) queue (reached p f q c plan own) own)) i other;
       window = λ q c port at own d u oc od.
@@ -312,8 +295,8 @@ isolated p n f plan listed h =
       fits = λ q c m port at own e.
           let r = reached p f q c plan own in
           let told : fault_unless (not (never_fits (port_at p.ports q) c f.max_sdu)) (fault.MaxSduNeverFits n q c) ≡ None = not_told p f q c (λ q c. fault_unless (not (never_fits (port_at p.ports q) c f.max_sdu)) (fault.MaxSduNeverFits n q c)) size r own in
-          let fitting : never_fits (port_at p.ports q) c f.max_sdu ≡ false = not_true (never_fits (port_at p.ports q) c f.max_sdu) (holds (not (never_fits (port_at p.ports q) c f.max_sdu)) _ told) in
+          let fitting : never_fits (port_at p.ports q) c f.max_sdu ≡ false = not-true (never_fits (port_at p.ports q) c f.max_sdu) (holds (not (never_fits (port_at p.ports q) c f.max_sdu)) _ told) in
           let ever : not (ever_fits port c m) ≡ false = subst (λ (o : Option (PortPlan _)). never_fits o c (Some m) ≡ false) at (subst (λ (s : Option ℕ). never_fits (port_at p.ports q) c s ≡ false) e fitting) in
           let (is, number) = is_port p q port plan at in
-          (ever_is port.list c (occupied (longest_frame m) port.speed) (made port.list is.list)).0 (not_false (ever_fits port c m) ever);
+          (ever_is port.list c (occupied (longest_frame m) port.speed) (made port.list is.list)).0 (not-false (ever_fits port c m) ever);
     }

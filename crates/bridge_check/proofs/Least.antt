@@ -3,15 +3,12 @@ use Rattle.std.proofs.Common.{◌≡◌, ◌<◌, ◌≤◌, ℕ, Bool, true, fa
 use Rattle.std.specs.Prelude.{option_map}
 use Rattle.std.proofs.lemmas.Bool.Decides.{nat_tests}
 use Rattle.bridge_cycle.specs.Entries.{In}
+use Rattle.bridge_cycle.proofs.Cases.{by_bool}
 use Rattle.bridge_filter.specs.declared.FilterPlan.{FilterPlan}
 use Rattle.bridge_config.specs.Model.{Plan}
 use Rattle.bridge_check.specs.declared.fault.CheckFault.{CheckFault}
 use Rattle.bridge_check.specs.Faults.{lesser_fault, fault_of, numbered_fault, least_fault, first_fault}
 use Rattle.bridge_check.specs.Acceptable.{IsAcceptable}
-
-by_bool : {C : Type 0} (b : Bool) → (b ≡ true → C) → (b ≡ false → C) → C
-by_bool true p q = p refl
-by_bool false p q = q refl
 
 below : (a b : ℕ) → nat_lt a b ≡ true → a < b
 below a b h = grind (arith, nat_tests)

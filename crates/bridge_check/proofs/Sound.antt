@@ -4,13 +4,15 @@ use Rattle.std.specs.Prelude.{slice_index, unwrap_or}
 use Rattle.std.specs.List.{list_any, list_all}
 use Rattle.std.specs.Map.{lookup}
 use Rattle.std.specs.Str.{bytes_eq}
-use Rattle.std.proofs.lemmas.Bool.{and_parts, false≢true, cases_lt}
+use Rattle.std.proofs.lemmas.Bool.{and_parts, eqb-true, false≢true, cases_lt}
 use Rattle.std.proofs.lemmas.Bool.Decides.{nat_tests}
 use Rattle.std.proofs.lemmas.Option.{same_Some}
+use Rattle.std.proofs.Math.Bool.{or-true}
 use Rattle.std.proofs.lemmas.Slice.Eq.{bytes_eq-Decides}
 use Rattle.bridge_frame.specs.declared.Head.{Head}
 use Rattle.bridge_cycle.specs.Entries.{In}
 use Rattle.bridge_cycle.specs.declared.timeline.Turn.{Turn}
+use Rattle.bridge_cycle.proofs.Cases.{by_bool}
 use Rattle.bridge_cycle.proofs.Lists.{among}
 use Rattle.bridge_gate.specs.declared.gate.GateAnswer.{GateAnswer}
 use Rattle.bridge_gate.specs.declared.gate.GateAnswer.TheVariants as gate
@@ -31,6 +33,7 @@ use Rattle.bridge_filter.specs.declared.Verdict.{Verdict}
 use Rattle.bridge_filter.specs.declared.Verdict.TheVariants as verdict
 use Rattle.bridge_filter.specs.Plans.{plans_of, gate_or_closed}
 use Rattle.bridge_filter.specs.Verdicts.{Call, Plans, Step, flow, lesser, is_match, takes_handle, takes_priority, verdict_of, by_answer, by_meter, by_colour, gate_answer, gate_share, is_blocked, is_above}
+use Rattle.bridge_filter.proofs.Numbered.{same_eq}
 use Rattle.bridge_forward.specs.Ports.{has}
 use Rattle.bridge_forward.specs.Forward.{forward}
 use Rattle.bridge_config.specs.declared.ports.PortPlan.{PortPlan}
@@ -39,37 +42,18 @@ use Rattle.bridge_config.specs.Rules.{IsPlan, port_at}
 use Rattle.bridge_check.specs.Faults.{fault_of}
 use Rattle.bridge_check.specs.Reach.{any_below, reaches, reaches_port, reaches_class, reaches_priority, are_null, is_null, leads_to, entries_of, entries_if, entries_at, has_value, gives, lets}
 use Rattle.bridge_check.specs.Sending.{vid_of, priority_of, call_of, class_of}
-use Rattle.bridge_check.proofs.Isolated.{isolated}
-
-is_eq : (m n : ℕ) → nat_eq m n ≡ true → m ≡ n
-is_eq m n h = grind (arith, nat_tests)
-
-same_eq : (n : ℕ) → nat_eq n n ≡ true
-same_eq n = grind (arith, nat_tests)
-
-by_bool : {C : Type 0} (b : Bool) → (b ≡ true → C) → (b ≡ false → C) → C
-by_bool true p q = p refl
-by_bool false p q = q refl
-
-or_true : (b : Bool) → (b || true) ≡ true
-or_true true = refl
-or_true false = refl
+use Rattle.bridge_check.proofs.Isolated.{each_passes, isolated}
 
 passes_any : {X : Type 0} (t : X → Bool) (xs : List X) (x : X) → In x xs → t x ≡ true → list_any t xs ≡ true
 passes_any t [] x i h = absurd i
 passes_any t (y ∷ ys) x (inl e) h = rw (sym (ap t e) ∙ h) refl
-passes_any t (y ∷ ys) x (inr i) h = rw (passes_any t ys x i h) (or_true (t y))
-
-each_passes : {X : Type 0} (t : X → Bool) (xs : List X) (x : X) → list_all t xs ≡ true → In x xs → t x ≡ true
-each_passes t [] x h i = absurd i
-each_passes t (y ∷ ys) x h (inl e) = let (here, rest) = and_parts (t y) (list_all t ys) h in ap t e ∙ here
-each_passes t (y ∷ ys) x h (inr i) = let (here, rest) = and_parts (t y) (list_all t ys) h in each_passes t ys x rest i
+passes_any t (y ∷ ys) x (inr i) h = rw (passes_any t ys x i h) (or-true (t y))
 
 below_any : (n k : ℕ) (t : ℕ → Bool) → k < n → t k ≡ true → any_below n t ≡ true
 below_any zero k t lt h = absurd (omega (arith, lt))
 below_any (suc n) k t lt h = elim (cases_lt k n) [
   | inl a ↦ rw (below_any n k t a h) refl
-  | inr a ↦ let same : k ≡ n = omega (arith, lt, a) in rw (subst (λ (i : ℕ). t i ≡ true) same h) (or_true (any_below n t))
+  | inr a ↦ let same : k ≡ n = omega (arith, lt, a) in rw (subst (λ (i : ℕ). t i ≡ true) same h) (or-true (any_below n t))
 ]
 
 -- THE FLOW
@@ -128,7 +112,7 @@ found (e ∷ es) port head vid h k = found_by (ident.is_match e port head vid) e
 
 taken : (h : ℕ) (o : Option ℕ) → takes_handle (Some h) o ≡ true → o ≡ Some h
 taken h None k = absurd (false≢true k)
-taken h (Some m) k = ap Some (sym (is_eq h m k))
+taken h (Some m) k = ap Some (sym (eqb-true h m k))
 
 null_address : (e : StreamEntry) (head : Head) → is_null e.kind ≡ true → ident.compared_address e.kind head ≡ head.da
 null_address e head h = null_of e.kind head h
@@ -151,8 +135,8 @@ goes_by p port head q h f goes null =
     let kind : (not (nat_eq e.handle h) || is_null e.kind) ≡ true = each_passes (λ (x : StreamEntry). not (nat_eq x.handle h) || is_null x.kind) p.streams e null f.listed in
     let is : is_null e.kind ≡ true = rw own at kind in
     let to : e.address ≡ head.da = same_bytes e.address (ident.compared_address e.kind head) address ∙ null_address e head is in
-    let port_is : e.port ≡ port.number = is_eq e.port port.number on in
-    let vid_is : e.vid ≡ vid = is_eq e.vid vid in_vlan in
+    let port_is : e.port ≡ port.number = eqb-true e.port port.number on in
+    let vid_is : e.vid ≡ vid = eqb-true e.vid vid in_vlan in
     let there : has (forward p.database e.port e.vid e.address) q ≡ true = rw (port_is, vid_is, to) goes in
     let both : (nat_eq e.handle h && has (forward p.database e.port e.vid e.address) q) ≡ true = rw (own, there) refl in
     passes_any (λ (x : StreamEntry). nat_eq x.handle h && has (forward p.database x.port x.vid x.address) q) p.streams e f.listed both
@@ -162,7 +146,7 @@ port_reached p port head q None goes takes = refl
 port_reached p port head q (Some h) goes takes =
     let f = found p.streams port.number head (vid_of port head.tag) h (taken h (ident.handle_in p.streams port.number head (vid_of port head.tag)) takes) in
     by_bool (are_null h p.streams)
-    (λ null. rw (goes_by p port head q h f goes null) (or_true (not (are_null h p.streams))))
+    (λ null. rw (goes_by p port head q h f goes null) (or-true (not (are_null h p.streams))))
     (λ other. rw other refl)
 
 -- THE GATE

@@ -1,7 +1,8 @@
 -- What a test says of the numbers below some bound, kept in a list.
-use Rattle.std.proofs.Common.{◌≡◌, ◌<◌, ◌≤◌, ◌+◌, ◌-◌, ℕ, zero, suc, Bool, true, false, List, [], ◌∷◌, ◌++◌, length, take, set, get_or, refl, sym, ap, ◌∙◌, arith, subst, inl, inr, Option, Some, None, ◌&&◌}
+use Rattle.std.proofs.Common.{◌≡◌, ◌<◌, ◌≤◌, ◌+◌, ◌-◌, ℕ, zero, suc, Bool, false, List, [], ◌∷◌, ◌++◌, length, take, set, get_or, refl, sym, ap, ◌∙◌, arith, subst, inl, inr, Option, Some, None}
 use Rattle.std.proofs.lemmas.Bool.{cases_lt}
 use Rattle.std.proofs.lemmas.List.{take_more_set, length-append, get_or_append_left}
+use Rattle.std.proofs.Math.Bool.{and-false}
 use Rattle.std.proofs.Math.Numerals.{add-one}
 use Rattle.std.proofs.Math.Seq.{get_or-append_seam}
 use Rattle.bridge_filter.specs.declared.FilterPlan.{FilterPlan}
@@ -49,13 +50,9 @@ pub others : {A : Type 0} (p : Plan A) (fs : List (ℕ × FilterPlan)) (n q c : 
 others p [] n q c port from to at = refl
 others p (g ∷ gs) n q c port from to at = rw (in_reach p g.1 q c port from to at, others p gs n q c port from to at) refl
 
-and_false : (b : Bool) → (b && false) ≡ false
-and_false true = refl
-and_false false = refl
-
 -- no queue of a port that isn't there is reached
 unreached : {A : Type 0} (p : Plan A) (f : FilterPlan) (q c : ℕ) → port_at p.ports q ≡ None → reaches p f q c ≡ false
-unreached p f q c at = rw at (and_false (reaches_port p f.handle q))
+unreached p f q c at = rw at (and-false (reaches_port p f.handle q))
 
 none_below : {X : Type 0} (n : ℕ) (tell : ℕ → Option X) → ((k : ℕ) → tell k ≡ None) → first_below n tell ≡ None
 unfolding first_below

@@ -1,9 +1,9 @@
 -- One instance more, that none before it equals.
-use Rattle.std.proofs.Common.{◌≡◌, ℕ, Bool, true, false, not, ◌||◌, ◌&&◌, nat_eq, List, [], ◌∷◌, ◌++◌, refl, sym, arith, All, IsTrue, Option, Some, None, cond}
+use Rattle.std.proofs.Common.{◌≡◌, ℕ, Bool, true, false, not, ◌&&◌, nat_eq, List, [], ◌∷◌, ◌++◌, refl, sym, arith, All, IsTrue, Option, Some, None, cond}
 use Rattle.std.specs.Option.{is_some}
 use Rattle.std.specs.Map.{lookup}
 use Rattle.std.specs.List.{list_any}
-use Rattle.std.proofs.lemmas.Bool.{and_parts, false≢true}
+use Rattle.std.proofs.lemmas.Bool.{and_parts, or_parts, not-true, false≢true}
 use Rattle.std.proofs.lemmas.Bool.Decides.{nat_tests}
 use Rattle.std.proofs.lemmas.Grind.{common_steps}
 use Rattle.std.proofs.lemmas.List.Folds.{list_any-append, list_all-append}
@@ -21,15 +21,11 @@ use Rattle.bridge_config.specs.declared.ports.PortPlan.{PortPlan}
 use Rattle.bridge_config.specs.Rules.{are_own, has_port, has_vlan, has_static, IsVlan, AreVlans, IsStatic, AreStatics, IsPort, ArePorts, AreGates, AreMeters, IsFilter, AreFilters}
 use Rattle.bridge_config.specs.Sections.{has_number}
 
-both_false : (a b : Bool) → (a || b) ≡ false → (a ≡ false) × (b ≡ false)
-both_false true b h = absurd (false≢true (sym h))
-both_false false b h = (refl, h)
-
 pub are_own-push : {X : Type 0} (same : X → X → Bool) (xs : List X) (y : X) → are_own same xs ≡ true → list_any (λ x. same x y) xs ≡ false → are_own same (xs ++ y ∷ []) ≡ true
 are_own-push same [] y own new = refl
 are_own-push same (x ∷ xs) y own new =
     let (here, more) = and_parts (not (list_any (λ z. same x z) xs)) (are_own same xs) own in
-    let (other, others) = both_false (same x y) (list_any (λ z. same z y) xs) new in
+    let (other, others) = or_parts (same x y) (list_any (λ z. same z y) xs) new in
     let none : list_any (λ z. same x z) xs ≡ false = grind (arith, common_steps) in
     rw (list_any-append (λ z. same x z) xs (y ∷ []), none, other, are_own-push same xs y more others) refl
 
@@ -66,10 +62,6 @@ apart n (x ∷ xs) y differ none =
     let (other, more) = past_head (nat_eq n x.0) x.1 (lookup (nat_eq n) xs) none in
     rw other (apart n xs y differ more)
 
-turned : (b : Bool) → not b ≡ true → b ≡ false
-turned true h = sym h
-turned false h = refl
-
 swapped : (m n : ℕ) → nat_eq m n ≡ false → nat_eq n m ≡ false
 swapped m n h = grind (arith, nat_tests)
 
@@ -78,7 +70,7 @@ distinct_push [] y own new = refl
 distinct_push (x ∷ xs) y own new =
     let (here, more) = and_parts (not (is_there x.0 xs)) (are_distinct xs) own in
     let (other, others) = past_head (nat_eq y.0 x.0) x.1 (lookup (nat_eq y.0) xs) new in
-    rw (apart x.0 xs y (swapped y.0 x.0 other) (turned (is_there x.0 xs) here), distinct_push xs y more others) refl
+    rw (apart x.0 xs y (swapped y.0 x.0 other) (not-true (is_there x.0 xs) here), distinct_push xs y more others) refl
 
 -- a number that may be none is there where each one is
 pub there_if_any : {X : Type 0} (o : Option ℕ) (xs : List (ℕ × X)) → ((n : ℕ) → o ≡ Some n → is_there n xs ≡ true) → is_there_if_any o xs ≡ true
