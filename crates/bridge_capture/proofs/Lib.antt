@@ -3,7 +3,8 @@ pub mod Fronts
 pub mod Headers
 pub mod OneWay
 pub mod Parts
+pub mod Rising
 pub mod Steps
+pub mod Taken
 pub mod Turns
 pub mod Written
-pub mod Rising

@@ -1,6 +1,8 @@
 -- The classic capture file, by cases on its octets.
 use Rattle.std.specs.Prelude.{◌≡◌, ℕ, ◌+◌, ◌*◌, ◌^◌, List, [], ◌∷◌, length, take, drop, Option, Some, None, Result, Ok, Err, nat_lt, nat_le, ◌==◌, if◌then◌else◌}
 use Rattle.std.specs.Int.{w16, w32, from_be_bytes, from_le_bytes}
+use Rattle.bridge_base.specs.declared.TheConstants.{END_OF_TIME, MOST_CAPTURED}
+use Rattle.bridge_capture.specs.declared.record.TheConstants.{MAX_RECORDS}
 use Rattle.bridge_capture.specs.declared.form.Order.{Order}
 use Rattle.bridge_capture.specs.declared.form.Order.TheVariants.{Little, Big}
 use Rattle.bridge_capture.specs.declared.form.Unit.{Unit as FractionUnit}
@@ -99,9 +101,9 @@ original_of form octets = word32 form.order (octets_at 12 4 octets)
 -- the first fault of a record's words
 abbrev pub head_fault : Place → ℕ → ℕ → ℕ → Option CaptureFault
 head_fault place time captured original =
-    if nat_lt 262144 captured then Some (RecordTooLarge place.number)
+    if nat_lt MOST_CAPTURED captured then Some (RecordTooLarge place.number)
     else if nat_lt original captured then Some (LengthsCross place.number)
-    else if nat_le (4 * 10 ^ 18) time then Some (TimeTooLate place.number)
+    else if nat_le END_OF_TIME time then Some (TimeTooLate place.number)
     else if nat_lt time place.earliest then Some (TimeBack place.number)
     else None
 
@@ -116,7 +118,7 @@ record_with_head form place octets None =
 unfoldable pub front_of : Form → Place → List ℕ → Front
 front_of form place octets =
     if length octets == 0 then Nothing
-    else if nat_lt 1000000 place.number then Fault TooManyRecords
+    else if nat_lt MAX_RECORDS place.number then Fault TooManyRecords
     else if nat_lt (length octets) 16 then Fault (RecordCut place.number)
     else record_with_head form place octets (head_fault place (time_of form octets) (captured_of form octets) (original_of form octets))
 

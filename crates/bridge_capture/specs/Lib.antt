@@ -2,7 +2,9 @@ pub mod Examples
 pub mod Grammar
 pub mod Laws
 pub mod Memory
+pub mod Numbers
 pub mod Reading
 pub mod Sinks
 pub mod Standing
+pub mod Taken
 pub mod Written

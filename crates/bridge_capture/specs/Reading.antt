@@ -5,6 +5,7 @@ use Rattle.bridge_capture.specs.declared.fault.CaptureFault.{CaptureFault}
 use Rattle.bridge_capture.specs.declared.fault.CaptureFault.TheVariants as faults
 use Rattle.bridge_capture.specs.declared.packet.Packet.{Packet}
 use Rattle.bridge_capture.specs.Grammar.{Captured, Front, Nothing, Fault, Record}
+use Rattle.bridge_capture.specs.Taken.{TakesFewer}
 
 -- a packet without where it lies in memory
 abbrev pub view : {A : Type 0} → Packet A → Captured
@@ -28,13 +29,28 @@ Takes front rest (Ok None) = front ≡ Nothing
 Takes front rest (Ok (Some p)) = (more : List ℕ) × (front ≡ Record (view p) more) × (rest ≡ Some more)
 Takes front rest (Err fault) = Fails fault front
 
--- a record's octets were cut, unless the device or memory refused
+-- a record's octets were cut, or the device failed before they were there, or memory was refused before any was taken
 abbrev pub CutsOctets : ℕ → ℕ → Option (List ℕ) → Option (List ℕ) → CaptureFault → Type 0
-CutsOctets number count old new faults.Read = Unit {0}
-CutsOctets number count old new faults.NoMemory = Unit {0}
+CutsOctets number count old new faults.Read = TakesFewer count old new
+CutsOctets number count old new faults.NoMemory = new ≡ old
 CutsOctets number count old new fault = (fault ≡ faults.RecordCut number) × (IsAtEnd new × ((octets : List ℕ) × (length octets < count) × Consumes old new octets))
 
 -- what a call took as the octets of a record
 abbrev pub TakesOctets : {A : Type 0} → ℕ → ℕ → Option (List ℕ) → Option (List ℕ) → Result (Vec ℕ A) CaptureFault → Type 0
 TakesOctets number count old new (Ok octets) = (length octets.items ≡ count) × Consumes old new octets.items
 TakesOctets number count old new (Err fault) = CutsOctets number count old new fault
+
+-- a fault of a record's words
+abbrev pub IsOfWords : CaptureFault → Type 0
+IsOfWords (faults.RecordTooLarge number) = Unit {0}
+IsOfWords (faults.LengthsCross number) = Unit {0}
+IsOfWords (faults.TimeTooLate number) = Unit {0}
+IsOfWords (faults.TimeBack number) = Unit {0}
+IsOfWords fault = ⊥
+
+-- a fault of a whole header
+abbrev pub IsOfHeader : CaptureFault → Type 0
+IsOfHeader faults.BadMagic = Unit {0}
+IsOfHeader faults.BadVersion = Unit {0}
+IsOfHeader faults.BadLinkType = Unit {0}
+IsOfHeader fault = ⊥

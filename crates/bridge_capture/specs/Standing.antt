@@ -1,5 +1,7 @@
 -- A capture that is being read, and the text that its source had when it began.
 use Rattle.std.specs.Prelude.{◌≡◌, ℕ, ◌+◌, ◌-◌, ◌*◌, ◌^◌, ◌<◌, ◌≤◌, length, map, List, [], ◌∷◌, ◌++◌, Option, Some, None, Result, Ok, Err, drop}
+use Rattle.bridge_base.specs.declared.TheConstants.{END_OF_TIME, MOST_CAPTURED}
+use Rattle.bridge_capture.specs.declared.record.TheConstants.{MAX_RECORDS}
 use Rattle.bridge_capture.specs.declared.form.Form.{Form}
 use Rattle.bridge_capture.specs.declared.fault.CaptureFault.{CaptureFault}
 use Rattle.bridge_capture.specs.declared.fault.CaptureFault.TheVariants as faults
@@ -8,6 +10,7 @@ use Rattle.bridge_capture.specs.declared.progress.Progress.{Progress}
 use Rattle.bridge_capture.specs.declared.progress.Progress.TheVariants.{Reading, Ended, Refused}
 use Rattle.bridge_capture.specs.Grammar.{Captured, Place, BeginsWith, Records, AtEnd, AtFault, header_of, first_place}
 use Rattle.bridge_capture.specs.Reading.{view}
+use Rattle.bridge_capture.specs.Taken.{TakesOfRecord}
 
 -- a capture that is being read: its form, the records that it gave, the time of the last of them, and whether it goes on
 pub record CaptureState : Type 0 where
@@ -22,7 +25,7 @@ place_of capture = record { number = capture.records + 1; earliest = capture.lat
 
 -- how many records may still come
 abbrev pub records_left : CaptureState → ℕ
-records_left capture = 1000000 - capture.records
+records_left capture = MAX_RECORDS - capture.records
 
 -- more may come
 abbrev pub IsReading : CaptureState → Type 0
@@ -73,10 +76,14 @@ Answers capture remaining text given (Ok (Some packet)) = StandsFor capture rema
 Answers capture remaining text given (Ok None) = StandsFor capture remaining text given × Records text given AtEnd
 Answers capture remaining text given (Err fault) = StandsFor capture remaining text given × RefusedSo fault text given
 
+-- what is taken where the next record is refused
+abbrev pub TakesFor : CaptureState → Option (List ℕ) → Option (List ℕ) → CaptureFault → Type 0
+TakesFor capture old new fault = TakesOfRecord capture.form (place_of capture) old new fault
+
 -- frames whose times don't fall from this one on, each below 4*10^18 ns, and whose octets are no more than their lengths
 abbrev pub AreInOrder : ℕ → List Captured → Type 0
 AreInOrder earliest [] = Unit {0}
-AreInOrder earliest (captured ∷ more) = ((earliest ≤ captured.time) × (captured.time < 4 * 10 ^ 18) × (length captured.octets ≤ 262144) × (length captured.octets ≤ captured.len)) × AreInOrder captured.time more
+AreInOrder earliest (captured ∷ more) = ((earliest ≤ captured.time) × (captured.time < END_OF_TIME) × (length captured.octets ≤ MOST_CAPTURED) × (length captured.octets ≤ captured.len)) × AreInOrder captured.time more
 
 -- the time of the last of some frames, or another one
 abbrev pub last_time : ℕ → List Captured → ℕ

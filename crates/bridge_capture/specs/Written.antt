@@ -2,6 +2,8 @@
 use Rattle.std.specs.Prelude.{ℕ, ◌*◌, ◌/◌, ◌%◌, ◌^◌, ◌<◌, ◌≤◌, ◌+◌, List, [], ◌∷◌, ◌++◌, length}
 use Rattle.std.specs.Int.{w32, to_le_bytes}
 use Rattle.std.specs.List.{flat_map}
+use Rattle.bridge_base.specs.declared.TheConstants.{END_OF_TIME}
+use Rattle.bridge_capture.specs.declared.record.TheConstants.{MAX_RECORDS}
 use Rattle.bridge_capture.specs.declared.form.Form.{Form}
 use Rattle.bridge_capture.specs.declared.form.Order.TheVariants.{Little}
 use Rattle.bridge_capture.specs.declared.form.Unit.TheVariants.{Nano}
@@ -34,4 +36,4 @@ written_text frames = written_header ++ flat_map written_item frames
 -- from this number and time on, these frames can be written and read again: not too many, times that don't fall, lengths in range
 abbrev pub AreWritable : ℕ → ℕ → List Captured → Type 0
 AreWritable number earliest [] = Unit {0}
-AreWritable number earliest (captured ∷ more) = (number ≤ 1000000) × (earliest ≤ captured.time) × (captured.time < 4 * 10 ^ 18) × (length captured.octets ≤ 65535) × (length captured.octets ≤ captured.len) × (captured.len < 2 ^ 32) × AreWritable (number + 1) captured.time more
+AreWritable number earliest (captured ∷ more) = (number ≤ MAX_RECORDS) × (earliest ≤ captured.time) × (captured.time < END_OF_TIME) × (length captured.octets ≤ 65535) × (length captured.octets ≤ captured.len) × (captured.len < 2 ^ 32) × AreWritable (number + 1) captured.time more

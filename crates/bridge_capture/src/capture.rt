@@ -4,9 +4,10 @@ use crate::form::Form;
 use crate::header::{HEADER_LEN, judge};
 use crate::packet::Packet;
 use crate::progress::Progress;
-use crate::record::front_record;
+use crate::record::{MAX_RECORDS, front_record};
 use crate::source::ByteSource;
 use crate::transfer::fill;
+use bridge_base::{END_OF_TIME, MOST_CAPTURED};
 use std::alloc::Allocator;
 use std::marker::Model;
 
@@ -26,32 +27,37 @@ impl Model for Capture {
     ghost use Rattle.std.specs.Prelude.{◌≤◌, ◌≢◌};
     ghost use Rattle.bridge_capture.specs.declared.fault.CaptureFault.TheVariants.{Write};
     ghost use Rattle.bridge_capture.specs.declared.progress.Progress.TheVariants.{Refused};
+    ghost use Rattle.bridge_capture.specs.declared.record.TheConstants.{MAX_RECORDS};
     ghost use Rattle.bridge_capture.specs.Standing.{CaptureState};
 
     ghost Value = { CaptureState };
 
     ghost view = { λ c. record { form = c.form; records = c.records; latest = c.latest; progress = c.progress } };
 
-    ghost invariant = { λ c. (c.records ≤ 1000000) × (c.progress ≢ Refused Write) };
+    ghost invariant = { λ c. (c.records ≤ MAX_RECORDS) × (c.progress ≢ Refused Write) };
 }
 
 impl Capture {
     ghost use Rattle.std.specs.Prelude.{◌≡◌, ◌≢◌, ◌≤◌, ◌<◌, ◌+◌, ◌*◌, ◌^◌, ◌++◌, ℕ, List, [], length, Result, Ok, Err, Some, None, true, IfOk, IfErr, OnOk};
     ghost use Rattle.bridge_capture.specs.Grammar.{Captured, Records, AtEnd};
     ghost use Rattle.bridge_capture.specs.Reading.{IfPacket};
-    ghost use Rattle.bridge_capture.specs.Standing.{StandsFor, Begins, Answers, RefusedSo, IsReading, HasEnded, HasRefused, records_left, views, AreInOrder};
+    ghost use Rattle.bridge_capture.specs.Standing.{StandsFor, Begins, Answers, RefusedSo, IsReading, HasEnded, HasRefused, records_left, views, AreInOrder, TakesFor};
+    ghost use Rattle.bridge_capture.specs.Taken.{TakesOfHeader};
 
     /// Reads the header of a capture. Takes no memory.
     pub fn begin<R: ByteSource>(source: &mut R) -> Result<Capture, CaptureFault>
         ensures stands { (text : List ℕ) → R.remaining source.old ≡ Some text → Begins text (R.remaining source.new) result }
+        ensures taken { IfErr result (TakesOfHeader (R.remaining source.old) (R.remaining source.new)) }
 
         // A new capture is being read, and has given no record.
         ensures reading { IfOk result (λ capture. IsReading capture) }
-        ensures none { IfOk result (λ capture. records_left capture ≡ 1000000) }
+        ensures none { IfOk result (λ capture. records_left capture ≡ MAX_RECORDS) }
         ensures zero { IfOk result (λ capture. capture.latest ≡ 0) }
 
         // Only a source that has failed is answered so, and each such source is.
         ensures read { result ≡ Err CaptureFault.Read → R.has_failed source.new ≡ true }
+        ensures sure { R.never_fails source.old ≡ true → result ≢ Err CaptureFault.Read }
+        ensures lasts { R.never_fails source.old ≡ true → R.never_fails source.new ≡ true }
         ensures broken { R.has_failed source.old ≡ true → result ≡ Err CaptureFault.Read }
         ensures no_write { result ≢ Err CaptureFault.Write }
         ensures no_memory { result ≢ Err CaptureFault.NoMemory }
@@ -84,12 +90,14 @@ impl Capture {
     ) -> Result<Option<Packet<A>>, CaptureFault>
         ensures stands { (text : List ℕ) (given : List Captured) → StandsFor self.old (R.remaining source.old) text given →
             Answers self.new (R.remaining source.new) text given result }
+        ensures taken { IfErr result (λ fault. IsReading self.old → TakesFor self.old (R.remaining source.old) (R.remaining source.new) fault) }
+        ensures untouched { ¬ IsReading self.old → source.new ≡ source.old }
 
         // What holds of a packet, whatever the source tells.
-        ensures early { IfPacket result (λ packet. packet.time < 4 * 10 ^ 18) }
+        ensures early { IfPacket result (λ packet. packet.time < END_OF_TIME) }
         ensures onward { IfPacket result (λ packet. self.old.latest ≤ packet.time) }
         ensures latest { IfPacket result (λ packet. self.new.latest ≡ packet.time) }
-        ensures small { IfPacket result (λ packet. length packet.octets.items ≤ 262144) }
+        ensures small { IfPacket result (λ packet. length packet.octets.items ≤ MOST_CAPTURED) }
         ensures within { IfPacket result (λ packet. length packet.octets.items ≤ packet.len) }
         ensures fewer { IfPacket result (λ _. records_left self.old ≡ records_left self.new + 1) }
         ensures reading { IfPacket result (λ _. IsReading self.new) }
@@ -103,6 +111,8 @@ impl Capture {
         // Only a source that has failed is answered so, and each such source is.
         ensures read { result ≡ Err CaptureFault.Read → IsReading self.old → R.has_failed source.new ≡ true }
         ensures broken { R.has_failed source.old ≡ true → IsReading self.old → result ≡ Err CaptureFault.Read }
+        ensures sure { R.never_fails source.old ≡ true → IsReading self.old → result ≢ Err CaptureFault.Read }
+        ensures lasts { R.never_fails source.old ≡ true → R.never_fails source.new ≡ true }
         ensures no_write { result ≢ Err CaptureFault.Write }
     {
         match self.progress {
@@ -152,6 +162,7 @@ impl Capture {
         // Only a source that has failed is answered so, and each such source is.
         ensures read { result ≡ Err CaptureFault.Read → IsReading self.old → R.has_failed source.new ≡ true }
         ensures broken { R.has_failed source.old ≡ true → IsReading self.old → result ≡ Err CaptureFault.Read }
+        ensures sure { R.never_fails source.old ≡ true → IsReading self.old → result ≢ Err CaptureFault.Read }
         ensures no_write { result ≢ Err CaptureFault.Write }
     {
         let mut packets = Vec::new(alloc);

@@ -22,13 +22,13 @@ pub enum CaptureFault {
     /// More octets of the frame are captured than it had.
     #[error("record {0} has more octets captured than the frame had")]
     LengthsCross(u32),
-    /// More than `MAX_CAPTURED` octets are captured.
+    /// More than `MOST_CAPTURED` octets are captured.
     #[error("record {0} is too large")]
     RecordTooLarge(u32),
     /// Its time is before that of the record before it.
     #[error("record {0} is earlier than the one before")]
     TimeBack(u32),
-    /// Its time is at `TIME_LIMIT` or after.
+    /// Its time is at `END_OF_TIME` or after.
     #[error("record {0} is too late")]
     TimeTooLate(u32),
     /// Something follows record `MAX_RECORDS`.
@@ -43,4 +43,30 @@ pub enum CaptureFault {
     /// A growth of memory was refused.
     #[error("no memory")]
     NoMemory,
+}
+
+impl CaptureFault {
+    ghost use Rattle.std.specs.Prelude.{◌≡◌};
+    ghost use Rattle.bridge_capture.specs.Numbers.{number_of};
+
+    /// The number of the fault, 1 to 13.
+    pub fn number(self) -> u8
+        ensures { result ≡ number_of self }
+    {
+        match self {
+            CaptureFault::BadMagic => 1,
+            CaptureFault::BadVersion => 2,
+            CaptureFault::BadLinkType => 3,
+            CaptureFault::HeaderCut => 4,
+            CaptureFault::RecordCut(_) => 5,
+            CaptureFault::LengthsCross(_) => 6,
+            CaptureFault::RecordTooLarge(_) => 7,
+            CaptureFault::TimeBack(_) => 8,
+            CaptureFault::TimeTooLate(_) => 9,
+            CaptureFault::TooManyRecords => 10,
+            CaptureFault::Read => 11,
+            CaptureFault::Write => 12,
+            CaptureFault::NoMemory => 13,
+        }
+    }
 }

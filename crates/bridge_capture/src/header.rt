@@ -1,7 +1,8 @@
 //! The header of a capture.
-ghost use Rattle.std.specs.Prelude.{◌≡◌, length, take};
+ghost use Rattle.std.specs.Prelude.{◌≡◌, length, take, IfErr};
 ghost use Rattle.std.specs.Int.{w32, from_le_bytes};
 ghost use Rattle.bridge_capture.specs.Grammar.{form_of_magic, judged_header, word16, word32};
+ghost use Rattle.bridge_capture.specs.Reading.{IsOfHeader};
 
 use crate::fault::CaptureFault;
 use crate::form::{Form, Order, Unit};
@@ -50,7 +51,8 @@ fn form_of(magic: u32) -> Option<Form>
 /// The form of a whole header, or its first fault.
 pub fn judge(octets: &[u8]) -> Result<Form, CaptureFault>
     requires { length octets.now ≡ 24 }
-    ensures { result ≡ judged_header (form_of_magic (from_le_bytes w32 (take 4 octets.now))) octets.now }
+    ensures judged { result ≡ judged_header (form_of_magic (from_le_bytes w32 (take 4 octets.now))) octets.now }
+    ensures only { IfErr result IsOfHeader }
 {
     let form = match form_of(word(Order::Little, &octets[..4])) {
         Some(form) => form,

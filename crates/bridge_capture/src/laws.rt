@@ -3,7 +3,7 @@ ghost use Rattle.std.specs.Prelude.{ℕ, List};
 ghost use Rattle.bridge_capture.specs.Laws.{WrittenIsRead, ReadsOneWay};
 
 /// What was written is read again: at most 1,000,000 frames with times that don't fall, all below
-/// `TIME_LIMIT`, of at most 65,535 octets captured and no more than the frame had.
+/// `END_OF_TIME`, of at most 65,535 octets captured and no more than the frame had.
 pub fn written_is_read()
     ensures { WrittenIsRead }
 {}

@@ -1,7 +1,8 @@
 //! One record of a capture.
-ghost use Rattle.std.specs.Prelude.{◌≡◌, ◌≢◌, ◌≤◌, ◌<◌, ◌*◌, ◌^◌, Some, None, Err, true, length, IfSome, MatchResult};
+ghost use Rattle.std.specs.Prelude.{◌≡◌, ◌≢◌, ◌≤◌, ◌<◌, ◌*◌, ◌^◌, Some, None, Err, true, length, IfSome, IfErr, MatchResult};
 ghost use Rattle.bridge_capture.specs.Grammar.{time_of, captured_of, original_of, head_fault, front_of};
-ghost use Rattle.bridge_capture.specs.Reading.{Takes, TakesOctets, IfPacket};
+ghost use Rattle.bridge_capture.specs.Reading.{Takes, TakesOctets, IfPacket, IsOfWords};
+ghost use Rattle.bridge_capture.specs.Taken.{TakesOfRecord};
 
 use crate::fault::CaptureFault;
 use crate::form::{Form, Unit};
@@ -9,16 +10,11 @@ use crate::header::word;
 use crate::packet::Packet;
 use crate::source::ByteSource;
 use crate::transfer::fill;
+use bridge_base::{END_OF_TIME, MOST_CAPTURED};
 use std::alloc::Allocator;
 
 /// The most records that a capture may have.
 pub const MAX_RECORDS: u32 = 1_000_000;
-
-/// The most octets that a record may have captured.
-pub const MAX_CAPTURED: u32 = 262_144;
-
-/// Each record's time is below this moment, in ns.
-pub const TIME_LIMIT: u64 = 4_000_000_000_000_000_000;
 
 /// The four words of a record.
 #[derive(Clone, Copy)]
@@ -51,16 +47,17 @@ fn head_of(form: Form, octets: &[u8]) -> Head
 
 /// Whether record `number`, after one at `earliest`, may have these words; else their first fault.
 fn judge_head(number: u32, earliest: u64, head: Head) -> Result<(), CaptureFault>
-    ensures { let fault = head_fault (record { number = number; earliest = earliest }) head.time head.captured head.original in
+    ensures judged { let fault = head_fault (record { number = number; earliest = earliest }) head.time head.captured head.original in
         MatchResult result (λ _. fault ≡ None) (λ f. fault ≡ Some f) }
+    ensures only { IfErr result IsOfWords }
 {
-    if head.captured > MAX_CAPTURED {
+    if head.captured > MOST_CAPTURED {
         return Err(CaptureFault::RecordTooLarge(number));
     }
     if head.original < head.captured {
         return Err(CaptureFault::LengthsCross(number));
     }
-    if head.time >= TIME_LIMIT {
+    if head.time >= END_OF_TIME {
         return Err(CaptureFault::TimeTooLate(number));
     }
     if head.time < earliest {
@@ -78,6 +75,8 @@ fn take_octets<R: ByteSource, A: Allocator>(
 ) -> Result<Vec<u8, A>, CaptureFault>
     ensures octets { TakesOctets number captured (R.remaining source.old) (R.remaining source.new) result }
     ensures failed { result ≡ Err CaptureFault.Read → R.has_failed source.new ≡ true }
+    ensures sure { R.never_fails source.old ≡ true → result ≢ Err CaptureFault.Read }
+    ensures lasts { R.never_fails source.old ≡ true → R.never_fails source.new ≡ true }
 {
     let mut octets = match Vec::from_elem(alloc, 0u8, captured as usize) {
         Ok(octets) => octets,
@@ -104,12 +103,15 @@ pub fn front_record<R: ByteSource, A: Allocator>(
 ) -> Result<Option<Packet<A>>, CaptureFault>
     ensures record { IfSome (R.remaining source.old) (λ octets.
         Takes (front_of form (record { number = number; earliest = earliest }) octets) (R.remaining source.new) result) }
-    ensures few { IfPacket result (λ _. number ≤ 1000000) }
-    ensures early { IfPacket result (λ packet. packet.time < 4 * 10 ^ 18) }
+    ensures taken { IfErr result (TakesOfRecord form (record { number = number; earliest = earliest }) (R.remaining source.old) (R.remaining source.new)) }
+    ensures few { IfPacket result (λ _. number ≤ MAX_RECORDS) }
+    ensures early { IfPacket result (λ packet. packet.time < END_OF_TIME) }
     ensures onward { IfPacket result (λ packet. earliest ≤ packet.time) }
-    ensures small { IfPacket result (λ packet. length packet.octets.items ≤ 262144) }
+    ensures small { IfPacket result (λ packet. length packet.octets.items ≤ MOST_CAPTURED) }
     ensures within { IfPacket result (λ packet. length packet.octets.items ≤ packet.len) }
     ensures failed { result ≡ Err CaptureFault.Read → R.has_failed source.new ≡ true }
+    ensures sure { R.never_fails source.old ≡ true → result ≢ Err CaptureFault.Read }
+    ensures lasts { R.never_fails source.old ≡ true → R.never_fails source.new ≡ true }
     ensures broken { R.has_failed source.old ≡ true → result ≡ Err CaptureFault.Read }
     ensures no_write { result ≢ Err CaptureFault.Write }
 {

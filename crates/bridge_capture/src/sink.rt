@@ -1,5 +1,5 @@
 //! Where octets go.
-ghost use Rattle.std.specs.Prelude.{◌≡◌, ◌≤◌, ◌<◌, ℕ, List, Option, Bool, true, length, IsErr, IfOk, OnErr};
+ghost use Rattle.std.specs.Prelude.{◌≡◌, ◌≤◌, ◌<◌, ℕ, List, Option, Bool, true, false, length, IsErr, IfOk, OnOk, OnErr};
 ghost use Rattle.std.specs.Io.KnownBytes.{WriteAppends};
 
 use crate::source::Broken;
@@ -18,6 +18,7 @@ pub trait ByteSink {
         ensures some { IfOk result (λ n. 0 < length octets.now → 0 < n) }
         ensures bytes { WriteAppends (contents self.old) (contents self.new) result octets.now }
         ensures fails { OnErr result (has_failed self.new ≡ true) }
+        ensures works { OnOk result (has_failed self.new ≡ false) }
         ensures stays { has_failed self.old ≡ true → IsErr result };
 
     /// Whether it has failed.

@@ -1,6 +1,7 @@
 //! Octets of memory as a source, which tells them and can fail at a stated place.
-ghost use Rattle.std.specs.Prelude.{◌≡◌, ◌≤◌, ◌-◌, ◌<◌, ◌⊎◌, length, Some, true, IfOk, OnErr, IsErr, option_map};
+ghost use Rattle.std.specs.Prelude.{◌≡◌, ◌≤◌, ◌-◌, ◌<◌, ◌⊎◌, length, Some, true, false, IfOk, OnOk, OnErr, IsErr, IsOk, option_map};
 ghost use Rattle.std.specs.Io.KnownBytes.{ReadConsumes};
+ghost use Rattle.bridge_capture.specs.Memory.{is_sure};
 
 use crate::source::{Broken, ByteSource};
 use std::marker::Model;
@@ -76,10 +77,15 @@ impl<'a> ByteSource for SliceSource<'a> {
 
     ghost has_failed = { λ s. s.is_broken };
 
+    ghost never_fails = { λ s. is_sure s };
+
     fn read(&mut self, buf: &mut [u8]) -> Result<usize, Broken>
         ensures count { IfOk result (λ n. n ≤ length buf.new) }
         ensures bytes { ReadConsumes (Some self.old.octets) (Some self.new.octets) result buf.new }
         ensures fails { OnErr result (self.new.is_broken ≡ true) }
+        ensures works { OnOk result (self.new.is_broken ≡ false) }
+        ensures sure { is_sure self.old ≡ true → IsOk result }
+        ensures lasts { is_sure self.old ≡ true → is_sure self.new ≡ true }
         ensures stays { self.old.is_broken ≡ true → IsErr result }
 
         // It fails only where it was to fail, and counts what it gives.
@@ -87,6 +93,7 @@ impl<'a> ByteSource for SliceSource<'a> {
         ensures dry { self.old.allowance ≡ Some 0 → 0 < length buf.old → IsErr result }
         ensures counted { IfOk result (λ n. self.new.allowance ≡ option_map (λ left. left - n) self.old.allowance) }
         ensures step { IfOk result (λ n. n ≤ self.old.step) }
+        ensures kept { self.new.step ≡ self.old.step }
     {
         if self.is_broken {
             return Err(Broken);

@@ -1,5 +1,5 @@
 //! Where octets come from.
-ghost use Rattle.std.specs.Prelude.{◌≡◌, ◌≤◌, ℕ, List, Option, Bool, true, length, IsErr, IfOk, OnErr};
+ghost use Rattle.std.specs.Prelude.{◌≡◌, ◌≤◌, ℕ, List, Option, Bool, true, false, length, IsErr, IsOk, IfOk, OnOk, OnErr};
 ghost use Rattle.std.specs.Io.KnownBytes.{ReadConsumes};
 
 use thiserror::Error;
@@ -17,12 +17,18 @@ pub trait ByteSource {
     /// Whether it has failed, for good.
     ghost has_failed: { Self → Bool };
 
+    /// Whether it never fails.
+    ghost never_fails: { Self → Bool };
+
     /// Puts the next octets at the front of the buffer and says how many: at most those that it
     /// has left. 0 for a buffer with room means that there is none left.
     fn read(&mut self, buf: &mut [u8]) -> Result<usize, Broken>
         ensures count { IfOk result (λ n. n ≤ length buf.new) }
         ensures bytes { ReadConsumes (remaining self.old) (remaining self.new) result buf.new }
         ensures fails { OnErr result (has_failed self.new ≡ true) }
+        ensures works { OnOk result (has_failed self.new ≡ false) }
+        ensures sure { never_fails self.old ≡ true → IsOk result }
+        ensures lasts { never_fails self.old ≡ true → never_fails self.new ≡ true }
         ensures stays { has_failed self.old ≡ true → IsErr result };
 
     /// Whether it has failed.

@@ -1,7 +1,8 @@
 //! Whole buffers from sources, and whole slices into sinks, that may move less at a time.
-ghost use Rattle.std.specs.Prelude.{◌≡◌, ◌≤◌, ◌<◌, length, take, true, IsErr, IfOk, OnOk, OnErr};
+ghost use Rattle.std.specs.Prelude.{◌≡◌, ◌≤◌, ◌<◌, length, take, true, IsErr, IsOk, IfOk, OnOk, OnErr};
 ghost use Rattle.std.specs.Io.KnownBytes.{Consumes, IsAtEnd, Appends};
 ghost use Rattle.bridge_capture.specs.Sinks.{AppendsFront};
+ghost use Rattle.bridge_capture.specs.Taken.{TakesFewer};
 
 use crate::sink::ByteSink;
 use crate::source::{Broken, ByteSource};
@@ -12,7 +13,9 @@ pub fn fill<R: ByteSource>(source: &mut R, buf: &mut [u8]) -> Result<usize, Brok
     ensures count { IfOk result (λ n. n ≤ length buf.new) }
     ensures bytes { IfOk result (λ n. Consumes (R.remaining source.old) (R.remaining source.new) (take n buf.new)) }
     ensures end { IfOk result (λ n. n < length buf.new → IsAtEnd (R.remaining source.new)) }
+    ensures part { OnErr result (TakesFewer (length buf.old) (R.remaining source.old) (R.remaining source.new)) }
     ensures fails { OnErr result (R.has_failed source.new ≡ true) }
+    ensures sure { R.never_fails source.old ≡ true → IsOk result × (R.never_fails source.new ≡ true) }
     ensures stays { R.has_failed source.old ≡ true → 0 < length buf.old → IsErr result }
 {
     let mut at = 0;

@@ -1,5 +1,5 @@
 //! A sink into memory, which tells what it holds and can fail at a stated place.
-ghost use Rattle.std.specs.Prelude.{◌≡◌, ◌≤◌, ◌-◌, ◌<◌, length, Some, true, IfOk, OnErr, IsErr, option_map};
+ghost use Rattle.std.specs.Prelude.{◌≡◌, ◌≤◌, ◌-◌, ◌<◌, length, Some, true, false, IfOk, OnOk, OnErr, IsErr, option_map};
 ghost use Rattle.std.specs.Io.KnownBytes.{WriteAppends};
 
 use crate::sink::ByteSink;
@@ -91,11 +91,13 @@ impl<A: Allocator> ByteSink for VecSink<A> {
         ensures some { IfOk result (λ n. 0 < length octets.now → 0 < n) }
         ensures bytes { WriteAppends (Some self.old.octets) (Some self.new.octets) result octets.now }
         ensures fails { OnErr result (self.new.is_broken ≡ true) }
+        ensures works { OnOk result (self.new.is_broken ≡ false) }
         ensures stays { self.old.is_broken ≡ true → IsErr result }
 
         // It counts what it takes.
         ensures counted { IfOk result (λ n. self.new.allowance ≡ option_map (λ left. left - n) self.old.allowance) }
         ensures step { IfOk result (λ n. n ≤ self.old.step) }
+        ensures kept { self.new.step ≡ self.old.step }
         ensures spent { self.old.allowance ≡ Some 0 → 0 < length octets.now → IsErr result }
     {
         if self.is_broken {

@@ -9,7 +9,7 @@ use Rattle.std.proofs.lemmas.Bool.Decides.{nat_tests}
 use Rattle.std.proofs.lemmas.List.Sums.{AllPass-from_list_all}
 use Rattle.std.proofs.Math.Nat.{div-eq_of_lt, pow-le-pow_right, zero-lt-suc}
 use Rattle.bridge_cycle.specs.Cyclic.{Cyclic, turn_at}
-use Rattle.bridge_cycle.specs.Entries.{In}
+use Rattle.bridge_base.specs.Members.{In}
 use Rattle.bridge_cycle.specs.Moments.{is_open}
 use Rattle.bridge_cycle.specs.Opens.{opens_in}
 use Rattle.bridge_cycle.specs.declared.timeline.Turn.{Turn}
@@ -24,6 +24,7 @@ use Rattle.bridge_keys.specs.Readers.{are_within}
 use Rattle.bridge_config.specs.declared.ports.PortPlan.{PortPlan}
 use Rattle.bridge_config.specs.Model.{Plan}
 use Rattle.bridge_config.specs.Rules.{port_at, IsPlan, IsPort, IsPortList}
+use Rattle.bridge_config.proofs.PlanPorts.{class_below, each_in, port_is}
 use Rattle.bridge_check.specs.declared.fault.CheckFault.{CheckFault}
 use Rattle.bridge_check.specs.declared.fault.CheckFault.TheVariants as fault
 use Rattle.bridge_check.specs.Reach.{any_below, reaches, reaches_class, reaches_port, reaches_priority}
@@ -101,22 +102,6 @@ none_below (suc n) k t h lt =
 
 -- PORTS AND CLASSES
 
-found_by : {A : Type 0} (b : Bool) (p : PortPlan A) (ps : List (PortPlan A)) (q : ℕ) (port : PortPlan A) → nat_eq p.number q ≡ b → cond b (Some p) (port_at ps q) ≡ Some port → (port_at ps q ≡ Some port → In port ps × (port.number ≡ q)) → In port (p ∷ ps) × (port.number ≡ q)
-found_by true p ps q port e h more = let same : port ≡ p = cc in (inl same, ap (λ x. x.number) same ∙ eqb-true p.number q e)
-found_by false p ps q port e h more = let (i, n) = more h in (inr i, n)
-
-found : {A : Type 0} (ps : List (PortPlan A)) (q : ℕ) (port : PortPlan A) → port_at ps q ≡ Some port → In port ps × (port.number ≡ q)
-found [] q port h = absurd (cc)
-found (p ∷ ps) q port h = found_by (nat_eq p.number q) p ps q port refl h (found ps q port)
-
-all_in : {X : Type 0} (P : X → Type 0) (xs : List X) (x : X) → All P xs → In x xs → P x
-all_in P [] x all i = absurd i
-all_in P (y ∷ ys) x all (inl e) = subst P (sym e) (all 0 y (omega (arith)))
-all_in P (y ∷ ys) x all (inr i) = all_in P ys x (λ k d lt. all (suc k) d (omega (arith, lt))) i
-
-is_port : {A : Type 0} (p : Plan A) (q : ℕ) (port : PortPlan A) → IsPlan p → port_at p.ports q ≡ Some port → IsPort port × (port.number ≡ q)
-is_port p q port plan at = let (i, n) = found p.ports q port at in (all_in IsPort p.ports port plan.ports.each i, n)
-
 pub record IsReached {A : Type 0} (p : Plan A) (q c : ℕ) : Type 0 where
   pub port : PortPlan A
   pub at : port_at p.ports q ≡ Some port
@@ -132,29 +117,18 @@ classed p f (Some port) c h =
     let (opened, same) = and_parts (reaches_priority p f k) (nat_eq (slice_index port.classes k) c) passes in
     (port, refl, k, lt, eqb-true (slice_index port.classes k) c same)
 
-class_below : (classes : List ℕ) (k c : ℕ) → are_within 0 7 classes ≡ true → length classes ≡ 8 → k < 8 → slice_index classes k ≡ c → c < 8
-class_below classes k c within eight lt e =
-    let all = AllPass-from_list_all (λ n. nat_le 0 n && nat_le n 7) classes within in
-    let inside : k < length classes = omega (arith, eight, lt) in
-    let (above, below) = and_parts (nat_le 0 (slice_index classes k)) (nat_le (slice_index classes k) 7) (all k 0 inside) in
-    let small : slice_index classes k ≤ 7 = at_most (slice_index classes k) below in
-    omega (arith, e, small)
-  where
-    at_most : (n : ℕ) → nat_le n 7 ≡ true → n ≤ 7
-    at_most n h = grind (arith, nat_tests)
-
 reached : {A : Type 0} (p : Plan A) (f : FilterPlan) (q c : ℕ) → IsPlan p → reaches p f q c ≡ true → IsReached p q c
 reached p f q c plan h =
     let (out, class) = and_parts (reaches_port p f.handle q) (reaches_class p f (port_at p.ports q) c) h in
     let (port, at, k, lt, same) = classed p f (port_at p.ports q) c class in
-    let (is, number) = is_port p q port plan at in
+    let (is, number) = port_is p.ports q port plan.ports at in
     record {
       port = port;
       at = at;
       is = is;
       from = omega (arith, number, is.number_from);
       to = omega (arith, number, is.number_to);
-      class = class_below port.classes k c is.classes is.eight_classes lt same;
+      class = subst (λ (n : ℕ). n < 8) same (class_below port k is (omega (arith, lt)));
     }
 
 -- what is told of no queue of the reach
@@ -261,7 +235,7 @@ open_alone (Some l) c d u is h oc od =
     let other : is_open x.state d ≡ true = ap (λ o. opens_in o d) (sym at) ∙ od in
     let (e, i, state) = among l u x at in
     let own = is l refl in
-    let small : x.state < 256 = subst (λ (z : ℕ). z < 256) state (all_in (λ (y : ℕ × ℕ). y.0 < 256) l.entries e own.classes i) in
+    let small : x.state < 256 = subst (λ (z : ℕ). z < 256) state (each_in (λ (y : ℕ × ℕ). y.0 < 256) l.entries e own.classes i) in
     let alone : is_shared x.state c ≡ false = subst (λ (z : ℕ). is_shared z c ≡ false) state (none_shared l.entries 0 c e h i) in
     not_beside x.state c d small alone opened other
 
@@ -290,13 +264,13 @@ isolated p n f plan listed h =
           let r = reached p f q c plan own in
           let told : option_map (fault.WindowShared n q c) (shared_on (port_at p.ports q) c) ≡ None = not_told p f q c (λ q c. option_map (fault.WindowShared n q c) (shared_on (port_at p.ports q) c)) window r own in
           let none : shared_at port.list c ≡ None = subst (λ (o : Option (PortPlan _)). shared_on o c ≡ None) at (told_none (fault.WindowShared n q c) (shared_on (port_at p.ports q) c) told) in
-          let (is, number) = is_port p q port plan at in
+          let (is, number) = port_is p.ports q port plan.ports at in
           open_alone port.list c d u is.list none oc od;
       fits = λ q c m port at own e.
           let r = reached p f q c plan own in
           let told : fault_unless (not (never_fits (port_at p.ports q) c f.max_sdu)) (fault.MaxSduNeverFits n q c) ≡ None = not_told p f q c (λ q c. fault_unless (not (never_fits (port_at p.ports q) c f.max_sdu)) (fault.MaxSduNeverFits n q c)) size r own in
           let fitting : never_fits (port_at p.ports q) c f.max_sdu ≡ false = not-true (never_fits (port_at p.ports q) c f.max_sdu) (holds (not (never_fits (port_at p.ports q) c f.max_sdu)) _ told) in
           let ever : not (ever_fits port c m) ≡ false = subst (λ (o : Option (PortPlan _)). never_fits o c (Some m) ≡ false) at (subst (λ (s : Option ℕ). never_fits (port_at p.ports q) c s ≡ false) e fitting) in
-          let (is, number) = is_port p q port plan at in
+          let (is, number) = port_is p.ports q port plan.ports at in
           (ever_is port.list c (occupied (longest_frame m) port.speed) (made port.list is.list)).0 (not-false (ever_fits port c m) ever);
     }

@@ -4,3 +4,5 @@ pub mod Others
 pub mod Least
 pub mod Isolated
 pub mod Sound
+pub mod Heads
+pub mod Apart

@@ -1,5 +1,5 @@
 -- The reach of a filter has each queue to which a frame comes that the filter passes.
-use Rattle.std.proofs.Common.{◌≡◌, ◌<◌, ◌≤◌, ◌+◌, ℕ, zero, suc, Bool, true, false, not, ◌&&◌, ◌||◌, List, [], ◌∷◌, map, Option, Some, None, cond, nat_eq, nat_le, nat_lt, refl, sym, ap, ◌∙◌, arith, subst, inl, inr, ◌⊎◌}
+use Rattle.std.proofs.Common.{◌≡◌, ◌<◌, ◌≤◌, ◌+◌, ℕ, zero, suc, Bool, true, false, not, ◌&&◌, ◌||◌, List, [], ◌∷◌, map, Ok, Option, Some, None, cond, nat_eq, nat_le, nat_lt, refl, sym, ap, ◌∙◌, arith, subst, inl, inr, ◌⊎◌}
 use Rattle.std.specs.Prelude.{slice_index, unwrap_or}
 use Rattle.std.specs.List.{list_any, list_all}
 use Rattle.std.specs.Map.{lookup}
@@ -10,7 +10,8 @@ use Rattle.std.proofs.lemmas.Option.{same_Some}
 use Rattle.std.proofs.Math.Bool.{or-true}
 use Rattle.std.proofs.lemmas.Slice.Eq.{bytes_eq-Decides}
 use Rattle.bridge_frame.specs.declared.Head.{Head}
-use Rattle.bridge_cycle.specs.Entries.{In}
+use Rattle.bridge_frame.specs.Frames as frames
+use Rattle.bridge_base.specs.Members.{In}
 use Rattle.bridge_cycle.specs.declared.timeline.Turn.{Turn}
 use Rattle.bridge_cycle.proofs.Cases.{by_bool}
 use Rattle.bridge_cycle.proofs.Lists.{among}
@@ -42,6 +43,9 @@ use Rattle.bridge_config.specs.Rules.{IsPlan, port_at}
 use Rattle.bridge_check.specs.Faults.{fault_of}
 use Rattle.bridge_check.specs.Reach.{any_below, reaches, reaches_port, reaches_class, reaches_priority, are_null, is_null, leads_to, entries_of, entries_if, entries_at, has_value, gives, lets}
 use Rattle.bridge_check.specs.Sending.{vid_of, priority_of, call_of, class_of}
+use Rattle.bridge_config.proofs.PlanPorts.{port_is}
+use Rattle.bridge_frame.proofs.Heads.{head_few}
+use Rattle.bridge_check.proofs.Heads.{priority_few}
 use Rattle.bridge_check.proofs.Isolated.{each_passes, isolated}
 
 passes_any : {X : Type 0} (t : X → Bool) (xs : List X) (x : X) → In x xs → t x ≡ true → list_any t xs ≡ true
@@ -284,3 +288,17 @@ sound {A} p port out head at octets n f ss ipv eligible plan there few goes flow
     let both : (reaches_priority p f (unwrap_or ipv k) && nat_eq (slice_index out.classes (unwrap_or ipv k)) (class_of out ipv k)) ≡ true = rw (open_for, same_eq (class_of out ipv k)) refl in
     let class : reaches_class p f (Some out) (class_of out ipv k) ≡ true = below_any 8 (unwrap_or ipv k) (λ j. reaches_priority p f j && nat_eq (slice_index out.classes j) (class_of out ipv k)) (small_of ipv k own few) both in
     rw (gone, there) class
+
+-- the same of a frame as it is parsed, on a port of the plan
+pub frame_sound : {A : Type 0} (p : Plan A) (port out : PortPlan A) (frame : List ℕ) (len : ℕ) (head : Head) (at octets n : ℕ) (f : FilterPlan) (ss : List Step) (ipv : Option ℕ) (eligible : Bool)
+    → IsPlan p
+    → port_at p.ports port.number ≡ Some port
+    → port_at p.ports out.number ≡ Some out
+    → frames.head frame len ≡ Ok head
+    → has (forward p.database port.number (vid_of port head.tag) head.da) out.number ≡ true
+    → flow p.filters (call_of p port at head octets) ≡ Some (n, f)
+    → verdict_of (plans_of p.filters p.gates p.meters) ss (call_of p port at head octets) n f ≡ verdict.Pass ipv eligible
+    → reaches p f out.number (class_of out ipv (priority_of port head.tag)) ≡ true
+frame_sound p port out frame len head at octets n f ss ipv eligible plan on there parsed goes flows passes =
+    let (is, number) = port_is p.ports port.number port plan.ports on in
+    sound p port out head at octets n f ss ipv eligible plan there (priority_few port head.tag is (head_few frame len head parsed)) goes flows passes

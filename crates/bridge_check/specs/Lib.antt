@@ -4,3 +4,4 @@ pub mod Faults
 pub mod Acceptable
 pub mod Reached
 pub mod Sending
+pub mod Numbers

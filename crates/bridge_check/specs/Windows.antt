@@ -1,5 +1,6 @@
 -- When a class of a port is open alone, and which frames fit.
 use Rattle.std.specs.Prelude.{ℕ, Bool, not, ◌+◌, ◌&&◌, min, List, [], ◌∷◌, Option, Some, None, nat_eq, if◌then◌else◌}
+use Rattle.bridge_base.specs.declared.TheConstants.{LONGEST_FRAME}
 use Rattle.bridge_frame.specs.Link.{occupied}
 use Rattle.bridge_cycle.specs.Cyclic.{Cyclic}
 use Rattle.bridge_cycle.specs.Moments.{is_open}
@@ -23,7 +24,7 @@ shared_at (Some l) c = shared_from l.entries 0 c
 
 -- the longest frame with a service data unit of so many octets: with addresses and a tag, and no longer than a frame may be
 abbrev pub longest_frame : ℕ → ℕ
-longest_frame sdu = min (sdu + 16) 9216
+longest_frame sdu = min (sdu + 16) LONGEST_FRAME
 
 -- whether such a frame fits in the class at some moment
 abbrev pub ever_fits : {A : Type 0} → PortPlan A → ℕ → ℕ → Bool

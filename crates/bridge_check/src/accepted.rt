@@ -129,6 +129,7 @@ fn fault_in<A: Allocator + Copy>(alloc: A, plan: &Plan<A>) -> Result<Option<Chec
 /// filter is accepted. `NoMemory` comes only where a growth was refused.
 pub fn check<A: Allocator + Copy>(alloc: A, plan: Plan<A>) -> Result<Accepted<A>, Refused<A>>
     ensures accepted { IfOk result (λ a. (a ≡ plan) × (first_fault plan ≡ None)) }
+    ensures acceptable { IfOk result IsAcceptable }
     ensures refused { IfErr result (λ r. (r.plan ≡ plan) × ((r.fault ≡ the_fault.NoMemory) ⊎ (first_fault plan ≡ Some r.fault))) }
 {
     let _ = plan.ports();

@@ -1,6 +1,7 @@
 //! Why a plan is refused.
 ghost use Rattle.std.specs.Prelude.{◌≡◌};
 ghost use Rattle.bridge_check.specs.declared.fault.CheckFault.TheVariants.{NoMemory};
+ghost use Rattle.bridge_check.specs.Numbers.{number_of};
 
 use std::alloc::{AllocError, AllocFailed};
 use thiserror::Error;
@@ -61,6 +62,25 @@ pub enum CheckFault {
     /// A growth was refused.
     #[error("no memory")]
     NoMemory,
+}
+
+impl CheckFault {
+    /// Its number, 1 to 9 in the order of the variants.
+    pub fn number(self) -> u8
+        ensures { result ≡ number_of self }
+    {
+        match self {
+            CheckFault::ProtectedWildcard { .. } => 1,
+            CheckFault::NoMaxSdu { .. } => 2,
+            CheckFault::GateShared { .. } => 3,
+            CheckFault::MeterShared { .. } => 4,
+            CheckFault::NoCatchAll { .. } => 5,
+            CheckFault::QueueShared { .. } => 6,
+            CheckFault::WindowShared { .. } => 7,
+            CheckFault::MaxSduNeverFits { .. } => 8,
+            CheckFault::NoMemory => 9,
+        }
+    }
 }
 
 impl From<AllocError> for CheckFault {

@@ -1,9 +1,11 @@
 //! Laws of accepted plans, each the contract of a function that does nothing.
-ghost use Rattle.std.specs.Prelude.{◌≡◌, ◌≤◌, ℕ, Bool, List, Option, None, Some, true};
-ghost use Rattle.bridge_cycle.specs.Entries.{In};
+ghost use Rattle.std.specs.Prelude.{◌≡◌, ℕ, Bool, List, Ok, Option, None, Some, true};
+ghost use Rattle.bridge_base.specs.Members.{In};
 ghost use Rattle.bridge_frame.specs.declared.Head.{Head};
+ghost use Rattle.bridge_frame.specs.Frames as frames;
 ghost use Rattle.bridge_filter.specs.declared.FilterPlan.{FilterPlan};
 ghost use Rattle.bridge_filter.specs.declared.Verdict.TheVariants as verdict;
+ghost use Rattle.bridge_filter.specs.Own.{IsApart};
 ghost use Rattle.bridge_filter.specs.Plans.{plans_of};
 ghost use Rattle.bridge_filter.specs.Verdicts.{Call, Step, flow, verdict_of};
 ghost use Rattle.bridge_forward.specs.Ports.{has};
@@ -28,13 +30,15 @@ pub fn without_fault_is_isolated<A: Allocator + Copy>()
         → IsIsolated p n f }
 {}
 
-/// A frame that a filter passes, at any moment and after whatever came before, is queued in the filter's reach: on each
+/// A frame on a port of the plan that a filter passes, at any moment and after whatever came before, is queued in the filter's reach: on each
 /// port to which it goes, in the class that it has there by its internal priority value, else by its priority.
 pub fn reach_is_sound<A: Allocator + Copy>()
-    ensures { (p : Plan A) (port out : PortPlan A) (head : Head) (at octets n : ℕ) (f : FilterPlan) (ss : List Step) (ipv : Option ℕ) (eligible : Bool)
+    ensures { (p : Plan A) (port out : PortPlan A) (frame : List ℕ) (len : ℕ) (head : Head)
+        (at octets n : ℕ) (f : FilterPlan) (ss : List Step) (ipv : Option ℕ) (eligible : Bool)
         → IsPlan p
+        → port_at p.ports port.number ≡ Some port
         → port_at p.ports out.number ≡ Some out
-        → priority_of port head.tag ≤ 7
+        → frames.head frame len ≡ Ok head
         → has (forward p.database port.number (vid_of port head.tag) head.da) out.number ≡ true
         → flow p.filters (call_of p port at head octets) ≡ Some (n, f)
         → verdict_of (plans_of p.filters p.gates p.meters) ss (call_of p port at head octets) n f ≡ verdict.Pass ipv eligible
@@ -48,4 +52,14 @@ pub fn every_frame_has_a_filter<A: Allocator + Copy>()
         → In (n, f) p.filters
         → fault_of p n f ≡ None
         → (g : ℕ × FilterPlan) × (flow p.filters c ≡ Some g) }
+{}
+
+/// A filter that fails no test has one plan, and no other filter has its gate or its meter: what comes of its own frames
+/// and commands is then its part of what comes of all.
+pub fn without_fault_is_apart<A: Allocator + Copy>()
+    ensures { (p : Plan A) (n : ℕ) (f : FilterPlan)
+        → IsPlan p
+        → In (n, f) p.filters
+        → fault_of p n f ≡ None
+        → IsApart (plans_of p.filters p.gates p.meters) n f }
 {}

@@ -1,14 +1,14 @@
 //! When a class of a port is open alone, and which frames fit.
-ghost use Rattle.std.specs.Prelude.{◌≡◌, ◌<◌, ◌≤◌, ◌↔◌, IsTrue, Some, not, ◌&&◌, nat_eq};
-ghost use Rattle.bridge_cycle.specs.Moments.{is_open};
-ghost use Rattle.bridge_cycle.specs.Runs.{Allows};
+ghost use Rattle.std.specs.Prelude.{◌≡◌, ◌<◌, ◌≤◌, Some, not, ◌&&◌, nat_eq};
+ghost use Rattle.bridge_cycle.specs.Moments as moments;
 ghost use Rattle.bridge_port.specs.Opening.{ever_of};
 ghost use Rattle.bridge_check.specs.Reach.{any_below};
 ghost use Rattle.bridge_check.specs.Windows as spec;
 
+use bridge_base::LONGEST_FRAME;
 use bridge_config::PortPlan;
-use bridge_cycle::{CyclicList, Run, Timeline, longest_run};
-use bridge_frame::{MAX_LENGTH, occupation};
+use bridge_cycle::{CyclicList, Timeline, is_open, longest_run};
+use bridge_frame::occupation;
 use std::alloc::Allocator;
 
 /// Whether a state opens a class and another one beside it.
@@ -16,24 +16,16 @@ fn is_shared(state: u8, class: u8) -> bool
     requires { class < 8 }
     ensures { result ≡ spec.is_shared state class }
 {
-    opens(state, class) && opens_another(state, class)
-}
-
-/// Whether a state opens a class.
-fn opens(state: u8, class: u8) -> bool
-    requires { class < 8 }
-    ensures { result ≡ is_open state class }
-{
-    (state >> class) % 2 == 1
+    is_open(state, class) && opens_another(state, class)
 }
 
 /// Whether a state opens a class other than this one.
 fn opens_another(state: u8, class: u8) -> bool
-    ensures { result ≡ any_below 8 (λ d. not (nat_eq d class) && is_open state d) }
+    ensures { result ≡ any_below 8 (λ d. not (nat_eq d class) && moments.is_open state d) }
 {
     let mut found = false;
     for other in 0..8u8 {
-        found = found || (other != class && opens(state, other));
+        found = found || (other != class && is_open(state, other));
     }
     found
 }
@@ -70,7 +62,7 @@ pub(crate) fn ever_fits<A: Allocator + Copy>(port: &PortPlan<A>, class: u8, sdu:
     requires sdu { sdu ≤ 65535 }
     ensures { result ≡ spec.ever_fits port.now class sdu }
 {
-    let occupied = occupation((sdu + 16).min(MAX_LENGTH), port.speed);
+    let occupied = occupation((sdu + 16).min(LONGEST_FRAME), port.speed);
     match &port.list {
         Some(list) => is_ever_open(list, class, occupied),
         None => true,
@@ -83,16 +75,5 @@ fn is_ever_open<A: Allocator + Copy>(list: &CyclicList<u8, A>, class: u8, occupi
     ensures { result ≡ ever_of (Some list.now) class occupied }
 {
     let _ = list.cycle();
-    allows(longest_run(list, class), occupied)
-}
-
-/// Whether a run is as long as this.
-fn allows(run: Run, occupied: u64) -> bool
-    ensures { IsTrue result ↔ Allows run occupied }
-{
-    match run {
-        Run::Never => occupied == 0,
-        Run::For(longest) => occupied <= longest,
-        Run::Always => true,
-    }
+    longest_run(list, class).allows(occupied)
 }

@@ -1,3 +1,5 @@
 pub mod Own
 pub mod Counts
 mod Examples
+pub mod PlanPorts
+pub mod InOrder

@@ -51,7 +51,7 @@ statics_push all vlans statics s are new is = record {
 }
 
 -- what isn't found in a list isn't at its head, and isn't in the rest
-past_head : {X : Type 0} (b : Bool) (v : X) (o : Option X) → is_some (cond b (Some v) o) ≡ false → (b ≡ false) × (is_some o ≡ false)
+pub past_head : {X : Type 0} (b : Bool) (v : X) (o : Option X) → is_some (cond b (Some v) o) ≡ false → (b ≡ false) × (is_some o ≡ false)
 past_head true v o h = absurd (false≢true (sym h))
 past_head false v o h = (refl, h)
 

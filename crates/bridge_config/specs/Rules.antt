@@ -1,6 +1,7 @@
 -- What the instances of each section of a plan keep.
 use Rattle.std.specs.Prelude.{◌≡◌, ◌≤◌, ◌<◌, ℕ, Bool, true, not, ◌&&◌, IsTrue, List, [], ◌∷◌, length, nat_eq, map, All, Option, Some, None, if◌then◌else◌}
 use Rattle.std.specs.List.{list_any}
+use Rattle.std.specs.List.Sorted.{IsPermutation, IsStrictlyIncreasing}
 use Rattle.std.specs.Option.{ForSome}
 use Rattle.bridge_cycle.specs.Cyclic.{Cyclic, IsLawful}
 use Rattle.bridge_meter.specs.declared.MeterPlan.{MeterPlan}
@@ -20,6 +21,11 @@ use Rattle.bridge_config.specs.Model.{Policing, Plan}
 abbrev pub are_own : {X : Type 0} → (X → X → Bool) → List X → Bool
 are_own same [] = true
 are_own same (x ∷ xs) = not (list_any (λ y. same x y) xs) && are_own same xs
+
+-- these numbers in rising order
+pub record IsInOrder (all ns : List ℕ) : Type 0 where
+  pub rises : IsStrictlyIncreasing ns
+  pub same : IsPermutation all ns
 
 -- whether a port has the number
 abbrev pub has_port : {A : Type 0} → List (PortPlan A) → ℕ → Bool

@@ -1,6 +1,7 @@
 -- The sections of a plan, key by key in the order of the table of keys.
 use Rattle.std.specs.Prelude.{ℕ, ◌*◌, ◌-◌, ◌^◌, Bool, true, false, not, ◌&&◌, List, [], ◌∷◌, ◌++◌, Option, Some, None, Result, Ok, Err, replicate}
 use Rattle.toml.specs.Data.{Members, get_member}
+use Rattle.bridge_base.specs.declared.TheConstants.{END_OF_TIME}
 use Rattle.bridge_cycle.specs.Cyclic.{Cyclic, fault_of}
 use Rattle.bridge_meter.specs.declared.MeterPlan.{MeterPlan}
 use Rattle.bridge_gate.specs.declared.schedule.GateEntry.{GateEntry}
@@ -69,7 +70,7 @@ has_port_keys members = are_known (port_keys members) members && are_known_at (f
 unfoldable pub port_list : ℕ → Members → Result (Option (Cyclic ℕ)) PlanFault
 port_list index members =
     let at : Field → Place = λ key. record { section = section.Port; index = index; field = key } in do
-      base ← default_to 0 (at field.Base) field.Base (between 0 (4 * 10 ^ 18 - 1)) members
+      base ← default_to 0 (at field.Base) field.Base (between 0 (END_OF_TIME - 1)) members
       cycle ← only_with field.Gates 0 (required (at field.Cycle) field.Cycle (between 0 (2 ^ 63 - 1)) members) members
       gates ← list_at (at field.Gates) (port_entry (at field.Gates)) (get_member (key_of field.Gates) members)
       list_if section.Port index base cycle gates
@@ -166,7 +167,7 @@ has_gate_keys members = are_known (gate_keys members) members && are_known_at (f
 unfoldable pub gate_list : ℕ → Members → Result (Option (Cyclic GateEntry)) PlanFault
 gate_list index members =
     let at : Field → Place = λ key. record { section = section.Gate; index = index; field = key } in do
-      base ← default_to 0 (at field.Base) field.Base (between 0 (4 * 10 ^ 18 - 1)) members
+      base ← default_to 0 (at field.Base) field.Base (between 0 (END_OF_TIME - 1)) members
       cycle ← only_with field.Entries 0 (required (at field.Cycle) field.Cycle (between 0 (2 ^ 63 - 1)) members) members
       entries ← list_at (at field.Entries) (gate_entry (at field.Entries)) (get_member (key_of field.Entries) members)
       list_if section.Gate index base cycle entries

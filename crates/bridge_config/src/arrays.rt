@@ -1,6 +1,7 @@
 //! The sections of a document, as arrays of tables.
-ghost use Rattle.std.specs.Prelude.{◌≡◌, ◌<◌, ◌≤◌, ◌^◌, IfOk, length, nat_le, option_map, true, false};
+ghost use Rattle.std.specs.Prelude.{◌≡◌, ◌<◌, ◌≤◌, ◌^◌, IfErr, IfOk, length, nat_le, option_map, true, false};
 ghost use Rattle.toml.specs.View.{view, table_view, items_view};
+ghost use Rattle.bridge_keys.specs.declared.fault.PlanFault.TheVariants.{NoMemory};
 ghost use Rattle.bridge_keys.specs.Readers as spec;
 ghost use Rattle.bridge_keys.specs.Readers.{GivesAs};
 ghost use Rattle.bridge_config.specs.Document as doc;
@@ -46,11 +47,13 @@ fn are_few(items: &[Value], section: Section) -> bool
     items.len() <= limit_of(section)
 }
 
-/// The items of a section, where it is an array of tables that are few enough; an absent one has none.
+/// The items of a section, where it is an array of tables that are few enough; an absent one has none. Takes
+/// no memory.
 fn items_in<'a>(section: Section, value: Option<&'a Value>) -> Result<&'a [Value], PlanFault>
     ensures reads { GivesAs (λ x. items_view x.now) result (doc.items_in section (option_map (λ v. view v.now) value.entry)) }
     ensures few { IfOk result (λ x. length x.now ≤ doc.limit_of section) }
     ensures tables { IfOk result (λ x. spec.are_tables (items_view x.now) ≡ true) }
+    ensures takes_no_memory { IfErr result (λ e. ¬ (e ≡ NoMemory)) }
 {
     match value {
         None => Ok(&[]),
@@ -67,11 +70,12 @@ fn items_in<'a>(section: Section, value: Option<&'a Value>) -> Result<&'a [Value
     }
 }
 
-/// The items of a section of a document.
+/// The items of a section of a document. Takes no memory.
 fn items_of<'a>(section: Section, table: &'a Table) -> Result<&'a [Value], PlanFault>
     ensures reads { GivesAs (λ x. items_view x.now) result (doc.items_of section (table_view table.now)) }
     ensures few { IfOk result (λ x. length x.now ≤ doc.limit_of section) }
     ensures tables { IfOk result (λ x. spec.are_tables (items_view x.now) ≡ true) }
+    ensures takes_no_memory { IfErr result (λ e. ¬ (e ≡ NoMemory)) }
 {
     items_in(section, value_at(table, section.name()))
 }
@@ -104,11 +108,12 @@ fn are_sections(sections: &[Section], table: &Table) -> bool
     true
 }
 
-/// The items of all sections of a plan's document.
+/// The items of all sections of a plan's document. Takes no memory.
 #[tactic(auto, unfolding(crate::specs::Document::first_pass))]
 pub(crate) fn first_pass<'a>(table: &'a Table) -> Result<Arrays<'a>, PlanFault>
     ensures reads { GivesAs items_of_arrays result (doc.first_pass (table_view table.now)) }
     ensures few { IfOk result AreFew }
+    ensures takes_no_memory { IfErr result (λ e. ¬ (e ≡ NoMemory)) }
 {
     let sections = [
         Section::Port,

@@ -1,7 +1,8 @@
 //! Stream filters of a plan.
-ghost use Rattle.std.specs.Prelude.{◌≡◌, ◌≤◌, IfOk, false, true, length};
+ghost use Rattle.std.specs.Prelude.{◌≡◌, ◌≤◌, IfErr, IfOk, false, true, length};
 ghost use Rattle.toml.specs.View.{table_view, items_view};
 ghost use Rattle.bridge_filter.specs.Plans.{has_instances};
+ghost use Rattle.bridge_keys.specs.declared.fault.PlanFault.TheVariants.{NoMemory};
 ghost use Rattle.bridge_keys.specs.declared.fault.Section.TheVariants as the_section;
 ghost use Rattle.bridge_keys.specs.Readers.{Gives, GivesAs, instances};
 ghost use Rattle.bridge_config.specs.Sections as sections;
@@ -21,7 +22,7 @@ use toml::{Table, Value};
 /// The number of an instance.
 const NUMBER: Between = Between {
     low: 0,
-    high: 4_294_967_295,
+    high: u32::MAX as u64,
 };
 
 /// Whether a table has the keys of a filter alone.
@@ -56,6 +57,7 @@ fn filter_of<A: Allocator + Copy>(
     ensures own { IfOk result (λ f. sections.has_number filters.now f.0 ≡ false) }
     ensures filter { IfOk result (λ f. rules.IsFilter f) }
     ensures instances { IfOk result (λ f. has_instances gates.now meters.now f.1 ≡ true) }
+    ensures takes_no_memory { IfErr result (λ e. ¬ (e ≡ NoMemory)) }
 {
     let at = |field: Field| -> Place
         ensures { result ≡ record { section = the_section.Filter; index = index; field = field } }

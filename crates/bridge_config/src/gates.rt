@@ -55,7 +55,7 @@ impl Entry for Turns {
             Field::Octets,
             &Between {
                 low: 0,
-                high: 4_294_967_295,
+                high: u32::MAX as u64,
             },
         )?;
         let state = GateEntry {
@@ -215,7 +215,7 @@ fn gate_of<A: Allocator + Copy>(
         Field::Number,
         &Between {
             low: 0,
-            high: 4_294_967_295,
+            high: u32::MAX as u64,
         },
     )?;
     let shut_on_rx = default_to(false, table, at(Field::ShutOnRx), Field::ShutOnRx, &Switch)?;

@@ -2,6 +2,7 @@
 //! The plan of a bridge: its ports, VLANs, streams, gates, meters and filters.
 
 mod arrays;
+mod command;
 mod filters;
 mod gates;
 mod lists;
@@ -13,5 +14,8 @@ mod statics;
 mod streams;
 mod vlans;
 
+pub use bridge_forward::PortSet;
+pub use bridge_keys::PlanFault;
+pub use command::Command;
 pub use plan::{Plan, plan_of};
 pub use ports::PortPlan;

@@ -5,6 +5,7 @@ ghost use Rattle.bridge_cycle.specs.Cyclic.{IsLawful};
 ghost use Rattle.bridge_keys.specs.Readers.{Gives};
 ghost use Rattle.bridge_config.specs.Sections as sections;
 
+use bridge_base::END_OF_TIME;
 use bridge_cycle::{CyclicList, ListFault};
 use bridge_keys::{PlanFault, Section};
 use std::alloc::Allocator;
@@ -13,7 +14,7 @@ use std::alloc::Allocator;
 pub(crate) const LARGEST: u64 = 9_223_372_036_854_775_807;
 
 /// The largest moment, in ns, at which a cycle may begin.
-pub(crate) const LAST_BASE: u64 = 3_999_999_999_999_999_999;
+pub(crate) const LAST_BASE: u64 = END_OF_TIME - 1;
 
 /// The list of a base, a cycle and entries, where there are entries.
 pub(crate) fn list_if<S: Copy, A: Allocator + Copy>(
@@ -24,7 +25,7 @@ pub(crate) fn list_if<S: Copy, A: Allocator + Copy>(
     cycle: u64,
     entries: Option<Vec<(S, u64), A>>,
 ) -> Result<Option<CyclicList<S, A>>, PlanFault>
-    requires { base < 4_000_000_000_000_000_000 }
+    requires { base < END_OF_TIME }
     ensures reads { Gives result (sections.list_if section index base cycle (option_map (λ v. v.items) entries)) }
     ensures lawful { IfOk result (λ l. ForSome l IsLawful) }
     ensures entries { IfOk result (λ l. option_map (λ c. c.entries) l ≡ option_map (λ v. v.items) entries) }

@@ -1,7 +1,8 @@
 //! Flow meters of a plan.
-ghost use Rattle.std.specs.Prelude.{◌≡◌, IfOk, false, true};
+ghost use Rattle.std.specs.Prelude.{◌≡◌, IfErr, IfOk, false, true};
 ghost use Rattle.toml.specs.View.{table_view};
 ghost use Rattle.bridge_meter.specs.Colours.{is_within_limits};
+ghost use Rattle.bridge_keys.specs.declared.fault.PlanFault.TheVariants.{NoMemory};
 ghost use Rattle.bridge_keys.specs.declared.fault.Section.TheVariants as the_section;
 ghost use Rattle.bridge_keys.specs.Readers.{Gives};
 ghost use Rattle.bridge_config.specs.Sections as sections;
@@ -26,7 +27,7 @@ const RATE: Between = Between {
 /// A burst in octets.
 const BURST: Between = Between {
     low: 0,
-    high: 4_294_967_295,
+    high: u32::MAX as u64,
 };
 
 /// Whether a meter looks at the drop eligible indication of a frame: `aware` or `blind`.
@@ -79,6 +80,7 @@ fn meter_of(
     ensures reads { Gives result (sections.meter_at meters.now index (table_view table.now)) }
     ensures own { IfOk result (λ m. sections.has_number meters.now m.0 ≡ false) }
     ensures limits { IfOk result (λ m. is_within_limits m.1 ≡ true) }
+    ensures takes_no_memory { IfErr result (λ e. ¬ (e ≡ NoMemory)) }
 {
     let at = |field: Field| -> Place
         ensures { result ≡ record { section = the_section.Meter; index = index; field = field } }
@@ -98,7 +100,7 @@ fn meter_of(
         Field::Number,
         &Between {
             low: 0,
-            high: 4_294_967_295,
+            high: u32::MAX as u64,
         },
     )?;
     let cir = required(table, at(Field::Cir), Field::Cir, &RATE)?;

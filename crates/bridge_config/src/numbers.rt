@@ -33,7 +33,7 @@ impl<'a, X> Finds for NumbersOf<'a, X> {
 
 /// A number that may be none, in 32 bits.
 pub(crate) fn in_32_bits(number: Option<u64>) -> Option<u32>
-    requires { ForSome number (λ n. n ≤ 4294967295) }
+    requires { ForSome number (λ n. n ≤ u32.MAX) }
     ensures { result ≡ number }
 {
     match number {

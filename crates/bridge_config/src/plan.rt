@@ -1,8 +1,10 @@
 //! A plan, and how it is made of a text.
-ghost use Rattle.std.specs.Prelude.{◌≡◌, ◌<◌, ◌≤◌, IfOk, option_map};
+ghost use Rattle.std.specs.Prelude.{◌≡◌, ◌<◌, ◌≤◌, ◌↔◌, ℕ, Some, true, false, IfOk, map, option_map};
 ghost use Rattle.toml.specs.View.{table_view};
 ghost use Rattle.bridge_forward.specs.Forward.{forward};
+ghost use Rattle.bridge_forward.specs.Ports.{has, IsEmpty};
 ghost use Rattle.bridge_keys.specs.Readers.{Gives, GivesAs};
+ghost use Rattle.bridge_config.specs.declared.ports.PortPlan.{PortPlan};
 ghost use Rattle.bridge_config.specs.Model as model;
 ghost use Rattle.bridge_config.specs.Rules as rules;
 ghost use Rattle.bridge_config.specs.Document as doc;
@@ -22,7 +24,7 @@ use bridge_gate::GatePlan;
 use bridge_ident::StreamEntry;
 use bridge_keys::{PlanFault, read_instances, with_bit};
 use bridge_meter::MeterPlan;
-use std::alloc::{Allocator, Global};
+use std::alloc::{AllocError, Allocator, Global};
 use std::marker::Model;
 use toml::Table;
 
@@ -63,6 +65,15 @@ impl<A: Allocator + Copy> Plan<A> {
         ensures rules { rules.IsPlan self.now }
     {
         port_in(&self.ports, number)
+    }
+
+    /// The numbers of the ports in rising order, as many as there are ports.
+    pub fn port_numbers<B: Allocator + Copy>(&self, alloc: B) -> Result<Vec<u8, B>, AllocError>
+        ensures { IfOk result (λ v. rules.IsInOrder (map (λ p. p.number) self.now.ports) v.items) }
+    {
+        let mut ports = numbers_of_ports(alloc, &self.ports)?;
+        ports.sort()?;
+        Ok(ports)
     }
 
     /// The VLANs, in the order of the text.
@@ -111,12 +122,30 @@ impl<A: Allocator + Copy> Plan<A> {
         &self.filters
     }
 
+    /// The numbers of the stream filters in rising order, as many as there are filters.
+    pub fn filter_numbers<B: Allocator + Copy>(&self, alloc: B) -> Result<Vec<u32, B>, AllocError>
+        ensures { IfOk result (λ v. rules.IsInOrder (map (λ f. f.0) self.now.filters) v.items) }
+    {
+        let mut filters = numbers_of_filters(alloc, &self.filters)?;
+        filters.sort()?;
+        Ok(filters)
+    }
+
     /// The ports to which a frame to `da` goes that came on `port`, 1 to 16, and was classified in the VLAN `vid`
-    /// (IEEE 802.1Q-2018, 8.6.1 to 8.6.3). It takes two look-ups, however large the plan is, and no memory.
+    /// (IEEE 802.1Q-2018, 8.6.2 to 8.6.4). Each is a port of the plan, and none is `port` itself. It takes two look-ups,
+    /// however large the plan is, and no memory.
     pub fn forward(&self, port: u8, vid: u16, da: &[u8; 6]) -> PortSet
         requires from { 1 ≤ port }
         requires to { port ≤ 16 }
-        ensures { result ≡ forward self.now.database port vid da.now }
+        ensures ports { result ≡ forward self.now.database port vid da.now }
+        ensures of_plan { (q : ℕ)
+            → 1 ≤ q
+            → has result q ≡ true
+            → (out : PortPlan A) × (rules.port_at self.now.ports q ≡ Some out) }
+        ensures not_back { has result port ≡ false }
+        ensures empty { IsEmpty result ↔ ((q : ℕ) (out : PortPlan A)
+            → rules.port_at self.now.ports q ≡ Some out
+            → has result q ≡ false) }
     {
         self.forwarding.forward(port, vid, da)
     }
@@ -132,6 +161,26 @@ fn port_in<A: Allocator + Copy>(ports: &[PortPlan<A>], number: u8) -> Option<&Po
         }
     }
     None
+}
+
+/// The numbers of ports, in their order.
+fn numbers_of_ports<A: Allocator + Copy, B: Allocator + Copy>(
+    alloc: B,
+    ports: &[PortPlan<A>],
+) -> Result<Vec<u8, B>, AllocError>
+    ensures { IfOk result (λ v. v.items ≡ map (λ p. p.number) ports.now) }
+{
+    ports.iter().map(|port| port.number).collect(alloc)
+}
+
+/// The numbers of filters, in their order.
+fn numbers_of_filters<B: Allocator + Copy>(
+    alloc: B,
+    filters: &[(u32, FilterPlan)],
+) -> Result<Vec<u32, B>, AllocError>
+    ensures { IfOk result (λ v. v.items ≡ map (λ f. f.0) filters.now) }
+{
+    filters.iter().map(|filter| filter.0).collect(alloc)
 }
 
 /// The set of the numbers of all ports.

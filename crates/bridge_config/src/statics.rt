@@ -1,6 +1,7 @@
 //! Static filtering entries of a plan.
-ghost use Rattle.std.specs.Prelude.{◌≡◌, IfOk, false, true};
+ghost use Rattle.std.specs.Prelude.{◌≡◌, IfErr, IfOk, false, true};
 ghost use Rattle.toml.specs.View.{table_view};
+ghost use Rattle.bridge_keys.specs.declared.fault.PlanFault.TheVariants.{NoMemory};
 ghost use Rattle.bridge_keys.specs.declared.fault.Section.TheVariants as the_section;
 ghost use Rattle.bridge_keys.specs.Readers.{Gives};
 ghost use Rattle.bridge_config.specs.Sections as sections;
@@ -43,6 +44,7 @@ fn static_of(
     ensures reads { Gives result (sections.static_at all vlans.now statics.now index (table_view table.now)) }
     ensures own { IfOk result (λ s. rules.has_static statics.now s.vid s.address ≡ false) }
     ensures entry { IfOk result (λ s. rules.IsStatic all vlans.now s) }
+    ensures takes_no_memory { IfErr result (λ e. ¬ (e ≡ NoMemory)) }
 {
     let at = |field: Field| -> Place
         ensures { result ≡ record { section = the_section.Static; index = index; field = field } }

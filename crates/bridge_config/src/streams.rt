@@ -1,6 +1,7 @@
 //! Stream identifications of a plan.
-ghost use Rattle.std.specs.Prelude.{◌≡◌, IfOk, All, ◌++◌, ◌∷◌, []};
+ghost use Rattle.std.specs.Prelude.{◌≡◌, IfErr, IfOk, All, ◌++◌, ◌∷◌, []};
 ghost use Rattle.toml.specs.View.{table_view};
+ghost use Rattle.bridge_keys.specs.declared.fault.PlanFault.TheVariants.{NoMemory};
 ghost use Rattle.bridge_keys.specs.declared.fault.Section.TheVariants as the_section;
 ghost use Rattle.bridge_keys.specs.Readers.{Gives};
 ghost use Rattle.bridge_config.specs.Sections as sections;
@@ -99,6 +100,7 @@ fn stream_of<A: Allocator + Copy>(
 ) -> Result<StreamEntry, PlanFault>
     ensures reads { Gives result (sections.stream_at ports.now earlier.now index (table_view table.now)) }
     ensures stream { IfOk result (λ s. rules.IsStream ports.now s) }
+    ensures takes_no_memory { IfErr result (λ e. ¬ (e ≡ NoMemory)) }
 {
     let at = |field: Field| -> Place
         ensures { result ≡ record { section = the_section.Stream; index = index; field = field } }
@@ -118,7 +120,7 @@ fn stream_of<A: Allocator + Copy>(
         Field::Handle,
         &Between {
             low: 0,
-            high: 4_294_967_295,
+            high: u32::MAX as u64,
         },
     )?;
     let port = required(

@@ -1,6 +1,7 @@
 //! VLANs of a plan.
-ghost use Rattle.std.specs.Prelude.{◌≡◌, IfOk, false, true};
+ghost use Rattle.std.specs.Prelude.{◌≡◌, IfErr, IfOk, false, true};
 ghost use Rattle.toml.specs.View.{table_view};
+ghost use Rattle.bridge_keys.specs.declared.fault.PlanFault.TheVariants.{NoMemory};
 ghost use Rattle.bridge_keys.specs.declared.fault.Section.TheVariants as the_section;
 ghost use Rattle.bridge_keys.specs.Readers.{Gives};
 ghost use Rattle.bridge_config.specs.Sections as sections;
@@ -47,6 +48,7 @@ fn vlan_of(all: u16, vlans: &[Vlan], index: u32, table: &Table) -> Result<Vlan, 
     ensures reads { Gives result (sections.vlan_at all vlans.now index (table_view table.now)) }
     ensures own { IfOk result (λ v. rules.has_vlan vlans.now v.vid ≡ false) }
     ensures vlan { IfOk result (λ v. rules.IsVlan all v) }
+    ensures takes_no_memory { IfErr result (λ e. ¬ (e ≡ NoMemory)) }
 {
     let at = |field: Field| -> Place
         ensures { result ≡ record { section = the_section.Vlan; index = index; field = field } }

@@ -6,7 +6,7 @@ use Rattle.bridge_frame.specs.declared.Speed.{Speed}
 use Rattle.bridge_capture.specs.Grammar.{Captured}
 use Rattle.bridge_capture.specs.Written.{written_item, written_text}
 use Rattle.bridge_capture.specs.Sinks.{AppendsFront}
-use Rattle.bridge_cycle.specs.Entries.{In}
+use Rattle.bridge_base.specs.Members.{In}
 use Rattle.bridge_port.specs.declared.item.Item.{Item}
 use Rattle.bridge_port.specs.Schedule.{Copy, is_accepted}
 use Rattle.bridge_port.specs.Seen.{all_seen}

@@ -9,7 +9,8 @@ use Rattle.bridge_capture.specs.declared.fault.CaptureFault.TheVariants as fault
 use Rattle.bridge_capture.specs.Grammar.{Captured, Records, AtEnd, AtFault}
 use Rattle.bridge_capture.specs.Written.{written_text}
 use Rattle.bridge_capture.specs.Sinks.{AppendsFront}
-use Rattle.bridge_cycle.specs.Entries.{In}
+use Rattle.bridge_base.specs.Members.{In}
+use Rattle.bridge_base.specs.declared.TheConstants.{LONGEST_FRAME}
 use Rattle.bridge_port.specs.Schedule.{Started, Copy, Rules, IsLawful, is_accepted}
 use Rattle.bridge_port.specs.Solo.{IsWhole}
 use Rattle.bridge_core.specs.declared.count.WireCount.{WireCount}
@@ -72,7 +73,7 @@ pub record IsOutput (speed : Speed) (copies : List (Copy Frame)) (left : List Ca
 
 -- a frame as it may leave: no longer than a frame may be, and no more octets than it is long
 abbrev pub IsShort : Captured → Type 0
-IsShort c = (c.len ≤ 9216) × (length c.octets ≤ c.len)
+IsShort c = (c.len ≤ LONGEST_FRAME) × (length c.octets ≤ c.len)
 
 -- the frames went through one queue up to some moment, and these have left
 pub record GoesThrough (speed : Speed) (room : ℕ) (frames : List Captured) (copies : List (Copy Frame)) (left : List Captured) : Type 0 where

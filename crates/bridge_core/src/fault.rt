@@ -3,7 +3,6 @@ ghost use Rattle.std.specs.Prelude.{◌≡◌};
 ghost use Rattle.bridge_core.specs.declared.fault.RunFault.TheVariants.{NoMemory as no_memory};
 
 use bridge_capture::CaptureFault;
-use std::alloc::{AllocError, AllocFailed};
 use thiserror::Error;
 
 /// Why a run stops. A capture's or a writer's own want of memory is `NoMemory`.
@@ -20,26 +19,25 @@ pub enum RunFault {
     NoMemory,
 }
 
+impl RunFault {
+    ghost use Rattle.bridge_core.specs.Numbers.{number_of};
+
+    /// The number of the fault, 1 to 3.
+    pub fn number(self) -> u8
+        ensures { result ≡ number_of self }
+    {
+        match self {
+            RunFault::Capture { .. } => 1,
+            RunFault::Write { .. } => 2,
+            RunFault::NoMemory => 3,
+        }
+    }
+}
+
 impl From<bridge_port::NoMemory> for RunFault {
     ghost from_gives = { λ _ e. e ≡ no_memory };
 
     fn from(_: bridge_port::NoMemory) -> RunFault {
-        RunFault::NoMemory
-    }
-}
-
-impl From<AllocError> for RunFault {
-    ghost from_gives = { λ _ e. e ≡ no_memory };
-
-    fn from(_: AllocError) -> RunFault {
-        RunFault::NoMemory
-    }
-}
-
-impl<T: Drop> From<AllocFailed<T>> for RunFault {
-    ghost from_gives = { λ _ e. e ≡ no_memory };
-
-    fn from(_: AllocFailed<T>) -> RunFault {
         RunFault::NoMemory
     }
 }

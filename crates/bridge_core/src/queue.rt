@@ -1,5 +1,5 @@
 //! One capture through one queue.
-ghost use Rattle.std.specs.Prelude.{◌≡◌, ◌≤◌, ◌<◌, ◌+◌, ℕ, List, [], None, Some, Err, Option, length, true, IfOk, IfErr, OnErr};
+ghost use Rattle.std.specs.Prelude.{◌≡◌, ◌≢◌, ◌≤◌, ◌<◌, ◌+◌, ℕ, List, [], None, Some, Err, Option, length, true, IfOk, IfErr, OnErr};
 ghost use Rattle.bridge_capture.specs.Grammar.{Captured};
 ghost use Rattle.bridge_capture.specs.Reading.{view};
 ghost use Rattle.bridge_port.specs.Standing.{count_queued, State};
@@ -10,7 +10,8 @@ ghost use Rattle.bridge_capture.specs.Standing.{AreInOrder, views};
 use crate::count::WireCount;
 use crate::fault::RunFault;
 use crate::sending::depart_before;
-use bridge_capture::{ByteSink, ByteSource, Capture, CaptureFault, Packet, Writer};
+use bridge_base::{END_OF_TIME, MOST_CAPTURED};
+use bridge_capture::{ByteSink, ByteSource, Capture, CaptureFault, MAX_RECORDS, Packet, Writer};
 use bridge_frame::{Speed, parse};
 use bridge_port::{Item, Port};
 use std::alloc::Allocator;
@@ -24,12 +25,12 @@ fn take<W: ByteSink, A: Allocator + Copy>(
     count: &mut WireCount,
     packet: Packet<A>,
 ) -> Result<(), RunFault>
-    requires time { (port.old.earliest ≤ packet.time) × (packet.time < 4_000_000_000_000_000_000) }
-    requires octets { (length packet.octets.items ≤ 262144) × (length packet.octets.items ≤ packet.len) }
+    requires time { (port.old.earliest ≤ packet.time) × (packet.time < END_OF_TIME) }
+    requires octets { (length packet.octets.items ≤ MOST_CAPTURED) × (length packet.octets.items ≤ packet.len) }
     requires speed { port.old.speed ≡ speed }
     requires within { count_queued is_overlong port.old ≡ 0 }
     requires offered { port.old.offered ≤ count.old.frames }
-    requires few { count.old.frames < 1_000_000 }
+    requires few { count.old.frames < MAX_RECORDS }
     requires sums { count.old.malformed + count.old.sent + count.old.full ≡ count.old.frames }
     ensures continues { (room : ℕ) (frames : List Captured) (began : Option (List ℕ)) → IsRunning speed room frames port.old count.old began (W.contents sink.old) → Continues speed room frames (view packet) port.new count.new began (W.contents sink.new) result }
     ensures only { OnErr result (result ≡ Err (RunFault.Write 1)) }
@@ -66,9 +67,11 @@ fn run_through<W: ByteSink, A: Allocator + Copy>(
 ) -> Result<WireCount, RunFault>
     requires room { (1 ≤ room) × (room ≤ 4096) }
     requires in_order { AreInOrder 0 (views packets.items) }
-    requires few { length packets.items ≤ 1_000_000 }
+    requires few { length packets.items ≤ MAX_RECORDS }
     ensures ends { EndsSo speed room (views packets.items) (W.contents sink.old) (W.contents sink.new) result }
     ensures untouched { result ≡ Err RunFault.NoMemory → sink.new ≡ sink.old }
+    ensures sums { IfOk result (λ count. count.malformed + count.sent + count.full ≡ count.frames) }
+    ensures few { IfOk result (λ count. count.frames ≤ length packets.items) }
     ensures one { IfErr result IsOfPortOne }
     ensures fails { (port : ℕ) → result ≡ Err (RunFault.Write port) → W.has_failed sink.new ≡ true }
 {
@@ -106,9 +109,14 @@ pub fn wire<R: ByteSource, W: ByteSink, A: Allocator + Copy>(
     requires room { (1 ≤ room) × (room ≤ 4096) }
     ensures ok { (text : List ℕ) → R.remaining source.old ≡ Some text → IfOk result (Wires speed room text (W.contents sink.old) (W.contents sink.new)) }
     ensures err { (text : List ℕ) → R.remaining source.old ≡ Some text → IfErr result (Stops speed room text (W.contents sink.old) (W.contents sink.new)) }
+
+    // What holds whatever the devices tell.
+    ensures sums { IfOk result (λ count. count.malformed + count.sent + count.full ≡ count.frames) }
+    ensures few { IfOk result (λ count. count.frames ≤ MAX_RECORDS) }
     ensures one { IfErr result IsOfPortOne }
     ensures untouched { IfErr result (λ fault. IsOfReading fault → sink.new ≡ sink.old) }
     ensures read { (port : ℕ) → result ≡ Err (RunFault.Capture port CaptureFault.Read) → R.has_failed source.new ≡ true }
+    ensures sure { (port : ℕ) → R.never_fails source.old ≡ true → result ≢ Err (RunFault.Capture port CaptureFault.Read) }
     ensures write { (port : ℕ) → result ≡ Err (RunFault.Write port) → W.has_failed sink.new ≡ true }
 {
     let mut capture = match Capture::begin(source) {

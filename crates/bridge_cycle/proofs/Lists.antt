@@ -2,12 +2,13 @@ use Rattle.std.proofs.Common.{◌≡◌, ℕ, Bool, false, ◌+◌, ◌-◌, ◌
 use Rattle.std.proofs.lemmas.Bool.{cases_lt}
 use Rattle.std.proofs.Math.Nat.{add-mod_right}
 use Rattle.std.specs.Prelude.{◌↔◌}
+use Rattle.bridge_base.specs.Members.{In}
 use Rattle.bridge_cycle.specs.declared.run.Run.{Run}
 use Rattle.bridge_cycle.specs.declared.run.Run.TheVariants.{Never, For, Always}
 use Rattle.bridge_cycle.specs.declared.timeline.Turn.{Turn}
+use Rattle.bridge_cycle.specs.declared.cyclic.TheConstants.{LONGEST_CYCLE}
 use Rattle.bridge_cycle.specs.Cyclic.{Cyclic, Place, IsLawful, phase, place, turn_of, turn_at}
 use Rattle.bridge_cycle.specs.CyclicLaws.{turn_back, place_here, place_next}
-use Rattle.bridge_cycle.specs.Entries.{In}
 use Rattle.bridge_cycle.specs.Moments.{Fits, Repeats}
 use Rattle.bridge_cycle.specs.Opens.{opens_in}
 use Rattle.bridge_cycle.specs.Runs.{IsLongestRun, Allows}
@@ -42,7 +43,7 @@ allows_is opens (For r) h occ = ((h.1 occ).1, (h.1 occ).0)
 allows_is opens Always h occ = (λ e. (0, λ u p q. h u), λ f. tt)
 
 -- what the longest run of a list allows fits within a cycle of any moment
-pub allowed_soon : (l : Cyclic ℕ) (c : ℕ) (run : Run) → IsLawful l → IsLongestRun (λ v. opens_in (turn_at l v) c) run → (occ from : ℕ) → Allows run occ → (u : ℕ) × (from ≤ u) × (u ≤ from + 1000000000) × Fits (λ v. opens_in (turn_at l v) c) occ u
+pub allowed_soon : (l : Cyclic ℕ) (c : ℕ) (run : Run) → IsLawful l → IsLongestRun (λ v. opens_in (turn_at l v) c) run → (occ from : ℕ) → Allows run occ → (u : ℕ) × (from ≤ u) × (u ≤ from + LONGEST_CYCLE) × Fits (λ v. opens_in (turn_at l v) c) occ u
 allowed_soon l c run lawful h occ from a =
     let opens : ℕ → Bool = λ v. opens_in (turn_at l v) c in
     let some : (t : ℕ) × Fits opens occ t = (allows_is opens run h occ).0 a in

@@ -1,8 +1,10 @@
 use Rattle.std.specs.Prelude.{◌≡◌, ℕ, Bool, false, ◌<◌, ◌≤◌, ◌+◌, ◌-◌, ◌%◌, Option, Some, None, List, [], ◌∷◌, length, nat_lt, if◌then◌else◌, pos, ◌-ℤ◌}
 use Rattle.std.specs.Prelude.{nat_eq, ◌||◌}
 use Rattle.std.specs.List.{list_any}
+use Rattle.bridge_base.specs.declared.TheConstants.{END_OF_TIME}
+use Rattle.bridge_cycle.specs.declared.cyclic.TheConstants.{LONGEST_CYCLE, MOST_ENTRIES}
 use Rattle.bridge_cycle.specs.declared.cyclic.ListFault.{ListFault}
-use Rattle.bridge_cycle.specs.declared.cyclic.ListFault.TheVariants.{Empty, ZeroInterval, OverCycle, CycleOutOfRange, TooManyEntries}
+use Rattle.bridge_cycle.specs.declared.cyclic.ListFault.TheVariants.{Empty, ZeroInterval, OverCycle, CycleOutOfRange, TooManyEntries, NoMemory}
 use Rattle.bridge_cycle.specs.declared.timeline.Turn.{Turn}
 
 -- a list that repeats: a moment at which a cycle begins, the length of a cycle, and the states with their intervals
@@ -49,18 +51,27 @@ has_zero es = list_any (λ e. nat_eq e.1 0) es
 abbrev pub fault_of : {S : Type 0} → ℕ → List (S × ℕ) → Option ListFault
 fault_of cycle es =
     if nat_eq (length es) 0 then Some Empty
-    else if nat_lt 256 (length es) then Some TooManyEntries
-    else if nat_eq cycle 0 || nat_lt 1000000000 cycle then Some CycleOutOfRange
+    else if nat_lt MOST_ENTRIES (length es) then Some TooManyEntries
+    else if nat_eq cycle 0 || nat_lt LONGEST_CYCLE cycle then Some CycleOutOfRange
     else if has_zero es then Some ZeroInterval
     else if nat_lt cycle (total es) then Some OverCycle
     else None
 
+-- the numbers of the faults
+abbrev pub number_of : ListFault → ℕ
+number_of Empty = 1
+number_of ZeroInterval = 2
+number_of OverCycle = 3
+number_of CycleOutOfRange = 4
+number_of TooManyEntries = 5
+number_of NoMemory = 6
+
 -- what holds of every list that was made
 pub record IsLawful {S : Type 0} (l : Cyclic S) : Type 0 where
   pub some : 0 < length l.entries
-  pub few : length l.entries ≤ 256
-  pub base : l.base < 4000000000000000000
-  pub cycle : l.cycle ≤ 1000000000
+  pub few : length l.entries ≤ MOST_ENTRIES
+  pub base : l.base < END_OF_TIME
+  pub cycle : l.cycle ≤ LONGEST_CYCLE
   pub cycle_some : 0 < l.cycle
   pub intervals : has_zero l.entries ≡ false
   pub within : total l.entries ≤ l.cycle

@@ -1,4 +1,5 @@
 use Rattle.std.specs.Prelude.{◌≡◌, ℕ, Bool, true, false, ◌<◌, ◌≤◌, ◌+◌, ◌↔◌}
+use Rattle.bridge_cycle.specs.declared.cyclic.TheConstants.{LONGEST_CYCLE}
 use Rattle.bridge_cycle.specs.declared.run.Run.{Run}
 use Rattle.bridge_cycle.specs.declared.run.Run.TheVariants.{Never, For, Always}
 use Rattle.bridge_cycle.specs.Moments.{Fits}
@@ -15,9 +16,9 @@ Allows Never occ = occ ≡ 0
 Allows (For r) occ = occ ≤ r
 Allows Always occ = Unit {0}
 
--- what a run allows fits at most a second after any moment
+-- what a run allows fits at most a longest cycle, a second, after any moment
 abbrev pub FitsSoon : (ℕ → Bool) → Run → Type 0
-FitsSoon opens run = (occ from : ℕ) → Allows run occ → (u : ℕ) × (from ≤ u) × (u ≤ from + 1000000000) × Fits opens occ u
+FitsSoon opens run = (occ from : ℕ) → Allows run occ → (u : ℕ) × (from ≤ u) × (u ≤ from + LONGEST_CYCLE) × Fits opens occ u
 
 -- a run that ends is shorter than the cycle
 abbrev pub IsShorter : Run → ℕ → Type 0

@@ -1,9 +1,10 @@
-ghost use Rattle.std.specs.Prelude.{◌≡◌, ◌<◌, ◌≤◌, Some, None, length, IsTrue, ◌↔◌, IfOk, IfErr, unwrap_or};
+ghost use Rattle.std.specs.Prelude.{◌≡◌, ◌<◌, ◌≤◌, Some, None, length, true, ◌↔◌, IfOk, IfErr, unwrap_or};
 ghost use Rattle.bridge_cycle.specs.declared.cyclic.ListFault.TheVariants as fault;
 ghost use Rattle.bridge_cycle.specs.Cyclic as cyclic;
 ghost use Rattle.bridge_cycle.specs.Ends as running;
 
 use crate::timeline::{Timeline, Turn};
+use bridge_base::END_OF_TIME;
 use std::alloc::{AllocError, Allocator};
 use std::marker::Model;
 use thiserror::Error;
@@ -31,6 +32,23 @@ pub enum ListFault {
     NoMemory,
 }
 
+impl ListFault {
+    /// Its number: 1 for `Empty`, 2 for `ZeroInterval`, 3 for `OverCycle`, 4 for `CycleOutOfRange`, 5 for
+    /// `TooManyEntries`, 6 for `NoMemory`.
+    pub fn number(self) -> u8
+        ensures { result ≡ cyclic.number_of self }
+    {
+        match self {
+            ListFault::Empty => 1,
+            ListFault::ZeroInterval => 2,
+            ListFault::OverCycle => 3,
+            ListFault::CycleOutOfRange => 4,
+            ListFault::TooManyEntries => 5,
+            ListFault::NoMemory => 6,
+        }
+    }
+}
+
 /// A growth was refused.
 #[derive(Clone, Copy, Debug, PartialEq, Eq, Error)]
 #[error("no memory")]
@@ -50,16 +68,18 @@ impl From<AllocError> for NoMemory {
     }
 }
 
-const MOST_ENTRIES: usize = 256;
+/// The most entries of a list.
+pub const MOST_ENTRIES: usize = 256;
 
-const LONGEST_CYCLE: u64 = 1_000_000_000;
+/// The longest cycle of a list, in ns.
+pub const LONGEST_CYCLE: u64 = 1_000_000_000;
 
 /// States that follow one another in each cycle, each for its interval in ns; the last one lasts to
 /// the end of the cycle.
 ///
 /// A cycle begins at the base, and there are cycles before it too, so that each moment has a state.
 /// Each turn of an entry in each cycle is an interval of its own, also between equal neighbours (the
-/// gate control list of IEEE 802.1Q-2018 8.6.8, and the list of a stream gate of 8.6.5).
+/// gate control list of IEEE 802.1Q-2018 8.6.8.4, and the list of a stream gate of 8.6.5.1.2).
 #[derive(Drop)]
 pub struct CyclicList<S, A: Allocator + Copy> {
     base: u64,
@@ -88,7 +108,7 @@ impl<S: Copy, A: Allocator + Copy> CyclicList<S, A> {
         cycle: u64,
         entries: Vec<(S, u64), A>,
     ) -> Result<Self, ListFault>
-        requires { base < 4_000_000_000_000_000_000 }
+        requires { base < END_OF_TIME }
         ensures accepted { IfOk result (λ l. cyclic.fault_of cycle entries.items ≡ None) }
         ensures list { IfOk result (λ l. l ≡ record { base = base; cycle = cycle; entries = entries.items }) }
         ensures refused { IfErr result (λ e. e ≡ unwrap_or (cyclic.fault_of cycle entries.items) fault.NoMemory) }
@@ -162,7 +182,7 @@ fn has_zero<S: Copy>(entries: &[(S, u64)]) -> bool
 
 /// Whether the intervals add up to at most the cycle.
 fn is_within<S: Copy>(entries: &[(S, u64)], cycle: u64) -> bool
-    ensures { IsTrue result ↔ (cyclic.total entries.now ≤ cycle) }
+    ensures { (result ≡ true) ↔ (cyclic.total entries.now ≤ cycle) }
 {
     let mut left = cycle;
     for entry in entries {
@@ -179,7 +199,7 @@ fn ends_of<S: Copy, A: Allocator + Copy>(
     alloc: A,
     entries: &[(S, u64)],
 ) -> Result<Vec<u64, A>, AllocError>
-    requires { cyclic.total entries.now ≤ 1_000_000_000 }
+    requires { cyclic.total entries.now ≤ LONGEST_CYCLE }
     ensures { IfOk result (λ v. running.AreEnds entries.now v.items) }
 {
     let mut ends = Vec::with_capacity(alloc, entries.len())?;

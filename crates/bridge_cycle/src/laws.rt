@@ -1,9 +1,9 @@
 //! Laws of the definitions alone, each the contract of a function that does nothing.
 ghost use Rattle.std.specs.Prelude.{◌≡◌, ℕ, Bool, true, ◌+◌, ◌<◌, ◌≤◌, ◌↔◌, Some};
+ghost use Rattle.bridge_base.specs.Members.{In};
 ghost use Rattle.bridge_cycle.specs.declared.run.Run.{Run};
 ghost use Rattle.bridge_cycle.specs.declared.timeline.Turn.{Turn};
 ghost use Rattle.bridge_cycle.specs.Cyclic.{Cyclic, IsLawful, turn_at};
-ghost use Rattle.bridge_cycle.specs.Entries.{In};
 ghost use Rattle.bridge_cycle.specs.Fitting.{some_fits};
 ghost use Rattle.bridge_cycle.specs.Moments.{Fits, Repeats};
 ghost use Rattle.bridge_cycle.specs.Opens.{opens_in};

@@ -1,9 +1,10 @@
-ghost use Rattle.std.specs.Prelude.{◌*◌, ◌<◌};
+ghost use Rattle.std.specs.Prelude.{◌*◌, ◌<◌, ◌≡◌, ◌↔◌, true};
 ghost use Rattle.bridge_cycle.specs.Cyclic.{turn_at};
 ghost use Rattle.bridge_cycle.specs.Opens.{opens_in};
-ghost use Rattle.bridge_cycle.specs.Runs.{FitsSoon, IsLongestRun, IsLongestBefore, IsShorter};
+ghost use Rattle.bridge_cycle.specs.Runs.{Allows, FitsSoon, IsLongestRun, IsLongestBefore, IsShorter};
 
 use crate::cyclic::CyclicList;
+use crate::fit::is_open;
 use crate::timeline::Timeline;
 use std::alloc::Allocator;
 
@@ -18,10 +19,21 @@ pub enum Run {
     Always,
 }
 
+impl Run {
+    /// Whether a frame that occupies the link for so many ns fits in it.
+    pub fn allows(self, occupied: u64) -> bool
+        ensures { (result ≡ true) ↔ Allows self occupied }
+    {
+        match self {
+            Run::Never => occupied == 0,
+            Run::For(longest) => occupied <= longest,
+            Run::Always => true,
+        }
+    }
+}
+
 /// The longest time for which a list keeps `class` open without a break, also over the end of the
 /// cycle. A frame that occupies the link for no longer fits at most a second after any moment.
-///
-/// Bit c of a state says that class c is open.
 pub fn longest_run<A: Allocator + Copy>(list: &CyclicList<u8, A>, class: u8) -> Run
     requires { class < 8 }
     ensures longest { IsLongestRun (λ v. opens_in (turn_at list.now v) class) result }
@@ -50,11 +62,11 @@ fn longest_open<L: Timeline<State = u8>>(timeline: &L, class: u8) -> u64
     let mut seen = 0;
     while seen < end {
         let turn = timeline.turn(seen);
-        if (turn.state >> class) % 2 == 0 {
-            run = 0;
-        } else {
+        if is_open(turn.state, class) {
             run += turn.end - seen;
             longest = run.max(longest);
+        } else {
+            run = 0;
         }
         seen = turn.end;
     }

@@ -1,6 +1,11 @@
 ghost use Rattle.std.specs.Prelude.{◌≡◌, ℕ, ◌+◌, ◌<◌, ◌≤◌, pos, ◌≤ℤ◌, ℤ, Option, Some};
 ghost use Rattle.bridge_cycle.specs.declared.timeline.Turn.{Turn};
 
+use crate::cyclic::LONGEST_CYCLE;
+
+/// The moment, in ns, below which a timeline tells its turns.
+pub const END_OF_TURNS: u64 = 9_100_000_000_000_000_000;
+
 /// A stretch of time in which one state holds: from `start`, which may lie before 0, up to `end`, in ns.
 #[derive(Clone, Copy)]
 pub struct Turn<S> {
@@ -25,7 +30,7 @@ pub trait Timeline {
 
     /// The turn that has the moment `t`, in ns.
     fn turn(&self, t: u64) -> Turn<Self::State>
-        requires { t < 9_100_000_000_000_000_000 }
+        requires { t < END_OF_TURNS }
         ensures lawful { is_lawful self.now }
         ensures turn { turn_at self.now t ≡ Some result };
 
@@ -33,7 +38,7 @@ pub trait Timeline {
     fn cycle(&self) -> u64
         ensures lawful { is_lawful self.now }
         ensures cycle { result ≡ cycle_of self.now }
-        ensures bounded { result ≤ 1_000_000_000 };
+        ensures bounded { result ≤ LONGEST_CYCLE };
 
     /// There is a turn at each moment.
     ghost is_there: { (a : Self) (t : ℕ) → is_lawful a → (x : Turn Self.State) × (turn_at a t ≡ Some x) };

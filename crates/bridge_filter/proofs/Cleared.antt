@@ -15,39 +15,39 @@ use Rattle.bridge_filter.specs.declared.FilterPlan.{FilterPlan}
 use Rattle.bridge_filter.specs.Plans.{KeepsNumbers, is_there}
 use Rattle.bridge_filter.specs.declared.filter.Filter.{Filter}
 use Rattle.bridge_filter.specs.declared.find.Key.{Key}
-use Rattle.bridge_filter.specs.Verdicts.{Plans, Event, ClearedBlocked, ClearedRxOf, ClearedOctetsOf, ClearedRedOf, cleared, Step, Command, told, gate_share, meter_share}
+use Rattle.bridge_filter.specs.Verdicts.{Plans, Event, Cleared, Step, Commanded, told, gate_share, meter_share}
 use Rattle.bridge_filter.specs.Standing.{PoliceState, Stands, has_instance, AreKept, IsKept, GatesStand, MetersStand}
 use Rattle.bridge_filter.specs.Steps.{GatesBefore, MetersBefore, InstancesStay, HaveInstances, IsSound, plans_in}
 use Rattle.bridge_filter.proofs.Numbered.{Changes, each_after, same_eq}
 use Rattle.bridge_filter.proofs.Judging.{has_meter_later, lookup-plans_in}
 use Rattle.bridge_filter.proofs.Flows.{is_there-lookup}
 
-cleared_own : (n : ℕ) (f : Filter) (ss : List Step) → IsKept n f ss → IsKept n (record { plan = f.plan; counters = f.counters; blocked = false }) (Command (ClearedBlocked n) ∷ ss)
+cleared_own : (n : ℕ) (f : Filter) (ss : List Step) → IsKept n f ss → IsKept n (record { plan = f.plan; counters = f.counters; blocked = false }) (Commanded clear.Blocked n ∷ ss)
 cleared_own n f ss k = record {
   counters = k.counters;
   blocked = rw (same_eq n) (sym (and-false f.plan.block_oversize));
 }
 
-cleared_other : (n m : ℕ) (f : Filter) (ss : List Step) → nat_eq m n ≡ false → IsKept n f ss → IsKept n f (Command (ClearedBlocked m) ∷ ss)
+cleared_other : (n m : ℕ) (f : Filter) (ss : List Step) → nat_eq m n ≡ false → IsKept n f ss → IsKept n f (Commanded clear.Blocked m ∷ ss)
 cleared_other n m f ss differ k = record {
   counters = k.counters;
   blocked = rw differ k.blocked;
 }
 
 -- what is kept after the blocked flag of one filter was cleared
-pub kept_cleared : (old new : List (ℕ × Filter)) (n : ℕ) (f : Filter) (ss : List Step) → Changes old new n f (record { plan = f.plan; counters = f.counters; blocked = false }) → AreKept old ss → AreKept new (Command (ClearedBlocked n) ∷ ss)
+pub kept_cleared : (old new : List (ℕ × Filter)) (n : ℕ) (f : Filter) (ss : List Step) → Changes old new n f (record { plan = f.plan; counters = f.counters; blocked = false }) → AreKept old ss → AreKept new (Commanded clear.Blocked n ∷ ss)
 kept_cleared old new n f ss change kept =
-    let clear : Filter = record { plan = f.plan; counters = f.counters; blocked = false } in
-    each_after old new n f clear (λ k z. IsKept k z ss) (λ k z. IsKept k z (Command (ClearedBlocked n) ∷ ss)) change kept (cleared_own n f ss) (λ k z differ. cleared_other k n z ss differ)
+    let free : Filter = record { plan = f.plan; counters = f.counters; blocked = false } in
+    each_after old new n f free (λ k z. IsKept k z ss) (λ k z. IsKept k z (Commanded clear.Blocked n ∷ ss)) change kept (cleared_own n f ss) (λ k z differ. cleared_other k n z ss differ)
 
 -- other commands leave what is kept of filters
-pub kept_rx : (kept : List (ℕ × Filter)) (m : ℕ) (ss : List Step) → AreKept kept ss → AreKept kept (Command (ClearedRxOf m) ∷ ss)
+pub kept_rx : (kept : List (ℕ × Filter)) (m : ℕ) (ss : List Step) → AreKept kept ss → AreKept kept (Commanded clear.Rx m ∷ ss)
 kept_rx kept m ss h n f found = let k = h n f found in record { counters = k.counters; blocked = k.blocked }
 
-pub kept_octets : (kept : List (ℕ × Filter)) (m : ℕ) (ss : List Step) → AreKept kept ss → AreKept kept (Command (ClearedOctetsOf m) ∷ ss)
+pub kept_octets : (kept : List (ℕ × Filter)) (m : ℕ) (ss : List Step) → AreKept kept ss → AreKept kept (Commanded clear.Octets m ∷ ss)
 kept_octets kept m ss h n f found = let k = h n f found in record { counters = k.counters; blocked = k.blocked }
 
-pub kept_red : (kept : List (ℕ × Filter)) (m : ℕ) (ss : List Step) → AreKept kept ss → AreKept kept (Command (ClearedRedOf m) ∷ ss)
+pub kept_red : (kept : List (ℕ × Filter)) (m : ℕ) (ss : List Step) → AreKept kept ss → AreKept kept (Commanded clear.Red m ∷ ss)
 kept_red kept m ss h n f found = let k = h n f found in record { counters = k.counters; blocked = k.blocked }
 
 instances_stay : {A : Type 0} (old new : List (ℕ × Filter)) (gates : List (ℕ × gate.Gate A)) (meters : List (ℕ × meter.MeterState)) (calls : ℕ) → InstancesStay old new → HaveInstances old gates meters calls → HaveInstances new gates meters calls
@@ -111,10 +111,10 @@ meter_there_red c n s e h = there_found n s.meters (subst (λ (x : Clear). has_i
 
 -- the police after a command
 
-pub stands_blocked : {A : Type 0} (p : Plans) (s : PoliceState A) (es : List Event) (c : Clear) (n : ℕ) (fs : List (ℕ × FilterPlan)) (kept : List (ℕ × Filter)) → c ≡ clear.Blocked → fs ≡ s.filters → Stands p s es → (AreKept s.kept (told p es) → AreKept kept (Command (ClearedBlocked n) ∷ told p es)) → Stands p (record { filters = fs; kept = kept; gates = s.gates; meters = s.meters; calls = s.calls; earliest = s.earliest }) (cleared c n ∷ es)
+pub stands_blocked : {A : Type 0} (p : Plans) (s : PoliceState A) (es : List Event) (c : Clear) (n : ℕ) (fs : List (ℕ × FilterPlan)) (kept : List (ℕ × Filter)) → c ≡ clear.Blocked → fs ≡ s.filters → Stands p s es → (AreKept s.kept (told p es) → AreKept kept (Commanded clear.Blocked n ∷ told p es)) → Stands p (record { filters = fs; kept = kept; gates = s.gates; meters = s.meters; calls = s.calls; earliest = s.earliest }) (Cleared c n ∷ es)
 stands_blocked {A} p s es c n fs kept e same st step =
     let t : PoliceState A = record { filters = fs; kept = kept; gates = s.gates; meters = s.meters; calls = s.calls; earliest = s.earliest } in
-    subst (λ (x : Clear). Stands p t (cleared x n ∷ es)) (sym e) (record {
+    subst (λ (x : Clear). Stands p t (Cleared x n ∷ es)) (sym e) (record {
       filters = same ∙ st.filters;
       kept = step st.kept;
       gates = st.gates;
@@ -123,10 +123,10 @@ stands_blocked {A} p s es c n fs kept e same st step =
       earliest = st.earliest;
     })
 
-pub stands_rx : {A : Type 0} (p : Plans) (s : PoliceState A) (es : List Event) (c : Clear) (n : ℕ) (new : List (ℕ × gate.Gate A)) → c ≡ clear.Rx → Stands p s es → ((rules : ℕ → gates.GateRules) (share : ℕ → List gates.GateEvent) → GatesStand rules s.gates share → GatesStand rules new (λ k. if nat_eq n k then gates.ClearedRx ∷ share k else share k)) → Stands p (record s { gates = new }) (cleared c n ∷ es)
+pub stands_rx : {A : Type 0} (p : Plans) (s : PoliceState A) (es : List Event) (c : Clear) (n : ℕ) (new : List (ℕ × gate.Gate A)) → c ≡ clear.Rx → Stands p s es → ((rules : ℕ → gates.GateRules) (share : ℕ → List gates.GateEvent) → GatesStand rules s.gates share → GatesStand rules new (λ k. if nat_eq n k then gates.ClearedRx ∷ share k else share k)) → Stands p (record s { gates = new }) (Cleared c n ∷ es)
 stands_rx {A} p s es c n new e st step =
     let t : PoliceState A = record s { gates = new } in
-    subst (λ (x : Clear). Stands p t (cleared x n ∷ es)) (sym e) (record {
+    subst (λ (x : Clear). Stands p t (Cleared x n ∷ es)) (sym e) (record {
       filters = st.filters;
       kept = kept_rx s.kept n (told p es) st.kept;
       gates = step p.gates (λ k. gate_share k (told p es)) st.gates;
@@ -135,10 +135,10 @@ stands_rx {A} p s es c n new e st step =
       earliest = st.earliest;
     })
 
-pub stands_octets : {A : Type 0} (p : Plans) (s : PoliceState A) (es : List Event) (c : Clear) (n : ℕ) (new : List (ℕ × gate.Gate A)) → c ≡ clear.Octets → Stands p s es → ((rules : ℕ → gates.GateRules) (share : ℕ → List gates.GateEvent) → GatesStand rules s.gates share → GatesStand rules new (λ k. if nat_eq n k then gates.ClearedOctets ∷ share k else share k)) → Stands p (record s { gates = new }) (cleared c n ∷ es)
+pub stands_octets : {A : Type 0} (p : Plans) (s : PoliceState A) (es : List Event) (c : Clear) (n : ℕ) (new : List (ℕ × gate.Gate A)) → c ≡ clear.Octets → Stands p s es → ((rules : ℕ → gates.GateRules) (share : ℕ → List gates.GateEvent) → GatesStand rules s.gates share → GatesStand rules new (λ k. if nat_eq n k then gates.ClearedOctets ∷ share k else share k)) → Stands p (record s { gates = new }) (Cleared c n ∷ es)
 stands_octets {A} p s es c n new e st step =
     let t : PoliceState A = record s { gates = new } in
-    subst (λ (x : Clear). Stands p t (cleared x n ∷ es)) (sym e) (record {
+    subst (λ (x : Clear). Stands p t (Cleared x n ∷ es)) (sym e) (record {
       filters = st.filters;
       kept = kept_octets s.kept n (told p es) st.kept;
       gates = step p.gates (λ k. gate_share k (told p es)) st.gates;
@@ -147,10 +147,10 @@ stands_octets {A} p s es c n new e st step =
       earliest = st.earliest;
     })
 
-pub stands_red : {A : Type 0} (p : Plans) (s : PoliceState A) (es : List Event) (c : Clear) (n : ℕ) (new : List (ℕ × meter.MeterState)) → c ≡ clear.Red → Stands p s es → ((plans : ℕ → MeterPlan) (share : ℕ → List colours.MeterEvent) → MetersStand plans s.meters share → MetersStand plans new (λ k. if nat_eq n k then colours.Cleared ∷ share k else share k)) → Stands p (record s { meters = new }) (cleared c n ∷ es)
+pub stands_red : {A : Type 0} (p : Plans) (s : PoliceState A) (es : List Event) (c : Clear) (n : ℕ) (new : List (ℕ × meter.MeterState)) → c ≡ clear.Red → Stands p s es → ((plans : ℕ → MeterPlan) (share : ℕ → List colours.MeterEvent) → MetersStand plans s.meters share → MetersStand plans new (λ k. if nat_eq n k then colours.Cleared ∷ share k else share k)) → Stands p (record s { meters = new }) (Cleared c n ∷ es)
 stands_red {A} p s es c n new e st step =
     let t : PoliceState A = record s { meters = new } in
-    subst (λ (x : Clear). Stands p t (cleared x n ∷ es)) (sym e) (record {
+    subst (λ (x : Clear). Stands p t (Cleared x n ∷ es)) (sym e) (record {
       filters = st.filters;
       kept = kept_red s.kept n (told p es) st.kept;
       gates = st.gates;

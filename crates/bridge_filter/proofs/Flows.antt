@@ -1,5 +1,5 @@
 use Rattle.std.proofs.Common.{◌≡◌, ℕ, Bool, true, false, List, [], ◌∷◌, refl, ap, ◌∙◌, sym, subst}
-use Rattle.std.specs.Prelude.{nat_eq, nat_lt, if◌then◌else◌, Option, Some, None, IsSome}
+use Rattle.std.specs.Prelude.{IfSome, IsTrue, nat_eq, nat_lt, if◌then◌else◌, Option, Some, None, IsSome}
 use Rattle.std.specs.Option.{option_map, is_some}
 use Rattle.std.specs.Map.{lookup}
 use Rattle.std.proofs.lemmas.Option.{same_Some}
@@ -88,3 +88,8 @@ kept_some (Some f) plan h = refl
 -- a filter whose plan is found is kept
 pub kept_there : (n : ℕ) (fs : List (ℕ × Filter)) (plan : FilterPlan) → lookup (nat_eq n) (plans_in fs) ≡ Some plan → IsSome (lookup (nat_eq n) fs)
 kept_there n fs plan h = kept_some (lookup (nat_eq n) fs) plan (sym (lookup-plans_in n fs) ∙ h)
+
+-- the number of a frame's filter is there
+pub flow_there : (fs : List (ℕ × FilterPlan)) (c : Call) (o : Option ℕ) → are_distinct fs ≡ true → o ≡ option_map (λ (x : ℕ × FilterPlan). x.0) (flow fs c) → IfSome o (λ n. IsTrue (is_there n fs))
+flow_there fs c None distinct h = tt
+flow_there fs c (Some n) distinct h = let f = flow_numbered fs c n distinct h in found_there n fs f.plan f.found

@@ -1,5 +1,6 @@
 pub mod Found
 pub mod Numbered
+pub mod Members
 pub mod Shares
 pub mod Judging
 pub mod Flows
@@ -9,3 +10,4 @@ pub mod Made
 pub mod Starting
 pub mod Cleared
 pub mod Owned
+pub mod OwnShown

@@ -3,15 +3,16 @@ use Rattle.std.proofs.lemmas.Bool.Decides.{nat_tests}
 use Rattle.std.specs.Prelude.{if◌then◌else◌, nat_eq, nat_lt, ◌&&◌}
 use Rattle.std.proofs.lemmas.Option.{same_Some}
 use Rattle.std.proofs.lemmas.Bool.{eqb-true, eqb-false}
-use Rattle.bridge_cycle.specs.Entries.{In}
+use Rattle.bridge_base.specs.Members.{In}
 use Rattle.bridge_cycle.proofs.Cases.{by_bool}
+use Rattle.bridge_filter.specs.declared.Clear.TheVariants as clear
 use Rattle.bridge_filter.specs.declared.FilterPlan.{FilterPlan}
 use Rattle.bridge_filter.specs.declared.Verdict.{Verdict}
 use Rattle.bridge_filter.specs.declared.Verdict.TheVariants as verdict
 use Rattle.bridge_gate.specs.declared.gate.GateAnswer.{GateAnswer}
 use Rattle.bridge_gate.specs.declared.gate.GateAnswer.TheVariants as gate
-use Rattle.bridge_filter.specs.Verdicts.{Plans, Call, Event, Came, ClearedBlocked, ClearedRxOf, ClearedOctetsOf, ClearedRedOf, Step, Unfiltered, Judged, Command, gate_share, meter_share, is_blocked, is_meter, is_match, lesser, flow, verdict_of, judged, told, is_above, by_answer, by_meter, gate_answer}
-use Rattle.bridge_filter.specs.Own.{own_events, is_own_step, own_steps, IsApart}
+use Rattle.bridge_filter.specs.Verdicts.{Plans, Call, Event, Came, Cleared, Step, Unfiltered, Judged, Commanded, gate_share, meter_share, is_blocked, is_meter, is_match, lesser, flow, verdict_of, judged, told, is_above, by_answer, by_meter, gate_answer}
+use Rattle.bridge_filter.specs.Own.{own_events, is_named, is_own_step, own_steps, IsApart}
 
 -- each judged step is of a filter of the plan
 abbrev pub IsListed : Plans → Step → Type 0
@@ -42,10 +43,7 @@ judged_listed p ss c (Some x) h = h x refl
 pub told_listed : (p : Plans) (es : List Event) → AreListed p (told p es)
 told_listed p [] = tt
 told_listed p (Came c ∷ es) = (judged_listed p (told p es) c (flow p.filters c) (flow_listed p.filters c), told_listed p es)
-told_listed p (ClearedBlocked n ∷ es) = (tt, told_listed p es)
-told_listed p (ClearedRxOf n ∷ es) = (tt, told_listed p es)
-told_listed p (ClearedOctetsOf n ∷ es) = (tt, told_listed p es)
-told_listed p (ClearedRedOf n ∷ es) = (tt, told_listed p es)
+told_listed p (Cleared c n ∷ es) = (tt, told_listed p es)
 
 pub differs : (m n : ℕ) → (m ≡ n → ⊥) → nat_eq m n ≡ false
 differs m n h = by_bool (nat_eq m n) (λ k. absurd (h (eqb-true m n k))) (λ k. k)
@@ -56,11 +54,10 @@ gate_own p s f a (Unfiltered c ∷ ss) l = gate_own p s f a ss l.1
 gate_own p s f a (Judged c n g v ∷ ss) l = by_bool (nat_eq n s)
     (λ k. rw (k, gate_own p s f a ss l.1) refl)
     (λ k. let e : nat_eq g.gate f.gate ≡ false = differs g.gate f.gate (λ q. eqb-false n s k (a.gate n g l.0 q)) in rw (k, e) (gate_own p s f a ss l.1))
-gate_own p s f a (Command (Came c) ∷ ss) l = gate_own p s f a ss l.1
-gate_own p s f a (Command (ClearedBlocked n) ∷ ss) l = by_bool (nat_eq n s) (λ k. rw k (gate_own p s f a ss l.1)) (λ k. rw k (gate_own p s f a ss l.1))
-gate_own p s f a (Command (ClearedRxOf n) ∷ ss) l = by_bool (nat_eq n f.gate) (λ k. rw (k, k, gate_own p s f a ss l.1) refl) (λ k. rw k (gate_own p s f a ss l.1))
-gate_own p s f a (Command (ClearedOctetsOf n) ∷ ss) l = by_bool (nat_eq n f.gate) (λ k. rw (k, k, gate_own p s f a ss l.1) refl) (λ k. rw k (gate_own p s f a ss l.1))
-gate_own p s f a (Command (ClearedRedOf n) ∷ ss) l = by_bool (is_meter f.meter n) (λ k. rw k (gate_own p s f a ss l.1)) (λ k. rw k (gate_own p s f a ss l.1))
+gate_own p s f a (Commanded clear.Blocked n ∷ ss) l = by_bool (nat_eq n s) (λ k. rw k (gate_own p s f a ss l.1)) (λ k. rw k (gate_own p s f a ss l.1))
+gate_own p s f a (Commanded clear.Rx n ∷ ss) l = by_bool (nat_eq n f.gate) (λ k. rw (k, k, gate_own p s f a ss l.1) refl) (λ k. rw k (gate_own p s f a ss l.1))
+gate_own p s f a (Commanded clear.Octets n ∷ ss) l = by_bool (nat_eq n f.gate) (λ k. rw (k, k, gate_own p s f a ss l.1) refl) (λ k. rw k (gate_own p s f a ss l.1))
+gate_own p s f a (Commanded clear.Red n ∷ ss) l = by_bool (is_meter f.meter n) (λ k. rw k (gate_own p s f a ss l.1)) (λ k. rw k (gate_own p s f a ss l.1))
 
 is_meter_some : (o : Option ℕ) (m : ℕ) → is_meter o m ≡ true → o ≡ Some m
 is_meter_some None m h = cc
@@ -70,7 +67,7 @@ swapped : (m n : ℕ) → nat_eq n m ≡ true → nat_eq m n ≡ true
 swapped m n h = grind (arith, nat_tests)
 
 -- a command that names the meter is the filter's own, and another one is in no share of it
-command_own : (p : Plans) (s m n : ℕ) (f : FilterPlan) → f.meter ≡ Some m → (ss : List Step) → meter_share m (own_steps s f ss) ≡ meter_share m ss → meter_share m (own_steps s f (Command (ClearedRedOf n) ∷ ss)) ≡ meter_share m (Command (ClearedRedOf n) ∷ ss)
+command_own : (p : Plans) (s m n : ℕ) (f : FilterPlan) → f.meter ≡ Some m → (ss : List Step) → meter_share m (own_steps s f ss) ≡ meter_share m ss → meter_share m (own_steps s f (Commanded clear.Red n ∷ ss)) ≡ meter_share m (Commanded clear.Red n ∷ ss)
 command_own p s m n f e ss h = by_bool (nat_eq n m)
     (λ k.
     let named : is_meter f.meter n ≡ true = rw e (swapped m n k) in
@@ -85,21 +82,19 @@ meter_own p s m f a e (Unfiltered c ∷ ss) l = meter_own p s m f a e ss l.1
 meter_own p s m f a e (Judged c n g v ∷ ss) l = by_bool (nat_eq n s)
     (λ k. rw (k, meter_own p s m f a e ss l.1) refl)
     (λ k. let z : is_meter g.meter m ≡ false = by_bool (is_meter g.meter m) (λ y. absurd (eqb-false n s k (a.meter n m g e l.0 (is_meter_some g.meter m y)))) (λ y. y) in rw (k, z) (meter_own p s m f a e ss l.1))
-meter_own p s m f a e (Command (Came c) ∷ ss) l = meter_own p s m f a e ss l.1
-meter_own p s m f a e (Command (ClearedBlocked n) ∷ ss) l = by_bool (nat_eq n s) (λ k. rw k (meter_own p s m f a e ss l.1)) (λ k. rw k (meter_own p s m f a e ss l.1))
-meter_own p s m f a e (Command (ClearedRxOf n) ∷ ss) l = by_bool (nat_eq n f.gate) (λ k. rw k (meter_own p s m f a e ss l.1)) (λ k. rw k (meter_own p s m f a e ss l.1))
-meter_own p s m f a e (Command (ClearedOctetsOf n) ∷ ss) l = by_bool (nat_eq n f.gate) (λ k. rw k (meter_own p s m f a e ss l.1)) (λ k. rw k (meter_own p s m f a e ss l.1))
-meter_own p s m f a e (Command (ClearedRedOf n) ∷ ss) l = command_own p s m n f e ss (meter_own p s m f a e ss l.1)
+meter_own p s m f a e (Commanded clear.Blocked n ∷ ss) l = by_bool (nat_eq n s) (λ k. rw k (meter_own p s m f a e ss l.1)) (λ k. rw k (meter_own p s m f a e ss l.1))
+meter_own p s m f a e (Commanded clear.Rx n ∷ ss) l = by_bool (nat_eq n f.gate) (λ k. rw k (meter_own p s m f a e ss l.1)) (λ k. rw k (meter_own p s m f a e ss l.1))
+meter_own p s m f a e (Commanded clear.Octets n ∷ ss) l = by_bool (nat_eq n f.gate) (λ k. rw k (meter_own p s m f a e ss l.1)) (λ k. rw k (meter_own p s m f a e ss l.1))
+meter_own p s m f a e (Commanded clear.Red n ∷ ss) l = command_own p s m n f e ss (meter_own p s m f a e ss l.1)
 
 pub blocked_own : (s : ℕ) (f : FilterPlan) (ss : List Step) → is_blocked s (own_steps s f ss) ≡ is_blocked s ss
 blocked_own s f [] = refl
 blocked_own s f (Unfiltered c ∷ ss) = blocked_own s f ss
 blocked_own s f (Judged c n g v ∷ ss) = by_bool (nat_eq n s) (λ k. rw (k, k, blocked_own s f ss) refl) (λ k. rw (k) (blocked_own s f ss))
-blocked_own s f (Command (Came c) ∷ ss) = blocked_own s f ss
-blocked_own s f (Command (ClearedBlocked n) ∷ ss) = by_bool (nat_eq n s) (λ k. rw (k, k) refl) (λ k. rw (k) (blocked_own s f ss))
-blocked_own s f (Command (ClearedRxOf n) ∷ ss) = by_bool (nat_eq n f.gate) (λ k. rw k (blocked_own s f ss)) (λ k. rw k (blocked_own s f ss))
-blocked_own s f (Command (ClearedOctetsOf n) ∷ ss) = by_bool (nat_eq n f.gate) (λ k. rw k (blocked_own s f ss)) (λ k. rw k (blocked_own s f ss))
-blocked_own s f (Command (ClearedRedOf n) ∷ ss) = by_bool (is_meter f.meter n) (λ k. rw k (blocked_own s f ss)) (λ k. rw k (blocked_own s f ss))
+blocked_own s f (Commanded clear.Blocked n ∷ ss) = by_bool (nat_eq n s) (λ k. rw (k, k) refl) (λ k. rw (k) (blocked_own s f ss))
+blocked_own s f (Commanded clear.Rx n ∷ ss) = by_bool (nat_eq n f.gate) (λ k. rw k (blocked_own s f ss)) (λ k. rw k (blocked_own s f ss))
+blocked_own s f (Commanded clear.Octets n ∷ ss) = by_bool (nat_eq n f.gate) (λ k. rw k (blocked_own s f ss)) (λ k. rw k (blocked_own s f ss))
+blocked_own s f (Commanded clear.Red n ∷ ss) = by_bool (is_meter f.meter n) (λ k. rw k (blocked_own s f ss)) (λ k. rw k (blocked_own s f ss))
 
 by_meter_own : (p : Plans) (s : ℕ) (f : FilterPlan) → IsApart p s f → (ss : List Step) → AreListed p ss → (c : Call) (ipv m : Option ℕ) → f.meter ≡ m → by_meter p (own_steps s f ss) c ipv m ≡ by_meter p ss c ipv m
 by_meter_own p s f a ss l c ipv None e = refl
@@ -136,7 +131,4 @@ came_own p s f a c es ih (Some x) e = by_bool (nat_eq x.0 s)
 pub told_own : (p : Plans) (s : ℕ) (f : FilterPlan) → IsApart p s f → (es : List Event) → told p (own_events p s f es) ≡ own_steps s f (told p es)
 told_own p s f a [] = refl
 told_own p s f a (Came c ∷ es) = came_own p s f a c es (told_own p s f a es) (flow p.filters c) refl
-told_own p s f a (ClearedBlocked n ∷ es) = by_bool (nat_eq n s) (λ k. rw (k, told_own p s f a es) refl) (λ k. rw k (told_own p s f a es))
-told_own p s f a (ClearedRxOf n ∷ es) = by_bool (nat_eq n f.gate) (λ k. rw (k, told_own p s f a es) refl) (λ k. rw k (told_own p s f a es))
-told_own p s f a (ClearedOctetsOf n ∷ es) = by_bool (nat_eq n f.gate) (λ k. rw (k, told_own p s f a es) refl) (λ k. rw k (told_own p s f a es))
-told_own p s f a (ClearedRedOf n ∷ es) = by_bool (is_meter f.meter n) (λ k. rw (k, told_own p s f a es) refl) (λ k. rw k (told_own p s f a es))
+told_own p s f a (Cleared c n ∷ es) = by_bool (is_named s f c n) (λ k. rw (k, told_own p s f a es) refl) (λ k. rw k (told_own p s f a es))

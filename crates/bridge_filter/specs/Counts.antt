@@ -8,14 +8,14 @@ use Rattle.bridge_filter.specs.declared.Verdict.{Verdict}
 use Rattle.bridge_filter.specs.declared.Verdict.TheVariants as verdict
 use Rattle.bridge_filter.specs.declared.Counters.{Counters}
 use Rattle.bridge_filter.specs.declared.Flags.{Flags}
-use Rattle.bridge_filter.specs.Verdicts.{Event, Came, ClearedBlocked, ClearedRxOf, ClearedOctetsOf, ClearedRedOf, Plans, Step, Unfiltered, Judged, Command, gate_share, meter_share, is_blocked, is_oversize, reached_gate, passed_gate}
+use Rattle.bridge_filter.specs.Verdicts.{Event, Came, Cleared, Plans, Step, Unfiltered, Judged, Commanded, gate_share, meter_share, is_blocked, is_oversize, reached_gate, passed_gate}
 
 -- the verdicts of a filter, in the order of its frames
 abbrev pub verdicts_of : ℕ → List Step → List Verdict
 verdicts_of n [] = []
 verdicts_of n (Unfiltered c ∷ ss) = verdicts_of n ss
 verdicts_of n (Judged c m f v ∷ ss) = verdicts_of n ss ++ (if nat_eq m n then v ∷ [] else [])
-verdicts_of n (Command e ∷ ss) = verdicts_of n ss
+verdicts_of n (Commanded c m ∷ ss) = verdicts_of n ss
 
 -- whether the gate refused the frame
 abbrev pub refused_by_gate : Verdict → Bool
@@ -65,16 +65,10 @@ buckets_by p (Some m) ss = Some (meter.buckets_after (p.meters m) (meter.past (p
 abbrev pub frames_in : List Event → ℕ
 frames_in [] = 0
 frames_in (Came c ∷ es) = frames_in es + 1
-frames_in (ClearedBlocked n ∷ es) = frames_in es
-frames_in (ClearedRxOf n ∷ es) = frames_in es
-frames_in (ClearedOctetsOf n ∷ es) = frames_in es
-frames_in (ClearedRedOf n ∷ es) = frames_in es
+frames_in (Cleared c n ∷ es) = frames_in es
 
 -- the moment of the newest frame, 0 before the first
 abbrev pub last_moment : List Event → ℕ
 last_moment [] = 0
 last_moment (Came c ∷ es) = c.at
-last_moment (ClearedBlocked n ∷ es) = last_moment es
-last_moment (ClearedRxOf n ∷ es) = last_moment es
-last_moment (ClearedOctetsOf n ∷ es) = last_moment es
-last_moment (ClearedRedOf n ∷ es) = last_moment es
+last_moment (Cleared c n ∷ es) = last_moment es

@@ -1,36 +1,34 @@
 -- What of a list of events is a filter's own.
 use Rattle.std.specs.Prelude.{◌≡◌, ℕ, Bool, false, nat_eq, Option, Some, None, List, [], ◌∷◌, if◌then◌else◌}
-use Rattle.bridge_cycle.specs.Entries.{In}
+use Rattle.bridge_base.specs.Members.{In}
+use Rattle.bridge_filter.specs.declared.Clear.{Clear}
+use Rattle.bridge_filter.specs.declared.Clear.TheVariants as clear
 use Rattle.bridge_filter.specs.declared.FilterPlan.{FilterPlan}
-use Rattle.bridge_filter.specs.Verdicts.{Plans, Event, Came, ClearedBlocked, ClearedRxOf, ClearedOctetsOf, ClearedRedOf, Step, Unfiltered, Judged, Command, flow, is_meter}
+use Rattle.bridge_filter.specs.Verdicts.{Plans, Event, Came, Cleared, Step, Unfiltered, Judged, Commanded, flow, is_meter}
 
 -- whether a flow is the filter with that number
 abbrev pub is_number : ℕ → Option (ℕ × FilterPlan) → Bool
 is_number s None = false
 is_number s (Some x) = nat_eq x.0 s
 
--- whether an event is a command that names a filter, its gate or its meter
-abbrev pub is_named : ℕ → FilterPlan → Event → Bool
-is_named s f (Came c) = false
-is_named s f (ClearedBlocked n) = nat_eq n s
-is_named s f (ClearedRxOf n) = nat_eq n f.gate
-is_named s f (ClearedOctetsOf n) = nat_eq n f.gate
-is_named s f (ClearedRedOf n) = is_meter f.meter n
+-- whether a command clears a flag of a filter, of its gate or of its meter
+abbrev pub is_named : ℕ → FilterPlan → Clear → ℕ → Bool
+is_named s f clear.Blocked n = nat_eq n s
+is_named s f clear.Rx n = nat_eq n f.gate
+is_named s f clear.Octets n = nat_eq n f.gate
+is_named s f clear.Red n = is_meter f.meter n
 
--- a filter's own events: the frames whose flow it is, and the commands that name it, its gate or its meter
+-- a filter's own events: the frames whose flow it is, and the commands that clear a flag of it, of its gate or of its meter
 abbrev pub own_events : Plans → ℕ → FilterPlan → List Event → List Event
 own_events p s f [] = []
 own_events p s f (Came c ∷ es) = if is_number s (flow p.filters c) then Came c ∷ own_events p s f es else own_events p s f es
-own_events p s f (ClearedBlocked n ∷ es) = if nat_eq n s then ClearedBlocked n ∷ own_events p s f es else own_events p s f es
-own_events p s f (ClearedRxOf n ∷ es) = if nat_eq n f.gate then ClearedRxOf n ∷ own_events p s f es else own_events p s f es
-own_events p s f (ClearedOctetsOf n ∷ es) = if nat_eq n f.gate then ClearedOctetsOf n ∷ own_events p s f es else own_events p s f es
-own_events p s f (ClearedRedOf n ∷ es) = if is_meter f.meter n then ClearedRedOf n ∷ own_events p s f es else own_events p s f es
+own_events p s f (Cleared c n ∷ es) = if is_named s f c n then Cleared c n ∷ own_events p s f es else own_events p s f es
 
 -- whether a step is a filter's own
 abbrev pub is_own_step : ℕ → FilterPlan → Step → Bool
 is_own_step s f (Unfiltered c) = false
 is_own_step s f (Judged c n g v) = nat_eq n s
-is_own_step s f (Command e) = is_named s f e
+is_own_step s f (Commanded c n) = is_named s f c n
 
 -- a filter's own steps
 abbrev pub own_steps : ℕ → FilterPlan → List Step → List Step

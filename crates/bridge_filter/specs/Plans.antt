@@ -1,5 +1,5 @@
 -- Lists of filters, gates and meters by number, and when they go together.
-use Rattle.std.specs.Prelude.{ℕ, Bool, true, false, ◌&&◌, not, nat_eq, Option, Some, None, List, [], ◌∷◌, IsTrue}
+use Rattle.std.specs.Prelude.{◌≡◌, ℕ, Bool, true, false, ◌&&◌, not, nat_eq, Option, Some, None, List, [], ◌∷◌}
 use Rattle.std.specs.List.{list_all}
 use Rattle.std.specs.Option.{is_some}
 use Rattle.std.specs.Map.{lookup}
@@ -17,7 +17,7 @@ is_there n xs = is_some (lookup (nat_eq n) xs)
 
 -- each number of a list is one of another
 abbrev pub KeepsNumbers : {X Y : Type 0} → List (ℕ × X) → List (ℕ × Y) → Type 0
-KeepsNumbers xs ys = (n : ℕ) → IsTrue (is_there n xs) → IsTrue (is_there n ys)
+KeepsNumbers xs ys = (n : ℕ) → is_there n xs ≡ true → is_there n ys ≡ true
 
 -- whether the numbers of a list differ from one another
 abbrev pub are_distinct : {X : Type 0} → List (ℕ × X) → Bool

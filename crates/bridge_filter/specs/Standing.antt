@@ -1,5 +1,7 @@
-use Rattle.std.specs.Prelude.{◌≡◌, ℕ, Bool, ◌&&◌, nat_eq, Some, List}
+use Rattle.std.specs.Prelude.{◌≡◌, ℕ, Bool, false, ◌&&◌, nat_eq, Option, Some, None, option_and_then, List}
+use Rattle.std.specs.Option.{option_map}
 use Rattle.std.specs.Map.{lookup}
+use Rattle.bridge_meter.specs.declared.Buckets.{Buckets}
 use Rattle.bridge_meter.specs.declared.MeterPlan.{MeterPlan}
 use Rattle.bridge_meter.specs.Colours.{MeterEvent}
 use Rattle.bridge_meter.specs.Standing as meter
@@ -7,6 +9,8 @@ use Rattle.bridge_gate.specs.Gates.{GateRules, GateEvent}
 use Rattle.bridge_gate.specs.Standing as gate
 use Rattle.bridge_filter.specs.declared.Clear.{Clear}
 use Rattle.bridge_filter.specs.declared.Clear.TheVariants as clear
+use Rattle.bridge_filter.specs.declared.Counters.{Counters}
+use Rattle.bridge_filter.specs.declared.Flags.{Flags}
 use Rattle.bridge_filter.specs.declared.FilterPlan.{FilterPlan}
 use Rattle.bridge_filter.specs.declared.filter.Filter.{Filter}
 use Rattle.bridge_filter.specs.Plans.{is_there}
@@ -28,6 +32,42 @@ has_instance clear.Blocked n s = is_there n s.filters
 has_instance clear.Rx n s = is_there n s.gates
 has_instance clear.Octets n s = is_there n s.gates
 has_instance clear.Red n s = is_there n s.meters
+
+-- the flags of a gate, where it is there
+abbrev pub shown_rx : {A : Type 0} → Option (gate.Gate A) → Bool
+shown_rx None = false
+shown_rx (Some g) = g.rx
+
+abbrev pub shown_octets : {A : Type 0} → Option (gate.Gate A) → Bool
+shown_octets None = false
+shown_octets (Some g) = g.octets
+
+-- the buckets of the meter that a filter names, where it names one
+abbrev pub shown_meter : Option ℕ → List (ℕ × meter.MeterState) → Option Buckets
+shown_meter None meters = None
+shown_meter (Some n) meters = option_map (λ m. m.buckets) (lookup (nat_eq n) meters)
+
+abbrev pub shown_red : Option Buckets → Bool
+shown_red None = false
+shown_red (Some b) = b.all_red
+
+-- what the police shows of the filter with a number, where it has it: its counters, its flags with those of its gate and its meter, and the buckets of its meter
+abbrev pub shown_counters : {A : Type 0} → ℕ → PoliceState A → Option Counters
+shown_counters n s = option_map (λ f. f.counters) (lookup (nat_eq n) s.kept)
+
+abbrev pub flags_by : {A : Type 0} → PoliceState A → Filter → Flags
+flags_by s f = record {
+  blocked = f.blocked;
+  rx = shown_rx (lookup (nat_eq f.plan.gate) s.gates);
+  octets = shown_octets (lookup (nat_eq f.plan.gate) s.gates);
+  red = shown_red (shown_meter f.plan.meter s.meters);
+}
+
+abbrev pub shown_flags : {A : Type 0} → ℕ → PoliceState A → Option Flags
+shown_flags n s = option_map (flags_by s) (lookup (nat_eq n) s.kept)
+
+abbrev pub shown_buckets : {A : Type 0} → ℕ → PoliceState A → Option Buckets
+shown_buckets n s = option_and_then (λ f. shown_meter f.plan.meter s.meters) (lookup (nat_eq n) s.kept)
 
 -- each gate stands for its share
 abbrev pub GatesStand : {A : Type 0} → (ℕ → GateRules) → List (ℕ × gate.Gate A) → (ℕ → List GateEvent) → Type 0

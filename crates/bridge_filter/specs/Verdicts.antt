@@ -1,4 +1,4 @@
--- The verdicts of stream filters over a list of frames and commands (IEEE 802.1Q-2018, 8.6.5.3: per-stream filtering and policing).
+-- The verdicts of stream filters over a list of frames and commands (IEEE 802.1Q-2018, 8.6.5.1: per-stream filtering and policing).
 use Rattle.std.specs.Prelude.{ℕ, ◌≤◌, Bool, true, false, ◌&&◌, ◌||◌, not, nat_lt, nat_eq, Option, Some, None, List, [], ◌∷◌, if◌then◌else◌}
 use Rattle.bridge_meter.specs.declared.Colour.{Colour}
 use Rattle.bridge_meter.specs.declared.Colour.TheVariants as colour
@@ -26,21 +26,10 @@ pub record Call : Type 0 where
 abbrev pub call : ℕ → Option ℕ → ℕ → Bool → ℕ → ℕ → Call
 call at handle priority dei sdu octets = record { at = at; handle = handle; priority = priority; dei = dei; sdu = sdu; octets = octets }
 
--- A frame, or a command that clears a flag: the blocked flag of the filter with that number, the receive or the octets flag of a gate, the red flag of a meter.
--- Events are listed newest first.
+-- A frame, or a command that clears a flag of the filter, the gate or the meter with a number. Events are listed newest first.
 pub data Event : Type 0 where
   Came : Call → Event
-  ClearedBlocked : ℕ → Event
-  ClearedRxOf : ℕ → Event
-  ClearedOctetsOf : ℕ → Event
-  ClearedRedOf : ℕ → Event
-
--- the event of a command that clears a flag of the instance with a number
-abbrev pub cleared : Clear → ℕ → Event
-cleared clear.Blocked n = ClearedBlocked n
-cleared clear.Rx n = ClearedRxOf n
-cleared clear.Octets n = ClearedOctetsOf n
-cleared clear.Red n = ClearedRedOf n
+  Cleared : Clear → ℕ → Event
 
 -- The filters with their numbers, and how the gate and the meter of each number are set.
 pub record Plans : Type 0 where
@@ -73,11 +62,11 @@ abbrev pub flow : List (ℕ × FilterPlan) → Call → Option (ℕ × FilterPla
 flow [] c = None
 flow (f ∷ fs) c = if is_match f.1 c then lesser f (flow fs c) else flow fs c
 
--- What came of an event: a frame without a filter, a frame with its filter and its verdict, or a command. Steps are listed newest first.
+-- What came of an event: a frame without a filter, a frame with its filter and its verdict, or a command with the number that it named. Steps are listed newest first.
 pub data Step : Type 0 where
   Unfiltered : Call → Step
   Judged : Call → ℕ → FilterPlan → Verdict → Step
-  Command : Event → Step
+  Commanded : Clear → ℕ → Step
 
 -- whether the gate was asked
 abbrev pub reached_gate : Verdict → Bool
@@ -97,32 +86,27 @@ abbrev pub HasPriority : Verdict → Type 0
 HasPriority (verdict.Pass (Some ipv) eligible) = ipv ≤ 7
 HasPriority v = Unit {0}
 
--- a gate's share of the steps: the frames of all filters with that gate that reached it, and the commands that name it
+-- a gate's share of the steps: the frames of all filters with that gate that reached it, and the commands that clear a flag of it
 abbrev pub gate_share : ℕ → List Step → List GateEvent
 gate_share g [] = []
 gate_share g (Unfiltered c ∷ ss) = gate_share g ss
 gate_share g (Judged c n f v ∷ ss) = if nat_eq f.gate g && reached_gate v then Asked c.at c.sdu ∷ gate_share g ss else gate_share g ss
-gate_share g (Command (Came c) ∷ ss) = gate_share g ss
-gate_share g (Command (ClearedBlocked n) ∷ ss) = gate_share g ss
-gate_share g (Command (ClearedRxOf n) ∷ ss) = if nat_eq n g then ClearedRx ∷ gate_share g ss else gate_share g ss
-gate_share g (Command (ClearedOctetsOf n) ∷ ss) = if nat_eq n g then ClearedOctets ∷ gate_share g ss else gate_share g ss
-gate_share g (Command (ClearedRedOf n) ∷ ss) = gate_share g ss
+gate_share g (Commanded clear.Rx n ∷ ss) = if nat_eq n g then ClearedRx ∷ gate_share g ss else gate_share g ss
+gate_share g (Commanded clear.Octets n ∷ ss) = if nat_eq n g then ClearedOctets ∷ gate_share g ss else gate_share g ss
+gate_share g (Commanded c n ∷ ss) = gate_share g ss
 
 -- whether a filter's meter, where it has one, is that one
 abbrev pub is_meter : Option ℕ → ℕ → Bool
 is_meter None m = false
 is_meter (Some n) m = nat_eq n m
 
--- a meter's share of the steps: the frames of all filters with that meter that their gates let through, and the commands that name it
+-- a meter's share of the steps: the frames of all filters with that meter that their gates let through, and the commands that clear its flag
 abbrev pub meter_share : ℕ → List Step → List meter.MeterEvent
 meter_share m [] = []
 meter_share m (Unfiltered c ∷ ss) = meter_share m ss
 meter_share m (Judged c n f v ∷ ss) = if is_meter f.meter m && passed_gate v then meter.Came c.at c.octets c.dei ∷ meter_share m ss else meter_share m ss
-meter_share m (Command (Came c) ∷ ss) = meter_share m ss
-meter_share m (Command (ClearedBlocked n) ∷ ss) = meter_share m ss
-meter_share m (Command (ClearedRxOf n) ∷ ss) = meter_share m ss
-meter_share m (Command (ClearedOctetsOf n) ∷ ss) = meter_share m ss
-meter_share m (Command (ClearedRedOf n) ∷ ss) = if nat_eq n m then meter.Cleared ∷ meter_share m ss else meter_share m ss
+meter_share m (Commanded clear.Red n ∷ ss) = if nat_eq n m then meter.Cleared ∷ meter_share m ss else meter_share m ss
+meter_share m (Commanded c n ∷ ss) = meter_share m ss
 
 abbrev pub is_oversize : Verdict → Bool
 is_oversize verdict.Oversize = true
@@ -133,11 +117,8 @@ abbrev pub is_blocked : ℕ → List Step → Bool
 is_blocked n [] = false
 is_blocked n (Unfiltered c ∷ ss) = is_blocked n ss
 is_blocked n (Judged c m f v ∷ ss) = (nat_eq m n && is_oversize v) || is_blocked n ss
-is_blocked n (Command (Came c) ∷ ss) = is_blocked n ss
-is_blocked n (Command (ClearedBlocked m) ∷ ss) = not (nat_eq m n) && is_blocked n ss
-is_blocked n (Command (ClearedRxOf m) ∷ ss) = is_blocked n ss
-is_blocked n (Command (ClearedOctetsOf m) ∷ ss) = is_blocked n ss
-is_blocked n (Command (ClearedRedOf m) ∷ ss) = is_blocked n ss
+is_blocked n (Commanded clear.Blocked m ∷ ss) = not (nat_eq m n) && is_blocked n ss
+is_blocked n (Commanded c m ∷ ss) = is_blocked n ss
 
 -- whether octets are above a maximum, where there is one
 abbrev pub is_above : Option ℕ → ℕ → Bool
@@ -183,13 +164,10 @@ judged p ss c (Some f) = Judged c f.0 f.1 (verdict_of p ss c f.0 f.1)
 abbrev pub told : Plans → List Event → List Step
 told p [] = []
 told p (Came c ∷ es) = judged p (told p es) c (flow p.filters c) ∷ told p es
-told p (ClearedBlocked n ∷ es) = Command (ClearedBlocked n) ∷ told p es
-told p (ClearedRxOf n ∷ es) = Command (ClearedRxOf n) ∷ told p es
-told p (ClearedOctetsOf n ∷ es) = Command (ClearedOctetsOf n) ∷ told p es
-told p (ClearedRedOf n ∷ es) = Command (ClearedRedOf n) ∷ told p es
+told p (Cleared c n ∷ es) = Commanded c n ∷ told p es
 
 -- the answer to a frame, by what came of it
 abbrev pub ruled : Step → Option Ruling
 ruled (Unfiltered c) = None
 ruled (Judged c n f v) = Some (record { filter = n; verdict = v })
-ruled (Command e) = None
+ruled (Commanded c n) = None

@@ -6,10 +6,11 @@ ghost use Rattle.bridge_meter.specs.declared.MeterPlan.{MeterPlan};
 ghost use Rattle.bridge_meter.specs.Colours as colours;
 ghost use Rattle.bridge_gate.specs.Gates.{GateRules, GateEvent, ClearedRx, ClearedOctets};
 ghost use Rattle.bridge_filter.specs.Plans.{KeepsNumbers};
-ghost use Rattle.bridge_filter.specs.Verdicts.{Step, Command, ClearedBlocked};
+ghost use Rattle.bridge_filter.specs.Verdicts.{Step, Commanded};
 ghost use Rattle.bridge_filter.specs.Standing.{GatesStand, MetersStand, AreKept};
 ghost use Rattle.bridge_filter.specs.Steps.{GatesBefore, MetersBefore, InstancesStay, plans_in};
 
+use crate::Clear;
 use crate::filter::Filter;
 use crate::instances::Numbered;
 use bridge_gate::StreamGate;
@@ -19,7 +20,7 @@ use std::alloc::Allocator;
 /// Clears the blocked flag of the filter with that number.
 pub(crate) fn clear_blocked<A: Allocator + Copy>(filters: &mut Numbered<Filter, A>, number: u32)
     requires { IsSome (lookup (nat_eq number) filters.old.entries) }
-    ensures kept { (ss : List Step) → AreKept filters.old.entries ss → AreKept filters.new.entries (Command (ClearedBlocked number) ∷ ss) }
+    ensures kept { (ss : List Step) → AreKept filters.old.entries ss → AreKept filters.new.entries (Commanded Clear.Blocked number ∷ ss) }
     ensures plans { plans_in filters.new.entries ≡ plans_in filters.old.entries }
     ensures instances { InstancesStay filters.old.entries filters.new.entries }
 {

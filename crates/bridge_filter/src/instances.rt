@@ -1,6 +1,7 @@
 //! Gates and meters by number, and what they say to a frame.
 
 ghost use Rattle.std.specs.Prelude.{◌≡◌, ℕ, ◌<◌, ◌≤◌, ◌&&◌, nat_eq, IsSome, Some, true, Bool, Option, List, ◌∷◌, if◌then◌else◌};
+ghost use Rattle.std.specs.Option.{option_map};
 ghost use Rattle.std.specs.Map.{lookup};
 ghost use Rattle.bridge_meter.specs.declared.MeterPlan.{MeterPlan};
 ghost use Rattle.bridge_meter.specs.Colours as colours;
@@ -8,10 +9,11 @@ ghost use Rattle.bridge_gate.specs.declared.gate.GateAnswer.TheVariants as gate;
 ghost use Rattle.bridge_gate.specs.Gates.{GateRules, GateEvent, Asked, answer, steps, is_shut_by_rx, is_shut_by_octets};
 ghost use Rattle.bridge_filter.specs.Plans.{KeepsNumbers};
 ghost use Rattle.bridge_filter.specs.Verdicts.{Plans, Step, Judged, call, by_answer, by_colour, gate_answer, gate_share, meter_share, passed_gate, reached_gate, HasPriority};
-ghost use Rattle.bridge_filter.specs.Standing.{GatesStand, MetersStand};
+ghost use Rattle.bridge_filter.specs.Standing.{GatesStand, MetersStand, shown_rx, shown_octets};
 ghost use Rattle.bridge_filter.specs.Steps.{GatesBefore, MetersBefore, ArePoliced, HasMeter};
 
 use crate::{FilterPlan, Verdict};
+use bridge_base::END_OF_TIME;
 use bridge_gate::{GateAnswer, StreamGate};
 use bridge_meter::{Buckets, Colour, Meter};
 use indexmap::IndexMap;
@@ -39,7 +41,7 @@ fn ask<A: Allocator + Copy>(
 ) -> GateAnswer
     requires there { IsSome (lookup (nat_eq number) gates.old.entries) }
     requires before { GatesBefore gates.old.entries at }
-    requires range { at < 4_000_000_000_000_000_000 }
+    requires range { at < END_OF_TIME }
     ensures stand { (rules : ℕ → GateRules) (share : ℕ → List GateEvent) → GatesStand rules gates.old.entries share → GatesStand rules gates.new.entries (λ n. if nat_eq number n then Asked at sdu ∷ share n else share n) }
     ensures answer { (rules : ℕ → GateRules) (share : ℕ → List GateEvent) → GatesStand rules gates.old.entries share → result ≡ answer (rules number) (steps (rules number) (share number)) at sdu }
     ensures priority { (ipv : ℕ) → result ≡ gate.Through (Some ipv) → ipv ≤ 7 }
@@ -141,7 +143,7 @@ pub(crate) fn policed<A: Allocator + Copy>(
     requires meter { HasMeter plan.meter meters.old.entries }
     requires asked { GatesBefore gates.old.entries frame.at }
     requires judged { MetersBefore meters.old.entries frame.at }
-    requires range { frame.at < 4_000_000_000_000_000_000 }
+    requires range { frame.at < END_OF_TIME }
     ensures verdict { (p : Plans) (ss : List Step) (handle : Option ℕ) (priority : ℕ) → ArePoliced p gates.old.entries meters.old.entries ss → result ≡ by_answer p ss (call frame.at handle priority frame.dei frame.sdu frame.octets) plan (gate_answer p ss (call frame.at handle priority frame.dei frame.sdu frame.octets) plan.gate) }
     ensures reached { reached_gate result ≡ true }
     ensures gates { (p : Plans) (ss : List Step) (n : ℕ) (handle : Option ℕ) (priority : ℕ) → ArePoliced p gates.old.entries meters.old.entries ss → ArePoliced p gates.new.entries meters.new.entries (Judged (call frame.at handle priority frame.dei frame.sdu frame.octets) n plan result ∷ ss) }
@@ -161,6 +163,8 @@ pub(crate) fn gate_flags<A: Allocator + Copy>(
     number: u32,
 ) -> (bool, bool)
     requires { IsSome (lookup (nat_eq number) gates.now.entries) }
+    ensures shown_rx { result.0 ≡ shown_rx (lookup (nat_eq number) gates.now.entries) }
+    ensures shown_octets { result.1 ≡ shown_octets (lookup (nat_eq number) gates.now.entries) }
     ensures rx { (rules : ℕ → GateRules) (share : ℕ → List GateEvent) → GatesStand rules gates.now.entries share → result.0 ≡ (rules number).shut_on_rx && is_shut_by_rx (steps (rules number) (share number)) }
     ensures octets { (rules : ℕ → GateRules) (share : ℕ → List GateEvent) → GatesStand rules gates.now.entries share → result.1 ≡ (rules number).shut_on_octets && is_shut_by_octets (steps (rules number) (share number)) }
 {
@@ -173,7 +177,8 @@ pub(crate) fn gate_flags<A: Allocator + Copy>(
 /// What the buckets of the meter of that number hold.
 pub(crate) fn meter_state<A: Allocator + Copy>(meters: &Numbered<Meter, A>, number: u32) -> Buckets
     requires { IsSome (lookup (nat_eq number) meters.now.entries) }
-    ensures { (plans : ℕ → MeterPlan) (share : ℕ → List colours.MeterEvent) → MetersStand plans meters.now.entries share → result ≡ colours.buckets_after (plans number) (colours.past (plans number) (share number)) }
+    ensures shown { Some result ≡ option_map (λ m. m.buckets) (lookup (nat_eq number) meters.now.entries) }
+    ensures after { (plans : ℕ → MeterPlan) (share : ℕ → List colours.MeterEvent) → MetersStand plans meters.now.entries share → result ≡ colours.buckets_after (plans number) (colours.past (plans number) (share number)) }
 {
     match meters.get(&number) {
         Some(meter) => meter.state(),

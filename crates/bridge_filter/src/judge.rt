@@ -11,6 +11,7 @@ ghost use Rattle.bridge_filter.specs.Steps.{GatesBefore, MetersBefore, ArePolice
 use crate::Verdict;
 use crate::filter::Filter;
 use crate::instances::{Frame, Numbered, policed};
+use bridge_base::END_OF_TIME;
 use bridge_gate::StreamGate;
 use bridge_meter::Meter;
 use std::alloc::Allocator;
@@ -26,7 +27,7 @@ fn verdict_for<A: Allocator + Copy>(
     requires meter { HasMeter filter.now.plan.meter meters.old.entries }
     requires asked { GatesBefore gates.old.entries frame.at }
     requires judged { MetersBefore meters.old.entries frame.at }
-    requires range { frame.at < 4_000_000_000_000_000_000 }
+    requires range { frame.at < END_OF_TIME }
     ensures verdict { (p : Plans) (ss : List Step) (n : ℕ) (handle : Option ℕ) (priority : ℕ) → ArePoliced p gates.old.entries meters.old.entries ss → IsKept n filter.now ss → result ≡ verdict_of p ss (call frame.at handle priority frame.dei frame.sdu frame.octets) n filter.now.plan }
     ensures policed { (p : Plans) (ss : List Step) (n : ℕ) (handle : Option ℕ) (priority : ℕ) → ArePoliced p gates.old.entries meters.old.entries ss → ArePoliced p gates.new.entries meters.new.entries (Judged (call frame.at handle priority frame.dei frame.sdu frame.octets) n filter.now.plan result ∷ ss) }
     ensures priority { HasPriority result }
@@ -53,7 +54,7 @@ pub(crate) fn judge<A: Allocator + Copy>(
     requires instances { HaveInstances filters.old.entries gates.old.entries meters.old.entries 9223372036854775807 }
     requires asked { GatesBefore gates.old.entries frame.at }
     requires judged { MetersBefore meters.old.entries frame.at }
-    requires range { frame.at < 4_000_000_000_000_000_000 }
+    requires range { frame.at < END_OF_TIME }
     ensures verdict { (p : Plans) (ss : List Step) (f : FilterPlan) (handle : Option ℕ) (priority : ℕ) → lookup (nat_eq number) (plans_in filters.old.entries) ≡ Some f → AreKept filters.old.entries ss → ArePoliced p gates.old.entries meters.old.entries ss → result ≡ verdict_of p ss (call frame.at handle priority frame.dei frame.sdu frame.octets) number f }
     ensures kept { (ss : List Step) (f : FilterPlan) (handle : Option ℕ) (priority : ℕ) → lookup (nat_eq number) (plans_in filters.old.entries) ≡ Some f → AreKept filters.old.entries ss → AreKept filters.new.entries (Judged (call frame.at handle priority frame.dei frame.sdu frame.octets) number f result ∷ ss) }
     ensures policed { (p : Plans) (ss : List Step) (f : FilterPlan) (handle : Option ℕ) (priority : ℕ) → lookup (nat_eq number) (plans_in filters.old.entries) ≡ Some f → ArePoliced p gates.old.entries meters.old.entries ss → ArePoliced p gates.new.entries meters.new.entries (Judged (call frame.at handle priority frame.dei frame.sdu frame.octets) number f result ∷ ss) }

@@ -1,5 +1,5 @@
 #![tactic(auto)]
-//! Stream filters with their gates and meters (IEEE 802.1Q-2018, 8.6.5: per-stream filtering and policing): what
+//! Stream filters with their gates and meters (IEEE 802.1Q-2018, 8.6.5.1: per-stream filtering and policing): what
 //! becomes of each frame, and what is counted.
 
 mod clearing;
@@ -14,7 +14,7 @@ mod police;
 pub use bridge_cycle::NoMemory;
 pub use police::Police;
 
-/// How a stream filter is set.
+/// How a stream filter is set (IEEE 802.1Q-2018, 8.6.5.1.1).
 #[derive(Clone, Copy, Debug, PartialEq, Eq)]
 pub struct FilterPlan {
     /// The stream handle that it asks for; `None` takes every frame, also one without a handle.
@@ -64,7 +64,7 @@ pub struct Ruling {
     pub verdict: Verdict,
 }
 
-/// What a filter counts (IEEE 802.1Q-2018, 8.6.5.3).
+/// What a filter counts (IEEE 802.1Q-2018, 8.6.5.1.1).
 #[derive(Clone, Copy, Debug, PartialEq, Eq)]
 pub struct Counters {
     /// All its frames.

@@ -1,6 +1,6 @@
 //! Filters, gates and meters by number, made from their plans.
 
-ghost use Rattle.std.specs.Prelude.{◌≡◌, ℕ, IfOk, OnOk, IsTrue, Some, if◌then◌else◌};
+ghost use Rattle.std.specs.Prelude.{◌≡◌, ℕ, IfOk, OnOk, true, Some, if◌then◌else◌};
 ghost use Rattle.indexmap.specs.IndexMap.{get};
 ghost use Rattle.bridge_filter.specs.declared.find.Key.{Key};
 ghost use Rattle.bridge_filter.specs.Finding.{same_key, lesser_number, least_with};
@@ -21,7 +21,7 @@ pub(crate) fn filters_of<A: Allocator + Copy>(
     alloc: A,
     plans: &[(u32, FilterPlan)],
 ) -> Result<Numbered<Filter, A>, AllocError>
-    requires { IsTrue (are_distinct plans.now) }
+    requires { are_distinct plans.now ≡ true }
     ensures { IfOk result (λ m. m.entries ≡ new_filters plans.now) }
 {
     let mut made = IndexMap::with_capacity(alloc, plans.len())?;
@@ -77,8 +77,8 @@ pub(crate) fn gates_of<A: Allocator + Copy>(
     alloc: A,
     plans: Vec<(u32, GatePlan<A>), A>,
 ) -> Result<Numbered<StreamGate<A>, A>, AllocError>
-    requires distinct { IsTrue (are_distinct plans.items) }
-    requires priorities { IsTrue (all_have_priorities plans.items) }
+    requires distinct { are_distinct plans.items ≡ true }
+    requires priorities { all_have_priorities plans.items ≡ true }
     ensures { IfOk result (λ m. AreMade IsNewGate plans.items m.entries) }
 {
     let mut made = IndexMap::with_capacity(alloc, plans.len())?;
@@ -93,8 +93,8 @@ pub(crate) fn meters_of<A: Allocator + Copy>(
     alloc: A,
     plans: &[(u32, MeterPlan)],
 ) -> Result<Numbered<Meter, A>, AllocError>
-    requires distinct { IsTrue (are_distinct plans.now) }
-    requires limits { IsTrue (all_within_limits plans.now) }
+    requires distinct { are_distinct plans.now ≡ true }
+    requires limits { all_within_limits plans.now ≡ true }
     ensures { IfOk result (λ m. AreMade IsNewMeter plans.now m.entries) }
 {
     let mut made = IndexMap::with_capacity(alloc, plans.len())?;

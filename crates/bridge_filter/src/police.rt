@@ -1,14 +1,14 @@
 //! The police: all filters with their gates and meters.
 
-ghost use Rattle.std.specs.Prelude.{◌≡◌, ℕ, Bool, List, [], ◌∷◌, ◌+◌, ◌<◌, ◌≤◌, ◌^◌, nat_eq, Option, Some, IsSome, IfSome, IfOk, IsTrue};
+ghost use Rattle.std.specs.Prelude.{◌≡◌, ℕ, Bool, List, [], ◌∷◌, ◌+◌, ◌<◌, ◌≤◌, ◌^◌, nat_eq, Option, Some, IsSome, IfSome, IfOk, true};
 ghost use Rattle.std.specs.Option.{option_map};
 ghost use Rattle.std.specs.Map.{lookup};
 ghost use Rattle.bridge_filter.specs.declared.FilterPlan.{FilterPlan};
 ghost use Rattle.bridge_filter.specs.declared.Ruling.{Ruling};
-ghost use Rattle.bridge_filter.specs.Verdicts.{Plans, Event, Came, call, flow, judged, told, ruled, cleared, HasPriority};
+ghost use Rattle.bridge_filter.specs.Verdicts.{Plans, Event, Came, Cleared, call, flow, judged, told, ruled, HasPriority};
 ghost use Rattle.bridge_filter.specs.Counts.{verdicts_of, counters_of, flags_of, buckets_by, frames_in, last_moment};
 ghost use Rattle.bridge_filter.specs.Plans.{KeepsNumbers, is_there, are_distinct, have_instances, all_have_priorities, all_within_limits, plans_of};
-ghost use Rattle.bridge_filter.specs.Standing.{Stands, has_instance};
+ghost use Rattle.bridge_filter.specs.Standing.{Stands, has_instance, shown_counters, shown_flags, shown_buckets};
 ghost use Rattle.bridge_filter.specs.Steps.{HasMeter};
 
 use crate::clearing::{clear_blocked, clear_octets, clear_red, clear_rx};
@@ -18,6 +18,7 @@ use crate::instances::{Frame, Numbered, gate_flags, meter_state};
 use crate::judge::judge;
 use crate::making::{filters_of, firsts_of, gates_of, meters_of};
 use crate::{Clear, Counters, FilterPlan, Flags, NoMemory, Ruling};
+use bridge_base::END_OF_TIME;
 use bridge_gate::{GatePlan, StreamGate};
 use bridge_meter::{Buckets, Meter, MeterPlan};
 use std::alloc::Allocator;
@@ -56,13 +57,14 @@ impl<A: Allocator + Copy> Police<A> {
         gates: Vec<(u32, GatePlan<A>), A>,
         meters: Vec<(u32, MeterPlan), A>,
     ) -> Result<Police<A>, NoMemory>
-        requires filters { IsTrue (are_distinct filters.items) }
-        requires gates { IsTrue (are_distinct gates.items) }
-        requires meters { IsTrue (are_distinct meters.items) }
-        requires instances { IsTrue (have_instances filters.items gates.items meters.items) }
-        requires priorities { IsTrue (all_have_priorities gates.items) }
-        requires limits { IsTrue (all_within_limits meters.items) }
+        requires filters { are_distinct filters.items ≡ true }
+        requires gates { are_distinct gates.items ≡ true }
+        requires meters { are_distinct meters.items ≡ true }
+        requires instances { have_instances filters.items gates.items meters.items ≡ true }
+        requires priorities { all_have_priorities gates.items ≡ true }
+        requires limits { all_within_limits meters.items ≡ true }
         ensures stands { IfOk result (λ p. Stands (plans_of filters.items gates.items meters.items) p []) }
+        ensures filters { IfOk result (λ p. p.filters ≡ filters.items) }
         ensures gates { IfOk result (λ p. KeepsNumbers gates.items p.gates) }
         ensures meters { IfOk result (λ p. KeepsNumbers meters.items p.meters) }
     {
@@ -89,7 +91,7 @@ impl<A: Allocator + Copy> Police<A> {
         octets: u32,
     ) -> Option<Ruling>
         requires time { self.old.earliest ≤ t }
-        requires range { t < 4_000_000_000_000_000_000 }
+        requires range { t < END_OF_TIME }
         requires few { self.old.calls < 2 ^ 63 }
         ensures stands { (p : Plans) (es : List Event) → Stands p self.old es → Stands p self.new (Came (call t handle priority dei sdu octets) ∷ es) }
         ensures answer { (p : Plans) (es : List Event) → Stands p self.old es → result ≡ ruled (judged p (told p es) (call t handle priority dei sdu octets) (flow p.filters (call t handle priority dei sdu octets))) }
@@ -120,12 +122,21 @@ impl<A: Allocator + Copy> Police<A> {
         Some(Ruling { filter, verdict })
     }
 
+    /// The number of the filter of a frame with this stream handle and priority (0 to 7), where one matches: the one that
+    /// `pass` gives.
+    pub fn filter_of(&self, handle: Option<u32>, priority: u8) -> Option<u32>
+        ensures filter { (at sdu octets : ℕ) (dei : Bool) → result ≡ option_map (λ f. f.0) (flow self.now.filters (call at handle priority dei sdu octets)) }
+        ensures there { IfSome result (λ n. is_there n self.now.filters ≡ true) }
+    {
+        filter_of(&self.firsts, handle, priority)
+    }
+
     /// Clears a flag of the instance with that number, so that frames are judged again as if it had never been set.
     ///
     /// Counters, the octets used in a turn and the buckets stay, and clearing a flag that isn't set changes nothing.
     pub fn clear(&mut self, clear: Clear, number: u32)
-        requires { IsTrue (has_instance clear number self.old) }
-        ensures stands { (p : Plans) (es : List Event) → Stands p self.old es → Stands p self.new (cleared clear number ∷ es) }
+        requires { has_instance clear number self.old ≡ true }
+        ensures stands { (p : Plans) (es : List Event) → Stands p self.old es → Stands p self.new (Cleared clear number ∷ es) }
         ensures filters { self.new.filters ≡ self.old.filters }
         ensures gates { KeepsNumbers self.old.gates self.new.gates }
         ensures meters { KeepsNumbers self.old.meters self.new.meters }
@@ -158,16 +169,18 @@ impl<A: Allocator + Copy> Police<A> {
 
     /// The counters of the filter with that number.
     pub fn counters(&self, filter: u32) -> Counters
-        requires { IsTrue (is_there filter self.now.filters) }
-        ensures { (p : Plans) (es : List Event) → Stands p self.now es → result ≡ counters_of (verdicts_of filter (told p es)) }
+        requires { is_there filter self.now.filters ≡ true }
+        ensures shown { shown_counters filter self.now ≡ Some result }
+        ensures counters { (p : Plans) (es : List Event) → Stands p self.now es → result ≡ counters_of (verdicts_of filter (told p es)) }
     {
         self.kept(filter).counters
     }
 
     /// The flags of the filter with that number, of its gate and of its meter.
     pub fn flags(&self, filter: u32) -> Flags
-        requires { IsTrue (is_there filter self.now.filters) }
-        ensures { (p : Plans) (es : List Event) (f : FilterPlan) → Stands p self.now es → lookup (nat_eq filter) p.filters ≡ Some f → result ≡ flags_of p filter f (told p es) }
+        requires { is_there filter self.now.filters ≡ true }
+        ensures shown { shown_flags filter self.now ≡ Some result }
+        ensures flags { (p : Plans) (es : List Event) (f : FilterPlan) → Stands p self.now es → lookup (nat_eq filter) p.filters ≡ Some f → result ≡ flags_of p filter f (told p es) }
     {
         let kept = self.kept(filter);
         let (rx, octets) = gate_flags(&self.gates, kept.plan.gate);
@@ -185,8 +198,9 @@ impl<A: Allocator + Copy> Police<A> {
 
     /// What the buckets of the meter of the filter with that number hold; `None` where it has no meter.
     pub fn buckets(&self, filter: u32) -> Option<Buckets>
-        requires { IsTrue (is_there filter self.now.filters) }
-        ensures { (p : Plans) (es : List Event) (f : FilterPlan) → Stands p self.now es → lookup (nat_eq filter) p.filters ≡ Some f → result ≡ buckets_by p f.meter (told p es) }
+        requires { is_there filter self.now.filters ≡ true }
+        ensures shown { result ≡ shown_buckets filter self.now }
+        ensures buckets { (p : Plans) (es : List Event) (f : FilterPlan) → Stands p self.now es → lookup (nat_eq filter) p.filters ≡ Some f → result ≡ buckets_by p f.meter (told p es) }
     {
         match self.kept(filter).plan.meter {
             Some(meter) => Some(meter_state(&self.meters, meter)),
@@ -196,7 +210,7 @@ impl<A: Allocator + Copy> Police<A> {
 
     /// What is kept of the filter with that number.
     fn kept(&self, filter: u32) -> Filter
-        requires { IsTrue (is_there filter self.now.filters) }
+        requires { is_there filter self.now.filters ≡ true }
         ensures kept { lookup (nat_eq filter) self.now.kept ≡ Some result }
         ensures plan { lookup (nat_eq filter) self.now.filters ≡ Some result.plan }
         ensures gate { IsSome (lookup (nat_eq result.plan.gate) self.now.gates) }

@@ -1,10 +1,11 @@
 -- What is in a set of ports, port by port.
-use Rattle.std.proofs.Common.{◌≡◌, ◌≢◌, ℕ, zero, suc, ◌-◌, ◌^◌, ◌<◌, ◌≤◌, Bool, true, false, not, ◌&&◌, nat_eq, min, Option, Some, None, cond, bit_and, inl, inr, refl, sym, ap, ◌∙◌, arith}
+use Rattle.std.proofs.Common.{◌≡◌, ◌≢◌, ℕ, zero, suc, ◌+◌, ◌-◌, ◌^◌, ◌<◌, ◌≤◌, Bool, true, false, not, ◌&&◌, nat_eq, min, Option, Some, None, cond, bit_and, inl, inr, refl, sym, ap, ◌∙◌, arith}
 use Rattle.std.specs.Int.{bit_at, w16}
 use Rattle.std.proofs.lemmas.Bool.{cases_Bool, cases_eq, and_parts, and_left, and_right, eq-eqb, ne_eqb, false≢true}
+use Rattle.std.proofs.lemmas.Bool.Decides.{nat_tests}
 use Rattle.std.proofs.lemmas.Nat.{and_le_r, pow_below}
-use Rattle.std.proofs.lemmas.Nat.Bits.{bit_at-lt, bit_at_and, bit_at_not, bit_at-zero, bit_at-pow_same, bit_at-pow_other}
-use Rattle.bridge_forward.specs.Ports.{has, without}
+use Rattle.std.proofs.lemmas.Nat.Bits.{same_from_bits_below, bit_at-lt, bit_at_and, bit_at_not, bit_at-zero, bit_at-pow_same, bit_at-pow_other}
+use Rattle.bridge_forward.specs.Ports.{has, without, IsEmpty}
 use Rattle.bridge_forward.specs.Forward.{allowed, goes_to}
 use Rattle.bridge_forward.specs.Outs.{has_or}
 
@@ -107,3 +108,17 @@ goes_to_fits false (Some m) entry port = elim (cases_Bool (has m port)) [
   | inl e ↦ rw e (omega (arith, and_le_r (allowed m entry) (65535 - 2 ^ (port - 1))))
   | inr e ↦ rw e (omega arith)
 ]
+
+-- a set without ports is the number 0
+pub empty_is_zero : (set : ℕ) → set < 65536 → IsEmpty set → set ≡ 0
+empty_is_zero set small none = same_from_bits_below 16 set 0 small (omega arith) (λ i l. bit_zero i l ∙ sym (bit_at-zero i))
+  where
+    bit_zero : (i : ℕ) → i < 16 → bit_at set i ≡ 0
+    bit_zero i l =
+        let back : (i + 1) - 1 ≡ i = omega arith in
+        let off : nat_eq (bit_at set i) 1 ≡ false = rw back at (none (i + 1) (omega arith) (omega arith)) in
+        let two = bit_at-lt set i in
+        grind (arith, nat_tests)
+
+pub zero_is_empty : IsEmpty 0
+zero_is_empty q from to = has_none q

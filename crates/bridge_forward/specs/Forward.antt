@@ -1,4 +1,4 @@
--- Where a frame goes (IEEE 802.1Q-2018, 8.6.1 to 8.6.3).
+-- Where a frame goes (IEEE 802.1Q-2018, 8.6.2 to 8.6.4).
 use Rattle.std.specs.Prelude.{ℕ, Bool, ◌&&◌, nat_le, Option, Some, None, List, [], ◌∷◌, bit_and, take, slice_index, if◌then◌else◌}
 use Rattle.std.specs.Str.{bytes_eq}
 use Rattle.bridge_forward.specs.Ports.{has, without}

@@ -1,5 +1,5 @@
 -- Sets of the ports 1 to 16, each as a number whose bit n - 1 stands for port n.
-use Rattle.std.specs.Prelude.{ℕ, Bool, ◌-◌, ◌^◌, nat_eq, bit_and}
+use Rattle.std.specs.Prelude.{◌≡◌, ◌≤◌, ℕ, Bool, false, ◌-◌, ◌^◌, nat_eq, bit_and}
 use Rattle.std.specs.Int.{bit_at}
 
 -- whether a port is in a set
@@ -9,3 +9,7 @@ has set port = nat_eq (bit_at set (port - 1)) 1
 -- a set with one port taken away
 abbrev pub without : ℕ → ℕ → ℕ
 without set port = bit_and set (65535 - 2 ^ (port - 1))
+
+-- none of the ports 1 to 16 is in a set
+abbrev pub IsEmpty : ℕ → Type 0
+IsEmpty set = (q : ℕ) → 1 ≤ q → q ≤ 16 → has set q ≡ false

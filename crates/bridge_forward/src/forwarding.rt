@@ -1,6 +1,7 @@
 //! The filtering database, and where it sends a frame.
 
-ghost use Rattle.std.specs.Prelude.{◌≡◌, ◌≤◌, ℕ, Option, IfOk};
+ghost use Rattle.std.specs.Prelude.{◌≡◌, ◌≤◌, ℕ, Option, IfOk, false};
+ghost use Rattle.bridge_forward.specs.Ports.{has};
 ghost use Rattle.bridge_forward.specs.Database.{members_at, entry_at};
 ghost use Rattle.bridge_forward.specs.Forward.{is_reserved, goes_to, forward};
 
@@ -89,7 +90,7 @@ impl<A: Allocator + Copy> Forwarding<A> {
     }
 
     /// The ports to which a frame to `da` goes that came on `port`, 1 to 16, and was classified in the VLAN `vid`
-    /// (IEEE 802.1Q-2018, 8.6.1 to 8.6.3). It takes two look-ups, however many VLANs and entries there are, and no
+    /// (IEEE 802.1Q-2018, 8.6.2 to 8.6.4). It takes two look-ups, however many VLANs and entries there are, and no
     /// memory.
     ///
     /// A frame to a reserved address goes nowhere, nor does one that came on a port that isn't a member of its VLAN.
@@ -98,7 +99,8 @@ impl<A: Allocator + Copy> Forwarding<A> {
     pub fn forward(&self, port: u8, vid: u16, da: &[u8; 6]) -> PortSet
         requires from { 1 ≤ port }
         requires to { port ≤ 16 }
-        ensures { result ≡ forward self.now port vid da.now }
+        ensures ports { result ≡ forward self.now port vid da.now }
+        ensures not_back { has result port ≡ false }
     {
         if is_reserved(da) {
             return PortSet::of_bits(0);

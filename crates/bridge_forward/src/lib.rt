@@ -1,6 +1,6 @@
 #![tactic(auto)]
-//! Where a bridge sends a frame: the filtering database with ingress filtering always on (IEEE 802.1Q-2018, 8.6.1
-//! to 8.6.3, with the static filtering entries of 8.8.1).
+//! Where a bridge sends a frame: the filtering database with ingress filtering always on (IEEE 802.1Q-2018, 8.6.2
+//! to 8.6.4, with the static filtering entries of 8.8.1).
 
 mod forwarding;
 mod index;

@@ -1,7 +1,7 @@
 //! Sets of ports.
 
-ghost use Rattle.std.specs.Prelude.{◌≡◌, ◌≤◌, bit_and};
-ghost use Rattle.bridge_forward.specs.Ports.{has, without};
+ghost use Rattle.std.specs.Prelude.{◌≡◌, ◌≤◌, ◌↔◌, IsTrue, bit_and};
+ghost use Rattle.bridge_forward.specs.Ports.{has, without, IsEmpty};
 
 use std::marker::Model;
 
@@ -19,6 +19,13 @@ impl Model for PortSet {
     ghost view = { λ s. s.bits };
 
     ghost inverse = { λ n. record { bits = n } };
+}
+
+/// Whether none of the ports 1 to 16 is in the set of these bits.
+fn has_no_port(bits: u16) -> bool
+    ensures { IsTrue result ↔ IsEmpty bits }
+{
+    bits == 0
 }
 
 impl PortSet {
@@ -43,6 +50,13 @@ impl PortSet {
         ensures { result ≡ has self port }
     {
         self.bits >> (port - 1) & 1 == 1
+    }
+
+    /// Whether none of the ports 1 to 16 is in the set.
+    pub fn is_empty(self) -> bool
+        ensures { IsTrue result ↔ IsEmpty self }
+    {
+        has_no_port(self.bits)
     }
 
     /// The ports that are in both sets.

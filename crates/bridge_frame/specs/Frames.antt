@@ -1,5 +1,6 @@
 -- The head of an Ethernet frame with an optional C-VLAN tag (IEEE 802.1Q-2018, clause 9).
 use Rattle.std.specs.Prelude.{ℕ, Bool, ◌+◌, ◌-◌, ◌*◌, ◌/◌, ◌%◌, ◌&&◌, nat_lt, nat_le, nat_eq, List, length, take, drop, slice_index, slice_set, Some, None, Result, Ok, Err, if◌then◌else◌}
+use Rattle.bridge_base.specs.declared.TheConstants.{LONGEST_FRAME}
 use Rattle.bridge_frame.specs.declared.Head.{Head}
 use Rattle.bridge_frame.specs.declared.Tag.{Tag}
 use Rattle.bridge_frame.specs.declared.FrameFault.{FrameFault}
@@ -12,10 +13,15 @@ is_tagged octets = nat_eq (slice_index octets 12) 0x81 && nat_eq (slice_index oc
 -- the two octets behind 81 00: priority code point (3 bits), drop eligible (1 bit), VLAN identifier (12 bits)
 abbrev pub tag_in : List ℕ → Tag
 tag_in octets = record {
-  pcp = slice_index octets 14 / 32;
+  pcp = slice_index octets 14 / 32 % 8;
   dei = nat_eq (slice_index octets 14 / 16 % 2) 1;
-  vid = slice_index octets 14 % 16 * 256 + slice_index octets 15;
+  vid = slice_index octets 14 % 16 * 256 + slice_index octets 15 % 256;
 }
+
+-- the numbers of the faults
+abbrev pub number_of : FrameFault → ℕ
+number_of TooShort = 1
+number_of TooLong = 2
 
 -- the octets that a head needs: two addresses and the EtherType, and 4 more for a tag
 abbrev pub head_octets : List ℕ → ℕ
@@ -30,7 +36,7 @@ abbrev pub head : List ℕ → ℕ → Result Head FrameFault
 head octets len =
     if nat_lt (length octets) 14 then Err TooShort
     else if nat_lt (length octets) (head_octets octets) then Err TooShort
-    else if nat_lt 9216 len then Err TooLong
+    else if nat_lt LONGEST_FRAME len then Err TooLong
     else Ok (record {
       da = take 6 octets;
       sa = take 6 (drop 6 octets);

@@ -2,14 +2,13 @@
 //! Ethernet frames as a time-aware bridge sees them: their heads (IEEE 802.1Q-2018, clause 9), the time for which
 //! they occupy a link, and the drop eligible indication. Nothing here takes memory.
 
-ghost use Rattle.std.specs.Prelude.{◌≡◌, ◌≤◌, ◌<◌, length, OnOk};
-ghost use Rattle.bridge_frame.specs.Frames.{drop_eligible, has_tag, head, is_tagged, tag_in};
+ghost use Rattle.std.specs.Prelude.{◌≡◌, ◌≤◌, ◌<◌, length, OnOk, IfOk};
+ghost use Rattle.std.specs.Option.{ForSome};
+ghost use Rattle.bridge_frame.specs.Frames.{drop_eligible, has_tag, head, is_tagged, number_of, tag_in};
 ghost use Rattle.bridge_frame.specs.Link.{occupied, speed_of};
 
+use bridge_base::{LONGEST_FRAME, MOST_CAPTURED};
 use thiserror::Error;
-
-/// The longest frame, in octets without frame check sequence.
-pub const MAX_LENGTH: u32 = 9_216;
 
 /// A C-VLAN tag: priority code point (0 to 7), drop eligible indication, VLAN identifier (0 to 4095; 0 is a priority tag).
 #[derive(Clone, Copy, Debug, PartialEq, Eq)]
@@ -38,6 +37,18 @@ pub enum FrameFault {
     /// A length above 9,216 octets.
     #[error("the frame is too long")]
     TooLong,
+}
+
+impl FrameFault {
+    /// Its number: 1 for `TooShort`, 2 for `TooLong`.
+    pub fn number(self) -> u8
+        ensures { result ≡ number_of self }
+    {
+        match self {
+            FrameFault::TooShort => 1,
+            FrameFault::TooLong => 2,
+        }
+    }
 }
 
 /// The speed of a link.
@@ -92,10 +103,13 @@ fn carries_tag(octets: &[u8]) -> bool
 ///
 /// `TooShort` where fewer octets are captured than the head has, else `TooLong` where the length is above 9,216.
 pub fn parse(octets: &[u8], len: u32) -> Result<Head, FrameFault>
-    requires captured { length octets.now ≤ 262144 }
+    requires captured { length octets.now ≤ MOST_CAPTURED }
     requires original { length octets.now ≤ len }
     ensures exact { result ≡ head octets.now len }
-    ensures short { OnOk result (len ≤ 9216) }
+    ensures short { OnOk result (len ≤ LONGEST_FRAME) }
+    ensures priority { IfOk result (λ h. ForSome h.tag (λ t. t.pcp ≤ 7)) }
+    ensures vlan { IfOk result (λ h. ForSome h.tag (λ t. t.vid ≤ 4095)) }
+    ensures sdu { IfOk result (λ h. h.sdu ≤ len) }
 {
     if octets.len() < 14 {
         return Err(FrameFault::TooShort);
@@ -104,7 +118,7 @@ pub fn parse(octets: &[u8], len: u32) -> Result<Head, FrameFault>
     if tagged && octets.len() < 18 {
         return Err(FrameFault::TooShort);
     }
-    if len > MAX_LENGTH {
+    if len > LONGEST_FRAME {
         return Err(FrameFault::TooLong);
     }
     let da = [
@@ -155,7 +169,7 @@ pub fn mark_drop_eligible(octets: &mut [u8]) -> bool
 pub fn occupation(len: u32, speed: Speed) -> u64
     ensures exact { result ≡ occupied len speed }
     ensures some { 0 < result }
-    ensures bounded { len ≤ 9216 → result ≤ 7_392_000 }
+    ensures bounded { len ≤ LONGEST_FRAME → result ≤ 7_392_000 }
 {
     let octets = u64::from(len.max(60)) + 24;
     match speed {

@@ -7,7 +7,7 @@ use lib.IntN.{ℤ, pos}
 use lib.Signed.{◌≤ℤ◌, ◌<ℤ◌, le_z}
 use Rattle.bridge_cycle.specs.Cyclic as cyclic
 use Rattle.bridge_cycle.specs.CyclicLaws.{turned}
-use Rattle.bridge_cycle.specs.Entries.{In}
+use Rattle.bridge_base.specs.Members.{In}
 use Rattle.bridge_cycle.proofs.Lists.{among}
 use Rattle.bridge_cycle.specs.declared.timeline.Turn.{Turn}
 use Rattle.bridge_cycle.proofs.Cases.{by_bool}

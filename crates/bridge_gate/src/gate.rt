@@ -1,10 +1,11 @@
-ghost use Rattle.std.specs.Prelude.{◌≡◌, ℕ, ◌<◌, ◌≤◌, ◌^◌, ◌+◌, ◌&&◌, List, [], ◌∷◌, Some, true, Option, IsSome};
+ghost use Rattle.std.specs.Prelude.{◌≡◌, ℕ, ◌<◌, ◌≤◌, ◌^◌, ◌+◌, ◌&&◌, List, [], ◌∷◌, Some, true, false, Option, IsSome};
 ghost use Rattle.bridge_gate.specs.declared.gate.GateAnswer.TheVariants as gate;
 ghost use Rattle.bridge_gate.specs.Gates.{GateRules, GateEvent, Asked, ClearedRx, ClearedOctets, answer, steps, is_shut_by_rx, is_shut_by_octets, last_asked};
 ghost use Rattle.bridge_gate.specs.Schedules.{rules_of, has_priorities};
 ghost use Rattle.bridge_gate.specs.Standing.{StandsFor, reply, after, count_in};
 
 use crate::schedule::{GateEntry, GatePlan};
+use bridge_base::END_OF_TIME;
 use bridge_cycle::Turn;
 use std::alloc::Allocator;
 use std::marker::Model;
@@ -24,7 +25,7 @@ pub enum GateAnswer {
     OctetsExceeded,
 }
 
-/// A stream gate (IEEE 802.1Q-2018 8.6.5.4), with its two flags and the octets used in the turn.
+/// A stream gate (IEEE 802.1Q-2018 8.6.5.1.2), with its two flags and the octets used in the turn.
 #[derive(Drop)]
 pub struct StreamGate<A: Allocator + Copy> {
     plan: GatePlan<A>,
@@ -68,7 +69,7 @@ impl<A: Allocator + Copy> StreamGate<A> {
     /// Answers a frame of `sdu` SDU octets at the moment `t`, in ns.
     pub fn ask(&mut self, t: u64, sdu: u32) -> GateAnswer
         requires time { self.old.earliest ≤ t }
-        requires range { t < 4_000_000_000_000_000_000 }
+        requires range { t < END_OF_TIME }
         ensures stands { (r : GateRules) (es : List GateEvent)
             → StandsFor r self.old es
             → StandsFor r self.new (Asked t sdu ∷ es) }
@@ -88,6 +89,7 @@ impl<A: Allocator + Copy> StreamGate<A> {
         ensures stands { (r : GateRules) (es : List GateEvent)
             → StandsFor r self.old es
             → StandsFor r self.new (ClearedRx ∷ es) }
+        ensures cleared { self.new ≡ record self.old { rx = false } }
         ensures plan { self.new.plan ≡ self.old.plan }
         ensures earliest { self.new.earliest ≡ self.old.earliest }
     {
@@ -99,6 +101,7 @@ impl<A: Allocator + Copy> StreamGate<A> {
         ensures stands { (r : GateRules) (es : List GateEvent)
             → StandsFor r self.old es
             → StandsFor r self.new (ClearedOctets ∷ es) }
+        ensures cleared { self.new ≡ record self.old { octets = false } }
         ensures plan { self.new.plan ≡ self.old.plan }
         ensures earliest { self.new.earliest ≡ self.old.earliest }
     {
@@ -107,6 +110,8 @@ impl<A: Allocator + Copy> StreamGate<A> {
 
     /// The receive flag and the octets flag.
     pub fn flags(&self) -> (bool, bool)
+        ensures shows_rx { result.0 ≡ self.now.rx }
+        ensures shows_octets { result.1 ≡ self.now.octets }
         ensures rx { (r : GateRules) (es : List GateEvent)
             → StandsFor r self.now es
             → result.0 ≡ r.shut_on_rx && is_shut_by_rx (steps r es) }

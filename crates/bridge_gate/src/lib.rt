@@ -1,5 +1,5 @@
 #![tactic(auto)]
-//! Stream gates (IEEE 802.1Q-2018 8.6.5): which frames of a stream go through, by the clock and by an
+//! Stream gates (IEEE 802.1Q-2018 8.6.5.1.2): which frames of a stream go through, by the clock and by an
 //! allowance of octets in each turn.
 
 pub mod gate;

@@ -2,7 +2,7 @@ ghost use Rattle.std.specs.Prelude.{◌≡◌, ◌<◌, Some, IfOk};
 ghost use Rattle.std.specs.List.{list_all};
 ghost use Rattle.bridge_gate.specs.Schedules.{turn_at, IsLawful, is_priority, has_priorities};
 
-use bridge_cycle::{CyclicList, NoMemory, Timeline, Turn};
+use bridge_cycle::{CyclicList, END_OF_TURNS, NoMemory, Timeline, Turn};
 use std::alloc::Allocator;
 
 /// What a gate does in one turn.
@@ -39,7 +39,7 @@ pub struct GatePlan<A: Allocator + Copy> {
 impl<A: Allocator + Copy> Schedule<A> {
     /// The turn that has the moment `t`, in ns. A fixed state is one turn for all moments.
     pub fn turn(&self, t: u64) -> Turn<GateEntry>
-        requires { t < 9_100_000_000_000_000_000 }
+        requires { t < END_OF_TURNS }
         ensures turn { turn_at self.now t ≡ Some result }
         ensures lawful { IsLawful self.now }
     {

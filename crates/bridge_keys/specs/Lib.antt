@@ -2,3 +2,4 @@ pub mod Examples
 pub mod Keys
 pub mod Readers
 pub mod Texts
+pub mod Numbers

@@ -1,9 +1,10 @@
 //! The entries of a list inside an instance, table by table.
-ghost use Rattle.std.specs.Prelude.{◌≡◌, All, IfOk, Result, option_map};
+ghost use Rattle.std.specs.Prelude.{◌≡◌, All, IfErr, IfOk, Result, option_map};
 ghost use Rattle.std.specs.Option.{ForSome};
 ghost use Rattle.toml.specs.Data.{Members};
 ghost use Rattle.toml.specs.View.{view, table_view, items_view};
 ghost use Rattle.bridge_keys.specs.declared.fault.PlanFault.{PlanFault as Fault};
+ghost use Rattle.bridge_keys.specs.declared.fault.PlanFault.TheVariants.{NoMemory};
 ghost use Rattle.bridge_keys.specs.Readers as spec;
 ghost use Rattle.bridge_keys.specs.Readers.{Gives, GivesAs};
 
@@ -23,10 +24,11 @@ pub trait Entry {
     /// What holds of each entry.
     ghost Fits: { Self → Self.Out → Type 0 };
 
-    /// What a table stands for, or its first fault.
+    /// What a table stands for, or its first fault. Takes no memory.
     fn read(&self, table: &Table) -> Result<Self::Out, PlanFault>
         ensures reads { Gives result (reading self.now (table_view table.now)) }
-        ensures fits { IfOk result (Fits self.now) };
+        ensures fits { IfOk result (Fits self.now) }
+        ensures takes_no_memory { IfErr result (λ e. ¬ (e ≡ NoMemory)) };
 }
 
 fn entries_of<A: Allocator + Copy, E: Entry>(

@@ -2,6 +2,7 @@
 ghost use Rattle.std.specs.Prelude.{◌≡◌};
 ghost use Rattle.bridge_keys.specs.declared.fault.PlanFault.TheVariants.{NoMemory};
 ghost use Rattle.bridge_keys.specs.Keys.{key_of, name_of};
+ghost use Rattle.bridge_keys.specs.Numbers.{number_of};
 
 use bridge_cycle::ListFault;
 use std::alloc::{AllocError, AllocFailed};
@@ -240,6 +241,29 @@ pub enum PlanFault {
     /// A growth of memory was refused.
     #[error("no memory")]
     NoMemory,
+}
+
+impl PlanFault {
+    /// Its number, 1 to 13 in the order of the variants.
+    pub fn number(self) -> u8
+        ensures { result ≡ number_of self }
+    {
+        match self {
+            PlanFault::Syntax => 1,
+            PlanFault::TooLong => 2,
+            PlanFault::UnknownKey(_, _) => 3,
+            PlanFault::NotAList(_) => 4,
+            PlanFault::Missing(_) => 5,
+            PlanFault::WrongKind(_) => 6,
+            PlanFault::OutOfRange(_) => 7,
+            PlanFault::Duplicate(_, _) => 8,
+            PlanFault::Unresolved(_) => 9,
+            PlanFault::TooMany(_) => 10,
+            PlanFault::BadList(_, _, _) => 11,
+            PlanFault::NoPorts => 12,
+            PlanFault::NoMemory => 13,
+        }
+    }
 }
 
 impl From<AllocError> for PlanFault {

@@ -1,4 +1,5 @@
 use Rattle.std.specs.Prelude.{ℕ, Bool, true, false, ◌-◌, ◌*◌, not, ◌&&◌, ◌||◌, nat_le, List, [], ◌∷◌, if◌then◌else◌}
+use Rattle.bridge_meter.specs.declared.TheConstants.{HIGHEST_RATE, LARGEST_BURST, UNITS_PER_OCTET}
 use Rattle.bridge_meter.specs.declared.Colour.{Colour}
 use Rattle.bridge_meter.specs.declared.Colour.TheVariants.{Green, Yellow, Red}
 use Rattle.bridge_meter.specs.declared.MeterPlan.{MeterPlan}
@@ -13,7 +14,7 @@ pub data MeterEvent : Type 0 where
 
 -- the units of one octet: a rate in bit/s gives that many units a nanosecond, so nothing is rounded
 abbrev pub unit : ℕ
-unit = 8000000000
+unit = UNITS_PER_OCTET
 
 -- the rates and sizes of a plan, in units
 abbrev pub limits : MeterPlan → Limits
@@ -21,7 +22,7 @@ limits p = record { cir = p.cir; cbs = p.cbs * unit; eir = p.eir; ebs = p.ebs * 
 
 -- whether a plan's rates are at most 100 Gbit/s, and its bursts below 2^32 octets
 abbrev pub is_within_limits : MeterPlan → Bool
-is_within_limits p = nat_le p.cir 100000000000 && nat_le p.eir 100000000000 && nat_le p.cbs 4294967295 && nat_le p.ebs 4294967295
+is_within_limits p = nat_le p.cir HIGHEST_RATE && nat_le p.eir HIGHEST_RATE && nat_le p.cbs LARGEST_BURST && nat_le p.ebs LARGEST_BURST
 
 -- whether a frame may be green: in the colour-aware mode one that is drop eligible may not
 abbrev pub may_be_green : MeterPlan → Bool → Bool

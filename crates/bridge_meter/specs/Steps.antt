@@ -1,5 +1,6 @@
 -- What the private functions of the meter say of one step, from the buckets that are kept to the next. No public clause speaks of it.
 use Rattle.std.specs.Prelude.{ℕ, Bool, ◌≤◌, ◌+◌, ◌-◌, ◌*◌, ◌&&◌, min, if◌then◌else◌}
+use Rattle.bridge_meter.specs.declared.TheConstants.{HIGHEST_RATE, LARGEST_BURST}
 use Rattle.bridge_meter.specs.declared.Colour.{Colour}
 use Rattle.bridge_meter.specs.declared.Colour.TheVariants.{Green, Yellow, Red}
 use Rattle.bridge_meter.specs.declared.MeterPlan.{MeterPlan}
@@ -10,10 +11,10 @@ use Rattle.bridge_meter.specs.Standing.{MeterState}
 
 -- a plan's rates are at most 100 Gbit/s, and its bursts below 2^32 octets
 pub record IsWithinLimits (p : MeterPlan) : Type 0 where
-  pub cir : p.cir ≤ 100000000000
-  pub eir : p.eir ≤ 100000000000
-  pub cbs : p.cbs ≤ 4294967295
-  pub ebs : p.ebs ≤ 4294967295
+  pub cir : p.cir ≤ HIGHEST_RATE
+  pub eir : p.eir ≤ HIGHEST_RATE
+  pub cbs : p.cbs ≤ LARGEST_BURST
+  pub ebs : p.ebs ≤ LARGEST_BURST
 
 -- the buckets filled up to a moment
 unfoldable pub refill : Limits → Buckets → ℕ → Buckets

@@ -1,8 +1,8 @@
 #![tactic(auto)]
 //! Two-rate, three-colour meters of streams, in the manner of the bandwidth profiles of MEF
-//! (IEEE 802.1Q-2018, 8.6.5: flow meters).
+//! (IEEE 802.1Q-2018, 8.6.5.1.3: flow meters).
 
-ghost use Rattle.std.specs.Prelude.{◌≡◌, ℕ, ◌≤◌, ◌+◌, ◌-◌, ◌*◌, ◌↔◌, ◌&&◌, IsTrue, false, min, List, ◌∷◌, [], if◌then◌else◌};
+ghost use Rattle.std.specs.Prelude.{◌≡◌, ℕ, ◌≤◌, ◌+◌, ◌-◌, ◌*◌, ◌↔◌, ◌&&◌, true, false, min, List, ◌∷◌, [], if◌then◌else◌};
 ghost use Rattle.bridge_meter.specs.declared.MeterPlan.{MeterPlan};
 ghost use Rattle.bridge_meter.specs.Bounds as bounds;
 ghost use Rattle.bridge_meter.specs.Colours.{MeterEvent, Came, Cleared, past, colour_of, buckets_after, limits, unit, is_red, is_within_limits};
@@ -15,6 +15,12 @@ use std::marker::Model;
 /// The units of one octet in a bucket. A rate in bit/s gives that many units a nanosecond, so that
 /// nothing is ever rounded.
 pub const UNITS_PER_OCTET: u128 = 8_000_000_000;
+
+/// The highest rate of a meter, in bit/s.
+pub const HIGHEST_RATE: u64 = 100_000_000_000;
+
+/// The largest burst size of a meter, in octets.
+pub const LARGEST_BURST: u64 = u32::MAX as u64;
 
 /// The colour of a frame.
 #[derive(Clone, Copy, Debug, PartialEq, Eq)]
@@ -53,10 +59,10 @@ impl MeterPlan {
     pub fn is_within_limits(&self) -> bool
         ensures { result ≡ is_within_limits self.now }
     {
-        self.cir <= 100_000_000_000
-            && self.eir <= 100_000_000_000
-            && self.cbs <= 4_294_967_295
-            && self.ebs <= 4_294_967_295
+        self.cir <= HIGHEST_RATE
+            && self.eir <= HIGHEST_RATE
+            && self.cbs <= LARGEST_BURST
+            && self.ebs <= LARGEST_BURST
     }
 }
 
@@ -96,7 +102,7 @@ impl Model for Meter {
 impl Meter {
     /// A meter with full buckets. It takes no memory.
     pub fn new(plan: MeterPlan) -> Meter
-        requires { IsTrue (is_within_limits plan) }
+        requires { is_within_limits plan ≡ true }
         ensures { StandsFor plan result [] }
     {
         let buckets = Buckets {
@@ -129,9 +135,11 @@ impl Meter {
         self.judge(t, octets, dei)
     }
 
-    /// What the buckets hold.
+    /// What the buckets hold: no more than their sizes.
     pub fn state(&self) -> Buckets
         ensures state { result ≡ self.now.buckets }
+        ensures committed { result.committed ≤ self.now.plan.cbs * unit }
+        ensures excess { result.excess ≤ self.now.plan.ebs * unit }
         ensures after { (plan : MeterPlan) (events : List MeterEvent) → StandsFor plan self.now events → result ≡ buckets_after plan (past plan events) }
     {
         self.buckets

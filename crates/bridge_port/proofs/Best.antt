@@ -5,6 +5,7 @@ use Rattle.std.proofs.lemmas.Bool.{cases_lt}
 use Rattle.std.specs.Prelude.{nat_lt, slice_index_or, slice_get, drop, MatchOption}
 use Rattle.std.proofs.lemmas.Grind.{common_steps}
 use Rattle.std.proofs.lemmas.Option.{same_Some}
+use Rattle.bridge_base.specs.declared.TheConstants.{LONGEST_FRAME}
 use Rattle.bridge_frame.specs.declared.Speed.{Speed}
 use Rattle.bridge_frame.specs.Link.{occupied}
 use Rattle.bridge_cycle.specs.Cyclic.{Cyclic}
@@ -24,9 +25,9 @@ pub head_none : {X : Type 0} (q : List X) → slice_get q 0 ≡ None → q ≡ [
 head_none [] h = refl
 head_none (x ∷ q) h = absurd (cc)
 
-pub startable_head : {T : Type 0} (list : Option (Cyclic ℕ)) (speed : Speed) (c : ℕ) (q : List (Item T)) (x : Item T) → slice_get q 0 ≡ Some x → AllStartable list speed c q → (ever_of list c (occupied x.len speed) ≡ true) × (x.len ≤ 9216)
+pub startable_head : {T : Type 0} (list : Option (Cyclic ℕ)) (speed : Speed) (c : ℕ) (q : List (Item T)) (x : Item T) → slice_get q 0 ≡ Some x → AllStartable list speed c q → (ever_of list c (occupied x.len speed) ≡ true) × (x.len ≤ LONGEST_FRAME)
 startable_head list speed c [] x h a = absurd (cc)
-startable_head list speed c (y ∷ q) x h a = let e : y ≡ x = same_Some _ _ h in subst (λ (z : Item _). (ever_of list c (occupied z.len speed) ≡ true) × (z.len ≤ 9216)) e a.0
+startable_head list speed c (y ∷ q) x h a = let e : y ≡ x = same_Some _ _ h in subst (λ (z : Item _). (ever_of list c (occupied z.len speed) ≡ true) × (z.len ≤ LONGEST_FRAME)) e a.0
 
 -- a class with nothing queued changes nothing
 pub best_skip : {T : Type 0} (list : Option (Cyclic ℕ)) (speed : Speed) (queues : List (List (Item T))) (from n : ℕ) (best : Option (ℕ × ℕ)) → IsBest list speed queues from n best → slice_index_or queues n [] ≡ [] → IsBest list speed queues from (n + 1) best

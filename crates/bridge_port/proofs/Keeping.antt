@@ -5,6 +5,7 @@ use Rattle.std.proofs.lemmas.List.Sums.{sum_by-set, sum_by_push, sum_by-cons}
 use Rattle.std.specs.Prelude.{if◌then◌else◌, nat_le, nat_eq, ◌&&◌, is_none, slice_index_or, slice_set, drop, sum_by, count_by}
 use Rattle.std.proofs.lemmas.Option.{none-some}
 use Rattle.std.proofs.lemmas.Bool.{leb-false}
+use Rattle.bridge_base.specs.declared.TheConstants.{END_OF_TIME, LONGEST_FRAME, MOST_ARRIVALS}
 use Rattle.bridge_frame.specs.declared.Speed.{Speed}
 use Rattle.bridge_frame.specs.Link.{occupied}
 use Rattle.bridge_cycle.specs.Cyclic.{Cyclic}
@@ -48,7 +49,7 @@ count_popped f qs c x rest e =
     let h = count_cons f x rest in
     omega (arith, a, b, d, h)
 
-startable_push : {T : Type 0} (list : Option (Cyclic ℕ)) (speed : Speed) (c : ℕ) (q : List (Item T)) (x : Item T) → AllStartable list speed c q → ever_of list c (occupied x.len speed) ≡ true → x.len ≤ 9216 → AllStartable list speed c (q ++ x ∷ [])
+startable_push : {T : Type 0} (list : Option (Cyclic ℕ)) (speed : Speed) (c : ℕ) (q : List (Item T)) (x : Item T) → AllStartable list speed c q → ever_of list c (occupied x.len speed) ≡ true → x.len ≤ LONGEST_FRAME → AllStartable list speed c (q ++ x ∷ [])
 startable_push list speed c [] x a can len = ((can, len), tt)
 startable_push list speed c (y ∷ q) x a can len = (a.0, startable_push list speed c q x a.1 can len)
 
@@ -68,7 +69,7 @@ by_class {X} P qs c v l new old d = by_bool (nat_eq c d)
     let other : d ≢ c = λ z. absurd (let w : nat_eq c d ≡ true = grind (arith, nat_tests) in cc) in
     rw get_or-set_other (old d))
 
-pub kept_offered : {T : Type 0} (p : State T) (t c : ℕ) (x : Item T) → IsKept p → c < 8 → refusal_of p c x ≡ None → x.len ≤ 9216 → t < 4 * 10 ^ 18 → p.offered < 16000000 → IsKept (record p { queues = queues_with None p.queues c x; earliest = t; offered = p.offered + 1 })
+pub kept_offered : {T : Type 0} (p : State T) (t c : ℕ) (x : Item T) → IsKept p → c < 8 → refusal_of p c x ≡ None → x.len ≤ LONGEST_FRAME → t < END_OF_TIME → p.offered < MOST_ARRIVALS → IsKept (record p { queues = queues_with None p.queues c x; earliest = t; offered = p.offered + 1 })
 kept_offered {T} p t c x k l none len early few =
     let eight : length p.queues ≡ 8 = k.queues in
     let below : c < length p.queues = omega arith in
@@ -133,7 +134,7 @@ started_which {T} old new k c x next moved l d y n =
     (ap (λ (p : State T). p.earliest) moved ∙ ap (λ m. m + 1) one.0, one.1, one.2)
 
 -- the head that starts next is no longer than a frame may be
-pub next_short : {T : Type 0} (p : State T) (k c : ℕ) (x : Item T) → IsKept p → IsNext p k c x → x.len ≤ 9216
+pub next_short : {T : Type 0} (p : State T) (k c : ℕ) (x : Item T) → IsKept p → IsNext p k c x → x.len ≤ LONGEST_FRAME
 next_short {T} p k c x kept next =
     let all : AllStartable p.list p.speed c (x ∷ next.rest) = subst (AllStartable p.list p.speed c) next.is_head (kept.startable c) in
     all.0.1

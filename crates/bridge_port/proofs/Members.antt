@@ -1,6 +1,6 @@
 -- What a start does to the copies of a schedule.
 use Rattle.std.proofs.Common.{◌≡◌, ℕ, List, ap, refl, ◌∙◌, sym, ◌⊎◌, inl, inr}
-use Rattle.bridge_cycle.specs.Entries.{In}
+use Rattle.bridge_base.specs.Members.{In}
 use Rattle.bridge_port.specs.Schedule.{Queued, Started, Copy, Begun, here, there}
 
 -- each copy after it was there before, or is the one that started
@@ -20,3 +20,8 @@ begun_from c s i item xs0 ys0 (there x b) y u f j = elim j [ inl e ↦ inl e | i
 pub begun_there : {X : Type 0} (c s i : ℕ) (item : X) (xs ys : List (Copy X)) → Begun c s i item xs ys → (y : Copy X) × In y ys × (y.fate ≡ Started s) × (y.item ≡ item) × (y.class ≡ c)
 begun_there c s i item xs0 ys0 (here t it zs n) = (record { at = t; class = c; item = it; fate = Started s }, inl refl, refl, refl, refl)
 begun_there c s i item xs0 ys0 (there x b) = let z = begun_there c s _ _ _ _ b in (z.0, inr z.1, z.2, z.3, z.4)
+
+-- each copy that is not queued is there after
+pub begun_kept : {X : Type 0} (c s i : ℕ) (item : X) (xs ys : List (Copy X)) → Begun c s i item xs ys → (y : Copy X) → (y.fate ≡ Queued → ⊥) → In y xs → In y ys
+begun_kept c s i item xs0 ys0 (here t it zs n) y f j = elim j [ inl e ↦ absurd (f (ap (λ (v : Copy _). v.fate) e)) | inr l ↦ inr l ]
+begun_kept c s i item xs0 ys0 (there x b) y f j = elim j [ inl e ↦ inl e | inr l ↦ inr (begun_kept c s _ _ _ _ b y f l) ]

@@ -1,5 +1,5 @@
 -- What offers and starts do to the schedule that a port stands for.
-use Rattle.std.proofs.Common.{◌≡◌, ◌≢◌, ℕ, Bool, true, false, ◌+◌, ◌<◌, ◌≤◌, ◌++◌, List, [], ◌∷◌, length, arith, refl, ap, ◌∙◌, sym, subst, inl, inr, Option, Some, None, suc, zero, append-nil, length-append, get_or-set_same, get_or-set_other}
+use Rattle.std.proofs.Common.{◌≡◌, ◌≢◌, ℕ, Bool, true, false, ◌+◌, ◌<◌, ◌≤◌, ◌++◌, List, [], ◌∷◌, length, arith, refl, ap, ◌∙◌, sym, subst, inl, inr, Option, Some, None, suc, zero, max, append-nil, length-append, get_or-set_same, get_or-set_other}
 use Rattle.std.proofs.lemmas.Bool.Decides.{nat_tests}
 use Rattle.std.proofs.lemmas.Bool.{cases_order, leb-true, leb-false}
 use Rattle.std.specs.Prelude.{if◌then◌else◌, nat_le, nat_lt, nat_eq, not, ◌&&◌, slice_index_or, slice_set, drop}
@@ -12,7 +12,7 @@ use Rattle.bridge_cycle.proofs.Cases.{by_bool}
 use Rattle.bridge_port.specs.declared.item.Item.{Item}
 use Rattle.bridge_port.specs.declared.item.Refusal.{Refusal}
 use Rattle.bridge_port.specs.declared.item.Refusal.TheVariants as refusal
-use Rattle.bridge_port.specs.Schedule.{Fate, Never, Full, Queued, Started, Copy, Rules, is_there, occupies, waiting, is_free, head, IsAnswer, StartsFit, IsLawful, is_queued, queue, Begun, here, there}
+use Rattle.bridge_port.specs.Schedule.{Fate, Never, Full, Queued, Started, Copy, Rules, is_there, occupies, waiting, is_free, head, IsAnswer, StartsFit, IsLawful, behind, count_started, is_queued, is_started, not_before, queue, Begun, here, there}
 use Rattle.bridge_port.specs.Solo.{IsWhole}
 use Rattle.bridge_port.specs.Opening.{opens_of, ever_of}
 use Rattle.bridge_port.specs.Standing.{State, rules_of, queue_of, StandsFor, NoStartBefore, IsNext, IsBegun, IsIdle, refusal_of, fate_of, queues_with, offered_state, copy_of, started_state}
@@ -44,12 +44,36 @@ up_to p xs t st l calm = lawful_later (rules_of p) p.earliest t xs l st.lawful (
 
 -- An offer.
 
-stands_offer : {T : Type 0} (p : State T) (qs : List (List (Item T))) (n : ℕ) (xs : List (Copy (Item T))) (x : Copy (Item T)) → StandsFor p xs → p.earliest ≤ x.at → NoStartBefore p x.at → IsUnstarted x.fate → IsAnswer (rules_of p) x xs x.fate → ((c : ℕ) → slice_index_or qs c [] ≡ queue_of p c ++ (if nat_eq x.class c && is_queued x.fate then x.item ∷ [] else [])) → StandsFor (record p { queues = qs; earliest = x.at; offered = n }) (x ∷ xs)
-stands_offer p qs n xs x st le calm new answer q =
+one_more : {X : Type 0} (x : X) (xs : List X) (n : ℕ) → n ≡ length xs → n + 1 ≡ length (x ∷ xs)
+one_more x xs n h = grind arith
+
+none_started_by : (f : Fate) (n : ℕ) → IsUnstarted f → (if is_started f then 1 else 0) + n ≡ n
+none_started_by Never n h = omega arith
+none_started_by Full n h = omega arith
+none_started_by Queued n h = omega arith
+none_started_by (Started s) n h = absurd h
+
+none_started : {X : Type 0} (x : Copy X) (xs : List (Copy X)) → IsUnstarted x.fate → count_started (x ∷ xs) ≡ count_started xs
+none_started x xs new = none_started_by x.fate (count_started xs) new
+
+none_behind : (f : Fate) → IsUnstarted f → behind f ≡ 0
+none_behind Never h = refl
+none_behind Full h = refl
+none_behind Queued h = refl
+none_behind (Started s) h = absurd h
+
+offered_last : {X : Type 0} (x : Copy X) (xs : List (Copy X)) → IsUnstarted x.fate → not_before xs ≤ x.at → x.at ≡ not_before (x ∷ xs)
+offered_last x xs new le = let z = none_behind x.fate new in omega (arith, z)
+
+stands_offer : {T : Type 0} (p : State T) (qs : List (List (Item T))) (n : ℕ) (xs : List (Copy (Item T))) (x : Copy (Item T)) → StandsFor p xs → p.earliest ≤ x.at → NoStartBefore p x.at → IsUnstarted x.fate → IsAnswer (rules_of p) x xs x.fate → n ≡ p.offered + 1 → ((c : ℕ) → slice_index_or qs c [] ≡ queue_of p c ++ (if nat_eq x.class c && is_queued x.fate then x.item ∷ [] else [])) → StandsFor (record p { queues = qs; earliest = x.at; offered = n }) (x ∷ xs)
+stands_offer p qs n xs x st le calm new answer more q =
     record {
       lawful = lawful_offer (rules_of p) x.at x xs refl new answer (up_to p xs x.at st le calm);
       queues = λ c. rw (st.queues c) (sym (q c));
       link = λ u h. free_new (rules_of p) u x xs new ∙ st.link u (omega arith);
+      offered = more ∙ one_more x xs p.offered st.offered;
+      started = st.started ∙ sym (none_started x xs new);
+      earliest = offered_last x xs new (let z = st.earliest in omega arith);
     }
 
 -- how many copies wait is how many are queued
@@ -94,18 +118,18 @@ offered_by {T} p xs t c x o e l le calm st = by_bool (ever_of p.list c (occupied
     let copy : Copy (Item T) = record { at = t; class = c; item = x; fate = Full } in
     let room : slice_index_or p.rooms c 0 ≤ length (queue_of p c) = leb-true _ _ full in
     let P : Option Refusal → Type 0 = λ o. StandsFor (record p { queues = queues_with o p.queues c x; earliest = t; offered = p.offered + 1 }) (record { at = t; class = c; item = x; fate = fate_of o } ∷ xs) in
-    subst P is (stands_offer p p.queues (p.offered + 1) xs copy st le calm tt (can, rw (waits p xs c t st le) room) (λ n. not_pushed (nat_eq c n) x (queue_of p n))))
+    subst P is (stands_offer p p.queues (p.offered + 1) xs copy st le calm tt (can, rw (waits p xs c t st le) room) refl (λ n. not_pushed (nat_eq c n) x (queue_of p n))))
     (λ some.
     let is : None ≡ o = rw some at z in
     let copy : Copy (Item T) = record { at = t; class = c; item = x; fate = Queued } in
     let room : length (queue_of p c) < slice_index_or p.rooms c 0 = leb-false _ _ some in
     let P : Option Refusal → Type 0 = λ o. StandsFor (record p { queues = queues_with o p.queues c x; earliest = t; offered = p.offered + 1 }) (record { at = t; class = c; item = x; fate = fate_of o } ∷ xs) in
-    subst P is (stands_offer p (queues_with None p.queues c x) (p.offered + 1) xs copy st le calm tt (can, rw (waits p xs c t st le) room) (λ n. pushed p.queues c x n l))))
+    subst P is (stands_offer p (queues_with None p.queues c x) (p.offered + 1) xs copy st le calm tt (can, rw (waits p xs c t st le) room) refl (λ n. pushed p.queues c x n l))))
     (λ never.
     let is : Some refusal.NeverFits ≡ o = rw never at e in
     let copy : Copy (Item T) = record { at = t; class = c; item = x; fate = Never } in
     let P : Option Refusal → Type 0 = λ o. StandsFor (record p { queues = queues_with o p.queues c x; earliest = t; offered = p.offered + 1 }) (record { at = t; class = c; item = x; fate = fate_of o } ∷ xs) in
-    subst P is (stands_offer p p.queues (p.offered + 1) xs copy st le calm tt never (λ n. not_pushed (nat_eq c n) x (queue_of p n))))
+    subst P is (stands_offer p p.queues (p.offered + 1) xs copy st le calm tt never refl (λ n. not_pushed (nat_eq c n) x (queue_of p n))))
 
 pub stands_offered : {T : Type 0} (p : State T) (t c : ℕ) (x : Item T) (xs : List (Copy (Item T))) → c < length p.queues → p.earliest ≤ t → NoStartBefore p t → StandsFor p xs → StandsFor (offered_state p t c x) (copy_of p t c x ∷ xs)
 stands_offered p t c x xs l le calm st = offered_by p xs t c x (refusal_of p c x) refl l le calm st
@@ -144,6 +168,21 @@ popped_other qs c d v e =
     let other : d ≢ c = λ z. absurd (let w : nat_eq c d ≡ true = grind (arith, nat_tests) in cc) in
     rw get_or-set_other refl
 
+begun_length : {X : Type 0} (c s i : ℕ) (item : X) (xs ys : List (Copy X)) → Begun c s i item xs ys → length ys ≡ length xs
+begun_length c s i0 item0 xs0 ys0 (here t item xs n) = refl
+begun_length c s i item xs0 ys0 (there x {xs = vs} {ys = ws} b) = ap suc (begun_length c s i item vs ws b)
+
+begun_more : {X : Type 0} (c s i : ℕ) (item : X) (xs ys : List (Copy X)) → Begun c s i item xs ys → count_started ys ≡ count_started xs + 1
+begun_more c s i0 item0 xs0 ys0 (here t item xs n) = omega arith
+begun_more c s i item xs0 ys0 (there x {xs = vs} {ys = ws} b) = let z = begun_more c s i item vs ws b in omega (arith, z)
+
+begun_behind : {X : Type 0} (c s i : ℕ) (item : X) (xs ys : List (Copy X)) → Begun c s i item xs ys → max (s + 1) (not_before xs) ≡ not_before ys
+begun_behind c s i0 item0 xs0 ys0 (here t item xs n) = omega arith
+begun_behind c s i item xs0 ys0 (there x {xs = vs} {ys = ws} b) = let z = begun_behind c s i item vs ws b in omega (arith, z)
+
+begun_last : {X : Type 0} (c s i : ℕ) (item : X) (xs ys : List (Copy X)) → Begun c s i item xs ys → not_before xs ≤ s → s + 1 ≡ not_before ys
+begun_last c s i item xs ys b le = let z = begun_behind c s i item xs ys b in omega (arith, z)
+
 pub stands_started : {T : Type 0} (p : State T) (k c : ℕ) (x : Item T) (xs : List (Copy (Item T))) → IsNext p k c x → StandsFor p xs → IsBegun (started_state p k c x) c k x xs
 stands_started {T} p k c x xs n st = elim (front (rules_of p) c k p.earliest k xs n.after st.lawful.starts (offered_later p.earliest k xs n.after st.lawful.offers)) [
   | inl b ↦ absurd (nil_cons x n.rest (sym b.empty ∙ (st.queues c ∙ n.is_head)))
@@ -175,6 +214,9 @@ stands_started {T} p k c x xs n st = elim (front (rules_of p) c k p.earliest k x
               let later : k < u = omega arith in
               let before : is_free r u xs ≡ true = st.link u (let z = n.after in omega arith) ∙ grind (arith, nat_tests) in
               free_begun r c k u w.place x xs w.after begun ∙ rw before (ended k u (r.occ x) later);
+          offered = st.offered ∙ sym (begun_length c k w.place x xs w.after begun);
+          started = ap (λ n. n + 1) st.started ∙ sym (begun_more c k w.place x xs w.after begun);
+          earliest = begun_last c k w.place x xs w.after begun (let z = st.earliest in let after = n.after in omega arith);
         };
       }
 ]

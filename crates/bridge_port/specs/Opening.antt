@@ -1,5 +1,6 @@
 -- When the classes of a port are open, and how long.
-use Rattle.std.specs.Prelude.{ℕ, Bool, true, ◌<◌, Option, Some, None, List, slice_index_or}
+use Rattle.std.specs.Prelude.{ℕ, Bool, true, ◌<◌, ◌&&◌, nat_le, Option, Some, None, List, slice_index_or}
+use Rattle.std.specs.List.{list_all}
 use Rattle.bridge_cycle.specs.Opens.{opens_in}
 use Rattle.bridge_cycle.specs.Cyclic.{Cyclic, turn_at, IsLawful}
 use Rattle.bridge_cycle.specs.Fitting.{some_fits}
@@ -21,6 +22,10 @@ ever_of (Some l) c n = some_fits (λ u. opens_in (turn_at l u) c) l.cycle n
 abbrev pub IsMade : Option (Cyclic ℕ) → Type 0
 IsMade None = Unit {0}
 IsMade (Some l) = IsLawful l
+
+-- rooms of queues, in frames: 1 to 4096
+abbrev pub are_rooms : List ℕ → Bool
+are_rooms rooms = list_all (λ n. nat_le 1 n && nat_le n 4096) rooms
 
 -- the longest runs of the eight classes
 pub record HasRuns (list : Option (Cyclic ℕ)) (runs : List Run) : Type 0 where

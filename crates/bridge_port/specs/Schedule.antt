@@ -1,4 +1,4 @@
-use Rattle.std.specs.Prelude.{◌≡◌, ℕ, Bool, true, false, ◌<◌, ◌≤◌, ◌+◌, ◌&&◌, ◌||◌, not, nat_lt, nat_le, nat_eq, Option, Some, None, List, [], ◌∷◌, ◌++◌, length, if◌then◌else◌, ◌⊎◌}
+use Rattle.std.specs.Prelude.{◌≡◌, ℕ, Bool, true, false, ◌<◌, ◌≤◌, ◌+◌, ◌&&◌, ◌||◌, not, max, nat_lt, nat_le, nat_eq, Option, Some, None, List, [], ◌∷◌, ◌++◌, length, if◌then◌else◌, ◌⊎◌}
 use Rattle.bridge_cycle.specs.Moments.{Fits}
 
 -- What becomes of a copy.
@@ -60,7 +60,21 @@ abbrev pub or_newer : {X : Type 0} → Option (ℕ × X) → Option (ℕ × X) �
 or_newer None b = b
 or_newer (Some a) b = Some a
 
--- no copy is queued
+-- a copy that started
+abbrev pub is_started : Fate → Bool
+is_started Never = false
+is_started Full = false
+is_started Queued = false
+is_started (Started s) = true
+
+-- the first moment behind a start, 0 where there is none
+abbrev pub behind : Fate → ℕ
+behind Never = 0
+behind Full = 0
+behind Queued = 0
+behind (Started s) = s + 1
+
+-- a copy that waits for its start
 abbrev pub is_queued : Fate → Bool
 is_queued Never = false
 is_queued Full = false
@@ -162,6 +176,18 @@ module _ {X : Type 0} where
   abbrev pub has_queued : ℕ → List (Copy X) → Bool
   has_queued c [] = false
   has_queued c (x ∷ xs) = (nat_eq x.class c && is_queued x.fate) || has_queued c xs
+
+-- Sums over copies.
+module _ {X : Type 0} where
+  -- how many copies started
+  abbrev pub count_started : List (Copy X) → ℕ
+  count_started [] = 0
+  count_started (x ∷ xs) = (if is_started x.fate then 1 else 0) + count_started xs
+
+  -- the least moment that is not before an offer, and behind each start
+  abbrev pub not_before : List (Copy X) → ℕ
+  not_before [] = 0
+  not_before (x ∷ xs) = max (max x.at (behind x.fate)) (not_before xs)
 
 -- the oldest queued copy of a class starts at s: its place, its item, and the copies before and after that
 pub data Begun {X : Type 0} (c s : ℕ) : ℕ → X → List (Copy X) → List (Copy X) → Type 0 where

@@ -1,5 +1,6 @@
 -- What contracts see of a port, what it answers and how it moves, and the schedules that it stands for.
-use Rattle.std.specs.Prelude.{◌≡◌, ℕ, Bool, true, ◌<◌, ◌≤◌, ◌+◌, ◌*◌, ◌^◌, nat_le, not, Option, Some, None, List, [], ◌∷◌, ◌++◌, length, Result, Ok, Err, slice_index_or, slice_set, drop, sum_by, count_by, if◌then◌else◌}
+use Rattle.std.specs.Prelude.{◌≡◌, ℕ, Bool, true, ◌<◌, ◌≤◌, ◌+◌, ◌*◌, ◌^◌, nat_le, not, Option, Some, None, List, [], ◌∷◌, ◌++◌, length, replicate, Result, Ok, Err, slice_index_or, slice_set, drop, sum_by, count_by, if◌then◌else◌}
+use Rattle.bridge_base.specs.declared.TheConstants.{END_OF_TIME, LONGEST_FRAME, MOST_ARRIVALS}
 use Rattle.bridge_frame.specs.declared.Speed.{Speed}
 use Rattle.bridge_frame.specs.Link.{occupied}
 use Rattle.bridge_cycle.specs.Moments.{Fits}
@@ -10,7 +11,7 @@ use Rattle.bridge_port.specs.declared.item.Refusal.{Refusal}
 use Rattle.bridge_port.specs.declared.item.Refusal.TheVariants as refusal
 use Rattle.bridge_port.specs.Rings.{queues_of, rooms_of}
 use Rattle.circular_buffer.specs.Buffer.{Buffer}
-use Rattle.bridge_port.specs.Schedule.{Fate, Never, Full, Queued, Copy, Rules, IsLawful, is_free, queue, Begun}
+use Rattle.bridge_port.specs.Schedule.{Fate, Never, Full, Queued, Copy, Rules, IsLawful, count_started, is_free, not_before, queue, Begun}
 
 -- What a port keeps: its queues by class, the oldest item first, the moment from which its link is free, and the least
 -- moment that the next offer may have.
@@ -28,6 +29,10 @@ pub record State (T : Type 0) : Type 0 where
 abbrev pub state : {T : Type 0} → Speed → Option (Cyclic ℕ) → List (Buffer (Item T)) → ℕ → ℕ → ℕ → ℕ → State T
 state speed list rings free earliest offered started = record { speed = speed; list = list; rooms = rooms_of rings; queues = queues_of rings; free = free; earliest = earliest; offered = offered; started = started }
 
+-- a port that was offered nothing
+abbrev pub idle_state : {T : Type 0} → Speed → Option (Cyclic ℕ) → List ℕ → State T
+idle_state speed list rooms = record { speed = speed; list = list; rooms = rooms; queues = replicate 8 []; free = 0; earliest = 0; offered = 0; started = 0 }
+
 -- what a port says to schedules
 abbrev pub rules_of : {T : Type 0} → State T → Rules (Item T)
 rules_of p = record { opens = opens_of p.list; ever = ever_of p.list; room = λ c. slice_index_or p.rooms c 0; occ = λ x. occupied x.len p.speed }
@@ -35,11 +40,14 @@ rules_of p = record { opens = opens_of p.list; ever = ever_of p.list; room = λ 
 abbrev pub queue_of : {T : Type 0} → State T → ℕ → List (Item T)
 queue_of p c = slice_index_or p.queues c []
 
--- a port that was offered these copies, newest first
+-- a port that was offered these copies, newest first: their schedule, what is queued, when the link is free, and the counts
 pub record StandsFor {T : Type 0} (p : State T) (xs : List (Copy (Item T))) : Type 0 where
   pub lawful : IsLawful (rules_of p) p.earliest xs
   pub queues : (c : ℕ) → queue c xs ≡ queue_of p c
   pub link : (u : ℕ) → p.earliest ≤ u → is_free (rules_of p) u xs ≡ nat_le p.free u
+  pub offered : p.offered ≡ length xs
+  pub started : p.started ≡ count_started xs
+  pub earliest : p.earliest ≡ not_before xs
 
 -- no start is asked for before t
 abbrev pub NoStartBefore : {T : Type 0} → State T → ℕ → Type 0
@@ -70,6 +78,11 @@ refusal_of p c x =
     if not (ever_of p.list c (occupied x.len p.speed)) then Some refusal.NeverFits
     else if nat_le (slice_index_or p.rooms c 0) (length (queue_of p c)) then Some refusal.Full
     else None
+
+-- the numbers of refusals, in the order of the tests
+abbrev pub number_of : Refusal → ℕ
+number_of refusal.NeverFits = 1
+number_of refusal.Full = 2
 
 -- the answer to an offer
 abbrev pub answer_of : {X : Type 0} → Option Refusal → X → Result (Unit {0}) (X × Refusal)
@@ -111,12 +124,12 @@ count_queued f p = sum_by (count_by f) p.queues
 
 -- the moments that a port has named after so many starts are at most this
 abbrev pub limit : ℕ → ℕ
-limit started = 4 * 10 ^ 18 + 3 * 10 ^ 9 * started
+limit started = END_OF_TIME + 3 * 10 ^ 9 * started
 
 -- these items of a class fit at some moment, and are no longer than a frame may be
 abbrev pub AllStartable : {T : Type 0} → Option (Cyclic ℕ) → Speed → ℕ → List (Item T) → Type 0
 AllStartable list speed c [] = Unit {0}
-AllStartable list speed c (x ∷ xs) = ((ever_of list c (occupied x.len speed) ≡ true) × (x.len ≤ 9216)) × AllStartable list speed c xs
+AllStartable list speed c (x ∷ xs) = ((ever_of list c (occupied x.len speed) ≡ true) × (x.len ≤ LONGEST_FRAME)) × AllStartable list speed c xs
 
 -- what every port keeps
 pub record IsKept {T : Type 0} (p : State T) : Type 0 where
@@ -126,4 +139,4 @@ pub record IsKept {T : Type 0} (p : State T) : Type 0 where
   pub free : p.free ≤ limit p.started
   pub earliest : p.earliest ≤ limit p.started
   pub counted : p.started + count_queued (λ x. true) p ≤ p.offered
-  pub few : p.offered ≤ 16000000
+  pub few : p.offered ≤ MOST_ARRIVALS

@@ -1,9 +1,8 @@
 //! When the classes of a port are open.
-ghost use Rattle.std.specs.Prelude.{◌≡◌, ◌+◌, ◌<◌, ◌≤◌, ◌↔◌, ℕ, IsTrue, Option, true, None, Some};
+ghost use Rattle.std.specs.Prelude.{◌≡◌, ◌+◌, ◌<◌, ◌≤◌, ℕ, Option, true, None, Some};
 ghost use Rattle.bridge_cycle.specs.Cyclic.{Cyclic, turn_at};
 ghost use Rattle.bridge_cycle.specs.Moments.{IsFirst};
 ghost use Rattle.bridge_cycle.specs.Opens.{opens_in};
-ghost use Rattle.bridge_cycle.specs.Runs.{Allows};
 ghost use Rattle.bridge_port.specs.Opening.{ever_of, HasRuns, opens_of};
 
 use bridge_cycle::{CyclicList, Run, Timeline, first_fit, longest_run};
@@ -23,17 +22,6 @@ impl<A: Allocator + Copy> Model for Egress<A> {
     ghost view = { λ e. e.list };
 
     ghost invariant = { λ e. HasRuns e.list e.runs };
-}
-
-/// Whether a run is as long as this.
-fn allows(run: Run, occ: u64) -> bool
-    ensures { IsTrue result ↔ Allows run occ }
-{
-    match run {
-        Run::Never => occ == 0,
-        Run::For(longest) => occ <= longest,
-        Run::Always => true,
-    }
 }
 
 /// The longest runs of the classes of a list.
@@ -65,7 +53,7 @@ impl<A: Allocator + Copy> Egress<A> {
         requires { class < 8 }
         ensures { result ≡ ever_of self.now class occ }
     {
-        allows(self.runs[class], occ)
+        self.runs[class].allows(occ)
     }
 
     /// The least moment from `from` on from which the class stays open for `occ` ns.

@@ -3,42 +3,70 @@ ghost use Rattle.std.specs.Prelude.{◌≡◌, ◌≢◌, ◌+◌, ◌<◌, ◌�
 ghost use Rattle.bridge_cycle.specs.Cyclic.{Cyclic};
 ghost use Rattle.bridge_cycle.specs.Moments.{Fits};
 ghost use Rattle.bridge_port.specs.Opening.{ever_of, IsMade, opens_of};
-ghost use Rattle.bridge_cycle.specs.Entries.{In};
+ghost use Rattle.bridge_base.specs.Members.{In};
 ghost use Rattle.bridge_port.specs.Schedule.{Begun, Copy, Rules, IsAnswer, IsLawful, OfferedUpTo, Started, head, is_free};
 ghost use Rattle.bridge_port.specs.Solo.{HasOwnWindow, IsSolo, IsWhole, SameOffers, only};
 
 /// A lawful schedule up to a moment is one up to each lower moment that is after its last start and not before its last
 /// offer.
-pub fn lawful_up_to_a_lower_moment()
-    ensures { (r : Rules ℕ) (h k : ℕ) (xs : List (Copy ℕ)) → k ≤ h → OfferedUpTo k xs → ((s : ℕ) (x : Copy ℕ) → In x xs → x.fate ≡ Started s → s < k) → IsLawful r h xs → IsLawful r k xs }
+pub fn lawful_up_to_a_lower_moment<X: Drop>()
+    ensures { (r : Rules X) (h k : ℕ) (xs : List (Copy X))
+        → k ≤ h
+        → OfferedUpTo k xs
+        → ((s : ℕ) (x : Copy X) → In x xs → x.fate ≡ Started s → s < k)
+        → IsLawful r h xs
+        → IsLawful r k xs }
 {}
 
 /// It is one up to a later moment where no head fits at a free moment in between.
-pub fn lawful_up_to_a_later_moment()
-    ensures { (r : Rules ℕ) (h k : ℕ) (xs : List (Copy ℕ)) → h ≤ k → IsLawful r h xs → ((u : ℕ) → h ≤ u → u < k → is_free r u xs ≡ true → (c : ℕ) (p : ℕ × ℕ) → head c u xs ≡ Some p → ¬ Fits (r.opens c) (r.occ p.1) u) → IsLawful r k xs }
+pub fn lawful_up_to_a_later_moment<X: Drop>()
+    ensures { (r : Rules X) (h k : ℕ) (xs : List (Copy X))
+        → h ≤ k
+        → IsLawful r h xs
+        → ((u : ℕ) → h ≤ u → u < k → is_free r u xs ≡ true → (c : ℕ) (p : ℕ × X) → head c u xs ≡ Some p → ¬ Fits (r.opens c) (r.occ p.1) u)
+        → IsLawful r k xs }
 {}
 
 /// An offer at that moment, answered as the rule says, keeps it lawful.
-pub fn lawful_with_an_offer()
-    ensures { (r : Rules ℕ) (h : ℕ) (x : Copy ℕ) (xs : List (Copy ℕ)) → x.at ≡ h → ((s : ℕ) → x.fate ≢ Started s) → IsAnswer r x xs x.fate → IsLawful r h xs → IsLawful r h (x ∷ xs) }
+pub fn lawful_with_an_offer<X: Drop>()
+    ensures { (r : Rules X) (h : ℕ) (x : Copy X) (xs : List (Copy X))
+        → x.at ≡ h
+        → ((s : ℕ) → x.fate ≢ Started s)
+        → IsAnswer r x xs x.fate
+        → IsLawful r h xs
+        → IsLawful r h (x ∷ xs) }
 {}
 
 /// The start that strict priority asks for at that moment makes it lawful up to the next one.
-pub fn lawful_with_a_start()
-    ensures { (r : Rules ℕ) (c h i item : ℕ) (xs ys : List (Copy ℕ)) → IsLawful r h xs → is_free r h xs ≡ true → Begun c h i item xs ys → head c h xs ≡ Some (i, item) → Fits (r.opens c) (r.occ item) h → ((d : ℕ) (p : ℕ × ℕ) → head d h xs ≡ Some p → Fits (r.opens d) (r.occ p.1) h → d ≤ c) → IsLawful r (h + 1) ys }
+pub fn lawful_with_a_start<X: Drop>()
+    ensures { (r : Rules X) (c h i : ℕ) (item : X) (xs ys : List (Copy X))
+        → IsLawful r h xs
+        → is_free r h xs ≡ true
+        → Begun c h i item xs ys
+        → head c h xs ≡ Some (i, item)
+        → Fits (r.opens c) (r.occ item) h
+        → ((d : ℕ) (p : ℕ × X) → head d h xs ≡ Some p → Fits (r.opens d) (r.occ p.1) h → d ≤ c)
+        → IsLawful r (h + 1) ys }
 {}
 
 /// A class whose window no other class shares is served as if it had the link alone.
-pub fn own_windows_isolate()
-    ensures { (r : Rules ℕ) (c h : ℕ) (xs : List (Copy ℕ)) → ((n : ℕ) → 0 < r.occ n) → HasOwnWindow r c → IsLawful r h xs → IsWhole xs → IsSolo r (only c xs) }
+pub fn own_windows_isolate<X: Drop>()
+    ensures { (r : Rules X) (c h : ℕ) (xs : List (Copy X))
+        → ((n : X) → 0 < r.occ n)
+        → HasOwnWindow r c
+        → IsLawful r h xs
+        → IsWhole xs
+        → IsSolo r (only c xs) }
 {}
 
 /// The test of what fits says that the class is open for so long at some moment.
 pub fn ever_is_fitting()
-    ensures { (list : Option (Cyclic ℕ)) (c n : ℕ) → IsMade list → (ever_of list c n ≡ true) ↔ ((t : ℕ) × Fits (opens_of list c) n t) }
+    ensures { (list : Option (Cyclic ℕ)) (c n : ℕ)
+        → IsMade list
+        → (ever_of list c n ≡ true) ↔ ((t : ℕ) × Fits (opens_of list c) n t) }
 {}
 
 /// What becomes of the copies of a queue that has the link alone follows from its offers.
-pub fn alone_follows()
-    ensures { (r : Rules ℕ) (xs ys : List (Copy ℕ)) → SameOffers xs ys → IsSolo r xs → IsSolo r ys → xs ≡ ys }
+pub fn alone_follows<X: Drop>()
+    ensures { (r : Rules X) (xs ys : List (Copy X)) → SameOffers xs ys → IsSolo r xs → IsSolo r ys → xs ≡ ys }
 {}

@@ -1,5 +1,5 @@
 #![tactic(auto)]
-//! One egress port of a bridge: eight queues, eight transmission gates and strict priority (IEEE 802.1Q-2018, clause 8.6.8).
+//! One egress port of a bridge: eight queues, eight transmission gates and strict priority (IEEE 802.1Q-2018, 8.6.8).
 
 mod egress;
 mod heads;
@@ -15,3 +15,4 @@ pub use law::{
     lawful_with_a_start, lawful_with_an_offer, own_windows_isolate,
 };
 pub use port::Port;
+pub use queues::are_rooms;

@@ -5,6 +5,7 @@ use crate::egress::Egress;
 use crate::heads::best_head;
 use crate::item::{Item, Refusal};
 use crate::queues::{is_full, pop_at, push_at, with_rooms};
+use bridge_base::{END_OF_TIME, LONGEST_FRAME, MOST_ARRIVALS};
 use bridge_cycle::{CyclicList, NoMemory};
 use bridge_frame::{Speed, occupation};
 use circular_buffer::HeapCircularBuffer;
@@ -12,7 +13,7 @@ use std::alloc::Allocator;
 use std::marker::Model;
 
 /// An egress port: eight queues with their transmission gates, served in strict priority. A frame starts only where its
-/// class stays open until the link is free again (IEEE 802.1Q-2018, clause 8.6.8).
+/// class stays open until the link is free again (IEEE 802.1Q-2018, 8.6.8, 8.6.8.1 and 8.6.8.4).
 ///
 /// It stands for the list of copies that were offered to it, each with what became of it.
 #[derive(Drop)]
@@ -40,20 +41,23 @@ impl<T: Drop, A: Allocator + Copy> Model for Port<T, A> {
 impl<T: Drop, A: Allocator + Copy> Port<T, A> {
     ghost use Rattle.bridge_port.specs.declared.item.Item.{Item};
     ghost use Rattle.bridge_port.specs.Schedule.{Copy, IsLawful};
+    ghost use Rattle.bridge_port.specs.Opening.{are_rooms};
     ghost use Rattle.bridge_port.specs.Heads.{StartsNext};
     ghost use Rattle.bridge_port.specs.Solo.{IsWhole};
-    ghost use Rattle.bridge_port.specs.Standing.{answer_of, copy_of, count_queued, IsBegun, IsDue, IsIdle, IsKept, IsNext, limit, NoStartBefore, offered_state, refusal_of, rules_of, StandsFor, started_state};
+    ghost use Rattle.bridge_port.specs.Standing.{answer_of, copy_of, count_queued, idle_state, IsBegun, IsDue, IsIdle, IsKept, IsNext, limit, NoStartBefore, offered_state, refusal_of, rules_of, StandsFor, started_state};
 
-    /// An idle port of this speed and with these rooms of frames (1 to 4096) for the classes from 0 to 7. Without a list
-    /// all classes are always open; bit c of a list's state says whether class c is.
+    /// An idle port of this speed and with these rooms of frames for the classes from 0 to 7, each 1 to 4096, which
+    /// `are_rooms` tells. Without a list all classes are always open; bit c of a list's state says whether class c is.
     pub fn new(
         alloc: A,
         speed: Speed,
         list: Option<CyclicList<u8, A>>,
         rooms: [u16; 8],
     ) -> Result<Port<T, A>, NoMemory>
-        ensures new { IfOk result (λ p. p ≡ record { speed = speed; list = list; rooms = rooms; queues = replicate 8 []; free = 0; earliest = 0; offered = 0; started = 0 }) }
+        requires { are_rooms rooms ≡ true }
+        ensures new { IfOk result (λ p. p ≡ idle_state speed list rooms) }
         ensures stands { IfOk result (λ p. StandsFor p []) }
+        ensures idle { IfOk result (λ p. IsDue p None) }
     {
         let rings = with_rooms(alloc, &rooms)?;
         Ok(Port {
@@ -85,14 +89,17 @@ impl<T: Drop, A: Allocator + Copy> Port<T, A> {
     /// reason that applies: no moment fits it, its queue is full.
     pub fn offer(&mut self, t: u64, class: u8, item: Item<T>) -> Result<(), (Item<T>, Refusal)>
         requires class { class < 8 }
-        requires time { (self.old.earliest ≤ t) × (t < 4_000_000_000_000_000_000) }
+        requires time { (self.old.earliest ≤ t) × (t < END_OF_TIME) }
         requires not_late { NoStartBefore self.old t }
-        requires length { item.len ≤ 9216 }
-        requires few { self.old.offered < 16_000_000 }
+        requires length { item.len ≤ LONGEST_FRAME }
+        requires few { self.old.offered < MOST_ARRIVALS }
         ensures answer { result ≡ answer_of (refusal_of self.old class item) item }
         ensures moved { self.new ≡ offered_state self.old t class item }
-        ensures stands { (xs : List (Copy (Item T))) → StandsFor self.old xs → StandsFor self.new (copy_of self.old t class item ∷ xs) }
-        ensures counts { (f : Item T → Bool) → count_queued f self.new ≡ (if is_none (refusal_of self.old class item) && f item then 1 else 0) + count_queued f self.old }
+        ensures stands { (xs : List (Copy (Item T)))
+            → StandsFor self.old xs
+            → StandsFor self.new (copy_of self.old t class item ∷ xs) }
+        ensures counts { (f : Item T → Bool)
+            → count_queued f self.new ≡ (if is_none (refusal_of self.old class item) && f item then 1 else 0) + count_queued f self.old }
     {
         let class = class as usize;
         let refusal = self.refusal(class, item.len);
@@ -119,8 +126,12 @@ impl<T: Drop, A: Allocator + Copy> Port<T, A> {
     /// The moment in ns of the next start, if nothing else is offered; `None` where nothing is queued.
     pub fn next_start(&self) -> Option<u64>
         ensures due { IsDue self.now result }
-        ensures lawful { (xs : List (Copy (Item T))) → StandsFor self.now xs → IfSome result (λ k. (h : ℕ) → self.now.earliest ≤ h → h ≤ k → IsLawful (rules_of self.now) h xs) }
-        ensures idle { (xs : List (Copy (Item T))) → StandsFor self.now xs → IfNone result ((h : ℕ) → self.now.earliest ≤ h → IsLawful (rules_of self.now) h xs) }
+        ensures lawful { (xs : List (Copy (Item T)))
+            → StandsFor self.now xs
+            → IfSome result (λ k. (h : ℕ) → self.now.earliest ≤ h → h ≤ k → IsLawful (rules_of self.now) h xs) }
+        ensures idle { (xs : List (Copy (Item T)))
+            → StandsFor self.now xs
+            → IfNone result ((h : ℕ) → self.now.earliest ≤ h → IsLawful (rules_of self.now) h xs) }
         ensures whole { (xs : List (Copy (Item T))) → StandsFor self.now xs → IfNone result (IsWhole xs) }
         ensures bounded { IfSome result (λ k. k < limit (self.now.started + 1)) }
         ensures early { IfSome result (λ k. k < 4_100_000_000_000_000_000) }
@@ -137,12 +148,17 @@ impl<T: Drop, A: Allocator + Copy> Port<T, A> {
         requires { (k : ℕ) × IsDue self.old (Some k) }
         ensures next { IsNext self.old (self.new.earliest - 1) result.1 result.0 }
         ensures moved { self.new ≡ started_state self.old (self.new.earliest - 1) result.1 result.0 }
-        ensures which { (k c : ℕ) (x : Item T) → IsNext self.old k c x → (self.new.earliest ≡ k + 1) × (result.1 ≡ c) × (result.0 ≡ x) }
-        ensures stands { (xs : List (Copy (Item T))) → StandsFor self.old xs → IsBegun self.new result.1 (self.new.earliest - 1) result.0 xs }
+        ensures which { (k c : ℕ) (x : Item T)
+            → IsNext self.old k c x
+            → (self.new.earliest ≡ k + 1) × (result.1 ≡ c) × (result.0 ≡ x) }
+        ensures stands { (xs : List (Copy (Item T)))
+            → StandsFor self.old xs
+            → IsBegun self.new result.1 (self.new.earliest - 1) result.0 xs }
         ensures counts { (f : Item T → Bool) → count_queued f self.old ≡ (if f result.0 then 1 else 0) + count_queued f self.new }
         ensures bounded { self.new.free < limit (self.old.started + 1) }
         ensures early { self.new.free < 4_100_000_000_000_000_000 }
-        ensures length { result.0.len ≤ 9216 }
+        ensures length { result.0.len ≤ LONGEST_FRAME }
+        ensures class { result.1 < 8 }
     {
         let next = self.next();
         match next {
@@ -163,10 +179,11 @@ impl<T: Drop, A: Allocator + Copy> Port<T, A> {
         }
     }
 
-    /// The offers so far.
+    /// The offers so far, at most `MOST_ARRIVALS`.
     pub fn offered(&self) -> u64
         ensures offered { result ≡ self.now.offered }
         ensures counted { self.now.started + count_queued (λ x. true) self.now ≤ result }
+        ensures few { result ≤ MOST_ARRIVALS }
     {
         self.offered
     }
@@ -182,6 +199,7 @@ impl<T: Drop, A: Allocator + Copy> Port<T, A> {
     pub fn earliest(&self) -> u64
         ensures earliest { result ≡ self.now.earliest }
         ensures bounded { result ≤ limit self.now.started }
+        ensures link { self.now.free ≤ limit self.now.started }
     {
         self.earliest
     }

@@ -1,12 +1,20 @@
 //! The rings of a port, one for each class.
 ghost use Rattle.std.specs.Prelude.{◌≡◌, nat_le, ◌<◌, ◌≤◌, ℕ, [], ◌∷◌, ◌++◌, List, Option, Some, None, length, map, replicate, IfOk, slice_get, slice_index_or, slice_set, drop, vec_len};
 ghost use Rattle.std.specs.Option.{option_copied};
+ghost use Rattle.bridge_port.specs.Opening.{are_rooms};
 ghost use Rattle.bridge_port.specs.Rings.{queues_of, rooms_of};
 
 use crate::item::Item;
 use bridge_cycle::NoMemory;
 use circular_buffer::HeapCircularBuffer;
 use std::alloc::{AllocError, Allocator};
+
+/// Whether each of these is a room of a port's queue, in frames: 1 to 4096.
+pub fn are_rooms(rooms: &[u16; 8]) -> bool
+    ensures { result ≡ are_rooms rooms.now }
+{
+    rooms.iter().all(|room| 1 <= *room && *room <= 4096)
+}
 
 /// Empty rings with these rooms.
 pub fn with_rooms<T: Drop, A: Allocator + Copy>(

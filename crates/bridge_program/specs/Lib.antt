@@ -8,3 +8,6 @@ pub mod Numbers
 pub mod CommandLine
 pub mod Counts
 pub mod Examples
+pub mod Numbering
+pub mod Reading
+pub mod Jobs

@@ -27,8 +27,8 @@ pub record IsTextRun (octets lines : List ℕ) : Type 0 where
   pub runs : IsWireRun Mbps1000 4 frames left count
   pub lines_are : lines ≡ text_of left
 
--- why a run over these octets in memory stopped: their fault, unless a growth was refused
+-- why a run over these octets stopped: their fault, or a write behind all of them, unless the source or a growth was refused
 abbrev pub StopsText : List ℕ → RunFault → Type 0
 StopsText octets (run.Capture port f) = (port ≡ 1) × HasFault f octets
-StopsText octets (run.Write port) = port ≡ 1
+StopsText octets (run.Write port) = (port ≡ 1) × ((frames : List Captured) × Records octets frames AtEnd)
 StopsText octets run.NoMemory = Unit {0}

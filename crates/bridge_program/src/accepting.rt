@@ -1,11 +1,34 @@
-//! The line of a plan that is accepted.
-ghost use Rattle.std.specs.Prelude.{◌≡◌, ◌+◌, IfOk, drop, length, string_bytes};
+//! Plans that are accepted, and their line.
+ghost use Rattle.std.specs.Prelude.{◌≡◌, ◌+◌, IfOk, IfErr, drop, length, string_bytes};
 ghost use Rattle.bridge_program.specs.Accepting.{accepted_line, protected_in};
+ghost use Rattle.bridge_program.specs.Jobs.{Accepts, RefusesPlan};
 
-use crate::fault::NoMemory;
-use bridge_check::Accepted;
+use crate::fault::{Fault, NoMemory};
+use bridge_check::{Accepted, check};
+use bridge_config::plan_of;
 use bridge_filter::FilterPlan;
-use std::alloc::Allocator;
+use std::alloc::{Allocator, Global};
+
+/// The plan of a text, where it isolates each of its protected filters.
+///
+/// `Plan` with the first fault of the text, else `Check` with the first fault of the plan, both also for want of memory.
+pub fn accepted_of<A: Allocator + Copy>(
+    alloc: A,
+    heap: Global,
+    text: &[u8],
+) -> Result<Accepted<A>, Fault>
+    ensures ok { IfOk result (λ accepted. Accepts text.now accepted) }
+    ensures err { IfErr result (RefusesPlan A text.now) }
+{
+    let plan = match plan_of(alloc, heap, text) {
+        Ok(plan) => plan,
+        Err(fault) => return Err(Fault::Plan(fault)),
+    };
+    match check(alloc, plan) {
+        Ok(accepted) => Ok(accepted),
+        Err(refused) => Err(Fault::Check(refused.fault)),
+    }
+}
 
 /// How many filters are protected.
 fn protected_in(filters: &[(u32, FilterPlan)]) -> usize

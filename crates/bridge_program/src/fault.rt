@@ -8,7 +8,7 @@ use bridge_check::CheckFault;
 use bridge_core::RunFault;
 use bridge_keys::PlanFault;
 use bridge_text::HexFault;
-use std::alloc::{AllocError, AllocFailed};
+use std::alloc::AllocError;
 use thiserror::Error;
 
 /// A growth was refused.
@@ -18,12 +18,6 @@ pub struct NoMemory;
 
 impl From<AllocError> for NoMemory {
     fn from(_: AllocError) -> NoMemory {
-        NoMemory
-    }
-}
-
-impl<T: Drop> From<AllocFailed<T>> for NoMemory {
-    fn from(_: AllocFailed<T>) -> NoMemory {
         NoMemory
     }
 }
@@ -40,6 +34,21 @@ pub enum TextFault {
     /// The run over its octets stopped, or a growth was refused.
     #[error("{0}")]
     Run(RunFault),
+}
+
+impl TextFault {
+    ghost use Rattle.bridge_program.specs.Numbering.{number_of};
+
+    /// The number of the fault, 1 to 3.
+    pub fn number(self) -> u8
+        ensures { result ≡ number_of self }
+    {
+        match self {
+            TextFault::NotHex => 1,
+            TextFault::TooLong => 2,
+            TextFault::Run(_) => 3,
+        }
+    }
 }
 
 impl From<HexFault> for TextFault {

@@ -2,20 +2,28 @@
 //! What the program does and says: its jobs over text, and the line and the status of each fault.
 
 mod accepting;
+mod captures;
 mod command;
 mod counts;
 mod fault;
+mod host;
 mod isolation;
 mod job;
+mod jobs;
 mod line;
 mod number;
 mod plan_line;
+mod reading;
 mod status;
 mod text;
 
-pub use accepting::check_line;
+pub use accepting::{accepted_of, check_line};
+pub use captures::through;
 pub use counts::wire_line;
 pub use fault::{Fault, NoMemory, TextFault};
+pub use host::{end, print, words_of};
 pub use job::{Job, job_of};
+pub use jobs::{check_job, standard_file, text_job, wire_job};
 pub use line::fault_line;
+pub use reading::{ReadFault, read_at_most};
 pub use text::wire_text;

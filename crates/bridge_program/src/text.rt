@@ -1,10 +1,11 @@
 //! The job without words: one capture, as hexadecimal text, through one queue.
-ghost use Rattle.std.specs.Prelude.{◌≡◌, ◌⊎◌, ℕ, List, Ok, Err, IfOk};
+ghost use Rattle.std.specs.Prelude.{◌≡◌, ◌≢◌, ◌⊎◌, ℕ, List, Ok, Err, IfOk};
 ghost use Rattle.std.specs.String.{string_bytes};
 ghost use Rattle.bridge_text.specs.Hex.{octets_spelled};
 ghost use Rattle.bridge_text.specs.declared.fault.HexFault.TheVariants as hex;
 ghost use Rattle.bridge_program.specs.Text.{IsTextRun, StopsText};
 ghost use Rattle.bridge_core.specs.declared.fault.RunFault.{RunFault};
+ghost use Rattle.bridge_capture.specs.declared.fault.CaptureFault.TheVariants as capture_faults;
 
 use crate::fault::TextFault;
 use bridge_capture::{SliceSource, VecSink};
@@ -26,6 +27,7 @@ pub fn wire_text<A: Allocator + Copy>(alloc: A, text: &[u8]) -> Result<String<A>
     ensures not_hex { result ≡ Err TextFault.NotHex → octets_spelled text.now ≡ Err hex.NotHex }
     ensures too_long { result ≡ Err TextFault.TooLong → octets_spelled text.now ≡ Err hex.TooLong }
     ensures run { (fault : RunFault) (octets : List ℕ) → result ≡ Err (TextFault.Run fault) → octets_spelled text.now ≡ Ok octets → StopsText octets fault }
+    ensures sure { (port : ℕ) → result ≢ Err (TextFault.Run (RunFault.Capture port capture_faults.Read)) }
     ensures spelled { (fault : RunFault) → result ≡ Err (TextFault.Run fault) → (fault ≡ RunFault.NoMemory) ⊎ ((octets : List ℕ) × (octets_spelled text.now ≡ Ok octets)) }
 {
     let octets = octets_of(alloc, text)?;

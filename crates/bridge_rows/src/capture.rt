@@ -7,7 +7,7 @@ use bridge_capture::{
     VecSink, Writer, each_text_reads_one_way, written_is_read,
 };
 use std::alloc::{AllocError, Allocator, Global};
-use std::io::Cursor;
+use std::io::{self, Cursor, ErrorKind, Read, Write};
 use std::test::Fail;
 
 const HEADER: [u8; 24] = [
@@ -303,6 +303,78 @@ fn a_source_fails_anywhere(rt: HostRuntime) -> Result<(), Fail> {
         assert_eq!(rt; count, want, "after {n} octets");
     }
     Ok(())
+}
+
+/// A capture whose first word is not a magic, or whose first record's captured length is above the original one.
+fn refused_text(alloc: Global, in_header: bool) -> Result<Vec<u8>, AllocError> {
+    if in_header {
+        capture_under(alloc, 0xA1B2_3C4E, Order::Little, &[FIRST])
+    } else {
+        capture_of(alloc, &[[0, 100_000, 61, 60]])
+    }
+}
+
+#[test]
+fn a_refusal_comes_before_what_fails_behind_it(rt: HostRuntime) -> Result<(), Fail> {
+    for (in_header, n, want) in [
+        (true, 24, CaptureFault::BadMagic),
+        (false, 40, CaptureFault::LengthsCross(1)),
+    ] {
+        let text = refused_text(rt.alloc(), in_header)?;
+        let mut source = SliceSource::failing_after(&text, n);
+        let (count, fault) = outcome(rt.alloc(), &mut source);
+        assert!(rt; !source.failed());
+        assert_eq!(rt; count, 0);
+        assert_eq!(rt; fault, Some(want));
+        let mut source = SliceSource::failing_after(&text, n - 1);
+        let (_, fault) = outcome(rt.alloc(), &mut source);
+        assert!(rt; source.failed());
+        assert_eq!(rt; fault, Some(CaptureFault::Read));
+    }
+    Ok(())
+}
+
+/// A reader and a writer whose first call is an error and all others are not.
+#[derive(Drop)]
+struct ErrsOnce {
+    has_erred: bool,
+}
+
+impl Read for ErrsOnce {
+    fn read(&mut self, _: &mut [u8]) -> io::Result<usize> {
+        if self.has_erred {
+            return Ok(0);
+        }
+        self.has_erred = true;
+        Err(io::Error::from(ErrorKind::Interrupted))
+    }
+}
+
+impl Write for ErrsOnce {
+    fn write(&mut self, octets: &[u8]) -> io::Result<usize> {
+        if self.has_erred {
+            return Ok(octets.len());
+        }
+        self.has_erred = true;
+        Err(io::Error::from(ErrorKind::Interrupted))
+    }
+
+    fn flush(&mut self) -> io::Result<()> {
+        Ok(())
+    }
+}
+
+#[test]
+fn an_error_is_for_good(rt: HostRuntime) {
+    let mut source = FromRead::new(ErrsOnce { has_erred: false });
+    let mut sink = FromWrite::new(ErrsOnce { has_erred: false });
+    for _ in 0..3 {
+        let mut octets = [0; 4];
+        assert!(rt; source.read(&mut octets).is_err());
+        assert!(rt; source.failed());
+        assert!(rt; sink.write(&octets).is_err());
+        assert!(rt; sink.failed());
+    }
 }
 
 /// Writes both frames.

@@ -6,7 +6,7 @@ use crate::refusing::RefusesOne;
 use bridge_cycle::{CyclicList, ListFault};
 use bridge_frame::{Speed, occupation};
 use bridge_port::{
-    Item, NoMemory, Port, Refusal, alone_follows, ever_is_fitting, own_windows_isolate,
+    Item, NoMemory, Port, Refusal, alone_follows, are_rooms, ever_is_fitting, own_windows_isolate,
 };
 use std::alloc::{AllocError, Allocator};
 use std::process::Abort;
@@ -122,6 +122,7 @@ fn goes_as_said<A: Allocator + Copy>(
         [] => None,
         entries => Some(list_of(alloc, row.cycle, entries)?),
     };
+    assert!(rt; are_rooms(&row.rooms), "{name}");
     let mut port = Port::new(alloc, row.speed, list, row.rooms)?;
     let mut starts = Vec::new(alloc);
     for (t, class, len, refusal) in row.offers {
@@ -314,6 +315,6 @@ fn each_growth_of_a_port_is_refused_in_turn(rt: HostRuntime) -> Result<(), Fail>
 #[test]
 fn the_laws_can_be_named() {
     ever_is_fitting();
-    alone_follows();
-    own_windows_isolate();
+    alone_follows::<u32>();
+    own_windows_isolate::<u32>();
 }

@@ -3,6 +3,7 @@ use Rattle.std.specs.Io.KnownBytes.{Consumes}
 use Rattle.std.proofs.lemmas.List.{length-take}
 use Rattle.bridge_capture.specs.Grammar.{Place}
 use Rattle.bridge_capture.proofs.Fronts.{ended, too_many, cut_words, words_refused, octets_refused, whole_record, head_is, unsaid}
+use Rattle.bridge_capture.proofs.Taken.{octets_taken}
 use Rattle.bridge_capture.proofs.record.front_record.Goals as goal
 use Rattle.bridge_capture.proofs.record.front_record.Goals.{in-Ok, in-Ok-2, in-Err}
 
@@ -28,7 +29,7 @@ returns-in-Err-judge_head-clause-record g c =
     let words = c.fill-2.new.buf in
     let full = subst (Consumes _ _) (take_all c.in-Ok-fill.count words (omega (arith, c.in-Ok-fill.ensures.count))) c.in-Ok-fill.ensures.bytes in
     let head = c.head_of-head.ensures in
-    let fault = head_is place _ _ _ _ _ _ (Some c.in-Err-judge_head.fault) head.time head.captured head.original c.in-Err-judge_head.ensures in
+    let fault = head_is place _ _ _ _ _ _ (Some c.in-Err-judge_head.fault) head.time head.captured head.original c.in-Err-judge_head.ensures.judged in
     words_refused _ _ c.args.form place words c.in-Err-judge_head.fault (search rules) (search rules) fault full
 
 pub returns-in-Ok-take_octets-clause-record : goal.returns-in-Ok-take_octets-clause-record
@@ -37,7 +38,7 @@ returns-in-Ok-take_octets-clause-record g c =
     let words = c.fill-2.new.buf in
     let full = subst (Consumes _ _) (take_all c.in-Ok-fill.count words (omega (arith, c.in-Ok-fill.ensures.count))) c.in-Ok-fill.ensures.bytes in
     let head = c.head_of-head.ensures in
-    let sound = head_is place _ _ _ _ _ _ None head.time head.captured head.original c.in_default.ensures in
+    let sound = head_is place _ _ _ _ _ _ None head.time head.captured head.original c.in_default.ensures.judged in
     let took = c.in-Ok-take_octets.ensures.octets in
     rw (head.time, head.original) (whole_record _ _ _ c.args.form place words c.in-Ok-take_octets.octets.items (search rules) (search rules) sound full took.1 (took.0 ∙ head.captured))
 
@@ -47,5 +48,14 @@ returns-in-Err-take_octets-clause-record g c =
     let words = c.fill-2.new.buf in
     let full = subst (Consumes _ _) (take_all c.in-Ok-fill.count words (omega (arith, c.in-Ok-fill.ensures.count))) c.in-Ok-fill.ensures.bytes in
     let head = c.head_of-head.ensures in
-    let sound = head_is place _ _ _ _ _ _ None head.time head.captured head.original c.in_default.ensures in
+    let sound = head_is place _ _ _ _ _ _ None head.time head.captured head.original c.in_default.ensures.judged in
     octets_refused _ _ _ c.args.form place words c.in-Err-take_octets.fault (search rules) (search rules) sound full (rw head.captured at c.in-Err-take_octets.ensures.octets)
+
+pub returns-in-Err-take_octets-clause-taken : goal.returns-in-Err-take_octets-clause-taken
+returns-in-Err-take_octets-clause-taken g c =
+    let place : Place = record { number = c.args.number; earliest = c.args.earliest } in
+    let words = c.fill-2.new.buf in
+    let full = subst (Consumes _ _) (take_all c.in-Ok-fill.count words (omega (arith, c.in-Ok-fill.ensures.count))) c.in-Ok-fill.ensures.bytes in
+    let head = c.head_of-head.ensures in
+    let sound = head_is place _ _ _ _ _ _ None head.time head.captured head.original c.in_default.ensures.judged in
+    octets_taken c.args.form place _ _ _ words c.in-Err-take_octets.fault (search rules) (search rules) sound full (rw head.captured at c.in-Err-take_octets.ensures.octets)

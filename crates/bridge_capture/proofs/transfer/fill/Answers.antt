@@ -10,6 +10,7 @@ loop-at-preserved g c =
     record {
       within = search rules;
       fresh = λ e. let bad : false ≡ true = c.in_ok-count.ensures.stays (c.loop-at.invariant.fresh e).1 in absurd cc;
+      sure = λ e. c.in_ok-count.ensures.lasts (c.loop-at.invariant.sure e);
       taken = subst (Consumes _ _) (sym joined) (Consumes-trans _ _ _ _ _ c.loop-at.invariant.taken c.in_ok-count.ensures.bytes.0);
     }
 

@@ -8,6 +8,7 @@ invariant-loop-at g l =
     record {
       within : l.at ≤ length l.buf;
       fresh : g.R.ByteSource.has_failed l.fn.source ≡ true → (l.at ≡ 0) × (g.R.ByteSource.has_failed l.source ≡ true);
+      sure : g.R.ByteSource.never_fails l.fn.source ≡ true → g.R.ByteSource.never_fails l.source ≡ true;
       taken : Consumes (remaining l.fn.source) (remaining l.source) (take l.at l.buf);
     }
 

@@ -1,5 +1,5 @@
-use Rattle.bridge_check.proofs.Sound.{sound}
+use Rattle.bridge_check.proofs.Sound.{frame_sound}
 use Rattle.bridge_check.proofs.laws.reach_is_sound.Goals as goal
 
 pub returns : goal.returns
-returns g c = sound
+returns g c = frame_sound

@@ -1,5 +1,5 @@
-use Rattle.std.proofs.Common.{◌≡◌, [], ◌∷◌, Err, length, drop, sym, subst, refl, rules, arith}
-use Rattle.std.proofs.lemmas.List.{map-append}
+use Rattle.std.proofs.Common.{ap, ◌≡◌, [], ◌∷◌, Err, length, drop, sym, subst, refl, rules, arith}
+use Rattle.std.proofs.lemmas.List.{map-append, length-map}
 use Rattle.std.proofs.lemmas.Result.{err_from_is_err_and}
 use Rattle.bridge_capture.specs.Reading.{view}
 use Rattle.std.proofs.lemmas.Iterator.Adapters.{YieldsList-from_vec}
@@ -74,6 +74,14 @@ returns-in_err-depart_before-clause-ends g c =
     let gone = c.in_err-depart_before.ensures.goes (offers_of (views yielded)) c.loop-packet.count.sent c.loop-packet.count.full r.left r.sends in
     ends_failed c.args.speed c.args.room (views packets) (views yielded) (views (drop (length yielded) packets)) (contents c.args.sink.now) (contents c.depart_before.new.sink) c.from_residual-in_err-depart_before.result is (split_at packets yielded so_far)
     (stops_after c.args.speed c.args.room (views yielded) c.loop-packet.port new c.loop-packet.count (contents c.args.sink.now) (contents c.loop-packet.sink) (contents c.depart_before.new.sink) r same.0 same.1 same.2 gone.0 gone.1 gone.2)
+
+pub returns-clause-few : goal.returns-clause-few
+returns-clause-few g c =
+    let packets = c.args.packets.items in
+    let yielded = c.loop-packet.yielded in
+    let road = YieldsList-from_vec {s = c.into_iter-packet-iterator.result} packets c.into_iter-packet-iterator.ensures.into_iter_gives.0 (search rules) in
+    let end = YieldsList-end road yielded c.loop-packet.packet-iterator c.loop-packet.yielded_by c.next.result c.next.new.self c.in-None.is c.next.ensures.steps in
+    omega (arith, c.loop-packet.invariant.all, length-map yielded view, ap length end.0)
 
 pub returns-clause-ends : goal.returns-clause-ends
 returns-clause-ends g c =

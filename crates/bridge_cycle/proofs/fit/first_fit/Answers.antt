@@ -13,8 +13,8 @@ turn-turn-requires g c =
     let below : c.loop-seen.start ≤ c.requires.some.0 = searched_below _ _ _ _ _ _ c.loop-seen.invariant c.requires.some.1 c.requires.some.3 in
     omega arith
 
-pub loop-seen-smaller-then-turn-class-eq0 : goal.loop-seen-smaller-then-turn-class-eq0
-loop-seen-smaller-then-turn-class-eq0 g c =
+pub loop-seen-smaller-then-not-is_open : goal.loop-seen-smaller-then-not-is_open
+loop-seen-smaller-then-not-is_open g c =
     let below : c.loop-seen.start ≤ c.requires.some.0 = searched_below _ _ _ _ _ _ c.loop-seen.invariant c.requires.some.1 c.requires.some.3 in
     let on : c.loop-seen.seen < c.turn-turn.result.end = g.met.L.Timeline.goes_on _ _ _ c.turn-turn.ensures.lawful c.turn-turn.ensures.turn in
     omega arith
@@ -25,16 +25,16 @@ loop-seen-smaller g c =
     let on : c.loop-seen.seen < c.turn-turn.result.end = g.met.L.Timeline.goes_on _ _ _ c.turn-turn.ensures.lawful c.turn-turn.ensures.turn in
     omega arith
 
-pub loop-seen-preserved-then-turn-class-eq0 : goal.loop-seen-preserved-then-turn-class-eq0
-loop-seen-preserved-then-turn-class-eq0 g c =
+pub loop-seen-preserved-then-not-is_open : goal.loop-seen-preserved-then-not-is_open
+loop-seen-preserved-then-not-is_open g c =
     let turn_at = g.L.Timeline.turn_at c.args.timeline.now in
     let lawful = c.turn-turn.ensures.lawful in
     let on : c.loop-seen.seen < c.turn-turn.result.end = g.met.L.Timeline.goes_on _ _ _ lawful c.turn-turn.ensures.turn in
-    searched_closed _ _ _ _ _ _ c.loop-seen.invariant on c.loop-seen-test.true (λ u p q. shut_there turn_at c.args.class u c.turn-turn.result (same_to_end turn_at (λ t x. g.met.L.Timeline.begins _ t x lawful) (λ t u x. g.met.L.Timeline.same _ t u x lawful) _ _ c.turn-turn.ensures.turn u p q) c.if-turn-class-eq0.true)
+    searched_closed _ _ _ _ _ _ c.loop-seen.invariant on c.loop-seen-test.true (λ u p q. shut_there turn_at c.args.class u c.turn-turn.result _ (same_to_end turn_at (λ t x. g.met.L.Timeline.begins _ t x lawful) (λ t u x. g.met.L.Timeline.same _ t u x lawful) _ _ c.turn-turn.ensures.turn u p q) c.is_open.ensures c.if-not-is_open.true)
 
 pub loop-seen-preserved : goal.loop-seen-preserved
 loop-seen-preserved g c =
     let turn_at = g.L.Timeline.turn_at c.args.timeline.now in
     let lawful = c.turn-turn.ensures.lawful in
     let on : c.loop-seen.seen < c.turn-turn.result.end = g.met.L.Timeline.goes_on _ _ _ lawful c.turn-turn.ensures.turn in
-    searched_open _ _ _ _ _ _ c.loop-seen.invariant on (λ u p q. open_there turn_at c.args.class u c.turn-turn.result (same_to_end turn_at (λ t x. g.met.L.Timeline.begins _ t x lawful) (λ t u x. g.met.L.Timeline.same _ t u x lawful) _ _ c.turn-turn.ensures.turn u p q) c.if-turn-class-eq0.false)
+    searched_open _ _ _ _ _ _ c.loop-seen.invariant on (λ u p q. open_there turn_at c.args.class u c.turn-turn.result _ (same_to_end turn_at (λ t x. g.met.L.Timeline.begins _ t x lawful) (λ t u x. g.met.L.Timeline.same _ t u x lawful) _ _ c.turn-turn.ensures.turn u p q) c.is_open.ensures c.if-not-is_open.false)

@@ -2,4 +2,4 @@ use Rattle.bridge_port.proofs.Alone.{one_outcome}
 use Rattle.bridge_port.proofs.law.alone_follows.Goals as goal
 
 pub returns : goal.returns
-returns c = λ r xs ys s a b. one_outcome r xs ys s a b
+returns g c = λ r xs ys s a b. one_outcome r xs ys s a b

@@ -12,11 +12,11 @@ pub returns-in-Ok-judge-clause-stands : goal.returns-in-Ok-judge-clause-stands
 returns-in-Ok-judge-clause-stands g c = λ text told.
     let octets = c.fill.new.buf in
     let full = subst (Consumes _ _) (take_all c.in-Ok.count octets (omega (arith, c.in-Ok.ensures.count))) c.in-Ok.ensures.bytes in
-    let shown = header_read _ _ text octets told full (search rules) ∙ sym c.in-Ok-judge.ensures in
+    let shown = header_read _ _ text octets told full (search rules) ∙ sym c.in-Ok-judge.ensures.judged in
     begun _ _ text octets c.in-Ok-judge.form told full (search rules) shown
 
 pub returns-in-Err-judge-clause-stands : goal.returns-in-Err-judge-clause-stands
 returns-in-Err-judge-clause-stands g c = λ text told.
     let octets = c.fill.new.buf in
     let full = subst (Consumes _ _) (take_all c.in-Ok.count octets (omega (arith, c.in-Ok.ensures.count))) c.in-Ok.ensures.bytes in
-    begun_fault text (g.R.ByteSource.remaining c.fill.new.source) c.in-Err-judge.fault (header_read _ _ text octets told full (search rules) ∙ sym c.in-Err-judge.ensures)
+    begun_fault text (g.R.ByteSource.remaining c.fill.new.source) c.in-Err-judge.fault (header_read _ _ text octets told full (search rules) ∙ sym c.in-Err-judge.ensures.judged)

@@ -27,6 +27,7 @@ loop-packets-preserved g c =
       reading = search rules;
       refused = λ fault h. absurd (let z = c.in_ok-packet.ensures.again fault (invariant.refused fault h) in cc);
       broken = search rules;
+      sure = λ e. c.in_ok-packet.ensures.lasts (invariant.sure e);
       in_order = rw items (in_order_push c.args.self.now.latest packets packet invariant.in_order (let z = invariant.latest in omega arith) early small within);
       latest = rw items (last_time_push c.args.self.now.latest packets packet ∙ sym latest);
       few = rw (items, size) (let z = invariant.few in omega arith);

@@ -13,6 +13,7 @@ invariant-loop-packets g l =
       reading : IsReading l.fn.self → IsReading l.self;
       refused : (fault : CaptureFault) → HasRefused l.fn.self fault → HasRefused l.self fault;
       broken : has_failed l.fn.source ≡ true → IsReading l.fn.self → has_failed l.source ≡ true;
+      sure : g.R.ByteSource.never_fails l.fn.source ≡ true → g.R.ByteSource.never_fails l.source ≡ true;
       in_order : AreInOrder l.fn.self.latest (views l.packets.items);
       latest : last_time l.fn.self.latest (views l.packets.items) ≡ l.self.latest;
       few : length l.packets.items + records_left l.self ≡ records_left l.fn.self;

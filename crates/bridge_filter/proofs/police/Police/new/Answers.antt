@@ -31,3 +31,6 @@ returns-clause-meters g c = λ n there.
     let meters = c.in_ok-meters_of.field-0 in
     let metered = subst (λ (z : List (ℕ × MeterPlan)). AreMade IsNewMeter z meters.entries) c.deref-3.ensures.value c.in_ok-meters_of.ensures in
     there_made IsNewMeter c.args.meters.items meters.entries n metered there
+
+pub returns-clause-filters : goal.returns-clause-filters
+returns-clause-filters g c = (returns-clause-stands g c).filters

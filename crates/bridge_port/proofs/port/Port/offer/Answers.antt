@@ -1,5 +1,6 @@
 use Rattle.std.proofs.Common.{◌≡◌, sym, None, subst, rules, ◌<◌, refl}
 use Rattle.std.specs.Prelude.{length, slice_index_or}
+use Rattle.bridge_base.specs.declared.TheConstants.{MOST_ARRIVALS}
 use Rattle.bridge_port.specs.Standing.{State, state, refusal_of, IsKept, queue_of}
 use Rattle.bridge_port.proofs.Keeping.{admitted, kept_offered, offered_stands, offered_counts}
 use Rattle.bridge_port.proofs.port.Port.offer.Goals as goal
@@ -15,7 +16,7 @@ invariant_of-self-in-None g c =
     let p = state f.speed f.egress f.rings.items f.free f.earliest f.offered f.started in
     let P : State _ → Type 0 = λ q. refusal_of q c.args.class c.args.item ≡ None in
     let none : refusal_of p c.args.class c.args.item ≡ None = subst P (sym c.self.view_is) (sym (c.in-None.ensures c.args.item refl)) in
-    let Q : State _ → Type 0 = λ q. q.offered < 16000000 in
+    let Q : State _ → Type 0 = λ q. q.offered < MOST_ARRIVALS in
     rw (c.push_at.ensures.queues, c.push_at.ensures.rooms) (kept_offered p c.args.t c.args.class c.args.item c.self.invariant c.requires.class none c.requires.length c.requires.time.1 (subst Q (sym c.self.view_is) c.requires.few))
 
 pub returns-in-Some-clause-moved : goal.returns-in-Some-clause-moved

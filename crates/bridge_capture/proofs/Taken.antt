@@ -1,0 +1,29 @@
+-- What was taken where the octets of a record are refused.
+use Rattle.std.proofs.Common.{◌≡◌, ℕ, ◌+◌, ◌≤◌, ◌<◌, List, ◌++◌, length, Option, sym, subst, inr, arith}
+use Rattle.std.specs.Io.KnownBytes.{Consumes}
+use Rattle.std.proofs.KnownBytes.{Consumes-trans}
+use Rattle.std.proofs.lemmas.List.{length-append}
+use Rattle.bridge_capture.specs.declared.form.Form.{Form}
+use Rattle.bridge_capture.specs.declared.fault.CaptureFault.{CaptureFault}
+use Rattle.bridge_capture.specs.declared.fault.CaptureFault.TheVariants as faults
+use Rattle.bridge_capture.specs.Grammar.{Place, captured_of}
+use Rattle.bridge_capture.specs.Reading.{CutsOctets}
+use Rattle.bridge_capture.specs.Taken.{TakesOfRecord, IsSound}
+use Rattle.bridge_capture.proofs.Fronts.{time_front, captured_front, original_front}
+
+-- words without a fault, with some octets behind them
+sound_more : (form : Form) (place : Place) (w o : List ℕ) → length w ≡ 16 → IsSound form place w → IsSound form place (w ++ o)
+sound_more form place w o len sound = rw (time_front form w o len, captured_front form w o len, original_front form w o len) sound
+
+brief_more : (form : Form) (w o : List ℕ) → length w ≡ 16 → length o < captured_of form w → length (w ++ o) < 16 + captured_of form (w ++ o)
+brief_more form w o len short = omega (arith, length-append w o, captured_front form w o len)
+
+-- a record's octets were refused
+pub octets_taken : (form : Form) (place : Place) (old mid new : Option (List ℕ)) (w : List ℕ) (fault : CaptureFault) → length w ≡ 16 → place.number ≤ 1000000 → IsSound form place w
+    → Consumes old mid w → CutsOctets place.number (captured_of form w) mid new fault → TakesOfRecord form place old new fault
+octets_taken form place old mid new w faults.Read len few sound p (o, short, q) =
+    (w ++ o, (λ many. absurd (omega arith), inr (sound_more form place w o len sound, brief_more form w o len short)), Consumes-trans old mid new w o p q)
+octets_taken form place old mid new w faults.NoMemory len few sound p same = (w, len, sound, subst (λ left. Consumes old left w) (sym same) p)
+octets_taken form place old mid new w fault len few sound p cut =
+    let o = cut.1.1.0 in
+    subst (TakesOfRecord form place old new) (sym cut.0) (w ++ o, inr (sound_more form place w o len sound, brief_more form w o len cut.1.1.1), Consumes-trans old mid new w o p cut.1.1.2)
