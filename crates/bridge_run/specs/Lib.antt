@@ -1,0 +1,5 @@
+pub mod Events
+pub mod Offers
+pub mod Runs
+pub mod Merge
+pub mod Outputs
