@@ -1,0 +1,5 @@
+pub mod Starting
+pub mod Porting
+pub mod Changing
+pub mod Making
+pub mod Fresh

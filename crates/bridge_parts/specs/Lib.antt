@@ -1,0 +1,5 @@
+pub mod Tables
+pub mod Slots
+pub mod Ports
+pub mod Told
+pub mod Counting

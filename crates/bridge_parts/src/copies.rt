@@ -1,0 +1,36 @@
+//! Copies of a frame's octets.
+ghost use Rattle.std.specs.Prelude.{◌≡◌, ◌≤◌, length, IfOk, All};
+ghost use Rattle.bridge_run.specs.Offers.{leaving};
+
+use bridge_cycle::NoMemory;
+use bridge_frame::mark_drop_eligible;
+use std::alloc::{AllocError, Allocator};
+
+/// So many copies of octets.
+pub fn copies_of<A: Allocator + Copy>(
+    alloc: A,
+    octets: &[u8],
+    count: usize,
+) -> Result<Vec<Vec<u8, A>, A>, NoMemory>
+    ensures count { IfOk result (λ copies. length copies.items ≡ count) }
+    ensures octets { IfOk result (λ copies. All (λ v. v.items ≡ octets.now) copies.items) }
+{
+    let mut copies = Vec::with_capacity(alloc, count)?;
+    for _ in 0..count {
+        let copy = Vec::from_slice(alloc, octets)?;
+        copies.push(copy).map_err(AllocError::from)?;
+    }
+    Ok(copies)
+}
+
+/// A frame's octets as they leave: marked where the frame is drop eligible.
+pub fn leave<A: Allocator + Copy>(octets: Vec<u8, A>, eligible: bool) -> Vec<u8, A>
+    ensures marked { result.items ≡ leaving eligible octets.items }
+    ensures kept { length result.items ≡ length octets.items }
+{
+    let mut octets = octets;
+    if eligible {
+        let _tagged = mark_drop_eligible(&mut octets);
+    }
+    octets
+}

@@ -1,0 +1,127 @@
+//! The tables of all filters, by number.
+ghost use Rattle.std.specs.Prelude.{◌≡◌, ℕ, true, ◌+◌, nat_eq, Some, OnOk, OnErr, IfOk, IfSome, length};
+ghost use Rattle.std.specs.Map.{lookup};
+ghost use Rattle.bridge_filter.specs.Plans.{are_distinct, is_there};
+ghost use Rattle.bridge_parts.specs.Told.{fresh, fresh_tables, HasTold};
+ghost use Rattle.bridge_parts.specs.Tables.{TableState, change, change_if, after_answer, departed, judged, released, promised, IsOpen, MayPromise, Owes, OwesSo};
+
+use crate::table::{Table, Told};
+use bridge_cycle::NoMemory;
+use bridge_filter::{FilterPlan, Verdict};
+use bridge_port::Refusal;
+use bridge_run::{Departure, Dropped};
+use indexmap::IndexMap;
+use std::alloc::{AllocError, Allocator};
+use std::hash::{BuildHasherDefault, FoldHasher};
+
+/// A table for each filter, by its number.
+pub type Tables<A> = IndexMap<u32, Table<A>, BuildHasherDefault<FoldHasher>, A>;
+
+/// A fresh table for each filter.
+pub fn tables_of<A: Allocator + Copy>(
+    alloc: A,
+    filters: &[(u32, FilterPlan)],
+) -> Result<Tables<A>, AllocError>
+    requires { are_distinct filters.now ≡ true }
+    ensures { IfOk result (λ tables. tables.entries ≡ fresh_tables filters.now) }
+{
+    let mut tables = IndexMap::with_capacity(alloc, filters.len())?;
+    for (number, _) in filters {
+        tables.insert(*number, Table::new(alloc))?;
+    }
+    Ok(tables)
+}
+
+/// Writes down that a copy of a filter's frame left, so long after the frame came; nothing for a frame without a filter.
+pub fn depart<A: Allocator + Copy>(
+    tables: &mut Tables<A>,
+    flow: Option<u32>,
+    departure: Departure,
+    delay: u64,
+)
+    requires { IfSome flow (Owes tables.old.entries) }
+    ensures { tables.new.entries ≡ change_if flow (λ t. departed t departure delay) tables.old.entries }
+{
+    if let Some(number) = flow {
+        match tables.get_mut(&number) {
+            Some(table) => table.depart(departure, delay),
+            None => unreachable!(),
+        }
+    }
+}
+
+/// Writes down that a copy of a filter's frame was not queued, where that was the answer; nothing for a frame without a
+/// filter.
+pub fn note<A: Allocator + Copy>(
+    tables: &mut Tables<A>,
+    flow: Option<u32>,
+    own: u64,
+    port: u8,
+    answer: Result<(), Refusal>,
+)
+    requires { IfSome flow (Owes tables.old.entries) }
+    ensures { tables.new.entries ≡ after_answer tables.old.entries flow own port answer }
+{
+    if let Err(refusal) = answer
+        && let Some(number) = flow
+    {
+        match tables.get_mut(&number) {
+            Some(table) => table.drop_copy(Dropped { own, port, refusal }),
+            None => unreachable!(),
+        }
+    }
+}
+
+/// Makes room for a verdict of a filter and for so many copies of its frame; nothing for a frame without a filter.
+pub fn promise<A: Allocator + Copy>(
+    tables: &mut Tables<A>,
+    flow: Option<u32>,
+    copies: usize,
+) -> Result<(), NoMemory>
+    requires there { IfSome flow (MayPromise tables.old.entries copies) }
+    ensures ok { OnOk result (tables.new.entries ≡ change_if flow (λ t. promised t copies) tables.old.entries) }
+    ensures err { OnErr result (tables.new.entries ≡ tables.old.entries) }
+{
+    match flow {
+        Some(number) => match tables.get_mut(&number) {
+            Some(table) => table.promise(copies),
+            None => unreachable!(),
+        },
+        None => Ok(()),
+    }
+}
+
+/// Writes a verdict of a filter down, and gives the number of its frame.
+pub fn judge<A: Allocator + Copy>(tables: &mut Tables<A>, number: u32, verdict: Verdict) -> u64
+    requires { IsOpen tables.old.entries number }
+    ensures told { tables.new.entries ≡ change number (λ t. judged t verdict) tables.old.entries }
+    ensures own { (t : TableState) → lookup (nat_eq number) tables.old.entries ≡ Some t → result ≡ length t.verdicts + 1 }
+{
+    match tables.get_mut(&number) {
+        Some(table) => table.judge(verdict),
+        None => unreachable!(),
+    }
+}
+
+/// So many copies of a filter's frame are not offered.
+pub fn release<A: Allocator + Copy>(tables: &mut Tables<A>, number: u32, copies: usize)
+    requires { OwesSo tables.old.entries copies number }
+    ensures { tables.new.entries ≡ change number (λ t. released t copies) tables.old.entries }
+{
+    match tables.get_mut(&number) {
+        Some(table) => table.release(copies),
+        None => unreachable!(),
+    }
+}
+
+/// Moves out what is told of a filter, and leaves a fresh table behind. It takes no memory.
+pub fn take_told<A: Allocator + Copy>(tables: &mut Tables<A>, alloc: A, number: u32) -> Told<A>
+    requires { is_there number tables.old.entries ≡ true }
+    ensures told { (t : TableState) → lookup (nat_eq number) tables.old.entries ≡ Some t → HasTold t result }
+    ensures fresh { tables.new.entries ≡ change number (λ _. fresh) tables.old.entries }
+{
+    match tables.get_mut(&number) {
+        Some(table) => table.take(alloc),
+        None => unreachable!(),
+    }
+}

@@ -1,0 +1,106 @@
+-- The run that a bridge stands for.
+use Rattle.std.proofs.Common.{◌≡◌, ℕ, suc, ◌+◌, ◌<◌, ◌≤◌, List, [], ◌∷◌, arith, refl, ap, ◌∙◌, sym, subst, Option, Some, None}
+use Rattle.std.specs.Prelude.{slice_index_or}
+use Rattle.bridge_capture.specs.Grammar.{Captured}
+use Rattle.bridge_cycle.specs.Cyclic.{Cyclic}
+use Rattle.bridge_frame.specs.Link.{occupied}
+use Rattle.bridge_frame.specs.declared.Speed.{Speed}
+use Rattle.bridge_port.specs.declared.item.Item.{Item}
+use Rattle.bridge_port.specs.Opening.{opens_of, ever_of}
+use Rattle.bridge_port.specs.Schedule.{Copy, IsLawful}
+use Rattle.bridge_port.specs.Seen.{all_seen, SameRooms}
+use Rattle.bridge_port.specs.Solo.{IsWhole}
+use Rattle.bridge_port.specs.Standing.{rules_of, IsDue, IsIdle, NoStartBefore}
+use Rattle.bridge_port.proofs.Ports.{up_to, idle_whole}
+use Rattle.bridge_port.proofs.Watched.{lawful_seen, whole_seen}
+use Rattle.bridge_config.specs.declared.ports.PortPlan.{PortPlan}
+use Rattle.bridge_config.specs.Model.{Plan}
+use Rattle.bridge_config.specs.Rules.{port_at}
+use Rattle.bridge_run.specs.declared.load.Load.{Load}
+use Rattle.bridge_run.specs.Events.{Event}
+use Rattle.bridge_run.specs.Offers.{Carried, carried, egress}
+use Rattle.bridge_run.specs.Outputs.{IsOutput, Reaches}
+use Rattle.bridge_run.specs.Runs.{IsRun, AreWhole}
+use Rattle.bridge_parts.specs.declared.slot.Slot.{Slot}
+use Rattle.bridge_parts.specs.Ports.{slot_at, AreKept, NotBefore}
+use Rattle.bridge_parts.proofs.Porting.{not_late}
+use Rattle.bridge_relay.specs.Relays.{RelayState, Stands, IsSound, seen}
+use Rattle.bridge_parts.specs.Ports.{AreAlike, IsMade}
+use Rattle.bridge_relay.proofs.Relayed.{port_is}
+
+some_is : {X : Type 0} (a b : X) → Some a ≡ Some b → a ≡ b
+some_is a b h = cc
+
+same_rooms : {X : Type 0} (room other : ℕ → ℕ) → ((c : ℕ) → room c ≡ other c) → (xs : List (Copy X)) → SameRooms room other xs
+same_rooms room other h [] = tt
+same_rooms room other h (x ∷ xs) = (h x.class, same_rooms room other h xs)
+
+-- what a port of a plan carries is lawful by the plan
+lawful_out : {A : Type 0} (out : PortPlan A) (s : Slot A) (h : ℕ) (xs : List (Copy (Item (Load A)))) → IsMade out s → IsLawful (rules_of s.port) h xs → IsLawful (egress out) h (all_seen carried xs)
+lawful_out {A} out s h xs m l =
+    let z = lawful_seen carried (rules_of s.port) (λ x. occupied x.len out.speed) (λ c. slice_index_or out.rooms c 0) (λ x. ap (λ (v : Speed). occupied x.len v) (sym m.pace)) h xs (same_rooms (λ c. slice_index_or s.port.rooms c 0) (λ c. slice_index_or out.rooms c 0) (λ c. ap (λ (v : List ℕ). slice_index_or v c 0) m.rooms) xs) l in
+    subst (λ (v : Option (Cyclic ℕ)). IsLawful {X = Carried} (record { opens = opens_of v; ever = ever_of v; room = λ c. slice_index_or out.rooms c 0; occ = λ x. occupied x.len out.speed }) h (all_seen carried xs)) m.list z
+
+-- the port of a bridge that a port of its plan made
+pub record Stood {G A : Type 0} (b : RelayState G A) (q : ℕ) (out : PortPlan A) : Type 0 where
+  pub from : 1 ≤ q
+  pub slot : Slot A
+  pub there : slot_at b.ports q ≡ Some slot
+  pub made : IsMade out slot
+
+slot_of : {A : Type 0} (o : Option (PortPlan A)) (r : Option (Slot A)) (out : PortPlan A) → AreAlike o r → o ≡ Some out → (s : Slot A) × (r ≡ Some s) × IsMade out s
+slot_of None r out a e = absurd (cc)
+slot_of (Some v) None out a e = absurd a
+slot_of (Some v) (Some s) out a e = (s, refl, subst (λ (w : PortPlan _). IsMade w s) (some_is v out e) a)
+
+pub stood : {G A : Type 0} (held : G → ℕ → Option ℕ) (p : Plan A) (b : RelayState G A) → b.plan ≡ p → IsSound held b → (q : ℕ) (out : PortPlan A) → port_at p.ports q ≡ Some out → Stood b q out
+stood {G} {A} held p b same sound q out e =
+    let at : port_at b.plan.ports q ≡ Some out = subst (λ (v : Plan A). port_at v.ports q ≡ Some out) (sym same) e in
+    let is = port_is b.plan.ports q out sound.rules.ports.each at in
+    let low = is.0.number_from in
+    let number = is.1 in
+    let from : 1 ≤ q = omega (arith, low, number) in
+    let s = slot_of (port_at b.plan.ports q) (slot_at b.ports q) out (sound.alike q from) at in
+    record { from = from; slot = s.0; there = s.1; made = s.2 }
+
+-- the run of a bridge up to a moment before which nothing is due
+pub run_of : {G A : Type 0} (held : G → ℕ → Option ℕ) (p : Plan A) (b : RelayState G A) (es : List Event) (left : ℕ → List Captured) (h : ℕ) (st : Stands p b es left) → IsSound held b → AreKept held b.ports.slots b.ports.agenda → b.earliest ≤ h → NotBefore (held b.ports.agenda) h → IsRun p es (λ q. h) (seen st.lists)
+run_of {G} {A} held p b es left h st sound kept late due = record {
+  offers = st.offers;
+  lawful = λ q out e.
+      let s = stood held p b st.plan sound q out e in
+      let early = (sound.early q s.slot s.from s.there).0 in
+      let calm = not_late s.slot.port h (held b.ports.agenda q) (kept.due q s.slot s.from s.there) (λ k at. due q k at) in
+      lawful_out out s.slot h (st.lists q) s.made (up_to s.slot.port (st.lists q) h (st.each q s.slot s.from s.there) (omega (arith, early, late)) calm);
+  others = λ q e. ap (all_seen carried) (st.others q e);
+}
+
+-- what has left the ports of a bridge
+pub output_of : {G A : Type 0} (held : G → ℕ → Option ℕ) (p : Plan A) (b : RelayState G A) (es : List Event) (left : ℕ → List Captured) (st : Stands p b es left) → IsSound held b → (q : ℕ) (out : PortPlan A) → port_at p.ports q ≡ Some out → IsOutput out.speed (seen st.lists q) (left q)
+output_of held p b es left st sound q out e =
+    let s = stood held p b st.plan sound q out e in
+    subst (λ (v : Speed). IsOutput v (seen st.lists q) (left q)) s.made.speed (st.leaves q s.slot s.from s.there).output
+
+pub reaches_of : {G A : Type 0} (held : G → ℕ → Option ℕ) (p : Plan A) (b : RelayState G A) (es : List Event) (left : ℕ → List Captured) (h : ℕ) → Stands p b es left → IsSound held b → AreKept held b.ports.slots b.ports.agenda → b.earliest ≤ h → NotBefore (held b.ports.agenda) h → Reaches p es h left
+reaches_of held p b es left h st sound kept late due = record {
+  lists = seen st.lists;
+  run = run_of held p b es left h st sound kept late due;
+  output = output_of held p b es left st sound;
+}
+
+whole_at : {G A : Type 0} (held : G → ℕ → Option ℕ) (p : Plan A) (b : RelayState G A) (es : List Event) (left : ℕ → List Captured) (st : Stands p b es left) → IsSound held b → AreKept held b.ports.slots b.ports.agenda → ((q : ℕ) → held b.ports.agenda q ≡ None) → (q : ℕ) (o : Option (PortPlan A)) → port_at p.ports q ≡ o → IsWhole (seen st.lists q)
+whole_at {G} {A} held p b es left st sound kept idle q None e = subst (λ (xs : List (Copy (Item (Load A)))). IsWhole (all_seen carried xs)) (sym (st.others q e)) tt
+whole_at held p b es left st sound kept idle q (Some out) e =
+    let s = stood held p b st.plan sound q out e in
+    let none : IsIdle s.slot.port = subst (IsDue s.slot.port) (idle q) (kept.due q s.slot s.from s.there) in
+    whole_seen carried (st.lists q) (idle_whole s.slot.port (st.lists q) (st.each q s.slot s.from s.there) none)
+
+-- where nothing is due nothing is queued
+pub whole_of : {G A : Type 0} (held : G → ℕ → Option ℕ) (p : Plan A) (b : RelayState G A) (es : List Event) (left : ℕ → List Captured) (st : Stands p b es left) → IsSound held b → AreKept held b.ports.slots b.ports.agenda → ((q : ℕ) → held b.ports.agenda q ≡ None) → AreWhole (seen st.lists)
+whole_of held p b es left st sound kept idle q = whole_at held p b es left st sound kept idle q (port_at p.ports q) refl
+
+none_due : (o : Option ℕ) (h k : ℕ) → o ≡ None → o ≡ Some k → h ≤ k
+none_due o h k e f = absurd (cc)
+
+pub not_before_none : (held : ℕ → Option ℕ) (h : ℕ) → ((q : ℕ) → held q ≡ None) → NotBefore held h
+not_before_none held h idle q k e = none_due (held q) h k (idle q) e

@@ -1,0 +1,165 @@
+-- A bridge to which nothing has come.
+use Rattle.std.proofs.Common.{◌≡◌, ℕ, zero, suc, Bool, true, false, ◌+◌, ◌-◌, ◌*◌, ◌<◌, ◌≤◌, List, [], ◌∷◌, length, arith, refl, ap, ◌∙◌, sym, subst, inl, inr, Option, Some, None, slice_index_or}
+use Rattle.std.specs.Prelude.{nat_eq, sum_by, if◌then◌else◌, ◌⊎◌}
+use Rattle.std.specs.Map.{lookup}
+use Rattle.std.specs.Option.{is_some}
+use Rattle.std.proofs.lemmas.List.Sums.{sum_by-cons}
+use Rattle.bridge_base.specs.Members.{In}
+use Rattle.bridge_cycle.proofs.Cases.{by_bool}
+use Rattle.bridge_capture.specs.Grammar.{Captured}
+use Rattle.bridge_check.specs.Acceptable.{IsAcceptable}
+use Rattle.bridge_config.specs.declared.ports.PortPlan.{PortPlan}
+use Rattle.bridge_config.specs.Model.{Plan}
+use Rattle.bridge_config.specs.Rules.{IsPlan, port_at}
+use Rattle.bridge_filter.specs.declared.FilterPlan.{FilterPlan}
+use Rattle.bridge_filter.specs.Plans.{is_there, KeepsNumbers, plans_of}
+use Rattle.bridge_gate.specs.declared.schedule.GatePlan.{GatePlan}
+use Rattle.bridge_meter.specs.declared.MeterPlan.{MeterPlan}
+use Rattle.bridge_filter.specs.Standing as filter
+use Rattle.bridge_port.specs.declared.item.Item.{Item}
+use Rattle.bridge_port.specs.Schedule.{Copy}
+use Rattle.bridge_run.specs.declared.load.Load.{Load}
+use Rattle.bridge_run.specs.declared.outcome.Departure.{Departure}
+use Rattle.bridge_run.specs.declared.outcome.Dropped.{Dropped}
+use Rattle.bridge_run.specs.declared.outcome.PortCount.{PortCount}
+use Rattle.bridge_run.specs.Events.{Event, police_of}
+use Rattle.bridge_run.specs.Offers.{Carried}
+use Rattle.bridge_run.specs.Outputs.{IsOutput}
+use Rattle.bridge_run.specs.Runs.{IsTold, IsCount, AtPort}
+use Rattle.bridge_parts.specs.declared.slot.Slot.{Slot}
+use Rattle.bridge_parts.specs.Ports.{slot_in, slot_at, AreAlike, IsFirst, IsMade, IsNew}
+use Rattle.bridge_parts.specs.Tables.{TableState}
+use Rattle.bridge_parts.specs.Told.{fresh, fresh_tables}
+use Rattle.bridge_relay.specs.Relays.{RelayState, HasLeft, IsKept, IsSound, Stands, count_in, count_all, is_wrong, is_of}
+
+-- what a bridge is made of
+pub record IsMadeOf {G A : Type 0} (held : G → ℕ → Option ℕ) (b : RelayState G A) : Type 0 where
+  pub rules : IsPlan b.plan
+  pub acceptable : IsAcceptable b.plan
+  pub streams : b.streams ≡ b.plan.streams
+  pub police : filter.Stands (police_of b.plan) b.police []
+  pub gates : KeepsNumbers b.plan.gates b.police.gates
+  pub meters : KeepsNumbers b.plan.meters b.police.meters
+  pub ports : (q : ℕ) → 1 ≤ q → IsFirst (port_at b.plan.ports q) (slot_at b.ports q)
+  pub none_due : (q : ℕ) → held b.ports.agenda q ≡ None
+  pub tables : b.tables ≡ fresh_tables b.plan.filters
+  pub arrived : b.arrived ≡ 0
+  pub earliest : b.earliest ≡ 0
+
+pub made_of : {G A : Type 0} (held : G → ℕ → Option ℕ) (b : RelayState G A) (p : Plan A) (filters : List (ℕ × FilterPlan)) (gates : List (ℕ × GatePlan A)) (meters : List (ℕ × MeterPlan)) → b.plan ≡ p → IsPlan p → IsAcceptable p → b.streams ≡ b.plan.streams → filters ≡ b.plan.filters → gates ≡ b.plan.gates → meters ≡ b.plan.meters → filter.Stands (plans_of filters gates meters) b.police [] → KeepsNumbers gates b.police.gates → KeepsNumbers meters b.police.meters → ((q : ℕ) → 1 ≤ q → IsFirst (port_at b.plan.ports q) (slot_at b.ports q)) → ((q : ℕ) → held b.ports.agenda q ≡ None) → b.tables ≡ fresh_tables b.plan.filters → b.arrived ≡ 0 → b.earliest ≡ 0 → IsMadeOf held b
+made_of {G} {A} held b p filters gates meters plan rules acceptable streams f g m police keeps_gates keeps_meters ports none tables arrived earliest = record {
+  rules = subst IsPlan (sym plan) rules;
+  acceptable = subst IsAcceptable (sym plan) acceptable;
+  streams = streams;
+  police = subst (λ (z : List (ℕ × FilterPlan)). filter.Stands (plans_of z b.plan.gates b.plan.meters) b.police []) f
+      (subst (λ (z : List (ℕ × GatePlan A)). filter.Stands (plans_of filters z b.plan.meters) b.police []) g
+      (subst (λ (z : List (ℕ × MeterPlan)). filter.Stands (plans_of filters gates z) b.police []) m police));
+  gates = subst (λ (z : List (ℕ × GatePlan A)). KeepsNumbers z b.police.gates) g keeps_gates;
+  meters = subst (λ (z : List (ℕ × MeterPlan)). KeepsNumbers z b.police.meters) m keeps_meters;
+  ports = ports;
+  none_due = none;
+  tables = tables;
+  arrived = arrived;
+  earliest = earliest;
+}
+
+some_is : {X : Type 0} (a b : X) → Some a ≡ Some b → a ≡ b
+some_is a b h = cc
+
+alike_first : {A : Type 0} (o : Option (PortPlan A)) (r : Option (Slot A)) → IsFirst o r → AreAlike o r
+alike_first None None f = tt
+alike_first None (Some s) f = absurd f
+alike_first (Some out) None f = absurd f
+alike_first (Some out) (Some s) f = f.0
+
+new_first : {A : Type 0} (o : Option (PortPlan A)) (r : Option (Slot A)) (s : Slot A) → IsFirst o r → r ≡ Some s → IsNew s
+new_first o None s f e = absurd (cc)
+new_first None (Some v) s f e = absurd f
+new_first (Some out) (Some v) s f e = subst IsNew (some_is v s e) f.1
+
+count_first : {A : Type 0} (f : Item (Load A) → Bool) (o : Option (PortPlan A)) (r : Option (Slot A)) → IsFirst o r → count_in f r ≡ 0
+count_first f o None h = refl
+count_first f None (Some s) h = absurd h
+count_first f (Some out) (Some s) h = h.1.empty f
+
+sum_none : {A : Type 0} (f : Item (Load A) → Bool) (slots : List (Option (Slot A))) → ((k : ℕ) → count_in f (slice_index_or slots k None) ≡ 0) → sum_by (count_in f) slots ≡ 0
+sum_none f [] h = refl
+sum_none f (o ∷ slots) h = let a = h 0 in let b = sum_none f slots (λ k. h (suc k)) in let c = sum_by-cons (count_in f) o slots in omega (arith, a, b, c)
+
+none_queued : {G A : Type 0} (held : G → ℕ → Option ℕ) (b : RelayState G A) → IsMadeOf held b → (f : Item (Load A) → Bool) → count_all f b.ports ≡ 0
+none_queued {G} {A} held b m f = sum_none f b.ports.slots (λ k.
+    let place : k + 1 - 1 ≡ k = omega arith in
+    subst (λ (i : ℕ). count_in f (slice_index_or b.ports.slots i None) ≡ 0) place (count_first f (port_at b.plan.ports (k + 1)) (slot_at b.ports (k + 1)) (m.ports (k + 1) (omega arith))))
+
+fresh_at : (fs : List (ℕ × FilterPlan)) (n : ℕ) (t : TableState) → lookup (nat_eq n) (fresh_tables fs) ≡ Some t → t ≡ fresh
+fresh_at [] n t h = absurd (cc)
+fresh_at (f ∷ fs) n t h = by_bool (nat_eq n f.0)
+    (λ e. sym (some_is fresh t (rw e at h)))
+    (λ e. fresh_at fs n t (rw e at h))
+
+fresh_there : (fs : List (ℕ × FilterPlan)) (n : ℕ) → is_there n (fresh_tables fs) ≡ is_there n fs
+fresh_there [] n = refl
+fresh_there (f ∷ fs) n = by_bool (nat_eq n f.0) (λ e. rw e refl) (λ e. rw e (fresh_there fs n))
+
+table_is : {G A : Type 0} (held : G → ℕ → Option ℕ) (b : RelayState G A) → IsMadeOf held b → (n : ℕ) (t : TableState) → lookup (nat_eq n) b.tables ≡ Some t → t ≡ fresh
+table_is held b m n t e = fresh_at b.plan.filters n t (subst (λ (z : List (ℕ × TableState)). lookup (nat_eq n) z ≡ Some t) m.tables e)
+
+pub first_sound : {G A : Type 0} (held : G → ℕ → Option ℕ) (b : RelayState G A) → IsMadeOf held b → IsSound held b
+first_sound {G} {A} held b m =
+    let calls = m.police.calls in
+    let asked = m.police.earliest in
+    let arrived = m.arrived in
+    let new : (q : ℕ) (s : Slot A) → 1 ≤ q → slot_at b.ports q ≡ Some s → IsNew s = λ q s l e. new_first (port_at b.plan.ports q) (slot_at b.ports q) s (m.ports q l) e in
+    record {
+      rules = m.rules;
+      acceptable = m.acceptable;
+      identified = m.streams;
+      filters = m.police.filters;
+      gates = m.gates;
+      meters = m.meters;
+      asked = omega (arith, asked);
+      few = (omega (arith, calls), omega (arith, arrived));
+      alike = λ q l. alike_first (port_at b.plan.ports q) (slot_at b.ports q) (m.ports q l);
+      early = λ q s l e. (let x = (new q s l e).earliest in omega (arith, x), let y = (new q s l e).offered in omega (arith, y));
+      frames = λ q s l e. (let x : s.count.frames ≡ 0 = ap (λ (c : PortCount). c.frames) (new q s l e).count in omega (arith, x));
+      right = none_queued held b m (is_wrong b.plan.filters);
+      there = λ n h. subst (λ (z : List (ℕ × TableState)). is_there n z ≡ true) (sym m.tables) (fresh_there b.plan.filters n ∙ h);
+      each = λ n t e. subst (IsKept held b n) (sym (table_is held b m n t e)) (record {
+        covered = let x = none_queued held b m (is_of n) in omega (arith, x);
+        few = omega arith;
+        departures = tt;
+        left = λ d i. absurd i;
+        drops = tt;
+        dropped = λ d i. absurd i;
+      });
+    }
+
+none_told : {A : Type 0} (p : Plan A) (n : ℕ) → IsTold p n (AtPort (λ q. [])) [] [] None
+none_told p n = record {
+  departures_rise = tt;
+  departures_are = λ d. ((λ i. absurd i), (λ h. absurd h.lies));
+  drops_rise = tt;
+  drops_are = λ d. ((λ i. absurd i), (λ h. absurd h.lies));
+  longest = λ k h. absurd h.lies;
+}
+
+pub first_stands : {G A : Type 0} (held : G → ℕ → Option ℕ) (b : RelayState G A) → IsMadeOf held b → Stands b.plan b [] (λ q. [])
+first_stands {G} {A} held b m =
+    let new : (q : ℕ) (s : Slot A) → 1 ≤ q → slot_at b.ports q ≡ Some s → IsNew s = λ q s l e. new_first (port_at b.plan.ports q) (slot_at b.ports q) s (m.ports q l) e in
+    record {
+      plan = refl;
+      police = m.police;
+      lists = λ q. [];
+      others = λ q e. refl;
+      each = λ q s l e. (new q s l e).stands;
+      offers = λ q out e. refl;
+      verdicts = λ n t e. ap (λ (v : TableState). v.verdicts) (table_is held b m n t e);
+      told = λ n t e. subst (λ (v : TableState). IsTold b.plan n (AtPort (λ q. [])) v.departures v.drops v.delay) (sym (table_is held b m n t e)) (none_told b.plan n);
+      counts = λ q s l e. subst (IsCount b.plan [] q []) (sym (new q s l e).count) (record { frames = refl; malformed = refl; nowhere = refl; unfiltered = refl; sent = refl; dropped = refl });
+      leaves = λ q s l e. record {
+        output = record { rises = tt; members = λ d. ((λ i. absurd i), (λ h. absurd h.listed)) };
+        before = λ d i. absurd i;
+        many = (new q s l e).started;
+      };
+      arrived = m.arrived;
+    }

@@ -1,0 +1,209 @@
+-- A frame that is policed, as an event.
+use Rattle.std.proofs.Common.{◌≡◌, ℕ, suc, Bool, true, false, ◌+◌, ◌-◌, ◌<◌, ◌≤◌, List, [], ◌∷◌, ◌++◌, length, arith, refl, ap, ◌∙◌, sym, subst, Option, Some, None, slice_set, append-nil}
+use Rattle.std.specs.Prelude.{nat_eq, not, count_by, is_none, if◌then◌else◌, ◌&&◌}
+use Rattle.std.specs.Map.{lookup}
+use Rattle.std.proofs.lemmas.Bool.Decides.{nat_tests}
+use Rattle.bridge_cycle.proofs.Cases.{by_bool}
+use Rattle.bridge_capture.specs.Grammar.{Captured}
+use Rattle.bridge_filter.specs.declared.FilterPlan.{FilterPlan}
+use Rattle.bridge_filter.specs.declared.Ruling.{Ruling}
+use Rattle.bridge_filter.specs.declared.Verdict.{Verdict}
+use Rattle.bridge_filter.specs.Counts.{verdicts_of}
+use Rattle.bridge_filter.specs.Standing as filter
+use Rattle.bridge_filter.specs.Verdicts as verdicts
+use Rattle.bridge_port.specs.Schedule.{Copy, is_accepted}
+use Rattle.bridge_port.specs.Standing.{StandsFor}
+use Rattle.bridge_config.specs.declared.ports.PortPlan.{PortPlan}
+use Rattle.bridge_config.specs.Model.{Plan}
+use Rattle.bridge_config.specs.Rules.{port_at}
+use Rattle.bridge_run.specs.declared.outcome.PortCount.{PortCount}
+use Rattle.bridge_run.specs.declared.way.Way.{Way}
+use Rattle.bridge_run.specs.declared.way.Way.TheVariants.{Goes}
+use Rattle.bridge_run.specs.Events.{Arrival, Event, Arrived, arrivals, and_call, call_by, call_of, calls, flow_by, flow_of, metered, police_of, steps, way_of}
+use Rattle.bridge_run.specs.Offers.{Carried, Offer, offers}
+use Rattle.bridge_run.specs.Runs.{IsTold, AtPort, IsCount, count_frames, is_malformed, is_nowhere, is_relayed, is_unfiltered}
+use Rattle.bridge_parts.specs.declared.slot.Slot.{Slot}
+use Rattle.bridge_parts.specs.declared.slot.Came.{Came}
+use Rattle.bridge_parts.specs.declared.slot.Came.TheVariants as came
+use Rattle.bridge_parts.specs.Slots.{counted_frame}
+use Rattle.bridge_parts.specs.Tables.{TableState, change, judged, released}
+use Rattle.bridge_parts.specs.Ports.{slot_at}
+use Rattle.bridge_relay.specs.Relays.{RelayState, HasLeft, Stands, is_flow, seen}
+use Rattle.bridge_relay.specs.declared.relay.Seen.{Seen}
+use Rattle.bridge_relay.specs.Relaying.{Carries, CountTheSame, HasRuled, called, came_as, goes, judged_by, one_less}
+use Rattle.bridge_relay.proofs.Sound.{IsChangedFrom, changed}
+use Rattle.bridge_relay.proofs.Passing.{counting, passed_here, passed_there, counts_more, counts_same}
+use Rattle.bridge_relay.proofs.Leaving.{left_same}
+use Rattle.bridge_relay.proofs.Relayed.{HasCounted, stands_of}
+
+-- What came of the frame.
+
+pub unfiltered_step : (p : verdicts.Plans) (ss : List verdicts.Step) (c : verdicts.Call) (o : Option (ℕ × FilterPlan)) → None ≡ verdicts.ruled (verdicts.judged p ss c o) → verdicts.judged p ss c o ≡ verdicts.Unfiltered c
+unfiltered_step p ss c None h = refl
+unfiltered_step p ss c (Some f) h = absurd (cc)
+
+pub judged_step : (p : verdicts.Plans) (ss : List verdicts.Step) (c : verdicts.Call) (o : Option (ℕ × FilterPlan)) (r : Ruling) → Some r ≡ verdicts.ruled (verdicts.judged p ss c o) → (f : FilterPlan) × (verdicts.judged p ss c o ≡ verdicts.Judged c r.filter f r.verdict)
+judged_step p ss c None r h = absurd (cc)
+judged_step p ss c (Some f) r h =
+    let is : r ≡ record { filter = f.0; verdict = verdicts.verdict_of p ss c f.0 f.1 } = same_ruling r (record { filter = f.0; verdict = verdicts.verdict_of p ss c f.0 f.1 }) h in
+    (f.1, ap (λ (z : Ruling). verdicts.Judged c z.filter f.1 z.verdict) (sym is)) where
+      same_ruling : (a b : Ruling) → Some a ≡ Some b → a ≡ b
+      same_ruling a b e = cc
+
+-- a filter's verdicts once a frame was policed
+verdicts_by : (b : Bool) (t : TableState) (v : Verdict) → (if b then judged t v else t).verdicts ≡ t.verdicts ++ (if b then v ∷ [] else [])
+verdicts_by true t v = refl
+verdicts_by false t v = sym (append-nil t.verdicts)
+
+pub verdicts_ruled : (p : verdicts.Plans) (ss : List verdicts.Step) (c : verdicts.Call) (o : Option (ℕ × FilterPlan)) (r : Option Ruling) (old new : List (ℕ × TableState)) (n : ℕ) (t : TableState) → r ≡ verdicts.ruled (verdicts.judged p ss c o) → new ≡ judged_by r old → lookup (nat_eq n) new ≡ Some t → ((w : TableState) → lookup (nat_eq n) old ≡ Some w → w.verdicts ≡ verdicts_of n ss) → t.verdicts ≡ verdicts_of n (verdicts.judged p ss c o ∷ ss)
+verdicts_ruled p ss c o None old new n t h tables found was =
+    was t (subst (λ (z : List (ℕ × TableState)). lookup (nat_eq n) z ≡ Some t) tables found) ∙ ap (λ (s : verdicts.Step). verdicts_of n (s ∷ ss)) (sym (unfiltered_step p ss c o h))
+verdicts_ruled p ss c o (Some r) old new n t h tables found was =
+    let d = changed (Some r.filter) (λ (w : TableState). judged w r.verdict) old n t (subst (λ (z : List (ℕ × TableState)). lookup (nat_eq n) z ≡ Some t) tables found) in
+    let s = judged_step p ss c o r h in
+    ap (λ (w : TableState). w.verdicts) d.is ∙ (verdicts_by (nat_eq r.filter n) d.was r.verdict ∙ (ap (λ (z : List Verdict). z ++ (if nat_eq r.filter n then r.verdict ∷ [] else [])) (was d.was d.there) ∙ ap (λ (z : verdicts.Step). verdicts_of n (z ∷ ss)) (sym s.1)))
+
+-- What the port of the frame counts.
+
+not_left : (a b : Bool) → a ≡ false → (a && b) ≡ false
+not_left a b h = rw h refl
+
+not_right : (a b : Bool) → b ≡ false → (a && b) ≡ false
+not_right true b h = h
+not_right false b h = refl
+
+none_ruled : (p : verdicts.Plans) (ss : List verdicts.Step) (c : verdicts.Call) (o : Option (ℕ × FilterPlan)) → is_none o ≡ is_none (verdicts.ruled (verdicts.judged p ss c o))
+none_ruled p ss c None = refl
+none_ruled p ss c (Some f) = refl
+
+-- what is known of a frame that goes somewhere once it was policed
+pub record IsPoliced {A : Type 0} (p : Plan A) (es : List Event) (a : Arrival) (set : ℕ) (sees : Seen) (r : Option Ruling) : Type 0 where
+  pub way : way_of p a ≡ goes set sees
+  pub answer : r ≡ verdicts.ruled (verdicts.judged (police_of p) (steps p es) (called a.at a.len sees) (verdicts.flow p.filters (called a.at a.len sees)))
+
+call_is : {A : Type 0} (p : Plan A) (es : List Event) (a : Arrival) (set : ℕ) (sees : Seen) (r : Option Ruling) → IsPoliced p es a set sees r → call_of p a ≡ Some (called a.at a.len sees)
+call_is p es a set sees r h = ap (call_by a) h.way
+
+calls_are : {A : Type 0} (p : Plan A) (es : List Event) (a : Arrival) (set : ℕ) (sees : Seen) (r : Option Ruling) → IsPoliced p es a set sees r → calls p (Arrived a ∷ es) ≡ verdicts.Came (called a.at a.len sees) ∷ calls p es
+calls_are p es a set sees r h = ap (λ (o : Option verdicts.Call). and_call o (calls p es)) (call_is p es a set sees r h)
+
+steps_are : {A : Type 0} (p : Plan A) (es : List Event) (a : Arrival) (set : ℕ) (sees : Seen) (r : Option Ruling) → IsPoliced p es a set sees r → steps p (Arrived a ∷ es) ≡ verdicts.judged (police_of p) (steps p es) (called a.at a.len sees) (verdicts.flow p.filters (called a.at a.len sees)) ∷ steps p es
+steps_are p es a set sees r h = ap (verdicts.told (police_of p)) (calls_are p es a set sees r h)
+
+unfiltered_is : {A : Type 0} (p : Plan A) (es : List Event) (a : Arrival) (set : ℕ) (sees : Seen) (r : Option Ruling) → IsPoliced p es a set sees r → is_unfiltered p a ≡ is_none r
+unfiltered_is p es a set sees r h =
+    ap (λ (w : Way). is_relayed w && is_none (flow_of p a)) h.way
+    ∙ (ap (λ (o : Option verdicts.Call). is_none (flow_by p o)) (call_is p es a set sees r h)
+    ∙ (none_ruled (police_of p) (steps p es) (called a.at a.len sees) (verdicts.flow p.filters (called a.at a.len sees)) ∙ ap is_none (sym h.answer)))
+
+counted_elsewhere : {A : Type 0} (p : Plan A) (es : List Event) (a : Arrival) (q : ℕ) (c : PortCount) → nat_eq a.port q ≡ false → HasCounted p es q c → HasCounted p (Arrived a ∷ es) q c
+counted_elsewhere p es a q c other k = record {
+  frames = k.frames ∙ sym (counts_same q (λ b. true) a es (not_left (nat_eq a.port q) true other));
+  malformed = k.malformed ∙ sym (counts_same q (λ b. is_malformed (way_of p b)) a es (not_left (nat_eq a.port q) (is_malformed (way_of p a)) other));
+  nowhere = k.nowhere ∙ sym (counts_same q (λ b. is_nowhere (way_of p b)) a es (not_left (nat_eq a.port q) (is_nowhere (way_of p a)) other));
+  unfiltered = k.unfiltered ∙ sym (counts_same q (is_unfiltered p) a es (not_left (nat_eq a.port q) (is_unfiltered p a) other));
+}
+
+counted_here : {A : Type 0} (p : Plan A) (es : List Event) (a : Arrival) (set : ℕ) (sees : Seen) (q : ℕ) (c : PortCount) (r : Option Ruling) → IsPoliced p es a set sees r → nat_eq a.port q ≡ true → HasCounted p es q c → HasCounted p (Arrived a ∷ es) q (counted_frame c (came_as r))
+counted_here p es a set sees q c None h here k = record {
+  frames = ap (λ (n : ℕ). n + 1) k.frames ∙ sym (counts_more q (λ b. true) a es here refl);
+  malformed = k.malformed ∙ sym (counts_same q (λ b. is_malformed (way_of p b)) a es (not_right (nat_eq a.port q) (is_malformed (way_of p a)) (ap is_malformed h.way)));
+  nowhere = k.nowhere ∙ sym (counts_same q (λ b. is_nowhere (way_of p b)) a es (not_right (nat_eq a.port q) (is_nowhere (way_of p a)) (ap is_nowhere h.way)));
+  unfiltered = ap (λ (n : ℕ). n + 1) k.unfiltered ∙ sym (counts_more q (is_unfiltered p) a es here (unfiltered_is p es a set sees None h));
+}
+counted_here p es a set sees q c (Some r) h here k = record {
+  frames = ap (λ (n : ℕ). n + 1) k.frames ∙ sym (counts_more q (λ b. true) a es here refl);
+  malformed = k.malformed ∙ sym (counts_same q (λ b. is_malformed (way_of p b)) a es (not_right (nat_eq a.port q) (is_malformed (way_of p a)) (ap is_malformed h.way)));
+  nowhere = k.nowhere ∙ sym (counts_same q (λ b. is_nowhere (way_of p b)) a es (not_right (nat_eq a.port q) (is_nowhere (way_of p a)) (ap is_nowhere h.way)));
+  unfiltered = k.unfiltered ∙ sym (counts_same q (is_unfiltered p) a es (not_right (nat_eq a.port q) (is_unfiltered p a) (unfiltered_is p es a set sees (Some r) h)));
+}
+
+counted_same : {A : Type 0} (p : Plan A) (es : List Event) (q : ℕ) (c d : PortCount) → CountTheSame c d → HasCounted p es q d → HasCounted p es q c
+counted_same p es q c d s k = record { frames = s.frames ∙ k.frames; malformed = s.malformed ∙ k.malformed; nowhere = s.nowhere ∙ k.nowhere; unfiltered = s.unfiltered ∙ k.unfiltered }
+
+counted_of : {A : Type 0} (p : Plan A) (es : List Event) (q : ℕ) (xs : List (Copy Carried)) (c : PortCount) → IsCount p es q xs c → HasCounted p es q c
+counted_of p es q xs c k = record { frames = k.frames; malformed = k.malformed; nowhere = k.nowhere; unfiltered = k.unfiltered }
+
+-- What the relay carries.
+
+sent_still : (c : PortCount) (v : Came) → (counted_frame c v).sent ≡ c.sent
+sent_still c came.Malformed = refl
+sent_still c came.Nowhere = refl
+sent_still c came.Unfiltered = refl
+sent_still c came.Policed = refl
+
+dropped_still : (c : PortCount) (v : Came) → (counted_frame c v).dropped ≡ c.dropped
+dropped_still c came.Malformed = refl
+dropped_still c came.Nowhere = refl
+dropped_still c came.Unfiltered = refl
+dropped_still c came.Policed = refl
+
+told_judged : {A : Type 0} (p : Plan A) (lists : ℕ → List (Copy Carried)) (n : ℕ) (b : Bool) (t : TableState) (v : Verdict) → IsTold p n (AtPort lists) t.departures t.drops t.delay → IsTold p n (AtPort lists) (if b then judged t v else t).departures (if b then judged t v else t).drops (if b then judged t v else t).delay
+told_judged p lists n true t v h = h
+told_judged p lists n false t v h = h
+
+told_ruled : {A : Type 0} (p : Plan A) (lists : ℕ → List (Copy Carried)) (r : Option Ruling) (old new : List (ℕ × TableState)) (n : ℕ) (t : TableState) → new ≡ judged_by r old → lookup (nat_eq n) new ≡ Some t → ((w : TableState) → lookup (nat_eq n) old ≡ Some w → IsTold p n (AtPort lists) w.departures w.drops w.delay) → IsTold p n (AtPort lists) t.departures t.drops t.delay
+told_ruled p lists None old new n t tables found was = was t (subst (λ (z : List (ℕ × TableState)). lookup (nat_eq n) z ≡ Some t) tables found)
+told_ruled p lists (Some r) old new n t tables found was =
+    let d = changed (Some r.filter) (λ (w : TableState). judged w r.verdict) old n t (subst (λ (z : List (ℕ × TableState)). lookup (nat_eq n) z ≡ Some t) tables found) in
+    subst (λ (w : TableState). IsTold p n (AtPort lists) w.departures w.drops w.delay) (sym d.is) (told_judged p lists n (nat_eq r.filter n) d.was r.verdict (was d.was d.there))
+
+-- the copies of the ports, and what they tell, stay where a frame is policed
+pub carries_ruled : {G A : Type 0} (p : Plan A) (old new : RelayState G A) (q : ℕ) (s : Slot A) (c : verdicts.Call) (r : Option Ruling) (es : List Event) (left : ℕ → List Captured) → HasRuled old new q s c r → slot_at old.ports q ≡ Some s → 1 ≤ q → Stands p (one_less old) es left → Carries p new (λ k out. offers p out es) left
+carries_ruled {G} {A} p old new q s c r es left h there low st =
+    let v = came_as r in
+    let same : (k : ℕ) (w : Slot A) → nat_eq k q ≡ true → slot_at new.ports k ≡ Some w → counting s v ≡ w = λ k w y at. passed_here old new q s v h.slots there k w y at in
+    let back : (k : ℕ) → nat_eq k q ≡ true → q ≡ k = λ k y. grind (arith, nat_tests) in
+    record {
+      lists = st.lists;
+      others = st.others;
+      each = λ k w l at. by_bool (nat_eq k q)
+          (λ y. subst (λ (z : Slot A). StandsFor z.port (st.lists k)) (same k w y at) (subst (λ (m : ℕ). StandsFor s.port (st.lists m)) (back k y) (st.each q s low there)))
+          (λ y. st.each k w l (sym (passed_there old new q s v h.slots low k l y) ∙ at));
+      offers = st.offers;
+      told = λ n t found. told_ruled p (seen st.lists) r old.tables new.tables n t h.tables found (λ w e. st.told n w e);
+      sent = λ k w l at. by_bool (nat_eq k q)
+          (λ y. subst (λ (z : Slot A). z.count.sent ≡ count_by (λ x. is_accepted x.fate) (seen st.lists k)) (same k w y at) (subst (λ (m : ℕ). (counting s v).count.sent ≡ count_by (λ x. is_accepted x.fate) (seen st.lists m)) (back k y) (sent_still s.count v ∙ (st.counts q s low there).sent)))
+          (λ y. (st.counts k w l (sym (passed_there old new q s v h.slots low k l y) ∙ at)).sent);
+      dropped = λ k w l at. by_bool (nat_eq k q)
+          (λ y. subst (λ (z : Slot A). z.count.dropped ≡ count_by (λ x. not (is_accepted x.fate)) (seen st.lists k)) (same k w y at) (subst (λ (m : ℕ). (counting s v).count.dropped ≡ count_by (λ x. not (is_accepted x.fate)) (seen st.lists m)) (back k y) (dropped_still s.count v ∙ (st.counts q s low there).dropped)))
+          (λ y. (st.counts k w l (sym (passed_there old new q s v h.slots low k l y) ∙ at)).dropped);
+      leaves = λ k w l at. by_bool (nat_eq k q)
+          (λ y. subst (λ (z : Slot A). HasLeft z (seen st.lists k) (left k)) (same k w y at) (subst (λ (m : ℕ). HasLeft (counting s v) (seen st.lists m) (left m)) (back k y) (left_same s (counting s v) (seen st.lists q) (left q) refl refl refl (st.leaves q s low there))))
+          (λ y. st.leaves k w l (sym (passed_there old new q s v h.slots low k l y) ∙ at));
+    }
+
+-- what the relay has after a frame was offered: the verdicts and the counts of frames of before
+pub record IsAfter {G A : Type 0} (ruled last : RelayState G A) : Type 0 where
+  pub plan : last.plan ≡ ruled.plan
+  pub police : last.police ≡ ruled.police
+  pub arrived : last.arrived ≡ ruled.arrived
+  pub verdicts : (n : ℕ) (t : TableState) → lookup (nat_eq n) last.tables ≡ Some t → (w : TableState) × (lookup (nat_eq n) ruled.tables ≡ Some w) × (t.verdicts ≡ w.verdicts)
+  pub counted : (q : ℕ) (s : Slot A) → 1 ≤ q → slot_at last.ports q ≡ Some s → (w : Slot A) × (slot_at ruled.ports q ≡ Some w) × CountTheSame s.count w.count
+
+-- the relay stands for one event more, a frame that was policed
+pub stands_policed : {G A : Type 0} (p : Plan A) (es : List Event) (left : ℕ → List Captured) (a : Arrival) (old ruled last : RelayState G A) (s : Slot A) (set : ℕ) (sees : Seen) (r : Option Ruling) (os : ℕ → PortPlan A → List Offer) → Stands p (one_less old) es left → IsPoliced p es a set sees r → HasRuled old ruled a.port s (called a.at a.len sees) r → slot_at old.ports a.port ≡ Some s → 1 ≤ a.port → 1 ≤ old.arrived → IsAfter ruled last → Carries p last os left → ((q : ℕ) (out : PortPlan A) → port_at p.ports q ≡ Some out → os q out ≡ offers p out (Arrived a ∷ es)) → Stands p last (Arrived a ∷ es) left
+stands_policed {G} {A} p es left a old ruled last s set sees r os st po h there low came after carries same =
+    let v = came_as r in
+    let steps_now = steps_are p es a set sees r po in
+    stands_of p last (Arrived a ∷ es) os left
+    (after.plan ∙ (h.plan ∙ st.plan))
+    (subst (λ (z : filter.PoliceState A). filter.Stands (police_of p) z (calls p (Arrived a ∷ es))) (sym after.police) (subst (filter.Stands (police_of p) ruled.police) (sym (calls_are p es a set sees r po)) (h.police (police_of p) (calls p es) st.police)))
+    carries same
+    (λ n t found.
+    let w = after.verdicts n t found in
+    w.2 ∙ (verdicts_ruled (police_of p) (steps p es) (called a.at a.len sees) (verdicts.flow p.filters (called a.at a.len sees)) r old.tables ruled.tables n w.0 po.answer h.tables w.1 (λ u e. st.verdicts n u e) ∙ ap (verdicts_of n) (sym steps_now)))
+    (λ q u l at.
+    let w = after.counted q u l at in
+    counted_same p (Arrived a ∷ es) q u.count w.0.count w.2 (by_bool (nat_eq q a.port)
+    (λ y.
+    let is : a.port ≡ q = grind (arith, nat_tests) in
+    let here : nat_eq a.port q ≡ true = grind (arith, nat_tests) in
+    subst (λ (z : Slot A). HasCounted p (Arrived a ∷ es) q z.count) (passed_here old ruled a.port s v h.slots there q w.0 y w.1)
+    (counted_here p es a set sees q s.count r po here (subst (λ (m : ℕ). HasCounted p es m s.count) is (counted_of p es a.port (seen st.lists a.port) s.count (st.counts a.port s low there)))))
+    (λ y.
+    let other : nat_eq a.port q ≡ false = by_bool (nat_eq a.port q) (λ z. absurd (let k : nat_eq q a.port ≡ true = grind (arith, nat_tests) in let u : true ≡ false = sym k ∙ y in cc)) (λ z. z) in
+    counted_elsewhere p es a q w.0.count other (counted_of p es q (seen st.lists q) w.0.count (st.counts q w.0 l (sym (passed_there old ruled a.port s v h.slots low q l y) ∙ w.1))))))
+    (let x = after.arrived in let y = h.arrived in let z = st.arrived in let n : last.arrived ≡ length (arrivals es) + 1 = omega arith in n ∙ one_longer (arrivals es) a) where
+      one_longer : (xs : List Arrival) (x : Arrival) → length xs + 1 ≡ length (x ∷ xs)
+      one_longer xs x = omega arith

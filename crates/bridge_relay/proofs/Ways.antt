@@ -1,0 +1,75 @@
+-- Where a frame goes.
+use Rattle.std.proofs.Common.{◌≡◌, ℕ, Bool, true, false, ◌≤◌, List, arith, refl, ap, ◌∙◌, sym, subst, Option, Some, None, Result, Ok, Err}
+use Rattle.std.specs.Option.{ForSome}
+use Rattle.std.specs.Prelude.{nat_eq, if◌then◌else◌}
+use Rattle.bridge_frame.specs.declared.Head.{Head}
+use Rattle.bridge_frame.specs.declared.Tag.{Tag}
+use Rattle.bridge_frame.specs.declared.FrameFault.{FrameFault}
+use Rattle.bridge_frame.specs.Frames.{head}
+use Rattle.bridge_ident.specs.declared.StreamEntry.{StreamEntry}
+use Rattle.bridge_ident.specs.Identification.{handle_in}
+use Rattle.bridge_forward.specs.Forward.{forward}
+use Rattle.bridge_config.specs.declared.ports.PortPlan.{PortPlan}
+use Rattle.bridge_config.specs.Model.{Plan}
+use Rattle.bridge_config.specs.Rules.{port_at, IsPort}
+use Rattle.bridge_check.specs.Sending.{vid_of, priority_of, is_eligible}
+use Rattle.bridge_run.specs.declared.way.Way.{Way}
+use Rattle.bridge_run.specs.declared.way.Way.TheVariants.{Malformed, Nowhere, Goes}
+use Rattle.bridge_run.specs.Events.{Arrival, arrival, way_of, way_if, way_to}
+use Rattle.bridge_parts.specs.declared.slot.Slot.{Slot}
+use Rattle.bridge_parts.specs.Ports.{defaults_of}
+use Rattle.bridge_parts.specs.Ports.{AreAlike, IsMade}
+use Rattle.bridge_relay.specs.Relaying.{classified}
+
+none_some : {X : Type 0} (o : Option X) (a : X) → o ≡ None → o ≡ Some a → ⊥
+none_some o a h k = cc
+
+-- no port, no defaults
+pub none_there : {A : Type 0} (o : Option (PortPlan A)) (s : Option (Slot A)) → AreAlike o s → defaults_of s ≡ None → o ≡ None
+none_there None s a h = refl
+none_there (Some out) None a h = absurd a
+none_there (Some out) (Some s) a h = absurd (cc)
+
+-- the defaults of a port
+pub defaults_are : {A : Type 0} (o : Option (PortPlan A)) (s : Option (Slot A)) (vid priority : ℕ) → AreAlike o s → defaults_of s ≡ Some (vid, priority) → (out : PortPlan A) × (o ≡ Some out) × (out.vid ≡ vid) × (out.priority ≡ priority)
+defaults_are None None vid priority a h = absurd (cc)
+defaults_are None (Some s) vid priority a h = absurd a
+defaults_are (Some out) None vid priority a h = absurd a
+defaults_are (Some out) (Some s) vid priority a h =
+    let e : (s.vid, s.priority) ≡ (vid, priority) = same (s.vid, s.priority) (vid, priority) h in
+    (out, refl, sym a.vid ∙ ap (λ (p : ℕ × ℕ). p.0) e, sym a.priority ∙ ap (λ (p : ℕ × ℕ). p.1) e) where
+      same : (a b : ℕ × ℕ) → Some a ≡ Some b → a ≡ b
+      same a b k = cc
+
+pub way_none : {A : Type 0} (p : Plan A) (port len : ℕ) (octets : List ℕ) → port_at p.ports port ≡ None → (at : ℕ) → Nowhere ≡ way_of p (arrival at port octets len)
+way_none {A} p port len octets e at = sym (ap (λ (o : Option (PortPlan A)). way_if p o (head octets len)) e)
+
+pub way_bad : {A : Type 0} (p : Plan A) (port len : ℕ) (octets : List ℕ) (out : PortPlan A) (f : FrameFault) → port_at p.ports port ≡ Some out → head octets len ≡ Err f → (at : ℕ) → Malformed ≡ way_of p (arrival at port octets len)
+way_bad {A} p port len octets out f e h at = sym (ap (λ (o : Option (PortPlan A)). way_if p o (head octets len)) e ∙ ap (λ (r : Result Head FrameFault). way_if p (Some out) r) h)
+
+-- what a frame with a head is classified as
+pub classified_is : {A : Type 0} (out : PortPlan A) (tag : Option Tag) (vid priority : ℕ) → out.vid ≡ vid → out.priority ≡ priority → classified tag vid priority ≡ (vid_of out tag, priority_of out tag, is_eligible tag)
+classified_is out None vid priority v k = ap (λ (n : ℕ). (n, priority, false)) (sym v) ∙ ap (λ (n : ℕ). (out.vid, n, false)) (sym k)
+classified_is out (Some tag) vid priority v k = ap (λ (n : ℕ). ((if nat_eq tag.vid 0 then n else tag.vid), tag.pcp, tag.dei)) (sym v)
+
+pub way_good : {A : Type 0} (p : Plan A) (port len : ℕ) (octets : List ℕ) (out : PortPlan A) (h : Head) → port_at p.ports port ≡ Some out → head octets len ≡ Ok h → (at : ℕ) → way_to p out h (forward p.database out.number (vid_of out h.tag) h.da) ≡ way_of p (arrival at port octets len)
+way_good {A} p port len octets out h e is at = sym (ap (λ (o : Option (PortPlan A)). way_if p o (head octets len)) e ∙ ap (λ (r : Result Head FrameFault). way_if p (Some out) r) is)
+
+pub goes_nowhere : {A : Type 0} (p : Plan A) (out : PortPlan A) (h : Head) (set : ℕ) → nat_eq set 0 ≡ true → Nowhere ≡ way_to p out h set
+goes_nowhere p out h set e = rw e refl
+
+pub goes_somewhere : {A : Type 0} (p : Plan A) (out : PortPlan A) (h : Head) (set : ℕ) → nat_eq set 0 ≡ false → Goes set (handle_in p.streams out.number h (vid_of out h.tag)) (priority_of out h.tag) (is_eligible h.tag) h.sdu ≡ way_to p out h set
+goes_somewhere p out h set e = rw e refl
+
+pub same_goes : (set sdu : ℕ) (handle hand : Option ℕ) (priority k : ℕ) (dei d : Bool) → handle ≡ hand → priority ≡ k → dei ≡ d → Goes set handle priority dei sdu ≡ Goes set hand k d sdu
+same_goes set sdu handle hand priority k dei d a b e = cc
+
+pub priority_few : {A : Type 0} (out : PortPlan A) (tag : Option Tag) → IsPort out → ForSome tag (λ t. t.pcp ≤ 7) → priority_of out tag ≤ 7
+priority_few out None is h = is.priority
+priority_few out (Some tag) is h = h tag refl
+
+-- the port of a plan's port
+pub slot_of : {A : Type 0} (o : Option (PortPlan A)) (s : Option (Slot A)) (out : PortPlan A) → AreAlike o s → o ≡ Some out → (w : Slot A) × (s ≡ Some w)
+slot_of None s out a h = absurd (cc)
+slot_of (Some v) None out a h = absurd a
+slot_of (Some v) (Some w) out a h = (w, refl)

@@ -1,0 +1,62 @@
+use Rattle.std.proofs.Common.{rules, ◌≡◌, ℕ, List, [], ◌∷◌, ◌++◌, ◌+◌, ◌≤◌, ◌<◌, arith, sym, subst, ap, ◌∙◌, refl, inl, inr, Option, Some, true}
+use Rattle.std.specs.Prelude.{max, nat_eq, if◌then◌else◌}
+use Rattle.bridge_relay.specs.Relays.{RelayState, count_all, one_more, waiting, IsSent, Stands}
+use Rattle.bridge_relay.specs.declared.relay.Sent.{Sent}
+use Rattle.bridge_parts.specs.Ports.{PortsState}
+use Rattle.bridge_relay.proofs.Advancing.{count_started, right_item, short_item, owes_by, is_sent}
+use Rattle.bridge_run.specs.declared.outcome.Departure.{Departure}
+use Rattle.bridge_relay.proofs.Sound.{sound_started}
+use Rattle.bridge_relay.proofs.Standing.{stands_started}
+use Rattle.bridge_relay.proofs.relay.Relay.advance.Goals as goal
+
+pub depart-requires : goal.depart-requires
+depart-requires g c =
+    let s = c.start-port.ensures.started in
+    let b = c.self.inside in
+    let old : RelayState _ _ = record { plan = b.plan.now; streams = b.ident; police = b.police; ports = b.ports; tables = b.tables.entries; arrived = b.arrived; earliest = b.earliest } in
+    owes_by g.G.Agenda.held old c.start-port.new.self c.start-port.result.0 s.0 c.start-port.result.1 c.start-port.result.2 c.start-port.result.2.item.load.flow c.self.invariant s.1 refl
+    (right_item b.plan.now.filters b.ports c.start-port.new.self c.start-port.result.0 s.0 c.start-port.result.1 c.start-port.result.2 s.1 c.self.invariant.right)
+
+pub invariant_of-self : goal.invariant_of-self
+invariant_of-self g c =
+    let s = c.start-port.ensures.started in
+    let b = c.self.inside in
+    let old : RelayState _ _ = record { plan = b.plan.now; streams = b.ident; police = b.police; ports = b.ports; tables = b.tables.entries; arrived = b.arrived; earliest = b.earliest } in
+    let r = c.start-port.result in
+    let d : Departure = record { own = r.2.item.load.own; port = r.0; start = r.1; done = r.2.done } in
+    sound_started g.G.Agenda.held old c.start-port.new.self c.depart.new.tables.entries c.max-self-inside.result r.0 r.1 s.0 r.2 d c.saturating_sub.result c.self.invariant s.1 s.1.from c.start-port.ensures.which.0 c.start-port.ensures.later refl refl c.depart.ensures c.max-self-inside.ensures
+
+pub returns-clause-stands : goal.returns-clause-stands
+returns-clause-stands g c = λ p es left st.
+    let s = c.start-port.ensures.started in
+    let b = c.self.inside in
+    let old : RelayState _ _ = record { plan = b.plan.now; streams = b.ident; police = b.police; ports = b.ports; tables = b.tables.entries; arrived = b.arrived; earliest = b.earliest } in
+    let r = c.start-port.result in
+    let d : Departure = record { own = r.2.item.load.own; port = r.0; start = r.1; done = r.2.done } in
+    let sent : Sent _ = record { port = r.0; class = r.2.class; start = r.1; done = r.2.done; len = r.2.item.len; octets = r.2.item.load.octets } in
+    let sound = sound_started g.G.Agenda.held old c.start-port.new.self c.depart.new.tables.entries c.max-self-inside.result r.0 r.1 s.0 r.2 d c.saturating_sub.result c.self.invariant s.1 s.1.from c.start-port.ensures.which.0 c.start-port.ensures.later refl refl c.depart.ensures c.max-self-inside.ensures in
+    stands_started g.G.Agenda.held old c.start-port.new.self c.depart.new.tables.entries c.max-self-inside.result r.0 r.1 s.0 r.2 d c.saturating_sub.result c.self.invariant sound s.1 refl refl refl refl c.saturating_sub.ensures c.depart.ensures p es left (one_more left sent) (λ q. ap (λ (t : ℕ). if nat_eq q r.0 then left q ++ (record { time = t; len = r.2.item.len; octets = r.2.item.load.octets.items }) ∷ [] else left q) s.1.done) (subst (λ (v : RelayState _ _). Stands p v es left) (sym c.self.view_is) st)
+
+pub returns-clause-sent : goal.returns-clause-sent
+returns-clause-sent g c =
+    let s = c.start-port.ensures.started in
+    let b = c.self.inside in
+    let old : RelayState _ _ = record { plan = b.plan.now; streams = b.ident; police = b.police; ports = b.ports; tables = b.tables.entries; arrived = b.arrived; earliest = b.earliest } in
+    let new : RelayState _ _ = record { plan = b.plan.now; streams = b.ident; police = b.police; ports = c.start-port.new.self; tables = c.depart.new.tables.entries; arrived = b.arrived; earliest = c.max-self-inside.result } in
+    let r = c.start-port.result in
+    let sent : Sent _ = record { port = r.0; class = r.2.class; start = r.1; done = r.2.done; len = r.2.item.len; octets = r.2.item.load.octets } in
+    subst (λ (v : RelayState _ _). IsSent v new sent) c.self.view_is (is_sent old new sent s.0 r.2 s.1 refl refl refl refl c.max-self-inside.ensures)
+
+pub returns-clause-fewer : goal.returns-clause-fewer
+returns-clause-fewer g c =
+    let s = c.start-port.ensures.started in
+    let z = count_started c.self.inside.ports c.start-port.new.self c.start-port.result.0 s.0 c.start-port.result.1 c.start-port.result.2 s.1 (λ x. true) in
+    subst (λ (v : RelayState _ _). count_all (λ x. true) c.start-port.new.self + 1 ≡ waiting v) c.self.view_is (let y = z in omega arith)
+
+pub returns-clause-writable : goal.returns-clause-writable
+returns-clause-writable g c =
+    let s = c.start-port.ensures.started in
+    let b = c.self.inside in
+    let right = right_item b.plan.now.filters b.ports c.start-port.new.self c.start-port.result.0 s.0 c.start-port.result.1 c.start-port.result.2 s.1 c.self.invariant.right in
+    let early = s.1.early in
+    (omega arith, short_item b.plan.now.filters c.start-port.result.2.item right, s.1.short)

@@ -1,0 +1,251 @@
+use Rattle.std.proofs.Common.{rules, ◌≡◌, ℕ, ◌+◌, ◌-◌, ◌≤◌, ◌<◌, List, ◌∷◌, length, arith, sym, subst, ap, ◌∙◌, refl, Option, Some, None, false}
+use Rattle.std.specs.Prelude.{IfSome, IsTrue, Vec, max}
+use Rattle.std.specs.Option.{option_map}
+use Rattle.bridge_filter.specs.declared.FilterPlan.{FilterPlan}
+use Rattle.bridge_filter.specs.Plans.{is_there}
+use Rattle.bridge_filter.specs.Verdicts.{flow}
+use Rattle.bridge_config.specs.Rules.{port_at}
+use Rattle.bridge_run.specs.declared.way.Way.{Way}
+use Rattle.bridge_run.specs.Events.{Arrival, Arrived, arrival, metered, way_of}
+use Rattle.bridge_parts.specs.declared.slot.Slot.{Slot}
+use Rattle.bridge_parts.specs.Tables.{IsOpen}
+use Rattle.bridge_parts.specs.Ports.{slot_at, outs, NotBefore}
+use Rattle.bridge_relay.specs.declared.relay.Seen.{Seen}
+use Rattle.bridge_relay.specs.Relays.{RelayState, IsSound, HasSpare, Stands, is_flow_stray}
+use Rattle.bridge_relay.specs.Relaying.{HasCopies, IsFresh, called, filter_number, one_less}
+use Rattle.bridge_relay.proofs.Offered.{stray_not}
+use Rattle.bridge_relay.proofs.Offering.{all_in}
+use Rattle.bridge_relay.proofs.Relayed.{port_is}
+use Rattle.bridge_relay.proofs.Spares.{fresh_promised, open_promised, promising, spare_promised, stands_promised}
+use Rattle.bridge_relay.proofs.Ways.{slot_of}
+use Rattle.bridge_relay.proofs.relay.Relay.arrive.Goals as goal
+use Rattle.bridge_relay.proofs.relay.Relay.arrive.Goals.{in-Malformed, in-Nowhere, in-Goes+in-Ok}
+
+pub way_of-requires-clause-from : goal.way_of-requires-clause-from
+way_of-requires-clause-from g c =
+    let b = c.self.inside in
+    let port = c.args.port in
+    let now = c.args.self.now in
+    let sound : IsSound g.G.Agenda.held now = subst (IsSound g.G.Agenda.held) c.self.view_is c.self.invariant in
+    let is = port_is now.plan.ports port c.requires.known.0 sound.rules.ports.each c.requires.known.1 in
+    let from = is.0.number_from in
+    let number = is.1 in
+    let low : 1 ≤ port = omega (arith, from, number) in
+    low
+
+pub way_of-requires-clause-to : goal.way_of-requires-clause-to
+way_of-requires-clause-to g c =
+    let b = c.self.inside in
+    let port = c.args.port in
+    let now = c.args.self.now in
+    let sound : IsSound g.G.Agenda.held now = subst (IsSound g.G.Agenda.held) c.self.view_is c.self.invariant in
+    let is = port_is now.plan.ports port c.requires.known.0 sound.rules.ports.each c.requires.known.1 in
+    let from = is.0.number_from in
+    let number = is.1 in
+    let low : 1 ≤ port = omega (arith, from, number) in
+    let to = is.0.number_to in
+    omega (arith, to, number)
+
+pub pass_over-requires-clause-known : goal.pass_over-requires-clause-known
+pass_over-requires-clause-known g c =
+    let b = c.self.inside in
+    let port = c.args.port in
+    let now = c.args.self.now in
+    let sound : IsSound g.G.Agenda.held now = subst (IsSound g.G.Agenda.held) c.self.view_is c.self.invariant in
+    let is = port_is now.plan.ports port c.requires.known.0 sound.rules.ports.each c.requires.known.1 in
+    let from = is.0.number_from in
+    let number = is.1 in
+    let low : 1 ≤ port = omega (arith, from, number) in
+    let slot = slot_of (port_at now.plan.ports port) (slot_at now.ports port) c.requires.known.0 (sound.alike port low) c.requires.known.1 in
+    slot
+
+pub pass_over-requires-clause-from : goal.pass_over-requires-clause-from
+pass_over-requires-clause-from g c =
+    let b = c.self.inside in
+    let port = c.args.port in
+    let now = c.args.self.now in
+    let sound : IsSound g.G.Agenda.held now = subst (IsSound g.G.Agenda.held) c.self.view_is c.self.invariant in
+    let is = port_is now.plan.ports port c.requires.known.0 sound.rules.ports.each c.requires.known.1 in
+    let from = is.0.number_from in
+    let number = is.1 in
+    let low : 1 ≤ port = omega (arith, from, number) in
+    low
+
+pub pass_over-requires-in-Nowhere-clause-known : goal.pass_over-requires-in-Nowhere-clause-known
+pass_over-requires-in-Nowhere-clause-known g c =
+    let b = c.self.inside in
+    let port = c.args.port in
+    let now = c.args.self.now in
+    let sound : IsSound g.G.Agenda.held now = subst (IsSound g.G.Agenda.held) c.self.view_is c.self.invariant in
+    let is = port_is now.plan.ports port c.requires.known.0 sound.rules.ports.each c.requires.known.1 in
+    let from = is.0.number_from in
+    let number = is.1 in
+    let low : 1 ≤ port = omega (arith, from, number) in
+    let slot = slot_of (port_at now.plan.ports port) (slot_at now.ports port) c.requires.known.0 (sound.alike port low) c.requires.known.1 in
+    slot
+
+pub pass_over-requires-in-Nowhere-clause-from : goal.pass_over-requires-in-Nowhere-clause-from
+pass_over-requires-in-Nowhere-clause-from g c =
+    let b = c.self.inside in
+    let port = c.args.port in
+    let now = c.args.self.now in
+    let sound : IsSound g.G.Agenda.held now = subst (IsSound g.G.Agenda.held) c.self.view_is c.self.invariant in
+    let is = port_is now.plan.ports port c.requires.known.0 sound.rules.ports.each c.requires.known.1 in
+    let from = is.0.number_from in
+    let number = is.1 in
+    let low : 1 ≤ port = omega (arith, from, number) in
+    low
+
+pub relay-requires-clause-known : goal.relay-requires-clause-known
+relay-requires-clause-known g c =
+    let b = c.self.inside in
+    let port = c.args.port in
+    let now = c.args.self.now in
+    let sound : IsSound g.G.Agenda.held now = subst (IsSound g.G.Agenda.held) c.self.view_is c.self.invariant in
+    let is = port_is now.plan.ports port c.requires.known.0 sound.rules.ports.each c.requires.known.1 in
+    let from = is.0.number_from in
+    let number = is.1 in
+    let low : 1 ≤ port = omega (arith, from, number) in
+    let slot = slot_of (port_at now.plan.ports port) (slot_at now.ports port) c.requires.known.0 (sound.alike port low) c.requires.known.1 in
+    let filter = c.filter_of-filter.result in
+    let set = c.in-Goes.set in
+    let k = outs now.ports.slots set 16 in
+    let sees : Seen = record { handle = c.in-Goes.handle; priority = c.in-Goes.priority; dei = c.in-Goes.dei; sdu = c.in-Goes.sdu } in
+    let same : c.prepare.new.self ≡ promising now filter k = c.in-Ok.ensures.ok in
+    subst (λ (v : RelayState _ _). (s : Slot _) × (slot_at v.ports port ≡ Some s)) (sym same) slot
+
+pub relay-requires-clause-from : goal.relay-requires-clause-from
+relay-requires-clause-from g c =
+    let b = c.self.inside in
+    let port = c.args.port in
+    let now = c.args.self.now in
+    let sound : IsSound g.G.Agenda.held now = subst (IsSound g.G.Agenda.held) c.self.view_is c.self.invariant in
+    let is = port_is now.plan.ports port c.requires.known.0 sound.rules.ports.each c.requires.known.1 in
+    let from = is.0.number_from in
+    let number = is.1 in
+    let low : 1 ≤ port = omega (arith, from, number) in
+    low
+
+pub relay-requires-clause-due : goal.relay-requires-clause-due
+relay-requires-clause-due g c =
+    let now = c.args.self.now in
+    let filter = c.filter_of-filter.result in
+    let set = c.in-Goes.set in
+    let k = outs now.ports.slots set 16 in
+    let sees : Seen = record { handle = c.in-Goes.handle; priority = c.in-Goes.priority; dei = c.in-Goes.dei; sdu = c.in-Goes.sdu } in
+    let same : c.prepare.new.self ≡ promising now filter k = c.in-Ok.ensures.ok in
+    subst (λ (v : RelayState _ _). NotBefore (g.G.Agenda.held v.ports.agenda) c.args.packet.time) (sym same) c.requires.due
+
+pub relay-requires-clause-fresh : goal.relay-requires-clause-fresh
+relay-requires-clause-fresh g c =
+    let b = c.self.inside in
+    let port = c.args.port in
+    let now = c.args.self.now in
+    let sound : IsSound g.G.Agenda.held now = subst (IsSound g.G.Agenda.held) c.self.view_is c.self.invariant in
+    let is = port_is now.plan.ports port c.requires.known.0 sound.rules.ports.each c.requires.known.1 in
+    let from = is.0.number_from in
+    let number = is.1 in
+    let low : 1 ≤ port = omega (arith, from, number) in
+    let filter = c.filter_of-filter.result in
+    let set = c.in-Goes.set in
+    let k = outs now.ports.slots set 16 in
+    let sees : Seen = record { handle = c.in-Goes.handle; priority = c.in-Goes.priority; dei = c.in-Goes.dei; sdu = c.in-Goes.sdu } in
+    let same : c.prepare.new.self ≡ promising now filter k = c.in-Ok.ensures.ok in
+    subst (λ (v : RelayState _ _). IsFresh v) (sym same) (fresh_promised g.G.Agenda.held now filter k sound)
+
+pub relay-requires-clause-open : goal.relay-requires-clause-open
+relay-requires-clause-open g c =
+    let b = c.self.inside in
+    let port = c.args.port in
+    let now = c.args.self.now in
+    let sound : IsSound g.G.Agenda.held now = subst (IsSound g.G.Agenda.held) c.self.view_is c.self.invariant in
+    let is = port_is now.plan.ports port c.requires.known.0 sound.rules.ports.each c.requires.known.1 in
+    let from = is.0.number_from in
+    let number = is.1 in
+    let low : 1 ≤ port = omega (arith, from, number) in
+    let filter = c.filter_of-filter.result in
+    let set = c.in-Goes.set in
+    let k = outs now.ports.slots set 16 in
+    let sees : Seen = record { handle = c.in-Goes.handle; priority = c.in-Goes.priority; dei = c.in-Goes.dei; sdu = c.in-Goes.sdu } in
+    let same : c.prepare.new.self ≡ promising now filter k = c.in-Ok.ensures.ok in
+    let there : IfSome filter (λ n. IsTrue (is_there n now.plan.filters)) = subst (λ (v : RelayState _ _). IfSome filter (λ n. IsTrue (is_there n v.plan.filters))) c.self.view_is (subst (λ (fs : _). IfSome filter (λ n. IsTrue (is_there n fs))) c.self.invariant.filters c.filter_of-filter.ensures.there) in
+    let numbered : filter ≡ filter_number now.plan (called c.args.packet.time c.args.packet.len sees) = c.filter_of-filter.ensures.filter c.args.packet.time sees.sdu (metered c.args.packet.len) sees.dei ∙ (ap (λ (fs : _). option_map (λ (f : ℕ × FilterPlan). f.0) (flow fs (called c.args.packet.time c.args.packet.len sees))) c.self.invariant.filters ∙ ap (λ (v : RelayState _ _). filter_number v.plan (called c.args.packet.time c.args.packet.len sees)) c.self.view_is) in
+    subst (λ (v : RelayState _ _). IfSome (filter_number v.plan (called c.args.packet.time c.args.packet.len sees)) (IsOpen v.tables)) (sym same) (subst (λ (o : Option ℕ). IfSome o (IsOpen (promising now filter k).tables)) numbered (open_promised g.G.Agenda.held now filter k sound there))
+
+pub relay-requires-clause-spare : goal.relay-requires-clause-spare
+relay-requires-clause-spare g c =
+    let b = c.self.inside in
+    let port = c.args.port in
+    let now = c.args.self.now in
+    let sound : IsSound g.G.Agenda.held now = subst (IsSound g.G.Agenda.held) c.self.view_is c.self.invariant in
+    let is = port_is now.plan.ports port c.requires.known.0 sound.rules.ports.each c.requires.known.1 in
+    let from = is.0.number_from in
+    let number = is.1 in
+    let low : 1 ≤ port = omega (arith, from, number) in
+    let filter = c.filter_of-filter.result in
+    let set = c.in-Goes.set in
+    let k = outs now.ports.slots set 16 in
+    let sees : Seen = record { handle = c.in-Goes.handle; priority = c.in-Goes.priority; dei = c.in-Goes.dei; sdu = c.in-Goes.sdu } in
+    let same : c.prepare.new.self ≡ promising now filter k = c.in-Ok.ensures.ok in
+    let there : IfSome filter (λ n. IsTrue (is_there n now.plan.filters)) = subst (λ (v : RelayState _ _). IfSome filter (λ n. IsTrue (is_there n v.plan.filters))) c.self.view_is (subst (λ (fs : _). IfSome filter (λ n. IsTrue (is_there n fs))) c.self.invariant.filters c.filter_of-filter.ensures.there) in
+    let numbered : filter ≡ filter_number now.plan (called c.args.packet.time c.args.packet.len sees) = c.filter_of-filter.ensures.filter c.args.packet.time sees.sdu (metered c.args.packet.len) sees.dei ∙ (ap (λ (fs : _). option_map (λ (f : ℕ × FilterPlan). f.0) (flow fs (called c.args.packet.time c.args.packet.len sees))) c.self.invariant.filters ∙ ap (λ (v : RelayState _ _). filter_number v.plan (called c.args.packet.time c.args.packet.len sees)) c.self.view_is) in
+    subst (λ (v : RelayState _ _). IfSome (filter_number v.plan (called c.args.packet.time c.args.packet.len sees)) (HasSpare v (outs v.ports.slots set 16))) (sym same) (subst (λ (o : Option ℕ). IfSome o (HasSpare (promising now filter k) k)) numbered (spare_promised g.G.Agenda.held now filter k sound there))
+
+pub relay-requires-clause-right : goal.relay-requires-clause-right
+relay-requires-clause-right g c =
+    let b = c.self.inside in
+    let port = c.args.port in
+    let now = c.args.self.now in
+    let sound : IsSound g.G.Agenda.held now = subst (IsSound g.G.Agenda.held) c.self.view_is c.self.invariant in
+    let is = port_is now.plan.ports port c.requires.known.0 sound.rules.ports.each c.requires.known.1 in
+    let from = is.0.number_from in
+    let number = is.1 in
+    let low : 1 ≤ port = omega (arith, from, number) in
+    let filter = c.filter_of-filter.result in
+    let set = c.in-Goes.set in
+    let k = outs now.ports.slots set 16 in
+    let sees : Seen = record { handle = c.in-Goes.handle; priority = c.in-Goes.priority; dei = c.in-Goes.dei; sdu = c.in-Goes.sdu } in
+    let same : c.prepare.new.self ≡ promising now filter k = c.in-Ok.ensures.ok in
+    let there : IfSome filter (λ n. IsTrue (is_there n now.plan.filters)) = subst (λ (v : RelayState _ _). IfSome filter (λ n. IsTrue (is_there n v.plan.filters))) c.self.view_is (subst (λ (fs : _). IfSome filter (λ n. IsTrue (is_there n fs))) c.self.invariant.filters c.filter_of-filter.ensures.there) in
+    let numbered : filter ≡ filter_number now.plan (called c.args.packet.time c.args.packet.len sees) = c.filter_of-filter.ensures.filter c.args.packet.time sees.sdu (metered c.args.packet.len) sees.dei ∙ (ap (λ (fs : _). option_map (λ (f : ℕ × FilterPlan). f.0) (flow fs (called c.args.packet.time c.args.packet.len sees))) c.self.invariant.filters ∙ ap (λ (v : RelayState _ _). filter_number v.plan (called c.args.packet.time c.args.packet.len sees)) c.self.view_is) in
+    subst (λ (v : RelayState _ _). is_flow_stray v.plan.filters (filter_number v.plan (called c.args.packet.time c.args.packet.len sees)) ≡ false) (sym same) (subst (λ (o : Option ℕ). is_flow_stray now.plan.filters o ≡ false) numbered (stray_not now.plan.filters filter there))
+
+pub relay-requires-clause-copies : goal.relay-requires-clause-copies
+relay-requires-clause-copies g c =
+    let now = c.args.self.now in
+    let filter = c.filter_of-filter.result in
+    let set = c.in-Goes.set in
+    let k = outs now.ports.slots set 16 in
+    let sees : Seen = record { handle = c.in-Goes.handle; priority = c.in-Goes.priority; dei = c.in-Goes.dei; sdu = c.in-Goes.sdu } in
+    let same : c.prepare.new.self ≡ promising now filter k = c.in-Ok.ensures.ok in
+    let made = c.in-Ok.ensures.copies in
+    let count = made.0 in
+    subst (λ (v : RelayState _ _). HasCopies v.ports.slots set 1 c.args.packet.octets.items c.in-Ok.copies.items) (sym same)
+    (record { count = omega (arith, count); alike = λ v i. all_in (λ (w : Vec ℕ _). w.items ≡ c.deref-in-Goes.result.now) c.in-Ok.copies.items v made.1 i ∙ c.deref-in-Goes.ensures.value })
+
+pub returns-clause-stands : goal.returns-clause-stands
+returns-clause-stands g c = λ p es left st.
+    let now = c.args.self.now in
+    let a = arrival c.args.packet.time c.args.port c.args.packet.octets.items c.args.packet.len in
+    let way : way_of p a ≡ c.way_of.result = ap (λ (v : _). way_of v a) (sym st.plan) ∙ (ap (λ (z : List ℕ). way_of now.plan (arrival c.args.packet.time c.args.port z c.args.packet.len)) (sym c.deref.ensures.value) ∙ sym (c.way_of.ensures.way c.args.packet.time)) in
+    elim c.match-way_of.branch [
+      | in-Malformed w ↦ subst (λ (v : RelayState _ _). Stands p v (Arrived a ∷ es) left) (sym w.self-is) (w.pass_over.ensures.stands p es a left refl (way ∙ w.in-Malformed.is) st)
+      | in-Nowhere w ↦ subst (λ (v : RelayState _ _). Stands p v (Arrived a ∷ es) left) (sym w.self-is) (w.pass_over-in-Nowhere.ensures.stands p es a left refl (way ∙ w.in-Nowhere.is) st)
+      | in-Goes+in-Ok w ↦
+          let filter = w.filter_of-filter.result in
+          let set = w.in-Goes.set in
+          let k = outs now.ports.slots set 16 in
+          let sees : Seen = record { handle = w.in-Goes.handle; priority = w.in-Goes.priority; dei = w.in-Goes.dei; sdu = w.in-Goes.sdu } in
+          let same : w.prepare.new.self ≡ promising now filter k = w.in-Ok.ensures.ok in
+          subst (λ (v : RelayState _ _). Stands p v (Arrived a ∷ es) left) (sym w.self-is)
+          (w.relay.ensures.stands p es left (way ∙ w.in-Goes.is) (subst (λ (v : RelayState _ _). Stands p (one_less v) es left) (sym same) (stands_promised p now filter k es left st)))
+    ]
+
+pub returns-clause-waits : goal.returns-clause-waits
+returns-clause-waits g c =
+    let t = c.args.packet.time in
+    elim c.match-way_of.branch [
+      | in-Malformed w ↦ subst (λ (v : RelayState _ _). NotBefore (g.G.Agenda.held v.ports.agenda) t) (sym w.self-is) (subst (λ (d : _). NotBefore (g.G.Agenda.held d) t) (sym w.pass_over.ensures.passed.2.agenda) c.requires.due)
+      | in-Nowhere w ↦ subst (λ (v : RelayState _ _). NotBefore (g.G.Agenda.held v.ports.agenda) t) (sym w.self-is) (subst (λ (d : _). NotBefore (g.G.Agenda.held d) t) (sym w.pass_over-in-Nowhere.ensures.passed.2.agenda) c.requires.due)
+      | in-Goes+in-Ok w ↦ subst (λ (v : RelayState _ _). NotBefore (g.G.Agenda.held v.ports.agenda) t) (sym w.self-is) w.relay.ensures.due
+    ]

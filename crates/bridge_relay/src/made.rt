@@ -1,0 +1,57 @@
+//! How a bridge is made.
+ghost use Rattle.std.specs.Prelude.{◌≡◌, ℕ, [], None, IfOk};
+ghost use Rattle.bridge_relay.specs.Relays.{Stands};
+
+use crate::relay::Relay;
+use bridge_check::Accepted;
+use bridge_cycle::NoMemory;
+use bridge_events::Agenda;
+use bridge_filter::Police;
+use bridge_gate::GatePlan;
+use bridge_ident::Ident;
+use bridge_parts::Ports;
+use bridge_parts::tables::tables_of;
+use std::alloc::{AllocError, Allocator};
+
+/// Equal gates, each with its number.
+fn gates_of<A: Allocator + Copy>(
+    alloc: A,
+    gates: &[(u32, GatePlan<A>)],
+) -> Result<Vec<(u32, GatePlan<A>), A>, NoMemory>
+    ensures { IfOk result (λ copies. copies.items ≡ gates.now) }
+{
+    let mut copies = Vec::with_capacity(alloc, gates.len())?;
+    for gate in gates {
+        let copy = gate.1.copy(alloc)?;
+        copies.push((gate.0, copy)).map_err(AllocError::from)?;
+    }
+    Ok(copies)
+}
+
+impl<'a, G: Agenda + Drop, A: Allocator + Copy> Relay<'a, G, A> {
+    /// A bridge of an accepted plan, to which nothing has come.
+    pub fn new(alloc: A, accepted: &'a Accepted<A>) -> Result<Relay<'a, G, A>, NoMemory>
+        ensures stands { IfOk result (λ b. Stands accepted.now b [] (λ _. [])) }
+        ensures start { IfOk result (λ b. (b.plan ≡ accepted.now) × (b.arrived ≡ 0) × (b.earliest ≡ 0)) }
+        ensures none_due { IfOk result (λ b. (q : ℕ) → G.held b.ports.agenda q ≡ None) }
+    {
+        let plan = accepted.plan();
+        let streams = Vec::from_slice(alloc, plan.streams())?;
+        let filters = Vec::from_slice(alloc, plan.filters())?;
+        let meters = Vec::from_slice(alloc, plan.meters())?;
+        let gates = gates_of(alloc, plan.gates())?;
+        let police = Police::new(alloc, filters, gates, meters)?;
+        let ports = Ports::new(alloc, plan)?;
+        let tables = tables_of(alloc, plan.filters())?;
+        Ok(Relay {
+            alloc,
+            plan,
+            ident: Ident::new(streams),
+            police,
+            ports,
+            tables,
+            arrived: 0,
+            earliest: 0,
+        })
+    }
+}
