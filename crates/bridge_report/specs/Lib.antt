@@ -1,0 +1,4 @@
+pub mod Words
+pub mod Section
+pub mod Summary
+pub mod Examples
