@@ -3,6 +3,7 @@ use Rattle.std.specs.Prelude.{ℕ, ◌*◌, ◌-◌, ◌^◌, Bool, true, false,
 use Rattle.toml.specs.Data.{Members, get_member}
 use Rattle.bridge_base.specs.declared.TheConstants.{END_OF_TIME}
 use Rattle.bridge_cycle.specs.Cyclic.{Cyclic, fault_of}
+use Rattle.bridge_meter.specs.declared.TheConstants.{HIGHEST_RATE, LARGEST_BURST}
 use Rattle.bridge_meter.specs.declared.MeterPlan.{MeterPlan}
 use Rattle.bridge_gate.specs.declared.schedule.GateEntry.{GateEntry}
 use Rattle.bridge_gate.specs.declared.schedule.GatePlan.{GatePlan}
@@ -23,6 +24,7 @@ use Rattle.bridge_keys.specs.declared.fault.PlanFault.TheVariants as fault
 use Rattle.bridge_keys.specs.Keys.{key_of}
 use Rattle.bridge_keys.specs.Readers.{◌>>=◌, required, optional, default_to, only_with, only_without, between, switch, speed, known, text, set_of, ports_of, eight, list_at, are_known, are_known_at, with_key, without_key}
 use Rattle.bridge_keys.specs.Texts.{address_of, openness_of}
+use Rattle.bridge_config.specs.declared.lists.TheConstants.{LARGEST_NUMBER}
 use Rattle.bridge_config.specs.Texts.{kind_of, tag_of, awareness_of}
 use Rattle.bridge_config.specs.Rules.{has_port, has_vlan, has_static}
 use Rattle.bridge_config.specs.declared.ports.PortPlan.{PortPlan}
@@ -134,7 +136,7 @@ unfoldable pub stream_at : {A : Type 0} → List (PortPlan A) → List StreamEnt
 stream_at ports earlier index members =
     let at : Field → Place = λ key. record { section = section.Stream; index = index; field = key } in do
       keys ← provided (has_stream_keys members) (fault.UnknownKey section.Stream index)
-      handle ← required (at field.Handle) field.Handle (between 0 4294967295) members
+      handle ← required (at field.Handle) field.Handle (between 0 LARGEST_NUMBER) members
       port ← required (at field.Port) field.Port (known (has_port ports) 1 16) members
       kind ← required (at field.Kind) field.Kind (text kind_of) members
       address ← required (at field.Address) field.Address (text address_of) members
@@ -150,7 +152,7 @@ gate_entry place members = do
   lets ← required place field.Open switch members
   ns ← required place field.Ns (between 0 (2 ^ 63 - 1)) members
   ipv ← optional place field.Ipv (between 0 7) members
-  octets ← optional place field.Octets (between 0 4294967295) members
+  octets ← optional place field.Octets (between 0 LARGEST_NUMBER) members
   Ok (record { lets = lets; ipv = ipv; octets = octets }, ns)
 
 -- the keys that a gate may have
@@ -182,7 +184,7 @@ unfoldable pub gate_at : {A : Type 0} → List (ℕ × GatePlan A) → ℕ → M
 gate_at gates index members =
     let at : Field → Place = λ key. record { section = section.Gate; index = index; field = key } in do
       keys ← provided (has_gate_keys members) (fault.UnknownKey section.Gate index)
-      number ← required (at field.Number) field.Number (between 0 4294967295) members
+      number ← required (at field.Number) field.Number (between 0 LARGEST_NUMBER) members
       shut_on_rx ← default_to false (at field.ShutOnRx) field.ShutOnRx switch members
       shut_on_octets ← default_to false (at field.ShutOnOctets) field.ShutOnOctets switch members
       lets ← only_without field.Entries false (required (at field.State) field.State (text openness_of) members) members
@@ -202,11 +204,11 @@ unfoldable pub meter_at : List (ℕ × MeterPlan) → ℕ → Members → Result
 meter_at meters index members =
     let at : Field → Place = λ key. record { section = section.Meter; index = index; field = key } in do
       keys ← provided (has_meter_keys members) (fault.UnknownKey section.Meter index)
-      number ← required (at field.Number) field.Number (between 0 4294967295) members
-      cir ← required (at field.Cir) field.Cir (between 0 (10 ^ 11)) members
-      cbs ← required (at field.Cbs) field.Cbs (between 0 4294967295) members
-      eir ← required (at field.Eir) field.Eir (between 0 (10 ^ 11)) members
-      ebs ← required (at field.Ebs) field.Ebs (between 0 4294967295) members
+      number ← required (at field.Number) field.Number (between 0 LARGEST_NUMBER) members
+      cir ← required (at field.Cir) field.Cir (between 0 HIGHEST_RATE) members
+      cbs ← required (at field.Cbs) field.Cbs (between 0 LARGEST_BURST) members
+      eir ← required (at field.Eir) field.Eir (between 0 HIGHEST_RATE) members
+      ebs ← required (at field.Ebs) field.Ebs (between 0 LARGEST_BURST) members
       coupling ← default_to false (at field.Coupling) field.Coupling switch members
       aware ← default_to false (at field.Colour) field.Colour (text awareness_of) members
       drop_yellow ← default_to false (at field.DropYellow) field.DropYellow switch members
@@ -225,12 +227,12 @@ unfoldable pub filter_at : {A : Type 0} → List (ℕ × GatePlan A) → List (�
 filter_at gates meters filters index members =
     let at : Field → Place = λ key. record { section = section.Filter; index = index; field = key } in do
       keys ← provided (has_filter_keys members) (fault.UnknownKey section.Filter index)
-      number ← required (at field.Number) field.Number (between 0 4294967295) members
-      handle ← optional (at field.Handle) field.Handle (between 0 4294967295) members
+      number ← required (at field.Number) field.Number (between 0 LARGEST_NUMBER) members
+      handle ← optional (at field.Handle) field.Handle (between 0 LARGEST_NUMBER) members
       priority ← optional (at field.Priority) field.Priority (between 0 7) members
-      gate ← required (at field.Gate) field.Gate (known (has_number gates) 0 4294967295) members
+      gate ← required (at field.Gate) field.Gate (known (has_number gates) 0 LARGEST_NUMBER) members
       max_sdu ← optional (at field.MaxSdu) field.MaxSdu (between 0 65535) members
-      meter ← optional (at field.Meter) field.Meter (known (has_number meters) 0 4294967295) members
+      meter ← optional (at field.Meter) field.Meter (known (has_number meters) 0 LARGEST_NUMBER) members
       block_oversize ← default_to false (at field.BlockOversize) field.BlockOversize switch members
       protected ← default_to false (at field.Protected) field.Protected switch members
       own ← no_duplicate section.Filter index (has_number filters number)

@@ -8,6 +8,7 @@ ghost use Rattle.bridge_keys.specs.Readers.{Gives, GivesAs, instances};
 ghost use Rattle.bridge_config.specs.Sections as sections;
 ghost use Rattle.bridge_config.specs.Rules as rules;
 
+use crate::lists::LARGEST_NUMBER;
 use crate::numbers::{NumbersOf, has_number, in_8_bits, in_32_bits};
 use bridge_filter::FilterPlan;
 use bridge_gate::GatePlan;
@@ -22,7 +23,7 @@ use toml::{Table, Value};
 /// The number of an instance.
 const NUMBER: Between = Between {
     low: 0,
-    high: u32::MAX as u64,
+    high: LARGEST_NUMBER,
 };
 
 /// Whether a table has the keys of a filter alone.

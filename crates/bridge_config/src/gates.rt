@@ -12,7 +12,7 @@ ghost use Rattle.bridge_keys.specs.Readers.{Gives, GivesAs, list_at};
 ghost use Rattle.bridge_config.specs.Sections as sections;
 ghost use Rattle.bridge_config.specs.Rules as rules;
 
-use crate::lists::{LARGEST, LAST_BASE, list_if};
+use crate::lists::{LARGEST, LARGEST_NUMBER, LAST_BASE, list_if};
 use crate::numbers::{has_number, in_8_bits, in_32_bits};
 use bridge_cycle::CyclicList;
 use bridge_gate::{GateEntry, GatePlan, Schedule};
@@ -55,7 +55,7 @@ impl Entry for Turns {
             Field::Octets,
             &Between {
                 low: 0,
-                high: u32::MAX as u64,
+                high: LARGEST_NUMBER,
             },
         )?;
         let state = GateEntry {
@@ -215,7 +215,7 @@ fn gate_of<A: Allocator + Copy>(
         Field::Number,
         &Between {
             low: 0,
-            high: u32::MAX as u64,
+            high: LARGEST_NUMBER,
         },
     )?;
     let shut_on_rx = default_to(false, table, at(Field::ShutOnRx), Field::ShutOnRx, &Switch)?;

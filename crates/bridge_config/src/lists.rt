@@ -13,6 +13,9 @@ use std::alloc::Allocator;
 /// The largest number of a document.
 pub(crate) const LARGEST: u64 = 9_223_372_036_854_775_807;
 
+/// The largest number of an instance or a stream handle, and the largest limit of octets of a gate: 2^32 - 1.
+pub(crate) const LARGEST_NUMBER: u64 = u32::MAX as u64;
+
 /// The largest moment, in ns, at which a cycle may begin.
 pub(crate) const LAST_BASE: u64 = END_OF_TIME - 1;
 

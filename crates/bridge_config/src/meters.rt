@@ -9,25 +9,26 @@ ghost use Rattle.bridge_config.specs.Sections as sections;
 ghost use Rattle.bridge_config.specs.Texts as texts;
 ghost use Rattle.bridge_config.specs.Rules as rules;
 
+use crate::lists::LARGEST_NUMBER;
 use crate::numbers::has_number;
 use bridge_keys::{
     Between, Field, Meaning, Place, PlanFault, Section, SectionReader, Switch, Text, are_known,
     default_to, required,
 };
-use bridge_meter::MeterPlan;
+use bridge_meter::{HIGHEST_RATE, LARGEST_BURST, MeterPlan};
 use std::alloc::Allocator;
 use toml::Table;
 
 /// A rate in bit/s.
 const RATE: Between = Between {
     low: 0,
-    high: 100_000_000_000,
+    high: HIGHEST_RATE,
 };
 
 /// A burst in octets.
 const BURST: Between = Between {
     low: 0,
-    high: u32::MAX as u64,
+    high: LARGEST_BURST,
 };
 
 /// Whether a meter looks at the drop eligible indication of a frame: `aware` or `blind`.
@@ -100,7 +101,7 @@ fn meter_of(
         Field::Number,
         &Between {
             low: 0,
-            high: u32::MAX as u64,
+            high: LARGEST_NUMBER,
         },
     )?;
     let cir = required(table, at(Field::Cir), Field::Cir, &RATE)?;

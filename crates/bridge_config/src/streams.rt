@@ -8,6 +8,7 @@ ghost use Rattle.bridge_config.specs.Sections as sections;
 ghost use Rattle.bridge_config.specs.Texts as texts;
 ghost use Rattle.bridge_config.specs.Rules as rules;
 
+use crate::lists::LARGEST_NUMBER;
 use crate::ports::{PortPlan, has_port};
 use bridge_ident::{Kind, StreamEntry, TagKind};
 use bridge_keys::{
@@ -120,7 +121,7 @@ fn stream_of<A: Allocator + Copy>(
         Field::Handle,
         &Between {
             low: 0,
-            high: u32::MAX as u64,
+            high: LARGEST_NUMBER,
         },
     )?;
     let port = required(

@@ -7,6 +7,7 @@ use Rattle.bridge_cycle.specs.Fitting.{some_fits}
 use Rattle.bridge_cycle.specs.Runs.{IsLongestRun}
 use Rattle.bridge_cycle.specs.declared.run.Run.{Run}
 use Rattle.bridge_cycle.specs.declared.run.Run.TheVariants.{Never}
+use Rattle.bridge_port.specs.declared.queues.TheConstants.{LARGEST_ROOM}
 
 -- whether a class is open at a moment: always without a list
 abbrev pub opens_of : Option (Cyclic ℕ) → ℕ → ℕ → Bool
@@ -23,9 +24,9 @@ abbrev pub IsMade : Option (Cyclic ℕ) → Type 0
 IsMade None = Unit {0}
 IsMade (Some l) = IsLawful l
 
--- rooms of queues, in frames: 1 to 4096
+-- rooms of queues, in frames
 abbrev pub are_rooms : List ℕ → Bool
-are_rooms rooms = list_all (λ n. nat_le 1 n && nat_le n 4096) rooms
+are_rooms rooms = list_all (λ n. nat_le 1 n && nat_le n LARGEST_ROOM) rooms
 
 -- the longest runs of the eight classes
 pub record HasRuns (list : Option (Cyclic ℕ)) (runs : List Run) : Type 0 where

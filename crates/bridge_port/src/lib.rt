@@ -15,4 +15,4 @@ pub use law::{
     lawful_with_a_start, lawful_with_an_offer, own_windows_isolate,
 };
 pub use port::Port;
-pub use queues::are_rooms;
+pub use queues::{LARGEST_ROOM, are_rooms};

@@ -9,11 +9,14 @@ use bridge_cycle::NoMemory;
 use circular_buffer::HeapCircularBuffer;
 use std::alloc::{AllocError, Allocator};
 
-/// Whether each of these is a room of a port's queue, in frames: 1 to 4096.
+/// The most frames that a queue of a port may hold.
+pub const LARGEST_ROOM: u16 = 4_096;
+
+/// Whether each of these is a room of a port's queue, in frames: 1 to `LARGEST_ROOM`.
 pub fn are_rooms(rooms: &[u16; 8]) -> bool
     ensures { result ≡ are_rooms rooms.now }
 {
-    rooms.iter().all(|room| 1 <= *room && *room <= 4096)
+    rooms.iter().all(|room| 1 <= *room && *room <= LARGEST_ROOM)
 }
 
 /// Empty rings with these rooms.
