@@ -2,6 +2,7 @@
 use Rattle.std.proofs.Common.{◌≡◌, ℕ, ◌*◌, ◌/◌, ◌%◌, ◌^◌, ◌≤◌, ◌<◌, List, [], ◌∷◌, ◌++◌, length, Some, Result, Ok, refl, sym, ap, ◌∙◌, subst, append_assoc, arith}
 use Rattle.std.specs.List.{flat_map}
 use Rattle.std.proofs.lemmas.Nat.{from_le_bytes-to_le_bytes_4}
+use Rattle.bridge_capture.specs.declared.record.TheConstants.{SNAP_LENGTH}
 use Rattle.bridge_capture.specs.declared.form.Form.{Form}
 use Rattle.bridge_capture.specs.declared.fault.CaptureFault.{CaptureFault}
 use Rattle.std.proofs.lemmas.Bool.{le-ltb}
@@ -31,7 +32,7 @@ unfolding written_words
 words_original t c o lt = from_le_bytes-to_le_bytes_4 o lt
 
 -- one record
-one_again : (place : Place) (item : Captured) (more : List ℕ) → place.number ≤ 1000000 → place.earliest ≤ item.time → item.time < 4 * 10 ^ 18 → length item.octets ≤ 65535 → length item.octets ≤ item.len → item.len < 2 ^ 32
+one_again : (place : Place) (item : Captured) (more : List ℕ) → place.number ≤ 1000000 → place.earliest ≤ item.time → item.time < 4 * 10 ^ 18 → length item.octets ≤ SNAP_LENGTH → length item.octets ≤ item.len → item.len < 2 ^ 32
     → front_of written_form place (written_item item ++ more) ≡ Record item more
 one_again place item more few on early small held fits =
     let w = written_words item.time (length item.octets) item.len in

@@ -3,7 +3,7 @@ use Rattle.std.specs.Prelude.{ℕ, ◌*◌, ◌/◌, ◌%◌, ◌^◌, ◌<◌, 
 use Rattle.std.specs.Int.{w32, to_le_bytes}
 use Rattle.std.specs.List.{flat_map}
 use Rattle.bridge_base.specs.declared.TheConstants.{END_OF_TIME}
-use Rattle.bridge_capture.specs.declared.record.TheConstants.{MAX_RECORDS}
+use Rattle.bridge_capture.specs.declared.record.TheConstants.{MAX_RECORDS, SNAP_LENGTH}
 use Rattle.bridge_capture.specs.declared.form.Form.{Form}
 use Rattle.bridge_capture.specs.declared.form.Order.TheVariants.{Little}
 use Rattle.bridge_capture.specs.declared.form.Unit.TheVariants.{Nano}
@@ -13,7 +13,7 @@ use Rattle.bridge_capture.specs.Grammar.{Captured}
 abbrev pub written_form : Form
 written_form = record { order = Little; unit = Nano }
 
--- the header: magic, version 2.4, two words of 0, snap length 65,535, link type 1
+-- the header: magic, version 2.4, two words of 0, the snap length, link type 1
 abbrev pub written_header : List ℕ
 written_header = 0x4d ∷ 0x3c ∷ 0xb2 ∷ 0xa1 ∷ 2 ∷ 0 ∷ 4 ∷ 0 ∷ 0 ∷ 0 ∷ 0 ∷ 0 ∷ 0 ∷ 0 ∷ 0 ∷ 0 ∷ 0xff ∷ 0xff ∷ 0 ∷ 0 ∷ 1 ∷ 0 ∷ 0 ∷ 0 ∷ []
 
@@ -36,4 +36,4 @@ written_text frames = written_header ++ flat_map written_item frames
 -- from this number and time on, these frames can be written and read again: not too many, times that don't fall, lengths in range
 abbrev pub AreWritable : ℕ → ℕ → List Captured → Type 0
 AreWritable number earliest [] = Unit {0}
-AreWritable number earliest (captured ∷ more) = (number ≤ MAX_RECORDS) × (earliest ≤ captured.time) × (captured.time < END_OF_TIME) × (length captured.octets ≤ 65535) × (length captured.octets ≤ captured.len) × (captured.len < 2 ^ 32) × AreWritable (number + 1) captured.time more
+AreWritable number earliest (captured ∷ more) = (number ≤ MAX_RECORDS) × (earliest ≤ captured.time) × (captured.time < END_OF_TIME) × (length captured.octets ≤ SNAP_LENGTH) × (length captured.octets ≤ captured.len) × (captured.len < 2 ^ 32) × AreWritable (number + 1) captured.time more

@@ -29,7 +29,7 @@ pub use from_read::FromRead;
 pub use from_write::FromWrite;
 pub use laws::{each_text_reads_one_way, written_is_read};
 pub use packet::Packet;
-pub use record::MAX_RECORDS;
+pub use record::{MAX_RECORDS, SNAP_LENGTH};
 pub use sink::ByteSink;
 pub use slice_source::SliceSource;
 pub use source::{Broken, ByteSource};

@@ -13,6 +13,9 @@ use crate::transfer::fill;
 use bridge_base::{END_OF_TIME, MOST_CAPTURED};
 use std::alloc::Allocator;
 
+/// The most octets of a frame that a written capture holds: its snap length.
+pub const SNAP_LENGTH: u32 = 65_535;
+
 /// The most records that a capture may have.
 pub const MAX_RECORDS: u32 = 1_000_000;
 

@@ -5,6 +5,7 @@ ghost use Rattle.bridge_capture.specs.Sinks.{AppendsFront};
 ghost use Rattle.bridge_capture.specs.Written.{written_header, written_words, written_record};
 
 use crate::fault::CaptureFault;
+use crate::record::SNAP_LENGTH;
 use crate::sink::ByteSink;
 use crate::transfer::write_all;
 
@@ -45,7 +46,7 @@ impl Writer {
         octets: &[u8],
     ) -> Result<(), CaptureFault>
         requires seconds { done < 2 ^ 32 * 10 ^ 9 }
-        requires captured { length octets.now ≤ 65535 }
+        requires captured { length octets.now ≤ SNAP_LENGTH }
         requires original { length octets.now ≤ len }
         ensures ok { OnOk result (Appends (W.contents sink.old) (W.contents sink.new) (written_record done len octets.now)) }
         ensures err { OnErr result (AppendsFront (W.contents sink.old) (W.contents sink.new) (written_record done len octets.now)) }

@@ -13,7 +13,7 @@ use crate::sending::depart_before;
 use bridge_base::{END_OF_TIME, MOST_CAPTURED};
 use bridge_capture::{ByteSink, ByteSource, Capture, CaptureFault, MAX_RECORDS, Packet, Writer};
 use bridge_frame::{Speed, parse};
-use bridge_port::{Item, Port};
+use bridge_port::{Item, LARGEST_ROOM, Port};
 use std::alloc::Allocator;
 
 /// Offers the next frame of a capture, once all starts before it were made.
@@ -65,7 +65,7 @@ fn run_through<W: ByteSink, A: Allocator + Copy>(
     packets: Vec<Packet<A>, A>,
     sink: &mut W,
 ) -> Result<WireCount, RunFault>
-    requires room { (1 ≤ room) × (room ≤ 4096) }
+    requires room { (1 ≤ room) × (room ≤ LARGEST_ROOM) }
     requires in_order { AreInOrder 0 (views packets.items) }
     requires few { length packets.items ≤ MAX_RECORDS }
     ensures ends { EndsSo speed room (views packets.items) (W.contents sink.old) (W.contents sink.new) result }
@@ -106,7 +106,7 @@ pub fn wire<R: ByteSource, W: ByteSink, A: Allocator + Copy>(
     source: &mut R,
     sink: &mut W,
 ) -> Result<WireCount, RunFault>
-    requires room { (1 ≤ room) × (room ≤ 4096) }
+    requires room { (1 ≤ room) × (room ≤ LARGEST_ROOM) }
     ensures ok { (text : List ℕ) → R.remaining source.old ≡ Some text → IfOk result (Wires speed room text (W.contents sink.old) (W.contents sink.new)) }
     ensures err { (text : List ℕ) → R.remaining source.old ≡ Some text → IfErr result (Stops speed room text (W.contents sink.old) (W.contents sink.new)) }
 
