@@ -2,6 +2,7 @@
 use Rattle.std.specs.Prelude.{◌≡◌, ◌≤◌, ℕ, List, [], Some, true, codes, string_bytes}
 use Rattle.std.specs.Str.Parse.{digits_value}
 use Rattle.bridge_frame.specs.declared.Speed.{Speed}
+use Rattle.bridge_port.specs.declared.queues.TheConstants.{LARGEST_ROOM}
 use Rattle.bridge_core.specs.declared.fault.RunFault.TheVariants as run
 use Rattle.clap.specs.Words.{App, Row, Rule, Text, fault_of, first_of, new_app, new_rule, subcommand_of, with_rule, with_subcommand}
 use Rattle.clap.specs.Simple.{on_top}
@@ -80,4 +81,4 @@ AsksFor words (job.Check plan) =
 abbrev pub HasRoom : Job → Type 0
 HasRoom job.Text = Unit {0}
 HasRoom (job.Check plan) = Unit {0}
-HasRoom (job.Wire speed room input output) = (1 ≤ room) × (room ≤ 4096)
+HasRoom (job.Wire speed room input output) = (1 ≤ room) × (room ≤ LARGEST_ROOM)

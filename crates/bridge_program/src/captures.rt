@@ -6,6 +6,7 @@ ghost use Rattle.bridge_program.specs.Text.{StopsText};
 use bridge_capture::{FromRead, FromWrite, MAX_RECORDS};
 use bridge_core::{RunFault, WireCount, wire};
 use bridge_frame::Speed;
+use bridge_port::LARGEST_ROOM;
 use std::alloc::Allocator;
 use std::io::{Read, Write};
 
@@ -21,7 +22,7 @@ pub fn through<R: Read + Drop, W: Write + Drop, A: Allocator + Copy>(
     reader: R,
     writer: W,
 ) -> Result<(WireCount, W), RunFault>
-    requires room { (1 ≤ room) × (room ≤ 4096) }
+    requires room { (1 ≤ room) × (room ≤ LARGEST_ROOM) }
     ensures ok { (text : List ℕ) → R.remaining reader ≡ Some text →
         IfOk result (λ done. Wires speed room text (W.contents writer) (W.contents done.1) done.0) }
     ensures err { (text : List ℕ) → R.remaining reader ≡ Some text → IfErr result (StopsText text) }

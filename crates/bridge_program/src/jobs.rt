@@ -11,6 +11,7 @@ use crate::reading::{ReadFault, read_at_most};
 use crate::text::wire_text;
 use bridge_core::RunFault;
 use bridge_frame::Speed;
+use bridge_port::LARGEST_ROOM;
 use std::alloc::{Allocator, Global};
 use std::io::{Read, Write};
 
@@ -44,7 +45,7 @@ pub fn wire_job<R: Read + Drop, W: Write + Drop>(
     reader: R,
     writer: W,
 ) -> Result<(String, W), Fault>
-    requires room { (1 ≤ room) × (room ≤ 4096) }
+    requires room { (1 ≤ room) × (room ≤ LARGEST_ROOM) }
     ensures ok { (input : List ℕ) → R.remaining reader ≡ Some input →
         IfOk result (λ done. PrintsCounts speed room input (W.contents writer) (W.contents done.1) (string_bytes done.0)) }
     ensures err { (input : List ℕ) → R.remaining reader ≡ Some input → IfErr result (EndsWire input) }

@@ -6,6 +6,7 @@ ghost use Rattle.bridge_frame.specs.declared.Speed.{Speed};
 ghost use Rattle.bridge_program.specs.Numbers.{IsRoom, IsSpeed};
 
 use bridge_frame::Speed;
+use bridge_port::LARGEST_ROOM;
 
 /// The number of a word of decimal digits alone, one or more, where it is below 2^32.
 fn number_of(word: &str) -> Option<u32>
@@ -28,7 +29,7 @@ pub fn room_of(word: &str) -> Option<u16>
     if number == 0 {
         return None;
     }
-    if number > 4096 {
+    if number > LARGEST_ROOM as u32 {
         return None;
     }
     Some(number as u16)
