@@ -1,69 +1,19 @@
 //! Rows for captures.
 ghost use Rattle.std.specs.Prelude.{◌≤◌};
 
-use crate::refusing::RefusesOne;
+use crate::captures::{FRAME, Words, capture_of, capture_under};
 use bridge_capture::{
     ByteSink, ByteSource, Capture, CaptureFault, FromRead, FromWrite, Order, Packet, SliceSource,
     VecSink, Writer, each_text_reads_one_way, written_is_read,
 };
+use bridge_refusing::RefusesOne;
 use std::alloc::{AllocError, Allocator, Global};
 use std::io::{self, Cursor, ErrorKind, Read, Write};
 use std::test::Fail;
 
-const HEADER: [u8; 24] = [
-    0x4d, 0x3c, 0xb2, 0xa1, 2, 0, 4, 0, 0, 0, 0, 0, 0, 0, 0, 0, 0xff, 0xff, 0, 0, 1, 0, 0, 0,
-];
-
-/// The octets of a tagged frame, of which 18 are captured.
-const FRAME: [u8; 18] = [
-    2, 0, 0, 0, 0, 0x0a, 2, 0, 0, 0, 0, 1, 0x81, 0, 0, 0x0a, 0x88, 0xb5,
-];
-
-/// A record: seconds, fraction, captured length, original length.
-pub(crate) type Words = [u32; 4];
-
 const FIRST: Words = [0, 100_000, 18, 60];
 
 const SECOND: Words = [0, 100_001, 18, 60];
-
-fn push_word(text: &mut Vec<u8>, order: Order, word: u32) -> Result<(), AllocError> {
-    let octets = match order {
-        Order::Little => word.to_le_bytes(),
-        Order::Big => word.to_be_bytes(),
-    };
-    text.extend_from_slice(&octets)
-}
-
-/// A capture under this magic: its records' words, each with the frame.
-pub(crate) fn capture_under(
-    alloc: Global,
-    magic: u32,
-    order: Order,
-    records: &[Words],
-) -> Result<Vec<u8>, AllocError> {
-    let mut text = Vec::new(alloc);
-    push_word(&mut text, order, magic)?;
-    let version = match order {
-        Order::Little => [2, 0, 4, 0],
-        Order::Big => [0, 2, 0, 4],
-    };
-    text.extend_from_slice(&version)?;
-    for word in [0, 0, 65_535, 1] {
-        push_word(&mut text, order, word)?;
-    }
-    for words in records {
-        for word in words {
-            push_word(&mut text, order, *word)?;
-        }
-        text.extend_from_slice(&FRAME)?;
-    }
-    Ok(text)
-}
-
-/// A capture in the written form: its records' words, each with the frame.
-pub(crate) fn capture_of(alloc: Global, records: &[Words]) -> Result<Vec<u8>, AllocError> {
-    capture_under(alloc, 0xA1B2_3C4D, Order::Little, records)
-}
 
 /// How many packets a source gives, and its fault.
 fn outcome<R: ByteSource, A: Allocator + Copy>(

@@ -1,31 +1,9 @@
 #![tactic(auto)]
-//! The worked examples of the bridge, as tests on the public calls of its parts.
+//! The worked examples of captures, as tests on the public calls of the crates that read, send and write them.
 
 #[cfg(test)]
 mod capture;
-#[cfg(test)]
-mod check;
-#[cfg(test)]
-mod command;
-#[cfg(test)]
-mod cycle;
-#[cfg(test)]
-mod filter;
-#[cfg(test)]
-mod forward;
-#[cfg(test)]
-mod frame;
-#[cfg(test)]
-mod gate;
-#[cfg(test)]
-mod ident;
-#[cfg(test)]
-mod meter;
-#[cfg(test)]
-mod port;
-#[cfg(test)]
-mod program;
-pub mod refusing;
+pub mod captures;
 #[cfg(test)]
 mod text;
 #[cfg(test)]

@@ -1,6 +1,6 @@
 //! Rows for the hexadecimal text of captures.
-use crate::refusing::RefusesOne;
 use bridge_capture::{CaptureFault, VecSink, Writer};
+use bridge_refusing::RefusesOne;
 use bridge_text::{HexFault, MAX_OCTETS, MAX_TEXT, lines_of, octets_of};
 use std::alloc::{AllocError, Allocator, Global};
 use std::test::Fail;

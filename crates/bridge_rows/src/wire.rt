@@ -1,9 +1,9 @@
 //! One capture through one queue: worked examples of what leaves, of counts and of faults.
-use crate::capture::{Words, capture_of};
-use crate::refusing::RefusesOne;
+use crate::captures::{Words, capture_of};
 use bridge_capture::{ByteSink, ByteSource, CaptureFault, SliceSource, VecSink};
 use bridge_core::{RunFault, WireCount, wire};
 use bridge_frame::Speed;
+use bridge_refusing::RefusesOne;
 use std::alloc::Allocator;
 use std::test::Fail;
 

@@ -5,7 +5,7 @@ use bridge_frame::Speed;
 use bridge_gate::Schedule;
 use bridge_ident::{Kind, TagKind};
 use bridge_keys::PlanFault;
-use bridge_rows::refusing::RefusesOne;
+use bridge_refusing::RefusesOne;
 use std::test::Fail;
 
 const LISTENER: [u8; 6] = [2, 0, 0, 0, 0, 0x0A];

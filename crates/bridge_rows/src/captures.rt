@@ -1,0 +1,51 @@
+//! Captures as octets, each record with the same frame.
+
+use bridge_capture::Order;
+use std::alloc::{AllocError, Global};
+
+/// The octets of a tagged frame, of which 18 are captured.
+pub const FRAME: [u8; 18] = [
+    2, 0, 0, 0, 0, 0x0a, 2, 0, 0, 0, 0, 1, 0x81, 0, 0, 0x0a, 0x88, 0xb5,
+];
+
+/// A record: seconds, fraction, captured length, original length.
+pub type Words = [u32; 4];
+
+fn push_word(text: &mut Vec<u8>, order: Order, word: u32) -> Result<(), AllocError> {
+    let octets = match order {
+        Order::Little => word.to_le_bytes(),
+        Order::Big => word.to_be_bytes(),
+    };
+    text.extend_from_slice(&octets)
+}
+
+/// A capture under this magic: its records' words, each with the frame.
+pub fn capture_under(
+    alloc: Global,
+    magic: u32,
+    order: Order,
+    records: &[Words],
+) -> Result<Vec<u8>, AllocError> {
+    let mut text = Vec::new(alloc);
+    push_word(&mut text, order, magic)?;
+    let version = match order {
+        Order::Little => [2, 0, 4, 0],
+        Order::Big => [0, 2, 0, 4],
+    };
+    text.extend_from_slice(&version)?;
+    for word in [0, 0, 65_535, 1] {
+        push_word(&mut text, order, word)?;
+    }
+    for words in records {
+        for word in words {
+            push_word(&mut text, order, *word)?;
+        }
+        text.extend_from_slice(&FRAME)?;
+    }
+    Ok(text)
+}
+
+/// A capture in the written form: its records' words, each with the frame.
+pub fn capture_of(alloc: Global, records: &[Words]) -> Result<Vec<u8>, AllocError> {
+    capture_under(alloc, 0xA1B2_3C4D, Order::Little, records)
+}

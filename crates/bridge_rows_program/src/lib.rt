@@ -1,0 +1,9 @@
+#![tactic(auto)]
+//! The worked examples of the program, as tests on the public calls from which it is made.
+
+#[cfg(test)]
+mod check;
+#[cfg(test)]
+mod command;
+#[cfg(test)]
+mod program;

@@ -1,0 +1,323 @@
+//! The program over text: worked examples, and the line and the status of each fault.
+use bridge_capture::CaptureFault;
+use bridge_check::CheckFault;
+use bridge_core::RunFault;
+use bridge_cycle::ListFault;
+use bridge_keys::{Field, Place, PlanFault, Section};
+use bridge_program::{Fault, NoMemory, TextFault, fault_line, wire_text};
+use bridge_refusing::RefusesOne;
+use std::alloc::Global;
+use std::test::Fail;
+
+const HEADER: &str = "4d3cb2a1020004000000000000000000ffff000001000000\n";
+
+const ARRIVALS: &str = "4d3cb2a1020004000000000000000000ffff000001000000
+00000000a0860100120000003c00000002000000000a0200000000018100000a88b5
+00000000a1860100120000003c00000002000000000a0200000000018100000a88b5
+";
+
+const DEPARTURES: &str = "4d3cb2a1020004000000000000000000ffff000001000000
+0000000040890100120000003c00000002000000000a0200000000018100000a88b5
+00000000e08b0100120000003c00000002000000000a0200000000018100000a88b5
+";
+
+/// A frame at 100 microseconds, in a capture of microseconds whose words have the high octet first.
+const BIG_ENDIAN: &str = "a1b2c3d40002000400000000000000000000ffff00000001
+0000000000000064000000120000003c02000000000a0200000000018100000a88b5
+";
+
+const FIRST: &str = "4d3cb2a1020004000000000000000000ffff000001000000
+0000000040890100120000003c00000002000000000a0200000000018100000a88b5
+";
+
+#[test]
+fn a_text_goes_through_a_queue(rt: HostRuntime) -> Result<(), Fail> {
+    for (text, want) in [
+        (HEADER, HEADER),
+        (ARRIVALS, DEPARTURES),
+        (BIG_ENDIAN, FIRST),
+    ] {
+        match wire_text(rt.alloc(), text.as_bytes()) {
+            Ok(lines) => assert_eq!(rt; lines.as_str(), want),
+            Err(fault) => panic!(rt; "{fault}"),
+        }
+    }
+    Ok(())
+}
+
+#[test]
+fn a_text_is_refused(rt: HostRuntime) {
+    let cut = RunFault::Capture {
+        port: 1,
+        fault: CaptureFault::HeaderCut,
+    };
+    for (text, want) in [
+        ("", TextFault::Run(cut)),
+        ("4d3cb2a1", TextFault::Run(cut)),
+        ("4", TextFault::NotHex),
+        ("4 d", TextFault::NotHex),
+        ("4x", TextFault::NotHex),
+    ] {
+        let ended = wire_text(rt.alloc(), text.as_bytes());
+        assert_eq!(rt; ended.err(), Some(want), "{text:?}");
+    }
+}
+
+#[test]
+fn each_growth_of_a_text_is_refused_in_turn(rt: HostRuntime) -> Result<(), Fail> {
+    for n in 1..1_000 {
+        let gate = RefusesOne::new(rt.alloc(), n);
+        match wire_text(&gate, ARRIVALS.as_bytes()) {
+            Ok(lines) => assert_eq!(rt; lines.as_str(), DEPARTURES, "growth {n}"),
+            Err(fault) => {
+                assert!(rt; gate.refused());
+                let memory = TextFault::Run(RunFault::NoMemory);
+                let write = TextFault::Run(RunFault::Write { port: 1 });
+                assert!(rt; fault == memory || fault == write, "growth {n}");
+            }
+        }
+        if !gate.refused() {
+            return Ok(());
+        }
+    }
+    Err(Fail::from("some growth was always refused"))
+}
+
+/// A capture's fault by its port, with its line and its status.
+const CAPTURES: [(u8, CaptureFault, &str, u8); 13] = [
+    (
+        1,
+        CaptureFault::RecordCut(3),
+        "capture 1 refused: RecordCut 3",
+        2,
+    ),
+    (2, CaptureFault::BadMagic, "capture 2 refused: BadMagic", 2),
+    (
+        3,
+        CaptureFault::BadVersion,
+        "capture 3 refused: BadVersion",
+        2,
+    ),
+    (
+        4,
+        CaptureFault::BadLinkType,
+        "capture 4 refused: BadLinkType",
+        2,
+    ),
+    (
+        1,
+        CaptureFault::HeaderCut,
+        "capture 1 refused: HeaderCut",
+        2,
+    ),
+    (
+        1,
+        CaptureFault::LengthsCross(1),
+        "capture 1 refused: LengthsCross 1",
+        2,
+    ),
+    (
+        1,
+        CaptureFault::RecordTooLarge(20),
+        "capture 1 refused: RecordTooLarge 20",
+        2,
+    ),
+    (
+        1,
+        CaptureFault::TimeBack(2),
+        "capture 1 refused: TimeBack 2",
+        2,
+    ),
+    (
+        16,
+        CaptureFault::TimeTooLate(1_000_000),
+        "capture 16 refused: TimeTooLate 1000000",
+        2,
+    ),
+    (
+        1,
+        CaptureFault::TooManyRecords,
+        "capture 1 refused: TooManyRecords",
+        2,
+    ),
+    (2, CaptureFault::Read, "capture 2 not read", 3),
+    (2, CaptureFault::Write, "capture 2 not written", 3),
+    (1, CaptureFault::NoMemory, "no memory", 3),
+];
+
+const PORT_SPEED: Place = Place {
+    section: Section::Port,
+    index: 1,
+    field: Field::Mbps,
+};
+
+const GATE_BASE: Place = Place {
+    section: Section::Gate,
+    index: 2,
+    field: Field::Base,
+};
+
+const MEMBERS: Place = Place {
+    section: Section::Vlan,
+    index: 1,
+    field: Field::Members,
+};
+
+/// A plan's fault, with its line and its status.
+const PLANS: [(PlanFault, &str, u8); 19] = [
+    (PlanFault::Syntax, "plan refused: Syntax", 1),
+    (PlanFault::TooLong, "plan refused: TooLong", 1),
+    (PlanFault::NoPorts, "plan refused: NoPorts", 1),
+    (
+        PlanFault::UnknownKey(Section::Top, 0),
+        "plan refused: UnknownKey top",
+        1,
+    ),
+    (
+        PlanFault::UnknownKey(Section::Gate, 2),
+        "plan refused: UnknownKey gate 2",
+        1,
+    ),
+    (
+        PlanFault::NotAList(Section::Port),
+        "plan refused: NotAList port",
+        1,
+    ),
+    (
+        PlanFault::Missing(PORT_SPEED),
+        "plan refused: Missing port 1 mbps",
+        1,
+    ),
+    (
+        PlanFault::WrongKind(PORT_SPEED),
+        "plan refused: WrongKind port 1 mbps",
+        1,
+    ),
+    (
+        PlanFault::OutOfRange(GATE_BASE),
+        "plan refused: OutOfRange gate 2 base",
+        1,
+    ),
+    (
+        PlanFault::Duplicate(Section::Port, 2),
+        "plan refused: Duplicate port 2",
+        1,
+    ),
+    (
+        PlanFault::Unresolved(MEMBERS),
+        "plan refused: Unresolved vlan 1 members",
+        1,
+    ),
+    (
+        PlanFault::TooMany(Section::Gate),
+        "plan refused: TooMany gate",
+        1,
+    ),
+    (
+        PlanFault::BadList(Section::Port, 3, ListFault::OverCycle),
+        "plan refused: BadList port 3 OverCycle",
+        1,
+    ),
+    (
+        PlanFault::BadList(Section::Gate, 1, ListFault::Empty),
+        "plan refused: BadList gate 1 Empty",
+        1,
+    ),
+    (
+        PlanFault::BadList(Section::Gate, 1024, ListFault::ZeroInterval),
+        "plan refused: BadList gate 1024 ZeroInterval",
+        1,
+    ),
+    (
+        PlanFault::BadList(Section::Port, 16, ListFault::CycleOutOfRange),
+        "plan refused: BadList port 16 CycleOutOfRange",
+        1,
+    ),
+    (
+        PlanFault::BadList(Section::Port, 1, ListFault::TooManyEntries),
+        "plan refused: BadList port 1 TooManyEntries",
+        1,
+    ),
+    (
+        PlanFault::BadList(Section::Port, 1, ListFault::NoMemory),
+        "no memory",
+        3,
+    ),
+    (PlanFault::NoMemory, "no memory", 3),
+];
+
+/// Each fault with its line and its status.
+fn said(alloc: Global) -> Result<Vec<(Fault, &'static str, u8)>, Fail> {
+    let cut = RunFault::Capture {
+        port: 1,
+        fault: CaptureFault::HeaderCut,
+    };
+    let path = String::from_str(alloc, "a/b.pcap")?;
+    let others = [
+        (Fault::Text(TextFault::NotHex), "text refused: NotHex", 2),
+        (Fault::Text(TextFault::TooLong), "text refused: TooLong", 2),
+        (
+            Fault::Text(TextFault::Run(cut)),
+            "capture 1 refused: HeaderCut",
+            2,
+        ),
+        (
+            Fault::Run(RunFault::Write { port: 3 }),
+            "capture 3 not written",
+            3,
+        ),
+        (Fault::Run(RunFault::NoMemory), "no memory", 3),
+        (
+            Fault::Check(CheckFault::MaxSduNeverFits {
+                filter: 4_294_967_295,
+                port: 16,
+                class: 0,
+            }),
+            "plan refused: MaxSduNeverFits filter 4294967295 port 16 class 0",
+            1,
+        ),
+        (Fault::Check(CheckFault::NoMemory), "no memory", 3),
+        (Fault::Words, "command line refused", 4),
+        (Fault::File(path), "file a/b.pcap", 3),
+    ];
+    let mut rows = Vec::from_array(alloc, others)?;
+    for (port, fault, line, status) in CAPTURES {
+        let fault = Fault::Run(RunFault::Capture { port, fault });
+        rows.push((fault, line, status))?;
+    }
+    for (fault, line, status) in PLANS {
+        rows.push((Fault::Plan(fault), line, status))?;
+    }
+    Ok(rows)
+}
+
+#[test]
+fn a_fault_has_a_line_and_a_status(rt: HostRuntime) -> Result<(), Fail> {
+    for (fault, want, wanted) in &said(rt.alloc())? {
+        let (line, status) = fault_line(rt.alloc(), fault)?;
+        assert_eq!(rt; line.as_str(), *want);
+        assert_eq!(rt; status, *wanted, "{line}");
+    }
+    Ok(())
+}
+
+#[test]
+fn each_growth_of_a_line_is_refused_in_turn(rt: HostRuntime) -> Result<(), Fail> {
+    for (fault, want, _) in &said(rt.alloc())? {
+        for n in 1..1_000 {
+            let gate = RefusesOne::new(rt.alloc(), n);
+            let line = fault_line(&gate, fault);
+            match line {
+                Ok((line, _)) => assert_eq!(rt; line.as_str(), *want, "growth {n}"),
+                Err(fault) => {
+                    assert_eq!(rt; fault, NoMemory);
+                    assert!(rt; gate.refused());
+                }
+            }
+            if !gate.refused() {
+                break;
+            }
+        }
+    }
+    Ok(())
+}
