@@ -1,0 +1,112 @@
+//! What is made in an allocator lies there, whichever allocator its parts have.
+use crate::account::{Account, Counting, NEVER, account_of, counting};
+use crate::parts::{HALVES, list_of, plan_in, window_of};
+use bridge_cycle::CyclicList;
+use std::alloc::Global;
+use std::test::Fail;
+
+/// What is made of something that lies in another heap.
+#[derive(Clone, Copy, Debug, PartialEq, Eq)]
+enum Made {
+    List,
+    ListCopy,
+    ScheduleCopy,
+    GatePlanCopy,
+    PortNumbers,
+    FilterNumbers,
+}
+
+const MADE: [Made; 6] = [
+    Made::List,
+    Made::ListCopy,
+    Made::ScheduleCopy,
+    Made::GatePlanCopy,
+    Made::PortNumbers,
+    Made::FilterNumbers,
+];
+
+/// What the first heap tells before and after something of it is made in the second one, and the octets of that.
+#[derive(Clone, Copy, Debug, PartialEq, Eq)]
+struct Making {
+    before: Account,
+    after: Account,
+    made: usize,
+}
+
+fn made_in(from: &Counting, to: &Counting, before: Account) -> Making {
+    Making {
+        before,
+        after: account_of(from),
+        made: account_of(to).used,
+    }
+}
+
+fn new_list(from: &Counting, to: &Counting) -> Result<Making, Fail> {
+    let entries = Vec::from_slice(from, &HALVES)?;
+    let before = account_of(from);
+    let _list = CyclicList::new(to, 0, 1_000_000, entries)?;
+    Ok(made_in(from, to, before))
+}
+
+fn list_copy(from: &Counting, to: &Counting) -> Result<Making, Fail> {
+    let list = list_of(from)?;
+    let before = account_of(from);
+    let _copy = list.copy(to)?;
+    Ok(made_in(from, to, before))
+}
+
+fn schedule_copy(from: &Counting, to: &Counting) -> Result<Making, Fail> {
+    let plan = window_of(from)?;
+    let before = account_of(from);
+    let _copy = plan.schedule.copy(to)?;
+    Ok(made_in(from, to, before))
+}
+
+fn gate_plan_copy(from: &Counting, to: &Counting) -> Result<Making, Fail> {
+    let plan = window_of(from)?;
+    let before = account_of(from);
+    let _copy = plan.copy(to)?;
+    Ok(made_in(from, to, before))
+}
+
+fn port_numbers(from: &Counting, to: &Counting, document: Global) -> Result<Making, Fail> {
+    let plan = plan_in(from, document)?;
+    let before = account_of(from);
+    let _numbers = plan.port_numbers(to)?;
+    Ok(made_in(from, to, before))
+}
+
+fn filter_numbers(from: &Counting, to: &Counting, document: Global) -> Result<Making, Fail> {
+    let plan = plan_in(from, document)?;
+    let before = account_of(from);
+    let _numbers = plan.filter_numbers(to)?;
+    Ok(made_in(from, to, before))
+}
+
+fn make(made: Made, from: &Counting, to: &Counting, document: Global) -> Result<Making, Fail> {
+    match made {
+        Made::List => new_list(from, to),
+        Made::ListCopy => list_copy(from, to),
+        Made::ScheduleCopy => schedule_copy(from, to),
+        Made::GatePlanCopy => gate_plan_copy(from, to),
+        Made::PortNumbers => port_numbers(from, to, document),
+        Made::FilterNumbers => filter_numbers(from, to, document),
+    }
+}
+
+#[test]
+fn a_copy_lies_in_the_allocator_of_its_call(rt: HostRuntime) -> Result<(), Fail> {
+    let from = counting(rt.alloc(), NEVER)?;
+    for made in MADE {
+        let to = counting(rt.alloc(), NEVER)?;
+        let making = make(made, &from, &to, rt.alloc())?;
+        assert_eq!(rt; making.after, making.before, "{made:?}");
+        assert!(rt; making.made > 0, "{made:?}");
+        assert_eq!(rt;
+            (from.inner().used(), to.inner().used()),
+            (0, 0),
+            "{made:?}"
+        );
+    }
+    Ok(())
+}

@@ -1,0 +1,206 @@
+//! One of each part, made in an allocator.
+ghost use Rattle.std.specs.Prelude.{◌≡◌, true, IfOk, IsTrue};
+ghost use Rattle.bridge_gate.specs.Schedules.{has_priorities};
+ghost use Rattle.bridge_filter.specs.Plans.{is_there, are_distinct, all_have_priorities};
+
+use bridge_config::{Plan, PlanFault, plan_of};
+use bridge_cycle::{CyclicList, ListFault};
+use bridge_filter::{FilterPlan, NoMemory, Police};
+use bridge_forward::{Forwarding, PortSet, StaticEntry, Vlan};
+use bridge_frame::Speed;
+use bridge_gate::{GateEntry, GatePlan, Schedule};
+use bridge_ident::{Ident, Kind, StreamEntry, TagKind};
+use bridge_meter::MeterPlan;
+use bridge_port::Port;
+use std::alloc::{AllocError, Allocator, Global};
+
+pub(crate) const TALKER: [u8; 6] = [2, 0, 0, 0, 0, 1];
+
+pub(crate) const LISTENER: [u8; 6] = [2, 0, 0, 0, 0, 10];
+
+/// Three ports, the last with a list, a gate with a list for the protected filter of one stream, and a gate that is
+/// always open for the filter of all else.
+const PLAN: &str = "
+[[port]]
+number = 1
+mbps = 1000
+rooms = [4, 4, 4, 4, 4, 4, 4, 4]
+[[port]]
+number = 2
+mbps = 1000
+rooms = [4, 4, 4, 4, 4, 4, 4, 4]
+[[port]]
+number = 3
+mbps = 1000
+rooms = [4, 4, 4, 4, 4, 4, 4, 4]
+cycle = 1000000
+gates = [{ open = [7], ns = 500000 }, { open = [0, 1, 2, 3, 4, 5, 6], ns = 500000 }]
+[[vlan]]
+vid = 10
+members = [1, 2, 3]
+[[static]]
+vid = 10
+address = \"02-00-00-00-00-0A\"
+ports = [3]
+[[stream]]
+handle = 1
+port = 1
+kind = \"null\"
+address = \"02-00-00-00-00-0A\"
+vid = 10
+tag = \"tagged\"
+[[gate]]
+number = 1
+cycle = 1000000
+entries = [{ open = true, ns = 300000, ipv = 7, octets = 600 }, { open = false, ns = 700000 }]
+[[gate]]
+number = 99
+state = \"open\"
+ipv = 0
+[[meter]]
+number = 6
+cir = 1
+cbs = 2
+eir = 3
+ebs = 4
+[[filter]]
+number = 10
+handle = 1
+gate = 1
+max_sdu = 500
+protected = true
+[[filter]]
+number = 99
+gate = 99
+";
+
+/// Class 7 in the first half of each millisecond, the other classes in the second half.
+pub(crate) const HALVES: [(u8, u64); 2] = [(0b1000_0000, 500_000), (0b0111_1111, 500_000)];
+
+/// The filter of one stream, with gate 1 and meter 5 and at most 500 octets.
+const FILTER: FilterPlan = FilterPlan {
+    handle: Some(1),
+    priority: None,
+    gate: 1,
+    max_sdu: Some(500),
+    meter: Some(5),
+    block_oversize: true,
+    protected: true,
+};
+
+/// An excess bucket of 64 octets, and no rate.
+pub(crate) const METER: MeterPlan = MeterPlan {
+    cir: 0,
+    cbs: 0,
+    eir: 0,
+    ebs: 64,
+    coupling: false,
+    aware: false,
+    drop_yellow: false,
+    mark_all_red: true,
+};
+
+/// A list whose base is 0 and whose cycle is a millisecond.
+pub(crate) fn list_of<A: Allocator + Copy>(alloc: A) -> Result<CyclicList<u8, A>, ListFault> {
+    CyclicList::new(alloc, 0, 1_000_000, Vec::from_slice(alloc, &HALVES)?)
+}
+
+/// What becomes of a list with an interval of 0.
+pub(crate) fn wrong_list<A: Allocator + Copy>(alloc: A) -> Result<CyclicList<u8, A>, ListFault> {
+    CyclicList::new(alloc, 0, 1_000_000, Vec::from_slice(alloc, &[(1u8, 0u64)])?)
+}
+
+/// Open for priority 7 with 600 octets for 300,000 ns, then closed for 700,000 ns; each flag may shut it.
+pub(crate) fn window_of<A: Allocator + Copy>(alloc: A) -> Result<GatePlan<A>, NoMemory>
+    ensures { IfOk result (λ g. has_priorities g.schedule ≡ true) }
+{
+    let open = GateEntry {
+        lets: true,
+        ipv: Some(7),
+        octets: Some(600),
+    };
+    let closed = GateEntry {
+        lets: false,
+        ipv: None,
+        octets: None,
+    };
+    let entries = Vec::from_slice(alloc, &[(open, 300_000), (closed, 700_000)])?;
+    match CyclicList::new(alloc, 0, 1_000_000, entries) {
+        Ok(list) => Ok(GatePlan {
+            shut_on_rx: true,
+            shut_on_octets: true,
+            schedule: Schedule::Cyclic(list),
+        }),
+        Err(_) => Err(NoMemory),
+    }
+}
+
+/// A table of one stream.
+pub(crate) fn ident_of<A: Allocator + Copy>(alloc: A) -> Result<Ident<A>, AllocError> {
+    let entry = StreamEntry {
+        handle: 1,
+        port: 1,
+        kind: Kind::Null,
+        address: LISTENER,
+        vid: 10,
+        tag: TagKind::All,
+    };
+    Ok(Ident::new(Vec::from_slice(alloc, &[entry])?))
+}
+
+/// VLAN 10 of the ports 1, 2 and 3, and a static entry that sends frames to the listener to port 3.
+pub(crate) fn database_of<A: Allocator + Copy>(
+    alloc: A,
+) -> Result<Forwarding<A>, bridge_forward::NoMemory> {
+    let vlan = Vlan {
+        vid: 10,
+        members: PortSet::of_bits(0b111),
+    };
+    let entry = StaticEntry {
+        vid: 10,
+        address: LISTENER,
+        ports: PortSet::of_bits(0b100),
+    };
+    let vlans = Vec::from_slice(alloc, &[vlan])?;
+    let statics = Vec::from_slice(alloc, &[entry])?;
+    Forwarding::new(alloc, vlans, statics)
+}
+
+/// Gate 1.
+fn gates_of<A: Allocator + Copy>(alloc: A) -> Result<Vec<(u32, GatePlan<A>), A>, NoMemory>
+    ensures distinct { IfOk result (λ v. are_distinct v.items ≡ true) }
+    ensures priorities { IfOk result (λ v. all_have_priorities v.items ≡ true) }
+    ensures there { IfOk result (λ v. is_there 1 v.items ≡ true) }
+{
+    let window = window_of(alloc)?;
+    let mut gates = Vec::with_capacity(alloc, 1)?;
+    if gates.push((1, window)).is_err() {
+        return Err(NoMemory);
+    }
+    Ok(gates)
+}
+
+/// The police of filter 10, with gate 1 and meter 5.
+pub(crate) fn police_of<A: Allocator + Copy>(alloc: A) -> Result<Police<A>, NoMemory>
+    ensures filter { IfOk result (λ p. IsTrue (is_there 10 p.filters)) }
+    ensures gate { IfOk result (λ p. IsTrue (is_there 1 p.gates)) }
+    ensures meter { IfOk result (λ p. IsTrue (is_there 5 p.meters)) }
+{
+    let filters = Vec::from_slice(alloc, &[(10, FILTER)])?;
+    let gates = gates_of(alloc)?;
+    let meters = Vec::from_slice(alloc, &[(5, METER)])?;
+    Police::new(alloc, filters, gates, meters)
+}
+
+/// A port with a list, and with one place for each class.
+pub(crate) fn port_of<A: Allocator + Copy>(alloc: A) -> Result<Port<u32, A>, NoMemory> {
+    let Ok(list) = list_of(alloc) else {
+        return Err(NoMemory);
+    };
+    Port::new(alloc, Speed::Mbps1000, Some(list), [1; 8])
+}
+
+/// The plan of a text, whose document lies in `heap`.
+pub(crate) fn plan_in<A: Allocator + Copy>(alloc: A, heap: Global) -> Result<Plan<A>, PlanFault> {
+    plan_of(alloc, heap, PLAN.as_bytes())
+}

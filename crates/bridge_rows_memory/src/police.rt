@@ -1,0 +1,107 @@
+//! A police takes no memory and gives none back.
+ghost use Rattle.std.specs.Prelude.{◌≡◌, IsTrue};
+ghost use Rattle.bridge_filter.specs.Plans.{is_there, KeepsNumbers};
+
+use crate::account::{NEVER, account_of, counting};
+use crate::parts::police_of;
+use bridge_filter::Verdict::{
+    Blocked, GateClosed, OctetsExceeded, Oversize, Pass, Red, ShutByOctets, ShutByRx,
+};
+use bridge_filter::{Clear, Flags, Police, Ruling, Verdict};
+use std::alloc::Allocator;
+use std::process::Abort;
+use std::test::Fail;
+
+/// Let through by the gate, and yellow.
+const YELLOW: Verdict = Pass {
+    ipv: Some(7),
+    eligible: true,
+};
+
+const NO_FLAGS: Flags = Flags {
+    blocked: false,
+    rx: false,
+    octets: false,
+    red: false,
+};
+
+/// Gives the police frames of the stream, each with its moment and its octets, and compares the verdicts.
+fn verdicts<A: Allocator + Copy>(
+    rt: &impl Abort,
+    police: &mut Police<A>,
+    frames: &[(u64, u32, Verdict)],
+)
+    ensures filters { police.new.filters ≡ police.old.filters }
+    ensures gates { KeepsNumbers police.old.gates police.new.gates }
+    ensures meters { KeepsNumbers police.old.meters police.new.meters }
+{
+    for (t, sdu, wanted) in frames {
+        assert!(rt; police.earliest() <= *t && *t < 4_000_000_000_000_000_000);
+        assert!(rt; police.calls() < 1000);
+        let ruling = police.pass(*t, Some(1), 0, false, *sdu, 64);
+        let wanted = Ruling {
+            filter: 10,
+            verdict: *wanted,
+        };
+        assert!(rt; ruling == Some(wanted), "the frame at {t}");
+    }
+}
+
+/// Clears each flag.
+fn clear_all<A: Allocator + Copy>(police: &mut Police<A>)
+    requires filter { IsTrue (is_there 10 police.old.filters) }
+    requires gate { IsTrue (is_there 1 police.old.gates) }
+    requires meter { IsTrue (is_there 5 police.old.meters) }
+    ensures filters { police.new.filters ≡ police.old.filters }
+{
+    police.clear(Clear::Blocked, 10);
+    police.clear(Clear::Rx, 1);
+    police.clear(Clear::Octets, 1);
+    police.clear(Clear::Red, 5);
+}
+
+/// What is shown of filter 10.
+fn show<A: Allocator + Copy>(rt: &impl Abort, police: &Police<A>, wanted: Flags, frames: u64)
+    requires { IsTrue (is_there 10 police.now.filters) }
+{
+    assert!(rt; police.flags(10) == wanted);
+    assert_eq!(rt; police.counters(10).matching, frames);
+    assert!(rt; police.buckets(10).is_some());
+    assert_eq!(rt; police.calls(), frames);
+    assert!(rt; police.filter_of(Some(1), 0) == Some(10));
+    assert!(rt; police.filter_of(None, 0) == None);
+}
+
+#[test]
+fn a_police_takes_no_memory(rt: HostRuntime) -> Result<(), Fail> {
+    let heap = counting(rt.alloc(), NEVER)?;
+    let mut police = police_of(&heap)?;
+    let made = account_of(&heap);
+    assert!(rt; made.left < NEVER && made.used > 0);
+    let first = [
+        (0, 44, YELLOW),
+        (0, 44, Red),
+        (300_000, 44, GateClosed),
+        (1_000_000, 44, ShutByRx),
+        (1_000_000, 501, Oversize),
+        (1_000_000, 44, Blocked),
+    ];
+    verdicts(&rt, &mut police, &first);
+    let flags = Flags {
+        blocked: true,
+        rx: true,
+        octets: false,
+        red: true,
+    };
+    show(&rt, &police, flags, 6);
+    clear_all(&mut police);
+    show(&rt, &police, NO_FLAGS, 6);
+    let second = [
+        (1_010_000, 500, Red),
+        (1_020_000, 101, OctetsExceeded),
+        (1_030_000, 44, ShutByOctets),
+    ];
+    verdicts(&rt, &mut police, &second);
+    assert_eq!(rt; account_of(&heap), made);
+    Ok(())
+}

@@ -1,0 +1,98 @@
+//! Where something can't be made, all that was handed in is given back.
+use crate::account::{Counting, counting};
+use crate::parts::{
+    database_of, ident_of, list_of, plan_in, police_of, port_of, window_of, wrong_list,
+};
+use bridge_check::check;
+use std::alloc::Global;
+use std::process::Abort;
+use std::test::Fail;
+
+/// What is made, of parts that are made before it.
+#[derive(Clone, Copy, Debug, PartialEq, Eq)]
+enum Made {
+    List,
+    WrongList,
+    ListCopy,
+    GatePlanCopy,
+    Ident,
+    Database,
+    Police,
+    Port,
+    Plan,
+    Accepted,
+}
+
+const MADE: [Made; 10] = [
+    Made::List,
+    Made::WrongList,
+    Made::ListCopy,
+    Made::GatePlanCopy,
+    Made::Ident,
+    Made::Database,
+    Made::Police,
+    Made::Port,
+    Made::Plan,
+    Made::Accepted,
+];
+
+fn copies_list(heap: &Counting) -> bool {
+    match list_of(heap) {
+        Ok(list) => list.copy(heap).is_ok(),
+        Err(_) => false,
+    }
+}
+
+fn copies_gate_plan(heap: &Counting) -> bool {
+    match window_of(heap) {
+        Ok(plan) => plan.copy(heap).is_ok(),
+        Err(_) => false,
+    }
+}
+
+fn accepts(heap: &Counting, document: Global) -> bool {
+    match plan_in(heap, document) {
+        Ok(plan) => check(heap, plan).is_ok(),
+        Err(_) => false,
+    }
+}
+
+/// Whether something can be made. It is dropped then.
+fn is_made(made: Made, heap: &Counting, document: Global) -> bool {
+    match made {
+        Made::List => list_of(heap).is_ok(),
+        Made::WrongList => wrong_list(heap).is_ok(),
+        Made::ListCopy => copies_list(heap),
+        Made::GatePlanCopy => copies_gate_plan(heap),
+        Made::Ident => ident_of(heap).is_ok(),
+        Made::Database => database_of(heap).is_ok(),
+        Made::Police => police_of(heap).is_ok(),
+        Made::Port => port_of(heap).is_ok(),
+        Made::Plan => plan_in(heap, document).is_ok(),
+        Made::Accepted => accepts(heap, document),
+    }
+}
+
+/// Refuses each growth in turn, and sees that nothing is in use afterwards.
+fn refuse_each(rt: &impl Abort, document: Global, made: Made) -> Result<(), Fail> {
+    for n in 1..1_000 {
+        let heap = counting(document, n)?;
+        let is_made = is_made(made, &heap, document);
+        assert_eq!(rt; heap.inner().used(), 0, "{made:?}, growth {n}");
+        if !heap.refused() {
+            assert_eq!(rt; is_made, made != Made::WrongList, "{made:?}");
+            assert!(rt; n > 1, "{made:?}");
+            return Ok(());
+        }
+        assert!(rt; !is_made, "{made:?}, growth {n}");
+    }
+    Err(Fail::from("some growth was always refused"))
+}
+
+#[test]
+fn what_is_refused_gives_all_back(rt: HostRuntime) -> Result<(), Fail> {
+    for made in MADE {
+        refuse_each(&rt, rt.alloc(), made)?;
+    }
+    Ok(())
+}
