@@ -1,11 +1,11 @@
 -- The root of a tournament tree has the least moment.
-use Rattle.std.proofs.Common.{◌≡◌, ◌≢◌, ℕ, Bool, true, false, ◌+◌, ◌-◌, ◌*◌, ◌<◌, ◌≤◌, arith, refl, ap, ◌∙◌, sym, subst, inl, inr, Option, Some, None, List, [], ◌∷◌, length, zero, suc}
-use Rattle.std.specs.Prelude.{◌⊎◌, nat_le, nat_lt, ◌&&◌, if◌then◌else◌, slice_index_or}
+use Rattle.std.proofs.Common.{◌≡◌, ℕ, Bool, true, false, ◌+◌, ◌*◌, ◌<◌, ◌≤◌, arith, refl, sym, subst, inl, inr, Option, Some, None, List, [], ◌∷◌, length, zero, suc}
+use Rattle.std.specs.Prelude.{◌⊎◌, nat_le, nat_lt, slice_index_or}
 use Rattle.std.proofs.lemmas.List.{get_or_past}
 use Rattle.std.proofs.lemmas.Bool.{cases_lt}
 use Rattle.std.proofs.lemmas.Bool.Decides.{nat_tests}
 use Rattle.bridge_events.specs.Least.{IsLeast, earlier}
-use Rattle.bridge_events.specs.Tree.{IsTree, IsWon, AreWon, in_tree, node_at, moment_of}
+use Rattle.bridge_events.specs.Tree.{IsTree, in_tree, node_at}
 use Rattle.bridge_events.proofs.Rows.{by_bool, none_of, none_some, some_is}
 
 -- Nodes that are all empty.
