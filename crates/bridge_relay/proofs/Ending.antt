@@ -1,5 +1,5 @@
 -- The run that a bridge stands for.
-use Rattle.std.proofs.Common.{◌≡◌, ℕ, suc, ◌+◌, ◌<◌, ◌≤◌, List, [], ◌∷◌, arith, refl, ap, ◌∙◌, sym, subst, Option, Some, None}
+use Rattle.std.proofs.Common.{◌≡◌, ℕ, zero, suc, ◌+◌, ◌<◌, ◌≤◌, List, [], ◌∷◌, arith, refl, ap, ◌∙◌, sym, subst, Option, Some, None}
 use Rattle.std.specs.Prelude.{slice_index_or}
 use Rattle.bridge_capture.specs.Grammar.{Captured}
 use Rattle.bridge_cycle.specs.Cyclic.{Cyclic}
@@ -19,7 +19,7 @@ use Rattle.bridge_config.specs.Rules.{port_at}
 use Rattle.bridge_run.specs.declared.load.Load.{Load}
 use Rattle.bridge_run.specs.Events.{Event}
 use Rattle.bridge_run.specs.Offers.{Carried, carried, egress}
-use Rattle.bridge_run.specs.Outputs.{IsOutput, Reaches}
+use Rattle.bridge_run.specs.Outputs.{IsOutput, Reaches, HasRun}
 use Rattle.bridge_run.specs.Runs.{IsRun, AreWhole}
 use Rattle.bridge_parts.specs.declared.slot.Slot.{Slot}
 use Rattle.bridge_parts.specs.Ports.{slot_at, AreKept, NotBefore}
@@ -85,6 +85,38 @@ pub reaches_of : {G A : Type 0} (held : G → ℕ → Option ℕ) (p : Plan A) (
 reaches_of held p b es left h st sound kept late due = record {
   lists = seen st.lists;
   run = run_of held p b es left h st sound kept late due;
+  output = output_of held p b es left st sound;
+}
+
+-- the moment up to which a port has run
+abbrev moment_of : {A : Type 0} → Option (Slot A) → ℕ
+moment_of None = 0
+moment_of (Some s) = s.port.earliest
+
+moment_some : {A : Type 0} (o : Option (Slot A)) (s : Slot A) → o ≡ Some s → s.port.earliest ≡ moment_of o
+moment_some o s e = ap moment_of (sym e)
+
+moment_within : {A : Type 0} (o : Option (Slot A)) (t : ℕ) → ((s : Slot A) → o ≡ Some s → s.port.earliest ≤ t) → moment_of o ≤ t
+moment_within None t h = omega arith
+moment_within (Some s) t h = h s refl
+
+moments_within : {G A : Type 0} (held : G → ℕ → Option ℕ) (b : RelayState G A) (t : ℕ) → IsSound held b → b.earliest ≤ t → (q : ℕ) → moment_of (slot_at b.ports q) ≤ t
+moments_within held b t sound late zero = moment_within (slot_at b.ports 1) t (λ s e. let early = (sound.early 1 s (omega arith) e).0 in omega (arith, early, late))
+moments_within held b t sound late (suc n) = moment_within (slot_at b.ports (suc n)) t (λ s e. let early = (sound.early (suc n) s (omega arith) e).0 in omega (arith, early, late))
+
+-- the run so far of a bridge at which starts may be due
+pub ran_of : {G A : Type 0} (held : G → ℕ → Option ℕ) (p : Plan A) (b : RelayState G A) (es : List Event) (left : ℕ → List Captured) (until : Option ℕ) → Stands p b es left → IsSound held b → ((t : ℕ) → until ≡ Some t → b.earliest ≤ t) → HasRun p es until left
+ran_of {G} {A} held p b es left until st sound early = record {
+  moments = λ q. moment_of (slot_at b.ports q);
+  lists = seen st.lists;
+  run = record {
+    offers = st.offers;
+    lawful = λ q out e.
+        let s = stood held p b st.plan sound q out e in
+        subst (λ (h : ℕ). IsLawful (egress out) h (seen st.lists q)) (moment_some (slot_at b.ports q) s.slot s.there) (lawful_out out s.slot s.slot.port.earliest (st.lists q) s.made (st.each q s.slot s.from s.there).lawful);
+    others = λ q e. ap (all_seen carried) (st.others q e);
+  };
+  within = λ q t is. moments_within held b t sound (early t is) q;
   output = output_of held p b es left st sound;
 }
 

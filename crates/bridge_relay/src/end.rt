@@ -1,5 +1,5 @@
 //! How a bridge ends.
-ghost use Rattle.std.specs.Prelude.{◌≡◌, ℕ, true, ◌<◌, ◌≤◌, List, [], Some, None, length, nat_eq, vec_capacity};
+ghost use Rattle.std.specs.Prelude.{◌≡◌, ℕ, true, ◌<◌, ◌≤◌, List, [], Option, Some, None, length, nat_eq, vec_capacity};
 ghost use Rattle.std.specs.Map.{lookup};
 ghost use Rattle.bridge_base.specs.Members.{In, Rising};
 ghost use Rattle.bridge_capture.specs.Grammar.{Captured};
@@ -9,7 +9,7 @@ ghost use Rattle.bridge_filter.specs.Plans.{is_there};
 ghost use Rattle.bridge_port.specs.Schedule.{Copy};
 ghost use Rattle.bridge_run.specs.Events.{Event, own};
 ghost use Rattle.bridge_run.specs.Offers.{Carried};
-ghost use Rattle.bridge_run.specs.Outputs.{Reaches, Ends};
+ghost use Rattle.bridge_run.specs.Outputs.{Reaches, HasRun, Ends};
 ghost use Rattle.bridge_run.specs.Runs.{IsOutcome, IsSoloView, TellTheSame};
 ghost use Rattle.bridge_parts.specs.Ports.{NotBefore};
 ghost use Rattle.bridge_parts.specs.Tables.{change};
@@ -85,9 +85,11 @@ fn views_of<A: Allocator + Copy>(
 }
 
 impl<'a, G: Agenda + Drop, A: Allocator + Copy> Relay<'a, G, A> {
-    /// Up to each moment before which no start is due, the ports have done what they had to do.
+    /// Up to each moment before which no start is due, the ports have done what they had to do; and each port has up to a
+    /// moment of its own, whatever is due.
     pub fn reached(&self)
-        ensures { (p : config.Plan A) (es : List Event) (left : ℕ → List Captured) (h : ℕ) → Stands p self.now es left → self.now.earliest ≤ h → NotBefore (G.held self.now.ports.agenda) h → Reaches p es h left }
+        ensures reaches { (p : config.Plan A) (es : List Event) (left : ℕ → List Captured) (h : ℕ) → Stands p self.now es left → self.now.earliest ≤ h → NotBefore (G.held self.now.ports.agenda) h → Reaches p es h left }
+        ensures ran { (p : config.Plan A) (es : List Event) (left : ℕ → List Captured) (until : Option ℕ) → Stands p self.now es left → ((t : ℕ) → until ≡ Some t → self.now.earliest ≤ t) → HasRun p es until left }
     {
         self.ports.keep();
     }

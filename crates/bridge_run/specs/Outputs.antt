@@ -1,5 +1,5 @@
 -- What leaves a port.
-use Rattle.std.specs.Prelude.{◌≡◌, ℕ, ◌+◌, ◌<◌, List, Some, ◌↔◌}
+use Rattle.std.specs.Prelude.{◌≡◌, ℕ, ◌+◌, ◌<◌, ◌≤◌, List, Option, Some, ◌↔◌}
 use Rattle.bridge_base.specs.Members.{In, Rising}
 use Rattle.bridge_capture.specs.Grammar.{Captured}
 use Rattle.bridge_frame.specs.declared.Speed.{Speed}
@@ -37,6 +37,14 @@ pub record IsOutput (speed : Speed) (copies : List (Copy Carried)) (left : List 
 pub record Reaches {A : Type 0} (p : Plan A) (es : List Event) (moment : ℕ) (left : ℕ → List Captured) : Type 0 where
   pub lists : ℕ → List (Copy Carried)
   pub run : IsRun p es (λ q. moment) lists
+  pub output : (q : ℕ) (out : PortPlan A) → port_at p.ports q ≡ Some out → IsOutput out.speed (lists q) (left q)
+
+-- a run of these events, each port up to a moment of its own, none after this one, and what has left its ports
+pub record HasRun {A : Type 0} (p : Plan A) (es : List Event) (until : Option ℕ) (left : ℕ → List Captured) : Type 0 where
+  pub moments : ℕ → ℕ
+  pub lists : ℕ → List (Copy Carried)
+  pub run : IsRun p es moments lists
+  pub within : (q t : ℕ) → until ≡ Some t → moments q ≤ t
   pub output : (q : ℕ) (out : PortPlan A) → port_at p.ports q ≡ Some out → IsOutput out.speed (lists q) (left q)
 
 -- a whole run of these events, what it tells, and what has left its ports
