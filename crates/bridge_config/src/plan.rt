@@ -170,7 +170,11 @@ fn numbers_of_ports<A: Allocator + Copy, B: Allocator + Copy>(
 ) -> Result<Vec<u8, B>, AllocError>
     ensures { IfOk result (λ v. v.items ≡ map (λ p. p.number) ports.now) }
 {
-    ports.iter().map(|port| port.number).collect(alloc)
+    let mut numbers = Vec::with_capacity(alloc, ports.len())?;
+    for port in ports {
+        numbers.push(port.number).map_err(AllocError::from)?;
+    }
+    Ok(numbers)
 }
 
 /// The numbers of filters, in their order.
@@ -180,7 +184,11 @@ fn numbers_of_filters<B: Allocator + Copy>(
 ) -> Result<Vec<u32, B>, AllocError>
     ensures { IfOk result (λ v. v.items ≡ map (λ f. f.0) filters.now) }
 {
-    filters.iter().map(|filter| filter.0).collect(alloc)
+    let mut numbers = Vec::with_capacity(alloc, filters.len())?;
+    for filter in filters {
+        numbers.push(filter.0).map_err(AllocError::from)?;
+    }
+    Ok(numbers)
 }
 
 /// The set of the numbers of all ports.
