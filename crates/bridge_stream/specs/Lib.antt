@@ -1,0 +1,5 @@
+pub mod Devices
+pub mod Lanes
+pub mod Lines
+pub mod Taking
+pub mod Simulated
