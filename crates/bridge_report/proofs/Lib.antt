@@ -1,2 +1,3 @@
 mod Frames
 mod Chains
+pub mod Same
