@@ -1,0 +1,83 @@
+//! Frames, and captures that hold them.
+use std::alloc::{AllocError, Global};
+
+/// A frame in a capture: its moment in ns, its length on the link, and the octets that were captured.
+pub(crate) type Frame = (u64, u32, &'static [u8]);
+
+/// The head of a tagged frame of VLAN 10 to 02-00-00-00-00-0A.
+pub(crate) const TO_A: &[u8] = &[
+    2, 0, 0, 0, 0, 0x0a, 2, 0, 0, 0, 0, 1, 0x81, 0, 0, 0x0a, 0x88, 0xb5,
+];
+
+/// The same, to 02-00-00-00-00-0B.
+pub(crate) const TO_B: &[u8] = &[
+    2, 0, 0, 0, 0, 0x0b, 2, 0, 0, 0, 0, 1, 0x81, 0, 0, 0x0a, 0x88, 0xb5,
+];
+
+/// The first, drop eligible.
+pub(crate) const MARKED: &[u8] = &[
+    2, 0, 0, 0, 0, 0x0a, 2, 0, 0, 0, 0, 1, 0x81, 0, 0x10, 0x0a, 0x88, 0xb5,
+];
+
+/// The first, without its tag.
+pub(crate) const UNTAGGED: &[u8] = &[2, 0, 0, 0, 0, 0x0a, 2, 0, 0, 0, 0, 1, 0x88, 0xb5];
+
+/// The first, to the reserved address 01-80-C2-00-00-0E.
+pub(crate) const RESERVED: &[u8] = &[
+    1, 0x80, 0xc2, 0, 0, 0x0e, 2, 0, 0, 0, 0, 1, 0x81, 0, 0, 0x0a, 0x88, 0xb5,
+];
+
+/// The first, of VLAN 20.
+pub(crate) const VID_20: &[u8] = &[
+    2, 0, 0, 0, 0, 0x0a, 2, 0, 0, 0, 0, 1, 0x81, 0, 0, 0x14, 0x88, 0xb5,
+];
+
+/// The 13 first octets of the untagged frame.
+pub(crate) const SHORT: &[u8] = &[2, 0, 0, 0, 0, 0x0a, 2, 0, 0, 0, 0, 1, 0x88];
+
+/// The seconds of a moment, for moments whose seconds are of 32 bits.
+fn seconds_of(at: u64) -> u32 {
+    u32::try_from(at / 1_000_000_000).unwrap_or(u32::MAX)
+}
+
+/// Adds a record: its seconds, its fraction of a second in ns, the frame's length and its octets.
+pub(crate) fn push_record(
+    text: &mut Vec<u8>,
+    seconds: u32,
+    fraction: u32,
+    len: u32,
+    octets: &[u8],
+) -> Result<(), AllocError> {
+    let captured = u32::try_from(octets.len()).unwrap_or(u32::MAX);
+    for word in [seconds, fraction, captured, len] {
+        text.extend_from_slice(&word.to_le_bytes())?;
+    }
+    text.extend_from_slice(octets)
+}
+
+/// A capture without a record.
+pub(crate) fn header(alloc: Global) -> Result<Vec<u8>, AllocError> {
+    Vec::from_slice(
+        alloc,
+        &[
+            0x4d, 0x3c, 0xb2, 0xa1, 2, 0, 4, 0, 0, 0, 0, 0, 0, 0, 0, 0, 0xff, 0xff, 0, 0, 1, 0, 0,
+            0,
+        ],
+    )
+}
+
+/// Adds a frame.
+pub(crate) fn push_frame(text: &mut Vec<u8>, frame: Frame) -> Result<(), AllocError> {
+    let (at, len, octets) = frame;
+    let fraction = (at % 1_000_000_000) as u32;
+    push_record(text, seconds_of(at), fraction, len, octets)
+}
+
+/// The capture of these frames.
+pub(crate) fn capture(alloc: Global, frames: &[Frame]) -> Result<Vec<u8>, AllocError> {
+    let mut text = header(alloc)?;
+    for frame in frames {
+        push_frame(&mut text, *frame)?;
+    }
+    Ok(text)
+}

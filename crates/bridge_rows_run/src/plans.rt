@@ -1,0 +1,164 @@
+//! The plan of the worked examples, and its changes.
+ghost use Rattle.std.specs.Prelude.{◌≡◌};
+ghost use Rattle.bridge_filter.specs.Plans.{is_there};
+ghost use Rattle.bridge_run.specs.Events.{has_instance};
+
+use bridge_check::{Accepted, CheckFault, check};
+use bridge_config::plan_of;
+use bridge_filter::Clear;
+use std::alloc::{Allocator, Global};
+use std::test::Fail;
+
+/// Filter 10 is protected: its frames come in on port 1 in the window of gate 1, and go out of port 3 in class 7. Filter 99
+/// takes all others, in class 0.
+pub(crate) const BASE: &str = r#"
+[[port]]
+number = 1
+mbps = 1000
+rooms = [4, 4, 4, 4, 4, 4, 4, 4]
+[[port]]
+number = 2
+mbps = 1000
+rooms = [4, 4, 4, 4, 4, 4, 4, 4]
+[[port]]
+number = 3
+mbps = 1000
+rooms = [4, 4, 4, 4, 4, 4, 4, 4]
+cycle = 1000000
+gates = [{ open = [7], ns = 500000 }, { open = [0, 1, 2, 3, 4, 5, 6], ns = 500000 }]
+[[vlan]]
+vid = 10
+members = [1, 2, 3]
+[[static]]
+vid = 10
+address = "02-00-00-00-00-0A"
+ports = [3]
+[[stream]]
+handle = 1
+port = 1
+kind = "null"
+address = "02-00-00-00-00-0A"
+vid = 10
+tag = "tagged"
+[[gate]]
+number = 1
+cycle = 1000000
+entries = [{ open = true, ns = 300000, ipv = 7, octets = 600 }, { open = false, ns = 700000 }]
+[[gate]]
+number = 99
+state = "open"
+ipv = 0
+[[filter]]
+number = 10
+handle = 1
+gate = 1
+max_sdu = 500
+protected = true
+[[filter]]
+number = 99
+gate = 99
+"#;
+
+/// Lines of the plan, and what stands in their place.
+pub(crate) type Change = (&'static str, &'static str);
+
+/// Gate 1 is shut by a frame that comes while it is closed.
+pub(crate) const SHUTS_ON_RX: Change = (
+    "[[gate]]\nnumber = 1\n",
+    "[[gate]]\nnumber = 1\nshut_on_rx = true\n",
+);
+
+/// Gate 1 is shut by a frame over its limit of octets.
+pub(crate) const SHUTS_ON_OCTETS: Change = (
+    "[[gate]]\nnumber = 1\n",
+    "[[gate]]\nnumber = 1\nshut_on_octets = true\n",
+);
+
+/// Filter 10 is blocked by a frame above its maximum.
+pub(crate) const BLOCKS: Change = ("max_sdu = 500\n", "max_sdu = 500\nblock_oversize = true\n");
+
+/// Filter 10 has meter 5, with an excess bucket of 64 octets and no rate.
+pub(crate) const ONE_FRAME: Change = (
+    "[[filter]]\nnumber = 10\n",
+    "[[meter]]\nnumber = 5\ncir = 0\ncbs = 0\neir = 0\nebs = 64\n[[filter]]\nnumber = 10\nmeter = 5\n",
+);
+
+/// Filter 10 has meter 5, with a committed bucket of 128 octets and 8 Mb/s, whose first red frame makes all red.
+pub(crate) const TWO_FRAMES: Change = (
+    "[[filter]]\nnumber = 10\n",
+    "[[meter]]\nnumber = 5\ncir = 8000000\ncbs = 128\neir = 0\nebs = 0\nmark_all_red = true\n[[filter]]\nnumber = 10\nmeter = 5\n",
+);
+
+/// Port 3 has 10 Mb/s.
+pub(crate) const SLOW: Change = ("number = 3\nmbps = 1000", "number = 3\nmbps = 10");
+
+/// A text with what stands in the place of a part of it.
+fn changed(alloc: Global, text: &str, change: Change) -> Result<String, Fail> {
+    match text.split_once(change.0) {
+        Some((before, after)) => {
+            let put = change.1;
+            Ok(format!(in alloc; "{before}{put}{after}")?)
+        }
+        None => Err(Fail::from("a plan without the line")),
+    }
+}
+
+/// The text of the plan after these changes.
+pub(crate) fn text_of(alloc: Global, changes: &[Change]) -> Result<String, Fail> {
+    let mut text = String::from_str(alloc, BASE)?;
+    for change in changes {
+        text = changed(alloc, &text, *change)?;
+    }
+    Ok(text)
+}
+
+/// The plan of a text, where it is accepted.
+pub(crate) fn accepted_of<A: Allocator + Copy>(
+    alloc: A,
+    heap: Global,
+    text: &str,
+) -> Option<Accepted<A>> {
+    let Ok(plan) = plan_of(alloc, heap, text.as_bytes()) else {
+        return None;
+    };
+    check(alloc, plan).ok()
+}
+
+/// Whether a number is in a list.
+fn is_listed<X>(list: &[(u32, X)], number: u32) -> bool
+    ensures { result ≡ is_there number list.now }
+{
+    for item in list {
+        if number == item.0 {
+            return true;
+        }
+    }
+    false
+}
+
+/// Whether a plan has what a command names.
+pub(crate) fn has_instance<A: Allocator + Copy>(
+    accepted: &Accepted<A>,
+    clear: Clear,
+    number: u32,
+) -> bool
+    ensures { result ≡ has_instance accepted.now clear number }
+{
+    let plan = accepted.plan();
+    match clear {
+        Clear::Blocked => is_listed(plan.filters(), number),
+        Clear::Rx | Clear::Octets => is_listed(plan.gates(), number),
+        Clear::Red => is_listed(plan.meters(), number),
+    }
+}
+
+/// The fault of the plan of a text, where it is not accepted.
+pub(crate) fn fault_of(alloc: Global, text: &str) -> Option<CheckFault> {
+    let Ok(plan) = plan_of(alloc, alloc, text.as_bytes()) else {
+        return None;
+    };
+    match check(alloc, plan) {
+        Ok(_) => None,
+        Err(refused) => Some(refused.fault),
+    }
+}
