@@ -1,10 +1,11 @@
--- The best of the heads, class by class, and the next start.
-use Rattle.std.proofs.Common.{◌≡◌, ℕ, true, ◌<◌, ◌≤◌, ◌+◌, ◌^◌, List, [], ◌∷◌, length, arith, refl, ap, ◌∙◌, sym, subst, inl, inr, Option, Some, None, suc, zero, max}
+-- The fits of the heads, the best of them, and the next start.
+use Rattle.std.proofs.Common.{◌≡◌, ◌≢◌, ℕ, true, false, ◌<◌, ◌≤◌, ◌+◌, ◌^◌, ◌++◌, List, [], ◌∷◌, length, arith, refl, ap, ◌∙◌, sym, subst, inl, inr, ◌⊎◌, Option, Some, None, max, get_or-set_same, get_or-set_other}
 use Rattle.std.proofs.lemmas.Bool.Decides.{nat_tests}
 use Rattle.std.proofs.lemmas.Bool.{cases_lt}
-use Rattle.std.specs.Prelude.{nat_lt, slice_index_or, slice_get, drop, MatchOption}
+use Rattle.std.specs.Prelude.{nat_lt, nat_eq, ◌&&◌, ◌||◌, slice_index_or, slice_get, slice_set, drop, MatchOption}
 use Rattle.std.proofs.lemmas.Grind.{common_steps}
-use Rattle.std.proofs.lemmas.Option.{same_Some}
+use Rattle.std.proofs.lemmas.List.{get_or_past}
+use Rattle.std.proofs.lemmas.Option.{same_Some, none-some}
 use Rattle.bridge_base.specs.declared.TheConstants.{LONGEST_FRAME}
 use Rattle.bridge_frame.specs.declared.Speed.{Speed}
 use Rattle.bridge_frame.specs.Link.{occupied}
@@ -12,8 +13,8 @@ use Rattle.bridge_cycle.specs.Cyclic.{Cyclic}
 use Rattle.bridge_cycle.specs.Moments.{Fits, IsFirst}
 use Rattle.bridge_cycle.proofs.Cases.{by_bool}
 use Rattle.bridge_port.specs.declared.item.Item.{Item}
-use Rattle.bridge_port.specs.Heads.{IsBestHead, IsBest, sooner, StartsNext}
-use Rattle.bridge_port.specs.Standing.{State, IsIdle, AllStartable, NoStartBefore}
+use Rattle.bridge_port.specs.Heads.{IsFit, is_past, IsSoonest, IsBest, sooner, sooner_of, StartsNext, AreFits}
+use Rattle.bridge_port.specs.Standing.{State, IsIdle, AllStartable, NoStartBefore, queue_of}
 use Rattle.bridge_port.specs.Opening.{opens_of, ever_of}
 use Rattle.bridge_port.proofs.Ports.{heads, nil_cons, below_length}
 
@@ -29,92 +30,292 @@ pub startable_head : {T : Type 0} (list : Option (Cyclic ℕ)) (speed : Speed) (
 startable_head list speed c [] x h a = absurd (cc)
 startable_head list speed c (y ∷ q) x h a = let e : y ≡ x = same_Some _ _ h in subst (λ (z : Item _). (ever_of list c (occupied z.len speed) ≡ true) × (z.len ≤ LONGEST_FRAME)) e a.0
 
--- a class with nothing queued changes nothing
-pub best_skip : {T : Type 0} (list : Option (Cyclic ℕ)) (speed : Speed) (queues : List (List (Item T))) (from n : ℕ) (best : Option (ℕ × ℕ)) → IsBest list speed queues from n best → slice_index_or queues n [] ≡ [] → IsBest list speed queues from (n + 1) best
-best_skip list speed queues from n None b e = λ d l. elim (cases_lt d n) [ inl a ↦ b d a | inr k ↦ let same : n ≡ d = omega arith in subst (λ (m : ℕ). slice_index_or queues m [] ≡ []) same e ]
-best_skip {T} list speed queues from n (Some p) b e =
-    let not_last = λ (d : ℕ) (y : Item T) (others : List (Item T)) (k : n ≤ d) (l : d < n + 1) (q : slice_index_or queues d [] ≡ y ∷ others). let same : n ≡ d = omega arith in nil_cons y others (sym e ∙ (ap (λ m. slice_index_or queues m []) same ∙ q)) in
-    record {
-      item = b.item;
-      rest = b.rest;
-      is_head = b.is_head;
-      below = let z = b.below in omega arith;
-      after = b.after;
-      soon = b.soon;
-      fits = b.fits;
-      least = λ d y others l q u a t. elim (cases_lt d n) [ inl k ↦ b.least d y others k q u a t | inr k ↦ absurd (not_last d y others k l q) ];
-      highest = λ d y others l q f. elim (cases_lt d n) [ inl k ↦ b.highest d y others k q f | inr k ↦ absurd (not_last d y others k l q) ];
-    }
+-- The fit of one class.
 
--- the head of the next class, where nothing of the lower ones fits before it
-pub best_new : {T : Type 0} (list : Option (Cyclic ℕ)) (speed : Speed) (queues : List (List (Item T))) (from n k : ℕ) (x : Item T) (rest : List (Item T)) → slice_index_or queues n [] ≡ x ∷ rest → IsFirst (opens_of list n) (occupied x.len speed) from k → k ≤ from + 10 ^ 9 → ((d : ℕ) (y : Item T) (others : List (Item T)) → d < n → slice_index_or queues d [] ≡ y ∷ others → (u : ℕ) → from ≤ u → u < k → ¬ Fits (opens_of list d) (occupied y.len speed) u) → IsBestHead list speed queues from (n + 1) k n
-best_new {T} list speed queues from n k x rest e f soon lower = record {
-  item = x;
-  rest = rest;
-  is_head = e;
-  below = omega arith;
-  after = f.after;
-  soon = soon;
-  fits = f.fits;
-  least = λ d y others l q u a t z. elim (cases_lt d n) [
-    | inl b ↦ lower d y others b q u a t z
-    | inr b ↦
-        let same : d ≡ n = omega arith in
-        let item : y ≡ x = heads y x others rest (sym q ∙ (ap (λ m. slice_index_or queues m []) same ∙ e)) in
-        let z2 : Fits (opens_of list n) (occupied y.len speed) u = subst (λ (m : ℕ). Fits (opens_of list m) (occupied y.len speed) u) same z in
-        f.least u a t (subst (λ (i : Item T). Fits (opens_of list n) (occupied i.len speed) u) item z2)
-  ];
-  highest = λ d y others l q z. omega arith;
+-- the fit of a head
+pub fit_is : {T : Type 0} (list : Option (Cyclic ℕ)) (speed : Speed) (from c k : ℕ) (q : List (Item T)) (x : Item T) (rest : List (Item T)) → q ≡ x ∷ rest → IsFirst (opens_of list c) (occupied x.len speed) from k → k ≤ from + 10 ^ 9 → IsFit list speed from c q (Some k)
+fit_is {T} list speed from c k q x rest e first soon = let P : List (Item T) → Type 0 = λ r. IsFit list speed from c r (Some k) in subst P (sym e) (first, soon)
+
+-- where nothing is queued there is none
+pub fit_none : {T : Type 0} (list : Option (Cyclic ℕ)) (speed : Speed) (from c : ℕ) (q : List (Item T)) → q ≡ [] → IsFit list speed from c q None
+fit_none {T} list speed from c q e = let P : List (Item T) → Type 0 = λ r. IsFit list speed from c r None in subst P (sym e) tt
+
+-- it stays the fit from a later moment on, where nothing fits before that
+pub fit_later : {T : Type 0} (list : Option (Cyclic ℕ)) (speed : Speed) (from later c : ℕ) (q : List (Item T)) (f : Option ℕ) → IsFit list speed from c q f → from ≤ later → ((x : Item T) (rest : List (Item T)) → q ≡ x ∷ rest → (u : ℕ) → from ≤ u → u < later → ¬ Fits (opens_of list c) (occupied x.len speed) u) → IsFit list speed later c q f
+fit_later list speed from later c [] None i l calm = tt
+fit_later list speed from later c [] (Some k) i l calm = i
+fit_later list speed from later c (x ∷ rest) None i l calm = i
+fit_later list speed from later c (x ∷ rest) (Some k) i l calm =
+    let first = i.0 in
+    let soon = i.1 in
+    elim (cases_lt k later) [
+      | inl b ↦ absurd (calm x rest refl k first.after b first.fits)
+      | inr a ↦ (record { after = a; fits = first.fits; least = λ u lo hi. first.least u (omega arith) hi }, omega arith)
+    ]
+
+-- and where it does not lie before that
+pub fit_ahead : {T : Type 0} (list : Option (Cyclic ℕ)) (speed : Speed) (from later c : ℕ) (q : List (Item T)) (f : Option ℕ) → IsFit list speed from c q f → from ≤ later → is_past f later ≡ false → IsFit list speed later c q f
+fit_ahead list speed from later c [] None i l ahead = tt
+fit_ahead list speed from later c [] (Some k) i l ahead = i
+fit_ahead list speed from later c (x ∷ rest) None i l ahead = i
+fit_ahead list speed from later c (x ∷ rest) (Some k) i l ahead =
+    let first = i.0 in
+    let soon = i.1 in
+    let a : later ≤ k = grind (arith, nat_tests) in (record { after = a; fits = first.fits; least = λ u lo hi. first.least u (omega arith) hi }, omega arith)
+
+-- an item behind a head changes nothing
+pub fit_behind : {T : Type 0} (list : Option (Cyclic ℕ)) (speed : Speed) (from c k : ℕ) (q : List (Item T)) (x : Item T) → IsFit list speed from c q (Some k) → IsFit list speed from c (q ++ x ∷ []) (Some k)
+fit_behind list speed from c k [] x i = absurd i
+fit_behind list speed from c k (y ∷ q) x i = i
+
+pub nothing_queued : {T : Type 0} (list : Option (Cyclic ℕ)) (speed : Speed) (from c : ℕ) (q : List (Item T)) → IsFit list speed from c q None → q ≡ []
+nothing_queued list speed from c [] i = refl
+nothing_queued list speed from c (x ∷ q) i = absurd i
+
+-- the head and its fit
+record HeadFits {T : Type 0} (list : Option (Cyclic ℕ)) (speed : Speed) (from c : ℕ) (q : List (Item T)) (k : ℕ) : Type 0 where
+  pub item : Item T
+  pub rest : List (Item T)
+  pub is_head : q ≡ item ∷ rest
+  pub first : IsFirst (opens_of list c) (occupied item.len speed) from k
+  pub soon : k ≤ from + 10 ^ 9
+
+head_fits : {T : Type 0} (list : Option (Cyclic ℕ)) (speed : Speed) (from c : ℕ) (q : List (Item T)) (k : ℕ) → IsFit list speed from c q (Some k) → HeadFits list speed from c q k
+head_fits list speed from c [] k i = absurd i
+head_fits list speed from c (x ∷ rest) k i = record { item = x; rest = rest; is_head = refl; first = i.0; soon = i.1 }
+
+-- what a head has for its fit
+pub record FitOfHead {T : Type 0} (list : Option (Cyclic ℕ)) (speed : Speed) (from c : ℕ) (x : Item T) (f : Option ℕ) : Type 0 where
+  pub at : ℕ
+  pub is : f ≡ Some at
+  pub first : IsFirst (opens_of list c) (occupied x.len speed) from at
+
+pub fit_of_head : {T : Type 0} (list : Option (Cyclic ℕ)) (speed : Speed) (from c : ℕ) (q : List (Item T)) (x : Item T) (rest : List (Item T)) (f : Option ℕ) → q ≡ x ∷ rest → IsFit list speed from c q f → FitOfHead list speed from c x f
+fit_of_head list speed from c [] x rest f e i = absurd (nil_cons x rest e)
+fit_of_head list speed from c (y ∷ q) x rest None e i = absurd i
+fit_of_head {T} list speed from c (y ∷ q) x rest (Some k) e i =
+    let same : y ≡ x = heads y x q rest e in
+    record { at = k; is = refl; first = subst (λ (z : Item T). IsFirst (opens_of list c) (occupied z.len speed) from k) same i.0 }
+
+-- The fits of the classes behind one that is made anew, and of those ahead.
+pub fits_set_behind : {T : Type 0} (list : Option (Cyclic ℕ)) (speed : Speed) (from : ℕ) (queues : List (List (Item T))) (fits : List (Option ℕ)) (n : ℕ) (f : Option ℕ) → n < length fits → IsFit list speed from n (slice_index_or queues n []) f → ((c : ℕ) → c < n → IsFit list speed from c (slice_index_or queues c []) (slice_index_or fits c None)) → (c : ℕ) → c < n + 1 → IsFit list speed from c (slice_index_or queues c []) (slice_index_or (slice_set fits n f) c None)
+fits_set_behind {T} list speed from queues fits n f within new behind c l = elim (cases_lt c n) [
+  | inl a ↦ let other : c ≢ n = omega arith in rw get_or-set_other (behind c a)
+  | inr a ↦
+      let same : n ≡ c = omega arith in
+      let P : ℕ → Type 0 = λ d. IsFit list speed from d (slice_index_or queues d []) (slice_index_or (slice_set fits n f) d None) in
+      subst P same (rw get_or-set_same new)
+]
+
+pub fits_set_ahead : {T : Type 0} (list : Option (Cyclic ℕ)) (speed : Speed) (from : ℕ) (queues : List (List (Item T))) (fits : List (Option ℕ)) (n : ℕ) (f : Option ℕ) → ((c : ℕ) → n ≤ c → is_past (slice_index_or fits c None) from ≡ false → IsFit list speed from c (slice_index_or queues c []) (slice_index_or fits c None)) → (c : ℕ) → n + 1 ≤ c → is_past (slice_index_or (slice_set fits n f) c None) from ≡ false → IsFit list speed from c (slice_index_or queues c []) (slice_index_or (slice_set fits n f) c None)
+fits_set_ahead list speed from queues fits n f ahead c l not_past =
+    let other : c ≢ n = omega arith in
+    let before : is_past (slice_index_or fits c None) from ≡ false = rw get_or-set_other at not_past in
+    rw get_or-set_other (ahead c (omega arith) before)
+
+-- the fits of all classes, where those of the eight are made anew
+pub fits_all : {T : Type 0} (list : Option (Cyclic ℕ)) (speed : Speed) (from : ℕ) (queues : List (List (Item T))) (fits : List (Option ℕ)) → length fits ≡ 8 → ((c : ℕ) → c < 8 → IsFit list speed from c (slice_index_or queues c []) (slice_index_or fits c None)) → ((c : ℕ) → 8 ≤ c → is_past (slice_index_or fits c None) from ≡ false → IsFit list speed from c (slice_index_or queues c []) (slice_index_or fits c None)) → (c : ℕ) → IsFit list speed from c (slice_index_or queues c []) (slice_index_or fits c None)
+fits_all list speed from queues fits size behind ahead c = elim (cases_lt c 8) [
+  | inl a ↦ behind c a
+  | inr a ↦
+      let none : slice_index_or fits c None ≡ None = get_or_past fits c None (omega arith) in
+      ahead c a (ap (λ (f : Option ℕ). is_past f from) none)
+]
+
+-- The best of some classes.
+
+-- only the fits of these classes count
+pub best_same : (fits others : List (Option ℕ)) (n : ℕ) (best : Option (ℕ × ℕ)) → ((d : ℕ) → d < n → slice_index_or others d None ≡ slice_index_or fits d None) → IsBest fits n best → IsBest others n best
+best_same fits others n None same b = λ d l. same d l ∙ b d l
+best_same fits others n (Some p) same b = record {
+  fit = same p.1 b.below ∙ b.fit;
+  below = b.below;
+  least = λ d u l e. b.least d u l (sym (same d l) ∙ e);
+  highest = λ d l e. b.highest d l (sym (same d l) ∙ e);
 }
 
-pub best_more : {T : Type 0} (list : Option (Cyclic ℕ)) (speed : Speed) (queues : List (List (Item T))) (from n k : ℕ) (x : Item T) (rest : List (Item T)) (best : Option (ℕ × ℕ)) → IsBest list speed queues from n best → slice_index_or queues n [] ≡ x ∷ rest → IsFirst (opens_of list n) (occupied x.len speed) from k → k ≤ from + 10 ^ 9 → IsBest list speed queues from (n + 1) (sooner best k n)
-best_more list speed queues from n k x rest None b e f soon = best_new list speed queues from n k x rest e f soon (λ d y others l q. absurd (nil_cons y others (sym (b d l) ∙ q)))
-best_more {T} list speed queues from n k x rest (Some p) b e f soon = by_bool (nat_lt p.0 k)
-    (λ earlier.
-    let before : p.0 < k = grind (arith, nat_tests) in
-    let is_x = λ (d : ℕ) (y : Item T) (others : List (Item T)) (m : n ≤ d) (l : d < n + 1) (q : slice_index_or queues d [] ≡ y ∷ others) (u : ℕ) (a : from ≤ u) (t : u < k) (z : Fits (opens_of list d) (occupied y.len speed) u).
-    let same : d ≡ n = omega arith in
-    let item : y ≡ x = heads y x others rest (sym q ∙ (ap (λ m. slice_index_or queues m []) same ∙ e)) in
-    let z2 : Fits (opens_of list n) (occupied y.len speed) u = subst (λ (m : ℕ). Fits (opens_of list m) (occupied y.len speed) u) same z in
-    f.least u a t (subst (λ (i : Item T). Fits (opens_of list n) (occupied i.len speed) u) item z2) in
-    rw earlier (record {
-      item = b.item;
-      rest = b.rest;
-      is_head = b.is_head;
-      below = let z = b.below in omega arith;
-      after = b.after;
-      soon = b.soon;
-      fits = b.fits;
-      least = λ d y others l q u a t z. elim (cases_lt d n) [ inl m ↦ b.least d y others m q u a t z | inr m ↦ is_x d y others m l q u a (omega arith) z ];
-      highest = λ d y others l q z. elim (cases_lt d n) [ inl m ↦ b.highest d y others m q z | inr m ↦ absurd (is_x d y others m l q p.0 b.after before z) ];
-    }))
-    (λ later.
-    let not_before : k ≤ p.0 = grind (arith, nat_tests) in
-    rw later (best_new list speed queues from n k x rest e f soon (λ d y others l q u a t. b.least d y others l q u a (omega arith))))
+-- the fit of one class more, or of a class that had none
+record GainsFit (fits others : List (Option ℕ)) (n m k c : ℕ) : Type 0 where
+  pub below : c < m
+  pub more : n ≤ m
+  pub gained : slice_index_or others c None ≡ Some k
+  pub kept : (d : ℕ) → d < n → d ≢ c → slice_index_or others d None ≡ slice_index_or fits d None
+  pub only : (d : ℕ) → d < m → d ≢ c → d < n
+  pub new : c < n → slice_index_or fits c None ≡ None
 
-past_end : {X : Type 0} (qs : List (List X)) (c : ℕ) → length qs ≤ c → slice_index_or qs c [] ≡ []
-past_end [] c h = refl
-past_end (q ∷ qs) zero h = absurd (let e : length (q ∷ qs) ≡ length qs + 1 = grind arith in omega arith)
-past_end (q ∷ qs) (suc c) h = past_end qs c (let e : length (q ∷ qs) ≡ length qs + 1 = grind arith in omega arith)
+-- each fit is the one that was gained, or was there
+gained_or_kept : (fits others : List (Option ℕ)) (n m k c : ℕ) → GainsFit fits others n m k c → (d u : ℕ) → d < m → slice_index_or others d None ≡ Some u → ((d ≡ c) × (u ≡ k)) ⊎ ((d < n) × (slice_index_or fits d None ≡ Some u))
+gained_or_kept fits others n m k c g d u l e = by_bool (nat_eq d c)
+    (λ t.
+    let same : d ≡ c = grind (arith, nat_tests) in
+    let at_c : slice_index_or others c None ≡ Some u = subst (λ (i : ℕ). slice_index_or others i None ≡ Some u) same e in
+    inl (same, same_Some _ _ (sym at_c ∙ g.gained)))
+    (λ t.
+    let other : d ≢ c = λ z. absurd (let w : nat_eq d c ≡ true = grind (arith, nat_tests) in cc) in
+    let before = g.only d l other in
+    inr (before, sym (g.kept d before other) ∙ e))
+
+-- the class that gains a fit is none that had one
+not_gained : (fits others : List (Option ℕ)) (n m k c d u : ℕ) → GainsFit fits others n m k c → d < n → slice_index_or fits d None ≡ Some u → d ≢ c
+not_gained fits others n m k c d u g l e = λ z.
+    let below : c < n = omega arith in
+    let none : slice_index_or fits d None ≡ None = subst (λ (i : ℕ). slice_index_or fits i None ≡ None) (sym z) (g.new below) in
+    absurd (none-some u (sym none ∙ e))
+
+best_first : (fits others : List (Option ℕ)) (n m k c : ℕ) → GainsFit fits others n m k c → IsBest fits n None → IsSoonest others m k c
+best_first fits others n m k c g b = record {
+  fit = g.gained;
+  below = g.below;
+  least = λ d u l e. elim (gained_or_kept fits others n m k c g d u l e) [ inl q ↦ let same = q.1 in omega arith | inr q ↦ absurd (none-some u (sym (b d q.0) ∙ q.1)) ];
+  highest = λ d l e. elim (gained_or_kept fits others n m k c g d k l e) [ inl q ↦ let same = q.0 in omega arith | inr q ↦ absurd (none-some k (sym (b d q.0) ∙ q.1)) ];
+}
+
+best_stays : (fits others : List (Option ℕ)) (n m k c : ℕ) (p : ℕ × ℕ) → GainsFit fits others n m k c → IsSoonest fits n p.0 p.1 → (p.0 < k) ⊎ ((p.0 ≡ k) × (c < p.1)) → IsSoonest others m p.0 p.1
+best_stays fits others n m k c p g b sooner = record {
+  fit = g.kept p.1 b.below (not_gained fits others n m k c p.1 p.0 g b.below b.fit) ∙ b.fit;
+  below = let a = b.below in let more = g.more in omega arith;
+  least = λ d u l e. elim (gained_or_kept fits others n m k c g d u l e) [
+    | inl q ↦ let same = q.1 in elim sooner [ inl a ↦ omega arith | inr a ↦ let equal = a.0 in omega arith ]
+    | inr q ↦ b.least d u q.0 q.1
+  ];
+  highest = λ d l e. elim (gained_or_kept fits others n m k c g d p.0 l e) [
+    | inl q ↦ let same = q.0 in let moment = q.1 in elim sooner [ inl a ↦ omega arith | inr a ↦ let higher = a.1 in omega arith ]
+    | inr q ↦ b.highest d q.0 q.1
+  ];
+}
+
+best_yields : (fits others : List (Option ℕ)) (n m k c : ℕ) (p : ℕ × ℕ) → GainsFit fits others n m k c → IsSoonest fits n p.0 p.1 → (k < p.0) ⊎ ((p.0 ≡ k) × (p.1 ≤ c)) → IsSoonest others m k c
+best_yields fits others n m k c p g b later = record {
+  fit = g.gained;
+  below = g.below;
+  least = λ d u l e. elim (gained_or_kept fits others n m k c g d u l e) [
+    | inl q ↦ let same = q.1 in omega arith
+    | inr q ↦ let least = b.least d u q.0 q.1 in elim later [ inl a ↦ omega arith | inr a ↦ let equal = a.0 in omega arith ]
+  ];
+  highest = λ d l e. elim (gained_or_kept fits others n m k c g d k l e) [
+    | inl q ↦ let same = q.0 in omega arith
+    | inr q ↦ let least = b.least d k q.0 q.1 in elim later [
+      | inl a ↦ omega arith
+      | inr a ↦
+          let equal = a.0 in
+          let lower = a.1 in
+          let highest = b.highest d q.0 (subst (λ (u : ℕ). slice_index_or fits d None ≡ Some u) (sym equal) q.1) in
+          omega arith
+    ]
+  ];
+}
+
+stays_cases : (a k c d : ℕ) → nat_lt a k || (nat_eq a k && nat_lt c d) ≡ true → (a < k) ⊎ ((a ≡ k) × (c < d))
+stays_cases a k c d h = by_bool (nat_lt a k)
+    (λ e. inl (grind (arith, nat_tests)))
+    (λ e.
+    let both : nat_eq a k && nat_lt c d ≡ true = rw e at h in
+    by_bool (nat_eq a k)
+    (λ f.
+    let higher : nat_lt c d ≡ true = rw f at both in
+    let equal : a ≡ k = grind (arith, nat_tests) in
+    let above : c < d = grind (arith, nat_tests) in inr (equal, above))
+    (λ f. absurd (let no : false ≡ true = rw f at both in cc)))
+
+yields_cases : (a k c d : ℕ) → nat_lt a k || (nat_eq a k && nat_lt c d) ≡ false → (k < a) ⊎ ((a ≡ k) × (d ≤ c))
+yields_cases a k c d h = by_bool (nat_lt a k)
+    (λ e. absurd (let no : true ≡ false = rw e at h in cc))
+    (λ e.
+    let both : nat_eq a k && nat_lt c d ≡ false = rw e at h in
+    by_bool (nat_eq a k)
+    (λ f.
+    let lower : nat_lt c d ≡ false = rw f at both in
+    let equal : a ≡ k = grind (arith, nat_tests) in
+    let below : d ≤ c = grind (arith, nat_tests) in inr (equal, below))
+    (λ f. let after : k < a = grind (arith, nat_tests) in inl after))
+
+best_gained : (fits others : List (Option ℕ)) (n m k c : ℕ) (best : Option (ℕ × ℕ)) → GainsFit fits others n m k c → IsBest fits n best → IsBest others m (sooner best k c)
+best_gained fits others n m k c None g b = best_first fits others n m k c g b
+best_gained fits others n m k c (Some p) g b = by_bool (nat_lt p.0 k || (nat_eq p.0 k && nat_lt c p.1))
+    (λ e. rw e (best_stays fits others n m k c p g b (stays_cases p.0 k c p.1 e)))
+    (λ e. rw e (best_yields fits others n m k c p g b (yields_cases p.0 k c p.1 e)))
+
+-- a class with nothing queued changes nothing
+best_skip : (fits : List (Option ℕ)) (n : ℕ) (best : Option (ℕ × ℕ)) → slice_index_or fits n None ≡ None → IsBest fits n best → IsBest fits (n + 1) best
+best_skip fits n None none b = λ d l. elim (cases_lt d n) [ inl a ↦ b d a | inr k ↦ let same : n ≡ d = omega arith in subst (λ (m : ℕ). slice_index_or fits m None ≡ None) same none ]
+best_skip fits n (Some p) none b =
+    let not_last = λ (d u : ℕ) (k : n ≤ d) (l : d < n + 1) (e : slice_index_or fits d None ≡ Some u). let same : d ≡ n = omega arith in none-some u (sym none ∙ subst (λ (m : ℕ). slice_index_or fits m None ≡ Some u) same e) in
+    record {
+      fit = b.fit;
+      below = let z = b.below in omega arith;
+      least = λ d u l e. elim (cases_lt d n) [ inl k ↦ b.least d u k e | inr k ↦ absurd (not_last d u k l e) ];
+      highest = λ d l e. elim (cases_lt d n) [ inl k ↦ b.highest d k e | inr k ↦ absurd (not_last d p.0 k l e) ];
+    }
+
+-- the head of a class that had none
+pub best_put : (fits : List (Option ℕ)) (n k c : ℕ) (best : Option (ℕ × ℕ)) → c < n → c < length fits → slice_index_or fits c None ≡ None → IsBest fits n best → IsBest (slice_set fits c (Some k)) n (sooner best k c)
+best_put fits n k c best l within none b = best_gained fits (slice_set fits c (Some k)) n n k c best (record {
+  below = l;
+  more = omega arith;
+  gained = rw get_or-set_same refl;
+  kept = λ d a other. rw get_or-set_other refl;
+  only = λ d a other. a;
+  new = λ a. none;
+}) b
+
+set_other : (fits : List (Option ℕ)) (n d : ℕ) (f : Option ℕ) → d ≢ n → slice_index_or (slice_set fits n f) d None ≡ slice_index_or fits d None
+set_other fits n d f other = rw get_or-set_other refl
+
+-- the next class
+pub best_more : (fits : List (Option ℕ)) (n : ℕ) (f : Option ℕ) (best : Option (ℕ × ℕ)) → n < length fits → IsBest fits n best → IsBest (slice_set fits n f) (n + 1) (sooner_of best f n)
+best_more fits n None best within b =
+    let others = slice_set fits n None in
+    let same : slice_index_or others n None ≡ None = rw get_or-set_same refl in
+    best_skip others n best same (best_same fits others n best (λ d l. let other : d ≢ n = omega arith in set_other fits n d None other) b)
+best_more fits n (Some k) best within b = best_gained fits (slice_set fits n (Some k)) n (n + 1) k n best (record {
+  below = omega arith;
+  more = omega arith;
+  gained = rw get_or-set_same refl;
+  kept = λ d a other. set_other fits n d (Some k) other;
+  only = λ d a other. omega arith;
+  new = λ a. absurd (omega arith);
+}) b
+
+-- The next start.
 
 -- the best head of all classes is the next start
-pub best_is_next : {T : Type 0} (p : State T) (best : Option (ℕ × ℕ)) → IsBest p.list p.speed p.queues (max p.free p.earliest) (length p.queues) best → MatchOption best (IsIdle p) (λ b. StartsNext p b.0 b.1)
-best_is_next p None b = λ c. elim (cases_lt c (length p.queues)) [ inl a ↦ b c a | inr k ↦ past_end p.queues c k ]
-best_is_next {T} p (Some h) b =
-    let m = b.after in
+pub best_is_next : {T : Type 0} (p : State T) (fits : List (Option ℕ)) (best : Option (ℕ × ℕ)) → length p.queues ≡ 8 → AreFits p fits → IsBest fits 8 best → MatchOption best (IsIdle p) (λ b. StartsNext p b.0 b.1)
+best_is_next {T} p fits None eight are b = λ c. elim (cases_lt c 8) [
+  | inl a ↦
+      let P : Option ℕ → Type 0 = λ f. IsFit p.list p.speed (max p.free p.earliest) c (queue_of p c) f in
+      nothing_queued p.list p.speed (max p.free p.earliest) c (queue_of p c) (subst P (b c a) (are c))
+  | inr k ↦ get_or_past p.queues c [] (omega arith)
+]
+best_is_next {T} p fits (Some s) eight are b =
+    let from = max p.free p.earliest in
+    let P : Option ℕ → Type 0 = λ f. IsFit p.list p.speed from s.1 (queue_of p s.1) f in
+    let h = head_fits p.list p.speed from s.1 (queue_of p s.1) s.0 (subst P b.fit (are s.1)) in
+    let after = h.first.after in
+    let below = b.below in
+    let other = λ (d : ℕ) (y : Item T) (others : List (Item T)) (e : queue_of p d ≡ y ∷ others). fit_of_head p.list p.speed from d (queue_of p d) y others (slice_index_or fits d None) e (are d) in
+    let within = λ (d : ℕ) (y : Item T) (others : List (Item T)) (e : queue_of p d ≡ y ∷ others). let l = below_length p.queues d y others e in let m : d < 8 = omega arith in m in
     record {
-      item = b.item;
+      item = h.item;
       next = record {
-        rest = b.rest;
-        is_head = b.is_head;
+        rest = h.rest;
+        is_head = h.is_head;
         after = omega arith;
         free = omega arith;
-        fits = b.fits;
-        least = λ c x rest e u a f l. b.least c x rest (below_length p.queues c x rest e) e u (omega arith) l;
-        highest = λ d y others e z. b.highest d y others (below_length p.queues d y others e) e z;
+        fits = h.first.fits;
+        least = λ d y others e u a f l.
+            let o = other d y others e in
+            let least = b.least d o.at (within d y others e) o.is in
+            o.first.least u (omega arith) (omega arith);
+        highest = λ d y others e z.
+            let o = other d y others e in
+            let least = b.least d o.at (within d y others e) o.is in
+            elim (cases_lt s.0 o.at) [
+              | inl l ↦ absurd (o.first.least s.0 (omega arith) l z)
+              | inr l ↦ let same : o.at ≡ s.0 = omega arith in b.highest d (within d y others e) (subst (λ (u : ℕ). slice_index_or fits d None ≡ Some u) same o.is)
+            ];
       };
-      soon = b.soon;
-      below = b.below;
+      soon = h.soon;
+      below = omega arith;
     }
 
 -- no start is asked for before the next one

@@ -59,7 +59,7 @@ startable_tail {T} list speed c q x rest e a =
     subst (AllStartable list speed c) (sym (tail_is q x rest e)) b.1
 
 -- the queue of each class, where that of one class is replaced
-by_class : {X : Type 0} (P : ℕ → List X → Type 0) (qs : List (List X)) (c : ℕ) (v : List X) → c < length qs → P c v → ((d : ℕ) → P d (slice_index_or qs d [])) → (d : ℕ) → P d (slice_index_or (slice_set qs c v) d [])
+pub by_class : {X : Type 0} (P : ℕ → List X → Type 0) (qs : List (List X)) (c : ℕ) (v : List X) → c < length qs → P c v → ((d : ℕ) → P d (slice_index_or qs d [])) → (d : ℕ) → P d (slice_index_or (slice_set qs c v) d [])
 by_class {X} P qs c v l new old d = by_bool (nat_eq c d)
     (λ e.
     let same : c ≡ d = grind (arith, nat_tests) in
@@ -84,6 +84,17 @@ kept_offered {T} p t c x k l none len early few =
       counted = let z = k.counted in omega (arith, more);
       few = omega arith;
     }
+
+pub kept_refused : {T : Type 0} (p : State T) (t : ℕ) → IsKept p → t < END_OF_TIME → p.offered < MOST_ARRIVALS → IsKept (record p { earliest = t; offered = p.offered + 1 })
+kept_refused p t k early few = record {
+  queues = k.queues;
+  rooms = k.rooms;
+  startable = k.startable;
+  free = k.free;
+  earliest = omega arith;
+  counted = let z = k.counted in omega arith;
+  few = omega arith;
+}
 
 pub kept_started : {T : Type 0} (p : State T) (k c : ℕ) (x : Item T) → IsKept p → IsNext p k c x → k ≤ max p.free p.earliest + 10 ^ 9 → occupied x.len p.speed ≤ 10 ^ 9 → IsKept (started_state p k c x)
 kept_started {T} p k c x kept n soon short =

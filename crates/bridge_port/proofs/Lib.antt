@@ -7,5 +7,6 @@ pub mod Members
 pub mod Opening
 pub mod Keeping
 pub mod Best
+pub mod Renewing
 pub mod Isolation
 pub mod Alone

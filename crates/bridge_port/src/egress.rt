@@ -57,6 +57,7 @@ impl<A: Allocator + Copy> Egress<A> {
     }
 
     /// The least moment from `from` on from which the class stays open for `occ` ns.
+    #[inline(always)]
     pub fn earliest_fit(&self, class: usize, occ: u64, from: u64) -> u64
         requires class { class < 8 }
         requires occ { occ ≤ 1_000_000_000 }

@@ -1,5 +1,7 @@
-//! Which head starts next.
-ghost use Rattle.std.specs.Prelude.{◌≡◌, ◌+◌, ◌<◌, ◌≤◌, ℕ, [], vec_len, slice_index_or};
+//! When the heads of a port may start, and which starts next.
+ghost use Rattle.std.specs.Prelude.{◌≡◌, ◌+◌, ◌<◌, ◌≤◌, ℕ, false, true, None, IsSome, [], vec_len, slice_index_or, slice_set};
+ghost use Rattle.bridge_frame.specs.Link.{occupied};
+ghost use Rattle.bridge_port.specs.Opening.{ever_of};
 ghost use Rattle.bridge_port.specs.Rings.{queues_of};
 ghost use Rattle.bridge_port.specs.Standing.{AllStartable};
 ghost use Rattle.bridge_port.specs.Heads as heads;
@@ -7,48 +9,96 @@ ghost use Rattle.bridge_port.specs.Heads as heads;
 use crate::egress::Egress;
 use crate::item::Item;
 use crate::queues::head;
+use bridge_base::LONGEST_FRAME;
 use bridge_frame::{Speed, occupation};
 use circular_buffer::HeapCircularBuffer;
 use std::alloc::Allocator;
 
-/// The better of the best head so far and that of a higher class.
+/// The better of the best head so far and that of another class: the earlier one, at one moment that of the higher class.
 fn sooner(best: Option<(u64, usize)>, fit: u64, class: usize) -> Option<(u64, usize)>
     ensures { result ≡ heads.sooner best fit class }
 {
     match best {
-        Some(found) if found.0 < fit => Some(found),
+        Some(found) if found.0 < fit || (found.0 == fit && class < found.1) => Some(found),
         _ => Some((fit, class)),
     }
 }
 
-/// The best of the heads of one class more.
-fn with_class<T: Drop, A: Allocator + Copy>(
-    best: Option<(u64, usize)>,
+/// The same for a class that may have no head.
+fn sooner_of(best: Option<(u64, usize)>, fit: Option<u64>, class: usize) -> Option<(u64, usize)>
+    ensures { result ≡ heads.sooner_of best fit class }
+{
+    match fit {
+        None => best,
+        Some(fit) => sooner(best, fit, class),
+    }
+}
+
+/// Whether a moment lies before `from`.
+fn is_past(fit: Option<u64>, from: u64) -> bool
+    ensures { result ≡ heads.is_past fit from }
+{
+    match fit {
+        None => false,
+        Some(fit) => fit < from,
+    }
+}
+
+/// The least moment in ns from `from` on at which the head of a class may start; `None` where nothing is queued.
+// Not inlined, so that the loop of `renew` stays small.
+#[inline(never)]
+fn fit_of<T: Drop, A: Allocator + Copy>(
     egress: &Egress<A>,
     speed: Speed,
     rings: &Vec<HeapCircularBuffer<Item<T>, A>, A>,
     class: usize,
     from: u64,
-) -> Option<(u64, usize)>
+) -> Option<u64>
     requires class { class < 8 }
     requires eight { vec_len rings.now ≡ 8 }
     requires from { from < 9_000_000_000_000_000_000 }
     requires startable { AllStartable egress.now speed class (slice_index_or (queues_of rings.now.items) class []) }
-    requires best { heads.IsBest egress.now speed (queues_of rings.now.items) from class best }
-    ensures { heads.IsBest egress.now speed (queues_of rings.now.items) from (class + 1) result }
+    ensures { heads.IsFit egress.now speed from class (slice_index_or (queues_of rings.now.items) class []) result }
 {
     match head(rings, class) {
-        None => best,
+        None => None,
         Some(item) => {
             let occ = occupation(item.len, speed);
-            let fit = egress.earliest_fit(class, occ, from);
-            sooner(best, fit, class)
+            Some(egress.earliest_fit(class, occ, from))
         }
     }
 }
 
-/// The moment at which the first head fits, not before `from`, and the highest class whose head fits then.
-pub fn best_head<T: Drop, A: Allocator + Copy>(
+/// Makes the fit of a class anew where it lies before `from`, and gives it.
+fn renewed<T: Drop, A: Allocator + Copy>(
+    fits: &mut [Option<u64>; 8],
+    egress: &Egress<A>,
+    speed: Speed,
+    rings: &Vec<HeapCircularBuffer<Item<T>, A>, A>,
+    class: usize,
+    from: u64,
+) -> Option<u64>
+    requires class { class < 8 }
+    requires eight { vec_len rings.now ≡ 8 }
+    requires from { from < 9_000_000_000_000_000_000 }
+    requires startable { AllStartable egress.now speed class (slice_index_or (queues_of rings.now.items) class []) }
+    requires kept { heads.is_past (slice_index_or fits.old class None) from ≡ false
+        → heads.IsFit egress.now speed from class (slice_index_or (queues_of rings.now.items) class []) (slice_index_or fits.old class None) }
+    ensures fit { heads.IsFit egress.now speed from class (slice_index_or (queues_of rings.now.items) class []) result }
+    ensures fits { fits.new ≡ slice_set fits.old class result }
+{
+    let kept = fits[class];
+    if !is_past(kept, from) {
+        return kept;
+    }
+    let fit = fit_of(egress, speed, rings, class, from);
+    fits[class] = fit;
+    fit
+}
+
+/// Makes anew what lies before `from` of the fits of all classes, and gives the best of them.
+pub fn renew<T: Drop, A: Allocator + Copy>(
+    fits: &mut [Option<u64>; 8],
     egress: &Egress<A>,
     speed: Speed,
     rings: &Vec<HeapCircularBuffer<Item<T>, A>, A>,
@@ -57,11 +107,46 @@ pub fn best_head<T: Drop, A: Allocator + Copy>(
     requires eight { vec_len rings.now ≡ 8 }
     requires from { from < 9_000_000_000_000_000_000 }
     requires startable { (c : ℕ) → AllStartable egress.now speed c (slice_index_or (queues_of rings.now.items) c []) }
-    ensures { heads.IsBest egress.now speed (queues_of rings.now.items) from 8 result }
+    requires kept { (c : ℕ) → heads.is_past (slice_index_or fits.old c None) from ≡ false
+        → heads.IsFit egress.now speed from c (slice_index_or (queues_of rings.now.items) c []) (slice_index_or fits.old c None) }
+    ensures fits { (c : ℕ)
+        → heads.IsFit egress.now speed from c (slice_index_or (queues_of rings.now.items) c []) (slice_index_or fits.new c None) }
+    ensures best { heads.IsBest fits.new 8 result }
 {
     let mut best = None;
     for class in 0..8usize {
-        best = with_class(best, egress, speed, rings, class, from);
+        let fit = renewed(fits, egress, speed, rings, class, from);
+        best = sooner_of(best, fit, class);
     }
     best
+}
+
+/// Keeps the fit from `from` on of an item of `len` octets that comes to the queue of a class, where it is the head there,
+/// and gives the best of all.
+pub fn with_item<A: Allocator + Copy>(
+    fits: &mut [Option<u64>; 8],
+    best: Option<(u64, usize)>,
+    egress: &Egress<A>,
+    speed: Speed,
+    class: usize,
+    len: u32,
+    from: u64,
+) -> Option<(u64, usize)>
+    requires class { class < 8 }
+    requires from { from < 9_000_000_000_000_000_000 }
+    requires length { len ≤ LONGEST_FRAME }
+    requires ever { ever_of egress.now class (occupied len speed) ≡ true }
+    ensures behind { IsSome (slice_index_or fits.old class None) → (fits.new ≡ fits.old) × (result ≡ best) }
+    ensures gained { slice_index_or fits.old class None ≡ None
+        → heads.GainsHead egress.now speed from class len fits.old fits.new best result }
+{
+    match fits[class] {
+        Some(_) => best,
+        None => {
+            let occ = occupation(len, speed);
+            let fit = egress.earliest_fit(class, occ, from);
+            fits[class] = Some(fit);
+            sooner(best, fit, class)
+        }
+    }
 }

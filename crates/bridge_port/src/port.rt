@@ -2,7 +2,7 @@
 ghost use Rattle.std.specs.Prelude.{◌≡◌, ◌<◌, ◌≤◌, ◌+◌, ◌-◌, ◌*◌, ◌^◌, ◌&&◌, ℕ, Bool, true, Option, Some, None, IfOk, IfSome, IfNone, List, [], ◌∷◌, length, map, max, replicate, is_none, MatchOption, if◌then◌else◌};
 
 use crate::egress::Egress;
-use crate::heads::best_head;
+use crate::heads::{renew, with_item};
 use crate::item::{Item, Refusal};
 use crate::queues::{is_full, pop_at, push_at, with_rooms};
 use bridge_base::{END_OF_TIME, LONGEST_FRAME, MOST_ARRIVALS};
@@ -15,7 +15,8 @@ use std::marker::Model;
 /// An egress port: eight queues with their transmission gates, served in strict priority. A frame starts only where its
 /// class stays open until the link is free again (IEEE 802.1Q-2018, 8.6.8, 8.6.8.1 and 8.6.8.4).
 ///
-/// It stands for the list of copies that were offered to it, each with what became of it.
+/// It stands for the list of copies that were offered to it, each with what became of it. It keeps when the head of each
+/// class may start, and which of them starts next: only what an offer or a start changes of that is computed anew.
 #[derive(Drop)]
 pub struct Port<T: Drop, A: Allocator + Copy> {
     speed: Speed,
@@ -25,17 +26,20 @@ pub struct Port<T: Drop, A: Allocator + Copy> {
     earliest: u64,
     offered: u64,
     started: u64,
+    fits: [Option<u64>; 8],
+    best: Option<(u64, usize)>,
 }
 
 impl<T: Drop, A: Allocator + Copy> Model for Port<T, A> {
     ghost use Rattle.bridge_port.specs.Rings.{queues_of, rooms_of};
-    ghost use Rattle.bridge_port.specs.Standing.{State, state, IsKept};
+    ghost use Rattle.bridge_port.specs.Standing.{State, state};
+    ghost use Rattle.bridge_port.specs.Heads.{KeepsHeads};
 
     ghost Value = { State T };
 
     ghost view = { λ p. state p.speed p.egress p.rings.items p.free p.earliest p.offered p.started };
 
-    ghost invariant = { λ p. IsKept (state p.speed p.egress p.rings.items p.free p.earliest p.offered p.started) };
+    ghost invariant = { λ p. KeepsHeads (state p.speed p.egress p.rings.items p.free p.earliest p.offered p.started) p.fits p.best };
 }
 
 impl<T: Drop, A: Allocator + Copy> Port<T, A> {
@@ -68,6 +72,8 @@ impl<T: Drop, A: Allocator + Copy> Port<T, A> {
             earliest: 0,
             offered: 0,
             started: 0,
+            fits: [None; 8],
+            best: None,
         })
     }
 
@@ -108,6 +114,16 @@ impl<T: Drop, A: Allocator + Copy> Port<T, A> {
         match refusal {
             Some(refusal) => Err((item, refusal)),
             None => {
+                let from = self.free.max(t);
+                self.best = with_item(
+                    &mut self.fits,
+                    self.best,
+                    &self.egress,
+                    self.speed,
+                    class,
+                    item.len,
+                    from,
+                );
                 push_at(&mut self.rings, class, item);
                 Ok(())
             }
@@ -119,8 +135,7 @@ impl<T: Drop, A: Allocator + Copy> Port<T, A> {
         ensures next { MatchOption result (IsIdle self.now) (λ b. StartsNext self.now b.0 b.1) }
         ensures kept { IsKept self.now }
     {
-        let from = self.free.max(self.earliest);
-        best_head(&self.egress, self.speed, &self.rings, from)
+        self.best
     }
 
     /// The moment in ns of the next start, if nothing else is offered; `None` where nothing is queued.
@@ -170,6 +185,14 @@ impl<T: Drop, A: Allocator + Copy> Port<T, A> {
                         self.free = k + occ;
                         self.earliest = k + 1;
                         self.started += 1;
+                        let from = self.free.max(self.earliest);
+                        self.best = renew(
+                            &mut self.fits,
+                            &self.egress,
+                            self.speed,
+                            &self.rings,
+                            from,
+                        );
                         (item, class as u8)
                     }
                     None => unreachable!(),

@@ -1,0 +1,137 @@
+-- What becomes of the fits of the heads, and of the best of them, over offers and starts.
+use Rattle.std.proofs.Common.{◌≡◌, ◌≢◌, ℕ, true, false, ◌<◌, ◌≤◌, ◌+◌, ◌^◌, ◌++◌, List, [], ◌∷◌, length, arith, refl, ap, ◌∙◌, sym, subst, Option, Some, None, max, get_or-set_same, get_or-set_other, inl, inr}
+use Rattle.std.proofs.lemmas.Bool.Decides.{nat_tests}
+use Rattle.std.proofs.lemmas.Bool.{cases_order}
+use Rattle.std.specs.Prelude.{IsSome, nat_lt, nat_eq, slice_index_or, slice_get, slice_set, drop}
+use Rattle.bridge_base.specs.declared.TheConstants.{END_OF_TIME, LONGEST_FRAME, MOST_ARRIVALS}
+use Rattle.bridge_frame.specs.Link.{occupied}
+use Rattle.bridge_cycle.specs.Moments.{IsFirst}
+use Rattle.bridge_cycle.proofs.Cases.{by_bool}
+use Rattle.bridge_port.specs.declared.item.Item.{Item}
+use Rattle.bridge_port.specs.Heads.{IsFit, is_past, IsBest, sooner, GainsHead, AreFits, KeepsHeads, StartsNext}
+use Rattle.bridge_port.specs.Standing.{State, queue_of, queues_with, IsKept, IsNext, NoStartBefore, started_state}
+use Rattle.bridge_port.specs.Opening.{opens_of}
+use Rattle.bridge_port.proofs.Best.{fit_is, fit_later, fit_ahead, fit_behind, nothing_queued, fit_of_head, best_put, head_some}
+use Rattle.bridge_port.proofs.Keeping.{by_class, kept_refused, kept_started, next_short}
+use Rattle.bridge_port.proofs.Ports.{heads}
+
+by_option : {R : Type 0} (o : Option ℕ) → (o ≡ None → R) → ((k : ℕ) → o ≡ Some k → R) → R
+by_option None f g = f refl
+by_option (Some k) f g = g k refl
+
+-- the fits stay up to a moment before which no start is asked for
+fits_calm : {T : Type 0} (p : State T) (t : ℕ) (fits : List (Option ℕ)) → AreFits p fits → p.earliest ≤ t → NoStartBefore p t → (c : ℕ) → IsFit p.list p.speed (max p.free t) c (queue_of p c) (slice_index_or fits c None)
+fits_calm p t fits are le calm c = fit_later p.list p.speed (max p.free p.earliest) (max p.free t) c (queue_of p c) (slice_index_or fits c None) (are c) (omega arith) (λ x rest e u lo hi. calm c x rest e u (omega arith) (omega arith) (omega arith))
+
+-- a refused item
+pub heads_refused : {T : Type 0} (p : State T) (t : ℕ) (fits : List (Option ℕ)) (best : Option (ℕ × ℕ)) → KeepsHeads p fits best → p.earliest ≤ t → NoStartBefore p t → t < END_OF_TIME → p.offered < MOST_ARRIVALS → KeepsHeads (record p { earliest = t; offered = p.offered + 1 }) fits best
+heads_refused p t fits best k le calm early few = record { kept = kept_refused p t k.kept early few; are_fits = fits_calm p t fits k.are_fits le calm; is_best = k.is_best }
+
+-- an item behind a head
+heads_behind : {T : Type 0} (p : State T) (t c j : ℕ) (x : Item T) (fits : List (Option ℕ)) (best : Option (ℕ × ℕ)) → KeepsHeads p fits best → c < 8 → slice_index_or fits c None ≡ Some j → p.earliest ≤ t → NoStartBefore p t → IsKept (record p { queues = queues_with None p.queues c x; earliest = t; offered = p.offered + 1 }) → KeepsHeads (record p { queues = queues_with None p.queues c x; earliest = t; offered = p.offered + 1 }) fits best
+heads_behind {T} p t c j x fits best k l some le calm kept =
+    let eight = k.kept.queues in
+    let within : c < length p.queues = omega arith in
+    let before = fits_calm p t fits k.are_fits le calm in
+    let P : ℕ → List (Item T) → Type 0 = λ d q. IsFit p.list p.speed (max p.free t) d q (slice_index_or fits d None) in
+    let Q : List (Item T) → Option ℕ → Type 0 = λ q f. IsFit p.list p.speed (max p.free t) c q f in
+    let had : Q (queue_of p c) (Some j) = subst (Q (queue_of p c)) some (before c) in
+    let new : P c (queue_of p c ++ x ∷ []) = subst (Q (queue_of p c ++ x ∷ [])) (sym some) (fit_behind p.list p.speed (max p.free t) c j (queue_of p c) x had) in
+    record { kept = kept; are_fits = by_class P p.queues c (queue_of p c ++ x ∷ []) within new before; is_best = k.is_best }
+
+-- the queue and the fit of each class, where those of one class are replaced
+by_class_both : {X : Type 0} (P : ℕ → List X → Option ℕ → Type 0) (qs : List (List X)) (fits : List (Option ℕ)) (c : ℕ) (v : List X) (f : Option ℕ) → c < length qs → c < length fits → P c v f → ((d : ℕ) → P d (slice_index_or qs d []) (slice_index_or fits d None)) → (d : ℕ) → P d (slice_index_or (slice_set qs c v) d []) (slice_index_or (slice_set fits c f) d None)
+by_class_both {X} P qs fits c v f l within new old d = by_bool (nat_eq c d)
+    (λ e.
+    let same : c ≡ d = grind (arith, nat_tests) in
+    let Q : ℕ → Type 0 = λ n. P n (slice_index_or (slice_set qs c v) n []) (slice_index_or (slice_set fits c f) n None) in
+    subst Q same (rw (get_or-set_same, get_or-set_same) new))
+    (λ e.
+    let other : d ≢ c = λ z. absurd (let w : nat_eq c d ≡ true = grind (arith, nat_tests) in cc) in
+    rw (get_or-set_other, get_or-set_other) (old d))
+
+-- an item that becomes a head
+heads_gained : {T : Type 0} (p : State T) (t c j : ℕ) (x : Item T) (fits : List (Option ℕ)) (best : Option (ℕ × ℕ)) → KeepsHeads p fits best → c < 8 → length fits ≡ 8 → slice_index_or fits c None ≡ None → p.earliest ≤ t → NoStartBefore p t → IsFirst (opens_of p.list c) (occupied x.len p.speed) (max p.free t) j → j ≤ max p.free t + 10 ^ 9 → IsKept (record p { queues = queues_with None p.queues c x; earliest = t; offered = p.offered + 1 }) → KeepsHeads (record p { queues = queues_with None p.queues c x; earliest = t; offered = p.offered + 1 }) (slice_set fits c (Some j)) (sooner best j c)
+heads_gained {T} p t c j x fits best k l size none le calm first soon kept =
+    let eight = k.kept.queues in
+    let within : c < length p.queues = omega arith in
+    let inside : c < length fits = omega arith in
+    let before = fits_calm p t fits k.are_fits le calm in
+    let P : ℕ → List (Item T) → Option ℕ → Type 0 = λ d q f. IsFit p.list p.speed (max p.free t) d q f in
+    let had : P c (queue_of p c) None = subst (P c (queue_of p c)) none (before c) in
+    let empty : queue_of p c ≡ [] = nothing_queued p.list p.speed (max p.free t) c (queue_of p c) had in
+    let alone : queue_of p c ++ x ∷ [] ≡ x ∷ [] = ap (λ (q : List (Item T)). q ++ x ∷ []) empty in
+    let new : P c (queue_of p c ++ x ∷ []) (Some j) = fit_is p.list p.speed (max p.free t) c j (queue_of p c ++ x ∷ []) x [] alone first soon in
+    record {
+      kept = kept;
+      are_fits = by_class_both P p.queues fits c (queue_of p c ++ x ∷ []) (Some j) within inside new before;
+      is_best = best_put fits 8 j c best l inside none k.is_best;
+    }
+
+-- an item that is queued
+pub heads_offered : {T : Type 0} (p : State T) (t c from : ℕ) (x : Item T) (fits others : List (Option ℕ)) (best after : Option (ℕ × ℕ)) → KeepsHeads p fits best → c < 8 → length fits ≡ 8 → p.earliest ≤ t → NoStartBefore p t → from ≡ max p.free t → (IsSome (slice_index_or fits c None) → (others ≡ fits) × (after ≡ best)) → (slice_index_or fits c None ≡ None → GainsHead p.list p.speed from c x.len fits others best after) → IsKept (record p { queues = queues_with None p.queues c x; earliest = t; offered = p.offered + 1 }) → KeepsHeads (record p { queues = queues_with None p.queues c x; earliest = t; offered = p.offered + 1 }) others after
+heads_offered {T} p t c from x fits others best after k l size le calm is behind gained kept =
+    let new : State T = record p { queues = queues_with None p.queues c x; earliest = t; offered = p.offered + 1 } in
+    by_option (slice_index_or fits c None)
+    (λ none.
+    let g = gained none in
+    let first : IsFirst (opens_of p.list c) (occupied x.len p.speed) (max p.free t) g.at = subst (λ (n : ℕ). IsFirst (opens_of p.list c) (occupied x.len p.speed) n g.at) is g.first in
+    let soon : g.at ≤ max p.free t + 10 ^ 9 = let near = g.soon in omega arith in
+    let made : KeepsHeads new (slice_set fits c (Some g.at)) (sooner best g.at c) = heads_gained p t c g.at x fits best k l size none le calm first soon kept in
+    rw (g.fits, g.best) made)
+    (λ j some.
+    let there : IsSome (slice_index_or fits c None) = rw some refl in
+    let same = behind there in
+    let made : KeepsHeads new fits best = heads_behind p t c j x fits best k l some le calm kept in
+    rw (same.0, same.1) made)
+
+-- the next start is at the fit of its class
+pub next_fit : {T : Type 0} (p : State T) (k c : ℕ) (x : Item T) (fits : List (Option ℕ)) → AreFits p fits → IsNext p k c x → slice_index_or fits c None ≡ Some k
+next_fit {T} p k c x fits are n =
+    let h = fit_of_head p.list p.speed (max p.free p.earliest) c (queue_of p c) x n.rest (slice_index_or fits c None) n.is_head (are c) in
+    let after = n.after in
+    let free = n.free in
+    let at_after = h.first.after in
+    elim (cases_order h.at k) [
+      | inl same ↦ subst (λ (u : ℕ). slice_index_or fits c None ≡ Some u) same h.is
+      | inr other ↦ elim other [
+        | inl before ↦ absurd (n.least c x n.rest n.is_head h.at (omega arith) (omega arith) before h.first.fits)
+        | inr later ↦ absurd (h.first.least k (omega arith) later n.fits)
+      ]
+    ]
+
+-- after a start each fit that is not past stays
+pub fits_started : {T : Type 0} (p : State T) (k c : ℕ) (fits : List (Option ℕ)) (from : ℕ) → AreFits p fits → slice_index_or fits c None ≡ Some k → max p.free p.earliest ≤ from → k < from → (d : ℕ) → is_past (slice_index_or fits d None) from ≡ false → IsFit p.list p.speed from d (slice_index_or (slice_set p.queues c (drop 1 (queue_of p c))) d []) (slice_index_or fits d None)
+fits_started {T} p k c fits from are some le before d ahead = by_bool (nat_eq c d)
+    (λ e.
+    let same : c ≡ d = grind (arith, nat_tests) in
+    let at_c : is_past (slice_index_or fits c None) from ≡ false = subst (λ (n : ℕ). is_past (slice_index_or fits n None) from ≡ false) (sym same) ahead in
+    let not_before : nat_lt k from ≡ false = rw some at at_c in
+    absurd (let is_before : nat_lt k from ≡ true = grind (arith, nat_tests) in cc))
+    (λ e.
+    let other : d ≢ c = λ z. absurd (let w : nat_eq c d ≡ true = grind (arith, nat_tests) in cc) in
+    rw get_or-set_other (fit_ahead p.list p.speed (max p.free p.earliest) from d (queue_of p d) (slice_index_or fits d None) (are d) le ahead))
+
+-- the item that leaves a queue is its head
+head_is : {X : Type 0} (q : List X) (x y : X) (rest : List X) → q ≡ x ∷ rest → Some y ≡ slice_get q 0 → x ≡ y
+head_is q x y rest e h = heads x y rest (drop 1 q) (sym e ∙ head_some q y (sym h))
+
+-- the item that starts
+pub next_item : {T : Type 0} (p : State T) (k c : ℕ) (x : Item T) → StartsNext p k c → Some x ≡ slice_get (queue_of p c) 0 → IsNext p k c x
+next_item {T} p k c x s h = subst (λ (y : Item T). IsNext p k c y) (head_is (queue_of p c) s.item x s.next.rest s.next.is_head h) s.next
+
+-- what a port keeps once an item has started
+pub heads_started : {T : Type 0} (p : State T) (k c occ from : ℕ) (x : Item T) (others : List (Option ℕ)) (after : Option (ℕ × ℕ)) → IsKept p → StartsNext p k c → Some x ≡ slice_get (queue_of p c) 0 → occ ≡ occupied x.len p.speed → (x.len ≤ LONGEST_FRAME → occ ≤ 7392000) → from ≡ max (k + occ) (k + 1) → ((d : ℕ) → IsFit p.list p.speed from d (slice_index_or (slice_set p.queues c (drop 1 (queue_of p c))) d []) (slice_index_or others d None)) → IsBest others 8 after → KeepsHeads (started_state p k c x) others after
+heads_started {T} p k c occ from x others after kept s h exact short is fits best =
+    let next = next_item p k c x s h in
+    let len = next_short p k c x kept next in
+    let few : occ ≤ 7392000 = short len in
+    let soon = s.soon in
+    let behind : from ≡ max (k + occupied x.len p.speed) (k + 1) = omega arith in
+    record {
+      kept = kept_started p k c x kept next soon (omega arith);
+      are_fits = λ d.
+          let P : ℕ → Type 0 = λ n. IsFit p.list p.speed n d (slice_index_or (slice_set p.queues c (drop 1 (queue_of p c))) d []) (slice_index_or others d None) in
+          subst P behind (fits d);
+      is_best = best;
+    }
