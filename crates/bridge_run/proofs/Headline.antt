@@ -1,6 +1,5 @@
 -- What a run tells of a protected filter, its own events alone tell.
 use Rattle.std.proofs.Common.{◌≡◌, ℕ, true, List, [], ◌∷◌, ◌++◌, refl, ap, ◌∙◌, sym, subst, ◌⊎◌, inl, inr, Option, Some, None}
-use Rattle.std.proofs.Common.{append-nil}
 use Rattle.std.specs.Prelude.{nat_eq}
 use Rattle.std.specs.Map.{lookup}
 use Rattle.std.proofs.lemmas.Option.{same_Some}
@@ -8,13 +7,12 @@ use Rattle.std.proofs.lemmas.Bool.{eqb-true, eqb-false}
 use Rattle.bridge_base.specs.Members.{In}
 use Rattle.bridge_cycle.proofs.Cases.{by_bool}
 use Rattle.bridge_frame.proofs.Times.{occupied_some}
-use Rattle.bridge_meter.specs.Colours as meter
 use Rattle.bridge_filter.specs.declared.FilterPlan.{FilterPlan}
 use Rattle.bridge_filter.specs.Verdicts as verdicts
 use Rattle.bridge_filter.specs.Verdicts.{Plans, Step, Unfiltered, Judged, Commanded}
-use Rattle.bridge_filter.specs.Counts.{verdicts_of, counters_of, flags_of, red_by, buckets_by}
+use Rattle.bridge_filter.specs.Counts.{verdicts_of, counters_of, flags_of, buckets_by}
 use Rattle.bridge_filter.specs.Own.{IsApart, own_steps, is_named, is_number}
-use Rattle.bridge_filter.proofs.Owned.{AreListed, told_listed, gate_own, meter_own, blocked_own}
+use Rattle.bridge_filter.proofs.Owned.{AreListed, told_listed}
 use Rattle.bridge_port.specs.Schedule.{Copy}
 use Rattle.bridge_port.specs.Solo.{only, IsSolo}
 use Rattle.bridge_port.proofs.Isolation.{solo}
@@ -50,21 +48,21 @@ only_in c x (y ∷ xs) i = by_bool (nat_eq y.class c)
     (λ k. let j : (x ≡ y) ⊎ In x (only c xs) = rw k at i in elim j [ inl same ↦ inl same | inr later ↦ inr (only_in c x xs later) ])
     (λ k. let j : In x (only c xs) = rw k at i in inr (only_in c x xs j))
 
-abbrev as_offer : Copy Carried → Offer
+abbrev pub as_offer : Copy Carried → Offer
 as_offer x = record { at = x.at; class = x.class; item = x.item }
 
-in_offered : (x : Copy Carried) (xs : List (Copy Carried)) → In x xs → In (as_offer x) (offered xs)
+pub in_offered : (x : Copy Carried) (xs : List (Copy Carried)) → In x xs → In (as_offer x) (offered xs)
 in_offered x [] i = absurd i
 in_offered x (y ∷ xs) (inl same) = inl (ap as_offer same)
 in_offered x (y ∷ xs) (inr later) = inr (in_offered x xs later)
 
-in_in_class : (c : ℕ) (o : Offer) (os : List Offer) → In o os → o.class ≡ c → In o (in_class c os)
+pub in_in_class : (c : ℕ) (o : Offer) (os : List Offer) → In o os → o.class ≡ c → In o (in_class c os)
 in_in_class c o [] i e = absurd i
 in_in_class c o (y ∷ os) i e = by_bool (nat_eq y.class c)
     (λ k. rw k (elim i [ inl same ↦ inl same | inr later ↦ inr (in_in_class c o os later e) ]))
     (λ k. rw k (elim i [ inl same ↦ absurd (eqb-false y.class c k (ap (λ (v : Offer). v.class) (sym same) ∙ e)) | inr later ↦ in_in_class c o os later e ]))
 
-in_class_in : (c : ℕ) (o : Offer) (os : List Offer) → In o (in_class c os) → In o os × (o.class ≡ c)
+pub in_class_in : (c : ℕ) (o : Offer) (os : List Offer) → In o (in_class c os) → In o os × (o.class ≡ c)
 in_class_in c o [] i = absurd i
 in_class_in c o (y ∷ os) i = by_bool (nat_eq y.class c)
     (λ k. let j : (o ≡ y) ⊎ In o (in_class c os) = rw k at i in elim j [ inl same ↦ (inl same, ap (λ (v : Offer). v.class) same ∙ eqb-true y.class c k) | inr later ↦ let r = in_class_in c o os later in (inr r.0, r.1) ])
@@ -103,7 +101,7 @@ abbrev queues : {A : Type 0} → Plan A → ℕ → FilterPlan → List Event �
 queues p s f es lists q c = picked (in_class c (offers_if p (port_at p.ports q) (own p s f es))) (only c (lists q))
 
 -- an offer of the filter's flow lies in the filter's reach
-flow_reaches : {A : Type 0} (p : Plan A) (s : ℕ) (f : FilterPlan) (out : PortPlan A) → IsSafe p s f → port_at p.ports out.number ≡ Some out → (es : List Event) → (o : Offer) → In o (offers p out es) → o.item.flow ≡ Some s → reaches p f out.number o.class ≡ true
+pub flow_reaches : {A : Type 0} (p : Plan A) (s : ℕ) (f : FilterPlan) (out : PortPlan A) → IsSafe p s f → port_at p.ports out.number ≡ Some out → (es : List Event) → (o : Offer) → In o (offers p out es) → o.item.flow ≡ Some s → reaches p f out.number o.class ≡ true
 flow_reaches p s f out safe there es o i e =
     let t = sent p s f out safe there es o i in
     let n : t.number ≡ s = same_Some t.number s (sym t.flow ∙ e) in
@@ -119,7 +117,7 @@ arrived_flow p s out plan there a es o None e k i = let z : ⊥ = subst (In o) (
 arrived_flow p s out plan there a es o (Some c) e k i = let z : is_number s (verdicts.flow p.filters c) ≡ true = rw e at k in numbered_flow p s out plan there a es o c (verdicts.flow p.filters c) e refl z i
 
 -- all offers of own events have the flow
-own_flow : {A : Type 0} (p : Plan A) (s : ℕ) (f : FilterPlan) (out : PortPlan A) → IsPlan p → port_at p.ports out.number ≡ Some out → (es : List Event) → (o : Offer) → In o (offers p out (own p s f es)) → o.item.flow ≡ Some s
+pub own_flow : {A : Type 0} (p : Plan A) (s : ℕ) (f : FilterPlan) (out : PortPlan A) → IsPlan p → port_at p.ports out.number ≡ Some out → (es : List Event) → (o : Offer) → In o (offers p out (own p s f es)) → o.item.flow ≡ Some s
 own_flow p s f out plan there [] o i = absurd i
 own_flow p s f out plan there (Cleared clear n ∷ es) o i = by_bool (is_named s f clear n)
     (λ k. let j : In o (offers p out (own p s f es)) = rw k at i in own_flow p s f out plan there es o j)

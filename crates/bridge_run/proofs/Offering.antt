@@ -1,16 +1,13 @@
 -- What a filter's own events offer.
-use Rattle.std.proofs.Common.{◌≡◌, ◌+◌, ◌≤◌, ◌/◌, ◌%◌, arith, length, take, drop, slice_index, nat_lt, ℕ, Bool, true, false, List, [], ◌∷◌, ◌++◌, refl, ap, ◌∙◌, sym, subst, ◌⊎◌, inl, inr, Option, Some, None, Result, Ok, Err}
+use Rattle.std.proofs.Common.{◌≡◌, ◌+◌, ◌≤◌, ℕ, Bool, true, List, [], ◌∷◌, ◌++◌, refl, ap, ◌∙◌, sym, subst, ◌⊎◌, inl, inr, Option, Some, None, Result, Ok, Err}
 use Rattle.std.specs.Prelude.{if◌then◌else◌, nat_eq}
-use Rattle.std.specs.Option.{ForSome}
 use Rattle.std.proofs.lemmas.Option.{same_Some}
 use Rattle.std.proofs.lemmas.Bool.{eqb-true, eqb-false}
 use Rattle.bridge_base.specs.Members.{In}
 use Rattle.bridge_cycle.proofs.Cases.{by_bool}
 use Rattle.bridge_frame.specs.declared.Head.{Head}
 use Rattle.bridge_frame.specs.declared.FrameFault.{FrameFault}
-use Rattle.bridge_frame.specs.declared.Tag.{Tag}
-use Rattle.bridge_frame.specs.declared.FrameFault.TheVariants.{TooShort, TooLong}
-use Rattle.bridge_frame.specs.Frames.{head, head_octets, is_tagged, sdu_octets, tag_in}
+use Rattle.bridge_frame.specs.Frames.{head}
 use Rattle.bridge_ident.specs.Identification.{handle_in}
 use Rattle.bridge_forward.specs.Ports.{has}
 use Rattle.bridge_forward.specs.Forward.{forward}

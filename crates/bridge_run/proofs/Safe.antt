@@ -1,5 +1,5 @@
 -- What the laws of the parts say of a filter that fails no test.
-use Rattle.std.proofs.Common.{◌≡◌, ℕ, Option, None}
+use Rattle.std.proofs.Common.{◌≡◌, ℕ, None}
 use Rattle.bridge_base.specs.Members.{In}
 use Rattle.bridge_filter.specs.declared.FilterPlan.{FilterPlan}
 use Rattle.bridge_filter.specs.Own.{IsApart}

@@ -1,6 +1,5 @@
 -- What comes of a filter's own events.
 use Rattle.std.proofs.Common.{◌≡◌, ℕ, List, [], ◌∷◌, arith, refl, ap, ◌∙◌, Option, Some, None}
-use Rattle.std.specs.Prelude.{nat_eq}
 use Rattle.bridge_cycle.proofs.Cases.{by_bool}
 use Rattle.bridge_filter.specs.declared.FilterPlan.{FilterPlan}
 use Rattle.bridge_filter.specs.Verdicts as verdicts

@@ -1,5 +1,5 @@
 -- Runs, and what they tell of each filter and each port.
-use Rattle.std.specs.Prelude.{◌≡◌, ℕ, Bool, true, false, not, ◌+◌, ◌<◌, ◌≤◌, ◌&&◌, nat_eq, Option, Some, None, is_none, List, [], ◌∷◌, count_by, ◌⊎◌, ◌↔◌}
+use Rattle.std.specs.Prelude.{◌≡◌, ℕ, Bool, true, false, not, ◌+◌, ◌<◌, ◌≤◌, ◌&&◌, nat_eq, Option, Some, None, is_none, List, [], count_by, ◌⊎◌, ◌↔◌}
 use Rattle.std.specs.Map.{lookup}
 use Rattle.bridge_frame.specs.Link.{occupied}
 use Rattle.bridge_base.specs.Members.{In, Rising}
@@ -98,6 +98,13 @@ pub record IsRun {A : Type 0} (p : Plan A) (es : List Event) (moments : ℕ → 
   pub offers : (q : ℕ) (out : PortPlan A) → port_at p.ports q ≡ Some out → offered (lists q) ≡ offers p out es
   pub lawful : (q : ℕ) (out : PortPlan A) → port_at p.ports q ≡ Some out → IsLawful (egress out) (moments q) (lists q)
   pub others : (q : ℕ) → port_at p.ports q ≡ None → lists q ≡ []
+
+-- a copy occupies the link of a port at a moment: it started then or before, and is not done
+pub record IsOnLink {A : Type 0} (out : PortPlan A) (x : Copy Carried) (u : ℕ) : Type 0 where
+  pub start : ℕ
+  pub started : x.fate ≡ Started start
+  pub begun : start ≤ u
+  pub going_on : u < start + occupied x.item.len out.speed
 
 -- no copy is queued
 abbrev pub AreWhole : (ℕ → List (Copy Carried)) → Type 0

@@ -1,20 +1,97 @@
 //! Laws of whole runs, each the contract of a function that does nothing.
-ghost use Rattle.std.specs.Prelude.{◌≡◌, ℕ, List, Some, nat_eq, true};
+ghost use Rattle.std.specs.Prelude.{◌≡◌, ◌↔◌, ℕ, List, ◌∷◌, ◌++◌, max, Some, nat_eq, true};
 ghost use Rattle.std.specs.Map.{lookup};
 ghost use Rattle.bridge_base.specs.Members.{In};
+ghost use Rattle.bridge_cycle.specs.Moments.{IsFirst};
+ghost use Rattle.bridge_frame.specs.Link.{occupied};
 ghost use Rattle.bridge_filter.specs.declared.FilterPlan.{FilterPlan};
 ghost use Rattle.bridge_config.specs.Model.{Plan};
-ghost use Rattle.bridge_config.specs.Rules.{IsPlan};
+ghost use Rattle.bridge_config.specs.declared.ports.PortPlan.{PortPlan};
+ghost use Rattle.bridge_config.specs.Rules.{IsPlan, port_at};
 ghost use Rattle.bridge_check.specs.Acceptable.{IsAcceptable};
+ghost use Rattle.bridge_check.specs.Reach.{reaches};
 ghost use Rattle.bridge_run.specs.declared.outcome.View.{View};
 ghost use Rattle.bridge_run.specs.declared.outcome.Outcome.{Outcome};
-ghost use Rattle.bridge_port.specs.Schedule.{Copy};
+ghost use Rattle.bridge_port.specs.Opening.{opens_of};
+ghost use Rattle.bridge_port.specs.Schedule.{Copy, IsLawful, Started};
+ghost use Rattle.bridge_port.specs.Solo.{IsSolo, IsWhole, last_done, only};
 ghost use Rattle.bridge_run.specs.Events.{Event, own};
-ghost use Rattle.bridge_run.specs.Offers.{Carried};
-ghost use Rattle.bridge_run.specs.Runs.{IsOutcome, IsSoloView, TellTheSame};
+ghost use Rattle.bridge_run.specs.Offers.{Carried, egress};
+ghost use Rattle.bridge_run.specs.Runs.{AreWhole, IsOnLink, IsOutcome, IsRun, IsSoloView, TellTheSame};
 ghost use Rattle.bridge_run.specs.Merge.{Input, IsMerged, events, own_inputs};
 
 use std::alloc::Allocator;
+
+/// In a run of an accepted plan the queues of a protected filter's reach hold the copies of its frames and no others.
+pub fn own_queues<A: Allocator + Copy>()
+    ensures { (p : Plan A) (n : ℕ) (f : FilterPlan) (es : List Event) (moments : ℕ → ℕ) (lists : ℕ → List (Copy Carried)) (q : ℕ) (out : PortPlan A) (x : Copy Carried)
+        → IsPlan p
+        → IsAcceptable p
+        → In (n, f) p.filters
+        → f.protected ≡ true
+        → IsRun p es moments lists
+        → port_at p.ports q ≡ Some out
+        → In x (lists q)
+        → (x.item.flow ≡ Some n) ↔ (reaches p f q x.class ≡ true) }
+{}
+
+/// While a class of a protected filter's reach is open at its port, no copy of another class occupies the link, at any
+/// moment of any lawful schedule.
+pub fn no_other_class_occupies<A: Allocator + Copy>()
+    ensures { (p : Plan A) (n : ℕ) (f : FilterPlan) (q c h u : ℕ) (out : PortPlan A) (xs : List (Copy Carried)) (x : Copy Carried)
+        → IsPlan p
+        → IsAcceptable p
+        → In (n, f) p.filters
+        → f.protected ≡ true
+        → port_at p.ports q ≡ Some out
+        → reaches p f q c ≡ true
+        → opens_of out.list c u ≡ true
+        → IsLawful (egress out) h xs
+        → In x xs
+        → IsOnLink out x u
+        → x.class ≡ c }
+{}
+
+/// The scheduler that all classes of a port share neither misses nor delays a start of a class of a protected filter's
+/// reach: the copies of the class fare as in a queue that has the link alone (`alone`); so one that started did so at the
+/// first moment, from its offer and the end of the class's copy before it on, from which the class stays open for as long
+/// as it occupies the link (`at_once`); and this holds of each copy of the filter in a whole run (`own`).
+pub fn starts_as_alone<A: Allocator + Copy>()
+    ensures alone { (p : Plan A) (n : ℕ) (f : FilterPlan) (q c h : ℕ) (out : PortPlan A) (xs : List (Copy Carried))
+        → IsPlan p
+        → IsAcceptable p
+        → In (n, f) p.filters
+        → f.protected ≡ true
+        → port_at p.ports q ≡ Some out
+        → reaches p f q c ≡ true
+        → IsLawful (egress out) h xs
+        → IsWhole xs
+        → IsSolo (egress out) (only c xs) }
+    ensures at_once { (p : Plan A) (n : ℕ) (f : FilterPlan) (q c h s : ℕ) (out : PortPlan A) (newer : List (Copy Carried)) (x : Copy Carried) (older : List (Copy Carried))
+        → IsPlan p
+        → IsAcceptable p
+        → In (n, f) p.filters
+        → f.protected ≡ true
+        → port_at p.ports q ≡ Some out
+        → reaches p f q c ≡ true
+        → IsLawful (egress out) h (newer ++ x ∷ older)
+        → IsWhole (newer ++ x ∷ older)
+        → x.class ≡ c
+        → x.fate ≡ Started s
+        → IsFirst (opens_of out.list c) (occupied x.item.len out.speed) (max x.at (last_done (egress out) (only c older))) s }
+    ensures own { (p : Plan A) (n : ℕ) (f : FilterPlan) (es : List Event) (moments : ℕ → ℕ) (lists : ℕ → List (Copy Carried)) (q s : ℕ) (out : PortPlan A) (newer : List (Copy Carried)) (x : Copy Carried) (older : List (Copy Carried))
+        → IsPlan p
+        → IsAcceptable p
+        → In (n, f) p.filters
+        → f.protected ≡ true
+        → IsRun p es moments lists
+        → AreWhole lists
+        → port_at p.ports q ≡ Some out
+        → lists q ≡ newer ++ x ∷ older
+        → x.item.flow ≡ Some n
+        → x.fate ≡ Started s
+        → IsFirst (opens_of out.list x.class) (occupied x.item.len out.speed) (max x.at (last_done (egress out) (only x.class older))) s }
+{}
 
 /// What a run of an accepted plan tells of a protected filter is what the filter's own events alone tell of it, each of
 /// its queues alone on an idle bridge.
