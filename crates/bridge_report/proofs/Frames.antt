@@ -9,10 +9,9 @@ frames_more : (n : ℕ) (front : List Verdict) (v : Verdict) (m : ℕ) → m ≡
 frames_more n [] v m is = append-nil _ ∙ ap (λ k. frame_line k v) (omega (arith, is))
 frames_more n (first ∷ more) v m is = ap (λ l. frame_line n first ++ l) (frames_more (n + 1) more v m (omega (arith, is))) ∙ sym (append_assoc (frame_line n first) (frame_lines (n + 1) more) (frame_line m v))
 
--- the text with the lines so far, and the next frame's
-pub one_more : (t s r : List ℕ) (verdicts : List Verdict) (i : ℕ) (v : Verdict) → i < length verdicts → v ≡ get_or verdicts i v → r ≡ s ++ frame_line (i + 1) v → s ≡ t ++ frame_lines 1 (take i verdicts) → r ≡ t ++ frame_lines 1 (take (i + 1) verdicts)
-one_more t s r verdicts i v within is next so_far =
+-- the lines of a front, and the next frame's
+pub one_more : (verdicts : List Verdict) (i : ℕ) (v : Verdict) → i < length verdicts → v ≡ get_or verdicts i v → frame_lines 1 (take i verdicts) ++ frame_line (i + 1) v ≡ frame_lines 1 (take (i + 1) verdicts)
+one_more verdicts i v within is =
     let many : length (take i verdicts) ≡ i = omega (arith, length-take i verdicts) in
     let front : take (i + 1) verdicts ≡ take i verdicts ++ v ∷ [] = take_more verdicts i v within ∙ ap (λ w. take i verdicts ++ w ∷ []) (sym is) in
-    let lines : frame_lines 1 (take (i + 1) verdicts) ≡ frame_lines 1 (take i verdicts) ++ frame_line (i + 1) v = ap (frame_lines 1) front ∙ frames_more 1 (take i verdicts) v (i + 1) (omega (arith, many)) in
-    next ∙ ap (λ l. l ++ frame_line (i + 1) v) so_far ∙ append_assoc t (frame_lines 1 (take i verdicts)) (frame_line (i + 1) v) ∙ ap (λ l. t ++ l) (sym lines)
+    sym (ap (frame_lines 1) front ∙ frames_more 1 (take i verdicts) v (i + 1) (omega (arith, many)))

@@ -1,3 +1,2 @@
 mod Frames
-mod Chains
 pub mod Same

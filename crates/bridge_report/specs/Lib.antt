@@ -1,4 +1,5 @@
 pub mod Words
 pub mod Section
 pub mod Summary
+pub mod Numbers
 pub mod Examples

@@ -1,13 +1,16 @@
 #![tactic(auto)]
 //! Report: the text of what a run tells, a section for each stream filter, and the line that sums the run up.
 
+mod fault;
 mod laws;
 mod lines;
 mod lists;
 mod sections;
+mod shown;
 mod totals;
 mod word;
 
+pub use fault::ReportFault;
 pub use laws::same_section;
-pub use sections::{report, section};
+pub use sections::{report, section, write_report};
 pub use totals::summary;

@@ -1,5 +1,6 @@
-//! The lines of a section.
-ghost use Rattle.std.specs.Prelude.{◌≡◌, ◌++◌, string_bytes, OnOk};
+//! The lines of a section, each written once, into a string or a writer.
+ghost use Rattle.std.specs.Prelude.{◌≡◌};
+ghost use Rattle.std.specs.Fmt.{WritesOnOk};
 ghost use Rattle.bridge_report.specs.Section.{bucket_line, counter_lines, delay_line, drop_line, each_flag, flag_named, flags_line, frame_line, full_in, header_line, never_in, out_line, queued_line, tested_line};
 
 use crate::word::{flag_word, kind_word, refusal_word, verdict_word};
@@ -7,80 +8,75 @@ use bridge_filter::{Counters, Flags, Verdict};
 use bridge_meter::Buckets;
 use bridge_port::Refusal;
 use bridge_run::{Departure, Dropped};
-use std::alloc::{AllocError, Allocator};
+use std::fmt;
+use std::fmt::Formatter;
 
-/// Adds the filter's number, and whether it is protected.
-pub fn push_header<A: Allocator>(
-    text: &mut String<A>,
+/// Writes the filter's number, and whether it is protected.
+pub fn write_header<W: fmt::Write>(
+    text: &mut Formatter<W>,
     filter: u32,
     protected: bool,
-) -> Result<(), AllocError>
-    ensures { OnOk result (string_bytes text.new ≡ string_bytes text.old ++ header_line filter protected) }
+) -> fmt::Result
+    ensures { WritesOnOk W.write_str_gives text.old result (header_line filter protected) text.new }
 {
     let kind = kind_word(protected);
     write!(text, "filter {filter} {kind}\n")
 }
 
-/// Adds how many frames passed a test, and how many it refused.
-fn push_tested<A: Allocator>(
-    text: &mut String<A>,
+/// Writes how many frames passed a test, and how many it refused.
+fn write_tested<W: fmt::Write>(
+    text: &mut Formatter<W>,
     test: &str,
     passed: u64,
     refused: u64,
-) -> Result<(), AllocError>
-    ensures { OnOk result (string_bytes text.new ≡ string_bytes text.old ++ tested_line test.now passed refused) }
+) -> fmt::Result
+    ensures { WritesOnOk W.write_str_gives text.old result (tested_line test.now passed refused) text.new }
 {
     write!(text, "{test} passed {passed} refused {refused}\n")
 }
 
-/// Adds what a filter counts.
-pub fn push_counters<A: Allocator>(
-    text: &mut String<A>,
-    counters: &Counters,
-) -> Result<(), AllocError>
-    ensures { OnOk result (string_bytes text.new ≡ string_bytes text.old ++ counter_lines counters.now) }
+/// Writes what a filter counts.
+pub fn write_counters<W: fmt::Write>(text: &mut Formatter<W>, counters: &Counters) -> fmt::Result
+    ensures { WritesOnOk W.write_str_gives text.old result (counter_lines counters.now) text.new }
 {
     let matching = counters.matching;
     write!(text, "matching {matching}\n")?;
-    push_tested(text, "sdu", counters.sdu_passed, counters.sdu_refused)?;
-    push_tested(text, "gate", counters.gate_passed, counters.gate_refused)?;
+    write_tested(text, "sdu", counters.sdu_passed, counters.sdu_refused)?;
+    write_tested(text, "gate", counters.gate_passed, counters.gate_refused)?;
     let red = counters.red;
     write!(text, "red {red}\n")
 }
 
-/// Adds a flag with its name before it.
-fn push_flag<A: Allocator>(text: &mut String<A>, name: &str, flag: bool) -> Result<(), AllocError>
-    ensures { OnOk result (string_bytes text.new ≡ string_bytes text.old ++ flag_named name.now flag) }
+/// Writes a flag with its name before it.
+fn write_flag<W: fmt::Write>(text: &mut Formatter<W>, name: &str, flag: bool) -> fmt::Result
+    ensures { WritesOnOk W.write_str_gives text.old result (flag_named name.now flag) text.new }
 {
     let word = flag_word(flag);
     write!(text, " {name} {word}")
 }
 
-/// Adds the four flags.
-fn push_each_flag<A: Allocator>(text: &mut String<A>, flags: &Flags) -> Result<(), AllocError>
-    ensures { OnOk result (string_bytes text.new ≡ string_bytes text.old ++ each_flag flags.now) }
+/// Writes the four flags.
+fn write_each_flag<W: fmt::Write>(text: &mut Formatter<W>, flags: &Flags) -> fmt::Result
+    ensures { WritesOnOk W.write_str_gives text.old result (each_flag flags.now) text.new }
 {
-    push_flag(text, "blocked", flags.blocked)?;
-    push_flag(text, "rx", flags.rx)?;
-    push_flag(text, "octets", flags.octets)?;
-    push_flag(text, "red", flags.red)
+    write_flag(text, "blocked", flags.blocked)?;
+    write_flag(text, "rx", flags.rx)?;
+    write_flag(text, "octets", flags.octets)?;
+    write_flag(text, "red", flags.red)
 }
 
-/// Adds the flags of a filter, its gate and its meter.
-pub fn push_flags<A: Allocator>(text: &mut String<A>, flags: &Flags) -> Result<(), AllocError>
-    ensures { OnOk result (string_bytes text.new ≡ string_bytes text.old ++ flags_line flags.now) }
+/// Writes the flags of a filter, its gate and its meter.
+pub fn write_flags<W: fmt::Write>(text: &mut Formatter<W>, flags: &Flags) -> fmt::Result
+    ensures { WritesOnOk W.write_str_gives text.old result (flags_line flags.now) text.new }
 {
-    text.push_str("flags")?;
-    push_each_flag(text, flags)?;
-    text.push_str("\n")
+    text.write_str("flags")?;
+    write_each_flag(text, flags)?;
+    text.write_str("\n")
 }
 
-/// Adds what the buckets of a filter's meter hold.
-pub fn push_bucket<A: Allocator>(
-    text: &mut String<A>,
-    buckets: Option<Buckets>,
-) -> Result<(), AllocError>
-    ensures { OnOk result (string_bytes text.new ≡ string_bytes text.old ++ bucket_line buckets) }
+/// Writes what the buckets of a filter's meter hold.
+pub fn write_bucket<W: fmt::Write>(text: &mut Formatter<W>, buckets: Option<Buckets>) -> fmt::Result
+    ensures { WritesOnOk W.write_str_gives text.old result (bucket_line buckets) text.new }
 {
     let Some(
         Buckets {
@@ -91,7 +87,7 @@ pub fn push_bucket<A: Allocator>(
         },
     ) = buckets
     else {
-        return text.push_str("bucket none\n");
+        return text.write_str("bucket none\n");
     };
     write!(
         text,
@@ -119,13 +115,13 @@ fn never_in(drops: &[Dropped]) -> usize
         .count()
 }
 
-/// Adds how many copies of a filter's frames were queued, and how many were dropped.
-pub fn push_queued<A: Allocator>(
-    text: &mut String<A>,
+/// Writes how many copies of a filter's frames were queued, and how many were dropped.
+pub fn write_queued<W: fmt::Write>(
+    text: &mut Formatter<W>,
     departures: &[Departure],
     drops: &[Dropped],
-) -> Result<(), AllocError>
-    ensures { OnOk result (string_bytes text.new ≡ string_bytes text.old ++ queued_line departures.now drops.now) }
+) -> fmt::Result
+    ensures { WritesOnOk W.write_str_gives text.old result (queued_line departures.now drops.now) text.new }
 {
     let queued = departures.len();
     let full = full_in(drops);
@@ -133,40 +129,40 @@ pub fn push_queued<A: Allocator>(
     write!(text, "queued {queued} full {full} never {never}\n")
 }
 
-/// Adds the greatest delay of a filter's frames.
-pub fn push_delay<A: Allocator>(text: &mut String<A>, delay: Option<u64>) -> Result<(), AllocError>
-    ensures { OnOk result (string_bytes text.new ≡ string_bytes text.old ++ delay_line delay) }
+/// Writes the greatest delay of a filter's frames.
+pub fn write_delay<W: fmt::Write>(text: &mut Formatter<W>, delay: Option<u64>) -> fmt::Result
+    ensures { WritesOnOk W.write_str_gives text.old result (delay_line delay) text.new }
 {
     let Some(delay) = delay else {
-        return text.push_str("delay none\n");
+        return text.write_str("delay none\n");
     };
     write!(text, "delay {delay}\n")
 }
 
-/// Adds a frame by its number, and its verdict.
-pub fn push_frame<A: Allocator>(
-    text: &mut String<A>,
+/// Writes a frame by its number, and its verdict.
+pub fn write_frame<W: fmt::Write>(
+    text: &mut Formatter<W>,
     number: usize,
     verdict: Verdict,
-) -> Result<(), AllocError>
-    ensures { OnOk result (string_bytes text.new ≡ string_bytes text.old ++ frame_line number verdict) }
+) -> fmt::Result
+    ensures { WritesOnOk W.write_str_gives text.old result (frame_line number verdict) text.new }
 {
     let word = verdict_word(verdict);
     write!(text, "frame {number} {word}\n")
 }
 
-/// Adds a copy that was dropped.
-pub fn push_drop<A: Allocator>(text: &mut String<A>, dropped: &Dropped) -> Result<(), AllocError>
-    ensures { OnOk result (string_bytes text.new ≡ string_bytes text.old ++ drop_line dropped.now) }
+/// Writes a copy that was dropped.
+pub fn write_drop<W: fmt::Write>(text: &mut Formatter<W>, dropped: &Dropped) -> fmt::Result
+    ensures { WritesOnOk W.write_str_gives text.old result (drop_line dropped.now) text.new }
 {
     let Dropped { own, port, refusal } = *dropped;
     let word = refusal_word(refusal);
     write!(text, "drop {own} port {port} {word}\n")
 }
 
-/// Adds a copy that left.
-pub fn push_out<A: Allocator>(text: &mut String<A>, departure: &Departure) -> Result<(), AllocError>
-    ensures { OnOk result (string_bytes text.new ≡ string_bytes text.old ++ out_line departure.now) }
+/// Writes a copy that left.
+pub fn write_out<W: fmt::Write>(text: &mut Formatter<W>, departure: &Departure) -> fmt::Result
+    ensures { WritesOnOk W.write_str_gives text.old result (out_line departure.now) text.new }
 {
     let Departure {
         own,

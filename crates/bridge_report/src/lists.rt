@@ -1,44 +1,40 @@
 //! The lists of a section.
-ghost use Rattle.std.specs.Prelude.{◌≡◌, ◌++◌, flat_map, string_bytes, OnOk};
+ghost use Rattle.std.specs.Prelude.{flat_map};
+ghost use Rattle.std.specs.Fmt.{WritesOnOk};
 ghost use Rattle.bridge_report.specs.Section.{drop_line, frame_lines, out_line};
 
-use crate::lines::{push_drop, push_frame, push_out};
+use crate::lines::{write_drop, write_frame, write_out};
 use bridge_filter::Verdict;
 use bridge_run::{Departure, Dropped};
-use std::alloc::{AllocError, Allocator};
+use std::fmt;
+use std::fmt::Formatter;
 
-/// Adds the frames of a filter, from 1 on, and their verdicts.
-pub fn push_frames<A: Allocator>(
-    text: &mut String<A>,
-    verdicts: &[Verdict],
-) -> Result<(), AllocError>
-    ensures { OnOk result (string_bytes text.new ≡ string_bytes text.old ++ frame_lines 1 verdicts.now) }
+/// Writes the frames of a filter, from 1 on, and their verdicts.
+pub fn write_frames<W: fmt::Write>(text: &mut Formatter<W>, verdicts: &[Verdict]) -> fmt::Result
+    ensures { WritesOnOk W.write_str_gives text.old result (frame_lines 1 verdicts.now) text.new }
 {
     for (i, verdict) in verdicts.iter().enumerate() {
-        push_frame(text, i + 1, *verdict)?;
+        write_frame(text, i + 1, *verdict)?;
     }
     Ok(())
 }
 
-/// Adds the copies that were dropped.
-pub fn push_drops<A: Allocator>(text: &mut String<A>, drops: &[Dropped]) -> Result<(), AllocError>
-    ensures { OnOk result (string_bytes text.new ≡ string_bytes text.old ++ flat_map drop_line drops.now) }
+/// Writes the copies that were dropped.
+pub fn write_drops<W: fmt::Write>(text: &mut Formatter<W>, drops: &[Dropped]) -> fmt::Result
+    ensures { WritesOnOk W.write_str_gives text.old result (flat_map drop_line drops.now) text.new }
 {
     for dropped in drops {
-        push_drop(text, dropped)?;
+        write_drop(text, dropped)?;
     }
     Ok(())
 }
 
-/// Adds the copies that left.
-pub fn push_outs<A: Allocator>(
-    text: &mut String<A>,
-    departures: &[Departure],
-) -> Result<(), AllocError>
-    ensures { OnOk result (string_bytes text.new ≡ string_bytes text.old ++ flat_map out_line departures.now) }
+/// Writes the copies that left.
+pub fn write_outs<W: fmt::Write>(text: &mut Formatter<W>, departures: &[Departure]) -> fmt::Result
+    ensures { WritesOnOk W.write_str_gives text.old result (flat_map out_line departures.now) text.new }
 {
     for departure in departures {
-        push_out(text, departure)?;
+        write_out(text, departure)?;
     }
     Ok(())
 }

@@ -1,8 +1,0 @@
-use Rattle.std.proofs.Common.{◌≡◌, ◌++◌, take}
-use Rattle.std.specs.String.{string_bytes}
-use Rattle.std.specs.List.{flat_map}
-use Rattle.bridge_report.specs.Section.{drop_line}
-use Rattle.bridge_report.proofs.lists.push_drops.Given as goal
-
-abbrev pub invariant-loop-dropped : goal.invariant-loop-dropped
-invariant-loop-dropped g l = string_bytes l.text ≡ string_bytes l.fn.text ++ flat_map drop_line (take l.dropped-index l.drops)
