@@ -1,5 +1,5 @@
 //! std's writers as sinks.
-ghost use Rattle.std.specs.Prelude.{◌≡◌, false, IfOk};
+ghost use Rattle.std.specs.Prelude.{◌≡◌, true, false, IsErr, IfOk};
 ghost use Rattle.std.specs.Io.KnownBytes.{Keeps};
 
 use crate::sink::ByteSink;
@@ -51,14 +51,22 @@ impl<W: Write + Drop, A: Allocator> FromWrite<BufWriter<W, A>> {
         }
     }
 
-    /// The writer, once it has all that the sink took.
+    /// The writer, once it has all that the sink took. A writer that has failed is not asked again, here or when it is let go.
     pub fn finish(self) -> Result<W, Broken>
-        ensures { IfOk result (λ writer. Keeps (⟦<FromWrite<BufWriter<W, A>> as ByteSink>⟧.contents self) (W.contents writer)) }
+        ensures contents { IfOk result (λ writer. Keeps (⟦<FromWrite<BufWriter<W, A>> as ByteSink>⟧.contents self) (W.contents writer)) }
+        ensures failed { ⟦<FromWrite<BufWriter<W, A>> as ByteSink>⟧.has_failed self ≡ true → IsErr result }
     {
-        let Ok(mut writer) = self.into_inner().into_inner() else {
+        let FromWrite {
+            mut writer,
+            is_broken,
+        } = self;
+        if is_broken {
+            let _ = writer.into_parts();
             return Err(Broken);
-        };
-        match writer.flush() {
+        }
+        let flushed = writer.flush();
+        let (writer, _) = writer.into_parts();
+        match flushed {
             Ok(()) => Ok(writer),
             Err(_) => Err(Broken),
         }

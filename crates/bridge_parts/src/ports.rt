@@ -143,6 +143,18 @@ impl<G: Agenda + Drop, A: Allocator + Copy> Ports<G, A> {
         }
     }
 
+    /// The starts of a port so far.
+    pub fn started(&self, number: u8) -> u64
+        requires from { 1 ≤ number }
+        requires there { (s : Slot A) × (slot_at self.now number ≡ Some s) }
+        ensures { (s : Slot A) → slot_at self.now number ≡ Some s → result ≡ s.port.started }
+    {
+        match &self.slots[number as usize - 1] {
+            Some(slot) => slot.port.started(),
+            None => unreachable!(),
+        }
+    }
+
     /// The VLAN and the priority of frames that come on a port and name none, where there is such a port.
     pub fn ingress(&self, number: u8) -> Option<(u16, u8)>
         requires from { 1 ≤ number }

@@ -94,6 +94,15 @@ impl<'a, G: Agenda + Drop, A: Allocator + Copy> Relay<'a, G, A> {
         self.arrived
     }
 
+    /// The starts of a port of the plan.
+    pub fn started(&self, port: u8) -> u64
+        requires known { (out : PortPlan A) × (port_at self.now.plan.ports port ≡ Some out) }
+        ensures { (p : config.Plan A) (es : List Event) (left : ℕ → List Captured) → Stands p self.now es left → result ≡ length (left port) }
+    {
+        let _plan = self.plan;
+        self.ports.started(port)
+    }
+
     /// The least moment at which the next frame may come.
     pub fn earliest(&self) -> u64
         ensures { result ≡ self.now.earliest }
@@ -110,6 +119,7 @@ impl<'a, G: Agenda + Drop, A: Allocator + Copy> Relay<'a, G, A> {
         ensures later { IsAfter (G.held self.new.ports.agenda) result.port result.start }
         ensures fewer { waiting self.new + 1 ≡ waiting self.old }
         ensures same { (self.new.plan ≡ self.old.plan) × (self.new.arrived ≡ self.old.arrived) }
+        ensures port { 1 ≤ result.port }
         ensures writable { (result.done < 2 ^ 32 * 10 ^ 9) × (length result.octets.items ≤ result.len) × (result.len ≤ LONGEST_FRAME) }
     {
         let (port, start, begun) = self.ports.start();
