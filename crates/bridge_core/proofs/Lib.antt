@@ -1,4 +1,0 @@
-pub mod Lists
-pub mod Sends
-pub mod Running
-pub mod Ends

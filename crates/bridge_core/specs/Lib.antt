@@ -1,3 +1,1 @@
-pub mod Numbers
-pub mod Wire
-pub mod Sending
+pub mod Bridges

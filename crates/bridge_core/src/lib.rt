@@ -1,11 +1,12 @@
 #![tactic(auto)]
-//! The bridge: runs of captures over its ports.
+//! Time-aware bridges: one to which frames and commands come one by one, whole runs of captures, and the one queue of
+//! `wire`.
 
-mod count;
-mod fault;
-mod queue;
-mod sending;
+mod bridge;
 
-pub use count::WireCount;
-pub use fault::RunFault;
-pub use queue::wire;
+pub use bridge::Bridge;
+pub use bridge_events::{Agenda, RowAgenda, TreeAgenda};
+pub use bridge_relay::{NoMemory, Sent};
+pub use bridge_run::{Departure, Dropped, Outcome, PortCount, View};
+pub use bridge_stream::{RunFault, simulate, simulate_over};
+pub use bridge_wire::{WireCount, wire};

@@ -15,7 +15,7 @@ use Rattle.bridge_config.specs.Model.{Plan}
 use Rattle.bridge_config.specs.Rules.{port_at}
 use Rattle.bridge_cycle.proofs.Cases.{by_bool}
 use Rattle.bridge_run.proofs.Views.{rising_one}
-use Rattle.bridge_stream.specs.Lanes.{Finds}
+use Rattle.bridge_lanes.specs.Lanes.{Finds}
 use Rattle.bridge_stream.specs.Simulated.{AreNumbers}
 use Rattle.bridge_stream.proofs.Sorted.{rising_numbers}
 

@@ -12,8 +12,8 @@ use Rattle.bridge_config.specs.Rules.{port_at}
 use Rattle.bridge_run.specs.Events.{Cleared}
 use Rattle.bridge_run.specs.Merge.{Input, frame, NotBefore, of_rank, IsMerged, events, inputs_of}
 use Rattle.bridge_relay.specs.Relays.{RelayState, Stands}
-use Rattle.bridge_stream.specs.declared.lane.Lane.{Lane}
-use Rattle.bridge_stream.specs.Lanes.{numbers}
+use Rattle.bridge_lanes.specs.declared.lane.Lane.{Lane}
+use Rattle.bridge_lanes.specs.Lanes.{numbers}
 use Rattle.bridge_stream.specs.Lines.{AreWritten}
 use Rattle.bridge_stream.specs.Taking.{AreLater, asked, commands_of, Follows, HasTaken, IsUnderWay, MayTake, streams}
 use Rattle.bridge_stream.proofs.Order.{in_order_next}

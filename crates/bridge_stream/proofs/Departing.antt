@@ -2,8 +2,8 @@
 use Rattle.std.proofs.Common.{◌≡◌, ℕ, ◌+◌, ◌<◌, ◌≤◌, max, List, Option, Some, None, Err, inl, inr, refl, sym, ◌∙◌, subst, arith, IfSome}
 use Rattle.std.proofs.lemmas.Option.{same_Some, none-some}
 use Rattle.bridge_capture.specs.Grammar.{Captured}
-use Rattle.bridge_core.specs.declared.fault.RunFault.{RunFault}
-use Rattle.bridge_core.specs.declared.fault.RunFault.TheVariants as run
+use Rattle.bridge_lanes.specs.declared.fault.RunFault.{RunFault}
+use Rattle.bridge_lanes.specs.declared.fault.RunFault.TheVariants as run
 use Rattle.bridge_events.specs.Least.{IsLeast}
 use Rattle.bridge_config.specs.Model.{Plan}
 use Rattle.bridge_run.specs.Events.{Event}

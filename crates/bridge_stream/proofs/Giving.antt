@@ -2,8 +2,8 @@
 use Rattle.std.proofs.Common.{◌≡◌, ℕ, ◌<◌, List, length, slice_get, slice_index_or, slice_set, refl, ap, sym, subst, ◌∙◌, Option, Some, None}
 use Rattle.std.proofs.lemmas.Option.{slice_get_read}
 use Rattle.bridge_capture.specs.declared.packet.Packet.{Packet}
-use Rattle.bridge_stream.specs.declared.lane.Lane.{Lane}
-use Rattle.bridge_stream.specs.Lanes.{IsFirstAt}
+use Rattle.bridge_lanes.specs.declared.lane.Lane.{Lane}
+use Rattle.bridge_lanes.specs.Lanes.{IsFirstAt}
 use Rattle.bridge_stream.specs.Taking.{HasGiven}
 
 some_is : {X : Type 0} (a b : X) → Some a ≡ Some b → a ≡ b

@@ -6,8 +6,6 @@ pub mod Beginning
 pub mod Simulating
 pub mod Giving
 pub mod Taken
-pub mod Firsts
-pub mod Looks
 pub mod Written
 pub mod Departing
 pub mod Commanded

@@ -12,8 +12,8 @@ use Rattle.bridge_config.specs.declared.command.Command.{Command}
 use Rattle.bridge_config.specs.declared.ports.PortPlan.{PortPlan}
 use Rattle.bridge_config.specs.Model.{Plan}
 use Rattle.bridge_config.specs.Rules.{IsPlan, port_at}
-use Rattle.bridge_core.specs.declared.fault.RunFault.{RunFault}
-use Rattle.bridge_core.specs.declared.fault.RunFault.TheVariants as run
+use Rattle.bridge_lanes.specs.declared.fault.RunFault.{RunFault}
+use Rattle.bridge_lanes.specs.declared.fault.RunFault.TheVariants as run
 use Rattle.bridge_check.specs.Acceptable.{IsAcceptable}
 use Rattle.bridge_cycle.proofs.Cases.{by_bool}
 use Rattle.bridge_relay.specs.Relays.{RelayState, Stands}
@@ -26,8 +26,8 @@ use Rattle.bridge_run.proofs.Merging.{own_ports}
 use Rattle.bridge_stream.proofs.Beginning.{covered, gave_none, known}
 use Rattle.bridge_stream.proofs.Sorted.{rising_numbers}
 use Rattle.bridge_stream.proofs.Steps.{lane_at, number_at, source_of}
-use Rattle.bridge_stream.specs.declared.lane.Lane.{Lane}
-use Rattle.bridge_stream.specs.Lanes.{AreAheadOf, AreLanes, BeginsWell, FailsLook, Finds, numbers, room_of}
+use Rattle.bridge_lanes.specs.declared.lane.Lane.{Lane}
+use Rattle.bridge_lanes.specs.Lanes.{AreAheadOf, AreLanes, BeginsWell, FailsLook, Finds, numbers, room_of}
 use Rattle.bridge_stream.specs.Lines.{AreWritten, HeadersStop}
 use Rattle.bridge_stream.specs.Simulated.{AreNumbers, Isolates, OthersChangeNothing, Runs, Stops}
 use Rattle.bridge_capture.specs.declared.fault.CaptureFault.{CaptureFault}

@@ -14,13 +14,13 @@ use Rattle.bridge_config.specs.declared.ports.PortPlan.{PortPlan}
 use Rattle.bridge_config.specs.Model.{Plan}
 use Rattle.bridge_config.specs.Rules.{port_at}
 use Rattle.bridge_cycle.proofs.Cases.{by_bool}
-use Rattle.bridge_core.specs.declared.fault.RunFault.{RunFault}
-use Rattle.bridge_core.specs.declared.fault.RunFault.TheVariants as run
+use Rattle.bridge_lanes.specs.declared.fault.RunFault.{RunFault}
+use Rattle.bridge_lanes.specs.declared.fault.RunFault.TheVariants as run
 use Rattle.bridge_run.specs.Merge.{Input, frame, NotBefore, events, newest}
 use Rattle.bridge_run.specs.Outputs.{Reaches, HasRun}
 use Rattle.bridge_relay.specs.Relays.{RelayState, Stands}
-use Rattle.bridge_stream.specs.declared.lane.Lane.{Lane}
-use Rattle.bridge_stream.specs.Lanes.{AreAheadOf, fault_at, IsAhead, Finds, IsFirstAt, numbers, one_ahead}
+use Rattle.bridge_lanes.specs.declared.lane.Lane.{Lane}
+use Rattle.bridge_lanes.specs.Lanes.{AreAheadOf, fault_at, IsAhead, Finds, IsFirstAt, numbers, one_ahead}
 use Rattle.bridge_stream.specs.Lines.{AreWritten, AreWrittenBut, Departs}
 use Rattle.bridge_stream.specs.Taking.{AreLater, Follows, HasTaken, IsBefore, IsOfCapture, IsUnderWay, LooksFrom, LooksOn, MayTake, StopsForMemory, StopsReading, StopsSo, StopsWriting, TakesBefore}
 use Rattle.bridge_stream.proofs.Order.{back, frames_here, frames_there, is_same, taken_frame, with_frame}

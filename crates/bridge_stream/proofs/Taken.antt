@@ -14,10 +14,10 @@ use Rattle.bridge_capture.specs.Standing.{StandsFor, IsReading, records_left}
 use Rattle.bridge_config.specs.declared.ports.PortPlan.{PortPlan}
 use Rattle.bridge_config.specs.Model.{Plan}
 use Rattle.bridge_config.specs.Rules.{port_at}
-use Rattle.bridge_core.specs.declared.fault.RunFault.TheVariants as run
+use Rattle.bridge_lanes.specs.declared.fault.RunFault.TheVariants as run
 use Rattle.bridge_relay.specs.Relays.{RelayState}
-use Rattle.bridge_stream.specs.declared.lane.Lane.{Lane}
-use Rattle.bridge_stream.specs.Lanes.{AreAheadOf, fault_at, IsAhead, IsFirstAt, IsLane, IsNext, Looks, numbers, one_ahead, room, room_of}
+use Rattle.bridge_lanes.specs.declared.lane.Lane.{Lane}
+use Rattle.bridge_lanes.specs.Lanes.{AreAheadOf, fault_at, IsAhead, IsFirstAt, IsLane, IsNext, Looks, numbers, one_ahead, room, room_of}
 use Rattle.bridge_stream.specs.Taking.{HasGiven, HasLooked, MayTake}
 use Rattle.bridge_stream.proofs.Places.{set_here, set_there, sum_at, sum_set}
 use Rattle.bridge_stream.proofs.Steps.{by_place, numbers_set}

@@ -11,13 +11,12 @@ use Rattle.bridge_base.specs.Members.{AllAfter, Rising}
 use Rattle.bridge_capture.specs.Grammar.{Captured}
 use Rattle.bridge_capture.specs.Written.{written_header, written_item, written_text}
 use Rattle.bridge_capture.specs.Sinks.{AppendsFront}
-use Rattle.bridge_capture.proofs.Written.{front_of_second}
+use Rattle.bridge_capture.proofs.Written.{front_of_second, written_more}
 use Rattle.bridge_cycle.proofs.Cases.{by_bool}
-use Rattle.bridge_core.proofs.Running.{written_more}
 use Rattle.bridge_stream.specs.declared.line.Line.{Line}
 use Rattle.bridge_relay.specs.declared.relay.Sent.{Sent}
 use Rattle.bridge_relay.specs.Relays.{captured, one_more}
-use Rattle.bridge_stream.specs.Devices.{HasFailed}
+use Rattle.bridge_lanes.specs.Devices.{HasFailed}
 use Rattle.bridge_stream.specs.Lines.{AreWritten, AreWrittenBut, numbers, StopsAtHeader}
 
 -- The places of numbers that rise.

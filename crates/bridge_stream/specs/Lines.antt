@@ -5,8 +5,8 @@ use Rattle.bridge_capture.specs.Grammar.{Captured}
 use Rattle.bridge_capture.specs.Written.{written_header, written_text}
 use Rattle.bridge_capture.specs.Sinks.{AppendsFront}
 use Rattle.bridge_config.specs.Model.{Plan}
-use Rattle.bridge_core.specs.declared.fault.RunFault.{RunFault}
-use Rattle.bridge_core.specs.declared.fault.RunFault.TheVariants as run
+use Rattle.bridge_lanes.specs.declared.fault.RunFault.{RunFault}
+use Rattle.bridge_lanes.specs.declared.fault.RunFault.TheVariants as run
 use Rattle.bridge_run.specs.Events.{Event}
 use Rattle.bridge_run.specs.Outputs.{HasRun}
 use Rattle.bridge_relay.specs.Relays.{RelayState, Stands}

@@ -9,8 +9,8 @@ use Rattle.bridge_config.specs.declared.ports.PortPlan.{PortPlan}
 use Rattle.bridge_config.specs.Model.{Plan}
 use Rattle.bridge_config.specs.Rules.{port_at, IsInOrder}
 use Rattle.bridge_filter.specs.declared.FilterPlan.{FilterPlan}
-use Rattle.bridge_core.specs.declared.fault.RunFault.{RunFault}
-use Rattle.bridge_core.specs.declared.fault.RunFault.TheVariants as run
+use Rattle.bridge_lanes.specs.declared.fault.RunFault.{RunFault}
+use Rattle.bridge_lanes.specs.declared.fault.RunFault.TheVariants as run
 use Rattle.bridge_run.specs.declared.outcome.Outcome.{Outcome}
 use Rattle.bridge_run.specs.declared.outcome.View.{View}
 use Rattle.bridge_run.specs.Events.{own}
@@ -18,7 +18,7 @@ use Rattle.bridge_run.specs.Merge.{Input, IsMerged, events, own_inputs}
 use Rattle.bridge_run.specs.Outputs.{Ends}
 use Rattle.bridge_run.specs.Runs.{IsSoloView, TellTheSame}
 use Rattle.bridge_stream.specs.declared.simulation.Lists.{Lists}
-use Rattle.bridge_stream.specs.Lanes.{BeginsWell, LooksFail}
+use Rattle.bridge_lanes.specs.Lanes.{BeginsWell, LooksFail}
 use Rattle.bridge_stream.specs.Lines.{AreWritten, StopsAtHeader}
 use Rattle.bridge_stream.specs.Taking.{commands_of, IsOfCapture, streams, StopsAmong}
 

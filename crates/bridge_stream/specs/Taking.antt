@@ -12,14 +12,14 @@ use Rattle.bridge_config.specs.declared.command.Command.{Command}
 use Rattle.bridge_config.specs.declared.ports.PortPlan.{PortPlan}
 use Rattle.bridge_config.specs.Model.{Plan}
 use Rattle.bridge_config.specs.Rules.{port_at}
-use Rattle.bridge_core.specs.declared.fault.RunFault.{RunFault}
-use Rattle.bridge_core.specs.declared.fault.RunFault.TheVariants as run
+use Rattle.bridge_lanes.specs.declared.fault.RunFault.{RunFault}
+use Rattle.bridge_lanes.specs.declared.fault.RunFault.TheVariants as run
 use Rattle.bridge_run.specs.Events.{has_instance}
 use Rattle.bridge_run.specs.Merge.{Input, frame, command, NotBefore, IsMerged, events, newest, inputs_of}
 use Rattle.bridge_run.specs.Outputs.{Reaches, HasRun}
 use Rattle.bridge_relay.specs.Relays.{RelayState, Stands}
-use Rattle.bridge_stream.specs.declared.lane.Lane.{Lane}
-use Rattle.bridge_stream.specs.Lanes.{AreAheadOf, IsLane, Looks, numbers, room, room_of}
+use Rattle.bridge_lanes.specs.declared.lane.Lane.{Lane}
+use Rattle.bridge_lanes.specs.Lanes.{AreAheadOf, IsLane, Looks, numbers, room, room_of}
 use Rattle.bridge_stream.specs.Lines.{AreWritten, AreWrittenBut}
 
 -- an input does not come before the newest of these

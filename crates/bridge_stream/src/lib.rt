@@ -1,10 +1,9 @@
 #![tactic(auto)]
 //! Runs of captures and commands through a bridge, one record of each port ahead.
 
-mod lane;
 mod line;
 mod simulation;
 mod taking;
 
-pub use bridge_core::RunFault;
-pub use simulation::{simulate, simulate_over};
+pub use bridge_lanes::RunFault;
+pub use simulation::{filters_in_order, simulate, simulate_over};

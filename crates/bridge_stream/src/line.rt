@@ -6,13 +6,13 @@ ghost use Rattle.bridge_config.specs.Model as config;
 ghost use Rattle.bridge_parts.specs.Ports.{NotBefore};
 ghost use Rattle.bridge_relay.specs.Relays.{one_more, Stands};
 ghost use Rattle.bridge_run.specs.Events.{Event};
-ghost use Rattle.bridge_stream.specs.Devices.{HasFailed};
+ghost use Rattle.bridge_lanes.specs.Devices.{HasFailed};
 ghost use Rattle.bridge_stream.specs.Lines.{AreWritten, Departs, HeadersStop, numbers, Writes};
 
 use bridge_base::LONGEST_FRAME;
 use bridge_capture::{ByteSink, Writer};
-use bridge_core::RunFault;
 use bridge_events::Agenda;
+use bridge_lanes::RunFault;
 use bridge_relay::{Relay, Sent};
 use std::alloc::Allocator;
 

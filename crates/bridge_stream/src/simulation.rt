@@ -2,27 +2,26 @@
 ghost use Rattle.std.specs.Prelude.{◌≡◌, ◌≢◌, ℕ, ◌<◌, List, [], Some, None, Option, length, nat_eq, map, true, Err, IfOk, IfErr};
 ghost use Rattle.std.specs.Map.{lookup};
 ghost use Rattle.bridge_base.specs.Members.{Rising};
-ghost use Rattle.bridge_stream.specs.Devices.{HasFailed};
-ghost use Rattle.bridge_stream.specs.Lanes.{AreTexts};
+ghost use Rattle.bridge_lanes.specs.Devices.{HasFailed, NeverFail};
+ghost use Rattle.bridge_lanes.specs.Lanes.{AreTexts};
 ghost use Rattle.bridge_stream.specs.Simulated.{AreListsOf, AreNumbers, Isolates, OthersChangeNothing, Runs, Stops};
 ghost use Rattle.bridge_stream.specs.Taking.{AreCommands};
 
-use crate::lane::look_at_all;
 use crate::line::{Line, begin_all};
 use crate::taking::run;
 use bridge_capture::{ByteSink, ByteSource, CaptureFault};
 use bridge_check::Accepted;
 use bridge_config::{Command, Plan};
-use bridge_core::RunFault;
 use bridge_cycle::NoMemory;
 use bridge_events::{Agenda, TreeAgenda};
 use bridge_filter::FilterPlan;
+use bridge_lanes::{RunFault, look_at_all};
 use bridge_relay::Relay;
 use bridge_run::{Outcome, PortCount, View};
 use std::alloc::Allocator;
 
 /// The filters of a plan by rising number.
-fn filters_in_order<A: Allocator + Copy>(
+pub fn filters_in_order<A: Allocator + Copy>(
     alloc: A,
     plan: &Plan<A>,
 ) -> Result<Vec<(u32, FilterPlan), A>, NoMemory>
@@ -88,6 +87,7 @@ pub fn simulate_over<R: ByteSource, W: ByteSink, G: Agenda + Drop, A: Allocator 
         IfOk result (OthersChangeNothing accepted.now ports commands.now texts W.contents sinks.old sinks.new) }
     ensures read { (ports : List ℕ) (port : ℕ) → AreNumbers accepted.now ports →
         result ≡ Err (RunFault.Capture port CaptureFault.Read) → HasFailed R.has_failed ports port sources.new }
+    ensures sure { NeverFail R.never_fails sources.old → (port : ℕ) → result ≢ Err (RunFault.Capture port CaptureFault.Read) }
     ensures wrote { (ports : List ℕ) (port : ℕ) → AreNumbers accepted.now ports →
         result ≡ Err (RunFault.Write port) → HasFailed W.has_failed ports port sinks.new }
 {
@@ -142,6 +142,7 @@ pub fn simulate<R: ByteSource, W: ByteSink, A: Allocator + Copy>(
         IfOk result (OthersChangeNothing accepted.now ports commands.now texts W.contents sinks.old sinks.new) }
     ensures read { (ports : List ℕ) (port : ℕ) → AreNumbers accepted.now ports →
         result ≡ Err (RunFault.Capture port CaptureFault.Read) → HasFailed R.has_failed ports port sources.new }
+    ensures sure { NeverFail R.never_fails sources.old → (port : ℕ) → result ≢ Err (RunFault.Capture port CaptureFault.Read) }
     ensures wrote { (ports : List ℕ) (port : ℕ) → AreNumbers accepted.now ports →
         result ≡ Err (RunFault.Write port) → HasFailed W.has_failed ports port sinks.new }
 {

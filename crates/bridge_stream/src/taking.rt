@@ -5,17 +5,16 @@ ghost use Rattle.bridge_capture.specs.Standing.{IsReading};
 ghost use Rattle.bridge_parts.specs.Ports.{NotBefore};
 ghost use Rattle.bridge_run.specs.Events.{has_instance};
 ghost use Rattle.bridge_run.specs.Merge.{Input};
-ghost use Rattle.bridge_stream.specs.Devices.{HasFailed};
-ghost use Rattle.bridge_stream.specs.Lanes.{IsFirstAt, numbers, room_of};
+ghost use Rattle.bridge_lanes.specs.Devices.{HasFailed, NeverFail};
+ghost use Rattle.bridge_lanes.specs.Lanes.{IsFirstAt, numbers, room_of};
 ghost use Rattle.bridge_stream.specs.Lines.{numbers as written_numbers};
 ghost use Rattle.bridge_stream.specs.Taking.{AreCommands, AreLater, asked, first_of_commands, GoesOn, HasGone, Obeys, HasGiven, HasLooked, IsBefore, IsUnderWay, MayTake, TakesBefore};
 
-use crate::lane::{Lane, fault_of, first_of};
 use crate::line::{Line, depart_before};
 use bridge_capture::{ByteSink, ByteSource, CaptureFault, Packet};
 use bridge_config::Command;
-use bridge_core::RunFault;
 use bridge_events::Agenda;
+use bridge_lanes::{Lane, RunFault, fault_of, first_of};
 use bridge_relay::Relay;
 use std::alloc::Allocator;
 
@@ -44,6 +43,8 @@ fn look_at<R: ByteSource, A: Allocator + Copy>(
     requires reading { (lane : Lane A) → slice_get lanes.old place ≡ Some lane → IsReading lane.capture }
     ensures looked { HasLooked R.remaining lanes.old lanes.new sources.old sources.new place result }
     ensures read { result ≡ Err CaptureFault.Read → (source : R) → slice_get sources.new place ≡ Some source → R.has_failed source ≡ true }
+    ensures sure { NeverFail R.never_fails sources.old → result ≢ Err CaptureFault.Read }
+    ensures lasts { NeverFail R.never_fails sources.old → NeverFail R.never_fails sources.new }
     ensures no_write { result ≢ Err CaptureFault.Write }
 {
     lanes[place].look(alloc, &mut sources[place])
@@ -72,6 +73,8 @@ fn take<R: ByteSource, W: ByteSink, G: Agenda + Drop, A: Allocator + Copy>(
     ensures moved { OnOk result ((l : Lane A) (c : Packet A) → slice_get lanes.old place ≡ Some l → l.ahead ≡ Some c → relay.new.earliest ≡ c.time) }
     ensures same { (relay.new.plan ≡ relay.old.plan) × (numbers lanes.new ≡ numbers lanes.old) × (written_numbers lines.new ≡ written_numbers lines.old) }
     ensures read { (port : ℕ) → result ≡ Err (RunFault.Capture port CaptureFault.Read) → HasFailed R.has_failed (numbers lanes.old) port sources.new }
+    ensures sure { NeverFail R.never_fails sources.old → (port : ℕ) → result ≢ Err (RunFault.Capture port CaptureFault.Read) }
+    ensures lasts { NeverFail R.never_fails sources.old → NeverFail R.never_fails sources.new }
     ensures wrote { (port : ℕ) → result ≡ Err (RunFault.Write port) → HasFailed W.has_failed (numbers lanes.old) port sinks.new }
 {
     let (number, packet) = give(lanes, place);
@@ -142,6 +145,8 @@ fn take_before<R: ByteSource, W: ByteSink, G: Agenda + Drop, A: Allocator + Copy
     ensures early { OnOk result (IfSome until (λ t. relay.new.earliest ≤ t)) }
     ensures same { (relay.new.plan ≡ relay.old.plan) × (numbers lanes.new ≡ numbers lanes.old) × (written_numbers lines.new ≡ written_numbers lines.old) }
     ensures read { (port : ℕ) → result ≡ Err (RunFault.Capture port CaptureFault.Read) → HasFailed R.has_failed (numbers lanes.old) port sources.new }
+    ensures sure { NeverFail R.never_fails sources.old → (port : ℕ) → result ≢ Err (RunFault.Capture port CaptureFault.Read) }
+    ensures lasts { NeverFail R.never_fails sources.old → NeverFail R.never_fails sources.new }
     ensures wrote { (port : ℕ) → result ≡ Err (RunFault.Write port) → HasFailed W.has_failed (numbers lanes.old) port sinks.new }
 {
     while let Some(place) = next_before(lanes, until) {
@@ -173,6 +178,8 @@ fn obey<R: ByteSource, W: ByteSink, G: Agenda + Drop, A: Allocator + Copy>(
     ensures moved { OnOk result (relay.new.earliest ≡ command.at) }
     ensures same { (relay.new.plan ≡ relay.old.plan) × (numbers lanes.new ≡ numbers lanes.old) × (written_numbers lines.new ≡ written_numbers lines.old) }
     ensures read { (port : ℕ) → result ≡ Err (RunFault.Capture port CaptureFault.Read) → HasFailed R.has_failed (numbers lanes.old) port sources.new }
+    ensures sure { NeverFail R.never_fails sources.old → (port : ℕ) → result ≢ Err (RunFault.Capture port CaptureFault.Read) }
+    ensures lasts { NeverFail R.never_fails sources.old → NeverFail R.never_fails sources.new }
     ensures wrote { (port : ℕ) → result ≡ Err (RunFault.Write port) → HasFailed W.has_failed (numbers lanes.old) port sinks.new }
 {
     let at = Some(command.at);
@@ -206,6 +213,7 @@ pub fn run<R: ByteSource, W: ByteSink, G: Agenda + Drop, A: Allocator + Copy>(
     ensures idle { OnOk result ((q : ℕ) → G.held relay.new.ports.agenda q ≡ None) }
     ensures same { (relay.new.plan ≡ relay.old.plan) × (numbers lanes.new ≡ numbers lanes.old) × (written_numbers lines.new ≡ written_numbers lines.old) }
     ensures read { (port : ℕ) → result ≡ Err (RunFault.Capture port CaptureFault.Read) → HasFailed R.has_failed (numbers lanes.old) port sources.new }
+    ensures sure { NeverFail R.never_fails sources.old → (port : ℕ) → result ≢ Err (RunFault.Capture port CaptureFault.Read) }
     ensures wrote { (port : ℕ) → result ≡ Err (RunFault.Write port) → HasFailed W.has_failed (numbers lanes.old) port sinks.new }
 {
     for command in commands {

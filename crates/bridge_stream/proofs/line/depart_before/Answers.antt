@@ -2,7 +2,7 @@ use Rattle.std.proofs.Common.{◌≡◌, ◌<◌, ℕ, Some, Err, refl, ◌∙�
 use Rattle.std.proofs.lemmas.Option.{none-some}
 use Rattle.bridge_base.specs.Members.{Rising}
 use Rattle.bridge_relay.specs.Relays.{one_more}
-use Rattle.bridge_stream.specs.Devices.{HasFailed}
+use Rattle.bridge_lanes.specs.Devices.{HasFailed}
 use Rattle.bridge_stream.specs.Lines.{AreWritten, numbers, Writes}
 use Rattle.bridge_stream.proofs.Departing.{waits_there, early_next, early_at, departs_stop, none_then, sooner}
 use Rattle.bridge_stream.proofs.line.depart_before.Goals as goal

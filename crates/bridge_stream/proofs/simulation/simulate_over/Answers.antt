@@ -1,10 +1,10 @@
 use Rattle.std.proofs.Common.{◌≡◌, ℕ, ◌<◌, ◌≤◌, List, [], Some, None, length, nat_eq, arith, Err, ap, sym, subst, ◌∙◌, slice_get}
 use Rattle.std.specs.Map.{lookup}
 use Rattle.bridge_base.specs.Members.{Rising}
-use Rattle.bridge_core.specs.declared.fault.RunFault.TheVariants as run
+use Rattle.bridge_lanes.specs.declared.fault.RunFault.TheVariants as run
 use Rattle.bridge_config.specs.Model.{Plan}
 use Rattle.bridge_relay.specs.Relays.{Stands}
-use Rattle.bridge_stream.specs.Lanes.{AreAheadOf, AreLanes, AreTexts, FailsLook, numbers, room_of}
+use Rattle.bridge_lanes.specs.Lanes.{AreAheadOf, AreLanes, AreTexts, FailsLook, numbers, room_of}
 use Rattle.bridge_stream.specs.Lines.{AreWritten, HeadersStop, numbers as written_numbers}
 use Rattle.bridge_stream.specs.Simulated.{AreListsOf, AreNumbers}
 use Rattle.bridge_stream.specs.Taking.{first_of_commands, StopsAmong}
@@ -188,3 +188,6 @@ returns-clause-wrote g c = λ ports port are e i w at lent.
     let same = one_order p ports c.in-Ok.lists.ports.items are lists.ports ∙ sym c.deref.ensures.value in
     let named = ap numbers c.deref_mut.ensures.value ∙ c.in-Ok-look_at_all.ensures.numbers ∙ sym same in
     c.in-Err-run.ensures.wrote port (ap (λ f. Err f) (err_is c.in-Err-run.fault _ e)) i w (subst (λ ns. slice_get ns i ≡ Some port) (sym named) at) lent
+
+pub returns-clause-sure : goal.returns-clause-sure
+returns-clause-sure g c = λ sure port e. c.run.ensures.sure (c.look_at_all.ensures.lasts sure) port (c.in-Err-run.is ∙ ap Err (err_is _ _ e))

@@ -1,6 +1,6 @@
 use Rattle.std.proofs.Common.{rules, ◌≡◌, ℕ, ◌<◌, ◌≤◌, List, length, arith, refl, ap, sym, subst, ◌∙◌, Option, Some, None, Ok, Err, slice_get}
 use Rattle.bridge_run.specs.Merge.{events}
-use Rattle.bridge_stream.specs.Lanes.{numbers}
+use Rattle.bridge_lanes.specs.Lanes.{numbers}
 use Rattle.bridge_stream.specs.Lines.{AreWritten, numbers as written_numbers}
 use Rattle.bridge_stream.specs.Taking.{asked}
 use Rattle.bridge_stream.proofs.Commanded.{command_next, may_still}

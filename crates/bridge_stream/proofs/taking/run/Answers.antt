@@ -1,7 +1,7 @@
 use Rattle.std.proofs.Common.{rules, ◌≡◌, ℕ, ◌+◌, ◌<◌, ◌≤◌, ◌∷◌, List, length, take, drop, get_or, arith, refl, ap, sym, subst, ◌∙◌, Option, Some, None, Ok, Err, slice_get}
 use Rattle.bridge_filter.specs.declared.Clear.TheVariants.{Blocked}
 use Rattle.bridge_run.specs.Merge.{events}
-use Rattle.bridge_stream.specs.Lanes.{numbers}
+use Rattle.bridge_lanes.specs.Lanes.{numbers}
 use Rattle.bridge_stream.specs.Lines.{numbers as written_numbers}
 use Rattle.bridge_stream.specs.Taking.{asked, commands_of, first_of_commands, IsUnderWay}
 use Rattle.bridge_stream.proofs.Running.{all_done, first_is, gone, has_it, idle_at, next_later, rises_behind, stops_at, stops_behind, with_it}
@@ -23,6 +23,9 @@ returns-in-Err-clause-goes g c = λ p texts olds u.
 pub returns-in-Err-clause-read : goal.returns-in-Err-clause-read
 returns-in-Err-clause-read g c = λ port e i w k m. c.in-Err.ensures.read port e i w (subst (λ ns. slice_get ns i ≡ Some port) (sym c.loop-command.invariant.numbers) k) m
 
+pub returns-in-Err-clause-sure : goal.returns-in-Err-clause-sure
+returns-in-Err-clause-sure g c = λ sure port e. c.obey.ensures.sure (c.loop-command.invariant.lasts sure) port (c.in-Err.is ∙ e)
+
 pub returns-in-Err-clause-wrote : goal.returns-in-Err-clause-wrote
 returns-in-Err-clause-wrote g c = λ port e i w k m. c.in-Err.ensures.wrote port e i w (subst (λ ns. slice_get ns i ≡ Some port) (sym c.loop-command.invariant.numbers) k) m
 
@@ -41,6 +44,7 @@ loop-command-preserved g c =
       plan = same.0 ∙ i.plan;
       numbers = same.1 ∙ i.numbers;
       written = same.2 ∙ i.written;
+      lasts = λ sure. c.obey.ensures.lasts (i.lasts sure);
       goes = λ p texts olds u.
           let v = subst (λ o. IsUnderWay g.R.ByteSource.remaining g.W.ByteSink.contents p texts (commands_of (take at c.args.commands.now)) o olds c.loop-command.relay c.loop-command.lanes c.loop-command.sources c.loop-command.sinks)
           (first_is c.args.commands.now at _ l) (i.goes p texts olds u) in
@@ -56,6 +60,9 @@ returns-in-Err-take_before-clause-goes g c = λ p texts olds u.
 
 pub returns-in-Err-take_before-clause-read : goal.returns-in-Err-take_before-clause-read
 returns-in-Err-take_before-clause-read g c = λ port e i w k m. c.in-Err-take_before.ensures.read port e i w (subst (λ ns. slice_get ns i ≡ Some port) (sym c.loop-command.invariant.numbers) k) m
+
+pub returns-in-Err-take_before-clause-sure : goal.returns-in-Err-take_before-clause-sure
+returns-in-Err-take_before-clause-sure g c = λ sure port e. c.take_before.ensures.sure (c.loop-command.invariant.lasts sure) port (c.in-Err-take_before.is ∙ e)
 
 pub returns-in-Err-take_before-clause-wrote : goal.returns-in-Err-take_before-clause-wrote
 returns-in-Err-take_before-clause-wrote g c = λ port e i w k m. c.in-Err-take_before.ensures.wrote port e i w (subst (λ ns. slice_get ns i ≡ Some port) (sym c.loop-command.invariant.numbers) k) m

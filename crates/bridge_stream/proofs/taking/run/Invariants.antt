@@ -2,7 +2,8 @@ use Rattle.std.proofs.Common.{◌≡◌, ℕ, ◌≤◌, List, [], ◌∷◌, Op
 use Rattle.std.specs.Prelude.{IfSome}
 use Rattle.bridge_config.specs.declared.command.Command.{Command}
 use Rattle.bridge_config.specs.Model as config
-use Rattle.bridge_stream.specs.Lanes.{numbers}
+use Rattle.bridge_lanes.specs.Devices.{NeverFail}
+use Rattle.bridge_lanes.specs.Lanes.{numbers}
 use Rattle.bridge_stream.specs.Lines.{numbers as written_numbers}
 use Rattle.bridge_stream.specs.Taking.{commands_of, first_of_commands, IsUnderWay, MayTake}
 use Rattle.bridge_stream.proofs.taking.run.Given as goal
@@ -17,6 +18,7 @@ invariant-loop-command g l = record {
   plan : l.relay.plan ≡ l.fn.relay.plan;
   numbers : numbers l.lanes ≡ numbers l.fn.lanes;
   written : written_numbers l.lines ≡ written_numbers l.fn.lines;
+  lasts : NeverFail g.R.ByteSource.never_fails l.fn.sources → NeverFail g.R.ByteSource.never_fails l.sources;
   goes : (p : config.Plan g.row.A.Denot) (texts : ℕ → List ℕ) (olds : List g.row.W.Denot)
       → IsUnderWay g.R.ByteSource.remaining g.W.ByteSink.contents p texts [] (first_of_commands l.fn.commands) olds l.fn.relay l.fn.lanes l.fn.sources l.fn.sinks
       → IsUnderWay g.R.ByteSource.remaining g.W.ByteSink.contents p texts (commands_of (take l.command-index l.fn.commands)) (first_of_commands (drop l.command-index l.fn.commands)) olds l.relay l.lanes l.sources l.sinks;

@@ -5,7 +5,7 @@ use Rattle.bridge_parts.specs.Ports.{NotBefore}
 use Rattle.bridge_run.specs.Events.{arrival, Arrived}
 use Rattle.bridge_run.specs.Merge.{events, frame}
 use Rattle.bridge_relay.specs.Relays.{RelayState, Stands}
-use Rattle.bridge_stream.specs.Lanes.{fault_at, numbers, room_of}
+use Rattle.bridge_lanes.specs.Lanes.{fault_at, numbers, room_of}
 use Rattle.bridge_stream.specs.Lines.{AreWritten, numbers as written_numbers}
 use Rattle.bridge_stream.specs.Taking.{IsUnderWay, MayTake, StopsForMemory, StopsSo}
 use Rattle.bridge_stream.proofs.Steps.{all_later, depart_stops, look_stops, memory_before, newest_late, number_at, one_place, stood, waits_of, went_on, written_so}

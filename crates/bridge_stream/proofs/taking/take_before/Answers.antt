@@ -1,6 +1,6 @@
 use Rattle.std.proofs.Common.{rules, ◌≡◌, ℕ, ◌<◌, ◌≤◌, List, length, arith, refl, ap, sym, subst, ◌∙◌, Option, Some, None, Ok, Err, slice_get}
 use Rattle.bridge_stream.proofs.Steps.{before_next, early_next}
-use Rattle.bridge_stream.specs.Lanes.{IsFirstAt, numbers}
+use Rattle.bridge_lanes.specs.Lanes.{IsFirstAt, numbers}
 use Rattle.bridge_stream.proofs.taking.take_before.Goals as goal
 
 pub loop-place-preserved : goal.loop-place-preserved
@@ -17,6 +17,7 @@ loop-place-preserved g c =
       plan = same.0 ∙ i.plan;
       numbers = same.1 ∙ i.numbers;
       written = same.2 ∙ i.written;
+      lasts = λ sure. c.take.ensures.lasts (i.lasts sure);
       goes = λ p texts commanded next olds now u. c.in_default-take.ensures.goes p texts commanded next olds (before_next c.args.until next c.loop-place.lanes c.in-Some.place now c.in-Some.ensures.before) (i.goes p texts commanded next olds now u);
     }
 
@@ -25,6 +26,9 @@ returns-in-Err-clause-goes g c = λ p texts commanded next olds now u. c.in-Err.
 
 pub returns-in-Err-clause-read : goal.returns-in-Err-clause-read
 returns-in-Err-clause-read g c = λ port e i w k m. c.in-Err.ensures.read port e i w (subst (λ ns. slice_get ns i ≡ Some port) (sym c.loop-place.invariant.numbers) k) m
+
+pub returns-in-Err-clause-sure : goal.returns-in-Err-clause-sure
+returns-in-Err-clause-sure g c = λ sure port e. c.take.ensures.sure (c.loop-place.invariant.lasts sure) port (c.in-Err.is ∙ e)
 
 pub returns-in-Err-clause-wrote : goal.returns-in-Err-clause-wrote
 returns-in-Err-clause-wrote g c = λ port e i w k m. c.in-Err.ensures.wrote port e i w (subst (λ ns. slice_get ns i ≡ Some port) (sym c.loop-place.invariant.numbers) k) m

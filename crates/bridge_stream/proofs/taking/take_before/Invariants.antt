@@ -2,7 +2,8 @@ use Rattle.std.proofs.Common.{◌≡◌, ℕ, ◌≤◌, List, Option, Some, len
 use Rattle.std.specs.Prelude.{IfSome}
 use Rattle.bridge_config.specs.Model as config
 use Rattle.bridge_run.specs.Merge.{Input}
-use Rattle.bridge_stream.specs.Lanes.{numbers, room_of}
+use Rattle.bridge_lanes.specs.Devices.{NeverFail}
+use Rattle.bridge_lanes.specs.Lanes.{numbers, room_of}
 use Rattle.bridge_stream.specs.Lines.{numbers as written_numbers}
 use Rattle.bridge_stream.specs.Taking.{IsUnderWay, MayTake}
 use Rattle.bridge_stream.proofs.taking.take_before.Given as goal
@@ -18,6 +19,7 @@ invariant-loop-place g l = record {
   plan : l.relay.plan ≡ l.fn.relay.plan;
   numbers : numbers l.lanes ≡ numbers l.fn.lanes;
   written : written_numbers l.lines ≡ written_numbers l.fn.lines;
+  lasts : NeverFail g.R.ByteSource.never_fails l.fn.sources → NeverFail g.R.ByteSource.never_fails l.sources;
   goes : (p : config.Plan g.row.A.Denot) (texts : ℕ → List ℕ) (commanded : List Input) (next : Option Input) (olds : List g.row.W.Denot) → IfSome next (λ y. l.fn.until ≡ Some y.at)
       → IsUnderWay g.R.ByteSource.remaining g.W.ByteSink.contents p texts commanded next olds l.fn.relay l.fn.lanes l.fn.sources l.fn.sinks
       → IsUnderWay g.R.ByteSource.remaining g.W.ByteSink.contents p texts commanded next olds l.relay l.lanes l.sources l.sinks;

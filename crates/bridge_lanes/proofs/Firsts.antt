@@ -1,0 +1,110 @@
+-- The first of the frames ahead, place by place.
+use Rattle.std.proofs.Common.{◌≡◌, ℕ, ◌+◌, ◌<◌, ◌≤◌, List, length, arith, refl, ap, ◌∙◌, sym, subst, Option, Some, None, inl, inr, slice_get}
+use Rattle.std.specs.Prelude.{◌⊎◌}
+use Rattle.std.proofs.lemmas.Bool.{cases_eq}
+use Rattle.std.proofs.lemmas.Option.{none-some, same_Some, slice_get_within}
+use Rattle.bridge_capture.specs.declared.packet.Packet.{Packet}
+use Rattle.bridge_lanes.specs.Lanes.{IsFirst, IsFirstAt}
+use Rattle.bridge_lanes.specs.declared.lane.Lane.{Lane}
+
+-- a place has this frame ahead, at this moment
+pub record HasAhead {A : Type 0} (lanes : List (Lane A)) (place time : ℕ) : Type 0 where
+  pub lane : Lane A
+  pub packet : Packet A
+  pub there : slice_get lanes place ≡ Some lane
+  pub ahead : lane.ahead ≡ Some packet
+  pub at : packet.time ≡ time
+
+-- no place below n has a frame ahead that comes before this one
+abbrev pub NoneBefore : {A : Type 0} → List (Lane A) → ℕ → ℕ → ℕ → Type 0
+NoneBefore {A} lanes n place time = (i : ℕ) (l : Lane A) (p : Packet A) → i < n → slice_get lanes i ≡ Some l → l.ahead ≡ Some p → (time < p.time) ⊎ ((time ≡ p.time) × (place ≤ i))
+
+-- the first of the places below n, with its moment
+abbrev pub FirstBelow : {A : Type 0} → List (Lane A) → ℕ → Option (ℕ × ℕ) → Type 0
+FirstBelow {A} lanes n None = (i : ℕ) (l : Lane A) → i < n → slice_get lanes i ≡ Some l → l.ahead ≡ None
+FirstBelow lanes n (Some first) = (first.0 < n) × HasAhead lanes first.0 first.1 × NoneBefore lanes n first.0 first.1
+
+below_next : (n i : ℕ) → i < n → i < n + 1
+below_next n i l = omega (arith, l)
+
+below_next_self : (n : ℕ) → n < n + 1
+below_next_self n = omega arith
+
+-- a place below n and one more
+below_more : {A : Type 0} (lanes : List (Lane A)) (n i : ℕ) (lane l : Lane A) → i < n + 1 → slice_get lanes n ≡ Some lane → slice_get lanes i ≡ Some l → (i < n) ⊎ ((i ≡ n) × (lane ≡ l))
+below_more lanes n i lane l lt here at = elim (cases_eq i n) [
+  | inl e ↦ inr (e, same_Some _ _ (sym here ∙ subst (λ (k : ℕ). slice_get lanes k ≡ Some l) e at))
+  | inr ne ↦ inl (let k : (i ≡ n) → ⊥ = ne in omega (arith, lt, k))
+]
+
+-- a place with nothing ahead
+pub skips : {A : Type 0} (lanes : List (Lane A)) (n : ℕ) (lane : Lane A) (first : Option (ℕ × ℕ)) → slice_get lanes n ≡ Some lane → lane.ahead ≡ None → FirstBelow lanes n first → FirstBelow lanes (n + 1) first
+skips lanes n lane None here none h = λ i l lt at. elim (below_more lanes n i lane l lt here at) [
+  | inl below ↦ h i l below at
+  | inr same ↦ sym (ap (λ z. z.ahead) same.1) ∙ none
+]
+skips lanes n lane (Some first) here none h = (
+  below_next n first.0 h.0,
+  h.1,
+  λ i l p lt at ahead. elim (below_more lanes n i lane l lt here at) [
+    | inl below ↦ h.2 i l p below at ahead
+    | inr same ↦ let no_one : None ≡ Some p = sym none ∙ ap (λ z. z.ahead) same.1 ∙ ahead in absurd (none-some p no_one)
+  ],
+)
+
+-- what is ahead at a place, where the same lane has it
+ahead_of : {A : Type 0} (lane l : Lane A) (packet p : Packet A) → lane ≡ l → lane.ahead ≡ Some packet → l.ahead ≡ Some p → packet.time ≡ p.time
+ahead_of lane l packet p same has ahead = ap (λ z. z.time) (same_Some _ _ (sym has ∙ ap (λ z. z.ahead) same ∙ ahead))
+
+-- a place whose frame comes first
+pub begins_here : {A : Type 0} (lanes : List (Lane A)) (n : ℕ) (lane : Lane A) (packet : Packet A) → slice_get lanes n ≡ Some lane → lane.ahead ≡ Some packet → FirstBelow lanes n None → FirstBelow lanes (n + 1) (Some (n, packet.time))
+begins_here lanes n lane packet here has h = (
+  below_next_self n,
+  record { lane = lane; packet = packet; there = here; ahead = has; at = refl },
+  λ i l p lt at ahead. elim (below_more lanes n i lane l lt here at) [
+    | inl below ↦ let no_one : None ≡ Some p = sym (h i l below at) ∙ ahead in absurd (none-some p no_one)
+    | inr same ↦ inr (ahead_of lane l packet p same.1 has ahead, let e = same.0 in omega (arith, e))
+  ],
+)
+
+pub comes_sooner : {A : Type 0} (lanes : List (Lane A)) (n place least : ℕ) (lane : Lane A) (packet : Packet A) → slice_get lanes n ≡ Some lane → lane.ahead ≡ Some packet → packet.time < least → FirstBelow lanes n (Some (place, least)) → FirstBelow lanes (n + 1) (Some (n, packet.time))
+comes_sooner lanes n place least lane packet here has sooner h = (
+  below_next_self n,
+  record { lane = lane; packet = packet; there = here; ahead = has; at = refl },
+  λ i l p lt at ahead. elim (below_more lanes n i lane l lt here at) [
+    | inl below ↦ inl (elim (h.2 i l p below at ahead) [ inl later ↦ omega (arith, sooner, later) | inr same ↦ let e = same.0 in omega (arith, sooner, e) ])
+    | inr same ↦ inr (ahead_of lane l packet p same.1 has ahead, let e = same.0 in omega (arith, e))
+  ],
+)
+
+-- a place whose frame does not come before the first one
+pub comes_later : {A : Type 0} (lanes : List (Lane A)) (n place least : ℕ) (lane : Lane A) (packet : Packet A) → slice_get lanes n ≡ Some lane → lane.ahead ≡ Some packet → least ≤ packet.time → FirstBelow lanes n (Some (place, least)) → FirstBelow lanes (n + 1) (Some (place, least))
+comes_later lanes n place least lane packet here has later h = (
+  below_next n place h.0,
+  h.1,
+  λ i l p lt at ahead. elim (below_more lanes n i lane l lt here at) [
+    | inl below ↦ h.2 i l p below at ahead
+    | inr same ↦
+        let e = ahead_of lane l packet p same.1 has ahead in
+        let place_before = h.0 in
+        let at_n = same.0 in
+        elim (cases_eq least p.time) [
+          | inl q ↦ inr (q, omega (arith, place_before, at_n))
+          | inr ne ↦ let k : (least ≡ p.time) → ⊥ = ne in inl (omega (arith, later, e, k))
+        ]
+  ],
+)
+
+-- the first of all places
+pub is_first : {A : Type 0} (lanes : List (Lane A)) (n : ℕ) (first : ℕ × ℕ) → length lanes ≤ n → FirstBelow lanes n (Some first) → IsFirstAt lanes first.0
+is_first lanes n first all h = record {
+  lane = h.1.lane;
+  packet = h.1.packet;
+  there = h.1.there;
+  ahead = h.1.ahead;
+  least = λ i l p at ahead. let w = slice_get_within lanes i l at in subst (λ (t : ℕ). (t < p.time) ⊎ ((t ≡ p.time) × (first.0 ≤ i))) (sym h.1.at) (h.2 i l p (omega (arith, all, w)) at ahead);
+}
+
+-- no place has a frame ahead
+pub none_first : {A : Type 0} (lanes : List (Lane A)) (n : ℕ) → length lanes ≤ n → FirstBelow lanes n None → IsFirst lanes None
+none_first lanes n all h = λ i l at. let w = slice_get_within lanes i l at in h i l (omega (arith, all, w)) at

@@ -1,0 +1,8 @@
+#![tactic(auto)]
+//! The captures of a bridge's ports, each read one record ahead, and why a run over them stops.
+
+mod fault;
+mod lane;
+
+pub use fault::RunFault;
+pub use lane::{Lane, fault_of, first_of, look_at_all};

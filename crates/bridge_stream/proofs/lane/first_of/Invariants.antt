@@ -1,5 +1,0 @@
-use Rattle.bridge_stream.proofs.Firsts.{FirstBelow}
-use Rattle.bridge_stream.proofs.lane.first_of.Given as goal
-
-abbrev pub invariant-loop-place : goal.invariant-loop-place
-invariant-loop-place g l = FirstBelow l.lanes l.place l.first

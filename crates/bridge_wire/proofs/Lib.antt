@@ -1,0 +1,4 @@
+pub mod Lists
+pub mod Sends
+pub mod Running
+pub mod Ends

@@ -1,0 +1,56 @@
+use Rattle.std.proofs.Common.{◌≡◌, ◌++◌, ◌∷◌, [], ℕ, ap, sym, ◌∙◌, subst, refl, true, false}
+use Rattle.std.specs.Prelude.{is_ok, is_none, Vec}
+use Rattle.bridge_frame.specs.Frames.{head}
+use Rattle.bridge_capture.specs.Reading.{view}
+use Rattle.bridge_capture.specs.Standing.{last_time}
+use Rattle.bridge_port.specs.declared.item.Item.{Item}
+use Rattle.bridge_port.specs.Standing.{refusal_of}
+use Rattle.bridge_wire.specs.Wire.{is_well_formed, offers_of}
+use Rattle.bridge_wire.specs.Sending.{IsRunning}
+use Rattle.bridge_wire.proofs.Running.{calm_before, running_malformed, stops_after, running_offered, HasGone, HasOffered, counted, counted_sent, counted_full, answered_ok, answered_err, not_overlong}
+use Rattle.bridge_wire.proofs.queue.take.Goals.{in-Ok-offer, in-Err-offer}
+use Rattle.bridge_wire.proofs.queue.take.Goals as goal
+
+pub returns-in-Err-clause-continues : goal.returns-in-Err-clause-continues
+returns-in-Err-clause-continues g c = λ room frames began r.
+    let contents = g.W.ByteSink.contents in
+    let count = c.args.count.now in
+    let new = c.depart_before.new.port in
+    let same = c.depart_before.ensures.same in
+    let gone = c.in-Err.ensures.goes (offers_of frames) count.sent count.full r.left r.sends in
+    stops_after c.args.speed room frames c.args.port.now new count c.args.packet.time began (contents c.args.sink.now) (contents c.depart_before.new.sink) r same.0 same.1 same.2 (c.in-Err.ensures.late (last_time 0 frames) r.calm) (c.depart_before.ensures.earliest c.requires.time.0) gone.0 gone.1 gone.2
+
+pub offer-requires-clause-not_late : goal.offer-requires-clause-not_late
+offer-requires-clause-not_late g c = let d = c.in_default.ensures.due in calm_before c.depart_before.new.port c.args.packet.time d.0 d.1 d.2
+
+pub returns-in-Err-parse-clause-continues : goal.returns-in-Err-parse-clause-continues
+returns-in-Err-parse-clause-continues g c = λ room frames began r.
+    let packet = c.args.packet in
+    let contents = g.W.ByteSink.contents in
+    let same = c.depart_before.ensures.same in
+    let mid = c.depart_before.new.port in
+    let d = c.in_default.ensures.due in
+    let none : is_well_formed (view packet) ≡ false = sym (ap is_ok (c.in-Err-parse.ensures.exact ∙ ap (λ octets. head octets packet.len) c.deref.ensures.value)) in
+    let gone : HasGone c.args.port.now mid (contents c.args.sink.now) (contents c.depart_before.new.sink) = record { list = same.0; speed = same.1; rooms = same.2; offered = same.3; within = c.depart_before.ensures.within; goes = λ offers sent full left s. c.in_default.ensures.goes offers sent full left s } in
+    running_malformed c.args.speed room frames c.args.port.now mid c.args.count.now began (contents c.args.sink.now) (contents c.depart_before.new.sink) (view packet) none (c.depart_before.ensures.earliest c.requires.time.0) (calm_before mid packet.time d.0 d.1 d.2) gone r
+
+pub returns-after-offer-clause-continues : goal.returns-after-offer-clause-continues
+returns-after-offer-clause-continues g c = λ room frames began r.
+    let packet = c.args.packet in
+    let old = c.args.port.now in
+    let mid = c.depart_before.new.port in
+    let new = c.offer.new.self in
+    let count = c.args.count.now in
+    let contents = g.W.ByteSink.contents in
+    let same = c.depart_before.ensures.same in
+    let item : Item (Vec ℕ _) = record { len = packet.len; load = packet.octets } in
+    let some : is_well_formed (view packet) ≡ true = sym (ap is_ok (c.in-Ok.ensures.exact ∙ ap (λ octets. head octets packet.len) c.deref.ensures.value)) in
+    let gone : HasGone old mid (contents c.args.sink.now) (contents c.depart_before.new.sink) = record { list = same.0; speed = same.1; rooms = same.2; offered = same.3; within = c.depart_before.ensures.within; goes = λ offers sent full left s. c.in_default.ensures.goes offers sent full left s } in
+    let given : HasOffered mid new packet.time item = record { moved = c.offer.ensures.moved; stands = c.offer.ensures.stands; counts = c.offer.ensures.counts } in
+    let counts : c.match-offer.count ≡ counted count (is_none (refusal_of mid 0 item)) =
+    elim c.match-offer.branch [
+      | in-Ok-offer w ↦ w.count-is ∙ (counted_sent count ∙ ap (counted count) (answered_ok (refusal_of mid 0 item) item _ (sym c.offer.ensures.answer ∙ w.in-Ok-offer.is)))
+      | in-Err-offer w ↦ w.count-is ∙ (counted_full count ∙ ap (counted count) (answered_err (refusal_of mid 0 item) item _ (sym c.offer.ensures.answer ∙ w.in-Err-offer.is)))
+    ] in
+    let running = running_offered c.args.speed room frames old mid new count began (contents c.args.sink.now) (contents c.depart_before.new.sink) (view packet) item some refl (not_overlong item c.requires.octets.1) gone given r in
+    subst (λ n. IsRunning c.args.speed room (frames ++ view packet ∷ []) new n began (contents c.depart_before.new.sink)) (sym counts) running

@@ -1,0 +1,23 @@
+use Rattle.std.proofs.Common.{[]}
+use Rattle.bridge_wire.specs.Sending.{IsUnderWay, no_count}
+use Rattle.bridge_wire.proofs.Ends.{ends_err, ends_ok, running_new, stops_at_header}
+use Rattle.bridge_wire.proofs.queue.wire.Goals as goal
+
+pub returns-in_default-begin-clause-err : goal.returns-in_default-begin-clause-err
+returns-in_default-begin-clause-err g c = λ text is.
+    let contents = g.W.ByteSink.contents in
+    stops_at_header c.args.speed c.args.room text c.in-Ok.lane.ahead (contents c.args.sink.now) (contents c.begin-2.new.sink) (c.in-Ok.ensures.begins text is).finds c.in_default-begin.ensures.err
+
+pub returns-clause-ok : goal.returns-clause-ok
+returns-clause-ok g c = λ text is.
+    let contents = g.W.ByteSink.contents in
+    let running = running_new c.args.speed c.args.room c.in-Ok-new.port (contents c.args.sink.now) (contents c.begin-2.new.sink) c.in-Ok-new.ensures.new c.in-Ok-new.ensures.stands c.in-Ok-begin.ensures.ok in
+    let under : IsUnderWay c.args.speed c.args.room text (g.R.ByteSource.remaining c.begin.new.source) c.in-Ok.lane c.in-Ok-new.port no_count (contents c.args.sink.now) (contents c.begin-2.new.sink) = record { frames = []; ahead = c.in-Ok.ensures.begins text is; running = running } in
+    ends_ok c.args.speed c.args.room text (contents c.args.sink.now) (contents c.run_through.new.sink) c.run_through.result (c.run_through.ensures.ends c.args.room text (contents c.args.sink.now) under)
+
+pub returns-clause-err : goal.returns-clause-err
+returns-clause-err g c = λ text is.
+    let contents = g.W.ByteSink.contents in
+    let running = running_new c.args.speed c.args.room c.in-Ok-new.port (contents c.args.sink.now) (contents c.begin-2.new.sink) c.in-Ok-new.ensures.new c.in-Ok-new.ensures.stands c.in-Ok-begin.ensures.ok in
+    let under : IsUnderWay c.args.speed c.args.room text (g.R.ByteSource.remaining c.begin.new.source) c.in-Ok.lane c.in-Ok-new.port no_count (contents c.args.sink.now) (contents c.begin-2.new.sink) = record { frames = []; ahead = c.in-Ok.ensures.begins text is; running = running } in
+    ends_err c.args.speed c.args.room text (contents c.args.sink.now) (contents c.run_through.new.sink) c.run_through.result (c.run_through.ensures.ends c.args.room text (contents c.args.sink.now) under)

@@ -1,0 +1,49 @@
+use Rattle.std.proofs.Common.{false, length, ◌≡◌, ◌+◌, ◌-◌, ap, sym, ◌∙◌, subst, append-nil, arith, [], ◌∷◌, ◌++◌}
+use Rattle.std.specs.Io.KnownBytes.{Appends}
+use Rattle.bridge_frame.specs.Link.{occupied}
+use Rattle.bridge_capture.specs.Written.{written_record, written_item}
+use Rattle.bridge_capture.specs.Sinks.{AppendsFront}
+use Rattle.bridge_wire.specs.Wire.{departure, IsShort}
+use Rattle.bridge_wire.specs.Sending.{frame_of, is_overlong}
+use Rattle.bridge_wire.proofs.Sends.{sends_start, start_late, within_of}
+use Rattle.bridge_port.specs.Standing.{count_queued}
+use Rattle.std.proofs.lemmas.Bool.{ltb-false}
+use Rattle.bridge_wire.proofs.sending.depart.Goals as goal
+
+pub returns-in-Ok-clause-goes : goal.returns-in-Ok-clause-goes
+returns-in-Ok-clause-goes g c = λ offers sent full left s.
+    let k = c.start-item.new.self.earliest - 1 in
+    let x = c.start-item.result.0 in
+    let d = departure c.args.port.now.speed k (frame_of x) in
+    let e = c.start-item.ensures in
+    let octets = c.deref.result.now in
+    let whole : is_overlong x ≡ false = within_of (is_overlong x) (count_queued is_overlong c.start-item.new.self) (count_queued is_overlong c.args.port.now) (e.counts is_overlong) c.requires.within in
+    let short : IsShort d = (e.length, ltb-false x.len (length x.load.items) whole) in
+    let done : c.earliest.result - 1 + c.occupation.result ≡ d.time = ap (λ n. n - 1 + c.occupation.result) c.earliest.ensures.earliest ∙ ap (λ n. k + n) (c.occupation.ensures.exact ∙ ap (occupied x.len) (sym c.requires.speed)) in
+    let text : written_record (c.earliest.result - 1 + c.occupation.result) x.len octets ≡ written_item d ++ [] = ap (λ n. written_record n x.len octets) done ∙ (ap (written_record d.time x.len) c.deref.ensures.value ∙ sym (append-nil (written_item d))) in
+    (d ∷ [], sends_start c.args.port.now c.start-item.new.self k c.start-item.result.1 x e.next e.moved e.stands short offers sent full left s, subst (Appends _ _) text c.in-Ok.ensures.ok)
+
+pub returns-clause-goes : goal.returns-clause-goes
+returns-clause-goes g c = λ offers sent full left s.
+    let k = c.start-item.new.self.earliest - 1 in
+    let x = c.start-item.result.0 in
+    let d = departure c.args.port.now.speed k (frame_of x) in
+    let e = c.start-item.ensures in
+    let octets = c.deref.result.now in
+    let whole : is_overlong x ≡ false = within_of (is_overlong x) (count_queued is_overlong c.start-item.new.self) (count_queued is_overlong c.args.port.now) (e.counts is_overlong) c.requires.within in
+    let short : IsShort d = (e.length, ltb-false x.len (length x.load.items) whole) in
+    let done : c.earliest.result - 1 + c.occupation.result ≡ d.time = ap (λ n. n - 1 + c.occupation.result) c.earliest.ensures.earliest ∙ ap (λ n. k + n) (c.occupation.ensures.exact ∙ ap (occupied x.len) (sym c.requires.speed)) in
+    let text : written_record (c.earliest.result - 1 + c.occupation.result) x.len octets ≡ written_item d ++ [] = ap (λ n. written_record n x.len octets) done ∙ (ap (written_record d.time x.len) c.deref.ensures.value ∙ sym (append-nil (written_item d))) in
+    (d ∷ [], sends_start c.args.port.now c.start-item.new.self k c.start-item.result.1 x e.next e.moved e.stands short offers sent full left s, subst (AppendsFront _ _) text c.in-Err.ensures.err)
+
+pub returns-in-Ok-clause-moment : goal.returns-in-Ok-clause-moment
+returns-in-Ok-clause-moment g c = λ k h. (c.start-item.ensures.which k h.0 h.1 h.2).0
+
+pub returns-clause-moment : goal.returns-clause-moment
+returns-clause-moment g c = λ k h. (c.start-item.ensures.which k h.0 h.1 h.2).0
+
+pub returns-in-Ok-clause-late : goal.returns-in-Ok-clause-late
+returns-in-Ok-clause-late g c = λ h calm. let d = c.requires.due in let w = (c.start-item.ensures.which d.0 d.1.0 d.1.1 d.1.2).0 in let l = start_late c.args.port.now d.0 d.1.0 d.1.1 h d.1.2 calm in omega arith
+
+pub returns-clause-late : goal.returns-clause-late
+returns-clause-late g c = λ h calm. let d = c.requires.due in let w = (c.start-item.ensures.which d.0 d.1.0 d.1.1 d.1.2).0 in let l = start_late c.args.port.now d.0 d.1.0 d.1.1 h d.1.2 calm in omega arith

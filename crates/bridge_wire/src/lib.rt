@@ -1,0 +1,10 @@
+#![tactic(auto)]
+//! One capture through one queue.
+
+mod count;
+mod queue;
+mod sending;
+
+pub use bridge_lanes::RunFault;
+pub use count::WireCount;
+pub use queue::wire;

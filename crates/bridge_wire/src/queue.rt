@@ -1,0 +1,192 @@
+//! One capture through one queue.
+ghost use Rattle.std.specs.Prelude.{◌≡◌, ◌≢◌, ◌≤◌, ◌<◌, ◌+◌, ℕ, List, [], ◌∷◌, ◌++◌, None, Some, Err, Option, length, true, IfOk, IfErr, OnOk, OnErr};
+ghost use Rattle.bridge_capture.specs.Grammar.{Captured};
+ghost use Rattle.bridge_capture.specs.Reading.{view};
+ghost use Rattle.bridge_capture.specs.Standing.{Gave, IsReading, records_left, StandsFor};
+ghost use Rattle.bridge_port.specs.Standing.{count_queued, State};
+ghost use Rattle.bridge_lanes.specs.Lanes.{IsLane, room as room_ahead};
+ghost use Rattle.bridge_wire.specs.Wire.{IsOfPortOne, Stops, Wires};
+ghost use Rattle.bridge_wire.specs.Sending.{Continues, EndsSo, GoesOn, is_overlong, IsRunning, IsUnderWay, no_count};
+
+use crate::count::WireCount;
+use crate::sending::depart_before;
+use bridge_base::{END_OF_TIME, MOST_CAPTURED};
+use bridge_capture::{ByteSink, ByteSource, CaptureFault, MAX_RECORDS, Packet, Writer};
+use bridge_frame::{Speed, parse};
+use bridge_lanes::{Lane, RunFault, fault_of};
+use bridge_port::{Item, LARGEST_ROOM, Port};
+use std::alloc::Allocator;
+
+/// Offers the next frame of a capture, once all starts before it were made.
+fn take<W: ByteSink, A: Allocator + Copy>(
+    speed: Speed,
+    port: &mut Port<Vec<u8, A>, A>,
+    writer: &mut Writer,
+    sink: &mut W,
+    count: &mut WireCount,
+    packet: Packet<A>,
+) -> Result<(), RunFault>
+    requires time { (port.old.earliest ≤ packet.time) × (packet.time < END_OF_TIME) }
+    requires octets { (length packet.octets.items ≤ MOST_CAPTURED) × (length packet.octets.items ≤ packet.len) }
+    requires speed { port.old.speed ≡ speed }
+    requires within { count_queued is_overlong port.old ≡ 0 }
+    requires offered { port.old.offered ≤ count.old.frames }
+    requires few { count.old.frames < MAX_RECORDS }
+    requires sums { count.old.malformed + count.old.sent + count.old.full ≡ count.old.frames }
+    ensures continues { (room : ℕ) (frames : List Captured) (began : Option (List ℕ)) → IsRunning speed room frames port.old count.old began (W.contents sink.old) → Continues speed room frames (view packet) port.new count.new began (W.contents sink.new) result }
+    ensures same { OnOk result ((port.new.speed ≡ speed) × (count_queued is_overlong port.new ≡ 0)) }
+    ensures early { OnOk result (port.new.earliest ≤ packet.time) }
+    ensures counts { OnOk result ((count.new.frames ≡ count.old.frames + 1) × (port.new.offered ≤ count.new.frames) × (count.new.malformed + count.new.sent + count.new.full ≡ count.new.frames)) }
+    ensures only { OnErr result (result ≡ Err (RunFault.Write 1)) }
+    ensures fails { OnErr result (W.has_failed sink.new ≡ true) }
+{
+    if let Err(fault) = depart_before(packet.time, speed, port, writer, sink) {
+        return Err(fault);
+    }
+    count.frames += 1;
+    match parse(&packet.octets, packet.len) {
+        Err(_) => count.malformed += 1,
+        Ok(_) => {
+            let item = Item {
+                len: packet.len,
+                load: packet.octets,
+            };
+            match port.offer(packet.time, 0, item) {
+                Ok(()) => count.sent += 1,
+                Err(_) => count.full += 1,
+            }
+        }
+    }
+    Ok(())
+}
+
+/// Takes a frame of a capture, and looks at what comes behind it.
+fn take_next<R: ByteSource, W: ByteSink, A: Allocator + Copy>(
+    alloc: A,
+    speed: Speed,
+    packet: Packet<A>,
+    lane: &mut Lane<A>,
+    port: &mut Port<Vec<u8, A>, A>,
+    writer: &mut Writer,
+    count: &mut WireCount,
+    source: &mut R,
+    sink: &mut W,
+) -> Result<(), RunFault>
+    requires time { (port.old.earliest ≤ packet.time) × (packet.time < END_OF_TIME) }
+    requires octets { (length packet.octets.items ≤ MOST_CAPTURED) × (length packet.octets.items ≤ packet.len) }
+    requires speed { port.old.speed ≡ speed }
+    requires within { count_queued is_overlong port.old ≡ 0 }
+    requires offered { port.old.offered ≤ count.old.frames }
+    requires few { count.old.frames < MAX_RECORDS }
+    requires sums { count.old.malformed + count.old.sent + count.old.full ≡ count.old.frames }
+    requires reading { IsReading lane.old.capture }
+    requires latest { lane.old.capture.latest ≡ packet.time }
+    ensures goes { (room : ℕ) (text : List ℕ) (frames : List Captured) (began : Option (List ℕ)) → StandsFor lane.old.capture (R.remaining source.old) text (frames ++ view packet ∷ []) → Gave text (frames ++ view packet ∷ []) → IsRunning speed room frames port.old count.old began (W.contents sink.old) → GoesOn speed room text (R.remaining source.new) lane.new port.new count.new began (W.contents sink.new) result }
+    ensures same { OnOk result ((port.new.speed ≡ speed) × (count_queued is_overlong port.new ≡ 0)) }
+    ensures lane { OnOk result (IsLane lane.new) }
+    ensures onward { OnOk result ((p : Packet A) → lane.new.ahead ≡ Some p → port.new.earliest ≤ p.time) }
+    ensures fewer { OnOk result (room_ahead lane.new ≤ records_left lane.old.capture) }
+    ensures counts { OnOk result ((count.new.frames ≡ count.old.frames + 1) × (port.new.offered ≤ count.new.frames) × (count.new.malformed + count.new.sent + count.new.full ≡ count.new.frames)) }
+    ensures one { IfErr result IsOfPortOne }
+    ensures read { (number : ℕ) → result ≡ Err (RunFault.Capture number CaptureFault.Read) → R.has_failed source.new ≡ true }
+    ensures sure { (number : ℕ) → R.never_fails source.old ≡ true → result ≢ Err (RunFault.Capture number CaptureFault.Read) }
+    ensures lasts { R.never_fails source.old ≡ true → R.never_fails source.new ≡ true }
+    ensures write { (number : ℕ) → result ≡ Err (RunFault.Write number) → W.has_failed sink.new ≡ true }
+{
+    if let Err(fault) = take(speed, port, writer, sink, count, packet) {
+        return Err(fault);
+    }
+    match lane.look(alloc, source) {
+        Ok(()) => Ok(()),
+        Err(fault) => Err(fault_of(1, fault)),
+    }
+}
+
+/// Sends all frames of a capture through a queue, and makes and writes all starts.
+fn run_through<R: ByteSource, W: ByteSink, A: Allocator + Copy>(
+    alloc: A,
+    speed: Speed,
+    lane: &mut Lane<A>,
+    port: &mut Port<Vec<u8, A>, A>,
+    writer: &mut Writer,
+    source: &mut R,
+    sink: &mut W,
+) -> Result<WireCount, RunFault>
+    requires new { (port.old.earliest ≡ 0) × (port.old.offered ≡ 0) }
+    requires speed { port.old.speed ≡ speed }
+    requires within { count_queued is_overlong port.old ≡ 0 }
+    requires lane { IsLane lane.old }
+    requires few { room_ahead lane.old ≤ MAX_RECORDS }
+    ensures ends { (room : ℕ) (text : List ℕ) (began : Option (List ℕ)) → IsUnderWay speed room text (R.remaining source.old) lane.old port.old no_count began (W.contents sink.old) → EndsSo speed room text began (W.contents sink.new) result }
+    ensures sums { IfOk result (λ count. count.malformed + count.sent + count.full ≡ count.frames) }
+    ensures few { IfOk result (λ count. count.frames ≤ MAX_RECORDS) }
+    ensures one { IfErr result IsOfPortOne }
+    ensures read { (number : ℕ) → result ≡ Err (RunFault.Capture number CaptureFault.Read) → R.has_failed source.new ≡ true }
+    ensures sure { (number : ℕ) → R.never_fails source.old ≡ true → result ≢ Err (RunFault.Capture number CaptureFault.Read) }
+    ensures write { (number : ℕ) → result ≡ Err (RunFault.Write number) → W.has_failed sink.new ≡ true }
+{
+    let mut count = WireCount {
+        frames: 0,
+        malformed: 0,
+        sent: 0,
+        full: 0,
+    };
+    while let Some(packet) = lane.ahead.take() {
+        if let Err(fault) = take_next(
+            alloc, speed, packet, lane, port, writer, &mut count, source, sink,
+        ) {
+            return Err(fault);
+        }
+    }
+    if let Err(fault) = depart_before(u64::MAX, speed, port, writer, sink) {
+        return Err(fault);
+    }
+    Ok(count)
+}
+
+/// Sends the frames of a capture through one queue of a room of frames (1 to 4096), always open, on a link of a speed,
+/// and writes the capture of what left, each frame with the moment at which it was done.
+///
+/// One record is looked ahead: the starts before its time are made and written, then it is taken. Nothing is written
+/// before the first look. The faults of the capture, and those of its source, are `Capture` of port 1; the sink then holds
+/// what left up to the frame taken last. A sink that fails is `Write` of port 1, and holds a front of the capture of what
+/// left. A frame without a head is only counted.
+pub fn wire<R: ByteSource, W: ByteSink, A: Allocator + Copy>(
+    alloc: A,
+    speed: Speed,
+    room: u16,
+    source: &mut R,
+    sink: &mut W,
+) -> Result<WireCount, RunFault>
+    requires room { (1 ≤ room) × (room ≤ LARGEST_ROOM) }
+    ensures ok { (text : List ℕ) → R.remaining source.old ≡ Some text → IfOk result (Wires speed room text (W.contents sink.old) (W.contents sink.new)) }
+    ensures err { (text : List ℕ) → R.remaining source.old ≡ Some text → IfErr result (Stops speed room text (W.contents sink.old) (W.contents sink.new)) }
+
+    // What holds whatever the devices tell.
+    ensures sums { IfOk result (λ count. count.malformed + count.sent + count.full ≡ count.frames) }
+    ensures few { IfOk result (λ count. count.frames ≤ MAX_RECORDS) }
+    ensures one { IfErr result IsOfPortOne }
+    ensures read { (port : ℕ) → result ≡ Err (RunFault.Capture port CaptureFault.Read) → R.has_failed source.new ≡ true }
+    ensures sure { (port : ℕ) → R.never_fails source.old ≡ true → result ≢ Err (RunFault.Capture port CaptureFault.Read) }
+    ensures write { (port : ℕ) → result ≡ Err (RunFault.Write port) → W.has_failed sink.new ≡ true }
+{
+    let mut lane = match Lane::begin(alloc, 1, source) {
+        Ok(lane) => lane,
+        Err(fault) => return Err(fault_of(1, fault)),
+    };
+    let Ok(mut port) = Port::new(alloc, speed, None, [room, 1, 1, 1, 1, 1, 1, 1]) else {
+        return Err(RunFault::NoMemory);
+    };
+    let Ok(mut writer) = Writer::begin(sink) else {
+        return Err(RunFault::Write { port: 1 });
+    };
+    run_through(
+        alloc,
+        speed,
+        &mut lane,
+        &mut port,
+        &mut writer,
+        source,
+        sink,
+    )
+}

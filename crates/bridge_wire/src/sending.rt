@@ -1,0 +1,68 @@
+//! Frames that leave a port, into a capture.
+ghost use Rattle.std.specs.Prelude.{◌≡◌, ◌≤◌, ◌<◌, ◌+◌, ℕ, Bool, true, Some, Err, List, Option, OnOk, OnErr, Vec};
+ghost use Rattle.bridge_capture.specs.Grammar.{Captured};
+ghost use Rattle.bridge_port.specs.Standing.{count_queued, IsDue, NoStartBefore, State};
+ghost use Rattle.bridge_wire.specs.Wire.{Offer};
+ghost use Rattle.bridge_wire.specs.Sending.{Goes, is_overlong, NotBefore, Sends};
+
+use bridge_capture::{ByteSink, Writer};
+use bridge_frame::{Speed, occupation};
+use bridge_lanes::RunFault;
+use bridge_port::Port;
+use std::alloc::Allocator;
+
+/// Makes the next start, and writes the frame with the moment at which it was done.
+pub fn depart<W: ByteSink, A: Allocator + Copy>(
+    speed: Speed,
+    port: &mut Port<Vec<u8, A>, A>,
+    writer: &mut Writer,
+    sink: &mut W,
+) -> Result<(), RunFault>
+    requires due { (k : ℕ) × IsDue port.old (Some k) }
+    requires speed { port.old.speed ≡ speed }
+    requires within { count_queued is_overlong port.old ≡ 0 }
+    ensures goes { (offers : List Offer) (sent full : ℕ) (left : List Captured) → Sends port.old offers sent full left → Goes port.new offers sent full left (W.contents sink.old) (W.contents sink.new) result }
+    ensures same { (port.new.list ≡ port.old.list) × (port.new.speed ≡ port.old.speed) × (port.new.rooms ≡ port.old.rooms) × (port.new.offered ≡ port.old.offered) }
+    ensures within { count_queued is_overlong port.new ≡ 0 }
+    ensures fewer { count_queued (λ x. true) port.new < count_queued (λ x. true) port.old }
+    ensures moment { (k : ℕ) → IsDue port.old (Some k) → port.new.earliest ≡ k + 1 }
+    ensures late { (h : ℕ) → NoStartBefore port.old h → h < port.new.earliest }
+    ensures only { OnErr result (result ≡ Err (RunFault.Write 1)) }
+    ensures fails { OnErr result (W.has_failed sink.new ≡ true) }
+{
+    let (item, _) = port.start();
+    let done = port.earliest() - 1 + occupation(item.len, speed);
+    match writer.put(sink, done, item.len, &item.load) {
+        Ok(()) => Ok(()),
+        Err(_) => Err(RunFault::Write { port: 1 }),
+    }
+}
+
+/// Makes all starts before a moment in ns.
+pub fn depart_before<W: ByteSink, A: Allocator + Copy>(
+    t: u64,
+    speed: Speed,
+    port: &mut Port<Vec<u8, A>, A>,
+    writer: &mut Writer,
+    sink: &mut W,
+) -> Result<(), RunFault>
+    requires speed { port.old.speed ≡ speed }
+    requires within { count_queued is_overlong port.old ≡ 0 }
+    ensures goes { (offers : List Offer) (sent full : ℕ) (left : List Captured) → Sends port.old offers sent full left → Goes port.new offers sent full left (W.contents sink.old) (W.contents sink.new) result }
+    ensures same { (port.new.list ≡ port.old.list) × (port.new.speed ≡ port.old.speed) × (port.new.rooms ≡ port.old.rooms) × (port.new.offered ≡ port.old.offered) }
+    ensures within { count_queued is_overlong port.new ≡ 0 }
+    ensures earliest { port.old.earliest ≤ t → port.new.earliest ≤ t }
+    ensures due { OnOk result ((next : Option ℕ) × IsDue port.new next × NotBefore t next) }
+    ensures calm { (h : ℕ) → NoStartBefore port.old h → NoStartBefore port.new h }
+    ensures late { OnErr result ((h : ℕ) → NoStartBefore port.old h → h ≤ port.new.earliest) }
+    ensures only { OnErr result (result ≡ Err (RunFault.Write 1)) }
+    ensures fails { OnErr result (W.has_failed sink.new ≡ true) }
+{
+    while let Some(k) = port.next_start() {
+        if k >= t {
+            return Ok(());
+        }
+        depart(speed, port, writer, sink)?;
+    }
+    Ok(())
+}
