@@ -1,15 +1,15 @@
 -- What is looked at of a text decides as the whole of it.
-use Rattle.std.proofs.Common.{◌≡◌, ℕ, Bool, true, false, ◌≤◌, ◌<◌, ◌⊎◌, nat_lt, ◌+◌, inl, inr, refl, sym, ap, subst, ◌∙◌, arith, List, length, take, take_all, Result, Ok, Err, IfErr, Some}
+use Rattle.std.proofs.Common.{◌≡◌, ℕ, Bool, true, false, ◌≤◌, ◌<◌, ◌⊎◌, nat_lt, ◌+◌, inl, inr, refl, sym, ap, subst, ◌∙◌, arith, List, length, take, take_all, Result, Ok, Err, IfOk, IfErr}
 use Rattle.std.proofs.lemmas.Bool.{lt-ltb}
 use Rattle.std.proofs.lemmas.List.{length-take}
 use Rattle.bridge_text.specs.Hex.{octets_spelled}
 use Rattle.bridge_text.specs.declared.fault.HexFault.TheVariants as hex
 use Rattle.bridge_keys.specs.declared.fault.PlanFault.TheVariants as plan
-use Rattle.bridge_keys.specs.Readers.{◌>>=◌, Fails}
+use Rattle.bridge_keys.specs.Readers.{Fails}
 use Rattle.bridge_config.specs.Model.{Plan}
-use Rattle.bridge_config.specs.Document.{document_of, plan_of_document, plan_of_text}
-use Rattle.bridge_core.specs.declared.fault.RunFault.{RunFault}
-use Rattle.bridge_core.specs.declared.fault.RunFault.TheVariants as run
+use Rattle.bridge_config.specs.Document.{document_of, plan_of_text}
+use Rattle.bridge_lanes.specs.declared.fault.RunFault.{RunFault}
+use Rattle.bridge_lanes.specs.declared.fault.RunFault.TheVariants as run
 use Rattle.bridge_program.specs.declared.fault.TextFault.{TextFault}
 use Rattle.bridge_program.specs.declared.fault.TextFault.TheVariants as text
 use Rattle.bridge_program.specs.declared.fault.Fault.{Fault}
@@ -89,6 +89,15 @@ ends_refused A path input f h = absurd h
 
 pub plan_refused : (A : Type 0) (path looked input : List ℕ) (f : Fault) → looked ≡ take 1048577 input → RefusesPlan A looked f → EndsCheck A path input f
 plan_refused A path looked input f e h = ends_refused A path input f (refused_plan A input f (subst (λ (z : List ℕ). RefusesPlan A z f) e h))
+
+-- the same of what is answered for a text
+pub all_accepted : {A : Type 0} (looked input : List ℕ) (r : Result (Plan A) Fault) → looked ≡ take 1048577 input → IfOk r (λ p. Accepts looked p) → IfOk r (λ p. Accepts input p)
+all_accepted looked input (Ok p) e h = plan_accepted looked input p e h
+all_accepted looked input (Err f) e h = tt
+
+pub all_refused : (A : Type 0) (path looked input : List ℕ) (r : Result (Plan A) Fault) → looked ≡ take 1048577 input → IfErr r (RefusesPlan A looked) → IfErr r (EndsCheck A path input)
+all_refused A path looked input (Ok p) e h = tt
+all_refused A path looked input (Err f) e h = plan_refused A path looked input f e h
 
 -- a file's fault ends the job over a plan
 pub file_ends : (A : Type 0) (path input : List ℕ) (f : Fault) → IsOfFile path f → EndsCheck A path input f

@@ -3,7 +3,7 @@ use Rattle.std.specs.Prelude.{◌≡◌, ◌≤◌, ℕ, List, [], Some, true, c
 use Rattle.std.specs.Str.Parse.{digits_value}
 use Rattle.bridge_frame.specs.declared.Speed.{Speed}
 use Rattle.bridge_port.specs.declared.queues.TheConstants.{LARGEST_ROOM}
-use Rattle.bridge_core.specs.declared.fault.RunFault.TheVariants as run
+use Rattle.bridge_lanes.specs.declared.fault.RunFault.TheVariants as run
 use Rattle.clap.specs.Words.{App, Row, Rule, Text, fault_of, first_of, new_app, new_rule, subcommand_of, with_rule, with_subcommand}
 use Rattle.clap.specs.Simple.{on_top}
 use Rattle.clap.specs.declared.error.kind.ErrorKind.{ErrorKind}
@@ -27,9 +27,15 @@ wire_command = with_rule (with_rule (with_rule (with_rule (new_app (codes "wire"
 abbrev pub check_command : App
 check_command = with_rule (new_app (codes "check")) (word_named (codes "plan"))
 
+-- `run PLAN IN OUT`
+abbrev pub run_command : App
+run_command = with_rule (with_rule (with_rule (new_app (codes "run"))
+    (word_named (codes "plan"))) (word_named (codes "input"))) (word_named (codes "output"))
+
 -- the commands, by words that don't begin with the program's name
 abbrev pub commands : App
-commands = with_subcommand (with_subcommand (on_top (λ s. record s { no_binary_name = true }) (new_app (codes "tsnbridge"))) wire_command.top) check_command.top
+commands = with_subcommand (with_subcommand (with_subcommand (on_top (λ s. record s { no_binary_name = true }) (new_app (codes "tsnbridge")))
+    wire_command.top) check_command.top) run_command.top
 
 -- the fault of words that `clap` refuses
 abbrev pub fault_of_kind : ErrorKind → Fault
@@ -57,17 +63,32 @@ pub record AsksForWire (values : List Row) (speed : Speed) (room : ℕ) (input o
 abbrev pub AsksForCheck : List Row → Text → Type 0
 AsksForCheck values plan = first_of (codes "plan") values ≡ Some plan
 
+-- the values of `run` are the path of a plan and those of two folders
+pub record AsksForRun (values : List Row) (plan input output : Text) : Type 0 where
+  pub plan_is : first_of (codes "plan") values ≡ Some plan
+  pub input_is : first_of (codes "input") values ≡ Some input
+  pub output_is : first_of (codes "output") values ≡ Some output
+
 -- a job of `wire`, by the values of the command
 abbrev pub IsWireJob : List Row → Job → Type 0
 IsWireJob values job.Text = ⊥
 IsWireJob values (job.Check plan) = ⊥
+IsWireJob values (job.Run plan input output) = ⊥
 IsWireJob values (job.Wire speed room input output) = AsksForWire values speed room (string_bytes input) (string_bytes output)
 
 -- a job of `check`, by the values of the command
 abbrev pub IsCheckJob : List Row → Job → Type 0
 IsCheckJob values job.Text = ⊥
 IsCheckJob values (job.Wire speed room input output) = ⊥
+IsCheckJob values (job.Run plan input output) = ⊥
 IsCheckJob values (job.Check plan) = AsksForCheck values (string_bytes plan)
+
+-- a job of `run`, by the values of the command
+abbrev pub IsRunJob : List Row → Job → Type 0
+IsRunJob values job.Text = ⊥
+IsRunJob values (job.Wire speed room input output) = ⊥
+IsRunJob values (job.Check plan) = ⊥
+IsRunJob values (job.Run plan input output) = AsksForRun values (string_bytes plan) (string_bytes input) (string_bytes output)
 
 -- the words ask for this job
 abbrev pub AsksFor : List Text → Job → Type 0
@@ -76,9 +97,12 @@ AsksFor words (job.Wire speed room input output) =
     (values : List Row) × Names words (codes "wire") values × AsksForWire values speed room (string_bytes input) (string_bytes output)
 AsksFor words (job.Check plan) =
     (values : List Row) × Names words (codes "check") values × AsksForCheck values (string_bytes plan)
+AsksFor words (job.Run plan input output) =
+    (values : List Row) × Names words (codes "run") values × AsksForRun values (string_bytes plan) (string_bytes input) (string_bytes output)
 
 -- the room of a job's queue, if it has one, is 1 to 4096
 abbrev pub HasRoom : Job → Type 0
 HasRoom job.Text = Unit {0}
 HasRoom (job.Check plan) = Unit {0}
+HasRoom (job.Run plan input output) = Unit {0}
 HasRoom (job.Wire speed room input output) = (1 ≤ room) × (room ≤ LARGEST_ROOM)

@@ -1,6 +1,6 @@
 -- What the program says of a run that is done.
 use Rattle.std.specs.Prelude.{ℕ, List, ◌++◌, codes, decimal}
-use Rattle.bridge_core.specs.declared.count.WireCount.{WireCount}
+use Rattle.bridge_wire.specs.declared.count.WireCount.{WireCount}
 
 -- the line of a run over one queue, with its line feed
 abbrev pub counts_line : WireCount → List ℕ

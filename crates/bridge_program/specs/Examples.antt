@@ -55,6 +55,33 @@ pub check_plan : option_map (λ p. first_of (codes "plan") p.1) (subcommand_of c
 unfolding clap_on_literals
 check_plan = refl
 
+-- `run plan.toml in out`
+abbrev run_words : List Text
+run_words = codes "run" ∷ codes "plan.toml" ∷ codes "in" ∷ codes "out" ∷ []
+
+-- nothing is wrong with these words
+pub run_faultless : fault_of commands run_words ≡ []
+unfolding clap_on_literals
+run_faultless = refl
+
+-- they name `run`
+pub run_named : option_map (λ p. p.0) (subcommand_of commands run_words) ≡ Some (codes "run")
+unfolding clap_on_literals
+run_named = refl
+
+-- each value goes by its name
+pub run_plan : option_map (λ p. first_of (codes "plan") p.1) (subcommand_of commands run_words) ≡ Some (Some (codes "plan.toml"))
+unfolding clap_on_literals
+run_plan = refl
+
+pub run_input : option_map (λ p. first_of (codes "input") p.1) (subcommand_of commands run_words) ≡ Some (Some (codes "in"))
+unfolding clap_on_literals
+run_input = refl
+
+pub run_output : option_map (λ p. first_of (codes "output") p.1) (subcommand_of commands run_words) ≡ Some (Some (codes "out"))
+unfolding clap_on_literals
+run_output = refl
+
 -- a missing word, a word too many, a request for help or for a version
 pub one_missing : fault_of commands (codes "wire" ∷ codes "1000" ∷ codes "4" ∷ codes "a.pcap" ∷ []) ≡ MissingRequiredArgument ∷ []
 unfolding clap_on_literals

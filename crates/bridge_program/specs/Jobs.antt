@@ -1,12 +1,11 @@
 -- The jobs of the program: what each prints, and which fault ends it.
-use Rattle.std.specs.Prelude.{◌≡◌, ◌⊎◌, ℕ, List, Option, None, Some, Ok, Err, codes, string_bytes}
+use Rattle.std.specs.Prelude.{◌≡◌, ◌⊎◌, ℕ, List, Option, None, Some, Ok, Err}
 use Rattle.bridge_frame.specs.declared.Speed.{Speed}
 use Rattle.bridge_text.specs.Hex.{octets_spelled}
 use Rattle.bridge_text.specs.declared.fault.HexFault.TheVariants as hex
-use Rattle.bridge_core.specs.declared.count.WireCount.{WireCount}
-use Rattle.bridge_core.specs.declared.fault.RunFault.{RunFault}
-use Rattle.bridge_core.specs.declared.fault.RunFault.TheVariants as run
-use Rattle.bridge_core.specs.Wire.{IsOfPortOne, Wires}
+use Rattle.bridge_wire.specs.declared.count.WireCount.{WireCount}
+use Rattle.bridge_lanes.specs.declared.fault.RunFault.TheVariants as run
+use Rattle.bridge_wire.specs.Wire.{IsOfPortOne, Wires}
 use Rattle.bridge_keys.specs.Readers.{Fails}
 use Rattle.bridge_config.specs.Model.{Plan}
 use Rattle.bridge_config.specs.Document.{plan_of_text}
@@ -44,8 +43,9 @@ EndsText input f = IsOfStandardFile f
 abbrev pub PrintsCounts : Speed → ℕ → List ℕ → Option (List ℕ) → Option (List ℕ) → List ℕ → Type 0
 PrintsCounts speed room input old new line = (count : WireCount) × Wires speed room input old new count × (line ≡ counts_line count)
 
--- which fault ends a run over the text of a capture
+-- which fault ends a run over the text of a capture: its own, or the writer failed
 abbrev pub EndsWire : List ℕ → Fault → Type 0
+EndsWire input (fault.Run (run.Write port)) = port ≡ 1
 EndsWire input (fault.Run f) = StopsText input f
 EndsWire input f = ⊥
 

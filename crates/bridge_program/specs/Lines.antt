@@ -2,8 +2,8 @@
 use Rattle.std.specs.Prelude.{ℕ, List, ◌++◌, codes, decimal, string_bytes}
 use Rattle.bridge_capture.specs.declared.fault.CaptureFault.{CaptureFault}
 use Rattle.bridge_capture.specs.declared.fault.CaptureFault.TheVariants as capture
-use Rattle.bridge_core.specs.declared.fault.RunFault.{RunFault}
-use Rattle.bridge_core.specs.declared.fault.RunFault.TheVariants as run
+use Rattle.bridge_lanes.specs.declared.fault.RunFault.{RunFault}
+use Rattle.bridge_lanes.specs.declared.fault.RunFault.TheVariants as run
 use Rattle.bridge_program.specs.declared.fault.TextFault.{TextFault}
 use Rattle.bridge_program.specs.declared.fault.TextFault.TheVariants as text
 use Rattle.bridge_program.specs.declared.fault.Fault.{Fault}

@@ -2,7 +2,7 @@
 ghost use Rattle.std.specs.Prelude.{◌≡◌, ◌≢◌, [], IfOk, IfErr, false, map, string_bytes, codes};
 ghost use Rattle.clap.specs.Words.{app_of, fault_of, kind_of, rule_of, subcommand_of, subcommand_rows_of};
 ghost use Rattle.clap.specs.declared.builder.command.Command.TheViews.{out-Command as fields_of};
-ghost use Rattle.bridge_program.specs.CommandLine.{check_command, commands, wire_command, word_named};
+ghost use Rattle.bridge_program.specs.CommandLine.{check_command, commands, run_command, wire_command, word_named};
 
 use clap::error::ErrorKind;
 use clap::{Arg, ArgMatches, Command, Error};
@@ -24,10 +24,12 @@ fn commands_of<'a>(alloc: Global) -> Result<Command<'a>, AllocError>
 {
     let wire = wire_of(alloc)?;
     let check = check_of(alloc)?;
+    let run = run_of(alloc)?;
     Command::new(alloc, "tsnbridge")
         .no_binary_name(true)
         .subcommand(wire)?
-        .subcommand(check)
+        .subcommand(check)?
+        .subcommand(run)
 }
 
 /// `wire MBPS ROOM IN OUT`.
@@ -48,6 +50,17 @@ fn check_of<'a>(alloc: Global) -> Result<Command<'a>, AllocError>
     ensures local { IfOk result (λ c. (fields_of c).has_globals ≡ false) }
 {
     Command::new(alloc, "check").arg(word(alloc, "plan"))
+}
+
+/// `run PLAN IN OUT`.
+fn run_of<'a>(alloc: Global) -> Result<Command<'a>, AllocError>
+    ensures command { IfOk result (λ c. app_of c ≡ run_command) }
+    ensures local { IfOk result (λ c. (fields_of c).has_globals ≡ false) }
+{
+    Command::new(alloc, "run")
+        .arg(word(alloc, "plan"))?
+        .arg(word(alloc, "input"))?
+        .arg(word(alloc, "output"))
 }
 
 /// A word that has to be there, by its name.

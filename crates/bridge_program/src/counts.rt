@@ -3,7 +3,7 @@ ghost use Rattle.std.specs.Prelude.{◌≡◌, IfOk, string_bytes};
 ghost use Rattle.bridge_program.specs.Counts.{counts_line};
 
 use crate::fault::NoMemory;
-use bridge_core::WireCount;
+use bridge_wire::WireCount;
 use std::alloc::Allocator;
 
 /// The line that the program prints once a capture went through one queue, with its line feed: the frames that came, those

@@ -1,13 +1,13 @@
 //! Why the program stops.
 ghost use Rattle.std.specs.Prelude.{◌≡◌};
-ghost use Rattle.bridge_core.specs.declared.fault.RunFault.TheVariants.{NoMemory as no_memory};
+ghost use Rattle.bridge_lanes.specs.declared.fault.RunFault.TheVariants.{NoMemory as no_memory};
 ghost use Rattle.bridge_program.specs.declared.fault.Fault.TheVariants.{Run as run};
 ghost use Rattle.bridge_program.specs.Text.{text_fault_of};
 
 use bridge_check::CheckFault;
-use bridge_core::RunFault;
 use bridge_keys::PlanFault;
 use bridge_text::HexFault;
+use bridge_wire::RunFault;
 use std::alloc::AllocError;
 use thiserror::Error;
 

@@ -1,16 +1,16 @@
 //! The job that the words of the command line ask for.
 ghost use Rattle.std.specs.Prelude.{◌≡◌, ◌⊎◌, Err, IfOk, IfErr, ℕ, map, option_map, string_bytes};
 ghost use Rattle.bridge_frame.specs.declared.Speed.{Speed};
-ghost use Rattle.bridge_core.specs.declared.fault.RunFault.{RunFault};
+ghost use Rattle.bridge_lanes.specs.declared.fault.RunFault.{RunFault};
 ghost use Rattle.clap.specs.Words.{Text, first_of, found_of, kind_of, rows_of};
 ghost use Rattle.bridge_program.specs.declared.job.Job.{Job};
-ghost use Rattle.bridge_program.specs.CommandLine.{AsksFor, AsksForCheck, AsksForWire, HasRoom, IsCheckJob, IsWireJob, fault_of_kind};
+ghost use Rattle.bridge_program.specs.CommandLine.{AsksFor, AsksForCheck, AsksForRun, AsksForWire, HasRoom, IsCheckJob, IsRunJob, IsWireJob, fault_of_kind};
 
 use crate::command::matches_of;
 use crate::fault::Fault;
 use crate::number::{room_of, speed_of};
-use bridge_core::RunFault;
 use bridge_frame::Speed;
+use bridge_wire::RunFault;
 use clap::error::ErrorKind;
 use clap::{ArgMatches, Error};
 use std::alloc::Global;
@@ -36,10 +36,19 @@ pub enum Job {
         /// The path of the plan.
         plan: String,
     },
+    /// A folder of captures through the bridge of a plan into another folder.
+    Run {
+        /// The path of the plan.
+        plan: String,
+        /// The path of the folder of the captures that are read.
+        input: String,
+        /// The path of the folder of the captures that are written.
+        output: String,
+    },
 }
 
 /// The job that the words after the program's name ask for: `Text` without words, `Wire` for `wire MBPS ROOM IN OUT`,
-/// `Check` for `check PLAN`.
+/// `Check` for `check PLAN`, `Run` for `run PLAN IN OUT`.
 ///
 /// MBPS is 10, 100, 1000, 2500 or 10000 and ROOM is 1 to 4096, both as decimal digits alone. `Words` for all other words,
 /// also for a request for help or for a version, and `Run` with `NoMemory` where a growth was refused.
@@ -57,7 +66,10 @@ pub fn job_of(alloc: Global, words: &[String]) -> Result<Job, Fault>
             Some(values) => wire_job(alloc, values),
             None => match matches.subcommand_matches("check") {
                 Some(values) => check_job(alloc, values),
-                None => Err(Fault::Words),
+                None => match matches.subcommand_matches("run") {
+                    Some(values) => run_job(alloc, values),
+                    None => Err(Fault::Words),
+                },
             },
         },
         Err(error) => Err(fault_of(&error)),
@@ -111,6 +123,32 @@ fn check_job(alloc: Global, values: &ArgMatches) -> Result<Job, Fault>
     };
     let plan = String::from_str(alloc, path)?;
     Ok(Job::Check { plan })
+}
+
+/// The job of a `run` command with these values.
+fn run_job(alloc: Global, values: &ArgMatches) -> Result<Job, Fault>
+    ensures ok { IfOk result (IsRunJob (rows_of (found_of values.now))) }
+    ensures room { IfOk result HasRoom }
+    ensures words { result ≡ Err Fault.Words → (plan input output : Text) → ¬ AsksForRun (rows_of (found_of values.now)) plan input output }
+    ensures only { IfErr result (λ fault. (fault ≡ Fault.Words) ⊎ (fault ≡ Fault.Run RunFault.NoMemory)) }
+{
+    let Some(path) = value_of(values, "plan") else {
+        return Err(Fault::Words);
+    };
+    let Some(from_folder) = value_of(values, "input") else {
+        return Err(Fault::Words);
+    };
+    let Some(to_folder) = value_of(values, "output") else {
+        return Err(Fault::Words);
+    };
+    let plan = String::from_str(alloc, path)?;
+    let input = String::from_str(alloc, from_folder)?;
+    let output = String::from_str(alloc, to_folder)?;
+    Ok(Job::Run {
+        plan,
+        input,
+        output,
+    })
 }
 
 /// The value of a command by its name.

@@ -1,6 +1,6 @@
 //! The jobs, from what is read to what is printed.
 ghost use Rattle.std.specs.Prelude.{◌≡◌, ◌≤◌, ℕ, List, Some, IfOk, IfErr, string_bytes};
-ghost use Rattle.bridge_program.specs.Jobs.{EndsCheck, EndsText, EndsWire, IsOfRun, PrintsAccepted, PrintsCounts, PrintsText};
+ghost use Rattle.bridge_program.specs.Jobs.{Accepts, EndsCheck, EndsText, EndsWire, IsOfRun, PrintsAccepted, PrintsCounts, PrintsText};
 ghost use Rattle.bridge_program.specs.Reading.{IsOfFile, IsOfStandardFile};
 
 use crate::accepting::{accepted_of, check_line};
@@ -9,9 +9,10 @@ use crate::counts::wire_line;
 use crate::fault::Fault;
 use crate::reading::{ReadFault, read_at_most};
 use crate::text::wire_text;
-use bridge_core::RunFault;
+use bridge_check::Accepted;
 use bridge_frame::Speed;
 use bridge_port::LARGEST_ROOM;
+use bridge_wire::RunFault;
 use std::alloc::{Allocator, Global};
 use std::io::{Read, Write};
 
@@ -56,7 +57,25 @@ pub fn wire_job<R: Read + Drop, W: Write + Drop>(
             Ok(line) => Ok((line, writer)),
             Err(_) => Err(Fault::Run(RunFault::NoMemory)),
         },
-        Err(fault) => Err(Fault::Run(fault)),
+        Err(halted) => Err(Fault::Run(halted.fault)),
+    }
+}
+
+/// The plan of a reader, by the path of its file, where it isolates each of its protected filters.
+///
+/// At most 1,048,577 octets are read, one more than a plan may have.
+pub fn planned<R: Read + Drop, A: Allocator + Copy>(
+    alloc: A,
+    heap: Global,
+    path: String,
+    reader: R,
+) -> Result<Accepted<A>, Fault>
+    ensures ok { (input : List ℕ) → R.remaining reader ≡ Some input → IfOk result (λ accepted. Accepts input accepted) }
+    ensures err { (input : List ℕ) → R.remaining reader ≡ Some input → IfErr result (EndsCheck A (string_bytes path) input) }
+{
+    match read_at_most(alloc, reader, MOST_PLAN) {
+        Ok(text) => accepted_of(alloc, heap, &text),
+        Err(fault) => Err(fault_of_file(path, fault)),
     }
 }
 
@@ -70,11 +89,7 @@ pub fn check_job<R: Read + Drop, A: Allocator + Copy>(
     ensures ok { (input : List ℕ) → R.remaining reader ≡ Some input → IfOk result (λ line. PrintsAccepted A input (string_bytes line)) }
     ensures err { (input : List ℕ) → R.remaining reader ≡ Some input → IfErr result (EndsCheck A (string_bytes path) input) }
 {
-    let text = match read_at_most(alloc, reader, MOST_PLAN) {
-        Ok(text) => text,
-        Err(fault) => return Err(fault_of_file(path, fault)),
-    };
-    let accepted = match accepted_of(alloc, heap, &text) {
+    let accepted = match planned(alloc, heap, path, reader) {
         Ok(accepted) => accepted,
         Err(fault) => return Err(fault),
     };

@@ -18,12 +18,12 @@ mod status;
 mod text;
 
 pub use accepting::{accepted_of, check_line};
-pub use captures::through;
+pub use captures::{Halted, through};
 pub use counts::wire_line;
 pub use fault::{Fault, NoMemory, TextFault};
 pub use host::{end, print, words_of};
 pub use job::{Job, job_of};
-pub use jobs::{check_job, standard_file, text_job, wire_job};
+pub use jobs::{check_job, planned, standard_file, text_job, wire_job};
 pub use line::fault_line;
 pub use reading::{ReadFault, read_at_most};
 pub use text::wire_text;

@@ -8,7 +8,7 @@ use crate::isolation::said_of_check;
 use crate::plan_line::said_of_plan;
 use crate::status::ending;
 use bridge_capture::CaptureFault;
-use bridge_core::RunFault;
+use bridge_wire::RunFault;
 use std::alloc::Allocator;
 
 /// The line that the program prints for a fault on standard error, without its line feed, and the status with which it

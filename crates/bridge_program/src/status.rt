@@ -5,9 +5,9 @@ ghost use Rattle.bridge_program.specs.Status.{status_of, status_of_capture, stat
 use crate::fault::{Fault, TextFault};
 use bridge_capture::CaptureFault;
 use bridge_check::CheckFault;
-use bridge_core::RunFault;
 use bridge_cycle::ListFault;
 use bridge_keys::PlanFault;
+use bridge_wire::RunFault;
 
 /// A plan that is refused.
 const REFUSED_PLAN: u8 = 1;

@@ -4,14 +4,14 @@ ghost use Rattle.std.specs.String.{string_bytes};
 ghost use Rattle.bridge_text.specs.Hex.{octets_spelled};
 ghost use Rattle.bridge_text.specs.declared.fault.HexFault.TheVariants as hex;
 ghost use Rattle.bridge_program.specs.Text.{IsTextRun, StopsText};
-ghost use Rattle.bridge_core.specs.declared.fault.RunFault.{RunFault};
+ghost use Rattle.bridge_lanes.specs.declared.fault.RunFault.{RunFault};
 ghost use Rattle.bridge_capture.specs.declared.fault.CaptureFault.TheVariants as capture_faults;
 
 use crate::fault::TextFault;
 use bridge_capture::{SliceSource, VecSink};
-use bridge_core::{RunFault, wire};
 use bridge_frame::Speed;
 use bridge_text::{lines_of, octets_of};
+use bridge_wire::{RunFault, wire};
 use std::alloc::Allocator;
 
 /// The frames of a queue of the text's link.

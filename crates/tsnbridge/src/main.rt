@@ -1,6 +1,7 @@
 #![tactic(auto)]
 //! The program: it reads its job, does it, and ends with the status and the line of the first fault.
 
+use bridge_folder::run_job;
 use bridge_program::{Fault, Job, check_job, end, job_of, print, text_job, wire_job, words_of};
 use std::fs;
 use std::process::ExitCode;
@@ -41,6 +42,14 @@ fn run(rt: &(impl Input + AllocGlobal + Print + Env + Files)) -> Result<(), Faul
                 return Err(Fault::File(plan));
             };
             let line = check_job(rt.alloc(), rt.alloc(), plan, reader)?;
+            print(rt, line.as_str())
+        }
+        Job::Run {
+            plan,
+            input,
+            output,
+        } => {
+            let line = run_job(rt, plan, input, output)?;
             print(rt, line.as_str())
         }
     }

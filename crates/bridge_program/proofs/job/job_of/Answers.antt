@@ -6,5 +6,15 @@ use Rattle.bridge_program.proofs.job.job_of.Goals as goal
 pub returns-in-Some-clause-words : goal.returns-in-Some-clause-words
 returns-in-Some-clause-words c = λ is asked.
     let named : subcommand_name_of c.in-Ok.matches ≡ Some (codes "wire") = search rules in
-    let differ : ¬ (codes "wire" ≡ codes "check") = search rules in
-    asks_for_none _ _ _ (search rules) differ c.in-Ok.ensures.values (name_first _ _ _ _ named) c.in-Some.ensures.rows (c.wire_job.ensures.words is) asked
+    let check : ¬ (codes "wire" ≡ codes "check") = search rules in
+    let run : ¬ (codes "wire" ≡ codes "run") = search rules in
+    asks_for_none _ (codes "wire") _ _ (search rules) c.in-Ok.ensures.values (name_first _ _ _ _ named) c.in-Some.ensures.rows
+    (λ e. c.wire_job.ensures.words is) (λ e plan asks. check e) (λ e plan input output asks. run e) asked
+
+pub returns-in-Some-subcommand_matches-2-clause-words : goal.returns-in-Some-subcommand_matches-2-clause-words
+returns-in-Some-subcommand_matches-2-clause-words c = λ is asked.
+    let named : subcommand_name_of c.in-Ok.matches ≡ Some (codes "run") = search rules in
+    let wire : ¬ (codes "run" ≡ codes "wire") = search rules in
+    let check : ¬ (codes "run" ≡ codes "check") = search rules in
+    asks_for_none _ (codes "run") _ _ (search rules) c.in-Ok.ensures.values (name_first _ _ _ _ named) c.in-Some-subcommand_matches-2.ensures.rows
+    (λ e speed room input output asks. wire e) (λ e plan asks. check e) (λ e. c.run_job.ensures.words is) asked

@@ -1,6 +1,6 @@
 use Rattle.std.proofs.Common.{◌≡◌, Some, ap, ◌∙◌, subst}
 use Rattle.bridge_frame.specs.declared.Speed.TheVariants.{Mbps1000}
-use Rattle.bridge_core.specs.Wire.{Wires}
+use Rattle.bridge_wire.specs.Wire.{Wires}
 use Rattle.bridge_program.specs.Text.{StopsText}
 use Rattle.bridge_program.proofs.Runs.{stops_text, text_run}
 use Rattle.bridge_program.proofs.text.wire_text.Goals as goal

@@ -1,0 +1,64 @@
+#![tactic(auto)]
+//! `run` over a folder of captures, then what it wrote: the octets of each capture, and the report.
+
+use bridge_folder::{capture_path, report_path, run_job};
+use bridge_program::{Fault, Job, end, job_of, print, read_at_most, words_of};
+use bridge_text::lines_of;
+use std::fs;
+use std::process::ExitCode;
+use std::rt::{Env, Files};
+
+/// The ports of the plan.
+const PORTS: [u8; 3] = [1, 2, 3];
+
+fn main(rt: HostRuntime) -> ExitCode {
+    match run(&rt) {
+        Ok(()) => ExitCode::from(0),
+        Err(fault) => end(&rt, &fault),
+    }
+}
+
+/// Does the job, and prints what was written.
+fn run(rt: &(impl AllocGlobal + Print + Env + Files)) -> Result<(), Fault> {
+    let words = words_of(rt)?;
+    let Job::Run {
+        plan,
+        input,
+        output,
+    } = job_of(rt.alloc(), &words)?
+    else {
+        return Err(Fault::Words);
+    };
+    let folder = String::from_str(rt.alloc(), output.as_str())?;
+    let line = run_job(rt, plan, input, output)?;
+    print(rt, line.as_str())?;
+    for port in PORTS {
+        let Ok(path) = capture_path(rt.alloc(), folder.as_str(), port) else {
+            return Err(Fault::Words);
+        };
+        let octets = written(rt, path)?;
+        let Ok(lines) = lines_of(rt.alloc(), &octets) else {
+            return Err(Fault::Words);
+        };
+        print(rt, lines.as_str())?;
+    }
+    let Ok(path) = report_path(rt.alloc(), folder.as_str()) else {
+        return Err(Fault::Words);
+    };
+    let report = written(rt, path)?;
+    match String::from_utf8(report) {
+        Ok(text) => print(rt, text.as_str()),
+        Err(_) => Err(Fault::Words),
+    }
+}
+
+/// The octets of a file.
+fn written(rt: &(impl AllocGlobal + Files), path: String) -> Result<Vec<u8>, Fault> {
+    let Ok(reader) = fs::open(rt, path.as_str()) else {
+        return Err(Fault::File(path));
+    };
+    match read_at_most(rt.alloc(), reader, u64::MAX) {
+        Ok(octets) => Ok(octets),
+        Err(_) => Err(Fault::File(path)),
+    }
+}
