@@ -1,9 +1,9 @@
 //! One capture through one queue: worked examples of what leaves, of counts and of faults.
 use crate::captures::{Words, capture_of};
 use bridge_capture::{ByteSink, ByteSource, CaptureFault, SliceSource, VecSink};
-use bridge_core::{RunFault, WireCount, wire};
 use bridge_frame::Speed;
 use bridge_refusing::RefusesOne;
+use bridge_wire::{RunFault, WireCount, wire};
 use std::alloc::Allocator;
 use std::test::Fail;
 
@@ -106,6 +106,7 @@ fn a_frame_of_13_octets_is_malformed(rt: HostRuntime) -> Result<(), Fail> {
 #[test]
 fn a_source_fails_anywhere(rt: HostRuntime) -> Result<(), Fail> {
     let text = capture_of(rt.alloc(), &ARRIVALS)?;
+    let left = capture_of(rt.alloc(), &DEPARTURES)?;
     for n in 0..93 {
         let mut source = SliceSource::failing_after(&text, n);
         let mut sink = VecSink::new(rt.alloc());
@@ -118,7 +119,13 @@ fn a_source_fails_anywhere(rt: HostRuntime) -> Result<(), Fail> {
             }),
             "after {n} octets"
         );
-        assert_eq!(rt; sink.octets(), [].as_slice());
+        let written = match n {
+            0..=57 => 0,
+            58..=91 => 24,
+            _ => 58,
+        };
+        assert!(rt; written <= left.len());
+        assert_eq!(rt; sink.octets(), &left[..written]);
     }
     Ok(())
 }
@@ -126,11 +133,14 @@ fn a_source_fails_anywhere(rt: HostRuntime) -> Result<(), Fail> {
 #[test]
 fn a_capture_is_cut_anywhere(rt: HostRuntime) -> Result<(), Fail> {
     let text = capture_of(rt.alloc(), &ARRIVALS)?;
-    for (n, fault) in [
-        (0, CaptureFault::HeaderCut),
-        (23, CaptureFault::HeaderCut),
-        (57, CaptureFault::RecordCut(1)),
-        (91, CaptureFault::RecordCut(2)),
+    let left = capture_of(rt.alloc(), &DEPARTURES)?;
+    for (n, fault, written) in [
+        (0, CaptureFault::HeaderCut, 0),
+        (23, CaptureFault::HeaderCut, 0),
+        (25, CaptureFault::RecordCut(1), 0),
+        (57, CaptureFault::RecordCut(1), 0),
+        (59, CaptureFault::RecordCut(2), 24),
+        (91, CaptureFault::RecordCut(2), 24),
     ] {
         assert!(rt; n <= text.len());
         let mut sink = VecSink::new(rt.alloc());
@@ -140,7 +150,8 @@ fn a_capture_is_cut_anywhere(rt: HostRuntime) -> Result<(), Fail> {
             Err(RunFault::Capture { port: 1, fault }),
             "{n} octets"
         );
-        assert_eq!(rt; sink.octets(), [].as_slice());
+        assert!(rt; written <= left.len());
+        assert_eq!(rt; sink.octets(), &left[..written]);
     }
     Ok(())
 }

@@ -1,10 +1,10 @@
 //! The command line: its jobs, the words that it refuses, and what it says of a run.
 use bridge_capture::{Order, SliceSource, VecSink};
-use bridge_core::{WireCount, wire};
 use bridge_frame::Speed;
 use bridge_program::{Fault, Job, NoMemory, fault_line, job_of, wire_line};
 use bridge_refusing::RefusesOne;
 use bridge_rows::captures::{Words, capture_under};
+use bridge_wire::{WireCount, wire};
 use std::alloc::{AllocError, Global};
 use std::test::Fail;
 
@@ -88,8 +88,28 @@ fn words_ask_for_a_check(rt: HostRuntime) -> Result<(), Fail> {
 }
 
 #[test]
+fn words_ask_for_a_run_of_a_plan(rt: HostRuntime) -> Result<(), Fail> {
+    let words = words_of(rt.alloc(), &["run", "a b/PLAN", "IN", "./OUT"])?;
+    match job_of(rt.alloc(), &words) {
+        Ok(
+            Job::Run {
+                plan,
+                input,
+                output,
+            },
+        ) => {
+            assert_eq!(rt; plan.as_str(), "a b/PLAN");
+            assert_eq!(rt; input.as_str(), "IN");
+            assert_eq!(rt; output.as_str(), "./OUT");
+            Ok(())
+        }
+        _ => Err(Fail::from("no run of a plan")),
+    }
+}
+
+#[test]
 fn other_words_are_refused(rt: HostRuntime) -> Result<(), Fail> {
-    let rows: [&[&str]; 27] = [
+    let rows: [&[&str]; 31] = [
         &["wire", "999", "1", "IN", "OUT"],
         &["wire", "1000", "0", "IN", "OUT"],
         &["wire", "1000", "+1", "IN", "OUT"],
@@ -116,7 +136,11 @@ fn other_words_are_refused(rt: HostRuntime) -> Result<(), Fail> {
         &["check", "PLAN", "MORE"],
         &["check", "-PLAN"],
         &["check", "--help"],
-        &["run", "PLAN", "IN", "OUT"],
+        &["run"],
+        &["run", "PLAN", "IN"],
+        &["run", "PLAN", "IN", "OUT", "MORE"],
+        &["run", "PLAN", "IN", "-OUT"],
+        &["run", "--help"],
     ];
     for line in rows {
         let words = words_of(rt.alloc(), line)?;

@@ -1,11 +1,11 @@
 //! The program over text: worked examples, and the line and the status of each fault.
 use bridge_capture::CaptureFault;
 use bridge_check::CheckFault;
-use bridge_core::RunFault;
 use bridge_cycle::ListFault;
 use bridge_keys::{Field, Place, PlanFault, Section};
 use bridge_program::{Fault, NoMemory, TextFault, fault_line, wire_text};
 use bridge_refusing::RefusesOne;
+use bridge_wire::RunFault;
 use std::alloc::Global;
 use std::test::Fail;
 

@@ -1,11 +1,11 @@
 //! Commands that clear a flag while a bridge runs.
-use crate::frames::TO_A;
-use crate::plans::SHUTS_ON_OCTETS;
 use crate::policing::{BLOCKED, CLEARED_OF_A_FRAME, CLEARED_OF_RED, UNBLOCKED, UNBLOCKED_LATE};
-use crate::runs::{IDLE, NO_FLAGS, NOTHING, PASS, Row, Told, runs};
 use bridge_config::Command;
 use bridge_filter::Verdict::OctetsExceeded;
 use bridge_filter::{Clear, Flags};
+use bridge_trials::frames::TO_A;
+use bridge_trials::plans::SHUTS_ON_OCTETS;
+use bridge_trials::runs::{IDLE, NO_FLAGS, NOTHING, PASS, Row, Told, runs};
 use std::test::Fail;
 
 fn command(at: u64, clear: Clear, number: u32) -> Option<Command> {
@@ -15,13 +15,13 @@ fn command(at: u64, clear: Clear, number: u32) -> Option<Command> {
 #[test]
 fn a_blocked_filter_is_cleared(rt: HostRuntime) -> Result<(), Fail> {
     let early = command(25_000, Clear::Blocked, 10);
-    runs(&rt, rt.alloc(), &UNBLOCKED, early)?;
+    runs(rt.alloc(), &UNBLOCKED, early)?;
     let at_once = command(30_000, Clear::Blocked, 10);
-    runs(&rt, rt.alloc(), &UNBLOCKED, at_once)?;
+    runs(rt.alloc(), &UNBLOCKED, at_once)?;
     let late = command(30_001, Clear::Blocked, 10);
-    runs(&rt, rt.alloc(), &UNBLOCKED_LATE, late)?;
+    runs(rt.alloc(), &UNBLOCKED_LATE, late)?;
     let other = command(25_000, Clear::Blocked, 99);
-    runs(&rt, rt.alloc(), &BLOCKED, other)
+    runs(rt.alloc(), &BLOCKED, other)
 }
 
 /// The second frame exceeds the octets of the turn, the third doesn't.
@@ -78,14 +78,14 @@ const SHUT_AGAIN: Row = Row {
 #[test]
 fn a_gate_is_cleared(rt: HostRuntime) -> Result<(), Fail> {
     let octets = command(30_000, Clear::Octets, 1);
-    runs(&rt, rt.alloc(), &CLEARED_OF_OCTETS, octets)?;
-    runs(&rt, rt.alloc(), &SHUT_AGAIN, octets)?;
+    runs(rt.alloc(), &CLEARED_OF_OCTETS, octets)?;
+    runs(rt.alloc(), &SHUT_AGAIN, octets)?;
     let rx = command(1_000_000, Clear::Rx, 1);
-    runs(&rt, rt.alloc(), &CLEARED_OF_A_FRAME, rx)
+    runs(rt.alloc(), &CLEARED_OF_A_FRAME, rx)
 }
 
 #[test]
 fn a_meter_is_cleared(rt: HostRuntime) -> Result<(), Fail> {
     let red = command(64_000, Clear::Red, 5);
-    runs(&rt, rt.alloc(), &CLEARED_OF_RED, red)
+    runs(rt.alloc(), &CLEARED_OF_RED, red)
 }

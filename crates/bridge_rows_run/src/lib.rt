@@ -1,20 +1,14 @@
 #![tactic(auto)]
 //! Worked examples of whole runs: captures and commands through a bridge, over either agenda, from the texts that are read
-//! to those that are written.
+//! to those that are written and the sections of reports.
 
 #[cfg(test)]
 mod agendas;
 #[cfg(test)]
 mod commands;
 #[cfg(test)]
-mod faults;
-#[cfg(test)]
-mod frames;
-#[cfg(test)]
-mod plans;
+mod foreign;
 #[cfg(test)]
 mod policing;
 #[cfg(test)]
-mod runs;
-#[cfg(test)]
-mod sending;
+mod sections;

@@ -1,32 +1,22 @@
 //! Frames of the protected stream: what its filter, its gate and its meter make of them.
-use crate::frames::{MARKED, TO_A, UNTAGGED};
-use crate::plans::{BLOCKS, ONE_FRAME, SHUTS_ON_OCTETS, SHUTS_ON_RX, TWO_FRAMES};
-use crate::runs::{ELIGIBLE, IDLE, NO_FLAGS, NOTHING, PASS, Row, Told, runs, sums};
 use bridge_filter::Flags;
 use bridge_filter::Verdict::{
     Blocked, GateClosed, OctetsExceeded, Oversize, Red, ShutByOctets, ShutByRx,
 };
 use bridge_meter::Buckets;
+use bridge_trials::frames::{MARKED, TO_A, UNTAGGED};
+use bridge_trials::plans::{BLOCKS, ONE_FRAME, SHUTS_ON_OCTETS, SHUTS_ON_RX, TWO_FRAMES};
+use bridge_trials::runs::{ALONE, ELIGIBLE, IDLE, NO_FLAGS, NOTHING, PASS, Row, Told, runs, sums};
 use std::test::Fail;
 
 #[test]
 fn nothing_leaves_where_nothing_comes(rt: HostRuntime) -> Result<(), Fail> {
     sums(
-        &rt,
         rt.alloc(),
         &IDLE,
         "frames 0 malformed 0 nowhere 0 policed 0 unfiltered 0 sent 0 dropped 0\n",
     )
 }
-
-/// What is told of a frame that passes at 100,000.
-pub(crate) const ALONE: Told = Told {
-    verdicts: &[PASS],
-    counters: (1, (1, 0), (1, 0), 0),
-    departures: &[(1, 3, 100_000, 100_672)],
-    delay: Some(672),
-    ..NOTHING
-};
 
 /// A frame at 100,000, which leaves at once.
 const ONE_ALONE: Row = Row {
@@ -40,7 +30,6 @@ const ONE_ALONE: Row = Row {
 #[test]
 fn a_frame_leaves_as_it_comes(rt: HostRuntime) -> Result<(), Fail> {
     sums(
-        &rt,
         rt.alloc(),
         &ONE_ALONE,
         "frames 1 malformed 0 nowhere 0 policed 1 unfiltered 0 sent 1 dropped 0\n",
@@ -107,10 +96,9 @@ pub(crate) const CLEARED_OF_A_FRAME: Row = Row {
 
 #[test]
 fn a_closed_gate_refuses(rt: HostRuntime) -> Result<(), Fail> {
-    for row in [IN_TIME, NEXT_WINDOW, SHUT_BY_A_FRAME] {
-        runs(&rt, rt.alloc(), &row, None)?;
-    }
-    Ok(())
+    runs(rt.alloc(), &IN_TIME, None)?;
+    runs(rt.alloc(), &NEXT_WINDOW, None)?;
+    runs(rt.alloc(), &SHUT_BY_A_FRAME, None)
 }
 
 /// A frame of the maximum, one above it, and a short one.
@@ -171,10 +159,8 @@ pub(crate) const UNBLOCKED_LATE: Row = Row {
 
 #[test]
 fn an_oversized_frame_blocks(rt: HostRuntime) -> Result<(), Fail> {
-    for row in [NOT_BLOCKED, BLOCKED] {
-        runs(&rt, rt.alloc(), &row, None)?;
-    }
-    Ok(())
+    runs(rt.alloc(), &NOT_BLOCKED, None)?;
+    runs(rt.alloc(), &BLOCKED, None)
 }
 
 /// Two frames with all octets of a turn, and one in the next turn.
@@ -256,10 +242,9 @@ const SHUT_BY_OCTETS: Row = Row {
 
 #[test]
 fn octets_of_a_turn_are_limited(rt: HostRuntime) -> Result<(), Fail> {
-    for row in [WITHIN_THE_LIMIT, ABOVE_THE_LIMIT, SHUT_BY_OCTETS] {
-        runs(&rt, rt.alloc(), &row, None)?;
-    }
-    Ok(())
+    runs(rt.alloc(), &WITHIN_THE_LIMIT, None)?;
+    runs(rt.alloc(), &ABOVE_THE_LIMIT, None)?;
+    runs(rt.alloc(), &SHUT_BY_OCTETS, None)
 }
 
 /// A yellow frame.
@@ -314,10 +299,9 @@ const YELLOW_UNTAGGED: Row = Row {
 
 #[test]
 fn an_eligible_frame_leaves_marked(rt: HostRuntime) -> Result<(), Fail> {
-    for row in [YELLOW, YELLOW_AND_RED, YELLOW_UNTAGGED] {
-        runs(&rt, rt.alloc(), &row, None)?;
-    }
-    Ok(())
+    runs(rt.alloc(), &YELLOW, None)?;
+    runs(rt.alloc(), &YELLOW_AND_RED, None)?;
+    runs(rt.alloc(), &YELLOW_UNTAGGED, None)
 }
 
 /// Two green frames, a red one, and a later one that is red since all are.
@@ -385,5 +369,5 @@ pub(crate) const CLEARED_OF_RED: Row = Row {
 
 #[test]
 fn a_red_frame_makes_all_red(rt: HostRuntime) -> Result<(), Fail> {
-    runs(&rt, rt.alloc(), &ALL_RED, None)
+    runs(rt.alloc(), &ALL_RED, None)
 }

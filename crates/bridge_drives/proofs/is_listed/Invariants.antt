@@ -1,6 +1,6 @@
 use Rattle.std.proofs.Common.{◌≡◌, drop}
 use Rattle.bridge_filter.specs.Plans.{is_there}
-use Rattle.bridge_rows_run.proofs.plans.is_listed.Given as goal
+use Rattle.bridge_drives.proofs.is_listed.Given as goal
 
 -- what is left has the number exactly if all has it
 abbrev pub invariant-loop-item : goal.invariant-loop-item

@@ -1,12 +1,12 @@
 //! Runs that stop: captures that are refused, sources and sinks that fail, and memory that runs out.
-use crate::frames::{Frame, TO_A, capture, header, push_record};
-use crate::plans::{BASE, accepted_of};
-use crate::runs::{holds, simulated};
 use crate::sending::TO_TWO_PORTS;
 use bridge_capture::{CaptureFault, SliceSource, VecSink};
 use bridge_events::{Agenda, RowAgenda, TreeAgenda};
 use bridge_refusing::RefusesOne;
 use bridge_stream::RunFault;
+use bridge_trials::frames::{Frame, TO_A, capture, header, push_record};
+use bridge_trials::plans::{BASE, accepted_of};
+use bridge_trials::runs::{holds, planned, simulated};
 use std::alloc::{AllocError, Global};
 use std::process::Abort;
 use std::test::Fail;
@@ -50,15 +50,12 @@ fn has(
 
 /// How a run under the plan ends.
 fn ending<G: Agenda + Drop>(
-    rt: &impl Abort,
     alloc: Global,
     sources: &mut [SliceSource<'_>],
     sinks: &mut [VecSink<Global>],
 ) -> Result<Option<RunFault>, Fail> {
-    let Some(accepted) = accepted_of(alloc, alloc, BASE) else {
-        return Err(Fail::from("a plan that is not accepted"));
-    };
-    let ended = simulated::<G, _, _, _>(rt, alloc, &accepted, None, sources, sinks);
+    let accepted = planned(alloc, &[])?;
+    let ended = simulated::<G, _, _, _>(alloc, &accepted, None, sources, sinks)?;
     Ok(ended.err())
 }
 
@@ -75,7 +72,7 @@ fn stops_over<G: Agenda + Drop>(
         VecSink::new(alloc),
         VecSink::new(alloc),
     ];
-    let ended = ending::<G>(rt, alloc, &mut sources, &mut sinks)?;
+    let ended = ending::<G>(alloc, &mut sources, &mut sinks)?;
     assert_eq!(rt; ended, Some(stop.0));
     for (sink, frames) in sinks.iter().zip(stop.1) {
         has(rt, alloc, sink, frames)?;
@@ -209,7 +206,7 @@ fn third_fails<'a>(
         VecSink::new(alloc),
         VecSink::failing_after(alloc, n),
     ];
-    let ended = ending::<TreeAgenda>(rt, alloc, &mut sources, &mut sinks)?;
+    let ended = ending::<TreeAgenda>(alloc, &mut sources, &mut sinks)?;
     assert_eq!(rt; ended, wanted, "after {n} octets");
     assert_eq!(rt; sinks[0].octets(), empty);
     assert_eq!(rt; sinks[1].octets(), empty);
@@ -258,7 +255,7 @@ fn the_first_sink_fails_within_its_header(rt: HostRuntime) -> Result<(), Fail> {
             VecSink::new(alloc),
             VecSink::new(alloc),
         ];
-        let ended = ending::<RowAgenda>(&rt, alloc, &mut sources, &mut sinks)?;
+        let ended = ending::<RowAgenda>(alloc, &mut sources, &mut sinks)?;
         assert_eq!(rt; ended, Some(RunFault::Write { port: 1 }));
         assert_eq!(rt; sinks[0].octets(), &empty[..n]);
         assert!(rt; sinks[1].octets().is_empty() && sinks[2].octets().is_empty());
@@ -269,7 +266,6 @@ fn the_first_sink_fails_within_its_header(rt: HostRuntime) -> Result<(), Fail> {
 /// How a run with a frame to two ports ends whose growth number `n` is refused: whether it was refused, and the run's
 /// answer where the plan was made.
 fn ending_without(
-    rt: &impl Abort,
     alloc: Global,
     n: u64,
     sinks: &mut [VecSink<Global>],
@@ -288,7 +284,7 @@ fn ending_without(
     if gate.refused() {
         return Ok((true, None));
     }
-    let ended = simulated::<TreeAgenda, _, _, _>(rt, &gate, &accepted, None, &mut sources, sinks);
+    let ended = simulated::<TreeAgenda, _, _, _>(&gate, &accepted, None, &mut sources, sinks)?;
     Ok((gate.refused(), Some(ended.err())))
 }
 
@@ -316,7 +312,7 @@ fn each_growth_of_a_run_is_refused_in_turn(rt: HostRuntime) -> Result<(), Fail> 
             VecSink::new(alloc),
             VecSink::new(alloc),
         ];
-        let (refused, ended) = ending_without(&rt, alloc, n, &mut sinks)?;
+        let (refused, ended) = ending_without(alloc, n, &mut sinks)?;
         match ended {
             Some(Some(fault)) => {
                 assert_eq!(rt; fault, RunFault::NoMemory, "growth {n}");
@@ -325,7 +321,7 @@ fn each_growth_of_a_run_is_refused_in_turn(rt: HostRuntime) -> Result<(), Fail> 
             }
             Some(None) => {
                 assert!(rt; !refused, "growth {n}");
-                holds(&rt, alloc, &sinks, &TO_TWO_PORTS.left)?;
+                holds(alloc, &sinks, &TO_TWO_PORTS.left)?;
             }
             None => {}
         }

@@ -1,17 +1,15 @@
 //! Frames of both filters: when they leave, where they go, and which are dropped.
-use crate::frames::{Frame, RESERVED, SHORT, TO_A, TO_B, VID_20, capture, header, push_frame};
-use crate::plans::{BASE, Change, SLOW, accepted_of, fault_of, text_of};
-use crate::policing::ALONE;
-use crate::runs::{
-    CAUGHT, IDLE, NOTHING, PASS, Row, Told, count_of, counts, departed, outcome_of, runs, sums,
-    tells,
-};
 use bridge_check::CheckFault;
 use bridge_events::{Agenda, RowAgenda, TreeAgenda};
 use bridge_port::Refusal::{Full, NeverFits};
 use bridge_run::{Dropped, View};
-use std::alloc::{AllocError, Global};
-use std::process::Abort;
+use bridge_trials::frames::{Frame, RESERVED, SHORT, TO_A, TO_B, VID_20, capture, flood, header};
+use bridge_trials::plans::{ROOM_FOR_ONE, SLOW, fault_of, text_of};
+use bridge_trials::runs::{
+    ALONE, CAUGHT, IDLE, NOTHING, PASS, Row, Told, count_of, counts, departed, outcome_of, planned,
+    runs, same, sums, tells,
+};
+use std::alloc::Global;
 use std::test::Fail;
 
 /// What is told of a frame that passes, but for its departures.
@@ -60,10 +58,9 @@ const LAST: Row = Row {
 
 #[test]
 fn a_frame_waits_for_a_window_that_holds_it(rt: HostRuntime) -> Result<(), Fail> {
-    for row in [FITS, WAITS, LAST] {
-        runs(&rt, rt.alloc(), &row, None)?;
-    }
-    Ok(())
+    runs(rt.alloc(), &FITS, None)?;
+    runs(rt.alloc(), &WAITS, None)?;
+    runs(rt.alloc(), &LAST, None)
 }
 
 /// Frames of both filters at one moment.
@@ -105,16 +102,9 @@ const IN_ORDER: Row = Row {
 
 #[test]
 fn frames_come_at_one_moment(rt: HostRuntime) -> Result<(), Fail> {
-    for row in [TOGETHER, IN_ORDER] {
-        runs(&rt, rt.alloc(), &row, None)?;
-    }
-    Ok(())
+    runs(rt.alloc(), &TOGETHER, None)?;
+    runs(rt.alloc(), &IN_ORDER, None)
 }
-
-const ROOM_FOR_ONE: Change = (
-    "number = 3\nmbps = 1000\nrooms = [4, 4, 4, 4, 4, 4, 4, 4]",
-    "number = 3\nmbps = 1000\nrooms = [4, 4, 4, 4, 4, 4, 4, 1]",
-);
 
 /// What is told of two frames of the protected stream that pass, but for their departures.
 const TWO: Told = Told {
@@ -153,10 +143,8 @@ const NO_ROOM: Row = Row {
 
 #[test]
 fn a_queue_may_be_full(rt: HostRuntime) -> Result<(), Fail> {
-    for row in [ROOM, NO_ROOM] {
-        runs(&rt, rt.alloc(), &row, None)?;
-    }
-    Ok(())
+    runs(rt.alloc(), &ROOM, None)?;
+    runs(rt.alloc(), &NO_ROOM, None)
 }
 
 /// The longest frame that fits on a slow port.
@@ -186,9 +174,8 @@ const TOO_LONG: Row = Row {
 
 #[test]
 fn a_slow_port_has_a_longest_frame(rt: HostRuntime) -> Result<(), Fail> {
-    for row in [LONGEST, TOO_LONG] {
-        runs(&rt, rt.alloc(), &row, None)?;
-    }
+    runs(rt.alloc(), &LONGEST, None)?;
+    runs(rt.alloc(), &TOO_LONG, None)?;
     let text = text_of(rt.alloc(), &[SLOW, ("max_sdu = 500", "max_sdu = 586")])?;
     let fault = CheckFault::MaxSduNeverFits {
         filter: 10,
@@ -226,13 +213,11 @@ pub(crate) const TO_TWO_PORTS: Row = Row {
 #[test]
 fn frames_go_to_no_port_or_to_two(rt: HostRuntime) -> Result<(), Fail> {
     sums(
-        &rt,
         rt.alloc(),
         &LOST,
         "frames 3 malformed 1 nowhere 2 policed 0 unfiltered 0 sent 0 dropped 0\n",
     )?;
     sums(
-        &rt,
         rt.alloc(),
         &TO_TWO_PORTS,
         "frames 1 malformed 0 nowhere 0 policed 1 unfiltered 0 sent 2 dropped 0\n",
@@ -252,32 +237,25 @@ const BESIDE_A_FLOOD: [&[Frame]; 3] = [
     ],
 ];
 
-/// A capture of 200 frames, one right behind the other.
-fn flood(alloc: Global) -> Result<Vec<u8>, AllocError> {
-    let mut text = header(alloc)?;
-    for n in 0..200u64 {
-        push_frame(&mut text, (672 * n, 60, TO_A))?;
-    }
-    Ok(text)
-}
-
 /// Tests that all frames of the flood but the first four were dropped.
-fn all_but_four(rt: &impl Abort, drops: &[Dropped]) {
-    assert_eq!(rt; drops.len(), 196);
+fn all_but_four(drops: &[Dropped]) -> Result<(), Fail> {
+    same(&drops.len(), &196, "drops")?;
     for (place, d) in drops.iter().enumerate() {
-        assert_eq!(rt; (d.own, d.port, d.refusal), (place as u64 + 5, 3, Full));
+        let wanted = (place as u64 + 5, 3, Full);
+        same(&(d.own, d.port, d.refusal), &wanted, "a drop")?;
     }
+    Ok(())
 }
 
 /// Tests what is told of the filter of the flood.
-fn flooded(rt: &impl Abort, view: &View<Global>) {
-    assert_eq!(rt; view.verdicts.len(), 200);
+fn flooded(view: &View<Global>) -> Result<(), Fail> {
+    same(&view.verdicts.len(), &200, "verdicts")?;
     for verdict in &view.verdicts {
-        assert_eq!(rt; *verdict, CAUGHT);
+        same(verdict, &CAUGHT, "a verdict")?;
     }
-    assert_eq!(rt; count_of(&view.counters), (200, (200, 0), (200, 0), 0));
+    let counted = count_of(&view.counters);
+    same(&counted, &(200, (200, 0), (200, 0), 0), "counters")?;
     departed(
-        rt,
         &view.departures,
         &[
             (1, 3, 500_000, 500_672),
@@ -285,43 +263,38 @@ fn flooded(rt: &impl Abort, view: &View<Global>) {
             (3, 3, 501_344, 502_016),
             (4, 3, 502_016, 502_688),
         ],
-    );
-    all_but_four(rt, &view.drops);
-    assert_eq!(rt; view.delay, Some(500_672));
+    )?;
+    all_but_four(&view.drops)?;
+    same(&view.delay, &Some(500_672), "the longest delay")
 }
 
 /// Tests the flood beside a frame of the protected stream, over an agenda.
-fn floods<G: Agenda + Drop>(rt: &impl Abort, alloc: Global) -> Result<(), Fail> {
-    let Some(accepted) = accepted_of(alloc, alloc, BASE) else {
-        return Err(Fail::from("a plan that is not accepted"));
-    };
+fn floods<G: Agenda + Drop>(alloc: Global) -> Result<(), Fail> {
+    let accepted = planned(alloc, &[])?;
     let own = capture(alloc, &[(100_000, 60, TO_A)])?;
     let others = flood(alloc)?;
     let none = header(alloc)?;
     let texts = [own.as_slice(), others.as_slice(), none.as_slice()];
-    let outcome = outcome_of::<G>(rt, alloc, &accepted, None, texts, false, &BESIDE_A_FLOOD)?;
-    match outcome.filters.as_slice() {
-        [own, others] => {
-            assert_eq!(rt; (own.0, others.0), (10, 99));
-            tells(rt, &own.1, &ALONE);
-            flooded(rt, &others.1);
-        }
-        _ => assert!(rt; false, "other filters"),
-    }
+    let left: Option<&[&[Frame]]> = Some(&BESIDE_A_FLOOD);
+    let outcome = outcome_of::<G>(alloc, &accepted, None, texts, false, left)?;
+    let [own, others] = outcome.filters.as_slice() else {
+        return Err(Fail::from("other filters"));
+    };
+    same(&(own.0, others.0), &(10, 99), "filters")?;
+    tells(&own.1, &ALONE)?;
+    flooded(&others.1)?;
     counts(
-        rt,
         &outcome.ports,
         &[
             [1, 0, 0, 0, 0, 0],
             [200, 0, 0, 0, 0, 0],
             [0, 0, 0, 0, 5, 196],
         ],
-    );
-    Ok(())
+    )
 }
 
 #[test]
 fn a_flood_of_other_frames_changes_nothing(rt: HostRuntime) -> Result<(), Fail> {
-    floods::<RowAgenda>(&rt, rt.alloc())?;
-    floods::<TreeAgenda>(&rt, rt.alloc())
+    floods::<RowAgenda>(rt.alloc())?;
+    floods::<TreeAgenda>(rt.alloc())
 }

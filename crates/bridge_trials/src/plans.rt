@@ -11,7 +11,7 @@ use std::test::Fail;
 
 /// Filter 10 is protected: its frames come in on port 1 in the window of gate 1, and go out of port 3 in class 7. Filter 99
 /// takes all others, in class 0.
-pub(crate) const BASE: &str = r#"
+pub const BASE: &str = r#"
 [[port]]
 number = 1
 mbps = 1000
@@ -60,37 +60,43 @@ gate = 99
 "#;
 
 /// Lines of the plan, and what stands in their place.
-pub(crate) type Change = (&'static str, &'static str);
+pub type Change = (&'static str, &'static str);
 
 /// Gate 1 is shut by a frame that comes while it is closed.
-pub(crate) const SHUTS_ON_RX: Change = (
+pub const SHUTS_ON_RX: Change = (
     "[[gate]]\nnumber = 1\n",
     "[[gate]]\nnumber = 1\nshut_on_rx = true\n",
 );
 
 /// Gate 1 is shut by a frame over its limit of octets.
-pub(crate) const SHUTS_ON_OCTETS: Change = (
+pub const SHUTS_ON_OCTETS: Change = (
     "[[gate]]\nnumber = 1\n",
     "[[gate]]\nnumber = 1\nshut_on_octets = true\n",
 );
 
 /// Filter 10 is blocked by a frame above its maximum.
-pub(crate) const BLOCKS: Change = ("max_sdu = 500\n", "max_sdu = 500\nblock_oversize = true\n");
+pub const BLOCKS: Change = ("max_sdu = 500\n", "max_sdu = 500\nblock_oversize = true\n");
 
 /// Filter 10 has meter 5, with an excess bucket of 64 octets and no rate.
-pub(crate) const ONE_FRAME: Change = (
+pub const ONE_FRAME: Change = (
     "[[filter]]\nnumber = 10\n",
     "[[meter]]\nnumber = 5\ncir = 0\ncbs = 0\neir = 0\nebs = 64\n[[filter]]\nnumber = 10\nmeter = 5\n",
 );
 
 /// Filter 10 has meter 5, with a committed bucket of 128 octets and 8 Mb/s, whose first red frame makes all red.
-pub(crate) const TWO_FRAMES: Change = (
+pub const TWO_FRAMES: Change = (
     "[[filter]]\nnumber = 10\n",
     "[[meter]]\nnumber = 5\ncir = 8000000\ncbs = 128\neir = 0\nebs = 0\nmark_all_red = true\n[[filter]]\nnumber = 10\nmeter = 5\n",
 );
 
+/// Port 3 has room for one frame in class 7.
+pub const ROOM_FOR_ONE: Change = (
+    "number = 3\nmbps = 1000\nrooms = [4, 4, 4, 4, 4, 4, 4, 4]",
+    "number = 3\nmbps = 1000\nrooms = [4, 4, 4, 4, 4, 4, 4, 1]",
+);
+
 /// Port 3 has 10 Mb/s.
-pub(crate) const SLOW: Change = ("number = 3\nmbps = 1000", "number = 3\nmbps = 10");
+pub const SLOW: Change = ("number = 3\nmbps = 1000", "number = 3\nmbps = 10");
 
 /// A text with what stands in the place of a part of it.
 fn changed(alloc: Global, text: &str, change: Change) -> Result<String, Fail> {
@@ -104,7 +110,7 @@ fn changed(alloc: Global, text: &str, change: Change) -> Result<String, Fail> {
 }
 
 /// The text of the plan after these changes.
-pub(crate) fn text_of(alloc: Global, changes: &[Change]) -> Result<String, Fail> {
+pub fn text_of(alloc: Global, changes: &[Change]) -> Result<String, Fail> {
     let mut text = String::from_str(alloc, BASE)?;
     for change in changes {
         text = changed(alloc, &text, *change)?;
@@ -113,11 +119,7 @@ pub(crate) fn text_of(alloc: Global, changes: &[Change]) -> Result<String, Fail>
 }
 
 /// The plan of a text, where it is accepted.
-pub(crate) fn accepted_of<A: Allocator + Copy>(
-    alloc: A,
-    heap: Global,
-    text: &str,
-) -> Option<Accepted<A>> {
+pub fn accepted_of<A: Allocator + Copy>(alloc: A, heap: Global, text: &str) -> Option<Accepted<A>> {
     let Ok(plan) = plan_of(alloc, heap, text.as_bytes()) else {
         return None;
     };
@@ -137,11 +139,7 @@ fn is_listed<X>(list: &[(u32, X)], number: u32) -> bool
 }
 
 /// Whether a plan has what a command names.
-pub(crate) fn has_instance<A: Allocator + Copy>(
-    accepted: &Accepted<A>,
-    clear: Clear,
-    number: u32,
-) -> bool
+pub fn has_instance<A: Allocator + Copy>(accepted: &Accepted<A>, clear: Clear, number: u32) -> bool
     ensures { result ≡ has_instance accepted.now clear number }
 {
     let plan = accepted.plan();
@@ -153,7 +151,7 @@ pub(crate) fn has_instance<A: Allocator + Copy>(
 }
 
 /// The fault of the plan of a text, where it is not accepted.
-pub(crate) fn fault_of(alloc: Global, text: &str) -> Option<CheckFault> {
+pub fn fault_of(alloc: Global, text: &str) -> Option<CheckFault> {
     let Ok(plan) = plan_of(alloc, alloc, text.as_bytes()) else {
         return None;
     };

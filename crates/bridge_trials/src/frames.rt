@@ -2,38 +2,38 @@
 use std::alloc::{AllocError, Global};
 
 /// A frame in a capture: its moment in ns, its length on the link, and the octets that were captured.
-pub(crate) type Frame = (u64, u32, &'static [u8]);
+pub type Frame = (u64, u32, &'static [u8]);
 
 /// The head of a tagged frame of VLAN 10 to 02-00-00-00-00-0A.
-pub(crate) const TO_A: &[u8] = &[
+pub const TO_A: &[u8] = &[
     2, 0, 0, 0, 0, 0x0a, 2, 0, 0, 0, 0, 1, 0x81, 0, 0, 0x0a, 0x88, 0xb5,
 ];
 
 /// The same, to 02-00-00-00-00-0B.
-pub(crate) const TO_B: &[u8] = &[
+pub const TO_B: &[u8] = &[
     2, 0, 0, 0, 0, 0x0b, 2, 0, 0, 0, 0, 1, 0x81, 0, 0, 0x0a, 0x88, 0xb5,
 ];
 
 /// The first, drop eligible.
-pub(crate) const MARKED: &[u8] = &[
+pub const MARKED: &[u8] = &[
     2, 0, 0, 0, 0, 0x0a, 2, 0, 0, 0, 0, 1, 0x81, 0, 0x10, 0x0a, 0x88, 0xb5,
 ];
 
 /// The first, without its tag.
-pub(crate) const UNTAGGED: &[u8] = &[2, 0, 0, 0, 0, 0x0a, 2, 0, 0, 0, 0, 1, 0x88, 0xb5];
+pub const UNTAGGED: &[u8] = &[2, 0, 0, 0, 0, 0x0a, 2, 0, 0, 0, 0, 1, 0x88, 0xb5];
 
 /// The first, to the reserved address 01-80-C2-00-00-0E.
-pub(crate) const RESERVED: &[u8] = &[
+pub const RESERVED: &[u8] = &[
     1, 0x80, 0xc2, 0, 0, 0x0e, 2, 0, 0, 0, 0, 1, 0x81, 0, 0, 0x0a, 0x88, 0xb5,
 ];
 
 /// The first, of VLAN 20.
-pub(crate) const VID_20: &[u8] = &[
+pub const VID_20: &[u8] = &[
     2, 0, 0, 0, 0, 0x0a, 2, 0, 0, 0, 0, 1, 0x81, 0, 0, 0x14, 0x88, 0xb5,
 ];
 
 /// The 13 first octets of the untagged frame.
-pub(crate) const SHORT: &[u8] = &[2, 0, 0, 0, 0, 0x0a, 2, 0, 0, 0, 0, 1, 0x88];
+pub const SHORT: &[u8] = &[2, 0, 0, 0, 0, 0x0a, 2, 0, 0, 0, 0, 1, 0x88];
 
 /// The seconds of a moment, for moments whose seconds are of 32 bits.
 fn seconds_of(at: u64) -> u32 {
@@ -41,7 +41,7 @@ fn seconds_of(at: u64) -> u32 {
 }
 
 /// Adds a record: its seconds, its fraction of a second in ns, the frame's length and its octets.
-pub(crate) fn push_record(
+pub fn push_record(
     text: &mut Vec<u8>,
     seconds: u32,
     fraction: u32,
@@ -56,7 +56,7 @@ pub(crate) fn push_record(
 }
 
 /// A capture without a record.
-pub(crate) fn header(alloc: Global) -> Result<Vec<u8>, AllocError> {
+pub fn header(alloc: Global) -> Result<Vec<u8>, AllocError> {
     Vec::from_slice(
         alloc,
         &[
@@ -67,17 +67,26 @@ pub(crate) fn header(alloc: Global) -> Result<Vec<u8>, AllocError> {
 }
 
 /// Adds a frame.
-pub(crate) fn push_frame(text: &mut Vec<u8>, frame: Frame) -> Result<(), AllocError> {
+pub fn push_frame(text: &mut Vec<u8>, frame: Frame) -> Result<(), AllocError> {
     let (at, len, octets) = frame;
     let fraction = (at % 1_000_000_000) as u32;
     push_record(text, seconds_of(at), fraction, len, octets)
 }
 
 /// The capture of these frames.
-pub(crate) fn capture(alloc: Global, frames: &[Frame]) -> Result<Vec<u8>, AllocError> {
+pub fn capture(alloc: Global, frames: &[Frame]) -> Result<Vec<u8>, AllocError> {
     let mut text = header(alloc)?;
     for frame in frames {
         push_frame(&mut text, *frame)?;
+    }
+    Ok(text)
+}
+
+/// A capture of 200 frames, one right behind the other.
+pub fn flood(alloc: Global) -> Result<Vec<u8>, AllocError> {
+    let mut text = header(alloc)?;
+    for n in 0..200u64 {
+        push_frame(&mut text, (672 * n, 60, TO_A))?;
     }
     Ok(text)
 }

@@ -1,0 +1,323 @@
+#![tactic(auto)]
+//! A bridge for tests, to which frames and a command come one by one, each call with what it tells afterwards tested.
+ghost use Rattle.std.specs.Prelude.{◌≡◌, ℕ, true, Option};
+ghost use Rattle.bridge_filter.specs.Plans.{is_there};
+ghost use Rattle.bridge_parts.specs.Ports.{NotBefore};
+ghost use Rattle.bridge_run.specs.Events.{has_instance};
+ghost use Rattle.bridge_core.specs.Bridges.{next_start, plan_in};
+
+use bridge_base::{END_OF_TIME, MOST_ARRIVALS, MOST_CAPTURED};
+use bridge_capture::Packet;
+use bridge_check::Accepted;
+use bridge_config::Command;
+use bridge_core::{Agenda, Bridge, Outcome, Sent};
+use bridge_filter::Clear;
+use std::alloc::{Allocator, Global};
+use std::fmt::Debug;
+use std::test::Fail;
+
+/// A frame that comes: its moment in ns, its length on the link, and the octets that were captured.
+pub type Frame = (u64, u32, &'static [u8]);
+
+/// Tests that two values are the same.
+fn same<X: PartialEq + Debug>(got: &X, wanted: &X, what: &str) -> Result<(), Fail> {
+    if got == wanted {
+        return Ok(());
+    }
+    Err(Fail::new(format_args!("{what}: {got:?}, not {wanted:?}")))
+}
+
+/// Whether no start is due before a moment.
+fn is_calm<G: Agenda + Drop>(bridge: &Bridge<'_, G, Global>, t: u64) -> bool
+    ensures { result ≡ true → NotBefore (next_start G.held bridge.now) t }
+{
+    match bridge.due() {
+        Some((_, start)) => t <= start,
+        None => true,
+    }
+}
+
+/// Makes all starts before a moment, or all where there is none, and keeps what leaves.
+fn depart<G: Agenda + Drop>(
+    bridge: &mut Bridge<'_, G, Global>,
+    until: Option<u64>,
+    gone: &mut Vec<Sent<Global>>,
+) -> Result<(), Fail>
+    ensures plan { plan_in bridge.new ≡ plan_in bridge.old }
+{
+    while let Some((port, start)) = bridge.due() {
+        if let Some(t) = until
+            && start >= t
+        {
+            return Ok(());
+        }
+        let command = bridge.earliest_command();
+        let sent = bridge.advance();
+        same(
+            &(sent.port, sent.start),
+            &(port, start),
+            "the start that was due",
+        )?;
+        same(
+            &bridge.earliest_command(),
+            &command.max(start + 1),
+            "a command after a start",
+        )?;
+        gone.push(sent)?;
+    }
+    Ok(())
+}
+
+/// A frame comes on a port, behind all starts before it.
+fn come<G: Agenda + Drop>(
+    alloc: Global,
+    accepted: &Accepted<Global>,
+    bridge: &mut Bridge<'_, G, Global>,
+    port: u8,
+    frame: Frame,
+) -> Result<(), Fail>
+    requires plan { plan_in bridge.old ≡ accepted.now }
+    ensures plan { plan_in bridge.new ≡ plan_in bridge.old }
+{
+    let (time, len, captured) = frame;
+    let octets = Vec::from_slice(alloc, captured)?;
+    let Some(_) = accepted.plan().port(port) else {
+        return Err(Fail::from("a frame on a port that is not there"));
+    };
+    if time < bridge.earliest() || time >= END_OF_TIME || !is_calm(bridge, time) {
+        return Err(Fail::from("a frame at a wrong moment"));
+    }
+    let arrived = bridge.arrived();
+    if octets.len() as u64 > MOST_CAPTURED as u64
+        || octets.len() as u64 > len as u64
+        || arrived >= MOST_ARRIVALS
+    {
+        return Err(Fail::from("a frame too long, or too many"));
+    }
+    if bridge.arrive(port, Packet { time, len, octets }).is_err() {
+        return Err(Fail::from("no memory"));
+    }
+    same(&bridge.arrived(), &(arrived + 1), "the frames that came")?;
+    same(&bridge.earliest(), &time, "the moment of the next frame")?;
+    same(
+        &bridge.earliest_command(),
+        &(time + 1),
+        "the moment of the next command",
+    )
+}
+
+/// Whether a number is in a list.
+fn is_listed<X>(list: &[(u32, X)], number: u32) -> bool
+    ensures { result ≡ is_there number list.now }
+{
+    for item in list {
+        if number == item.0 {
+            return true;
+        }
+    }
+    false
+}
+
+/// Whether a plan has what a command names.
+pub fn has_instance<A: Allocator + Copy>(accepted: &Accepted<A>, clear: Clear, number: u32) -> bool
+    ensures { result ≡ has_instance accepted.now clear number }
+{
+    let plan = accepted.plan();
+    match clear {
+        Clear::Blocked => is_listed(plan.filters(), number),
+        Clear::Rx | Clear::Octets => is_listed(plan.gates(), number),
+        Clear::Red => is_listed(plan.meters(), number),
+    }
+}
+
+/// A command is done, behind all starts before it.
+fn obey<G: Agenda + Drop>(
+    accepted: &Accepted<Global>,
+    bridge: &mut Bridge<'_, G, Global>,
+    command: &Command,
+) -> Result<(), Fail>
+    requires plan { plan_in bridge.old ≡ accepted.now }
+    ensures plan { plan_in bridge.new ≡ plan_in bridge.old }
+{
+    if command.at < bridge.earliest_command() || !is_calm(bridge, command.at) {
+        return Err(Fail::from("a command at a wrong moment"));
+    }
+    if !has_instance(accepted, command.clear, command.number) {
+        return Err(Fail::from("a command of what is not there"));
+    }
+    let arrived = bridge.arrived();
+    let due = bridge.due();
+    bridge.command(command);
+    same(
+        &bridge.arrived(),
+        &arrived,
+        "the frames that came before a command",
+    )?;
+    same(&bridge.due(), &due, "the start that is due after a command")?;
+    same(&bridge.earliest(), &command.at, "a frame after a command")?;
+    same(
+        &bridge.earliest_command(),
+        &command.at,
+        "a command after a command",
+    )
+}
+
+/// Puts the frames of a port into the order in which all come.
+fn put_frames(order: &mut Vec<(u64, u8, usize)>, port: u8, frames: &[Frame]) -> Result<(), Fail> {
+    for (place, frame) in frames.iter().enumerate() {
+        order.push((frame.0, port, place))?;
+    }
+    Ok(())
+}
+
+/// The order in which the frames of the ports 1, 2 and 3 and a command come, by moment, port and place among the port's
+/// frames. The command has port 0, so it comes before the frames of its moment.
+fn order_of(
+    alloc: Global,
+    command: Option<Command>,
+    frames: [&'static [Frame]; 3],
+) -> Result<Vec<(u64, u8, usize)>, Fail> {
+    let [first, second, third] = frames;
+    let mut order = Vec::new(alloc);
+    if let Some(command) = command {
+        order.push((command.at, 0, 0))?;
+    }
+    put_frames(&mut order, 1, first)?;
+    put_frames(&mut order, 2, second)?;
+    put_frames(&mut order, 3, third)?;
+    order.sort()?;
+    Ok(order)
+}
+
+/// Takes the command, whose port is 0, or a frame of a port.
+fn take<G: Agenda + Drop>(
+    alloc: Global,
+    accepted: &Accepted<Global>,
+    bridge: &mut Bridge<'_, G, Global>,
+    command: Option<Command>,
+    frames: [&'static [Frame]; 3],
+    port: u8,
+    place: usize,
+) -> Result<(), Fail>
+    requires plan { plan_in bridge.old ≡ accepted.now }
+    ensures plan { plan_in bridge.new ≡ plan_in bridge.old }
+{
+    let [first, second, third] = frames;
+    let of_port = match port {
+        0 => {
+            return match command {
+                Some(command) => obey(accepted, bridge, &command),
+                None => Err(Fail::from("no command")),
+            };
+        }
+        1 => first,
+        2 => second,
+        _ => third,
+    };
+    match of_port.get(place) {
+        Some(frame) => come(alloc, accepted, bridge, port, *frame),
+        None => Err(Fail::from("no frame")),
+    }
+}
+
+/// Takes all that comes, each behind the starts before its moment, and keeps what leaves by then.
+fn take_all<G: Agenda + Drop>(
+    alloc: Global,
+    accepted: &Accepted<Global>,
+    bridge: &mut Bridge<'_, G, Global>,
+    command: Option<Command>,
+    frames: [&'static [Frame]; 3],
+    gone: &mut Vec<Sent<Global>>,
+) -> Result<(), Fail>
+    requires plan { plan_in bridge.old ≡ accepted.now }
+    ensures plan { plan_in bridge.new ≡ plan_in bridge.old }
+{
+    let order = order_of(alloc, command, frames)?;
+    for (moment, port, place) in &order {
+        depart(bridge, Some(*moment), gone)?;
+        take(alloc, accepted, bridge, command, frames, *port, *place)?;
+    }
+    Ok(())
+}
+
+/// Tests the starts of a port against the frames that left it.
+fn has_started<G: Agenda + Drop>(
+    accepted: &Accepted<Global>,
+    bridge: &Bridge<'_, G, Global>,
+    port: u8,
+    gone: &[Sent<Global>],
+) -> Result<(), Fail>
+    requires plan { plan_in bridge.now ≡ accepted.now }
+{
+    let Some(_) = accepted.plan().port(port) else {
+        return Err(Fail::from("a port that is not there"));
+    };
+    let left = gone.iter().filter(|sent| sent.port == port).count();
+    same(
+        &bridge.started(port),
+        &(left as u64),
+        "the starts of a port",
+    )
+}
+
+/// Ends a bridge at which no start is due.
+fn finished<G: Agenda + Drop>(bridge: Bridge<'_, G, Global>) -> Result<Outcome<Global>, Fail> {
+    match bridge.due() {
+        Some(_) => Err(Fail::from("a start that is still due")),
+        None => Ok(bridge.finish()),
+    }
+}
+
+/// Drives a new bridge until nothing waits in it, and gives the frames that left, in their order.
+fn drive<G: Agenda + Drop>(
+    alloc: Global,
+    accepted: &Accepted<Global>,
+    bridge: &mut Bridge<'_, G, Global>,
+    command: Option<Command>,
+    frames: [&'static [Frame]; 3],
+) -> Result<Vec<Sent<Global>>, Fail>
+    requires plan { plan_in bridge.old ≡ accepted.now }
+{
+    same(&bridge.earliest(), &0, "the first moment of a frame")?;
+    same(
+        &bridge.earliest_command(),
+        &0,
+        "the first moment of a command",
+    )?;
+    let mut gone = Vec::new(alloc);
+    take_all(alloc, accepted, bridge, command, frames, &mut gone)?;
+    depart(bridge, None, &mut gone)?;
+    has_started(accepted, bridge, 1, &gone)?;
+    has_started(accepted, bridge, 2, &gone)?;
+    has_started(accepted, bridge, 3, &gone)?;
+    Ok(gone)
+}
+
+/// Ends a bridge at which no start is due, with the frames that left.
+fn ended<G: Agenda + Drop>(
+    bridge: Bridge<'_, G, Global>,
+    gone: Vec<Sent<Global>>,
+) -> Result<(Outcome<Global>, Vec<Sent<Global>>), Fail> {
+    match finished(bridge) {
+        Ok(outcome) => Ok((outcome, gone)),
+        Err(fail) => Err(fail),
+    }
+}
+
+/// Drives a bridge of an accepted plan by single calls: the frames of the ports 1, 2 and 3 and a command come one by one,
+/// the least moment first, then the command, then the least port. Gives what the whole run tells, and the frames that left
+/// in their order. What a call tells otherwise than it should is an `Err` with a text that says so.
+pub fn driven<G: Agenda + Drop>(
+    alloc: Global,
+    accepted: &Accepted<Global>,
+    command: Option<Command>,
+    frames: [&'static [Frame]; 3],
+) -> Result<(Outcome<Global>, Vec<Sent<Global>>), Fail> {
+    let Ok(mut bridge) = Bridge::<G, Global>::new(alloc, accepted) else {
+        return Err(Fail::from("no memory"));
+    };
+    match drive(alloc, accepted, &mut bridge, command, frames) {
+        Ok(gone) => ended(bridge, gone),
+        Err(fail) => Err(fail),
+    }
+}
