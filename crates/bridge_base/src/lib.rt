@@ -4,6 +4,10 @@
 /// The moment, in ns, that no frame and no base of a list reaches: each is below it.
 pub const END_OF_TIME: u64 = 4_000_000_000_000_000_000;
 
+/// The moment, in ns, at which each frame of a run is done, however late it came and however many waited before it: each is
+/// done before it.
+pub const END_OF_SENDING: u64 = 4_100_000_000_000_000_000;
+
 /// The greatest length of a frame, in octets without its check sequence; a longer one is malformed.
 pub const LONGEST_FRAME: u32 = 9_216;
 

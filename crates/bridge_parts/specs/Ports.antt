@@ -1,5 +1,6 @@
 -- The ports of a bridge, and which of them starts next.
 use Rattle.std.specs.Prelude.{◌≡◌, ℕ, zero, suc, Bool, true, false, ◌+◌, ◌-◌, ◌<◌, ◌≤◌, ◌&&◌, Option, Some, None, is_none, List, [], ◌∷◌, length, slice_set, slice_index, slice_index_or, if◌then◌else◌, Result, ◌⊎◌}
+use Rattle.bridge_base.specs.declared.TheConstants.{END_OF_SENDING, LONGEST_FRAME, MOST_ARRIVALS}
 use Rattle.bridge_frame.specs.Link.{occupied}
 use Rattle.bridge_forward.specs.Ports.{has}
 use Rattle.bridge_config.specs.declared.ports.PortPlan.{PortPlan}
@@ -48,7 +49,7 @@ IsAfter held p t = (q k : ℕ) → held q ≡ Some k → (t < k) ⊎ ((t ≡ k) 
 
 -- an offer may come to a port at t
 abbrev pub MayOffer : {G A : Type 0} → PortsState G A → ℕ → ℕ → Type 0
-MayOffer {G} {A} p q t = (s : Slot A) → slot_at p q ≡ Some s → (s.port.earliest ≤ t) × (s.port.offered < 16000000)
+MayOffer {G} {A} p q t = (s : Slot A) → slot_at p q ≡ Some s → (s.port.earliest ≤ t) × (s.port.offered < MOST_ARRIVALS)
 
 -- the port of a number was offered an item, and no other port changed
 pub record HasOffered {G A : Type 0} (old new : PortsState G A) (q : ℕ) (s : Slot A) (t c : ℕ) (x : Item (Load A)) (result : Result (Unit {0}) Refusal) : Type 0 where
@@ -67,8 +68,8 @@ pub record HasStarted {G A : Type 0} (old new : PortsState G A) (q : ℕ) (s : S
   pub counts : (f : Item (Load A) → Bool) → count_queued f s.port ≡ (if f b.item then 1 else 0) + count_queued f (started_slot s k b.class b.item).port
   pub done : b.done ≡ k + occupied b.item.len s.speed
   pub bounded : b.done < limit (s.port.started + 1)
-  pub early : b.done < 4100000000000000000
-  pub short : b.item.len ≤ 9216
+  pub early : b.done < END_OF_SENDING
+  pub short : b.item.len ≤ LONGEST_FRAME
 
 abbrev pub defaults_of : {A : Type 0} → Option (Slot A) → Option (ℕ × ℕ)
 defaults_of None = None

@@ -9,6 +9,7 @@ ghost use Rattle.bridge_parts.specs.Counting.{counts_to};
 ghost use Rattle.bridge_parts.specs.Ports.{slot_at, defaults_of, is_there, outs, AreKept, IsFirst, IsLastOut, HasOffered, HasStarted, MayOffer, NotBefore, IsAfter};
 
 use crate::slot::{Begun, Came, Slot};
+use bridge_base::{END_OF_TIME, LONGEST_FRAME, MOST_ARRIVALS};
 use bridge_config::Plan;
 use bridge_cycle::NoMemory;
 use bridge_events::Agenda;
@@ -103,8 +104,8 @@ impl<G: Agenda + Drop, A: Allocator + Copy> Ports<G, A> {
         requires there { (s : Slot A) × (slot_at self.old number ≡ Some s) }
         requires early { MayOffer self.old number t }
         requires due { NotBefore (G.held self.old.agenda) t }
-        requires range { t < 4_000_000_000_000_000_000 }
-        requires length { item.len ≤ 9216 }
+        requires range { t < END_OF_TIME }
+        requires length { item.len ≤ LONGEST_FRAME }
         requires priority { priority ≤ 7 }
         ensures offered { (s : Slot A) → slot_at self.old number ≡ Some s → HasOffered self.old self.new number s t (slice_index s.classes priority) item result }
         ensures due { NotBefore (G.held self.new.agenda) t }
@@ -199,7 +200,7 @@ impl<G: Agenda + Drop, A: Allocator + Copy> Ports<G, A> {
     /// Counts a frame that came on a port.
     pub fn count(&mut self, number: u8, came: Came)
         requires from { 1 ≤ number }
-        requires there { (s : Slot A) × (slot_at self.old number ≡ Some s) × (s.count.frames < 16_000_000) }
+        requires there { (s : Slot A) × (slot_at self.old number ≡ Some s) × (s.count.frames < MOST_ARRIVALS) }
         ensures agenda { self.new.agenda ≡ self.old.agenda }
         ensures slots { (s : Slot A) → slot_at self.old number ≡ Some s → self.new.slots ≡ slice_set self.old.slots (number - 1) (Some (record s { count = counted_frame s.count came })) }
     {

@@ -7,6 +7,7 @@ ghost use Rattle.bridge_port.specs.Standing.{refusal_of, offered_state, copy_of,
 ghost use Rattle.bridge_port.specs.Opening.{are_rooms};
 ghost use Rattle.bridge_run.specs.declared.load.Load.{Load};
 
+use bridge_base::{END_OF_SENDING, END_OF_TIME, LONGEST_FRAME, MOST_ARRIVALS};
 use bridge_config::PortPlan;
 use bridge_cycle::NoMemory;
 use bridge_frame::{Speed, occupation};
@@ -77,7 +78,7 @@ impl<A: Allocator + Copy> Slot<A> {
 
     /// Counts a frame that came.
     pub fn count_frame(&mut self, came: Came)
-        requires few { self.old.count.frames < 16_000_000 }
+        requires few { self.old.count.frames < MOST_ARRIVALS }
         requires counted { self.old.count.malformed + self.old.count.nowhere + self.old.count.unfiltered ≤ self.old.count.frames }
         ensures { self.new ≡ record self.old { count = counted_frame self.old.count came } }
     {
@@ -92,10 +93,10 @@ impl<A: Allocator + Copy> Slot<A> {
 
     /// Offers an item with a priority (0 to 7).
     pub fn offer(&mut self, t: u64, priority: u8, item: Item<Load<A>>) -> Result<(), Refusal>
-        requires time { (self.old.port.earliest ≤ t) × (t < 4_000_000_000_000_000_000) }
+        requires time { (self.old.port.earliest ≤ t) × (t < END_OF_TIME) }
         requires not_late { NoStartBefore self.old.port t }
-        requires length { item.len ≤ 9216 }
-        requires few { self.old.port.offered < 16_000_000 }
+        requires length { item.len ≤ LONGEST_FRAME }
+        requires few { self.old.port.offered < MOST_ARRIVALS }
         requires counted { self.old.count.sent + self.old.count.dropped ≡ self.old.port.offered }
         requires priority { priority ≤ 7 }
         requires class { slice_index self.old.classes priority < 8 }
@@ -127,8 +128,8 @@ impl<A: Allocator + Copy> Slot<A> {
         ensures counts { (f : Item (Load A) → Bool) → count_queued f self.old.port ≡ (if f result.item then 1 else 0) + count_queued f self.new.port }
         ensures done { result.done ≡ start + occupied result.item.len self.old.speed }
         ensures bounded { result.done < limit (self.old.port.started + 1) }
-        ensures early { result.done < 4_100_000_000_000_000_000 }
-        ensures length { result.item.len ≤ 9216 }
+        ensures early { result.done < END_OF_SENDING }
+        ensures length { result.item.len ≤ LONGEST_FRAME }
     {
         let (item, class) = self.port.start();
         let done = start + occupation(item.len, self.speed);

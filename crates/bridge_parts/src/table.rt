@@ -1,5 +1,5 @@
 //! What is told of a filter so far.
-ghost use Rattle.std.specs.Prelude.{◌≡◌, ℕ, Bool, true, false, ◌<◌, ◌≤◌, ◌+◌, ◌-◌, ◌++◌, ◌∷◌, [], Option, None, OnErr, OnOk, length};
+ghost use Rattle.std.specs.Prelude.{◌≡◌, ℕ, Bool, true, false, ◌<◌, ◌≤◌, ◌+◌, ◌-◌, ◌^◌, ◌++◌, ◌∷◌, [], Option, None, OnErr, OnOk, length};
 ghost use Rattle.bridge_parts.specs.Tables.{TableState, longer};
 ghost use Rattle.bridge_parts.specs.Told.{fresh, HasTold};
 
@@ -60,7 +60,7 @@ impl<A: Allocator + Copy> Table<A> {
 
     /// Makes room for a verdict and for so many more copies.
     pub fn promise(&mut self, copies: usize) -> Result<(), NoMemory>
-        requires { self.old.owed + copies < 4_294_967_296 }
+        requires { self.old.owed + copies < 2 ^ 32 }
         ensures ok { OnOk result (self.new ≡ record self.old { owed = self.old.owed + copies; is_open = true }) }
         ensures err { OnErr result (self.new ≡ self.old) }
     {

@@ -5,7 +5,7 @@ use crate::egress::Egress;
 use crate::heads::{renew, with_item};
 use crate::item::{Item, Refusal};
 use crate::queues::{is_full, pop_at, push_at, with_rooms};
-use bridge_base::{END_OF_TIME, LONGEST_FRAME, MOST_ARRIVALS};
+use bridge_base::{END_OF_SENDING, END_OF_TIME, LONGEST_FRAME, MOST_ARRIVALS};
 use bridge_cycle::{CyclicList, NoMemory};
 use bridge_frame::{Speed, occupation};
 use circular_buffer::HeapCircularBuffer;
@@ -149,7 +149,7 @@ impl<T: Drop, A: Allocator + Copy> Port<T, A> {
             → IfNone result ((h : ℕ) → self.now.earliest ≤ h → IsLawful (rules_of self.now) h xs) }
         ensures whole { (xs : List (Copy (Item T))) → StandsFor self.now xs → IfNone result (IsWhole xs) }
         ensures bounded { IfSome result (λ k. k < limit (self.now.started + 1)) }
-        ensures early { IfSome result (λ k. k < 4_100_000_000_000_000_000) }
+        ensures early { IfSome result (λ k. k < END_OF_SENDING) }
     {
         let next = self.next();
         match next {
@@ -171,7 +171,7 @@ impl<T: Drop, A: Allocator + Copy> Port<T, A> {
             → IsBegun self.new result.1 (self.new.earliest - 1) result.0 xs }
         ensures counts { (f : Item T → Bool) → count_queued f self.old ≡ (if f result.0 then 1 else 0) + count_queued f self.new }
         ensures bounded { self.new.free < limit (self.old.started + 1) }
-        ensures early { self.new.free < 4_100_000_000_000_000_000 }
+        ensures early { self.new.free < END_OF_SENDING }
         ensures length { result.0.len ≤ LONGEST_FRAME }
         ensures class { result.1 < 8 }
     {

@@ -2,6 +2,7 @@
 use Rattle.std.specs.Prelude.{◌≡◌, ℕ, Bool, true, false, not, ◌+◌, ◌-◌, ◌<◌, ◌≤◌, ◌&&◌, ◌⊎◌, Option, Some, None, IfSome, is_none, List, [], ◌∷◌, ◌++◌, length, count_by, nat_eq, nat_lt, slice_set, slice_index, if◌then◌else◌, Vec, max}
 use Rattle.std.specs.Map.{lookup}
 use Rattle.bridge_base.specs.Members.{In}
+use Rattle.bridge_base.specs.declared.TheConstants.{END_OF_TIME, LONGEST_FRAME, MOST_ARRIVALS}
 use Rattle.std.specs.Option.{option_map}
 use Rattle.bridge_filter.specs.declared.Ruling.{Ruling}
 use Rattle.bridge_filter.specs.Plans.{KeepsNumbers}
@@ -92,9 +93,9 @@ pub record IsPending {G A : Type 0} (b : RelayState G A) (left own k n : ℕ) : 
 pub record MayRelay {G A : Type 0} (b : RelayState G A) (x : Carried) : Type 0 where
   pub fresh : (q : ℕ) (s : Slot A) → 1 ≤ q → slot_at b.ports q ≡ Some s → s.port.offered < b.arrived
   pub right : is_flow_stray b.plan.filters x.flow ≡ false
-  pub short : (x.len ≤ 9216) × (length x.octets ≤ x.len)
-  pub range : x.at < 4000000000000000000
-  pub few : b.arrived ≤ 16000000
+  pub short : (x.len ≤ LONGEST_FRAME) × (length x.octets ≤ x.len)
+  pub range : x.at < END_OF_TIME
+  pub few : b.arrived ≤ MOST_ARRIVALS
 
 -- the same frames are counted
 pub record CountTheSame (c d : PortCount) : Type 0 where

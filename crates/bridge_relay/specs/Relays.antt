@@ -4,6 +4,7 @@ use Rattle.std.specs.Map.{lookup}
 use Rattle.bridge_frame.specs.Link.{occupied}
 use Rattle.bridge_capture.specs.Grammar.{Captured}
 use Rattle.bridge_base.specs.Members.{In}
+use Rattle.bridge_base.specs.declared.TheConstants.{MOST_ARRIVALS}
 use Rattle.bridge_ident.specs.declared.StreamEntry.{StreamEntry}
 use Rattle.bridge_filter.specs.declared.FilterPlan.{FilterPlan}
 use Rattle.bridge_filter.specs.Plans.{is_there, KeepsNumbers}
@@ -86,7 +87,7 @@ pub record IsSound {G A : Type 0} (held : G → ℕ → Option ℕ) (b : RelaySt
   pub gates : KeepsNumbers b.plan.gates b.police.gates
   pub meters : KeepsNumbers b.plan.meters b.police.meters
   pub asked : b.police.earliest ≤ b.earliest
-  pub few : (b.police.calls ≤ b.arrived) × (b.arrived ≤ 16000000)
+  pub few : (b.police.calls ≤ b.arrived) × (b.arrived ≤ MOST_ARRIVALS)
   pub alike : (q : ℕ) → 1 ≤ q → AreAlike (port_at b.plan.ports q) (slot_at b.ports q)
   pub early : (q : ℕ) (s : Slot A) → 1 ≤ q → slot_at b.ports q ≡ Some s → (s.port.earliest ≤ b.earliest) × (s.port.offered ≤ b.arrived)
   pub frames : (q : ℕ) (s : Slot A) → 1 ≤ q → slot_at b.ports q ≡ Some s → s.count.frames ≤ b.arrived

@@ -7,6 +7,7 @@ use Rattle.bridge_capture.specs.Grammar.{Captured}
 use Rattle.bridge_capture.specs.Written.{written_item, written_text}
 use Rattle.bridge_capture.specs.Sinks.{AppendsFront}
 use Rattle.bridge_base.specs.Members.{In}
+use Rattle.bridge_base.specs.declared.TheConstants.{END_OF_SENDING}
 use Rattle.bridge_port.specs.declared.item.Item.{Item}
 use Rattle.bridge_port.specs.Schedule.{Copy, is_accepted}
 use Rattle.bridge_port.specs.Seen.{all_seen}
@@ -58,7 +59,7 @@ Goes p offers sent full left old new (Err e) = (gone : List Captured) × Sends p
 -- a moment that is not before another one, where there is one
 abbrev pub NotBefore : ℕ → Option ℕ → Type 0
 NotBefore t None = Unit {0}
-NotBefore t (Some k) = (t ≤ k) × (k < 4100000000000000000)
+NotBefore t (Some k) = (t ≤ k) × (k < END_OF_SENDING)
 
 -- after these frames of a capture: the port, the counts, and the sink with what left so far
 pub record IsRunning {A : Type 0} (speed : Speed) (room : ℕ) (frames : List Captured) (p : State (Vec ℕ A)) (count : WireCount) (began now : Option (List ℕ)) : Type 0 where
