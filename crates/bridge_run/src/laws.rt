@@ -1,7 +1,8 @@
 //! Laws of whole runs, each the contract of a function that does nothing.
-ghost use Rattle.std.specs.Prelude.{◌≡◌, ◌↔◌, ℕ, List, ◌∷◌, ◌++◌, max, Some, nat_eq, true};
+ghost use Rattle.std.specs.Prelude.{◌≡◌, ◌≤◌, ◌↔◌, ℕ, List, ◌∷◌, ◌++◌, length, max, Some, nat_eq, true};
 ghost use Rattle.std.specs.Map.{lookup};
 ghost use Rattle.bridge_base.specs.Members.{In};
+ghost use Rattle.bridge_capture.specs.Grammar.{Captured};
 ghost use Rattle.bridge_cycle.specs.Moments.{IsFirst};
 ghost use Rattle.bridge_frame.specs.Link.{occupied};
 ghost use Rattle.bridge_filter.specs.declared.FilterPlan.{FilterPlan};
@@ -15,8 +16,9 @@ ghost use Rattle.bridge_run.specs.declared.outcome.Outcome.{Outcome};
 ghost use Rattle.bridge_port.specs.Opening.{opens_of};
 ghost use Rattle.bridge_port.specs.Schedule.{Copy, IsLawful, Started};
 ghost use Rattle.bridge_port.specs.Solo.{IsSolo, IsWhole, last_done, only};
-ghost use Rattle.bridge_run.specs.Events.{Event, own};
+ghost use Rattle.bridge_run.specs.Events.{arrivals, Event, own};
 ghost use Rattle.bridge_run.specs.Offers.{Carried, egress};
+ghost use Rattle.bridge_run.specs.Outputs.{Ends};
 ghost use Rattle.bridge_run.specs.Runs.{AreWhole, IsOnLink, IsOutcome, IsRun, IsSoloView, TellTheSame};
 ghost use Rattle.bridge_run.specs.Merge.{Input, IsMerged, events, own_inputs};
 
@@ -128,6 +130,15 @@ pub fn others_change_nothing<A: Allocator + Copy>()
         → lookup (nat_eq n) o.filters.items ≡ Some u
         → lookup (nat_eq n) q.filters.items ≡ Some v
         → TellTheSame u v }
+{}
+
+/// No more frames leave a port in a whole run than come to the bridge; so the captures that are written have at most as
+/// many records as frames came, for each port.
+pub fn few_leave<A: Allocator + Copy>()
+    ensures { (p : Plan A) (es : List Event) (left : ℕ → List Captured) (o : Outcome A) (q : ℕ) (out : PortPlan A)
+        → Ends p es left o
+        → port_at p.ports q ≡ Some out
+        → length (left q) ≤ length (arrivals es) }
 {}
 
 /// Streams of inputs, captures and commands, have one merged list.

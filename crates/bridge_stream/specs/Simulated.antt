@@ -13,7 +13,7 @@ use Rattle.bridge_lanes.specs.declared.fault.RunFault.{RunFault}
 use Rattle.bridge_lanes.specs.declared.fault.RunFault.TheVariants as run
 use Rattle.bridge_run.specs.declared.outcome.Outcome.{Outcome}
 use Rattle.bridge_run.specs.declared.outcome.View.{View}
-use Rattle.bridge_run.specs.Events.{own}
+use Rattle.bridge_run.specs.Events.{arrivals, own}
 use Rattle.bridge_run.specs.Merge.{Input, IsMerged, events, own_inputs}
 use Rattle.bridge_run.specs.Outputs.{Ends}
 use Rattle.bridge_run.specs.Runs.{IsSoloView, TellTheSame}
@@ -77,6 +77,12 @@ abbrev pub Isolates : {A W : Type 0} → Plan A → List ℕ → List Command �
 Isolates {A} p ports commands texts contents olds news o =
     (ran : Runs p ports commands texts contents olds news o) (n : ℕ) (f : FilterPlan) (v : View A)
     → TellsOf p n f o v → IsSoloView p n f (own p n f (events ran.inputs)) v
+
+-- the capture that is written of a port has at most as many records as frames came
+abbrev pub WritesFew : {A W : Type 0} → Plan A → List ℕ → List Command → (ℕ → List ℕ) → (W → Option (List ℕ)) → List W → List W → Outcome A → Type 0
+WritesFew {A} p ports commands texts contents olds news o =
+    (ran : Runs p ports commands texts contents olds news o) (q : ℕ) (out : PortPlan A)
+    → port_at p.ports q ≡ Some out → length (ran.left q) ≤ length (arrivals (events ran.inputs))
 
 -- the same frames and commands of a filter came, by port
 abbrev pub HaveSameOwn : {A : Type 0} → Plan A → ℕ → FilterPlan → (ℕ → List Input) → (ℕ → List Input) → Type 0

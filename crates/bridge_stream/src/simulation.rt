@@ -4,7 +4,7 @@ ghost use Rattle.std.specs.Map.{lookup};
 ghost use Rattle.bridge_base.specs.Members.{Rising};
 ghost use Rattle.bridge_lanes.specs.Devices.{HasFailed, NeverFail};
 ghost use Rattle.bridge_lanes.specs.Lanes.{AreTexts};
-ghost use Rattle.bridge_stream.specs.Simulated.{AreListsOf, AreNumbers, Isolates, OthersChangeNothing, Runs, Stops};
+ghost use Rattle.bridge_stream.specs.Simulated.{AreListsOf, AreNumbers, Isolates, OthersChangeNothing, Runs, Stops, WritesFew};
 ghost use Rattle.bridge_stream.specs.Taking.{AreCommands};
 
 use crate::line::{Line, begin_all};
@@ -85,6 +85,8 @@ pub fn simulate_over<R: ByteSource, W: ByteSink, G: Agenda + Drop, A: Allocator 
         IfOk result (Isolates accepted.now ports commands.now texts W.contents sinks.old sinks.new) }
     ensures others_change_nothing { (ports : List ℕ) (texts : ℕ → List ℕ) →
         IfOk result (OthersChangeNothing accepted.now ports commands.now texts W.contents sinks.old sinks.new) }
+    ensures few { (ports : List ℕ) (texts : ℕ → List ℕ) →
+        IfOk result (WritesFew accepted.now ports commands.now texts W.contents sinks.old sinks.new) }
     ensures read { (ports : List ℕ) (port : ℕ) → AreNumbers accepted.now ports →
         result ≡ Err (RunFault.Capture port CaptureFault.Read) → HasFailed R.has_failed ports port sources.new }
     ensures sure { NeverFail R.never_fails sources.old → (port : ℕ) → result ≢ Err (RunFault.Capture port CaptureFault.Read) }
@@ -140,6 +142,8 @@ pub fn simulate<R: ByteSource, W: ByteSink, A: Allocator + Copy>(
         IfOk result (Isolates accepted.now ports commands.now texts W.contents sinks.old sinks.new) }
     ensures others_change_nothing { (ports : List ℕ) (texts : ℕ → List ℕ) →
         IfOk result (OthersChangeNothing accepted.now ports commands.now texts W.contents sinks.old sinks.new) }
+    ensures few { (ports : List ℕ) (texts : ℕ → List ℕ) →
+        IfOk result (WritesFew accepted.now ports commands.now texts W.contents sinks.old sinks.new) }
     ensures read { (ports : List ℕ) (port : ℕ) → AreNumbers accepted.now ports →
         result ≡ Err (RunFault.Capture port CaptureFault.Read) → HasFailed R.has_failed ports port sources.new }
     ensures sure { NeverFail R.never_fails sources.old → (port : ℕ) → result ≢ Err (RunFault.Capture port CaptureFault.Read) }

@@ -3,6 +3,8 @@ use Rattle.std.specs.Map.{lookup}
 use Rattle.bridge_base.specs.Members.{Rising}
 use Rattle.bridge_lanes.specs.declared.fault.RunFault.TheVariants as run
 use Rattle.bridge_config.specs.Model.{Plan}
+use Rattle.bridge_run.specs.Merge.{events}
+use Rattle.bridge_run.proofs.Few.{few_leave}
 use Rattle.bridge_relay.specs.Relays.{Stands}
 use Rattle.bridge_lanes.specs.Lanes.{AreAheadOf, AreLanes, AreTexts, FailsLook, numbers, room_of}
 use Rattle.bridge_stream.specs.Lines.{AreWritten, HeadersStop, numbers as written_numbers}
@@ -151,6 +153,9 @@ returns-in-Ok-run-clause-isolated g c = λ ports texts. isolates c.args.accepted
 
 pub returns-in-Ok-run-clause-others_change_nothing : goal.returns-in-Ok-run-clause-others_change_nothing
 returns-in-Ok-run-clause-others_change_nothing g c = λ ports texts. others_change_nothing c.args.accepted.now ports c.args.commands.now texts g.W.ByteSink.contents c.args.sinks.now c.run.new.sinks c.finish.result c.plan.ensures.rules c.plan.ensures.acceptable
+
+pub returns-in-Ok-run-clause-few : goal.returns-in-Ok-run-clause-few
+returns-in-Ok-run-clause-few g c = λ ports texts ran q out at. few_leave c.args.accepted.now (events ran.inputs) ran.left c.finish.result q out ran.ends at
 
 pub returns-clause-err : goal.returns-clause-err
 returns-clause-err g c = λ ports texts are read.
