@@ -20,7 +20,7 @@ use std::test::Fail;
 pub type Frame = (u64, u32, &'static [u8]);
 
 /// Tests that two values are the same.
-fn same<X: PartialEq + Debug>(got: &X, wanted: &X, what: &str) -> Result<(), Fail> {
+pub fn same<X: PartialEq + Debug>(got: &X, wanted: &X, what: &str) -> Result<(), Fail> {
     if got == wanted {
         return Ok(());
     }
@@ -28,7 +28,7 @@ fn same<X: PartialEq + Debug>(got: &X, wanted: &X, what: &str) -> Result<(), Fai
 }
 
 /// Whether no start is due before a moment.
-fn is_calm<G: Agenda + Drop>(bridge: &Bridge<'_, G, Global>, t: u64) -> bool
+fn is_calm<G: Agenda + Drop, A: Allocator + Copy>(bridge: &Bridge<'_, G, A>, t: u64) -> bool
     ensures { result ≡ true → NotBefore (next_start G.held bridge.now) t }
 {
     match bridge.due() {
@@ -68,40 +68,64 @@ fn depart<G: Agenda + Drop>(
     Ok(())
 }
 
+/// Brings a frame to a port, behind all starts before it; else says why it can't come.
+pub fn bring<G: Agenda + Drop, A: Allocator + Copy>(
+    alloc: A,
+    accepted: &Accepted<A>,
+    bridge: &mut Bridge<'_, G, A>,
+    port: u8,
+    frame: Frame,
+) -> Result<(), &'static str>
+    requires plan { plan_in bridge.old ≡ accepted.now }
+    ensures plan { plan_in bridge.new ≡ plan_in bridge.old }
+{
+    let (time, len, captured) = frame;
+    let Ok(octets) = Vec::from_slice(alloc, captured) else {
+        return Err("no memory");
+    };
+    let Some(_) = accepted.plan().port(port) else {
+        return Err("a frame on a port that is not there");
+    };
+    if time < bridge.earliest() || time >= END_OF_TIME || !is_calm(bridge, time) {
+        return Err("a frame at a wrong moment");
+    }
+    if octets.len() as u64 > MOST_CAPTURED as u64
+        || octets.len() as u64 > len as u64
+        || bridge.arrived() >= MOST_ARRIVALS
+    {
+        return Err("a frame too long, or too many");
+    }
+    match bridge.arrive(port, Packet { time, len, octets }) {
+        Ok(()) => Ok(()),
+        Err(_) => Err("no memory"),
+    }
+}
+
 /// A frame comes on a port, behind all starts before it.
-fn come<G: Agenda + Drop>(
-    alloc: Global,
-    accepted: &Accepted<Global>,
-    bridge: &mut Bridge<'_, G, Global>,
+pub fn come<G: Agenda + Drop, A: Allocator + Copy>(
+    alloc: A,
+    accepted: &Accepted<A>,
+    bridge: &mut Bridge<'_, G, A>,
     port: u8,
     frame: Frame,
 ) -> Result<(), Fail>
     requires plan { plan_in bridge.old ≡ accepted.now }
     ensures plan { plan_in bridge.new ≡ plan_in bridge.old }
 {
-    let (time, len, captured) = frame;
-    let octets = Vec::from_slice(alloc, captured)?;
-    let Some(_) = accepted.plan().port(port) else {
-        return Err(Fail::from("a frame on a port that is not there"));
-    };
-    if time < bridge.earliest() || time >= END_OF_TIME || !is_calm(bridge, time) {
-        return Err(Fail::from("a frame at a wrong moment"));
-    }
     let arrived = bridge.arrived();
-    if octets.len() as u64 > MOST_CAPTURED as u64
-        || octets.len() as u64 > len as u64
-        || arrived >= MOST_ARRIVALS
-    {
-        return Err(Fail::from("a frame too long, or too many"));
+    if let Err(why) = bring(alloc, accepted, bridge, port, frame) {
+        return Err(Fail::from(why));
     }
-    if bridge.arrive(port, Packet { time, len, octets }).is_err() {
-        return Err(Fail::from("no memory"));
-    }
-    same(&bridge.arrived(), &(arrived + 1), "the frames that came")?;
+    let time = frame.0;
+    same(
+        &bridge.arrived(),
+        &arrived.saturating_add(1),
+        "the frames that came",
+    )?;
     same(&bridge.earliest(), &time, "the moment of the next frame")?;
     same(
         &bridge.earliest_command(),
-        &(time + 1),
+        &time.saturating_add(1),
         "the moment of the next command",
     )
 }
@@ -131,9 +155,9 @@ pub fn has_instance<A: Allocator + Copy>(accepted: &Accepted<A>, clear: Clear, n
 }
 
 /// A command is done, behind all starts before it.
-fn obey<G: Agenda + Drop>(
-    accepted: &Accepted<Global>,
-    bridge: &mut Bridge<'_, G, Global>,
+pub fn obey<G: Agenda + Drop, A: Allocator + Copy>(
+    accepted: &Accepted<A>,
+    bridge: &mut Bridge<'_, G, A>,
     command: &Command,
 ) -> Result<(), Fail>
     requires plan { plan_in bridge.old ≡ accepted.now }

@@ -1,9 +1,10 @@
 //! Reports into writers, writers that fail, and memory that runs out.
+use bridge_drives::same;
 use bridge_filter::{Counters, Flags, Verdict};
 use bridge_refusing::RefusesOne;
 use bridge_report::{ReportFault, report, section, summary, write_report};
 use bridge_run::{Departure, Outcome, View};
-use bridge_trials::runs::{CAUGHT, NO_FLAGS, same};
+use bridge_trials::runs::{CAUGHT, NO_FLAGS};
 use std::alloc::{AllocError, Allocator, Global};
 use std::process::Abort;
 use std::test::Fail;

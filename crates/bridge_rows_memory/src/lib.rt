@@ -1,8 +1,10 @@
 #![tactic(auto)]
-//! What memory the parts of the bridge take and give back, counted, as tests on their public calls.
+//! What memory the bridge and its parts take and give back, counted, as tests on their public calls.
 
 #[cfg(test)]
 mod account;
+#[cfg(test)]
+mod bridges;
 #[cfg(test)]
 mod calls;
 #[cfg(test)]

@@ -1,9 +1,11 @@
 //! Where something can't be made, all that was handed in is given back.
 use crate::account::{Counting, counting};
+use crate::bridges::{is_bridge_made, is_frame_relayed};
 use crate::parts::{
     database_of, ident_of, list_of, plan_in, police_of, port_of, window_of, wrong_list,
 };
 use bridge_check::check;
+use bridge_core::{RowAgenda, TreeAgenda};
 use std::alloc::Global;
 use std::process::Abort;
 use std::test::Fail;
@@ -21,9 +23,12 @@ enum Made {
     Port,
     Plan,
     Accepted,
+    RowBridge,
+    TreeBridge,
+    Relayed,
 }
 
-const MADE: [Made; 10] = [
+const MADE: [Made; 13] = [
     Made::List,
     Made::WrongList,
     Made::ListCopy,
@@ -34,6 +39,9 @@ const MADE: [Made; 10] = [
     Made::Port,
     Made::Plan,
     Made::Accepted,
+    Made::RowBridge,
+    Made::TreeBridge,
+    Made::Relayed,
 ];
 
 fn copies_list(heap: &Counting) -> bool {
@@ -70,6 +78,9 @@ fn is_made(made: Made, heap: &Counting, document: Global) -> bool {
         Made::Port => port_of(heap).is_ok(),
         Made::Plan => plan_in(heap, document).is_ok(),
         Made::Accepted => accepts(heap, document),
+        Made::RowBridge => is_bridge_made::<RowAgenda>(heap, document),
+        Made::TreeBridge => is_bridge_made::<TreeAgenda>(heap, document),
+        Made::Relayed => is_frame_relayed(heap, document),
     }
 }
 

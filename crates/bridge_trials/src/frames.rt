@@ -1,8 +1,6 @@
 //! Frames, and captures that hold them.
+pub use bridge_drives::Frame;
 use std::alloc::{AllocError, Global};
-
-/// A frame in a capture: its moment in ns, its length on the link, and the octets that were captured.
-pub type Frame = (u64, u32, &'static [u8]);
 
 /// The head of a tagged frame of VLAN 10 to 02-00-00-00-00-0A.
 pub const TO_A: &[u8] = &[

@@ -1,11 +1,6 @@
 //! The plan of the worked examples, and its changes.
-ghost use Rattle.std.specs.Prelude.{◌≡◌};
-ghost use Rattle.bridge_filter.specs.Plans.{is_there};
-ghost use Rattle.bridge_run.specs.Events.{has_instance};
-
 use bridge_check::{Accepted, CheckFault, check};
 use bridge_config::plan_of;
-use bridge_filter::Clear;
 use std::alloc::{Allocator, Global};
 use std::test::Fail;
 
@@ -124,30 +119,6 @@ pub fn accepted_of<A: Allocator + Copy>(alloc: A, heap: Global, text: &str) -> O
         return None;
     };
     check(alloc, plan).ok()
-}
-
-/// Whether a number is in a list.
-fn is_listed<X>(list: &[(u32, X)], number: u32) -> bool
-    ensures { result ≡ is_there number list.now }
-{
-    for item in list {
-        if number == item.0 {
-            return true;
-        }
-    }
-    false
-}
-
-/// Whether a plan has what a command names.
-pub fn has_instance<A: Allocator + Copy>(accepted: &Accepted<A>, clear: Clear, number: u32) -> bool
-    ensures { result ≡ has_instance accepted.now clear number }
-{
-    let plan = accepted.plan();
-    match clear {
-        Clear::Blocked => is_listed(plan.filters(), number),
-        Clear::Rx | Clear::Octets => is_listed(plan.gates(), number),
-        Clear::Red => is_listed(plan.meters(), number),
-    }
 }
 
 /// The fault of the plan of a text, where it is not accepted.

@@ -1,10 +1,10 @@
 //! A run with all that it tells and writes. What is not as it should be is an `Err` with a text that says so.
 use crate::frames::{Frame, capture};
-use crate::plans::{Change, accepted_of, has_instance, text_of};
+use crate::plans::{Change, accepted_of, text_of};
 use bridge_capture::{ByteSink, ByteSource, SliceSource, VecSink};
 use bridge_check::Accepted;
 use bridge_config::Command;
-use bridge_drives::driven;
+use bridge_drives::{driven, has_instance, same};
 use bridge_events::{Agenda, RowAgenda, TreeAgenda};
 use bridge_filter::{Counters, Flags, Verdict};
 use bridge_meter::Buckets;
@@ -14,7 +14,6 @@ use bridge_report::summary;
 use bridge_run::{Departure, Dropped, Outcome, PortCount, View};
 use bridge_stream::{RunFault, simulate_over};
 use std::alloc::{Allocator, Global};
-use std::fmt::Debug;
 use std::test::Fail;
 
 pub const PASS: Verdict = Verdict::Pass {
@@ -102,14 +101,6 @@ pub const IDLE: Row = Row {
     others: NOTHING,
     ports: [[0; 6]; 3],
 };
-
-/// Tests that two values are the same.
-pub fn same<X: PartialEq + Debug>(got: &X, wanted: &X, what: &str) -> Result<(), Fail> {
-    if got == wanted {
-        return Ok(());
-    }
-    Err(Fail::new(format_args!("{what}: {got:?}, not {wanted:?}")))
-}
 
 /// Captures through a bridge over an agenda: the run's answer, where there is a source and a sink for each port and the
 /// plan has what the command names.
