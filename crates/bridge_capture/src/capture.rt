@@ -115,11 +115,48 @@ impl Capture {
         ensures lasts { R.never_fails source.old ≡ true → R.never_fails source.new ≡ true }
         ensures no_write { result ≢ Err CaptureFault.Write }
     {
+        self.next_into(Vec::new(alloc), source)
+    }
+
+    /// The next packet, as `next` gives it, its octets in the room of a vector whose own are let go. No growth of memory
+    /// where they fit, else one.
+    pub fn next_into<R: ByteSource, A: Allocator>(
+        &mut self,
+        spare: Vec<u8, A>,
+        source: &mut R,
+    ) -> Result<Option<Packet<A>>, CaptureFault>
+        ensures stands { (text : List ℕ) (given : List Captured) → StandsFor self.old (R.remaining source.old) text given →
+            Answers self.new (R.remaining source.new) text given result }
+        ensures taken { IfErr result (λ fault. IsReading self.old → TakesFor self.old (R.remaining source.old) (R.remaining source.new) fault) }
+        ensures untouched { ¬ IsReading self.old → source.new ≡ source.old }
+
+        // What holds of a packet, whatever the source tells.
+        ensures early { IfPacket result (λ packet. packet.time < END_OF_TIME) }
+        ensures onward { IfPacket result (λ packet. self.old.latest ≤ packet.time) }
+        ensures latest { IfPacket result (λ packet. self.new.latest ≡ packet.time) }
+        ensures small { IfPacket result (λ packet. length packet.octets.items ≤ MOST_CAPTURED) }
+        ensures within { IfPacket result (λ packet. length packet.octets.items ≤ packet.len) }
+        ensures fewer { IfPacket result (λ _. records_left self.old ≡ records_left self.new + 1) }
+        ensures reading { IfPacket result (λ _. IsReading self.new) }
+
+        // Its end and its refusal are for good.
+        ensures ends { result ≡ Ok None → HasEnded self.new }
+        ensures ended { HasEnded self.old → result ≡ Ok None }
+        ensures refuses { IfErr result (λ fault. HasRefused self.new fault) }
+        ensures again { (fault : _) → HasRefused self.old fault → result ≡ Err fault }
+
+        // Only a source that has failed is answered so, and each such source is.
+        ensures read { result ≡ Err CaptureFault.Read → IsReading self.old → R.has_failed source.new ≡ true }
+        ensures broken { R.has_failed source.old ≡ true → IsReading self.old → result ≡ Err CaptureFault.Read }
+        ensures sure { R.never_fails source.old ≡ true → IsReading self.old → result ≢ Err CaptureFault.Read }
+        ensures lasts { R.never_fails source.old ≡ true → R.never_fails source.new ≡ true }
+        ensures no_write { result ≢ Err CaptureFault.Write }
+    {
         match self.progress {
             Progress::Ended => Ok(None),
             Progress::Refused(fault) => Err(fault),
             Progress::Reading => {
-                match front_record(self.form, self.records + 1, self.latest, alloc, source) {
+                match front_record(self.form, self.records + 1, self.latest, spare, source) {
                     Ok(Some(packet)) => {
                         self.records += 1;
                         self.latest = packet.time;

@@ -69,11 +69,11 @@ fn judge_head(number: u32, earliest: u64, head: Head) -> Result<(), CaptureFault
     Ok(())
 }
 
-/// Takes the octets of record `number`, so many.
+/// Takes the octets of record `number`, so many, into the room of a vector that is used again.
 fn take_octets<R: ByteSource, A: Allocator>(
     number: u32,
     captured: u32,
-    alloc: A,
+    spare: Vec<u8, A>,
     source: &mut R,
 ) -> Result<Vec<u8, A>, CaptureFault>
     ensures octets { TakesOctets number captured (R.remaining source.old) (R.remaining source.new) result }
@@ -81,10 +81,11 @@ fn take_octets<R: ByteSource, A: Allocator>(
     ensures sure { R.never_fails source.old ≡ true → result ≢ Err CaptureFault.Read }
     ensures lasts { R.never_fails source.old ≡ true → R.never_fails source.new ≡ true }
 {
-    let mut octets = match Vec::from_elem(alloc, 0u8, captured as usize) {
-        Ok(octets) => octets,
-        Err(_) => return Err(CaptureFault::NoMemory),
-    };
+    let mut octets = spare;
+    octets.clear();
+    if octets.resize(captured as usize, 0u8).is_err() {
+        return Err(CaptureFault::NoMemory);
+    }
     let count = match fill(source, &mut octets) {
         Ok(count) => count,
         Err(_) => return Err(CaptureFault::Read),
@@ -96,12 +97,12 @@ fn take_octets<R: ByteSource, A: Allocator>(
 }
 
 /// Takes the record at the front of what the source has left, if there is one: record `number`,
-/// after one at `earliest`.
+/// after one at `earliest`. Its octets lie in the room of a vector that is used again, where they fit.
 pub fn front_record<R: ByteSource, A: Allocator>(
     form: Form,
     number: u32,
     earliest: u64,
-    alloc: A,
+    spare: Vec<u8, A>,
     source: &mut R,
 ) -> Result<Option<Packet<A>>, CaptureFault>
     ensures record { IfSome (R.remaining source.old) (λ octets.
@@ -142,7 +143,7 @@ pub fn front_record<R: ByteSource, A: Allocator>(
     if let Err(fault) = judge_head(number, earliest, head) {
         return Err(fault);
     }
-    match take_octets(number, head.captured, alloc, source) {
+    match take_octets(number, head.captured, spare, source) {
         Ok(octets) => Ok(Some(Packet {
             time: head.time,
             len: head.original,

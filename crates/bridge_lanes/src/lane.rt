@@ -45,8 +45,12 @@ impl<A: Allocator + Copy> Lane<A> {
         })
     }
 
-    /// Reads the record behind the one that was taken.
-    pub fn look<R: ByteSource>(&mut self, alloc: A, source: &mut R) -> Result<(), CaptureFault>
+    /// Reads the record behind the one that was taken, its octets in the room of a vector that is used again.
+    pub fn look<R: ByteSource>(
+        &mut self,
+        spare: Vec<u8, A>,
+        source: &mut R,
+    ) -> Result<(), CaptureFault>
         requires reading { IsReading self.old.capture }
         ensures looks { (text : List ℕ) (taken : List Captured) → StandsFor self.old.capture (R.remaining source.old) text taken →
             Looks self.new (R.remaining source.new) text taken result }
@@ -59,7 +63,7 @@ impl<A: Allocator + Copy> Lane<A> {
         ensures lasts { R.never_fails source.old ≡ true → R.never_fails source.new ≡ true }
         ensures no_write { result ≢ Err CaptureFault.Write }
     {
-        self.ahead = self.capture.next(alloc, source)?;
+        self.ahead = self.capture.next_into(spare, source)?;
         Ok(())
     }
 }

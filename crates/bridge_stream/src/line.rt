@@ -77,12 +77,13 @@ pub fn write<W: ByteSink, A: Allocator + Copy>(
     Ok(())
 }
 
-/// Makes and writes all starts before a moment, or all where there is none.
+/// Makes and writes all starts before a moment, or all where there is none. The octets of the last frame are spare then.
 pub fn depart_before<W: ByteSink, G: Agenda + Drop, A: Allocator + Copy>(
     until: Option<u64>,
     relay: &mut Relay<'_, G, A>,
     lines: &mut [Line],
     sinks: &mut [W],
+    spare: &mut Vec<u8, A>,
 ) -> Result<(), RunFault>
     requires size { length sinks.old ≡ length lines.old }
     requires rises { Rising (λ a b. a < b) (numbers lines.old) }
@@ -107,6 +108,8 @@ pub fn depart_before<W: ByteSink, G: Agenda + Drop, A: Allocator + Copy>(
             relay.reached();
             return Err(fault);
         }
+        let Sent { octets, .. } = sent;
+        *spare = octets;
     }
     Ok(())
 }

@@ -17,6 +17,7 @@ use bridge_events::Agenda;
 use bridge_lanes::{Lane, RunFault, fault_of, first_of};
 use bridge_relay::Relay;
 use std::alloc::Allocator;
+use std::mem;
 
 /// Takes the frame that comes first from its lane, and says of which port it is.
 fn give<A: Allocator + Copy>(lanes: &mut [Lane<A>], place: usize) -> (u8, Packet<A>)
@@ -33,7 +34,7 @@ fn give<A: Allocator + Copy>(lanes: &mut [Lane<A>], place: usize) -> (u8, Packet
 
 /// Looks at what comes behind the frame that was taken from a lane.
 fn look_at<R: ByteSource, A: Allocator + Copy>(
-    alloc: A,
+    spare: Vec<u8, A>,
     place: usize,
     lanes: &mut [Lane<A>],
     sources: &mut [R],
@@ -47,7 +48,7 @@ fn look_at<R: ByteSource, A: Allocator + Copy>(
     ensures lasts { NeverFail R.never_fails sources.old → NeverFail R.never_fails sources.new }
     ensures no_write { result ≢ Err CaptureFault.Write }
 {
-    lanes[place].look(alloc, &mut sources[place])
+    lanes[place].look(spare, &mut sources[place])
 }
 
 /// Takes the frame that comes first, once all starts before it were made and written, and looks at what comes behind it
@@ -60,6 +61,7 @@ fn take<R: ByteSource, W: ByteSink, G: Agenda + Drop, A: Allocator + Copy>(
     lines: &mut [Line],
     sources: &mut [R],
     sinks: &mut [W],
+    spare: &mut Vec<u8, A>,
 ) -> Result<(), RunFault>
     requires place { place < length lanes.old }
     requires first { IsFirstAt lanes.old place }
@@ -78,7 +80,7 @@ fn take<R: ByteSource, W: ByteSink, G: Agenda + Drop, A: Allocator + Copy>(
     ensures wrote { (port : ℕ) → result ≡ Err (RunFault.Write port) → HasFailed W.has_failed (numbers lanes.old) port sinks.new }
 {
     let (number, packet) = give(lanes, place);
-    if let Err(fault) = depart_before(Some(packet.time), relay, lines, sinks) {
+    if let Err(fault) = depart_before(Some(packet.time), relay, lines, sinks, spare) {
         return Err(fault);
     }
     match relay.arrive(number, packet) {
@@ -88,7 +90,7 @@ fn take<R: ByteSource, W: ByteSink, G: Agenda + Drop, A: Allocator + Copy>(
             return Err(RunFault::NoMemory);
         }
     }
-    match look_at(alloc, place, lanes, sources) {
+    match look_at(mem::replace(spare, Vec::new(alloc)), place, lanes, sources) {
         Ok(()) => Ok(()),
         Err(fault) => {
             relay.reached();
@@ -133,6 +135,7 @@ fn take_before<R: ByteSource, W: ByteSink, G: Agenda + Drop, A: Allocator + Copy
     lines: &mut [Line],
     sources: &mut [R],
     sinks: &mut [W],
+    spare: &mut Vec<u8, A>,
 ) -> Result<(), RunFault>
     requires may { MayTake relay.old lanes.old }
     requires lines { written_numbers lines.old ≡ numbers lanes.old }
@@ -150,7 +153,7 @@ fn take_before<R: ByteSource, W: ByteSink, G: Agenda + Drop, A: Allocator + Copy
     ensures wrote { (port : ℕ) → result ≡ Err (RunFault.Write port) → HasFailed W.has_failed (numbers lanes.old) port sinks.new }
 {
     while let Some(place) = next_before(lanes, until) {
-        if let Err(fault) = take(alloc, place, relay, lanes, lines, sources, sinks) {
+        if let Err(fault) = take(alloc, place, relay, lanes, lines, sources, sinks, spare) {
             return Err(fault);
         }
     }
@@ -166,6 +169,7 @@ fn obey<R: ByteSource, W: ByteSink, G: Agenda + Drop, A: Allocator + Copy>(
     lines: &mut [Line],
     sources: &mut [R],
     sinks: &mut [W],
+    spare: &mut Vec<u8, A>,
 ) -> Result<(), RunFault>
     requires may { MayTake relay.old lanes.old }
     requires lines { written_numbers lines.old ≡ numbers lanes.old }
@@ -183,10 +187,10 @@ fn obey<R: ByteSource, W: ByteSink, G: Agenda + Drop, A: Allocator + Copy>(
     ensures wrote { (port : ℕ) → result ≡ Err (RunFault.Write port) → HasFailed W.has_failed (numbers lanes.old) port sinks.new }
 {
     let at = Some(command.at);
-    if let Err(fault) = take_before(alloc, at, relay, lanes, lines, sources, sinks) {
+    if let Err(fault) = take_before(alloc, at, relay, lanes, lines, sources, sinks, spare) {
         return Err(fault);
     }
-    if let Err(fault) = depart_before(at, relay, lines, sinks) {
+    if let Err(fault) = depart_before(at, relay, lines, sinks, spare) {
         return Err(fault);
     }
     relay.clear(command.at, command.clear, command.number);
@@ -216,13 +220,16 @@ pub fn run<R: ByteSource, W: ByteSink, G: Agenda + Drop, A: Allocator + Copy>(
     ensures sure { NeverFail R.never_fails sources.old → (port : ℕ) → result ≢ Err (RunFault.Capture port CaptureFault.Read) }
     ensures wrote { (port : ℕ) → result ≡ Err (RunFault.Write port) → HasFailed W.has_failed (numbers lanes.old) port sinks.new }
 {
+    let mut spare = Vec::new(alloc);
     for command in commands {
-        if let Err(fault) = obey(alloc, *command, relay, lanes, lines, sources, sinks) {
+        if let Err(fault) = obey(
+            alloc, *command, relay, lanes, lines, sources, sinks, &mut spare,
+        ) {
             return Err(fault);
         }
     }
-    if let Err(fault) = take_before(alloc, None, relay, lanes, lines, sources, sinks) {
+    if let Err(fault) = take_before(alloc, None, relay, lanes, lines, sources, sinks, &mut spare) {
         return Err(fault);
     }
-    depart_before(None, relay, lines, sinks)
+    depart_before(None, relay, lines, sinks, &mut spare)
 }

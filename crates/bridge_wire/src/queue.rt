@@ -16,6 +16,7 @@ use bridge_frame::{Speed, parse};
 use bridge_lanes::{Lane, RunFault, fault_of};
 use bridge_port::{Item, LARGEST_ROOM, Port};
 use std::alloc::Allocator;
+use std::mem;
 
 /// Offers the next frame of a capture, once all starts before it were made.
 fn take<W: ByteSink, A: Allocator + Copy>(
@@ -25,6 +26,7 @@ fn take<W: ByteSink, A: Allocator + Copy>(
     sink: &mut W,
     count: &mut WireCount,
     packet: Packet<A>,
+    spare: &mut Vec<u8, A>,
 ) -> Result<(), RunFault>
     requires time { (port.old.earliest ≤ packet.time) × (packet.time < END_OF_TIME) }
     requires octets { (length packet.octets.items ≤ MOST_CAPTURED) × (length packet.octets.items ≤ packet.len) }
@@ -40,7 +42,7 @@ fn take<W: ByteSink, A: Allocator + Copy>(
     ensures only { OnErr result (result ≡ Err (RunFault.Write 1)) }
     ensures fails { OnErr result (W.has_failed sink.new ≡ true) }
 {
-    if let Err(fault) = depart_before(packet.time, speed, port, writer, sink) {
+    if let Err(fault) = depart_before(packet.time, speed, port, writer, sink, spare) {
         return Err(fault);
     }
     count.frames += 1;
@@ -71,6 +73,7 @@ fn take_next<R: ByteSource, W: ByteSink, A: Allocator + Copy>(
     count: &mut WireCount,
     source: &mut R,
     sink: &mut W,
+    spare: &mut Vec<u8, A>,
 ) -> Result<(), RunFault>
     requires time { (port.old.earliest ≤ packet.time) × (packet.time < END_OF_TIME) }
     requires octets { (length packet.octets.items ≤ MOST_CAPTURED) × (length packet.octets.items ≤ packet.len) }
@@ -93,10 +96,10 @@ fn take_next<R: ByteSource, W: ByteSink, A: Allocator + Copy>(
     ensures lasts { R.never_fails source.old ≡ true → R.never_fails source.new ≡ true }
     ensures write { (number : ℕ) → result ≡ Err (RunFault.Write number) → W.has_failed sink.new ≡ true }
 {
-    if let Err(fault) = take(speed, port, writer, sink, count, packet) {
+    if let Err(fault) = take(speed, port, writer, sink, count, packet, spare) {
         return Err(fault);
     }
-    match lane.look(alloc, source) {
+    match lane.look(mem::replace(spare, Vec::new(alloc)), source) {
         Ok(()) => Ok(()),
         Err(fault) => Err(fault_of(1, fault)),
     }
@@ -131,14 +134,15 @@ fn run_through<R: ByteSource, W: ByteSink, A: Allocator + Copy>(
         sent: 0,
         full: 0,
     };
+    let mut spare = Vec::new(alloc);
     while let Some(packet) = lane.ahead.take() {
         if let Err(fault) = take_next(
-            alloc, speed, packet, lane, port, writer, &mut count, source, sink,
+            alloc, speed, packet, lane, port, writer, &mut count, source, sink, &mut spare,
         ) {
             return Err(fault);
         }
     }
-    if let Err(fault) = depart_before(u64::MAX, speed, port, writer, sink) {
+    if let Err(fault) = depart_before(u64::MAX, speed, port, writer, sink, &mut spare) {
         return Err(fault);
     }
     Ok(count)

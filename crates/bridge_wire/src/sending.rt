@@ -8,15 +8,16 @@ ghost use Rattle.bridge_wire.specs.Sending.{Goes, is_overlong, NotBefore, Sends}
 use bridge_capture::{ByteSink, Writer};
 use bridge_frame::{Speed, occupation};
 use bridge_lanes::RunFault;
-use bridge_port::Port;
+use bridge_port::{Item, Port};
 use std::alloc::Allocator;
 
-/// Makes the next start, and writes the frame with the moment at which it was done.
+/// Makes the next start, and writes the frame with the moment at which it was done. Its octets are spare then.
 pub fn depart<W: ByteSink, A: Allocator + Copy>(
     speed: Speed,
     port: &mut Port<Vec<u8, A>, A>,
     writer: &mut Writer,
     sink: &mut W,
+    spare: &mut Vec<u8, A>,
 ) -> Result<(), RunFault>
     requires due { (k : ℕ) × IsDue port.old (Some k) }
     requires speed { port.old.speed ≡ speed }
@@ -32,7 +33,10 @@ pub fn depart<W: ByteSink, A: Allocator + Copy>(
 {
     let (item, _) = port.start();
     let done = port.earliest() - 1 + occupation(item.len, speed);
-    match writer.put(sink, done, item.len, &item.load) {
+    let Item { len, load } = item;
+    let answer = writer.put(sink, done, len, &load);
+    *spare = load;
+    match answer {
         Ok(()) => Ok(()),
         Err(_) => Err(RunFault::Write { port: 1 }),
     }
@@ -45,6 +49,7 @@ pub fn depart_before<W: ByteSink, A: Allocator + Copy>(
     port: &mut Port<Vec<u8, A>, A>,
     writer: &mut Writer,
     sink: &mut W,
+    spare: &mut Vec<u8, A>,
 ) -> Result<(), RunFault>
     requires speed { port.old.speed ≡ speed }
     requires within { count_queued is_overlong port.old ≡ 0 }
@@ -62,7 +67,7 @@ pub fn depart_before<W: ByteSink, A: Allocator + Copy>(
         if k >= t {
             return Ok(());
         }
-        depart(speed, port, writer, sink)?;
+        depart(speed, port, writer, sink, spare)?;
     }
     Ok(())
 }

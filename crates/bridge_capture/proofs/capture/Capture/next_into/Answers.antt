@@ -1,7 +1,7 @@
 use Rattle.std.proofs.Common.{refl, rules, subst, sym}
-use Rattle.bridge_capture.specs.Standing.{CaptureState, StandsFor}
+use Rattle.bridge_capture.specs.Standing.{CaptureState, StandsFor, TakesFor}
 use Rattle.bridge_capture.proofs.Turns.{goes_on, came_to_end, was_refused}
-use Rattle.bridge_capture.proofs.capture.Capture.next.Goals as goal
+use Rattle.bridge_capture.proofs.capture.Capture.next_into.Goals as goal
 
 pub returns-in-Ok-Some-clause-stands : goal.returns-in-Ok-Some-clause-stands
 returns-in-Ok-Some-clause-stands g c = λ text given h.
@@ -22,3 +22,6 @@ returns-in-Err-clause-stands g c = λ text given h.
     let stood = subst (λ (z : CaptureState). StandsFor z (g.R.ByteSource.remaining c.args.source.now) text given) (sym c.self.view_is) h in
     let r = was_refused before _ text given c.in-Err.fault (search rules) c.in-Err.ensures.record stood in
     (r, r)
+
+pub returns-in-Err-clause-taken : goal.returns-in-Err-clause-taken
+returns-in-Err-clause-taken g c = λ is. subst (λ (z : CaptureState). TakesFor z (g.R.ByteSource.remaining c.args.source.now) (g.R.ByteSource.remaining c.front_record.new.source) c.in-Err.fault) c.self.view_is c.in-Err.ensures.taken
