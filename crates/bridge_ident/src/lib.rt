@@ -49,6 +49,9 @@ impl StreamEntry {
     fn matches(&self, port: u8, head: &Head, vid: u16) -> bool
         ensures { result ≡ is_match self.now port head.now vid }
     {
+        if self.port != port || self.vid != vid {
+            return false;
+        }
         let address = match self.kind {
             Kind::Null => head.da,
             Kind::Source => head.sa,
@@ -58,7 +61,7 @@ impl StreamEntry {
             TagKind::Priority => !names_vlan(head.tag),
             TagKind::All => true,
         };
-        self.port == port && self.vid == vid && self.address == address && takes_tag
+        self.address == address && takes_tag
     }
 }
 
