@@ -1,3 +1,4 @@
+pub mod Buffered
 pub mod Examples
 pub mod Grammar
 pub mod Laws

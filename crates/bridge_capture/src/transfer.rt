@@ -1,5 +1,5 @@
 //! Whole buffers from sources, and whole slices into sinks, that may move less at a time.
-ghost use Rattle.std.specs.Prelude.{◌≡◌, ◌≤◌, ◌<◌, length, take, true, IsErr, IsOk, IfOk, OnOk, OnErr};
+ghost use Rattle.std.specs.Prelude.{◌≡◌, ◌≤◌, ◌<◌, length, take, true, false, IsErr, IsOk, IfOk, IfErr, OnOk, OnErr};
 ghost use Rattle.std.specs.Io.KnownBytes.{Consumes, IsAtEnd, Appends};
 ghost use Rattle.bridge_capture.specs.Sinks.{AppendsFront};
 ghost use Rattle.bridge_capture.specs.Taken.{TakesFewer};
@@ -9,7 +9,33 @@ use crate::source::{Broken, ByteSource};
 
 /// Fills the buffer from its front, as far as the source goes, and says how many octets came:
 /// fewer than the buffer holds only at the end of the source.
+#[inline(always)]
 pub fn fill<R: ByteSource>(source: &mut R, buf: &mut [u8]) -> Result<usize, Broken>
+    ensures count { IfOk result (λ n. n ≤ length buf.new) }
+    ensures bytes { IfOk result (λ n. Consumes (R.remaining source.old) (R.remaining source.new) (take n buf.new)) }
+    ensures end { IfOk result (λ n. n < length buf.new → IsAtEnd (R.remaining source.new)) }
+    ensures part { OnErr result (TakesFewer (length buf.old) (R.remaining source.old) (R.remaining source.new)) }
+    ensures fails { OnErr result (R.has_failed source.new ≡ true) }
+    ensures sure { R.never_fails source.old ≡ true → IsOk result × (R.never_fails source.new ≡ true) }
+    ensures stays { R.has_failed source.old ≡ true → 0 < length buf.old → IsErr result }
+{
+    if buf.is_empty() {
+        return Ok(0);
+    }
+    let first = source.read(buf)?;
+    if first == 0 || first == buf.len() {
+        return Ok(first);
+    }
+    match fill_on(source, &mut buf[first..]) {
+        Ok(more) => Ok(first + more),
+        Err(broken) => Err(broken),
+    }
+}
+
+/// The same, by as many reads as it takes.
+#[cold]
+#[inline(never)]
+fn fill_on<R: ByteSource>(source: &mut R, buf: &mut [u8]) -> Result<usize, Broken>
     ensures count { IfOk result (λ n. n ≤ length buf.new) }
     ensures bytes { IfOk result (λ n. Consumes (R.remaining source.old) (R.remaining source.new) (take n buf.new)) }
     ensures end { IfOk result (λ n. n < length buf.new → IsAtEnd (R.remaining source.new)) }
@@ -30,15 +56,43 @@ pub fn fill<R: ByteSource>(source: &mut R, buf: &mut [u8]) -> Result<usize, Brok
 }
 
 /// Writes all of the octets. Where the sink fails, it holds a front of them.
+#[inline(always)]
 pub fn write_all<W: ByteSink>(sink: &mut W, octets: &[u8]) -> Result<(), Broken>
     ensures all { OnOk result (Appends (W.contents sink.old) (W.contents sink.new) octets.now) }
     ensures front { OnErr result (AppendsFront (W.contents sink.old) (W.contents sink.new) octets.now) }
     ensures fails { OnErr result (W.has_failed sink.new ≡ true) }
     ensures stays { W.has_failed sink.old ≡ true → 0 < length octets.now → IsErr result }
 {
+    if octets.is_empty() {
+        return Ok(());
+    }
+    let first = sink.write(octets)?;
+    if first == octets.len() {
+        return Ok(());
+    }
+    match write_front(sink, &octets[first..]) {
+        Ok(()) => Ok(()),
+        Err(_) => Err(Broken),
+    }
+}
+
+/// Writes all of the octets, by as many writes as it takes. Where the sink fails, it holds so many of them.
+#[cold]
+#[inline(never)]
+pub fn write_front<W: ByteSink>(sink: &mut W, octets: &[u8]) -> Result<(), usize>
+    ensures all { OnOk result (Appends (W.contents sink.old) (W.contents sink.new) octets.now) }
+    ensures count { IfErr result (λ n. n ≤ length octets.now) }
+    ensures part { IfErr result (λ n. Appends (W.contents sink.old) (W.contents sink.new) (take n octets.now)) }
+    ensures fails { OnErr result (W.has_failed sink.new ≡ true) }
+    ensures works { W.has_failed sink.old ≡ false → OnOk result (W.has_failed sink.new ≡ false) }
+    ensures stays { W.has_failed sink.old ≡ true → 0 < length octets.now → IsErr result }
+{
     let mut at = 0;
     while at < octets.len() {
-        at += sink.write(&octets[at..])?;
+        match sink.write(&octets[at..]) {
+            Ok(count) => at += count,
+            Err(_) => return Err(at),
+        }
     }
     Ok(())
 }

@@ -1,18 +1,21 @@
-use Rattle.std.proofs.Common.{rules, ◌≡◌, ◌-◌, true, false, length, sym, subst}
+use Rattle.std.proofs.Common.{◌-◌, ◌++◌, length, take, sym, subst, arith, length-append, length-take-le}
 use Rattle.std.specs.Io.KnownBytes.{Consumes}
 use Rattle.std.proofs.KnownBytes.{Consumes-trans}
 use Rattle.bridge_capture.proofs.Parts.{take-put_mid_more}
 use Rattle.bridge_capture.proofs.transfer.fill.Goals as goal
 
-pub loop-at-preserved : goal.loop-at-preserved
-loop-at-preserved g c =
-    let joined = take-put_mid_more c.loop-at.at (length c.loop-at.buf - c.loop-at.at) c.in_ok-count.count c.loop-at.buf c.read.new.buf c.loop-at.invariant.within c.in_ok-count.ensures.count in
-    record {
-      within = search rules;
-      fresh = λ e. let bad : false ≡ true = c.in_ok-count.ensures.stays (c.loop-at.invariant.fresh e).1 in absurd cc;
-      sure = λ e. c.in_ok-count.ensures.lasts (c.loop-at.invariant.sure e);
-      taken = subst (Consumes _ _) (sym joined) (Consumes-trans _ _ _ _ _ c.loop-at.invariant.taken c.in_ok-count.ensures.bytes.0);
-    }
+pub returns-in-Ok-clause-bytes : goal.returns-in-Ok-clause-bytes
+returns-in-Ok-clause-bytes g c =
+    let first = c.in_ok-first.first in
+    let all = c.read.new.buf in
+    let joined = take-put_mid_more first (length all - first) c.in-Ok.more all c.fill_on.new.buf c.in_ok-first.ensures.count c.in-Ok.ensures.count in
+    subst (Consumes _ _) (sym joined) (Consumes-trans _ _ _ _ _ c.in_ok-first.ensures.bytes.0 c.in-Ok.ensures.bytes)
 
-pub returns-then-count-eq0-clause-stays : goal.returns-then-count-eq0-clause-stays
-returns-then-count-eq0-clause-stays g c = λ e some. c.in_ok-count.ensures.stays (c.loop-at.invariant.fresh e).1
+pub returns-in-Err-clause-part : goal.returns-in-Err-clause-part
+returns-in-Err-clause-part g c =
+    let first = c.in_ok-first.first in
+    let all = c.read.new.buf in
+    let got = c.in-Err.ensures.part in
+    let front = length-take-le first all c.in_ok-first.ensures.count in
+    let fewer = got.1 in
+    (take first all ++ got.0, (let z = got.1 in let y = c.in_ok-first.ensures.count in omega (arith, length-append (take first all) got.0, front, z, y, c.fill_on.auto.buf)), Consumes-trans _ _ _ _ _ c.in_ok-first.ensures.bytes.0 got.2)

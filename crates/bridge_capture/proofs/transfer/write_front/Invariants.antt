@@ -1,6 +1,6 @@
-use Rattle.std.proofs.Common.{◌≡◌, true, length, ◌-◌, ◌≤◌, take}
+use Rattle.std.proofs.Common.{◌≡◌, true, false, length, ◌-◌, ◌≤◌, take}
 use Rattle.std.specs.Io.KnownBytes.{Appends}
-use Rattle.bridge_capture.proofs.transfer.write_all.Given as goal
+use Rattle.bridge_capture.proofs.transfer.write_front.Given as goal
 
 abbrev pub invariant-loop-at : goal.invariant-loop-at
 invariant-loop-at g l =
@@ -8,6 +8,7 @@ invariant-loop-at g l =
     record {
       within : l.at ≤ length l.octets;
       fresh : g.W.ByteSink.has_failed l.fn.sink ≡ true → (l.at ≡ 0) × (g.W.ByteSink.has_failed l.sink ≡ true);
+      works : g.W.ByteSink.has_failed l.fn.sink ≡ false → g.W.ByteSink.has_failed l.sink ≡ false;
       written : Appends (contents l.fn.sink) (contents l.sink) (take l.at l.octets);
     }
 

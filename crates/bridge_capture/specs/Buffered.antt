@@ -1,0 +1,18 @@
+-- Octets between a caller and std's readers and writers.
+use Rattle.std.specs.Prelude.{ℕ, List, Option, slice_range}
+use Rattle.std.specs.Io.KnownBytes.{prepend_known, append_known}
+use Rattle.bridge_capture.specs.declared.window.Window.{Window}
+use Rattle.bridge_capture.specs.declared.read_ahead.ReadAhead.{ReadAhead}
+use Rattle.bridge_capture.specs.declared.write_behind.WriteBehind.{WriteBehind}
+
+-- the octets that were read ahead and not given yet
+abbrev pub at_hand : {A : Type 0} → Window A → List ℕ
+at_hand w = slice_range w.octets.items w.start w.end
+
+-- these, and then what the reader has left, where it tells that
+abbrev pub ahead_remaining : {R A : Type 0} → (R → Option (List ℕ)) → ReadAhead R A → Option (List ℕ)
+ahead_remaining remaining s = prepend_known (at_hand s.window) (remaining s.source.reader)
+
+-- what the writer has, where it tells that, and then the octets that are held back
+abbrev pub behind_contents : {W A : Type 0} → (W → Option (List ℕ)) → WriteBehind W A → Option (List ℕ)
+behind_contents contents s = append_known (contents s.sink.writer) s.held.items

@@ -1,0 +1,99 @@
+//! Octets that were read ahead.
+ghost use Rattle.std.specs.Prelude.{◌≡◌, ◌≤◌, ◌<◌, ◌-◌, ◌++◌, length, take, slice_range, vec_len, true, false, IfOk, OnOk, OnErr};
+ghost use Rattle.std.specs.Io.KnownBytes.{Consumes, IsAtEnd, Keeps, prepend_known};
+
+use crate::source::{Broken, ByteSource};
+use std::alloc::{AllocError, Allocator};
+
+/// Octets that were read ahead and not given yet: those from `start` to `end`.
+#[derive(Drop)]
+pub struct Window<A: Allocator> {
+    octets: Vec<u8, A>,
+    start: usize,
+    end: usize,
+    ghost wide: { 0 < vec_len octets },
+    ghost ordered: { start ≤ end },
+    ghost within: { end ≤ vec_len octets },
+}
+
+impl<A: Allocator> Window<A> {
+    /// An empty window that is so wide. One growth of memory.
+    pub fn new(alloc: A, width: usize) -> Result<Window<A>, AllocError>
+        requires { 0 < width }
+        ensures start { IfOk result (λ window. window.start ≡ 0) }
+        ensures end { IfOk result (λ window. window.end ≡ 0) }
+    {
+        match Vec::from_elem(alloc, 0u8, width) {
+            Ok(octets) => Ok(Window {
+                octets,
+                start: 0,
+                end: 0,
+            }),
+            Err(_) => Err(AllocError),
+        }
+    }
+
+    /// How many octets it may hold.
+    pub fn width(&self) -> usize
+        ensures positive { 0 < result }
+    {
+        self.octets.len()
+    }
+
+    /// How many octets it holds.
+    #[inline(always)]
+    pub fn len(&self) -> usize
+        ensures { result ≡ self.now.end - self.now.start }
+    {
+        self.end - self.start
+    }
+
+    /// Fills the buffer.
+    #[inline(always)]
+    pub fn give(&mut self, buf: &mut [u8])
+        requires { length buf.old ≤ self.old.end - self.old.start }
+        ensures given { slice_range self.old.octets.items self.old.start self.old.end ≡ buf.new ++ slice_range self.new.octets.items self.new.start self.new.end }
+        ensures length { length buf.new ≡ length buf.old }
+    {
+        let from = self.start;
+        let to = from + buf.len();
+        buf.copy_from_slice(&self.octets[from..to]);
+        self.start = to;
+    }
+
+    /// Asks the source for as many octets as there is room for, where it holds none.
+    pub fn refill<R: ByteSource>(&mut self, source: &mut R) -> Result<(), Broken>
+        requires { self.old.start ≡ self.old.end }
+        ensures kept { Keeps (R.remaining source.old) (prepend_known (slice_range self.new.octets.items self.new.start self.new.end) (R.remaining source.new)) }
+        ensures end { OnOk result (self.new.end ≡ self.new.start → IsAtEnd (R.remaining source.new)) }
+        ensures none { OnErr result (self.new.end ≡ self.new.start) }
+        ensures fails { OnErr result (R.has_failed source.new ≡ true) }
+        ensures works { OnOk result (R.has_failed source.new ≡ false) }
+    {
+        self.start = 0;
+        self.end = 0;
+        match read_over(source, &mut self.octets) {
+            Ok(count) => {
+                self.end = count;
+                Ok(())
+            }
+            Err(broken) => Err(broken),
+        }
+    }
+}
+
+/// Reads over what stood there.
+fn read_over<R: ByteSource, A: Allocator>(
+    source: &mut R,
+    octets: &mut Vec<u8, A>,
+) -> Result<usize, Broken>
+    ensures length { vec_len octets.new ≡ vec_len octets.old }
+    ensures count { IfOk result (λ n. n ≤ vec_len octets.new) }
+    ensures bytes { IfOk result (λ n. Consumes (R.remaining source.old) (R.remaining source.new) (take n octets.new.items)) }
+    ensures end { IfOk result (λ n. n ≡ 0 → 0 < vec_len octets.old → IsAtEnd (R.remaining source.new)) }
+    ensures kept { OnErr result (Keeps (R.remaining source.old) (R.remaining source.new)) }
+    ensures fails { OnErr result (R.has_failed source.new ≡ true) }
+    ensures works { OnOk result (R.has_failed source.new ≡ false) }
+{
+    source.read(octets.as_mut_slice())
+}
