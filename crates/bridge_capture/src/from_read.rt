@@ -1,12 +1,8 @@
 //! std's readers as sources.
-ghost use Rattle.std.specs.Prelude.{◌≡◌, false, IfOk};
+ghost use Rattle.std.specs.Prelude.{◌≡◌, false};
 
 use crate::source::{Broken, ByteSource};
-use std::alloc::{AllocError, Allocator};
-use std::io::{BufReader, Read};
-
-/// The octets that are asked of a reader at once.
-const MOST_AT_ONCE: usize = 262_144;
+use std::io::Read;
 
 /// A reader as a source. Any error of the reader is for good, an interrupted call too.
 #[derive(Debug, Drop)]
@@ -33,19 +29,6 @@ impl<R: Read> FromRead<R> {
     {
         let FromRead { reader, .. } = self;
         reader
-    }
-}
-
-impl<R: Read + Drop, A: Allocator> FromRead<BufReader<R, A>> {
-    /// A source of what the reader gives, which is asked for 262,144 octets at once. One growth of memory.
-    pub fn buffered(alloc: A, reader: R) -> Result<FromRead<BufReader<R, A>>, AllocError>
-        ensures remaining { IfOk result (λ source. ⟦<FromRead<BufReader<R, A>> as ByteSource>⟧.remaining source ≡ R.remaining reader) }
-        ensures sound { IfOk result (λ source. ⟦<FromRead<BufReader<R, A>> as ByteSource>⟧.has_failed source ≡ false) }
-    {
-        match BufReader::with_capacity(alloc, MOST_AT_ONCE, reader) {
-            Ok(ahead) => Ok(FromRead::new(ahead)),
-            Err(_) => Err(AllocError),
-        }
     }
 }
 

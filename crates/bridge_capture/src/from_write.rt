@@ -1,14 +1,9 @@
 //! std's writers as sinks.
-ghost use Rattle.std.specs.Prelude.{◌≡◌, true, false, IsErr, IfOk};
-ghost use Rattle.std.specs.Io.KnownBytes.{Keeps};
+ghost use Rattle.std.specs.Prelude.{◌≡◌, false};
 
 use crate::sink::ByteSink;
 use crate::source::Broken;
-use std::alloc::{AllocError, Allocator};
-use std::io::{BufWriter, Write};
-
-/// The octets that are handed to a writer at once.
-const MOST_AT_ONCE: usize = 262_144;
+use std::io::Write;
 
 /// A writer as a sink. Any error of the writer is for good, an interrupted call and a write of
 /// nothing too.
@@ -36,40 +31,6 @@ impl<W: Write> FromWrite<W> {
     {
         let FromWrite { writer, .. } = self;
         writer
-    }
-}
-
-impl<W: Write + Drop, A: Allocator> FromWrite<BufWriter<W, A>> {
-    /// A sink into the writer, which is handed 262,144 octets at once. One growth of memory.
-    pub fn buffered(alloc: A, writer: W) -> Result<FromWrite<BufWriter<W, A>>, AllocError>
-        ensures contents { IfOk result (λ sink. Keeps (W.contents writer) (⟦<FromWrite<BufWriter<W, A>> as ByteSink>⟧.contents sink)) }
-        ensures sound { IfOk result (λ sink. ⟦<FromWrite<BufWriter<W, A>> as ByteSink>⟧.has_failed sink ≡ false) }
-    {
-        match BufWriter::with_capacity(alloc, MOST_AT_ONCE, writer) {
-            Ok(behind) => Ok(FromWrite::new(behind)),
-            Err(_) => Err(AllocError),
-        }
-    }
-
-    /// The writer, once it has all that the sink took. A writer that has failed is not asked again, here or when it is let go.
-    pub fn finish(self) -> Result<W, Broken>
-        ensures contents { IfOk result (λ writer. Keeps (⟦<FromWrite<BufWriter<W, A>> as ByteSink>⟧.contents self) (W.contents writer)) }
-        ensures failed { ⟦<FromWrite<BufWriter<W, A>> as ByteSink>⟧.has_failed self ≡ true → IsErr result }
-    {
-        let FromWrite {
-            mut writer,
-            is_broken,
-        } = self;
-        if is_broken {
-            let _ = writer.into_parts();
-            return Err(Broken);
-        }
-        let flushed = writer.flush();
-        let (writer, _) = writer.into_parts();
-        match flushed {
-            Ok(()) => Ok(writer),
-            Err(_) => Err(Broken),
-        }
     }
 }
 

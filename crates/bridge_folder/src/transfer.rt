@@ -2,21 +2,21 @@
 ghost use Rattle.std.specs.Prelude.{◌≡◌, ◌≤◌, [], length, map, take, vec_capacity, IfOk};
 ghost use Rattle.bridge_folder.specs.Flushed.{AllKept, NoneFailed};
 
-use bridge_capture::{ByteSink, ByteSource, FromRead, FromWrite};
+use bridge_capture::{ByteSink, ByteSource, ReadAhead, WriteBehind};
 use bridge_program::NoMemory;
 use std::alloc::Allocator;
-use std::io::{BufReader, BufWriter, Read, Write};
+use std::io::{Read, Write};
 
 /// Sources of what readers give, in their order.
 pub fn sources_of<R: Read + Drop, A: Allocator + Copy>(
     alloc: A,
     readers: Vec<R, A>,
-) -> Result<Vec<FromRead<BufReader<R, A>>, A>, NoMemory>
-    ensures { IfOk result (λ sources. map ⟦<FromRead<BufReader<R, A>> as ByteSource>⟧.remaining sources.items ≡ map R.remaining readers.items) }
+) -> Result<Vec<ReadAhead<R, A>, A>, NoMemory>
+    ensures { IfOk result (λ sources. map ⟦<ReadAhead<R, A> as ByteSource>⟧.remaining sources.items ≡ map R.remaining readers.items) }
 {
     let mut sources = Vec::with_capacity(alloc, readers.len())?;
     for reader in readers {
-        let source = FromRead::buffered(alloc, reader)?;
+        let source = ReadAhead::new(alloc, reader)?;
         if sources.push(source).is_err() {
             return Err(NoMemory);
         }
@@ -28,12 +28,12 @@ pub fn sources_of<R: Read + Drop, A: Allocator + Copy>(
 pub fn sinks_of<W: Write + Drop, A: Allocator + Copy>(
     alloc: A,
     writers: Vec<W, A>,
-) -> Result<Vec<FromWrite<BufWriter<W, A>>, A>, NoMemory>
-    ensures { IfOk result (λ sinks. AllKept W.contents ⟦<FromWrite<BufWriter<W, A>> as ByteSink>⟧.contents writers.items sinks.items) }
+) -> Result<Vec<WriteBehind<W, A>, A>, NoMemory>
+    ensures { IfOk result (λ sinks. AllKept W.contents ⟦<WriteBehind<W, A> as ByteSink>⟧.contents writers.items sinks.items) }
 {
     let mut sinks = Vec::with_capacity(alloc, writers.len())?;
     for writer in writers {
-        let sink = FromWrite::buffered(alloc, writer)?;
+        let sink = WriteBehind::new(alloc, writer)?;
         if sinks.push(sink).is_err() {
             return Err(NoMemory);
         }
@@ -43,14 +43,14 @@ pub fn sinks_of<W: Write + Drop, A: Allocator + Copy>(
 
 /// Flushes the writers behind sinks, one after the other, and hands back those before the first that fails.
 pub fn finish_all<W: Write + Drop, A: Allocator + Copy>(
-    sinks: Vec<FromWrite<BufWriter<W, A>>, A>,
+    sinks: Vec<WriteBehind<W, A>, A>,
     flushed: Vec<W, A>,
 ) -> Vec<W, A>
     requires none { flushed.items ≡ [] }
     requires room { length sinks.items ≤ vec_capacity flushed }
     ensures few { length result.items ≤ length sinks.items }
-    ensures kept { AllKept ⟦<FromWrite<BufWriter<W, A>> as ByteSink>⟧.contents W.contents (take (length result.items) sinks.items) result.items }
-    ensures sound { NoneFailed ⟦<FromWrite<BufWriter<W, A>> as ByteSink>⟧.has_failed (take (length result.items) sinks.items) }
+    ensures kept { AllKept ⟦<WriteBehind<W, A> as ByteSink>⟧.contents W.contents (take (length result.items) sinks.items) result.items }
+    ensures sound { NoneFailed ⟦<WriteBehind<W, A> as ByteSink>⟧.has_failed (take (length result.items) sinks.items) }
 {
     let mut flushed = flushed;
     for sink in sinks {

@@ -2,7 +2,7 @@
 ghost use Rattle.std.specs.Prelude.{◌≡◌, ◌≤◌, ◌+◌, ◌⊎◌, ℕ, List, Some, None, IfOk, IfErr, IfSome};
 ghost use Rattle.bridge_wire.specs.Wire.{IsOfPortOne, Stops, Wires};
 
-use bridge_capture::{FromRead, FromWrite, MAX_RECORDS};
+use bridge_capture::{MAX_RECORDS, ReadAhead, WriteBehind};
 use bridge_frame::Speed;
 use bridge_port::LARGEST_ROOM;
 use bridge_wire::{RunFault, WireCount, wire};
@@ -19,7 +19,7 @@ pub struct Halted<W> {
 /// Sends the capture of a reader through one queue of a room of frames (1 to 4096) into a writer, which is handed back
 /// with all of it.
 ///
-/// Both are asked for 262,144 octets at once. What is held back goes to the writer before any fault is answered; a writer
+/// Both are asked for 131,072 octets at once. What is held back goes to the writer before any fault is answered; a writer
 /// that fails, also then, is `Write` of port 1, which comes before the fault of the run, and is not handed back. Nor is it
 /// where there is no memory for what is held back, which is found before anything is read.
 pub fn through<R: Read + Drop, W: Write + Drop, A: Allocator + Copy>(
@@ -39,13 +39,13 @@ pub fn through<R: Read + Drop, W: Write + Drop, A: Allocator + Copy>(
     ensures few { IfOk result (λ done. done.0.frames ≤ MAX_RECORDS) }
     ensures one { IfErr result (λ halted. IsOfPortOne halted.fault) }
 {
-    let Ok(mut source) = FromRead::buffered(alloc, reader) else {
+    let Ok(mut source) = ReadAhead::new(alloc, reader) else {
         return Err(Halted {
             fault: RunFault::NoMemory,
             writer: Some(writer),
         });
     };
-    let Ok(mut sink) = FromWrite::buffered(alloc, writer) else {
+    let Ok(mut sink) = WriteBehind::new(alloc, writer) else {
         return Err(Halted {
             fault: RunFault::NoMemory,
             writer: None,

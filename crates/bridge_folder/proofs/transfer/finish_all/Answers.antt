@@ -8,7 +8,7 @@ use Rattle.bridge_folder.proofs.transfer.finish_all.Goals as goal
 
 pub loop-sink-preserved : goal.loop-sink-preserved
 loop-sink-preserved g c =
-    let sound : c.in-Some.sink.is_broken ≡ false = search rules in
+    let sound : c.in-Some.sink.sink.is_broken ≡ false = search rules in
     record {
       kept = subst (AllKept (sunk g.W.Write.contents) g.W.Write.contents (c.loop-sink.yielded ++ c.in-Some.sink ∷ [])) (sym c.in-Ok-push.ensures.items)
           (kept_push (sunk g.W.Write.contents) g.W.Write.contents c.loop-sink.yielded c.loop-sink.flushed.items c.in-Some.sink c.in-Ok.writer c.loop-sink.invariant.kept c.in-Ok.ensures.contents);

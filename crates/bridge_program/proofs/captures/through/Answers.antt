@@ -4,8 +4,8 @@ use Rattle.bridge_program.proofs.captures.through.Goals as goal
 
 pub returns-in-Ok-ran-clause-ok : goal.returns-in-Ok-ran-clause-ok
 returns-in-Ok-ran-clause-ok g c = λ text told.
-    wires_kept _ _ text _ _ _ _ _ c.in-Ok-buffered.ensures.contents (c.in-Ok-ran.ensures.ok text (c.in-Ok.ensures.remaining ∙ told)) c.in-Ok-finish.ensures.contents
+    wires_kept _ _ text _ _ _ _ _ c.in-Ok-new.ensures.contents (c.in-Ok-ran.ensures.ok text (c.in-Ok.ensures.remaining ∙ told)) c.in-Ok-finish.ensures.contents
 
 pub returns-clause-err : goal.returns-clause-err
 returns-clause-err g c = λ text told.
-    stops_kept _ _ text _ _ _ _ c.in-Err.fault c.in-Ok-buffered.ensures.contents (c.in-Err.ensures.err text (c.in-Ok.ensures.remaining ∙ told)) c.in-Ok-finish.ensures.contents
+    stops_kept _ _ text _ _ _ _ c.in-Err.fault c.in-Ok-new.ensures.contents (c.in-Err.ensures.err text (c.in-Ok.ensures.remaining ∙ told)) c.in-Ok-finish.ensures.contents
