@@ -3,11 +3,12 @@ ghost use Rattle.std.specs.Prelude.{◌≤◌};
 
 use crate::captures::{FRAME, Words, capture_of, capture_under};
 use bridge_capture::{
-    ByteSink, ByteSource, Capture, CaptureFault, FromRead, FromWrite, Order, Packet, SliceSource,
-    VecSink, Writer, each_text_reads_one_way, written_is_read,
+    ByteSink, ByteSource, Capture, CaptureFault, FromRead, FromWrite, Order, Packet, ReadAhead,
+    SliceSource, VecSink, WriteBehind, Writer, each_text_reads_one_way, written_is_read,
 };
 use bridge_refusing::RefusesOne;
 use std::alloc::{AllocError, Allocator, Global};
+use std::cell::Cell;
 use std::io::{self, Cursor, ErrorKind, Read, Write};
 use std::test::Fail;
 
@@ -327,6 +328,74 @@ fn an_error_is_for_good(rt: HostRuntime) {
     }
 }
 
+/// A writer that takes some octets a call until its allowance is spent, and then fails. It counts its calls.
+#[derive(Drop)]
+struct Counts<'a> {
+    calls: &'a Cell<u32>,
+    allowance: u32,
+}
+
+impl Write for Counts<'_> {
+    fn write(&mut self, octets: &[u8]) -> io::Result<usize> {
+        self.calls.set(self.calls.get().wrapping_add(1));
+        if self.allowance == 0 {
+            return Err(io::Error::from(ErrorKind::Other));
+        }
+        self.allowance -= 1;
+        Ok(octets.len().min(50_000))
+    }
+
+    fn flush(&mut self) -> io::Result<()> {
+        self.calls.set(self.calls.get().wrapping_add(1));
+        Ok(())
+    }
+}
+
+#[test]
+fn an_error_behind_a_buffer_is_for_good(rt: HostRuntime) -> Result<(), Fail> {
+    let mut source = ReadAhead::new(rt.alloc(), ErrsOnce { has_erred: false })?;
+    for _ in 0..3 {
+        let mut octets = [0; 4];
+        assert!(rt; source.read(&mut octets).is_err());
+        assert!(rt; source.failed());
+    }
+    Ok(())
+}
+
+/// The calls that a writer gets of a sink that takes four times 60,000 octets and is finished, or let go: the writer takes 50,000 a
+/// call, and fails at the call behind the allowance.
+fn calls_of(alloc: Global, allowance: u32, is_finished: bool) -> Result<u32, Fail> {
+    let calls = Cell::new(0);
+    let octets = Vec::from_elem(alloc, 7, 60_000)?;
+    let mut sink = WriteBehind::new(
+        alloc,
+        Counts {
+            calls: &calls,
+            allowance,
+        },
+    )?;
+    for _ in 0..4 {
+        let _ = sink.write(&octets);
+    }
+    if is_finished {
+        let _ = sink.finish();
+    } else {
+        drop(sink);
+    }
+    Ok(calls.get())
+}
+
+#[test]
+fn a_writer_that_failed_is_not_asked_again(rt: HostRuntime) -> Result<(), Fail> {
+    for allowance in 0..6 {
+        assert_eq!(rt; calls_of(rt.alloc(), allowance, true)?, allowance + 1);
+        assert_eq!(rt; calls_of(rt.alloc(), allowance, false)?, allowance + 1);
+    }
+    assert_eq!(rt; calls_of(rt.alloc(), 6, true)?, 7);
+    assert_eq!(rt; calls_of(rt.alloc(), 6, false)?, 6);
+    Ok(())
+}
+
 /// Writes both frames.
 fn write_both<W: ByteSink>(sink: &mut W) -> Result<(), CaptureFault> {
     let mut writer = Writer::begin(sink)?;
@@ -395,6 +464,30 @@ fn readers_and_writers_are_the_same(rt: HostRuntime) -> Result<(), Fail> {
     assert!(rt; !sink.failed());
     let octets = sink.into_inner();
     assert_eq!(rt; octets.as_slice(), text.as_slice());
+    Ok(())
+}
+
+#[test]
+fn readers_and_writers_behind_buffers_are_the_same(rt: HostRuntime) -> Result<(), Fail> {
+    let text = capture_of(rt.alloc(), &[FIRST, SECOND])?;
+    for n in 1..5 {
+        let gate = RefusesOne::new(rt.alloc(), n);
+        let Ok(mut source) = ReadAhead::new(&gate, Cursor::new(text.as_slice())) else {
+            assert_eq!(rt; n, 1);
+            continue;
+        };
+        let Ok(mut sink) = WriteBehind::new(&gate, Vec::new(rt.alloc())) else {
+            assert_eq!(rt; n, 2);
+            continue;
+        };
+        assert!(rt; n > 2);
+        let packets = packets_of(rt.alloc(), &mut source)?;
+        assert!(rt; are_both(&packets));
+        assert!(rt; !source.failed());
+        write_both(&mut sink)?;
+        assert!(rt; !sink.failed());
+        assert_eq!(rt; sink.finish()?.as_slice(), text.as_slice());
+    }
     Ok(())
 }
 
