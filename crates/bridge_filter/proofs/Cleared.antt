@@ -3,7 +3,6 @@ use Rattle.std.specs.Prelude.{nat_eq, Option, Some, None, IsSome, IsTrue, if◌t
 use Rattle.std.specs.Option.{option_map, is_some}
 use Rattle.std.specs.Map.{lookup}
 use Rattle.std.proofs.Math.Bool.{and-false}
-use Rattle.indexmap.specs.IndexMap.{IndexMap}
 use Rattle.bridge_meter.specs.Standing as meter
 use Rattle.bridge_gate.specs.Standing as gate
 use Rattle.bridge_gate.specs.Gates as gates
@@ -14,7 +13,6 @@ use Rattle.bridge_filter.specs.declared.Clear.TheVariants as clear
 use Rattle.bridge_filter.specs.declared.FilterPlan.{FilterPlan}
 use Rattle.bridge_filter.specs.Plans.{KeepsNumbers, is_there}
 use Rattle.bridge_filter.specs.declared.filter.Filter.{Filter}
-use Rattle.bridge_filter.specs.declared.find.Key.{Key}
 use Rattle.bridge_filter.specs.Verdicts.{Plans, Event, Cleared, Step, Commanded, told, gate_share, meter_share}
 use Rattle.bridge_filter.specs.Standing.{PoliceState, Stands, has_instance, AreKept, IsKept, GatesStand, MetersStand}
 use Rattle.bridge_filter.specs.Steps.{GatesBefore, MetersBefore, InstancesStay, HaveInstances, IsSound, plans_in}
@@ -58,28 +56,28 @@ instances_stay old new gates meters calls stay have n g found =
 
 -- what the police keeps goes together after a command
 
-pub sound_filters : {A S : Type 0} (old new : List (ℕ × Filter)) (firsts : IndexMap Key ℕ S) (gates : List (ℕ × gate.Gate A)) (meters : List (ℕ × meter.MeterState)) (calls earliest : ℕ) → plans_in new ≡ plans_in old → InstancesStay old new → IsSound old firsts gates meters calls earliest → IsSound new firsts gates meters calls earliest
-sound_filters old new firsts gates meters calls earliest same stay h = record {
+pub sound_filters : {A : Type 0} (old new : List (ℕ × Filter)) (rows : List (ℕ × List (Option ℕ))) (any : List (Option ℕ)) (gates : List (ℕ × gate.Gate A)) (meters : List (ℕ × meter.MeterState)) (calls earliest : ℕ) → plans_in new ≡ plans_in old → InstancesStay old new → IsSound old rows any gates meters calls earliest → IsSound new rows any gates meters calls earliest
+sound_filters old new rows any gates meters calls earliest same stay h = record {
   distinct = rw same h.distinct;
-  first = λ k. rw same (h.first k);
+  found = λ handle k l. rw same (h.found handle k l);
   instances = instances_stay old new gates meters calls stay h.instances;
   asked = h.asked;
   judged = h.judged;
 }
 
-pub sound_gates : {A S : Type 0} (filters : List (ℕ × Filter)) (firsts : IndexMap Key ℕ S) (old new : List (ℕ × gate.Gate A)) (meters : List (ℕ × meter.MeterState)) (calls earliest : ℕ) → KeepsNumbers old new → ((t : ℕ) → GatesBefore old t → GatesBefore new t) → IsSound filters firsts old meters calls earliest → IsSound filters firsts new meters calls earliest
-sound_gates filters firsts old new meters calls earliest same before h = record {
+pub sound_gates : {A : Type 0} (filters : List (ℕ × Filter)) (rows : List (ℕ × List (Option ℕ))) (any : List (Option ℕ)) (old new : List (ℕ × gate.Gate A)) (meters : List (ℕ × meter.MeterState)) (calls earliest : ℕ) → KeepsNumbers old new → ((t : ℕ) → GatesBefore old t → GatesBefore new t) → IsSound filters rows any old meters calls earliest → IsSound filters rows any new meters calls earliest
+sound_gates filters rows any old new meters calls earliest same before h = record {
   distinct = h.distinct;
-  first = h.first;
+  found = h.found;
   instances = λ n f found. let i = h.instances n f found in record { gate = same f.plan.gate i.gate; meter = i.meter; few = i.few };
   asked = before earliest h.asked;
   judged = h.judged;
 }
 
-pub sound_meters : {A S : Type 0} (filters : List (ℕ × Filter)) (firsts : IndexMap Key ℕ S) (gates : List (ℕ × gate.Gate A)) (old new : List (ℕ × meter.MeterState)) (calls earliest : ℕ) → KeepsNumbers old new → ((t : ℕ) → MetersBefore old t → MetersBefore new t) → IsSound filters firsts gates old calls earliest → IsSound filters firsts gates new calls earliest
-sound_meters filters firsts gates old new calls earliest same before h = record {
+pub sound_meters : {A : Type 0} (filters : List (ℕ × Filter)) (rows : List (ℕ × List (Option ℕ))) (any : List (Option ℕ)) (gates : List (ℕ × gate.Gate A)) (old new : List (ℕ × meter.MeterState)) (calls earliest : ℕ) → KeepsNumbers old new → ((t : ℕ) → MetersBefore old t → MetersBefore new t) → IsSound filters rows any gates old calls earliest → IsSound filters rows any gates new calls earliest
+sound_meters filters rows any gates old new calls earliest same before h = record {
   distinct = h.distinct;
-  first = h.first;
+  found = h.found;
   instances = λ n f found. let i = h.instances n f found in record { gate = i.gate; meter = has_meter_later f.plan.meter old new same i.meter; few = i.few };
   asked = h.asked;
   judged = before earliest h.judged;

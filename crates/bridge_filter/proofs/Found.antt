@@ -1,11 +1,10 @@
 use Rattle.std.proofs.Common.{◌≡◌, ℕ, Bool, true, false, List, [], ◌∷◌, arith, refl, ap, ◌∙◌, sym, Option, Some, None, min, ◌<◌, ◌≤◌}
 use Rattle.std.proofs.lemmas.Bool.Decides.{nat_tests}
-use Rattle.std.specs.Prelude.{◌&&◌, ◌||◌, if◌then◌else◌, nat_eq, nat_lt}
-use Rattle.std.specs.Option.{option_map, option_eq}
+use Rattle.std.specs.Prelude.{◌&&◌, ◌||◌, if◌then◌else◌, nat_eq, nat_lt, is_none}
+use Rattle.std.specs.Option.{option_map}
 use Rattle.bridge_filter.specs.declared.FilterPlan.{FilterPlan}
-use Rattle.bridge_filter.specs.declared.find.Key.{Key}
 use Rattle.bridge_filter.specs.Verdicts.{Call, call, flow, lesser, is_match, takes_handle, takes_priority}
-use Rattle.bridge_filter.specs.Finding.{key_of, same_key, lesser_number, least_by, least_with}
+use Rattle.bridge_filter.specs.Finding.{lesser_number, least_by, least_for, least_any, least_own, names_handle, slot, row_of, IsAnyRow, AreOwnRows, AreRows}
 
 -- the lesser of two numbers, where either may be none, in any order and grouping
 
@@ -15,7 +14,7 @@ both_lesser n None (Some b) = ap Some (omega arith)
 both_lesser n (Some a) None = ap Some (omega arith)
 both_lesser n (Some a) (Some b) = ap Some (omega arith)
 
-first_lesser : (n : ℕ) (a b : Option ℕ) → lesser_number (Some n) (lesser_number a b) ≡ lesser_number (lesser_number (Some n) a) b
+pub first_lesser : (n : ℕ) (a b : Option ℕ) → lesser_number (Some n) (lesser_number a b) ≡ lesser_number (lesser_number (Some n) a) b
 first_lesser n None None = refl
 first_lesser n None (Some b) = refl
 first_lesser n (Some a) None = refl
@@ -59,70 +58,34 @@ pub flow-number : (fs : List (ℕ × FilterPlan)) (c : Call) → option_map (λ 
 flow-number [] c = refl
 flow-number (f ∷ fs) c = flow_step (is_match f.1 c) f (flow fs c) _ (flow-number fs c)
 
--- the keys that match a frame
+-- and it is the least of those that take frames with its handle and its priority
+pub flow-least : (fs : List (ℕ × FilterPlan)) (at : ℕ) (handle : Option ℕ) (priority sdu octets : ℕ) (dei : Bool) → option_map (λ (x : ℕ × FilterPlan). x.0) (flow fs (call at handle priority dei sdu octets)) ≡ least_for handle priority fs
+flow-least fs at handle priority sdu octets dei = flow-number fs (call at handle priority dei sdu octets)
 
-abbrev key : Option ℕ → Option ℕ → Key
-key handle priority = record { handle = handle; priority = priority }
+-- the row of a frame's handle
 
-priority_match : (o : Option ℕ) (k : ℕ) → takes_priority o k ≡ option_eq nat_eq (Some k) o || option_eq nat_eq None o
-priority_match None k = refl
-priority_match (Some n) k = grind (arith, nat_tests)
+any_takes : (asked : Option ℕ) → takes_handle asked None ≡ is_none asked
+any_takes None = refl
+any_takes (Some m) = refl
 
-handle_match : (o : Option ℕ) (h : ℕ) → takes_handle o (Some h) ≡ option_eq nat_eq (Some h) o || option_eq nat_eq None o
-handle_match None h = refl
-handle_match (Some n) h = grind (arith, nat_tests)
+any_found : (any : List (Option ℕ)) (fs : List (ℕ × FilterPlan)) → IsAnyRow any fs → (k : ℕ) → k < 8 → slot any k ≡ least_for None k fs
+any_found any fs is k l = is k l ∙ least_by-same (λ f. is_none f.handle && takes_priority f.priority k) (λ f. takes_handle f.handle None && takes_priority f.priority k) fs (λ f. rw (any_takes f.handle) refl)
 
-no_handle_match : (o : Option ℕ) → takes_handle o None ≡ option_eq nat_eq None o
-no_handle_match None = refl
-no_handle_match (Some n) = refl
+or_false : (b : Bool) → b || false ≡ b
+or_false true = refl
+or_false false = refl
 
-both_ways : (a b c : Bool) → a && (b || c) ≡ (a && b) || (a && c)
-both_ways true b c = refl
-both_ways false b c = refl
+own_takes : (h : ℕ) (asked : Option ℕ) (b : Bool) → (names_handle h asked && b) || (is_none asked && b) ≡ takes_handle asked (Some h) && b
+own_takes h None b = refl
+own_takes h (Some m) b = or_false (nat_eq m h && b)
 
-four_ways : (a b c d : Bool) → (a || b) && (c || d) ≡ ((a && c) || (a && d)) || ((b && c) || (b && d))
-four_ways true true true true = refl
-four_ways true true true false = refl
-four_ways true true false true = refl
-four_ways true true false false = refl
-four_ways true false true true = refl
-four_ways true false true false = refl
-four_ways true false false true = refl
-four_ways true false false false = refl
-four_ways false true true true = refl
-four_ways false true true false = refl
-four_ways false true false true = refl
-four_ways false true false false = refl
-four_ways false false c d = refl
+own_found : (h k : ℕ) (fs : List (ℕ × FilterPlan)) → lesser_number (least_own h k fs) (least_any k fs) ≡ least_for (Some h) k fs
+own_found h k fs =
+    let own : FilterPlan → Bool = λ f. names_handle h f.handle && takes_priority f.priority k in
+    let any : FilterPlan → Bool = λ f. is_none f.handle && takes_priority f.priority k in
+    sym (least_by-either own any fs) ∙ least_by-same (λ f. own f || any f) (λ f. takes_handle f.handle (Some h) && takes_priority f.priority k) fs (λ f. own_takes h f.handle (takes_priority f.priority k))
 
--- without a handle, the least number is at one of two keys
-pub found_any : (fs : List (ℕ × FilterPlan)) (at priority sdu octets : ℕ) (dei : Bool) → lesser_number (least_with (record { handle = None; priority = Some priority }) fs) (least_with (record { handle = None; priority = None }) fs) ≡ option_map (λ (x : ℕ × FilterPlan). x.0) (flow fs (call at None priority dei sdu octets))
-found_any fs at priority sdu octets dei =
-    let c = call at None priority dei sdu octets in
-    let k = key None (Some priority) in
-    let l = key None None in
-    let same : (f : FilterPlan) → is_match f c ≡ same_key k (key_of f) || same_key l (key_of f) = λ f. rw (no_handle_match f.handle, priority_match f.priority priority) (both_ways (option_eq nat_eq None f.handle) (option_eq nat_eq (Some priority) f.priority) (option_eq nat_eq None f.priority)) in
-    sym (flow-number fs c ∙ (least_by-same (λ f. is_match f c) (λ f. same_key k (key_of f) || same_key l (key_of f)) fs same ∙ least_by-either (λ f. same_key k (key_of f)) (λ f. same_key l (key_of f)) fs))
-
--- with a handle, it is at one of four
-pub found_own : (fs : List (ℕ × FilterPlan)) (at handle priority sdu octets : ℕ) (dei : Bool) → lesser_number (lesser_number (least_with (record { handle = Some handle; priority = Some priority }) fs) (least_with (record { handle = Some handle; priority = None }) fs)) (lesser_number (least_with (record { handle = None; priority = Some priority }) fs) (least_with (record { handle = None; priority = None }) fs)) ≡ option_map (λ (x : ℕ × FilterPlan). x.0) (flow fs (call at (Some handle) priority dei sdu octets))
-found_own fs at handle priority sdu octets dei =
-    let c = call at (Some handle) priority dei sdu octets in
-    let i = key (Some handle) (Some priority) in
-    let j = key (Some handle) None in
-    let k = key None (Some priority) in
-    let l = key None None in
-    let own : FilterPlan → Bool = λ f. same_key i (key_of f) || same_key j (key_of f) in
-    let any : FilterPlan → Bool = λ f. same_key k (key_of f) || same_key l (key_of f) in
-    let same : (f : FilterPlan) → is_match f c ≡ own f || any f = λ f. rw (handle_match f.handle handle, priority_match f.priority priority) (four_ways (option_eq nat_eq (Some handle) f.handle) (option_eq nat_eq None f.handle) (option_eq nat_eq (Some priority) f.priority) (option_eq nat_eq None f.priority)) in
-    let o = least_by-either (λ f. same_key i (key_of f)) (λ f. same_key j (key_of f)) fs in
-    let a = least_by-either (λ f. same_key k (key_of f)) (λ f. same_key l (key_of f)) fs in
-    sym (flow-number fs c ∙ (least_by-same (λ f. is_match f c) (λ f. own f || any f) fs same ∙ (least_by-either own any fs ∙ (ap (λ n. lesser_number n (least_by any fs)) o ∙ ap (lesser_number (lesser_number (least_with i fs) (least_with j fs))) a))))
-
--- what the look-ups of a frame without a handle come to
-pub looked_up_any : (find : Key → Option ℕ) (fs : List (ℕ × FilterPlan)) → ((k : Key) → find k ≡ least_with k fs) → (at : ℕ) (handle : Option ℕ) (priority sdu octets : ℕ) (dei : Bool) → handle ≡ None → lesser_number (find (record { handle = None; priority = Some priority })) (find (record { handle = None; priority = None })) ≡ option_map (λ (x : ℕ × FilterPlan). x.0) (flow fs (call at handle priority dei sdu octets))
-looked_up_any find fs h at handle priority sdu octets dei e = rw (e, h (key None (Some priority)), h (key None None)) (found_any fs at priority sdu octets dei)
-
--- what those of a frame with one come to
-pub looked_up_own : (find : Key → Option ℕ) (fs : List (ℕ × FilterPlan)) → ((k : Key) → find k ≡ least_with k fs) → (at : ℕ) (handle : Option ℕ) (h : ℕ) (priority sdu octets : ℕ) (dei : Bool) → handle ≡ Some h → lesser_number (lesser_number (find (record { handle = handle; priority = Some priority })) (find (record { handle = handle; priority = None }))) (lesser_number (find (record { handle = None; priority = Some priority })) (find (record { handle = None; priority = None }))) ≡ option_map (λ (x : ℕ × FilterPlan). x.0) (flow fs (call at handle priority dei sdu octets))
-looked_up_own find fs h at handle n priority sdu octets dei e = rw (e, h (key (Some n) (Some priority)), h (key (Some n) None), h (key None (Some priority)), h (key None None)) (found_own fs at n priority sdu octets dei)
+-- rows that are made of the filters without a handle and of those with one are right for all frames
+pub rows_found : (rows : List (ℕ × List (Option ℕ))) (any : List (Option ℕ)) (fs : List (ℕ × FilterPlan)) → IsAnyRow any fs → AreOwnRows rows any fs → AreRows rows any fs
+rows_found rows any fs is own None k l = any_found any fs is k l
+rows_found rows any fs is own (Some h) k l = own h k l ∙ (ap (lesser_number (least_own h k fs)) (is k l) ∙ own_found h k fs)

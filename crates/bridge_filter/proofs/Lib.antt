@@ -7,6 +7,7 @@ pub mod Flows
 pub mod Passing
 pub mod Shown
 pub mod Made
+pub mod Rowed
 pub mod Starting
 pub mod Cleared
 pub mod Owned

@@ -8,9 +8,8 @@ use Rattle.std.specs.List.{list_all}
 use Rattle.std.proofs.lemmas.Bool.{and_parts, eqb-true}
 use Rattle.bridge_cycle.proofs.Cases.{by_bool}
 use Rattle.bridge_filter.specs.declared.FilterPlan.{FilterPlan}
-use Rattle.bridge_filter.specs.declared.find.Key.{Key}
 use Rattle.bridge_filter.specs.Plans.{is_there, are_distinct}
-use Rattle.bridge_filter.specs.Finding.{same_key, key_of, lesser_number, least_by, least_with}
+use Rattle.bridge_filter.specs.Finding.{lesser_number, least_by}
 use Rattle.bridge_filter.specs.Steps.{Made, AreMade, new_filter, new_filters, plans_in}
 use Rattle.bridge_filter.proofs.Numbered.{same_eq}
 use Rattle.bridge_filter.proofs.Found.{second_lesser}
@@ -100,43 +99,8 @@ pub least_by-more : (test : FilterPlan → Bool) (fs : List (ℕ × FilterPlan))
 least_by-more test [] f = refl
 least_by-more test (g ∷ fs) f = least_step (test g.1) (test f.1) g.0 f.0 (least_by test fs) (least_by test (fs ++ f ∷ [])) (least_by-more test fs f)
 
-pub least_with-more : (k : Key) (fs : List (ℕ × FilterPlan)) (i : ℕ) (d : ℕ × FilterPlan) → i < length fs → least_with k (take (i + 1) fs) ≡ (if same_key k (key_of (get_or fs i d).1) then lesser_number (Some (get_or fs i d).0) (least_with k (take i fs)) else least_with k (take i fs))
-least_with-more k fs i d h = rw (take_more fs i d h) (least_by-more (λ f. same_key k (key_of f)) (take i fs) (get_or fs i d))
-
-option_is : (a b : Option ℕ) → option_eq nat_eq a b ≡ true → a ≡ b
-option_is None None h = refl
-option_is None (Some y) h = absurd (cc)
-option_is (Some x) None h = absurd (cc)
-option_is (Some x) (Some y) h = ap Some (eqb-true x y h)
-
-pub same_key_is : (a b : Key) → same_key a b ≡ true → a ≡ b
-same_key_is a b h =
-    let k = and_parts (option_eq nat_eq a.handle b.handle) (option_eq nat_eq a.priority b.priority) h in
-    let x : a.handle ≡ b.handle = option_is a.handle b.handle k.0 in
-    let y : a.priority ≡ b.priority = option_is a.priority b.priority k.1 in
-    let named : Option ℕ → Option ℕ → Key = λ u v. record { handle = u; priority = v } in
-    ap (λ u. named u a.priority) x ∙ ap (named b.handle) y
-
-option_same : (a : Option ℕ) → option_eq nat_eq a a ≡ true
-option_same None = refl
-option_same (Some x) = same_eq x
-
-pub same_key_self : (a : Key) → same_key a a ≡ true
-same_key_self a = rw (option_same a.handle, option_same a.priority) refl
-
-pub same_key_swapped : (a b : Key) → same_key a b ≡ same_key b a
-same_key_swapped a b = by_bool (same_key a b)
-    (λ e. let k = same_key_is a b e in e ∙ sym (subst (λ (z : Key). same_key z a ≡ true) k (same_key_self a)))
-    (λ e. by_bool (same_key b a) (λ f. let k = same_key_is b a f in absurd (let z = subst (λ (y : Key). same_key y b ≡ true) k (same_key_self b) in cc)) (λ f. e ∙ sym f))
-
--- the number at a key after one more was kept
-pub kept_least : (old new : Key → Option ℕ) (key : Key) (number least : ℕ) → Some least ≡ lesser_number (Some number) (old key) → ((k : Key) → new k ≡ (if same_key key k then Some least else old k)) → (k : Key) → new k ≡ (if same_key k key then lesser_number (Some number) (old k) else old k)
-kept_least old new key number least h update k = by_bool (same_key k key)
-    (λ e.
-    let same : key ≡ k = sym (same_key_is k key e) in
-    let swap : same_key key k ≡ true = same_key_swapped key k ∙ e in
-    update k ∙ (rw (swap, e) (h ∙ ap (λ (z : Key). lesser_number (Some number) (old z)) same)))
-    (λ e. let swap : same_key key k ≡ false = same_key_swapped key k ∙ e in update k ∙ rw (swap, e) refl)
+pub least_by-at : (test : FilterPlan → Bool) (fs : List (ℕ × FilterPlan)) (i : ℕ) (d : ℕ × FilterPlan) → i < length fs → least_by test (take (i + 1) fs) ≡ (if test (get_or fs i d).1 then lesser_number (Some (get_or fs i d).0) (least_by test (take i fs)) else least_by test (take i fs))
+least_by-at test fs i d h = rw (take_more fs i d h) (least_by-more test (take i fs) (get_or fs i d))
 
 -- one of a list that all pass
 pub passes_inside : {X : Type 0} (p : X → Bool) (xs : List X) (y : X) (ys : List X) → list_all p (xs ++ y ∷ ys) ≡ true → p y ≡ true

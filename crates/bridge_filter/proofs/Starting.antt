@@ -6,7 +6,6 @@ use Rattle.std.specs.List.{list_all}
 use Rattle.std.proofs.lemmas.Option.{same_Some}
 use Rattle.std.proofs.Math.Bool.{and-false}
 use Rattle.std.proofs.lemmas.Bool.{and_parts}
-use Rattle.indexmap.specs.IndexMap.{IndexMap, get}
 use Rattle.bridge_meter.specs.declared.Buckets.{Buckets}
 use Rattle.bridge_meter.specs.declared.MeterPlan.{MeterPlan}
 use Rattle.bridge_meter.specs.Standing as meter
@@ -15,12 +14,12 @@ use Rattle.bridge_gate.specs.Standing as gate
 use Rattle.bridge_cycle.proofs.Cases.{by_bool}
 use Rattle.bridge_filter.specs.declared.FilterPlan.{FilterPlan}
 use Rattle.bridge_filter.specs.declared.filter.Filter.{Filter}
-use Rattle.bridge_filter.specs.declared.find.Key.{Key}
-use Rattle.bridge_filter.specs.Finding.{same_key, least_with}
+use Rattle.bridge_filter.specs.Finding.{IsAnyRow, AreOwnRows}
 use Rattle.bridge_filter.specs.Plans.{is_there, is_there_if_any, are_distinct, has_instances, have_instances, gate_or_closed, meter_or_empty, plans_of}
 use Rattle.bridge_filter.specs.Standing.{PoliceState, Stands, GatesStand, MetersStand, AreKept, IsKept}
 use Rattle.bridge_filter.specs.Steps.{Made, AreMade, IsNewGate, IsNewMeter, IsSound, GatesBefore, MetersBefore, HasInstances, HaveInstances, HasMeter, new_filter, new_filters, plans_in}
 use Rattle.bridge_filter.proofs.Flows.{is_there-lookup}
+use Rattle.bridge_filter.proofs.Found.{rows_found}
 use Rattle.bridge_filter.proofs.Made.{lookup-new_filters, plans_in-new_filters}
 
 -- what is made of a plan has a plan
@@ -103,12 +102,12 @@ kept_start fs n f found =
 
 -- what a new police keeps goes together, and stands for no event
 
-pub sound_start : {A S : Type 0} (fs : List (ℕ × FilterPlan)) (gates : List (ℕ × GatePlan A)) (meters : List (ℕ × MeterPlan)) (filters : List (ℕ × Filter)) (firsts : IndexMap Key ℕ S) (made_gates : List (ℕ × gate.Gate A)) (made_meters : List (ℕ × meter.MeterState)) → filters ≡ new_filters fs → are_distinct fs ≡ true → have_instances fs gates meters ≡ true → ((k : Key) → get same_key firsts k ≡ least_with k fs) → AreMade IsNewGate gates made_gates → AreMade IsNewMeter meters made_meters → IsSound filters firsts made_gates made_meters 0 0
-sound_start fs gates meters filters firsts made_gates made_meters e distinct have first g m =
+pub sound_start : {A : Type 0} (fs : List (ℕ × FilterPlan)) (gates : List (ℕ × GatePlan A)) (meters : List (ℕ × MeterPlan)) (filters : List (ℕ × Filter)) (rows : List (ℕ × List (Option ℕ))) (any : List (Option ℕ)) (made_gates : List (ℕ × gate.Gate A)) (made_meters : List (ℕ × meter.MeterState)) → filters ≡ new_filters fs → are_distinct fs ≡ true → have_instances fs gates meters ≡ true → IsAnyRow any fs → AreOwnRows rows any fs → AreMade IsNewGate gates made_gates → AreMade IsNewMeter meters made_meters → IsSound filters rows any made_gates made_meters 0 0
+sound_start fs gates meters filters rows any made_gates made_meters e distinct have is own g m =
     let same = plans_in-new_filters fs in
-    subst (λ (z : List (ℕ × Filter)). IsSound z firsts made_gates made_meters 0 0) (sym e) (record {
+    subst (λ (z : List (ℕ × Filter)). IsSound z rows any made_gates made_meters 0 0) (sym e) (record {
       distinct = ap are_distinct same ∙ distinct;
-      first = λ k. first k ∙ sym (ap (least_with k) same);
+      found = λ handle k l. rw same (rows_found rows any fs is own handle k l);
       instances = instances_start fs gates meters made_gates made_meters have g m;
       asked = gates_before_start gates made_gates g;
       judged = meters_before_start meters made_meters m;

@@ -1,7 +1,6 @@
 -- What the private functions of the police keep and do in one step. No public clause speaks of it.
 use Rattle.std.specs.Prelude.{◌≡◌, ℕ, Bool, ◌+◌, ◌≤◌, ◌&&◌, ◌||◌, nat_eq, map, true, false, Option, Some, None, List, [], IsSome, if◌then◌else◌}
 use Rattle.std.specs.Map.{lookup}
-use Rattle.indexmap.specs.IndexMap.{IndexMap, get}
 use Rattle.bridge_meter.specs.declared.MeterPlan.{MeterPlan}
 use Rattle.bridge_meter.specs.Standing as meter
 use Rattle.bridge_gate.specs.declared.schedule.GatePlan.{GatePlan}
@@ -12,12 +11,11 @@ use Rattle.bridge_filter.specs.declared.Verdict.{Verdict}
 use Rattle.bridge_filter.specs.declared.Verdict.TheVariants as verdict
 use Rattle.bridge_filter.specs.declared.Counters.{Counters}
 use Rattle.bridge_filter.specs.declared.filter.Filter.{Filter}
-use Rattle.bridge_filter.specs.declared.find.Key.{Key}
 use Rattle.bridge_filter.specs.Verdicts.{Plans, Step, gate_share, meter_share, is_above, is_oversize, reached_gate, passed_gate}
 use Rattle.bridge_filter.specs.Standing.{GatesStand, MetersStand}
 use Rattle.bridge_filter.specs.Counts.{refused_by_gate, dropped_by_meter}
 use Rattle.bridge_filter.specs.Plans.{are_distinct}
-use Rattle.bridge_filter.specs.Finding.{same_key, least_with}
+use Rattle.bridge_filter.specs.Finding.{AreRows}
 
 -- why a filter refuses a frame before the gate is asked
 abbrev pub refusal : Filter → ℕ → Option Verdict
@@ -97,9 +95,9 @@ abbrev pub plans_in : List (ℕ × Filter) → List (ℕ × FilterPlan)
 plans_in fs = map (λ f. (f.0, f.1.plan)) fs
 
 -- what the police keeps goes together
-pub record IsSound {A S : Type 0} (filters : List (ℕ × Filter)) (firsts : IndexMap Key ℕ S) (gates : List (ℕ × gate.Gate A)) (meters : List (ℕ × meter.MeterState)) (calls earliest : ℕ) : Type 0 where
+pub record IsSound {A : Type 0} (filters : List (ℕ × Filter)) (rows : List (ℕ × List (Option ℕ))) (any : List (Option ℕ)) (gates : List (ℕ × gate.Gate A)) (meters : List (ℕ × meter.MeterState)) (calls earliest : ℕ) : Type 0 where
   pub distinct : are_distinct (plans_in filters) ≡ true
-  pub first : (k : Key) → get same_key firsts k ≡ least_with k (plans_in filters)
+  pub found : AreRows rows any (plans_in filters)
   pub instances : HaveInstances filters gates meters calls
   pub asked : GatesBefore gates earliest
   pub judged : MetersBefore meters earliest

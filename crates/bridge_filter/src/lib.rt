@@ -10,6 +10,7 @@ mod judge;
 pub mod laws;
 mod making;
 mod police;
+mod rows;
 
 pub use bridge_cycle::NoMemory;
 pub use police::Police;

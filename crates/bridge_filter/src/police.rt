@@ -13,10 +13,11 @@ ghost use Rattle.bridge_filter.specs.Steps.{HasMeter};
 
 use crate::clearing::{clear_blocked, clear_octets, clear_red, clear_rx};
 use crate::filter::Filter;
-use crate::find::{Firsts, filter_of};
+use crate::find::{Row, Rows, filter_of};
 use crate::instances::{Frame, Numbered, gate_flags, meter_state};
 use crate::judge::judge;
-use crate::making::{filters_of, firsts_of, gates_of, meters_of};
+use crate::making::{filters_of, gates_of, meters_of};
+use crate::rows::{any_of, rows_of};
 use crate::{Clear, Counters, FilterPlan, Flags, NoMemory, Ruling};
 use bridge_base::END_OF_TIME;
 use bridge_gate::{GatePlan, StreamGate};
@@ -28,7 +29,8 @@ use std::marker::Model;
 #[derive(Drop)]
 pub struct Police<A: Allocator + Copy> {
     filters: Numbered<Filter, A>,
-    firsts: Firsts<A>,
+    rows: Rows<A>,
+    any: Row,
     gates: Numbered<StreamGate<A>, A>,
     meters: Numbered<Meter, A>,
     calls: u64,
@@ -43,14 +45,14 @@ impl<A: Allocator + Copy> Model for Police<A> {
 
     ghost view = { λ p. record { filters = plans_in p.filters.entries; kept = p.filters.entries; gates = p.gates.entries; meters = p.meters.entries; calls = p.calls; earliest = p.earliest } };
 
-    ghost invariant = { λ p. IsSound p.filters.entries p.firsts p.gates.entries p.meters.entries p.calls p.earliest };
+    ghost invariant = { λ p. IsSound p.filters.entries p.rows.entries p.any p.gates.entries p.meters.entries p.calls p.earliest };
 }
 
 impl<A: Allocator + Copy> Police<A> {
     /// The police of these filters, gates and meters, each with its number; filters may come in any order. No frame
     /// has come yet. What it was handed is dropped where it refuses.
     ///
-    /// The filter of a frame is later found by at most four look-ups, however many filters there are.
+    /// The filter of a frame is later found by one look-up of its handle, however many filters there are.
     pub fn new(
         alloc: A,
         filters: Vec<(u32, FilterPlan), A>,
@@ -68,9 +70,11 @@ impl<A: Allocator + Copy> Police<A> {
         ensures gates { IfOk result (λ p. KeepsNumbers gates.items p.gates) }
         ensures meters { IfOk result (λ p. KeepsNumbers meters.items p.meters) }
     {
+        let any = any_of(&filters);
         Ok(Police {
             filters: filters_of(alloc, &filters)?,
-            firsts: firsts_of(alloc, &filters)?,
+            rows: rows_of(alloc, &filters, &any)?,
+            any,
             gates: gates_of(alloc, gates)?,
             meters: meters_of(alloc, &meters)?,
             calls: 0,
@@ -111,7 +115,7 @@ impl<A: Allocator + Copy> Police<A> {
         };
         self.calls += 1;
         self.earliest = t;
-        let filter = filter_of(&self.firsts, handle, priority)?;
+        let filter = filter_of(&self.filters, &self.rows, &self.any, handle, priority)?;
         let verdict = judge(
             &mut self.filters,
             &mut self.gates,
@@ -128,7 +132,7 @@ impl<A: Allocator + Copy> Police<A> {
         ensures filter { (at sdu octets : ℕ) (dei : Bool) → result ≡ option_map (λ f. f.0) (flow self.now.filters (call at handle priority dei sdu octets)) }
         ensures there { IfSome result (λ n. is_there n self.now.filters ≡ true) }
     {
-        filter_of(&self.firsts, handle, priority)
+        filter_of(&self.filters, &self.rows, &self.any, handle, priority)
     }
 
     /// Clears a flag of the instance with that number, so that frames are judged again as if it had never been set.

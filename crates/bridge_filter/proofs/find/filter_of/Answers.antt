@@ -1,14 +1,13 @@
-use Rattle.indexmap.specs.IndexMap.{get}
-use Rattle.bridge_filter.specs.Finding.{same_key}
-use Rattle.bridge_filter.proofs.Found.{looked_up_any, looked_up_own}
+use Rattle.std.proofs.Common.{◌∙◌, sym, ap, ℕ, List, Option}
+use Rattle.bridge_filter.specs.Finding.{slot}
+use Rattle.bridge_filter.specs.Steps.{plans_in}
+use Rattle.bridge_filter.proofs.Found.{flow-least}
 use Rattle.bridge_filter.proofs.find.filter_of.Goals as goal
 
-pub returns-in-None : goal.returns-in-None
-returns-in-None g c = λ filters at sdu octets dei firsts.
-    let e = looked_up_any (get same_key c.args.first.now) filters firsts at c.args.handle c.args.priority sdu octets dei c.in-None.is in
-    cc
+pub returns-then-priority-lt8 : goal.returns-then-priority-lt8
+returns-then-priority-lt8 g c = λ at sdu octets dei.
+    let a = c.args in
+    ap (λ (row : List (Option ℕ)). slot row a.priority) c.row_of.ensures ∙ (c.requires a.handle a.priority c.if-priority-lt8.true ∙ sym (flow-least (plans_in a.filters.now.entries) at a.handle a.priority sdu octets dei))
 
-pub returns-in-Some : goal.returns-in-Some
-returns-in-Some g c = λ filters at sdu octets dei firsts.
-    let e = looked_up_own (get same_key c.args.first.now) filters firsts at c.args.handle c.in-Some.field-0 c.args.priority sdu octets dei c.in-Some.is in
-    cc
+pub returns-else-priority-lt8 : goal.returns-else-priority-lt8
+returns-else-priority-lt8 g c = λ at sdu octets dei. c.filter_among.ensures ∙ sym (flow-least (plans_in c.args.filters.now.entries) at c.args.handle c.args.priority sdu octets dei)

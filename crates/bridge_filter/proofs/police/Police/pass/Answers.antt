@@ -10,14 +10,14 @@ pub invariant_of-self : goal.invariant_of-self
 invariant_of-self g c =
     let i = c.self.inside in
     let le : i.earliest ≤ c.args.t = subst (λ (z : PoliceState _). z.earliest ≤ c.args.t) (sym c.self.view_is) c.requires.time in
-    sound_unfiltered i.filters.entries i.firsts i.gates.entries i.meters.entries i.calls i.earliest c.args.t le c.self.invariant
+    sound_unfiltered i.filters.entries i.rows.entries i.any i.gates.entries i.meters.entries i.calls i.earliest c.args.t le c.self.invariant
 
 pub returns-in_err-filter-clause-stands : goal.returns-in_err-filter-clause-stands
 returns-in_err-filter-clause-stands g c = λ p es stands.
     let i = c.self.inside in
     let fs = plans_in i.filters.entries in
     let frame = call c.args.t c.args.handle c.args.priority c.args.dei c.args.sdu c.args.octets in
-    let number = c.filter_of.ensures fs c.args.t c.args.sdu c.args.octets c.args.dei c.self.invariant.first in
+    let number = c.filter_of.ensures c.args.t c.args.sdu c.args.octets c.args.dei in
     let none = flow_none fs frame (sym c.in_err-filter.was ∙ number) in
     let st = subst (λ (z : PoliceState _). Stands p z es) (sym c.self.view_is) stands in
     let step = judged_unfiltered p fs (told p es) frame st.filters none in
@@ -28,7 +28,7 @@ judge-verdict-requires-clause-there g c =
     let i = c.self.inside in
     let fs = plans_in i.filters.entries in
     let frame = call c.args.t c.args.handle c.args.priority c.args.dei c.args.sdu c.args.octets in
-    let number = c.filter_of.ensures fs c.args.t c.args.sdu c.args.octets c.args.dei c.self.invariant.first in
+    let number = c.filter_of.ensures c.args.t c.args.sdu c.args.octets c.args.dei in
     let flow = flow_numbered fs frame c.in_ok-filter.filter c.self.invariant.distinct (sym c.in_ok-filter.was ∙ number) in
     kept_there c.in_ok-filter.filter i.filters.entries flow.plan flow.found
 
@@ -42,7 +42,7 @@ pub invariant_of-self-2 : goal.invariant_of-self-2
 invariant_of-self-2 g c =
     let i = c.self.inside in
     let r = c.judge-verdict in
-    sound_judged i.filters.entries r.new.filters.entries i.firsts i.gates.entries r.new.gates.entries i.meters.entries r.new.meters.entries i.calls i.earliest c.args.t c.self.invariant r.ensures.plans (r.ensures.instances i.calls c.self.invariant.instances) r.ensures.asked r.ensures.judged
+    sound_judged i.filters.entries r.new.filters.entries i.rows.entries i.any i.gates.entries r.new.gates.entries i.meters.entries r.new.meters.entries i.calls i.earliest c.args.t c.self.invariant r.ensures.plans (r.ensures.instances i.calls c.self.invariant.instances) r.ensures.asked r.ensures.judged
 
 pub returns-clause-stands : goal.returns-clause-stands
 returns-clause-stands g c = λ p es stands.
@@ -51,7 +51,7 @@ returns-clause-stands g c = λ p es stands.
     let n = c.in_ok-filter.filter in
     let fs = plans_in i.filters.entries in
     let frame = call c.args.t c.args.handle c.args.priority c.args.dei c.args.sdu c.args.octets in
-    let number = c.filter_of.ensures fs c.args.t c.args.sdu c.args.octets c.args.dei c.self.invariant.first in
+    let number = c.filter_of.ensures c.args.t c.args.sdu c.args.octets c.args.dei in
     let flow = flow_numbered fs frame n c.self.invariant.distinct (sym c.in_ok-filter.was ∙ number) in
     let st = subst (λ (z : PoliceState _). Stands p z es) (sym c.self.view_is) stands in
     let are = are_policed p _ es st in
@@ -66,7 +66,7 @@ returns-clause-answer g c = λ p es stands.
     let n = c.in_ok-filter.filter in
     let fs = plans_in i.filters.entries in
     let frame = call c.args.t c.args.handle c.args.priority c.args.dei c.args.sdu c.args.octets in
-    let number = c.filter_of.ensures fs c.args.t c.args.sdu c.args.octets c.args.dei c.self.invariant.first in
+    let number = c.filter_of.ensures c.args.t c.args.sdu c.args.octets c.args.dei in
     let flow = flow_numbered fs frame n c.self.invariant.distinct (sym c.in_ok-filter.was ∙ number) in
     let st = subst (λ (z : PoliceState _). Stands p z es) (sym c.self.view_is) stands in
     let verdict = r.ensures.verdict p (told p es) flow.plan c.args.handle c.args.priority flow.found st.kept (are_policed p _ es st) in
