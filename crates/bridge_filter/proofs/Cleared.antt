@@ -1,7 +1,7 @@
 use Rattle.std.proofs.Common.{◌≡◌, ℕ, true, false, List, ◌∷◌, refl, ap, ◌∙◌, sym, subst}
 use Rattle.std.specs.Prelude.{nat_eq, Option, Some, None, IsSome, IsTrue, if◌then◌else◌}
 use Rattle.std.specs.Option.{option_map, is_some}
-use Rattle.std.specs.Map.{lookup}
+use Rattle.std.specs.Map.{lookup, keys_of}
 use Rattle.std.proofs.Math.Bool.{and-false}
 use Rattle.bridge_meter.specs.Standing as meter
 use Rattle.bridge_gate.specs.Standing as gate
@@ -11,12 +11,13 @@ use Rattle.bridge_meter.specs.declared.MeterPlan.{MeterPlan}
 use Rattle.bridge_filter.specs.declared.Clear.{Clear}
 use Rattle.bridge_filter.specs.declared.Clear.TheVariants as clear
 use Rattle.bridge_filter.specs.declared.FilterPlan.{FilterPlan}
-use Rattle.bridge_filter.specs.Plans.{KeepsNumbers, is_there}
+use Rattle.bridge_filter.specs.Plans.{is_there}
 use Rattle.bridge_filter.specs.declared.filter.Filter.{Filter}
+use Rattle.bridge_filter.specs.declared.find.Route.{Route}
 use Rattle.bridge_filter.specs.Verdicts.{Plans, Event, Cleared, Step, Commanded, told, gate_share, meter_share}
 use Rattle.bridge_filter.specs.Standing.{PoliceState, Stands, has_instance, AreKept, IsKept, GatesStand, MetersStand}
 use Rattle.bridge_filter.specs.Steps.{GatesBefore, MetersBefore, InstancesStay, HaveInstances, IsSound, plans_in}
-use Rattle.bridge_filter.proofs.Numbered.{Changes, each_after, same_eq}
+use Rattle.bridge_filter.proofs.Numbered.{Changes, each_after, same_eq, keeps_numbers}
 use Rattle.bridge_filter.proofs.Judging.{has_meter_later, lookup-plans_in}
 use Rattle.bridge_filter.proofs.Flows.{is_there-lookup}
 
@@ -56,29 +57,32 @@ instances_stay old new gates meters calls stay have n g found =
 
 -- what the police keeps goes together after a command
 
-pub sound_filters : {A : Type 0} (old new : List (ℕ × Filter)) (rows : List (ℕ × List (Option ℕ))) (any : List (Option ℕ)) (gates : List (ℕ × gate.Gate A)) (meters : List (ℕ × meter.MeterState)) (calls earliest : ℕ) → plans_in new ≡ plans_in old → InstancesStay old new → IsSound old rows any gates meters calls earliest → IsSound new rows any gates meters calls earliest
+pub sound_filters : {A : Type 0} (old new : List (ℕ × Filter)) (rows : List (ℕ × List (Option Route))) (any : List (Option Route)) (gates : List (ℕ × gate.Gate A)) (meters : List (ℕ × meter.MeterState)) (calls earliest : ℕ) → plans_in new ≡ plans_in old → InstancesStay old new → IsSound old rows any gates meters calls earliest → IsSound new rows any gates meters calls earliest
 sound_filters old new rows any gates meters calls earliest same stay h = record {
   distinct = rw same h.distinct;
   found = λ handle k l. rw same (h.found handle k l);
+  routes = λ handle k l. rw same (h.routes handle k l);
   instances = instances_stay old new gates meters calls stay h.instances;
   asked = h.asked;
   judged = h.judged;
 }
 
-pub sound_gates : {A : Type 0} (filters : List (ℕ × Filter)) (rows : List (ℕ × List (Option ℕ))) (any : List (Option ℕ)) (old new : List (ℕ × gate.Gate A)) (meters : List (ℕ × meter.MeterState)) (calls earliest : ℕ) → KeepsNumbers old new → ((t : ℕ) → GatesBefore old t → GatesBefore new t) → IsSound filters rows any old meters calls earliest → IsSound filters rows any new meters calls earliest
+pub sound_gates : {A : Type 0} (filters : List (ℕ × Filter)) (rows : List (ℕ × List (Option Route))) (any : List (Option Route)) (old new : List (ℕ × gate.Gate A)) (meters : List (ℕ × meter.MeterState)) (calls earliest : ℕ) → keys_of new ≡ keys_of old → ((t : ℕ) → GatesBefore old t → GatesBefore new t) → IsSound filters rows any old meters calls earliest → IsSound filters rows any new meters calls earliest
 sound_gates filters rows any old new meters calls earliest same before h = record {
   distinct = h.distinct;
   found = h.found;
-  instances = λ n f found. let i = h.instances n f found in record { gate = same f.plan.gate i.gate; meter = i.meter; few = i.few };
+  routes = λ handle k l. rw same (h.routes handle k l);
+  instances = λ n f found. let i = h.instances n f found in record { gate = keeps_numbers old new same f.plan.gate i.gate; meter = i.meter; few = i.few };
   asked = before earliest h.asked;
   judged = h.judged;
 }
 
-pub sound_meters : {A : Type 0} (filters : List (ℕ × Filter)) (rows : List (ℕ × List (Option ℕ))) (any : List (Option ℕ)) (gates : List (ℕ × gate.Gate A)) (old new : List (ℕ × meter.MeterState)) (calls earliest : ℕ) → KeepsNumbers old new → ((t : ℕ) → MetersBefore old t → MetersBefore new t) → IsSound filters rows any gates old calls earliest → IsSound filters rows any gates new calls earliest
+pub sound_meters : {A : Type 0} (filters : List (ℕ × Filter)) (rows : List (ℕ × List (Option Route))) (any : List (Option Route)) (gates : List (ℕ × gate.Gate A)) (old new : List (ℕ × meter.MeterState)) (calls earliest : ℕ) → keys_of new ≡ keys_of old → ((t : ℕ) → MetersBefore old t → MetersBefore new t) → IsSound filters rows any gates old calls earliest → IsSound filters rows any gates new calls earliest
 sound_meters filters rows any gates old new calls earliest same before h = record {
   distinct = h.distinct;
   found = h.found;
-  instances = λ n f found. let i = h.instances n f found in record { gate = i.gate; meter = has_meter_later f.plan.meter old new same i.meter; few = i.few };
+  routes = λ handle k l. rw same (h.routes handle k l);
+  instances = λ n f found. let i = h.instances n f found in record { gate = i.gate; meter = has_meter_later f.plan.meter old new (keeps_numbers old new same) i.meter; few = i.few };
   asked = h.asked;
   judged = before earliest h.judged;
 }

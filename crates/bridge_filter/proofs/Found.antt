@@ -3,8 +3,9 @@ use Rattle.std.proofs.lemmas.Bool.Decides.{nat_tests}
 use Rattle.std.specs.Prelude.{◌&&◌, ◌||◌, if◌then◌else◌, nat_eq, nat_lt, is_none}
 use Rattle.std.specs.Option.{option_map}
 use Rattle.bridge_filter.specs.declared.FilterPlan.{FilterPlan}
+use Rattle.bridge_filter.specs.declared.find.Route.{Route}
 use Rattle.bridge_filter.specs.Verdicts.{Call, call, flow, lesser, is_match, takes_handle, takes_priority}
-use Rattle.bridge_filter.specs.Finding.{lesser_number, least_by, least_for, least_any, least_own, names_handle, slot, row_of, IsAnyRow, AreOwnRows, AreRows}
+use Rattle.bridge_filter.specs.Finding.{lesser_number, least_by, least_for, least_any, least_own, names_handle, number_at, IsAnyRow, AreOwnRows, AreRows}
 
 -- the lesser of two numbers, where either may be none, in any order and grouping
 
@@ -41,7 +42,7 @@ pub least_by-same : (a b : FilterPlan → Bool) (fs : List (ℕ × FilterPlan)) 
 least_by-same a b [] h = refl
 least_by-same a b (f ∷ fs) h = rw (h f.1, least_by-same a b fs h) refl
 
-lesser_chosen : (b : Bool) (f g : ℕ × FilterPlan) → nat_lt g.0 f.0 ≡ b → option_map (λ (x : ℕ × FilterPlan). x.0) (if b then Some g else Some f) ≡ Some (min f.0 g.0)
+pub lesser_chosen : (b : Bool) (f g : ℕ × FilterPlan) → nat_lt g.0 f.0 ≡ b → option_map (λ (x : ℕ × FilterPlan). x.0) (if b then Some g else Some f) ≡ Some (min f.0 g.0)
 lesser_chosen true f g h = let k : g.0 < f.0 = grind (arith, nat_tests) in ap Some (omega arith)
 lesser_chosen false f g h = let k : f.0 ≤ g.0 = grind (arith, nat_tests) in ap Some (omega arith)
 
@@ -68,7 +69,7 @@ any_takes : (asked : Option ℕ) → takes_handle asked None ≡ is_none asked
 any_takes None = refl
 any_takes (Some m) = refl
 
-any_found : (any : List (Option ℕ)) (fs : List (ℕ × FilterPlan)) → IsAnyRow any fs → (k : ℕ) → k < 8 → slot any k ≡ least_for None k fs
+any_found : (any : List (Option Route)) (fs : List (ℕ × FilterPlan)) → IsAnyRow any fs → (k : ℕ) → k < 8 → number_at any k ≡ least_for None k fs
 any_found any fs is k l = is k l ∙ least_by-same (λ f. is_none f.handle && takes_priority f.priority k) (λ f. takes_handle f.handle None && takes_priority f.priority k) fs (λ f. rw (any_takes f.handle) refl)
 
 or_false : (b : Bool) → b || false ≡ b
@@ -86,6 +87,6 @@ own_found h k fs =
     sym (least_by-either own any fs) ∙ least_by-same (λ f. own f || any f) (λ f. takes_handle f.handle (Some h) && takes_priority f.priority k) fs (λ f. own_takes h f.handle (takes_priority f.priority k))
 
 -- rows that are made of the filters without a handle and of those with one are right for all frames
-pub rows_found : (rows : List (ℕ × List (Option ℕ))) (any : List (Option ℕ)) (fs : List (ℕ × FilterPlan)) → IsAnyRow any fs → AreOwnRows rows any fs → AreRows rows any fs
+pub rows_found : (rows : List (ℕ × List (Option Route))) (any : List (Option Route)) (fs : List (ℕ × FilterPlan)) → IsAnyRow any fs → AreOwnRows rows any fs → AreRows rows any fs
 rows_found rows any fs is own None k l = any_found any fs is k l
 rows_found rows any fs is own (Some h) k l = own h k l ∙ (ap (lesser_number (least_own h k fs)) (is k l) ∙ own_found h k fs)

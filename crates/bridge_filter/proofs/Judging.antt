@@ -1,5 +1,5 @@
-use Rattle.std.proofs.Common.{◌≡◌, ℕ, Bool, true, false, List, [], ◌∷◌, ◌++◌, ◌+◌, ◌≤◌, arith, refl, ap, ◌∙◌, sym, subst, length}
-use Rattle.std.specs.Prelude.{nat_eq, if◌then◌else◌, ◌&&◌, ◌||◌, Option, Some, None, count_by}
+use Rattle.std.proofs.Common.{◌≡◌, ℕ, Bool, true, false, List, [], ◌∷◌, ◌++◌, ◌+◌, ◌≤◌, ◌<◌, arith, refl, ap, ◌∙◌, sym, subst, length, zero, suc}
+use Rattle.std.specs.Prelude.{nat_eq, if◌then◌else◌, ◌&&◌, ◌||◌, Option, Some, None, IfSome, count_by, slice_get}
 use Rattle.bridge_meter.specs.Standing as meter
 use Rattle.bridge_gate.specs.Standing as gate
 use Rattle.bridge_cycle.proofs.Cases.{by_bool}
@@ -13,12 +13,14 @@ use Rattle.bridge_filter.specs.Verdicts.{Plans, Step, Judged, Call, verdict_of, 
 use Rattle.bridge_filter.specs.Counts.{verdicts_of, counters_of, refused_by_gate, dropped_by_meter}
 use Rattle.bridge_filter.specs.Standing.{IsKept, AreKept}
 use Rattle.bridge_filter.specs.Steps.{refusal, ArePoliced, counted, noted, one_if, AreAtMost, HasMeter, HasInstances, HaveInstances, plans_in}
-use Rattle.std.specs.Map.{lookup, set_value}
+use Rattle.std.specs.Map.{lookup, set_value, keys_of}
+use Rattle.indexmap.specs.Layout.{set_value_at}
+use Rattle.bridge_filter.specs.Finding.{IsPlaceIfAny}
 use Rattle.std.specs.Option.{option_map}
-use Rattle.std.proofs.lemmas.List.{length-append, append-nil}
+use Rattle.std.proofs.lemmas.List.{length-append, append-nil, length-map}
 use Rattle.std.proofs.lemmas.List.Sums.{sum_by-append}
-use Rattle.std.proofs.lemmas.Option.{same_Some}
-use Rattle.bridge_filter.proofs.Numbered.{same_eq, Changes, each_after}
+use Rattle.std.proofs.lemmas.Option.{same_Some, slice_get-map, slice_get_within, some_pair_parts}
+use Rattle.bridge_filter.proofs.Numbered.{same_eq, Changes, each_after, place_within}
 use Rattle.bridge_filter.proofs.Shares.{gate_share-refused, meter_share-refused, gates_stand_same, meters_stand_same}
 
 refused_by : (a b : Bool) (v z : Verdict) → (if a then Some verdict.Blocked else (if b then Some verdict.Oversize else None)) ≡ Some v → v ≡ (if a then verdict.Blocked else (if b then verdict.Oversize else z))
@@ -159,3 +161,40 @@ plans_in-set_value n (x ∷ fs) f g h k = by_bool (nat_eq n x.0)
     let it : x.1 ≡ f = same_Some x.1 f (rw e at h) in
     rw (e, k, ← it) refl)
     (λ e. let there : lookup (nat_eq n) fs ≡ Some f = rw e at h in rw e (ap (λ (z : List (ℕ × FilterPlan)). (x.0, x.1.plan) ∷ z) (plans_in-set_value n fs f g there k)))
+
+-- the filter at a place
+
+abbrev plan_of : ℕ × Filter → ℕ × FilterPlan
+plan_of x = (x.0, x.1.plan)
+
+pub plan_at : (fs : List (ℕ × Filter)) (i k : ℕ) (f : Filter) → slice_get fs i ≡ Some (k, f) → slice_get (plans_in fs) i ≡ Some (k, f.plan)
+plan_at fs i k f at = slice_get-map plan_of fs i ∙ ap (option_map plan_of) at
+
+pub filter_is : (fs : List (ℕ × Filter)) (i k n : ℕ) (f : Filter) (plan : FilterPlan) → slice_get fs i ≡ Some (k, f) → slice_get (plans_in fs) i ≡ Some (n, plan) → (k ≡ n) × (f.plan ≡ plan)
+filter_is fs i k n f plan at is = some_pair_parts k n f.plan plan (sym (plan_at fs i k f at) ∙ is)
+
+pub filter_within : (fs : List (ℕ × Filter)) (i n : ℕ) (plan : FilterPlan) → slice_get (plans_in fs) i ≡ Some (n, plan) → i < length fs
+filter_within fs i n plan is = subst (λ (m : ℕ). i < m) (length-map fs plan_of) (slice_get_within (plans_in fs) i (n, plan) is)
+
+-- plans stay where the filter at a place is kept with the plan that it had
+pub plans_in-set_value_at : (fs : List (ℕ × Filter)) (i k : ℕ) (f g : Filter) → slice_get fs i ≡ Some (k, f) → g.plan ≡ f.plan → plans_in (set_value_at fs i g) ≡ plans_in fs
+plans_in-set_value_at [] i k f g at e = refl
+plans_in-set_value_at (x ∷ fs) zero k f g at e =
+    let it : x ≡ (k, f) = same_Some x (k, f) at in
+    let own : f.plan ≡ x.1.plan = ap (λ (y : ℕ × Filter). y.1.plan) (sym it) in
+    ap (λ (p : FilterPlan). (x.0, p) ∷ plans_in fs) (e ∙ own)
+plans_in-set_value_at (x ∷ fs) (suc i) k f g at e = ap (λ (z : List (ℕ × FilterPlan)). (x.0, x.1.plan) ∷ z) (plans_in-set_value_at fs i k f g at e)
+
+-- the meter at a place
+pub meter_placed : (meters : List ℕ) (o : Option ℕ) (i : ℕ) → IsPlaceIfAny meters o (Some i) → (n : ℕ) × (o ≡ Some n) × (slice_get meters i ≡ Some n)
+meter_placed meters None i h = absurd h
+meter_placed meters (Some n) i h = (n, refl, h)
+
+pub no_meter_placed : (meters : List ℕ) (o : Option ℕ) → IsPlaceIfAny meters o None → o ≡ None
+no_meter_placed meters None h = refl
+no_meter_placed meters (Some n) h = absurd h
+
+pub meter_within : {X : Type 0} (meters : List (ℕ × X)) (o place : Option ℕ) → IsPlaceIfAny (keys_of meters) o place → IfSome place (λ i. i < length meters)
+meter_within meters o None h = tt
+meter_within meters None (Some i) h = absurd h
+meter_within meters (Some n) (Some i) h = place_within meters i n h

@@ -1,10 +1,12 @@
 use Rattle.std.proofs.Common.{◌≡◌, ℕ, List, ◌∷◌, ◌+◌, ◌≤◌, arith, ap, ◌∙◌, sym, subst}
 use Rattle.std.specs.Prelude.{Option, Some, None}
+use Rattle.std.specs.Map.{keys_of}
 use Rattle.bridge_meter.specs.Standing as meter
 use Rattle.bridge_gate.specs.Standing as gate
 use Rattle.bridge_filter.specs.declared.FilterPlan.{FilterPlan}
 use Rattle.bridge_filter.specs.declared.Verdict.{Verdict}
 use Rattle.bridge_filter.specs.declared.filter.Filter.{Filter}
+use Rattle.bridge_filter.specs.declared.find.Route.{Route}
 use Rattle.bridge_filter.specs.Verdicts.{Plans, Call, Event, Came, Step, Unfiltered, Judged, flow, verdict_of, judged, told}
 use Rattle.bridge_filter.specs.Standing.{PoliceState, Stands, AreKept}
 use Rattle.bridge_filter.specs.Steps.{ArePoliced, HaveInstances, GatesBefore, MetersBefore, IsSound, plans_in}
@@ -54,19 +56,21 @@ gates_before_later gates t u le before n g found = let h = before n g found in o
 pub meters_before_later : (meters : List (ℕ × meter.MeterState)) (t u : ℕ) → t ≤ u → MetersBefore meters t → MetersBefore meters u
 meters_before_later meters t u le before n m found = let h = before n m found in omega arith
 
-pub sound_unfiltered : {A : Type 0} (filters : List (ℕ × Filter)) (rows : List (ℕ × List (Option ℕ))) (any : List (Option ℕ)) (gates : List (ℕ × gate.Gate A)) (meters : List (ℕ × meter.MeterState)) (calls earliest t : ℕ) → earliest ≤ t → IsSound filters rows any gates meters calls earliest → IsSound filters rows any gates meters (calls + 1) t
+pub sound_unfiltered : {A : Type 0} (filters : List (ℕ × Filter)) (rows : List (ℕ × List (Option Route))) (any : List (Option Route)) (gates : List (ℕ × gate.Gate A)) (meters : List (ℕ × meter.MeterState)) (calls earliest t : ℕ) → earliest ≤ t → IsSound filters rows any gates meters calls earliest → IsSound filters rows any gates meters (calls + 1) t
 sound_unfiltered filters rows any gates meters calls earliest t le h = record {
   distinct = h.distinct;
   found = h.found;
+  routes = h.routes;
   instances = have_later filters gates meters calls (calls + 1) (omega arith) h.instances;
   asked = gates_before_later gates earliest t le h.asked;
   judged = meters_before_later meters earliest t le h.judged;
 }
 
-pub sound_judged : {A : Type 0} (filters more_filters : List (ℕ × Filter)) (rows : List (ℕ × List (Option ℕ))) (any : List (Option ℕ)) (gates more_gates : List (ℕ × gate.Gate A)) (meters more_meters : List (ℕ × meter.MeterState)) (calls earliest t : ℕ) → IsSound filters rows any gates meters calls earliest → plans_in more_filters ≡ plans_in filters → HaveInstances more_filters more_gates more_meters (calls + 1) → GatesBefore more_gates t → MetersBefore more_meters t → IsSound more_filters rows any more_gates more_meters (calls + 1) t
-sound_judged filters more_filters rows any gates more_gates meters more_meters calls earliest t h same have asked judged = record {
+pub sound_judged : {A : Type 0} (filters more_filters : List (ℕ × Filter)) (rows : List (ℕ × List (Option Route))) (any : List (Option Route)) (gates more_gates : List (ℕ × gate.Gate A)) (meters more_meters : List (ℕ × meter.MeterState)) (calls earliest t : ℕ) → IsSound filters rows any gates meters calls earliest → plans_in more_filters ≡ plans_in filters → keys_of more_gates ≡ keys_of gates → keys_of more_meters ≡ keys_of meters → HaveInstances more_filters more_gates more_meters (calls + 1) → GatesBefore more_gates t → MetersBefore more_meters t → IsSound more_filters rows any more_gates more_meters (calls + 1) t
+sound_judged filters more_filters rows any gates more_gates meters more_meters calls earliest t h same same_gates same_meters have asked judged = record {
   distinct = rw same h.distinct;
   found = λ handle k l. rw same (h.found handle k l);
+  routes = λ handle k l. rw (same, same_gates, same_meters) (h.routes handle k l);
   instances = have;
   asked = asked;
   judged = judged;

@@ -10,6 +10,7 @@ use Rattle.bridge_filter.specs.Standing.{GatesStand, MetersStand}
 use Rattle.bridge_filter.specs.Steps.{GatesBefore, MetersBefore}
 use Rattle.bridge_filter.specs.declared.FilterPlan.{FilterPlan}
 use Rattle.bridge_filter.specs.declared.Verdict.{Verdict}
+use Rattle.bridge_filter.specs.declared.Verdict.TheVariants.{Pass}
 use Rattle.bridge_gate.specs.declared.gate.GateAnswer.{GateAnswer}
 use Rattle.bridge_gate.specs.declared.gate.GateAnswer.TheVariants.{Through}
 use Rattle.bridge_filter.specs.Verdicts.{Plans, Call, by_answer, by_colour, Step, Judged, gate_share, meter_share, is_meter, reached_gate, passed_gate}
@@ -62,3 +63,7 @@ meters_stand_same plans meters share later same stand n m found = rw (same n) (s
 -- the verdict of a frame that the gate let through, by the meter of its filter
 pub by_answer-metered : (p : Plans) (ss : List Step) (c : Call) (f : FilterPlan) (a : GateAnswer) (ipv : Option ℕ) (m : ℕ) → a ≡ Through ipv → f.meter ≡ Some m → by_answer p ss c f a ≡ by_colour (p.meters m) ipv (colour_of (p.meters m) (past (p.meters m) (meter_share m ss)) c.at c.octets c.dei)
 by_answer-metered p ss c f a ipv m h k = rw (h, k) refl
+
+-- and of one that it let through to no meter
+pub by_answer-unmetered : (p : Plans) (ss : List Step) (c : Call) (f : FilterPlan) (a : GateAnswer) (ipv : Option ℕ) → a ≡ Through ipv → f.meter ≡ None → by_answer p ss c f a ≡ Pass ipv false
+by_answer-unmetered p ss c f a ipv h k = rw (h, k) refl

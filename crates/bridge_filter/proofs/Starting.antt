@@ -1,7 +1,7 @@
 use Rattle.std.proofs.Common.{◌≡◌, ℕ, Bool, true, List, [], ◌∷◌, arith, refl, ap, ◌∙◌, sym, subst}
 use Rattle.std.specs.Prelude.{nat_eq, Option, Some, None, IsSome}
 use Rattle.std.specs.Option.{option_map, is_some}
-use Rattle.std.specs.Map.{lookup}
+use Rattle.std.specs.Map.{lookup, keys_of}
 use Rattle.std.specs.List.{list_all}
 use Rattle.std.proofs.lemmas.Option.{same_Some}
 use Rattle.std.proofs.Math.Bool.{and-false}
@@ -14,7 +14,8 @@ use Rattle.bridge_gate.specs.Standing as gate
 use Rattle.bridge_cycle.proofs.Cases.{by_bool}
 use Rattle.bridge_filter.specs.declared.FilterPlan.{FilterPlan}
 use Rattle.bridge_filter.specs.declared.filter.Filter.{Filter}
-use Rattle.bridge_filter.specs.Finding.{IsAnyRow, AreOwnRows}
+use Rattle.bridge_filter.specs.declared.find.Route.{Route}
+use Rattle.bridge_filter.specs.Finding.{IsAnyRow, AreOwnRows, HaveRoutes}
 use Rattle.bridge_filter.specs.Plans.{is_there, is_there_if_any, are_distinct, has_instances, have_instances, gate_or_closed, meter_or_empty, plans_of}
 use Rattle.bridge_filter.specs.Standing.{PoliceState, Stands, GatesStand, MetersStand, AreKept, IsKept}
 use Rattle.bridge_filter.specs.Steps.{Made, AreMade, IsNewGate, IsNewMeter, IsSound, GatesBefore, MetersBefore, HasInstances, HaveInstances, HasMeter, new_filter, new_filters, plans_in}
@@ -95,6 +96,9 @@ instances_start fs gates meters made_gates made_meters have g m n f found =
       few = record { matching = omega arith; sdu_passed = omega arith; sdu_refused = omega arith; gate_passed = omega arith; gate_refused = omega arith; red = omega arith };
     })
 
+pub instances_new : {A : Type 0} (fs : List (ℕ × FilterPlan)) (gates : List (ℕ × GatePlan A)) (meters : List (ℕ × MeterPlan)) (filters : List (ℕ × Filter)) (made_gates : List (ℕ × gate.Gate A)) (made_meters : List (ℕ × meter.MeterState)) → filters ≡ new_filters fs → have_instances fs gates meters ≡ true → AreMade IsNewGate gates made_gates → AreMade IsNewMeter meters made_meters → HaveInstances filters made_gates made_meters 0
+instances_new fs gates meters filters made_gates made_meters e have g m = subst (λ (z : List (ℕ × Filter)). HaveInstances z made_gates made_meters 0) (sym e) (instances_start fs gates meters made_gates made_meters have g m)
+
 pub kept_start : (fs : List (ℕ × FilterPlan)) → AreKept (new_filters fs) []
 kept_start fs n f found =
     let new = new_found fs n f found in
@@ -102,16 +106,15 @@ kept_start fs n f found =
 
 -- what a new police keeps goes together, and stands for no event
 
-pub sound_start : {A : Type 0} (fs : List (ℕ × FilterPlan)) (gates : List (ℕ × GatePlan A)) (meters : List (ℕ × MeterPlan)) (filters : List (ℕ × Filter)) (rows : List (ℕ × List (Option ℕ))) (any : List (Option ℕ)) (made_gates : List (ℕ × gate.Gate A)) (made_meters : List (ℕ × meter.MeterState)) → filters ≡ new_filters fs → are_distinct fs ≡ true → have_instances fs gates meters ≡ true → IsAnyRow any fs → AreOwnRows rows any fs → AreMade IsNewGate gates made_gates → AreMade IsNewMeter meters made_meters → IsSound filters rows any made_gates made_meters 0 0
-sound_start fs gates meters filters rows any made_gates made_meters e distinct have is own g m =
-    let same = plans_in-new_filters fs in
-    subst (λ (z : List (ℕ × Filter)). IsSound z rows any made_gates made_meters 0 0) (sym e) (record {
-      distinct = ap are_distinct same ∙ distinct;
-      found = λ handle k l. rw same (rows_found rows any fs is own handle k l);
-      instances = instances_start fs gates meters made_gates made_meters have g m;
-      asked = gates_before_start gates made_gates g;
-      judged = meters_before_start meters made_meters m;
-    })
+pub sound_start : {A : Type 0} (fs : List (ℕ × FilterPlan)) (gates : List (ℕ × GatePlan A)) (meters : List (ℕ × MeterPlan)) (filters : List (ℕ × Filter)) (rows : List (ℕ × List (Option Route))) (any : List (Option Route)) (made_gates : List (ℕ × gate.Gate A)) (made_meters : List (ℕ × meter.MeterState)) → filters ≡ new_filters fs → are_distinct fs ≡ true → HaveInstances filters made_gates made_meters 0 → IsAnyRow any (plans_in filters) → AreOwnRows rows any (plans_in filters) → HaveRoutes rows any (plans_in filters) (keys_of made_gates) (keys_of made_meters) → AreMade IsNewGate gates made_gates → AreMade IsNewMeter meters made_meters → IsSound filters rows any made_gates made_meters 0 0
+sound_start fs gates meters filters rows any made_gates made_meters e distinct have is own routes g m = record {
+  distinct = ap are_distinct (ap plans_in e ∙ plans_in-new_filters fs) ∙ distinct;
+  found = rows_found rows any (plans_in filters) is own;
+  routes = routes;
+  instances = have;
+  asked = gates_before_start gates made_gates g;
+  judged = meters_before_start meters made_meters m;
+}
 
 pub stands_start : {A : Type 0} (fs : List (ℕ × FilterPlan)) (gates : List (ℕ × GatePlan A)) (meters : List (ℕ × MeterPlan)) (s : PoliceState A) → s.filters ≡ plans_in s.kept → s.kept ≡ new_filters fs → AreMade IsNewGate gates s.gates → AreMade IsNewMeter meters s.meters → s.calls ≡ 0 → s.earliest ≡ 0 → Stands (plans_of fs gates meters) s []
 stands_start fs gates meters s shown e g m calls earliest = record {

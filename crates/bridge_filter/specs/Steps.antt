@@ -1,6 +1,6 @@
 -- What the private functions of the police keep and do in one step. No public clause speaks of it.
 use Rattle.std.specs.Prelude.{◌≡◌, ℕ, Bool, ◌+◌, ◌≤◌, ◌&&◌, ◌||◌, nat_eq, map, true, false, Option, Some, None, List, [], IsSome, if◌then◌else◌}
-use Rattle.std.specs.Map.{lookup}
+use Rattle.std.specs.Map.{lookup, keys_of}
 use Rattle.bridge_meter.specs.declared.MeterPlan.{MeterPlan}
 use Rattle.bridge_meter.specs.Standing as meter
 use Rattle.bridge_gate.specs.declared.schedule.GatePlan.{GatePlan}
@@ -15,7 +15,8 @@ use Rattle.bridge_filter.specs.Verdicts.{Plans, Step, gate_share, meter_share, i
 use Rattle.bridge_filter.specs.Standing.{GatesStand, MetersStand}
 use Rattle.bridge_filter.specs.Counts.{refused_by_gate, dropped_by_meter}
 use Rattle.bridge_filter.specs.Plans.{are_distinct}
-use Rattle.bridge_filter.specs.Finding.{AreRows}
+use Rattle.bridge_filter.specs.declared.find.Route.{Route}
+use Rattle.bridge_filter.specs.Finding.{AreRows, HaveRoutes}
 
 -- why a filter refuses a frame before the gate is asked
 abbrev pub refusal : Filter → ℕ → Option Verdict
@@ -79,6 +80,14 @@ pub record HasInstances {A : Type 0} (f : Filter) (gates : List (ℕ × gate.Gat
 abbrev pub HaveInstances : {A : Type 0} → List (ℕ × Filter) → List (ℕ × gate.Gate A) → List (ℕ × meter.MeterState) → ℕ → Type 0
 HaveInstances filters gates meters calls = (n : ℕ) (f : Filter) → lookup (nat_eq n) filters ≡ Some f → HasInstances f gates meters calls
 
+-- the gate that each filter names is there
+abbrev pub HaveGates : {X : Type 0} → List (ℕ × Filter) → List (ℕ × X) → Type 0
+HaveGates filters gates = (n : ℕ) (f : Filter) → lookup (nat_eq n) filters ≡ Some f → IsSome (lookup (nat_eq f.plan.gate) gates)
+
+-- and the meter, where it names one
+abbrev pub HaveMeters : {X : Type 0} → List (ℕ × Filter) → List (ℕ × X) → Type 0
+HaveMeters filters meters = (n : ℕ) (f : Filter) → lookup (nat_eq n) filters ≡ Some f → HasMeter f.plan.meter meters
+
 -- a filter with the plan and the counters of the one at that number
 pub record IsSameFilter (old : List (ℕ × Filter)) (n : ℕ) (g : Filter) : Type 0 where
   pub was : Filter
@@ -95,9 +104,10 @@ abbrev pub plans_in : List (ℕ × Filter) → List (ℕ × FilterPlan)
 plans_in fs = map (λ f. (f.0, f.1.plan)) fs
 
 -- what the police keeps goes together
-pub record IsSound {A : Type 0} (filters : List (ℕ × Filter)) (rows : List (ℕ × List (Option ℕ))) (any : List (Option ℕ)) (gates : List (ℕ × gate.Gate A)) (meters : List (ℕ × meter.MeterState)) (calls earliest : ℕ) : Type 0 where
+pub record IsSound {A : Type 0} (filters : List (ℕ × Filter)) (rows : List (ℕ × List (Option Route))) (any : List (Option Route)) (gates : List (ℕ × gate.Gate A)) (meters : List (ℕ × meter.MeterState)) (calls earliest : ℕ) : Type 0 where
   pub distinct : are_distinct (plans_in filters) ≡ true
   pub found : AreRows rows any (plans_in filters)
+  pub routes : HaveRoutes rows any (plans_in filters) (keys_of gates) (keys_of meters)
   pub instances : HaveInstances filters gates meters calls
   pub asked : GatesBefore gates earliest
   pub judged : MetersBefore meters earliest

@@ -1,11 +1,10 @@
 //! Commands that clear a flag.
 
 ghost use Rattle.std.specs.Prelude.{◌≡◌, ℕ, ◌<◌, nat_eq, IsSome, false, List, ◌∷◌, if◌then◌else◌};
-ghost use Rattle.std.specs.Map.{lookup};
+ghost use Rattle.std.specs.Map.{keys_of, lookup};
 ghost use Rattle.bridge_meter.specs.declared.MeterPlan.{MeterPlan};
 ghost use Rattle.bridge_meter.specs.Colours as colours;
 ghost use Rattle.bridge_gate.specs.Gates.{GateRules, GateEvent, ClearedRx, ClearedOctets};
-ghost use Rattle.bridge_filter.specs.Plans.{KeepsNumbers};
 ghost use Rattle.bridge_filter.specs.Verdicts.{Step, Commanded};
 ghost use Rattle.bridge_filter.specs.Standing.{GatesStand, MetersStand, AreKept};
 ghost use Rattle.bridge_filter.specs.Steps.{GatesBefore, MetersBefore, InstancesStay, plans_in};
@@ -35,7 +34,7 @@ pub(crate) fn clear_rx<A: Allocator + Copy>(gates: &mut Numbered<StreamGate<A>, 
     requires { IsSome (lookup (nat_eq number) gates.old.entries) }
     ensures stand { (rules : ℕ → GateRules) (share : ℕ → List GateEvent) → GatesStand rules gates.old.entries share → GatesStand rules gates.new.entries (λ n. if nat_eq number n then ClearedRx ∷ share n else share n) }
     ensures before { (t : ℕ) → GatesBefore gates.old.entries t → GatesBefore gates.new.entries t }
-    ensures same { KeepsNumbers gates.old.entries gates.new.entries }
+    ensures same { keys_of gates.new.entries ≡ keys_of gates.old.entries }
 {
     match gates.get_mut(&number) {
         Some(gate) => gate.clear_rx(),
@@ -48,7 +47,7 @@ pub(crate) fn clear_octets<A: Allocator + Copy>(gates: &mut Numbered<StreamGate<
     requires { IsSome (lookup (nat_eq number) gates.old.entries) }
     ensures stand { (rules : ℕ → GateRules) (share : ℕ → List GateEvent) → GatesStand rules gates.old.entries share → GatesStand rules gates.new.entries (λ n. if nat_eq number n then ClearedOctets ∷ share n else share n) }
     ensures before { (t : ℕ) → GatesBefore gates.old.entries t → GatesBefore gates.new.entries t }
-    ensures same { KeepsNumbers gates.old.entries gates.new.entries }
+    ensures same { keys_of gates.new.entries ≡ keys_of gates.old.entries }
 {
     match gates.get_mut(&number) {
         Some(gate) => gate.clear_octets(),
@@ -61,7 +60,7 @@ pub(crate) fn clear_red<A: Allocator + Copy>(meters: &mut Numbered<Meter, A>, nu
     requires { IsSome (lookup (nat_eq number) meters.old.entries) }
     ensures stand { (plans : ℕ → MeterPlan) (share : ℕ → List colours.MeterEvent) → MetersStand plans meters.old.entries share → MetersStand plans meters.new.entries (λ n. if nat_eq number n then colours.Cleared ∷ share n else share n) }
     ensures before { (t : ℕ) → MetersBefore meters.old.entries t → MetersBefore meters.new.entries t }
-    ensures same { KeepsNumbers meters.old.entries meters.new.entries }
+    ensures same { keys_of meters.new.entries ≡ keys_of meters.old.entries }
 {
     match meters.get_mut(&number) {
         Some(meter) => meter.clear_red(),

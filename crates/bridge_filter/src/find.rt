@@ -1,30 +1,41 @@
 //! Which filter a frame has, found with no look at the other filters.
 
-ghost use Rattle.std.specs.Prelude.{◌≡◌, ℕ, Bool, ◌&&◌, if◌then◌else◌};
+ghost use Rattle.std.specs.Prelude.{◌≡◌, ℕ, ◌<◌, Bool, Some, IsSome, IfSome, ◌&&◌, nat_eq, length, slice_get, if◌then◌else◌};
 ghost use Rattle.std.specs.Option.{option_map};
 ghost use Rattle.bridge_filter.specs.Finding as finding;
-ghost use Rattle.bridge_filter.specs.Steps.{plans_in};
+ghost use Rattle.std.specs.Map.{keys_of, lookup};
+ghost use Rattle.bridge_filter.specs.Steps.{plans_in, HasMeter, HaveGates, HaveMeters};
 ghost use Rattle.bridge_filter.specs.Verdicts as verdicts;
 
 use crate::FilterPlan;
 use crate::filter::Filter;
 use crate::instances::Numbered;
+use bridge_gate::StreamGate;
+use bridge_meter::Meter;
 use std::alloc::Allocator;
 
-/// The number of a frame's filter, if any, for each priority.
-pub(crate) type Row = [Option<u32>; 8];
+/// A filter by its number, with its place among the filters and those of its gate and its meter among theirs.
+#[derive(Clone, Copy)]
+pub(crate) struct Route {
+    pub number: u32,
+    pub filter: usize,
+    pub gate: usize,
+    pub meter: Option<usize>,
+}
+
+/// The filter of a frame, if any, for each priority.
+pub(crate) type Row = [Option<Route>; 8];
 
 /// The rows of the stream handles that filters name.
 pub(crate) type Rows<A> = Numbered<Row, A>;
 
-/// The lesser of two numbers, where either may be none.
-pub(crate) fn lesser(a: Option<u32>, b: Option<u32>) -> Option<u32>
-    ensures { result ≡ finding.lesser_number a b }
+/// The one of two filters that has the lesser number, where the second may be none.
+pub(crate) fn lesser(route: Route, other: Option<Route>) -> Option<Route>
+    ensures { result ≡ finding.lesser route other }
 {
-    match (a, b) {
-        (Some(a), Some(b)) => Some(a.min(b)),
-        (Some(a), None) => Some(a),
-        (None, b) => b,
+    match other {
+        Some(other) if other.number < route.number => Some(other),
+        _ => Some(route),
     }
 }
 
@@ -66,59 +77,118 @@ pub(crate) fn row_of<'a, A: Allocator + Copy>(
     }
 }
 
-/// The lesser of a number that may be none and of a filter's, where that filter takes frames with this handle and this
+/// The place of the number of an instance among the numbers of all.
+fn place_of<T, A: Allocator + Copy>(instances: &Numbered<T, A>, number: u32) -> usize
+    requires { IsSome (lookup (nat_eq number) instances.now.entries) }
+    ensures { slice_get (keys_of instances.now.entries) result ≡ Some number }
+{
+    match instances.get_index_of(&number) {
+        Some(place) => place,
+        None => unreachable!(),
+    }
+}
+
+/// The same where there may be none.
+fn place_if_any<T, A: Allocator + Copy>(
+    instances: &Numbered<T, A>,
+    number: Option<u32>,
+) -> Option<usize>
+    requires { HasMeter number instances.now.entries }
+    ensures { finding.IsPlaceIfAny (keys_of instances.now.entries) number result }
+{
+    match number {
+        Some(number) => Some(place_of(instances, number)),
+        None => None,
+    }
+}
+
+/// The plan of the filter at a place, with its number and the places of its gate and its meter.
+pub(crate) fn filter_at<A: Allocator + Copy>(
+    filters: &Numbered<Filter, A>,
+    gates: &Numbered<StreamGate<A>, A>,
+    meters: &Numbered<Meter, A>,
+    place: usize,
+) -> (FilterPlan, Route)
+    requires within { place < length filters.now.entries }
+    requires gates { HaveGates filters.now.entries gates.now.entries }
+    requires meters { HaveMeters filters.now.entries meters.now.entries }
+    ensures plan { slice_get (plans_in filters.now.entries) place ≡ Some (result.1.number, result.0) }
+    ensures route { finding.IsRoute (plans_in filters.now.entries) (keys_of gates.now.entries) (keys_of meters.now.entries) result.1 }
+{
+    let Some((number, filter)) = filters.get_index(place) else {
+        unreachable!()
+    };
+    let plan = filter.plan;
+    let route = Route {
+        number: *number,
+        filter: place,
+        gate: place_of(gates, plan.gate),
+        meter: place_if_any(meters, plan.meter),
+    };
+    (plan, route)
+}
+
+/// The lesser of a filter that may be none and of another one, where that one takes frames with this handle and this
 /// priority.
 fn least_with(
-    least: Option<u32>,
-    number: u32,
+    least: Option<Route>,
     plan: &FilterPlan,
+    route: Route,
     handle: Option<u32>,
     priority: u8,
-) -> Option<u32>
-    ensures { result ≡ (if verdicts.takes_handle plan.now.handle handle && verdicts.takes_priority plan.now.priority priority then finding.lesser_number (Some number) least else least) }
+) -> Option<Route>
+    ensures { result ≡ (if verdicts.takes_handle plan.now.handle handle && verdicts.takes_priority plan.now.priority priority then finding.lesser route least else least) }
 {
     if takes_handle(plan.handle, handle) && takes_priority(plan.priority, priority) {
-        lesser(Some(number), least)
+        lesser(route, least)
     } else {
         least
     }
 }
 
-/// The number of the filter of a frame with this handle and this priority, by a look at all filters: for a priority that
-/// no row has.
+/// The filter of a frame with this handle and this priority, by a look at all filters: for a priority that no row has.
 #[cold]
 #[inline(never)]
-fn filter_among<A: Allocator + Copy>(
+fn route_among<A: Allocator + Copy>(
     filters: &Numbered<Filter, A>,
+    gates: &Numbered<StreamGate<A>, A>,
+    meters: &Numbered<Meter, A>,
     handle: Option<u32>,
     priority: u8,
-) -> Option<u32>
-    ensures { result ≡ finding.least_for handle priority (plans_in filters.now.entries) }
+) -> Option<Route>
+    requires gates { HaveGates filters.now.entries gates.now.entries }
+    requires meters { HaveMeters filters.now.entries meters.now.entries }
+    ensures number { option_map (λ r. r.number) result ≡ finding.least_for handle priority (plans_in filters.now.entries) }
+    ensures route { IfSome result (finding.IsRoute (plans_in filters.now.entries) (keys_of gates.now.entries) (keys_of meters.now.entries)) }
 {
     let mut least = None;
     for place in 0..filters.len() {
-        let Some((number, filter)) = filters.get_index(place) else {
-            unreachable!()
-        };
-        least = least_with(least, *number, &filter.plan, handle, priority);
+        let (plan, route) = filter_at(filters, gates, meters, place);
+        least = least_with(least, &plan, route, handle, priority);
     }
     least
 }
 
-/// The number of a frame's filter, which is the least of the filters that match.
-pub(crate) fn filter_of<A: Allocator + Copy>(
+/// The filter of a frame with this handle and this priority, which is the least of the filters that match.
+pub(crate) fn route_of<A: Allocator + Copy>(
     filters: &Numbered<Filter, A>,
+    gates: &Numbered<StreamGate<A>, A>,
+    meters: &Numbered<Meter, A>,
     rows: &Rows<A>,
     any: &Row,
     handle: Option<u32>,
     priority: u8,
-) -> Option<u32>
-    requires { finding.AreRows rows.now.entries any.now (plans_in filters.now.entries) }
-    ensures { (at sdu octets : ℕ) (dei : Bool) → result ≡ option_map (λ f. f.0) (verdicts.flow (plans_in filters.now.entries) (verdicts.call at handle priority dei sdu octets)) }
+) -> Option<Route>
+    requires rows { finding.AreRows rows.now.entries any.now (plans_in filters.now.entries) }
+    requires routes { finding.HaveRoutes rows.now.entries any.now (plans_in filters.now.entries) (keys_of gates.now.entries) (keys_of meters.now.entries) }
+    requires gates { HaveGates filters.now.entries gates.now.entries }
+    requires meters { HaveMeters filters.now.entries meters.now.entries }
+    ensures number { (at sdu octets : ℕ) (dei : Bool) → option_map (λ r. r.number) result ≡ option_map (λ f. f.0) (verdicts.flow (plans_in filters.now.entries) (verdicts.call at handle priority dei sdu octets)) }
+    ensures route { IfSome result (finding.IsRoute (plans_in filters.now.entries) (keys_of gates.now.entries) (keys_of meters.now.entries)) }
 {
     if priority < 8 {
         row_of(rows, any, handle)[priority as usize]
     } else {
-        filter_among(filters, handle, priority)
+        route_among(filters, gates, meters, handle, priority)
     }
 }

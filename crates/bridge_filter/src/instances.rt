@@ -1,18 +1,20 @@
 //! Gates and meters by number, and what they say to a frame.
 
-ghost use Rattle.std.specs.Prelude.{◌≡◌, ℕ, ◌<◌, ◌≤◌, ◌&&◌, nat_eq, IsSome, Some, true, Bool, Option, List, ◌∷◌, if◌then◌else◌};
+ghost use Rattle.std.specs.Prelude.{◌≡◌, ℕ, ◌<◌, ◌≤◌, ◌&&◌, nat_eq, IsSome, IfSome, Some, true, Bool, Option, List, ◌∷◌, length, slice_get, if◌then◌else◌};
 ghost use Rattle.std.specs.Option.{option_map};
-ghost use Rattle.std.specs.Map.{lookup};
+ghost use Rattle.std.specs.Map.{keys_of, lookup};
 ghost use Rattle.bridge_meter.specs.declared.MeterPlan.{MeterPlan};
 ghost use Rattle.bridge_meter.specs.Colours as colours;
 ghost use Rattle.bridge_gate.specs.declared.gate.GateAnswer.TheVariants as gate;
 ghost use Rattle.bridge_gate.specs.Gates.{GateRules, GateEvent, Asked, answer, steps, is_shut_by_rx, is_shut_by_octets};
-ghost use Rattle.bridge_filter.specs.Plans.{KeepsNumbers};
+ghost use Rattle.bridge_filter.specs.declared.FilterPlan.{FilterPlan};
+ghost use Rattle.bridge_filter.specs.Finding.{IsPlaceIfAny, IsServed};
 ghost use Rattle.bridge_filter.specs.Verdicts.{Plans, Step, Judged, call, by_answer, by_colour, gate_answer, gate_share, meter_share, passed_gate, reached_gate, HasPriority};
 ghost use Rattle.bridge_filter.specs.Standing.{GatesStand, MetersStand, shown_rx, shown_octets};
-ghost use Rattle.bridge_filter.specs.Steps.{GatesBefore, MetersBefore, ArePoliced, HasMeter};
+ghost use Rattle.bridge_filter.specs.Steps.{GatesBefore, MetersBefore, ArePoliced};
 
-use crate::{FilterPlan, Verdict};
+use crate::Verdict;
+use crate::find::Route;
 use bridge_base::END_OF_TIME;
 use bridge_gate::{GateAnswer, StreamGate};
 use bridge_meter::{Buckets, Colour, Meter};
@@ -32,52 +34,46 @@ pub(crate) struct Frame {
     pub octets: u32,
 }
 
-/// Asks the gate of that number.
+/// Asks the gate at that place.
 fn ask<A: Allocator + Copy>(
     gates: &mut Numbered<StreamGate<A>, A>,
-    number: u32,
+    place: usize,
     at: u64,
     sdu: u32,
 ) -> GateAnswer
-    requires there { IsSome (lookup (nat_eq number) gates.old.entries) }
+    requires within { place < length gates.old.entries }
     requires before { GatesBefore gates.old.entries at }
     requires range { at < END_OF_TIME }
-    ensures stand { (rules : ℕ → GateRules) (share : ℕ → List GateEvent) → GatesStand rules gates.old.entries share → GatesStand rules gates.new.entries (λ n. if nat_eq number n then Asked at sdu ∷ share n else share n) }
-    ensures answer { (rules : ℕ → GateRules) (share : ℕ → List GateEvent) → GatesStand rules gates.old.entries share → result ≡ answer (rules number) (steps (rules number) (share number)) at sdu }
+    ensures stand { (number : ℕ) (rules : ℕ → GateRules) (share : ℕ → List GateEvent) → slice_get (keys_of gates.old.entries) place ≡ Some number → GatesStand rules gates.old.entries share → GatesStand rules gates.new.entries (λ n. if nat_eq number n then Asked at sdu ∷ share n else share n) }
+    ensures answer { (number : ℕ) (rules : ℕ → GateRules) (share : ℕ → List GateEvent) → slice_get (keys_of gates.old.entries) place ≡ Some number → GatesStand rules gates.old.entries share → result ≡ answer (rules number) (steps (rules number) (share number)) at sdu }
     ensures priority { (ipv : ℕ) → result ≡ gate.Through (Some ipv) → ipv ≤ 7 }
     ensures before { GatesBefore gates.new.entries at }
-    ensures same { KeepsNumbers gates.old.entries gates.new.entries }
+    ensures same { keys_of gates.new.entries ≡ keys_of gates.old.entries }
 {
-    match gates.get_mut(&number) {
-        Some(gate) => gate.ask(at, sdu),
-        None => unreachable!(),
-    }
+    let (_, gate) = gates.pair_mut(place);
+    gate.ask(at, sdu)
 }
 
-/// The verdict of a frame that its gate let through, by the meter of that number.
+/// The verdict of a frame that its gate let through, by the meter at that place.
 fn metered<A: Allocator + Copy>(
     meters: &mut Numbered<Meter, A>,
-    number: u32,
+    place: usize,
     frame: Frame,
     ipv: Option<u8>,
 ) -> Verdict
-    requires there { IsSome (lookup (nat_eq number) meters.old.entries) }
+    requires within { place < length meters.old.entries }
     requires before { MetersBefore meters.old.entries frame.at }
-    ensures stand { (plans : ℕ → MeterPlan) (share : ℕ → List colours.MeterEvent) → MetersStand plans meters.old.entries share → MetersStand plans meters.new.entries (λ n. if nat_eq number n then colours.Came frame.at frame.octets frame.dei ∷ share n else share n) }
-    ensures verdict { (plans : ℕ → MeterPlan) (share : ℕ → List colours.MeterEvent) → MetersStand plans meters.old.entries share → result ≡ by_colour (plans number) ipv (colours.colour_of (plans number) (colours.past (plans number) (share number)) frame.at frame.octets frame.dei) }
+    ensures stand { (number : ℕ) (plans : ℕ → MeterPlan) (share : ℕ → List colours.MeterEvent) → slice_get (keys_of meters.old.entries) place ≡ Some number → MetersStand plans meters.old.entries share → MetersStand plans meters.new.entries (λ n. if nat_eq number n then colours.Came frame.at frame.octets frame.dei ∷ share n else share n) }
+    ensures verdict { (number : ℕ) (plans : ℕ → MeterPlan) (share : ℕ → List colours.MeterEvent) → slice_get (keys_of meters.old.entries) place ≡ Some number → MetersStand plans meters.old.entries share → result ≡ by_colour (plans number) ipv (colours.colour_of (plans number) (colours.past (plans number) (share number)) frame.at frame.octets frame.dei) }
     ensures passed { passed_gate result ≡ true }
     ensures priority { ((i : ℕ) → ipv ≡ Some i → i ≤ 7) → HasPriority result }
     ensures before { MetersBefore meters.new.entries frame.at }
-    ensures same { KeepsNumbers meters.old.entries meters.new.entries }
+    ensures same { keys_of meters.new.entries ≡ keys_of meters.old.entries }
 {
-    match meters.get_mut(&number) {
-        Some(meter) => {
-            let drop_yellow = meter.plan().drop_yellow;
-            let colour = meter.colour(frame.at, frame.octets, frame.dei);
-            verdict_by(colour, drop_yellow, ipv)
-        }
-        None => unreachable!(),
-    }
+    let (_, meter) = meters.pair_mut(place);
+    let drop_yellow = meter.plan().drop_yellow;
+    let colour = meter.colour(frame.at, frame.octets, frame.dei);
+    verdict_by(colour, drop_yellow, ipv)
 }
 
 /// The verdict by a colour.
@@ -100,26 +96,26 @@ fn verdict_by(colour: Colour, drop_yellow: bool, ipv: Option<u8>) -> Verdict
     }
 }
 
-/// The verdict by the answer of the gate, and by the meter where the gate let the frame through.
+/// The verdict by the answer of the gate, and by the meter at that place where the gate let the frame through.
 fn answered<A: Allocator + Copy>(
     answer: GateAnswer,
-    meter: Option<u32>,
+    place: Option<usize>,
     meters: &mut Numbered<Meter, A>,
     frame: Frame,
 ) -> Verdict
-    requires meter { HasMeter meter meters.old.entries }
+    requires within { IfSome place (λ i. i < length meters.old.entries) }
     requires before { MetersBefore meters.old.entries frame.at }
     requires priority { (ipv : ℕ) → answer ≡ gate.Through (Some ipv) → ipv ≤ 7 }
-    ensures verdict { (p : Plans) (ss : List Step) (f : FilterPlan) (handle : Option ℕ) (priority : ℕ) → f.meter ≡ meter → MetersStand p.meters meters.old.entries (λ n. meter_share n ss) → result ≡ by_answer p ss (call frame.at handle priority frame.dei frame.sdu frame.octets) f answer }
-    ensures stand { (plans : ℕ → MeterPlan) (ss : List Step) (k : ℕ) (f : FilterPlan) (handle : Option ℕ) (priority : ℕ) → f.meter ≡ meter → MetersStand plans meters.old.entries (λ n. meter_share n ss) → MetersStand plans meters.new.entries (λ n. meter_share n (Judged (call frame.at handle priority frame.dei frame.sdu frame.octets) k f result ∷ ss)) }
+    ensures verdict { (p : Plans) (ss : List Step) (f : FilterPlan) (handle : Option ℕ) (priority : ℕ) → IsPlaceIfAny (keys_of meters.old.entries) f.meter place → MetersStand p.meters meters.old.entries (λ n. meter_share n ss) → result ≡ by_answer p ss (call frame.at handle priority frame.dei frame.sdu frame.octets) f answer }
+    ensures stand { (plans : ℕ → MeterPlan) (ss : List Step) (k : ℕ) (f : FilterPlan) (handle : Option ℕ) (priority : ℕ) → IsPlaceIfAny (keys_of meters.old.entries) f.meter place → MetersStand plans meters.old.entries (λ n. meter_share n ss) → MetersStand plans meters.new.entries (λ n. meter_share n (Judged (call frame.at handle priority frame.dei frame.sdu frame.octets) k f result ∷ ss)) }
     ensures reached { reached_gate result ≡ true }
     ensures priority { HasPriority result }
     ensures before { MetersBefore meters.new.entries frame.at }
-    ensures same { KeepsNumbers meters.old.entries meters.new.entries }
+    ensures same { keys_of meters.new.entries ≡ keys_of meters.old.entries }
 {
     match answer {
-        GateAnswer::Through(ipv) => match meter {
-            Some(meter) => metered(meters, meter, frame, ipv),
+        GateAnswer::Through(ipv) => match place {
+            Some(place) => metered(meters, place, frame, ipv),
             None => Verdict::Pass {
                 ipv,
                 eligible: false,
@@ -134,27 +130,27 @@ fn answered<A: Allocator + Copy>(
 
 /// The verdict of a frame that reached its gate.
 pub(crate) fn policed<A: Allocator + Copy>(
-    plan: FilterPlan,
+    route: Route,
     gates: &mut Numbered<StreamGate<A>, A>,
     meters: &mut Numbered<Meter, A>,
     frame: Frame,
 ) -> Verdict
-    requires gate { IsSome (lookup (nat_eq plan.gate) gates.old.entries) }
-    requires meter { HasMeter plan.meter meters.old.entries }
+    requires gate { route.gate < length gates.old.entries }
+    requires meter { IfSome route.meter (λ i. i < length meters.old.entries) }
     requires asked { GatesBefore gates.old.entries frame.at }
     requires judged { MetersBefore meters.old.entries frame.at }
     requires range { frame.at < END_OF_TIME }
-    ensures verdict { (p : Plans) (ss : List Step) (handle : Option ℕ) (priority : ℕ) → ArePoliced p gates.old.entries meters.old.entries ss → result ≡ by_answer p ss (call frame.at handle priority frame.dei frame.sdu frame.octets) plan (gate_answer p ss (call frame.at handle priority frame.dei frame.sdu frame.octets) plan.gate) }
+    ensures verdict { (p : Plans) (ss : List Step) (f : FilterPlan) (handle : Option ℕ) (priority : ℕ) → IsServed f (keys_of gates.old.entries) (keys_of meters.old.entries) route → ArePoliced p gates.old.entries meters.old.entries ss → result ≡ by_answer p ss (call frame.at handle priority frame.dei frame.sdu frame.octets) f (gate_answer p ss (call frame.at handle priority frame.dei frame.sdu frame.octets) f.gate) }
     ensures reached { reached_gate result ≡ true }
-    ensures gates { (p : Plans) (ss : List Step) (n : ℕ) (handle : Option ℕ) (priority : ℕ) → ArePoliced p gates.old.entries meters.old.entries ss → ArePoliced p gates.new.entries meters.new.entries (Judged (call frame.at handle priority frame.dei frame.sdu frame.octets) n plan result ∷ ss) }
+    ensures gates { (p : Plans) (ss : List Step) (n : ℕ) (f : FilterPlan) (handle : Option ℕ) (priority : ℕ) → IsServed f (keys_of gates.old.entries) (keys_of meters.old.entries) route → ArePoliced p gates.old.entries meters.old.entries ss → ArePoliced p gates.new.entries meters.new.entries (Judged (call frame.at handle priority frame.dei frame.sdu frame.octets) n f result ∷ ss) }
     ensures priority { HasPriority result }
     ensures asked { GatesBefore gates.new.entries frame.at }
     ensures judged { MetersBefore meters.new.entries frame.at }
-    ensures same_gates { KeepsNumbers gates.old.entries gates.new.entries }
-    ensures same_meters { KeepsNumbers meters.old.entries meters.new.entries }
+    ensures same_gates { keys_of gates.new.entries ≡ keys_of gates.old.entries }
+    ensures same_meters { keys_of meters.new.entries ≡ keys_of meters.old.entries }
 {
-    let answer = ask(gates, plan.gate, frame.at, frame.sdu);
-    answered(answer, plan.meter, meters, frame)
+    let answer = ask(gates, route.gate, frame.at, frame.sdu);
+    answered(answer, route.meter, meters, frame)
 }
 
 /// The flags of the gate of that number.

@@ -1,15 +1,16 @@
 //! The verdict of a frame that has a filter, and what the filter keeps of it.
 
-ghost use Rattle.std.specs.Prelude.{◌≡◌, ℕ, ◌<◌, ◌+◌, nat_eq, IsSome, Some, true, Bool, Option, List, ◌∷◌};
-ghost use Rattle.std.specs.Map.{lookup};
-ghost use Rattle.bridge_filter.specs.Plans.{KeepsNumbers};
+ghost use Rattle.std.specs.Prelude.{◌≡◌, ℕ, ◌<◌, ◌+◌, nat_eq, Some, true, Bool, Option, List, ◌∷◌};
+ghost use Rattle.std.specs.Map.{keys_of, lookup};
+ghost use Rattle.bridge_filter.specs.Finding.{IsRoute, IsServed};
 ghost use Rattle.bridge_filter.specs.declared.FilterPlan.{FilterPlan};
 ghost use Rattle.bridge_filter.specs.Verdicts.{Plans, Step, Judged, call, verdict_of, HasPriority};
 ghost use Rattle.bridge_filter.specs.Standing.{AreKept, IsKept};
-ghost use Rattle.bridge_filter.specs.Steps.{GatesBefore, MetersBefore, ArePoliced, HasMeter, HaveInstances, plans_in};
+ghost use Rattle.bridge_filter.specs.Steps.{GatesBefore, MetersBefore, ArePoliced, HaveInstances, plans_in};
 
 use crate::Verdict;
 use crate::filter::Filter;
+use crate::find::Route;
 use crate::instances::{Frame, Numbered, policed};
 use bridge_base::END_OF_TIME;
 use bridge_gate::StreamGate;
@@ -19,12 +20,12 @@ use std::alloc::Allocator;
 /// The verdict of a frame of a filter.
 fn verdict_for<A: Allocator + Copy>(
     filter: &Filter,
+    route: Route,
     gates: &mut Numbered<StreamGate<A>, A>,
     meters: &mut Numbered<Meter, A>,
     frame: Frame,
 ) -> Verdict
-    requires gate { IsSome (lookup (nat_eq filter.now.plan.gate) gates.old.entries) }
-    requires meter { HasMeter filter.now.plan.meter meters.old.entries }
+    requires served { IsServed filter.now.plan (keys_of gates.old.entries) (keys_of meters.old.entries) route }
     requires asked { GatesBefore gates.old.entries frame.at }
     requires judged { MetersBefore meters.old.entries frame.at }
     requires range { frame.at < END_OF_TIME }
@@ -33,45 +34,41 @@ fn verdict_for<A: Allocator + Copy>(
     ensures priority { HasPriority result }
     ensures asked { GatesBefore gates.new.entries frame.at }
     ensures judged { MetersBefore meters.new.entries frame.at }
-    ensures same_gates { KeepsNumbers gates.old.entries gates.new.entries }
-    ensures same_meters { KeepsNumbers meters.old.entries meters.new.entries }
+    ensures same_gates { keys_of gates.new.entries ≡ keys_of gates.old.entries }
+    ensures same_meters { keys_of meters.new.entries ≡ keys_of meters.old.entries }
 {
     match filter.refusal(frame.sdu) {
         Some(refusal) => refusal,
-        None => policed(filter.plan, gates, meters, frame),
+        None => policed(route, gates, meters, frame),
     }
 }
 
-/// The verdict of a frame of the filter with that number, which the filter keeps count of.
+/// The verdict of a frame of the filter at that place, which the filter keeps count of.
 pub(crate) fn judge<A: Allocator + Copy>(
     filters: &mut Numbered<Filter, A>,
     gates: &mut Numbered<StreamGate<A>, A>,
     meters: &mut Numbered<Meter, A>,
-    number: u32,
+    route: Route,
     frame: Frame,
 ) -> Verdict
-    requires there { IsSome (lookup (nat_eq number) filters.old.entries) }
+    requires route { IsRoute (plans_in filters.old.entries) (keys_of gates.old.entries) (keys_of meters.old.entries) route }
     requires instances { HaveInstances filters.old.entries gates.old.entries meters.old.entries 9223372036854775807 }
     requires asked { GatesBefore gates.old.entries frame.at }
     requires judged { MetersBefore meters.old.entries frame.at }
     requires range { frame.at < END_OF_TIME }
-    ensures verdict { (p : Plans) (ss : List Step) (f : FilterPlan) (handle : Option ℕ) (priority : ℕ) → lookup (nat_eq number) (plans_in filters.old.entries) ≡ Some f → AreKept filters.old.entries ss → ArePoliced p gates.old.entries meters.old.entries ss → result ≡ verdict_of p ss (call frame.at handle priority frame.dei frame.sdu frame.octets) number f }
-    ensures kept { (ss : List Step) (f : FilterPlan) (handle : Option ℕ) (priority : ℕ) → lookup (nat_eq number) (plans_in filters.old.entries) ≡ Some f → AreKept filters.old.entries ss → AreKept filters.new.entries (Judged (call frame.at handle priority frame.dei frame.sdu frame.octets) number f result ∷ ss) }
-    ensures policed { (p : Plans) (ss : List Step) (f : FilterPlan) (handle : Option ℕ) (priority : ℕ) → lookup (nat_eq number) (plans_in filters.old.entries) ≡ Some f → ArePoliced p gates.old.entries meters.old.entries ss → ArePoliced p gates.new.entries meters.new.entries (Judged (call frame.at handle priority frame.dei frame.sdu frame.octets) number f result ∷ ss) }
+    ensures verdict { (p : Plans) (ss : List Step) (f : FilterPlan) (handle : Option ℕ) (priority : ℕ) → lookup (nat_eq route.number) (plans_in filters.old.entries) ≡ Some f → AreKept filters.old.entries ss → ArePoliced p gates.old.entries meters.old.entries ss → result ≡ verdict_of p ss (call frame.at handle priority frame.dei frame.sdu frame.octets) route.number f }
+    ensures kept { (ss : List Step) (f : FilterPlan) (handle : Option ℕ) (priority : ℕ) → lookup (nat_eq route.number) (plans_in filters.old.entries) ≡ Some f → AreKept filters.old.entries ss → AreKept filters.new.entries (Judged (call frame.at handle priority frame.dei frame.sdu frame.octets) route.number f result ∷ ss) }
+    ensures policed { (p : Plans) (ss : List Step) (f : FilterPlan) (handle : Option ℕ) (priority : ℕ) → lookup (nat_eq route.number) (plans_in filters.old.entries) ≡ Some f → ArePoliced p gates.old.entries meters.old.entries ss → ArePoliced p gates.new.entries meters.new.entries (Judged (call frame.at handle priority frame.dei frame.sdu frame.octets) route.number f result ∷ ss) }
     ensures priority { HasPriority result }
     ensures plans { plans_in filters.new.entries ≡ plans_in filters.old.entries }
     ensures instances { (calls : ℕ) → HaveInstances filters.old.entries gates.old.entries meters.old.entries calls → HaveInstances filters.new.entries gates.new.entries meters.new.entries (calls + 1) }
     ensures asked { GatesBefore gates.new.entries frame.at }
     ensures judged { MetersBefore meters.new.entries frame.at }
-    ensures same_gates { KeepsNumbers gates.old.entries gates.new.entries }
-    ensures same_meters { KeepsNumbers meters.old.entries meters.new.entries }
+    ensures same_gates { keys_of gates.new.entries ≡ keys_of gates.old.entries }
+    ensures same_meters { keys_of meters.new.entries ≡ keys_of meters.old.entries }
 {
-    match filters.get_mut(&number) {
-        Some(filter) => {
-            let verdict = verdict_for(filter, gates, meters, frame);
-            filter.note(verdict);
-            verdict
-        }
-        None => unreachable!(),
-    }
+    let (_, filter) = filters.pair_mut(route.filter);
+    let verdict = verdict_for(filter, route, gates, meters, frame);
+    filter.note(verdict);
+    verdict
 }

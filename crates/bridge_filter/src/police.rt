@@ -13,7 +13,7 @@ ghost use Rattle.bridge_filter.specs.Steps.{HasMeter};
 
 use crate::clearing::{clear_blocked, clear_octets, clear_red, clear_rx};
 use crate::filter::Filter;
-use crate::find::{Row, Rows, filter_of};
+use crate::find::{Row, Rows, route_of};
 use crate::instances::{Frame, Numbered, gate_flags, meter_state};
 use crate::judge::judge;
 use crate::making::{filters_of, gates_of, meters_of};
@@ -70,13 +70,17 @@ impl<A: Allocator + Copy> Police<A> {
         ensures gates { IfOk result (λ p. KeepsNumbers gates.items p.gates) }
         ensures meters { IfOk result (λ p. KeepsNumbers meters.items p.meters) }
     {
-        let any = any_of(&filters);
+        let filters = filters_of(alloc, &filters)?;
+        let gates = gates_of(alloc, gates)?;
+        let meters = meters_of(alloc, &meters)?;
+        let any = any_of(&filters, &gates, &meters);
+        let rows = rows_of(alloc, &filters, &gates, &meters, &any)?;
         Ok(Police {
-            filters: filters_of(alloc, &filters)?,
-            rows: rows_of(alloc, &filters, &any)?,
+            filters,
+            rows,
             any,
-            gates: gates_of(alloc, gates)?,
-            meters: meters_of(alloc, &meters)?,
+            gates,
+            meters,
             calls: 0,
             earliest: 0,
         })
@@ -115,15 +119,26 @@ impl<A: Allocator + Copy> Police<A> {
         };
         self.calls += 1;
         self.earliest = t;
-        let filter = filter_of(&self.filters, &self.rows, &self.any, handle, priority)?;
+        let route = route_of(
+            &self.filters,
+            &self.gates,
+            &self.meters,
+            &self.rows,
+            &self.any,
+            handle,
+            priority,
+        )?;
         let verdict = judge(
             &mut self.filters,
             &mut self.gates,
             &mut self.meters,
-            filter,
+            route,
             frame,
         );
-        Some(Ruling { filter, verdict })
+        Some(Ruling {
+            filter: route.number,
+            verdict,
+        })
     }
 
     /// The number of the filter of a frame with this stream handle and priority (0 to 7), where one matches: the one that
@@ -132,7 +147,18 @@ impl<A: Allocator + Copy> Police<A> {
         ensures filter { (at sdu octets : ℕ) (dei : Bool) → result ≡ option_map (λ f. f.0) (flow self.now.filters (call at handle priority dei sdu octets)) }
         ensures there { IfSome result (λ n. is_there n self.now.filters ≡ true) }
     {
-        filter_of(&self.filters, &self.rows, &self.any, handle, priority)
+        match route_of(
+            &self.filters,
+            &self.gates,
+            &self.meters,
+            &self.rows,
+            &self.any,
+            handle,
+            priority,
+        ) {
+            Some(route) => Some(route.number),
+            None => None,
+        }
     }
 
     /// Clears a flag of the instance with that number, so that frames are judged again as if it had never been set.

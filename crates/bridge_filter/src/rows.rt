@@ -1,49 +1,63 @@
 //! The rows by which a frame's filter is found, made from the filters.
 
 ghost use Rattle.std.specs.Prelude.{◌≡◌, ℕ, ◌<◌, IfOk, OnOk, Some, is_none, if◌then◌else◌};
+ghost use Rattle.std.specs.Map.{keys_of};
 ghost use Rattle.bridge_filter.specs.Finding as finding;
+ghost use Rattle.bridge_filter.specs.Steps.{plans_in, HaveGates, HaveMeters};
 
 use crate::FilterPlan;
-use crate::find::{Row, Rows, lesser, row_of, takes_priority};
+use crate::filter::Filter;
+use crate::find::{Route, Row, Rows, filter_at, lesser, row_of, takes_priority};
+use crate::instances::Numbered;
+use bridge_gate::StreamGate;
+use bridge_meter::Meter;
 use indexmap::IndexMap;
 use std::alloc::{AllocError, Allocator};
 
 /// What a row has for a priority with one more filter, which asks for a priority or for any.
-fn slot_with(least: Option<u32>, asked: Option<u8>, number: u32, priority: u8) -> Option<u32>
-    ensures { result ≡ finding.slot_with least asked number priority }
+fn slot_with(slot: Option<Route>, asked: Option<u8>, route: Route, priority: u8) -> Option<Route>
+    ensures { result ≡ finding.slot_with slot asked route priority }
 {
     if takes_priority(asked, priority) {
-        lesser(Some(number), least)
+        lesser(route, slot)
     } else {
-        least
+        slot
     }
 }
 
 /// Puts one more filter into a row.
-fn put(row: &mut Row, asked: Option<u8>, number: u32)
-    ensures { (k : ℕ) → k < 8 → finding.slot row.new k ≡ finding.slot_with (finding.slot row.old k) asked number k }
+fn put(row: &mut Row, asked: Option<u8>, route: Route)
+    ensures { (k : ℕ) → k < 8 → finding.slot row.new k ≡ finding.slot_with (finding.slot row.old k) asked route k }
 {
     for k in 0..8usize {
-        row[k] = slot_with(row[k], asked, number, k as u8);
+        row[k] = slot_with(row[k], asked, route, k as u8);
     }
 }
 
 /// Puts a filter that names no handle into the row of the frames whose handle no filter names.
-fn put_any(any: &mut Row, plan: &FilterPlan, number: u32)
-    ensures { (k : ℕ) → k < 8 → finding.slot any.new k ≡ (if is_none plan.now.handle then finding.slot_with (finding.slot any.old k) plan.now.priority number k else finding.slot any.old k) }
+fn put_any(any: &mut Row, plan: &FilterPlan, route: Route)
+    ensures { (k : ℕ) → k < 8 → finding.slot any.new k ≡ (if is_none plan.now.handle then finding.slot_with (finding.slot any.old k) plan.now.priority route k else finding.slot any.old k) }
 {
     if plan.handle.is_none() {
-        put(any, plan.priority, number);
+        put(any, plan.priority, route);
     }
 }
 
 /// The row of the frames whose handle no filter names, and of those without a handle.
-pub(crate) fn any_of(plans: &[(u32, FilterPlan)]) -> Row
-    ensures { finding.IsAnyRow result plans.now }
+pub(crate) fn any_of<A: Allocator + Copy>(
+    filters: &Numbered<Filter, A>,
+    gates: &Numbered<StreamGate<A>, A>,
+    meters: &Numbered<Meter, A>,
+) -> Row
+    requires gates { HaveGates filters.now.entries gates.now.entries }
+    requires meters { HaveMeters filters.now.entries meters.now.entries }
+    ensures numbers { finding.IsAnyRow result (plans_in filters.now.entries) }
+    ensures routes { finding.HasRoutes result (plans_in filters.now.entries) (keys_of gates.now.entries) (keys_of meters.now.entries) }
 {
     let mut any = [None; 8];
-    for (number, plan) in plans {
-        put_any(&mut any, plan, *number);
+    for place in 0..filters.len() {
+        let (plan, route) = filter_at(filters, gates, meters, place);
+        put_any(&mut any, &plan, route);
     }
     any
 }
@@ -53,13 +67,13 @@ fn put_own<A: Allocator + Copy>(
     rows: &mut Rows<A>,
     any: &Row,
     plan: &FilterPlan,
-    number: u32,
+    route: Route,
 ) -> Result<(), AllocError>
-    ensures { OnOk result ((h k : ℕ) → k < 8 → finding.slot (finding.row_of rows.new.entries any.now (Some h)) k ≡ (if finding.names_handle h plan.now.handle then finding.slot_with (finding.slot (finding.row_of rows.old.entries any.now (Some h)) k) plan.now.priority number k else finding.slot (finding.row_of rows.old.entries any.now (Some h)) k)) }
+    ensures { OnOk result ((h k : ℕ) → k < 8 → finding.slot (finding.row_of rows.new.entries any.now (Some h)) k ≡ (if finding.names_handle h plan.now.handle then finding.slot_with (finding.slot (finding.row_of rows.old.entries any.now (Some h)) k) plan.now.priority route k else finding.slot (finding.row_of rows.old.entries any.now (Some h)) k)) }
 {
     if let Some(handle) = plan.handle {
         let mut row = *row_of(rows, any, Some(handle));
-        put(&mut row, plan.priority, number);
+        put(&mut row, plan.priority, route);
         rows.insert(handle, row)?;
     }
     Ok(())
@@ -68,14 +82,21 @@ fn put_own<A: Allocator + Copy>(
 /// The rows of the handles that filters name.
 pub(crate) fn rows_of<A: Allocator + Copy>(
     alloc: A,
-    plans: &[(u32, FilterPlan)],
+    filters: &Numbered<Filter, A>,
+    gates: &Numbered<StreamGate<A>, A>,
+    meters: &Numbered<Meter, A>,
     any: &Row,
 ) -> Result<Rows<A>, AllocError>
-    ensures { IfOk result (λ m. finding.AreOwnRows m.entries any.now plans.now) }
+    requires gates { HaveGates filters.now.entries gates.now.entries }
+    requires meters { HaveMeters filters.now.entries meters.now.entries }
+    requires any { finding.HasRoutes any.now (plans_in filters.now.entries) (keys_of gates.now.entries) (keys_of meters.now.entries) }
+    ensures numbers { IfOk result (λ m. finding.AreOwnRows m.entries any.now (plans_in filters.now.entries)) }
+    ensures routes { IfOk result (λ m. finding.HaveRoutes m.entries any.now (plans_in filters.now.entries) (keys_of gates.now.entries) (keys_of meters.now.entries)) }
 {
-    let mut rows = IndexMap::with_capacity(alloc, plans.len())?;
-    for (number, plan) in plans {
-        put_own(&mut rows, any, plan, *number)?;
+    let mut rows = IndexMap::with_capacity(alloc, filters.len())?;
+    for place in 0..filters.len() {
+        let (plan, route) = filter_at(filters, gates, meters, place);
+        put_own(&mut rows, any, &plan, route)?;
     }
     Ok(rows)
 }

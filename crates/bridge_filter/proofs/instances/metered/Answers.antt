@@ -1,27 +1,55 @@
-use Rattle.std.proofs.Common.{rules, ◌∙◌, sym, ap}
+use Rattle.std.proofs.Common.{◌≡◌, ◌≤◌, ℕ, Bool, true, false, ◌∙◌, sym, ap, arith}
+use Rattle.std.specs.Prelude.{if◌then◌else◌}
+use Rattle.indexmap.specs.Layout.{set_value_at}
+use Rattle.indexmap.proofs.CallerLemmas.{keys-with_value_at}
 use Rattle.bridge_meter.specs.declared.MeterPlan.{MeterPlan}
 use Rattle.bridge_meter.specs.declared.Colour.{Colour}
 use Rattle.bridge_meter.specs.Colours.{Came}
 use Rattle.bridge_filter.specs.Verdicts.{by_colour}
-use Rattle.bridge_filter.proofs.Numbered.{Changes}
-use Rattle.bridge_filter.proofs.Shares.{meters_after}
+use Rattle.bridge_filter.proofs.Numbered.{changes_at, changes_of, found_at, number_is}
+use Rattle.bridge_filter.proofs.Shares.{meters_after, meters_before}
 use Rattle.bridge_filter.proofs.instances.metered.Goals as goal
 
+not_after : (b : Bool) (x was t : ℕ) → x ≡ (if b then was else t) → was ≤ t → x ≤ t
+not_after true x was t e h = omega arith
+not_after false x was t e h = omega arith
+
+pub colour-colour-requires : goal.colour-colour-requires
+colour-colour-requires g c =
+    let at = c.pair_mut-meter in
+    c.requires.before at.result.0.now at.result.1.now (found_at c.args.meters.now c.args.place at.result.0.now at.result.1.now at.ensures.unique at.ensures.value)
+
 pub returns-clause-stand : goal.returns-clause-stand
-returns-clause-stand g c =
-    let old = c.args.meters.now.entries in
-    let new = (c.get_mut.follows.lender c.colour-colour.new.self).entries in
-    let change : Changes old new c.args.number c.in-Some.meter.now c.colour-colour.new.self = record {
-      there = sym c.in-Some.ensures.value;
-      own = search rules;
-      others = search rules;
-    } in
-    λ plans share stand. meters_after old new c.args.number c.in-Some.meter.now c.colour-colour.new.self (Came c.args.frame.at c.args.frame.octets c.args.frame.dei) change c.colour-colour.ensures.stands plans share stand
+returns-clause-stand g c = λ number plans share there stand.
+    let at = c.pair_mut-meter in
+    let m = c.args.meters.now in
+    let k = at.result.0.now in
+    let was = at.result.1.now in
+    let is = c.colour-colour.new.self in
+    let change = changes_of m c.args.place k number was is (number_is m.entries c.args.place k number was at.ensures.value there) at.ensures.unique at.ensures.value in
+    meters_after m.entries (set_value_at m.entries c.args.place is) number was is (Came c.args.frame.at c.args.frame.octets c.args.frame.dei) change c.colour-colour.ensures.stands plans share stand
 
 pub returns-clause-verdict : goal.returns-clause-verdict
-returns-clause-verdict g c = λ plans share stand.
-    let n = c.args.number in
-    let st = stand n c.in-Some.meter.now (sym c.in-Some.ensures.value) in
-    let same = c.plan-drop_yellow.ensures.stands (plans n) (share n) st in
-    let colour = c.colour-colour.ensures.colour (plans n) (share n) st in
-    c.verdict_by.ensures.verdict (plans n) (sym (ap (λ (p : MeterPlan). p.drop_yellow) same)) ∙ ap (λ (k : Colour). by_colour (plans n) c.args.ipv k) colour
+returns-clause-verdict g c = λ number plans share there stand.
+    let at = c.pair_mut-meter in
+    let m = c.args.meters.now in
+    let k = at.result.0.now in
+    let was = at.result.1.now in
+    let change = changes_of m c.args.place k number was was (number_is m.entries c.args.place k number was at.ensures.value there) at.ensures.unique at.ensures.value in
+    let st = stand number was change.there in
+    let same = c.plan-drop_yellow.ensures.stands (plans number) (share number) st in
+    let colour = c.colour-colour.ensures.colour (plans number) (share number) st in
+    c.verdict_by.ensures.verdict (plans number) (sym (ap (λ (p : MeterPlan). p.drop_yellow) same)) ∙ ap (λ (x : Colour). by_colour (plans number) c.args.ipv x) colour
+
+pub returns-clause-before : goal.returns-clause-before
+returns-clause-before g c =
+    let at = c.pair_mut-meter in
+    let m = c.args.meters.now in
+    let was = at.result.1.now in
+    let is = c.colour-colour.new.self in
+    let change = changes_at m c.args.place at.result.0.now was is at.ensures.unique at.ensures.value in
+    let le = c.requires.before at.result.0.now was change.there in
+    meters_before m.entries (set_value_at m.entries c.args.place is) at.result.0.now c.args.frame.at was is change (not_after was.buckets.all_red is.buckets.at was.buckets.at c.args.frame.at c.colour-colour.ensures.at le) c.requires.before
+
+pub returns-clause-same : goal.returns-clause-same
+returns-clause-same g c = keys-with_value_at c.args.meters.now c.args.place c.colour-colour.new.self

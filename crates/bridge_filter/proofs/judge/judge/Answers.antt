@@ -1,67 +1,89 @@
-use Rattle.std.proofs.Common.{rules, ◌≡◌, ◌∙◌, nat_eq, sym, subst, refl, ap, ◌∷◌}
-use Rattle.std.specs.Map.{set_value}
+use Rattle.std.proofs.Common.{◌≡◌, ◌∙◌, sym, subst, refl, ap, ◌∷◌}
+use Rattle.std.specs.Map.{keys_of}
+use Rattle.indexmap.specs.Layout.{set_value_at}
 use Rattle.bridge_filter.specs.declared.FilterPlan.{FilterPlan}
+use Rattle.bridge_filter.specs.declared.filter.Filter.{Filter}
+use Rattle.bridge_filter.specs.Finding.{IsServed}
 use Rattle.bridge_filter.specs.Verdicts.{call, Judged, verdict_of}
-use Rattle.bridge_filter.specs.Steps.{noted, ArePoliced}
-use Rattle.bridge_filter.proofs.Numbered.{Changes}
-use Rattle.bridge_filter.proofs.Judging.{kept_after, instances_after, plan_found, plans_in-set_value}
+use Rattle.bridge_filter.specs.Steps.{ArePoliced}
+use Rattle.bridge_filter.proofs.Numbered.{Changes, changes_of, keeps_numbers}
+use Rattle.bridge_filter.proofs.Judging.{kept_after, instances_after, plan_found, filter_is, filter_within, plans_in-set_value_at}
 use Rattle.bridge_filter.proofs.judge.judge.Goals as goal
 
-pub verdict_for-verdict-requires-clause-meter : goal.verdict_for-verdict-requires-clause-meter
-verdict_for-verdict-requires-clause-meter g c = (c.requires.instances c.args.number c.in-Some.filter.now (sym c.in-Some.ensures.value)).meter
+pub pair_mut-filter-requires : goal.pair_mut-filter-requires
+pair_mut-filter-requires g c = filter_within c.args.filters.now.entries c.args.route.filter c.args.route.number c.requires.route.plan c.requires.route.filter
+
+pub verdict_for-verdict-requires-clause-served : goal.verdict_for-verdict-requires-clause-served
+verdict_for-verdict-requires-clause-served g c =
+    let a = c.args in
+    let at = c.pair_mut-filter in
+    let is = filter_is a.filters.now.entries a.route.filter at.result.0.now a.route.number at.result.1.now c.requires.route.plan at.ensures.value c.requires.route.filter in
+    subst (λ (p : FilterPlan). IsServed p (keys_of a.gates.now.entries) (keys_of a.meters.now.entries) a.route) (sym is.1) c.requires.route.served
 
 pub note-requires : goal.note-requires
-note-requires g c = (c.requires.instances c.args.number c.in-Some.filter.now (sym c.in-Some.ensures.value)).few
+note-requires g c =
+    let a = c.args in
+    let at = c.pair_mut-filter in
+    let was = at.result.1.now in
+    let is = filter_is a.filters.now.entries a.route.filter at.result.0.now a.route.number was c.requires.route.plan at.ensures.value c.requires.route.filter in
+    let there = (changes_of a.filters.now a.route.filter at.result.0.now a.route.number was was is.0 at.ensures.unique at.ensures.value).there in
+    (c.requires.instances a.route.number was there).few
 
 pub returns-clause-verdict : goal.returns-clause-verdict
 returns-clause-verdict g c = λ p ss f handle priority found kept are.
-    let same = plan_found c.args.number c.args.filters.now.entries c.in-Some.filter.now f (sym c.in-Some.ensures.value) found in
-    let frame = c.args.frame in
-    c.verdict_for-verdict.ensures.verdict p ss c.args.number handle priority are (kept c.args.number c.in-Some.filter.now (sym c.in-Some.ensures.value)) ∙ ap (λ (x : FilterPlan). verdict_of p ss (call frame.at handle priority frame.dei frame.sdu frame.octets) c.args.number x) same
+    let a = c.args in
+    let at = c.pair_mut-filter in
+    let was = at.result.1.now in
+    let is = filter_is a.filters.now.entries a.route.filter at.result.0.now a.route.number was c.requires.route.plan at.ensures.value c.requires.route.filter in
+    let there = (changes_of a.filters.now a.route.filter at.result.0.now a.route.number was was is.0 at.ensures.unique at.ensures.value).there in
+    let same = plan_found a.route.number a.filters.now.entries was f there found in
+    let frame = a.frame in
+    c.verdict_for-verdict.ensures.verdict p ss a.route.number handle priority are (kept a.route.number was there) ∙ ap (λ (x : FilterPlan). verdict_of p ss (call frame.at handle priority frame.dei frame.sdu frame.octets) a.route.number x) same
 
 pub returns-clause-kept : goal.returns-clause-kept
 returns-clause-kept g c =
-    let n = c.args.number in
-    let old = c.args.filters.now.entries in
-    let new = (c.get_mut.follows.lender c.note.new.self).entries in
-    let was = c.in-Some.filter.now in
+    let a = c.args in
+    let at = c.pair_mut-filter in
+    let was = at.result.1.now in
+    let n = a.route.number in
+    let is = filter_is a.filters.now.entries a.route.filter at.result.0.now n was c.requires.route.plan at.ensures.value c.requires.route.filter in
+    let old = a.filters.now.entries in
+    let new = set_value_at old a.route.filter c.note.new.self in
     let v = c.verdict_for-verdict.result in
-    let change : Changes old new n was (noted was v) = record {
-      there = sym c.in-Some.ensures.value;
-      own = rw (← c.note.ensures) (search rules);
-      others = search rules;
-    } in
-    let frame = c.args.frame in
+    let change = subst (λ (y : Filter). Changes old new n was y) c.note.ensures (changes_of a.filters.now a.route.filter at.result.0.now n was c.note.new.self is.0 at.ensures.unique at.ensures.value) in
+    let frame = a.frame in
     λ ss f handle priority found kept. kept_after old new n was (call frame.at handle priority frame.dei frame.sdu frame.octets) f v ss change kept
 
 pub returns-clause-policed : goal.returns-clause-policed
 returns-clause-policed g c = λ p ss f handle priority found are.
-    let same = plan_found c.args.number c.args.filters.now.entries c.in-Some.filter.now f (sym c.in-Some.ensures.value) found in
-    let frame = c.args.frame in
+    let a = c.args in
+    let at = c.pair_mut-filter in
+    let was = at.result.1.now in
+    let is = filter_is a.filters.now.entries a.route.filter at.result.0.now a.route.number was c.requires.route.plan at.ensures.value c.requires.route.filter in
+    let there = (changes_of a.filters.now a.route.filter at.result.0.now a.route.number was was is.0 at.ensures.unique at.ensures.value).there in
+    let same = plan_found a.route.number a.filters.now.entries was f there found in
+    let frame = a.frame in
     let frame_call = call frame.at handle priority frame.dei frame.sdu frame.octets in
     let r = c.verdict_for-verdict in
-    let P : FilterPlan → Type 0 = λ x. ArePoliced p r.new.gates.entries r.new.meters.entries (Judged frame_call c.args.number x r.result ∷ ss) in
-    subst P same (r.ensures.policed p ss c.args.number handle priority are)
+    let P : FilterPlan → Type 0 = λ x. ArePoliced p r.new.gates.entries r.new.meters.entries (Judged frame_call a.route.number x r.result ∷ ss) in
+    subst P same (r.ensures.policed p ss a.route.number handle priority are)
 
 pub returns-clause-plans : goal.returns-clause-plans
 returns-clause-plans g c =
-    let n = c.args.number in
-    let old = c.args.filters.now.entries in
-    let new = (c.get_mut.follows.lender c.note.new.self).entries in
-    let e : new ≡ set_value (nat_eq n) old c.note.new.self = search rules in
-    let plan : c.note.new.self.plan ≡ c.in-Some.filter.now.plan = rw c.note.ensures refl in
-    rw e (plans_in-set_value n old c.in-Some.filter.now c.note.new.self (sym c.in-Some.ensures.value) plan)
+    let a = c.args in
+    let at = c.pair_mut-filter in
+    let plan : c.note.new.self.plan ≡ at.result.1.now.plan = rw c.note.ensures refl in
+    plans_in-set_value_at a.filters.now.entries a.route.filter at.result.0.now at.result.1.now c.note.new.self at.ensures.value plan
 
 pub returns-clause-instances : goal.returns-clause-instances
 returns-clause-instances g c =
-    let n = c.args.number in
-    let old = c.args.filters.now.entries in
-    let new = (c.get_mut.follows.lender c.note.new.self).entries in
-    let was = c.in-Some.filter.now in
+    let a = c.args in
+    let at = c.pair_mut-filter in
+    let was = at.result.1.now in
+    let n = a.route.number in
+    let is = filter_is a.filters.now.entries a.route.filter at.result.0.now n was c.requires.route.plan at.ensures.value c.requires.route.filter in
+    let old = a.filters.now.entries in
+    let new = set_value_at old a.route.filter c.note.new.self in
     let r = c.verdict_for-verdict in
-    let change : Changes old new n was (noted was r.result) = record {
-      there = sym c.in-Some.ensures.value;
-      own = rw (← c.note.ensures) (search rules);
-      others = search rules;
-    } in
-    λ calls have. instances_after old new n was r.result c.args.gates.now.entries r.new.gates.entries c.args.meters.now.entries r.new.meters.entries calls change r.ensures.same_gates r.ensures.same_meters have
+    let change = subst (λ (y : Filter). Changes old new n was y) c.note.ensures (changes_of a.filters.now a.route.filter at.result.0.now n was c.note.new.self is.0 at.ensures.unique at.ensures.value) in
+    λ calls have. instances_after old new n was r.result a.gates.now.entries r.new.gates.entries a.meters.now.entries r.new.meters.entries calls change (keeps_numbers a.gates.now.entries r.new.gates.entries r.ensures.same_gates) (keeps_numbers a.meters.now.entries r.new.meters.entries r.ensures.same_meters) have

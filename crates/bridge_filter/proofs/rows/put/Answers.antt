@@ -8,6 +8,6 @@ loop-k-preserved c =
     let size = i.size in
     record {
       size = length-set c.loop-k.row c.loop-k.k c.slot_with.result ∙ size;
-      before = put_more c.args.row.now c.loop-k.row c.loop-k.k c.args.asked c.args.number c.slot_with.result (omega arith) c.slot_with.ensures i.before i.after;
+      before = put_more c.args.row.now c.loop-k.row c.loop-k.k c.args.asked c.args.route c.slot_with.result (omega arith) c.slot_with.ensures i.before i.after;
       after = put_left c.args.row.now c.loop-k.row c.loop-k.k c.slot_with.result i.after;
     }

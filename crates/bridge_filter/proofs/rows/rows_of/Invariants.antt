@@ -1,6 +1,11 @@
 use Rattle.std.proofs.Common.{take}
-use Rattle.bridge_filter.specs.Finding.{AreOwnRows}
+use Rattle.std.specs.Map.{keys_of}
+use Rattle.bridge_filter.specs.Finding.{AreOwnRows, HaveRoutes}
+use Rattle.bridge_filter.specs.Steps.{plans_in}
 use Rattle.bridge_filter.proofs.rows.rows_of.Given as goal
 
-abbrev pub invariant-loop-number : goal.invariant-loop-number
-invariant-loop-number g l = AreOwnRows l.rows.entries l.any (take l.number-index l.plans)
+abbrev pub invariant-loop-place : goal.invariant-loop-place
+invariant-loop-place g l = record {
+  numbers : AreOwnRows l.rows.entries l.any (take l.place (plans_in l.filters.entries));
+  routes : HaveRoutes l.rows.entries l.any (plans_in l.filters.entries) (keys_of l.gates.entries) (keys_of l.meters.entries);
+}

@@ -1,8 +1,10 @@
 use Rattle.std.proofs.Common.{sym, subst, refl}
 use Rattle.std.specs.Prelude.{IsTrue}
+use Rattle.bridge_filter.specs.Plans.{KeepsNumbers}
 use Rattle.bridge_filter.specs.Verdicts.{told}
 use Rattle.bridge_filter.specs.Standing.{PoliceState, Stands, has_instance}
 use Rattle.bridge_filter.specs.Steps.{plans_in}
+use Rattle.bridge_filter.proofs.Numbered.{keeps_numbers}
 use Rattle.bridge_filter.proofs.Cleared.{sound_filters, sound_gates, sound_meters, filter_there, gate_there_rx, gate_there_octets, meter_there_red, stands_blocked, stands_rx, stands_octets, stands_red}
 use Rattle.bridge_filter.proofs.police.Police.clear.Goals as goal
 
@@ -65,3 +67,18 @@ returns-in-Red-clause-stands g c = λ p es stands.
     let r = c.clear_red in
     let st = subst (λ (z : PoliceState _). Stands p z es) (sym c.self.view_is) stands in
     stands_red p _ es c.args.clear c.args.number r.new.meters.entries c.in-Red.is st r.ensures.stand
+
+pub returns-in-Rx-clause-gates : goal.returns-in-Rx-clause-gates
+returns-in-Rx-clause-gates g c =
+    let r = c.clear_rx in
+    subst (λ (z : PoliceState _). KeepsNumbers z.gates r.new.gates.entries) c.self.view_is (keeps_numbers c.self.inside.gates.entries r.new.gates.entries r.ensures.same)
+
+pub returns-in-Octets-clause-gates : goal.returns-in-Octets-clause-gates
+returns-in-Octets-clause-gates g c =
+    let r = c.clear_octets in
+    subst (λ (z : PoliceState _). KeepsNumbers z.gates r.new.gates.entries) c.self.view_is (keeps_numbers c.self.inside.gates.entries r.new.gates.entries r.ensures.same)
+
+pub returns-in-Red-clause-meters : goal.returns-in-Red-clause-meters
+returns-in-Red-clause-meters g c =
+    let r = c.clear_red in
+    subst (λ (z : PoliceState _). KeepsNumbers z.meters r.new.meters.entries) c.self.view_is (keeps_numbers c.self.inside.meters.entries r.new.meters.entries r.ensures.same)

@@ -1,10 +1,16 @@
 use Rattle.std.proofs.Common.{arith, ◌≤◌, ◌<◌, ◌^◌, ◌∙◌, sym, subst, refl, ap}
+use Rattle.bridge_filter.specs.Plans.{KeepsNumbers}
 use Rattle.bridge_filter.specs.Verdicts.{Unfiltered, Judged, call, told, ruled}
 use Rattle.bridge_filter.specs.Standing.{PoliceState, Stands}
 use Rattle.bridge_filter.specs.Steps.{plans_in}
-use Rattle.bridge_filter.proofs.Flows.{flow_numbered, flow_none, kept_there}
+use Rattle.bridge_filter.proofs.Numbered.{keeps_numbers}
+use Rattle.bridge_filter.proofs.Flows.{flow_numbered, flow_none}
+use Rattle.bridge_filter.proofs.Rowed.{number_of}
 use Rattle.bridge_filter.proofs.Passing.{stands_after, are_policed, kept_unfiltered, policed_unfiltered, judged_unfiltered, judged_by, have_later, sound_unfiltered, sound_judged}
 use Rattle.bridge_filter.proofs.police.Police.pass.Goals as goal
+
+pub route_of-requires-clause-meters : goal.route_of-requires-clause-meters
+route_of-requires-clause-meters g c = λ n f found. (c.self.invariant.instances n f found).meter
 
 pub invariant_of-self : goal.invariant_of-self
 invariant_of-self g c =
@@ -12,25 +18,16 @@ invariant_of-self g c =
     let le : i.earliest ≤ c.args.t = subst (λ (z : PoliceState _). z.earliest ≤ c.args.t) (sym c.self.view_is) c.requires.time in
     sound_unfiltered i.filters.entries i.rows.entries i.any i.gates.entries i.meters.entries i.calls i.earliest c.args.t le c.self.invariant
 
-pub returns-in_err-filter-clause-stands : goal.returns-in_err-filter-clause-stands
-returns-in_err-filter-clause-stands g c = λ p es stands.
+pub returns-in_err-route-clause-stands : goal.returns-in_err-route-clause-stands
+returns-in_err-route-clause-stands g c = λ p es stands.
     let i = c.self.inside in
     let fs = plans_in i.filters.entries in
     let frame = call c.args.t c.args.handle c.args.priority c.args.dei c.args.sdu c.args.octets in
-    let number = c.filter_of.ensures c.args.t c.args.sdu c.args.octets c.args.dei in
-    let none = flow_none fs frame (sym c.in_err-filter.was ∙ number) in
+    let number = c.route_of.ensures.number c.args.t c.args.sdu c.args.octets c.args.dei in
+    let none = flow_none fs frame (sym (ap number_of c.in_err-route.was) ∙ number) in
     let st = subst (λ (z : PoliceState _). Stands p z es) (sym c.self.view_is) stands in
     let step = judged_unfiltered p fs (told p es) frame st.filters none in
     stands_after p _ _ es frame (Unfiltered frame) step st refl (kept_unfiltered i.filters.entries frame (told p es) st.kept) (policed_unfiltered p i.gates.entries i.meters.entries frame (told p es) (are_policed p _ es st)) refl refl
-
-pub judge-verdict-requires-clause-there : goal.judge-verdict-requires-clause-there
-judge-verdict-requires-clause-there g c =
-    let i = c.self.inside in
-    let fs = plans_in i.filters.entries in
-    let frame = call c.args.t c.args.handle c.args.priority c.args.dei c.args.sdu c.args.octets in
-    let number = c.filter_of.ensures c.args.t c.args.sdu c.args.octets c.args.dei in
-    let flow = flow_numbered fs frame c.in_ok-filter.filter c.self.invariant.distinct (sym c.in_ok-filter.was ∙ number) in
-    kept_there c.in_ok-filter.filter i.filters.entries flow.plan flow.found
 
 pub judge-verdict-requires-clause-instances : goal.judge-verdict-requires-clause-instances
 judge-verdict-requires-clause-instances g c =
@@ -42,17 +39,17 @@ pub invariant_of-self-2 : goal.invariant_of-self-2
 invariant_of-self-2 g c =
     let i = c.self.inside in
     let r = c.judge-verdict in
-    sound_judged i.filters.entries r.new.filters.entries i.rows.entries i.any i.gates.entries r.new.gates.entries i.meters.entries r.new.meters.entries i.calls i.earliest c.args.t c.self.invariant r.ensures.plans (r.ensures.instances i.calls c.self.invariant.instances) r.ensures.asked r.ensures.judged
+    sound_judged i.filters.entries r.new.filters.entries i.rows.entries i.any i.gates.entries r.new.gates.entries i.meters.entries r.new.meters.entries i.calls i.earliest c.args.t c.self.invariant r.ensures.plans r.ensures.same_gates r.ensures.same_meters (r.ensures.instances i.calls c.self.invariant.instances) r.ensures.asked r.ensures.judged
 
 pub returns-clause-stands : goal.returns-clause-stands
 returns-clause-stands g c = λ p es stands.
     let i = c.self.inside in
     let r = c.judge-verdict in
-    let n = c.in_ok-filter.filter in
+    let n = c.in_ok-route.route.number in
     let fs = plans_in i.filters.entries in
     let frame = call c.args.t c.args.handle c.args.priority c.args.dei c.args.sdu c.args.octets in
-    let number = c.filter_of.ensures c.args.t c.args.sdu c.args.octets c.args.dei in
-    let flow = flow_numbered fs frame n c.self.invariant.distinct (sym c.in_ok-filter.was ∙ number) in
+    let number = c.route_of.ensures.number c.args.t c.args.sdu c.args.octets c.args.dei in
+    let flow = flow_numbered fs frame n c.self.invariant.distinct (sym (ap number_of c.in_ok-route.was) ∙ number) in
     let st = subst (λ (z : PoliceState _). Stands p z es) (sym c.self.view_is) stands in
     let are = are_policed p _ es st in
     let verdict = r.ensures.verdict p (told p es) flow.plan c.args.handle c.args.priority flow.found st.kept are in
@@ -63,11 +60,21 @@ pub returns-clause-answer : goal.returns-clause-answer
 returns-clause-answer g c = λ p es stands.
     let i = c.self.inside in
     let r = c.judge-verdict in
-    let n = c.in_ok-filter.filter in
+    let n = c.in_ok-route.route.number in
     let fs = plans_in i.filters.entries in
     let frame = call c.args.t c.args.handle c.args.priority c.args.dei c.args.sdu c.args.octets in
-    let number = c.filter_of.ensures c.args.t c.args.sdu c.args.octets c.args.dei in
-    let flow = flow_numbered fs frame n c.self.invariant.distinct (sym c.in_ok-filter.was ∙ number) in
+    let number = c.route_of.ensures.number c.args.t c.args.sdu c.args.octets c.args.dei in
+    let flow = flow_numbered fs frame n c.self.invariant.distinct (sym (ap number_of c.in_ok-route.was) ∙ number) in
     let st = subst (λ (z : PoliceState _). Stands p z es) (sym c.self.view_is) stands in
     let verdict = r.ensures.verdict p (told p es) flow.plan c.args.handle c.args.priority flow.found st.kept (are_policed p _ es st) in
     sym (ap ruled (judged_by p fs (told p es) frame n flow.plan r.result st.filters flow.is verdict))
+
+pub returns-clause-gates : goal.returns-clause-gates
+returns-clause-gates g c =
+    let r = c.judge-verdict in
+    subst (λ (z : PoliceState _). KeepsNumbers z.gates r.new.gates.entries) c.self.view_is (keeps_numbers c.self.inside.gates.entries r.new.gates.entries r.ensures.same_gates)
+
+pub returns-clause-meters : goal.returns-clause-meters
+returns-clause-meters g c =
+    let r = c.judge-verdict in
+    subst (λ (z : PoliceState _). KeepsNumbers z.meters r.new.meters.entries) c.self.view_is (keeps_numbers c.self.inside.meters.entries r.new.meters.entries r.ensures.same_meters)
