@@ -1,2 +1,3 @@
 mod Frames
+pub mod Puts
 pub mod Same

@@ -1,3 +1,4 @@
+pub mod Growth
 pub mod Words
 pub mod Section
 pub mod Summary

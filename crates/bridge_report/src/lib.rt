@@ -7,6 +7,7 @@ mod lines;
 mod lists;
 mod sections;
 mod shown;
+mod text;
 mod totals;
 mod word;
 

@@ -1,82 +1,101 @@
-//! The lines of a section, each written once, into a string or a writer.
+//! The lines of a section, each written once, for any text.
 ghost use Rattle.std.specs.Prelude.{◌≡◌};
-ghost use Rattle.std.specs.Fmt.{WritesOnOk};
-ghost use Rattle.bridge_report.specs.Section.{bucket_line, counter_lines, delay_line, drop_line, each_flag, flag_named, flags_line, frame_line, full_in, header_line, never_in, out_line, queued_line, tested_line};
+ghost use Rattle.bridge_report.specs.Growth.{GrowsOnOk};
+ghost use Rattle.bridge_report.specs.Section.{bucket_line, counter_lines, delay_line, drop_line, each_flag, flag_named, flags_line, frame_line, full_in, header_line, matching_line, never_in, out_line, queued_line, red_line, tested_line};
 
+use crate::fault::ReportFault;
+use crate::text::{Text, put_number};
 use crate::word::{flag_word, kind_word, refusal_word, verdict_word};
 use bridge_filter::{Counters, Flags, Verdict};
 use bridge_meter::Buckets;
 use bridge_port::Refusal;
 use bridge_run::{Departure, Dropped};
-use std::fmt;
-use std::fmt::Formatter;
 
-/// Writes the filter's number, and whether it is protected.
-pub fn write_header<W: fmt::Write>(
-    text: &mut Formatter<W>,
-    filter: u32,
-    protected: bool,
-) -> fmt::Result
-    ensures { WritesOnOk W.write_str_gives text.old result (header_line filter protected) text.new }
+/// Puts the filter's number, and whether it is protected.
+pub fn put_header<T: Text>(text: &mut T, filter: u32, protected: bool) -> Result<(), ReportFault>
+    ensures { GrowsOnOk T.contents text.old result (header_line filter protected) text.new }
 {
-    let kind = kind_word(protected);
-    write!(text, "filter {filter} {kind}\n")
+    put_number(text, "filter ", filter)?;
+    text.put(" ")?;
+    text.put(kind_word(protected))?;
+    text.put("\n")
 }
 
-/// Writes how many frames passed a test, and how many it refused.
-fn write_tested<W: fmt::Write>(
-    text: &mut Formatter<W>,
+/// Puts how many frames came.
+fn put_matching<T: Text>(text: &mut T, matching: u64) -> Result<(), ReportFault>
+    ensures { GrowsOnOk T.contents text.old result (matching_line matching) text.new }
+{
+    put_number(text, "matching ", matching)?;
+    text.put("\n")
+}
+
+/// Puts how many frames passed a test, and how many it refused.
+fn put_tested<T: Text>(
+    text: &mut T,
     test: &str,
     passed: u64,
     refused: u64,
-) -> fmt::Result
-    ensures { WritesOnOk W.write_str_gives text.old result (tested_line test.now passed refused) text.new }
+) -> Result<(), ReportFault>
+    ensures { GrowsOnOk T.contents text.old result (tested_line test.now passed refused) text.new }
 {
-    write!(text, "{test} passed {passed} refused {refused}\n")
+    text.put(test)?;
+    put_number(text, " passed ", passed)?;
+    put_number(text, " refused ", refused)?;
+    text.put("\n")
 }
 
-/// Writes what a filter counts.
-pub fn write_counters<W: fmt::Write>(text: &mut Formatter<W>, counters: &Counters) -> fmt::Result
-    ensures { WritesOnOk W.write_str_gives text.old result (counter_lines counters.now) text.new }
+/// Puts how many frames the meter discarded.
+fn put_red<T: Text>(text: &mut T, red: u64) -> Result<(), ReportFault>
+    ensures { GrowsOnOk T.contents text.old result (red_line red) text.new }
 {
-    let matching = counters.matching;
-    write!(text, "matching {matching}\n")?;
-    write_tested(text, "sdu", counters.sdu_passed, counters.sdu_refused)?;
-    write_tested(text, "gate", counters.gate_passed, counters.gate_refused)?;
-    let red = counters.red;
-    write!(text, "red {red}\n")
+    put_number(text, "red ", red)?;
+    text.put("\n")
 }
 
-/// Writes a flag with its name before it.
-fn write_flag<W: fmt::Write>(text: &mut Formatter<W>, name: &str, flag: bool) -> fmt::Result
-    ensures { WritesOnOk W.write_str_gives text.old result (flag_named name.now flag) text.new }
+/// Puts what a filter counts.
+pub fn put_counters<T: Text>(text: &mut T, counters: &Counters) -> Result<(), ReportFault>
+    ensures { GrowsOnOk T.contents text.old result (counter_lines counters.now) text.new }
 {
-    let word = flag_word(flag);
-    write!(text, " {name} {word}")
+    put_matching(text, counters.matching)?;
+    put_tested(text, "sdu", counters.sdu_passed, counters.sdu_refused)?;
+    put_tested(text, "gate", counters.gate_passed, counters.gate_refused)?;
+    put_red(text, counters.red)
 }
 
-/// Writes the four flags.
-fn write_each_flag<W: fmt::Write>(text: &mut Formatter<W>, flags: &Flags) -> fmt::Result
-    ensures { WritesOnOk W.write_str_gives text.old result (each_flag flags.now) text.new }
+/// Puts a flag with its name before it.
+fn put_flag<T: Text>(text: &mut T, name: &str, flag: bool) -> Result<(), ReportFault>
+    ensures { GrowsOnOk T.contents text.old result (flag_named name.now flag) text.new }
 {
-    write_flag(text, "blocked", flags.blocked)?;
-    write_flag(text, "rx", flags.rx)?;
-    write_flag(text, "octets", flags.octets)?;
-    write_flag(text, "red", flags.red)
+    text.put(" ")?;
+    text.put(name)?;
+    text.put(" ")?;
+    text.put(flag_word(flag))
 }
 
-/// Writes the flags of a filter, its gate and its meter.
-pub fn write_flags<W: fmt::Write>(text: &mut Formatter<W>, flags: &Flags) -> fmt::Result
-    ensures { WritesOnOk W.write_str_gives text.old result (flags_line flags.now) text.new }
+/// Puts the four flags.
+#[tactic(auto, using(crate::proofs::Puts::puts), unfolding(crate::specs::Section::each_flag))]
+fn put_each_flag<T: Text>(text: &mut T, flags: &Flags) -> Result<(), ReportFault>
+    ensures { GrowsOnOk T.contents text.old result (each_flag flags.now) text.new }
 {
-    text.write_str("flags")?;
-    write_each_flag(text, flags)?;
-    text.write_str("\n")
+    put_flag(text, "blocked", flags.blocked)?;
+    put_flag(text, "rx", flags.rx)?;
+    put_flag(text, "octets", flags.octets)?;
+    put_flag(text, "red", flags.red)
 }
 
-/// Writes what the buckets of a filter's meter hold.
-pub fn write_bucket<W: fmt::Write>(text: &mut Formatter<W>, buckets: Option<Buckets>) -> fmt::Result
-    ensures { WritesOnOk W.write_str_gives text.old result (bucket_line buckets) text.new }
+/// Puts the flags of a filter, its gate and its meter.
+pub fn put_flags<T: Text>(text: &mut T, flags: &Flags) -> Result<(), ReportFault>
+    ensures { GrowsOnOk T.contents text.old result (flags_line flags.now) text.new }
+{
+    text.put("flags")?;
+    put_each_flag(text, flags)?;
+    text.put("\n")
+}
+
+/// Puts what the buckets of a filter's meter hold.
+#[tactic(auto, using(crate::proofs::Puts::puts))]
+pub fn put_bucket<T: Text>(text: &mut T, buckets: Option<Buckets>) -> Result<(), ReportFault>
+    ensures { GrowsOnOk T.contents text.old result (bucket_line buckets) text.new }
 {
     let Some(
         Buckets {
@@ -87,12 +106,12 @@ pub fn write_bucket<W: fmt::Write>(text: &mut Formatter<W>, buckets: Option<Buck
         },
     ) = buckets
     else {
-        return text.write_str("bucket none\n");
+        return text.put("bucket none\n");
     };
-    write!(
-        text,
-        "bucket committed {committed} excess {excess} at {at}\n"
-    )
+    put_number(text, "bucket committed ", committed)?;
+    put_number(text, " excess ", excess)?;
+    put_number(text, " at ", at)?;
+    text.put("\n")
 }
 
 /// How many copies were dropped at a full queue.
@@ -115,54 +134,56 @@ fn never_in(drops: &[Dropped]) -> usize
         .count()
 }
 
-/// Writes how many copies of a filter's frames were queued, and how many were dropped.
-pub fn write_queued<W: fmt::Write>(
-    text: &mut Formatter<W>,
+/// Puts how many copies of a filter's frames were queued, and how many were dropped.
+pub fn put_queued<T: Text>(
+    text: &mut T,
     departures: &[Departure],
     drops: &[Dropped],
-) -> fmt::Result
-    ensures { WritesOnOk W.write_str_gives text.old result (queued_line departures.now drops.now) text.new }
+) -> Result<(), ReportFault>
+    ensures { GrowsOnOk T.contents text.old result (queued_line departures.now drops.now) text.new }
 {
-    let queued = departures.len();
-    let full = full_in(drops);
-    let never = never_in(drops);
-    write!(text, "queued {queued} full {full} never {never}\n")
+    put_number(text, "queued ", departures.len())?;
+    put_number(text, " full ", full_in(drops))?;
+    put_number(text, " never ", never_in(drops))?;
+    text.put("\n")
 }
 
-/// Writes the greatest delay of a filter's frames.
-pub fn write_delay<W: fmt::Write>(text: &mut Formatter<W>, delay: Option<u64>) -> fmt::Result
-    ensures { WritesOnOk W.write_str_gives text.old result (delay_line delay) text.new }
+/// Puts the greatest delay of a filter's frames.
+pub fn put_delay<T: Text>(text: &mut T, delay: Option<u64>) -> Result<(), ReportFault>
+    ensures { GrowsOnOk T.contents text.old result (delay_line delay) text.new }
 {
     let Some(delay) = delay else {
-        return text.write_str("delay none\n");
+        return text.put("delay none\n");
     };
-    write!(text, "delay {delay}\n")
+    put_number(text, "delay ", delay)?;
+    text.put("\n")
 }
 
-/// Writes a frame by its number, and its verdict.
-pub fn write_frame<W: fmt::Write>(
-    text: &mut Formatter<W>,
-    number: usize,
-    verdict: Verdict,
-) -> fmt::Result
-    ensures { WritesOnOk W.write_str_gives text.old result (frame_line number verdict) text.new }
+/// Puts a frame by its number, and its verdict.
+pub fn put_frame<T: Text>(text: &mut T, number: usize, verdict: Verdict) -> Result<(), ReportFault>
+    ensures { GrowsOnOk T.contents text.old result (frame_line number verdict) text.new }
 {
-    let word = verdict_word(verdict);
-    write!(text, "frame {number} {word}\n")
+    put_number(text, "frame ", number)?;
+    text.put(" ")?;
+    text.put(verdict_word(verdict))?;
+    text.put("\n")
 }
 
-/// Writes a copy that was dropped.
-pub fn write_drop<W: fmt::Write>(text: &mut Formatter<W>, dropped: &Dropped) -> fmt::Result
-    ensures { WritesOnOk W.write_str_gives text.old result (drop_line dropped.now) text.new }
+/// Puts a copy that was dropped.
+pub fn put_drop<T: Text>(text: &mut T, dropped: &Dropped) -> Result<(), ReportFault>
+    ensures { GrowsOnOk T.contents text.old result (drop_line dropped.now) text.new }
 {
     let Dropped { own, port, refusal } = *dropped;
-    let word = refusal_word(refusal);
-    write!(text, "drop {own} port {port} {word}\n")
+    put_number(text, "drop ", own)?;
+    put_number(text, " port ", port)?;
+    text.put(" ")?;
+    text.put(refusal_word(refusal))?;
+    text.put("\n")
 }
 
-/// Writes a copy that left.
-pub fn write_out<W: fmt::Write>(text: &mut Formatter<W>, departure: &Departure) -> fmt::Result
-    ensures { WritesOnOk W.write_str_gives text.old result (out_line departure.now) text.new }
+/// Puts a copy that left.
+pub fn put_out<T: Text>(text: &mut T, departure: &Departure) -> Result<(), ReportFault>
+    ensures { GrowsOnOk T.contents text.old result (out_line departure.now) text.new }
 {
     let Departure {
         own,
@@ -170,5 +191,9 @@ pub fn write_out<W: fmt::Write>(text: &mut Formatter<W>, departure: &Departure) 
         start,
         done,
     } = *departure;
-    write!(text, "out {own} port {port} start {start} done {done}\n")
+    put_number(text, "out ", own)?;
+    put_number(text, " port ", port)?;
+    put_number(text, " start ", start)?;
+    put_number(text, " done ", done)?;
+    text.put("\n")
 }

@@ -5,7 +5,7 @@ ghost use Rattle.std.specs.Io.KnownBytes.{Appends};
 ghost use Rattle.bridge_report.specs.Section.{report_of, section_of};
 
 use crate::fault::ReportFault;
-use crate::shown::{Section, Sections};
+use crate::shown::{put_section, put_sections};
 use bridge_cycle::NoMemory;
 use bridge_run::{Outcome, View};
 use std::alloc::Allocator;
@@ -38,18 +38,22 @@ pub fn section<A: Allocator + Copy>(
     let Some(view) = view_of(outcome, filter) else {
         return Ok(None);
     };
-    let section = Section { filter, view };
-    let text = format!(in alloc; "{section}")?;
-    Ok(Some(text))
+    let mut text = String::new(alloc);
+    match put_section(&mut text, filter, view) {
+        Ok(()) => Ok(Some(text)),
+        Err(_) => Err(NoMemory),
+    }
 }
 
 /// The sections of all filters, in their order.
 pub fn report<A: Allocator + Copy>(alloc: A, outcome: &Outcome<A>) -> Result<String<A>, NoMemory>
     ensures { IfOk result (λ text. string_bytes text ≡ report_of outcome.now.filters.items) }
 {
-    let sections = Sections(&outcome.filters);
-    let text = format!(in alloc; "{sections}")?;
-    Ok(text)
+    let mut text = String::new(alloc);
+    match put_sections(&mut text, &outcome.filters) {
+        Ok(()) => Ok(text),
+        Err(_) => Err(NoMemory),
+    }
 }
 
 /// Writes the sections of all filters, in their order, behind what the writer holds, and hands it back flushed. All that
@@ -64,10 +68,7 @@ pub fn write_report<W: Write + Drop, A: Allocator + Copy>(
     let Ok(mut behind) = BufWriter::with_capacity(alloc, MOST_AT_ONCE, writer) else {
         return Err(ReportFault::NoMemory);
     };
-    let sections = Sections(&outcome.filters);
-    if write!(behind, "{sections}").is_err() {
-        return Err(ReportFault::Broken);
-    }
+    put_sections(&mut behind, &outcome.filters)?;
     let Ok(mut writer) = behind.into_inner() else {
         return Err(ReportFault::Broken);
     };

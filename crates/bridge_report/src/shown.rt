@@ -1,81 +1,73 @@
-//! Sections as text that any `write!` takes.
-ghost use Rattle.std.specs.Prelude.{◌≡◌, Some};
-ghost use Rattle.std.specs.Fmt.{WritesOnOk};
+//! Sections, put into any text.
+ghost use Rattle.bridge_report.specs.Growth.{GrowsOnOk};
 ghost use Rattle.bridge_report.specs.Section.{copies_of, lists_of, report_of, section_of, state_of};
 
-use crate::lines::{
-    write_bucket, write_counters, write_delay, write_flags, write_header, write_queued,
-};
-use crate::lists::{write_drops, write_frames, write_outs};
+use crate::fault::ReportFault;
+use crate::lines::{put_bucket, put_counters, put_delay, put_flags, put_header, put_queued};
+use crate::lists::{put_drops, put_frames, put_outs};
+use crate::text::Text;
 use bridge_run::View;
 use std::alloc::Allocator;
-use std::fmt;
-use std::fmt::{Display, Formatter};
 
-/// Writes what the filter, its gate and its meter are left with.
-fn write_state<A: Allocator, W: fmt::Write>(
-    text: &mut Formatter<W>,
+/// Puts what the filter, its gate and its meter are left with.
+#[tactic(auto, using(crate::proofs::Puts::puts), unfolding(crate::specs::Section::state_of))]
+fn put_state<A: Allocator, T: Text>(
+    text: &mut T,
     filter: u32,
     view: &View<A>,
-) -> fmt::Result
-    ensures { WritesOnOk W.write_str_gives text.old result (state_of filter view.now) text.new }
+) -> Result<(), ReportFault>
+    ensures { GrowsOnOk T.contents text.old result (state_of filter view.now) text.new }
 {
-    write_header(text, filter, view.protected)?;
-    write_counters(text, &view.counters)?;
-    write_flags(text, &view.flags)?;
-    write_bucket(text, view.buckets)
+    put_header(text, filter, view.protected)?;
+    put_counters(text, &view.counters)?;
+    put_flags(text, &view.flags)?;
+    put_bucket(text, view.buckets)
 }
 
-/// Writes how the copies of its frames fared.
-fn write_copies<A: Allocator, W: fmt::Write>(text: &mut Formatter<W>, view: &View<A>) -> fmt::Result
-    ensures { WritesOnOk W.write_str_gives text.old result (copies_of view.now) text.new }
+/// Puts how the copies of its frames fared.
+#[tactic(auto, using(crate::proofs::Puts::puts), unfolding(crate::specs::Section::copies_of))]
+fn put_copies<A: Allocator, T: Text>(text: &mut T, view: &View<A>) -> Result<(), ReportFault>
+    ensures { GrowsOnOk T.contents text.old result (copies_of view.now) text.new }
 {
-    write_queued(text, &view.departures, &view.drops)?;
-    write_delay(text, view.delay)
+    put_queued(text, &view.departures, &view.drops)?;
+    put_delay(text, view.delay)
 }
 
-/// Writes the lists of frames, drops and departures.
-fn write_lists<A: Allocator, W: fmt::Write>(text: &mut Formatter<W>, view: &View<A>) -> fmt::Result
-    ensures { WritesOnOk W.write_str_gives text.old result (lists_of view.now) text.new }
+/// Puts the lists of frames, drops and departures.
+#[tactic(auto, using(crate::proofs::Puts::puts), unfolding(crate::specs::Section::lists_of))]
+fn put_lists<A: Allocator, T: Text>(text: &mut T, view: &View<A>) -> Result<(), ReportFault>
+    ensures { GrowsOnOk T.contents text.old result (lists_of view.now) text.new }
 {
-    write_frames(text, &view.verdicts)?;
-    write_drops(text, &view.drops)?;
-    write_outs(text, &view.departures)
+    put_frames(text, &view.verdicts)?;
+    put_drops(text, &view.drops)?;
+    put_outs(text, &view.departures)
 }
 
-/// The section of a filter.
-#[derive(Drop)]
-pub struct Section<'a, A: Allocator> {
-    pub filter: u32,
-    pub view: &'a View<A>,
+/// Puts the section of a filter.
+#[tactic(auto, using(crate::proofs::Puts::puts), unfolding(crate::specs::Section::section_of))]
+pub fn put_section<A: Allocator, T: Text>(
+    text: &mut T,
+    filter: u32,
+    view: &View<A>,
+) -> Result<(), ReportFault>
+    ensures { GrowsOnOk T.contents text.old result (section_of filter view.now) text.new }
+{
+    put_state(text, filter, view)?;
+    put_copies(text, view)?;
+    put_lists(text, view)?;
+    text.put("end\n")
 }
 
-impl<A: Allocator> Display for Section<'_, A> {
-    ghost output = { λ s. Some (section_of s.filter s.view.now) };
-
-    fn fmt<W: fmt::Write>(&self, f: &mut Formatter<W>) -> fmt::Result {
-        write_state(f, self.filter, self.view)?;
-        write_copies(f, self.view)?;
-        write_lists(f, self.view)?;
-        f.write_str("end\n")
+/// Puts the sections of some filters, one after the other.
+#[tactic(auto, using(crate::proofs::Puts::puts))]
+pub fn put_sections<A: Allocator, T: Text>(
+    text: &mut T,
+    filters: &[(u32, View<A>)],
+) -> Result<(), ReportFault>
+    ensures { GrowsOnOk T.contents text.old result (report_of filters.now) text.new }
+{
+    for (filter, view) in filters {
+        put_section(text, *filter, view)?;
     }
-}
-
-/// The sections of some filters, one after the other.
-#[derive(Drop)]
-pub struct Sections<'a, A: Allocator>(pub &'a [(u32, View<A>)]);
-
-impl<A: Allocator> Display for Sections<'_, A> {
-    ghost output = { λ s. Some (report_of s.0.now) };
-
-    fn fmt<W: fmt::Write>(&self, f: &mut Formatter<W>) -> fmt::Result {
-        for (filter, view) in self.0 {
-            let section = Section {
-                filter: *filter,
-                view,
-            };
-            write!(f, "{section}")?;
-        }
-        Ok(())
-    }
+    Ok(())
 }

@@ -1,8 +1,0 @@
-use Rattle.std.proofs.Common.{arith}
-use Rattle.std.proofs.lemmas.Grind.{common_steps}
-use Rattle.bridge_report.specs.Section.{copies_of}
-use Rattle.bridge_report.proofs.shown.write_copies.Goals as goal
-
-pub returns : goal.returns
-unfolding copies_of
-returns g c = grind (arith, common_steps)
