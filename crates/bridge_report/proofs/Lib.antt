@@ -1,3 +1,4 @@
+mod Digits
 mod Frames
 pub mod Puts
 pub mod Same

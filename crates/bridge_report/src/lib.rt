@@ -2,6 +2,7 @@
 //! Report: the text of what a run tells, a section for each stream filter, and the line that sums the run up.
 
 mod fault;
+mod held;
 mod laws;
 mod lines;
 mod lists;

@@ -4,7 +4,7 @@ ghost use Rattle.bridge_report.specs.Growth.{GrowsOnOk};
 ghost use Rattle.bridge_report.specs.Section.{bucket_line, counter_lines, delay_line, drop_line, each_flag, flag_named, flags_line, frame_line, full_in, header_line, matching_line, never_in, out_line, queued_line, red_line, tested_line};
 
 use crate::fault::ReportFault;
-use crate::text::{Text, put_number};
+use crate::text::{Text, put_wide};
 use crate::word::{flag_word, kind_word, refusal_word, verdict_word};
 use bridge_filter::{Counters, Flags, Verdict};
 use bridge_meter::Buckets;
@@ -15,7 +15,7 @@ use bridge_run::{Departure, Dropped};
 pub fn put_header<T: Text>(text: &mut T, filter: u32, protected: bool) -> Result<(), ReportFault>
     ensures { GrowsOnOk T.contents text.old result (header_line filter protected) text.new }
 {
-    put_number(text, "filter ", filter)?;
+    text.put_number("filter ", u64::from(filter))?;
     text.put(" ")?;
     text.put(kind_word(protected))?;
     text.put("\n")
@@ -25,7 +25,7 @@ pub fn put_header<T: Text>(text: &mut T, filter: u32, protected: bool) -> Result
 fn put_matching<T: Text>(text: &mut T, matching: u64) -> Result<(), ReportFault>
     ensures { GrowsOnOk T.contents text.old result (matching_line matching) text.new }
 {
-    put_number(text, "matching ", matching)?;
+    text.put_number("matching ", matching)?;
     text.put("\n")
 }
 
@@ -39,8 +39,8 @@ fn put_tested<T: Text>(
     ensures { GrowsOnOk T.contents text.old result (tested_line test.now passed refused) text.new }
 {
     text.put(test)?;
-    put_number(text, " passed ", passed)?;
-    put_number(text, " refused ", refused)?;
+    text.put_number(" passed ", passed)?;
+    text.put_number(" refused ", refused)?;
     text.put("\n")
 }
 
@@ -48,7 +48,7 @@ fn put_tested<T: Text>(
 fn put_red<T: Text>(text: &mut T, red: u64) -> Result<(), ReportFault>
     ensures { GrowsOnOk T.contents text.old result (red_line red) text.new }
 {
-    put_number(text, "red ", red)?;
+    text.put_number("red ", red)?;
     text.put("\n")
 }
 
@@ -108,9 +108,9 @@ pub fn put_bucket<T: Text>(text: &mut T, buckets: Option<Buckets>) -> Result<(),
     else {
         return text.put("bucket none\n");
     };
-    put_number(text, "bucket committed ", committed)?;
-    put_number(text, " excess ", excess)?;
-    put_number(text, " at ", at)?;
+    put_wide(text, "bucket committed ", committed)?;
+    put_wide(text, " excess ", excess)?;
+    text.put_number(" at ", at)?;
     text.put("\n")
 }
 
@@ -142,9 +142,9 @@ pub fn put_queued<T: Text>(
 ) -> Result<(), ReportFault>
     ensures { GrowsOnOk T.contents text.old result (queued_line departures.now drops.now) text.new }
 {
-    put_number(text, "queued ", departures.len())?;
-    put_number(text, " full ", full_in(drops))?;
-    put_number(text, " never ", never_in(drops))?;
+    text.put_number("queued ", departures.len() as u64)?;
+    text.put_number(" full ", full_in(drops) as u64)?;
+    text.put_number(" never ", never_in(drops) as u64)?;
     text.put("\n")
 }
 
@@ -155,7 +155,7 @@ pub fn put_delay<T: Text>(text: &mut T, delay: Option<u64>) -> Result<(), Report
     let Some(delay) = delay else {
         return text.put("delay none\n");
     };
-    put_number(text, "delay ", delay)?;
+    text.put_number("delay ", delay)?;
     text.put("\n")
 }
 
@@ -163,7 +163,7 @@ pub fn put_delay<T: Text>(text: &mut T, delay: Option<u64>) -> Result<(), Report
 pub fn put_frame<T: Text>(text: &mut T, number: usize, verdict: Verdict) -> Result<(), ReportFault>
     ensures { GrowsOnOk T.contents text.old result (frame_line number verdict) text.new }
 {
-    put_number(text, "frame ", number)?;
+    text.put_number("frame ", number as u64)?;
     text.put(" ")?;
     text.put(verdict_word(verdict))?;
     text.put("\n")
@@ -174,8 +174,8 @@ pub fn put_drop<T: Text>(text: &mut T, dropped: &Dropped) -> Result<(), ReportFa
     ensures { GrowsOnOk T.contents text.old result (drop_line dropped.now) text.new }
 {
     let Dropped { own, port, refusal } = *dropped;
-    put_number(text, "drop ", own)?;
-    put_number(text, " port ", port)?;
+    text.put_number("drop ", own)?;
+    text.put_number(" port ", u64::from(port))?;
     text.put(" ")?;
     text.put(refusal_word(refusal))?;
     text.put("\n")
@@ -191,9 +191,9 @@ pub fn put_out<T: Text>(text: &mut T, departure: &Departure) -> Result<(), Repor
         start,
         done,
     } = *departure;
-    put_number(text, "out ", own)?;
-    put_number(text, " port ", port)?;
-    put_number(text, " start ", start)?;
-    put_number(text, " done ", done)?;
+    text.put_number("out ", own)?;
+    text.put_number(" port ", u64::from(port))?;
+    text.put_number(" start ", start)?;
+    text.put_number(" done ", done)?;
     text.put("\n")
 }

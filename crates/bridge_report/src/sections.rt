@@ -5,11 +5,12 @@ ghost use Rattle.std.specs.Io.KnownBytes.{Appends};
 ghost use Rattle.bridge_report.specs.Section.{report_of, section_of};
 
 use crate::fault::ReportFault;
+use crate::held::Held;
 use crate::shown::{put_section, put_sections};
 use bridge_cycle::NoMemory;
 use bridge_run::{Outcome, View};
 use std::alloc::Allocator;
-use std::io::{BufWriter, Write};
+use std::io::Write;
 
 /// The octets that are handed to a writer at once.
 const MOST_AT_ONCE: usize = 262_144;
@@ -57,7 +58,7 @@ pub fn report<A: Allocator + Copy>(alloc: A, outcome: &Outcome<A>) -> Result<Str
 }
 
 /// Writes the sections of all filters, in their order, behind what the writer holds, and hands it back flushed. All that
-/// it keeps are 262,144 octets, one growth of memory; the writer is handed as many at once.
+/// it keeps are 262,144 octets, one growth of memory; the writer is handed nearly as many at once.
 pub fn write_report<W: Write + Drop, A: Allocator + Copy>(
     alloc: A,
     outcome: &Outcome<A>,
@@ -65,15 +66,10 @@ pub fn write_report<W: Write + Drop, A: Allocator + Copy>(
 ) -> Result<W, ReportFault>
     ensures { IfOk result (λ done. Appends (W.contents writer) (W.contents done) (report_of outcome.now.filters.items)) }
 {
-    let Ok(mut behind) = BufWriter::with_capacity(alloc, MOST_AT_ONCE, writer) else {
+    let Ok(octets) = Vec::with_capacity(alloc, MOST_AT_ONCE) else {
         return Err(ReportFault::NoMemory);
     };
-    put_sections(&mut behind, &outcome.filters)?;
-    let Ok(mut writer) = behind.into_inner() else {
-        return Err(ReportFault::Broken);
-    };
-    match writer.flush() {
-        Ok(()) => Ok(writer),
-        Err(_) => Err(ReportFault::Broken),
-    }
+    let mut held = Held { writer, octets };
+    put_sections(&mut held, &outcome.filters)?;
+    held.end()
 }

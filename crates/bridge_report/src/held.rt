@@ -1,0 +1,103 @@
+//! A writer behind octets that are held back.
+ghost use Rattle.std.specs.Prelude.{◌≡◌, ◌++◌, ◌≤◌, [], OnOk, IfOk, decimal, length};
+ghost use Rattle.std.specs.Io.KnownBytes.{Keeps, append_known};
+ghost use Rattle.bridge_report.specs.Growth.{GrowsOnOk};
+
+use crate::fault::ReportFault;
+use crate::text::Text;
+use itoa::write_digits;
+use std::alloc::Allocator;
+use std::io::Write;
+
+/// The octets of the longest number.
+const LONGEST: usize = 20;
+
+/// A writer, and the octets that it is still to be handed.
+#[derive(Drop)]
+pub struct Held<W: Write + Drop, A: Allocator> {
+    pub writer: W,
+    pub octets: Vec<u8, A>,
+}
+
+impl<W: Write + Drop, A: Allocator> Held<W, A> {
+    /// Hands the octets on.
+    #[cold]
+    #[inline(never)]
+    fn hand_on(&mut self) -> Result<(), ReportFault>
+        ensures text { OnOk result (Keeps (append_known (W.contents self.old.writer) self.old.octets.items) (append_known (W.contents self.new.writer) self.new.octets.items)) }
+        ensures empty { OnOk result (self.new.octets.items ≡ []) }
+    {
+        if self.writer.write_all(&self.octets).is_err() {
+            return Err(ReportFault::Broken);
+        }
+        self.octets.clear();
+        Ok(())
+    }
+
+    /// Hands the octets on where so many more have no room.
+    #[inline(always)]
+    fn make_room(&mut self, more: usize) -> Result<(), ReportFault>
+        ensures text { OnOk result (Keeps (append_known (W.contents self.old.writer) self.old.octets.items) (append_known (W.contents self.new.writer) self.new.octets.items)) }
+    {
+        if self.octets.capacity() - self.octets.len() < more {
+            return self.hand_on();
+        }
+        Ok(())
+    }
+
+    /// Hands the octets on, and gives the writer back flushed.
+    pub fn end(mut self) -> Result<W, ReportFault>
+        ensures { IfOk result (λ writer. Keeps (append_known (W.contents self.writer) self.octets.items) (W.contents writer)) }
+    {
+        self.hand_on()?;
+        let Held {
+            mut writer,
+            octets: _,
+        } = self;
+        match writer.flush() {
+            Ok(()) => Ok(writer),
+            Err(_) => Err(ReportFault::Broken),
+        }
+    }
+}
+
+/// Puts octets behind others.
+#[inline(always)]
+fn extend<A: Allocator>(octets: &mut Vec<u8, A>, more: &[u8]) -> Result<(), ReportFault>
+    ensures { OnOk result (octets.new.items ≡ octets.old.items ++ more.now) }
+{
+    match octets.extend_from_slice(more) {
+        Ok(()) => Ok(()),
+        Err(_) => Err(ReportFault::NoMemory),
+    }
+}
+
+/// Puts the digits of a number behind octets. As many octets are copied for each number, since that is one move.
+#[inline(always)]
+fn extend_by_number<A: Allocator>(octets: &mut Vec<u8, A>, number: u64) -> Result<(), ReportFault>
+    ensures { OnOk result (octets.new.items ≡ octets.old.items ++ decimal number) }
+{
+    let mut digits = [0u8; 2 * LONGEST];
+    let start = write_digits(number, &mut digits, LONGEST);
+    let end = octets.len() + (LONGEST - start);
+    extend(octets, &digits[start..start + LONGEST])?;
+    octets.truncate(end);
+    Ok(())
+}
+
+impl<W: Write + Drop, A: Allocator> Text for Held<W, A> {
+    ghost contents = { λ s. append_known (W.contents s.writer) s.octets.items };
+
+    #[inline(always)]
+    fn put(&mut self, piece: &str) -> Result<(), ReportFault> {
+        self.make_room(piece.len())?;
+        extend(&mut self.octets, piece.as_bytes())
+    }
+
+    #[inline(always)]
+    fn put_number(&mut self, piece: &str, number: u64) -> Result<(), ReportFault> {
+        self.make_room(piece.len() + LONGEST)?;
+        extend(&mut self.octets, piece.as_bytes())?;
+        extend_by_number(&mut self.octets, number)
+    }
+}
