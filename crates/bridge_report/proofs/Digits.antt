@@ -1,14 +1,43 @@
--- The digits of a number, copied with octets behind them.
-use Rattle.std.proofs.Common.{◌≡◌, ℕ, ◌+◌, ◌-◌, List, ◌++◌, length, take, drop, ap, ◌∙◌, arith}
-use Rattle.std.proofs.Math.Seq.{take-append-add, take-append_seam}
-use Rattle.std.proofs.lemmas.List.{take-take}
+-- How many digits a number has, and its digits behind other octets.
+use Rattle.std.proofs.Common.{◌≡◌, ℕ, zero, suc, ◌+◌, ◌*◌, ◌/◌, ◌^◌, ◌<◌, ◌≤◌, List, ◌++◌, length, take, drop, ap, sym, ◌∙◌, arith}
+use Rattle.std.specs.Fmt.{decimal}
+use Rattle.std.proofs.Math.Nat.{pow-suc}
+use Rattle.std.proofs.Math.Seq.{take-append_seam}
+use Rattle.std.proofs.lemmas.Fmt.{decimal_digit, decimal_step}
+use Rattle.std.proofs.lemmas.List.{append_assoc, length-append, take-append-drop, take-take}
 
--- what is left of 20 octets from the first digit on, cut behind the last one
-pub digits_behind : (old digits after buffer copied now : List ℕ) (start len : ℕ) → len ≡ length old → start + length digits ≡ 20 → drop start buffer ≡ digits ++ after
-    → copied ≡ old ++ take (start + 20 - start) (drop start buffer) → now ≡ take (len + (20 - start)) copied → now ≡ old ++ digits
-digits_behind old digits after buffer copied now start len is ends written copies cut =
-    let end : len + (20 - start) ≡ length old + length digits = omega (arith, is, ends) in
-    let twenty : start + 20 - start ≡ 20 = omega arith in
-    let front : take (length digits) (take 20 (digits ++ after)) ≡ digits = take-take (length digits) 20 (digits ++ after) (omega (arith, ends)) ∙ take-append_seam digits after in
-    let whole : copied ≡ old ++ take 20 (digits ++ after) = copies ∙ ap (λ n. old ++ take n (drop start buffer)) twenty ∙ ap (λ l. old ++ take 20 l) written in
-    cut ∙ ap (λ n. take n copied) end ∙ ap (take (length old + length digits)) whole ∙ take-append-add old (take 20 (digits ++ after)) (length digits) ∙ ap (λ l. old ++ l) front
+powers : (k : ℕ) → 1 ≤ 10 ^ k
+powers zero = omega arith
+powers (suc k) = omega (arith, pow-suc 10 k, powers k)
+
+counted : (k n : ℕ) → 10 ^ k ≤ n → n < 10 ^ k * 10 → n < 2 ^ 64 → length (decimal n) ≡ k + 1
+counted zero n low high fits = ap length (decimal_digit n (omega (arith, high)))
+counted (suc k) n low high fits =
+    let power : 10 ^ suc k ≡ 10 ^ k * 10 = pow-suc 10 k in
+    let front : length (decimal (n / 10)) ≡ k + 1 = counted k (n / 10) (omega (arith, power, low)) (omega (arith, power, high)) (omega (arith, fits)) in
+    ap length (decimal_step n (omega (arith, power, low, powers k)) fits) ∙ length-append (decimal (n / 10)) _ ∙ omega (arith, front)
+
+-- by the greatest power of ten that is no more than the number
+pub digits_counted : (n k : ℕ) → 10 ^ k ≤ n → n < 10 * 10 ^ k → n < 2 ^ 64 → length (decimal n) ≡ k + 1
+digits_counted n k low high fits = counted k n low (omega (arith, high)) fits
+
+pub nothing_counted : (n : ℕ) → n ≡ 0 → length (decimal n) ≡ 1
+nothing_counted n is = ap (λ m. length (decimal m)) is ∙ ap length (decimal_digit 0 (omega arith))
+
+pub ruleset counts = (digits_counted, nothing_counted)
+
+-- room for 20 octets behind others is room for a number
+pub room_behind : (old room with_room lent : List ℕ) (len count : ℕ) → len ≡ length old → count ≤ 20 → with_room ≡ old ++ room → length room ≡ 20 → lent ≡ with_room → len + count ≤ length lent
+room_behind old room with_room lent len count begins most is wide same = omega (arith, begins, most, wide, ap length (same ∙ is), length-append old room)
+
+-- octets, and room behind them that digits and more octets were written into, cut behind the digits
+pub digits_behind : (old room with_room lent digits after written more now : List ℕ) (start len count long : ℕ) → len ≡ length old → count ≡ length digits → with_room ≡ old ++ room → lent ≡ with_room
+    → start + length digits ≡ len + count → drop start written ≡ digits ++ after → take start written ≡ take start lent → len + count ≤ long
+    → now ≡ take (len + count) (take long (written ++ more)) → now ≡ old ++ digits
+digits_behind old room with_room lent digits after written more now start len count long begins counts is same starts behind before within cut =
+    let first : start ≡ length old = omega (arith, begins, counts, starts) in
+    let front : take start written ≡ old = before ∙ ap (take start) (same ∙ is) ∙ ap (λ n. take n (old ++ room)) first ∙ take-append_seam old room in
+    let whole : written ≡ (old ++ digits) ++ after = sym (take-append-drop start written) ∙ ap (λ l. l ++ drop start written) front ∙ ap (λ l. old ++ l) behind ∙ sym (append_assoc old digits after) in
+    let many : len + count ≡ length (old ++ digits) = omega (arith, begins, counts, length-append old digits) in
+    let all : written ++ more ≡ (old ++ digits) ++ (after ++ more) = ap (λ l. l ++ more) whole ∙ append_assoc (old ++ digits) after more in
+    cut ∙ take-take (len + count) long (written ++ more) within ∙ ap (take (len + count)) all ∙ ap (λ n. take n ((old ++ digits) ++ (after ++ more))) many ∙ take-append_seam (old ++ digits) (after ++ more)

@@ -72,15 +72,27 @@ fn extend<A: Allocator>(octets: &mut Vec<u8, A>, more: &[u8]) -> Result<(), Repo
     }
 }
 
-/// Puts the digits of a number behind octets. As many octets are copied for each number, since that is one move.
+/// How many digits a number has.
+#[inline(always)]
+#[tactic(auto, using(crate::proofs::Digits::counts))]
+fn digits_in(number: u64) -> usize
+    ensures count { result ≡ length (decimal number) }
+    ensures most { result ≤ 20 }
+{
+    if number == 0 {
+        return 1;
+    }
+    number.ilog10() as usize + 1
+}
+
+/// Puts the digits of a number behind octets. Room is taken for the longest number: a move of as many octets each time.
 #[inline(always)]
 fn extend_by_number<A: Allocator>(octets: &mut Vec<u8, A>, number: u64) -> Result<(), ReportFault>
     ensures { OnOk result (octets.new.items ≡ octets.old.items ++ decimal number) }
 {
-    let mut digits = [0u8; 2 * LONGEST];
-    let start = write_digits(number, &mut digits, LONGEST);
-    let end = octets.len() + (LONGEST - start);
-    extend(octets, &digits[start..start + LONGEST])?;
+    let end = octets.len() + digits_in(number);
+    extend(octets, &[0; LONGEST])?;
+    write_digits(number, octets.as_mut_slice(), end);
     octets.truncate(end);
     Ok(())
 }

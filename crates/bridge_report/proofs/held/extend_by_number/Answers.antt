@@ -1,10 +1,15 @@
-use Rattle.std.proofs.Common.{rules}
-use Rattle.std.proofs.lemmas.Fmt.{length-decimal-le}
-use Rattle.bridge_report.proofs.Digits.{digits_behind}
+use Rattle.std.proofs.Common.{◌≡◌, length, arith, refl, rules}
+use Rattle.bridge_report.proofs.Digits.{digits_behind, room_behind}
 use Rattle.bridge_report.proofs.held.extend_by_number.Goals as goal
 
-pub write_digits-start-requires : goal.write_digits-start-requires
-write_digits-start-requires g c = search (rules, length-decimal-le 20)
+pub write_digits-requires : goal.write_digits-requires
+write_digits-requires g c =
+    let begins : c.len.result ≡ length c.args.octets.now.items = search rules in
+    let room = room_behind _ _ _ _ c.len.result _ begins c.digits_in.ensures.most c.in_ok-extend.ensures refl c.as_mut_slice.ensures.value in
+    (omega (arith, c.digits_in.ensures.count), room)
 
 pub returns : goal.returns
-returns g c = digits_behind _ _ _ _ _ _ _ _ (search rules) c.write_digits-start.ensures.start c.write_digits-start.ensures.written c.in_ok-extend.ensures c.truncate.ensures.items
+returns g c =
+    let begins : c.len.result ≡ length c.args.octets.now.items = search rules in
+    let room = room_behind _ _ _ _ c.len.result _ begins c.digits_in.ensures.most c.in_ok-extend.ensures refl c.as_mut_slice.ensures.value in
+    digits_behind _ _ _ _ _ _ _ _ _ _ _ _ _ begins c.digits_in.ensures.count c.in_ok-extend.ensures c.as_mut_slice.ensures.value c.write_digits.ensures.start c.write_digits.ensures.written c.write_digits.ensures.before (omega (arith, room, c.as_mut_slice.ensures.len)) c.truncate.ensures.items
