@@ -18,8 +18,4 @@ module _ {T : Type 0} (contents : T → Option (List ℕ)) where
       → a ++ (b ++ (c ++ d)) ≡ all → HasGrown contents o all s
   put_four o p q r s a b c d all first second third fourth is = put_three o p q s a b (c ++ d) all first second (put_two q r s c d (c ++ d) third fourth refl) is
 
-  pub put_five : (o p q r s t : T) (a b c d e all : List ℕ) → HasGrown contents o a p → HasGrown contents p b q → HasGrown contents q c r → HasGrown contents r d s → HasGrown contents s e t
-      → a ++ (b ++ (c ++ (d ++ e))) ≡ all → HasGrown contents o all t
-  put_five o p q r s t a b c d e all first second third fourth fifth is = put_four o p q r t a b c (d ++ e) all first second third (put_two r s t d e (d ++ e) fourth fifth refl) is
-
-pub ruleset puts = (put_none, put_two, put_three, put_four, put_five)
+pub ruleset puts = (put_none, put_two, put_three, put_four)

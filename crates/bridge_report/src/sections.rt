@@ -58,7 +58,7 @@ pub fn report<A: Allocator + Copy>(alloc: A, outcome: &Outcome<A>) -> Result<Str
 }
 
 /// Writes the sections of all filters, in their order, behind what the writer holds, and hands it back flushed. All that
-/// it keeps are 262,144 octets, one growth of memory; the writer is handed nearly as many at once.
+/// it keeps are 262,144 octets, one growth of memory; the writer is handed up to as many at once.
 pub fn write_report<W: Write + Drop, A: Allocator + Copy>(
     alloc: A,
     outcome: &Outcome<A>,
