@@ -88,10 +88,10 @@ there speed (y ∷ ys) x s (inr i) e =
 few_left : (speed : Speed) (xs : List (Copy Carried)) (left : List Captured) → IsOutput speed xs left → length left ≤ length xs
 few_left speed xs left o =
     let known : (t : ℕ) → is_member nat_eq (times left) t ≡ true → is_member nat_eq (ends_of speed xs) t ≡ true = λ t h.
-        let f = found left t h in
-        let l : Leaves speed xs f.0 = (o.members f.0).0 f.1 in
-        let is : t ≡ l.start + occupied l.copy.item.len speed = f.2 ∙ ap (λ (d : Captured). d.time) l.is in
-        subst (λ u. is_member nat_eq (ends_of speed xs) u ≡ true) (sym is) (there speed xs l.copy l.start l.listed l.started) in
+    let f = found left t h in
+    let l : Leaves speed xs f.0 = (o.members f.0).0 f.1 in
+    let is : t ≡ l.start + occupied l.copy.item.len speed = f.2 ∙ ap (λ (d : Captured). d.time) l.is in
+    subst (λ u. is_member nat_eq (ends_of speed xs) u ≡ true) (sym is) (there speed xs l.copy l.start l.listed l.started) in
     let most = length-le_from_is_member nat_eq_equiv (times left) (ends_of speed xs) (distinct_times left o.rises) known in
     let one = length-map left (λ (d : Captured). d.time) in
     let two = length-map xs (λ (x : Copy Carried). end_of (occupied x.item.len speed) x.fate) in
