@@ -1,17 +1,14 @@
 use Rattle.std.proofs.Common.{◌≡◌, ℕ, Bool, true, false, List, [], ◌∷◌, refl, ap, ◌∙◌, sym, subst}
-use Rattle.std.specs.Prelude.{IfSome, IsTrue, nat_eq, nat_lt, if◌then◌else◌, Option, Some, None, IsSome}
+use Rattle.std.specs.Prelude.{IfSome, IsTrue, nat_eq, nat_lt, if◌then◌else◌, Option, Some, None}
 use Rattle.std.specs.Option.{option_map, is_some}
 use Rattle.std.specs.Map.{lookup}
 use Rattle.std.proofs.lemmas.Option.{same_Some}
 use Rattle.std.proofs.lemmas.Bool.{eqb-true}
 use Rattle.bridge_cycle.proofs.Cases.{by_bool}
 use Rattle.bridge_filter.specs.declared.FilterPlan.{FilterPlan}
-use Rattle.bridge_filter.specs.declared.filter.Filter.{Filter}
 use Rattle.bridge_filter.specs.Verdicts.{Call, flow, lesser, is_match}
 use Rattle.bridge_filter.specs.Plans.{is_there, are_distinct}
-use Rattle.bridge_filter.specs.Steps.{plans_in}
 use Rattle.bridge_filter.proofs.Numbered.{same_eq}
-use Rattle.bridge_filter.proofs.Judging.{lookup-plans_in}
 
 -- a number is in a list exactly where a look-up finds it
 pub is_there-lookup : {X : Type 0} (n : ℕ) (xs : List (ℕ × X)) → is_there n xs ≡ is_some (lookup (nat_eq n) xs)
@@ -80,14 +77,6 @@ no_number (Some x) h = absurd (cc)
 
 pub flow_none : (fs : List (ℕ × FilterPlan)) (c : Call) → None ≡ option_map (λ (x : ℕ × FilterPlan). x.0) (flow fs c) → flow fs c ≡ None
 flow_none fs c h = no_number (flow fs c) h
-
-kept_some : (o : Option Filter) (plan : FilterPlan) → option_map (λ (f : Filter). f.plan) o ≡ Some plan → IsSome o
-kept_some None plan h = absurd (cc)
-kept_some (Some f) plan h = refl
-
--- a filter whose plan is found is kept
-pub kept_there : (n : ℕ) (fs : List (ℕ × Filter)) (plan : FilterPlan) → lookup (nat_eq n) (plans_in fs) ≡ Some plan → IsSome (lookup (nat_eq n) fs)
-kept_there n fs plan h = kept_some (lookup (nat_eq n) fs) plan (sym (lookup-plans_in n fs) ∙ h)
 
 -- the number of a frame's filter is there
 pub flow_there : (fs : List (ℕ × FilterPlan)) (c : Call) (o : Option ℕ) → are_distinct fs ≡ true → o ≡ option_map (λ (x : ℕ × FilterPlan). x.0) (flow fs c) → IfSome o (λ n. IsTrue (is_there n fs))
