@@ -83,7 +83,7 @@ fn use_bridge<'a, G: Agenda + Drop>(
     assert_eq!(rt; account_of(heap), made);
     come(heap, accepted, bridge, 1, TO_ONE)?;
     let came = account_of(heap);
-    assert_eq!(rt; made.left - came.left, 4);
+    assert_eq!(rt; made.left.saturating_sub(came.left), 4);
     assert_eq!(rt; bridge.due(), Some((3, 100_000)));
     assert_eq!(rt; send(bridge), 1);
     let sent = account_of(heap);
@@ -97,7 +97,7 @@ fn use_bridge<'a, G: Agenda + Drop>(
     obey(accepted, bridge, &command)?;
     assert_eq!(rt; account_of(heap), sent);
     come(heap, accepted, bridge, 1, LATER)?;
-    assert_eq!(rt; sent.left - account_of(heap).left, 1);
+    assert_eq!(rt; sent.left.saturating_sub(account_of(heap).left), 1);
     assert_eq!(rt; send(bridge), 1);
     assert_eq!(rt; account_of(heap).used, sent.used);
     Ok(())
