@@ -1,5 +1,6 @@
 //! Frames of both filters: when they leave, where they go, and which are dropped.
 use bridge_check::CheckFault;
+use bridge_drives::same;
 use bridge_events::{Agenda, RowAgenda, TreeAgenda};
 use bridge_port::Refusal::{Full, NeverFits};
 use bridge_run::{Dropped, View};
@@ -7,7 +8,7 @@ use bridge_trials::frames::{Frame, RESERVED, SHORT, TO_A, TO_B, VID_20, capture,
 use bridge_trials::plans::{ROOM_FOR_ONE, SLOW, fault_of, text_of};
 use bridge_trials::runs::{
     ALONE, CAUGHT, IDLE, NOTHING, PASS, Row, Told, count_of, counts, departed, outcome_of, planned,
-    runs, same, sums, tells,
+    runs, sums, tells,
 };
 use std::alloc::Global;
 use std::test::Fail;
