@@ -1,7 +1,7 @@
 -- The first of the frames ahead, place by place.
-use Rattle.std.proofs.Common.{◌≡◌, ℕ, ◌+◌, ◌<◌, ◌≤◌, List, length, arith, refl, ap, ◌∙◌, sym, subst, Option, Some, None, inl, inr, slice_get}
+use Rattle.std.proofs.Common.{◌≡◌, ◌≢◌, ℕ, ◌+◌, ◌<◌, ◌≤◌, List, length, arith, refl, ap, ◌∙◌, sym, subst, Option, Some, None, inl, inr, slice_get}
 use Rattle.std.specs.Prelude.{◌⊎◌}
-use Rattle.std.proofs.lemmas.Bool.{cases_eq}
+use Rattle.std.proofs.lemmas.Bool.{cases_eq, cases_lt}
 use Rattle.std.proofs.lemmas.Option.{none-some, same_Some, slice_get_within}
 use Rattle.bridge_capture.specs.declared.packet.Packet.{Packet}
 use Rattle.bridge_lanes.specs.Lanes.{IsFirst, IsFirstAt}
@@ -108,3 +108,42 @@ is_first lanes n first all h = record {
 -- no place has a frame ahead
 pub none_first : {A : Type 0} (lanes : List (Lane A)) (n : ℕ) → length lanes ≤ n → FirstBelow lanes n None → IsFirst lanes None
 none_first lanes n all h = λ i l at. let w = slice_get_within lanes i l at in h i l (omega (arith, all, w)) at
+
+-- the first of the places below n and its moment, where a number of no place stands for none
+abbrev pub FirstSoFar : {A : Type 0} → List (Lane A) → ℕ → ℕ × ℕ → Type 0
+FirstSoFar lanes n first = ((first.0 ≡ length lanes) × FirstBelow lanes n None) ⊎ ((first.0 < length lanes) × FirstBelow lanes n (Some first))
+
+not_all : (i n : ℕ) → i < n → i ≢ n
+not_all i n l e = absurd (omega (arith, l, e))
+
+-- the first of one place more, by what the frame ahead there says
+so_far_at : {A : Type 0} (lanes : List (Lane A)) (n : ℕ) (lane : Lane A) (first next : ℕ × ℕ) (ahead : Option (Packet A)) → slice_get lanes n ≡ Some lane → n < length lanes → lane.ahead ≡ ahead
+    → (lane.ahead ≡ None → next ≡ first)
+    → ((p : Packet A) → lane.ahead ≡ Some p → first.0 ≡ length lanes → next ≡ (n, p.time))
+    → ((p : Packet A) → lane.ahead ≡ Some p → p.time < first.1 → next ≡ (n, p.time))
+    → ((p : Packet A) → lane.ahead ≡ Some p → first.1 ≤ p.time → first.0 ≢ length lanes → next ≡ first)
+    → FirstSoFar lanes n first → FirstSoFar lanes (n + 1) next
+so_far_at lanes n lane first next None here within is stays begins before later (inl h) = subst (FirstSoFar lanes (n + 1)) (sym (stays is)) (inl (h.0, skips lanes n lane None here is h.1))
+so_far_at lanes n lane first next None here within is stays begins before later (inr h) = subst (FirstSoFar lanes (n + 1)) (sym (stays is)) (inr (h.0, skips lanes n lane (Some first) here is h.1))
+so_far_at lanes n lane first next (Some p) here within is stays begins before later (inl h) = subst (FirstSoFar lanes (n + 1)) (sym (begins p is h.0)) (inr (within, begins_here lanes n lane p here is h.1))
+so_far_at lanes n lane first next (Some p) here within is stays begins before later (inr h) = elim (cases_lt p.time first.1) [
+  | inl sooner ↦ subst (FirstSoFar lanes (n + 1)) (sym (before p is sooner)) (inr (within, comes_sooner lanes n first.0 first.1 lane p here is sooner h.1))
+  | inr since ↦ subst (FirstSoFar lanes (n + 1)) (sym (later p is since (not_all first.0 (length lanes) h.0))) (inr (h.0, comes_later lanes n first.0 first.1 lane p here is since h.1))
+]
+
+pub so_far : {A : Type 0} (lanes : List (Lane A)) (n : ℕ) (lane : Lane A) (first next : ℕ × ℕ) → slice_get lanes n ≡ Some lane → n < length lanes
+    → (lane.ahead ≡ None → next ≡ first)
+    → ((p : Packet A) → lane.ahead ≡ Some p → first.0 ≡ length lanes → next ≡ (n, p.time))
+    → ((p : Packet A) → lane.ahead ≡ Some p → p.time < first.1 → next ≡ (n, p.time))
+    → ((p : Packet A) → lane.ahead ≡ Some p → first.1 ≤ p.time → first.0 ≢ length lanes → next ≡ first)
+    → FirstSoFar lanes n first → FirstSoFar lanes (n + 1) next
+so_far lanes n lane first next here within = so_far_at lanes n lane first next lane.ahead here within refl
+
+-- where the number of no place stands, no lane has a frame ahead
+pub none_so_far : {A : Type 0} (lanes : List (Lane A)) (n : ℕ) (first : ℕ × ℕ) → length lanes ≤ n → first.0 ≡ length lanes → FirstSoFar lanes n first → IsFirst lanes None
+none_so_far lanes n first all e (inl h) = none_first lanes n all h.1
+none_so_far lanes n first all e (inr h) = let l = h.0 in absurd (omega (arith, l, e))
+
+pub first_so_far : {A : Type 0} (lanes : List (Lane A)) (n : ℕ) (first : ℕ × ℕ) → length lanes ≤ n → first.0 ≢ length lanes → FirstSoFar lanes n first → IsFirstAt lanes first.0
+first_so_far lanes n first all ne (inl h) = absurd (ne h.0)
+first_so_far lanes n first all ne (inr h) = is_first lanes n first all h.1

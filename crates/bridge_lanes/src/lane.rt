@@ -1,5 +1,5 @@
 //! Captures that are read, one record ahead.
-ghost use Rattle.std.specs.Prelude.{◌≡◌, ◌≢◌, ℕ, ◌<◌, ◌≤◌, List, [], Some, length, Err, true, IfOk, IfErr, OnOk};
+ghost use Rattle.std.specs.Prelude.{◌≡◌, ◌≢◌, ℕ, ◌<◌, ◌≤◌, List, [], None, Some, length, Err, true, IfOk, IfErr, OnOk};
 ghost use Rattle.bridge_base.specs.Members.{Rising};
 ghost use Rattle.bridge_base.specs.declared.TheConstants.{MOST_ARRIVALS};
 ghost use Rattle.bridge_capture.specs.declared.record.TheConstants.{MAX_RECORDS};
@@ -68,27 +68,46 @@ impl<A: Allocator + Copy> Lane<A> {
     }
 }
 
+/// The place and the moment of the first of a lane's frame ahead and that at another place; `none` stands for no place.
+#[inline(always)]
+fn sooner<A: Allocator + Copy>(
+    lane: &Lane<A>,
+    place: usize,
+    first: usize,
+    least: u64,
+    none: usize,
+) -> (usize, u64)
+    ensures skips { lane.now.ahead ≡ None → result ≡ (first, least) }
+    ensures begins { (p : Packet A) → lane.now.ahead ≡ Some p → first ≡ none → result ≡ (place, p.time) }
+    ensures before { (p : Packet A) → lane.now.ahead ≡ Some p → p.time < least → result ≡ (place, p.time) }
+    ensures later { (p : Packet A) → lane.now.ahead ≡ Some p → least ≤ p.time → first ≢ none → result ≡ (first, least) }
+{
+    let Some(packet) = &lane.ahead else {
+        return (first, least);
+    };
+    if packet.time < least {
+        return (place, packet.time);
+    }
+    if first == none {
+        return (place, packet.time);
+    }
+    (first, least)
+}
+
 /// The place of the lane whose frame ahead comes first: the least moment, and of several the least place.
 pub fn first_of<A: Allocator + Copy>(lanes: &[Lane<A>]) -> Option<usize>
     ensures { IsFirst lanes.now result }
 {
-    let mut first: Option<(usize, u64)> = None;
+    let none = lanes.len();
+    let mut first = none;
+    let mut least = u64::MAX;
     for place in 0..lanes.len() {
-        if let Some(packet) = &lanes[place].ahead {
-            let time = packet.time;
-            let sooner = match first {
-                Some((_, least)) => time < least,
-                None => true,
-            };
-            if sooner {
-                first = Some((place, time));
-            }
-        }
+        (first, least) = sooner(&lanes[place], place, first, least, none);
     }
-    match first {
-        Some((place, _)) => Some(place),
-        None => None,
+    if first == none {
+        return None;
     }
+    Some(first)
 }
 
 /// The fault of a run for one of the capture of a port. A capture's own want of memory is the run's.
