@@ -8,3 +8,5 @@ mod faults;
 mod reports;
 #[cfg(test)]
 mod sending;
+#[cfg(test)]
+mod writers;

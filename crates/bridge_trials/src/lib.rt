@@ -5,3 +5,4 @@
 pub mod frames;
 pub mod plans;
 pub mod runs;
+pub mod transfers;

@@ -1,6 +1,7 @@
 //! A run with all that it tells and writes. What is not as it should be is an `Err` with a text that says so.
 use crate::frames::{Frame, capture};
 use crate::plans::{Change, accepted_of, text_of};
+use crate::transfers::transfers;
 use bridge_capture::{ByteSink, ByteSource, SliceSource, VecSink};
 use bridge_check::Accepted;
 use bridge_config::Command;
@@ -187,7 +188,7 @@ pub fn counts(got: &[(u8, PortCount)], wanted: &[[u64; 6]]) -> Result<(), Fail> 
 }
 
 /// Tests all that a run tells.
-fn all_told(outcome: &Outcome<Global>, row: &Row) -> Result<(), Fail> {
+pub fn all_told(outcome: &Outcome<Global>, row: &Row) -> Result<(), Fail> {
     let [own, others] = outcome.filters.as_slice() else {
         return Err(Fail::from("other filters"));
     };
@@ -324,7 +325,7 @@ fn drives_over<G: Agenda + Drop>(
 }
 
 /// Tests a run over each agenda, with sources and sinks that move all octets that they can or one a call, and a bridge that
-/// is driven call by call over each; gives the line that sums it up.
+/// is driven call by call over each, and a run from readers to writers; gives the line that sums it up.
 fn sum_of(alloc: Global, row: &Row, command: Option<Command>) -> Result<String, Fail> {
     let accepted = planned(alloc, row.changes)?;
     runs_over::<RowAgenda>(alloc, row, command, &accepted, true)?;
@@ -336,6 +337,7 @@ fn sum_of(alloc: Global, row: &Row, command: Option<Command>) -> Result<String, 
     }
     drives_over::<RowAgenda>(alloc, row, command, &accepted, line.as_str())?;
     drives_over::<TreeAgenda>(alloc, row, command, &accepted, line.as_str())?;
+    transfers(alloc, row, command, &accepted, line.as_str())?;
     Ok(line)
 }
 
