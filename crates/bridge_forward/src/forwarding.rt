@@ -40,7 +40,7 @@ fn goes_to(members: Option<PortSet>, entry: Option<PortSet>, port: u8) -> PortSe
 pub struct Forwarding<A: Allocator + Copy> {
     vlans: Vec<Vlan, A>,
     statics: Vec<StaticEntry, A>,
-    members: Index<u16, A>,
+    members: Vec<Option<PortSet>, A>,
     entries: Index<Key, A>,
 }
 
@@ -52,7 +52,7 @@ impl<A: Allocator + Copy> Model for Forwarding<A> {
 
     ghost view = { λ f. record { vlans = f.vlans.items; statics = f.statics.items } };
 
-    ghost invariant = { λ f. IsKept f.vlans.items f.statics.items f.members f.entries };
+    ghost invariant = { λ f. IsKept f.vlans.items f.statics.items f.members.items f.entries };
 }
 
 impl<A: Allocator + Copy> Forwarding<A> {
@@ -90,8 +90,8 @@ impl<A: Allocator + Copy> Forwarding<A> {
     }
 
     /// The ports to which a frame to `da` goes that came on `port`, 1 to 16, and was classified in the VLAN `vid`
-    /// (IEEE 802.1Q-2018, 8.6.2 to 8.6.4). It takes two look-ups, however many VLANs and entries there are, and no
-    /// memory.
+    /// (IEEE 802.1Q-2018, 8.6.2 to 8.6.4). It takes the place of the VLAN and one look-up of the entry, however many
+    /// VLANs and entries there are, and no memory.
     ///
     /// A frame to a reserved address goes nowhere, nor does one that came on a port that isn't a member of its VLAN.
     /// Any other goes to the ports of the static entry of `vid` and `da`, or without one to the members of the VLAN,
@@ -112,7 +112,7 @@ impl<A: Allocator + Copy> Forwarding<A> {
     fn members_at(&self, vid: u16) -> Option<PortSet>
         ensures { result ≡ members_at self.now.vlans vid }
     {
-        self.members.get(&vid).copied()
+        self.members.get(vid as usize).copied().flatten()
     }
 
     /// The ports of the static entry of a VLAN and an address.
