@@ -1,1 +1,2 @@
 pub mod Memberships
+mod KeyNumbers

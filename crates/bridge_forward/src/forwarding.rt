@@ -5,7 +5,7 @@ ghost use Rattle.bridge_forward.specs.Ports.{has};
 ghost use Rattle.bridge_forward.specs.Database.{members_at, entry_at};
 ghost use Rattle.bridge_forward.specs.Forward.{is_reserved, goes_to, forward};
 
-use crate::index::{Index, Key, entries_of, members_of};
+use crate::index::{Entries, entries_of, key_of, members_of};
 use crate::{NoMemory, PortSet, StaticEntry, Vlan};
 use std::alloc::Allocator;
 use std::marker::Model;
@@ -41,7 +41,7 @@ pub struct Forwarding<A: Allocator + Copy> {
     vlans: Vec<Vlan, A>,
     statics: Vec<StaticEntry, A>,
     members: Vec<Option<PortSet>, A>,
-    entries: Index<Key, A>,
+    entries: Entries<A>,
 }
 
 impl<A: Allocator + Copy> Model for Forwarding<A> {
@@ -119,6 +119,6 @@ impl<A: Allocator + Copy> Forwarding<A> {
     fn entry_at(&self, vid: u16, da: &[u8; 6]) -> Option<PortSet>
         ensures { result ≡ entry_at self.now.statics vid da.now }
     {
-        self.entries.get(&Key { vid, address: *da }).copied()
+        self.entries.get(&key_of(vid, *da)).copied()
     }
 }

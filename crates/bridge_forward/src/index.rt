@@ -1,42 +1,19 @@
 //! Look-ups of sets of ports, made from lists.
 
-ghost use Rattle.std.specs.Prelude.{◌≡◌, ◌<◌, ℕ, All, IfOk, OnOk, Some, None, nat_eq, length, if◌then◌else◌};
+ghost use Rattle.std.specs.Prelude.{◌≡◌, ◌<◌, ℕ, List, [], ◌∷◌, All, IfOk, OnOk, Some, None, nat_eq, length, if◌then◌else◌};
 ghost use Rattle.std.specs.Option.{option_or};
 ghost use Rattle.indexmap.specs.IndexMap.{get};
 ghost use Rattle.bridge_forward.specs.declared.Vlan.{Vlan};
-ghost use Rattle.bridge_forward.specs.declared.index.Key.{Key};
 ghost use Rattle.bridge_forward.specs.Database.{members_at, entry_at};
-ghost use Rattle.bridge_forward.specs.Kept.{set_at, same_key};
+ghost use Rattle.bridge_forward.specs.Kept.{set_at, IsKey, key_of};
 
 use crate::{PortSet, StaticEntry, Vlan};
 use indexmap::IndexMap;
 use std::alloc::{AllocError, Allocator};
-use std::hash::{BuildHasherDefault, FoldHasher, Hash};
+use std::hash::{BuildHasherDefault, FoldHasher};
 
-/// By what a static entry is found.
-#[derive(Clone, Copy, PartialEq, Eq, Hash)]
-pub(crate) struct Key {
-    pub vid: u16,
-    pub address: [u8; 6],
-}
-
-/// A set of ports at each key.
-pub(crate) type Index<K, A> = IndexMap<K, PortSet, BuildHasherDefault<FoldHasher>, A>;
-
-/// Keeps a set of ports at a key, unless there is one already.
-fn keep_first<K: Copy + Eq + Hash, A: Allocator + Copy>(
-    index: &mut Index<K, A>,
-    key: K,
-    ports: PortSet,
-) -> Result<(), AllocError>
-    ensures { OnOk result ((k : K)
-        → get K.eq index.new k ≡ option_or (get K.eq index.old k) (if K.eq key k then Some ports else None)) }
-{
-    if index.get(&key).is_none() {
-        index.insert(key, ports)?;
-    }
-    Ok(())
-}
+/// The ports of static entries, each at the key of its VLAN identifier and address.
+pub(crate) type Entries<A> = IndexMap<u64, PortSet, BuildHasherDefault<FoldHasher>, A>;
 
 /// How many places the VLAN identifiers need: one more than the greatest of them, or none.
 fn places(vlans: &[Vlan]) -> usize
@@ -76,20 +53,58 @@ pub(crate) fn members_of<A: Allocator + Copy>(
     Ok(members)
 }
 
+/// The number by which a static entry is found: the octets of the VLAN identifier and then those of the address, the
+/// first the highest.
+#[tactic(auto, unfolding(crate::specs::Kept::key_of))]
+pub(crate) fn key_of(vid: u16, address: [u8; 6]) -> u64
+    ensures number { result ≡ key_of vid address }
+    ensures is_key { IsKey vid address }
+{
+    let [high, low] = vid.to_be_bytes();
+    let [a, b, c, d, e, f] = address;
+    u64::from_be_bytes([high, low, a, b, c, d, e, f])
+}
+
+/// Keeps a set of ports at a key, unless there is one already.
+fn keep_first<A: Allocator + Copy>(
+    entries: &mut Entries<A>,
+    key: u64,
+    ports: PortSet,
+) -> Result<(), AllocError>
+    ensures { OnOk result ((k : ℕ)
+        → get nat_eq entries.new k ≡ option_or (get nat_eq entries.old k) (if nat_eq key k then Some ports else None)) }
+{
+    if entries.get(&key).is_none() {
+        entries.insert(key, ports)?;
+    }
+    Ok(())
+}
+
+/// Keeps the ports of a static entry, unless there are some already for its VLAN identifier and address.
+#[tactic(auto, using(crate::proofs::KeyNumbers::same_key))]
+fn keep_entry<A: Allocator + Copy>(
+    entries: &mut Entries<A>,
+    entry: StaticEntry,
+) -> Result<(), AllocError>
+    ensures { OnOk result ((vid : ℕ) (address : List ℕ)
+        → IsKey vid address
+        → get nat_eq entries.new (key_of vid address) ≡ option_or (get nat_eq entries.old (key_of vid address)) (entry_at (entry ∷ []) vid address)) }
+{
+    keep_first(entries, key_of(entry.vid, entry.address), entry.ports)
+}
+
 /// The ports of each static entry.
 pub(crate) fn entries_of<A: Allocator + Copy>(
     alloc: A,
     statics: &[StaticEntry],
-) -> Result<Index<Key, A>, AllocError>
-    ensures { IfOk result (λ m. (k : Key) → get same_key m k ≡ entry_at statics.now k.vid k.address) }
+) -> Result<Entries<A>, AllocError>
+    ensures { IfOk result (λ m. (vid : ℕ) (address : List ℕ)
+        → IsKey vid address
+        → get nat_eq m (key_of vid address) ≡ entry_at statics.now vid address) }
 {
     let mut entries = IndexMap::with_capacity(alloc, statics.len())?;
     for entry in statics {
-        let key = Key {
-            vid: entry.vid,
-            address: entry.address,
-        };
-        keep_first(&mut entries, key, entry.ports)?;
+        keep_entry(&mut entries, *entry)?;
     }
     Ok(entries)
 }
