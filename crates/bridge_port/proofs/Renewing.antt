@@ -1,18 +1,20 @@
 -- What becomes of the fits of the heads, and of the best of them, over offers and starts.
-use Rattle.std.proofs.Common.{◌≡◌, ◌≢◌, ℕ, true, false, ◌<◌, ◌≤◌, ◌+◌, ◌^◌, ◌++◌, List, [], ◌∷◌, length, arith, refl, ap, ◌∙◌, sym, subst, Option, Some, None, max, get_or-set_same, get_or-set_other, inl, inr}
+use Rattle.std.proofs.Common.{◌≡◌, ◌≢◌, ℕ, true, false, ◌<◌, ◌≤◌, ◌+◌, ◌-◌, ◌^◌, ◌++◌, List, [], ◌∷◌, length, arith, refl, ap, ◌∙◌, sym, subst, Option, Some, None, max, get_or-set_same, get_or-set_other, inl, inr}
 use Rattle.std.proofs.lemmas.Bool.Decides.{nat_tests}
 use Rattle.std.proofs.lemmas.Bool.{cases_order}
-use Rattle.std.specs.Prelude.{IsSome, nat_lt, nat_eq, slice_index_or, slice_get, slice_set, drop}
+use Rattle.std.specs.Prelude.{IsSome, nat_lt, nat_eq, slice_index_or, slice_get, slice_set, drop, sum_by, count_by}
 use Rattle.bridge_base.specs.declared.TheConstants.{END_OF_TIME, LONGEST_FRAME, MOST_ARRIVALS}
 use Rattle.bridge_frame.specs.Link.{occupied}
+use Rattle.bridge_frame.specs.declared.Speed.{Speed}
+use Rattle.bridge_cycle.specs.Cyclic.{Cyclic}
 use Rattle.bridge_cycle.specs.Moments.{IsFirst}
 use Rattle.bridge_cycle.proofs.Cases.{by_bool}
 use Rattle.bridge_port.specs.declared.item.Item.{Item}
 use Rattle.bridge_port.specs.Heads.{IsFit, is_past, IsBest, sooner, GainsHead, AreFits, KeepsHeads, StartsNext}
-use Rattle.bridge_port.specs.Standing.{State, queue_of, queues_with, IsKept, IsNext, NoStartBefore, started_state}
+use Rattle.bridge_port.specs.Standing.{State, count_queued, queue_of, queues_with, IsKept, IsNext, NoStartBefore, started_state}
 use Rattle.bridge_port.specs.Opening.{opens_of}
-use Rattle.bridge_port.proofs.Best.{fit_is, fit_later, fit_ahead, fit_behind, nothing_queued, fit_of_head, best_put, head_some}
-use Rattle.bridge_port.proofs.Keeping.{by_class, kept_refused, kept_started, next_short}
+use Rattle.bridge_port.proofs.Best.{fit_is, fit_none, fit_later, fit_ahead, fit_behind, nothing_queued, fit_of_head, best_put, head_some}
+use Rattle.bridge_port.proofs.Keeping.{by_class, count_popped, count_pushed, kept_refused, kept_started, next_short}
 use Rattle.bridge_port.proofs.Ports.{heads}
 
 by_option : {R : Type 0} (o : Option ℕ) → (o ≡ None → R) → ((k : ℕ) → o ≡ Some k → R) → R
@@ -24,12 +26,12 @@ fits_calm : {T : Type 0} (p : State T) (t : ℕ) (fits : List (Option ℕ)) → 
 fits_calm p t fits are le calm c = fit_later p.list p.speed (max p.free p.earliest) (max p.free t) c (queue_of p c) (slice_index_or fits c None) (are c) (omega arith) (λ x rest e u lo hi. calm c x rest e u (omega arith) (omega arith) (omega arith))
 
 -- a refused item
-pub heads_refused : {T : Type 0} (p : State T) (t : ℕ) (fits : List (Option ℕ)) (best : Option (ℕ × ℕ)) → KeepsHeads p fits best → p.earliest ≤ t → NoStartBefore p t → t < END_OF_TIME → p.offered < MOST_ARRIVALS → KeepsHeads (record p { earliest = t; offered = p.offered + 1 }) fits best
-heads_refused p t fits best k le calm early few = record { kept = kept_refused p t k.kept early few; are_fits = fits_calm p t fits k.are_fits le calm; is_best = k.is_best }
+pub heads_refused : {T : Type 0} (p : State T) (t queued : ℕ) (fits : List (Option ℕ)) (best : Option (ℕ × ℕ)) → KeepsHeads p queued fits best → p.earliest ≤ t → NoStartBefore p t → t < END_OF_TIME → p.offered < MOST_ARRIVALS → KeepsHeads (record p { earliest = t; offered = p.offered + 1 }) queued fits best
+heads_refused p t queued fits best k le calm early few = record { kept = kept_refused p t k.kept early few; all = k.all; are_fits = fits_calm p t fits k.are_fits le calm; is_best = k.is_best }
 
 -- an item behind a head
-heads_behind : {T : Type 0} (p : State T) (t c j : ℕ) (x : Item T) (fits : List (Option ℕ)) (best : Option (ℕ × ℕ)) → KeepsHeads p fits best → c < 8 → slice_index_or fits c None ≡ Some j → p.earliest ≤ t → NoStartBefore p t → IsKept (record p { queues = queues_with None p.queues c x; earliest = t; offered = p.offered + 1 }) → KeepsHeads (record p { queues = queues_with None p.queues c x; earliest = t; offered = p.offered + 1 }) fits best
-heads_behind {T} p t c j x fits best k l some le calm kept =
+heads_behind : {T : Type 0} (p : State T) (t c j queued : ℕ) (x : Item T) (fits : List (Option ℕ)) (best : Option (ℕ × ℕ)) → KeepsHeads p queued fits best → c < 8 → slice_index_or fits c None ≡ Some j → p.earliest ≤ t → NoStartBefore p t → IsKept (record p { queues = queues_with None p.queues c x; earliest = t; offered = p.offered + 1 }) → KeepsHeads (record p { queues = queues_with None p.queues c x; earliest = t; offered = p.offered + 1 }) (queued + 1) fits best
+heads_behind {T} p t c j queued x fits best k l some le calm kept =
     let eight = k.kept.queues in
     let within : c < length p.queues = omega arith in
     let before = fits_calm p t fits k.are_fits le calm in
@@ -37,7 +39,9 @@ heads_behind {T} p t c j x fits best k l some le calm kept =
     let Q : List (Item T) → Option ℕ → Type 0 = λ q f. IsFit p.list p.speed (max p.free t) c q f in
     let had : Q (queue_of p c) (Some j) = subst (Q (queue_of p c)) some (before c) in
     let new : P c (queue_of p c ++ x ∷ []) = subst (Q (queue_of p c ++ x ∷ [])) (sym some) (fit_behind p.list p.speed (max p.free t) c j (queue_of p c) x had) in
-    record { kept = kept; are_fits = by_class P p.queues c (queue_of p c ++ x ∷ []) within new before; is_best = k.is_best }
+    let more = count_pushed (λ (y : Item T). true) p.queues c x within in
+    let all = k.all in
+    record { kept = kept; all = omega (arith, more); are_fits = by_class P p.queues c (queue_of p c ++ x ∷ []) within new before; is_best = k.is_best }
 
 -- the queue and the fit of each class, where those of one class are replaced
 by_class_both : {X : Type 0} (P : ℕ → List X → Option ℕ → Type 0) (qs : List (List X)) (fits : List (Option ℕ)) (c : ℕ) (v : List X) (f : Option ℕ) → c < length qs → c < length fits → P c v f → ((d : ℕ) → P d (slice_index_or qs d []) (slice_index_or fits d None)) → (d : ℕ) → P d (slice_index_or (slice_set qs c v) d []) (slice_index_or (slice_set fits c f) d None)
@@ -51,8 +55,8 @@ by_class_both {X} P qs fits c v f l within new old d = by_bool (nat_eq c d)
     rw (get_or-set_other, get_or-set_other) (old d))
 
 -- an item that becomes a head
-heads_gained : {T : Type 0} (p : State T) (t c j : ℕ) (x : Item T) (fits : List (Option ℕ)) (best : Option (ℕ × ℕ)) → KeepsHeads p fits best → c < 8 → length fits ≡ 8 → slice_index_or fits c None ≡ None → p.earliest ≤ t → NoStartBefore p t → IsFirst (opens_of p.list c) (occupied x.len p.speed) (max p.free t) j → j ≤ max p.free t + 10 ^ 9 → IsKept (record p { queues = queues_with None p.queues c x; earliest = t; offered = p.offered + 1 }) → KeepsHeads (record p { queues = queues_with None p.queues c x; earliest = t; offered = p.offered + 1 }) (slice_set fits c (Some j)) (sooner best j c)
-heads_gained {T} p t c j x fits best k l size none le calm first soon kept =
+heads_gained : {T : Type 0} (p : State T) (t c j queued : ℕ) (x : Item T) (fits : List (Option ℕ)) (best : Option (ℕ × ℕ)) → KeepsHeads p queued fits best → c < 8 → length fits ≡ 8 → slice_index_or fits c None ≡ None → p.earliest ≤ t → NoStartBefore p t → IsFirst (opens_of p.list c) (occupied x.len p.speed) (max p.free t) j → j ≤ max p.free t + 10 ^ 9 → IsKept (record p { queues = queues_with None p.queues c x; earliest = t; offered = p.offered + 1 }) → KeepsHeads (record p { queues = queues_with None p.queues c x; earliest = t; offered = p.offered + 1 }) (queued + 1) (slice_set fits c (Some j)) (sooner best j c)
+heads_gained {T} p t c j queued x fits best k l size none le calm first soon kept =
     let eight = k.kept.queues in
     let within : c < length p.queues = omega arith in
     let inside : c < length fits = omega arith in
@@ -62,27 +66,30 @@ heads_gained {T} p t c j x fits best k l size none le calm first soon kept =
     let empty : queue_of p c ≡ [] = nothing_queued p.list p.speed (max p.free t) c (queue_of p c) had in
     let alone : queue_of p c ++ x ∷ [] ≡ x ∷ [] = ap (λ (q : List (Item T)). q ++ x ∷ []) empty in
     let new : P c (queue_of p c ++ x ∷ []) (Some j) = fit_is p.list p.speed (max p.free t) c j (queue_of p c ++ x ∷ []) x [] alone first soon in
+    let more = count_pushed (λ (y : Item T). true) p.queues c x within in
+    let all = k.all in
     record {
       kept = kept;
+      all = omega (arith, more);
       are_fits = by_class_both P p.queues fits c (queue_of p c ++ x ∷ []) (Some j) within inside new before;
       is_best = best_put fits 8 j c best l inside none k.is_best;
     }
 
 -- an item that is queued
-pub heads_offered : {T : Type 0} (p : State T) (t c from : ℕ) (x : Item T) (fits others : List (Option ℕ)) (best after : Option (ℕ × ℕ)) → KeepsHeads p fits best → c < 8 → length fits ≡ 8 → p.earliest ≤ t → NoStartBefore p t → from ≡ max p.free t → (IsSome (slice_index_or fits c None) → (others ≡ fits) × (after ≡ best)) → (slice_index_or fits c None ≡ None → GainsHead p.list p.speed from c x.len fits others best after) → IsKept (record p { queues = queues_with None p.queues c x; earliest = t; offered = p.offered + 1 }) → KeepsHeads (record p { queues = queues_with None p.queues c x; earliest = t; offered = p.offered + 1 }) others after
-heads_offered {T} p t c from x fits others best after k l size le calm is behind gained kept =
+pub heads_offered : {T : Type 0} (p : State T) (t c from queued : ℕ) (x : Item T) (fits others : List (Option ℕ)) (best after : Option (ℕ × ℕ)) → KeepsHeads p queued fits best → c < 8 → length fits ≡ 8 → p.earliest ≤ t → NoStartBefore p t → from ≡ max p.free t → (IsSome (slice_index_or fits c None) → (others ≡ fits) × (after ≡ best)) → (slice_index_or fits c None ≡ None → GainsHead p.list p.speed from c x.len fits others best after) → IsKept (record p { queues = queues_with None p.queues c x; earliest = t; offered = p.offered + 1 }) → KeepsHeads (record p { queues = queues_with None p.queues c x; earliest = t; offered = p.offered + 1 }) (queued + 1) others after
+heads_offered {T} p t c from queued x fits others best after k l size le calm is behind gained kept =
     let new : State T = record p { queues = queues_with None p.queues c x; earliest = t; offered = p.offered + 1 } in
     by_option (slice_index_or fits c None)
     (λ none.
     let g = gained none in
     let first : IsFirst (opens_of p.list c) (occupied x.len p.speed) (max p.free t) g.at = subst (λ (n : ℕ). IsFirst (opens_of p.list c) (occupied x.len p.speed) n g.at) is g.first in
     let soon : g.at ≤ max p.free t + 10 ^ 9 = let near = g.soon in omega arith in
-    let made : KeepsHeads new (slice_set fits c (Some g.at)) (sooner best g.at c) = heads_gained p t c g.at x fits best k l size none le calm first soon kept in
+    let made : KeepsHeads new (queued + 1) (slice_set fits c (Some g.at)) (sooner best g.at c) = heads_gained p t c g.at queued x fits best k l size none le calm first soon kept in
     rw (g.fits, g.best) made)
     (λ j some.
     let there : IsSome (slice_index_or fits c None) = rw some refl in
     let same = behind there in
-    let made : KeepsHeads new fits best = heads_behind p t c j x fits best k l some le calm kept in
+    let made : KeepsHeads new (queued + 1) fits best = heads_behind p t c j queued x fits best k l some le calm kept in
     rw (same.0, same.1) made)
 
 -- the next start is at the fit of its class
@@ -112,6 +119,44 @@ fits_started {T} p k c fits from are some le before d ahead = by_bool (nat_eq c 
     let other : d ≢ c = λ z. absurd (let w : nat_eq c d ≡ true = grind (arith, nat_tests) in cc) in
     rw get_or-set_other (fit_ahead p.list p.speed (max p.free p.earliest) from d (queue_of p d) (slice_index_or fits d None) (are d) le ahead))
 
+-- where nothing is queued each queue is empty
+empty_so : {X : Type 0} (qs : List (List X)) (d : ℕ) (q : List X) → slice_index_or qs d [] ≡ q → sum_by (count_by (λ x. true)) qs ≡ 0 → q ≡ []
+empty_so qs d [] e none = refl
+empty_so {X} qs d (x ∷ rest) e none = absurd (let some = count_popped (λ (y : X). true) qs d x rest e in omega (arith, some))
+
+pub none_queued : {X : Type 0} (qs : List (List X)) (d : ℕ) → sum_by (count_by (λ x. true)) qs ≡ 0 → slice_index_or qs d [] ≡ []
+none_queued qs d none = empty_so qs d (slice_index_or qs d []) refl none
+
+-- and has no fit
+no_fit : {T : Type 0} (list : Option (Cyclic ℕ)) (speed : Speed) (from c : ℕ) (q : List (Item T)) (f : Option ℕ) → IsFit list speed from c q f → q ≡ [] → f ≡ None
+no_fit list speed from c [] None i e = refl
+no_fit list speed from c [] (Some k) i e = absurd i
+no_fit list speed from c (x ∷ rest) f i e = absurd (cc)
+
+-- the last item leaves
+pub emptied : {T : Type 0} (p : State T) (k c queued : ℕ) → queued ≡ count_queued (λ y. true) p → StartsNext p k c → queued - 1 ≡ 0 → sum_by (count_by (λ x. true)) (slice_set p.queues c (drop 1 (queue_of p c))) ≡ 0
+emptied {T} p k c queued all s last =
+    let fewer = count_popped (λ (y : Item T). true) p.queues c s.item s.next.rest s.next.is_head in
+    omega (arith, fewer)
+
+-- no class has a fit then
+pub fits_emptied : {T : Type 0} (p : State T) (c : ℕ) (fits : List (Option ℕ)) → AreFits p fits → c < length fits → sum_by (count_by (λ x. true)) (slice_set p.queues c (drop 1 (queue_of p c))) ≡ 0 → (d : ℕ) → slice_index_or (slice_set fits c None) d None ≡ None
+fits_emptied {T} p c fits are within none d = by_bool (nat_eq c d)
+    (λ e.
+    let same : c ≡ d = grind (arith, nat_tests) in
+    subst (λ (n : ℕ). slice_index_or (slice_set fits c None) n None ≡ None) same (rw get_or-set_same refl))
+    (λ e.
+    let other : d ≢ c = λ z. absurd (let w : nat_eq c d ≡ true = grind (arith, nat_tests) in cc) in
+    let there : slice_index_or (slice_set p.queues c (drop 1 (queue_of p c))) d [] ≡ [] = none_queued (slice_set p.queues c (drop 1 (queue_of p c))) d none in
+    let empty : queue_of p d ≡ [] = rw get_or-set_other at there in
+    rw get_or-set_other (no_fit p.list p.speed (max p.free p.earliest) d (queue_of p d) (slice_index_or fits d None) (are d) empty))
+
+-- the fits of the classes then
+pub fits_empty : {T : Type 0} (p : State T) (c from : ℕ) (fits : List (Option ℕ)) → AreFits p fits → c < length fits → sum_by (count_by (λ x. true)) (slice_set p.queues c (drop 1 (queue_of p c))) ≡ 0 → (d : ℕ) → IsFit p.list p.speed from d (slice_index_or (slice_set p.queues c (drop 1 (queue_of p c))) d []) (slice_index_or (slice_set fits c None) d None)
+fits_empty p c from fits are within none d =
+    let no_fits = fits_emptied p c fits are within none d in
+    rw no_fits (fit_none p.list p.speed from d (slice_index_or (slice_set p.queues c (drop 1 (queue_of p c))) d []) (none_queued (slice_set p.queues c (drop 1 (queue_of p c))) d none))
+
 -- the item that leaves a queue is its head
 head_is : {X : Type 0} (q : List X) (x y : X) (rest : List X) → q ≡ x ∷ rest → Some y ≡ slice_get q 0 → x ≡ y
 head_is q x y rest e h = heads x y rest (drop 1 q) (sym e ∙ head_some q y (sym h))
@@ -121,15 +166,17 @@ pub next_item : {T : Type 0} (p : State T) (k c : ℕ) (x : Item T) → StartsNe
 next_item {T} p k c x s h = subst (λ (y : Item T). IsNext p k c y) (head_is (queue_of p c) s.item x s.next.rest s.next.is_head h) s.next
 
 -- what a port keeps once an item has started
-pub heads_started : {T : Type 0} (p : State T) (k c occ from : ℕ) (x : Item T) (others : List (Option ℕ)) (after : Option (ℕ × ℕ)) → IsKept p → StartsNext p k c → Some x ≡ slice_get (queue_of p c) 0 → occ ≡ occupied x.len p.speed → (x.len ≤ LONGEST_FRAME → occ ≤ 7392000) → from ≡ max (k + occ) (k + 1) → ((d : ℕ) → IsFit p.list p.speed from d (slice_index_or (slice_set p.queues c (drop 1 (queue_of p c))) d []) (slice_index_or others d None)) → IsBest others 8 after → KeepsHeads (started_state p k c x) others after
-heads_started {T} p k c occ from x others after kept s h exact short is fits best =
+pub heads_started : {T : Type 0} (p : State T) (k c occ from queued : ℕ) (x : Item T) (others : List (Option ℕ)) (after : Option (ℕ × ℕ)) → IsKept p → queued ≡ count_queued (λ y. true) p → StartsNext p k c → Some x ≡ slice_get (queue_of p c) 0 → occ ≡ occupied x.len p.speed → (x.len ≤ LONGEST_FRAME → occ ≤ 7392000) → from ≡ max (k + occ) (k + 1) → ((d : ℕ) → IsFit p.list p.speed from d (slice_index_or (slice_set p.queues c (drop 1 (queue_of p c))) d []) (slice_index_or others d None)) → IsBest others 8 after → KeepsHeads (started_state p k c x) (queued - 1) others after
+heads_started {T} p k c occ from queued x others after kept all s h exact short is fits best =
     let next = next_item p k c x s h in
     let len = next_short p k c x kept next in
     let few : occ ≤ 7392000 = short len in
     let soon = s.soon in
     let behind : from ≡ max (k + occupied x.len p.speed) (k + 1) = omega arith in
+    let fewer = count_popped (λ (y : Item T). true) p.queues c x next.rest next.is_head in
     record {
       kept = kept_started p k c x kept next soon (omega arith);
+      all = omega (arith, fewer);
       are_fits = λ d.
           let P : ℕ → Type 0 = λ n. IsFit p.list p.speed n d (slice_index_or (slice_set p.queues c (drop 1 (queue_of p c))) d []) (slice_index_or others d None) in
           subst P behind (fits d);

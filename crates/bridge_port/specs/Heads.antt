@@ -1,11 +1,11 @@
 -- When the heads of a port may start, and the best of them: the one that fits first, and of several the one of the highest class.
-use Rattle.std.specs.Prelude.{◌≡◌, ℕ, Bool, false, ◌<◌, ◌≤◌, ◌+◌, ◌^◌, ◌&&◌, ◌||◌, max, length, nat_lt, nat_eq, Option, Some, None, List, [], ◌∷◌, slice_index_or, slice_set, if◌then◌else◌}
+use Rattle.std.specs.Prelude.{◌≡◌, ℕ, Bool, false, true, ◌<◌, ◌≤◌, ◌+◌, ◌^◌, ◌&&◌, ◌||◌, max, length, nat_lt, nat_eq, Option, Some, None, List, [], ◌∷◌, slice_index_or, slice_set, if◌then◌else◌}
 use Rattle.bridge_frame.specs.declared.Speed.{Speed}
 use Rattle.bridge_frame.specs.Link.{occupied}
 use Rattle.bridge_cycle.specs.Moments.{IsFirst}
 use Rattle.bridge_cycle.specs.Cyclic.{Cyclic}
 use Rattle.bridge_port.specs.declared.item.Item.{Item}
-use Rattle.bridge_port.specs.Standing.{State, IsNext, IsKept, queue_of}
+use Rattle.bridge_port.specs.Standing.{State, IsNext, IsKept, count_queued, queue_of}
 use Rattle.bridge_port.specs.Opening.{opens_of}
 
 -- the least moment from `from` on at which the head of a class may start, at most 10^9 ns later; None where nothing is queued
@@ -61,8 +61,9 @@ pub record StartsNext {T : Type 0} (p : State T) (k c : ℕ) : Type 0 where
 abbrev pub AreFits : {T : Type 0} → State T → List (Option ℕ) → Type 0
 AreFits p fits = (c : ℕ) → IsFit p.list p.speed (max p.free p.earliest) c (queue_of p c) (slice_index_or fits c None)
 
--- what a port keeps beside what is seen of it: the fits of its heads, and the best of them
-pub record KeepsHeads {T : Type 0} (p : State T) (fits : List (Option ℕ)) (best : Option (ℕ × ℕ)) : Type 0 where
+-- what a port keeps beside what is seen of it: how many items are queued, the fits of its heads, and the best of them
+pub record KeepsHeads {T : Type 0} (p : State T) (queued : ℕ) (fits : List (Option ℕ)) (best : Option (ℕ × ℕ)) : Type 0 where
   pub kept : IsKept p
+  pub all : queued ≡ count_queued (λ x. true) p
   pub are_fits : AreFits p fits
   pub is_best : IsBest fits 8 best

@@ -150,3 +150,34 @@ pub fn with_item<A: Allocator + Copy>(
         }
     }
 }
+
+/// What `renew` does once the head of a class left, with so many items still queued: where none is left, no class has a fit.
+#[inline(always)]
+pub fn renew_left<T: Drop, A: Allocator + Copy>(
+    fits: &mut [Option<u64>; 8],
+    egress: &Egress<A>,
+    speed: Speed,
+    rings: &Vec<HeapCircularBuffer<Item<T>, A>, A>,
+    class: usize,
+    left: u64,
+    from: u64,
+) -> Option<(u64, usize)>
+    requires class { class < 8 }
+    requires eight { vec_len rings.now ≡ 8 }
+    requires from { from < 9_000_000_000_000_000_000 }
+    requires startable { (c : ℕ) → AllStartable egress.now speed c (slice_index_or (queues_of rings.now.items) c []) }
+    requires kept { (c : ℕ) → heads.is_past (slice_index_or fits.old c None) from ≡ false
+        → heads.IsFit egress.now speed from c (slice_index_or (queues_of rings.now.items) c []) (slice_index_or fits.old c None) }
+    requires none { left ≡ 0 → (c : ℕ)
+        → heads.IsFit egress.now speed from c (slice_index_or (queues_of rings.now.items) c []) (slice_index_or (slice_set fits.old class None) c None) }
+    requires no_head { left ≡ 0 → (c : ℕ) → slice_index_or (slice_set fits.old class None) c None ≡ None }
+    ensures fits { (c : ℕ)
+        → heads.IsFit egress.now speed from c (slice_index_or (queues_of rings.now.items) c []) (slice_index_or fits.new c None) }
+    ensures best { heads.IsBest fits.new 8 result }
+{
+    if left == 0 {
+        fits[class] = None;
+        return None;
+    }
+    renew(fits, egress, speed, rings, from)
+}

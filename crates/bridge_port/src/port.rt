@@ -2,7 +2,7 @@
 ghost use Rattle.std.specs.Prelude.{◌≡◌, ◌<◌, ◌≤◌, ◌+◌, ◌-◌, ◌*◌, ◌^◌, ◌&&◌, ℕ, Bool, true, Option, Some, None, IfOk, IfSome, IfNone, List, [], ◌∷◌, length, map, max, replicate, is_none, MatchOption, if◌then◌else◌};
 
 use crate::egress::Egress;
-use crate::heads::{renew, with_item};
+use crate::heads::{renew_left, with_item};
 use crate::item::{Item, Refusal};
 use crate::queues::{is_full, pop_at, push_at, with_rooms};
 use bridge_base::{END_OF_SENDING, END_OF_TIME, LONGEST_FRAME, MOST_ARRIVALS};
@@ -15,8 +15,9 @@ use std::marker::Model;
 /// An egress port: eight queues with their transmission gates, served in strict priority. A frame starts only where its
 /// class stays open until the link is free again (IEEE 802.1Q-2018, 8.6.8, 8.6.8.1 and 8.6.8.4).
 ///
-/// It stands for the list of copies that were offered to it, each with what became of it. It keeps when the head of each
-/// class may start, and which of them starts next: only what an offer or a start changes of that is computed anew.
+/// It stands for the list of copies that were offered to it, each with what became of it. It keeps how many items are
+/// queued, when the head of each class may start, and which of them starts next: only what an offer or a start changes of
+/// that is computed anew, and nothing where the last item leaves.
 #[derive(Drop)]
 pub struct Port<T: Drop, A: Allocator + Copy> {
     speed: Speed,
@@ -26,6 +27,7 @@ pub struct Port<T: Drop, A: Allocator + Copy> {
     earliest: u64,
     offered: u64,
     started: u64,
+    queued: u64,
     fits: [Option<u64>; 8],
     best: Option<(u64, usize)>,
 }
@@ -39,7 +41,7 @@ impl<T: Drop, A: Allocator + Copy> Model for Port<T, A> {
 
     ghost view = { λ p. state p.speed p.egress p.rings.items p.free p.earliest p.offered p.started };
 
-    ghost invariant = { λ p. KeepsHeads (state p.speed p.egress p.rings.items p.free p.earliest p.offered p.started) p.fits p.best };
+    ghost invariant = { λ p. KeepsHeads (state p.speed p.egress p.rings.items p.free p.earliest p.offered p.started) p.queued p.fits p.best };
 }
 
 impl<T: Drop, A: Allocator + Copy> Port<T, A> {
@@ -72,6 +74,7 @@ impl<T: Drop, A: Allocator + Copy> Port<T, A> {
             earliest: 0,
             offered: 0,
             started: 0,
+            queued: 0,
             fits: [None; 8],
             best: None,
         })
@@ -125,6 +128,7 @@ impl<T: Drop, A: Allocator + Copy> Port<T, A> {
                     from,
                 );
                 push_at(&mut self.rings, class, item);
+                self.queued += 1;
                 Ok(())
             }
         }
@@ -185,12 +189,15 @@ impl<T: Drop, A: Allocator + Copy> Port<T, A> {
                         self.free = k + occ;
                         self.earliest = k + 1;
                         self.started += 1;
+                        self.queued -= 1;
                         let from = self.free.max(self.earliest);
-                        self.best = renew(
+                        self.best = renew_left(
                             &mut self.fits,
                             &self.egress,
                             self.speed,
                             &self.rings,
+                            class,
+                            self.queued,
                             from,
                         );
                         (item, class as u8)

@@ -23,7 +23,7 @@ invariant_of-self-in-None g c =
     let N : State _ → Type 0 = λ q. NoStartBefore q c.args.t in
     let later : p.earliest ≤ c.args.t = subst E (sym c.self.view_is) c.requires.time.0 in
     let calm : NoStartBefore p c.args.t = subst N (sym c.self.view_is) c.requires.not_late in
-    rw (c.push_at.ensures.queues, c.push_at.ensures.rooms) (heads_offered p c.args.t c.args.class c.max-from.result c.args.item f.fits c.with_item-self-inside.new.fits f.best c.with_item-self-inside.result c.self.invariant c.requires.class (search rules) later calm c.max-from.ensures c.with_item-self-inside.ensures.behind c.with_item-self-inside.ensures.gained kept)
+    rw (c.push_at.ensures.queues, c.push_at.ensures.rooms) (heads_offered p c.args.t c.args.class c.max-from.result f.queued c.args.item f.fits c.with_item-self-inside.new.fits f.best c.with_item-self-inside.result c.self.invariant c.requires.class (search rules) later calm c.max-from.ensures c.with_item-self-inside.ensures.behind c.with_item-self-inside.ensures.gained kept)
 
 pub invariant_of-self : goal.invariant_of-self
 invariant_of-self g c =
@@ -32,7 +32,7 @@ invariant_of-self g c =
     let E : State _ → Type 0 = λ q. q.earliest ≤ c.args.t in
     let N : State _ → Type 0 = λ q. NoStartBefore q c.args.t in
     let Q : State _ → Type 0 = λ q. q.offered < MOST_ARRIVALS in
-    heads_refused p c.args.t f.fits f.best c.self.invariant (subst E (sym c.self.view_is) c.requires.time.0) (subst N (sym c.self.view_is) c.requires.not_late) c.requires.time.1 (subst Q (sym c.self.view_is) c.requires.few)
+    heads_refused p c.args.t f.queued f.fits f.best c.self.invariant (subst E (sym c.self.view_is) c.requires.time.0) (subst N (sym c.self.view_is) c.requires.not_late) c.requires.time.1 (subst Q (sym c.self.view_is) c.requires.few)
 
 pub returns-in-Some-clause-moved : goal.returns-in-Some-clause-moved
 returns-in-Some-clause-moved g c = search rules
