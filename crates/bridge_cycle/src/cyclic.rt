@@ -1,4 +1,4 @@
-ghost use Rattle.std.specs.Prelude.{◌≡◌, ◌<◌, ◌≤◌, Some, None, length, true, ◌↔◌, IfOk, IfErr, unwrap_or};
+ghost use Rattle.std.specs.Prelude.{◌≡◌, ◌<◌, ◌≤◌, ◌-◌, ◌%◌, Some, None, length, true, ◌↔◌, IfOk, IfErr, unwrap_or};
 ghost use Rattle.bridge_cycle.specs.declared.cyclic.ListFault.TheVariants as fault;
 ghost use Rattle.bridge_cycle.specs.Cyclic as cyclic;
 ghost use Rattle.bridge_cycle.specs.Ends as running;
@@ -84,6 +84,8 @@ pub const LONGEST_CYCLE: u64 = 1_000_000_000;
 pub struct CyclicList<S, A: Allocator + Copy> {
     base: u64,
     cycle: u64,
+    /// How far the moment 0 is into its cycle: from 1 to the cycle.
+    shift: u64,
     entries: Vec<(S, u64), A>,
     ends: Vec<u64, A>,
 }
@@ -93,7 +95,7 @@ impl<S, A: Allocator + Copy> Model for CyclicList<S, A> {
 
     ghost view = { λ l. record { base = l.base; cycle = l.cycle; entries = l.entries.items } };
 
-    ghost invariant = { λ l. cyclic.IsLawful (record { base = l.base; cycle = l.cycle; entries = l.entries.items }) × running.AreEnds l.entries.items l.ends.items };
+    ghost invariant = { λ l. cyclic.IsLawful (record { base = l.base; cycle = l.cycle; entries = l.entries.items }) × running.AreEnds l.entries.items l.ends.items × (l.shift ≡ l.cycle - l.base % l.cycle) };
 }
 
 impl<S: Copy, A: Allocator + Copy> CyclicList<S, A> {
@@ -120,6 +122,7 @@ impl<S: Copy, A: Allocator + Copy> CyclicList<S, A> {
         Ok(CyclicList {
             base,
             cycle,
+            shift: cycle - base % cycle,
             entries,
             ends,
         })
@@ -132,6 +135,7 @@ impl<S: Copy, A: Allocator + Copy> CyclicList<S, A> {
         Ok(CyclicList {
             base: self.base,
             cycle: self.cycle,
+            shift: self.shift,
             entries: Vec::from_slice(alloc, &self.entries)?,
             ends: Vec::from_slice(alloc, &self.ends)?,
         })
@@ -255,8 +259,7 @@ impl<S: Copy, A: Allocator + Copy> Timeline for CyclicList<S, A> {
     ghost cycle_of = { λ l. l.cycle };
 
     fn turn(&self, t: u64) -> Turn<S> {
-        let shift = self.cycle - self.base % self.cycle;
-        let phase = (t + shift) % self.cycle;
+        let phase = (t + self.shift) % self.cycle;
         let (state, start, end) = interval_of(&self.entries, &self.ends, self.cycle, phase);
         Turn {
             state,
