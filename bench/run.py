@@ -2,8 +2,8 @@
 """Times `tsnbridge wire` and `tsnbridge run` beside other programs: run.py [--beside PROGRAM] [FOLDER]
 
 `wire 1000 64` over captures of 10,000, 100,000 and 1,000,000 frames, of 64 octets and of mixed sizes, beside `cp` and,
-where they are installed, `editcap` and `tcprewrite`; `run` over plans of 4 and of 16 ports with a capture for each, beside
-`cp` of the captures. PROGRAM is one with the same command line. All run in turn on the same files, which are in memory by
+where they are installed, `editcap` and `tcprewrite`; `run` over plans of 4 and of 16 ports with a capture for each, of many
+filters and streams, and of long gate control lists, beside `cp` of the captures. PROGRAM is one with the same command line. All run in turn on the same files, which are in memory by
 then. A row has the shortest of eleven times (of seven, for a run), its nanoseconds for each frame, its ratio to `cp`, the
 least processor time for each frame, its ratio to that of PROGRAM, and the peak memory (where GNU `time` is installed).
 Files go into FOLDER, by default a new one that is removed at the end.
@@ -19,7 +19,8 @@ import captures
 
 TOP = os.path.dirname(os.path.dirname(os.path.abspath(__file__)))
 PROGRAM = os.path.join(TOP, "crates", "tsnbridge", "out", "tsnbridge")
-RUNS = [(4, 2_500), (4, 25_000), (4, 250_000), (16, 200_000)]
+# ports, frames of each, filters of each (with four streams each, where there is more than one), entries of each list
+RUNS = [(4, 2_500, 1, 0), (4, 25_000, 1, 0), (4, 250_000, 1, 0), (16, 200_000, 1, 0), (4, 250_000, 255, 0), (4, 250_000, 1, 256)]
 HEADER = "| frames | program | ms | ns a frame | times `cp` | processor ns a frame | ratio | peak MiB |\n|---|---|---|---|---|---|---|---|"
 
 
@@ -100,12 +101,13 @@ def measure_wire(work, count, kind, beside):
     os.remove(source)
 
 
-def measure_run(work, ports, count, beside):
-    """A plan with so many ports, and so many frames for each."""
-    case = os.path.join(work, f"{ports}-{count}")
+def measure_run(work, ports, count, flows, entries, beside):
+    """A plan with so many ports, frames, filters and entries of a list for each."""
+    case = os.path.join(work, f"{ports}-{count}-{flows}-{entries}")
     folder = os.path.join(work, "out")
-    captures.write_all(case, ports, count, "mixed")
-    measure(f"{ports} ports, {count:,} each", ports * count, programs_of_run(case, folder, beside), folder, 7)
+    captures.write_all(case, ports, count, "mixed", flows, entries)
+    title = f"{ports} ports, {count:,} each" + (f", {ports * flows} filters" if flows > 1 else "") + (f", lists of {entries}" if entries else "")
+    measure(title, ports * count, programs_of_run(case, folder, beside), folder, 7)
     shutil.rmtree(case)
 
 
@@ -121,8 +123,8 @@ def main():
     for kind in captures.SIZES:
         for count in (10_000, 100_000, 1_000_000):
             measure_wire(work, count, kind, beside)
-    for ports, count in RUNS:
-        measure_run(work, ports, count, beside)
+    for case in RUNS:
+        measure_run(work, *case, beside)
     if not words:
         shutil.rmtree(work)
 
