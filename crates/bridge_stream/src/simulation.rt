@@ -15,7 +15,7 @@ use bridge_config::{Command, Plan};
 use bridge_cycle::NoMemory;
 use bridge_events::{Agenda, TreeAgenda};
 use bridge_filter::FilterPlan;
-use bridge_lanes::{RunFault, look_at_all};
+use bridge_lanes::{RunFault, Spares, look_at_all};
 use bridge_relay::Relay;
 use bridge_run::{Outcome, PortCount, View};
 use std::alloc::Allocator;
@@ -34,7 +34,7 @@ pub fn filters_in_order<A: Allocator + Copy>(
 }
 
 /// What a run needs beside the bridge itself: the numbers of the ports and the filters in their order, and room for the
-/// captures that are written and for what is told of filters and ports.
+/// captures that are written, for what is told of filters and ports, and for octets that are used again.
 #[derive(Drop)]
 struct Lists<A: Allocator + Copy> {
     ports: Vec<u8, A>,
@@ -42,6 +42,7 @@ struct Lists<A: Allocator + Copy> {
     lines: Vec<Line, A>,
     views: Vec<(u32, View<A>), A>,
     counts: Vec<(u8, PortCount), A>,
+    spares: Spares<A>,
 }
 
 /// The lists that a run under a plan needs.
@@ -53,12 +54,14 @@ fn lists_of<A: Allocator + Copy>(alloc: A, plan: &Plan<A>) -> Result<Lists<A>, N
     let lines = Vec::with_capacity(alloc, ports.len())?;
     let views = Vec::with_capacity(alloc, order.len())?;
     let counts = Vec::with_capacity(alloc, 16)?;
+    let spares = Spares::new(alloc)?;
     Ok(Lists {
         ports,
         order,
         lines,
         views,
         counts,
+        spares,
     })
 }
 
@@ -102,6 +105,7 @@ pub fn simulate_over<R: ByteSource, W: ByteSink, G: Agenda + Drop, A: Allocator 
         lines,
         views,
         counts,
+        mut spares,
     } = lists;
     let mut lanes = match look_at_all(alloc, &ports, sources) {
         Ok(lanes) => lanes,
@@ -115,7 +119,13 @@ pub fn simulate_over<R: ByteSource, W: ByteSink, G: Agenda + Drop, A: Allocator 
         Err(fault) => return Err(fault),
     };
     match run(
-        alloc, commands, &mut relay, &mut lanes, &mut lines, sources, sinks,
+        commands,
+        &mut relay,
+        &mut lanes,
+        &mut lines,
+        sources,
+        sinks,
+        &mut spares,
     ) {
         Ok(()) => Ok(relay.finish(&order, views, counts)),
         Err(fault) => Err(fault),
