@@ -34,7 +34,7 @@ pub fn filters_in_order<A: Allocator + Copy>(
 }
 
 /// What a run needs beside the bridge itself: the numbers of the ports and the filters in their order, and room for the
-/// captures that are written, for what is told of filters and ports, and for octets that are used again.
+/// captures that are written and for what is told of filters and ports.
 #[derive(Drop)]
 struct Lists<A: Allocator + Copy> {
     ports: Vec<u8, A>,
@@ -42,7 +42,6 @@ struct Lists<A: Allocator + Copy> {
     lines: Vec<Line, A>,
     views: Vec<(u32, View<A>), A>,
     counts: Vec<(u8, PortCount), A>,
-    spares: Spares<A>,
 }
 
 /// The lists that a run under a plan needs.
@@ -54,15 +53,18 @@ fn lists_of<A: Allocator + Copy>(alloc: A, plan: &Plan<A>) -> Result<Lists<A>, N
     let lines = Vec::with_capacity(alloc, ports.len())?;
     let views = Vec::with_capacity(alloc, order.len())?;
     let counts = Vec::with_capacity(alloc, 16)?;
-    let spares = Spares::new(alloc)?;
     Ok(Lists {
         ports,
         order,
         lines,
         views,
         counts,
-        spares,
     })
+}
+
+/// Room for octets that are used again.
+fn spares_in<A: Allocator + Copy>(alloc: A) -> Result<Spares<A>, NoMemory> {
+    Ok(Spares::new(alloc)?)
 }
 
 /// Sends captures, one for each port by rising number, and commands through a bridge of an accepted plan over an agenda,
@@ -105,8 +107,10 @@ pub fn simulate_over<R: ByteSource, W: ByteSink, G: Agenda + Drop, A: Allocator 
         lines,
         views,
         counts,
-        mut spares,
     } = lists;
+    let Ok(mut spares) = spares_in(alloc) else {
+        return Err(RunFault::NoMemory);
+    };
     let mut lanes = match look_at_all(alloc, &ports, sources) {
         Ok(lanes) => lanes,
         Err(fault) => return Err(fault),
