@@ -3,3 +3,4 @@ pub mod Porting
 pub mod Changing
 pub mod Making
 pub mod Fresh
+pub mod Outs

@@ -11,7 +11,7 @@ use Rattle.bridge_port.specs.declared.item.Refusal.{Refusal}
 use Rattle.bridge_frame.specs.Link.{occupied}
 use Rattle.bridge_port.specs.Schedule.{Copy}
 use Rattle.bridge_port.specs.Standing.{State, StandsFor, IsBegun, IsDue, IsNext, NoStartBefore, copy_of, count_queued, limit, refusal_of, offered_state, started_state}
-use Rattle.bridge_port.proofs.Ports.{idle_calm}
+use Rattle.bridge_port.proofs.Ports.{idle_calm, next_one}
 use Rattle.bridge_run.specs.declared.load.Load.{Load}
 use Rattle.bridge_parts.specs.declared.slot.Slot.{Slot}
 use Rattle.bridge_parts.specs.declared.slot.Begun.{Begun}
@@ -40,6 +40,17 @@ pub set_there : {A : Type 0} (slots : List (Option (Slot A))) (p q : ℕ) (v : O
 set_there slots p q v l m e =
     let other : p - 1 ≢ q - 1 = λ z. absurd (let y : p ≡ q = omega arith in let w : nat_eq p q ≡ true = grind (arith, nat_tests) in cc) in
     rw get_or-set_other refl
+
+-- a port has one next start
+pub due_once : {T : Type 0} (p : State T) (a b : Option ℕ) → IsDue p a → IsDue p b → a ≡ b
+due_once p None None i j = refl
+due_once p None (Some k) i j = absurd (let empty = i j.0 in let head = j.2.is_head in cc)
+due_once p (Some k) None i j = absurd (let empty = j i.0 in let head = i.2.is_head in cc)
+due_once p (Some k) (Some l) i j = ap (λ (n : ℕ). Some n) (next_one p k i.0 i.1 l j.0 j.1 i.2 j.2).0
+
+-- what the agenda has of a port is its next start
+pub held_is : {G A : Type 0} (held : G → ℕ → Option ℕ) (slots : List (Option (Slot A))) (agenda : G) (q : ℕ) (s : Slot A) (due : Option ℕ) → AreKept held slots agenda → 1 ≤ q → slot_in slots q ≡ Some s → IsDue s.port due → held agenda q ≡ due
+held_is held slots agenda q s due k l at is = due_once s.port (held agenda q) due (k.due q s l at) is
 
 -- the agenda has the next start of the port that changed
 pub kept_set : {G A : Type 0} (held : G → ℕ → Option ℕ) (slots : List (Option (Slot A))) (old new : G) (q : ℕ) (s : Slot A) (due : Option ℕ) → AreKept held slots old → 1 ≤ q → q - 1 < length slots → ((p : ℕ) → held new p ≡ (if nat_eq p q then due else held old p)) → IsDue s.port due → IsSlot s → AreKept held (slice_set slots (q - 1) (Some s)) new

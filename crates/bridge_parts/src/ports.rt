@@ -49,6 +49,20 @@ fn renew<G: Agenda>(agenda: &mut G, port: u8, due: Option<u64>)
     }
 }
 
+/// Gives a port its next start, or none, in place of the one that it had.
+#[inline(always)]
+fn renew_from<G: Agenda>(agenda: &mut G, port: u8, before: Option<u64>, due: Option<u64>)
+    requires from { 1 ≤ port }
+    requires to { port ≤ 16 }
+    requires held { G.held agenda.old port ≡ before }
+    ensures { (p : ℕ) → G.held agenda.new p ≡ (if nat_eq p port then due else G.held agenda.old p) }
+{
+    if before == due {
+        return;
+    }
+    renew(agenda, port, due);
+}
+
 /// The port of a number as the plan has it, where it does.
 fn slot_of<A: Allocator + Copy>(
     alloc: A,
@@ -112,9 +126,10 @@ impl<G: Agenda + Drop, A: Allocator + Copy> Ports<G, A> {
     {
         match &mut self.slots[number as usize - 1] {
             Some(slot) => {
+                let before = slot.port.next_start();
                 let answer = slot.offer(t, priority, item);
                 let due = slot.port.next_start();
-                renew(&mut self.agenda, number, due);
+                renew_from(&mut self.agenda, number, before, due);
                 answer
             }
             None => unreachable!(),
@@ -186,12 +201,15 @@ impl<G: Agenda + Drop, A: Allocator + Copy> Ports<G, A> {
         ensures few { result.0 ≤ 16 }
         ensures last { IsLastOut self.now.slots set result.1 }
     {
+        let bits = set.bits();
         let mut count = 0;
         let mut last = 0;
-        for place in 0u8..16 {
-            if set.has(place + 1) && self.has(place + 1) {
+        let mut place = 0u8;
+        while place < 16 && bits >> place != 0 {
+            place += 1;
+            if set.has(place) && self.has(place) {
                 count += 1;
-                last = place + 1;
+                last = place;
             }
         }
         (count, last)

@@ -5,6 +5,7 @@ use Rattle.std.specs.Map.{lookup}
 use Rattle.std.proofs.lemmas.Bool.Decides.{nat_tests}
 use Rattle.std.proofs.lemmas.List.{get_or_past}
 use Rattle.bridge_base.specs.Members.{In}
+use Rattle.std.proofs.lemmas.Bool.{cases_lt}
 use Rattle.bridge_cycle.proofs.Cases.{by_bool}
 use Rattle.bridge_capture.specs.Grammar.{Captured}
 use Rattle.bridge_forward.specs.Ports.{has}
@@ -534,6 +535,35 @@ more_out slots set last k goes l high =
     let all = outs_le slots set last 16 high in
     let some = outs_le slots set k (last - 1) (omega arith) in
     omega (arith, step, one_is, all, some)
+
+-- where there is no copy for a port before the last, none of these has one
+none_before : {A : Type 0} (slots : List (Option (Slot A))) (set last q : ℕ) (octets : List ℕ) (copies : List (Vec ℕ A)) → HasCopies slots set 1 octets copies → length copies ≡ 0 → goes_out slots set last ≡ true → last ≤ 16 → 1 ≤ q → q < last → goes_out slots set q ≡ false
+none_before {A} slots set last q octets copies h none goes high low before =
+    let count = h.count in
+    let fewer = more_out slots set last q goes before high in
+    let step = outs_step slots set q low in
+    by_bool (goes_out slots set q)
+    (λ t.
+    let one_is : ◌≡◌ {A = ℕ} (if goes_out slots set q then 1 else 0) 1 = ap (λ (b : Bool). if b then 1 else 0) t in
+    absurd (omega (arith, count, fewer, step, one_is, none)))
+    (λ f. f)
+
+pub offering_from : {G A : Type 0} (held : G → ℕ → Option ℕ) (b : RelayState G A) (set priority : ℕ) (x : Carried) (last from : ℕ) (octets : List ℕ) (copies : List (Vec ℕ A)) → IsOffering held b b set priority x 1 → HasCopies b.ports.slots set 1 octets copies → 1 ≤ from → from ≤ max 1 last → (0 < length copies → from ≡ 1) → (0 < last → (last ≤ 16) × (goes_out b.ports.slots set last ≡ true)) → IsOffering held b b set priority x from × HasCopies b.ports.slots set from octets copies
+offering_from {G} {A} held b set priority x last from octets copies a h low to all is_last = elim (cases_lt 1 from) [
+  | inl more ↦
+      let e = is_last (omega arith) in
+      let high = e.0 in
+      let none : length copies ≡ 0 = elim (cases_lt 0 (length copies)) [ inl some ↦ absurd (let z = all some in omega arith) | inr z ↦ omega arith ] in
+      let free = λ (q : ℕ) (l : 1 ≤ q) (u : q < from). none_before b.ports.slots set last q octets copies h none e.1 high l (omega arith) in
+      let up : (from - 1) + 1 ≡ from = omega arith in
+      let along : IsOffering held b b set priority x from = subst (IsOffering held b b set priority x) up (offering_up held b b set priority x 1 (from - 1) a (omega arith) (λ q l u. free q l (omega (arith, u)))) in
+      let count = h.count in
+      let fewer = more_out b.ports.slots set last (from - 1) e.1 (omega arith) high in
+      (along, record { count = omega (arith, count, fewer, none); alike = h.alike })
+  | inr no_more ↦
+      let one : 1 ≡ from = omega arith in
+      (subst (IsOffering held b b set priority x) one a, subst (λ (k : ℕ). HasCopies b.ports.slots set k octets copies) one h)
+]
 
 -- no port of the set is left
 pub offering_end : {G A : Type 0} (held : G → ℕ → Option ℕ) (first now : RelayState G A) (set priority : ℕ) (x : Carried) (k : ℕ) → IsOffering held first now set priority x k → 1 ≤ k → k ≤ 17 → ((q : ℕ) → k ≤ q → q ≤ 16 → goes_out first.ports.slots set q ≡ false) → IsOffering held first now set priority x 17

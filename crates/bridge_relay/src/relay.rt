@@ -325,7 +325,8 @@ impl<'a, G: Agenda + Drop, A: Allocator + Copy> Relay<'a, G, A> {
     {
         let mut copies = copies;
         let (_, last) = self.ports.outs(set);
-        for number in 1..last {
+        let from = first_with_copy(copies.len(), last);
+        for number in from..last {
             self.offer_next(set, number, priority, len, eligible, &first, &mut copies);
         }
         if last > 0 {
@@ -492,6 +493,16 @@ impl<'a, G: Agenda + Drop, A: Allocator + Copy> Relay<'a, G, A> {
         }
         Ok(())
     }
+}
+
+/// The first port that may have a copy, where so many are kept for the ports before the last: none before the last has one
+/// where there is no copy.
+fn first_with_copy(copies: usize, last: u8) -> u8
+    ensures from { 1 ≤ result }
+    ensures to { result ≤ max 1 last }
+    ensures all { 0 < copies → result ≡ 1 }
+{
+    if copies == 0 { last.max(1) } else { 1 }
 }
 
 /// The VLAN, the priority and the drop eligible indication of a frame: by its tag, else those of its port.

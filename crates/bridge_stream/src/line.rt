@@ -12,7 +12,7 @@ ghost use Rattle.bridge_stream.specs.Lines.{AreWritten, Departs, HeadersStop, nu
 use bridge_base::LONGEST_FRAME;
 use bridge_capture::{ByteSink, Writer};
 use bridge_events::Agenda;
-use bridge_lanes::RunFault;
+use bridge_lanes::{RunFault, Spares};
 use bridge_relay::{Relay, Sent};
 use std::alloc::Allocator;
 
@@ -77,13 +77,13 @@ pub fn write<W: ByteSink, A: Allocator + Copy>(
     Ok(())
 }
 
-/// Makes and writes all starts before a moment, or all where there is none. The octets of the last frame are spare then.
+/// Makes and writes all starts before a moment, or all where there is none. The octets of these frames are spare then.
 pub fn depart_before<W: ByteSink, G: Agenda + Drop, A: Allocator + Copy>(
     until: Option<u64>,
     relay: &mut Relay<'_, G, A>,
     lines: &mut [Line],
     sinks: &mut [W],
-    spare: &mut Vec<u8, A>,
+    spares: &mut Spares<A>,
 ) -> Result<(), RunFault>
     requires size { length sinks.old ≡ length lines.old }
     requires rises { Rising (λ a b. a < b) (numbers lines.old) }
@@ -109,7 +109,7 @@ pub fn depart_before<W: ByteSink, G: Agenda + Drop, A: Allocator + Copy>(
             return Err(fault);
         }
         let Sent { octets, .. } = sent;
-        *spare = octets;
+        spares.put(octets);
     }
     Ok(())
 }

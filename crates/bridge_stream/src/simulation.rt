@@ -15,7 +15,7 @@ use bridge_config::{Command, Plan};
 use bridge_cycle::NoMemory;
 use bridge_events::{Agenda, TreeAgenda};
 use bridge_filter::FilterPlan;
-use bridge_lanes::{RunFault, look_at_all};
+use bridge_lanes::{RunFault, Spares, look_at_all};
 use bridge_relay::Relay;
 use bridge_run::{Outcome, PortCount, View};
 use std::alloc::Allocator;
@@ -62,6 +62,11 @@ fn lists_of<A: Allocator + Copy>(alloc: A, plan: &Plan<A>) -> Result<Lists<A>, N
     })
 }
 
+/// Room for octets that are used again.
+fn spares_in<A: Allocator + Copy>(alloc: A) -> Result<Spares<A>, NoMemory> {
+    Ok(Spares::new(alloc)?)
+}
+
 /// Sends captures, one for each port by rising number, and commands through a bridge of an accepted plan over an agenda,
 /// and writes the capture of what leaves each port, each frame with the moment at which it was done.
 ///
@@ -103,6 +108,9 @@ pub fn simulate_over<R: ByteSource, W: ByteSink, G: Agenda + Drop, A: Allocator 
         views,
         counts,
     } = lists;
+    let Ok(mut spares) = spares_in(alloc) else {
+        return Err(RunFault::NoMemory);
+    };
     let mut lanes = match look_at_all(alloc, &ports, sources) {
         Ok(lanes) => lanes,
         Err(fault) => return Err(fault),
@@ -115,7 +123,13 @@ pub fn simulate_over<R: ByteSource, W: ByteSink, G: Agenda + Drop, A: Allocator 
         Err(fault) => return Err(fault),
     };
     match run(
-        alloc, commands, &mut relay, &mut lanes, &mut lines, sources, sinks,
+        commands,
+        &mut relay,
+        &mut lanes,
+        &mut lines,
+        sources,
+        sinks,
+        &mut spares,
     ) {
         Ok(()) => Ok(relay.finish(&order, views, counts)),
         Err(fault) => Err(fault),

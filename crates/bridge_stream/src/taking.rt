@@ -14,10 +14,9 @@ use crate::line::{Line, depart_before};
 use bridge_capture::{ByteSink, ByteSource, CaptureFault, Packet};
 use bridge_config::Command;
 use bridge_events::Agenda;
-use bridge_lanes::{Lane, RunFault, fault_of, first_of};
+use bridge_lanes::{Lane, RunFault, Spares, fault_of, first_of};
 use bridge_relay::Relay;
 use std::alloc::Allocator;
-use std::mem;
 
 /// Takes the frame that comes first from its lane, and says of which port it is.
 fn give<A: Allocator + Copy>(lanes: &mut [Lane<A>], place: usize) -> (u8, Packet<A>)
@@ -54,14 +53,13 @@ fn look_at<R: ByteSource, A: Allocator + Copy>(
 /// Takes the frame that comes first, once all starts before it were made and written, and looks at what comes behind it
 /// in its capture.
 fn take<R: ByteSource, W: ByteSink, G: Agenda + Drop, A: Allocator + Copy>(
-    alloc: A,
     place: usize,
     relay: &mut Relay<'_, G, A>,
     lanes: &mut [Lane<A>],
     lines: &mut [Line],
     sources: &mut [R],
     sinks: &mut [W],
-    spare: &mut Vec<u8, A>,
+    spares: &mut Spares<A>,
 ) -> Result<(), RunFault>
     requires place { place < length lanes.old }
     requires first { IsFirstAt lanes.old place }
@@ -80,7 +78,7 @@ fn take<R: ByteSource, W: ByteSink, G: Agenda + Drop, A: Allocator + Copy>(
     ensures wrote { (port : ℕ) → result ≡ Err (RunFault.Write port) → HasFailed W.has_failed (numbers lanes.old) port sinks.new }
 {
     let (number, packet) = give(lanes, place);
-    if let Err(fault) = depart_before(Some(packet.time), relay, lines, sinks, spare) {
+    if let Err(fault) = depart_before(Some(packet.time), relay, lines, sinks, spares) {
         return Err(fault);
     }
     match relay.arrive(number, packet) {
@@ -90,7 +88,7 @@ fn take<R: ByteSource, W: ByteSink, G: Agenda + Drop, A: Allocator + Copy>(
             return Err(RunFault::NoMemory);
         }
     }
-    match look_at(mem::replace(spare, Vec::new(alloc)), place, lanes, sources) {
+    match look_at(spares.take(), place, lanes, sources) {
         Ok(()) => Ok(()),
         Err(fault) => {
             relay.reached();
@@ -128,14 +126,13 @@ fn next_before<A: Allocator + Copy>(lanes: &[Lane<A>], until: Option<u64>) -> Op
 
 /// Takes all frames that come before a moment, or all where there is none.
 fn take_before<R: ByteSource, W: ByteSink, G: Agenda + Drop, A: Allocator + Copy>(
-    alloc: A,
     until: Option<u64>,
     relay: &mut Relay<'_, G, A>,
     lanes: &mut [Lane<A>],
     lines: &mut [Line],
     sources: &mut [R],
     sinks: &mut [W],
-    spare: &mut Vec<u8, A>,
+    spares: &mut Spares<A>,
 ) -> Result<(), RunFault>
     requires may { MayTake relay.old lanes.old }
     requires lines { written_numbers lines.old ≡ numbers lanes.old }
@@ -153,7 +150,7 @@ fn take_before<R: ByteSource, W: ByteSink, G: Agenda + Drop, A: Allocator + Copy
     ensures wrote { (port : ℕ) → result ≡ Err (RunFault.Write port) → HasFailed W.has_failed (numbers lanes.old) port sinks.new }
 {
     while let Some(place) = next_before(lanes, until) {
-        if let Err(fault) = take(alloc, place, relay, lanes, lines, sources, sinks, spare) {
+        if let Err(fault) = take(place, relay, lanes, lines, sources, sinks, spares) {
             return Err(fault);
         }
     }
@@ -162,14 +159,13 @@ fn take_before<R: ByteSource, W: ByteSink, G: Agenda + Drop, A: Allocator + Copy
 
 /// Does a command: it comes after all frames and starts before its moment, and before the frames of its moment.
 fn obey<R: ByteSource, W: ByteSink, G: Agenda + Drop, A: Allocator + Copy>(
-    alloc: A,
     command: Command,
     relay: &mut Relay<'_, G, A>,
     lanes: &mut [Lane<A>],
     lines: &mut [Line],
     sources: &mut [R],
     sinks: &mut [W],
-    spare: &mut Vec<u8, A>,
+    spares: &mut Spares<A>,
 ) -> Result<(), RunFault>
     requires may { MayTake relay.old lanes.old }
     requires lines { written_numbers lines.old ≡ numbers lanes.old }
@@ -187,10 +183,10 @@ fn obey<R: ByteSource, W: ByteSink, G: Agenda + Drop, A: Allocator + Copy>(
     ensures wrote { (port : ℕ) → result ≡ Err (RunFault.Write port) → HasFailed W.has_failed (numbers lanes.old) port sinks.new }
 {
     let at = Some(command.at);
-    if let Err(fault) = take_before(alloc, at, relay, lanes, lines, sources, sinks, spare) {
+    if let Err(fault) = take_before(at, relay, lanes, lines, sources, sinks, spares) {
         return Err(fault);
     }
-    if let Err(fault) = depart_before(at, relay, lines, sinks, spare) {
+    if let Err(fault) = depart_before(at, relay, lines, sinks, spares) {
         return Err(fault);
     }
     relay.clear(command.at, command.clear, command.number);
@@ -199,13 +195,13 @@ fn obey<R: ByteSource, W: ByteSink, G: Agenda + Drop, A: Allocator + Copy>(
 
 /// Takes all frames and commands in their order, and makes and writes all starts.
 pub fn run<R: ByteSource, W: ByteSink, G: Agenda + Drop, A: Allocator + Copy>(
-    alloc: A,
     commands: &[Command],
     relay: &mut Relay<'_, G, A>,
     lanes: &mut [Lane<A>],
     lines: &mut [Line],
     sources: &mut [R],
     sinks: &mut [W],
+    spares: &mut Spares<A>,
 ) -> Result<(), RunFault>
     requires may { MayTake relay.old lanes.old }
     requires new { relay.old.earliest ≡ 0 }
@@ -220,16 +216,13 @@ pub fn run<R: ByteSource, W: ByteSink, G: Agenda + Drop, A: Allocator + Copy>(
     ensures sure { NeverFail R.never_fails sources.old → (port : ℕ) → result ≢ Err (RunFault.Capture port CaptureFault.Read) }
     ensures wrote { (port : ℕ) → result ≡ Err (RunFault.Write port) → HasFailed W.has_failed (numbers lanes.old) port sinks.new }
 {
-    let mut spare = Vec::new(alloc);
     for command in commands {
-        if let Err(fault) = obey(
-            alloc, *command, relay, lanes, lines, sources, sinks, &mut spare,
-        ) {
+        if let Err(fault) = obey(*command, relay, lanes, lines, sources, sinks, spares) {
             return Err(fault);
         }
     }
-    if let Err(fault) = take_before(alloc, None, relay, lanes, lines, sources, sinks, &mut spare) {
+    if let Err(fault) = take_before(None, relay, lanes, lines, sources, sinks, spares) {
         return Err(fault);
     }
-    depart_before(None, relay, lines, sinks, &mut spare)
+    depart_before(None, relay, lines, sinks, spares)
 }

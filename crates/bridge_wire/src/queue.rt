@@ -13,10 +13,9 @@ use crate::sending::depart_before;
 use bridge_base::{END_OF_TIME, MOST_CAPTURED};
 use bridge_capture::{ByteSink, ByteSource, CaptureFault, MAX_RECORDS, Packet, Writer};
 use bridge_frame::{Speed, parse};
-use bridge_lanes::{Lane, RunFault, fault_of};
+use bridge_lanes::{Lane, RunFault, Spares, fault_of};
 use bridge_port::{Item, LARGEST_ROOM, Port};
 use std::alloc::Allocator;
-use std::mem;
 
 /// Offers the next frame of a capture, once all starts before it were made.
 fn take<W: ByteSink, A: Allocator + Copy>(
@@ -26,7 +25,7 @@ fn take<W: ByteSink, A: Allocator + Copy>(
     sink: &mut W,
     count: &mut WireCount,
     packet: Packet<A>,
-    spare: &mut Vec<u8, A>,
+    spares: &mut Spares<A>,
 ) -> Result<(), RunFault>
     requires time { (port.old.earliest ≤ packet.time) × (packet.time < END_OF_TIME) }
     requires octets { (length packet.octets.items ≤ MOST_CAPTURED) × (length packet.octets.items ≤ packet.len) }
@@ -42,7 +41,7 @@ fn take<W: ByteSink, A: Allocator + Copy>(
     ensures only { OnErr result (result ≡ Err (RunFault.Write 1)) }
     ensures fails { OnErr result (W.has_failed sink.new ≡ true) }
 {
-    if let Err(fault) = depart_before(packet.time, speed, port, writer, sink, spare) {
+    if let Err(fault) = depart_before(packet.time, speed, port, writer, sink, spares) {
         return Err(fault);
     }
     count.frames += 1;
@@ -64,7 +63,6 @@ fn take<W: ByteSink, A: Allocator + Copy>(
 
 /// Takes a frame of a capture, and looks at what comes behind it.
 fn take_next<R: ByteSource, W: ByteSink, A: Allocator + Copy>(
-    alloc: A,
     speed: Speed,
     packet: Packet<A>,
     lane: &mut Lane<A>,
@@ -73,7 +71,7 @@ fn take_next<R: ByteSource, W: ByteSink, A: Allocator + Copy>(
     count: &mut WireCount,
     source: &mut R,
     sink: &mut W,
-    spare: &mut Vec<u8, A>,
+    spares: &mut Spares<A>,
 ) -> Result<(), RunFault>
     requires time { (port.old.earliest ≤ packet.time) × (packet.time < END_OF_TIME) }
     requires octets { (length packet.octets.items ≤ MOST_CAPTURED) × (length packet.octets.items ≤ packet.len) }
@@ -96,10 +94,10 @@ fn take_next<R: ByteSource, W: ByteSink, A: Allocator + Copy>(
     ensures lasts { R.never_fails source.old ≡ true → R.never_fails source.new ≡ true }
     ensures write { (number : ℕ) → result ≡ Err (RunFault.Write number) → W.has_failed sink.new ≡ true }
 {
-    if let Err(fault) = take(speed, port, writer, sink, count, packet, spare) {
+    if let Err(fault) = take(speed, port, writer, sink, count, packet, spares) {
         return Err(fault);
     }
-    match lane.look(mem::replace(spare, Vec::new(alloc)), source) {
+    match lane.look(spares.take(), source) {
         Ok(()) => Ok(()),
         Err(fault) => Err(fault_of(1, fault)),
     }
@@ -107,13 +105,13 @@ fn take_next<R: ByteSource, W: ByteSink, A: Allocator + Copy>(
 
 /// Sends all frames of a capture through a queue, and makes and writes all starts.
 fn run_through<R: ByteSource, W: ByteSink, A: Allocator + Copy>(
-    alloc: A,
     speed: Speed,
     lane: &mut Lane<A>,
     port: &mut Port<Vec<u8, A>, A>,
     writer: &mut Writer,
     source: &mut R,
     sink: &mut W,
+    spares: &mut Spares<A>,
 ) -> Result<WireCount, RunFault>
     requires new { (port.old.earliest ≡ 0) × (port.old.offered ≡ 0) }
     requires speed { port.old.speed ≡ speed }
@@ -134,15 +132,14 @@ fn run_through<R: ByteSource, W: ByteSink, A: Allocator + Copy>(
         sent: 0,
         full: 0,
     };
-    let mut spare = Vec::new(alloc);
     while let Some(packet) = lane.ahead.take() {
         if let Err(fault) = take_next(
-            alloc, speed, packet, lane, port, writer, &mut count, source, sink, &mut spare,
+            speed, packet, lane, port, writer, &mut count, source, sink, spares,
         ) {
             return Err(fault);
         }
     }
-    if let Err(fault) = depart_before(u64::MAX, speed, port, writer, sink, &mut spare) {
+    if let Err(fault) = depart_before(u64::MAX, speed, port, writer, sink, spares) {
         return Err(fault);
     }
     Ok(count)
@@ -181,16 +178,19 @@ pub fn wire<R: ByteSource, W: ByteSink, A: Allocator + Copy>(
     let Ok(mut port) = Port::new(alloc, speed, None, [room, 1, 1, 1, 1, 1, 1, 1]) else {
         return Err(RunFault::NoMemory);
     };
+    let Ok(mut spares) = Spares::new(alloc) else {
+        return Err(RunFault::NoMemory);
+    };
     let Ok(mut writer) = Writer::begin(sink) else {
         return Err(RunFault::Write { port: 1 });
     };
     run_through(
-        alloc,
         speed,
         &mut lane,
         &mut port,
         &mut writer,
         source,
         sink,
+        &mut spares,
     )
 }

@@ -7,7 +7,7 @@ ghost use Rattle.bridge_wire.specs.Sending.{Goes, is_overlong, NotBefore, Sends}
 
 use bridge_capture::{ByteSink, Writer};
 use bridge_frame::{Speed, occupation};
-use bridge_lanes::RunFault;
+use bridge_lanes::{RunFault, Spares};
 use bridge_port::{Item, Port};
 use std::alloc::Allocator;
 
@@ -17,7 +17,7 @@ pub fn depart<W: ByteSink, A: Allocator + Copy>(
     port: &mut Port<Vec<u8, A>, A>,
     writer: &mut Writer,
     sink: &mut W,
-    spare: &mut Vec<u8, A>,
+    spares: &mut Spares<A>,
 ) -> Result<(), RunFault>
     requires due { (k : ℕ) × IsDue port.old (Some k) }
     requires speed { port.old.speed ≡ speed }
@@ -35,7 +35,7 @@ pub fn depart<W: ByteSink, A: Allocator + Copy>(
     let done = port.earliest() - 1 + occupation(item.len, speed);
     let Item { len, load } = item;
     let answer = writer.put(sink, done, len, &load);
-    *spare = load;
+    spares.put(load);
     match answer {
         Ok(()) => Ok(()),
         Err(_) => Err(RunFault::Write { port: 1 }),
@@ -49,7 +49,7 @@ pub fn depart_before<W: ByteSink, A: Allocator + Copy>(
     port: &mut Port<Vec<u8, A>, A>,
     writer: &mut Writer,
     sink: &mut W,
-    spare: &mut Vec<u8, A>,
+    spares: &mut Spares<A>,
 ) -> Result<(), RunFault>
     requires speed { port.old.speed ≡ speed }
     requires within { count_queued is_overlong port.old ≡ 0 }
@@ -67,7 +67,7 @@ pub fn depart_before<W: ByteSink, A: Allocator + Copy>(
         if k >= t {
             return Ok(());
         }
-        depart(speed, port, writer, sink, spare)?;
+        depart(speed, port, writer, sink, spares)?;
     }
     Ok(())
 }

@@ -2,17 +2,25 @@ use Rattle.std.proofs.Common.{rules, ◌≡◌, ℕ, ◌≤◌, ◌<◌, ◌+◌
 use Rattle.bridge_parts.specs.Ports.{IsLastOut, goes_out}
 use Rattle.bridge_relay.specs.Relays.{RelayState}
 use Rattle.bridge_relay.specs.Relaying.{leaves, IsOffering}
-use Rattle.bridge_relay.proofs.Offering.{more_out, offering_end, goes_first}
+use Rattle.bridge_relay.proofs.Offering.{more_out, offering_end, offering_from, goes_first}
 use Rattle.bridge_relay.proofs.relay.Relay.offer_all.Goals as goal
 
 pub loop-number-init : goal.loop-number-init
-loop-number-init g c = record { along = c.requires.along.1; copies = c.requires.copies; within = omega arith }
+loop-number-init g c =
+    let ends = subst (λ (v : RelayState _ _). IsLastOut v.ports.slots c.args.set c.outs-last.result.1) c.self.view_is c.outs-last.ensures.last in
+    let f = c.first_with_copy-from.ensures in
+    let all = c.args.copies.ok in
+    let start = offering_from g.G.Agenda.held c.args.self.now c.args.set c.args.priority (leaves c.args.first c.args.len c.args.eligible) c.outs-last.result.1 c.first_with_copy-from.result c.args.first.octets.items c.args.copies.items c.requires.along.1 c.requires.copies f.from f.to (λ l. f.all (omega (arith, all, l))) ends.is_in in
+    let to = f.to in
+    record { along = start.0; copies = start.1; within = omega (arith, to) }
 
 pub offer_next-requires : goal.offer_next-requires
 offer_next-requires g c =
     let last = c.outs-last.result.1 in
     let ends = subst (λ (v : RelayState _ _). IsLastOut v.ports.slots c.args.set c.outs-last.result.1) c.self.view_is c.outs-last.ensures.last in
-    let low = c.loop-number.auto.number in
+    let start = c.first_with_copy-from.ensures.from in
+    let behind = c.loop-number.auto.number in
+    let low : 1 ≤ c.loop-number.number = omega (arith, start, behind) in
     let test = c.loop-number-test.true in
     let e = ends.is_in (omega (arith, test)) in
     let high = e.0 in
@@ -72,5 +80,7 @@ returns-else-last-gt0 g c =
     let ends = subst (λ (v : RelayState _ _). IsLastOut v.ports.slots c.args.set c.outs-last.result.1) c.self.view_is c.outs-last.ensures.last in
     let i = c.loop-number.invariant in
     let within = i.within in
-    let low = c.loop-number.auto.number in
+    let start = c.first_with_copy-from.ensures.from in
+    let behind = c.loop-number.auto.number in
+    let low : 1 ≤ c.loop-number.number = omega (arith, start, behind) in
     record { offered = offering_end g.G.Agenda.held c.args.self.now c.loop-number.self c.args.set c.args.priority (leaves c.args.first c.args.len c.args.eligible) c.loop-number.number i.along low (omega (arith, within, none)) (λ q l u. ends.none_after q (omega (arith, l, low, none)) u) }
