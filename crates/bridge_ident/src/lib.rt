@@ -2,11 +2,14 @@
 //! Stream identification (IEEE 802.1CB-2017, 6.4 null and 6.5 source MAC and VLAN identification): which stream
 //! handle a frame has.
 
-ghost use Rattle.std.specs.Prelude.{◌≡◌};
+ghost use Rattle.std.specs.Prelude.{◌≡◌, IfOk};
 ghost use Rattle.bridge_ident.specs.Identification.{handle_in, is_match, names_vlan};
 
+mod index;
+
 use bridge_frame::{Head, Tag};
-use std::alloc::Allocator;
+use index::Index;
+use std::alloc::{AllocError, Allocator};
 use std::marker::Model;
 
 /// Which address an entry compares.
@@ -91,15 +94,21 @@ fn first_handle(entries: &[StreamEntry], port: u8, head: &Head, vid: u16) -> Opt
 #[derive(Drop)]
 pub struct Ident<A: Allocator + Copy> {
     entries: Vec<StreamEntry, A>,
+    /// What finds the first entry that matches; without it the entries are walked.
+    index: Option<Index<A>>,
 }
 
 impl<A: Allocator + Copy> Model for Ident<A> {
-    ghost use Rattle.std.specs.Prelude.{List};
+    ghost use Rattle.std.specs.Prelude.{List, IfSome, true, false};
     ghost use Rattle.bridge_ident.specs.declared.StreamEntry.{StreamEntry};
+    ghost use Rattle.bridge_ident.specs.Firsts.{AreByAddress};
 
     ghost Value = { List StreamEntry };
 
     ghost view = { λ t. t.entries.items };
+
+    ghost invariant = { λ t. IfSome t.index (λ i. (AreByAddress true t.entries.items i.tagged.destinations i.tagged.sources)
+        × (AreByAddress false t.entries.items i.others.destinations i.others.sources)) };
 }
 
 impl<A: Allocator + Copy> Ident<A> {
@@ -107,7 +116,22 @@ impl<A: Allocator + Copy> Ident<A> {
     pub fn new(entries: Vec<StreamEntry, A>) -> Ident<A>
         ensures { result ≡ entries.items }
     {
-        Ident { entries }
+        Ident {
+            entries,
+            index: None,
+        }
+    }
+
+    /// The table of these entries, with an index by which a handle is found in the same time however many entries
+    /// there are. What it was handed is dropped where memory runs out.
+    pub fn indexed(alloc: A, entries: Vec<StreamEntry, A>) -> Result<Ident<A>, AllocError>
+        ensures { IfOk result (λ t. t ≡ entries.items) }
+    {
+        let index = Index::new(alloc, &entries)?;
+        Ok(Ident {
+            entries,
+            index: Some(index),
+        })
     }
 
     /// The entries, in the order given.
@@ -122,6 +146,9 @@ impl<A: Allocator + Copy> Ident<A> {
     pub fn handle_of(&self, port: u8, head: &Head, vid: u16) -> Option<u32>
         ensures { result ≡ handle_in self.now port head.now vid }
     {
-        first_handle(&self.entries, port, head, vid)
+        match &self.index {
+            Some(index) => index.handle_of(port, head, vid),
+            None => first_handle(&self.entries, port, head, vid),
+        }
     }
 }

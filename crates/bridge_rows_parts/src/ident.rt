@@ -1,6 +1,8 @@
 //! Stream identification: worked examples of handles.
 use bridge_frame::{Head, Tag};
 use bridge_ident::{Ident, Kind, StreamEntry, TagKind};
+use bridge_refusing::RefusesOne;
+use std::alloc::{AllocError, Allocator};
 use std::test::Fail;
 
 const TALKER: [u8; 6] = [2, 0, 0, 0, 0, 1];
@@ -32,17 +34,42 @@ fn entry(handle: u32, tag: TagKind) -> StreamEntry {
     }
 }
 
+fn source(handle: u32, tag: TagKind) -> StreamEntry {
+    StreamEntry {
+        kind: Kind::Source,
+        address: TALKER,
+        ..entry(handle, tag)
+    }
+}
+
+/// A table of these entries, with an index or without.
+fn table_of<A: Allocator + Copy>(
+    alloc: A,
+    entries: &[StreamEntry],
+    has_index: bool,
+) -> Result<Ident<A>, AllocError> {
+    let entries = Vec::from_slice(alloc, entries)?;
+    if has_index {
+        Ident::indexed(alloc, entries)
+    } else {
+        Ok(Ident::new(entries))
+    }
+}
+
 #[test]
 fn tag_kinds(rt: HostRuntime) -> Result<(), Fail> {
     let tagged = head(Some(10));
     let priority = head(Some(0));
     let untagged = head(None);
-    for (kind, wanted) in [
-        (TagKind::Tagged, [Some(1), None, None]),
-        (TagKind::Priority, [None, Some(1), Some(1)]),
-        (TagKind::All, [Some(1), Some(1), Some(1)]),
+    for (kind, has_index, wanted) in [
+        (TagKind::Tagged, false, [Some(1), None, None]),
+        (TagKind::Tagged, true, [Some(1), None, None]),
+        (TagKind::Priority, false, [None, Some(1), Some(1)]),
+        (TagKind::Priority, true, [None, Some(1), Some(1)]),
+        (TagKind::All, false, [Some(1), Some(1), Some(1)]),
+        (TagKind::All, true, [Some(1), Some(1), Some(1)]),
     ] {
-        let table = Ident::new([entry(1, kind)].to_vec(rt.alloc())?);
+        let table = table_of(rt.alloc(), &[entry(1, kind)], has_index)?;
         assert_eq!(rt; table.entries().len(), 1);
         assert!(rt; table.handle_of(1, &tagged, 10) == wanted[0], "tagged");
         assert!(rt;
@@ -56,20 +83,101 @@ fn tag_kinds(rt: HostRuntime) -> Result<(), Fail> {
     Ok(())
 }
 
+/// Two entries, and the handles of a tagged frame and of an untagged one.
+type Row = ([StreamEntry; 2], [Option<u32>; 2]);
+
+fn rows() -> [Row; 6] {
+    let all = entry(1, TagKind::All);
+    let tagged = entry(2, TagKind::Tagged);
+    let others = entry(3, TagKind::Priority);
+    let by_source = source(7, TagKind::All);
+    [
+        ([all, tagged], [Some(1), Some(1)]),
+        ([tagged, all], [Some(2), Some(1)]),
+        ([others, by_source], [Some(7), Some(3)]),
+        ([tagged, others], [Some(2), Some(3)]),
+        ([all, by_source], [Some(1), Some(1)]),
+        ([by_source, all], [Some(7), Some(7)]),
+    ]
+}
+
 #[test]
 fn first_match_counts(rt: HostRuntime) -> Result<(), Fail> {
-    let source = StreamEntry {
-        kind: Kind::Source,
-        address: TALKER,
-        ..entry(7, TagKind::All)
-    };
-    for (entries, wanted) in [
-        ([entry(1, TagKind::All), entry(2, TagKind::Tagged)], 1),
-        ([entry(2, TagKind::Tagged), entry(1, TagKind::All)], 2),
-        ([entry(3, TagKind::Priority), source], 7),
-    ] {
-        let table = Ident::new(entries.to_vec(rt.alloc())?);
-        assert!(rt; table.handle_of(1, &head(Some(10)), 10) == Some(wanted));
+    for (entries, wanted) in &rows() {
+        for has_index in [false, true] {
+            let table = table_of(rt.alloc(), entries, has_index)?;
+            let handles = [
+                table.handle_of(1, &head(Some(10)), 10),
+                table.handle_of(1, &head(None), 10),
+            ];
+            assert!(rt; handles == *wanted, "{wanted:?}, {has_index}");
+        }
     }
     Ok(())
+}
+
+/// 4,096 entries of ports 0 to 255 and VLANs 0 to 65,520, by destination and by source in turn.
+fn many<A: Allocator + Copy>(alloc: A) -> Result<Vec<StreamEntry, A>, AllocError> {
+    let mut entries = Vec::with_capacity(alloc, 4096)?;
+    for number in 0..4096u16 {
+        let kind = if number % 2 == 0 {
+            Kind::Null
+        } else {
+            Kind::Source
+        };
+        entries.push(StreamEntry {
+            handle: u32::from(number),
+            port: (number % 256) as u8,
+            kind,
+            address: TALKER,
+            vid: number * 16,
+            tag: TagKind::All,
+        })?;
+    }
+    Ok(entries)
+}
+
+#[test]
+fn each_of_many_entries_is_found(rt: HostRuntime) -> Result<(), Fail> {
+    let table = Ident::indexed(rt.alloc(), many(rt.alloc())?)?;
+    let from = head(Some(10));
+    let to = Head {
+        da: TALKER,
+        sa: LISTENER,
+        ..from
+    };
+    for number in 0..4096u16 {
+        let port = (number % 256) as u8;
+        let by_source = number % 2 == 1;
+        let wanted = Some(u32::from(number));
+        let (found, missed) = if by_source {
+            (&from, &to)
+        } else {
+            (&to, &from)
+        };
+        assert!(rt;
+            table.handle_of(port, found, number * 16) == wanted,
+            "{number}"
+        );
+        assert!(rt;
+            table.handle_of(port, missed, number * 16) == None,
+            "{number}"
+        );
+    }
+    Ok(())
+}
+
+#[test]
+fn each_growth_of_an_index_is_refused_in_turn(rt: HostRuntime) -> Result<(), Fail> {
+    let entries = [entry(1, TagKind::All), source(2, TagKind::Tagged)];
+    for n in 1..1_000 {
+        let gate = RefusesOne::new(rt.alloc(), n);
+        let made = table_of(&gate, &entries, true);
+        if !gate.refused() {
+            assert!(rt; made.is_ok() && n > 4);
+            return Ok(());
+        }
+        assert!(rt; made.is_err(), "growth {n}");
+    }
+    Err(Fail::from("some growth was always refused"))
 }

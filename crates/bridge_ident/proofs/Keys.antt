@@ -1,0 +1,46 @@
+-- One number for a port, a VLAN identifier and an address: different ones have different numbers.
+use Rattle.std.proofs.Common.{◌≡◌, ℕ, zero, suc, ◌+◌, ◌*◌, ◌^◌, ◌<◌, ◌&&◌, nat_eq, List, length, get_or, take, drop, ◌++◌, refl, sym, ap, ◌∙◌, arith}
+use Rattle.std.specs.Int.{w16, to_be_bytes, from_be_bytes}
+use Rattle.std.specs.Str.{bytes_eq}
+use Rattle.std.proofs.lemmas.Nat.{be_bytes_8, from_be_bytes-to_be_bytes_2, mod_below}
+use Rattle.std.proofs.lemmas.Bool.Decides.{same_from_decides, Decides-like, Decides-eqb, Decides-and}
+use Rattle.std.proofs.lemmas.Slice.Eq.{bytes_eq-Decides}
+use Rattle.bridge_ident.specs.Firsts.{IsKey, octets_number, key_of}
+
+-- the eight octets of a VLAN identifier and an address
+abbrev octets_of : ℕ → List ℕ → List ℕ
+octets_of vid address = to_be_bytes w16 vid ++ address
+
+octet_below : (vid : ℕ) (address : List ℕ) → IsKey vid address → (i : ℕ) → get_or (octets_of vid address) i 0 < 256
+octet_below vid address k zero = mod_below _ 256 (omega arith)
+octet_below vid address k (suc zero) = mod_below _ 256 (omega arith)
+octet_below vid address k (suc (suc i)) = k.octets i
+
+eight : (vid : ℕ) (address : List ℕ) → IsKey vid address → length (octets_of vid address) ≡ 8
+eight vid address k = let six = k.six in omega arith
+
+-- equal numbers come of equal octets
+same_octets : (v w : ℕ) (a b : List ℕ) → IsKey v a → IsKey w b → octets_number v a ≡ octets_number w b → octets_of v a ≡ octets_of w b
+unfolding octets_number
+same_octets v w a b k l e = sym (be_bytes_8 (octets_of v a) (octets_number v a) (eight v a k) (octet_below v a k) refl) ∙ be_bytes_8 (octets_of w b) (octets_number v a) (eight w b l) (octet_below w b l) e
+
+same_address : (v w : ℕ) (a b : List ℕ) → IsKey v a → IsKey w b → octets_number v a ≡ octets_number w b → a ≡ b
+same_address v w a b k l e = ap (drop 2) (same_octets v w a b k l e)
+
+same_vid : (v w : ℕ) (a b : List ℕ) → IsKey v a → IsKey w b → octets_number v a ≡ octets_number w b → v ≡ w
+same_vid v w a b k l e = sym (from_be_bytes-to_be_bytes_2 v k.short) ∙ (ap (λ (xs : List ℕ). from_be_bytes w16 (take 2 xs)) (same_octets v w a b k l e) ∙ from_be_bytes-to_be_bytes_2 w l.short)
+
+-- two numbers of two parts each, of which the lower ones are small
+same_parts : (p q x y : ℕ) → x < 2 ^ 64 → y < 2 ^ 64 → p * 2 ^ 64 + x ≡ q * 2 ^ 64 + y → (p ≡ q) × (x ≡ y)
+same_parts p q x y k l e = (omega arith, omega arith)
+
+key_parts : (p q v w : ℕ) (a b : List ℕ) → IsKey v a → IsKey w b → key_of p v a ≡ key_of q w b → (p ≡ q) × (octets_number v a ≡ octets_number w b)
+unfolding key_of
+key_parts p q v w a b k l e = same_parts p q (octets_number v a) (octets_number w b) k.fits l.fits e
+
+-- two keys have one number where the port, the identifier and the address are the same
+pub same_key : (p q v w : ℕ) (a b : List ℕ) → IsKey v a → IsKey w b → nat_eq (key_of p v a) (key_of q w b) ≡ (nat_eq p q && nat_eq v w && bytes_eq a b)
+same_key p q v w a b k l =
+    let all : (key_of p v a ≡ key_of q w b) → ((p ≡ q) × (v ≡ w)) × (a ≡ b) = λ e. let parts = key_parts p q v w a b k l e in ((parts.0, same_vid v w a b k l parts.1), same_address v w a b k l parts.1) in
+    let one : ((p ≡ q) × (v ≡ w)) × (a ≡ b) → key_of p v a ≡ key_of q w b = λ s. rw (s.0.0, s.0.1, s.1) refl in
+    same_from_decides (nat_eq (key_of p v a) (key_of q w b)) (nat_eq p q && nat_eq v w && bytes_eq a b) (Decides-like (nat_eq (key_of p v a) (key_of q w b)) all one (Decides-eqb (key_of p v a) (key_of q w b))) (Decides-and (nat_eq p q && nat_eq v w) (bytes_eq a b) (Decides-and (nat_eq p q) (nat_eq v w) (Decides-eqb p q) (Decides-eqb v w)) (bytes_eq-Decides a b))

@@ -1,0 +1,67 @@
+-- What the index of a stream identification table keeps. No public clause speaks of it.
+use Rattle.std.specs.Prelude.{◌≡◌, ◌<◌, ◌+◌, ◌*◌, ◌^◌, ℕ, Bool, true, false, not, ◌&&◌, nat_eq, nat_lt, Option, Some, None, List, [], ◌∷◌, ◌++◌, length, slice_index, if◌then◌else◌}
+use Rattle.std.specs.Int.{w16, w64, to_be_bytes, from_be_bytes}
+use Rattle.std.specs.Str.{bytes_eq}
+use Rattle.indexmap.specs.IndexMap.{IndexMap, get}
+use Rattle.bridge_ident.specs.declared.Kind.{Kind}
+use Rattle.bridge_ident.specs.declared.Kind.TheVariants.{Null, Source}
+use Rattle.bridge_ident.specs.declared.TagKind.{TagKind}
+use Rattle.bridge_ident.specs.declared.TagKind.TheVariants.{Tagged, Priority, All}
+use Rattle.bridge_ident.specs.declared.StreamEntry.{StreamEntry}
+use Rattle.bridge_ident.specs.declared.index.First.{First}
+
+-- whether two kinds are the same
+abbrev pub is_kind : Kind → Kind → Bool
+is_kind Null Null = true
+is_kind Null Source = false
+is_kind Source Null = false
+is_kind Source Source = true
+
+-- whether an entry of that tag kind takes tagged frames, or all others
+abbrev pub takes : TagKind → Bool → Bool
+takes Tagged tagged = tagged
+takes Priority tagged = not tagged
+takes All tagged = true
+
+-- whether an entry compares that kind of address and takes tagged frames, or all others
+abbrev pub is_for : Kind → Bool → StreamEntry → Bool
+is_for kind tagged e = is_kind e.kind kind && takes e.tag tagged
+
+-- whether an entry stands at a port, in a VLAN, for an address
+abbrev pub is_at : StreamEntry → ℕ → ℕ → List ℕ → Bool
+is_at e port vid address = nat_eq e.port port && nat_eq e.vid vid && bytes_eq e.address address
+
+-- the first entry of a list, its places counted from n, that is of that kind and for such frames, by its place and its handle
+abbrev pub first_from : Kind → Bool → ℕ → List StreamEntry → ℕ → ℕ → List ℕ → Option First
+first_from kind tagged n [] port vid address = None
+first_from kind tagged n (e ∷ es) port vid address = if is_for kind tagged e && is_at e port vid address then Some (record { place = n; handle = e.handle }) else first_from kind tagged (n + 1) es port vid address
+
+-- of two entries the one at the lesser place
+abbrev pub lesser : Option First → Option First → Option First
+lesser None source = source
+lesser (Some d) None = Some d
+lesser (Some d) (Some s) = if nat_lt s.place d.place then Some s else Some d
+
+-- a VLAN identifier and an address as one number: the two octets of the one and the six of the other, the first the highest
+unfoldable pub octets_number : ℕ → List ℕ → ℕ
+octets_number vid address = from_be_bytes w64 (to_be_bytes w16 vid ++ address)
+
+-- a VLAN identifier of 16 bits and an address of six octets
+pub record IsKey (vid : ℕ) (address : List ℕ) : Type 0 where
+  pub short : vid < 2 ^ 16
+  pub six : length address ≡ 6
+  pub octets : (i : ℕ) → slice_index address i < 256
+  pub fits : octets_number vid address < 2 ^ 64
+
+-- a port, a VLAN identifier and an address as one number
+unfoldable pub key_of : ℕ → ℕ → List ℕ → ℕ
+key_of port vid address = port * 2 ^ 64 + octets_number vid address
+
+-- a table finds the first entry of a kind for such frames
+pub record AreFirst {T : Type 0} (kind : Kind) (tagged : Bool) (entries : List StreamEntry) (firsts : IndexMap ℕ First T) : Type 0 where
+  pub found : (port vid : ℕ) (address : List ℕ) → IsKey vid address → get nat_eq firsts (key_of port vid address) ≡ first_from kind tagged 0 entries port vid address
+
+-- the tables of both kinds
+pub record AreByAddress {T : Type 0} (tagged : Bool) (entries : List StreamEntry) (destinations sources : IndexMap ℕ First T) : Type 0 where
+  pub by_destination : AreFirst Null tagged entries destinations
+  pub by_source : AreFirst Source tagged entries sources
