@@ -126,12 +126,15 @@ document_of text =
 abbrev pub plan_of_text : {A : Type 0} → List ℕ → Result (Plan A) PlanFault
 plan_of_text text = document_of text >>= plan_of_document
 
--- the commands of a document, by the plan: its one section as an array of tables, then command by command
-unfoldable pub commands_of_document : {A : Type 0} → Plan A → Members → Result (List Command) PlanFault
-commands_of_document plan members = do
+-- the items of the one section of a document of commands
+unfoldable pub command_items : Members → Result Items PlanFault
+command_items members = do
   keys ← provided (are_sections (section.Command ∷ []) members) (fault.UnknownKey section.Top 0)
-  commands ← items_of section.Command members
-  instances (command_at plan) commands
+  items_of section.Command members
+
+-- the commands of a document, by the plan: its section as an array of tables, then command by command
+abbrev pub commands_of_document : {A : Type 0} → Plan A → Members → Result (List Command) PlanFault
+commands_of_document plan members = command_items members >>= instances (command_at plan)
 
 -- the commands of a text, by the plan
 abbrev pub commands_of_text : {A : Type 0} → Plan A → List ℕ → Result (List Command) PlanFault

@@ -1,6 +1,6 @@
 //! Commands to the bridge of a plan, and how they are made of a text.
-ghost use Rattle.std.specs.Prelude.{◌≡◌, ◌<◌, ◌≤◌, IfErr, IfOk, All, true};
-ghost use Rattle.toml.specs.View.{table_view};
+ghost use Rattle.std.specs.Prelude.{◌≡◌, ◌<◌, ◌≤◌, IfErr, IfOk, All, true, length};
+ghost use Rattle.toml.specs.View.{table_view, items_view};
 ghost use Rattle.bridge_base.specs.declared.TheConstants.{END_OF_TIME};
 ghost use Rattle.bridge_keys.specs.declared.fault.PlanFault.TheVariants.{NoMemory};
 ghost use Rattle.bridge_keys.specs.declared.fault.Section.TheVariants as the_section;
@@ -169,13 +169,25 @@ impl<'a, A: Allocator + Copy, B: Allocator + Copy> SectionReader<A> for Commands
     }
 }
 
+/// The items of the one section of a document of commands. Takes no memory.
+#[tactic(auto, unfolding(crate::specs::Document::command_items))]
+fn command_items<'a>(table: &'a Table) -> Result<&'a [Value], PlanFault>
+    ensures reads { GivesAs (λ x. items_view x.now) result (doc.command_items (table_view table.now)) }
+    ensures few { IfOk result (λ x. length x.now ≤ doc.limit_of the_section.Command) }
+    ensures takes_no_memory { IfErr result (λ e. ¬ (e ≡ NoMemory)) }
+{
+    if !are_sections(&[Section::Command], table) {
+        return Err(PlanFault::UnknownKey(Section::Top, 0));
+    }
+    items_of(Section::Command, table)
+}
+
 /// The commands of a TOML text to the bridge of a plan, or its first fault: `TooLong`, `Syntax`, an unknown key at the
 /// top, then the array of commands as such (`NotAList`, `TooMany`), then command by command and key by key. A moment
 /// that comes before that of the command before it is `OutOfRange`, a number that the plan doesn't have `Unresolved`. A
 /// text without commands has none. `NoMemory` comes only where a growth was refused.
 ///
 /// The document is read in `heap`, the commands are made in `alloc`.
-#[tactic(auto, unfolding(crate::specs::Document::commands_of_document))]
 pub fn commands_of<A: Allocator + Copy, B: Allocator + Copy>(
     alloc: A,
     heap: Global,
@@ -187,9 +199,6 @@ pub fn commands_of<A: Allocator + Copy, B: Allocator + Copy>(
     ensures in_time { IfOk result (λ v. All (λ c. c.at < END_OF_TIME) v.items) }
 {
     let document = document_of(heap, text)?;
-    if !are_sections(&[Section::Command], &document) {
-        return Err(PlanFault::UnknownKey(Section::Top, 0));
-    }
-    let items = items_of(Section::Command, &document)?;
+    let items = command_items(&document)?;
     read_instances(alloc, &Commands { plan }, items)
 }
