@@ -1,4 +1,5 @@
--- The base plan by computation, and the fault of each of some changes: a text in pieces, one of them replaced.
+-- The base plan by computation, and the fault of each of some changes: a text in pieces, one of them replaced. Then
+-- commands to such a plan.
 use Rattle.std.proofs.Common.{◌≡◌, ℕ, true, false, List, [], ◌∷◌, ◌++◌, codes, map, Some, None, Result, Ok, Err, refl}
 use Rattle.std.specs.Str.{is_utf8, chars}
 use Rattle.std.specs.Str.Lossy.{utf8_valid_len}
@@ -9,11 +10,14 @@ use Rattle.bridge_keys.specs.declared.fault.PlanFault.{PlanFault}
 use Rattle.bridge_keys.specs.declared.fault.PlanFault.TheVariants as fault
 use Rattle.bridge_keys.specs.declared.fault.Section.TheVariants as section
 use Rattle.bridge_keys.specs.declared.fault.Field.TheVariants as field
-use Rattle.bridge_keys.specs.Readers.{required, optional, default_to, between, switch, known, speed, text, numbers, set_of, eight, ports_of, list_of}
+use Rattle.bridge_keys.specs.Readers.{◌>>=◌, required, optional, default_to, between, switch, known, speed, text, numbers, set_of, eight, ports_of, list_of}
 use Rattle.bridge_keys.specs.Texts.{address_of}
+use Rattle.bridge_filter.specs.declared.Clear.TheVariants as clear
+use Rattle.bridge_config.specs.declared.command.Command.{Command}
 use Rattle.bridge_config.specs.Model.{Plan}
+use Rattle.bridge_config.specs.Commands.{command_at}
 use Rattle.bridge_config.specs.Sections.{port_at, port_list, vlan_at, static_at, stream_at, gate_at, gate_list, meter_at, filter_at}
-use Rattle.bridge_config.specs.Document.{first_pass, policing_of, second_pass, document_of, plan_of_text}
+use Rattle.bridge_config.specs.Document.{first_pass, policing_of, second_pass, document_of, plan_of_text, command_items, commands_of_text}
 
 -- THE PIECES
 
@@ -130,3 +134,41 @@ state_beside_entries = refl
 no_such_gate : plan (ports ++ forwarding ++ stream ++ gates [] ++ filters (codes "5")) ≡ Err (fault.Unresolved (record { section = section.Filter; index = 1; field = field.Gate }))
 unfolding toml_on_literals utf8_valid_len is_utf8 chars document_of first_pass second_pass policing_of port_at port_list vlan_at static_at stream_at gate_at gate_list meter_at filter_at required optional default_to between switch known speed text numbers set_of eight ports_of list_of address_of
 no_such_gate = refl
+
+-- COMMANDS
+
+-- the commands of a text to the bridge of a port, two gates and two filters
+abbrev commands : List ℕ → Result (List Command) PlanFault
+commands t = plan (port_1 ++ gates [] ++ filters (codes "1")) >>= λ p. commands_of_text p t
+
+-- a command, by its moment, its flag and its number
+abbrev command : List ℕ → List ℕ → List ℕ → List ℕ
+command at flag number = codes "[[command]]\nat = " ++ at ++ codes "\nclear = \"" ++ flag ++ codes "\"\nnumber = " ++ number ++ codes "\n"
+
+no_command : commands (codes "") ≡ Ok []
+unfolding toml_on_literals utf8_valid_len is_utf8 chars document_of first_pass second_pass policing_of port_at port_list vlan_at static_at stream_at gate_at gate_list meter_at filter_at required optional default_to between switch known speed text numbers set_of eight ports_of list_of address_of command_at command_items
+no_command = refl
+
+two_at_one_moment : commands (command (codes "5") (codes "blocked") (codes "10") ++ command (codes "5") (codes "octets") (codes "99")) ≡ Ok (record { at = 5; clear = clear.Blocked; number = 10 } ∷ record { at = 5; clear = clear.Octets; number = 99 } ∷ [])
+unfolding toml_on_literals utf8_valid_len is_utf8 chars document_of first_pass second_pass policing_of port_at port_list vlan_at static_at stream_at gate_at gate_list meter_at filter_at required optional default_to between switch known speed text numbers set_of eight ports_of list_of address_of command_at command_items
+two_at_one_moment = refl
+
+before_the_one_before : commands (command (codes "5") (codes "rx") (codes "1") ++ command (codes "4") (codes "rx") (codes "1")) ≡ Err (fault.OutOfRange (record { section = section.Command; index = 2; field = field.At }))
+unfolding toml_on_literals utf8_valid_len is_utf8 chars document_of first_pass second_pass policing_of port_at port_list vlan_at static_at stream_at gate_at gate_list meter_at filter_at required optional default_to between switch known speed text numbers set_of eight ports_of list_of address_of command_at command_items
+before_the_one_before = refl
+
+at_the_end_of_time : commands (command (codes "4000000000000000000") (codes "rx") (codes "1")) ≡ Err (fault.OutOfRange (record { section = section.Command; index = 1; field = field.At }))
+unfolding toml_on_literals utf8_valid_len is_utf8 chars document_of first_pass second_pass policing_of port_at port_list vlan_at static_at stream_at gate_at gate_list meter_at filter_at required optional default_to between switch known speed text numbers set_of eight ports_of list_of address_of command_at command_items
+at_the_end_of_time = refl
+
+no_such_flag : commands (command (codes "5") (codes "green") (codes "1")) ≡ Err (fault.OutOfRange (record { section = section.Command; index = 1; field = field.Clear }))
+unfolding toml_on_literals utf8_valid_len is_utf8 chars document_of first_pass second_pass policing_of port_at port_list vlan_at static_at stream_at gate_at gate_list meter_at filter_at required optional default_to between switch known speed text numbers set_of eight ports_of list_of address_of command_at command_items
+no_such_flag = refl
+
+a_gate_and_no_filter : commands (command (codes "5") (codes "blocked") (codes "1")) ≡ Err (fault.Unresolved (record { section = section.Command; index = 1; field = field.Number }))
+unfolding toml_on_literals utf8_valid_len is_utf8 chars document_of first_pass second_pass policing_of port_at port_list vlan_at static_at stream_at gate_at gate_list meter_at filter_at required optional default_to between switch known speed text numbers set_of eight ports_of list_of address_of command_at command_items
+a_gate_and_no_filter = refl
+
+no_section_of_commands : commands (codes "port = []\n") ≡ Err (fault.UnknownKey section.Top 0)
+unfolding toml_on_literals utf8_valid_len is_utf8 chars document_of first_pass second_pass policing_of port_at port_list vlan_at static_at stream_at gate_at gate_list meter_at filter_at required optional default_to between switch known speed text numbers set_of eight ports_of list_of address_of command_at command_items
+no_section_of_commands = refl

@@ -1,4 +1,5 @@
 pub mod Own
+pub mod Commanded
 pub mod Counts
 mod Examples
 pub mod PlanPorts

@@ -1,4 +1,4 @@
--- The plan of a text: the plan, or the first fault in order.
+-- The plan of a text, and the commands of another: what it stands for, or the first fault in order.
 use Rattle.std.specs.Prelude.{ℕ, suc, Bool, true, false, not, ◌&&◌, List, [], ◌∷◌, length, Option, Some, None, Result, Ok, Err, nat_le, nat_lt, nat_eq, if◌then◌else◌}
 use Rattle.std.specs.List.{list_any}
 use Rattle.std.specs.Cmp.Lexicographic.{pointwise}
@@ -11,9 +11,11 @@ use Rattle.bridge_keys.specs.declared.fault.PlanFault.{PlanFault}
 use Rattle.bridge_keys.specs.declared.fault.PlanFault.TheVariants as fault
 use Rattle.bridge_keys.specs.Keys.{name_of}
 use Rattle.bridge_keys.specs.Readers.{◌>>=◌, are_tables, instances}
+use Rattle.bridge_config.specs.declared.command.Command.{Command}
 use Rattle.bridge_config.specs.Model.{Policing, Plan}
 use Rattle.bridge_config.specs.Rules.{port_set}
 use Rattle.bridge_config.specs.Sections.{provided, port_at, vlan_at, static_at, stream_at, gate_at, meter_at, filter_at}
+use Rattle.bridge_config.specs.Commands.{command_at}
 
 -- the most instances of a section
 abbrev pub limit_of : Section → ℕ
@@ -25,6 +27,7 @@ limit_of section.Stream = 4096
 limit_of section.Gate = 1024
 limit_of section.Meter = 1024
 limit_of section.Filter = 1024
+limit_of section.Command = 4096
 
 -- how many items there are
 abbrev pub count_of : Items → ℕ
@@ -122,3 +125,17 @@ document_of text =
 -- the plan of a text
 abbrev pub plan_of_text : {A : Type 0} → List ℕ → Result (Plan A) PlanFault
 plan_of_text text = document_of text >>= plan_of_document
+
+-- the items of the one section of a document of commands
+unfoldable pub command_items : Members → Result Items PlanFault
+command_items members = do
+  keys ← provided (are_sections (section.Command ∷ []) members) (fault.UnknownKey section.Top 0)
+  items_of section.Command members
+
+-- the commands of a document, by the plan: its section as an array of tables, then command by command
+abbrev pub commands_of_document : {A : Type 0} → Plan A → Members → Result (List Command) PlanFault
+commands_of_document plan members = command_items members >>= instances (command_at plan)
+
+-- the commands of a text, by the plan
+abbrev pub commands_of_text : {A : Type 0} → Plan A → List ℕ → Result (List Command) PlanFault
+commands_of_text plan text = document_of text >>= commands_of_document plan

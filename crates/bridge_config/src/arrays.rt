@@ -35,6 +35,7 @@ fn limit_of(section: Section) -> usize
         Section::Gate => 1024,
         Section::Meter => 1024,
         Section::Filter => 1024,
+        Section::Command => 4096,
     }
 }
 
@@ -71,7 +72,7 @@ fn items_in<'a>(section: Section, value: Option<&'a Value>) -> Result<&'a [Value
 }
 
 /// The items of a section of a document. Takes no memory.
-fn items_of<'a>(section: Section, table: &'a Table) -> Result<&'a [Value], PlanFault>
+pub(crate) fn items_of<'a>(section: Section, table: &'a Table) -> Result<&'a [Value], PlanFault>
     ensures reads { GivesAs (λ x. items_view x.now) result (doc.items_of section (table_view table.now)) }
     ensures few { IfOk result (λ x. length x.now ≤ doc.limit_of section) }
     ensures tables { IfOk result (λ x. spec.are_tables (items_view x.now) ≡ true) }
@@ -97,7 +98,7 @@ fn is_section(sections: &[Section], key: &str) -> bool
 }
 
 /// Whether a document has no key but these sections.
-fn are_sections(sections: &[Section], table: &Table) -> bool
+pub(crate) fn are_sections(sections: &[Section], table: &Table) -> bool
     ensures { result ≡ doc.are_sections sections.now (table_view table.now) }
 {
     'members: for (key, _) in table.iter() {

@@ -12,7 +12,7 @@ ghost use Rattle.bridge_keys.specs.Readers.{Gives, GivesAs, list_at};
 ghost use Rattle.bridge_config.specs.Sections as sections;
 ghost use Rattle.bridge_config.specs.Rules as rules;
 
-use crate::lists::{LARGEST, LARGEST_NUMBER, LAST_BASE, list_if};
+use crate::lists::{LARGEST, LARGEST_NUMBER, LAST_MOMENT, list_if};
 use crate::numbers::{has_number, in_8_bits, in_32_bits};
 use bridge_cycle::CyclicList;
 use bridge_gate::{GateEntry, GatePlan, Schedule};
@@ -147,7 +147,7 @@ fn gate_list<A: Allocator + Copy>(
         Field::Base,
         &Between {
             low: 0,
-            high: LAST_BASE,
+            high: LAST_MOMENT,
         },
     )?;
     let cycle = required_with(

@@ -1,8 +1,9 @@
 #![tactic(auto)]
-//! The plan of a bridge: its ports, VLANs, streams, gates, meters and filters.
+//! The plan of a bridge: its ports, VLANs, streams, gates, meters and filters; and the commands that come to it.
 
 mod arrays;
 mod command;
+mod commands;
 mod filters;
 mod gates;
 mod lists;
@@ -17,5 +18,6 @@ mod vlans;
 pub use bridge_forward::PortSet;
 pub use bridge_keys::PlanFault;
 pub use command::Command;
+pub use commands::commands_of;
 pub use plan::{Plan, plan_of};
 pub use ports::PortPlan;

@@ -16,8 +16,8 @@ pub(crate) const LARGEST: u64 = 9_223_372_036_854_775_807;
 /// The largest number of an instance or a stream handle, and the largest limit of octets of a gate: 2^32 - 1.
 pub(crate) const LARGEST_NUMBER: u64 = u32::MAX as u64;
 
-/// The largest moment, in ns, at which a cycle may begin.
-pub(crate) const LAST_BASE: u64 = END_OF_TIME - 1;
+/// The largest moment, in ns, at which a cycle may begin or a command come.
+pub(crate) const LAST_MOMENT: u64 = END_OF_TIME - 1;
 
 /// The list of a base, a cycle and entries, where there are entries.
 pub(crate) fn list_if<S: Copy, A: Allocator + Copy>(

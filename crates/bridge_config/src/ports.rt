@@ -10,7 +10,7 @@ ghost use Rattle.bridge_keys.specs.Readers.{Gives, GivesAs, list_at};
 ghost use Rattle.bridge_config.specs.Sections as sections;
 ghost use Rattle.bridge_config.specs.Rules as rules;
 
-use crate::lists::{LARGEST, LAST_BASE, list_if};
+use crate::lists::{LARGEST, LAST_MOMENT, list_if};
 use bridge_cycle::CyclicList;
 use bridge_frame::Speed;
 use bridge_keys::{
@@ -159,7 +159,7 @@ fn port_list<A: Allocator + Copy>(
         Field::Base,
         &Between {
             low: 0,
-            high: LAST_BASE,
+            high: LAST_MOMENT,
         },
     )?;
     let cycle = required_with(

@@ -15,6 +15,7 @@ name_of section.Stream = codes "stream"
 name_of section.Gate = codes "gate"
 name_of section.Meter = codes "meter"
 name_of section.Filter = codes "filter"
+name_of section.Command = codes "command"
 
 -- the spelling of a key
 abbrev pub key_of : Field → List ℕ
@@ -55,3 +56,5 @@ key_of field.MaxSdu = codes "max_sdu"
 key_of field.Meter = codes "meter"
 key_of field.BlockOversize = codes "block_oversize"
 key_of field.Protected = codes "protected"
+key_of field.At = codes "at"
+key_of field.Clear = codes "clear"

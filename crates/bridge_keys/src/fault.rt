@@ -8,7 +8,8 @@ use bridge_cycle::ListFault;
 use std::alloc::{AllocError, AllocFailed};
 use thiserror::Error;
 
-/// The top of a plan, and its sections in the order in which they are read.
+/// The top of a plan, and its sections in the order in which they are read; behind them the section of a text of
+/// commands.
 #[derive(Clone, Copy, Debug, PartialEq, Eq)]
 pub enum Section {
     /// The top of a plan.
@@ -27,10 +28,12 @@ pub enum Section {
     Meter,
     /// Stream filters.
     Filter,
+    /// Commands, which stand in a text of their own.
+    Command,
 }
 
 impl Section {
-    /// The name of a section, as a plan and a fault line spell it; the top of a plan is `top`.
+    /// The name of a section, as a text and a fault line spell it; the top of a text is `top`.
     pub fn name(self) -> &'static str
         ensures name { result.now ≡ name_of self }
     {
@@ -43,14 +46,15 @@ impl Section {
             Section::Gate => "gate",
             Section::Meter => "meter",
             Section::Filter => "filter",
+            Section::Command => "command",
         }
     }
 }
 
-/// The keys of the tables of a plan, and of the entries of its lists.
+/// The keys of the tables of a plan, of the entries of its lists, and of commands.
 #[derive(Clone, Copy, Debug, PartialEq, Eq)]
 pub enum Field {
-    /// The number of a port, gate, meter or filter.
+    /// The number of a port, gate, meter or filter, or of what a command names.
     Number,
     /// The speed of a port, in megabits a second.
     Mbps,
@@ -124,6 +128,10 @@ pub enum Field {
     BlockOversize,
     /// Whether the frames of a filter are protected.
     Protected,
+    /// The moment of a command, in ns.
+    At,
+    /// The flag that a command clears.
+    Clear,
 }
 
 impl Field {
@@ -169,6 +177,8 @@ impl Field {
             Field::Meter => "meter",
             Field::BlockOversize => "block_oversize",
             Field::Protected => "protected",
+            Field::At => "at",
+            Field::Clear => "clear",
         }
     }
 }

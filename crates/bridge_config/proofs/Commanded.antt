@@ -1,0 +1,67 @@
+-- One command more, that comes no earlier than the last one.
+use Rattle.std.proofs.Common.{◌≡◌, ℕ, ◌-◌, ◌<◌, ◌≤◌, true, List, [], ◌∷◌, ◌++◌, length, Some, None, refl, sym, subst, inl, inr, arith, All, slice_get}
+use Rattle.std.specs.Prelude.{◌⊎◌}
+use Rattle.bridge_base.specs.Members.{In, AllAfter, Rising}
+use Rattle.bridge_base.specs.declared.TheConstants.{END_OF_TIME}
+use Rattle.bridge_config.specs.declared.command.Command.{Command}
+use Rattle.bridge_config.specs.Model.{Plan}
+use Rattle.bridge_config.specs.Commands.{has_instance, AreCommands, last_moment}
+use Rattle.bridge_config.proofs.Own.{each_push}
+
+one_less : (d : Command) (cs : List Command) → length (d ∷ cs) - 1 ≡ length cs
+one_less d cs = omega arith
+
+last_at : (d : Command) (cs : List Command) (c : Command) → Some c ≡ slice_get (d ∷ cs) (length cs) → c.at ≡ last_moment d.at cs
+last_at d [] c e = cc
+last_at d (f ∷ cs) c e = last_at f cs c e
+
+some_at : (d : Command) (cs : List Command) → None ≡ slice_get (d ∷ cs) (length cs) → ⊥
+some_at d [] e = cc
+some_at d (f ∷ cs) e = some_at f cs e
+
+-- the moment of the item at the last place
+pub last_some : (cs : List Command) (t : ℕ) (c : Command) → Some c ≡ slice_get cs (length cs - 1) → c.at ≡ last_moment t cs
+last_some [] t c e = absurd cc
+last_some (d ∷ cs) t c e = last_at d cs c (subst (λ (n : ℕ). Some c ≡ slice_get (d ∷ cs) n) (one_less d cs) e)
+
+-- no item is there where there is none
+pub last_none : (cs : List Command) (t : ℕ) → None ≡ slice_get cs (length cs - 1) → t ≡ last_moment t cs
+last_none [] t e = refl
+last_none (d ∷ cs) t e = absurd (some_at d cs (subst (λ (n : ℕ). None ≡ slice_get (d ∷ cs) n) (one_less d cs) e))
+
+-- one more at the end of what rises
+after_push : {X : Type 0} (R : X → X → Type 0) (x y : X) (xs : List X) → AllAfter R x xs → R x y → AllAfter R x (xs ++ y ∷ [])
+after_push R x y [] a r = (r, tt)
+after_push R x y (z ∷ xs) a r = (a.0, after_push R x y xs a.1 r)
+
+rising_push : {X : Type 0} (R : X → X → Type 0) (xs : List X) (y : X) → Rising R xs → ((x : X) → In x xs → R x y) → Rising R (xs ++ y ∷ [])
+rising_push R [] y a r = (tt, tt)
+rising_push R (x ∷ xs) y a r = (after_push R x y xs a.0 (r x (inl refl)), rising_push R xs y a.1 (λ z i. r z (inr i)))
+
+in_push : {X : Type 0} (x y : X) (xs : List X) → In x (xs ++ y ∷ []) → In x xs ⊎ (x ≡ y)
+in_push x y [] i = elim i [ inl e ↦ inr e | inr l ↦ absurd l ]
+in_push x y (z ∷ xs) i = elim i [ inl e ↦ inl (inl e) | inr l ↦ elim (in_push x y xs l) [ inl k ↦ inl (inr k) | inr k ↦ inr k ] ]
+
+-- what comes before all of some commands comes before the last one
+before_last : (x : Command) (t : ℕ) (cs : List Command) → x.at ≤ t → AllAfter (λ a b. a.at ≤ b.at) x cs → x.at ≤ last_moment t cs
+before_last x t [] h a = h
+before_last x t (c ∷ cs) h a = before_last x c.at cs a.0 a.1
+
+-- none of some commands comes after the last one
+pub not_after_last : (cs : List Command) (t : ℕ) (x : Command) → Rising (λ a b. a.at ≤ b.at) cs → In x cs → x.at ≤ last_moment t cs
+not_after_last [] t x r i = absurd i
+not_after_last (c ∷ cs) t x r (inl e) = before_last x c.at cs (subst (λ (y : Command). x.at ≤ y.at) e (omega arith)) (subst (λ (y : Command). AllAfter (λ a b. a.at ≤ b.at) y cs) (sym e) r.0)
+not_after_last (c ∷ cs) t x r (inr i) = not_after_last cs c.at x r.1 i
+
+instance_push : {A : Type 0} (p : Plan A) (cs : List Command) (c : Command) → AreCommands p cs → has_instance p c.clear c.number ≡ true → (x : Command) → In x cs ⊎ (x ≡ c) → has_instance p x.clear x.number ≡ true
+instance_push p cs c are h x (inl i) = are.instances x i
+instance_push p cs c are h x (inr e) = subst (λ (y : Command). has_instance p y.clear y.number ≡ true) (sym e) h
+
+pub commands_push : {A : Type 0} (p : Plan A) (cs : List Command) (c : Command) → AreCommands p cs → All (λ d. d.at < END_OF_TIME) cs → last_moment 0 cs ≤ c.at → c.at < END_OF_TIME → has_instance p c.clear c.number ≡ true → AreCommands p (cs ++ c ∷ []) × All (λ d. d.at < END_OF_TIME) (cs ++ c ∷ [])
+commands_push p cs c are times late soon there = (
+  record {
+    rise = rising_push (λ a b. a.at ≤ b.at) cs c are.rise (λ x i. let last : x.at ≤ last_moment 0 cs = not_after_last cs 0 x are.rise i in omega (arith, last, late));
+    instances = λ x i. instance_push p cs c are there x (in_push x c cs i);
+  },
+  each_push (λ d. d.at < END_OF_TIME) cs c times soon,
+)
