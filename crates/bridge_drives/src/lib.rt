@@ -2,8 +2,8 @@
 //! A bridge for tests, to which frames and a command come one by one, each call with what it tells afterwards tested.
 ghost use Rattle.std.specs.Prelude.{◌≡◌, ℕ, true, Option};
 ghost use Rattle.bridge_filter.specs.Plans.{is_there};
+ghost use Rattle.bridge_config.specs.Commands.{has_instance};
 ghost use Rattle.bridge_parts.specs.Ports.{NotBefore};
-ghost use Rattle.bridge_run.specs.Events.{has_instance};
 ghost use Rattle.bridge_core.specs.Bridges.{next_start, plan_in};
 
 use bridge_base::{END_OF_TIME, MOST_ARRIVALS, MOST_CAPTURED};

@@ -1,8 +1,8 @@
 //! A run over readers and writers, one of each for each port.
 ghost use Rattle.std.specs.Prelude.{◌≡◌, ℕ, List, Some, length, slice_get, IfOk, IfErr};
+ghost use Rattle.bridge_config.specs.Commands.{AreCommands};
 ghost use Rattle.bridge_lanes.specs.Lanes.{AreTexts};
 ghost use Rattle.bridge_stream.specs.Simulated.{AreNumbers, Isolates, OthersChangeNothing, Runs};
-ghost use Rattle.bridge_stream.specs.Taking.{AreCommands};
 ghost use Rattle.bridge_folder.specs.Flushed.{LosesOutput, StopsFlushed};
 
 use crate::transfer::{finish_all, sinks_of, sources_of};

@@ -14,10 +14,11 @@ ghost use Rattle.bridge_relay.specs.Relaying.{called, classified, filter_number,
 ghost use Rattle.std.specs.Prelude.{Bool, true, false, IfSome, IsTrue, All, OnErr, max, slice_index, ◌≡◌, ℕ, ◌<◌, ◌≤◌, ◌+◌, ◌*◌, ◌^◌, List, [], ◌∷◌, Some, None, Option, length, nat_eq, OnOk, IfErr, IfOk};
 ghost use Rattle.bridge_config.specs.Model as config;
 ghost use Rattle.bridge_config.specs.Rules.{port_at, has_port};
+ghost use Rattle.bridge_config.specs.Commands.{has_instance};
 ghost use Rattle.bridge_capture.specs.Grammar.{Captured};
 ghost use Rattle.bridge_events.specs.Least.{IsLeast};
 ghost use Rattle.bridge_port.specs.Standing.{limit};
-ghost use Rattle.bridge_run.specs.Events.{Arrival, Event, Arrived, Cleared, arrival, has_instance};
+ghost use Rattle.bridge_run.specs.Events.{Arrival, Event, Arrived, Cleared, arrival};
 ghost use Rattle.bridge_run.specs.Runs.{IsOutcome};
 ghost use Rattle.bridge_parts.specs.Ports.{NotBefore, IsAfter};
 ghost use Rattle.bridge_relay.specs.Relays.{one_more, RelayState, Stands, IsSent, waiting, HasSpare, IsAwaited, IsSound, is_flow_stray};

@@ -137,7 +137,7 @@ fn at(alloc: Global, name: &str, place: Place) -> Result<String, AllocError> {
 }
 
 /// The words of a fault: its name, section, place in the section's array, and key.
-fn spelled(alloc: Global, fault: PlanFault) -> Result<String, AllocError> {
+pub fn spelled(alloc: Global, fault: PlanFault) -> Result<String, AllocError> {
     match fault {
         PlanFault::Syntax => format!(in alloc; "Syntax"),
         PlanFault::TooLong => format!(in alloc; "TooLong"),

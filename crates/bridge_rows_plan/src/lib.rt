@@ -1,8 +1,11 @@
 #![tactic(auto)]
-//! Texts of plans: what is accepted, and the first fault of what is not, as tests on `plan_of`.
+//! Texts of plans and of commands: what is accepted, and the first fault of what is not, as tests on `plan_of` and
+//! `commands_of`.
 
 #[cfg(test)]
 mod base;
+#[cfg(test)]
+mod commands;
 #[cfg(test)]
 mod limits;
 #[cfg(test)]

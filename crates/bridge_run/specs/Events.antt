@@ -5,9 +5,8 @@ use Rattle.bridge_frame.specs.declared.FrameFault.{FrameFault}
 use Rattle.bridge_frame.specs.Frames.{head}
 use Rattle.bridge_ident.specs.Identification.{handle_in}
 use Rattle.bridge_filter.specs.declared.Clear.{Clear}
-use Rattle.bridge_filter.specs.declared.Clear.TheVariants as clear
 use Rattle.bridge_filter.specs.declared.FilterPlan.{FilterPlan}
-use Rattle.bridge_filter.specs.Plans.{plans_of, is_there}
+use Rattle.bridge_filter.specs.Plans.{plans_of}
 use Rattle.bridge_filter.specs.Verdicts as verdicts
 use Rattle.bridge_filter.specs.Own.{is_number, is_named}
 use Rattle.bridge_forward.specs.Forward.{forward}
@@ -103,13 +102,6 @@ abbrev pub count : {A : Type 0} → Plan A → ℕ → List Event → ℕ
 count p n [] = 0
 count p n (Arrived a ∷ es) = (if is_number n (flow_of p a) then 1 else 0) + count p n es
 count p n (Cleared clear m ∷ es) = count p n es
-
--- whether the plan has what a command names: a filter to be unblocked, a gate or a meter of which a flag is cleared
-abbrev pub has_instance : {A : Type 0} → Plan A → Clear → ℕ → Bool
-has_instance p clear.Blocked n = is_there n p.filters
-has_instance p clear.Rx n = is_there n p.gates
-has_instance p clear.Octets n = is_there n p.gates
-has_instance p clear.Red n = is_there n p.meters
 
 -- the frames that came, newest first
 abbrev pub arrivals : List Event → List Arrival

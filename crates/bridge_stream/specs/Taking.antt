@@ -1,6 +1,6 @@
 -- Frames and commands that are taken one by one.
-use Rattle.std.specs.Prelude.{◌≡◌, ◌≢◌, ℕ, ◌+◌, ◌<◌, ◌≤◌, ◌⊎◌, nat_eq, Option, Some, None, IfSome, OnOk, List, [], ◌∷◌, ◌++◌, IsTrue, slice_get, slice_set, Result, Ok, Err, if◌then◌else◌}
-use Rattle.bridge_base.specs.Members.{In, Rising}
+use Rattle.std.specs.Prelude.{◌≡◌, ◌≢◌, ℕ, ◌+◌, ◌<◌, ◌≤◌, ◌⊎◌, nat_eq, Option, Some, None, IfSome, OnOk, List, [], ◌∷◌, ◌++◌, slice_get, slice_set, Result, Ok, Err, if◌then◌else◌}
+use Rattle.bridge_base.specs.Members.{Rising}
 use Rattle.bridge_base.specs.declared.TheConstants.{MOST_ARRIVALS}
 use Rattle.bridge_capture.specs.declared.fault.CaptureFault.{CaptureFault}
 use Rattle.bridge_capture.specs.declared.fault.CaptureFault.TheVariants as faults
@@ -14,7 +14,6 @@ use Rattle.bridge_config.specs.Model.{Plan}
 use Rattle.bridge_config.specs.Rules.{port_at}
 use Rattle.bridge_lanes.specs.declared.fault.RunFault.{RunFault}
 use Rattle.bridge_lanes.specs.declared.fault.RunFault.TheVariants as run
-use Rattle.bridge_run.specs.Events.{has_instance}
 use Rattle.bridge_run.specs.Merge.{Input, frame, command, NotBefore, IsMerged, events, newest, inputs_of}
 use Rattle.bridge_run.specs.Outputs.{Reaches, HasRun}
 use Rattle.bridge_relay.specs.Relays.{RelayState, Stands}
@@ -172,11 +171,6 @@ AreLater {A} until lanes = (i : ℕ) (lane : Lane A) (p : Packet A) → slice_ge
 abbrev pub Obeys : {R W G A : Type 0} → (R → Option (List ℕ)) → (W → Option (List ℕ)) → Plan A → (ℕ → List ℕ) → List Input → Command → Option Input → List W → RelayState G A → List (Lane A) → List R → List W → Result (Unit {0}) RunFault → Type 0
 Obeys remaining contents p texts commanded c next olds b lanes sources sinks (Ok u) = IsUnderWay remaining contents p texts (asked c ∷ commanded) next olds b lanes sources sinks
 Obeys remaining contents p texts commanded c next olds b lanes sources sinks (Err fault) = StopsSo p texts commanded (Some (asked c)) contents (numbers lanes) olds sinks fault
-
--- commands by rising moment, each of something that the plan has
-pub record AreCommands {A : Type 0} (p : Plan A) (commands : List Command) : Type 0 where
-  pub rise : Rising (λ a b. a.at ≤ b.at) commands
-  pub instances : (c : Command) → In c commands → IsTrue (has_instance p c.clear c.number)
 
 -- the first of some commands, as an input
 abbrev pub first_of_commands : List Command → Option Input

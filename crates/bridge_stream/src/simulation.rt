@@ -2,10 +2,10 @@
 ghost use Rattle.std.specs.Prelude.{◌≡◌, ◌≢◌, ℕ, ◌<◌, List, [], Some, None, Option, length, nat_eq, map, true, Err, IfOk, IfErr};
 ghost use Rattle.std.specs.Map.{lookup};
 ghost use Rattle.bridge_base.specs.Members.{Rising};
+ghost use Rattle.bridge_config.specs.Commands.{AreCommands};
 ghost use Rattle.bridge_lanes.specs.Devices.{HasFailed, NeverFail};
 ghost use Rattle.bridge_lanes.specs.Lanes.{AreTexts};
 ghost use Rattle.bridge_stream.specs.Simulated.{AreListsOf, AreNumbers, Isolates, OthersChangeNothing, Runs, Stops, WritesFew};
-ghost use Rattle.bridge_stream.specs.Taking.{AreCommands};
 
 use crate::line::{Line, begin_all};
 use crate::taking::run;

@@ -3,8 +3,7 @@ use Rattle.std.proofs.Common.{◌≡◌, List, [], ◌∷◌, true, inl, inr, sy
 use Rattle.bridge_base.specs.Members.{In}
 use Rattle.bridge_config.specs.declared.command.Command.{Command}
 use Rattle.bridge_config.specs.Model.{Plan}
-use Rattle.bridge_run.specs.Events.{has_instance}
-use Rattle.bridge_stream.specs.Taking.{AreCommands}
+use Rattle.bridge_config.specs.Commands.{has_instance, AreCommands}
 
 pub none : {A : Type 0} (p : Plan A) → AreCommands p []
 none p = record { rise = tt; instances = λ c e. absurd e }
