@@ -1,8 +1,9 @@
 -- Devices, place by place.
-use Rattle.std.proofs.Common.{◌≡◌, ℕ, zero, suc, ◌<◌, ◌≤◌, map, take, Bool, false, Option, Some, List, [], ◌∷◌, ◌++◌, length, slice_get, refl, sym, ap, subst, ◌∙◌, arith}
+use Rattle.std.proofs.Common.{◌≡◌, ℕ, zero, suc, ◌<◌, ◌≤◌, map, take, Bool, false, Option, Some, List, [], ◌∷◌, ◌++◌, length, slice_get, slice_index, inl, inr, refl, sym, ap, subst, ◌∙◌, arith}
 use Rattle.std.specs.Io.KnownBytes.{Keeps}
 use Rattle.std.proofs.KnownBytes.{Keeps-refl, Keeps-trans}
 use Rattle.std.proofs.lemmas.List.{length-map, length-take, map-id}
+use Rattle.bridge_base.specs.Members.{In}
 use Rattle.bridge_folder.specs.Flushed.{AllKept, NoneFailed}
 
 some_is : {X : Type 0} (a b : X) → Some a ≡ Some b → a ≡ b
@@ -60,3 +61,9 @@ front_of xs yielded n so_far count = sym (map-id yielded) ∙ so_far ∙ ap (λ 
 
 pub front_few : {X : Type 0} (xs yielded : List X) (n : ℕ) → map (λ y. y) yielded ≡ take (length yielded) xs → n ≡ length yielded → n ≤ length xs
 front_few xs yielded n so_far count = omega (arith, count, ap length so_far, length-map yielded (λ y. y), length-take (length yielded) xs)
+
+-- a list has what stands at a place of it
+pub index_in : (xs : List ℕ) (i : ℕ) → i < length xs → In (slice_index xs i) xs
+index_in [] i l = absurd (omega (arith, l))
+index_in (x ∷ xs) zero l = inl refl
+index_in (x ∷ xs) (suc i) l = inr (index_in xs i (omega (arith, l)))

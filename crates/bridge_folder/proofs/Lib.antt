@@ -1,3 +1,4 @@
 pub mod Kept
 pub mod Devices
 pub mod Ran
+pub mod Ended

@@ -1,12 +1,65 @@
--- The files of a run that fail.
-use Rattle.std.specs.Prelude.{◌≡◌, ℕ, List, string_bytes}
+-- The files of a run that fail, and what a run over them prints.
+use Rattle.std.specs.Prelude.{◌≡◌, ◌⊎◌, ℕ, List, Option, Ok, string_bytes}
+use Rattle.bridge_base.specs.Members.{In}
+use Rattle.bridge_config.specs.Document.{plan_of_text}
+use Rattle.bridge_config.specs.Model.{Plan}
 use Rattle.bridge_lanes.specs.declared.fault.RunFault.TheVariants as run
 use Rattle.bridge_program.specs.declared.fault.Fault.{Fault}
 use Rattle.bridge_program.specs.declared.fault.Fault.TheVariants as fault
-use Rattle.bridge_folder.specs.Paths.{capture_path}
+use Rattle.bridge_program.specs.Commanding.{EndsCommanded}
+use Rattle.bridge_program.specs.Jobs.{Accepts, EndsPlan}
+use Rattle.bridge_report.specs.Summary.{summary_of}
+use Rattle.bridge_run.specs.declared.outcome.Outcome.{Outcome}
+use Rattle.bridge_stream.specs.Simulated.{AreNumbers}
+use Rattle.bridge_folder.specs.Paths.{capture_path, report_path}
 
--- the capture of some port in a folder failed, or memory was refused
-abbrev pub IsOfCaptures : List ℕ → Fault → Type 0
-IsOfCaptures folder (fault.File path) = (port : ℕ) × (string_bytes path ≡ capture_path folder port)
-IsOfCaptures folder (fault.Run f) = f ≡ run.NoMemory
-IsOfCaptures folder f = ⊥
+-- the path of the capture of one of these ports in a folder
+abbrev pub IsCapture : List ℕ → List ℕ → List ℕ → Type 0
+IsCapture folder ports path = (port : ℕ) × In port ports × (path ≡ capture_path folder port)
+
+-- such a capture failed, or memory was refused
+abbrev pub IsOfCaptures : List ℕ → List ℕ → Fault → Type 0
+IsOfCaptures folder ports (fault.File path) = IsCapture folder ports (string_bytes path)
+IsOfCaptures folder ports (fault.Run f) = f ≡ run.NoMemory
+IsOfCaptures folder ports f = ⊥
+
+-- the report of a folder failed, or memory was refused
+abbrev pub IsOfReport : List ℕ → Fault → Type 0
+IsOfReport folder (fault.File path) = string_bytes path ≡ report_path folder
+IsOfReport folder (fault.Run f) = f ≡ run.NoMemory
+IsOfReport folder f = ⊥
+
+-- the plan of some text
+abbrev pub IsPlanOfText : {A : Type 0} → Plan A → Type 0
+IsPlanOfText plan = (text : List ℕ) × (plan_of_text text ≡ Ok plan)
+
+-- the plan of some text, which isolates each of its protected filters
+abbrev pub IsAcceptedPlan : {A : Type 0} → Plan A → Type 0
+IsAcceptedPlan plan = (text : List ℕ) × Accepts text plan
+
+-- which fault ends the reading of a plan and of the commands to it, by the paths of their files: that of the plan for some text, or
+-- that of the plan of a text with its commands
+abbrev pub EndsReading : (A : Type 0) → List ℕ → Option (List ℕ) → Fault → Type 0
+EndsReading A plan commands f =
+    ((text : List ℕ) × EndsPlan A plan text f) ⊎ ((p : Plan A) × IsPlanOfText p × ((text : Option (List ℕ)) × EndsCommanded p commands text f))
+
+-- the path of a capture of one of the ports of a plan, in either of two folders
+abbrev pub IsCaptureOfRun : {A : Type 0} → Plan A → List ℕ → List ℕ → List ℕ → Type 0
+IsCaptureOfRun p input output path = (ports : List ℕ) × AreNumbers p ports × (IsCapture input ports path ⊎ IsCapture output ports path)
+
+-- which fault ends a run under a plan from one folder into another: that of a file, of the folder that is written (where it is the
+-- one that is read), of the report, or of the run itself
+abbrev pub EndsSending : {A : Type 0} → Plan A → List ℕ → List ℕ → Fault → Type 0
+EndsSending p input output (fault.File path) =
+    IsCaptureOfRun p input output (string_bytes path) ⊎ ((string_bytes path ≡ output) ⊎ (string_bytes path ≡ report_path output))
+EndsSending p input output (fault.Run f) = Unit {0}
+EndsSending p input output f = ⊥
+
+-- which fault ends a run over files, by the paths of its plan, of its commands and of its folders: one of reading, or one under a
+-- plan that is accepted
+abbrev pub EndsRun : (A : Type 0) → List ℕ → Option (List ℕ) → List ℕ → List ℕ → Fault → Type 0
+EndsRun A plan commands input output f = EndsReading A plan commands f ⊎ ((p : Plan A) × IsAcceptedPlan p × EndsSending p input output f)
+
+-- the line sums up what some run tells
+abbrev pub PrintsRun : (A : Type 0) → List ℕ → Type 0
+PrintsRun A line = (outcome : Outcome A) × (line ≡ summary_of outcome.ports.items)

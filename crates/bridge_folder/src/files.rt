@@ -16,7 +16,7 @@ pub fn open_all<H: AllocGlobal + Files>(
     ports: &[u8],
 ) -> Result<Vec<H::File>, Fault>
     ensures all { IfOk result (λ files. length files.items ≡ length ports.now) }
-    ensures only { IfErr result (IsOfCaptures folder.now) }
+    ensures only { IfErr result (IsOfCaptures folder.now ports.now) }
 {
     let mut files = Vec::new(rt.alloc());
     for port in ports {
@@ -40,7 +40,7 @@ pub fn create_all<H: AllocGlobal + Files>(
     ports: &[u8],
 ) -> Result<Vec<H::File>, Fault>
     ensures all { IfOk result (λ files. length files.items ≡ length ports.now) }
-    ensures only { IfErr result (IsOfCaptures folder.now) }
+    ensures only { IfErr result (IsOfCaptures folder.now ports.now) }
 {
     let mut files = Vec::new(rt.alloc());
     for port in ports {

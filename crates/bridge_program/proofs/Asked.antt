@@ -26,7 +26,7 @@ values_so values found other own rows is =
 pub asks_for_none : (words : List Text) (name : Text) (values : List Row) (found : Option (Text × List Row)) → ¬ (words ≡ []) → found ≡ subcommand_of commands words → option_map (λ p. p.0) found ≡ Some name → option_map (λ p. p.1) found ≡ Some values
     → (name ≡ codes "wire" → (speed : Speed) (room : ℕ) (input output : Text) → ¬ AsksForWire values speed room input output)
     → (name ≡ codes "check" → (plan : Text) → ¬ AsksForCheck values plan)
-    → (name ≡ codes "run" → (plan input output : Text) → ¬ AsksForRun values plan input output)
+    → (name ≡ codes "run" → (plan input output : Text) (commands : Option Text) → ¬ AsksForRun values plan input output commands)
     → (asked : Job) → ¬ AsksFor words asked
 asks_for_none words name values found some same named rows wire check run job.Text asks = some asks
 asks_for_none words name values found some same named rows wire check run (job.Wire speed room input output) (own, names, asks) =
@@ -35,6 +35,6 @@ asks_for_none words name values found some same named rows wire check run (job.W
 asks_for_none words name values found some same named rows wire check run (job.Check plan) (own, names, asks) =
     check (named_so name found _ own named (same ∙ names.named)) (string_bytes plan)
     (subst (λ v. AsksForCheck v (string_bytes plan)) (values_so values found _ own rows (same ∙ names.named)) asks)
-asks_for_none words name values found some same named rows wire check run (job.Run plan input output) (own, names, asks) =
-    run (named_so name found _ own named (same ∙ names.named)) (string_bytes plan) (string_bytes input) (string_bytes output)
-    (subst (λ v. AsksForRun v (string_bytes plan) (string_bytes input) (string_bytes output)) (values_so values found _ own rows (same ∙ names.named)) asks)
+asks_for_none words name values found some same named rows wire check run (job.Run plan input output file) (own, names, asks) =
+    run (named_so name found _ own named (same ∙ names.named)) (string_bytes plan) (string_bytes input) (string_bytes output) (option_map string_bytes file)
+    (subst (λ v. AsksForRun v (string_bytes plan) (string_bytes input) (string_bytes output) (option_map string_bytes file)) (values_so values found _ own rows (same ∙ names.named)) asks)

@@ -1,13 +1,15 @@
 -- What is looked at of a text decides as the whole of it.
-use Rattle.std.proofs.Common.{◌≡◌, ℕ, Bool, true, false, ◌≤◌, ◌<◌, ◌⊎◌, nat_lt, ◌+◌, inl, inr, refl, sym, ap, subst, ◌∙◌, arith, List, length, take, take_all, Result, Ok, Err, IfOk, IfErr}
+use Rattle.std.proofs.Common.{◌≡◌, ℕ, Bool, true, false, ◌≤◌, ◌<◌, ◌⊎◌, nat_lt, ◌+◌, inl, inr, refl, sym, ap, subst, ◌∙◌, arith, List, length, take, take_all, Result, Ok, Err, None, IfOk, IfErr}
 use Rattle.std.proofs.lemmas.Bool.{lt-ltb}
 use Rattle.std.proofs.lemmas.List.{length-take}
 use Rattle.bridge_text.specs.Hex.{octets_spelled}
 use Rattle.bridge_text.specs.declared.fault.HexFault.TheVariants as hex
+use Rattle.bridge_keys.specs.declared.fault.PlanFault.{PlanFault}
 use Rattle.bridge_keys.specs.declared.fault.PlanFault.TheVariants as plan
 use Rattle.bridge_keys.specs.Readers.{Fails}
 use Rattle.bridge_config.specs.Model.{Plan}
 use Rattle.bridge_config.specs.Document.{document_of, plan_of_text}
+use Rattle.bridge_check.specs.Faults.{first_fault}
 use Rattle.bridge_lanes.specs.declared.fault.RunFault.{RunFault}
 use Rattle.bridge_lanes.specs.declared.fault.RunFault.TheVariants as run
 use Rattle.bridge_program.specs.declared.fault.TextFault.{TextFault}
@@ -16,7 +18,7 @@ use Rattle.bridge_program.specs.declared.fault.Fault.{Fault}
 use Rattle.bridge_program.specs.declared.fault.Fault.TheVariants as fault
 use Rattle.bridge_program.specs.Reading.{IsOfFile, IsOfStandardFile}
 use Rattle.bridge_program.specs.Text.{StopsText}
-use Rattle.bridge_program.specs.Jobs.{PrintsText, RefusesText, Accepts, RefusesPlan, EndsCheck, EndsText}
+use Rattle.bridge_program.specs.Jobs.{PrintsText, RefusesText, Accepts, RefusesCheck, RefusesPlan, EndsCheck, EndsPlan, EndsText}
 
 decided : (b : Bool) → (b ≡ true) ⊎ (b ≡ false)
 decided true = inl refl
@@ -26,7 +28,7 @@ either : (n m : ℕ) → (n < m) ⊎ (m ≤ n)
 either n m = elim (decided (nat_lt n m)) [ inl e ↦ inl (grind arith) | inr e ↦ inr (grind arith) ]
 
 -- what is the same of a long text and of a longer one, is the same of a text and of its front
-front_as_whole : {X : Type 0} (f : List ℕ → X) (long : X) (most : ℕ) → ((input : List ℕ) → most < length input → f input ≡ long) → (input : List ℕ) → f (take (most + 1) input) ≡ f input
+pub front_as_whole : {X : Type 0} (f : List ℕ → X) (long : X) (most : ℕ) → ((input : List ℕ) → most < length input → f input ≡ long) → (input : List ℕ) → f (take (most + 1) input) ≡ f input
 front_as_whole f long most same input = elim (either most (length input)) [
   | inl more ↦ (let held : most < length (take (most + 1) input) = omega (arith, length-take (most + 1) input) in same (take (most + 1) input) held ∙ sym (same input more))
   | inr few ↦ ap f (take_all (most + 1) input (omega arith))
@@ -74,36 +76,40 @@ text_refused {X} looked input f r e is not_hex too_long ran spelled =
 
 -- ---- a plan
 
-pub plan_accepted : {A : Type 0} (looked input : List ℕ) (p : Plan A) → looked ≡ take 1048577 input → Accepts looked p → Accepts input p
-plan_accepted {A} looked input p e (reads, sound) = (sym (plan_front {A = A} input) ∙ ap (plan_of_text {A = A}) (sym e) ∙ reads, sound)
+pub plan_told : {A : Type 0} (looked input : List ℕ) (p : Plan A) → looked ≡ take 1048577 input → plan_of_text looked ≡ Ok p → plan_of_text input ≡ Ok p
+plan_told {A} looked input p e reads = sym (plan_front {A = A} input) ∙ ap (plan_of_text {A = A}) (sym e) ∙ reads
 
-refused_plan : (A : Type 0) (input : List ℕ) (f : Fault) → RefusesPlan A (take 1048577 input) f → RefusesPlan A input f
-refused_plan A input (fault.Plan f) h = subst (Fails f) (plan_front {A = A} input) h
-refused_plan A input (fault.Check f) (p, reads, why) = (p, sym (plan_front {A = A} input) ∙ reads, why)
-refused_plan A input f h = absurd h
+pub plan_fails : (A : Type 0) (looked input : List ℕ) (f : PlanFault) → looked ≡ take 1048577 input → Fails f (plan_of_text {A = A} looked) → Fails f (plan_of_text {A = A} input)
+plan_fails A looked input f e h = subst (Fails f) (plan_front {A = A} input) (subst (λ (z : List ℕ). Fails f (plan_of_text {A = A} z)) e h)
+
+-- a fault of the reading of a plan ends the job over it
+pub plan_ends : (A : Type 0) (path input : List ℕ) (f : Fault) → EndsPlan A path input f → EndsCheck A path input f
+plan_ends A path input (fault.Plan f) h = h
+plan_ends A path input (fault.Check f) h = absurd h
+plan_ends A path input f h = h
+
+pub file_ends : (A : Type 0) (path input : List ℕ) (f : Fault) → IsOfFile path f → EndsPlan A path input f
+file_ends A path input (fault.Plan f) h = absurd h
+file_ends A path input f h = h
+
+-- what is said of a plan that was read is said of its text
+pub all_accepted : {A : Type 0} (input : List ℕ) (p : Plan A) (r : Result (Plan A) Fault) → plan_of_text input ≡ Ok p → IfOk r (λ a. (a ≡ p) × (first_fault p ≡ None)) → IfOk r (λ a. Accepts input a)
+all_accepted input p (Ok a) reads (same, sound) = (reads ∙ ap Ok (sym same), ap first_fault same ∙ sound)
+all_accepted input p (Err f) reads h = tt
+
+pub all_refused : {A : Type 0} (input : List ℕ) (p : Plan A) (r : Result (Plan A) Fault) → plan_of_text input ≡ Ok p → IfErr r (RefusesCheck p) → IfErr r (RefusesPlan A input)
+all_refused input p (Ok a) reads h = tt
+all_refused input p (Err (fault.Check f)) reads h = (p, reads, h)
+all_refused input p (Err f) reads h = absurd h
 
 ends_refused : (A : Type 0) (path input : List ℕ) (f : Fault) → RefusesPlan A input f → EndsCheck A path input f
 ends_refused A path input (fault.Plan f) h = h
 ends_refused A path input (fault.Check f) h = h
 ends_refused A path input f h = absurd h
 
-pub plan_refused : (A : Type 0) (path looked input : List ℕ) (f : Fault) → looked ≡ take 1048577 input → RefusesPlan A looked f → EndsCheck A path input f
-plan_refused A path looked input f e h = ends_refused A path input f (refused_plan A input f (subst (λ (z : List ℕ). RefusesPlan A z f) e h))
-
--- the same of what is answered for a text
-pub all_accepted : {A : Type 0} (looked input : List ℕ) (r : Result (Plan A) Fault) → looked ≡ take 1048577 input → IfOk r (λ p. Accepts looked p) → IfOk r (λ p. Accepts input p)
-all_accepted looked input (Ok p) e h = plan_accepted looked input p e h
-all_accepted looked input (Err f) e h = tt
-
-pub all_refused : (A : Type 0) (path looked input : List ℕ) (r : Result (Plan A) Fault) → looked ≡ take 1048577 input → IfErr r (RefusesPlan A looked) → IfErr r (EndsCheck A path input)
-all_refused A path looked input (Ok p) e h = tt
-all_refused A path looked input (Err f) e h = plan_refused A path looked input f e h
-
--- a file's fault ends the job over a plan
-pub file_ends : (A : Type 0) (path input : List ℕ) (f : Fault) → IsOfFile path f → EndsCheck A path input f
-file_ends A path input (fault.Plan f) h = absurd h
-file_ends A path input (fault.Check f) h = absurd h
-file_ends A path input f h = h
+pub all_ended : {A : Type 0} (path input : List ℕ) (p : Plan A) (r : Result (Plan A) Fault) → plan_of_text input ≡ Ok p → IfErr r (RefusesCheck p) → IfErr r (EndsCheck A path input)
+all_ended path input p (Ok a) reads h = tt
+all_ended {A} path input p (Err f) reads h = ends_refused A path input f (all_refused input p (Err f) reads h)
 
 -- a fault of standard input ends the job over a text
 pub input_ends : (input : List ℕ) (f : Fault) → IsOfStandardFile f → EndsText input f

@@ -1,5 +1,5 @@
 -- The command line: its words, as `clap` reads them, and the job that they ask for.
-use Rattle.std.specs.Prelude.{◌≡◌, ◌≤◌, ℕ, List, [], Some, true, codes, string_bytes}
+use Rattle.std.specs.Prelude.{◌≡◌, ◌≤◌, ℕ, List, [], Option, Some, true, codes, option_map, string_bytes}
 use Rattle.std.specs.Str.Parse.{digits_value}
 use Rattle.bridge_frame.specs.declared.Speed.{Speed}
 use Rattle.bridge_port.specs.declared.queues.TheConstants.{LARGEST_ROOM}
@@ -18,6 +18,10 @@ use Rattle.bridge_program.specs.Numbers.{IsRoom, IsSpeed}
 abbrev pub word_named : Text → Rule
 word_named name = record (new_rule name) { required = true }
 
+-- an option of this name with a value, which need not be there
+abbrev pub option_named : Text → Rule
+option_named name = record (new_rule name) { long = Some name }
+
 -- `wire MBPS ROOM IN OUT`
 abbrev pub wire_command : App
 wire_command = with_rule (with_rule (with_rule (with_rule (new_app (codes "wire"))
@@ -27,10 +31,10 @@ wire_command = with_rule (with_rule (with_rule (with_rule (new_app (codes "wire"
 abbrev pub check_command : App
 check_command = with_rule (new_app (codes "check")) (word_named (codes "plan"))
 
--- `run PLAN IN OUT`
+-- `run PLAN IN OUT`, with `--commands FILE` if commands are wanted
 abbrev pub run_command : App
-run_command = with_rule (with_rule (with_rule (new_app (codes "run"))
-    (word_named (codes "plan"))) (word_named (codes "input"))) (word_named (codes "output"))
+run_command = with_rule (with_rule (with_rule (with_rule (new_app (codes "run"))
+    (word_named (codes "plan"))) (word_named (codes "input"))) (word_named (codes "output"))) (option_named (codes "commands"))
 
 -- the commands, by words that don't begin with the program's name
 abbrev pub commands : App
@@ -63,24 +67,25 @@ pub record AsksForWire (values : List Row) (speed : Speed) (room : ℕ) (input o
 abbrev pub AsksForCheck : List Row → Text → Type 0
 AsksForCheck values plan = first_of (codes "plan") values ≡ Some plan
 
--- the values of `run` are the path of a plan and those of two folders
-pub record AsksForRun (values : List Row) (plan input output : Text) : Type 0 where
+-- the values of `run` are the path of a plan, those of two folders, and that of commands where they are wanted
+pub record AsksForRun (values : List Row) (plan input output : Text) (commands : Option Text) : Type 0 where
   pub plan_is : first_of (codes "plan") values ≡ Some plan
   pub input_is : first_of (codes "input") values ≡ Some input
   pub output_is : first_of (codes "output") values ≡ Some output
+  pub commands_are : first_of (codes "commands") values ≡ commands
 
 -- a job of `wire`, by the values of the command
 abbrev pub IsWireJob : List Row → Job → Type 0
 IsWireJob values job.Text = ⊥
 IsWireJob values (job.Check plan) = ⊥
-IsWireJob values (job.Run plan input output) = ⊥
+IsWireJob values (job.Run plan input output file) = ⊥
 IsWireJob values (job.Wire speed room input output) = AsksForWire values speed room (string_bytes input) (string_bytes output)
 
 -- a job of `check`, by the values of the command
 abbrev pub IsCheckJob : List Row → Job → Type 0
 IsCheckJob values job.Text = ⊥
 IsCheckJob values (job.Wire speed room input output) = ⊥
-IsCheckJob values (job.Run plan input output) = ⊥
+IsCheckJob values (job.Run plan input output file) = ⊥
 IsCheckJob values (job.Check plan) = AsksForCheck values (string_bytes plan)
 
 -- a job of `run`, by the values of the command
@@ -88,7 +93,7 @@ abbrev pub IsRunJob : List Row → Job → Type 0
 IsRunJob values job.Text = ⊥
 IsRunJob values (job.Wire speed room input output) = ⊥
 IsRunJob values (job.Check plan) = ⊥
-IsRunJob values (job.Run plan input output) = AsksForRun values (string_bytes plan) (string_bytes input) (string_bytes output)
+IsRunJob values (job.Run plan input output file) = AsksForRun values (string_bytes plan) (string_bytes input) (string_bytes output) (option_map string_bytes file)
 
 -- the words ask for this job
 abbrev pub AsksFor : List Text → Job → Type 0
@@ -97,12 +102,12 @@ AsksFor words (job.Wire speed room input output) =
     (values : List Row) × Names words (codes "wire") values × AsksForWire values speed room (string_bytes input) (string_bytes output)
 AsksFor words (job.Check plan) =
     (values : List Row) × Names words (codes "check") values × AsksForCheck values (string_bytes plan)
-AsksFor words (job.Run plan input output) =
-    (values : List Row) × Names words (codes "run") values × AsksForRun values (string_bytes plan) (string_bytes input) (string_bytes output)
+AsksFor words (job.Run plan input output file) =
+    (values : List Row) × Names words (codes "run") values × AsksForRun values (string_bytes plan) (string_bytes input) (string_bytes output) (option_map string_bytes file)
 
 -- the room of a job's queue, if it has one, is 1 to 4096
 abbrev pub HasRoom : Job → Type 0
 HasRoom job.Text = Unit {0}
 HasRoom (job.Check plan) = Unit {0}
-HasRoom (job.Run plan input output) = Unit {0}
+HasRoom (job.Run plan input output file) = Unit {0}
 HasRoom (job.Wire speed room input output) = (1 ≤ room) × (room ≤ LARGEST_ROOM)

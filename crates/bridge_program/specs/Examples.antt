@@ -1,7 +1,7 @@
 -- Words of the command line, computed.
-use Rattle.std.specs.Prelude.{◌≡◌, [], ◌∷◌, List, Some, codes, option_map, refl}
+use Rattle.std.specs.Prelude.{◌≡◌, [], ◌∷◌, List, None, Some, codes, option_map, refl}
 use Rattle.clap.specs.Words.{Text, fault_of, first_of, subcommand_of}
-use Rattle.clap.specs.declared.error.kind.ErrorKind.TheVariants.{DisplayHelp, MissingRequiredArgument, UnknownArgument}
+use Rattle.clap.specs.declared.error.kind.ErrorKind.TheVariants.{ArgumentConflict, DisplayHelp, MissingRequiredArgument, UnknownArgument}
 use Rattle.clap.proofs.OnLiterals.{clap_on_literals}
 use Rattle.bridge_program.specs.CommandLine.{commands}
 
@@ -81,6 +81,34 @@ run_input = refl
 pub run_output : option_map (λ p. first_of (codes "output") p.1) (subcommand_of commands run_words) ≡ Some (Some (codes "out"))
 unfolding clap_on_literals
 run_output = refl
+
+-- without the option it has no value
+pub run_no_commands : option_map (λ p. first_of (codes "commands") p.1) (subcommand_of commands run_words) ≡ Some None
+unfolding clap_on_literals
+run_no_commands = refl
+
+-- `run plan.toml --commands clear.toml in out`
+abbrev commanded_words : List Text
+commanded_words = codes "run" ∷ codes "plan.toml" ∷ codes "--commands" ∷ codes "clear.toml" ∷ codes "in" ∷ codes "out" ∷ []
+
+-- nothing is wrong with these words
+pub commanded_faultless : fault_of commands commanded_words ≡ []
+unfolding clap_on_literals
+commanded_faultless = refl
+
+-- the option has its value, and the words around it theirs
+pub commanded_commands : option_map (λ p. first_of (codes "commands") p.1) (subcommand_of commands commanded_words) ≡ Some (Some (codes "clear.toml"))
+unfolding clap_on_literals
+commanded_commands = refl
+
+pub commanded_output : option_map (λ p. first_of (codes "output") p.1) (subcommand_of commands commanded_words) ≡ Some (Some (codes "out"))
+unfolding clap_on_literals
+commanded_output = refl
+
+-- the option twice
+pub commands_twice : fault_of commands (codes "run" ∷ codes "p" ∷ codes "i" ∷ codes "o" ∷ codes "--commands" ∷ codes "a" ∷ codes "--commands" ∷ codes "b" ∷ []) ≡ ArgumentConflict ∷ []
+unfolding clap_on_literals
+commands_twice = refl
 
 -- a missing word, a word too many, a request for help or for a version
 pub one_missing : fault_of commands (codes "wire" ∷ codes "1000" ∷ codes "4" ∷ codes "a.pcap" ∷ []) ≡ MissingRequiredArgument ∷ []

@@ -60,11 +60,21 @@ IsOfRun f = ⊥
 abbrev pub Accepts : {A : Type 0} → List ℕ → Plan A → Type 0
 Accepts input plan = (plan_of_text input ≡ Ok plan) × (first_fault plan ≡ None)
 
+-- why a plan is refused that was read
+abbrev pub RefusesCheck : {A : Type 0} → Plan A → Fault → Type 0
+RefusesCheck plan (fault.Check f) = (f ≡ check.NoMemory) ⊎ (first_fault plan ≡ Some f)
+RefusesCheck plan f = ⊥
+
 -- why a plan's text is refused
 abbrev pub RefusesPlan : (A : Type 0) → List ℕ → Fault → Type 0
 RefusesPlan A input (fault.Plan f) = Fails f (plan_of_text {A = A} input)
 RefusesPlan A input (fault.Check f) = (plan : Plan A) × (plan_of_text input ≡ Ok plan) × ((f ≡ check.NoMemory) ⊎ (first_fault plan ≡ Some f))
 RefusesPlan A input f = ⊥
+
+-- which fault ends the reading of a plan of this path
+abbrev pub EndsPlan : (A : Type 0) → List ℕ → List ℕ → Fault → Type 0
+EndsPlan A path input (fault.Plan f) = Fails f (plan_of_text {A = A} input)
+EndsPlan A path input f = IsOfFile path f
 
 -- the line of the plan of this text, which is accepted
 abbrev pub PrintsAccepted : (A : Type 0) → List ℕ → List ℕ → Type 0

@@ -3,9 +3,11 @@ pub mod Status
 pub mod Lines
 pub mod PlanLines
 pub mod CheckLines
+pub mod RefusedCommands
 pub mod Accepting
 pub mod Numbers
 pub mod CommandLine
+pub mod Commanding
 pub mod Counts
 pub mod Examples
 pub mod Numbering

@@ -10,6 +10,7 @@ use Rattle.bridge_program.specs.declared.fault.Fault.{Fault}
 use Rattle.bridge_program.specs.declared.fault.Fault.TheVariants as fault
 use Rattle.bridge_program.specs.PlanLines.{line_of_plan}
 use Rattle.bridge_program.specs.CheckLines.{line_of_check}
+use Rattle.bridge_program.specs.RefusedCommands.{line_of_commands}
 
 -- the capture of a port is refused, by the name of its fault
 abbrev pub refused : ℕ → List ℕ → List ℕ
@@ -61,5 +62,6 @@ line_of (fault.Text f) = line_of_text f
 line_of (fault.Run f) = line_of_run f
 line_of (fault.Plan f) = line_of_plan f
 line_of (fault.Check f) = line_of_check f
+line_of (fault.Commands f) = line_of_commands f
 line_of fault.Words = codes "command line refused"
 line_of (fault.File path) = codes "file " ++ string_bytes path

@@ -37,7 +37,7 @@ abbrev pub status_of_list : ListFault → ℕ
 status_of_list list.NoMemory = 3
 status_of_list f = 1
 
--- a plan that is refused, unless memory failed
+-- a plan or commands that are refused, unless memory failed
 abbrev pub status_of_plan : PlanFault → ℕ
 status_of_plan (plan.BadList section index f) = status_of_list f
 status_of_plan plan.NoMemory = 3
@@ -48,11 +48,12 @@ abbrev pub status_of_check : CheckFault → ℕ
 status_of_check check.NoMemory = 3
 status_of_check f = 1
 
--- the status of a fault: 1 for a plan, 2 for a text or a capture, 3 for a file, a device or memory, 4 for the command line
+-- the status of a fault: 1 for a plan or commands, 2 for a text or a capture, 3 for a file, a device or memory, 4 for the command line
 abbrev pub status_of : Fault → ℕ
 status_of (fault.Text f) = status_of_text f
 status_of (fault.Run f) = status_of_run f
 status_of (fault.Plan f) = status_of_plan f
 status_of (fault.Check f) = status_of_check f
+status_of (fault.Commands f) = status_of_plan f
 status_of fault.Words = 4
 status_of (fault.File path) = 3

@@ -1,11 +1,12 @@
 //! Plans that are accepted, and their line.
-ghost use Rattle.std.specs.Prelude.{◌≡◌, ◌+◌, IfOk, IfErr, drop, length, string_bytes};
+ghost use Rattle.std.specs.Prelude.{◌≡◌, ◌+◌, IfOk, IfErr, None, drop, length, string_bytes};
 ghost use Rattle.bridge_program.specs.Accepting.{accepted_line, protected_in};
-ghost use Rattle.bridge_program.specs.Jobs.{Accepts, RefusesPlan};
+ghost use Rattle.bridge_check.specs.Faults.{first_fault};
+ghost use Rattle.bridge_program.specs.Jobs.{Accepts, RefusesCheck, RefusesPlan};
 
 use crate::fault::{Fault, NoMemory};
 use bridge_check::{Accepted, check};
-use bridge_config::plan_of;
+use bridge_config::{Plan, plan_of};
 use bridge_filter::FilterPlan;
 use std::alloc::{Allocator, Global};
 
@@ -24,6 +25,14 @@ pub fn accepted_of<A: Allocator + Copy>(
         Ok(plan) => plan,
         Err(fault) => return Err(Fault::Plan(fault)),
     };
+    checked(alloc, plan)
+}
+
+/// A plan, where it isolates each of its protected filters, else `Check` with its first fault, also for want of memory.
+pub fn checked<A: Allocator + Copy>(alloc: A, plan: Plan<A>) -> Result<Accepted<A>, Fault>
+    ensures ok { IfOk result (λ accepted. (accepted ≡ plan) × (first_fault plan ≡ None)) }
+    ensures err { IfErr result (RefusesCheck plan) }
+{
     match check(alloc, plan) {
         Ok(accepted) => Ok(accepted),
         Err(refused) => Err(Fault::Check(refused.fault)),

@@ -2,7 +2,7 @@
 ghost use Rattle.std.specs.Prelude.{◌≡◌, ◌≢◌, [], IfOk, IfErr, false, map, string_bytes, codes};
 ghost use Rattle.clap.specs.Words.{app_of, fault_of, kind_of, rule_of, subcommand_of, subcommand_rows_of};
 ghost use Rattle.clap.specs.declared.builder.command.Command.TheViews.{out-Command as fields_of};
-ghost use Rattle.bridge_program.specs.CommandLine.{check_command, commands, run_command, wire_command, word_named};
+ghost use Rattle.bridge_program.specs.CommandLine.{check_command, commands, option_named, run_command, wire_command, word_named};
 
 use clap::error::ErrorKind;
 use clap::{Arg, ArgMatches, Command, Error};
@@ -52,7 +52,7 @@ fn check_of<'a>(alloc: Global) -> Result<Command<'a>, AllocError>
     Command::new(alloc, "check").arg(word(alloc, "plan"))
 }
 
-/// `run PLAN IN OUT`.
+/// `run PLAN IN OUT`, with `--commands FILE` if commands are wanted.
 fn run_of<'a>(alloc: Global) -> Result<Command<'a>, AllocError>
     ensures command { IfOk result (λ c. app_of c ≡ run_command) }
     ensures local { IfOk result (λ c. (fields_of c).has_globals ≡ false) }
@@ -60,7 +60,8 @@ fn run_of<'a>(alloc: Global) -> Result<Command<'a>, AllocError>
     Command::new(alloc, "run")
         .arg(word(alloc, "plan"))?
         .arg(word(alloc, "input"))?
-        .arg(word(alloc, "output"))
+        .arg(word(alloc, "output"))?
+        .arg(option(alloc, "commands"))
 }
 
 /// A word that has to be there, by its name.
@@ -69,4 +70,12 @@ fn word<'a>(alloc: Global, name: &'a str) -> Arg<'a>
     ensures local { result.global ≡ false }
 {
     Arg::new(alloc, name).required(true)
+}
+
+/// An option of this name with a value, which need not be there.
+fn option<'a>(alloc: Global, name: &'a str) -> Arg<'a>
+    ensures rule { rule_of result ≡ option_named name.entry.now }
+    ensures local { result.global ≡ false }
+{
+    Arg::new(alloc, name).long(name)
 }

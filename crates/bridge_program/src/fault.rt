@@ -72,6 +72,8 @@ pub enum Fault {
     Plan(PlanFault),
     /// A plan that doesn't isolate a protected filter.
     Check(CheckFault),
+    /// Commands that are refused, or want of memory for them.
+    Commands(PlanFault),
     /// The words of the command line.
     Words,
     /// A file that can't be opened, made, read or written, by its path as given.

@@ -1,5 +1,5 @@
 //! The job that the words of the command line ask for.
-ghost use Rattle.std.specs.Prelude.{◌≡◌, ◌⊎◌, Err, IfOk, IfErr, ℕ, map, option_map, string_bytes};
+ghost use Rattle.std.specs.Prelude.{◌≡◌, ◌⊎◌, Err, IfOk, IfErr, Option, ℕ, map, option_map, string_bytes};
 ghost use Rattle.bridge_frame.specs.declared.Speed.{Speed};
 ghost use Rattle.bridge_lanes.specs.declared.fault.RunFault.{RunFault};
 ghost use Rattle.clap.specs.Words.{Text, first_of, found_of, kind_of, rows_of};
@@ -44,11 +44,13 @@ pub enum Job {
         input: String,
         /// The path of the folder of the captures that are written.
         output: String,
+        /// The path of the commands that come to the bridge, if any do.
+        commands: Option<String>,
     },
 }
 
 /// The job that the words after the program's name ask for: `Text` without words, `Wire` for `wire MBPS ROOM IN OUT`,
-/// `Check` for `check PLAN`, `Run` for `run PLAN IN OUT`.
+/// `Check` for `check PLAN`, `Run` for `run PLAN IN OUT`, also with `--commands FILE` (once, wherever `clap` takes options).
 ///
 /// MBPS is 10, 100, 1000, 2500 or 10000 and ROOM is 1 to 4096, both as decimal digits alone. `Words` for all other words,
 /// also for a request for help or for a version, and `Run` with `NoMemory` where a growth was refused.
@@ -129,7 +131,7 @@ fn check_job(alloc: Global, values: &ArgMatches) -> Result<Job, Fault>
 fn run_job(alloc: Global, values: &ArgMatches) -> Result<Job, Fault>
     ensures ok { IfOk result (IsRunJob (rows_of (found_of values.now))) }
     ensures room { IfOk result HasRoom }
-    ensures words { result ≡ Err Fault.Words → (plan input output : Text) → ¬ AsksForRun (rows_of (found_of values.now)) plan input output }
+    ensures words { result ≡ Err Fault.Words → (plan input output : Text) (commands : Option Text) → ¬ AsksForRun (rows_of (found_of values.now)) plan input output commands }
     ensures only { IfErr result (λ fault. (fault ≡ Fault.Words) ⊎ (fault ≡ Fault.Run RunFault.NoMemory)) }
 {
     let Some(path) = value_of(values, "plan") else {
@@ -144,10 +146,15 @@ fn run_job(alloc: Global, values: &ArgMatches) -> Result<Job, Fault>
     let plan = String::from_str(alloc, path)?;
     let input = String::from_str(alloc, from_folder)?;
     let output = String::from_str(alloc, to_folder)?;
+    let commands = match value_of(values, "commands") {
+        Some(file) => Some(String::from_str(alloc, file)?),
+        None => None,
+    };
     Ok(Job::Run {
         plan,
         input,
         output,
+        commands,
     })
 }
 

@@ -1,15 +1,17 @@
 //! The jobs, from what is read to what is printed.
-ghost use Rattle.std.specs.Prelude.{◌≡◌, ◌≤◌, ℕ, List, Some, IfOk, IfErr, string_bytes};
-ghost use Rattle.bridge_program.specs.Jobs.{Accepts, EndsCheck, EndsText, EndsWire, IsOfRun, PrintsAccepted, PrintsCounts, PrintsText};
+ghost use Rattle.std.specs.Prelude.{◌≡◌, ◌≤◌, ℕ, List, Some, Ok, IfOk, IfErr, string_bytes};
+ghost use Rattle.bridge_config.specs.Document.{plan_of_text};
+ghost use Rattle.bridge_program.specs.Jobs.{Accepts, EndsCheck, EndsPlan, EndsText, EndsWire, IsOfRun, PrintsAccepted, PrintsCounts, PrintsText};
 ghost use Rattle.bridge_program.specs.Reading.{IsOfFile, IsOfStandardFile};
 
-use crate::accepting::{accepted_of, check_line};
+use crate::accepting::{check_line, checked};
 use crate::captures::through;
 use crate::counts::wire_line;
 use crate::fault::Fault;
 use crate::reading::{ReadFault, read_at_most};
 use crate::text::wire_text;
 use bridge_check::Accepted;
+use bridge_config::{Plan, plan_of};
 use bridge_frame::Speed;
 use bridge_port::LARGEST_ROOM;
 use bridge_wire::RunFault;
@@ -73,8 +75,33 @@ pub fn planned<R: Read + Drop, A: Allocator + Copy>(
     ensures ok { (input : List ℕ) → R.remaining reader ≡ Some input → IfOk result (λ accepted. Accepts input accepted) }
     ensures err { (input : List ℕ) → R.remaining reader ≡ Some input → IfErr result (EndsCheck A (string_bytes path) input) }
 {
+    let plan = match plan_from(alloc, heap, path, reader) {
+        Ok(plan) => plan,
+        Err(fault) => return Err(fault),
+    };
+    checked(alloc, plan)
+}
+
+/// The plan of a reader, by the path of its file, which may isolate its protected filters or not.
+///
+/// At most 1,048,577 octets are read, one more than a plan may have. `Plan` with the first fault of the text, also for
+/// want of memory.
+pub fn plan_from<R: Read + Drop, A: Allocator + Copy>(
+    alloc: A,
+    heap: Global,
+    path: String,
+    reader: R,
+) -> Result<Plan<A>, Fault>
+    ensures ok { (input : List ℕ) → R.remaining reader ≡ Some input → IfOk result (λ plan. plan_of_text input ≡ Ok plan) }
+    ensures err { (input : List ℕ) → R.remaining reader ≡ Some input → IfErr result (EndsPlan A (string_bytes path) input) }
+    ensures read { IfOk result (λ plan. (input : List ℕ) × (plan_of_text input ≡ Ok plan)) }
+    ensures only { IfErr result (λ fault. (input : List ℕ) × EndsPlan A (string_bytes path) input fault) }
+{
     match read_at_most(alloc, reader, MOST_PLAN) {
-        Ok(text) => accepted_of(alloc, heap, &text),
+        Ok(text) => match plan_of(alloc, heap, &text) {
+            Ok(plan) => Ok(plan),
+            Err(fault) => Err(Fault::Plan(fault)),
+        },
         Err(fault) => Err(fault_of_file(path, fault)),
     }
 }
@@ -120,7 +147,7 @@ fn fault_of_input(alloc: Global, fault: ReadFault) -> Fault
 }
 
 /// The fault of a file that can't be read, by its path.
-fn fault_of_file(path: String, fault: ReadFault) -> Fault
+pub fn fault_of_file(path: String, fault: ReadFault) -> Fault
     ensures { IsOfFile (string_bytes path) result }
 {
     match fault {

@@ -4,6 +4,7 @@
 mod accepting;
 mod captures;
 mod command;
+mod commanding;
 mod counts;
 mod fault;
 mod host;
@@ -14,16 +15,18 @@ mod line;
 mod number;
 mod plan_line;
 mod reading;
+mod refused_commands;
 mod status;
 mod text;
 
-pub use accepting::{accepted_of, check_line};
+pub use accepting::{accepted_of, check_line, checked};
 pub use captures::{Halted, through};
+pub use commanding::commanded;
 pub use counts::wire_line;
 pub use fault::{Fault, NoMemory, TextFault};
 pub use host::{end, print, words_of};
 pub use job::{Job, job_of};
-pub use jobs::{check_job, planned, standard_file, text_job, wire_job};
+pub use jobs::{check_job, plan_from, planned, standard_file, text_job, wire_job};
 pub use line::fault_line;
 pub use reading::{ReadFault, read_at_most};
 pub use text::wire_text;

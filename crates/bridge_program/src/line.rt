@@ -6,13 +6,14 @@ ghost use Rattle.bridge_program.specs.Status.{status_of};
 use crate::fault::{Fault, NoMemory, TextFault};
 use crate::isolation::said_of_check;
 use crate::plan_line::said_of_plan;
+use crate::refused_commands::said_of_commands;
 use crate::status::ending;
 use bridge_capture::CaptureFault;
 use bridge_wire::RunFault;
 use std::alloc::Allocator;
 
 /// The line that the program prints for a fault on standard error, without its line feed, and the status with which it
-/// ends: 1 for a plan that is refused, 2 for a text or a capture that is refused, 3 for a file, a device or memory, 4 for the command line.
+/// ends: 1 for a plan or commands that are refused, 2 for a text or a capture that is refused, 3 for a file, a device or memory, 4 for the command line.
 pub fn fault_line<A: Allocator + Copy>(alloc: A, fault: &Fault) -> Result<(String<A>, u8), NoMemory>
     ensures line { IfOk result (λ said. string_bytes said.0 ≡ line_of fault.now) }
     ensures status { IfOk result (λ said. said.1 ≡ status_of fault.now) }
@@ -30,6 +31,7 @@ fn said<A: Allocator + Copy>(alloc: A, fault: &Fault) -> Result<String<A>, NoMem
         Fault::Run(fault) => said_of_run(alloc, fault),
         Fault::Plan(fault) => said_of_plan(alloc, fault),
         Fault::Check(fault) => said_of_check(alloc, fault),
+        Fault::Commands(fault) => said_of_commands(alloc, fault),
         Fault::Words => Ok(String::from_str(alloc, "command line refused")?),
         Fault::File(path) => file_fault(alloc, path.as_str()),
     }

@@ -9,7 +9,7 @@ use bridge_cycle::ListFault;
 use bridge_keys::PlanFault;
 use bridge_wire::RunFault;
 
-/// A plan that is refused.
+/// A plan or commands that are refused.
 const REFUSED_PLAN: u8 = 1;
 
 /// A text or a capture that is refused.
@@ -30,6 +30,7 @@ pub fn ending(fault: &Fault) -> u8
         Fault::Run(fault) => ending_of_run(fault),
         Fault::Plan(fault) => ending_of_plan(fault),
         Fault::Check(fault) => ending_of_check(fault),
+        Fault::Commands(fault) => ending_of_plan(fault),
         Fault::Words => WORDS,
         Fault::File(_) => FAILED,
     }
@@ -65,7 +66,7 @@ fn ending_of_capture(fault: &CaptureFault) -> u8
     }
 }
 
-/// The status of a plan that is refused.
+/// The status of a plan or of commands that are refused.
 fn ending_of_plan(fault: &PlanFault) -> u8
     ensures { result ≡ status_of_plan fault.now }
 {

@@ -7,7 +7,7 @@ use std::alloc::{Allocator, Global};
 use std::test::Fail;
 
 /// Filter 10 is protected: its frames come in on port 1 in the window of gate 1, and go out of port 3 in class 7.
-const BASE: &str = r#"
+pub const BASE: &str = r#"
 [[port]]
 number = 1
 mbps = 1000
@@ -60,13 +60,13 @@ const ACCEPTED: &str = "accepted: 1 protected of 2 filters\n";
 const UNPROTECTED: &str = "accepted: 0 protected of 2 filters\n";
 
 /// Lines of the plan, and what stands in their place.
-type Change = (&'static str, &'static str);
+pub type Change = (&'static str, &'static str);
 
-const NONE: Change = ("[[port]]\nnumber = 1\n", "[[port]]\nnumber = 1\n");
+pub const NONE: Change = ("[[port]]\nnumber = 1\n", "[[port]]\nnumber = 1\n");
 
 const PLAIN: Change = ("protected = true", "protected = false");
 
-const NO_VALUE: Change = ("state = \"open\"\nipv = 0", "state = \"open\"");
+pub const NO_VALUE: Change = ("state = \"open\"\nipv = 0", "state = \"open\"");
 
 const METER: Change = (
     "[[filter]]\nnumber = 10\n",
@@ -76,7 +76,7 @@ const METER: Change = (
 const SLOW: Change = ("number = 3\nmbps = 1000", "number = 3\nmbps = 10");
 
 /// A text with what stands in the place of a part of it.
-fn changed(alloc: Global, text: &str, change: Change) -> Result<String, Fail> {
+pub fn changed(alloc: Global, text: &str, change: Change) -> Result<String, Fail> {
     match text.split_once(change.0) {
         Some((before, after)) => {
             let put = change.1;

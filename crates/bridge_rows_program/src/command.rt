@@ -96,6 +96,7 @@ fn words_ask_for_a_run_of_a_plan(rt: HostRuntime) -> Result<(), Fail> {
                 plan,
                 input,
                 output,
+                commands: None,
             },
         ) => {
             assert_eq!(rt; plan.as_str(), "a b/PLAN");
@@ -108,8 +109,39 @@ fn words_ask_for_a_run_of_a_plan(rt: HostRuntime) -> Result<(), Fail> {
 }
 
 #[test]
+fn words_ask_for_a_run_with_commands(rt: HostRuntime) -> Result<(), Fail> {
+    let rows: [&[&str]; 6] = [
+        &["run", "PLAN", "IN", "OUT", "--commands", "FILE"],
+        &["run", "--commands", "FILE", "PLAN", "IN", "OUT"],
+        &["run", "PLAN", "IN", "--commands", "FILE", "OUT"],
+        &["run", "PLAN", "IN", "OUT", "--commands=FILE"],
+        &["run", "--commands=FILE", "PLAN", "IN", "OUT"],
+        &["run", "--commands", "FILE", "--", "PLAN", "IN", "OUT"],
+    ];
+    for line in rows {
+        let words = words_of(rt.alloc(), line)?;
+        let Ok(
+            Job::Run {
+                plan,
+                input,
+                output,
+                commands: Some(commands),
+            },
+        ) = job_of(rt.alloc(), &words)
+        else {
+            return Err(Fail::from("no run with commands"));
+        };
+        assert_eq!(rt; plan.as_str(), "PLAN");
+        assert_eq!(rt; input.as_str(), "IN");
+        assert_eq!(rt; output.as_str(), "OUT");
+        assert_eq!(rt; commands.as_str(), "FILE");
+    }
+    Ok(())
+}
+
+#[test]
 fn other_words_are_refused(rt: HostRuntime) -> Result<(), Fail> {
-    let rows: [&[&str]; 31] = [
+    let rows: [&[&str]; 40] = [
         &["wire", "999", "1", "IN", "OUT"],
         &["wire", "1000", "0", "IN", "OUT"],
         &["wire", "1000", "+1", "IN", "OUT"],
@@ -141,6 +173,24 @@ fn other_words_are_refused(rt: HostRuntime) -> Result<(), Fail> {
         &["run", "PLAN", "IN", "OUT", "MORE"],
         &["run", "PLAN", "IN", "-OUT"],
         &["run", "--help"],
+        &["run", "PLAN", "IN", "OUT", "--commands"],
+        &["run", "PLAN", "IN", "--commands", "FILE"],
+        &["run", "PLAN", "IN", "OUT", "MORE", "--commands", "FILE"],
+        &["run", "PLAN", "IN", "OUT", "--commands", "-FILE"],
+        &[
+            "run",
+            "PLAN",
+            "IN",
+            "OUT",
+            "--commands",
+            "FILE",
+            "--commands",
+            "FILE",
+        ],
+        &["run", "PLAN", "IN", "OUT", "--command", "FILE"],
+        &["run", "PLAN", "IN", "OUT", "-c", "FILE"],
+        &["--commands", "FILE", "run", "PLAN", "IN", "OUT"],
+        &["check", "PLAN", "--commands", "FILE"],
     ];
     for line in rows {
         let words = words_of(rt.alloc(), line)?;

@@ -6,4 +6,6 @@ mod check;
 #[cfg(test)]
 mod command;
 #[cfg(test)]
+mod commanded;
+#[cfg(test)]
 mod program;

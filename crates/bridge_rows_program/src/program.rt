@@ -246,6 +246,76 @@ const PLANS: [(PlanFault, &str, u8); 19] = [
     (PlanFault::NoMemory, "no memory", 3),
 ];
 
+const COMMAND_MOMENT: Place = Place {
+    section: Section::Command,
+    index: 2,
+    field: Field::At,
+};
+
+const COMMAND_FLAG: Place = Place {
+    section: Section::Command,
+    index: 1,
+    field: Field::Clear,
+};
+
+const COMMAND_NUMBER: Place = Place {
+    section: Section::Command,
+    index: 4096,
+    field: Field::Number,
+};
+
+/// A fault of commands, with its line and its status.
+const COMMANDS: [(PlanFault, &str, u8); 12] = [
+    (PlanFault::Syntax, "commands refused: Syntax", 1),
+    (PlanFault::TooLong, "commands refused: TooLong", 1),
+    (
+        PlanFault::UnknownKey(Section::Top, 0),
+        "commands refused: UnknownKey top",
+        1,
+    ),
+    (
+        PlanFault::UnknownKey(Section::Command, 2),
+        "commands refused: UnknownKey command 2",
+        1,
+    ),
+    (
+        PlanFault::NotAList(Section::Command),
+        "commands refused: NotAList command",
+        1,
+    ),
+    (
+        PlanFault::Missing(COMMAND_MOMENT),
+        "commands refused: Missing command 2 at",
+        1,
+    ),
+    (
+        PlanFault::WrongKind(COMMAND_FLAG),
+        "commands refused: WrongKind command 1 clear",
+        1,
+    ),
+    (
+        PlanFault::OutOfRange(COMMAND_MOMENT),
+        "commands refused: OutOfRange command 2 at",
+        1,
+    ),
+    (
+        PlanFault::OutOfRange(COMMAND_FLAG),
+        "commands refused: OutOfRange command 1 clear",
+        1,
+    ),
+    (
+        PlanFault::Unresolved(COMMAND_NUMBER),
+        "commands refused: Unresolved command 4096 number",
+        1,
+    ),
+    (
+        PlanFault::TooMany(Section::Command),
+        "commands refused: TooMany command",
+        1,
+    ),
+    (PlanFault::NoMemory, "no memory", 3),
+];
+
 /// Each fault with its line and its status.
 fn said(alloc: Global) -> Result<Vec<(Fault, &'static str, u8)>, Fail> {
     let cut = RunFault::Capture {
@@ -287,6 +357,9 @@ fn said(alloc: Global) -> Result<Vec<(Fault, &'static str, u8)>, Fail> {
     }
     for (fault, line, status) in PLANS {
         rows.push((Fault::Plan(fault), line, status))?;
+    }
+    for (fault, line, status) in COMMANDS {
+        rows.push((Fault::Commands(fault), line, status))?;
     }
     Ok(rows)
 }

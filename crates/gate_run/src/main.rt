@@ -25,12 +25,13 @@ fn run(rt: &(impl AllocGlobal + Print + Env + Files)) -> Result<(), Fault> {
         plan,
         input,
         output,
+        commands,
     } = job_of(rt.alloc(), &words)?
     else {
         return Err(Fault::Words);
     };
     let folder = String::from_str(rt.alloc(), output.as_str())?;
-    let line = run_job(rt, plan, input, output)?;
+    let line = run_job(rt, plan, input, output, commands)?;
     print(rt, line.as_str())?;
     for port in PORTS {
         let Ok(path) = capture_path(rt.alloc(), folder.as_str(), port) else {

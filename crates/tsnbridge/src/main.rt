@@ -48,8 +48,9 @@ fn run(rt: &(impl Input + AllocGlobal + Print + Env + Files)) -> Result<(), Faul
             plan,
             input,
             output,
+            commands,
         } => {
-            let line = run_job(rt, plan, input, output)?;
+            let line = run_job(rt, plan, input, output, commands)?;
             print(rt, line.as_str())
         }
     }

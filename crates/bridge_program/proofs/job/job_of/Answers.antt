@@ -9,7 +9,7 @@ returns-in-Some-clause-words c = λ is asked.
     let check : ¬ (codes "wire" ≡ codes "check") = search rules in
     let run : ¬ (codes "wire" ≡ codes "run") = search rules in
     asks_for_none _ (codes "wire") _ _ (search rules) c.in-Ok.ensures.values (name_first _ _ _ _ named) c.in-Some.ensures.rows
-    (λ e. c.wire_job.ensures.words is) (λ e plan asks. check e) (λ e plan input output asks. run e) asked
+    (λ e. c.wire_job.ensures.words is) (λ e plan asks. check e) (λ e plan input output file asks. run e) asked
 
 pub returns-in-Some-subcommand_matches-2-clause-words : goal.returns-in-Some-subcommand_matches-2-clause-words
 returns-in-Some-subcommand_matches-2-clause-words c = λ is asked.

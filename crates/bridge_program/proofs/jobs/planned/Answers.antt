@@ -1,13 +1,12 @@
-use Rattle.std.proofs.Common.{string_bytes, ◌∙◌}
-use Rattle.bridge_program.proofs.Looks.{all_accepted, all_refused, file_ends}
+use Rattle.std.proofs.Common.{string_bytes}
+use Rattle.bridge_program.proofs.Looks.{all_accepted, all_ended, plan_ends}
 use Rattle.bridge_program.proofs.jobs.planned.Goals as goal
 
-pub returns-in-Ok-clause-ok : goal.returns-in-Ok-clause-ok
-returns-in-Ok-clause-ok g c = λ input told. all_accepted c.deref.result.now input c.accepted_of.result (c.deref.ensures.value ∙ c.in-Ok.ensures input told) c.accepted_of.ensures.ok
+pub returns-clause-ok : goal.returns-clause-ok
+returns-clause-ok g c = λ input told. all_accepted input c.in-Ok.plan c.checked.result (c.in-Ok.ensures.ok input told) c.checked.ensures.ok
 
-pub returns-in-Ok-clause-err : goal.returns-in-Ok-clause-err
-returns-in-Ok-clause-err g c = λ input told.
-    all_refused g.row.A.Denot (string_bytes c.args.path) c.deref.result.now input c.accepted_of.result (c.deref.ensures.value ∙ c.in-Ok.ensures input told) c.accepted_of.ensures.err
+pub returns-clause-err : goal.returns-clause-err
+returns-clause-err g c = λ input told. all_ended (string_bytes c.args.path) input c.in-Ok.plan c.checked.result (c.in-Ok.ensures.ok input told) c.checked.ensures.err
 
 pub returns-in-Err-clause-err : goal.returns-in-Err-clause-err
-returns-in-Err-clause-err g c = λ input told. file_ends g.row.A.Denot (string_bytes c.args.path) input c.fault_of_file.result c.fault_of_file.ensures
+returns-in-Err-clause-err g c = λ input told. plan_ends g.row.A.Denot (string_bytes c.args.path) input c.in-Err.fault (c.in-Err.ensures.err input told)
