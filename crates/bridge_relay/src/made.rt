@@ -8,7 +8,7 @@ use bridge_cycle::NoMemory;
 use bridge_events::Agenda;
 use bridge_filter::Police;
 use bridge_gate::GatePlan;
-use bridge_ident::Ident;
+use bridge_ident::{Ident, StreamEntry};
 use bridge_parts::Ports;
 use bridge_parts::tables::tables_of;
 use std::alloc::{AllocError, Allocator};
@@ -28,6 +28,14 @@ fn gates_of<A: Allocator + Copy>(
     Ok(copies)
 }
 
+/// The table of these streams, with an index.
+fn ident_of<A: Allocator + Copy>(alloc: A, streams: &[StreamEntry]) -> Result<Ident<A>, NoMemory>
+    ensures { IfOk result (λ table. table ≡ streams.now) }
+{
+    let entries = Vec::from_slice(alloc, streams)?;
+    Ok(Ident::indexed(alloc, entries)?)
+}
+
 impl<'a, G: Agenda + Drop, A: Allocator + Copy> Relay<'a, G, A> {
     /// A bridge of an accepted plan, to which nothing has come.
     pub fn new(alloc: A, accepted: &'a Accepted<A>) -> Result<Relay<'a, G, A>, NoMemory>
@@ -36,17 +44,17 @@ impl<'a, G: Agenda + Drop, A: Allocator + Copy> Relay<'a, G, A> {
         ensures none_due { IfOk result (λ b. (q : ℕ) → G.held b.ports.agenda q ≡ None) }
     {
         let plan = accepted.plan();
-        let streams = Vec::from_slice(alloc, plan.streams())?;
         let filters = Vec::from_slice(alloc, plan.filters())?;
         let meters = Vec::from_slice(alloc, plan.meters())?;
         let gates = gates_of(alloc, plan.gates())?;
         let police = Police::new(alloc, filters, gates, meters)?;
         let ports = Ports::new(alloc, plan)?;
         let tables = tables_of(alloc, plan.filters())?;
+        let ident = ident_of(alloc, plan.streams())?;
         Ok(Relay {
             alloc,
             plan,
-            ident: Ident::new(streams),
+            ident,
             police,
             ports,
             tables,

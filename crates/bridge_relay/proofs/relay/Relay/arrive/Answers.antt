@@ -249,3 +249,25 @@ returns-clause-waits g c =
       | in-Nowhere w ↦ subst (λ (v : RelayState _ _). NotBefore (g.G.Agenda.held v.ports.agenda) t) (sym w.self-is) (subst (λ (d : _). NotBefore (g.G.Agenda.held d) t) (sym w.pass_over-in-Nowhere.ensures.passed.2.agenda) c.requires.due)
       | in-Goes+in-Ok w ↦ subst (λ (v : RelayState _ _). NotBefore (g.G.Agenda.held v.ports.agenda) t) (sym w.self-is) w.relay.ensures.due
     ]
+
+pub prepare-requires-clause-there : goal.prepare-requires-clause-there
+prepare-requires-clause-there g c =
+    let filter = c.filter_of-filter.result in
+    subst (λ (v : RelayState _ _). IfSome filter (λ n. IsTrue (is_there n v.plan.filters))) c.self.view_is (subst (λ (fs : _). IfSome filter (λ n. IsTrue (is_there n fs))) c.self.invariant.filters c.filter_of-filter.ensures.there)
+
+pub returns-clause-moved : goal.returns-clause-moved
+returns-clause-moved g c =
+    let now = c.args.self.now in
+    elim c.match-way_of.branch [
+      | in-Malformed w ↦
+          let passed = w.pass_over.ensures.passed.2 in
+          subst (λ (v : RelayState _ _). (v.arrived ≡ now.arrived + 1) × (v.earliest ≡ c.args.packet.time) × (v.plan ≡ now.plan)) (sym w.self-is) (passed.arrived, passed.earliest, passed.plan)
+      | in-Nowhere w ↦
+          let passed = w.pass_over-in-Nowhere.ensures.passed.2 in
+          subst (λ (v : RelayState _ _). (v.arrived ≡ now.arrived + 1) × (v.earliest ≡ c.args.packet.time) × (v.plan ≡ now.plan)) (sym w.self-is) (passed.arrived, passed.earliest, passed.plan)
+      | in-Goes+in-Ok w ↦
+          let k = outs now.ports.slots w.in-Goes.set 16 in
+          let same : w.prepare.new.self ≡ promising now w.filter_of-filter.result k = w.in-Ok.ensures.ok in
+          let moved = w.relay.ensures.moved in
+          subst (λ (v : RelayState _ _). (v.arrived ≡ now.arrived + 1) × (v.earliest ≡ c.args.packet.time) × (v.plan ≡ now.plan)) (sym w.self-is) (moved.0 ∙ ap (λ (v : RelayState _ _). v.arrived) same, moved.2, moved.1 ∙ ap (λ (v : RelayState _ _). v.plan) same)
+    ]

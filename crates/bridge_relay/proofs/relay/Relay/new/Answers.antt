@@ -7,9 +7,9 @@ use Rattle.bridge_relay.proofs.relay.Relay.new.Goals as goal
 
 pub invariant_of-result : goal.invariant_of-result
 invariant_of-result g c =
-    let b : RelayState _ _ = record { plan = c.plan-plan.result.now; streams = c.new-3.result; police = c.in_ok-police.police; ports = c.in_ok-ports.ports; tables = c.in_ok-tables.tables.entries; arrived = 0; earliest = 0 } in
+    let b : RelayState _ _ = record { plan = c.plan-plan.result.now; streams = c.in_ok-ident.ident; police = c.in_ok-police.police; ports = c.in_ok-ports.ports; tables = c.in_ok-tables.tables.entries; arrived = 0; earliest = 0 } in
     let m = made_of g.G.Agenda.held b c.args.accepted.now c.in_ok-filters.filters.items c.in_ok-gates.gates.items c.in_ok-meters.meters.items c.plan-plan.ensures.plan c.plan-plan.ensures.rules c.plan-plan.ensures.acceptable
-    (c.new-3.ensures ∙ (c.in_ok-streams.ensures.items ∙ c.streams.ensures.streams))
+    (c.in_ok-ident.ensures ∙ c.streams.ensures.streams)
     (c.in_ok-filters.ensures.items ∙ c.filters.ensures.filters)
     (c.in_ok-gates.ensures ∙ c.gates.ensures.gates)
     (c.in_ok-meters.ensures.items ∙ c.meters.ensures.meters)
@@ -19,9 +19,9 @@ invariant_of-result g c =
 
 pub returns-clause-stands : goal.returns-clause-stands
 returns-clause-stands g c =
-    let b : RelayState _ _ = record { plan = c.plan-plan.result.now; streams = c.new-3.result; police = c.in_ok-police.police; ports = c.in_ok-ports.ports; tables = c.in_ok-tables.tables.entries; arrived = 0; earliest = 0 } in
+    let b : RelayState _ _ = record { plan = c.plan-plan.result.now; streams = c.in_ok-ident.ident; police = c.in_ok-police.police; ports = c.in_ok-ports.ports; tables = c.in_ok-tables.tables.entries; arrived = 0; earliest = 0 } in
     let m = made_of g.G.Agenda.held b c.args.accepted.now c.in_ok-filters.filters.items c.in_ok-gates.gates.items c.in_ok-meters.meters.items c.plan-plan.ensures.plan c.plan-plan.ensures.rules c.plan-plan.ensures.acceptable
-    (c.new-3.ensures ∙ (c.in_ok-streams.ensures.items ∙ c.streams.ensures.streams))
+    (c.in_ok-ident.ensures ∙ c.streams.ensures.streams)
     (c.in_ok-filters.ensures.items ∙ c.filters.ensures.filters)
     (c.in_ok-gates.ensures ∙ c.gates.ensures.gates)
     (c.in_ok-meters.ensures.items ∙ c.meters.ensures.meters)
