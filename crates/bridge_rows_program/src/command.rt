@@ -125,11 +125,14 @@ fn words_ask_for_a_run_with_commands(rt: HostRuntime) -> Result<(), Fail> {
                 plan,
                 input,
                 output,
-                commands: Some(commands),
+                commands,
             },
         ) = job_of(rt.alloc(), &words)
         else {
-            return Err(Fail::from("no run with commands"));
+            return Err(Fail::from("no run"));
+        };
+        let Some(commands) = commands else {
+            return Err(Fail::from("no commands"));
         };
         assert_eq!(rt; plan.as_str(), "PLAN");
         assert_eq!(rt; input.as_str(), "IN");
