@@ -6,3 +6,4 @@ pub mod Repeats
 pub mod Runs
 pub mod Fitting
 pub mod Lists
+pub mod Changes

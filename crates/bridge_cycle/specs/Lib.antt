@@ -3,6 +3,10 @@ pub mod Opens
 pub mod Cyclic
 pub mod Ends
 pub mod CyclicLaws
+pub mod Joined
+pub mod JoinedLaws
+pub mod Egress
+pub mod EgressLaws
 pub mod Runs
 pub mod Fitting
 pub mod Entries

@@ -1,13 +1,16 @@
 //! Laws of the definitions alone, each the contract of a function that does nothing.
-ghost use Rattle.std.specs.Prelude.{◌≡◌, ℕ, Bool, true, ◌+◌, ◌<◌, ◌≤◌, ◌↔◌, Some};
+ghost use Rattle.std.specs.Prelude.{◌≡◌, ℕ, Bool, true, ◌+◌, ◌*◌, ◌<◌, ◌≤◌, ◌↔◌, Some};
 ghost use Rattle.bridge_base.specs.Members.{In};
 ghost use Rattle.bridge_cycle.specs.declared.run.Run.{Run};
 ghost use Rattle.bridge_cycle.specs.declared.timeline.Turn.{Turn};
 ghost use Rattle.bridge_cycle.specs.Cyclic.{Cyclic, IsLawful, turn_at};
+ghost use Rattle.bridge_cycle.specs.Joined as joined;
 ghost use Rattle.bridge_cycle.specs.Fitting.{some_fits};
 ghost use Rattle.bridge_cycle.specs.Moments.{Fits, Repeats};
 ghost use Rattle.bridge_cycle.specs.Opens.{opens_in};
 ghost use Rattle.bridge_cycle.specs.Runs.{Allows, FitsSoon, IsLongestRun};
+
+use crate::cyclic::LONGEST_CYCLE;
 
 /// Where what is open repeats with the cycle, a length fits at some moment exactly if it fits at one
 /// of the first cycle.
@@ -54,4 +57,28 @@ pub fn state_is_of_an_entry<S: Copy>()
     ensures { (l : Cyclic S) (t : ℕ) (x : Turn S)
         → turn_at l t ≡ Some x
         → (e : S × ℕ) × In e l.entries × (e.0 ≡ x.state) }
+{}
+
+/// Before the change a joined timeline opens what the old list opens, and from it on what the new one
+/// opens.
+pub fn joined_opens()
+    ensures before { (j : joined.Joined ℕ) (class t : ℕ)
+        → t < j.at
+        → opens_in (joined.turn_at j t) class ≡ opens_in (turn_at j.old t) class }
+    ensures after { (j : joined.Joined ℕ) (class t : ℕ)
+        → j.at ≤ t
+        → opens_in (joined.turn_at j t) class ≡ opens_in (turn_at j.new t) class }
+{}
+
+/// A length that the longest runs of both lists allow fits on the joined timeline at most two seconds
+/// after any moment, also where the change comes before the frame is through.
+pub fn joined_fits_soon()
+    ensures { (j : joined.Joined ℕ) (class : ℕ) (old new : Run)
+        → joined.IsLawful j
+        → IsLongestRun (λ v. opens_in (turn_at j.old v) class) old
+        → IsLongestRun (λ v. opens_in (turn_at j.new v) class) new
+        → (occ from : ℕ)
+        → Allows old occ
+        → Allows new occ
+        → (u : ℕ) × (from ≤ u) × (u ≤ from + 2 * LONGEST_CYCLE) × Fits (λ v. opens_in (joined.turn_at j v) class) occ u }
 {}

@@ -1,0 +1,65 @@
+ghost use Rattle.std.specs.Prelude.{◌≡◌, IfOk};
+ghost use Rattle.bridge_cycle.specs.Egress as egress;
+
+use crate::cyclic::{CyclicList, NoMemory};
+use crate::joined::Joined;
+use crate::timeline::{Timeline, Turn};
+use std::alloc::Allocator;
+
+/// The gate control lists of a port: bit c of a state says that class c is open (IEEE 802.1Q-2018
+/// 8.6.8.4).
+#[derive(Drop)]
+pub enum Egress<A: Allocator + Copy> {
+    /// One list at all moments.
+    Cyclic(CyclicList<u8, A>),
+    /// A list that another one takes over from at a moment.
+    Joined(Joined<u8, A>),
+}
+
+impl<A: Allocator + Copy> Egress<A> {
+    /// Equal lists.
+    pub fn copy(&self, alloc: A) -> Result<Self, NoMemory>
+        ensures equal { IfOk result (λ e. e ≡ self.now) }
+    {
+        match self {
+            Egress::Cyclic(list) => Ok(Egress::Cyclic(list.copy(alloc)?)),
+            Egress::Joined(joined) => Ok(Egress::Joined(joined.copy(alloc)?)),
+        }
+    }
+}
+
+impl<A: Allocator + Copy> Timeline for Egress<A> {
+    type State = u8;
+
+    ghost is_lawful = { egress.IsLawful };
+
+    ghost turn_at = { egress.turn_at };
+
+    ghost cycle_of = { egress.cycle_of };
+
+    fn turn(&self, t: u64) -> Turn<u8> {
+        match self {
+            Egress::Cyclic(list) => list.turn(t),
+            Egress::Joined(joined) => joined.turn(t),
+        }
+    }
+
+    fn cycle(&self) -> u64 {
+        match self {
+            Egress::Cyclic(list) => list.cycle(),
+            Egress::Joined(joined) => joined.cycle(),
+        }
+    }
+
+    ghost use Rattle.bridge_cycle.specs.EgressLaws.{egress_turned, egress_somewhere};
+
+    ghost is_there = { λ e t lawful. egress_somewhere e t lawful };
+
+    ghost begins = { λ e t x lawful h. (egress_turned e t x lawful h).begins };
+
+    ghost goes_on = { λ e t x lawful h. (egress_turned e t x lawful h).ends };
+
+    ghost same = { λ e t u x lawful h. (egress_turned e t x lawful h).same u };
+
+    ghost soon = { λ e t x lawful h. (egress_turned e t x lawful h).soon };
+}

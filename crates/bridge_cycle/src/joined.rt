@@ -1,0 +1,120 @@
+ghost use Rattle.std.specs.Prelude.{◌≡◌, ◌<◌, IfOk};
+ghost use Rattle.bridge_base.specs.declared.TheConstants.{END_OF_TIME};
+ghost use Rattle.bridge_cycle.specs.Joined as joined;
+
+use crate::cyclic::{CyclicList, NoMemory};
+use crate::timeline::{Timeline, Turn};
+use std::alloc::Allocator;
+use std::marker::Model;
+
+/// A list that another one takes over from at a moment: the old list holds before it, the new one from
+/// it on.
+///
+/// A turn of the old list ends at that moment at the latest, and none of the new list begins before it
+/// (the admin list becomes the oper list at the config change time, IEEE 802.1Q-2018 8.6.9.4).
+#[derive(Drop)]
+pub struct Joined<S, A: Allocator + Copy> {
+    old: CyclicList<S, A>,
+    new: CyclicList<S, A>,
+    at: u64,
+    /// The greater of both cycles.
+    cycle: u64,
+}
+
+impl<S, A: Allocator + Copy> Model for Joined<S, A> {
+    ghost Value = { joined.Joined S };
+
+    ghost view = { λ j. record { old = j.old; new = j.new; at = j.at } };
+
+    ghost invariant = { λ j. joined.IsLawful (record { old = j.old; new = j.new; at = j.at }) × (j.at < END_OF_TIME) × (j.cycle ≡ joined.cycle_of (record { old = j.old; new = j.new; at = j.at })) };
+}
+
+impl<S: Copy, A: Allocator + Copy> Joined<S, A> {
+    /// The timeline that `old` gives before the moment `at`, in ns, and `new` from it on. It takes no
+    /// memory.
+    pub fn new(old: CyclicList<S, A>, new: CyclicList<S, A>, at: u64) -> Self
+        requires { at < END_OF_TIME }
+        ensures { result ≡ record { old = old; new = new; at = at } }
+    {
+        let cycle = old.cycle().max(new.cycle());
+        Joined {
+            old,
+            new,
+            at,
+            cycle,
+        }
+    }
+
+    /// An equal timeline.
+    pub fn copy(&self, alloc: A) -> Result<Self, NoMemory>
+        ensures equal { IfOk result (λ j. j ≡ self.now) }
+    {
+        Ok(Joined {
+            old: self.old.copy(alloc)?,
+            new: self.new.copy(alloc)?,
+            at: self.at,
+            cycle: self.cycle,
+        })
+    }
+
+    /// The old list and the new one.
+    pub fn lists(&self) -> (&CyclicList<S, A>, &CyclicList<S, A>)
+        ensures old { result.0.now ≡ self.now.old }
+        ensures new { result.1.now ≡ self.now.new }
+        ensures lawful { joined.IsLawful self.now }
+    {
+        (&self.old, &self.new)
+    }
+
+    /// The moment in ns from which the new list holds.
+    pub fn at(&self) -> u64
+        ensures at { result ≡ self.now.at }
+        ensures bounded { result < END_OF_TIME }
+    {
+        self.at
+    }
+}
+
+impl<S: Copy, A: Allocator + Copy> Timeline for Joined<S, A> {
+    type State = S;
+
+    ghost is_lawful = { joined.IsLawful };
+
+    ghost turn_at = { joined.turn_at };
+
+    ghost cycle_of = { joined.cycle_of };
+
+    fn turn(&self, t: u64) -> Turn<S> {
+        if t < self.at {
+            let turn = self.old.turn(t);
+            Turn {
+                state: turn.state,
+                start: turn.start,
+                end: turn.end.min(self.at),
+            }
+        } else {
+            let turn = self.new.turn(t);
+            Turn {
+                state: turn.state,
+                start: turn.start.max(self.at as i64),
+                end: turn.end,
+            }
+        }
+    }
+
+    fn cycle(&self) -> u64 {
+        self.cycle
+    }
+
+    ghost use Rattle.bridge_cycle.specs.JoinedLaws.{joined_turned, joined_somewhere};
+
+    ghost is_there = { λ j t lawful. joined_somewhere j t lawful };
+
+    ghost begins = { λ j t x lawful h. (joined_turned j t x lawful h).begins };
+
+    ghost goes_on = { λ j t x lawful h. (joined_turned j t x lawful h).ends };
+
+    ghost same = { λ j t u x lawful h. (joined_turned j t x lawful h).same u };
+
+    ghost soon = { λ j t x lawful h. (joined_turned j t x lawful h).soon };
+}
