@@ -14,6 +14,8 @@ mod gate;
 #[cfg(test)]
 mod ident;
 #[cfg(test)]
+mod joined;
+#[cfg(test)]
 mod meter;
 #[cfg(test)]
 mod port;
