@@ -120,6 +120,7 @@ impl Capture {
 
     /// The next packet, as `next` gives it, its octets in the room of a vector whose own are let go. No growth of memory
     /// where they fit, else one.
+    #[inline(always)]
     pub fn next_into<R: ByteSource, A: Allocator>(
         &mut self,
         spare: Vec<u8, A>,

@@ -81,8 +81,8 @@ fn take_octets<R: ByteSource, A: Allocator>(
     ensures sure { R.never_fails source.old ≡ true → result ≢ Err CaptureFault.Read }
     ensures lasts { R.never_fails source.old ≡ true → R.never_fails source.new ≡ true }
 {
+    // What stood there is read over, so that only what is longer is set to 0 first.
     let mut octets = spare;
-    octets.clear();
     if octets.resize(captured as usize, 0u8).is_err() {
         return Err(CaptureFault::NoMemory);
     }

@@ -1,5 +1,8 @@
 //! Octets of frames that left, whose room is used again.
+ghost use Rattle.std.specs.Prelude.{◌≡◌, ◌≤◌, ◌+◌, ◌-◌, IfOk};
+
 use std::alloc::{AllocError, Allocator};
+use std::marker::Model;
 
 /// The most vectors that are kept.
 const MOST_KEPT: usize = 64;
@@ -11,16 +14,29 @@ pub struct Spares<A: Allocator + Copy> {
     kept: Vec<Vec<u8, A>, A>,
 }
 
+impl<A: Allocator + Copy> Model for Spares<A> {
+    ghost use Rattle.std.specs.Prelude.{ℕ, length};
+
+    /// How many there are.
+    ghost Value = { ℕ };
+
+    ghost view = { λ spares. length spares.kept.items };
+}
+
 impl<A: Allocator + Copy> Spares<A> {
     /// None at first. One growth of memory, for the list of them.
-    pub fn new(alloc: A) -> Result<Spares<A>, AllocError> {
+    pub fn new(alloc: A) -> Result<Spares<A>, AllocError>
+        ensures none { IfOk result (λ spares. spares ≡ 0) }
+    {
         let kept = Vec::with_capacity(alloc, MOST_KEPT)?;
         Ok(Spares { alloc, kept })
     }
 
     /// One of them, or a new one without room. It takes no memory.
     #[inline(always)]
-    pub fn take(&mut self) -> Vec<u8, A> {
+    pub fn take(&mut self) -> Vec<u8, A>
+        ensures fewer { self.new ≡ self.old - 1 }
+    {
         match self.kept.pop() {
             Some(octets) => octets,
             None => Vec::new(self.alloc),
@@ -29,7 +45,9 @@ impl<A: Allocator + Copy> Spares<A> {
 
     /// Keeps one where there is room in the list, else lets it go. It takes no memory.
     #[inline(always)]
-    pub fn put(&mut self, octets: Vec<u8, A>) {
+    pub fn put(&mut self, octets: Vec<u8, A>)
+        ensures kept { (self.old ≤ self.new) × (self.new ≤ self.old + 1) }
+    {
         if self.kept.len() < self.kept.capacity() {
             match self.kept.push(octets) {
                 Ok(()) => {}

@@ -96,6 +96,7 @@ impl<T: Drop, A: Allocator + Copy> Port<T, A> {
 
     /// Offers an item to the queue of a class (0 to 7) at a moment in ns. A refused item comes back, with the first
     /// reason that applies: no moment fits it, its queue is full.
+    #[inline(always)]
     pub fn offer(&mut self, t: u64, class: u8, item: Item<T>) -> Result<(), (Item<T>, Refusal)>
         requires class { class < 8 }
         requires time { (self.old.earliest ≤ t) × (t < END_OF_TIME) }
@@ -163,6 +164,7 @@ impl<T: Drop, A: Allocator + Copy> Port<T, A> {
     }
 
     /// Makes the next start, and gives the item with its class (0 to 7). The port's `earliest` is then one ns after it.
+    #[inline(always)]
     pub fn start(&mut self) -> (Item<T>, u8)
         requires { (k : ℕ) × IsDue self.old (Some k) }
         ensures next { IsNext self.old (self.new.earliest - 1) result.1 result.0 }
