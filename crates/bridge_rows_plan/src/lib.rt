@@ -1,24 +1,12 @@
 #![tactic(auto)]
-//! Texts of plans and of commands: what is accepted, and the first fault of what is not, as tests on `plan_of` and
-//! `commands_of`.
+//! Plans and commands that are read: their fields, where frames go, octets that are no text, and each growth refused in
+//! turn. What becomes of texts is data of the program `gate_plans`.
 
 #[cfg(test)]
 mod base;
 #[cfg(test)]
 mod commands;
 #[cfg(test)]
-mod limits;
-#[cfg(test)]
-mod orders;
-#[cfg(test)]
-mod parts;
-#[cfg(test)]
-mod policing;
-#[cfg(test)]
-mod ports;
+mod octets;
 #[cfg(test)]
 mod readers;
-#[cfg(test)]
-mod streams;
-#[cfg(test)]
-mod whole;

@@ -1,5 +1,5 @@
 //! The parts of the base plan, where its frames go, and each growth refused in turn.
-use crate::base::{END, text_of};
+use crate::base::{plan_with, text_with};
 use bridge_config::plan_of;
 use bridge_frame::Speed;
 use bridge_gate::Schedule;
@@ -28,8 +28,7 @@ colour = \"aware\"
 
 #[test]
 fn ports_are_shown(rt: HostRuntime) -> Result<(), Fail> {
-    let text = text_of(rt.alloc(), END, METER, "")?;
-    let plan = plan_of(rt.alloc(), rt.alloc(), text.as_bytes())?;
+    let plan = plan_with(rt.alloc(), METER)?;
     assert_eq!(rt; plan.ports().len(), 3);
     for port in plan.ports() {
         assert!(rt; port.speed == Speed::Mbps1000);
@@ -47,8 +46,7 @@ fn ports_are_shown(rt: HostRuntime) -> Result<(), Fail> {
 
 #[test]
 fn vlans_entries_and_streams_are_shown(rt: HostRuntime) -> Result<(), Fail> {
-    let text = text_of(rt.alloc(), END, METER, "")?;
-    let plan = plan_of(rt.alloc(), rt.alloc(), text.as_bytes())?;
+    let plan = plan_with(rt.alloc(), METER)?;
     assert_eq!(rt; plan.vlans().len(), 1);
     for vlan in plan.vlans() {
         assert_eq!(rt; vlan.vid, 10);
@@ -74,8 +72,7 @@ fn vlans_entries_and_streams_are_shown(rt: HostRuntime) -> Result<(), Fail> {
 
 #[test]
 fn gates_meters_and_filters_are_shown(rt: HostRuntime) -> Result<(), Fail> {
-    let text = text_of(rt.alloc(), END, METER, "")?;
-    let plan = plan_of(rt.alloc(), rt.alloc(), text.as_bytes())?;
+    let plan = plan_with(rt.alloc(), METER)?;
     assert_eq!(rt; plan.gates().len(), 2);
     for (number, gate) in plan.gates() {
         assert!(rt; !gate.shut_on_rx && !gate.shut_on_octets);
@@ -108,8 +105,7 @@ fn gates_meters_and_filters_are_shown(rt: HostRuntime) -> Result<(), Fail> {
 
 #[test]
 fn frames_of_the_base_plan_go(rt: HostRuntime) -> Result<(), Fail> {
-    let text = text_of(rt.alloc(), END, "", "")?;
-    let plan = plan_of(rt.alloc(), rt.alloc(), text.as_bytes())?;
+    let plan = plan_with(rt.alloc(), "")?;
     for (port, vid, da, bits) in [
         (1, 10, LISTENER, 0b100),
         (3, 10, LISTENER, 0),
@@ -129,7 +125,7 @@ fn frames_of_the_base_plan_go(rt: HostRuntime) -> Result<(), Fail> {
 /// What `toml` grows takes the global allocator, and is not refused here.
 #[test]
 fn each_growth_of_a_plan_is_refused_in_turn(rt: HostRuntime) -> Result<(), Fail> {
-    let text = text_of(rt.alloc(), END, METER, "")?;
+    let text = text_with(rt.alloc(), METER)?;
     for n in 1..1_000 {
         let gate = RefusesOne::new(rt.alloc(), n);
         let made = plan_of(&gate, rt.alloc(), text.as_bytes());
