@@ -16,4 +16,6 @@ mod ident;
 #[cfg(test)]
 mod meter;
 #[cfg(test)]
+mod must;
+#[cfg(test)]
 mod port;
