@@ -2,14 +2,16 @@
 ghost use Rattle.std.specs.Prelude.{◌≤◌};
 
 use crate::captures::{FRAME, Words, capture_of, capture_under};
+use crate::must::must;
 use bridge_capture::{
     ByteSink, ByteSource, Capture, CaptureFault, FromRead, FromWrite, Order, Packet, ReadAhead,
     SliceSource, VecSink, WriteBehind, Writer, each_text_reads_one_way, written_is_read,
 };
 use bridge_refusing::RefusesOne;
-use std::alloc::{AllocError, Allocator, Global};
+use std::alloc::{AllocError, Allocator};
 use std::cell::Cell;
 use std::io::{self, Cursor, ErrorKind, Read, Write};
+use std::process::Abort;
 use std::test::Fail;
 
 const FIRST: Words = [0, 100_000, 18, 60];
@@ -17,10 +19,10 @@ const FIRST: Words = [0, 100_000, 18, 60];
 const SECOND: Words = [0, 100_001, 18, 60];
 
 /// How many packets a source gives, and its fault.
-fn outcome<R: ByteSource, A: Allocator + Copy>(
-    alloc: A,
-    source: &mut R,
-) -> (u32, Option<CaptureFault>) {
+type Outcome = (u32, Option<CaptureFault>);
+
+/// How a source ends.
+fn outcome<R: ByteSource, A: Allocator + Copy>(alloc: A, source: &mut R) -> Outcome {
     let mut capture = match Capture::begin(source) {
         Ok(capture) => capture,
         Err(fault) => return (0, Some(fault)),
@@ -36,8 +38,14 @@ fn outcome<R: ByteSource, A: Allocator + Copy>(
 }
 
 /// The same of a text.
-fn outcome_of(alloc: Global, text: &[u8]) -> (u32, Option<CaptureFault>) {
+fn outcome_of<A: Allocator + Copy>(alloc: A, text: &[u8]) -> Outcome {
     outcome(alloc, &mut SliceSource::new(text))
+}
+
+/// Tests how a capture ends, and tells where it does not end so.
+fn ends<A: Allocator + Copy>(rt: &impl Abort, alloc: A, text: &[u8], wanted: Outcome, number: u64) {
+    let ended = outcome_of(alloc, text);
+    must(rt, ended == wanted, "a capture of", number);
 }
 
 /// The packets of a source.
@@ -63,85 +71,115 @@ fn are_both<A: Allocator>(packets: &[Packet<A>]) -> bool {
     }
 }
 
+/// How a capture of the two frames ends that is cut behind so many octets.
+fn cut_at(n: usize) -> Outcome {
+    match n {
+        0..24 => (0, Some(CaptureFault::HeaderCut)),
+        24 => (0, None),
+        25..58 => (0, Some(CaptureFault::RecordCut(1))),
+        58 => (1, None),
+        59..92 => (1, Some(CaptureFault::RecordCut(2))),
+        _ => (2, None),
+    }
+}
+
+fn cut_anywhere<A: Allocator + Copy>(rt: &impl Abort, alloc: A) -> Result<(), AllocError> {
+    let text = capture_of(alloc, &[FIRST, SECOND])?;
+    assert!(rt; text.len() == 92);
+    for n in 0..93usize {
+        assert!(rt; n <= text.len());
+        ends(rt, alloc, &text[..n], cut_at(n), n as u64);
+    }
+    Ok(())
+}
+
 #[test]
 fn a_capture_is_cut_anywhere(rt: HostRuntime) -> Result<(), Fail> {
-    let text = capture_of(rt.alloc(), &[FIRST, SECOND])?;
-    assert_eq!(rt; text.len(), 92);
-    for n in 0..93 {
-        let want = match n {
-            0..24 => (0, Some(CaptureFault::HeaderCut)),
-            24 => (0, None),
-            25..58 => (0, Some(CaptureFault::RecordCut(1))),
-            58 => (1, None),
-            59..92 => (1, Some(CaptureFault::RecordCut(2))),
-            _ => (2, None),
-        };
-        assert!(rt; n <= text.len());
-        assert_eq!(rt; outcome_of(rt.alloc(), &text[..n]), want, "of {n} octets");
-    }
+    cut_anywhere(&rt, rt.alloc())?;
+    Ok(())
+}
+
+fn spoiled<A: Allocator + Copy>(
+    rt: &impl Abort,
+    alloc: A,
+    place: usize,
+    fault: CaptureFault,
+) -> Result<(), AllocError> {
+    let mut text = capture_of(alloc, &[FIRST, SECOND])?;
+    assert!(rt; place < text.len());
+    text[place] = 9;
+    ends(rt, alloc, &text, (0, Some(fault)), place as u64);
     Ok(())
 }
 
 #[test]
 fn a_header_is_judged(rt: HostRuntime) -> Result<(), Fail> {
-    let rows = [
-        (0, CaptureFault::BadMagic),
-        (4, CaptureFault::BadVersion),
-        (20, CaptureFault::BadLinkType),
-    ];
-    for (place, fault) in rows {
-        let mut text = capture_of(rt.alloc(), &[FIRST, SECOND])?;
-        assert!(rt; place < text.len());
-        text[place] = 9;
-        assert_eq!(rt;
-            outcome_of(rt.alloc(), &text),
-            (0, Some(fault)),
-            "octet {place}"
-        );
-    }
+    spoiled(&rt, rt.alloc(), 0, CaptureFault::BadMagic)?;
+    spoiled(&rt, rt.alloc(), 4, CaptureFault::BadVersion)?;
+    spoiled(&rt, rt.alloc(), 20, CaptureFault::BadLinkType)?;
+    Ok(())
+}
+
+const RECORDS: [(&[Words], Outcome); 7] = [
+    (
+        &[[0, 5, 18, 60], [0, 4, 18, 60]],
+        (1, Some(CaptureFault::TimeBack(2))),
+    ),
+    (&[[0, 5, 18, 60], [0, 5, 18, 60]], (2, None)),
+    (&[[3_999_999_999, 999_999_999, 18, 60]], (1, None)),
+    (
+        &[[3_999_999_999, 1_000_000_000, 18, 60]],
+        (0, Some(CaptureFault::TimeTooLate(1))),
+    ),
+    (&[[0, 0, 61, 60]], (0, Some(CaptureFault::LengthsCross(1)))),
+    (
+        &[FIRST, SECOND, [0, 100_002, 19, 60]],
+        (2, Some(CaptureFault::RecordCut(3))),
+    ),
+    (
+        &[[0, 0, 262_145, 262_145]],
+        (0, Some(CaptureFault::RecordTooLarge(1))),
+    ),
+];
+
+fn records_end<A: Allocator + Copy>(
+    rt: &impl Abort,
+    alloc: A,
+    records: &[Words],
+    wanted: Outcome,
+) -> Result<(), AllocError> {
+    let text = capture_of(alloc, records)?;
+    ends(rt, alloc, &text, wanted, records.len() as u64);
     Ok(())
 }
 
 #[test]
 fn the_words_of_records_are_judged(rt: HostRuntime) -> Result<(), Fail> {
-    let rows: [(&[Words], (u32, Option<CaptureFault>)); 7] = [
-        (
-            &[[0, 5, 18, 60], [0, 4, 18, 60]],
-            (1, Some(CaptureFault::TimeBack(2))),
-        ),
-        (&[[0, 5, 18, 60], [0, 5, 18, 60]], (2, None)),
-        (&[[3_999_999_999, 999_999_999, 18, 60]], (1, None)),
-        (
-            &[[3_999_999_999, 1_000_000_000, 18, 60]],
-            (0, Some(CaptureFault::TimeTooLate(1))),
-        ),
-        (&[[0, 0, 61, 60]], (0, Some(CaptureFault::LengthsCross(1)))),
-        (
-            &[FIRST, SECOND, [0, 100_002, 19, 60]],
-            (2, Some(CaptureFault::RecordCut(3))),
-        ),
-        (
-            &[[0, 0, 262_145, 262_145]],
-            (0, Some(CaptureFault::RecordTooLarge(1))),
-        ),
-    ];
-    for (records, want) in rows {
-        let text = capture_of(rt.alloc(), records)?;
-        assert_eq!(rt; outcome_of(rt.alloc(), &text), want);
+    for (records, wanted) in &RECORDS {
+        records_end(&rt, rt.alloc(), records, *wanted)?;
     }
+    Ok(())
+}
+
+fn largest_record<A: Allocator + Copy>(rt: &impl Abort, alloc: A) -> Result<(), AllocError> {
+    let mut text = capture_of(alloc, &[[0, 0, 262_144, 262_144]])?;
+    text.resize(24 + 16 + 262_144, 0)?;
+    ends(rt, alloc, &text, (1, None), 1);
     Ok(())
 }
 
 #[test]
 fn the_largest_record_is_read(rt: HostRuntime) -> Result<(), Fail> {
-    let mut text = capture_of(rt.alloc(), &[[0, 0, 262_144, 262_144]])?;
-    text.resize(24 + 16 + 262_144, 0)?;
-    assert_eq!(rt; outcome_of(rt.alloc(), &text), (1, None));
+    largest_record(&rt, rt.alloc())?;
     Ok(())
 }
 
 /// A capture of so many records without an octet at time 0, and then some octets.
-fn many(alloc: Global, records: usize, more: usize) -> Result<Vec<u8>, AllocError>
+fn many<A: Allocator + Copy>(
+    alloc: A,
+    records: usize,
+    more: usize,
+) -> Result<Vec<u8, A>, AllocError>
     requires few { records ≤ 1000000 }
     requires short { more ≤ 16 }
 {
@@ -150,114 +188,206 @@ fn many(alloc: Global, records: usize, more: usize) -> Result<Vec<u8>, AllocErro
     Ok(text)
 }
 
+/// How a source of such a capture ends that fails after so many octets.
+fn fails_behind<A: Allocator + Copy>(
+    rt: &impl Abort,
+    alloc: A,
+    text: &[u8],
+    n: usize,
+    wanted: Outcome,
+) {
+    let mut source = SliceSource::failing_after(text, n);
+    let ended = outcome(alloc, &mut source);
+    must(
+        rt,
+        ended == wanted,
+        "a source that fails after octet",
+        n as u64,
+    );
+}
+
+fn million_records<A: Allocator + Copy>(rt: &impl Abort, alloc: A) -> Result<(), AllocError> {
+    let text = many(alloc, 1_000_000, 0)?;
+    ends(rt, alloc, &text, (1_000_000, None), 1_000_000);
+    let read = (1_000_000, Some(CaptureFault::Read));
+    fails_behind(rt, alloc, &text, 16_000_024, read);
+    Ok(())
+}
+
+/// One octet more is refused before the next one is asked for.
+fn more_than_a_million<A: Allocator + Copy>(rt: &impl Abort, alloc: A) -> Result<(), AllocError> {
+    let text = many(alloc, 1_000_000, 2)?;
+    let refused = (1_000_000, Some(CaptureFault::TooManyRecords));
+    fails_behind(rt, alloc, &text, 16_000_025, refused);
+    Ok(())
+}
+
 #[test]
 fn a_capture_has_a_million_records_at_most(rt: HostRuntime) -> Result<(), Fail> {
-    let text = many(rt.alloc(), 1_000_000, 0)?;
-    assert_eq!(rt; outcome_of(rt.alloc(), &text), (1_000_000, None));
-    let mut source = SliceSource::failing_after(&text, 16_000_024);
-    let ended = outcome(rt.alloc(), &mut source);
-    assert_eq!(rt; ended, (1_000_000, Some(CaptureFault::Read)));
-    // One octet more is refused before the next one is asked for.
-    let text = many(rt.alloc(), 1_000_000, 2)?;
-    let mut source = SliceSource::failing_after(&text, 16_000_025);
-    let ended = outcome(rt.alloc(), &mut source);
-    assert_eq!(rt; ended, (1_000_000, Some(CaptureFault::TooManyRecords)));
+    million_records(&rt, rt.alloc())?;
+    more_than_a_million(&rt, rt.alloc())?;
+    Ok(())
+}
+
+fn second_ends<A: Allocator + Copy>(
+    rt: &impl Abort,
+    alloc: A,
+    seconds: u32,
+    wanted: Outcome,
+) -> Result<(), AllocError> {
+    let words = [seconds, 4_294_967_295, 18, 60];
+    let text = capture_under(alloc, 0xA1B2_C3D4, Order::Little, &[words])?;
+    ends(rt, alloc, &text, wanted, u64::from(seconds));
     Ok(())
 }
 
 #[test]
 fn a_fraction_may_be_above_one_second(rt: HostRuntime) -> Result<(), Fail> {
-    let rows = [
-        (3_999_995_705, (1, None)),
-        (3_999_995_706, (0, Some(CaptureFault::TimeTooLate(1)))),
-    ];
-    for (seconds, want) in rows {
-        let words = [seconds, 4_294_967_295, 18, 60];
-        let text = capture_under(rt.alloc(), 0xA1B2_C3D4, Order::Little, &[words])?;
-        assert_eq!(rt; outcome_of(rt.alloc(), &text), want, "{seconds} seconds");
+    second_ends(&rt, rt.alloc(), 3_999_995_705, (1, None))?;
+    let late = (0, Some(CaptureFault::TimeTooLate(1)));
+    second_ends(&rt, rt.alloc(), 3_999_995_706, late)?;
+    Ok(())
+}
+
+/// Whether this is the one frame at 100,000.
+fn is_one<A: Allocator>(packets: &[Packet<A>]) -> bool {
+    match packets {
+        [packet] => {
+            packet.time == 100_000
+                && packet.len == 60
+                && packet.octets.as_slice() == FRAME.as_slice()
+        }
+        _ => false,
     }
+}
+
+fn magic_is_read<A: Allocator + Copy>(
+    rt: &impl Abort,
+    alloc: A,
+    magic: u32,
+    order: Order,
+    fraction: u32,
+) -> Result<(), Fail> {
+    let text = capture_under(alloc, magic, order, &[[0, fraction, 18, 60]])?;
+    let packets = packets_of(alloc, &mut SliceSource::new(&text))?;
+    must(
+        rt,
+        is_one(&packets),
+        "a capture under magic",
+        u64::from(magic),
+    );
     Ok(())
 }
 
 #[test]
 fn all_four_magics_are_read(rt: HostRuntime) -> Result<(), Fail> {
-    let rows = [
-        (0xA1B2_3C4D, Order::Little, 100_000),
-        (0xA1B2_3C4D, Order::Big, 100_000),
-        (0xA1B2_C3D4, Order::Little, 100),
-        (0xA1B2_C3D4, Order::Big, 100),
-    ];
-    for (magic, order, fraction) in rows {
-        let text = capture_under(rt.alloc(), magic, order, &[[0, fraction, 18, 60]])?;
-        let packets = packets_of(rt.alloc(), &mut SliceSource::new(&text))?;
-        assert_eq!(rt; packets.len(), 1);
-        assert_eq!(rt; packets[0].time, 100_000);
-        assert_eq!(rt; packets[0].len, 60);
-        assert_eq!(rt; packets[0].octets.as_slice(), FRAME.as_slice());
-    }
+    magic_is_read(&rt, rt.alloc(), 0xA1B2_3C4D, Order::Little, 100_000)?;
+    magic_is_read(&rt, rt.alloc(), 0xA1B2_3C4D, Order::Big, 100_000)?;
+    magic_is_read(&rt, rt.alloc(), 0xA1B2_C3D4, Order::Little, 100)?;
+    magic_is_read(&rt, rt.alloc(), 0xA1B2_C3D4, Order::Big, 100)?;
     Ok(())
+}
+
+/// Whether both packets of a text are read, or memory runs out.
+fn is_read<A: Allocator + Copy>(alloc: A, text: &[u8]) -> bool {
+    match packets_of(alloc, &mut SliceSource::new(text)) {
+        Ok(packets) => are_both(&packets),
+        Err(fault) => fault == CaptureFault::NoMemory,
+    }
+}
+
+fn refuse_each<A: Allocator + Copy>(rt: &impl Abort, alloc: A, text: &[u8]) {
+    for n in 1..1000 {
+        let gate = RefusesOne::new(alloc, n);
+        let ended = outcome_of(&gate, text);
+        must(rt, is_read(&gate, text), "growth", n);
+        if !gate.refused() {
+            assert!(rt; ended == (2, None));
+            return;
+        }
+        let is_refused = ended.1 == Some(CaptureFault::NoMemory);
+        must(rt, is_refused || ended == (2, None), "growth", n);
+    }
+    assert!(rt; false, "some growth was always refused");
 }
 
 #[test]
 fn each_growth_is_refused_in_turn(rt: HostRuntime) -> Result<(), Fail> {
     let text = capture_of(rt.alloc(), &[FIRST, SECOND])?;
-    for n in 1..1000 {
-        let gate = RefusesOne::new(rt.alloc(), n);
-        let ended = outcome(&gate, &mut SliceSource::new(&text));
-        let both = match packets_of(&gate, &mut SliceSource::new(&text)) {
-            Ok(packets) => are_both(&packets),
-            Err(fault) => fault == CaptureFault::NoMemory,
-        };
-        assert!(rt; both);
-        if !gate.refused() {
-            assert_eq!(rt; ended, (2, None));
-            return Ok(());
-        }
-        assert!(rt; ended == (2, None) || ended.1 == Some(CaptureFault::NoMemory));
+    refuse_each(&rt, rt.alloc(), &text);
+    Ok(())
+}
+
+/// The second packet is refused, again and again.
+fn refused_for_good<A: Allocator + Copy>(
+    rt: &impl Abort,
+    alloc: A,
+    text: &[u8],
+) -> Result<(), CaptureFault> {
+    let gate = RefusesOne::new(alloc, 2);
+    let mut source = SliceSource::new(text);
+    let mut capture = Capture::begin(&mut source)?;
+    assert!(rt; capture.next(&gate, &mut source)?.is_some());
+    for _ in 0..3 {
+        let fault = capture.next(&gate, &mut source).err();
+        assert!(rt; fault == Some(CaptureFault::NoMemory));
     }
-    Err(Fail::from("some growth was always refused"))
+    Ok(())
+}
+
+/// Nothing is behind the last packet, again and again.
+fn ended_for_good<A: Allocator + Copy>(
+    rt: &impl Abort,
+    alloc: A,
+    text: &[u8],
+) -> Result<(), CaptureFault> {
+    let mut source = SliceSource::new(text);
+    let mut capture = Capture::begin(&mut source)?;
+    capture.rest(alloc, &mut source)?;
+    for _ in 0..3 {
+        assert!(rt; capture.next(alloc, &mut source)?.is_none());
+    }
+    Ok(())
 }
 
 #[test]
 fn a_refusal_is_for_good(rt: HostRuntime) -> Result<(), Fail> {
     let text = capture_of(rt.alloc(), &[FIRST, SECOND])?;
-    let gate = RefusesOne::new(rt.alloc(), 2);
-    let mut source = SliceSource::new(&text);
-    let mut capture = Capture::begin(&mut source)?;
-    assert!(rt; capture.next(&gate, &mut source)?.is_some());
-    for _ in 0..3 {
-        let fault = capture.next(&gate, &mut source).err();
-        assert_eq!(rt; fault, Some(CaptureFault::NoMemory));
-    }
-    let mut source = SliceSource::new(&text);
-    let mut capture = Capture::begin(&mut source)?;
-    capture.rest(rt.alloc(), &mut source)?;
-    for _ in 0..3 {
-        assert!(rt; capture.next(rt.alloc(), &mut source)?.is_none());
-    }
+    refused_for_good(&rt, rt.alloc(), &text)?;
+    ended_for_good(&rt, rt.alloc(), &text)?;
     Ok(())
+}
+
+/// A source of the two frames that fails after so many octets gives those before.
+fn source_fails<A: Allocator + Copy>(rt: &impl Abort, alloc: A, text: &[u8], n: usize) {
+    let mut source = SliceSource::failing_after(text, n);
+    let (count, fault) = outcome(alloc, &mut source);
+    must(rt, source.failed(), "a source that fails after", n as u64);
+    must(
+        rt,
+        fault == Some(CaptureFault::Read),
+        "the fault after",
+        n as u64,
+    );
+    let wanted = match n {
+        0..58 => 0,
+        58..92 => 1,
+        _ => 2,
+    };
+    must(rt, count == wanted, "the packets after", n as u64);
 }
 
 #[test]
 fn a_source_fails_anywhere(rt: HostRuntime) -> Result<(), Fail> {
     let text = capture_of(rt.alloc(), &[FIRST, SECOND])?;
     for n in 0..93 {
-        let mut source = SliceSource::failing_after(&text, n);
-        let (count, fault) = outcome(rt.alloc(), &mut source);
-        assert!(rt; source.failed());
-        assert_eq!(rt; fault, Some(CaptureFault::Read), "after {n} octets");
-        let want = match n {
-            0..58 => 0,
-            58..92 => 1,
-            _ => 2,
-        };
-        assert_eq!(rt; count, want, "after {n} octets");
+        source_fails(&rt, rt.alloc(), &text, n);
     }
     Ok(())
 }
 
 /// A capture whose first word is not a magic, or whose first record's captured length is above the original one.
-fn refused_text(alloc: Global, in_header: bool) -> Result<Vec<u8>, AllocError> {
+fn refused_text<A: Allocator + Copy>(alloc: A, in_header: bool) -> Result<Vec<u8, A>, AllocError> {
     if in_header {
         capture_under(alloc, 0xA1B2_3C4E, Order::Little, &[FIRST])
     } else {
@@ -265,23 +395,45 @@ fn refused_text(alloc: Global, in_header: bool) -> Result<Vec<u8>, AllocError> {
     }
 }
 
+/// Tests the fault of a source that fails after so many octets, and whether it has failed.
+fn faults<A: Allocator + Copy>(
+    rt: &impl Abort,
+    alloc: A,
+    text: &[u8],
+    n: usize,
+    wanted: CaptureFault,
+    has_failed: bool,
+) {
+    let mut source = SliceSource::failing_after(text, n);
+    let ended = outcome(alloc, &mut source);
+    must(
+        rt,
+        source.failed() == has_failed,
+        "a source that fails after",
+        n as u64,
+    );
+    must(rt, ended == (0, Some(wanted)), "the fault after", n as u64);
+}
+
+fn refusal_comes_first<A: Allocator + Copy>(
+    rt: &impl Abort,
+    alloc: A,
+    in_header: bool,
+    n: usize,
+    wanted: CaptureFault,
+) -> Result<(), AllocError> {
+    assert!(rt; n > 0);
+    let text = refused_text(alloc, in_header)?;
+    faults(rt, alloc, &text, n, wanted, false);
+    faults(rt, alloc, &text, n - 1, CaptureFault::Read, true);
+    Ok(())
+}
+
 #[test]
 fn a_refusal_comes_before_what_fails_behind_it(rt: HostRuntime) -> Result<(), Fail> {
-    for (in_header, n, want) in [
-        (true, 24, CaptureFault::BadMagic),
-        (false, 40, CaptureFault::LengthsCross(1)),
-    ] {
-        let text = refused_text(rt.alloc(), in_header)?;
-        let mut source = SliceSource::failing_after(&text, n);
-        let (count, fault) = outcome(rt.alloc(), &mut source);
-        assert!(rt; !source.failed());
-        assert_eq!(rt; count, 0);
-        assert_eq!(rt; fault, Some(want));
-        let mut source = SliceSource::failing_after(&text, n - 1);
-        let (_, fault) = outcome(rt.alloc(), &mut source);
-        assert!(rt; source.failed());
-        assert_eq!(rt; fault, Some(CaptureFault::Read));
-    }
+    refusal_comes_first(&rt, rt.alloc(), true, 24, CaptureFault::BadMagic)?;
+    let lengths = CaptureFault::LengthsCross(1);
+    refusal_comes_first(&rt, rt.alloc(), false, 40, lengths)?;
     Ok(())
 }
 
@@ -315,17 +467,32 @@ impl Write for ErrsOnce {
     }
 }
 
-#[test]
-fn an_error_is_for_good(rt: HostRuntime) {
-    let mut source = FromRead::new(ErrsOnce { has_erred: false });
-    let mut sink = FromWrite::new(ErrsOnce { has_erred: false });
+/// A source that has failed goes on failing.
+fn source_errs<R: ByteSource>(rt: &impl Abort, source: &mut R) {
     for _ in 0..3 {
         let mut octets = [0; 4];
         assert!(rt; source.read(&mut octets).is_err());
         assert!(rt; source.failed());
-        assert!(rt; sink.write(&octets).is_err());
+    }
+}
+
+fn reader_errs(rt: &impl Abort) {
+    let mut source = FromRead::new(ErrsOnce { has_erred: false });
+    source_errs(rt, &mut source);
+}
+
+fn sink_errs(rt: &impl Abort) {
+    let mut sink = FromWrite::new(ErrsOnce { has_erred: false });
+    for _ in 0..3 {
+        assert!(rt; sink.write(&[0; 4]).is_err());
         assert!(rt; sink.failed());
     }
+}
+
+#[test]
+fn an_error_is_for_good(rt: HostRuntime) {
+    reader_errs(&rt);
+    sink_errs(&rt);
 }
 
 /// A writer that takes some octets a call until its allowance is spent, and then fails. It counts its calls.
@@ -351,20 +518,25 @@ impl Write for Counts<'_> {
     }
 }
 
+fn buffer_errs<A: Allocator + Copy>(rt: &impl Abort, alloc: A) -> Result<(), AllocError> {
+    let mut source = ReadAhead::new(alloc, ErrsOnce { has_erred: false })?;
+    source_errs(rt, &mut source);
+    Ok(())
+}
+
 #[test]
 fn an_error_behind_a_buffer_is_for_good(rt: HostRuntime) -> Result<(), Fail> {
-    let mut source = ReadAhead::new(rt.alloc(), ErrsOnce { has_erred: false })?;
-    for _ in 0..3 {
-        let mut octets = [0; 4];
-        assert!(rt; source.read(&mut octets).is_err());
-        assert!(rt; source.failed());
-    }
+    buffer_errs(&rt, rt.alloc())?;
     Ok(())
 }
 
 /// The calls that a writer gets of a sink that takes four times 60,000 octets and is finished, or let go: the writer takes 50,000 a
 /// call, and fails at the call behind the allowance.
-fn calls_of(alloc: Global, allowance: u32, is_finished: bool) -> Result<u32, Fail> {
+fn calls_of<A: Allocator + Copy>(
+    alloc: A,
+    allowance: u32,
+    is_finished: bool,
+) -> Result<u32, AllocError> {
     let calls = Cell::new(0);
     let octets = Vec::from_elem(alloc, 7, 60_000)?;
     let mut sink = WriteBehind::new(
@@ -385,14 +557,31 @@ fn calls_of(alloc: Global, allowance: u32, is_finished: bool) -> Result<u32, Fai
     Ok(calls.get())
 }
 
+fn asks<A: Allocator + Copy>(
+    rt: &impl Abort,
+    alloc: A,
+    allowance: u32,
+    is_finished: bool,
+    wanted: u32,
+) -> Result<(), AllocError> {
+    let calls = calls_of(alloc, allowance, is_finished)?;
+    must(
+        rt,
+        calls == wanted,
+        "the calls behind an allowance of",
+        u64::from(allowance),
+    );
+    Ok(())
+}
+
 #[test]
 fn a_writer_that_failed_is_not_asked_again(rt: HostRuntime) -> Result<(), Fail> {
     for allowance in 0..6 {
-        assert_eq!(rt; calls_of(rt.alloc(), allowance, true)?, allowance + 1);
-        assert_eq!(rt; calls_of(rt.alloc(), allowance, false)?, allowance + 1);
+        asks(&rt, rt.alloc(), allowance, true, allowance + 1)?;
+        asks(&rt, rt.alloc(), allowance, false, allowance + 1)?;
     }
-    assert_eq!(rt; calls_of(rt.alloc(), 6, true)?, 7);
-    assert_eq!(rt; calls_of(rt.alloc(), 6, false)?, 6);
+    asks(&rt, rt.alloc(), 6, true, 7)?;
+    asks(&rt, rt.alloc(), 6, false, 6)?;
     Ok(())
 }
 
@@ -403,67 +592,194 @@ fn write_both<W: ByteSink>(sink: &mut W) -> Result<(), CaptureFault> {
     writer.put(sink, 100_001, 60, &FRAME)
 }
 
+/// A sink that fails after so many octets of the two frames has those.
+fn sink_fails<A: Allocator + Copy>(rt: &impl Abort, alloc: A, text: &[u8], n: usize) {
+    let mut sink = VecSink::failing_after(alloc, n);
+    let wrote = write_both(&mut sink);
+    let wanted = if n < 92 {
+        Err(CaptureFault::Write)
+    } else {
+        Ok(())
+    };
+    must(rt, wrote == wanted, "a sink that fails after", n as u64);
+    must(
+        rt,
+        sink.failed() == (n < 92),
+        "whether it failed after",
+        n as u64,
+    );
+    assert!(rt; n <= text.len());
+    must(
+        rt,
+        sink.octets() == &text[..n],
+        "its octets after",
+        n as u64,
+    );
+}
+
 #[test]
 fn a_sink_fails_anywhere(rt: HostRuntime) -> Result<(), Fail> {
     let text = capture_of(rt.alloc(), &[FIRST, SECOND])?;
-    assert_eq!(rt; text.len(), 92);
+    assert!(rt; text.len() == 92);
     for n in 0..93 {
-        let mut sink = VecSink::failing_after(rt.alloc(), n);
-        let wrote = write_both(&mut sink);
-        let want = if n < 92 {
-            Err(CaptureFault::Write)
-        } else {
-            Ok(())
-        };
-        assert_eq!(rt; wrote, want, "after {n} octets");
-        assert_eq!(rt; sink.failed(), n < 92);
-        assert!(rt; n <= text.len());
-        assert_eq!(rt; sink.octets(), &text[..n]);
+        sink_fails(&rt, rt.alloc(), &text, n);
     }
     Ok(())
+}
+
+/// Whether all of a text is written; a sink that isn't given memory has failed.
+fn is_written<A: Allocator + Copy>(rt: &impl Abort, alloc: A, text: &[u8]) -> bool {
+    let mut sink = VecSink::new(alloc);
+    match write_both(&mut sink) {
+        Ok(()) => {
+            assert!(rt; sink.octets() == text);
+            true
+        }
+        Err(fault) => {
+            assert!(rt; fault == CaptureFault::Write);
+            assert!(rt; sink.failed());
+            false
+        }
+    }
+}
+
+fn refuse_each_of_a_sink<A: Allocator + Copy>(rt: &impl Abort, alloc: A, text: &[u8]) {
+    for n in 1..1000 {
+        let gate = RefusesOne::new(alloc, n);
+        let is_written = is_written(rt, &gate, text);
+        must(rt, is_written != gate.refused(), "growth", n);
+        if is_written {
+            return;
+        }
+    }
+    assert!(rt; false, "some growth was always refused");
 }
 
 #[test]
 fn each_growth_of_a_sink_is_refused_in_turn(rt: HostRuntime) -> Result<(), Fail> {
     let text = capture_of(rt.alloc(), &[FIRST, SECOND])?;
-    for n in 1..1000 {
-        let gate = RefusesOne::new(rt.alloc(), n);
-        let mut sink = VecSink::new(&gate);
-        let wrote = write_both(&mut sink);
-        if !gate.refused() {
-            assert_eq!(rt; wrote, Ok(()));
-            assert_eq!(rt; sink.octets(), text.as_slice());
-            return Ok(());
-        }
-        assert_eq!(rt; wrote, Err(CaptureFault::Write));
-        assert!(rt; sink.failed());
-    }
-    Err(Fail::from("some growth was always refused"))
+    refuse_each_of_a_sink(&rt, rt.alloc(), &text);
+    Ok(())
+}
+
+fn reads_one_by_one<A: Allocator + Copy>(
+    rt: &impl Abort,
+    alloc: A,
+    text: &[u8],
+) -> Result<(), CaptureFault> {
+    let packets = packets_of(alloc, &mut SliceSource::one_by_one(text))?;
+    assert!(rt; are_both(&packets));
+    Ok(())
+}
+
+fn writes_one_by_one<A: Allocator + Copy>(
+    rt: &impl Abort,
+    alloc: A,
+    text: &[u8],
+) -> Result<(), CaptureFault> {
+    let mut sink = VecSink::one_by_one(alloc);
+    write_both(&mut sink)?;
+    assert!(rt; sink.octets() == text);
+    Ok(())
 }
 
 #[test]
 fn an_octet_a_call_is_the_same(rt: HostRuntime) -> Result<(), Fail> {
     let text = capture_of(rt.alloc(), &[FIRST, SECOND])?;
-    let packets = packets_of(rt.alloc(), &mut SliceSource::one_by_one(&text))?;
+    reads_one_by_one(&rt, rt.alloc(), &text)?;
+    writes_one_by_one(&rt, rt.alloc(), &text)?;
+    Ok(())
+}
+
+fn reads_a_cursor<A: Allocator + Copy>(
+    rt: &impl Abort,
+    alloc: A,
+    text: &[u8],
+) -> Result<(), CaptureFault> {
+    let mut source = FromRead::new(Cursor::new(text));
+    let packets = packets_of(alloc, &mut source)?;
     assert!(rt; are_both(&packets));
-    let mut sink = VecSink::one_by_one(rt.alloc());
+    assert!(rt; !source.failed());
+    Ok(())
+}
+
+fn writes_a_vec<A: Allocator + Copy>(
+    rt: &impl Abort,
+    alloc: A,
+    text: &[u8],
+) -> Result<(), CaptureFault> {
+    let mut sink = FromWrite::new(Vec::new(alloc));
     write_both(&mut sink)?;
-    assert_eq!(rt; sink.octets(), text.as_slice());
+    assert!(rt; !sink.failed());
+    let octets = sink.into_inner();
+    assert!(rt; octets.as_slice() == text);
     Ok(())
 }
 
 #[test]
 fn readers_and_writers_are_the_same(rt: HostRuntime) -> Result<(), Fail> {
     let text = capture_of(rt.alloc(), &[FIRST, SECOND])?;
-    let mut source = FromRead::new(Cursor::new(text.as_slice()));
-    let packets = packets_of(rt.alloc(), &mut source)?;
+    reads_a_cursor(&rt, rt.alloc(), &text)?;
+    writes_a_vec(&rt, rt.alloc(), &text)?;
+    Ok(())
+}
+
+/// Reads both packets through a buffer in an allocator, where that is given.
+fn is_read_ahead<A: Allocator + Copy, H: Allocator + Copy>(
+    rt: &impl Abort,
+    alloc: A,
+    heap: H,
+    text: &[u8],
+) -> Result<bool, CaptureFault> {
+    let Ok(mut source) = ReadAhead::new(alloc, Cursor::new(text)) else {
+        return Ok(false);
+    };
+    let packets = packets_of(heap, &mut source)?;
     assert!(rt; are_both(&packets));
     assert!(rt; !source.failed());
-    let mut sink = FromWrite::new(Vec::new(rt.alloc()));
+    Ok(true)
+}
+
+/// Writes both packets through a buffer in an allocator, where that is given.
+fn is_written_behind<A: Allocator + Copy, H: Allocator + Copy>(
+    rt: &impl Abort,
+    alloc: A,
+    heap: H,
+    text: &[u8],
+) -> Result<bool, CaptureFault> {
+    let Ok(mut sink) = WriteBehind::new(alloc, Vec::new(heap)) else {
+        return Ok(false);
+    };
     write_both(&mut sink)?;
     assert!(rt; !sink.failed());
-    let octets = sink.into_inner();
-    assert_eq!(rt; octets.as_slice(), text.as_slice());
+    match sink.finish() {
+        Ok(octets) => {
+            assert!(rt; octets.as_slice() == text);
+            Ok(true)
+        }
+        Err(_) => Err(CaptureFault::Write),
+    }
+}
+
+/// Tests a buffer for reading and one for writing whose allocator refuses growth number `n`.
+fn buffers_go<A: Allocator + Copy>(
+    rt: &impl Abort,
+    alloc: A,
+    text: &[u8],
+    n: u64,
+) -> Result<(), CaptureFault> {
+    let gate = RefusesOne::new(alloc, n);
+    let is_read = is_read_ahead(rt, &gate, alloc, text)?;
+    must(rt, is_read == (n != 1), "a buffer for reading, growth", n);
+    if is_read {
+        let is_written = is_written_behind(rt, &gate, alloc, text)?;
+        must(
+            rt,
+            is_written == (n != 2),
+            "a buffer for writing, growth",
+            n,
+        );
+    }
     Ok(())
 }
 
@@ -471,22 +787,7 @@ fn readers_and_writers_are_the_same(rt: HostRuntime) -> Result<(), Fail> {
 fn readers_and_writers_behind_buffers_are_the_same(rt: HostRuntime) -> Result<(), Fail> {
     let text = capture_of(rt.alloc(), &[FIRST, SECOND])?;
     for n in 1..5 {
-        let gate = RefusesOne::new(rt.alloc(), n);
-        let Ok(mut source) = ReadAhead::new(&gate, Cursor::new(text.as_slice())) else {
-            assert_eq!(rt; n, 1);
-            continue;
-        };
-        let Ok(mut sink) = WriteBehind::new(&gate, Vec::new(rt.alloc())) else {
-            assert_eq!(rt; n, 2);
-            continue;
-        };
-        assert!(rt; n > 2);
-        let packets = packets_of(rt.alloc(), &mut source)?;
-        assert!(rt; are_both(&packets));
-        assert!(rt; !source.failed());
-        write_both(&mut sink)?;
-        assert!(rt; !sink.failed());
-        assert_eq!(rt; sink.finish()?.as_slice(), text.as_slice());
+        buffers_go(&rt, rt.alloc(), &text, n)?;
     }
     Ok(())
 }

@@ -1,7 +1,7 @@
 //! Captures as octets, each record with the same frame.
 
 use bridge_capture::Order;
-use std::alloc::{AllocError, Global};
+use std::alloc::{AllocError, Allocator};
 
 /// The octets of a tagged frame, of which 18 are captured.
 pub const FRAME: [u8; 18] = [
@@ -11,7 +11,11 @@ pub const FRAME: [u8; 18] = [
 /// A record: seconds, fraction, captured length, original length.
 pub type Words = [u32; 4];
 
-fn push_word(text: &mut Vec<u8>, order: Order, word: u32) -> Result<(), AllocError> {
+fn push_word<A: Allocator>(
+    text: &mut Vec<u8, A>,
+    order: Order,
+    word: u32,
+) -> Result<(), AllocError> {
     let octets = match order {
         Order::Little => word.to_le_bytes(),
         Order::Big => word.to_be_bytes(),
@@ -20,12 +24,12 @@ fn push_word(text: &mut Vec<u8>, order: Order, word: u32) -> Result<(), AllocErr
 }
 
 /// A capture under this magic: its records' words, each with the frame.
-pub fn capture_under(
-    alloc: Global,
+pub fn capture_under<A: Allocator + Copy>(
+    alloc: A,
     magic: u32,
     order: Order,
     records: &[Words],
-) -> Result<Vec<u8>, AllocError> {
+) -> Result<Vec<u8, A>, AllocError> {
     let mut text = Vec::new(alloc);
     push_word(&mut text, order, magic)?;
     let version = match order {
@@ -46,6 +50,9 @@ pub fn capture_under(
 }
 
 /// A capture in the written form: its records' words, each with the frame.
-pub fn capture_of(alloc: Global, records: &[Words]) -> Result<Vec<u8>, AllocError> {
+pub fn capture_of<A: Allocator + Copy>(
+    alloc: A,
+    records: &[Words],
+) -> Result<Vec<u8, A>, AllocError> {
     capture_under(alloc, 0xA1B2_3C4D, Order::Little, records)
 }

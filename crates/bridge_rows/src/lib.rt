@@ -5,6 +5,8 @@
 mod capture;
 pub mod captures;
 #[cfg(test)]
+mod must;
+#[cfg(test)]
 mod text;
 #[cfg(test)]
 mod wire;

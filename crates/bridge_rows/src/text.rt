@@ -1,8 +1,10 @@
 //! Rows for the hexadecimal text of captures.
+use crate::must::must;
 use bridge_capture::{CaptureFault, VecSink, Writer};
 use bridge_refusing::RefusesOne;
 use bridge_text::{HexFault, MAX_OCTETS, MAX_TEXT, lines_of, octets_of};
-use std::alloc::{AllocError, Allocator, Global};
+use std::alloc::{AllocError, Allocator};
+use std::process::Abort;
 use std::test::Fail;
 
 /// The octets of a tagged frame, of which 18 are captured.
@@ -27,84 +29,167 @@ fn capture_of<A: Allocator>(alloc: A, moments: &[u32]) -> Result<VecSink<A>, Cap
 }
 
 /// So many times the one text, and then the other.
-fn repeated(alloc: Global, count: usize, octet: u8, end: &str) -> Result<Vec<u8>, AllocError> {
+fn repeated<A: Allocator + Copy>(
+    alloc: A,
+    count: usize,
+    octet: u8,
+    end: &str,
+) -> Result<Vec<u8, A>, AllocError> {
     let mut text = Vec::from_elem(alloc, octet, count)?;
     text.extend_from_slice(end.as_bytes())?;
     Ok(text)
 }
 
-#[test]
-fn a_text_spells_octets(rt: HostRuntime) -> Result<(), Fail> {
-    let rows: [(&str, Result<&[u8], HexFault>); 12] = [
-        ("", Ok(&[])),
-        (" \t\r\n", Ok(&[])),
-        ("4d3cb2a1", Ok(&[0x4d, 0x3c, 0xb2, 0xa1])),
-        ("4D3cB2a1", Ok(&[0x4d, 0x3c, 0xb2, 0xa1])),
-        (" 4d\t3c\r\nb2 a1\n", Ok(&[0x4d, 0x3c, 0xb2, 0xa1])),
-        ("4", Err(HexFault::NotHex)),
-        ("4 d", Err(HexFault::NotHex)),
-        ("4x", Err(HexFault::NotHex)),
-        ("x4", Err(HexFault::NotHex)),
-        ("4d4", Err(HexFault::NotHex)),
-        ("4g", Err(HexFault::NotHex)),
-        ("@G", Err(HexFault::NotHex)),
-    ];
-    for (text, want) in rows {
-        match (octets_of(rt.alloc(), text.as_bytes()), want) {
-            (Ok(octets), Ok(wanted)) => assert!(rt; octets.as_slice() == wanted, "{text:?}"),
-            (Err(fault), Err(wanted)) => assert_eq!(rt; fault, wanted, "{text:?}"),
-            _ => panic!(rt; "{text:?}"),
-        }
-    }
-    Ok(())
+const SPELLED: [(&str, Result<&[u8], HexFault>); 12] = [
+    ("", Ok(&[])),
+    (" \t\r\n", Ok(&[])),
+    ("4d3cb2a1", Ok(&[0x4d, 0x3c, 0xb2, 0xa1])),
+    ("4D3cB2a1", Ok(&[0x4d, 0x3c, 0xb2, 0xa1])),
+    (" 4d\t3c\r\nb2 a1\n", Ok(&[0x4d, 0x3c, 0xb2, 0xa1])),
+    ("4", Err(HexFault::NotHex)),
+    ("4 d", Err(HexFault::NotHex)),
+    ("4x", Err(HexFault::NotHex)),
+    ("x4", Err(HexFault::NotHex)),
+    ("4d4", Err(HexFault::NotHex)),
+    ("4g", Err(HexFault::NotHex)),
+    ("@G", Err(HexFault::NotHex)),
+];
+
+fn spells<A: Allocator + Copy>(
+    rt: &impl Abort,
+    alloc: A,
+    text: &str,
+    wanted: Result<&[u8], HexFault>,
+) {
+    let is_spelled = match (octets_of(alloc, text.as_bytes()), wanted) {
+        (Ok(octets), Ok(wanted)) => octets.as_slice() == wanted,
+        (Err(fault), Err(wanted)) => fault == wanted,
+        _ => false,
+    };
+    must(rt, is_spelled, text, text.len() as u64);
 }
 
 #[test]
-fn a_text_has_limits(rt: HostRuntime) -> Result<(), Fail> {
-    let rows = [
-        (2 * MAX_OCTETS, b'0', "", None),
-        (2 * MAX_OCTETS, b'0', " \n", None),
-        (2 * MAX_OCTETS, b'0', "00", Some(HexFault::TooLong)),
-        (2 * MAX_OCTETS, b'0', "0f", Some(HexFault::TooLong)),
-        (2 * MAX_OCTETS, b'0', "0x", Some(HexFault::NotHex)),
-        (2 * MAX_OCTETS, b'0', "x0", Some(HexFault::NotHex)),
-        (2 * MAX_OCTETS, b'0', "0", Some(HexFault::NotHex)),
-        (MAX_TEXT, b' ', "", None),
-        (MAX_TEXT, b' ', " ", Some(HexFault::TooLong)),
-        (MAX_TEXT, b'x', "", Some(HexFault::NotHex)),
-        (MAX_TEXT, b'x', "x", Some(HexFault::TooLong)),
-    ];
-    for (count, octet, end, want) in rows {
-        let text = repeated(rt.alloc(), count, octet, end)?;
-        let spelled = octets_of(rt.alloc(), &text);
-        assert_eq!(rt; spelled.err(), want, "{count} and {end:?}");
+fn a_text_spells_octets(rt: HostRuntime) {
+    for (text, wanted) in &SPELLED {
+        spells(&rt, rt.alloc(), text, *wanted);
     }
-    let text = repeated(rt.alloc(), 2 * MAX_OCTETS, b'f', "")?;
-    let octets = octets_of(rt.alloc(), &text)?;
-    assert_eq!(rt; octets.len(), 1_048_576);
+}
+
+/// How often an octet stands before a text, and the fault.
+const LIMITS: [(usize, u8, &str, Option<HexFault>); 11] = [
+    (2 * MAX_OCTETS, b'0', "", None),
+    (2 * MAX_OCTETS, b'0', " \n", None),
+    (2 * MAX_OCTETS, b'0', "00", Some(HexFault::TooLong)),
+    (2 * MAX_OCTETS, b'0', "0f", Some(HexFault::TooLong)),
+    (2 * MAX_OCTETS, b'0', "0x", Some(HexFault::NotHex)),
+    (2 * MAX_OCTETS, b'0', "x0", Some(HexFault::NotHex)),
+    (2 * MAX_OCTETS, b'0', "0", Some(HexFault::NotHex)),
+    (MAX_TEXT, b' ', "", None),
+    (MAX_TEXT, b' ', " ", Some(HexFault::TooLong)),
+    (MAX_TEXT, b'x', "", Some(HexFault::NotHex)),
+    (MAX_TEXT, b'x', "x", Some(HexFault::TooLong)),
+];
+
+fn is_limited<A: Allocator + Copy>(
+    rt: &impl Abort,
+    alloc: A,
+    count: usize,
+    octet: u8,
+    end: &str,
+    wanted: Option<HexFault>,
+) -> Result<(), AllocError> {
+    let text = repeated(alloc, count, octet, end)?;
+    let spelled = octets_of(alloc, &text);
+    must(rt, spelled.err() == wanted, end, count as u64);
+    Ok(())
+}
+
+fn spells_most<A: Allocator + Copy>(rt: &impl Abort, alloc: A) -> Result<(), Fail> {
+    let text = repeated(alloc, 2 * MAX_OCTETS, b'f', "")?;
+    let octets = octets_of(alloc, &text)?;
+    assert!(rt; octets.len() == 1_048_576);
     assert!(rt; octets.iter().all(|octet| *octet == 0xff));
     Ok(())
 }
 
 #[test]
+fn a_text_has_limits(rt: HostRuntime) -> Result<(), Fail> {
+    for (count, octet, end, wanted) in &LIMITS {
+        is_limited(&rt, rt.alloc(), *count, *octet, end, *wanted)?;
+    }
+    spells_most(&rt, rt.alloc())
+}
+
+/// The moments of a capture, and its lines.
+const LINES: [(&[u32], &[&str]); 3] = [
+    (&[], &[HEADER_LINE]),
+    (&[100_672], &[HEADER_LINE, FIRST_LINE]),
+    (&[100_672, 101_344], &[HEADER_LINE, FIRST_LINE, SECOND_LINE]),
+];
+
+fn joined<A: Allocator + Copy>(alloc: A, lines: &[&str]) -> Result<String<A>, AllocError> {
+    let mut text = String::new(alloc);
+    for line in lines {
+        text.push_str(line)?;
+    }
+    Ok(text)
+}
+
+fn has_lines<A: Allocator + Copy>(
+    rt: &impl Abort,
+    alloc: A,
+    octets: &[u8],
+    lines: &[&str],
+) -> Result<(), Fail> {
+    let text = lines_of(alloc, octets)?;
+    let wanted = joined(alloc, lines)?;
+    must(
+        rt,
+        text.as_str() == wanted.as_str(),
+        "lines",
+        lines.len() as u64,
+    );
+    let read = octets_of(alloc, text.as_bytes())?;
+    must(
+        rt,
+        read.as_slice() == octets,
+        "octets of lines",
+        lines.len() as u64,
+    );
+    Ok(())
+}
+
+#[test]
 fn a_capture_is_a_line_for_each_record(rt: HostRuntime) -> Result<(), Fail> {
-    let rows: [(&[u32], &[&str]); 3] = [
-        (&[], &[HEADER_LINE]),
-        (&[100_672], &[HEADER_LINE, FIRST_LINE]),
-        (&[100_672, 101_344], &[HEADER_LINE, FIRST_LINE, SECOND_LINE]),
-    ];
-    for (moments, lines) in rows {
+    for (moments, lines) in &LINES {
         let capture = capture_of(rt.alloc(), moments)?;
-        let text = lines_of(rt.alloc(), capture.octets())?;
-        let mut want = String::new(rt.alloc());
-        for line in lines {
-            want.push_str(line)?;
-        }
-        assert_eq!(rt; text, want);
-        let octets = octets_of(rt.alloc(), text.as_bytes())?;
-        assert_eq!(rt; octets.as_slice(), capture.octets());
+        has_lines(&rt, rt.alloc(), capture.octets(), lines)?;
     }
     Ok(())
+}
+
+/// Tests that the lines of a capture, and the octets of a text, take one growth.
+fn takes_one_growth<A: Allocator + Copy>(
+    rt: &impl Abort,
+    alloc: A,
+    octets: &[u8],
+    text: &[u8],
+    n: u64,
+) {
+    let gate = RefusesOne::new(alloc, n);
+    let wrote = lines_of(&gate, octets).is_ok();
+    must(rt, gate.refused() == (n == 1), "growth of lines", n);
+    must(rt, wrote == (n > 1), "lines, growth", n);
+    let gate = RefusesOne::new(alloc, n);
+    let fault = octets_of(&gate, text).err();
+    must(rt, gate.refused() == (n == 1), "growth of octets", n);
+    let wanted = if n == 1 {
+        Some(HexFault::NoMemory)
+    } else {
+        None
+    };
+    must(rt, fault == wanted, "octets, growth", n);
 }
 
 #[test]
@@ -112,21 +197,7 @@ fn each_growth_of_a_text_is_refused_in_turn(rt: HostRuntime) -> Result<(), Fail>
     let capture = capture_of(rt.alloc(), &[100_672, 101_344])?;
     let text = lines_of(rt.alloc(), capture.octets())?;
     for n in 1..3 {
-        let gate = RefusesOne::new(rt.alloc(), n);
-        let wrote = lines_of(&gate, capture.octets());
-        assert_eq!(rt; gate.refused(), n == 1);
-        assert_eq!(rt; wrote.is_ok(), n > 1);
-        let gate = RefusesOne::new(rt.alloc(), n);
-        let read = octets_of(&gate, text.as_bytes());
-        assert_eq!(rt; gate.refused(), n == 1);
-        assert_eq!(rt;
-            read.err(),
-            if n == 1 {
-                Some(HexFault::NoMemory)
-            } else {
-                None
-            }
-        );
+        takes_one_growth(&rt, rt.alloc(), capture.octets(), text.as_bytes(), n);
     }
     Ok(())
 }

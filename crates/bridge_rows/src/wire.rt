@@ -1,10 +1,12 @@
 //! One capture through one queue: worked examples of what leaves, of counts and of faults.
 use crate::captures::{Words, capture_of};
+use crate::must::must;
 use bridge_capture::{ByteSink, ByteSource, CaptureFault, SliceSource, VecSink};
 use bridge_frame::Speed;
 use bridge_refusing::RefusesOne;
 use bridge_wire::{RunFault, WireCount, wire};
 use std::alloc::Allocator;
+use std::process::Abort;
 use std::test::Fail;
 
 const ARRIVALS: [Words; 2] = [[0, 100_000, 18, 60], [0, 100_001, 18, 60]];
@@ -27,80 +29,136 @@ fn run<R: ByteSource, W: ByteSink, A: Allocator + Copy>(
     wire(alloc, Speed::Mbps1000, 4, source, sink)
 }
 
-#[test]
-fn frames_leave_one_after_the_other(rt: HostRuntime) -> Result<(), Fail> {
-    let rows: [(&[Words], &[Words], WireCount); 3] = [
-        (
-            &[],
-            &[],
-            WireCount {
-                frames: 0,
-                malformed: 0,
-                sent: 0,
-                full: 0,
-            },
-        ),
-        (&ARRIVALS, &DEPARTURES, BOTH),
-        (
-            &[[0, 100_000, 18, 60], [0, 100_000, 18, 9_217]],
-            &[[0, 100_672, 18, 60]],
-            WireCount {
-                frames: 2,
-                malformed: 1,
-                sent: 1,
-                full: 0,
-            },
-        ),
-    ];
-    for (arrivals, departures, want) in rows {
-        let text = capture_of(rt.alloc(), arrivals)?;
-        let mut sink = VecSink::new(rt.alloc());
-        let count = run(rt.alloc(), &mut SliceSource::new(&text), &mut sink)?;
-        assert_eq!(rt; count, want);
-        let left = capture_of(rt.alloc(), departures)?;
-        assert_eq!(rt; sink.octets(), left.as_slice());
-    }
+/// Tests a run over a link of 1,000 Mb/s and a queue of so many places: its counts, and what leaves.
+fn goes<A: Allocator + Copy>(
+    rt: &impl Abort,
+    alloc: A,
+    places: u16,
+    text: &[u8],
+    wanted: WireCount,
+    departures: &[Words],
+) -> Result<(), Fail> {
+    assert!(rt; 1 <= places);
+    assert!(rt; places <= 4_096);
+    let left = capture_of(alloc, departures)?;
+    let mut sink = VecSink::new(alloc);
+    let mut source = SliceSource::new(text);
+    let count = wire(alloc, Speed::Mbps1000, places, &mut source, &mut sink)?;
+    must(rt, count == wanted, "the counts of frames", wanted.frames);
+    must(
+        rt,
+        sink.octets() == left.as_slice(),
+        "what leaves of frames",
+        wanted.frames,
+    );
     Ok(())
 }
 
+/// The same of a capture of records.
+fn records_go<A: Allocator + Copy>(
+    rt: &impl Abort,
+    alloc: A,
+    places: u16,
+    arrivals: &[Words],
+    wanted: WireCount,
+    departures: &[Words],
+) -> Result<(), Fail> {
+    let text = capture_of(alloc, arrivals)?;
+    goes(rt, alloc, places, &text, wanted, departures)
+}
+
+const NONE: WireCount = WireCount {
+    frames: 0,
+    malformed: 0,
+    sent: 0,
+    full: 0,
+};
+
+const ONE_TOO_LONG: [Words; 2] = [[0, 100_000, 18, 60], [0, 100_000, 18, 9_217]];
+
+const FIRST_ALONE: [Words; 1] = [[0, 100_672, 18, 60]];
+
+const ONE_MALFORMED: WireCount = WireCount {
+    frames: 2,
+    malformed: 1,
+    sent: 1,
+    full: 0,
+};
+
+#[test]
+fn frames_leave_one_after_the_other(rt: HostRuntime) -> Result<(), Fail> {
+    records_go(&rt, rt.alloc(), 4, &[], NONE, &[])?;
+    records_go(&rt, rt.alloc(), 4, &ARRIVALS, BOTH, &DEPARTURES)?;
+    records_go(
+        &rt,
+        rt.alloc(),
+        4,
+        &ONE_TOO_LONG,
+        ONE_MALFORMED,
+        &FIRST_ALONE,
+    )
+}
+
+const AT_ONCE: [Words; 2] = [[0, 100_000, 18, 60], [0, 100_000, 18, 60]];
+
+const ONE_FULL: WireCount = WireCount {
+    frames: 2,
+    malformed: 0,
+    sent: 1,
+    full: 1,
+};
+
 #[test]
 fn a_queue_may_be_full(rt: HostRuntime) -> Result<(), Fail> {
-    let text = capture_of(rt.alloc(), &[[0, 100_000, 18, 60], [0, 100_000, 18, 60]])?;
-    let mut sink = VecSink::new(rt.alloc());
-    let mut source = SliceSource::new(&text);
-    let count = wire(rt.alloc(), Speed::Mbps1000, 1, &mut source, &mut sink)?;
-    assert_eq!(rt;
-        count,
-        WireCount {
-            frames: 2,
-            malformed: 0,
-            sent: 1,
-            full: 1,
-        }
-    );
-    let left = capture_of(rt.alloc(), &[[0, 100_672, 18, 60]])?;
-    assert_eq!(rt; sink.octets(), left.as_slice());
-    Ok(())
+    records_go(&rt, rt.alloc(), 1, &AT_ONCE, ONE_FULL, &FIRST_ALONE)
+}
+
+const MALFORMED: WireCount = WireCount {
+    frames: 1,
+    malformed: 1,
+    sent: 0,
+    full: 0,
+};
+
+fn short_frame_goes<A: Allocator + Copy>(rt: &impl Abort, alloc: A) -> Result<(), Fail> {
+    let mut text = capture_of(alloc, &[[0, 100_000, 13, 60]])?;
+    text.resize(24 + 16 + 13, 0)?;
+    goes(rt, alloc, 4, &text, MALFORMED, &[])
 }
 
 #[test]
 fn a_frame_of_13_octets_is_malformed(rt: HostRuntime) -> Result<(), Fail> {
-    let mut text = capture_of(rt.alloc(), &[[0, 100_000, 13, 60]])?;
-    text.resize(24 + 16 + 13, 0)?;
-    let mut sink = VecSink::new(rt.alloc());
-    let count = run(rt.alloc(), &mut SliceSource::new(&text), &mut sink)?;
-    assert_eq!(rt;
-        count,
-        WireCount {
-            frames: 1,
-            malformed: 1,
-            sent: 0,
-            full: 0,
-        }
+    short_frame_goes(&rt, rt.alloc())
+}
+
+/// Tests how a run ends, and that a front of what leaves is written.
+fn ends<A: Allocator + Copy>(
+    rt: &impl Abort,
+    alloc: A,
+    source: &mut SliceSource<'_>,
+    wanted: CaptureFault,
+    left: &[u8],
+    written: usize,
+) {
+    let mut sink = VecSink::new(alloc);
+    let ended = run(alloc, source, &mut sink);
+    let fault = RunFault::Capture {
+        port: 1,
+        fault: wanted,
+    };
+    must(
+        rt,
+        ended == Err(fault),
+        "the fault where there are written",
+        written as u64,
     );
-    let left = capture_of(rt.alloc(), &[])?;
-    assert_eq!(rt; sink.octets(), left.as_slice());
-    Ok(())
+    assert!(rt; written <= left.len());
+    must(
+        rt,
+        sink.octets() == &left[..written],
+        "what is written, of",
+        written as u64,
+    );
 }
 
 #[test]
@@ -108,107 +166,123 @@ fn a_source_fails_anywhere(rt: HostRuntime) -> Result<(), Fail> {
     let text = capture_of(rt.alloc(), &ARRIVALS)?;
     let left = capture_of(rt.alloc(), &DEPARTURES)?;
     for n in 0..93 {
-        let mut source = SliceSource::failing_after(&text, n);
-        let mut sink = VecSink::new(rt.alloc());
-        let ended = run(rt.alloc(), &mut source, &mut sink);
-        assert_eq!(rt;
-            ended,
-            Err(RunFault::Capture {
-                port: 1,
-                fault: CaptureFault::Read
-            }),
-            "after {n} octets"
-        );
         let written = match n {
             0..=57 => 0,
             58..=91 => 24,
             _ => 58,
         };
-        assert!(rt; written <= left.len());
-        assert_eq!(rt; sink.octets(), &left[..written]);
+        let mut source = SliceSource::failing_after(&text, n);
+        ends(
+            &rt,
+            rt.alloc(),
+            &mut source,
+            CaptureFault::Read,
+            &left,
+            written,
+        );
     }
     Ok(())
 }
+
+/// The octets of a capture, the fault where it ends there, and the octets that are written.
+const CUTS: [(usize, CaptureFault, usize); 6] = [
+    (0, CaptureFault::HeaderCut, 0),
+    (23, CaptureFault::HeaderCut, 0),
+    (25, CaptureFault::RecordCut(1), 0),
+    (57, CaptureFault::RecordCut(1), 0),
+    (59, CaptureFault::RecordCut(2), 24),
+    (91, CaptureFault::RecordCut(2), 24),
+];
 
 #[test]
 fn a_capture_is_cut_anywhere(rt: HostRuntime) -> Result<(), Fail> {
     let text = capture_of(rt.alloc(), &ARRIVALS)?;
     let left = capture_of(rt.alloc(), &DEPARTURES)?;
-    for (n, fault, written) in [
-        (0, CaptureFault::HeaderCut, 0),
-        (23, CaptureFault::HeaderCut, 0),
-        (25, CaptureFault::RecordCut(1), 0),
-        (57, CaptureFault::RecordCut(1), 0),
-        (59, CaptureFault::RecordCut(2), 24),
-        (91, CaptureFault::RecordCut(2), 24),
-    ] {
-        assert!(rt; n <= text.len());
-        let mut sink = VecSink::new(rt.alloc());
-        let ended = run(rt.alloc(), &mut SliceSource::new(&text[..n]), &mut sink);
-        assert_eq!(rt;
-            ended,
-            Err(RunFault::Capture { port: 1, fault }),
-            "{n} octets"
-        );
-        assert!(rt; written <= left.len());
-        assert_eq!(rt; sink.octets(), &left[..written]);
+    for (n, fault, written) in &CUTS {
+        assert!(rt; *n <= text.len());
+        let mut source = SliceSource::new(&text[..*n]);
+        ends(&rt, rt.alloc(), &mut source, *fault, &left, *written);
     }
     Ok(())
+}
+
+fn sink_fails<A: Allocator + Copy>(rt: &impl Abort, alloc: A, text: &[u8], left: &[u8], n: usize) {
+    let mut sink = VecSink::failing_after(alloc, n);
+    let ended = run(alloc, &mut SliceSource::new(text), &mut sink);
+    let wanted = if n < 92 {
+        Err(RunFault::Write { port: 1 })
+    } else {
+        Ok(BOTH)
+    };
+    must(rt, ended == wanted, "a sink that fails after", n as u64);
+    assert!(rt; n <= left.len());
+    must(
+        rt,
+        sink.octets() == &left[..n],
+        "its octets after",
+        n as u64,
+    );
 }
 
 #[test]
 fn a_sink_fails_anywhere(rt: HostRuntime) -> Result<(), Fail> {
     let text = capture_of(rt.alloc(), &ARRIVALS)?;
     let left = capture_of(rt.alloc(), &DEPARTURES)?;
-    assert_eq!(rt; left.len(), 92);
+    assert!(rt; left.len() == 92);
     for n in 0..93 {
-        let mut sink = VecSink::failing_after(rt.alloc(), n);
-        let ended = run(rt.alloc(), &mut SliceSource::new(&text), &mut sink);
-        let want = if n < 92 {
-            Err(RunFault::Write { port: 1 })
-        } else {
-            Ok(BOTH)
-        };
-        assert_eq!(rt; ended, want, "after {n} octets");
-        assert!(rt; n <= left.len());
-        assert_eq!(rt; sink.octets(), &left[..n]);
+        sink_fails(&rt, rt.alloc(), &text, &left, n);
     }
     Ok(())
+}
+
+fn goes_one_by_one<A: Allocator + Copy>(rt: &impl Abort, alloc: A, text: &[u8], left: &[u8]) {
+    let mut source = SliceSource::one_by_one(text);
+    let mut sink = VecSink::one_by_one(alloc);
+    assert!(rt; run(alloc, &mut source, &mut sink) == Ok(BOTH));
+    assert!(rt; sink.octets() == left);
 }
 
 #[test]
 fn an_octet_a_call_is_the_same(rt: HostRuntime) -> Result<(), Fail> {
     let text = capture_of(rt.alloc(), &ARRIVALS)?;
     let left = capture_of(rt.alloc(), &DEPARTURES)?;
-    let mut source = SliceSource::one_by_one(&text);
-    let mut sink = VecSink::one_by_one(rt.alloc());
-    assert_eq!(rt; run(rt.alloc(), &mut source, &mut sink), Ok(BOTH));
-    assert_eq!(rt; sink.octets(), left.as_slice());
+    goes_one_by_one(&rt, rt.alloc(), &text, &left);
     Ok(())
+}
+
+/// Whether all leaves; where it doesn't, memory ran out.
+fn is_run<A: Allocator + Copy>(rt: &impl Abort, alloc: A, text: &[u8], left: &[u8]) -> bool {
+    let mut sink = VecSink::new(alloc);
+    match run(alloc, &mut SliceSource::new(text), &mut sink) {
+        Ok(count) => {
+            assert!(rt; count == BOTH);
+            assert!(rt; sink.octets() == left);
+            true
+        }
+        Err(fault) => {
+            let write = RunFault::Write { port: 1 };
+            assert!(rt; fault == RunFault::NoMemory || fault == write);
+            false
+        }
+    }
+}
+
+fn refuse_each<A: Allocator + Copy>(rt: &impl Abort, alloc: A, text: &[u8], left: &[u8]) {
+    for n in 1..1_000 {
+        let gate = RefusesOne::new(alloc, n);
+        let is_run = is_run(rt, &gate, text, left);
+        must(rt, is_run || gate.refused(), "growth", n);
+        if !gate.refused() {
+            return;
+        }
+    }
+    assert!(rt; false, "some growth was always refused");
 }
 
 #[test]
 fn each_growth_of_a_run_is_refused_in_turn(rt: HostRuntime) -> Result<(), Fail> {
     let text = capture_of(rt.alloc(), &ARRIVALS)?;
     let left = capture_of(rt.alloc(), &DEPARTURES)?;
-    for n in 1..1_000 {
-        let gate = RefusesOne::new(rt.alloc(), n);
-        let mut sink = VecSink::new(&gate);
-        let ended = run(&gate, &mut SliceSource::new(&text), &mut sink);
-        match ended {
-            Ok(count) => {
-                assert_eq!(rt; count, BOTH, "growth {n}");
-                assert_eq!(rt; sink.octets(), left.as_slice());
-            }
-            Err(fault) => {
-                assert!(rt; gate.refused());
-                let write = RunFault::Write { port: 1 };
-                assert!(rt; fault == RunFault::NoMemory || fault == write, "growth {n}");
-            }
-        }
-        if !gate.refused() {
-            return Ok(());
-        }
-    }
-    Err(Fail::from("some growth was always refused"))
+    refuse_each(&rt, rt.alloc(), &text, &left);
+    Ok(())
 }

@@ -1,9 +1,10 @@
 //! Cyclic lists: worked examples of turns, of what is refused, of runs and of fits.
 ghost use Rattle.std.specs.Prelude.{◌<◌, ◌≤◌};
 
+use crate::must::must;
 use bridge_cycle::{CyclicList, ListFault, Run, Timeline, Turn, first_fit, longest_run};
 use bridge_refusing::RefusesOne;
-use std::alloc::Allocator;
+use std::alloc::{AllocError, Allocator};
 use std::process::Abort;
 use std::test::Fail;
 
@@ -27,96 +28,122 @@ fn fault_of<A: Allocator + Copy>(alloc: A, cycle: u64, intervals: &[u64]) -> Opt
     CyclicList::new(alloc, 0, cycle, entries).err()
 }
 
-#[test]
-fn the_first_fault_is_answered(rt: HostRuntime) -> Result<(), Fail> {
-    let many = vec![in rt.alloc(); 0u64; 257]?;
-    let most = vec![in rt.alloc(); 1u64; 256]?;
-    for (cycle, intervals, wanted) in [
-        (0, [].as_slice(), Some(ListFault::Empty)),
-        (0, many.as_slice(), Some(ListFault::TooManyEntries)),
-        (0, [0].as_slice(), Some(ListFault::CycleOutOfRange)),
-        (10, [0, 11].as_slice(), Some(ListFault::ZeroInterval)),
-        (10, [5, 6].as_slice(), Some(ListFault::OverCycle)),
-        (10, [5, 5].as_slice(), None),
-        (10, [5, 4].as_slice(), None),
-        (256, most.as_slice(), None),
-        (255, most.as_slice(), Some(ListFault::OverCycle)),
-        (1_000_000_000, [1].as_slice(), None),
-        (
-            1_000_000_001,
-            [1].as_slice(),
-            Some(ListFault::CycleOutOfRange),
-        ),
-        (
-            10,
-            [9_223_372_036_854_775_807, 9_223_372_036_854_775_807].as_slice(),
-            Some(ListFault::OverCycle),
-        ),
-    ] {
-        assert_eq!(rt;
-            fault_of(rt.alloc(), cycle, intervals),
-            wanted,
-            "cycle {cycle}"
+/// The cycle, the intervals and the fault of a list.
+const FAULTS: [(u64, &[u64], Option<ListFault>); 9] = [
+    (0, &[], Some(ListFault::Empty)),
+    (0, &[0], Some(ListFault::CycleOutOfRange)),
+    (10, &[0, 11], Some(ListFault::ZeroInterval)),
+    (10, &[5, 6], Some(ListFault::OverCycle)),
+    (10, &[5, 5], None),
+    (10, &[5, 4], None),
+    (1_000_000_000, &[1], None),
+    (1_000_000_001, &[1], Some(ListFault::CycleOutOfRange)),
+    (
+        10,
+        &[9_223_372_036_854_775_807, 9_223_372_036_854_775_807],
+        Some(ListFault::OverCycle),
+    ),
+];
+
+fn faults<A: Allocator + Copy>(rt: &impl Abort, alloc: A) {
+    for (cycle, intervals, wanted) in &FAULTS {
+        must(
+            rt,
+            fault_of(alloc, *cycle, intervals) == *wanted,
+            "cycle",
+            *cycle,
         );
     }
+}
+
+/// The faults of lists of as many entries as there may be, and of one more.
+fn faults_of_long_lists<A: Allocator + Copy>(rt: &impl Abort, alloc: A) -> Result<(), AllocError> {
+    let many = Vec::from_elem(alloc, 0u64, 257)?;
+    let most = Vec::from_elem(alloc, 1u64, 256)?;
+    assert!(rt; fault_of(alloc, 0, &many) == Some(ListFault::TooManyEntries));
+    assert!(rt; fault_of(alloc, 256, &most) == None);
+    assert!(rt; fault_of(alloc, 255, &most) == Some(ListFault::OverCycle));
+    Ok(())
+}
+
+#[test]
+fn the_first_fault_is_answered(rt: HostRuntime) -> Result<(), Fail> {
+    faults(&rt, rt.alloc());
+    faults_of_long_lists(&rt, rt.alloc())?;
+    Ok(())
+}
+
+/// A moment, with the state, the start and the end of its turn.
+type Moment = (u64, u8, i64, u64);
+
+fn turns<A: Allocator + Copy>(rt: &impl Abort, list: &CyclicList<u8, A>, moments: &[Moment]) {
+    for (t, state, start, end) in moments {
+        assert!(rt; *t < 9_000_000_000_000_000_000);
+        let turn = list.turn(*t);
+        let is_said = turn.state == *state && turn.start == *start && turn.end == *end;
+        must(rt, is_said, "the turn at", *t);
+    }
+}
+
+/// The entries of a list whose base is 500,000 and whose cycle is 1,000,000 ns.
+const FROM_500_000: [(u8, u64); 2] = [(1, 300_000), (2, 700_000)];
+
+const TURNS: [Moment; 6] = [
+    (0, 2, -200_000, 500_000),
+    (499_999, 2, -200_000, 500_000),
+    (500_000, 1, 500_000, 800_000),
+    (799_999, 1, 500_000, 800_000),
+    (800_000, 2, 800_000, 1_500_000),
+    (1_500_000, 1, 1_500_000, 1_800_000),
+];
+
+/// Tests the turns of a list and of its copy.
+fn turns_before_0<A: Allocator + Copy>(rt: &impl Abort, alloc: A) -> Result<(), ListFault> {
+    let entries = Vec::from_slice(alloc, &FROM_500_000)?;
+    let list = CyclicList::new(alloc, 500_000, 1_000_000, entries)?;
+    let Ok(copy) = list.copy(alloc) else {
+        return Err(ListFault::NoMemory);
+    };
+    assert!(rt; copy.entries() == FROM_500_000.as_slice());
+    assert!(rt; copy.base() == 500_000 && copy.cycle() == 1_000_000);
+    turns(rt, &list, &TURNS);
+    turns(rt, &copy, &TURNS);
     Ok(())
 }
 
 #[test]
 fn a_turn_may_begin_before_0(rt: HostRuntime) -> Result<(), Fail> {
-    let entries = vec![in rt.alloc(); (1u8, 300_000u64), (2, 700_000)]?;
-    let list = CyclicList::new(rt.alloc(), 500_000, 1_000_000, entries)?;
-    let copy = list.copy(rt.alloc())?;
-    assert_eq!(rt; copy.entries(), [(1, 300_000), (2, 700_000)].as_slice());
-    assert_eq!(rt; (copy.base(), copy.cycle()), (500_000, 1_000_000));
-    for (t, state, start, end) in [
-        (0, 2, -200_000, 500_000),
-        (499_999, 2, -200_000, 500_000),
-        (500_000, 1, 500_000, 800_000),
-        (799_999, 1, 500_000, 800_000),
-        (800_000, 2, 800_000, 1_500_000),
-        (1_500_000, 1, 1_500_000, 1_800_000),
-    ] {
-        assert!(rt; t < 4_000_000_000_000_000_000u64);
-        for turn in [list.turn(t), copy.turn(t)] {
-            assert_eq!(rt;
-                (turn.state, turn.start, turn.end),
-                (state, start, end),
-                "at {t}"
-            );
-        }
-    }
+    turns_before_0(&rt, rt.alloc())?;
+    Ok(())
+}
+
+const LAST_TURNS: [Moment; 4] = [
+    (
+        3_999_999_999_999_999_999,
+        1,
+        3_999_999_999_999_999_999,
+        4_000_000_000_000_000_004,
+    ),
+    (
+        4_000_000_000_000_000_008,
+        2,
+        4_000_000_000_000_000_004,
+        4_000_000_000_000_000_009,
+    ),
+    (0, 1, -1, 4),
+    (8, 2, 4, 9),
+];
+
+fn turns_to_the_end<A: Allocator + Copy>(rt: &impl Abort, alloc: A) -> Result<(), ListFault> {
+    let entries = Vec::from_slice(alloc, &[(1, 5), (2, 4)])?;
+    let list = CyclicList::new(alloc, 3_999_999_999_999_999_999, 10, entries)?;
+    turns(rt, &list, &LAST_TURNS);
     Ok(())
 }
 
 #[test]
 fn the_last_entry_lasts_to_the_end_of_the_cycle(rt: HostRuntime) -> Result<(), Fail> {
-    let entries = vec![in rt.alloc(); (1u8, 5u64), (2, 4)]?;
-    let list = CyclicList::new(rt.alloc(), 3_999_999_999_999_999_999, 10, entries)?;
-    for (t, state, start, end) in [
-        (
-            3_999_999_999_999_999_999,
-            1,
-            3_999_999_999_999_999_999,
-            4_000_000_000_000_000_004,
-        ),
-        (
-            4_000_000_000_000_000_008,
-            2,
-            4_000_000_000_000_000_004,
-            4_000_000_000_000_000_009,
-        ),
-        (0, 1, -1, 4),
-        (8, 2, 4, 9),
-    ] {
-        assert!(rt; t < 9_000_000_000_000_000_000u64);
-        let turn = list.turn(t);
-        assert_eq!(rt;
-            (turn.state, turn.start, turn.end),
-            (state, start, end),
-            "at {t}"
-        );
-    }
+    turns_to_the_end(&rt, rt.alloc())?;
     Ok(())
 }
 
@@ -139,28 +166,70 @@ fn fit_of<A: Allocator + Copy>(
     first_fit(list, class, occ, from)
 }
 
-#[test]
-fn a_run_goes_on_over_the_end_of_the_cycle(rt: HostRuntime) -> Result<(), Fail> {
-    let list = list_of(
-        rt.alloc(),
-        &[(CLASS_7, 300_000), (0, 400_000), (CLASS_7, 300_000)],
-    )?;
-    assert_eq!(rt; longest_run(&list, 7), Run::For(600_000));
-    assert_eq!(rt; longest_run(&list, 0), Run::Never);
-    assert_eq!(rt; fit_of(&rt, &list, 7, 600_000, 0), 700_000);
-    assert_eq!(rt; fit_of(&rt, &list, 7, 600_000, 700_001), 1_700_000);
-    let always = list_of(rt.alloc(), &[(CLASS_7, 300_000), (255, 700_000)])?;
-    assert_eq!(rt; longest_run(&always, 7), Run::Always);
-    assert_eq!(rt; longest_run(&always, 6), Run::For(700_000));
+/// Tests the longest run of a class.
+fn has_run<A: Allocator + Copy>(
+    rt: &impl Abort,
+    alloc: A,
+    entries: &[(u8, u64)],
+    class: u8,
+    wanted: Run,
+) -> Result<(), ListFault> {
+    assert!(rt; class < 8);
+    let list = list_of(alloc, entries)?;
+    let run = longest_run(&list, class);
+    must(rt, run == wanted, "the run of class", u64::from(class));
     Ok(())
 }
 
+/// Tests the first fit of a class.
+fn fits<A: Allocator + Copy>(
+    rt: &impl Abort,
+    alloc: A,
+    entries: &[(u8, u64)],
+    class: u8,
+    occ: u64,
+    from: u64,
+    wanted: u64,
+) -> Result<(), ListFault> {
+    assert!(rt; class < 8);
+    assert!(rt; occ <= 1_000_000_000);
+    assert!(rt; from < 9_000_000_000_000_000_000);
+    let list = list_of(alloc, entries)?;
+    let fit = fit_of(rt, &list, class, occ, from);
+    must(rt, fit == wanted, "the fit from", from);
+    Ok(())
+}
+
+const OVER_THE_END: [(u8, u64); 3] = [(CLASS_7, 300_000), (0, 400_000), (CLASS_7, 300_000)];
+
+const ALWAYS: [(u8, u64); 2] = [(CLASS_7, 300_000), (255, 700_000)];
+
+#[test]
+fn a_run_goes_on_over_the_end_of_the_cycle(rt: HostRuntime) -> Result<(), Fail> {
+    has_run(&rt, rt.alloc(), &OVER_THE_END, 7, Run::For(600_000))?;
+    has_run(&rt, rt.alloc(), &OVER_THE_END, 0, Run::Never)?;
+    fits(&rt, rt.alloc(), &OVER_THE_END, 7, 600_000, 0, 700_000)?;
+    fits(
+        &rt,
+        rt.alloc(),
+        &OVER_THE_END,
+        7,
+        600_000,
+        700_001,
+        1_700_000,
+    )?;
+    has_run(&rt, rt.alloc(), &ALWAYS, 7, Run::Always)?;
+    has_run(&rt, rt.alloc(), &ALWAYS, 6, Run::For(700_000))?;
+    Ok(())
+}
+
+const HALVES: [(u8, u64); 2] = [(CLASS_7, 500_000), (OTHER_CLASSES, 500_000)];
+
 #[test]
 fn a_frame_waits_for_a_window_that_is_long_enough(rt: HostRuntime) -> Result<(), Fail> {
-    let list = list_of(rt.alloc(), &[(CLASS_7, 500_000), (OTHER_CLASSES, 500_000)])?;
-    assert_eq!(rt; fit_of(&rt, &list, 7, 672, 499_328), 499_328);
-    assert_eq!(rt; fit_of(&rt, &list, 7, 672, 499_329), 1_000_000);
-    assert_eq!(rt; fit_of(&rt, &list, 0, 672, 0), 500_000);
+    fits(&rt, rt.alloc(), &HALVES, 7, 672, 499_328, 499_328)?;
+    fits(&rt, rt.alloc(), &HALVES, 7, 672, 499_329, 1_000_000)?;
+    fits(&rt, rt.alloc(), &HALVES, 0, 672, 0, 500_000)?;
     Ok(())
 }
 
@@ -173,15 +242,19 @@ fn made_and_copied<A: Allocator + Copy>(alloc: A) -> Result<usize, ListFault> {
     }
 }
 
-#[test]
-fn each_growth_of_a_list_is_refused_in_turn(rt: HostRuntime) {
+fn refuse_each<A: Allocator + Copy>(rt: &impl Abort, alloc: A) {
     for n in 1..1000u64 {
-        let gate = RefusesOne::new(rt.alloc(), n);
+        let gate = RefusesOne::new(alloc, n);
         let made = made_and_copied(&gate);
         if !gate.refused() {
-            assert_eq!(rt; made, Ok(2));
+            assert!(rt; made == Ok(2));
             break;
         }
-        assert_eq!(rt; made, Err(ListFault::NoMemory), "growth {n}");
+        must(rt, made == Err(ListFault::NoMemory), "growth", n);
     }
+}
+
+#[test]
+fn each_growth_of_a_list_is_refused_in_turn(rt: HostRuntime) {
+    refuse_each(&rt, rt.alloc());
 }

@@ -4,11 +4,12 @@ ghost use Rattle.bridge_meter.specs.Colours.{is_within_limits};
 ghost use Rattle.bridge_gate.specs.Schedules.{has_priorities};
 ghost use Rattle.bridge_filter.specs.Plans.{KeepsNumbers, is_there, are_distinct, all_have_priorities};
 
+use crate::must::must;
 use bridge_cycle::CyclicList;
 use bridge_filter::Verdict::{
     Blocked, GateClosed, OctetsExceeded, Oversize, Red, ShutByOctets, ShutByRx, YellowDropped,
 };
-use bridge_filter::{Clear, Counters, FilterPlan, Flags, NoMemory, Police, Ruling, Verdict};
+use bridge_filter::{Clear, FilterPlan, Flags, NoMemory, Police, Ruling, Verdict};
 use bridge_gate::{GateEntry, GatePlan, Schedule};
 use bridge_meter::{Buckets, MeterPlan};
 use bridge_refusing::RefusesOne;
@@ -150,159 +151,343 @@ fn police_of<A: Allocator + Copy>(
     Police::new(alloc, filters, gates, meters)
 }
 
-/// Gives the police frames of the stream, each with its moment and its octets, and compares the verdicts.
-fn verdicts<A: Allocator + Copy>(
+/// What a filter counts: its frames, those within the maximum and above it, those that the gate let through and refused,
+/// and the red ones.
+type Counted = (u64, (u64, u64), (u64, u64), u64);
+
+/// What is done with a police, or seen of it.
+#[derive(Clone, Copy)]
+enum Step {
+    /// A frame of the stream: its moment, its octets and the verdict of filter 10.
+    Frame(u64, u32, Verdict),
+    /// A frame without a handle: its moment, its octets and the filter that rules, with its verdict.
+    Other(u64, u32, Ruling),
+    /// A flag of filter 10, gate 1 or meter 5 is cleared.
+    Clears(Clear),
+    /// The least moment of the next frame, and how many frames came.
+    Came(u64, u64),
+    /// The flags of filter 10.
+    Flagged(Flags),
+    /// Whether the flag of the meter of filter 10 is set.
+    IsRed(bool),
+    /// What filter 10 counts.
+    Counts(Counted),
+    /// The red frames that filter 10 counts.
+    CountsRed(u64),
+    /// The buckets of filter 10.
+    Holds(Option<Buckets>),
+}
+
+/// A police, and what is done with it.
+#[derive(Clone, Copy)]
+struct Row {
+    shut_on_rx: bool,
+    shut_on_octets: bool,
+    own: FilterPlan,
+    meter: MeterPlan,
+    steps: &'static [Step],
+}
+
+/// A police of which nothing is asked.
+const PLAIN: Row = Row {
+    shut_on_rx: false,
+    shut_on_octets: false,
+    own: OWN,
+    meter: ONE_FRAME,
+    steps: &[],
+};
+
+/// Gives the police a frame, and compares the ruling.
+fn rules<A: Allocator + Copy>(
     rt: &impl Abort,
     police: &mut Police<A>,
-    frames: &[(u64, u32, Verdict)],
+    t: u64,
+    handle: Option<u32>,
+    priority: u8,
+    sdu: u32,
+    wanted: Option<Ruling>,
 )
     ensures filters { police.new.filters ≡ police.old.filters }
     ensures gates { KeepsNumbers police.old.gates police.new.gates }
     ensures meters { KeepsNumbers police.old.meters police.new.meters }
 {
-    for (t, sdu, wanted) in frames {
-        assert!(rt;
-            police.earliest() <= *t && *t < 4_000_000_000_000_000_000,
-            "moments in order"
-        );
-        assert!(rt; police.calls() < 1000, "few frames");
-        let ruling = police.pass(*t, Some(1), 0, false, *sdu, 64);
-        let wanted = Ruling {
-            filter: 10,
-            verdict: *wanted,
-        };
-        assert!(rt; ruling == Some(wanted), "the frame at {t}");
+    assert!(rt; police.earliest() <= t);
+    assert!(rt; t < 4_000_000_000_000_000_000);
+    assert!(rt; police.calls() < 1000);
+    let ruling = police.pass(t, handle, priority, false, sdu, 64);
+    must(rt, ruling == wanted, "the frame at", t);
+}
+
+/// Clears a flag of filter 10, gate 1 or meter 5.
+fn clear_own<A: Allocator + Copy>(police: &mut Police<A>, clear: Clear)
+    requires filter { IsTrue (is_there 10 police.old.filters) }
+    requires gate { IsTrue (is_there 1 police.old.gates) }
+    requires meter { IsTrue (is_there 5 police.old.meters) }
+    ensures filters { police.new.filters ≡ police.old.filters }
+    ensures gates { KeepsNumbers police.old.gates police.new.gates }
+    ensures meters { KeepsNumbers police.old.meters police.new.meters }
+{
+    match clear {
+        Clear::Blocked => police.clear(Clear::Blocked, 10),
+        Clear::Rx => police.clear(Clear::Rx, 1),
+        Clear::Octets => police.clear(Clear::Octets, 1),
+        Clear::Red => police.clear(Clear::Red, 5),
     }
 }
 
-fn counters(matching: u64, sdu: (u64, u64), gate: (u64, u64), red: u64) -> Counters {
-    Counters {
-        matching,
-        sdu_passed: sdu.0,
-        sdu_refused: sdu.1,
-        gate_passed: gate.0,
-        gate_refused: gate.1,
-        red,
+fn counted<A: Allocator + Copy>(police: &Police<A>) -> Counted
+    requires { IsTrue (is_there 10 police.now.filters) }
+{
+    let c = police.counters(10);
+    (
+        c.matching,
+        (c.sdu_passed, c.sdu_refused),
+        (c.gate_passed, c.gate_refused),
+        c.red,
+    )
+}
+
+/// Compares what is seen of the police.
+fn is_shown<A: Allocator + Copy>(police: &Police<A>, step: &Step) -> bool
+    requires { IsTrue (is_there 10 police.now.filters) }
+{
+    match step {
+        Step::Came(earliest, calls) => police.earliest() == *earliest && police.calls() == *calls,
+        Step::Flagged(flags) => police.flags(10) == *flags,
+        Step::IsRed(is_red) => police.flags(10).red == *is_red,
+        Step::Counts(count) => counted(police) == *count,
+        Step::CountsRed(red) => police.counters(10).red == *red,
+        Step::Holds(buckets) => police.buckets(10) == *buckets,
+        _ => false,
     }
 }
+
+/// Does a step, or compares what is seen.
+fn take<A: Allocator + Copy>(rt: &impl Abort, police: &mut Police<A>, step: &Step)
+    requires filter { IsTrue (is_there 10 police.old.filters) }
+    requires gate { IsTrue (is_there 1 police.old.gates) }
+    requires meter { IsTrue (is_there 5 police.old.meters) }
+    ensures filters { police.new.filters ≡ police.old.filters }
+    ensures gates { KeepsNumbers police.old.gates police.new.gates }
+    ensures meters { KeepsNumbers police.old.meters police.new.meters }
+{
+    match step {
+        Step::Frame(t, sdu, verdict) => {
+            let wanted = Ruling {
+                filter: 10,
+                verdict: *verdict,
+            };
+            rules(rt, police, *t, Some(1), 0, *sdu, Some(wanted));
+        }
+        Step::Other(t, sdu, wanted) => rules(rt, police, *t, None, 0, *sdu, Some(*wanted)),
+        Step::Clears(clear) => clear_own(police, *clear),
+        _ => assert!(rt; is_shown(police, step)),
+    }
+}
+
+/// Takes all steps.
+fn take_all<A: Allocator + Copy>(rt: &impl Abort, police: &mut Police<A>, steps: &[Step])
+    requires filter { IsTrue (is_there 10 police.old.filters) }
+    requires gate { IsTrue (is_there 1 police.old.gates) }
+    requires meter { IsTrue (is_there 5 police.old.meters) }
+{
+    for step in steps {
+        take(rt, police, step);
+    }
+}
+
+/// Makes a police and takes the steps of a row.
+fn goes_as_said<A: Allocator + Copy>(rt: &impl Abort, alloc: A, row: &Row) -> Result<(), NoMemory> {
+    let own = row.own;
+    assert!(rt; own.gate == 1);
+    assert!(rt; own.meter == None || own.meter == Some(5));
+    assert!(rt; row.meter.is_within_limits());
+    let gate = window(alloc, row.shut_on_rx, row.shut_on_octets)?;
+    let mut police = police_of(alloc, own, gate, row.meter)?;
+    take_all(rt, &mut police, row.steps);
+    Ok(())
+}
+
+/// A frame in the window, one behind it, and one in the next window.
+const SHUT_BY_A_FRAME: Row = Row {
+    shut_on_rx: true,
+    steps: &[
+        Step::Came(0, 0),
+        Step::Frame(299_999, 44, PASS),
+        Step::Frame(300_000, 44, GateClosed),
+        Step::Frame(1_000_000, 44, ShutByRx),
+        Step::Came(1_000_000, 3),
+        Step::Flagged(Flags {
+            rx: true,
+            ..NO_FLAGS
+        }),
+        Step::Holds(None),
+    ],
+    ..PLAIN
+};
+
+/// The same frames at a gate that none of them shuts.
+const NOT_SHUT: Row = Row {
+    steps: &[
+        Step::Came(0, 0),
+        Step::Frame(299_999, 44, PASS),
+        Step::Frame(300_000, 44, GateClosed),
+        Step::Frame(1_000_000, 44, PASS),
+        Step::Came(1_000_000, 3),
+        Step::Flagged(NO_FLAGS),
+        Step::Holds(None),
+    ],
+    ..PLAIN
+};
 
 #[test]
 fn closed_gate_refuses(rt: HostRuntime) -> Result<(), Fail> {
-    for (shut_on_rx, last) in [(true, ShutByRx), (false, PASS)] {
-        let gate = window(rt.alloc(), shut_on_rx, false)?;
-        let mut police = police_of(rt.alloc(), OWN, gate, ONE_FRAME)?;
-        assert!(rt; police.earliest() == 0 && police.calls() == 0);
-        let frames = [
-            (299_999, 44, PASS),
-            (300_000, 44, GateClosed),
-            (1_000_000, 44, last),
-        ];
-        verdicts(&rt, &mut police, &frames);
-        assert!(rt; police.earliest() == 1_000_000 && police.calls() == 3);
-        let flags = Flags {
-            rx: shut_on_rx,
-            ..NO_FLAGS
-        };
-        assert!(rt; police.flags(10) == flags);
-        assert!(rt; police.buckets(10) == None);
-    }
+    goes_as_said(&rt, rt.alloc(), &SHUT_BY_A_FRAME)?;
+    goes_as_said(&rt, rt.alloc(), &NOT_SHUT)?;
     Ok(())
 }
+
+/// A frame of the maximum, one above it, and one behind them.
+const NOT_BLOCKED: Row = Row {
+    steps: &[
+        Step::Frame(10_000, 500, PASS),
+        Step::Frame(20_000, 501, Oversize),
+        Step::Frame(30_000, 44, PASS),
+        Step::Counts((3, (2, 1), (2, 0), 0)),
+        Step::Flagged(NO_FLAGS),
+    ],
+    ..PLAIN
+};
+
+const BLOCKING: FilterPlan = FilterPlan {
+    block_oversize: true,
+    ..OWN
+};
+
+/// The same frames at a filter that the second one blocks.
+const BLOCKED_BY_A_FRAME: Row = Row {
+    own: BLOCKING,
+    steps: &[
+        Step::Frame(10_000, 500, PASS),
+        Step::Frame(20_000, 501, Oversize),
+        Step::Frame(30_000, 44, Blocked),
+        Step::Counts((3, (1, 1), (1, 0), 0)),
+        Step::Flagged(Flags {
+            blocked: true,
+            ..NO_FLAGS
+        }),
+    ],
+    ..PLAIN
+};
 
 #[test]
 fn oversized_frame_blocks(rt: HostRuntime) -> Result<(), Fail> {
-    for (block_oversize, last, wanted) in [
-        (true, Blocked, counters(3, (1, 1), (1, 0), 0)),
-        (false, PASS, counters(3, (2, 1), (2, 0), 0)),
-    ] {
-        let own = FilterPlan {
-            block_oversize,
-            ..OWN
-        };
-        let gate = window(rt.alloc(), false, false)?;
-        let mut police = police_of(rt.alloc(), own, gate, ONE_FRAME)?;
-        let frames = [
-            (10_000, 500, PASS),
-            (20_000, 501, Oversize),
-            (30_000, 44, last),
-        ];
-        verdicts(&rt, &mut police, &frames);
-        assert!(rt; police.counters(10) == wanted);
-        let flags = Flags {
-            blocked: block_oversize,
-            ..NO_FLAGS
-        };
-        assert!(rt; police.flags(10) == flags);
-    }
+    goes_as_said(&rt, rt.alloc(), &BLOCKED_BY_A_FRAME)?;
+    goes_as_said(&rt, rt.alloc(), &NOT_BLOCKED)?;
     Ok(())
 }
+
+/// Two frames with all octets of a turn, and one in the next turn.
+const WITHIN_THE_LIMIT: Row = Row {
+    steps: &[
+        Step::Frame(10_000, 500, PASS),
+        Step::Frame(20_000, 100, PASS),
+        Step::Frame(1_010_000, 500, PASS),
+        Step::Flagged(NO_FLAGS),
+    ],
+    ..PLAIN
+};
+
+/// The second frame has an octet more.
+const ABOVE_THE_LIMIT: Row = Row {
+    steps: &[
+        Step::Frame(10_000, 500, PASS),
+        Step::Frame(20_000, 101, OctetsExceeded),
+        Step::Frame(1_010_000, 500, PASS),
+        Step::Flagged(NO_FLAGS),
+    ],
+    ..PLAIN
+};
+
+/// It shuts the gate.
+const SHUT_BY_OCTETS: Row = Row {
+    shut_on_octets: true,
+    steps: &[
+        Step::Frame(10_000, 500, PASS),
+        Step::Frame(20_000, 101, OctetsExceeded),
+        Step::Frame(1_010_000, 500, ShutByOctets),
+        Step::Flagged(Flags {
+            octets: true,
+            ..NO_FLAGS
+        }),
+    ],
+    ..PLAIN
+};
 
 #[test]
 fn octets_of_a_turn_are_limited(rt: HostRuntime) -> Result<(), Fail> {
-    for (shut_on_octets, sdu, second, third) in [
-        (false, 100, PASS, PASS),
-        (false, 101, OctetsExceeded, PASS),
-        (true, 101, OctetsExceeded, ShutByOctets),
-    ] {
-        let gate = window(rt.alloc(), false, shut_on_octets)?;
-        let mut police = police_of(rt.alloc(), OWN, gate, ONE_FRAME)?;
-        let frames = [
-            (10_000, 500, PASS),
-            (20_000, sdu, second),
-            (1_010_000, 500, third),
-        ];
-        verdicts(&rt, &mut police, &frames);
-        let flags = Flags {
-            octets: shut_on_octets,
-            ..NO_FLAGS
-        };
-        assert!(rt; police.flags(10) == flags);
-    }
+    goes_as_said(&rt, rt.alloc(), &WITHIN_THE_LIMIT)?;
+    goes_as_said(&rt, rt.alloc(), &ABOVE_THE_LIMIT)?;
+    goes_as_said(&rt, rt.alloc(), &SHUT_BY_OCTETS)?;
     Ok(())
 }
+
+/// A yellow frame, and a red one behind it.
+const YELLOW_AND_RED: Row = Row {
+    own: METERED,
+    steps: &[
+        Step::Frame(100_000, 44, ELIGIBLE),
+        Step::Frame(200_000, 44, Red),
+        Step::Counts((2, (2, 0), (2, 0), 1)),
+        Step::Holds(Some(Buckets {
+            committed: 0,
+            excess: 0,
+            at: 200_000,
+            all_red: false,
+        })),
+    ],
+    ..PLAIN
+};
 
 #[test]
 fn yellow_frame_is_eligible(rt: HostRuntime) -> Result<(), Fail> {
-    let gate = window(rt.alloc(), false, false)?;
-    let mut police = police_of(rt.alloc(), METERED, gate, ONE_FRAME)?;
-    verdicts(
-        &rt,
-        &mut police,
-        &[(100_000, 44, ELIGIBLE), (200_000, 44, Red)],
-    );
-    assert!(rt; police.counters(10) == counters(2, (2, 0), (2, 0), 1));
-    let empty = Buckets {
-        committed: 0,
-        excess: 0,
-        at: 200_000,
-        all_red: false,
-    };
-    assert!(rt; police.buckets(10) == Some(empty));
+    goes_as_said(&rt, rt.alloc(), &YELLOW_AND_RED)?;
     Ok(())
 }
+
+const MORE_DATA: Row = Row {
+    own: METERED,
+    steps: &[Step::Frame(100_000, 48, ELIGIBLE)],
+    ..PLAIN
+};
 
 #[test]
 fn frame_with_more_data_is_eligible_too(rt: HostRuntime) -> Result<(), Fail> {
-    let gate = window(rt.alloc(), false, false)?;
-    let mut police = police_of(rt.alloc(), METERED, gate, ONE_FRAME)?;
-    verdicts(&rt, &mut police, &[(100_000, 48, ELIGIBLE)]);
+    goes_as_said(&rt, rt.alloc(), &MORE_DATA)?;
     Ok(())
 }
 
-#[test]
-fn dropped_yellow_frame_sets_no_flag(rt: HostRuntime) -> Result<(), Fail> {
-    let meter = MeterPlan {
+/// A yellow frame that is dropped, and a red one.
+const DROPPED_AND_RED: Row = Row {
+    own: METERED,
+    meter: MeterPlan {
         drop_yellow: true,
         mark_all_red: true,
         ..ONE_FRAME
-    };
-    let gate = window(rt.alloc(), false, false)?;
-    let mut police = police_of(rt.alloc(), METERED, gate, meter)?;
-    verdicts(&rt, &mut police, &[(100_000, 44, YellowDropped)]);
-    assert!(rt; police.counters(10).red == 1);
-    assert!(rt; police.flags(10) == NO_FLAGS);
-    verdicts(&rt, &mut police, &[(200_000, 44, Red)]);
-    assert!(rt; police.flags(10).red);
+    },
+    steps: &[
+        Step::Frame(100_000, 44, YellowDropped),
+        Step::CountsRed(1),
+        Step::Flagged(NO_FLAGS),
+        Step::Frame(200_000, 44, Red),
+        Step::IsRed(true),
+    ],
+    ..PLAIN
+};
+
+#[test]
+fn dropped_yellow_frame_sets_no_flag(rt: HostRuntime) -> Result<(), Fail> {
+    goes_as_said(&rt, rt.alloc(), &DROPPED_AND_RED)?;
     Ok(())
 }
 
@@ -326,176 +511,233 @@ fn pair_of<A: Allocator + Copy>(alloc: A, first: FilterPlan) -> Result<Police<A>
     Police::new(alloc, filters, gates, Vec::new(alloc))
 }
 
-fn ruled(filter: u32, verdict: Verdict) -> Option<Ruling> {
-    Some(Ruling { filter, verdict })
-}
+/// A frame without a handle: its moment, priority and octets, and the filter that rules with its verdict, if one does.
+type Handleless = (u64, u8, u32, Option<(u32, Verdict)>);
 
-/// Gives the police frames without a handle, each with its moment, priority and octets, and compares the rulings.
-fn rulings<A: Allocator + Copy>(
-    rt: &impl Abort,
-    police: &mut Police<A>,
-    frames: &[(u64, u8, u32, Option<Ruling>)],
-) {
+/// Gives a police frames, and compares the rulings.
+fn rules_all<A: Allocator + Copy>(rt: &impl Abort, police: &mut Police<A>, frames: &[Handleless]) {
     for (t, priority, sdu, wanted) in frames {
-        assert!(rt;
-            police.earliest() <= *t && *t < 4_000_000_000_000_000_000,
-            "moments in order"
-        );
-        assert!(rt; police.calls() < 1000, "few frames");
-        let ruling = police.pass(*t, None, *priority, false, *sdu, 64);
-        assert!(rt; ruling == *wanted, "the frame at {t}");
+        rules(rt, police, *t, None, *priority, *sdu, ruled(*wanted));
     }
 }
 
-#[test]
-fn filters_share_a_gate(rt: HostRuntime) -> Result<(), Fail> {
-    let first = FilterPlan {
-        handle: None,
-        priority: Some(3),
-        max_sdu: None,
-        ..OWN
-    };
-    let mut police = pair_of(rt.alloc(), first)?;
-    rulings(
-        &rt,
-        &mut police,
-        &[
-            (10_000, 3, 400, ruled(20, PASS)),
-            (20_000, 4, 300, ruled(21, OctetsExceeded)),
-            (30_000, 4, 200, ruled(21, PASS)),
-            (40_000, 5, 44, None),
-        ],
-    );
+fn ruled(wanted: Option<(u32, Verdict)>) -> Option<Ruling> {
+    match wanted {
+        Some((filter, verdict)) => Some(Ruling { filter, verdict }),
+        None => None,
+    }
+}
 
-    let first = FilterPlan {
-        max_sdu: Some(100),
-        block_oversize: true,
-        ..first
-    };
-    let mut police = pair_of(rt.alloc(), first)?;
-    rulings(
-        &rt,
-        &mut police,
-        &[
-            (10_000, 3, 101, ruled(20, Oversize)),
-            (20_000, 3, 44, ruled(20, Blocked)),
-            (30_000, 4, 44, ruled(21, PASS)),
-        ],
-    );
+/// Gives a police of two filters frames.
+fn goes_to_a_pair<A: Allocator + Copy>(
+    rt: &impl Abort,
+    alloc: A,
+    first: FilterPlan,
+    frames: &[Handleless],
+) -> Result<(), NoMemory> {
+    assert!(rt; first.gate == 1);
+    assert!(rt; first.meter == None);
+    let mut police = pair_of(alloc, first)?;
+    rules_all(rt, &mut police, frames);
     Ok(())
 }
+
+/// The filter of all frames with priority 3.
+const FIRST: FilterPlan = FilterPlan {
+    handle: None,
+    priority: Some(3),
+    max_sdu: None,
+    ..OWN
+};
+
+/// The same, which a frame above 100 octets blocks.
+const FIRST_BLOCKING: FilterPlan = FilterPlan {
+    max_sdu: Some(100),
+    block_oversize: true,
+    ..FIRST
+};
+
+const SHARED: [Handleless; 4] = [
+    (10_000, 3, 400, Some((20, PASS))),
+    (20_000, 4, 300, Some((21, OctetsExceeded))),
+    (30_000, 4, 200, Some((21, PASS))),
+    (40_000, 5, 44, None),
+];
+
+const SHARED_WITH_A_BLOCKED: [Handleless; 3] = [
+    (10_000, 3, 101, Some((20, Oversize))),
+    (20_000, 3, 44, Some((20, Blocked))),
+    (30_000, 4, 44, Some((21, PASS))),
+];
+
+#[test]
+fn filters_share_a_gate(rt: HostRuntime) -> Result<(), Fail> {
+    goes_to_a_pair(&rt, rt.alloc(), FIRST, &SHARED)?;
+    goes_to_a_pair(&rt, rt.alloc(), FIRST_BLOCKING, &SHARED_WITH_A_BLOCKED)?;
+    Ok(())
+}
+
+/// A frame without a handle, and one of the stream.
+const LEAST: Row = Row {
+    steps: &[
+        Step::Other(
+            0,
+            44,
+            Ruling {
+                filter: 99,
+                verdict: Verdict::Pass {
+                    ipv: Some(0),
+                    eligible: false,
+                },
+            },
+        ),
+        Step::Frame(0, 44, PASS),
+    ],
+    ..PLAIN
+};
 
 #[test]
 fn least_filter_that_matches_counts(rt: HostRuntime) -> Result<(), Fail> {
-    let catch_all = Verdict::Pass {
-        ipv: Some(0),
-        eligible: false,
-    };
-    let gate = window(rt.alloc(), false, false)?;
-    let mut police = police_of(rt.alloc(), OWN, gate, ONE_FRAME)?;
-    rulings(&rt, &mut police, &[(0, 0, 44, ruled(99, catch_all))]);
-    verdicts(&rt, &mut police, &[(0, 44, PASS)]);
+    goes_as_said(&rt, rt.alloc(), &LEAST)?;
     Ok(())
 }
+
+/// A frame without a handle where filter 10 takes all.
+const OF_ALL_HANDLES: Row = Row {
+    own: FilterPlan {
+        handle: None,
+        ..OWN
+    },
+    steps: &[Step::Other(
+        0,
+        44,
+        Ruling {
+            filter: 10,
+            verdict: PASS,
+        },
+    )],
+    ..PLAIN
+};
 
 #[test]
 fn filter_of_all_handles_counts_before_a_greater_one(rt: HostRuntime) -> Result<(), Fail> {
-    let all = FilterPlan {
-        handle: None,
-        ..OWN
-    };
-    let gate = window(rt.alloc(), false, false)?;
-    let mut police = police_of(rt.alloc(), all, gate, ONE_FRAME)?;
-    rulings(&rt, &mut police, &[(0, 0, 44, ruled(10, PASS))]);
+    goes_as_said(&rt, rt.alloc(), &OF_ALL_HANDLES)?;
     Ok(())
 }
 
-fn own_police<A: Allocator + Copy>(alloc: A) -> Result<Police<A>, NoMemory> {
-    let gate = window(alloc, true, true)?;
-    police_of(alloc, OWN, gate, ONE_FRAME)
+fn is_made<A: Allocator + Copy>(alloc: A) -> bool {
+    match window(alloc, true, true) {
+        Ok(gate) => police_of(alloc, OWN, gate, ONE_FRAME).is_ok(),
+        Err(_) => false,
+    }
 }
 
-#[test]
-fn each_growth_of_a_police_is_refused_in_turn(rt: HostRuntime) {
+fn refuse_each<A: Allocator + Copy>(rt: &impl Abort, alloc: A) {
     for n in 1..1000u64 {
-        let refusing = RefusesOne::new(rt.alloc(), n);
-        let made = own_police(&refusing).is_ok();
+        let refusing = RefusesOne::new(alloc, n);
+        let made = is_made(&refusing);
         if !refusing.refused() {
             assert!(rt; made && n > 8, "with all growths granted");
             return;
         }
-        assert!(rt; !made, "growth {n}");
+        must(rt, !made, "growth", n);
     }
     assert!(rt; false, "too many growths");
 }
 
 #[test]
+fn each_growth_of_a_police_is_refused_in_turn(rt: HostRuntime) {
+    refuse_each(&rt, rt.alloc());
+}
+
+const CLEARED_OF_AN_OVERSIZED: Row = Row {
+    own: BLOCKING,
+    steps: &[
+        Step::Frame(10_000, 500, PASS),
+        Step::Frame(20_000, 501, Oversize),
+        Step::Clears(Clear::Blocked),
+        Step::Flagged(NO_FLAGS),
+        Step::Frame(30_000, 44, PASS),
+        Step::Counts((3, (2, 1), (2, 0), 0)),
+    ],
+    ..PLAIN
+};
+
+#[test]
 fn cleared_filter_takes_frames_again(rt: HostRuntime) -> Result<(), Fail> {
-    let own = FilterPlan {
-        block_oversize: true,
-        ..OWN
-    };
-    let gate = window(rt.alloc(), false, false)?;
-    let mut police = police_of(rt.alloc(), own, gate, ONE_FRAME)?;
-    verdicts(
-        &rt,
-        &mut police,
-        &[(10_000, 500, PASS), (20_000, 501, Oversize)],
-    );
-    police.clear(Clear::Blocked, 10);
-    assert!(rt; police.flags(10) == NO_FLAGS);
-    verdicts(&rt, &mut police, &[(30_000, 44, PASS)]);
-    assert!(rt; police.counters(10) == counters(3, (2, 1), (2, 0), 0));
+    goes_as_said(&rt, rt.alloc(), &CLEARED_OF_AN_OVERSIZED)?;
     Ok(())
 }
+
+const CLEARED_OF_A_FRAME: Row = Row {
+    shut_on_rx: true,
+    steps: &[
+        Step::Frame(299_999, 44, PASS),
+        Step::Frame(300_000, 44, GateClosed),
+        Step::Clears(Clear::Rx),
+        Step::Frame(1_000_000, 44, PASS),
+    ],
+    ..PLAIN
+};
+
+/// The octets that were used stay used: 100 are left.
+const CLEARED_OF_OCTETS: Row = Row {
+    shut_on_octets: true,
+    steps: &[
+        Step::Frame(10_000, 500, PASS),
+        Step::Frame(20_000, 101, OctetsExceeded),
+        Step::Clears(Clear::Octets),
+        Step::Frame(40_000, 100, PASS),
+    ],
+    ..PLAIN
+};
+
+const EXCEEDED_AGAIN: Row = Row {
+    shut_on_octets: true,
+    steps: &[
+        Step::Frame(10_000, 500, PASS),
+        Step::Frame(20_000, 101, OctetsExceeded),
+        Step::Clears(Clear::Octets),
+        Step::Frame(40_000, 101, OctetsExceeded),
+    ],
+    ..PLAIN
+};
 
 #[test]
 fn cleared_gate_takes_frames_again(rt: HostRuntime) -> Result<(), Fail> {
-    let gate = window(rt.alloc(), true, false)?;
-    let mut police = police_of(rt.alloc(), OWN, gate, ONE_FRAME)?;
-    verdicts(
-        &rt,
-        &mut police,
-        &[(299_999, 44, PASS), (300_000, 44, GateClosed)],
-    );
-    police.clear(Clear::Rx, 1);
-    verdicts(&rt, &mut police, &[(1_000_000, 44, PASS)]);
-
-    for (sdu, wanted) in [(100, PASS), (101, OctetsExceeded)] {
-        let gate = window(rt.alloc(), false, true)?;
-        let mut police = police_of(rt.alloc(), OWN, gate, ONE_FRAME)?;
-        verdicts(
-            &rt,
-            &mut police,
-            &[(10_000, 500, PASS), (20_000, 101, OctetsExceeded)],
-        );
-        police.clear(Clear::Octets, 1);
-        verdicts(&rt, &mut police, &[(40_000, sdu, wanted)]);
-    }
+    goes_as_said(&rt, rt.alloc(), &CLEARED_OF_A_FRAME)?;
+    goes_as_said(&rt, rt.alloc(), &CLEARED_OF_OCTETS)?;
+    goes_as_said(&rt, rt.alloc(), &EXCEEDED_AGAIN)?;
     Ok(())
 }
 
-#[test]
-fn cleared_meter_judges_again(rt: HostRuntime) -> Result<(), Fail> {
-    let meter = MeterPlan {
+const CLEARED_OF_RED: Row = Row {
+    own: METERED,
+    meter: MeterPlan {
         cir: 8_000_000,
         cbs: 128,
         ebs: 0,
         mark_all_red: true,
         ..ONE_FRAME
-    };
-    let gate = window(rt.alloc(), false, false)?;
-    let mut police = police_of(rt.alloc(), METERED, gate, meter)?;
-    let first = [(0, 44, PASS), (0, 44, PASS), (63_999, 44, Red)];
-    verdicts(&rt, &mut police, &first);
-    police.clear(Clear::Red, 5);
-    verdicts(&rt, &mut police, &[(2_000_000, 44, PASS)]);
-    let left = Buckets {
-        committed: 512_000_000_000,
-        excess: 0,
-        at: 2_000_000,
-        all_red: false,
-    };
-    assert!(rt; police.buckets(10) == Some(left));
+    },
+    steps: &[
+        Step::Frame(0, 44, PASS),
+        Step::Frame(0, 44, PASS),
+        Step::Frame(63_999, 44, Red),
+        Step::Clears(Clear::Red),
+        Step::Frame(2_000_000, 44, PASS),
+        Step::Holds(Some(Buckets {
+            committed: 512_000_000_000,
+            excess: 0,
+            at: 2_000_000,
+            all_red: false,
+        })),
+    ],
+    ..PLAIN
+};
+
+#[test]
+fn cleared_meter_judges_again(rt: HostRuntime) -> Result<(), Fail> {
+    goes_as_said(&rt, rt.alloc(), &CLEARED_OF_RED)?;
     Ok(())
 }

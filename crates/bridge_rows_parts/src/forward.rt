@@ -1,7 +1,9 @@
 //! The filtering database: worked examples of where frames go.
+use crate::must::must;
 use bridge_forward::{Forwarding, NoMemory, PortSet, StaticEntry, Vlan};
 use bridge_refusing::RefusesOne;
 use std::alloc::Allocator;
+use std::process::Abort;
 use std::test::Fail;
 
 const LISTENER: [u8; 6] = [2, 0, 0, 0, 0, 0x0A];
@@ -28,27 +30,53 @@ fn small<A: Allocator + Copy>(alloc: A) -> Result<Forwarding<A>, NoMemory> {
     Forwarding::new(alloc, vlans, statics)
 }
 
+/// A VLAN, an address, and where a frame goes that came on port 1, 2, 3 and 4.
+const MEMBERS: [(u16, [u8; 6], [u16; 4]); 6] = [
+    (10, LISTENER, [0b100, 0b100, 0, 0]),
+    (10, STRANGER, [0b110, 0b101, 0b011, 0]),
+    (10, RESERVED, [0, 0, 0, 0]),
+    (10, PAST_THE_RESERVED, [0b110, 0b101, 0b011, 0]),
+    (20, LISTENER, [0, 0, 0, 0]),
+    (20, STRANGER, [0, 0, 0, 0]),
+];
+
+fn goes_to<A: Allocator + Copy>(
+    rt: &impl Abort,
+    database: &Forwarding<A>,
+    port: u8,
+    vid: u16,
+    address: &[u8; 6],
+    bits: u16,
+) {
+    assert!(rt; 1 <= port);
+    assert!(rt; port <= 16);
+    let ports = database.forward(port, vid, address);
+    must(rt, ports.bits() == bits, "VLAN", u64::from(vid));
+    must(
+        rt,
+        ports.has(3) == (bits & 0b100 != 0),
+        "port 3 and VLAN",
+        u64::from(vid),
+    );
+}
+
+fn go_to_members<A: Allocator + Copy>(rt: &impl Abort, alloc: A) -> Result<(), NoMemory> {
+    let database = small(alloc)?;
+    assert!(rt; database.vlans().len() == 1);
+    assert!(rt; database.statics().len() == 1);
+    for (vid, address, wanted) in &MEMBERS {
+        let [first, second, third, fourth] = *wanted;
+        goes_to(rt, &database, 1, *vid, address, first);
+        goes_to(rt, &database, 2, *vid, address, second);
+        goes_to(rt, &database, 3, *vid, address, third);
+        goes_to(rt, &database, 4, *vid, address, fourth);
+    }
+    Ok(())
+}
+
 #[test]
 fn frames_go_to_members(rt: HostRuntime) -> Result<(), Fail> {
-    let database = small(rt.alloc())?;
-    assert_eq!(rt; database.vlans().len(), 1);
-    assert_eq!(rt; database.statics().len(), 1);
-    // Where a frame goes that came on port 1, 2, 3 and 4.
-    for (vid, da, wanted) in [
-        (10, LISTENER, [0b100, 0b100, 0, 0]),
-        (10, STRANGER, [0b110, 0b101, 0b011, 0]),
-        (10, RESERVED, [0, 0, 0, 0]),
-        (10, PAST_THE_RESERVED, [0b110, 0b101, 0b011, 0]),
-        (20, LISTENER, [0, 0, 0, 0]),
-        (20, STRANGER, [0, 0, 0, 0]),
-    ] {
-        for port in 1..5u8 {
-            let ports = database.forward(port, vid, &da);
-            let bits = wanted[port as usize - 1];
-            assert_eq!(rt; ports.bits(), bits, "port {port}, VLAN {vid}");
-            assert_eq!(rt; ports.has(3), bits & 0b100 != 0, "port {port}, VLAN {vid}");
-        }
-    }
+    go_to_members(&rt, rt.alloc())?;
     Ok(())
 }
 
@@ -77,31 +105,44 @@ fn address_of(number: u16) -> [u8; 6] {
     [2, 0, 0, 0, high, low]
 }
 
-#[test]
-fn each_of_many_entries_is_found(rt: HostRuntime) -> Result<(), Fail> {
-    let database = large(rt.alloc())?;
+fn find_each<A: Allocator + Copy>(rt: &impl Abort, alloc: A) -> Result<(), NoMemory> {
+    let database = large(alloc)?;
     for number in 0..4096 {
         let wanted = if number % 2 == 0 { 0b10 } else { 0x8000 };
         let ports = database.forward(1, 10, &address_of(number));
-        assert_eq!(rt; ports.bits(), wanted, "entry {number}");
+        must(rt, ports.bits() == wanted, "entry", u64::from(number));
     }
     let others = database.forward(1, 10, &address_of(4096));
-    assert_eq!(rt; others.bits(), 0xFFFE);
+    assert!(rt; others.bits() == 0xFFFE);
     Ok(())
 }
 
 #[test]
-fn each_growth_of_a_database_is_refused_in_turn(rt: HostRuntime) -> Result<(), Fail> {
+fn each_of_many_entries_is_found(rt: HostRuntime) -> Result<(), Fail> {
+    find_each(&rt, rt.alloc())?;
+    Ok(())
+}
+
+fn is_made<A: Allocator + Copy>(alloc: A) -> bool {
+    small(alloc).is_ok()
+}
+
+fn refuse_each<A: Allocator + Copy>(rt: &impl Abort, alloc: A) {
     for n in 1..1_000 {
-        let gate = RefusesOne::new(rt.alloc(), n);
-        let made = small(&gate);
+        let gate = RefusesOne::new(alloc, n);
+        let is_made = is_made(&gate);
         if !gate.refused() {
-            assert!(rt; made.is_ok() && n > 4);
-            return Ok(());
+            assert!(rt; is_made && n > 4);
+            return;
         }
-        assert_eq!(rt; made.err(), Some(NoMemory), "growth {n}");
+        must(rt, !is_made, "growth", n);
     }
-    Err(Fail::from("some growth was always refused"))
+    assert!(rt; false, "some growth was always refused");
+}
+
+#[test]
+fn each_growth_of_a_database_is_refused_in_turn(rt: HostRuntime) {
+    refuse_each(&rt, rt.alloc());
 }
 
 #[test]

@@ -1,6 +1,7 @@
 //! Stream gates: worked examples of answers, flags and octets.
 ghost use Rattle.std.specs.Prelude.{◌≡◌, IfOk};
 
+use crate::must::must;
 use bridge_cycle::{CyclicList, ListFault};
 use bridge_gate::GateAnswer::{Closed, OctetsExceeded, ShutByOctets, ShutByRx, Through};
 use bridge_gate::{GateAnswer, GateEntry, GatePlan, Schedule, StreamGate};
@@ -53,119 +54,170 @@ fn base_plan<A: Allocator + Copy>(
     )
 }
 
-fn gate_of<A: Allocator + Copy>(rt: &impl Abort, plan: GatePlan<A>) -> StreamGate<A> {
-    assert!(rt; plan.schedule.has_priorities());
-    StreamGate::new(plan)
+/// What is done with a gate, or seen of it.
+#[derive(Clone, Copy)]
+enum Step {
+    /// A frame: its moment, its SDU octets and the answer.
+    Asks(u64, u32, GateAnswer),
+    /// The least moment of the next frame.
+    Earliest(u64),
+    /// Whether a frame that came while it was closed has shut it, and one over its limit of octets.
+    Flagged(bool, bool),
+    ClearsRx,
+    ClearsOctets,
 }
 
-/// Gives a gate frames, each with its moment and its SDU octets, and compares the answers.
-fn asked<A: Allocator + Copy>(
+/// Gives a gate a frame, and compares the answer.
+fn asks<A: Allocator + Copy>(
     rt: &impl Abort,
     gate: &mut StreamGate<A>,
-    frames: &[(u64, u32, GateAnswer)],
+    t: u64,
+    sdu: u32,
+    wanted: GateAnswer,
 ) {
-    for (t, sdu, wanted) in frames {
-        assert!(rt;
-            gate.earliest() <= *t && *t < 4_000_000_000_000_000_000,
-            "moments in order"
-        );
-        assert_eq!(rt; gate.ask(*t, *sdu), *wanted, "the frame at {t}");
-        assert_eq!(rt; gate.earliest(), *t);
+    assert!(rt; gate.earliest() <= t);
+    assert!(rt; t < 4_000_000_000_000_000_000);
+    let answer = gate.ask(t, sdu);
+    must(rt, answer == wanted, "the frame at", t);
+    must(rt, gate.earliest() == t, "the moment", t);
+}
+
+fn take<A: Allocator + Copy>(rt: &impl Abort, gate: &mut StreamGate<A>, step: &Step) {
+    match step {
+        Step::Asks(t, sdu, wanted) => asks(rt, gate, *t, *sdu, *wanted),
+        Step::Earliest(t) => assert!(rt; gate.earliest() == *t),
+        Step::Flagged(rx, octets) => assert!(rt; gate.flags() == (*rx, *octets)),
+        Step::ClearsRx => gate.clear_rx(),
+        Step::ClearsOctets => gate.clear_octets(),
     }
 }
+
+fn take_all<A: Allocator + Copy>(rt: &impl Abort, gate: &mut StreamGate<A>, steps: &[Step]) {
+    for step in steps {
+        take(rt, gate, step);
+    }
+}
+
+/// Makes a gate, and takes the steps.
+fn goes_as_said<A: Allocator + Copy>(rt: &impl Abort, plan: GatePlan<A>, steps: &[Step]) {
+    assert!(rt; plan.schedule.has_priorities());
+    let mut gate = StreamGate::new(plan);
+    take_all(rt, &mut gate, steps);
+}
+
+/// Takes the steps at a gate with this window.
+fn window_goes<A: Allocator + Copy>(
+    rt: &impl Abort,
+    alloc: A,
+    shut_on_rx: bool,
+    shut_on_octets: bool,
+    steps: &[Step],
+) -> Result<(), ListFault> {
+    goes_as_said(rt, base_plan(alloc, shut_on_rx, shut_on_octets)?, steps);
+    Ok(())
+}
+
+const NOT_SHUT: [Step; 5] = [
+    Step::Earliest(0),
+    Step::Asks(299_999, 64, Through(Some(7))),
+    Step::Asks(300_000, 64, Closed),
+    Step::Asks(1_000_000, 64, Through(Some(7))),
+    Step::Flagged(false, false),
+];
+
+const SHUT_BY_A_FRAME: [Step; 7] = [
+    Step::Asks(299_999, 64, Through(Some(7))),
+    Step::Asks(300_000, 64, Closed),
+    Step::Asks(1_000_000, 64, ShutByRx),
+    Step::Flagged(true, false),
+    Step::ClearsRx,
+    Step::Asks(1_000_000, 64, Through(Some(7))),
+    Step::Flagged(false, false),
+];
 
 #[test]
 fn a_frame_at_a_closed_gate_may_shut_it(rt: HostRuntime) -> Result<(), Fail> {
-    let frames = [(299_999, 64, Through(Some(7))), (300_000, 64, Closed)];
-    let mut gate = gate_of(&rt, base_plan(rt.alloc(), false, false)?);
-    assert_eq!(rt; gate.earliest(), 0);
-    asked(&rt, &mut gate, &frames);
-    asked(&rt, &mut gate, &[(1_000_000, 64, Through(Some(7)))]);
-    assert_eq!(rt; gate.flags(), (false, false));
-
-    let mut gate = gate_of(&rt, base_plan(rt.alloc(), true, false)?);
-    asked(&rt, &mut gate, &frames);
-    asked(&rt, &mut gate, &[(1_000_000, 64, ShutByRx)]);
-    assert_eq!(rt; gate.flags(), (true, false));
-    gate.clear_rx();
-    asked(&rt, &mut gate, &[(1_000_000, 64, Through(Some(7)))]);
-    assert_eq!(rt; gate.flags(), (false, false));
+    window_goes(&rt, rt.alloc(), false, false, &NOT_SHUT)?;
+    window_goes(&rt, rt.alloc(), true, false, &SHUT_BY_A_FRAME)?;
     Ok(())
 }
+
+const WITHIN_THE_LIMIT: [Step; 3] = [
+    Step::Asks(10_000, 500, Through(Some(7))),
+    Step::Asks(20_000, 100, Through(Some(7))),
+    Step::Asks(1_010_000, 500, Through(Some(7))),
+];
+
+const ABOVE_THE_LIMIT: [Step; 3] = [
+    Step::Asks(10_000, 500, Through(Some(7))),
+    Step::Asks(20_000, 101, OctetsExceeded),
+    Step::Asks(1_010_000, 500, Through(Some(7))),
+];
+
+const SHUT_BY_OCTETS: [Step; 4] = [
+    Step::Asks(10_000, 500, Through(Some(7))),
+    Step::Asks(20_000, 101, OctetsExceeded),
+    Step::Asks(1_010_000, 500, ShutByOctets),
+    Step::Flagged(false, true),
+];
 
 #[test]
 fn octets_count_within_a_turn(rt: HostRuntime) -> Result<(), Fail> {
-    let first = (10_000, 500, Through(Some(7)));
-    let second = (20_000, 100, Through(Some(7)));
-    let over = (20_000, 101, OctetsExceeded);
-    let mut gate = gate_of(&rt, base_plan(rt.alloc(), false, false)?);
-    asked(
-        &rt,
-        &mut gate,
-        &[first, second, (1_010_000, 500, Through(Some(7)))],
-    );
-
-    let mut gate = gate_of(&rt, base_plan(rt.alloc(), false, false)?);
-    asked(
-        &rt,
-        &mut gate,
-        &[first, over, (1_010_000, 500, Through(Some(7)))],
-    );
-
-    let mut gate = gate_of(&rt, base_plan(rt.alloc(), false, true)?);
-    asked(
-        &rt,
-        &mut gate,
-        &[first, over, (1_010_000, 500, ShutByOctets)],
-    );
-    assert_eq!(rt; gate.flags(), (false, true));
+    window_goes(&rt, rt.alloc(), false, false, &WITHIN_THE_LIMIT)?;
+    window_goes(&rt, rt.alloc(), false, false, &ABOVE_THE_LIMIT)?;
+    window_goes(&rt, rt.alloc(), false, true, &SHUT_BY_OCTETS)?;
     Ok(())
 }
 
+const CLEARED_WITHIN: [Step; 4] = [
+    Step::Asks(10_000, 500, Through(Some(7))),
+    Step::Asks(20_000, 101, OctetsExceeded),
+    Step::ClearsOctets,
+    Step::Asks(40_000, 100, Through(Some(7))),
+];
+
+const CLEARED_ABOVE: [Step; 4] = [
+    Step::Asks(10_000, 500, Through(Some(7))),
+    Step::Asks(20_000, 101, OctetsExceeded),
+    Step::ClearsOctets,
+    Step::Asks(40_000, 101, OctetsExceeded),
+];
+
 #[test]
 fn octets_used_stay_when_the_flag_is_cleared(rt: HostRuntime) -> Result<(), Fail> {
-    for (sdu, wanted) in [(100, Through(Some(7))), (101, OctetsExceeded)] {
-        let mut gate = gate_of(&rt, base_plan(rt.alloc(), false, true)?);
-        asked(
-            &rt,
-            &mut gate,
-            &[
-                (10_000, 500, Through(Some(7))),
-                (20_000, 101, OctetsExceeded),
-            ],
-        );
-        gate.clear_octets();
-        asked(&rt, &mut gate, &[(40_000, sdu, wanted)]);
-    }
+    window_goes(&rt, rt.alloc(), false, true, &CLEARED_WITHIN)?;
+    window_goes(&rt, rt.alloc(), false, true, &CLEARED_ABOVE)?;
+    Ok(())
+}
+
+const IN_EQUAL_TURNS: [Step; 4] = [
+    Step::Asks(499_999, 100, Through(Some(7))),
+    Step::Asks(500_000, 100, Through(Some(7))),
+    Step::Asks(500_000, 2, OctetsExceeded),
+    Step::Asks(1_000_000, 100, Through(Some(7))),
+];
+
+fn equal_turns_go<A: Allocator + Copy>(rt: &impl Abort, alloc: A) -> Result<(), ListFault> {
+    let entries = [(open_for(100), 500_000), (open_for(100), 500_000)];
+    goes_as_said(rt, plan_of(alloc, false, false, &entries)?, &IN_EQUAL_TURNS);
     Ok(())
 }
 
 #[test]
 fn equal_neighbours_are_turns_of_their_own(rt: HostRuntime) -> Result<(), Fail> {
-    let entries = [(open_for(100), 500_000), (open_for(100), 500_000)];
-    let mut gate = gate_of(&rt, plan_of(rt.alloc(), false, false, &entries)?);
-    asked(
-        &rt,
-        &mut gate,
-        &[
-            (499_999, 100, Through(Some(7))),
-            (500_000, 100, Through(Some(7))),
-            (500_000, 2, OctetsExceeded),
-            (1_000_000, 100, Through(Some(7))),
-        ],
-    );
+    equal_turns_go(&rt, rt.alloc())?;
     Ok(())
 }
 
+const SHUT_ONCE: [Step; 3] = [
+    Step::Asks(10_000, 601, OctetsExceeded),
+    Step::Asks(300_000, 44, ShutByOctets),
+    Step::Flagged(false, true),
+];
+
 #[test]
 fn a_shut_gate_sets_no_further_flag(rt: HostRuntime) -> Result<(), Fail> {
-    let mut gate = gate_of(&rt, base_plan(rt.alloc(), true, true)?);
-    asked(
-        &rt,
-        &mut gate,
-        &[(10_000, 601, OctetsExceeded), (300_000, 44, ShutByOctets)],
-    );
-    assert_eq!(rt; gate.flags(), (false, true));
+    window_goes(&rt, rt.alloc(), true, true, &SHUT_ONCE)?;
     Ok(())
 }
 
@@ -181,19 +233,20 @@ fn fixed_plan<A: Allocator + Copy>(_alloc: A, ipv: u8) -> GatePlan<A> {
     }
 }
 
+const UNLIMITED: [Step; 3] = [
+    Step::Asks(0, 4_294_967_295, Through(Some(3))),
+    Step::Asks(0, 4_294_967_295, Through(Some(3))),
+    Step::Asks(3_999_999_999_999_999_999, 1, Through(Some(3))),
+];
+
+fn fixed_gate_goes<A: Allocator + Copy>(rt: &impl Abort, alloc: A) {
+    goes_as_said(rt, fixed_plan(alloc, 3), &UNLIMITED);
+    assert!(rt; !fixed_plan(alloc, 8).schedule.has_priorities());
+}
+
 #[test]
 fn a_fixed_gate_has_no_limit(rt: HostRuntime) {
-    let mut gate = gate_of(&rt, fixed_plan(rt.alloc(), 3));
-    asked(
-        &rt,
-        &mut gate,
-        &[
-            (0, 4_294_967_295, Through(Some(3))),
-            (0, 4_294_967_295, Through(Some(3))),
-            (3_999_999_999_999_999_999, 1, Through(Some(3))),
-        ],
-    );
-    assert!(rt; !fixed_plan(rt.alloc(), 8).schedule.has_priorities());
+    fixed_gate_goes(&rt, rt.alloc());
 }
 
 /// A plan, and its copy.
@@ -204,30 +257,48 @@ fn made_and_copied<A: Allocator + Copy>(alloc: A) -> Result<GatePlan<A>, ListFau
     Ok(plan)
 }
 
+/// Whether a plan and its copy can be made, where nothing but memory is wanted.
+fn is_made<A: Allocator + Copy>(rt: &impl Abort, alloc: A) -> bool {
+    match made_and_copied(alloc) {
+        Ok(_) => true,
+        Err(fault) => {
+            assert!(rt; fault == ListFault::NoMemory);
+            false
+        }
+    }
+}
+
+fn refuse_each<A: Allocator + Copy>(rt: &impl Abort, alloc: A) {
+    for n in 1..1000u64 {
+        let refusing = RefusesOne::new(alloc, n);
+        let is_made = is_made(rt, &refusing);
+        if !refusing.refused() {
+            assert!(rt; is_made);
+            return;
+        }
+        must(rt, !is_made, "growth", n);
+    }
+    assert!(rt; false, "some growth was always refused");
+}
+
 #[test]
 fn each_growth_of_a_plan_is_refused_in_turn(rt: HostRuntime) {
-    for n in 1..1000u64 {
-        let refusing = RefusesOne::new(rt.alloc(), n);
-        let made = made_and_copied(&refusing);
-        if !refusing.refused() {
-            assert!(rt; made.is_ok());
-            break;
-        }
-        assert!(rt; matches!(made, Err(ListFault::NoMemory)), "growth {n}");
-    }
+    refuse_each(&rt, rt.alloc());
+}
+
+const OF_A_COPY: [Step; 3] = [
+    Step::Asks(299_999, 600, Through(Some(7))),
+    Step::Asks(300_000, 1, Closed),
+    Step::Asks(1_000_000, 1, ShutByRx),
+];
+
+fn copy_goes<A: Allocator + Copy>(rt: &impl Abort, alloc: A) -> Result<(), ListFault> {
+    goes_as_said(rt, made_and_copied(alloc)?, &OF_A_COPY);
+    Ok(())
 }
 
 #[test]
 fn a_copy_is_set_alike(rt: HostRuntime) -> Result<(), Fail> {
-    let mut gate = gate_of(&rt, made_and_copied(rt.alloc())?);
-    asked(
-        &rt,
-        &mut gate,
-        &[
-            (299_999, 600, Through(Some(7))),
-            (300_000, 1, Closed),
-            (1_000_000, 1, ShutByRx),
-        ],
-    );
+    copy_goes(&rt, rt.alloc())?;
     Ok(())
 }

@@ -1,8 +1,12 @@
 //! Stream identification: worked examples of handles.
+ghost use Rattle.std.specs.Prelude.{◌<◌};
+
+use crate::must::must;
 use bridge_frame::{Head, Tag};
 use bridge_ident::{Ident, Kind, StreamEntry, TagKind};
 use bridge_refusing::RefusesOne;
 use std::alloc::{AllocError, Allocator};
+use std::process::Abort;
 use std::test::Fail;
 
 const TALKER: [u8; 6] = [2, 0, 0, 0, 0, 1];
@@ -56,29 +60,54 @@ fn table_of<A: Allocator + Copy>(
     }
 }
 
+/// The handles of a tagged frame, of one with VLAN identifier 0 and of an untagged one.
+const KINDS: [(TagKind, [Option<u32>; 3]); 3] = [
+    (TagKind::Tagged, [Some(1), None, None]),
+    (TagKind::Priority, [None, Some(1), Some(1)]),
+    (TagKind::All, [Some(1), Some(1), Some(1)]),
+];
+
+/// Tests the handle of a frame.
+fn has_handle<A: Allocator + Copy>(
+    rt: &impl Abort,
+    table: &Ident<A>,
+    port: u8,
+    head: &Head,
+    vid: u16,
+    wanted: Option<u32>,
+) {
+    let handle = table.handle_of(port, head, vid);
+    must(rt, handle == wanted, "a frame of VLAN", u64::from(vid));
+}
+
+/// Tests the handles of frames in a table of one entry.
+fn has_handles<A: Allocator + Copy>(rt: &impl Abort, table: &Ident<A>, wanted: [Option<u32>; 3]) {
+    let tagged = head(Some(10));
+    must(rt, table.entries().len() == 1, "entries", 1);
+    has_handle(rt, table, 1, &tagged, 10, wanted[0]);
+    has_handle(rt, table, 1, &head(Some(0)), 10, wanted[1]);
+    has_handle(rt, table, 1, &head(None), 10, wanted[2]);
+    has_handle(rt, table, 2, &tagged, 10, None);
+    has_handle(rt, table, 1, &tagged, 20, None);
+}
+
+fn table_goes<A: Allocator + Copy>(
+    rt: &impl Abort,
+    alloc: A,
+    kind: TagKind,
+    has_index: bool,
+    wanted: [Option<u32>; 3],
+) -> Result<(), AllocError> {
+    let table = table_of(alloc, &[entry(1, kind)], has_index)?;
+    has_handles(rt, &table, wanted);
+    Ok(())
+}
+
 #[test]
 fn tag_kinds(rt: HostRuntime) -> Result<(), Fail> {
-    let tagged = head(Some(10));
-    let priority = head(Some(0));
-    let untagged = head(None);
-    for (kind, has_index, wanted) in [
-        (TagKind::Tagged, false, [Some(1), None, None]),
-        (TagKind::Tagged, true, [Some(1), None, None]),
-        (TagKind::Priority, false, [None, Some(1), Some(1)]),
-        (TagKind::Priority, true, [None, Some(1), Some(1)]),
-        (TagKind::All, false, [Some(1), Some(1), Some(1)]),
-        (TagKind::All, true, [Some(1), Some(1), Some(1)]),
-    ] {
-        let table = table_of(rt.alloc(), &[entry(1, kind)], has_index)?;
-        assert_eq!(rt; table.entries().len(), 1);
-        assert!(rt; table.handle_of(1, &tagged, 10) == wanted[0], "tagged");
-        assert!(rt;
-            table.handle_of(1, &priority, 10) == wanted[1],
-            "VLAN identifier 0"
-        );
-        assert!(rt; table.handle_of(1, &untagged, 10) == wanted[2], "untagged");
-        assert!(rt; table.handle_of(2, &tagged, 10) == None, "another port");
-        assert!(rt; table.handle_of(1, &tagged, 20) == None, "another VLAN");
+    for (kind, wanted) in &KINDS {
+        table_goes(&rt, rt.alloc(), *kind, false, *wanted)?;
+        table_goes(&rt, rt.alloc(), *kind, true, *wanted)?;
     }
     Ok(())
 }
@@ -101,17 +130,25 @@ fn rows() -> [Row; 6] {
     ]
 }
 
+/// Tests the handles of a tagged frame and of an untagged one in a table of two entries.
+fn matches_first<A: Allocator + Copy>(
+    rt: &impl Abort,
+    alloc: A,
+    row: &Row,
+    has_index: bool,
+) -> Result<(), AllocError> {
+    let (entries, wanted) = row;
+    let table = table_of(alloc, entries, has_index)?;
+    has_handle(rt, &table, 1, &head(Some(10)), 10, wanted[0]);
+    has_handle(rt, &table, 1, &head(None), 10, wanted[1]);
+    Ok(())
+}
+
 #[test]
 fn first_match_counts(rt: HostRuntime) -> Result<(), Fail> {
-    for (entries, wanted) in &rows() {
-        for has_index in [false, true] {
-            let table = table_of(rt.alloc(), entries, has_index)?;
-            let handles = [
-                table.handle_of(1, &head(Some(10)), 10),
-                table.handle_of(1, &head(None), 10),
-            ];
-            assert!(rt; handles == *wanted, "{wanted:?}, {has_index}");
-        }
+    for row in &rows() {
+        matches_first(&rt, rt.alloc(), row, false)?;
+        matches_first(&rt, rt.alloc(), row, true)?;
     }
     Ok(())
 }
@@ -137,47 +174,60 @@ fn many<A: Allocator + Copy>(alloc: A) -> Result<Vec<StreamEntry, A>, AllocError
     Ok(entries)
 }
 
-#[test]
-fn each_of_many_entries_is_found(rt: HostRuntime) -> Result<(), Fail> {
-    let table = Ident::indexed(rt.alloc(), many(rt.alloc())?)?;
+/// Tests the handle of a frame of an entry, and of one to its source or from its destination.
+fn is_found<A: Allocator + Copy>(rt: &impl Abort, table: &Ident<A>, number: u16)
+    requires { number < 4096 }
+{
     let from = head(Some(10));
     let to = Head {
         da: TALKER,
         sa: LISTENER,
         ..from
     };
+    let port = (number % 256) as u8;
+    let (found, missed) = if number % 2 == 1 {
+        (&from, &to)
+    } else {
+        (&to, &from)
+    };
+    let wanted = Some(u32::from(number));
+    has_handle(rt, table, port, found, number * 16, wanted);
+    has_handle(rt, table, port, missed, number * 16, None);
+}
+
+fn find_each<A: Allocator + Copy>(rt: &impl Abort, alloc: A) -> Result<(), AllocError> {
+    let table = Ident::indexed(alloc, many(alloc)?)?;
     for number in 0..4096u16 {
-        let port = (number % 256) as u8;
-        let by_source = number % 2 == 1;
-        let wanted = Some(u32::from(number));
-        let (found, missed) = if by_source {
-            (&from, &to)
-        } else {
-            (&to, &from)
-        };
-        assert!(rt;
-            table.handle_of(port, found, number * 16) == wanted,
-            "{number}"
-        );
-        assert!(rt;
-            table.handle_of(port, missed, number * 16) == None,
-            "{number}"
-        );
+        is_found(rt, &table, number);
     }
     Ok(())
 }
 
 #[test]
-fn each_growth_of_an_index_is_refused_in_turn(rt: HostRuntime) -> Result<(), Fail> {
+fn each_of_many_entries_is_found(rt: HostRuntime) -> Result<(), Fail> {
+    find_each(&rt, rt.alloc())?;
+    Ok(())
+}
+
+fn is_made<A: Allocator + Copy>(alloc: A) -> bool {
     let entries = [entry(1, TagKind::All), source(2, TagKind::Tagged)];
+    table_of(alloc, &entries, true).is_ok()
+}
+
+fn refuse_each<A: Allocator + Copy>(rt: &impl Abort, alloc: A) {
     for n in 1..1_000 {
-        let gate = RefusesOne::new(rt.alloc(), n);
-        let made = table_of(&gate, &entries, true);
+        let gate = RefusesOne::new(alloc, n);
+        let is_made = is_made(&gate);
         if !gate.refused() {
-            assert!(rt; made.is_ok() && n > 4);
-            return Ok(());
+            assert!(rt; is_made && n > 4);
+            return;
         }
-        assert!(rt; made.is_err(), "growth {n}");
+        must(rt, !is_made, "growth", n);
     }
-    Err(Fail::from("some growth was always refused"))
+    assert!(rt; false, "some growth was always refused");
+}
+
+#[test]
+fn each_growth_of_an_index_is_refused_in_turn(rt: HostRuntime) {
+    refuse_each(&rt, rt.alloc());
 }

@@ -18,4 +18,6 @@ mod joined;
 #[cfg(test)]
 mod meter;
 #[cfg(test)]
+mod must;
+#[cfg(test)]
 mod port;

@@ -1,36 +1,62 @@
 //! Meters: worked examples of colours and of what the buckets hold then.
 
+use crate::must::must;
 use bridge_meter::Colour::{Green, Red, Yellow};
 use bridge_meter::{Buckets, Colour, Meter, MeterPlan, UNITS_PER_OCTET};
 use std::process::Abort;
 
-/// A colour-blind meter with these rates and sizes, and no switch set.
-fn blind(cir: u64, cbs: u64, eir: u64, ebs: u64) -> MeterPlan {
-    MeterPlan {
-        cir,
-        cbs,
-        eir,
-        ebs,
-        coupling: false,
-        aware: false,
-        drop_yellow: false,
-        mark_all_red: false,
-    }
-}
+/// A colour-blind meter of 8 Mb/s and 128 octets.
+const BLIND: MeterPlan = MeterPlan {
+    cir: 8_000_000,
+    cbs: 128,
+    eir: 0,
+    ebs: 0,
+    coupling: false,
+    aware: false,
+    drop_yellow: false,
+    mark_all_red: false,
+};
 
 fn meter_of(rt: &impl Abort, plan: MeterPlan) -> Meter {
     assert!(rt; plan.is_within_limits());
     Meter::new(plan)
 }
 
-/// Gives a meter frames of 64 octets that aren't drop eligible, and compares their colours.
-fn colours(rt: &impl Abort, meter: &mut Meter, frames: &[(u64, Colour)]) {
-    for (t, wanted) in frames {
-        assert!(rt; meter.state().at <= *t, "frames in order");
-        assert!(rt;
-            meter.colour(*t, 64, false) == *wanted,
-            "colour of the frame at {t}"
-        );
+/// What is done with a meter, or seen of it.
+#[derive(Clone, Copy)]
+enum Step {
+    /// A frame of 64 octets: its moment, whether it is drop eligible, and its colour.
+    Frame(u64, bool, Colour),
+    /// What the committed and the excess bucket hold, since when, and whether all are red.
+    Holds(u128, u128, u64, bool),
+    ClearsRed,
+}
+
+fn colours(rt: &impl Abort, meter: &mut Meter, t: u64, is_eligible: bool, wanted: Colour) {
+    assert!(rt; meter.state().at <= t);
+    let colour = meter.colour(t, 64, is_eligible);
+    must(rt, colour == wanted, "colour of the frame at", t);
+}
+
+fn holds(rt: &impl Abort, meter: &Meter, wanted: Buckets) {
+    must(rt, meter.state() == wanted, "buckets at", wanted.at);
+}
+
+fn take(rt: &impl Abort, meter: &mut Meter, step: &Step) {
+    match step {
+        Step::Frame(t, is_eligible, wanted) => colours(rt, meter, *t, *is_eligible, *wanted),
+        Step::Holds(committed, excess, at, all_red) => {
+            holds(rt, meter, held(*committed, *excess, *at, *all_red));
+        }
+        Step::ClearsRed => meter.clear_red(),
+    }
+}
+
+/// Makes a meter, and takes the steps.
+fn goes_as_said(rt: &impl Abort, plan: MeterPlan, steps: &[Step]) {
+    let mut meter = meter_of(rt, plan);
+    for step in steps {
+        take(rt, &mut meter, step);
     }
 }
 
@@ -43,91 +69,130 @@ fn held(committed: u128, excess: u128, at: u64, all_red: bool) -> Buckets {
     }
 }
 
+const TOO_EARLY: [Step; 5] = [
+    Step::Frame(0, false, Green),
+    Step::Frame(0, false, Green),
+    Step::Holds(0, 0, 0, false),
+    Step::Frame(63_999, false, Red),
+    Step::Holds(511_992_000_000, 0, 63_999, false),
+];
+
+const IN_TIME: [Step; 4] = [
+    Step::Frame(0, false, Green),
+    Step::Frame(0, false, Green),
+    Step::Frame(64_000, false, Green),
+    Step::Holds(0, 0, 64_000, false),
+];
+
 #[test]
 fn committed_bucket_refills_without_rounding(rt: HostRuntime) {
-    let plan = blind(8_000_000, 128, 0, 0);
-    let mut meter = meter_of(&rt, plan);
-    colours(&rt, &mut meter, &[(0, Green), (0, Green)]);
-    assert_eq!(rt; meter.state(), held(0, 0, 0, false));
-    colours(&rt, &mut meter, &[(63_999, Red)]);
-    assert_eq!(rt; meter.state(), held(511_992_000_000, 0, 63_999, false));
-
-    let mut meter = meter_of(&rt, plan);
-    colours(&rt, &mut meter, &[(0, Green), (0, Green), (64_000, Green)]);
-    assert_eq!(rt; meter.state(), held(0, 0, 64_000, false));
+    goes_as_said(&rt, BLIND, &TOO_EARLY);
+    goes_as_said(&rt, BLIND, &IN_TIME);
 }
+
+const MARKS_ALL: MeterPlan = MeterPlan {
+    mark_all_red: true,
+    ..BLIND
+};
+
+const ALL_RED: [Step; 5] = [
+    Step::Frame(0, false, Green),
+    Step::Frame(0, false, Green),
+    Step::Frame(63_999, false, Red),
+    Step::Frame(2_000_000, false, Red),
+    Step::Holds(511_992_000_000, 0, 63_999, true),
+];
+
+const CLEARED: [Step; 6] = [
+    Step::Frame(0, false, Green),
+    Step::Frame(0, false, Green),
+    Step::Frame(63_999, false, Red),
+    Step::ClearsRed,
+    Step::Frame(2_000_000, false, Green),
+    Step::Holds(512_000_000_000, 0, 2_000_000, false),
+];
 
 #[test]
 fn all_are_red_after_one_red_frame(rt: HostRuntime) {
-    let plan = MeterPlan {
-        mark_all_red: true,
-        ..blind(8_000_000, 128, 0, 0)
-    };
-    let first = [(0, Green), (0, Green), (63_999, Red)];
-    let mut meter = meter_of(&rt, plan);
-    colours(&rt, &mut meter, &first);
-    colours(&rt, &mut meter, &[(2_000_000, Red)]);
-    assert_eq!(rt; meter.state(), held(511_992_000_000, 0, 63_999, true));
-
-    let mut meter = meter_of(&rt, plan);
-    colours(&rt, &mut meter, &first);
-    meter.clear_red();
-    colours(&rt, &mut meter, &[(2_000_000, Green)]);
-    assert_eq!(rt; meter.state(), held(512_000_000_000, 0, 2_000_000, false));
+    goes_as_said(&rt, MARKS_ALL, &ALL_RED);
+    goes_as_said(&rt, MARKS_ALL, &CLEARED);
 }
+
+const TWO_BUCKETS: MeterPlan = MeterPlan {
+    cbs: 64,
+    ebs: 64,
+    ..BLIND
+};
+
+const COUPLED: MeterPlan = MeterPlan {
+    coupling: true,
+    ..TWO_BUCKETS
+};
+
+const OVERFLOWS: [Step; 4] = [
+    Step::Frame(0, false, Green),
+    Step::Frame(0, false, Yellow),
+    Step::Frame(128_000, false, Green),
+    Step::Frame(128_000, false, Yellow),
+];
+
+const OVERFLOW_IS_LOST: [Step; 4] = [
+    Step::Frame(0, false, Green),
+    Step::Frame(0, false, Yellow),
+    Step::Frame(128_000, false, Green),
+    Step::Frame(128_000, false, Red),
+];
 
 #[test]
 fn overflow_goes_to_the_excess_bucket_with_coupling_alone(rt: HostRuntime) {
-    for (coupling, last) in [(true, Yellow), (false, Red)] {
-        let plan = MeterPlan {
-            coupling,
-            ..blind(8_000_000, 64, 0, 64)
-        };
-        let mut meter = meter_of(&rt, plan);
-        colours(
-            &rt,
-            &mut meter,
-            &[(0, Green), (0, Yellow), (128_000, Green), (128_000, last)],
-        );
-    }
+    goes_as_said(&rt, COUPLED, &OVERFLOWS);
+    goes_as_said(&rt, TWO_BUCKETS, &OVERFLOW_IS_LOST);
 }
+
+const AWARE: MeterPlan = MeterPlan {
+    cir: 0,
+    cbs: 64,
+    ebs: 64,
+    aware: true,
+    ..BLIND
+};
+
+const ELIGIBLE: [Step; 2] = [
+    Step::Frame(0, true, Yellow),
+    Step::Holds(64 * UNITS_PER_OCTET, 0, 0, false),
+];
 
 #[test]
 fn drop_eligible_frame_is_yellow_where_aware(rt: HostRuntime) {
-    let plan = MeterPlan {
-        aware: true,
-        ..blind(0, 64, 0, 64)
-    };
-    let mut meter = meter_of(&rt, plan);
-    assert_eq!(rt; meter.state().at, 0);
-    assert!(rt; meter.colour(0, 64, true) == Yellow);
-    assert_eq!(rt; meter.state(), held(64 * UNITS_PER_OCTET, 0, 0, false));
+    goes_as_said(&rt, AWARE, &ELIGIBLE);
 }
+
+const GREATEST: MeterPlan = MeterPlan {
+    cir: 100_000_000_000,
+    cbs: 4_294_967_295,
+    eir: 100_000_000_000,
+    ebs: 4_294_967_295,
+    coupling: true,
+    ..BLIND
+};
+
+const ABOVE_THE_GREATEST: MeterPlan = MeterPlan {
+    cir: 100_000_000_001,
+    ..GREATEST
+};
+
+const AT_THE_LAST_MOMENT: [Step; 2] = [
+    Step::Frame(3_999_999_999_999_999_999, false, Green),
+    Step::Holds(
+        34_359_737_848_000_000_000,
+        34_359_738_360_000_000_000,
+        3_999_999_999_999_999_999,
+        false,
+    ),
+];
 
 #[test]
 fn greatest_rates_and_moment(rt: HostRuntime) {
-    let plan = MeterPlan {
-        coupling: true,
-        ..blind(
-            100_000_000_000,
-            4_294_967_295,
-            100_000_000_000,
-            4_294_967_295,
-        )
-    };
-    let last = 3_999_999_999_999_999_999;
-    let mut meter = meter_of(&rt, plan);
-    colours(&rt, &mut meter, &[(last, Green)]);
-    let left = held(
-        34_359_737_848_000_000_000,
-        34_359_738_360_000_000_000,
-        last,
-        false,
-    );
-    assert_eq!(rt; meter.state(), left);
-    let over = MeterPlan {
-        cir: 100_000_000_001,
-        ..plan
-    };
-    assert!(rt; !over.is_within_limits());
+    goes_as_said(&rt, GREATEST, &AT_THE_LAST_MOMENT);
+    assert!(rt; !ABOVE_THE_GREATEST.is_within_limits());
 }

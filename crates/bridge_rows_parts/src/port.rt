@@ -2,6 +2,7 @@
 ghost use Rattle.std.specs.Prelude.{◌≡◌, true};
 ghost use Rattle.bridge_port.specs.Standing.{NoStartBefore};
 
+use crate::must::must;
 use bridge_cycle::{CyclicList, ListFault};
 use bridge_frame::{Speed, occupation};
 use bridge_port::{
@@ -114,236 +115,266 @@ fn starts_before<A: Allocator + Copy>(
     Ok(())
 }
 
+/// The port of a row, with a list where there are entries.
+fn port_of<A: Allocator + Copy>(
+    rt: &impl Abort,
+    alloc: A,
+    row: &Row,
+) -> Result<Port<u32, A>, NoMemory> {
+    assert!(rt; are_rooms(&row.rooms));
+    let list = match row.entries {
+        [] => None,
+        entries => match list_of(alloc, row.cycle, entries) {
+            Ok(list) => Some(list),
+            Err(_) => return Err(NoMemory),
+        },
+    };
+    Port::new(alloc, row.speed, list, row.rooms)
+}
+
 /// Offers what a row says and makes each start when it is due.
+fn offer_all<A: Allocator + Copy>(
+    rt: &impl Abort,
+    port: &mut Port<u32, A>,
+    name: &str,
+    row: &Row,
+    starts: &mut Vec<Start, A>,
+) -> Result<(), AllocError> {
+    for (t, class, len, refusal) in row.offers {
+        starts_before(port, row.speed, *t, starts)?;
+        let refused = offer(rt, port, *t, *class, *len);
+        must(rt, refused == *refusal, name, *t);
+    }
+    starts_before(port, row.speed, u64::MAX, starts)
+}
+
+/// Offers what a row says, and compares what starts.
 fn goes_as_said<A: Allocator + Copy>(
     rt: &impl Abort,
     alloc: A,
     name: &str,
     row: &Row,
 ) -> Result<(), Fail> {
-    let list = match row.entries {
-        [] => None,
-        entries => Some(list_of(alloc, row.cycle, entries)?),
-    };
-    assert!(rt; are_rooms(&row.rooms), "{name}");
-    let mut port = Port::new(alloc, row.speed, list, row.rooms)?;
+    let mut port = port_of(rt, alloc, row)?;
     let mut starts = Vec::new(alloc);
-    for (t, class, len, refusal) in row.offers {
-        starts_before(&mut port, row.speed, *t, &mut starts)?;
-        assert_eq!(rt;
-            offer(rt, &mut port, *t, *class, *len),
-            *refusal,
-            "{name} at {t}"
-        );
-    }
-    starts_before(&mut port, row.speed, u64::MAX, &mut starts)?;
-    assert_eq!(rt; starts.as_slice(), row.starts, "{name}");
-    assert_eq!(rt; port.offered(), row.offers.len() as u64);
-    assert_eq!(rt; port.started(), row.starts.len() as u64);
+    offer_all(rt, &mut port, name, row, &mut starts)?;
+    must(rt, starts.as_slice() == row.starts, name, 0);
+    must(rt, port.offered() == row.offers.len() as u64, name, 1);
+    must(rt, port.started() == row.starts.len() as u64, name, 2);
     Ok(())
 }
+
+const HALVES_ROW: Row = Row {
+    speed: Speed::Mbps1000,
+    cycle: 1_000_000,
+    entries: &HALVES,
+    rooms: WIDE,
+    offers: &[],
+    starts: &[],
+};
+
+const JUST_FITS: Row = Row {
+    offers: &[(999_328, 0, 60, None)],
+    starts: &[(0, 60, 999_328, 1_000_000)],
+    ..HALVES_ROW
+};
+
+const JUST_TOO_LATE: Row = Row {
+    offers: &[(999_329, 0, 60, None)],
+    starts: &[(0, 60, 1_500_000, 1_500_672)],
+    ..HALVES_ROW
+};
+
+const ONE_HALF_AT_10_MBPS: Row = Row {
+    speed: Speed::Mbps10,
+    offers: &[(100, 0, 601, None), (100, 0, 602, Some(Refusal::NeverFits))],
+    starts: &[(0, 601, 500_000, 1_000_000)],
+    ..HALVES_ROW
+};
 
 #[test]
 fn a_frame_starts_where_its_class_stays_open(rt: HostRuntime) -> Result<(), Fail> {
-    let halves = Row {
-        speed: Speed::Mbps1000,
-        cycle: 1_000_000,
-        entries: &HALVES,
-        rooms: WIDE,
-        offers: &[],
-        starts: &[],
-    };
-    for (name, row) in [
-        (
-            "just fits",
-            Row {
-                offers: &[(999_328, 0, 60, None)],
-                starts: &[(0, 60, 999_328, 1_000_000)],
-                ..halves
-            },
-        ),
-        (
-            "just too late",
-            Row {
-                offers: &[(999_329, 0, 60, None)],
-                starts: &[(0, 60, 1_500_000, 1_500_672)],
-                ..halves
-            },
-        ),
-        (
-            "one half at 10 Mb/s",
-            Row {
-                speed: Speed::Mbps10,
-                offers: &[(100, 0, 601, None), (100, 0, 602, Some(Refusal::NeverFits))],
-                starts: &[(0, 601, 500_000, 1_000_000)],
-                ..halves
-            },
-        ),
-    ] {
-        goes_as_said(&rt, rt.alloc(), name, &row)?;
-    }
-    Ok(())
+    goes_as_said(&rt, rt.alloc(), "just fits", &JUST_FITS)?;
+    goes_as_said(&rt, rt.alloc(), "just too late", &JUST_TOO_LATE)?;
+    goes_as_said(&rt, rt.alloc(), "one half at 10 Mb/s", &ONE_HALF_AT_10_MBPS)
 }
+
+const BURST_ROW: Row = Row {
+    speed: Speed::Mbps1000,
+    cycle: 10_000,
+    entries: &BURST,
+    rooms: WIDE,
+    offers: &[],
+    starts: &[],
+};
+
+const A_LONG_FRAME_WAITS: Row = Row {
+    offers: &[(500, 6, 200, None), (500, 5, 60, None)],
+    starts: &[(5, 60, 500, 1_172), (6, 200, 10_000, 11_792)],
+    ..BURST_ROW
+};
+
+const A_SHORT_FRAME_GOES_FIRST: Row = Row {
+    offers: &[(500, 6, 60, None), (500, 5, 60, None)],
+    starts: &[(6, 60, 500, 1_172), (5, 60, 1_172, 1_844)],
+    ..BURST_ROW
+};
+
+const THE_ORDER_OF_THE_OFFERS_DOES_NOT_MATTER: Row = Row {
+    offers: &[(500, 5, 61, None), (500, 6, 60, None)],
+    starts: &[(6, 60, 500, 1_172), (5, 61, 1_172, 1_852)],
+    ..BURST_ROW
+};
 
 #[test]
 fn the_highest_class_that_fits_starts(rt: HostRuntime) -> Result<(), Fail> {
-    let burst = Row {
-        speed: Speed::Mbps1000,
-        cycle: 10_000,
-        entries: &BURST,
-        rooms: WIDE,
-        offers: &[],
-        starts: &[],
-    };
-    for (name, row) in [
-        (
-            "a long frame waits",
-            Row {
-                offers: &[(500, 6, 200, None), (500, 5, 60, None)],
-                starts: &[(5, 60, 500, 1_172), (6, 200, 10_000, 11_792)],
-                ..burst
-            },
-        ),
-        (
-            "a short frame goes first",
-            Row {
-                offers: &[(500, 6, 60, None), (500, 5, 60, None)],
-                starts: &[(6, 60, 500, 1_172), (5, 60, 1_172, 1_844)],
-                ..burst
-            },
-        ),
-        (
-            "the order of the offers does not matter",
-            Row {
-                offers: &[(500, 5, 61, None), (500, 6, 60, None)],
-                starts: &[(6, 60, 500, 1_172), (5, 61, 1_172, 1_852)],
-                ..burst
-            },
-        ),
-    ] {
-        goes_as_said(&rt, rt.alloc(), name, &row)?;
-    }
-    Ok(())
+    goes_as_said(&rt, rt.alloc(), "a long frame waits", &A_LONG_FRAME_WAITS)?;
+    goes_as_said(
+        &rt,
+        rt.alloc(),
+        "a short frame goes first",
+        &A_SHORT_FRAME_GOES_FIRST,
+    )?;
+    goes_as_said(
+        &rt,
+        rt.alloc(),
+        "the order of the offers does not matter",
+        &THE_ORDER_OF_THE_OFFERS_DOES_NOT_MATTER,
+    )
 }
+
+const OPEN_ROW: Row = Row {
+    speed: Speed::Mbps1000,
+    cycle: 1_000_000,
+    entries: &[],
+    rooms: NARROW,
+    offers: &[],
+    starts: &[],
+};
+
+const TWO_AT_ONE_MOMENT: Row = Row {
+    offers: &[
+        (100_000, 7, 60, None),
+        (100_000, 7, 60, Some(Refusal::Full)),
+    ],
+    starts: &[(7, 60, 100_000, 100_672)],
+    ..OPEN_ROW
+};
+
+const ONE_AFTER_THE_OTHER: Row = Row {
+    offers: &[(100_000, 7, 60, None), (100_001, 7, 61, None)],
+    starts: &[(7, 60, 100_000, 100_672), (7, 61, 100_672, 101_352)],
+    ..OPEN_ROW
+};
+
+const A_CLASS_THAT_IS_NEVER_OPEN: Row = Row {
+    entries: &CLASS_7,
+    offers: &[
+        (0, 0, 60, Some(Refusal::NeverFits)),
+        (0, 7, 60, None),
+        (0, 0, 60, Some(Refusal::NeverFits)),
+    ],
+    starts: &[(7, 60, 0, 672)],
+    ..OPEN_ROW
+};
+
+const NEVER_FITS_BEFORE_FULL: Row = Row {
+    speed: Speed::Mbps10,
+    entries: &HALVES,
+    offers: &[
+        (499_999, 7, 601, None),
+        (499_999, 7, 602, Some(Refusal::NeverFits)),
+        (499_999, 7, 601, Some(Refusal::Full)),
+    ],
+    starts: &[(7, 601, 1_000_000, 1_500_000)],
+    ..OPEN_ROW
+};
 
 #[test]
 fn a_frame_is_refused_for_the_first_reason(rt: HostRuntime) -> Result<(), Fail> {
-    let open = Row {
-        speed: Speed::Mbps1000,
-        cycle: 1_000_000,
-        entries: &[],
-        rooms: NARROW,
-        offers: &[],
-        starts: &[],
-    };
-    for (name, row) in [
-        (
-            "two at one moment",
-            Row {
-                offers: &[
-                    (100_000, 7, 60, None),
-                    (100_000, 7, 60, Some(Refusal::Full)),
-                ],
-                starts: &[(7, 60, 100_000, 100_672)],
-                ..open
-            },
-        ),
-        (
-            "one after the other",
-            Row {
-                offers: &[(100_000, 7, 60, None), (100_001, 7, 61, None)],
-                starts: &[(7, 60, 100_000, 100_672), (7, 61, 100_672, 101_352)],
-                ..open
-            },
-        ),
-        (
-            "a class that is never open",
-            Row {
-                entries: &CLASS_7,
-                offers: &[
-                    (0, 0, 60, Some(Refusal::NeverFits)),
-                    (0, 7, 60, None),
-                    (0, 0, 60, Some(Refusal::NeverFits)),
-                ],
-                starts: &[(7, 60, 0, 672)],
-                ..open
-            },
-        ),
-        (
-            "never fits before full",
-            Row {
-                speed: Speed::Mbps10,
-                entries: &HALVES,
-                offers: &[
-                    (499_999, 7, 601, None),
-                    (499_999, 7, 602, Some(Refusal::NeverFits)),
-                    (499_999, 7, 601, Some(Refusal::Full)),
-                ],
-                starts: &[(7, 601, 1_000_000, 1_500_000)],
-                ..open
-            },
-        ),
-    ] {
-        goes_as_said(&rt, rt.alloc(), name, &row)?;
-    }
-    Ok(())
+    goes_as_said(&rt, rt.alloc(), "two at one moment", &TWO_AT_ONE_MOMENT)?;
+    goes_as_said(&rt, rt.alloc(), "one after the other", &ONE_AFTER_THE_OTHER)?;
+    goes_as_said(
+        &rt,
+        rt.alloc(),
+        "a class that is never open",
+        &A_CLASS_THAT_IS_NEVER_OPEN,
+    )?;
+    goes_as_said(
+        &rt,
+        rt.alloc(),
+        "never fits before full",
+        &NEVER_FITS_BEFORE_FULL,
+    )
 }
+
+const ALL_CLASSES: Row = Row {
+    speed: Speed::Mbps1000,
+    cycle: 1_000_000,
+    entries: &ALL_OR_NONE,
+    rooms: WIDE,
+    offers: &[
+        (499_000, 0, 60, None),
+        (499_000, 1, 60, None),
+        (499_000, 2, 60, None),
+        (499_000, 3, 60, None),
+        (499_000, 4, 60, None),
+        (499_000, 5, 60, None),
+        (499_000, 6, 60, None),
+        (499_000, 7, 60, None),
+    ],
+    starts: &[
+        (7, 60, 499_000, 499_672),
+        (6, 60, 1_000_000, 1_000_672),
+        (5, 60, 1_000_672, 1_001_344),
+        (4, 60, 1_001_344, 1_002_016),
+        (3, 60, 1_002_016, 1_002_688),
+        (2, 60, 1_002_688, 1_003_360),
+        (1, 60, 1_003_360, 1_004_032),
+        (0, 60, 1_004_032, 1_004_704),
+    ],
+};
 
 #[test]
 fn an_entry_may_open_all_eight_classes(rt: HostRuntime) -> Result<(), Fail> {
-    let row = Row {
-        speed: Speed::Mbps1000,
-        cycle: 1_000_000,
-        entries: &ALL_OR_NONE,
-        rooms: WIDE,
-        offers: &[
-            (499_000, 0, 60, None),
-            (499_000, 1, 60, None),
-            (499_000, 2, 60, None),
-            (499_000, 3, 60, None),
-            (499_000, 4, 60, None),
-            (499_000, 5, 60, None),
-            (499_000, 6, 60, None),
-            (499_000, 7, 60, None),
-        ],
-        starts: &[
-            (7, 60, 499_000, 499_672),
-            (6, 60, 1_000_000, 1_000_672),
-            (5, 60, 1_000_672, 1_001_344),
-            (4, 60, 1_001_344, 1_002_016),
-            (3, 60, 1_002_016, 1_002_688),
-            (2, 60, 1_002_688, 1_003_360),
-            (1, 60, 1_003_360, 1_004_032),
-            (0, 60, 1_004_032, 1_004_704),
-        ],
-    };
-    goes_as_said(&rt, rt.alloc(), "all classes", &row)
+    goes_as_said(&rt, rt.alloc(), "all classes", &ALL_CLASSES)
+}
+
+fn is_idle<A: Allocator + Copy>(rt: &impl Abort, alloc: A) -> Result<(), NoMemory> {
+    let port = Port::<u32, A>::new(alloc, Speed::Mbps100, None, WIDE)?;
+    assert!(rt; port.next_start() == None);
+    assert!(rt; port.offered() == 0 && port.started() == 0 && port.earliest() == 0);
+    Ok(())
 }
 
 #[test]
 fn an_idle_port_has_no_start(rt: HostRuntime) -> Result<(), Fail> {
-    let port = Port::<u32, _>::new(rt.alloc(), Speed::Mbps100, None, WIDE)?;
-    assert_eq!(rt; port.next_start(), None);
-    assert_eq!(rt;
-        (port.offered(), port.started(), port.earliest()),
-        (0, 0, 0)
-    );
+    is_idle(&rt, rt.alloc())?;
     Ok(())
 }
 
-#[test]
-fn each_growth_of_a_port_is_refused_in_turn(rt: HostRuntime) -> Result<(), Fail> {
+/// Whether a port can be made, where nothing but memory is wanted.
+fn is_made<A: Allocator + Copy>(alloc: A) -> bool {
+    Port::<u32, A>::new(alloc, Speed::Mbps1000, None, NARROW).is_ok()
+}
+
+fn refuse_each<A: Allocator + Copy>(rt: &impl Abort, alloc: A) {
     for n in 1..1_000 {
-        let gate = RefusesOne::new(rt.alloc(), n);
-        let made = Port::<u32, _>::new(&gate, Speed::Mbps1000, None, NARROW);
+        let gate = RefusesOne::new(alloc, n);
+        let is_made = is_made(&gate);
         if !gate.refused() {
-            assert!(rt; made.is_ok());
-            assert_eq!(rt; n, 10);
-            return Ok(());
+            assert!(rt; is_made);
+            assert!(rt; n == 10);
+            return;
         }
-        assert_eq!(rt; made.err(), Some(NoMemory), "growth {n}");
+        must(rt, !is_made, "growth", n);
     }
-    Err(Fail::from("some growth was always refused"))
+    assert!(rt; false, "some growth was always refused");
+}
+
+#[test]
+fn each_growth_of_a_port_is_refused_in_turn(rt: HostRuntime) {
+    refuse_each(&rt, rt.alloc());
 }
 
 #[test]

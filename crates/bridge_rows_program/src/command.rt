@@ -1,11 +1,13 @@
 //! The command line: its jobs, the words that it refuses, and what it says of a run.
+use crate::must::must;
 use bridge_capture::{Order, SliceSource, VecSink};
 use bridge_frame::Speed;
 use bridge_program::{Fault, Job, NoMemory, fault_line, job_of, wire_line};
 use bridge_refusing::RefusesOne;
 use bridge_rows::captures::{Words, capture_under};
 use bridge_wire::{WireCount, wire};
-use std::alloc::{AllocError, Global};
+use std::alloc::{AllocError, Allocator, Global};
+use std::process::Abort;
 use std::test::Fail;
 
 /// The words of a command line.
@@ -23,41 +25,55 @@ fn no_words_ask_for_text(rt: HostRuntime) {
     assert!(rt; matches!(job, Ok(Job::Text)));
 }
 
-#[test]
-fn words_ask_for_a_run_over_files(rt: HostRuntime) -> Result<(), Fail> {
-    let rows: [(&[&str], Speed, u16); 6] = [
-        (&["wire", "10", "1", "IN", "OUT"], Speed::Mbps10, 1),
-        (&["wire", "100", "2", "IN", "OUT"], Speed::Mbps100, 2),
-        (
-            &["wire", "1000", "4096", "IN", "OUT"],
-            Speed::Mbps1000,
-            4_096,
-        ),
-        (&["wire", "2500", "0004", "IN", "OUT"], Speed::Mbps2500, 4),
-        (&["wire", "10000", "64", "IN", "OUT"], Speed::Mbps10000, 64),
-        (
-            &["wire", "00000000000010", "64", "IN", "OUT"],
-            Speed::Mbps10,
-            64,
-        ),
-    ];
-    for (line, link, places) in rows {
-        let words = words_of(rt.alloc(), line)?;
-        let Ok(
+/// The words of a run over files, with its speed and its places.
+const WIRES: [(&[&str], Speed, u16); 6] = [
+    (&["wire", "10", "1", "IN", "OUT"], Speed::Mbps10, 1),
+    (&["wire", "100", "2", "IN", "OUT"], Speed::Mbps100, 2),
+    (
+        &["wire", "1000", "4096", "IN", "OUT"],
+        Speed::Mbps1000,
+        4_096,
+    ),
+    (&["wire", "2500", "0004", "IN", "OUT"], Speed::Mbps2500, 4),
+    (&["wire", "10000", "64", "IN", "OUT"], Speed::Mbps10000, 64),
+    (
+        &["wire", "00000000000010", "64", "IN", "OUT"],
+        Speed::Mbps10,
+        64,
+    ),
+];
+
+fn asks_for_a_wire(
+    rt: &impl Abort,
+    alloc: Global,
+    line: &[&str],
+    link: Speed,
+    places: u16,
+) -> Result<(), AllocError> {
+    let words = words_of(alloc, line)?;
+    match job_of(alloc, &words) {
+        Ok(
             Job::Wire {
                 speed,
                 room,
                 input,
                 output,
             },
-        ) = job_of(rt.alloc(), &words)
-        else {
-            return Err(Fail::from("no run over files"));
-        };
-        assert_eq!(rt; speed, link);
-        assert_eq!(rt; room, places);
-        assert_eq!(rt; input.as_str(), "IN");
-        assert_eq!(rt; output.as_str(), "OUT");
+        ) => {
+            assert!(rt; speed == link);
+            assert!(rt; room == places);
+            assert!(rt; input.as_str() == "IN");
+            assert!(rt; output.as_str() == "OUT");
+        }
+        _ => panic!(rt; "no run over files"),
+    }
+    Ok(())
+}
+
+#[test]
+fn words_ask_for_a_run_over_files(rt: HostRuntime) -> Result<(), Fail> {
+    for (line, link, places) in &WIRES {
+        asks_for_a_wire(&rt, rt.alloc(), line, *link, *places)?;
     }
     Ok(())
 }
@@ -67,8 +83,8 @@ fn a_path_is_taken_as_it_stands(rt: HostRuntime) -> Result<(), Fail> {
     let words = words_of(rt.alloc(), &["wire", "10", "1", "--", "a b/IN", "-OUT"])?;
     match job_of(rt.alloc(), &words) {
         Ok(Job::Wire { input, output, .. }) => {
-            assert_eq!(rt; input.as_str(), "a b/IN");
-            assert_eq!(rt; output.as_str(), "-OUT");
+            assert!(rt; input.as_str() == "a b/IN");
+            assert!(rt; output.as_str() == "-OUT");
             Ok(())
         }
         _ => Err(Fail::from("no run over files")),
@@ -80,7 +96,7 @@ fn words_ask_for_a_check(rt: HostRuntime) -> Result<(), Fail> {
     let words = words_of(rt.alloc(), &["check", "a b/PLAN"])?;
     match job_of(rt.alloc(), &words) {
         Ok(Job::Check { plan }) => {
-            assert_eq!(rt; plan.as_str(), "a b/PLAN");
+            assert!(rt; plan.as_str() == "a b/PLAN");
             Ok(())
         }
         _ => Err(Fail::from("no check of a plan")),
@@ -99,133 +115,164 @@ fn words_ask_for_a_run_of_a_plan(rt: HostRuntime) -> Result<(), Fail> {
                 commands: None,
             },
         ) => {
-            assert_eq!(rt; plan.as_str(), "a b/PLAN");
-            assert_eq!(rt; input.as_str(), "IN");
-            assert_eq!(rt; output.as_str(), "./OUT");
+            assert!(rt; plan.as_str() == "a b/PLAN");
+            assert!(rt; input.as_str() == "IN");
+            assert!(rt; output.as_str() == "./OUT");
             Ok(())
         }
         _ => Err(Fail::from("no run of a plan")),
     }
 }
 
-#[test]
-fn words_ask_for_a_run_with_commands(rt: HostRuntime) -> Result<(), Fail> {
-    let rows: [&[&str]; 6] = [
-        &["run", "PLAN", "IN", "OUT", "--commands", "FILE"],
-        &["run", "--commands", "FILE", "PLAN", "IN", "OUT"],
-        &["run", "PLAN", "IN", "--commands", "FILE", "OUT"],
-        &["run", "PLAN", "IN", "OUT", "--commands=FILE"],
-        &["run", "--commands=FILE", "PLAN", "IN", "OUT"],
-        &["run", "--commands", "FILE", "--", "PLAN", "IN", "OUT"],
-    ];
-    for line in rows {
-        let words = words_of(rt.alloc(), line)?;
-        let Ok(
+const COMMANDED: [&[&str]; 6] = [
+    &["run", "PLAN", "IN", "OUT", "--commands", "FILE"],
+    &["run", "--commands", "FILE", "PLAN", "IN", "OUT"],
+    &["run", "PLAN", "IN", "--commands", "FILE", "OUT"],
+    &["run", "PLAN", "IN", "OUT", "--commands=FILE"],
+    &["run", "--commands=FILE", "PLAN", "IN", "OUT"],
+    &["run", "--commands", "FILE", "--", "PLAN", "IN", "OUT"],
+];
+
+fn asks_for_commands(rt: &impl Abort, alloc: Global, line: &[&str]) -> Result<(), AllocError> {
+    let words = words_of(alloc, line)?;
+    match job_of(alloc, &words) {
+        Ok(
             Job::Run {
                 plan,
                 input,
                 output,
                 commands,
             },
-        ) = job_of(rt.alloc(), &words)
-        else {
-            return Err(Fail::from("no run"));
-        };
-        let Some(commands) = commands else {
-            return Err(Fail::from("no commands"));
-        };
-        assert_eq!(rt; plan.as_str(), "PLAN");
-        assert_eq!(rt; input.as_str(), "IN");
-        assert_eq!(rt; output.as_str(), "OUT");
-        assert_eq!(rt; commands.as_str(), "FILE");
+        ) => {
+            assert!(rt; plan.as_str() == "PLAN");
+            assert!(rt; input.as_str() == "IN");
+            assert!(rt; output.as_str() == "OUT");
+            match commands {
+                Some(path) => assert!(rt; path.as_str() == "FILE"),
+                None => panic!(rt; "no commands"),
+            }
+        }
+        _ => panic!(rt; "no run with commands"),
     }
     Ok(())
 }
 
 #[test]
-fn other_words_are_refused(rt: HostRuntime) -> Result<(), Fail> {
-    let rows: [&[&str]; 40] = [
-        &["wire", "999", "1", "IN", "OUT"],
-        &["wire", "1000", "0", "IN", "OUT"],
-        &["wire", "1000", "+1", "IN", "OUT"],
-        &["wire", "+1000", "1", "IN", "OUT"],
-        &["wire", "1000", "4097", "IN", "OUT"],
-        &["wire", "1000", "65537", "IN", "OUT"],
-        &["wire", "1000", "4294967297", "IN", "OUT"],
-        &["wire", "1000", "-1", "IN", "OUT"],
-        &["wire", "1000", "1.0", "IN", "OUT"],
-        &["wire", "1000", " 1", "IN", "OUT"],
-        &["wire", "1000", "", "IN", "OUT"],
-        &["wire", "0x3e8", "1", "IN", "OUT"],
-        &["wire", "1000", "1", "IN"],
-        &["wire", "1000", "1", "IN", "OUT", "MORE"],
-        &["wire", "1000", "1", "IN", "-OUT"],
-        &["wire"],
-        &["fly"],
-        &["--help"],
-        &["-h"],
-        &["help"],
-        &["wire", "--help"],
-        &["--version"],
-        &["check"],
-        &["check", "PLAN", "MORE"],
-        &["check", "-PLAN"],
-        &["check", "--help"],
-        &["run"],
-        &["run", "PLAN", "IN"],
-        &["run", "PLAN", "IN", "OUT", "MORE"],
-        &["run", "PLAN", "IN", "-OUT"],
-        &["run", "--help"],
-        &["run", "PLAN", "IN", "OUT", "--commands"],
-        &["run", "PLAN", "IN", "--commands", "FILE"],
-        &["run", "PLAN", "IN", "OUT", "MORE", "--commands", "FILE"],
-        &["run", "PLAN", "IN", "OUT", "--commands", "-FILE"],
-        &[
-            "run",
-            "PLAN",
-            "IN",
-            "OUT",
-            "--commands",
-            "FILE",
-            "--commands",
-            "FILE",
-        ],
-        &["run", "PLAN", "IN", "OUT", "--command", "FILE"],
-        &["run", "PLAN", "IN", "OUT", "-c", "FILE"],
-        &["--commands", "FILE", "run", "PLAN", "IN", "OUT"],
-        &["check", "PLAN", "--commands", "FILE"],
-    ];
-    for line in rows {
-        let words = words_of(rt.alloc(), line)?;
-        let Err(fault) = job_of(rt.alloc(), &words) else {
-            return Err(Fail::from("words that were taken"));
-        };
-        let (said, status) = fault_line(rt.alloc(), &fault)?;
-        assert!(rt; matches!(fault, Fault::Words), "{said}");
-        assert_eq!(rt; said.as_str(), "command line refused");
-        assert_eq!(rt; status, 4);
+fn words_ask_for_a_run_with_commands(rt: HostRuntime) -> Result<(), Fail> {
+    for line in &COMMANDED {
+        asks_for_commands(&rt, rt.alloc(), line)?;
     }
+    Ok(())
+}
+
+const REFUSED: [&[&str]; 40] = [
+    &["wire", "999", "1", "IN", "OUT"],
+    &["wire", "1000", "0", "IN", "OUT"],
+    &["wire", "1000", "+1", "IN", "OUT"],
+    &["wire", "+1000", "1", "IN", "OUT"],
+    &["wire", "1000", "4097", "IN", "OUT"],
+    &["wire", "1000", "65537", "IN", "OUT"],
+    &["wire", "1000", "4294967297", "IN", "OUT"],
+    &["wire", "1000", "-1", "IN", "OUT"],
+    &["wire", "1000", "1.0", "IN", "OUT"],
+    &["wire", "1000", " 1", "IN", "OUT"],
+    &["wire", "1000", "", "IN", "OUT"],
+    &["wire", "0x3e8", "1", "IN", "OUT"],
+    &["wire", "1000", "1", "IN"],
+    &["wire", "1000", "1", "IN", "OUT", "MORE"],
+    &["wire", "1000", "1", "IN", "-OUT"],
+    &["wire"],
+    &["fly"],
+    &["--help"],
+    &["-h"],
+    &["help"],
+    &["wire", "--help"],
+    &["--version"],
+    &["check"],
+    &["check", "PLAN", "MORE"],
+    &["check", "-PLAN"],
+    &["check", "--help"],
+    &["run"],
+    &["run", "PLAN", "IN"],
+    &["run", "PLAN", "IN", "OUT", "MORE"],
+    &["run", "PLAN", "IN", "-OUT"],
+    &["run", "--help"],
+    &["run", "PLAN", "IN", "OUT", "--commands"],
+    &["run", "PLAN", "IN", "--commands", "FILE"],
+    &["run", "PLAN", "IN", "OUT", "MORE", "--commands", "FILE"],
+    &["run", "PLAN", "IN", "OUT", "--commands", "-FILE"],
+    &[
+        "run",
+        "PLAN",
+        "IN",
+        "OUT",
+        "--commands",
+        "FILE",
+        "--commands",
+        "FILE",
+    ],
+    &["run", "PLAN", "IN", "OUT", "--command", "FILE"],
+    &["run", "PLAN", "IN", "OUT", "-c", "FILE"],
+    &["--commands", "FILE", "run", "PLAN", "IN", "OUT"],
+    &["check", "PLAN", "--commands", "FILE"],
+];
+
+/// Tests the line and the status of words that are refused.
+fn refuses_words<A: Allocator + Copy>(
+    rt: &impl Abort,
+    alloc: A,
+    fault: &Fault,
+) -> Result<(), NoMemory> {
+    let (said, status) = fault_line(alloc, fault)?;
+    assert!(rt; matches!(fault, Fault::Words));
+    assert!(rt; said.as_str() == "command line refused");
+    assert!(rt; status == 4);
+    Ok(())
+}
+
+fn is_refused(rt: &impl Abort, alloc: Global, line: &[&str]) -> Result<(), Fail> {
+    let words = words_of(alloc, line)?;
+    match job_of(alloc, &words) {
+        Err(fault) => Ok(refuses_words(rt, alloc, &fault)?),
+        Ok(_) => Err(Fail::from("words that were taken")),
+    }
+}
+
+#[test]
+fn other_words_are_refused(rt: HostRuntime) -> Result<(), Fail> {
+    for line in &REFUSED {
+        is_refused(&rt, rt.alloc(), line)?;
+    }
+    Ok(())
+}
+
+const NANOSECONDS: [Words; 2] = [[0, 100_000, 18, 60], [0, 100_000, 18, 60]];
+
+const MICROSECONDS: [Words; 2] = [[0, 100, 18, 60], [0, 100, 18, 60]];
+
+fn goes_through<A: Allocator + Copy>(
+    rt: &impl Abort,
+    alloc: A,
+    magic: u32,
+    order: Order,
+    records: &[Words],
+) -> Result<(), Fail> {
+    let text = capture_under(alloc, magic, order, records)?;
+    let mut source = SliceSource::new(&text);
+    let mut sink = VecSink::new(alloc);
+    let count = wire(alloc, Speed::Mbps1000, 1, &mut source, &mut sink)?;
+    let line = wire_line(alloc, &count)?;
+    assert!(rt; line.as_str() == "frames 2 malformed 0 sent 1 full 1\n");
     Ok(())
 }
 
 #[test]
 fn captures_of_each_magic_go_through_a_queue(rt: HostRuntime) -> Result<(), Fail> {
-    let nanoseconds: [Words; 2] = [[0, 100_000, 18, 60], [0, 100_000, 18, 60]];
-    let microseconds: [Words; 2] = [[0, 100, 18, 60], [0, 100, 18, 60]];
-    for (magic, order, records) in [
-        (0xA1B2_3C4D, Order::Little, &nanoseconds),
-        (0xA1B2_3C4D, Order::Big, &nanoseconds),
-        (0xA1B2_C3D4, Order::Little, &microseconds),
-        (0xA1B2_C3D4, Order::Big, &microseconds),
-    ] {
-        let text = capture_under(rt.alloc(), magic, order, records)?;
-        let mut source = SliceSource::new(&text);
-        let mut sink = VecSink::new(rt.alloc());
-        let count = wire(rt.alloc(), Speed::Mbps1000, 1, &mut source, &mut sink)?;
-        let line = wire_line(rt.alloc(), &count)?;
-        assert_eq!(rt; line.as_str(), "frames 2 malformed 0 sent 1 full 1\n");
-    }
-    Ok(())
+    let alloc = rt.alloc();
+    goes_through(&rt, alloc, 0xA1B2_3C4D, Order::Little, &NANOSECONDS)?;
+    goes_through(&rt, alloc, 0xA1B2_3C4D, Order::Big, &NANOSECONDS)?;
+    goes_through(&rt, alloc, 0xA1B2_C3D4, Order::Little, &MICROSECONDS)?;
+    goes_through(&rt, alloc, 0xA1B2_C3D4, Order::Big, &MICROSECONDS)
 }
 
 const COUNT: WireCount = WireCount {
@@ -237,20 +284,30 @@ const COUNT: WireCount = WireCount {
 
 const COUNTED: &str = "frames 1000000 malformed 9 sent 0 full 999991\n";
 
-#[test]
-fn each_growth_of_a_count_is_refused_in_turn(rt: HostRuntime) -> Result<(), Fail> {
-    for n in 1..1_000 {
-        let gate = RefusesOne::new(rt.alloc(), n);
-        match wire_line(&gate, &COUNT) {
-            Ok(line) => assert_eq!(rt; line.as_str(), COUNTED, "growth {n}"),
-            Err(fault) => {
-                assert_eq!(rt; fault, NoMemory);
-                assert!(rt; gate.refused());
-            }
+/// Whether the line is made; where it isn't, memory ran out.
+fn is_counted<A: Allocator + Copy>(rt: &impl Abort, alloc: A) -> bool {
+    match wire_line(alloc, &COUNT) {
+        Ok(line) => {
+            assert!(rt; line.as_str() == COUNTED);
+            true
         }
+        Err(NoMemory) => false,
+    }
+}
+
+fn refuse_each<A: Allocator + Copy>(rt: &impl Abort, alloc: A) {
+    for n in 1..1_000 {
+        let gate = RefusesOne::new(alloc, n);
+        let is_counted = is_counted(rt, &gate);
+        must(rt, is_counted || gate.refused(), "growth", n);
         if !gate.refused() {
-            return Ok(());
+            return;
         }
     }
-    Err(Fail::from("some growth was always refused"))
+    assert!(rt; false, "some growth was always refused");
+}
+
+#[test]
+fn each_growth_of_a_count_is_refused_in_turn(rt: HostRuntime) {
+    refuse_each(&rt, rt.alloc());
 }

@@ -1,9 +1,11 @@
 //! Plans with commands: which are taken, and which fault comes first.
 use crate::check::{BASE, Change, NO_VALUE, NONE, changed};
+use crate::must::must;
 use bridge_program::{Fault, NoMemory, commanded, fault_line, plan_from};
 use bridge_refusing::RefusesOne;
 use std::alloc::{Allocator, Global};
 use std::io::{Error, ErrorKind, Read, Result as ReadResult};
+use std::process::Abort;
 use std::test::Fail;
 
 const TWO: &str = r#"
@@ -80,14 +82,32 @@ fn refuses(alloc: Global, change: Change, commands: &str, want: &str) -> Result<
     }
 }
 
+/// Tests how many commands a plan takes, from a text if there is one.
+fn takes<A: Allocator + Copy>(
+    rt: &impl Abort,
+    alloc: A,
+    heap: Global,
+    text: Option<&[u8]>,
+    wanted: usize,
+) {
+    match taken(alloc, heap, BASE, text) {
+        Ok(count) => assert!(rt; count == wanted),
+        Err(_) => panic!(rt; "commands that are refused"),
+    }
+}
+
 #[test]
 fn commands_are_taken(rt: HostRuntime) {
-    for (text, count) in [("", 0), ("command = []", 0), (TWO, 2)] {
-        let commands = taken(rt.alloc(), rt.alloc(), BASE, Some(text.as_bytes()));
-        assert!(rt; matches!(commands, Ok(n) if n == count), "{text}");
-    }
-    let none: Option<&[u8]> = None;
-    assert!(rt; matches!(taken(rt.alloc(), rt.alloc(), BASE, none), Ok(0)));
+    takes(&rt, rt.alloc(), rt.alloc(), Some("".as_bytes()), 0);
+    takes(
+        &rt,
+        rt.alloc(),
+        rt.alloc(),
+        Some("command = []".as_bytes()),
+        0,
+    );
+    takes(&rt, rt.alloc(), rt.alloc(), Some(TWO.as_bytes()), 2);
+    takes(&rt, rt.alloc(), rt.alloc(), None, 0);
 }
 
 #[test]
@@ -116,51 +136,75 @@ fn the_plan_is_read_then_the_commands_then_it_is_checked(rt: HostRuntime) -> Res
     )
 }
 
-#[test]
-fn commands_are_read_up_to_their_limit(rt: HostRuntime) -> Result<(), Fail> {
-    for (length, want) in [
-        (1_048_576, None),
-        (1_048_577, Some("commands refused: TooLong")),
-    ] {
-        let text = " ".repeat(rt.alloc(), length)?;
-        match taken(rt.alloc(), rt.alloc(), BASE, Some(text.as_bytes())) {
-            Ok(count) => {
-                assert_eq!(rt; count, 0);
-                assert!(rt; want.is_none());
-            }
-            Err(fault) => {
-                let (line, _) = fault_line(rt.alloc(), &fault)?;
-                assert!(rt; want == Some(line.as_str()));
-            }
+/// Tests how many commands are in so many spaces, or the line that refuses them.
+fn spaces_end(
+    rt: &impl Abort,
+    alloc: Global,
+    length: usize,
+    wanted: Option<&str>,
+) -> Result<(), Fail> {
+    let text = " ".repeat(alloc, length)?;
+    match taken(alloc, alloc, BASE, Some(text.as_bytes())) {
+        Ok(count) => {
+            assert!(rt; count == 0);
+            assert!(rt; wanted.is_none());
+        }
+        Err(fault) => {
+            let (line, _) = fault_line(alloc, &fault)?;
+            assert!(rt; wanted == Some(line.as_str()));
         }
     }
     Ok(())
 }
 
 #[test]
-fn commands_that_cannot_be_read_are_a_fault_of_their_file(rt: HostRuntime) {
-    match taken(rt.alloc(), rt.alloc(), BASE, Some(Broken)) {
-        Err(Fault::File(path)) => assert_eq!(rt; path.as_str(), "FILE"),
+fn commands_are_read_up_to_their_limit(rt: HostRuntime) -> Result<(), Fail> {
+    spaces_end(&rt, rt.alloc(), 1_048_576, None)?;
+    let too_long = Some("commands refused: TooLong");
+    spaces_end(&rt, rt.alloc(), 1_048_577, too_long)
+}
+
+fn broken_is_a_file<A: Allocator + Copy>(rt: &impl Abort, alloc: A, heap: Global) {
+    match taken(alloc, heap, BASE, Some(Broken)) {
+        Err(Fault::File(path)) => assert!(rt; path.as_str() == "FILE"),
         _ => panic!(rt; "commands of a reader that fails"),
     }
 }
 
 #[test]
-fn each_growth_of_commands_is_refused_in_turn(rt: HostRuntime) -> Result<(), Fail> {
-    for n in 1..10_000 {
-        let gate = RefusesOne::new(rt.alloc(), n);
-        match taken(&gate, rt.alloc(), BASE, Some(TWO.as_bytes())) {
-            Ok(count) => assert_eq!(rt; count, 2, "growth {n}"),
-            Err(fault) => {
-                assert!(rt; gate.refused());
-                let (line, status) = fault_line(rt.alloc(), &fault)?;
-                assert_eq!(rt; line.as_str(), "no memory", "growth {n}");
-                assert_eq!(rt; status, 3);
-            }
+fn commands_that_cannot_be_read_are_a_fault_of_their_file(rt: HostRuntime) {
+    broken_is_a_file(&rt, rt.alloc(), rt.alloc());
+}
+
+/// Whether both commands are taken; where they aren't, memory ran out.
+fn are_taken<A: Allocator + Copy>(rt: &impl Abort, alloc: A, heap: Global) -> Result<bool, Fail> {
+    match taken(alloc, heap, BASE, Some(TWO.as_bytes())) {
+        Ok(count) => {
+            assert!(rt; count == 2);
+            Ok(true)
         }
+        Err(fault) => {
+            let (line, status) = fault_line(heap, &fault)?;
+            assert!(rt; line.as_str() == "no memory");
+            assert!(rt; status == 3);
+            Ok(false)
+        }
+    }
+}
+
+fn refuse_each<A: Allocator + Copy>(rt: &impl Abort, alloc: A, heap: Global) -> Result<(), Fail> {
+    for n in 1..10_000 {
+        let gate = RefusesOne::new(alloc, n);
+        let are_taken = are_taken(rt, &gate, heap)?;
+        must(rt, are_taken || gate.refused(), "growth", n);
         if !gate.refused() {
             return Ok(());
         }
     }
     Err(Fail::from("some growth was always refused"))
+}
+
+#[test]
+fn each_growth_of_commands_is_refused_in_turn(rt: HostRuntime) -> Result<(), Fail> {
+    refuse_each(&rt, rt.alloc(), rt.alloc())
 }

@@ -8,4 +8,6 @@ mod command;
 #[cfg(test)]
 mod commanded;
 #[cfg(test)]
+mod must;
+#[cfg(test)]
 mod program;

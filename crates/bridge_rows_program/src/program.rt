@@ -1,4 +1,5 @@
 //! The program over text: worked examples, and the line and the status of each fault.
+use crate::must::must;
 use bridge_capture::CaptureFault;
 use bridge_check::CheckFault;
 use bridge_cycle::ListFault;
@@ -6,7 +7,8 @@ use bridge_keys::{Field, Place, PlanFault, Section};
 use bridge_program::{Fault, NoMemory, TextFault, fault_line, wire_text};
 use bridge_refusing::RefusesOne;
 use bridge_wire::RunFault;
-use std::alloc::Global;
+use std::alloc::{AllocError, Allocator, Global};
+use std::process::Abort;
 use std::test::Fail;
 
 const HEADER: &str = "4d3cb2a1020004000000000000000000ffff000001000000\n";
@@ -30,57 +32,69 @@ const FIRST: &str = "4d3cb2a1020004000000000000000000ffff000001000000
 0000000040890100120000003c00000002000000000a0200000000018100000a88b5
 ";
 
-#[test]
-fn a_text_goes_through_a_queue(rt: HostRuntime) -> Result<(), Fail> {
-    for (text, want) in [
-        (HEADER, HEADER),
-        (ARRIVALS, DEPARTURES),
-        (BIG_ENDIAN, FIRST),
-    ] {
-        match wire_text(rt.alloc(), text.as_bytes()) {
-            Ok(lines) => assert_eq!(rt; lines.as_str(), want),
-            Err(fault) => panic!(rt; "{fault}"),
+/// Whether these lines leave; where they don't, memory ran out.
+fn goes<A: Allocator + Copy>(rt: &impl Abort, alloc: A, text: &str, wanted: &str) -> bool {
+    match wire_text(alloc, text.as_bytes()) {
+        Ok(lines) => {
+            assert!(rt; lines.as_str() == wanted);
+            true
+        }
+        Err(fault) => {
+            let memory = TextFault::Run(RunFault::NoMemory);
+            let write = TextFault::Run(RunFault::Write { port: 1 });
+            assert!(rt; fault == memory || fault == write);
+            false
         }
     }
-    Ok(())
+}
+
+#[test]
+fn a_text_goes_through_a_queue(rt: HostRuntime) {
+    assert!(rt; goes(&rt, rt.alloc(), HEADER, HEADER));
+    assert!(rt; goes(&rt, rt.alloc(), ARRIVALS, DEPARTURES));
+    assert!(rt; goes(&rt, rt.alloc(), BIG_ENDIAN, FIRST));
+}
+
+const CUT: RunFault = RunFault::Capture {
+    port: 1,
+    fault: CaptureFault::HeaderCut,
+};
+
+const REFUSED: [(&str, TextFault); 5] = [
+    ("", TextFault::Run(CUT)),
+    ("4d3cb2a1", TextFault::Run(CUT)),
+    ("4", TextFault::NotHex),
+    ("4 d", TextFault::NotHex),
+    ("4x", TextFault::NotHex),
+];
+
+fn is_refused<A: Allocator + Copy>(rt: &impl Abort, alloc: A, text: &str, wanted: TextFault) {
+    let fault = wire_text(alloc, text.as_bytes()).err();
+    must(rt, fault == Some(wanted), text, text.len() as u64);
 }
 
 #[test]
 fn a_text_is_refused(rt: HostRuntime) {
-    let cut = RunFault::Capture {
-        port: 1,
-        fault: CaptureFault::HeaderCut,
-    };
-    for (text, want) in [
-        ("", TextFault::Run(cut)),
-        ("4d3cb2a1", TextFault::Run(cut)),
-        ("4", TextFault::NotHex),
-        ("4 d", TextFault::NotHex),
-        ("4x", TextFault::NotHex),
-    ] {
-        let ended = wire_text(rt.alloc(), text.as_bytes());
-        assert_eq!(rt; ended.err(), Some(want), "{text:?}");
+    for (text, wanted) in &REFUSED {
+        is_refused(&rt, rt.alloc(), text, *wanted);
     }
 }
 
-#[test]
-fn each_growth_of_a_text_is_refused_in_turn(rt: HostRuntime) -> Result<(), Fail> {
+fn refuse_each<A: Allocator + Copy>(rt: &impl Abort, alloc: A) {
     for n in 1..1_000 {
-        let gate = RefusesOne::new(rt.alloc(), n);
-        match wire_text(&gate, ARRIVALS.as_bytes()) {
-            Ok(lines) => assert_eq!(rt; lines.as_str(), DEPARTURES, "growth {n}"),
-            Err(fault) => {
-                assert!(rt; gate.refused());
-                let memory = TextFault::Run(RunFault::NoMemory);
-                let write = TextFault::Run(RunFault::Write { port: 1 });
-                assert!(rt; fault == memory || fault == write, "growth {n}");
-            }
-        }
+        let gate = RefusesOne::new(alloc, n);
+        let is_whole = goes(rt, &gate, ARRIVALS, DEPARTURES);
+        must(rt, is_whole || gate.refused(), "growth", n);
         if !gate.refused() {
-            return Ok(());
+            return;
         }
     }
-    Err(Fail::from("some growth was always refused"))
+    assert!(rt; false, "some growth was always refused");
+}
+
+#[test]
+fn each_growth_of_a_text_is_refused_in_turn(rt: HostRuntime) {
+    refuse_each(&rt, rt.alloc());
 }
 
 /// A capture's fault by its port, with its line and its status.
@@ -316,81 +330,117 @@ const COMMANDS: [(PlanFault, &str, u8); 12] = [
     (PlanFault::NoMemory, "no memory", 3),
 ];
 
-/// Each fault with its line and its status.
-fn said(alloc: Global) -> Result<Vec<(Fault, &'static str, u8)>, Fail> {
-    let cut = RunFault::Capture {
-        port: 1,
-        fault: CaptureFault::HeaderCut,
-    };
-    let path = String::from_str(alloc, "a/b.pcap")?;
-    let others = [
-        (Fault::Text(TextFault::NotHex), "text refused: NotHex", 2),
-        (Fault::Text(TextFault::TooLong), "text refused: TooLong", 2),
-        (
-            Fault::Text(TextFault::Run(cut)),
-            "capture 1 refused: HeaderCut",
-            2,
-        ),
-        (
-            Fault::Run(RunFault::Write { port: 3 }),
-            "capture 3 not written",
-            3,
-        ),
-        (Fault::Run(RunFault::NoMemory), "no memory", 3),
-        (
-            Fault::Check(CheckFault::MaxSduNeverFits {
-                filter: 4_294_967_295,
-                port: 16,
-                class: 0,
-            }),
-            "plan refused: MaxSduNeverFits filter 4294967295 port 16 class 0",
-            1,
-        ),
-        (Fault::Check(CheckFault::NoMemory), "no memory", 3),
-        (Fault::Words, "command line refused", 4),
-        (Fault::File(path), "file a/b.pcap", 3),
-    ];
-    let mut rows = Vec::from_array(alloc, others)?;
-    for (port, fault, line, status) in CAPTURES {
-        let fault = Fault::Run(RunFault::Capture { port, fault });
-        rows.push((fault, line, status))?;
+/// Whether a fault has this line and status; where it doesn't, memory ran out.
+fn is_said<A: Allocator + Copy>(
+    rt: &impl Abort,
+    alloc: A,
+    fault: &Fault,
+    line: &str,
+    status: u8,
+) -> bool {
+    match fault_line(alloc, fault) {
+        Ok((said, ended)) => {
+            must(rt, said.as_str() == line, line, u64::from(status));
+            must(rt, ended == status, line, u64::from(status));
+            true
+        }
+        Err(NoMemory) => false,
     }
-    for (fault, line, status) in PLANS {
-        rows.push((Fault::Plan(fault), line, status))?;
-    }
-    for (fault, line, status) in COMMANDS {
-        rows.push((Fault::Commands(fault), line, status))?;
-    }
-    Ok(rows)
 }
+
+/// Tests the line and the status of a fault, with each growth refused in turn.
+fn says<A: Allocator + Copy>(rt: &impl Abort, alloc: A, fault: &Fault, line: &str, status: u8) {
+    must(rt, is_said(rt, alloc, fault, line, status), line, 0);
+    for n in 1..1_000 {
+        let gate = RefusesOne::new(alloc, n);
+        let is_said = is_said(rt, &gate, fault, line, status);
+        must(rt, is_said || gate.refused(), line, n);
+        if !gate.refused() {
+            return;
+        }
+    }
+    assert!(rt; false, "some growth was always refused");
+}
+
+fn text_says<A: Allocator + Copy>(rt: &impl Abort, alloc: A, fault: TextFault, line: &str) {
+    says(rt, alloc, &Fault::Text(fault), line, 2);
+}
+
+fn run_says<A: Allocator + Copy>(
+    rt: &impl Abort,
+    alloc: A,
+    fault: RunFault,
+    line: &str,
+    status: u8,
+) {
+    says(rt, alloc, &Fault::Run(fault), line, status);
+}
+
+fn check_says<A: Allocator + Copy>(
+    rt: &impl Abort,
+    alloc: A,
+    fault: CheckFault,
+    line: &str,
+    status: u8,
+) {
+    says(rt, alloc, &Fault::Check(fault), line, status);
+}
+
+fn file_says(rt: &impl Abort, alloc: Global) -> Result<(), AllocError> {
+    let fault = Fault::File(String::from_str(alloc, "a/b.pcap")?);
+    says(rt, alloc, &fault, "file a/b.pcap", 3);
+    Ok(())
+}
+
+const NEVER_FITS: CheckFault = CheckFault::MaxSduNeverFits {
+    filter: 4_294_967_295,
+    port: 16,
+    class: 0,
+};
 
 #[test]
 fn a_fault_has_a_line_and_a_status(rt: HostRuntime) -> Result<(), Fail> {
-    for (fault, want, wanted) in &said(rt.alloc())? {
-        let (line, status) = fault_line(rt.alloc(), fault)?;
-        assert_eq!(rt; line.as_str(), *want);
-        assert_eq!(rt; status, *wanted, "{line}");
-    }
+    let alloc = rt.alloc();
+    text_says(&rt, alloc, TextFault::NotHex, "text refused: NotHex");
+    text_says(&rt, alloc, TextFault::TooLong, "text refused: TooLong");
+    text_says(
+        &rt,
+        alloc,
+        TextFault::Run(CUT),
+        "capture 1 refused: HeaderCut",
+    );
+    let not_written = RunFault::Write { port: 3 };
+    run_says(&rt, alloc, not_written, "capture 3 not written", 3);
+    run_says(&rt, alloc, RunFault::NoMemory, "no memory", 3);
+    let line = "plan refused: MaxSduNeverFits filter 4294967295 port 16 class 0";
+    check_says(&rt, alloc, NEVER_FITS, line, 1);
+    check_says(&rt, alloc, CheckFault::NoMemory, "no memory", 3);
+    says(&rt, alloc, &Fault::Words, "command line refused", 4);
+    file_says(&rt, alloc)?;
     Ok(())
 }
 
 #[test]
-fn each_growth_of_a_line_is_refused_in_turn(rt: HostRuntime) -> Result<(), Fail> {
-    for (fault, want, _) in &said(rt.alloc())? {
-        for n in 1..1_000 {
-            let gate = RefusesOne::new(rt.alloc(), n);
-            let line = fault_line(&gate, fault);
-            match line {
-                Ok((line, _)) => assert_eq!(rt; line.as_str(), *want, "growth {n}"),
-                Err(fault) => {
-                    assert_eq!(rt; fault, NoMemory);
-                    assert!(rt; gate.refused());
-                }
-            }
-            if !gate.refused() {
-                break;
-            }
-        }
+fn a_fault_of_a_capture_has_a_line_and_a_status(rt: HostRuntime) {
+    for (port, fault, line, status) in &CAPTURES {
+        let fault = RunFault::Capture {
+            port: *port,
+            fault: *fault,
+        };
+        run_says(&rt, rt.alloc(), fault, line, *status);
     }
-    Ok(())
+}
+
+#[test]
+fn a_fault_of_a_plan_has_a_line_and_a_status(rt: HostRuntime) {
+    for (fault, line, status) in &PLANS {
+        says(&rt, rt.alloc(), &Fault::Plan(*fault), line, *status);
+    }
+}
+
+#[test]
+fn a_fault_of_commands_has_a_line_and_a_status(rt: HostRuntime) {
+    for (fault, line, status) in &COMMANDS {
+        says(&rt, rt.alloc(), &Fault::Commands(*fault), line, *status);
+    }
 }

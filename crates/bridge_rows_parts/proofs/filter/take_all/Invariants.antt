@@ -1,9 +1,9 @@
 use Rattle.std.proofs.Common.{◌≡◌}
 use Rattle.bridge_filter.specs.Plans.{KeepsNumbers}
-use Rattle.bridge_rows_parts.proofs.filter.verdicts.Given as goal
+use Rattle.bridge_rows_parts.proofs.filter.take_all.Given as goal
 
-abbrev pub invariant-loop-t : goal.invariant-loop-t
-invariant-loop-t g l = record {
+abbrev pub invariant-loop-step : goal.invariant-loop-step
+invariant-loop-step g l = record {
   filters : l.police.filters ≡ l.initial.police.filters;
   gates : KeepsNumbers l.initial.police.gates l.police.gates;
   meters : KeepsNumbers l.initial.police.meters l.police.meters;
