@@ -2,7 +2,7 @@
 """Times `tsnbridge wire` and `tsnbridge run` beside other programs: run.py [--beside PROGRAM] [FOLDER]
 
 `wire 1000 64` over captures of 10,000, 100,000 and 1,000,000 frames, of 64 octets and of mixed sizes, beside `cp` and,
-where they are installed, `editcap` and `tcprewrite`; `run` over plans of 4 and of 16 ports with a capture for each, of many
+where they are installed, `editcap` and `tcprewrite`; `run` over plans of 4, 8 and 16 ports with a capture for each, of many
 filters and streams, and of long gate control lists, beside `cp` of the captures. PROGRAM is one with the same command line. All run in turn on the same files, which are in memory by
 then. A row has the shortest of eleven times (of seven, for a run), its nanoseconds for each frame, its ratio to `cp`, the
 least processor time for each frame, its ratio to that of PROGRAM, and the peak memory (where GNU `time` is installed).
@@ -20,7 +20,7 @@ import captures
 TOP = os.path.dirname(os.path.dirname(os.path.abspath(__file__)))
 PROGRAM = os.path.join(TOP, "crates", "tsnbridge", "out", "tsnbridge")
 # ports, frames of each, filters of each (with four streams each, where there is more than one), entries of each list
-RUNS = [(4, 2_500, 1, 0), (4, 25_000, 1, 0), (4, 250_000, 1, 0), (16, 200_000, 1, 0), (4, 250_000, 255, 0), (4, 250_000, 1, 256)]
+RUNS = [(4, 2_500, 1, 0), (4, 25_000, 1, 0), (4, 250_000, 1, 0), (8, 125_000, 1, 0), (16, 200_000, 1, 0), (4, 250_000, 255, 0), (4, 250_000, 1, 256)]
 HEADER = "| frames | program | ms | ns a frame | times `cp` | processor ns a frame | ratio | peak MiB |\n|---|---|---|---|---|---|---|---|"
 
 
