@@ -1,2 +1,4 @@
+pub mod Entered
 pub mod Firsts
+pub mod Giving
 pub mod Looks
