@@ -64,22 +64,6 @@ fn has_ports<A: Allocator + Copy>(rt: &impl Abort, plan: &Plan<A>) {
     finds_port(rt, plan, 4, false);
 }
 
-fn show_ports<A: Allocator + Copy>(
-    rt: &impl Abort,
-    alloc: A,
-    heap: Global,
-) -> Result<(), PlanFault> {
-    let plan = plan_with(alloc, heap, METER)?;
-    has_ports(rt, &plan);
-    Ok(())
-}
-
-#[test]
-fn ports_are_shown(rt: HostRuntime) -> Result<(), Fail> {
-    show_ports(&rt, rt.alloc(), rt.alloc())?;
-    Ok(())
-}
-
 const STREAMS: [StreamEntry; 1] = [StreamEntry {
     handle: 1,
     port: 1,
@@ -110,22 +94,10 @@ fn has_streams(rt: &impl Abort, streams: &[StreamEntry]) {
     assert!(rt; streams == STREAMS.as_slice());
 }
 
-fn show_vlans<A: Allocator + Copy>(
-    rt: &impl Abort,
-    alloc: A,
-    heap: Global,
-) -> Result<(), PlanFault> {
-    let plan = plan_with(alloc, heap, METER)?;
+fn has_places<A: Allocator + Copy>(rt: &impl Abort, plan: &Plan<A>) {
     has_vlans(rt, plan.vlans());
     has_entries(rt, plan.statics());
     has_streams(rt, plan.streams());
-    Ok(())
-}
-
-#[test]
-fn vlans_entries_and_streams_are_shown(rt: HostRuntime) -> Result<(), Fail> {
-    show_vlans(&rt, rt.alloc(), rt.alloc())?;
-    Ok(())
 }
 
 const METERS: [(u32, MeterPlan); 1] = [(
@@ -173,7 +145,11 @@ const FILTERS: [(u32, FilterPlan); 2] = [
 fn is_gate<A: Allocator + Copy>(number: u32, schedule: &Schedule<A>) -> bool {
     match schedule {
         Schedule::Cyclic(_) => number == 1,
-        Schedule::Fixed { lets, ipv } => number == 99 && *lets && *ipv == Some(0),
+        Schedule::Fixed {
+            lets: true,
+            ipv: Some(0),
+        } => number == 99,
+        Schedule::Fixed { .. } => false,
     }
 }
 
@@ -198,22 +174,10 @@ fn has_filters(rt: &impl Abort, filters: &[(u32, FilterPlan)]) {
     assert!(rt; filters == FILTERS.as_slice());
 }
 
-fn show_gates<A: Allocator + Copy>(
-    rt: &impl Abort,
-    alloc: A,
-    heap: Global,
-) -> Result<(), PlanFault> {
-    let plan = plan_with(alloc, heap, METER)?;
+fn has_policing<A: Allocator + Copy>(rt: &impl Abort, plan: &Plan<A>) {
     has_gates(rt, plan.gates());
     has_meters(rt, plan.meters());
     has_filters(rt, plan.filters());
-    Ok(())
-}
-
-#[test]
-fn gates_meters_and_filters_are_shown(rt: HostRuntime) -> Result<(), Fail> {
-    show_gates(&rt, rt.alloc(), rt.alloc())?;
-    Ok(())
 }
 
 /// The port on which a frame came, its VLAN and its address, and the ports to which it goes, as bits from port 1 on.
@@ -257,19 +221,61 @@ fn go_to<A: Allocator + Copy>(rt: &impl Abort, plan: &Plan<A>) {
     }
 }
 
-fn frames_go<A: Allocator + Copy>(
+/// What is asked of a plan.
+#[derive(Clone, Copy)]
+enum Asked {
+    Ports,
+    /// VLANs, static entries and streams.
+    Places,
+    /// Gates, meters and filters.
+    Policing,
+    /// Where frames go.
+    Frames,
+}
+
+fn ask<A: Allocator + Copy>(rt: &impl Abort, plan: &Plan<A>, asked: Asked) {
+    match asked {
+        Asked::Ports => has_ports(rt, plan),
+        Asked::Places => has_places(rt, plan),
+        Asked::Policing => has_policing(rt, plan),
+        Asked::Frames => go_to(rt, plan),
+    }
+}
+
+/// Asks the base plan with more lines.
+fn shows<A: Allocator + Copy>(
     rt: &impl Abort,
     alloc: A,
     heap: Global,
+    more: &str,
+    asked: Asked,
 ) -> Result<(), PlanFault> {
-    let plan = plan_with(alloc, heap, "")?;
-    go_to(rt, &plan);
+    let plan = plan_with(alloc, heap, more)?;
+    ask(rt, &plan, asked);
+    Ok(())
+}
+
+#[test]
+fn ports_are_shown(rt: HostRuntime) -> Result<(), Fail> {
+    shows(&rt, rt.alloc(), rt.alloc(), METER, Asked::Ports)?;
+    Ok(())
+}
+
+#[test]
+fn vlans_entries_and_streams_are_shown(rt: HostRuntime) -> Result<(), Fail> {
+    shows(&rt, rt.alloc(), rt.alloc(), METER, Asked::Places)?;
+    Ok(())
+}
+
+#[test]
+fn gates_meters_and_filters_are_shown(rt: HostRuntime) -> Result<(), Fail> {
+    shows(&rt, rt.alloc(), rt.alloc(), METER, Asked::Policing)?;
     Ok(())
 }
 
 #[test]
 fn frames_of_the_base_plan_go(rt: HostRuntime) -> Result<(), Fail> {
-    frames_go(&rt, rt.alloc(), rt.alloc())?;
+    shows(&rt, rt.alloc(), rt.alloc(), "", Asked::Frames)?;
     Ok(())
 }
 
