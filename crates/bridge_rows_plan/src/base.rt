@@ -1,7 +1,7 @@
-//! The base plan.
-use bridge_config::{Plan, plan_of};
+//! The base plan, and the faults of texts.
+use bridge_config::{Plan, commands_of, plan_of};
 use bridge_keys::PlanFault;
-use std::alloc::{AllocError, Global};
+use std::alloc::{AllocError, Allocator, Global};
 
 /// Three ports, the last with a list; VLAN 10 with one static entry and one stream; a gate with a list for the filter
 /// of that stream, and a gate that is always open for the filter of all else.
@@ -63,16 +63,35 @@ gate = 99
 ";
 
 /// The text of the base plan, and more lines.
-pub fn text_with(alloc: Global, more: &str) -> Result<String, AllocError> {
+pub fn text_with<A: Allocator + Copy>(alloc: A, more: &str) -> Result<String<A>, AllocError> {
     let mut text = String::from_str(alloc, BASE)?;
     text.push_str(more)?;
     Ok(text)
 }
 
 /// The base plan with more lines.
-pub fn plan_with(alloc: Global, more: &str) -> Result<Plan<Global>, PlanFault> {
-    let Ok(text) = text_with(alloc, more) else {
-        return Err(PlanFault::NoMemory);
-    };
-    plan_of(alloc, alloc, text.as_bytes())
+pub fn plan_with<A: Allocator + Copy>(
+    alloc: A,
+    heap: Global,
+    more: &str,
+) -> Result<Plan<A>, PlanFault> {
+    match text_with(alloc, more) {
+        Ok(text) => plan_of(alloc, heap, text.as_bytes()),
+        Err(_) => Err(PlanFault::NoMemory),
+    }
+}
+
+/// The fault of a text of a plan.
+pub fn fault_of<A: Allocator + Copy>(alloc: A, heap: Global, text: &[u8]) -> Option<PlanFault> {
+    plan_of(alloc, heap, text).err()
+}
+
+/// The fault of a text of commands to the bridge of a plan.
+pub fn fault_of_commands<A: Allocator + Copy, B: Allocator + Copy>(
+    alloc: A,
+    heap: Global,
+    text: &[u8],
+    plan: &Plan<B>,
+) -> Option<PlanFault> {
+    commands_of(alloc, heap, text, plan).err()
 }

@@ -1,9 +1,12 @@
 //! Commands to the bridge of a plan, and each growth refused in turn.
-use crate::base::plan_with;
-use bridge_config::{Command, commands_of};
+use crate::base::{fault_of_commands, plan_with};
+use crate::must::must;
+use bridge_config::{Command, Plan, commands_of};
 use bridge_filter::Clear;
 use bridge_keys::PlanFault;
 use bridge_refusing::RefusesOne;
+use std::alloc::{Allocator, Global};
+use std::process::Abort;
 use std::test::Fail;
 
 /// Beside the base plan, with filters 10 and 99 and gates 1 and 99: a meter.
@@ -36,50 +39,97 @@ clear = \"red\"
 number = 6
 ";
 
+const SHOWN: [Command; 4] = [
+    Command {
+        at: 0,
+        clear: Clear::Blocked,
+        number: 10,
+    },
+    Command {
+        at: 7,
+        clear: Clear::Rx,
+        number: 1,
+    },
+    Command {
+        at: 7,
+        clear: Clear::Octets,
+        number: 99,
+    },
+    Command {
+        at: 3_999_999_999_999_999_999,
+        clear: Clear::Red,
+        number: 6,
+    },
+];
+
+fn are_shown(rt: &impl Abort, commands: &[Command]) {
+    assert!(rt; commands == SHOWN.as_slice());
+}
+
+fn show<A: Allocator + Copy>(
+    rt: &impl Abort,
+    alloc: A,
+    heap: Global,
+    plan: &Plan<A>,
+) -> Result<(), PlanFault> {
+    let commands = commands_of(alloc, heap, EACH_FLAG.as_bytes(), plan)?;
+    are_shown(rt, &commands);
+    Ok(())
+}
+
+fn show_each<A: Allocator + Copy>(
+    rt: &impl Abort,
+    alloc: A,
+    heap: Global,
+) -> Result<(), PlanFault> {
+    let plan = plan_with(alloc, heap, MORE)?;
+    show(rt, alloc, heap, &plan)
+}
+
 #[test]
 fn commands_are_shown_in_their_order(rt: HostRuntime) -> Result<(), Fail> {
-    let plan = plan_with(rt.alloc(), MORE)?;
-    let commands = commands_of(rt.alloc(), rt.alloc(), EACH_FLAG.as_bytes(), &plan)?;
-    let wanted = [
-        Command {
-            at: 0,
-            clear: Clear::Blocked,
-            number: 10,
-        },
-        Command {
-            at: 7,
-            clear: Clear::Rx,
-            number: 1,
-        },
-        Command {
-            at: 7,
-            clear: Clear::Octets,
-            number: 99,
-        },
-        Command {
-            at: 3_999_999_999_999_999_999,
-            clear: Clear::Red,
-            number: 6,
-        },
-    ];
-    assert!(rt; commands.as_slice() == wanted.as_slice());
+    show_each(&rt, rt.alloc(), rt.alloc())?;
+    Ok(())
+}
+
+/// One of many commands.
+const CLEARS_RED: &str = "[[command]]\nat = 1\nclear = \"red\"\nnumber = 6\n";
+
+fn refuse<A: Allocator + Copy>(
+    rt: &impl Abort,
+    alloc: A,
+    heap: Global,
+    text: &[u8],
+    plan: &Plan<A>,
+) {
+    for n in 1..1_000 {
+        let gate = RefusesOne::new(alloc, n);
+        let fault = fault_of_commands(&gate, heap, text, plan);
+        if !gate.refused() {
+            assert!(rt; fault == None && n > 2);
+            return;
+        }
+        must(rt, fault == Some(PlanFault::NoMemory), "growth", n);
+    }
+    assert!(rt; false, "some growth was always refused");
+}
+
+fn refuse_each<A: Allocator + Copy>(
+    rt: &impl Abort,
+    alloc: A,
+    heap: Global,
+) -> Result<(), PlanFault> {
+    let plan = plan_with(alloc, heap, MORE)?;
+    let Ok(text) = CLEARS_RED.repeat(alloc, 40) else {
+        return Err(PlanFault::NoMemory);
+    };
+    refuse(rt, alloc, heap, text.as_bytes(), &plan);
     Ok(())
 }
 
 /// What `toml` grows takes the global allocator, and is not refused here.
 #[test]
 fn each_growth_of_commands_is_refused_in_turn(rt: HostRuntime) -> Result<(), Fail> {
-    let plan = plan_with(rt.alloc(), MORE)?;
-    let command = "[[command]]\nat = 1\nclear = \"red\"\nnumber = 6\n";
-    let text = command.repeat(rt.alloc(), 40)?;
-    for n in 1..1_000 {
-        let gate = RefusesOne::new(rt.alloc(), n);
-        let made = commands_of(&gate, rt.alloc(), text.as_bytes(), &plan);
-        if !gate.refused() {
-            assert!(rt; made.is_ok() && n > 2);
-            return Ok(());
-        }
-        assert_eq!(rt; made.err(), Some(PlanFault::NoMemory), "growth {n}");
-    }
-    Err(Fail::from("some growth was always refused"))
+    refuse_each(&rt, rt.alloc(), rt.alloc())?;
+    Ok(())
 }

@@ -1,22 +1,43 @@
 //! Octets that are no text.
-use crate::base::plan_with;
-use bridge_config::{commands_of, plan_of};
+use crate::base::{fault_of, fault_of_commands, plan_with};
+use bridge_config::Plan;
 use bridge_keys::PlanFault;
+use std::alloc::{Allocator, Global};
+use std::process::Abort;
 use std::test::Fail;
 
-#[test]
-fn a_text_is_utf_8(rt: HostRuntime) -> Result<(), Fail> {
-    for octets in [[0x23, 0xFF], [0xC3, 0x28], [0x23, 0xC3]] {
-        let made = plan_of(rt.alloc(), rt.alloc(), &octets);
-        assert_eq!(rt; made.err(), Some(PlanFault::Syntax));
+const NO_TEXTS: [[u8; 2]; 3] = [[0x23, 0xFF], [0xC3, 0x28], [0x23, 0xC3]];
+
+const NO_COMMANDS: [u8; 2] = [0x23, 0xFF];
+
+fn no_plans<A: Allocator + Copy>(rt: &impl Abort, alloc: A, heap: Global) {
+    for octets in &NO_TEXTS {
+        assert!(rt; fault_of(alloc, heap, octets) == Some(PlanFault::Syntax));
     }
+}
+
+#[test]
+fn a_text_is_utf_8(rt: HostRuntime) {
+    no_plans(&rt, rt.alloc(), rt.alloc());
+}
+
+fn no_commands<A: Allocator + Copy>(rt: &impl Abort, alloc: A, heap: Global, plan: &Plan<A>) {
+    let fault = fault_of_commands(alloc, heap, &NO_COMMANDS, plan);
+    assert!(rt; fault == Some(PlanFault::Syntax));
+}
+
+fn plan_takes_none<A: Allocator + Copy>(
+    rt: &impl Abort,
+    alloc: A,
+    heap: Global,
+) -> Result<(), PlanFault> {
+    let plan = plan_with(alloc, heap, "")?;
+    no_commands(rt, alloc, heap, &plan);
     Ok(())
 }
 
 #[test]
 fn a_text_of_commands_is_utf_8(rt: HostRuntime) -> Result<(), Fail> {
-    let plan = plan_with(rt.alloc(), "")?;
-    let made = commands_of(rt.alloc(), rt.alloc(), &[0x23, 0xFF], &plan);
-    assert_eq!(rt; made.err(), Some(PlanFault::Syntax));
+    plan_takes_none(&rt, rt.alloc(), rt.alloc())?;
     Ok(())
 }
