@@ -1,4 +1,2 @@
-pub mod Entered
 pub mod Firsts
-pub mod Giving
 pub mod Looks

@@ -1,5 +1,5 @@
 -- Captures that are read one record ahead.
-use Rattle.std.specs.Prelude.{◌≡◌, ◌≢◌, ℕ, ◌+◌, ◌<◌, ◌≤◌, ◌⊎◌, length, Option, Some, None, is_some, List, [], ◌∷◌, ◌++◌, slice_get, slice_set, sum_by, Result, Ok, Err, OnOk, if◌then◌else◌}
+use Rattle.std.specs.Prelude.{◌≡◌, ℕ, ◌+◌, ◌<◌, ◌≤◌, ◌⊎◌, length, Option, Some, None, is_some, List, [], ◌∷◌, ◌++◌, slice_get, sum_by, Result, Ok, Err, if◌then◌else◌}
 use Rattle.bridge_base.specs.declared.TheConstants.{END_OF_TIME, MOST_CAPTURED}
 use Rattle.bridge_lanes.specs.declared.fault.RunFault.{RunFault}
 use Rattle.bridge_lanes.specs.declared.fault.RunFault.TheVariants as run
@@ -76,41 +76,6 @@ pub record IsFirstAt {A : Type 0} (lanes : List (Lane A)) (place : ℕ) : Type 0
 abbrev pub IsFirst : {A : Type 0} → List (Lane A) → Option ℕ → Type 0
 IsFirst {A} lanes None = (i : ℕ) (l : Lane A) → slice_get lanes i ≡ Some l → l.ahead ≡ None
 IsFirst lanes (Some place) = IsFirstAt lanes place
-
--- the moment of a frame, where there is one
-abbrev pub moment_of : {A : Type 0} → Option (Packet A) → Option ℕ
-moment_of None = None
-moment_of (Some p) = Some p.time
-
--- the moment of the frame ahead of a lane, where there is one
-abbrev pub moment_at : {A : Type 0} → Option (Lane A) → Option ℕ
-moment_at None = None
-moment_at (Some lane) = moment_of lane.ahead
-
--- an agenda has the moment of the frame ahead at each place, by the number behind that of the place, but of the lane that gave its frame, and no other moment
-pub record AreEntered {A : Type 0} (held : ℕ → Option ℕ) (lanes : List (Lane A)) (given : Option ℕ) : Type 0 where
-  pub few : length lanes ≤ 16
-  pub each : (i : ℕ) → given ≢ Some i → held (i + 1) ≡ moment_at (slice_get lanes i)
-
--- a frame was taken from the lane of a port
-pub record HasGiven {A : Type 0} (old new : List (Lane A)) (place : ℕ) (given : ℕ × Packet A) : Type 0 where
-  pub lane : Lane A
-  pub there : slice_get old place ≡ Some lane
-  pub number : lane.number ≡ given.0
-  pub ahead : lane.ahead ≡ Some given.1
-  pub now : new ≡ slice_set old place (record lane { ahead = None })
-
--- a lane whose frame was taken looked at what comes next in its source, and no other lane changed
-pub record HasLookedAt {R A : Type 0} (remaining : R → Option (List ℕ)) (old new : List (Lane A)) (before after : R) (place : ℕ) (result : Result (Unit {0}) CaptureFault) : Type 0 where
-  pub was : Lane A
-  pub lane : Lane A
-  pub there : slice_get old place ≡ Some was
-  pub lanes : new ≡ slice_set old place lane
-  pub number : lane.number ≡ was.number
-  pub looks : (text : List ℕ) (taken : List Captured) → StandsFor was.capture (remaining before) text taken → Looks lane (remaining after) text taken result
-  pub is_lane : OnOk result (IsLane lane)
-  pub onward : OnOk result ((p : Packet A) → lane.ahead ≡ Some p → was.capture.latest ≤ p.time)
-  pub fewer : OnOk result (room lane ≤ records_left was.capture)
 
 -- each source has the text of its port left
 abbrev pub AreTexts : {R : Type 0} → (R → Option (List ℕ)) → List ℕ → (ℕ → List ℕ) → List R → Type 0

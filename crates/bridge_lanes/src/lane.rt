@@ -1,9 +1,12 @@
 //! Captures that are read, one record ahead.
-ghost use Rattle.std.specs.Prelude.{◌≡◌, ◌≢◌, ℕ, ◌<◌, ◌≤◌, List, None, Some, Err, true, IfOk, OnOk};
+ghost use Rattle.std.specs.Prelude.{◌≡◌, ◌≢◌, ℕ, ◌<◌, ◌≤◌, List, [], None, Some, length, Err, true, IfOk, IfErr, OnOk};
+ghost use Rattle.bridge_base.specs.Members.{Rising};
+ghost use Rattle.bridge_base.specs.declared.TheConstants.{MOST_ARRIVALS};
 ghost use Rattle.bridge_capture.specs.declared.record.TheConstants.{MAX_RECORDS};
 ghost use Rattle.bridge_capture.specs.Grammar.{Captured};
 ghost use Rattle.bridge_capture.specs.Standing.{StandsFor, IsReading, records_left};
-ghost use Rattle.bridge_lanes.specs.Lanes.{Begins, fault_at, IsFirst, IsLane, Looks, room};
+ghost use Rattle.bridge_lanes.specs.Devices.{HasFailed, NeverFail};
+ghost use Rattle.bridge_lanes.specs.Lanes.{AreAheadOf, AreLanes, AreTexts, Begins, FailsLook, fault_at, IsFirst, IsLane, Looks, numbers, room, room_of};
 
 use crate::fault::RunFault;
 use bridge_capture::{ByteSource, Capture, CaptureFault, Packet};
@@ -92,7 +95,7 @@ fn sooner<A: Allocator + Copy>(
 }
 
 /// The place of the lane whose frame ahead comes first: the least moment, and of several the least place.
-pub(crate) fn first_of<A: Allocator + Copy>(lanes: &[Lane<A>]) -> Option<usize>
+pub fn first_of<A: Allocator + Copy>(lanes: &[Lane<A>]) -> Option<usize>
     ensures { IsFirst lanes.now result }
 {
     let none = lanes.len();
@@ -115,4 +118,42 @@ pub fn fault_of(port: u8, fault: CaptureFault) -> RunFault
         CaptureFault::NoMemory => RunFault::NoMemory,
         _ => RunFault::Capture { port, fault },
     }
+}
+
+/// Reads the header and the first record of each capture, by the order of the sources, which is that of the ports.
+pub fn look_at_all<R: ByteSource, A: Allocator + Copy>(
+    alloc: A,
+    ports: &[u8],
+    sources: &mut [R],
+) -> Result<Vec<Lane<A>, A>, RunFault>
+    requires size { length sources.old ≡ length ports.now }
+    requires few { length ports.now ≤ 16 }
+    requires rises { Rising (λ a b. a < b) ports.now }
+    ensures numbers { IfOk result (λ lanes. numbers lanes.items ≡ ports.now) }
+    ensures lanes { IfOk result (λ lanes. AreLanes lanes.items) }
+    ensures room { IfOk result (λ lanes. room_of lanes.items ≤ MOST_ARRIVALS) }
+    ensures begins { (texts : ℕ → List ℕ) → AreTexts R.remaining ports.now texts sources.old →
+        IfOk result (λ lanes. AreAheadOf R.remaining texts (λ _. []) lanes.items sources.new) }
+    ensures fails { (texts : ℕ → List ℕ) → AreTexts R.remaining ports.now texts sources.old → IfErr result (FailsLook texts ports.now) }
+    ensures read { (port : ℕ) → result ≡ Err (RunFault.Capture port CaptureFault.Read) → HasFailed R.has_failed ports.now port sources.new }
+    ensures sure { NeverFail R.never_fails sources.old → (port : ℕ) → result ≢ Err (RunFault.Capture port CaptureFault.Read) }
+    ensures lasts { NeverFail R.never_fails sources.old → NeverFail R.never_fails sources.new }
+    ensures no_write { (port : ℕ) → result ≢ Err (RunFault.Write port) }
+    ensures own { (port : ℕ) (fault : _) → result ≡ Err (RunFault.Capture port fault) → (fault ≢ CaptureFault.NoMemory) × (fault ≢ CaptureFault.Write) }
+{
+    let mut lanes = match Vec::with_capacity(alloc, ports.len()) {
+        Ok(lanes) => lanes,
+        Err(_) => return Err(RunFault::NoMemory),
+    };
+    for place in 0..sources.len() {
+        let number = ports[place];
+        match Lane::begin(alloc, number, &mut sources[place]) {
+            Ok(lane) => match lanes.push(lane) {
+                Ok(()) => {}
+                Err(_) => unreachable!(),
+            },
+            Err(fault) => return Err(fault_of(number, fault)),
+        }
+    }
+    Ok(lanes)
 }

@@ -4,6 +4,7 @@ pub mod Steps
 pub mod Sorted
 pub mod Beginning
 pub mod Simulating
+pub mod Giving
 pub mod Taken
 pub mod Written
 pub mod Departing

@@ -1,13 +1,15 @@
 -- A frame is taken and its lane looks at the next one.
-use Rattle.std.proofs.Common.{◌≡◌, ◌≢◌, ℕ, zero, suc, ◌+◌, ◌<◌, ◌≤◌, List, [], ◌∷◌, length, slice_get, slice_set, arith, refl, ap, sym, subst, ◌∙◌, Option, Some, None, Result, Err}
-use Rattle.std.specs.Prelude.{OnOk, ◌⊎◌}
+use Rattle.std.proofs.Common.{◌≡◌, ◌≢◌, ℕ, zero, suc, ◌+◌, ◌-◌, ◌<◌, ◌≤◌, true, false, List, [], ◌∷◌, ◌++◌, length, slice_get, slice_set, sum_by, arith, refl, ap, sym, subst, ◌∙◌, Option, Some, None, Result, Ok, Err}
+use Rattle.std.specs.Prelude.{OnOk, IfSome, nat_eq, ◌⊎◌, if◌then◌else◌}
 use Rattle.std.proofs.Common.{inl, inr}
+use Rattle.std.specs.Option.{is_some}
 use Rattle.std.proofs.lemmas.Option.{slice_get_within}
 use Rattle.bridge_base.specs.Members.{Rising}
 use Rattle.bridge_capture.specs.declared.fault.CaptureFault.{CaptureFault}
 use Rattle.bridge_capture.specs.declared.fault.CaptureFault.TheVariants as faults
 use Rattle.bridge_capture.specs.declared.packet.Packet.{Packet}
 use Rattle.bridge_capture.specs.Grammar.{Captured}
+use Rattle.bridge_capture.specs.Reading.{view}
 use Rattle.bridge_capture.specs.Standing.{StandsFor, IsReading, records_left}
 use Rattle.bridge_config.specs.declared.ports.PortPlan.{PortPlan}
 use Rattle.bridge_config.specs.Model.{Plan}
@@ -15,8 +17,8 @@ use Rattle.bridge_config.specs.Rules.{port_at}
 use Rattle.bridge_lanes.specs.declared.fault.RunFault.TheVariants as run
 use Rattle.bridge_relay.specs.Relays.{RelayState}
 use Rattle.bridge_lanes.specs.declared.lane.Lane.{Lane}
-use Rattle.bridge_lanes.specs.Lanes.{fault_at, HasGiven, IsFirstAt, IsLane, Looks, numbers, room, room_of}
-use Rattle.bridge_stream.specs.Taking.{HasLooked, MayTake}
+use Rattle.bridge_lanes.specs.Lanes.{AreAheadOf, fault_at, IsAhead, IsFirstAt, IsLane, IsNext, Looks, numbers, one_ahead, room, room_of}
+use Rattle.bridge_stream.specs.Taking.{HasGiven, HasLooked, MayTake}
 use Rattle.bridge_stream.proofs.Places.{set_here, set_there, sum_at, sum_set}
 use Rattle.bridge_stream.proofs.Steps.{by_place, numbers_set}
 
@@ -94,18 +96,6 @@ numbers_given lanes given place which g = ap numbers g.now ∙ numbers_set lanes
 
 pub numbers_renewed : {R A : Type 0} (remaining : R → Option (List ℕ)) (was : Lane A) (lanes new : List (Lane A)) (sources rest : List R) (place : ℕ) (result : Result (Unit {0}) CaptureFault) → slice_get lanes place ≡ Some was → IsRenewed remaining was lanes new sources rest place result → numbers new ≡ numbers lanes
 numbers_renewed remaining was lanes new sources rest place result there r = ap numbers r.lanes_are ∙ numbers_set lanes place was r.lane there r.number
-
--- lanes with the same numbers are as many
-numbers_long : {A : Type 0} (lanes : List (Lane A)) → length (numbers lanes) ≡ length lanes
-numbers_long [] = refl
-numbers_long (lane ∷ more) = ap suc (numbers_long more)
-
-pub as_many : {A : Type 0} (lanes new : List (Lane A)) → numbers new ≡ numbers lanes → length new ≡ length lanes
-as_many lanes new same = sym (numbers_long new) ∙ ap length same ∙ numbers_long lanes
-
--- as many sources as lanes stay as many
-pub stay_as_many : {A R : Type 0} (lanes new : List (Lane A)) (sources rest : List R) → length rest ≡ length sources → numbers new ≡ numbers lanes → length sources ≡ length lanes → length rest ≡ length new
-stay_as_many lanes new sources rest long same size = long ∙ size ∙ sym (as_many lanes new same)
 
 -- the port of the lane is there
 pub port_known : {G A : Type 0} (b c : RelayState G A) (lanes given : List (Lane A)) (place : ℕ) (which : ℕ × Packet A) → MayTake b lanes → HasGiven lanes given place which → c.plan ≡ b.plan → (out : PortPlan A) × (port_at c.plan.ports which.0 ≡ Some out)

@@ -134,6 +134,14 @@ TakesBefore {A} lanes place next = (l : Lane A) (c : Packet A) → slice_get lan
 abbrev pub IsBefore : {A : Type 0} → Option ℕ → List (Lane A) → ℕ → Type 0
 IsBefore {A} until lanes place = (l : Lane A) (c : Packet A) → slice_get lanes place ≡ Some l → l.ahead ≡ Some c → IfSome until (λ t. c.time < t)
 
+-- a frame was taken from the lane of a port
+pub record HasGiven {A : Type 0} (old new : List (Lane A)) (place : ℕ) (given : ℕ × Packet A) : Type 0 where
+  pub lane : Lane A
+  pub there : slice_get old place ≡ Some lane
+  pub number : lane.number ≡ given.0
+  pub ahead : lane.ahead ≡ Some given.1
+  pub now : new ≡ slice_set old place (record lane { ahead = None })
+
 -- a lane whose frame was taken looked at what comes next, and no other lane or source changed
 pub record HasLooked {R A : Type 0} (remaining : R → Option (List ℕ)) (old new : List (Lane A)) (before after : List R) (place : ℕ) (result : Result (Unit {0}) CaptureFault) : Type 0 where
   pub was : Lane A

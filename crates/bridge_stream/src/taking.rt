@@ -2,28 +2,40 @@
 ghost use Rattle.std.specs.Prelude.{◌≡◌, ◌≢◌, ℕ, ◌<◌, ◌≤◌, List, [], ◌∷◌, Some, None, Option, length, slice_get, Err, true, false, IfSome, IsTrue, OnOk};
 ghost use Rattle.bridge_config.specs.Model as config;
 ghost use Rattle.bridge_config.specs.Commands.{has_instance, AreCommands};
-ghost use Rattle.bridge_capture.specs.declared.packet.Packet.{Packet};
 ghost use Rattle.bridge_capture.specs.Standing.{IsReading};
 ghost use Rattle.bridge_parts.specs.Ports.{NotBefore};
 ghost use Rattle.bridge_run.specs.Merge.{Input};
 ghost use Rattle.bridge_lanes.specs.Devices.{HasFailed, NeverFail};
 ghost use Rattle.bridge_lanes.specs.Lanes.{IsFirstAt, numbers, room_of};
 ghost use Rattle.bridge_stream.specs.Lines.{numbers as written_numbers};
-ghost use Rattle.bridge_stream.specs.Taking.{AreLater, asked, first_of_commands, GoesOn, HasGone, Obeys, HasLooked, IsBefore, IsUnderWay, MayTake, TakesBefore};
+ghost use Rattle.bridge_stream.specs.Taking.{AreLater, asked, first_of_commands, GoesOn, HasGone, Obeys, HasGiven, HasLooked, IsBefore, IsUnderWay, MayTake, TakesBefore};
 
 use crate::line::{Line, depart_before};
-use bridge_capture::{ByteSink, ByteSource, CaptureFault};
+use bridge_capture::{ByteSink, ByteSource, CaptureFault, Packet};
 use bridge_config::Command;
 use bridge_events::Agenda;
-use bridge_lanes::{Lane, Lanes, RunFault, Spares, fault_of};
+use bridge_lanes::{Lane, RunFault, Spares, fault_of, first_of};
 use bridge_relay::Relay;
 use std::alloc::Allocator;
+
+/// Takes the frame that comes first from its lane, and says of which port it is.
+fn give<A: Allocator + Copy>(lanes: &mut [Lane<A>], place: usize) -> (u8, Packet<A>)
+    requires place { place < length lanes.old }
+    requires first { IsFirstAt lanes.old place }
+    ensures given { HasGiven lanes.old lanes.new place result }
+{
+    let lane = &mut lanes[place];
+    match lane.ahead.take() {
+        Some(packet) => (lane.number, packet),
+        None => unreachable!(),
+    }
+}
 
 /// Looks at what comes behind the frame that was taken from a lane.
 fn look_at<R: ByteSource, A: Allocator + Copy>(
     spare: Vec<u8, A>,
     place: usize,
-    lanes: &mut Lanes<A>,
+    lanes: &mut [Lane<A>],
     sources: &mut [R],
 ) -> Result<(), CaptureFault>
     requires place { place < length lanes.old }
@@ -35,7 +47,7 @@ fn look_at<R: ByteSource, A: Allocator + Copy>(
     ensures lasts { NeverFail R.never_fails sources.old → NeverFail R.never_fails sources.new }
     ensures no_write { result ≢ Err CaptureFault.Write }
 {
-    lanes.look(place, spare, &mut sources[place])
+    lanes[place].look(spare, &mut sources[place])
 }
 
 /// Takes the frame that comes first, once all starts before it were made and written, and looks at what comes behind it
@@ -43,7 +55,7 @@ fn look_at<R: ByteSource, A: Allocator + Copy>(
 fn take<R: ByteSource, W: ByteSink, G: Agenda + Drop, A: Allocator + Copy>(
     place: usize,
     relay: &mut Relay<'_, G, A>,
-    lanes: &mut Lanes<A>,
+    lanes: &mut [Lane<A>],
     lines: &mut [Line],
     sources: &mut [R],
     sinks: &mut [W],
@@ -65,7 +77,7 @@ fn take<R: ByteSource, W: ByteSink, G: Agenda + Drop, A: Allocator + Copy>(
     ensures lasts { NeverFail R.never_fails sources.old → NeverFail R.never_fails sources.new }
     ensures wrote { (port : ℕ) → result ≡ Err (RunFault.Write port) → HasFailed W.has_failed (numbers lanes.old) port sinks.new }
 {
-    let (number, packet) = lanes.give(place);
+    let (number, packet) = give(lanes, place);
     if let Err(fault) = depart_before(Some(packet.time), relay, lines, sinks, spares) {
         return Err(fault);
     }
@@ -97,16 +109,16 @@ fn is_before<A: Allocator + Copy>(lane: &Lane<A>, until: Option<u64>) -> bool
 }
 
 /// The place of the frame that comes first, where it comes before a moment.
-fn next_before<A: Allocator + Copy>(lanes: &Lanes<A>, until: Option<u64>) -> Option<usize>
+fn next_before<A: Allocator + Copy>(lanes: &[Lane<A>], until: Option<u64>) -> Option<usize>
     ensures place { IfSome result (λ place. place < length lanes.now) }
     ensures first { IfSome result (IsFirstAt lanes.now) }
     ensures before { IfSome result (IsBefore until lanes.now) }
     ensures later { result ≡ None → AreLater until lanes.now }
 {
-    let Some(place) = lanes.first() else {
+    let Some(place) = first_of(lanes) else {
         return None;
     };
-    match lanes.as_slice().get(place) {
+    match lanes.get(place) {
         Some(lane) if is_before(lane, until) => Some(place),
         _ => None,
     }
@@ -116,7 +128,7 @@ fn next_before<A: Allocator + Copy>(lanes: &Lanes<A>, until: Option<u64>) -> Opt
 fn take_before<R: ByteSource, W: ByteSink, G: Agenda + Drop, A: Allocator + Copy>(
     until: Option<u64>,
     relay: &mut Relay<'_, G, A>,
-    lanes: &mut Lanes<A>,
+    lanes: &mut [Lane<A>],
     lines: &mut [Line],
     sources: &mut [R],
     sinks: &mut [W],
@@ -149,7 +161,7 @@ fn take_before<R: ByteSource, W: ByteSink, G: Agenda + Drop, A: Allocator + Copy
 fn obey<R: ByteSource, W: ByteSink, G: Agenda + Drop, A: Allocator + Copy>(
     command: Command,
     relay: &mut Relay<'_, G, A>,
-    lanes: &mut Lanes<A>,
+    lanes: &mut [Lane<A>],
     lines: &mut [Line],
     sources: &mut [R],
     sinks: &mut [W],
@@ -185,7 +197,7 @@ fn obey<R: ByteSource, W: ByteSink, G: Agenda + Drop, A: Allocator + Copy>(
 pub fn run<R: ByteSource, W: ByteSink, G: Agenda + Drop, A: Allocator + Copy>(
     commands: &[Command],
     relay: &mut Relay<'_, G, A>,
-    lanes: &mut Lanes<A>,
+    lanes: &mut [Lane<A>],
     lines: &mut [Line],
     sources: &mut [R],
     sinks: &mut [W],

@@ -1,10 +1,12 @@
-use Rattle.std.proofs.Common.{◌≡◌, ◌<◌, [], Some, length, nat_eq, arith, Err, ap, sym, subst, ◌∙◌, slice_get}
+use Rattle.std.proofs.Common.{◌≡◌, ℕ, ◌<◌, ◌≤◌, List, [], Some, None, length, nat_eq, arith, Err, ap, sym, subst, ◌∙◌, slice_get}
 use Rattle.std.specs.Map.{lookup}
 use Rattle.bridge_base.specs.Members.{Rising}
 use Rattle.bridge_lanes.specs.declared.fault.RunFault.TheVariants as run
+use Rattle.bridge_config.specs.Model.{Plan}
 use Rattle.bridge_run.specs.Merge.{events}
 use Rattle.bridge_run.proofs.Few.{few_leave}
-use Rattle.bridge_lanes.specs.Lanes.{AreTexts, FailsLook}
+use Rattle.bridge_relay.specs.Relays.{Stands}
+use Rattle.bridge_lanes.specs.Lanes.{AreAheadOf, AreLanes, AreTexts, FailsLook, numbers, room_of}
 use Rattle.bridge_stream.specs.Lines.{AreWritten, HeadersStop, numbers as written_numbers}
 use Rattle.bridge_stream.specs.Simulated.{AreListsOf, AreNumbers}
 use Rattle.bridge_stream.specs.Taking.{first_of_commands, StopsAmong}
@@ -62,7 +64,7 @@ returns-in-Err-begin_all-clause-err g c = λ ports texts are read.
     let own = one_order p ports c.in-Ok.lists.ports.items are lists.ports in
     let same = own ∙ sym c.deref.ensures.value in
     let there = own ∙ sym c.deref-2.ensures.value in
-    let lanes = c.in-Ok-look_at_all.lanes in
+    let lanes = c.in-Ok-look_at_all.lanes.items in
     let named = c.in-Ok-look_at_all.ensures.numbers ∙ sym same in
     let long = c.look_at_all.auto.sources in
     let asked = c.requires.sources in
@@ -86,10 +88,11 @@ run-requires-clause-may g c =
     let p = c.args.accepted.now in
     let lists = subst (λ z. AreListsOf z c.in-Ok.lists) c.plan.ensures.plan c.in-Ok.ensures in
     let start = c.in-Ok-new.ensures.start in
-    may_take p c.in-Ok-new.relay c.in-Ok.lists.ports.items c.in-Ok-look_at_all.lanes c.plan.ensures.rules lists.ports
-    (c.in-Ok-look_at_all.ensures.numbers ∙ c.deref.ensures.value) start.0 start.1 start.2
-    c.in-Ok-look_at_all.ensures.lanes
-    c.in-Ok-look_at_all.ensures.room
+    let moved = c.deref_mut.ensures.value in
+    may_take p c.in-Ok-new.relay c.in-Ok.lists.ports.items c.deref_mut.result.now c.plan.ensures.rules lists.ports
+    (ap numbers moved ∙ c.in-Ok-look_at_all.ensures.numbers ∙ c.deref.ensures.value) start.0 start.1 start.2
+    (subst AreLanes (sym moved) c.in-Ok-look_at_all.ensures.lanes)
+    (subst (λ ls. room_of ls ≤ _) (sym moved) c.in-Ok-look_at_all.ensures.room)
 
 pub run-requires-clause-sources : goal.run-requires-clause-sources
 run-requires-clause-sources g c =
@@ -97,8 +100,8 @@ run-requires-clause-sources g c =
     let lists = subst (λ z. AreListsOf z c.in-Ok.lists) c.plan.ensures.plan c.in-Ok.ensures in
     let long = c.look_at_all.auto.sources in
     let asked = c.requires.sources in
-    lanes_many p c.in-Ok.lists.ports.items c.in-Ok-look_at_all.lanes (length c.look_at_all.new.sources) lists.ports
-    (c.in-Ok-look_at_all.ensures.numbers ∙ c.deref.ensures.value) (omega (arith, long, asked))
+    lanes_many p c.in-Ok.lists.ports.items c.deref_mut.result.now (length c.look_at_all.new.sources) lists.ports
+    (ap numbers c.deref_mut.ensures.value ∙ c.in-Ok-look_at_all.ensures.numbers ∙ c.deref.ensures.value) (omega (arith, long, asked))
 
 pub run-requires-clause-sinks : goal.run-requires-clause-sinks
 run-requires-clause-sinks g c =
@@ -107,8 +110,8 @@ run-requires-clause-sinks g c =
     let long = c.begin_all.auto.sinks in
     let asked = c.requires.sinks in
     let many = ports_many p c.in-Ok.lists.ports.items lists.ports in
-    let named = ap length (ap written_numbers c.deref_mut.ensures.value ∙ c.in-Ok-begin_all.ensures.lines ∙ c.deref-2.ensures.value) in
-    let lines = numbers_length c.deref_mut.result.now in
+    let named = ap length (ap written_numbers c.deref_mut-2.ensures.value ∙ c.in-Ok-begin_all.ensures.lines ∙ c.deref-2.ensures.value) in
+    let lines = numbers_length c.deref_mut-2.result.now in
     omega (arith, long, asked, many, named, lines)
 
 pub finish-requires-clause-rises : goal.finish-requires-clause-rises
@@ -128,8 +131,9 @@ returns-in-Ok-run-clause-ok g c = λ ports texts are read.
     let own = one_order p ports c.in-Ok.lists.ports.items are lists.ports in
     let same = own ∙ sym c.deref.ensures.value in
     let there = own ∙ sym c.deref-2.ensures.value in
-    let lanes = c.in-Ok-look_at_all.lanes in
-    let named = c.in-Ok-look_at_all.ensures.numbers ∙ sym same in
+    let moved = c.deref_mut.ensures.value in
+    let lanes = c.deref_mut.result.now in
+    let named = ap numbers moved ∙ c.in-Ok-look_at_all.ensures.numbers ∙ sym same in
     let looked = c.look_at_all.auto.sources in
     let asked = c.requires.sources in
     let size = lanes_many p ports lanes (length c.look_at_all.new.sources) are named (omega (arith, looked, asked)) in
@@ -139,7 +143,7 @@ returns-in-Ok-run-clause-ok g c = λ ports texts are read.
     has_run g.R.ByteSource.remaining g.W.ByteSink.contents p ports c.args.commands.now texts c.args.sinks.now c.run.new.relay c.run.new.lanes c.run.new.sources c.run.new.sinks c.finish.result are named_then size_then
     (c.in-Ok-run.ensures.goes p texts c.args.sinks.now
     (under_first g.R.ByteSource.remaining g.W.ByteSink.contents p ports texts (first_of_commands c.args.commands.now) c.args.sinks.now c.in-Ok-new.relay lanes c.look_at_all.new.sources c.begin_all.new.sinks are named size
-    (c.in-Ok-look_at_all.ensures.begins texts (subst (λ ns. AreTexts g.R.ByteSource.remaining ns texts c.args.sources.now) same read))
+    (subst (λ ls. AreAheadOf g.R.ByteSource.remaining texts (λ q. []) ls c.look_at_all.new.sources) (sym moved) (c.in-Ok-look_at_all.ensures.begins texts (subst (λ ns. AreTexts g.R.ByteSource.remaining ns texts c.args.sources.now) same read)))
     c.in-Ok-new.ensures.stands
     (subst (λ ns. AreWritten g.W.ByteSink.contents ns c.args.sinks.now c.begin_all.new.sinks (λ q. [])) (sym there) c.in-Ok-begin_all.ensures.headers)))
     (λ es left s. c.finish.ensures.ends p es left s)
@@ -160,14 +164,15 @@ returns-clause-err g c = λ ports texts are read.
     let own = one_order p ports c.in-Ok.lists.ports.items are lists.ports in
     let same = own ∙ sym c.deref.ensures.value in
     let there = own ∙ sym c.deref-2.ensures.value in
-    let lanes = c.in-Ok-look_at_all.lanes in
-    let named = c.in-Ok-look_at_all.ensures.numbers ∙ sym same in
+    let moved = c.deref_mut.ensures.value in
+    let lanes = c.deref_mut.result.now in
+    let named = ap numbers moved ∙ c.in-Ok-look_at_all.ensures.numbers ∙ sym same in
     let looked = c.look_at_all.auto.sources in
     let asked = c.requires.sources in
     let size = lanes_many p ports lanes (length c.look_at_all.new.sources) are named (omega (arith, looked, asked)) in
     let stops = c.in-Err-run.ensures.goes p texts c.args.sinks.now
     (under_first g.R.ByteSource.remaining g.W.ByteSink.contents p ports texts (first_of_commands c.args.commands.now) c.args.sinks.now c.in-Ok-new.relay lanes c.look_at_all.new.sources c.begin_all.new.sinks are named size
-    (c.in-Ok-look_at_all.ensures.begins texts (subst (λ ns. AreTexts g.R.ByteSource.remaining ns texts c.args.sources.now) same read))
+    (subst (λ ls. AreAheadOf g.R.ByteSource.remaining texts (λ q. []) ls c.look_at_all.new.sources) (sym moved) (c.in-Ok-look_at_all.ensures.begins texts (subst (λ ns. AreTexts g.R.ByteSource.remaining ns texts c.args.sources.now) same read)))
     c.in-Ok-new.ensures.stands
     (subst (λ ns. AreWritten g.W.ByteSink.contents ns c.args.sinks.now c.begin_all.new.sinks (λ q. [])) (sym there) c.in-Ok-begin_all.ensures.headers)) in
     stops_among p ports c.args.commands.now texts g.W.ByteSink.contents g.W.ByteSink.has_failed c.args.sinks.now c.run.new.sinks c.in-Err-run.fault
@@ -178,7 +183,7 @@ returns-clause-read g c = λ ports port are e i w at lent.
     let p = c.args.accepted.now in
     let lists = subst (λ z. AreListsOf z c.in-Ok.lists) c.plan.ensures.plan c.in-Ok.ensures in
     let same = one_order p ports c.in-Ok.lists.ports.items are lists.ports ∙ sym c.deref.ensures.value in
-    let named = c.in-Ok-look_at_all.ensures.numbers ∙ sym same in
+    let named = ap numbers c.deref_mut.ensures.value ∙ c.in-Ok-look_at_all.ensures.numbers ∙ sym same in
     c.in-Err-run.ensures.read port (ap (λ f. Err f) (err_is c.in-Err-run.fault _ e)) i w (subst (λ ns. slice_get ns i ≡ Some port) (sym named) at) lent
 
 pub returns-clause-wrote : goal.returns-clause-wrote
@@ -186,7 +191,7 @@ returns-clause-wrote g c = λ ports port are e i w at lent.
     let p = c.args.accepted.now in
     let lists = subst (λ z. AreListsOf z c.in-Ok.lists) c.plan.ensures.plan c.in-Ok.ensures in
     let same = one_order p ports c.in-Ok.lists.ports.items are lists.ports ∙ sym c.deref.ensures.value in
-    let named = c.in-Ok-look_at_all.ensures.numbers ∙ sym same in
+    let named = ap numbers c.deref_mut.ensures.value ∙ c.in-Ok-look_at_all.ensures.numbers ∙ sym same in
     c.in-Err-run.ensures.wrote port (ap (λ f. Err f) (err_is c.in-Err-run.fault _ e)) i w (subst (λ ns. slice_get ns i ≡ Some port) (sym named) at) lent
 
 pub returns-clause-sure : goal.returns-clause-sure

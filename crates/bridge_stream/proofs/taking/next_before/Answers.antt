@@ -1,10 +1,8 @@
-use Rattle.std.proofs.Common.{◌≡◌, ℕ, ◌<◌, Bool, true, length, refl, ap, subst, sym, ◌∙◌, Option, None, arith, nat_lt}
+use Rattle.std.proofs.Common.{◌≡◌, ℕ, ◌<◌, Bool, true, length, refl, ap, sym, ◌∙◌, Option, Some, None, arith, nat_lt}
 use Rattle.std.specs.Option.{is_some}
 use Rattle.std.proofs.lemmas.Bool.Decides.{nat_tests}
 use Rattle.std.proofs.lemmas.Option.{slice_get_within}
-use Rattle.bridge_lanes.proofs.Giving.{lane_is}
-use Rattle.bridge_lanes.specs.Lanes.{IsFirstAt}
-use Rattle.bridge_stream.specs.Taking.{AreLater}
+use Rattle.bridge_stream.proofs.Giving.{lane_is}
 use Rattle.bridge_stream.proofs.Steps.{later_all}
 use Rattle.bridge_stream.proofs.taking.next_before.Goals as goal
 
@@ -16,14 +14,12 @@ is_within i n l = grind (arith, nat_tests)
 
 pub returns-in_default-get-clause-later : goal.returns-in_default-get-clause-later
 returns-in_default-get-clause-later g c = λ none.
-    let lanes = c.as_slice.result.now in
-    let first = subst (λ ls. IsFirstAt ls c.in-Some.place) (sym c.as_slice.ensures) c.in-Some.ensures in
-    let same = lane_is lanes c.in-Some.place first c.in-Some-get.lane.now (slice_get_within lanes c.in-Some.place first.lane first.there) c.in-Some-get.ensures.lookup.1 in
-    subst (AreLater c.args.until) c.as_slice.ensures (later_all c.args.until lanes c.in-Some.place first (λ d e. c.if-is_before.ensures.later refl d (ap (λ l. l.ahead) same ∙ e)))
+    let first = c.in-Some.ensures in
+    let same = lane_is c.args.lanes.now c.in-Some.place first c.in-Some-get.lane.now (slice_get_within c.args.lanes.now c.in-Some.place first.lane first.there) c.in-Some-get.ensures.lookup.1 in
+    later_all c.args.until c.args.lanes.now c.in-Some.place first (λ d e. c.if-is_before.ensures.later refl d (ap (λ l. l.ahead) same ∙ e))
 
 pub returns-in_default-get-2-clause-later : goal.returns-in_default-get-2-clause-later
 returns-in_default-get-2-clause-later g c = λ none.
-    let lanes = c.as_slice.result.now in
-    let first = subst (λ ls. IsFirstAt ls c.in-Some.place) (sym c.as_slice.ensures) c.in-Some.ensures in
-    let within = slice_get_within lanes c.in-Some.place first.lane first.there in
-    absurd (nothing_there c.get.result (nat_lt c.in-Some.place (length lanes)) c.get.ensures.lookup.0 c.in_default-get.is (is_within c.in-Some.place (length lanes) within))
+    let first = c.in-Some.ensures in
+    let within = slice_get_within c.args.lanes.now c.in-Some.place first.lane first.there in
+    absurd (nothing_there c.get.result (nat_lt c.in-Some.place (length c.args.lanes.now)) c.get.ensures.lookup.0 c.in_default-get.is (is_within c.in-Some.place (length c.args.lanes.now) within))

@@ -1,11 +1,10 @@
-use Rattle.std.proofs.Common.{◌≡◌, arith, refl, sym, subst, ◌∙◌, Some, slice_get}
+use Rattle.std.proofs.Common.{rules, ◌≡◌, ℕ, ◌<◌, ◌≤◌, List, length, arith, refl, ap, sym, subst, ◌∙◌, Option, Some, None, Ok, Err, slice_get}
 use Rattle.bridge_run.specs.Merge.{events}
 use Rattle.bridge_lanes.specs.Lanes.{numbers}
 use Rattle.bridge_stream.specs.Lines.{AreWritten, numbers as written_numbers}
 use Rattle.bridge_stream.specs.Taking.{asked}
 use Rattle.bridge_stream.proofs.Commanded.{command_next, may_still}
 use Rattle.bridge_stream.proofs.Steps.{depart_stops, written_so}
-use Rattle.bridge_stream.proofs.Taken.{stay_as_many}
 use Rattle.bridge_stream.proofs.taking.obey.Goals as goal
 
 pub returns-in-Err-clause-goes : goal.returns-in-Err-clause-goes
@@ -15,7 +14,7 @@ pub returns-in-Err-depart_before-clause-goes : goal.returns-in-Err-depart_before
 returns-in-Err-depart_before-clause-goes g c = λ p texts commanded next olds after u.
     let at = Some c.args.command.at in
     let v = c.in_default.ensures.goes p texts commanded (Some (asked c.args.command)) olds refl u in
-    let size = stay_as_many c.args.lanes.now c.take_before.new.lanes c.args.sources.now c.take_before.new.sources c.take_before.auto.sources c.take_before.ensures.same.1 c.requires.sources in
+    let size : length c.take_before.new.sources ≡ length c.take_before.new.lanes = search rules in
     let same : written_numbers c.take_before.new.lines ≡ numbers c.take_before.new.lanes = let z = c.take_before.ensures.same in z.2 ∙ c.requires.lines ∙ sym z.1 in
     depart_stops g.R.ByteSource.remaining g.W.ByteSink.contents p texts commanded (Some (asked c.args.command)) olds c.take_before.new.relay c.take_before.new.lanes c.take_before.new.sources c.take_before.new.sinks v size
     at c.depart_before.new.relay (written_numbers c.take_before.new.lines) c.depart_before.new.sinks c.in-Err-depart_before.fault same c.in_default.ensures.later (c.args.command.at, refl, omega arith)
@@ -28,7 +27,7 @@ returns-in-Err-depart_before-clause-wrote g c = λ port e i w h k. c.in-Err-depa
 pub returns-clause-goes : goal.returns-clause-goes
 returns-clause-goes g c = λ p texts commanded next olds after u.
     let v = c.in_default.ensures.goes p texts commanded (Some (asked c.args.command)) olds refl u in
-    let size = stay_as_many c.args.lanes.now c.take_before.new.lanes c.args.sources.now c.take_before.new.sources c.take_before.auto.sources c.take_before.ensures.same.1 c.requires.sources in
+    let size : length c.take_before.new.sources ≡ length c.take_before.new.lanes = search rules in
     let same : written_numbers c.take_before.new.lines ≡ numbers c.take_before.new.lanes = let z = c.take_before.ensures.same in z.2 ∙ c.requires.lines ∙ sym z.1 in
     let d = c.in_default-depart_before.ensures.departs p (events v.inputs) olds v.left v.stands
     (written_so g.R.ByteSource.remaining g.W.ByteSink.contents p texts commanded (Some (asked c.args.command)) olds c.take_before.new.relay c.take_before.new.lanes c.take_before.new.sources c.take_before.new.sinks v size (written_numbers c.take_before.new.lines) same) in

@@ -1,12 +1,11 @@
-use Rattle.std.proofs.Common.{rules, ◌≡◌, ◌+◌, take, drop, arith, sym, subst, ◌∙◌, Some, None, slice_get}
+use Rattle.std.proofs.Common.{rules, ◌≡◌, ℕ, ◌+◌, ◌<◌, ◌≤◌, ◌∷◌, List, length, take, drop, get_or, arith, refl, ap, sym, subst, ◌∙◌, Option, Some, None, Ok, Err, slice_get}
 use Rattle.bridge_filter.specs.declared.Clear.TheVariants.{Blocked}
 use Rattle.bridge_run.specs.Merge.{events}
 use Rattle.bridge_lanes.specs.Lanes.{numbers}
 use Rattle.bridge_stream.specs.Lines.{numbers as written_numbers}
-use Rattle.bridge_stream.specs.Taking.{commands_of, first_of_commands, IsUnderWay}
+use Rattle.bridge_stream.specs.Taking.{asked, commands_of, first_of_commands, IsUnderWay}
 use Rattle.bridge_stream.proofs.Running.{all_done, first_is, gone, has_it, idle_at, next_later, rises_behind, stops_at, stops_behind, with_it}
 use Rattle.bridge_stream.proofs.Steps.{written_so}
-use Rattle.bridge_stream.proofs.Taken.{stay_as_many}
 use Rattle.bridge_stream.proofs.taking.run.Goals as goal
 
 pub obey-requires-clause-instance : goal.obey-requires-clause-instance
@@ -39,7 +38,7 @@ loop-command-preserved g c =
     record {
       may = c.in_default.ensures.may;
       lines = same.2 ∙ i.lines ∙ sym same.1;
-      sources = stay_as_many c.loop-command.lanes c.obey.new.lanes c.loop-command.sources c.obey.new.sources c.obey.auto.sources same.1 i.sources;
+      sources = search rules;
       sinks = search rules;
       early = λ d rest e. let moved = c.in_default.ensures.moved in let z = rises_behind c.args.relay.now.plan c.args.commands.now at (record { at = 0; clear = Blocked; number = 0 }) c.requires.commands l d rest e in omega (arith, moved, z);
       plan = same.0 ∙ i.plan;
@@ -73,7 +72,7 @@ returns-clause-goes g c = λ p texts olds u.
     let i = c.loop-command.invariant in
     let v = all_done g.R.ByteSource.remaining g.W.ByteSink.contents p texts c.args.commands.now c.loop-command.command-index olds c.loop-command.relay c.loop-command.lanes c.loop-command.sources c.loop-command.sinks (omega (arith, c.loop-command-test.false)) (i.goes p texts olds u) in
     let w = c.in_default-take_before.ensures.goes p texts (commands_of c.args.commands.now) None olds tt v in
-    let size = stay_as_many c.loop-command.lanes c.take_before.new.lanes c.loop-command.sources c.take_before.new.sources c.take_before.auto.sources c.take_before.ensures.same.1 i.sources in
+    let size : length c.take_before.new.sources ≡ length c.take_before.new.lanes = search rules in
     let z = c.take_before.ensures.same in
     let same : written_numbers c.take_before.new.lines ≡ numbers c.take_before.new.lanes = z.2 ∙ i.lines ∙ sym z.1 in
     gone g.R.ByteSource.remaining g.W.ByteSink.contents p texts c.args.commands.now olds c.take_before.new.relay c.depart_before.new.relay c.take_before.new.lanes c.take_before.new.sources c.take_before.new.sinks c.depart_before.new.sinks (written_numbers c.take_before.new.lines) c.depart_before.result w size same c.in_default-take_before.ensures.later

@@ -1,6 +1,6 @@
-use Rattle.std.proofs.Common.{rules, ◌≡◌, refl, sym, subst, ◌∙◌, Some, slice_get}
+use Rattle.std.proofs.Common.{rules, ◌≡◌, ℕ, ◌<◌, ◌≤◌, List, length, arith, refl, ap, sym, subst, ◌∙◌, Option, Some, None, Ok, Err, slice_get}
 use Rattle.bridge_stream.proofs.Steps.{before_next, early_next}
-use Rattle.bridge_stream.proofs.Taken.{stay_as_many}
+use Rattle.bridge_lanes.specs.Lanes.{IsFirstAt, numbers}
 use Rattle.bridge_stream.proofs.taking.take_before.Goals as goal
 
 pub loop-place-preserved : goal.loop-place-preserved
@@ -10,7 +10,7 @@ loop-place-preserved g c =
     record {
       may = c.in_default-take.ensures.may;
       lines = same.2 ∙ i.lines ∙ sym same.1;
-      sources = stay_as_many c.loop-place.lanes c.take.new.lanes c.loop-place.sources c.take.new.sources c.take.auto.sources same.1 i.sources;
+      sources = search rules;
       sinks = search rules;
       until = refl;
       early = early_next c.args.until c.loop-place.lanes c.in-Some.place c.take.new.relay.earliest c.in-Some.ensures.first c.in-Some.ensures.before c.in_default-take.ensures.moved;

@@ -1,6 +1,6 @@
 use Rattle.std.proofs.Common.{◌≡◌, ◌≤◌, length, vec_len, vec_capacity}
 use Rattle.bridge_lanes.proofs.Looks.{HasLooked}
-use Rattle.bridge_lanes.proofs.lanes.look_at_all.Given as goal
+use Rattle.bridge_lanes.proofs.lane.look_at_all.Given as goal
 
 abbrev pub invariant-loop-place : goal.invariant-loop-place
 invariant-loop-place g l = record {

@@ -1,12 +1,11 @@
-use Rattle.std.proofs.Common.{◌≡◌, ◌≤◌, [], Err, slice_index_or, ap, sym, ◌∙◌, subst, arith}
+use Rattle.std.proofs.Common.{◌≡◌, Err, slice_index_or, ap, sym, ◌∙◌, subst, arith}
 use Rattle.std.proofs.lemmas.Grind.{common_steps}
 use Rattle.std.proofs.lemmas.Option.{slice_get-get_or}
 use Rattle.bridge_lanes.proofs.Looks.{failed_next, fails_next, few_enough, is_capture, lasts_set, looked_more, looked_start, same_numbers, sure_next}
 use Rattle.bridge_capture.specs.declared.fault.CaptureFault.TheVariants as faults
 use Rattle.bridge_lanes.specs.declared.fault.RunFault.TheVariants as run
-use Rattle.bridge_base.specs.declared.TheConstants.{MOST_ARRIVALS}
-use Rattle.bridge_lanes.specs.Lanes.{AreAheadOf, AreLanes, FailsLook, numbers, room_of}
-use Rattle.bridge_lanes.proofs.lanes.look_at_all.Goals as goal
+use Rattle.bridge_lanes.specs.Lanes.{FailsLook}
+use Rattle.bridge_lanes.proofs.lane.look_at_all.Goals as goal
 
 pub loop-place-init : goal.loop-place-init
 loop-place-init g c = record {
@@ -84,10 +83,10 @@ returns-clause-numbers g c =
     let end = c.loop-place-test.false in
     let within = c.loop-place.auto.place-end in
     let size = c.requires.size in
-    subst (λ lanes. numbers lanes ≡ c.args.ports.now) (sym c.over.ensures) (same_numbers c.loop-place.lanes.items c.args.ports.now (omega (arith, count, end, within, size)) c.loop-place.invariant.looked.numbered)
+    same_numbers c.loop-place.lanes.items c.args.ports.now (omega (arith, count, end, within, size)) c.loop-place.invariant.looked.numbered
 
 pub returns-clause-lanes : goal.returns-clause-lanes
-returns-clause-lanes g c = subst AreLanes (sym c.over.ensures) c.loop-place.invariant.looked.each
+returns-clause-lanes g c = c.loop-place.invariant.looked.each
 
 pub returns-clause-room : goal.returns-clause-room
 returns-clause-room g c =
@@ -95,18 +94,10 @@ returns-clause-room g c =
     let within = c.loop-place.auto.place-end in
     let size = c.requires.size in
     let few = c.requires.few in
-    subst (λ lanes. room_of lanes ≤ MOST_ARRIVALS) (sym c.over.ensures) (few_enough g.R.ByteSource.remaining g.R.ByteSource.never_fails c.args.ports.now c.args.sources.now c.loop-place.sources c.loop-place.lanes.items (omega (arith, count, within, size, few)) c.loop-place.invariant.looked)
+    few_enough g.R.ByteSource.remaining g.R.ByteSource.never_fails c.args.ports.now c.args.sources.now c.loop-place.sources c.loop-place.lanes.items (omega (arith, count, within, size, few)) c.loop-place.invariant.looked
 
 pub returns-clause-begins : goal.returns-clause-begins
-returns-clause-begins g c = λ texts are. subst (λ lanes. AreAheadOf g.R.ByteSource.remaining texts (λ _. []) lanes c.loop-place.sources) (sym c.over.ensures) (c.loop-place.invariant.looked.begins texts are)
+returns-clause-begins g c = λ texts are. c.loop-place.invariant.looked.begins texts are
 
 pub returns-clause-lasts : goal.returns-clause-lasts
 returns-clause-lasts g c = λ sure. c.loop-place.invariant.looked.lasts sure
-
-pub over-requires : goal.over-requires
-over-requires g c =
-    let count = sym c.loop-place.lanes.ok.0 ∙ c.loop-place.invariant.count in
-    let within = c.loop-place.auto.place-end in
-    let size = c.requires.size in
-    let few = c.requires.few in
-    omega (arith, count, within, size, few)
