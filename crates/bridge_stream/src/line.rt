@@ -1,5 +1,5 @@
 //! Captures that are written, one of each port.
-ghost use Rattle.std.specs.Prelude.{◌≡◌, ℕ, ◌<◌, ◌≤◌, ◌*◌, ◌^◌, List, [], Some, None, Option, length, Err, true, IfOk, IfErr, IfSome, OnOk, OnErr, vec_capacity};
+ghost use Rattle.std.specs.Prelude.{◌≡◌, ◌≢◌, ℕ, ◌<◌, ◌≤◌, ◌*◌, ◌^◌, List, [], Some, None, Option, length, slice_get, Err, true, IfOk, IfErr, IfSome, OnOk, OnErr, vec_capacity};
 ghost use Rattle.bridge_base.specs.Members.{Rising};
 ghost use Rattle.bridge_capture.specs.Grammar.{Captured};
 ghost use Rattle.bridge_config.specs.Model as config;
@@ -50,6 +50,25 @@ pub fn begin_all<W: ByteSink, A: Allocator + Copy>(
     Ok(lines)
 }
 
+/// The place of the line of a port, where there is one: that of its number where the ports are 1, 2, 3 and so on.
+#[inline(always)]
+fn place_of(lines: &[Line], port: u8) -> Option<usize>
+    ensures within { IfSome result (λ place. place < length lines.now) }
+    ensures there { IfSome result (λ place. slice_get (numbers lines.now) place ≡ Some port) }
+    ensures none { result ≡ None → (i q : ℕ) → slice_get (numbers lines.now) i ≡ Some q → q ≢ port }
+{
+    let own = (port as usize).saturating_sub(1);
+    if own < lines.len() && lines[own].number == port {
+        return Some(own);
+    }
+    for place in 0..lines.len() {
+        if lines[place].number == port {
+            return Some(place);
+        }
+    }
+    None
+}
+
 /// Writes a frame that left into the capture of its port.
 pub fn write<W: ByteSink, A: Allocator + Copy>(
     lines: &mut [Line],
@@ -64,17 +83,15 @@ pub fn write<W: ByteSink, A: Allocator + Copy>(
     ensures only { OnErr result (result ≡ Err (RunFault.Write sent.now.port)) }
     ensures failed { OnErr result (HasFailed W.has_failed (numbers lines.old) sent.now.port sinks.new) }
 {
-    for place in 0..lines.len() {
-        if lines[place].number == sent.port {
-            let line = &mut lines[place];
-            let sink = &mut sinks[place];
-            return match line.writer.put(sink, sent.done, sent.len, &sent.octets) {
-                Ok(()) => Ok(()),
-                Err(_) => Err(RunFault::Write { port: sent.port }),
-            };
-        }
+    let Some(place) = place_of(lines, sent.port) else {
+        return Ok(());
+    };
+    let line = &mut lines[place];
+    let sink = &mut sinks[place];
+    match line.writer.put(sink, sent.done, sent.len, &sent.octets) {
+        Ok(()) => Ok(()),
+        Err(_) => Err(RunFault::Write { port: sent.port }),
     }
-    Ok(())
 }
 
 /// Makes and writes all starts before a moment, or all where there is none. The octets of these frames are spare then.
