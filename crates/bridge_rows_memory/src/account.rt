@@ -24,10 +24,17 @@ pub(crate) fn counting(alloc: Global, n: u64) -> Result<Counting, AllocError> {
     Ok(RefusesOne::new(LocalHeap::new(alloc, ROOM)?, n))
 }
 
-/// What a heap tells now.
-pub(crate) fn account_of(heap: &Counting) -> Account {
-    Account {
-        left: heap.left(),
-        used: heap.inner().used(),
+/// An allocator that tells what was asked of it.
+pub(crate) trait Tells {
+    /// What it tells now.
+    fn account(&self) -> Account;
+}
+
+impl Tells for &Counting {
+    fn account(&self) -> Account {
+        Account {
+            left: self.left(),
+            used: self.inner().used(),
+        }
     }
 }

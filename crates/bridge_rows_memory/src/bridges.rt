@@ -2,7 +2,7 @@
 ghost use Rattle.std.specs.Prelude.{◌≡◌};
 ghost use Rattle.bridge_core.specs.Bridges.{plan_in};
 
-use crate::account::{Counting, NEVER, account_of, counting};
+use crate::account::{NEVER, Tells};
 use crate::parts;
 use bridge_check::{Accepted, check};
 use bridge_config::Command;
@@ -41,7 +41,7 @@ const TO_TWO: Frame = (
 );
 
 /// The plan of these tests, where it is accepted.
-fn accepted_in(heap: &Counting, document: Global) -> Option<Accepted<&Counting>> {
+fn accepted_in<A: Allocator + Copy>(heap: A, document: Global) -> Option<Accepted<A>> {
     match parts::plan_in(heap, document) {
         Ok(plan) => check(heap, plan).ok(),
         Err(_) => None,
@@ -60,74 +60,106 @@ fn send<G: Agenda + Drop, A: Allocator + Copy>(bridge: &mut Bridge<'_, G, A>) ->
     starts
 }
 
-/// A frame that goes to one port takes its octets and what the lists of its filter grow by; no other call takes memory, and
-/// what leaves gives its octets back.
-fn use_bridge<'a, G: Agenda + Drop>(
+/// A frame that goes to one port takes its octets and what the lists of its filter grow by, and what leaves gives its octets
+/// back.
+fn come_first<G: Agenda + Drop, H: Allocator + Copy + Tells>(
     rt: &impl Abort,
-    heap: &'a Counting,
-    accepted: &Accepted<&'a Counting>,
-    bridge: &mut Bridge<'_, G, &'a Counting>,
+    heap: H,
+    accepted: &Accepted<H>,
+    bridge: &mut Bridge<'_, G, H>,
 ) -> Result<(), Fail>
     requires plan { plan_in bridge.old ≡ accepted.now }
+    ensures plan { plan_in bridge.new ≡ plan_in bridge.old }
 {
-    let made = account_of(heap);
-    assert_eq!(rt; bridge.due(), None);
-    assert_eq!(rt;
-        (
-            bridge.arrived(),
-            bridge.earliest(),
-            bridge.earliest_command()
-        ),
-        (0, 0, 0)
-    );
-    assert_eq!(rt; account_of(heap), made);
+    let made = heap.account();
     come(heap, accepted, bridge, 1, TO_ONE)?;
-    let came = account_of(heap);
-    assert_eq!(rt; made.left.saturating_sub(came.left), 4);
-    assert_eq!(rt; bridge.due(), Some((3, 100_000)));
-    assert_eq!(rt; send(bridge), 1);
-    let sent = account_of(heap);
-    assert_eq!(rt; sent.left, came.left);
+    let came = heap.account();
+    assert!(rt; made.left.saturating_sub(came.left) == 4);
+    assert!(rt; bridge.due() == Some((3, 100_000)));
+    assert!(rt; send(bridge) == 1);
+    let sent = heap.account();
+    assert!(rt; sent.left == came.left);
     assert!(rt; sent.used < came.used);
-    let command = Command {
-        at: 200_000,
-        clear: Clear::Blocked,
-        number: 10,
-    };
-    obey(accepted, bridge, &command)?;
-    assert_eq!(rt; account_of(heap), sent);
-    come(heap, accepted, bridge, 1, LATER)?;
-    assert_eq!(rt; sent.left.saturating_sub(account_of(heap).left), 1);
-    assert_eq!(rt; send(bridge), 1);
-    assert_eq!(rt; account_of(heap).used, sent.used);
     Ok(())
 }
 
-/// Ends a bridge without a growth.
-fn end<'a, G: Agenda + Drop>(
+/// A command takes no memory, and a second frame takes its octets alone.
+fn come_second<G: Agenda + Drop, H: Allocator + Copy + Tells>(
     rt: &impl Abort,
-    heap: &'a Counting,
-    bridge: Bridge<'_, G, &'a Counting>,
+    heap: H,
+    accepted: &Accepted<H>,
+    bridge: &mut Bridge<'_, G, H>,
+) -> Result<(), Fail>
+    requires plan { plan_in bridge.old ≡ accepted.now }
+{
+    let sent = heap.account();
+    obey(accepted, bridge, &UNBLOCK)?;
+    assert!(rt; heap.account() == sent);
+    come(heap, accepted, bridge, 1, LATER)?;
+    assert!(rt; sent.left.saturating_sub(heap.account().left) == 1);
+    assert!(rt; send(bridge) == 1);
+    assert!(rt; heap.account().used == sent.used);
+    Ok(())
+}
+
+const UNBLOCK: Command = Command {
+    at: 200_000,
+    clear: Clear::Blocked,
+    number: 10,
+};
+
+/// Nothing has come to a bridge, and to ask it takes no memory.
+fn is_idle<G: Agenda + Drop, H: Allocator + Copy + Tells>(
+    rt: &impl Abort,
+    heap: H,
+    bridge: &Bridge<'_, G, H>,
+) {
+    let made = heap.account();
+    assert!(rt; bridge.due() == None);
+    assert!(rt; bridge.arrived() == 0 && bridge.earliest() == 0);
+    assert!(rt; bridge.earliest_command() == 0);
+    assert!(rt; heap.account() == made);
+}
+
+/// Drives a bridge; no other call takes memory.
+fn use_bridge<G: Agenda + Drop, H: Allocator + Copy + Tells>(
+    rt: &impl Abort,
+    heap: H,
+    accepted: &Accepted<H>,
+    bridge: &mut Bridge<'_, G, H>,
+) -> Result<(), Fail>
+    requires plan { plan_in bridge.old ≡ accepted.now }
+{
+    is_idle(rt, heap, bridge);
+    come_first(rt, heap, accepted, bridge)?;
+    come_second(rt, heap, accepted, bridge)
+}
+
+/// Ends a bridge without a growth.
+fn end<G: Agenda + Drop, H: Allocator + Copy + Tells>(
+    rt: &impl Abort,
+    heap: H,
+    bridge: Bridge<'_, G, H>,
 ) -> Result<(), Fail> {
-    let before = account_of(heap);
+    let before = heap.account();
     match bridge.due() {
         Some(_) => Err(Fail::from("a start that is still due")),
         None => {
             let outcome = bridge.finish();
-            assert_eq!(rt; account_of(heap).left, before.left);
-            assert_eq!(rt; outcome.filters.len(), 2);
+            assert!(rt; heap.account().left == before.left);
+            assert!(rt; outcome.filters.len() == 2);
             Ok(())
         }
     }
 }
 
 /// Drives a bridge over an agenda.
-fn takes_no_memory<'a, G: Agenda + Drop>(
+fn takes_no_memory<G: Agenda + Drop, H: Allocator + Copy + Tells>(
     rt: &impl Abort,
-    heap: &'a Counting,
-    accepted: &Accepted<&'a Counting>,
+    heap: H,
+    accepted: &Accepted<H>,
 ) -> Result<(), Fail> {
-    let Ok(mut bridge) = Bridge::<G, &Counting>::new(heap, accepted) else {
+    let Ok(mut bridge) = Bridge::<G, H>::new(heap, accepted) else {
         return Err(Fail::from("no memory"));
     };
     match use_bridge(rt, heap, accepted, &mut bridge) {
@@ -136,41 +168,66 @@ fn takes_no_memory<'a, G: Agenda + Drop>(
     }
 }
 
-#[test]
-fn a_bridge_takes_no_memory(rt: HostRuntime) -> Result<(), Fail> {
-    let heap = counting(rt.alloc(), NEVER)?;
-    let Some(accepted) = accepted_in(&heap, rt.alloc()) else {
+/// Drives a bridge over each agenda, which gives all back.
+pub(crate) fn gives_all_back<H: Allocator + Copy + Tells>(
+    rt: &impl Abort,
+    heap: H,
+    document: Global,
+) -> Result<(), Fail> {
+    let Some(accepted) = accepted_in(heap, document) else {
         return Err(Fail::from("the plan was refused"));
     };
-    let made = account_of(&heap);
+    let made = heap.account();
     assert!(rt; made.left < NEVER && made.used > 0);
-    takes_no_memory::<RowAgenda>(&rt, &heap, &accepted)?;
-    assert_eq!(rt; account_of(&heap).used, made.used, "all is given back");
-    takes_no_memory::<TreeAgenda>(&rt, &heap, &accepted)?;
-    assert_eq!(rt; account_of(&heap).used, made.used, "all is given back");
+    takes_no_memory::<RowAgenda, H>(rt, heap, &accepted)?;
+    assert!(rt; heap.account().used == made.used, "all is given back");
+    takes_no_memory::<TreeAgenda, H>(rt, heap, &accepted)?;
+    assert!(rt; heap.account().used == made.used, "all is given back");
     Ok(())
 }
 
+/// Whether a bridge of an accepted plan can be made.
+fn is_bridge_of<G: Agenda + Drop, A: Allocator + Copy>(heap: A, accepted: &Accepted<A>) -> bool {
+    Bridge::<G, A>::new(heap, accepted).is_ok()
+}
+
 /// Whether a bridge over an agenda can be made.
-pub(crate) fn is_bridge_made<G: Agenda + Drop>(heap: &Counting, document: Global) -> bool {
+pub(crate) fn is_bridge_made<G: Agenda + Drop, A: Allocator + Copy>(
+    heap: A,
+    document: Global,
+) -> bool {
     match accepted_in(heap, document) {
-        Some(accepted) => Bridge::<G, &Counting>::new(heap, &accepted).is_ok(),
+        Some(accepted) => is_bridge_of::<G, A>(heap, &accepted),
         None => false,
     }
 }
 
 /// Whether a frame comes to a bridge that goes to two ports.
-fn is_frame_taken<'a>(heap: &'a Counting, accepted: &Accepted<&'a Counting>) -> bool {
-    match Bridge::<TreeAgenda, &Counting>::new(heap, accepted) {
-        Ok(mut bridge) => bring(heap, accepted, &mut bridge, 1, TO_TWO).is_ok(),
+fn is_frame_taken<G: Agenda + Drop, A: Allocator + Copy>(
+    heap: A,
+    accepted: &Accepted<A>,
+    bridge: &mut Bridge<'_, G, A>,
+) -> bool
+    requires plan { plan_in bridge.old ≡ accepted.now }
+{
+    bring(heap, accepted, bridge, 1, TO_TWO).is_ok()
+}
+
+/// Whether a bridge is made, and a frame comes to it that goes to two ports.
+fn is_relayed_by<G: Agenda + Drop, A: Allocator + Copy>(heap: A, accepted: &Accepted<A>) -> bool {
+    match Bridge::<G, A>::new(heap, accepted) {
+        Ok(mut bridge) => is_frame_taken(heap, accepted, &mut bridge),
         Err(_) => false,
     }
 }
 
 /// Whether a plan is made, and a frame comes to a bridge of it that goes to two ports.
-pub(crate) fn is_frame_relayed(heap: &Counting, document: Global) -> bool {
+pub(crate) fn is_frame_relayed<G: Agenda + Drop, A: Allocator + Copy>(
+    heap: A,
+    document: Global,
+) -> bool {
     match accepted_in(heap, document) {
-        Some(accepted) => is_frame_taken(heap, &accepted),
+        Some(accepted) => is_relayed_by::<G, A>(heap, &accepted),
         None => false,
     }
 }

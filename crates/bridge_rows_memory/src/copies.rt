@@ -1,8 +1,9 @@
 //! What is made in an allocator lies there, whichever allocator its parts have.
-use crate::account::{Account, Counting, NEVER, account_of, counting};
+use crate::account::{Account, NEVER, Tells, counting};
 use crate::parts::{HALVES, list_of, plan_in, window_of};
 use bridge_cycle::CyclicList;
-use std::alloc::Global;
+use std::alloc::{Allocator, Global};
+use std::process::Abort;
 use std::test::Fail;
 
 /// What is made of something that lies in another heap.
@@ -33,57 +34,70 @@ struct Making {
     made: usize,
 }
 
-fn made_in(from: &Counting, to: &Counting, before: Account) -> Making {
+fn made_in<H: Allocator + Copy + Tells>(from: H, to: H, before: Account) -> Making {
     Making {
         before,
-        after: account_of(from),
-        made: account_of(to).used,
+        after: from.account(),
+        made: to.account().used,
     }
 }
 
-fn new_list(from: &Counting, to: &Counting) -> Result<Making, Fail> {
+fn new_list<H: Allocator + Copy + Tells>(from: H, to: H) -> Result<Making, Fail> {
     let entries = Vec::from_slice(from, &HALVES)?;
-    let before = account_of(from);
+    let before = from.account();
     let _list = CyclicList::new(to, 0, 1_000_000, entries)?;
     Ok(made_in(from, to, before))
 }
 
-fn list_copy(from: &Counting, to: &Counting) -> Result<Making, Fail> {
+fn list_copy<H: Allocator + Copy + Tells>(from: H, to: H) -> Result<Making, Fail> {
     let list = list_of(from)?;
-    let before = account_of(from);
+    let before = from.account();
     let _copy = list.copy(to)?;
     Ok(made_in(from, to, before))
 }
 
-fn schedule_copy(from: &Counting, to: &Counting) -> Result<Making, Fail> {
+fn schedule_copy<H: Allocator + Copy + Tells>(from: H, to: H) -> Result<Making, Fail> {
     let plan = window_of(from)?;
-    let before = account_of(from);
+    let before = from.account();
     let _copy = plan.schedule.copy(to)?;
     Ok(made_in(from, to, before))
 }
 
-fn gate_plan_copy(from: &Counting, to: &Counting) -> Result<Making, Fail> {
+fn gate_plan_copy<H: Allocator + Copy + Tells>(from: H, to: H) -> Result<Making, Fail> {
     let plan = window_of(from)?;
-    let before = account_of(from);
+    let before = from.account();
     let _copy = plan.copy(to)?;
     Ok(made_in(from, to, before))
 }
 
-fn port_numbers(from: &Counting, to: &Counting, document: Global) -> Result<Making, Fail> {
+fn port_numbers<H: Allocator + Copy + Tells>(
+    from: H,
+    to: H,
+    document: Global,
+) -> Result<Making, Fail> {
     let plan = plan_in(from, document)?;
-    let before = account_of(from);
+    let before = from.account();
     let _numbers = plan.port_numbers(to)?;
     Ok(made_in(from, to, before))
 }
 
-fn filter_numbers(from: &Counting, to: &Counting, document: Global) -> Result<Making, Fail> {
+fn filter_numbers<H: Allocator + Copy + Tells>(
+    from: H,
+    to: H,
+    document: Global,
+) -> Result<Making, Fail> {
     let plan = plan_in(from, document)?;
-    let before = account_of(from);
+    let before = from.account();
     let _numbers = plan.filter_numbers(to)?;
     Ok(made_in(from, to, before))
 }
 
-fn make(made: Made, from: &Counting, to: &Counting, document: Global) -> Result<Making, Fail> {
+fn make<H: Allocator + Copy + Tells>(
+    made: Made,
+    from: H,
+    to: H,
+    document: Global,
+) -> Result<Making, Fail> {
     match made {
         Made::List => new_list(from, to),
         Made::ListCopy => list_copy(from, to),
@@ -94,19 +108,24 @@ fn make(made: Made, from: &Counting, to: &Counting, document: Global) -> Result<
     }
 }
 
+/// Makes something in a heap of its own, of what lies in another one.
+fn lies_apart(rt: &impl Abort, document: Global, made: Made) -> Result<(), Fail> {
+    let from = counting(document, NEVER)?;
+    let to = counting(document, NEVER)?;
+    let making = make(made, &from, &to, document)?;
+    assert!(rt; making.after == making.before, "{made:?}");
+    assert!(rt; making.made > 0, "{made:?}");
+    assert!(rt;
+        from.inner().used() == 0 && to.inner().used() == 0,
+        "{made:?}"
+    );
+    Ok(())
+}
+
 #[test]
 fn a_copy_lies_in_the_allocator_of_its_call(rt: HostRuntime) -> Result<(), Fail> {
-    let from = counting(rt.alloc(), NEVER)?;
-    for made in MADE {
-        let to = counting(rt.alloc(), NEVER)?;
-        let making = make(made, &from, &to, rt.alloc())?;
-        assert_eq!(rt; making.after, making.before, "{made:?}");
-        assert!(rt; making.made > 0, "{made:?}");
-        assert_eq!(rt;
-            (from.inner().used(), to.inner().used()),
-            (0, 0),
-            "{made:?}"
-        );
+    for made in &MADE {
+        lies_apart(&rt, rt.alloc(), *made)?;
     }
     Ok(())
 }

@@ -15,3 +15,5 @@ mod parts;
 mod police;
 #[cfg(test)]
 mod refusals;
+#[cfg(test)]
+mod usage;

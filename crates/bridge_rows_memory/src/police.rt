@@ -2,15 +2,14 @@
 ghost use Rattle.std.specs.Prelude.{◌≡◌, IsTrue};
 ghost use Rattle.bridge_filter.specs.Plans.{is_there, KeepsNumbers};
 
-use crate::account::{NEVER, account_of, counting};
+use crate::account::{NEVER, Tells};
 use crate::parts::police_of;
 use bridge_filter::Verdict::{
     Blocked, GateClosed, OctetsExceeded, Oversize, Pass, Red, ShutByOctets, ShutByRx,
 };
-use bridge_filter::{Clear, Flags, Police, Ruling, Verdict};
+use bridge_filter::{Clear, Flags, NoMemory, Police, Ruling, Verdict};
 use std::alloc::Allocator;
 use std::process::Abort;
-use std::test::Fail;
 
 /// Let through by the gate, and yellow.
 const YELLOW: Verdict = Pass {
@@ -65,43 +64,57 @@ fn show<A: Allocator + Copy>(rt: &impl Abort, police: &Police<A>, wanted: Flags,
     requires { IsTrue (is_there 10 police.now.filters) }
 {
     assert!(rt; police.flags(10) == wanted);
-    assert_eq!(rt; police.counters(10).matching, frames);
+    assert!(rt; police.counters(10).matching == frames);
     assert!(rt; police.buckets(10).is_some());
-    assert_eq!(rt; police.calls(), frames);
+    assert!(rt; police.calls() == frames);
     assert!(rt; police.filter_of(Some(1), 0) == Some(10));
     assert!(rt; police.filter_of(None, 0) == None);
 }
 
-#[test]
-fn a_police_takes_no_memory(rt: HostRuntime) -> Result<(), Fail> {
-    let heap = counting(rt.alloc(), NEVER)?;
-    let mut police = police_of(&heap)?;
-    let made = account_of(&heap);
+const FIRST: [(u64, u32, Verdict); 6] = [
+    (0, 44, YELLOW),
+    (0, 44, Red),
+    (300_000, 44, GateClosed),
+    (1_000_000, 44, ShutByRx),
+    (1_000_000, 501, Oversize),
+    (1_000_000, 44, Blocked),
+];
+
+const FLAGS: Flags = Flags {
+    blocked: true,
+    rx: true,
+    octets: false,
+    red: true,
+};
+
+const SECOND: [(u64, u32, Verdict); 3] = [
+    (1_010_000, 500, Red),
+    (1_020_000, 101, OctetsExceeded),
+    (1_030_000, 44, ShutByOctets),
+];
+
+/// Frames, and each clear.
+fn ask_police<A: Allocator + Copy>(rt: &impl Abort, police: &mut Police<A>)
+    requires filter { IsTrue (is_there 10 police.old.filters) }
+    requires gate { IsTrue (is_there 1 police.old.gates) }
+    requires meter { IsTrue (is_there 5 police.old.meters) }
+{
+    verdicts(rt, police, &FIRST);
+    show(rt, police, FLAGS, 6);
+    clear_all(police);
+    show(rt, police, NO_FLAGS, 6);
+    verdicts(rt, police, &SECOND);
+}
+
+/// Makes a police and asks it.
+pub(crate) fn use_police<H: Allocator + Copy + Tells>(
+    rt: &impl Abort,
+    heap: H,
+) -> Result<(), NoMemory> {
+    let mut police = police_of(heap)?;
+    let made = heap.account();
     assert!(rt; made.left < NEVER && made.used > 0);
-    let first = [
-        (0, 44, YELLOW),
-        (0, 44, Red),
-        (300_000, 44, GateClosed),
-        (1_000_000, 44, ShutByRx),
-        (1_000_000, 501, Oversize),
-        (1_000_000, 44, Blocked),
-    ];
-    verdicts(&rt, &mut police, &first);
-    let flags = Flags {
-        blocked: true,
-        rx: true,
-        octets: false,
-        red: true,
-    };
-    show(&rt, &police, flags, 6);
-    clear_all(&mut police);
-    show(&rt, &police, NO_FLAGS, 6);
-    let second = [
-        (1_010_000, 500, Red),
-        (1_020_000, 101, OctetsExceeded),
-        (1_030_000, 44, ShutByOctets),
-    ];
-    verdicts(&rt, &mut police, &second);
-    assert_eq!(rt; account_of(&heap), made);
+    ask_police(rt, &mut police);
+    assert!(rt; heap.account() == made);
     Ok(())
 }

@@ -1,0 +1,86 @@
+//! What is made in a heap that counts, and used there.
+use crate::account::{NEVER, Tells, counting};
+use crate::bridges::gives_all_back;
+use crate::calls::{have_port, use_database, use_gate, use_ident, use_list, use_plan};
+use crate::police::use_police;
+use std::alloc::{Allocator, Global};
+use std::process::Abort;
+use std::test::Fail;
+
+/// What takes no memory once it is made.
+#[derive(Clone, Copy)]
+enum Made {
+    List,
+    Gate,
+    Identification,
+    Database,
+    Police,
+    Port,
+    Plan,
+    Bridge,
+}
+
+/// Makes something and uses it.
+fn use_made<H: Allocator + Copy + Tells>(
+    rt: &impl Abort,
+    heap: H,
+    document: Global,
+    made: Made,
+) -> Result<(), Fail> {
+    match made {
+        Made::List => Ok(use_list(rt, heap)?),
+        Made::Gate => Ok(use_gate(rt, heap)?),
+        Made::Identification => Ok(use_ident(rt, heap)?),
+        Made::Database => Ok(use_database(rt, heap)?),
+        Made::Police => Ok(use_police(rt, heap)?),
+        Made::Port => Ok(have_port(rt, heap)?),
+        Made::Plan => use_plan(rt, heap, document),
+        Made::Bridge => gives_all_back(rt, heap, document),
+    }
+}
+
+/// Makes something in a heap of its own and uses it. No test has a heap, since its type is long.
+fn takes_no_memory(rt: &impl Abort, document: Global, made: Made) -> Result<(), Fail> {
+    let heap = counting(document, NEVER)?;
+    use_made(rt, &heap, document, made)
+}
+
+#[test]
+fn a_list_takes_no_memory(rt: HostRuntime) -> Result<(), Fail> {
+    takes_no_memory(&rt, rt.alloc(), Made::List)
+}
+
+#[test]
+fn a_gate_takes_no_memory(rt: HostRuntime) -> Result<(), Fail> {
+    takes_no_memory(&rt, rt.alloc(), Made::Gate)
+}
+
+#[test]
+fn an_identification_takes_no_memory(rt: HostRuntime) -> Result<(), Fail> {
+    takes_no_memory(&rt, rt.alloc(), Made::Identification)
+}
+
+#[test]
+fn a_database_takes_no_memory(rt: HostRuntime) -> Result<(), Fail> {
+    takes_no_memory(&rt, rt.alloc(), Made::Database)
+}
+
+#[test]
+fn a_police_takes_no_memory(rt: HostRuntime) -> Result<(), Fail> {
+    takes_no_memory(&rt, rt.alloc(), Made::Police)
+}
+
+#[test]
+fn a_port_takes_no_memory(rt: HostRuntime) -> Result<(), Fail> {
+    takes_no_memory(&rt, rt.alloc(), Made::Port)
+}
+
+#[test]
+fn a_plan_takes_no_memory(rt: HostRuntime) -> Result<(), Fail> {
+    takes_no_memory(&rt, rt.alloc(), Made::Plan)
+}
+
+#[test]
+fn a_bridge_takes_no_memory(rt: HostRuntime) -> Result<(), Fail> {
+    takes_no_memory(&rt, rt.alloc(), Made::Bridge)
+}
