@@ -5,6 +5,10 @@
 #[cfg(test)]
 mod faults;
 #[cfg(test)]
+mod growths;
+#[cfg(test)]
+mod must;
+#[cfg(test)]
 mod reports;
 #[cfg(test)]
 mod sending;

@@ -5,7 +5,7 @@ use bridge_refusing::RefusesOne;
 use bridge_report::{ReportFault, report, section, summary, write_report};
 use bridge_run::{Departure, Outcome, View};
 use bridge_trials::runs::{CAUGHT, NO_FLAGS};
-use std::alloc::{AllocError, Allocator, Global};
+use std::alloc::{AllocError, Allocator};
 use std::process::Abort;
 use std::test::Fail;
 
@@ -46,44 +46,67 @@ fn told<A: Allocator + Copy>(alloc: A, frames: u64) -> Result<Outcome<A>, AllocE
     Ok(Outcome { filters, ports })
 }
 
-#[test]
-fn a_report_stands_behind_what_its_writer_holds(rt: HostRuntime) -> Result<(), Fail> {
-    let alloc = rt.alloc();
-    let outcome = told(alloc, 10_000)?;
-    let text = report(alloc, &outcome)?;
+/// Tests the report of a long outcome behind what its writer holds.
+fn stands_behind<A: Allocator + Copy>(
+    rt: &impl Abort,
+    alloc: A,
+    outcome: &Outcome<A>,
+) -> Result<(), Fail> {
+    let text = report(alloc, outcome)?;
     assert!(rt; text.len() > 262_144, "more than is held back");
     let before = Vec::from_slice(alloc, &[1, 2, 3])?;
-    let written = write_report(alloc, &outcome, before)?;
+    let written = write_report(alloc, outcome, before)?;
     assert!(rt; written.len() > 3);
     assert!(rt; written.starts_with(&[1, 2, 3]), "what it held");
     assert!(rt; &written[3..] == text.as_bytes(), "the report");
     Ok(())
 }
 
+fn long_stands_behind<A: Allocator + Copy>(rt: &impl Abort, alloc: A) -> Result<(), Fail> {
+    let outcome = told(alloc, 10_000)?;
+    stands_behind(rt, alloc, &outcome)
+}
+
+#[test]
+fn a_report_stands_behind_what_its_writer_holds(rt: HostRuntime) -> Result<(), Fail> {
+    long_stands_behind(&rt, rt.alloc())
+}
+
 /// Tests a report into a writer with room for so many octets.
-fn written_within(
-    alloc: Global,
-    outcome: &Outcome<Global>,
+fn written_within<A: Allocator + Copy>(
+    alloc: A,
+    outcome: &Outcome<A>,
     room: usize,
     wanted: Option<ReportFault>,
 ) -> Result<(), Fail> {
-    let mut octets = Vec::new(alloc);
-    octets.resize(room, 0)?;
+    let mut octets = Vec::from_elem(alloc, 0u8, room)?;
     let ended = write_report(alloc, outcome, octets.as_mut_slice()).err();
     same(&ended, &wanted, "a report")
 }
 
+/// Tests a report into writers with less room than it has octets, and into one with as much.
+fn breaks_anywhere<A: Allocator + Copy>(alloc: A, outcome: &Outcome<A>) -> Result<(), Fail> {
+    let len = report(alloc, outcome)?.len();
+    for room in 0..len {
+        written_within(alloc, outcome, room, Some(ReportFault::Broken))?;
+    }
+    written_within(alloc, outcome, len, None)
+}
+
+fn short_breaks<A: Allocator + Copy>(alloc: A) -> Result<(), Fail> {
+    let outcome = told(alloc, 1)?;
+    breaks_anywhere(alloc, &outcome)
+}
+
+fn long_breaks<A: Allocator + Copy>(alloc: A) -> Result<(), Fail> {
+    let outcome = told(alloc, 10_000)?;
+    written_within(alloc, &outcome, 262_200, Some(ReportFault::Broken))
+}
+
 #[test]
 fn a_writer_fails_anywhere(rt: HostRuntime) -> Result<(), Fail> {
-    let alloc = rt.alloc();
-    let outcome = told(alloc, 1)?;
-    let len = report(alloc, &outcome)?.len();
-    for room in 0..len {
-        written_within(alloc, &outcome, room, Some(ReportFault::Broken))?;
-    }
-    written_within(alloc, &outcome, len, None)?;
-    let long = told(alloc, 10_000)?;
-    written_within(alloc, &long, 262_200, Some(ReportFault::Broken))
+    short_breaks(rt.alloc())?;
+    long_breaks(rt.alloc())
 }
 
 /// A text of what a run tells, by a number: whether it was refused.
@@ -105,15 +128,25 @@ fn fails<A: Allocator + Copy>(
     }
 }
 
+/// Whether a text of what a run tells was refused, where what it tells was made.
+fn fails_in<A: Allocator + Copy>(
+    alloc: A,
+    room: &mut [u8],
+    text: u8,
+) -> Result<Option<bool>, Fail> {
+    match told(alloc, 2) {
+        Ok(outcome) => Ok(Some(fails(alloc, &outcome, room, text)?)),
+        Err(_) => Ok(None),
+    }
+}
+
 /// How many growths a text takes, with each refused in turn.
-fn refused_in_turn(alloc: Global, text: u8) -> Result<u32, Fail> {
-    let mut room = Vec::new(alloc);
-    room.resize(1_000, 0)?;
+fn refused_in_turn<A: Allocator + Copy>(alloc: A, text: u8) -> Result<u32, Fail> {
+    let mut room = Vec::from_elem(alloc, 0u8, 1_000)?;
     let mut stopped = 0u32;
     for n in 1..1_000u64 {
         let gate = RefusesOne::new(alloc, n);
-        if let Ok(outcome) = told(&gate, 2) {
-            let failed = fails(&gate, &outcome, &mut room, text)?;
+        if let Some(failed) = fails_in(&gate, &mut room, text)? {
             same(&failed, &gate.refused(), "an answer")?;
             if !failed {
                 return Ok(stopped);
@@ -126,10 +159,12 @@ fn refused_in_turn(alloc: Global, text: u8) -> Result<u32, Fail> {
 
 #[test]
 fn each_growth_of_a_report_is_refused_in_turn(rt: HostRuntime) -> Result<(), Fail> {
-    let alloc = rt.alloc();
-    assert!(rt; refused_in_turn(alloc, 0)? > 1, "growths of a section");
-    assert!(rt; refused_in_turn(alloc, 1)? > 1, "growths of a report");
-    assert!(rt; refused_in_turn(alloc, 2)? > 0, "growths of a line");
-    assert_eq!(rt; refused_in_turn(alloc, 3)?, 1, "the growth of a writer");
+    assert!(rt; refused_in_turn(rt.alloc(), 0)? > 1, "growths of a section");
+    assert!(rt; refused_in_turn(rt.alloc(), 1)? > 1, "growths of a report");
+    assert!(rt; refused_in_turn(rt.alloc(), 2)? > 0, "growths of a line");
+    assert!(rt;
+        refused_in_turn(rt.alloc(), 3)? == 1,
+        "the growth of a writer"
+    );
     Ok(())
 }

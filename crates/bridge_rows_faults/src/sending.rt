@@ -1,16 +1,17 @@
 //! Frames of both filters: when they leave, where they go, and which are dropped.
-use bridge_check::CheckFault;
+use bridge_check::{Accepted, CheckFault};
 use bridge_drives::same;
 use bridge_events::{Agenda, RowAgenda, TreeAgenda};
 use bridge_port::Refusal::{Full, NeverFits};
-use bridge_run::{Dropped, View};
+use bridge_run::{Dropped, Outcome, View};
 use bridge_trials::frames::{Frame, RESERVED, SHORT, TO_A, TO_B, VID_20, capture, flood, header};
 use bridge_trials::plans::{ROOM_FOR_ONE, SLOW, fault_of, text_of};
 use bridge_trials::runs::{
-    ALONE, CAUGHT, IDLE, NOTHING, PASS, Row, Told, count_of, counts, departed, outcome_of, planned,
-    runs, sums, tells,
+    ALONE, CAUGHT, IDLE, NOTHING, PASS, Row, Start, Told, count_of, counts, departed, outcome_of,
+    planned, runs, sums, tells,
 };
-use std::alloc::Global;
+use std::alloc::{Allocator, Global};
+use std::process::Abort;
 use std::test::Fail;
 
 /// What is told of a frame that passes, but for its departures.
@@ -173,18 +174,24 @@ const TOO_LONG: Row = Row {
     ..LONGEST
 };
 
+const NEVER_FITS: CheckFault = CheckFault::MaxSduNeverFits {
+    filter: 10,
+    port: 3,
+    class: 7,
+};
+
+/// Tests the fault of a plan under which a frame of its maximum never fits.
+fn is_refused<A: Allocator + Copy>(rt: &impl Abort, alloc: A, heap: Global) -> Result<(), Fail> {
+    let text = text_of(alloc, &[SLOW, ("max_sdu = 500", "max_sdu = 586")])?;
+    assert!(rt; fault_of(alloc, heap, &text) == Some(NEVER_FITS));
+    Ok(())
+}
+
 #[test]
 fn a_slow_port_has_a_longest_frame(rt: HostRuntime) -> Result<(), Fail> {
     runs(rt.alloc(), &LONGEST, None)?;
     runs(rt.alloc(), &TOO_LONG, None)?;
-    let text = text_of(rt.alloc(), &[SLOW, ("max_sdu = 500", "max_sdu = 586")])?;
-    let fault = CheckFault::MaxSduNeverFits {
-        filter: 10,
-        port: 3,
-        class: 7,
-    };
-    assert_eq!(rt; fault_of(rt.alloc(), &text), Some(fault));
-    Ok(())
+    is_refused(&rt, rt.alloc(), rt.alloc())
 }
 
 /// A frame to a reserved address, one of another VLAN, and one of 13 octets.
@@ -249,53 +256,65 @@ fn all_but_four(drops: &[Dropped]) -> Result<(), Fail> {
 }
 
 /// Tests what is told of the filter of the flood.
-fn flooded(view: &View<Global>) -> Result<(), Fail> {
+fn flooded<A: Allocator + Copy>(view: &View<A>) -> Result<(), Fail> {
     same(&view.verdicts.len(), &200, "verdicts")?;
     for verdict in &view.verdicts {
         same(verdict, &CAUGHT, "a verdict")?;
     }
     let counted = count_of(&view.counters);
     same(&counted, &(200, (200, 0), (200, 0), 0), "counters")?;
-    departed(
-        &view.departures,
-        &[
-            (1, 3, 500_000, 500_672),
-            (2, 3, 500_672, 501_344),
-            (3, 3, 501_344, 502_016),
-            (4, 3, 502_016, 502_688),
-        ],
-    )?;
+    departed(&view.departures, &FIRST_FOUR)?;
     all_but_four(&view.drops)?;
     same(&view.delay, &Some(500_672), "the longest delay")
 }
 
-/// Tests the flood beside a frame of the protected stream, over an agenda.
-fn floods<G: Agenda + Drop>(alloc: Global) -> Result<(), Fail> {
-    let accepted = planned(alloc, &[])?;
-    let own = capture(alloc, &[(100_000, 60, TO_A)])?;
-    let others = flood(alloc)?;
-    let none = header(alloc)?;
-    let texts = [own.as_slice(), others.as_slice(), none.as_slice()];
-    let left: Option<&[&[Frame]]> = Some(&BESIDE_A_FLOOD);
-    let outcome = outcome_of::<G>(alloc, &accepted, None, texts, false, left)?;
+const FIRST_FOUR: [Start; 4] = [
+    (1, 3, 500_000, 500_672),
+    (2, 3, 500_672, 501_344),
+    (3, 3, 501_344, 502_016),
+    (4, 3, 502_016, 502_688),
+];
+
+const FLOOD_COUNTS: [[u64; 6]; 3] = [
+    [1, 0, 0, 0, 0, 0],
+    [200, 0, 0, 0, 0, 0],
+    [0, 0, 0, 0, 5, 196],
+];
+
+/// Tests what is told of the flood beside a frame of the protected stream.
+fn told_of_a_flood<A: Allocator + Copy>(outcome: &Outcome<A>) -> Result<(), Fail> {
     let [own, others] = outcome.filters.as_slice() else {
         return Err(Fail::from("other filters"));
     };
     same(&(own.0, others.0), &(10, 99), "filters")?;
     tells(&own.1, &ALONE)?;
     flooded(&others.1)?;
-    counts(
-        &outcome.ports,
-        &[
-            [1, 0, 0, 0, 0, 0],
-            [200, 0, 0, 0, 0, 0],
-            [0, 0, 0, 0, 5, 196],
-        ],
-    )
+    counts(&outcome.ports, &FLOOD_COUNTS)
+}
+
+/// Tests the flood under an accepted plan.
+fn floods_under<G: Agenda + Drop, A: Allocator + Copy>(
+    alloc: A,
+    heap: Global,
+    accepted: &Accepted<A>,
+) -> Result<(), Fail> {
+    let own = capture(heap, &[(100_000, 60, TO_A)])?;
+    let others = flood(heap)?;
+    let none = header(heap)?;
+    let texts = [own.as_slice(), others.as_slice(), none.as_slice()];
+    let left: Option<&[&[Frame]]> = Some(&BESIDE_A_FLOOD);
+    let outcome = outcome_of::<G, A>(alloc, heap, accepted, None, texts, false, left)?;
+    told_of_a_flood(&outcome)
+}
+
+/// Tests the flood beside a frame of the protected stream, over an agenda.
+fn floods<G: Agenda + Drop, A: Allocator + Copy>(alloc: A, heap: Global) -> Result<(), Fail> {
+    let accepted = planned(alloc, heap, &[])?;
+    floods_under::<G, A>(alloc, heap, &accepted)
 }
 
 #[test]
 fn a_flood_of_other_frames_changes_nothing(rt: HostRuntime) -> Result<(), Fail> {
-    floods::<RowAgenda>(rt.alloc())?;
-    floods::<TreeAgenda>(rt.alloc())
+    floods::<RowAgenda, _>(rt.alloc(), rt.alloc())?;
+    floods::<TreeAgenda, _>(rt.alloc(), rt.alloc())
 }

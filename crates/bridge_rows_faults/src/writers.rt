@@ -1,6 +1,8 @@
 //! Runs from readers to writers that stop: a capture that is cut, writers without room, and memory that runs out.
 use bridge_capture::CaptureFault;
+use bridge_check::Accepted;
 use bridge_drives::same;
+use bridge_folder::Halted;
 use bridge_refusing::RefusesOne;
 use bridge_stream::RunFault;
 use bridge_trials::frames::{Frame, TO_A, capture, header};
@@ -25,115 +27,213 @@ const HEADER: usize = 24;
 
 const ONE_RECORD: usize = 58;
 
-/// A capture of frames whose last octet is missing.
-fn cut(alloc: Global, frames: &[Frame]) -> Result<Vec<u8>, AllocError> {
+/// A run of two frames on port 1 into writers with room.
+struct Row {
+    /// Whether the last octet of the capture is missing.
+    is_cut: bool,
+    rooms: [usize; 3],
+    /// How it stops, with how many writers come back.
+    stop: Option<(RunFault, usize)>,
+    what: &'static str,
+}
+
+const AMPLE: usize = 1_000;
+
+const CUT_AT_TWO: Option<(RunFault, usize)> = Some((
+    RunFault::Capture {
+        port: 1,
+        fault: CaptureFault::RecordCut(2),
+    },
+    3,
+));
+
+const FIRST: Option<(RunFault, usize)> = Some((RunFault::Write { port: 1 }, 0));
+
+const SECOND: Option<(RunFault, usize)> = Some((RunFault::Write { port: 2 }, 1));
+
+const THIRD: Option<(RunFault, usize)> = Some((RunFault::Write { port: 3 }, 2));
+
+const ROWS: [Row; 10] = [
+    Row {
+        is_cut: false,
+        rooms: [AMPLE; 3],
+        stop: None,
+        what: "room for all",
+    },
+    Row {
+        is_cut: true,
+        rooms: [AMPLE; 3],
+        stop: CUT_AT_TWO,
+        what: "a capture that is cut",
+    },
+    Row {
+        is_cut: false,
+        rooms: [HEADER - 1, AMPLE, AMPLE],
+        stop: FIRST,
+        what: "no room for the first header",
+    },
+    Row {
+        is_cut: true,
+        rooms: [HEADER - 1, AMPLE, AMPLE],
+        stop: FIRST,
+        what: "the first header before the fault of a capture",
+    },
+    Row {
+        is_cut: false,
+        rooms: [AMPLE, HEADER - 1, AMPLE],
+        stop: SECOND,
+        what: "no room for the second header",
+    },
+    Row {
+        is_cut: true,
+        rooms: [AMPLE, HEADER - 1, AMPLE],
+        stop: SECOND,
+        what: "the second header before the fault of a capture",
+    },
+    Row {
+        is_cut: false,
+        rooms: [AMPLE, AMPLE, HEADER - 1],
+        stop: THIRD,
+        what: "no room for the third header",
+    },
+    Row {
+        is_cut: true,
+        rooms: [AMPLE, AMPLE, HEADER - 1],
+        stop: THIRD,
+        what: "the third header before the fault of a capture",
+    },
+    Row {
+        is_cut: false,
+        rooms: [HEADER, HEADER, ONE_RECORD],
+        stop: THIRD,
+        what: "no room for a record",
+    },
+    Row {
+        is_cut: true,
+        rooms: [HEADER; 3],
+        stop: CUT_AT_TWO,
+        what: "nothing left before the look behind the first frame",
+    },
+];
+
+/// A capture of frames, whose last octet may be missing.
+fn text_of<A: Allocator + Copy>(
+    alloc: A,
+    frames: &[Frame],
+    is_cut: bool,
+) -> Result<Vec<u8, A>, AllocError> {
     let mut text = capture(alloc, frames)?;
-    let _ = text.pop();
+    if is_cut {
+        let _ = text.pop();
+    }
     Ok(text)
 }
 
+/// How a run into three slices ends, with how many writers come back.
+fn stop_into<A: Allocator + Copy>(
+    alloc: A,
+    accepted: &Accepted<A>,
+    text: &[u8],
+    none: &[u8],
+    writers: Vec<&mut [u8], A>,
+) -> Result<Option<(RunFault, usize)>, Fail> {
+    let readers = three_of(alloc, text, none, none)?;
+    match transferred(alloc, accepted, None, readers, writers)? {
+        Ok(_) => Ok(None),
+        Err(halted) => Ok(Some((halted.fault, halted.writers.len()))),
+    }
+}
+
 /// How a run of a capture on port 1 into writers with room for so many octets ends, with how many writers come back.
-fn stop_of(
-    alloc: Global,
+fn stop_of<A: Allocator + Copy>(
+    alloc: A,
+    heap: Global,
+    accepted: &Accepted<A>,
     text: &[u8],
     rooms: [usize; 3],
 ) -> Result<Option<(RunFault, usize)>, Fail> {
-    let accepted = planned(alloc, &[])?;
-    let none = header(alloc)?;
-    let mut first = Vec::from_elem(alloc, 0u8, rooms[0])?;
-    let mut second = Vec::from_elem(alloc, 0u8, rooms[1])?;
-    let mut third = Vec::from_elem(alloc, 0u8, rooms[2])?;
-    let readers = three_of(alloc, text, none.as_slice(), none.as_slice())?;
+    let none = header(heap)?;
+    let mut first = Vec::from_elem(heap, 0u8, rooms[0])?;
+    let mut second = Vec::from_elem(heap, 0u8, rooms[1])?;
+    let mut third = Vec::from_elem(heap, 0u8, rooms[2])?;
     let writers = three_of(
         alloc,
         first.as_mut_slice(),
         second.as_mut_slice(),
         third.as_mut_slice(),
     )?;
-    match transferred(alloc, &accepted, None, readers, writers)? {
-        Ok(_) => Ok(None),
-        Err(halted) => Ok(Some((halted.fault, halted.writers.len()))),
-    }
+    stop_into(alloc, accepted, text, &none, writers)
+}
+
+/// Tests a row.
+fn stops<A: Allocator + Copy>(alloc: A, heap: Global, row: &Row) -> Result<(), Fail> {
+    let accepted = planned(alloc, heap, &[])?;
+    let text = text_of(heap, TWO, row.is_cut)?;
+    let stop = stop_of(alloc, heap, &accepted, &text, row.rooms)?;
+    same(&stop, &row.stop, row.what)
 }
 
 #[test]
 fn a_writer_without_room_comes_first(rt: HostRuntime) -> Result<(), Fail> {
-    let alloc = rt.alloc();
-    let whole = capture(alloc, TWO)?;
-    let part = cut(alloc, TWO)?;
-    let ample = [1_000; 3];
-    let cut_at_two = RunFault::Capture {
-        port: 1,
-        fault: CaptureFault::RecordCut(2),
-    };
-    same(&stop_of(alloc, &whole, ample)?, &None, "room for all")?;
-    same(
-        &stop_of(alloc, &part, ample)?,
-        &Some((cut_at_two, 3)),
-        "a capture that is cut",
-    )?;
-    for (place, port) in [(0, 1), (1, 2), (2, 3)] {
-        let mut rooms = ample;
-        rooms[place] = HEADER - 1;
-        let stop = Some((RunFault::Write { port }, place));
-        same(
-            &stop_of(alloc, &whole, rooms)?,
-            &stop,
-            "no room for a header",
-        )?;
-        same(
-            &stop_of(alloc, &part, rooms)?,
-            &stop,
-            "before the fault of a capture",
-        )?;
-    }
-    let record = [HEADER, HEADER, ONE_RECORD];
-    let third = Some((RunFault::Write { port: 3 }, 2));
-    same(
-        &stop_of(alloc, &whole, record)?,
-        &third,
-        "no room for a record",
-    )?;
-    same(
-        &stop_of(alloc, &part, [HEADER; 3])?,
-        &Some((cut_at_two, 3)),
-        "nothing left before the look behind the first frame",
-    )
-}
-
-#[test]
-fn what_left_is_written_before_a_fault(rt: HostRuntime) -> Result<(), Fail> {
-    let alloc = rt.alloc();
-    let accepted = planned(alloc, &[])?;
-    let part = cut(alloc, THREE)?;
-    let none = header(alloc)?;
-    let readers = three_of(alloc, part.as_slice(), none.as_slice(), none.as_slice())?;
-    let writers = three_of(
-        alloc,
-        Vec::<u8>::new(alloc),
-        Vec::new(alloc),
-        Vec::new(alloc),
-    )?;
-    let Err(halted) = transferred(alloc, &accepted, None, readers, writers)? else {
-        return Err(Fail::from("a capture that is cut"));
-    };
-    assert_eq!(rt; halted.writers.len(), 3);
-    for (octets, len) in halted.writers.iter().zip([HEADER, HEADER, ONE_RECORD]) {
-        assert_eq!(rt; octets.len(), len);
+    for row in &ROWS {
+        stops(rt.alloc(), rt.alloc(), row)?;
     }
     Ok(())
 }
 
-/// A run from readers to writers under the plan, in an allocator: whether memory ran out.
-fn runs_out<A: Allocator + Copy>(
+/// How a run of a capture on port 1 into growing writers stops, in which a text may be missing.
+fn halted_of<A: Allocator + Copy>(
     alloc: A,
     heap: Global,
+    accepted: &Accepted<A>,
+    text: &[u8],
+) -> Result<Halted<Vec<u8, A>, A>, Fail> {
+    let none = header(heap)?;
+    let readers = three_of(alloc, text, none.as_slice(), none.as_slice())?;
+    let writers = three_of(
+        alloc,
+        Vec::<u8, A>::new(alloc),
+        Vec::new(alloc),
+        Vec::new(alloc),
+    )?;
+    match transferred(alloc, accepted, None, readers, writers)? {
+        Ok(_) => Err(Fail::from("a capture that is cut")),
+        Err(halted) => Ok(halted),
+    }
+}
+
+/// Tests how many octets each writer has.
+fn are_written<A: Allocator + Copy>(rt: &impl Abort, writers: &[Vec<u8, A>]) {
+    assert!(rt; writers.len() == 3);
+    for (octets, len) in writers.iter().zip(&[HEADER, HEADER, ONE_RECORD]) {
+        assert!(rt; octets.len() == *len);
+    }
+}
+
+fn writes_before_a_fault<A: Allocator + Copy>(
+    rt: &impl Abort,
+    alloc: A,
+    heap: Global,
+) -> Result<(), Fail> {
+    let accepted = planned(alloc, heap, &[])?;
+    let part = text_of(heap, THREE, true)?;
+    let halted = halted_of(alloc, heap, &accepted, &part)?;
+    are_written(rt, &halted.writers);
+    Ok(())
+}
+
+#[test]
+fn what_left_is_written_before_a_fault(rt: HostRuntime) -> Result<(), Fail> {
+    writes_before_a_fault(&rt, rt.alloc(), rt.alloc())
+}
+
+/// A run from readers to writers under an accepted plan, in an allocator: whether memory ran out.
+fn runs_out_under<A: Allocator + Copy>(
+    alloc: A,
+    accepted: &Accepted<A>,
     text: &[u8],
     none: &[u8],
 ) -> Result<bool, Fail> {
-    let Some(accepted) = accepted_of(alloc, heap, BASE) else {
-        return Ok(true);
-    };
     let Ok(readers) = three_of(alloc, text, none, none) else {
         return Ok(true);
     };
@@ -145,7 +245,7 @@ fn runs_out<A: Allocator + Copy>(
     ) else {
         return Ok(true);
     };
-    match transferred(alloc, &accepted, None, readers, writers)? {
+    match transferred(alloc, accepted, None, readers, writers)? {
         Ok(_) => Ok(false),
         Err(halted) => match halted.fault {
             RunFault::NoMemory | RunFault::Write { .. } => Ok(true),
@@ -154,21 +254,38 @@ fn runs_out<A: Allocator + Copy>(
     }
 }
 
-#[test]
-fn each_growth_between_readers_and_writers_is_refused_in_turn(rt: HostRuntime) -> Result<(), Fail> {
-    let alloc = rt.alloc();
-    let whole = capture(alloc, TWO)?;
-    let none = header(alloc)?;
+/// A run from readers to writers, in an allocator: whether memory ran out.
+fn runs_out<A: Allocator + Copy>(
+    alloc: A,
+    heap: Global,
+    text: &[u8],
+    none: &[u8],
+) -> Result<bool, Fail> {
+    match accepted_of(alloc, heap, BASE) {
+        Some(accepted) => runs_out_under(alloc, &accepted, text, none),
+        None => Ok(true),
+    }
+}
+
+/// How many growths a run takes, with each refused in turn.
+fn refused_in_turn<A: Allocator + Copy>(alloc: A, heap: Global) -> Result<u32, Fail> {
+    let whole = capture(heap, TWO)?;
+    let none = header(heap)?;
     let mut stopped = 0u32;
     for n in 1..1_000u64 {
         let gate = RefusesOne::new(alloc, n);
-        let failed = runs_out(&gate, alloc, &whole, &none)?;
+        let failed = runs_out(&gate, heap, &whole, &none)?;
         same(&failed, &gate.refused(), "an answer")?;
         if !failed {
-            assert!(rt; stopped > 20, "{stopped} growths");
-            return Ok(());
+            return Ok(stopped);
         }
         stopped = stopped.saturating_add(1);
     }
     Err(Fail::from("some growth was always refused"))
+}
+
+#[test]
+fn each_growth_between_readers_and_writers_is_refused_in_turn(rt: HostRuntime) -> Result<(), Fail> {
+    assert!(rt; refused_in_turn(rt.alloc(), rt.alloc())? > 20, "growths");
+    Ok(())
 }

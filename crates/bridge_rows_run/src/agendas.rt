@@ -5,18 +5,18 @@ use std::process::Abort;
 /// Gives and takes moments, and tests which is the least.
 fn least_of<G: Agenda + Drop>(rt: &impl Abort) {
     let mut agenda = G::empty();
-    assert_eq!(rt; agenda.least(), None);
+    assert!(rt; agenda.least() == None);
     agenda.set(3, 500);
     agenda.set(1, 500);
     agenda.set(2, 400);
-    assert_eq!(rt; agenda.least(), Some((2, 400)));
+    assert!(rt; agenda.least() == Some((2, 400)));
     agenda.clear(2);
-    assert_eq!(rt; agenda.least(), Some((1, 500)));
+    assert!(rt; agenda.least() == Some((1, 500)));
     agenda.set(1, 600);
-    assert_eq!(rt; agenda.least(), Some((3, 500)));
+    assert!(rt; agenda.least() == Some((3, 500)));
     agenda.clear(1);
     agenda.clear(3);
-    assert_eq!(rt; agenda.least(), None);
+    assert!(rt; agenda.least() == None);
 }
 
 #[test]

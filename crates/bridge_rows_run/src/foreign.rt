@@ -2,7 +2,7 @@
 ghost use Rattle.std.specs.Prelude.{◌<◌};
 
 use bridge_trials::frames::{header, push_record};
-use std::alloc::{AllocError, Global};
+use std::alloc::{AllocError, Allocator};
 
 /// Numbers one after another, the same ones for the same seed.
 #[derive(Drop)]
@@ -62,7 +62,10 @@ fn octets(numbers: &mut Numbers) -> [u8; 18] {
 }
 
 /// A capture of thirty frames, of 14 to 1,522 octets each, at times that do not fall.
-pub(crate) fn foreign(alloc: Global, numbers: &mut Numbers) -> Result<Vec<u8>, AllocError> {
+pub(crate) fn foreign<A: Allocator + Copy>(
+    alloc: A,
+    numbers: &mut Numbers,
+) -> Result<Vec<u8, A>, AllocError> {
     let mut text = header(alloc)?;
     let mut at = 0u32;
     for _ in 0..30 {

@@ -1,17 +1,23 @@
 //! Sections of reports to the octet, over either agenda.
 use crate::foreign::{Numbers, foreign};
 use bridge_check::Accepted;
+use bridge_drives::same;
 use bridge_events::{Agenda, RowAgenda, TreeAgenda};
 use bridge_report::{report, section, write_report};
 use bridge_run::Outcome;
-use bridge_trials::frames::{TO_A, capture, flood, header};
+use bridge_trials::frames::{Frame, TO_A, capture, flood, header};
 use bridge_trials::plans::{BASE, BLOCKS, Change, ONE_FRAME, ROOM_FOR_ONE, accepted_of};
 use bridge_trials::runs::{outcome_of, planned};
-use std::alloc::Global;
+use std::alloc::{Allocator, Global};
+use std::process::Abort;
 use std::test::Fail;
 
 /// Tests that a report begins with a section, and that it is the same where it is written.
-fn begins_with(alloc: Global, outcome: &Outcome<Global>, wanted: &str) -> Result<(), Fail> {
+fn begins_with<A: Allocator + Copy>(
+    alloc: A,
+    outcome: &Outcome<A>,
+    wanted: &str,
+) -> Result<(), Fail> {
     let text = report(alloc, outcome)?;
     if !text.as_str().starts_with(wanted) {
         return Err(Fail::from("a report with another section"));
@@ -23,28 +29,51 @@ fn begins_with(alloc: Global, outcome: &Outcome<Global>, wanted: &str) -> Result
     Ok(())
 }
 
+/// Tests the section of filter 10 of what a run tells.
+fn is_shown<A: Allocator + Copy>(alloc: A, outcome: &Outcome<A>, wanted: &str) -> Result<(), Fail> {
+    match section(alloc, outcome, 10)? {
+        Some(text) => same(&text.as_str(), &wanted, "a section"),
+        None => Err(Fail::from("no section")),
+    }
+}
+
 /// Tests the section of filter 10 of a run over an agenda.
-fn shows_over<G: Agenda + Drop>(
-    alloc: Global,
-    accepted: &Accepted<Global>,
+fn shows_over<G: Agenda + Drop, A: Allocator + Copy>(
+    alloc: A,
+    heap: Global,
+    accepted: &Accepted<A>,
     texts: [&[u8]; 3],
     wanted: &str,
 ) -> Result<(), Fail> {
-    let outcome = outcome_of::<G>(alloc, accepted, None, texts, false, None)?;
-    let Some(text) = section(alloc, &outcome, 10)? else {
-        return Err(Fail::from("no section"));
-    };
-    if text.as_str() != wanted {
-        return Err(Fail::new(format_args!("{text}")));
-    }
+    let outcome = outcome_of::<G, A>(alloc, heap, accepted, None, texts, false, None)?;
+    is_shown(alloc, &outcome, wanted)?;
     begins_with(alloc, &outcome, wanted)
 }
 
 /// Tests the section of filter 10 of a run over each agenda.
-fn shows(alloc: Global, changes: &[Change], texts: [&[u8]; 3], wanted: &str) -> Result<(), Fail> {
-    let accepted = planned(alloc, changes)?;
-    shows_over::<RowAgenda>(alloc, &accepted, texts, wanted)?;
-    shows_over::<TreeAgenda>(alloc, &accepted, texts, wanted)
+fn shows<A: Allocator + Copy>(
+    alloc: A,
+    heap: Global,
+    changes: &[Change],
+    texts: [&[u8]; 3],
+    wanted: &str,
+) -> Result<(), Fail> {
+    let accepted = planned(alloc, heap, changes)?;
+    shows_over::<RowAgenda, A>(alloc, heap, &accepted, texts, wanted)?;
+    shows_over::<TreeAgenda, A>(alloc, heap, &accepted, texts, wanted)
+}
+
+/// Tests the section of filter 10 of a run with frames on port 1 alone.
+fn shows_alone<A: Allocator + Copy>(
+    alloc: A,
+    heap: Global,
+    changes: &[Change],
+    frames: &[Frame],
+    wanted: &str,
+) -> Result<(), Fail> {
+    let own = capture(heap, frames)?;
+    let none = header(heap)?;
+    shows(alloc, heap, changes, [&own, &none, &none], wanted)
 }
 
 const NO_FRAME: &str =
@@ -52,49 +81,65 @@ const NO_FRAME: &str =
 
 #[test]
 fn no_frame_has_no_line(rt: HostRuntime) -> Result<(), Fail> {
-    let alloc = rt.alloc();
-    let none = header(alloc)?;
-    shows(alloc, &[], [&none, &none, &none], NO_FRAME)
+    shows_alone(rt.alloc(), rt.alloc(), &[], &[], NO_FRAME)
 }
 
 /// A frame at 100,000 that leaves port 3 at once.
 const ONE: &str =
     "filter 10 protected\nmatching 1\nsdu passed 1 refused 0\ngate passed 1 refused 0\nred 0\nflags blocked no rx no octets no red no\nbucket none\nqueued 1 full 0 never 0\ndelay 672\nframe 1 pass\nout 1 port 3 start 100000 done 100672\nend\n";
 
+/// A frame of the protected stream.
+const SENT: &[Frame] = &[(100_000, 60, TO_A)];
+
+/// Tests that other frames on port 2 change nothing of what is told of one frame.
+fn shows_one<A: Allocator + Copy>(alloc: A, heap: Global, others: &[u8]) -> Result<(), Fail> {
+    let one = capture(heap, SENT)?;
+    let none = header(heap)?;
+    shows(alloc, heap, &[], [&one, others, &none], ONE)
+}
+
+/// Tests that of one frame beside the flood.
+fn shows_beside_a_flood<A: Allocator + Copy>(alloc: A, heap: Global) -> Result<(), Fail> {
+    let many = flood(heap)?;
+    shows_one(alloc, heap, &many)
+}
+
+/// Tests that of one frame beside the same one.
+fn shows_beside_another<A: Allocator + Copy>(alloc: A, heap: Global) -> Result<(), Fail> {
+    let one = capture(heap, SENT)?;
+    shows_one(alloc, heap, &one)
+}
+
 #[test]
 fn other_frames_change_no_section(rt: HostRuntime) -> Result<(), Fail> {
-    let alloc = rt.alloc();
-    let none = header(alloc)?;
-    let one = capture(alloc, &[(100_000, 60, TO_A)])?;
-    let many = flood(alloc)?;
-    shows(alloc, &[], [&one, &none, &none], ONE)?;
-    shows(alloc, &[], [&one, &many, &none], ONE)?;
-    shows(alloc, &[], [&one, &one, &none], ONE)
+    shows_alone(rt.alloc(), rt.alloc(), &[], SENT, ONE)?;
+    shows_beside_a_flood(rt.alloc(), rt.alloc())?;
+    shows_beside_another(rt.alloc(), rt.alloc())
+}
+
+/// Tests that any frames on the ports 2 and 3 change nothing of what is told of one frame.
+fn shows_beside_any<A: Allocator + Copy>(
+    alloc: A,
+    heap: Global,
+    numbers: &mut Numbers,
+) -> Result<(), Fail> {
+    let one = capture(heap, SENT)?;
+    let second = foreign(heap, numbers)?;
+    let third = foreign(heap, numbers)?;
+    shows(alloc, heap, &[], [&one, &second, &third], ONE)
 }
 
 #[test]
 fn any_frames_change_no_section(rt: HostRuntime) -> Result<(), Fail> {
-    let alloc = rt.alloc();
-    let one = capture(alloc, &[(100_000, 60, TO_A)])?;
     let mut numbers = Numbers::of(1);
     for _ in 0..100 {
-        let second = foreign(alloc, &mut numbers)?;
-        let third = foreign(alloc, &mut numbers)?;
-        shows(alloc, &[], [&one, &second, &third], ONE)?;
+        shows_beside_any(rt.alloc(), rt.alloc(), &mut numbers)?;
     }
     Ok(())
 }
 
-#[test]
-fn any_frames_come_to_the_other_filter(rt: HostRuntime) -> Result<(), Fail> {
-    let alloc = rt.alloc();
-    let accepted = planned(alloc, &[])?;
-    let none = header(alloc)?;
-    let mut numbers = Numbers::of(1);
-    let second = foreign(alloc, &mut numbers)?;
-    let third = foreign(alloc, &mut numbers)?;
-    let texts = [none.as_slice(), second.as_slice(), third.as_slice()];
-    let outcome = outcome_of::<TreeAgenda>(alloc, &accepted, None, texts, false, None)?;
+/// Tests that frames come to filter 99 and leave.
+fn are_caught<A: Allocator + Copy>(rt: &impl Abort, outcome: &Outcome<A>) -> Result<(), Fail> {
     let [_, others] = outcome.filters.as_slice() else {
         return Err(Fail::from("other filters"));
     };
@@ -103,75 +148,108 @@ fn any_frames_come_to_the_other_filter(rt: HostRuntime) -> Result<(), Fail> {
     Ok(())
 }
 
+/// What a run of captures on the ports 2 and 3 tells.
+fn outcome_of_others<A: Allocator + Copy>(
+    alloc: A,
+    heap: Global,
+    second: &[u8],
+    third: &[u8],
+) -> Result<Outcome<A>, Fail> {
+    let accepted = planned(alloc, heap, &[])?;
+    let none = header(heap)?;
+    let texts = [none.as_slice(), second, third];
+    outcome_of::<TreeAgenda, A>(alloc, heap, &accepted, None, texts, false, None)
+}
+
+fn catches_any<A: Allocator + Copy>(rt: &impl Abort, alloc: A, heap: Global) -> Result<(), Fail> {
+    let mut numbers = Numbers::of(1);
+    let second = foreign(heap, &mut numbers)?;
+    let third = foreign(heap, &mut numbers)?;
+    let outcome = outcome_of_others(alloc, heap, &second, &third)?;
+    are_caught(rt, &outcome)
+}
+
+#[test]
+fn any_frames_come_to_the_other_filter(rt: HostRuntime) -> Result<(), Fail> {
+    catches_any(&rt, rt.alloc(), rt.alloc())
+}
+
 /// Frames of the greatest length, one above it, and a short one that is blocked.
 const BLOCKED: &str =
     "filter 10 protected\nmatching 3\nsdu passed 1 refused 1\ngate passed 1 refused 0\nred 0\nflags blocked yes rx no octets no red no\nbucket none\nqueued 1 full 0 never 0\ndelay 4320\nframe 1 pass\nframe 2 oversize\nframe 3 blocked\nout 1 port 3 start 10000 done 14320\nend\n";
 
+const OVERSIZED: &[Frame] = &[(10_000, 516, TO_A), (20_000, 517, TO_A), (30_000, 60, TO_A)];
+
 #[test]
 fn a_blocked_filter_has_its_section(rt: HostRuntime) -> Result<(), Fail> {
-    let alloc = rt.alloc();
-    let none = header(alloc)?;
-    let own = capture(
-        alloc,
-        &[(10_000, 516, TO_A), (20_000, 517, TO_A), (30_000, 60, TO_A)],
-    )?;
-    shows(alloc, &[BLOCKS], [&own, &none, &none], BLOCKED)
+    shows_alone(rt.alloc(), rt.alloc(), &[BLOCKS], OVERSIZED, BLOCKED)
 }
 
 /// A yellow frame and a red one.
 const RED: &str =
     "filter 10 protected\nmatching 2\nsdu passed 2 refused 0\ngate passed 2 refused 0\nred 1\nflags blocked no rx no octets no red no\nbucket committed 0 excess 0 at 200000\nqueued 1 full 0 never 0\ndelay 672\nframe 1 pass-eligible\nframe 2 red\nout 1 port 3 start 100000 done 100672\nend\n";
 
+const METERED: &[Frame] = &[(100_000, 60, TO_A), (200_000, 60, TO_A)];
+
 #[test]
 fn a_meter_has_its_line(rt: HostRuntime) -> Result<(), Fail> {
-    let alloc = rt.alloc();
-    let none = header(alloc)?;
-    let own = capture(alloc, &[(100_000, 60, TO_A), (200_000, 60, TO_A)])?;
-    shows(alloc, &[ONE_FRAME], [&own, &none, &none], RED)
+    shows_alone(rt.alloc(), rt.alloc(), &[ONE_FRAME], METERED, RED)
 }
 
 /// Two frames at one moment, for a queue with room for one.
 const FULL: &str =
     "filter 10 protected\nmatching 2\nsdu passed 2 refused 0\ngate passed 2 refused 0\nred 0\nflags blocked no rx no octets no red no\nbucket none\nqueued 1 full 1 never 0\ndelay 672\nframe 1 pass\nframe 2 pass\ndrop 2 port 3 full\nout 1 port 3 start 100000 done 100672\nend\n";
 
+const QUEUED: &[Frame] = &[(100_000, 60, TO_A), (100_000, 60, TO_A)];
+
 #[test]
 fn a_drop_has_its_line(rt: HostRuntime) -> Result<(), Fail> {
-    let alloc = rt.alloc();
-    let none = header(alloc)?;
-    let own = capture(alloc, &[(100_000, 60, TO_A), (100_000, 60, TO_A)])?;
-    shows(alloc, &[ROOM_FOR_ONE], [&own, &none, &none], FULL)
+    shows_alone(rt.alloc(), rt.alloc(), &[ROOM_FOR_ONE], QUEUED, FULL)
 }
 
-/// Tests the report of a run under a plan without a filter.
-fn shows_nothing<G: Agenda + Drop>(
-    alloc: Global,
-    accepted: &Accepted<Global>,
-    one: &[u8],
-    none: &[u8],
-) -> Result<(), Fail> {
-    let outcome = outcome_of::<G>(alloc, accepted, None, [one, none, none], false, None)?;
-    let text = report(alloc, &outcome)?;
-    let written = write_report(alloc, &outcome, Vec::new(alloc))?;
+/// Tests the report of a run that has no filter.
+fn is_empty<A: Allocator + Copy>(alloc: A, outcome: &Outcome<A>) -> Result<(), Fail> {
+    let text = report(alloc, outcome)?;
+    let written = write_report(alloc, outcome, Vec::new(alloc))?;
     if !text.is_empty() || !written.is_empty() {
         return Err(Fail::from("a report on no filter"));
     }
-    match section(alloc, &outcome, 10)? {
+    match section(alloc, outcome, 10)? {
         None => Ok(()),
         Some(_) => Err(Fail::from("a section of no filter")),
     }
 }
 
-#[test]
-fn no_filter_has_no_section(rt: HostRuntime) -> Result<(), Fail> {
-    let alloc = rt.alloc();
-    let Some((before, _)) = BASE.split_once("[[filter]]") else {
-        return Err(Fail::from("a plan without a filter"));
-    };
-    let Some(accepted) = accepted_of(alloc, alloc, before) else {
+/// Tests the report of a run over an agenda under a plan without a filter.
+fn shows_nothing<G: Agenda + Drop, A: Allocator + Copy>(
+    alloc: A,
+    heap: Global,
+    accepted: &Accepted<A>,
+) -> Result<(), Fail> {
+    let one = capture(heap, SENT)?;
+    let none = header(heap)?;
+    let texts = [one.as_slice(), &none, &none];
+    let outcome = outcome_of::<G, A>(alloc, heap, accepted, None, texts, false, None)?;
+    is_empty(alloc, &outcome)
+}
+
+/// The plan without its filters, where it is accepted.
+fn without_filter<A: Allocator + Copy>(alloc: A, heap: Global) -> Option<Accepted<A>> {
+    match BASE.split_once("[[filter]]") {
+        Some((before, _)) => accepted_of(alloc, heap, before),
+        None => None,
+    }
+}
+
+fn shows_no_filter<A: Allocator + Copy>(alloc: A, heap: Global) -> Result<(), Fail> {
+    let Some(accepted) = without_filter(alloc, heap) else {
         return Err(Fail::from("a plan that is not accepted"));
     };
-    let one = capture(alloc, &[(100_000, 60, TO_A)])?;
-    let none = header(alloc)?;
-    shows_nothing::<RowAgenda>(alloc, &accepted, &one, &none)?;
-    shows_nothing::<TreeAgenda>(alloc, &accepted, &one, &none)
+    shows_nothing::<RowAgenda, A>(alloc, heap, &accepted)?;
+    shows_nothing::<TreeAgenda, A>(alloc, heap, &accepted)
+}
+
+#[test]
+fn no_filter_has_no_section(rt: HostRuntime) -> Result<(), Fail> {
+    shows_no_filter(rt.alloc(), rt.alloc())
 }

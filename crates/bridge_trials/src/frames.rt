@@ -1,6 +1,6 @@
 //! Frames, and captures that hold them.
 pub use bridge_drives::Frame;
-use std::alloc::{AllocError, Global};
+use std::alloc::{AllocError, Allocator};
 
 /// The head of a tagged frame of VLAN 10 to 02-00-00-00-00-0A.
 pub const TO_A: &[u8] = &[
@@ -39,8 +39,8 @@ fn seconds_of(at: u64) -> u32 {
 }
 
 /// Adds a record: its seconds, its fraction of a second in ns, the frame's length and its octets.
-pub fn push_record(
-    text: &mut Vec<u8>,
+pub fn push_record<A: Allocator>(
+    text: &mut Vec<u8, A>,
     seconds: u32,
     fraction: u32,
     len: u32,
@@ -54,7 +54,7 @@ pub fn push_record(
 }
 
 /// A capture without a record.
-pub fn header(alloc: Global) -> Result<Vec<u8>, AllocError> {
+pub fn header<A: Allocator + Copy>(alloc: A) -> Result<Vec<u8, A>, AllocError> {
     Vec::from_slice(
         alloc,
         &[
@@ -65,14 +65,14 @@ pub fn header(alloc: Global) -> Result<Vec<u8>, AllocError> {
 }
 
 /// Adds a frame.
-pub fn push_frame(text: &mut Vec<u8>, frame: Frame) -> Result<(), AllocError> {
+pub fn push_frame<A: Allocator>(text: &mut Vec<u8, A>, frame: Frame) -> Result<(), AllocError> {
     let (at, len, octets) = frame;
     let fraction = (at % 1_000_000_000) as u32;
     push_record(text, seconds_of(at), fraction, len, octets)
 }
 
 /// The capture of these frames.
-pub fn capture(alloc: Global, frames: &[Frame]) -> Result<Vec<u8>, AllocError> {
+pub fn capture<A: Allocator + Copy>(alloc: A, frames: &[Frame]) -> Result<Vec<u8, A>, AllocError> {
     let mut text = header(alloc)?;
     for frame in frames {
         push_frame(&mut text, *frame)?;
@@ -81,7 +81,7 @@ pub fn capture(alloc: Global, frames: &[Frame]) -> Result<Vec<u8>, AllocError> {
 }
 
 /// A capture of 200 frames, one right behind the other.
-pub fn flood(alloc: Global) -> Result<Vec<u8>, AllocError> {
+pub fn flood<A: Allocator + Copy>(alloc: A) -> Result<Vec<u8, A>, AllocError> {
     let mut text = header(alloc)?;
     for n in 0..200u64 {
         push_frame(&mut text, (672 * n, 60, TO_A))?;

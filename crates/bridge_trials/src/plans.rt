@@ -94,7 +94,7 @@ pub const ROOM_FOR_ONE: Change = (
 pub const SLOW: Change = ("number = 3\nmbps = 1000", "number = 3\nmbps = 10");
 
 /// A text with what stands in the place of a part of it.
-fn changed(alloc: Global, text: &str, change: Change) -> Result<String, Fail> {
+fn changed<A: Allocator + Copy>(alloc: A, text: &str, change: Change) -> Result<String<A>, Fail> {
     match text.split_once(change.0) {
         Some((before, after)) => {
             let put = change.1;
@@ -105,7 +105,7 @@ fn changed(alloc: Global, text: &str, change: Change) -> Result<String, Fail> {
 }
 
 /// The text of the plan after these changes.
-pub fn text_of(alloc: Global, changes: &[Change]) -> Result<String, Fail> {
+pub fn text_of<A: Allocator + Copy>(alloc: A, changes: &[Change]) -> Result<String<A>, Fail> {
     let mut text = String::from_str(alloc, BASE)?;
     for change in changes {
         text = changed(alloc, &text, *change)?;
@@ -122,8 +122,8 @@ pub fn accepted_of<A: Allocator + Copy>(alloc: A, heap: Global, text: &str) -> O
 }
 
 /// The fault of the plan of a text, where it is not accepted.
-pub fn fault_of(alloc: Global, text: &str) -> Option<CheckFault> {
-    let Ok(plan) = plan_of(alloc, alloc, text.as_bytes()) else {
+pub fn fault_of<A: Allocator + Copy>(alloc: A, heap: Global, text: &str) -> Option<CheckFault> {
+    let Ok(plan) = plan_of(alloc, heap, text.as_bytes()) else {
         return None;
     };
     match check(alloc, plan) {

@@ -188,7 +188,7 @@ pub fn counts(got: &[(u8, PortCount)], wanted: &[[u64; 6]]) -> Result<(), Fail> 
 }
 
 /// Tests all that a run tells.
-pub fn all_told(outcome: &Outcome<Global>, row: &Row) -> Result<(), Fail> {
+pub fn all_told<A: Allocator + Copy>(outcome: &Outcome<A>, row: &Row) -> Result<(), Fail> {
     let [own, others] = outcome.filters.as_slice() else {
         return Err(Fail::from("other filters"));
     };
@@ -198,6 +198,27 @@ pub fn all_told(outcome: &Outcome<Global>, row: &Row) -> Result<(), Fail> {
     tells(&own.1, &row.own)?;
     tells(&others.1, &row.others)?;
     counts(&outcome.ports, &row.ports)
+}
+
+/// Tests all that a run tells, and gives the line that sums it up.
+fn line_of<A: Allocator + Copy>(
+    alloc: A,
+    outcome: &Outcome<A>,
+    row: &Row,
+) -> Result<String<A>, Fail> {
+    all_told(outcome, row)?;
+    Ok(summary(alloc, outcome)?)
+}
+
+/// Tests all that a run tells, and the line that sums it up.
+pub fn line_told<A: Allocator + Copy>(
+    alloc: A,
+    outcome: &Outcome<A>,
+    row: &Row,
+    line: &str,
+) -> Result<(), Fail> {
+    let other = line_of(alloc, outcome, row)?;
+    same(&other.as_str(), &line, "the line of another run")
 }
 
 /// A source that gives all that is asked for, or one octet a call.
@@ -210,7 +231,7 @@ fn source_of(text: &[u8], single: bool) -> SliceSource<'_> {
 }
 
 /// A sink that takes all that it is given, or one octet a call.
-fn sink_of(alloc: Global, single: bool) -> VecSink<Global> {
+fn sink_of<A: Allocator + Copy>(alloc: A, single: bool) -> VecSink<A> {
     if single {
         VecSink::one_by_one(alloc)
     } else {
@@ -218,88 +239,149 @@ fn sink_of(alloc: Global, single: bool) -> VecSink<Global> {
     }
 }
 
+/// Tests the octets of a sink by its place.
+fn is_held(octets: &[u8], wanted: &[u8], place: usize) -> Result<(), Fail> {
+    if octets == wanted {
+        return Ok(());
+    }
+    Err(Fail::new(format_args!("other octets at {place}")))
+}
+
 /// Tests what each sink holds.
-pub fn holds(alloc: Global, sinks: &[VecSink<Global>], left: &[&[Frame]]) -> Result<(), Fail> {
+pub fn holds<A: Allocator + Copy>(
+    alloc: A,
+    sinks: &[VecSink<A>],
+    left: &[&[Frame]],
+) -> Result<(), Fail> {
     same(&sinks.len(), &left.len(), "sinks")?;
     for (place, (sink, frames)) in sinks.iter().zip(left).enumerate() {
         let wanted = capture(alloc, frames)?;
-        if sink.octets() != wanted.as_slice() {
-            return Err(Fail::new(format_args!("other octets in sink {}", place + 1)));
-        }
+        is_held(sink.octets(), &wanted, place)?;
     }
     Ok(())
 }
 
-/// What a run of three captures over an agenda tells, with what it writes tested where that is given.
-pub fn outcome_of<G: Agenda + Drop>(
-    alloc: Global,
-    accepted: &Accepted<Global>,
+/// What a run of three captures over an agenda into sinks tells.
+fn outcome_into<G: Agenda + Drop, A: Allocator + Copy>(
+    alloc: A,
+    accepted: &Accepted<A>,
     command: Option<Command>,
     texts: [&[u8]; 3],
     single: bool,
-    left: Option<&[&[Frame]]>,
-) -> Result<Outcome<Global>, Fail> {
+    sinks: &mut [VecSink<Global>],
+) -> Result<Outcome<A>, Fail> {
     let [first, second, third] = texts;
     let mut sources = [
         source_of(first, single),
         source_of(second, single),
         source_of(third, single),
     ];
+    Ok(simulated::<G, _, _, _>(alloc, accepted, command, &mut sources, sinks)??)
+}
+
+/// What a run of three captures over an agenda tells, with what it writes tested where that is given.
+pub fn outcome_of<G: Agenda + Drop, A: Allocator + Copy>(
+    alloc: A,
+    heap: Global,
+    accepted: &Accepted<A>,
+    command: Option<Command>,
+    texts: [&[u8]; 3],
+    single: bool,
+    left: Option<&[&[Frame]]>,
+) -> Result<Outcome<A>, Fail> {
     let mut sinks = [
-        sink_of(alloc, single),
-        sink_of(alloc, single),
-        sink_of(alloc, single),
+        sink_of(heap, single),
+        sink_of(heap, single),
+        sink_of(heap, single),
     ];
-    let outcome = simulated::<G, _, _, _>(alloc, accepted, command, &mut sources, &mut sinks)??;
-    if let Some(left) = left {
-        holds(alloc, &sinks, left)?;
+    let outcome = outcome_into::<G, A>(alloc, accepted, command, texts, single, &mut sinks)?;
+    match left {
+        Some(left) => match holds(heap, &sinks, left) {
+            Ok(()) => Ok(outcome),
+            Err(fail) => Err(fail),
+        },
+        None => Ok(outcome),
     }
-    Ok(outcome)
+}
+
+/// Tests a run of three captures over an agenda, and gives the line that sums it up.
+fn line_over<G: Agenda + Drop, A: Allocator + Copy>(
+    alloc: A,
+    heap: Global,
+    row: &Row,
+    command: Option<Command>,
+    accepted: &Accepted<A>,
+    texts: [&[u8]; 3],
+    single: bool,
+) -> Result<String<A>, Fail> {
+    let left: Option<&[&[Frame]]> = Some(&row.left);
+    let outcome = outcome_of::<G, A>(alloc, heap, accepted, command, texts, single, left)?;
+    line_of(alloc, &outcome, row)
 }
 
 /// Tests a run over an agenda, and gives the line that sums it up.
-fn runs_over<G: Agenda + Drop>(
-    alloc: Global,
+fn runs_over<G: Agenda + Drop, A: Allocator + Copy>(
+    alloc: A,
+    heap: Global,
     row: &Row,
     command: Option<Command>,
-    accepted: &Accepted<Global>,
+    accepted: &Accepted<A>,
     single: bool,
-) -> Result<String, Fail> {
+) -> Result<String<A>, Fail> {
     let [first, second, third] = row.come;
-    let first = capture(alloc, first)?;
-    let second = capture(alloc, second)?;
-    let third = capture(alloc, third)?;
+    let first = capture(heap, first)?;
+    let second = capture(heap, second)?;
+    let third = capture(heap, third)?;
     let texts = [first.as_slice(), second.as_slice(), third.as_slice()];
-    let outcome = outcome_of::<G>(alloc, accepted, command, texts, single, Some(&row.left))?;
-    all_told(&outcome, row)?;
-    Ok(summary(alloc, &outcome)?)
+    line_over::<G, A>(alloc, heap, row, command, accepted, texts, single)
 }
 
 /// The accepted plan of the worked examples after these changes.
-pub fn planned(alloc: Global, changes: &[Change]) -> Result<Accepted<Global>, Fail> {
+pub fn planned<A: Allocator + Copy>(
+    alloc: A,
+    heap: Global,
+    changes: &[Change],
+) -> Result<Accepted<A>, Fail> {
     let text = text_of(alloc, changes)?;
-    match accepted_of(alloc, alloc, &text) {
+    match accepted_of(alloc, heap, &text) {
         Some(accepted) => Ok(accepted),
         None => Err(Fail::from("a plan that is not accepted")),
     }
 }
 
+/// Tests a frame that left.
+fn is_sent<A: Allocator + Copy>(sent: &Sent<A>, frame: &Frame) -> Result<(), Fail> {
+    let (done, len, octets) = *frame;
+    same(&sent.done, &done, "when a frame was done")?;
+    same(&sent.len, &len, "the length of a frame that left")?;
+    same(
+        &sent.octets.as_slice(),
+        &octets,
+        "the octets of a frame that left",
+    )
+}
+
 /// Tests the frames that left a port, in their order.
-fn has_left(gone: &[Sent<Global>], port: u8, frames: &[Frame]) -> Result<(), Fail> {
-    let left = gone.iter().filter(|sent| sent.port == port).count();
-    same(&left, &frames.len(), "the frames that left a port")?;
-    let sent = gone.iter().filter(|sent| sent.port == port);
-    for (sent, frame) in sent.zip(frames) {
-        let (done, len, octets) = *frame;
-        same(&sent.done, &done, "when a frame was done")?;
-        same(&sent.len, &len, "the length of a frame that left")?;
-        same(
-            &sent.octets.as_slice(),
-            &octets,
-            "the octets of a frame that left",
-        )?;
+fn has_left<A: Allocator + Copy>(gone: &[Sent<A>], port: u8, frames: &[Frame]) -> Result<(), Fail> {
+    let mut count = 0usize;
+    for sent in gone {
+        if sent.port == port {
+            match frames.get(count) {
+                Some(frame) => is_sent(sent, frame)?,
+                None => return Err(Fail::from("a frame more that left a port")),
+            }
+            count = count.saturating_add(1);
+        }
     }
-    Ok(())
+    same(&count, &frames.len(), "the frames that left a port")
+}
+
+/// Tests the frames that left each port.
+fn have_left<A: Allocator + Copy>(gone: &[Sent<A>], row: &Row) -> Result<(), Fail> {
+    let [first, second, third] = row.left;
+    has_left(gone, 1, first)?;
+    has_left(gone, 2, second)?;
+    has_left(gone, 3, third)
 }
 
 /// Tests a bridge over an agenda to which the frames and the command of a row come one by one: it tells the same, and the
@@ -312,33 +394,48 @@ fn drives_over<G: Agenda + Drop>(
     line: &str,
 ) -> Result<(), Fail> {
     let (outcome, gone) = driven::<G>(alloc, accepted, command, row.come)?;
-    all_told(&outcome, row)?;
-    let [first, second, third] = row.left;
-    has_left(&gone, 1, first)?;
-    has_left(&gone, 2, second)?;
-    has_left(&gone, 3, third)?;
-    let other = summary(alloc, &outcome)?;
-    if other.as_str() != line {
-        return Err(Fail::new(format_args!("{other}, not {line}")));
-    }
-    Ok(())
+    have_left(&gone, row)?;
+    line_told(alloc, &outcome, row, line)
 }
 
-/// Tests a run over each agenda, with sources and sinks that move all octets that they can or one a call, and a bridge that
-/// is driven call by call over each, and a run from readers to writers; gives the line that sums it up.
-fn sum_of(alloc: Global, row: &Row, command: Option<Command>) -> Result<String, Fail> {
-    let accepted = planned(alloc, row.changes)?;
-    runs_over::<RowAgenda>(alloc, row, command, &accepted, true)?;
-    runs_over::<TreeAgenda>(alloc, row, command, &accepted, true)?;
-    let line = runs_over::<RowAgenda>(alloc, row, command, &accepted, false)?;
-    let other = runs_over::<TreeAgenda>(alloc, row, command, &accepted, false)?;
+/// Tests a run over each agenda, with sources and sinks that move all octets that they can or one a call; gives the line
+/// that sums it up.
+fn line_of_each<A: Allocator + Copy>(
+    alloc: A,
+    heap: Global,
+    row: &Row,
+    command: Option<Command>,
+    accepted: &Accepted<A>,
+) -> Result<String<A>, Fail> {
+    runs_over::<RowAgenda, A>(alloc, heap, row, command, accepted, true)?;
+    runs_over::<TreeAgenda, A>(alloc, heap, row, command, accepted, true)?;
+    let line = runs_over::<RowAgenda, A>(alloc, heap, row, command, accepted, false)?;
+    let other = runs_over::<TreeAgenda, A>(alloc, heap, row, command, accepted, false)?;
     if line != other {
         return Err(Fail::from("a line for each agenda"));
     }
-    drives_over::<RowAgenda>(alloc, row, command, &accepted, line.as_str())?;
-    drives_over::<TreeAgenda>(alloc, row, command, &accepted, line.as_str())?;
-    transfers(alloc, row, command, &accepted, line.as_str())?;
     Ok(line)
+}
+
+/// Tests the runs of a plan: over each agenda, a bridge that is driven call by call over each, and a run from readers to
+/// writers; gives the line that sums them up.
+fn sum_under(
+    alloc: Global,
+    row: &Row,
+    command: Option<Command>,
+    accepted: &Accepted<Global>,
+) -> Result<String, Fail> {
+    let line = line_of_each(alloc, alloc, row, command, accepted)?;
+    drives_over::<RowAgenda>(alloc, row, command, accepted, line.as_str())?;
+    drives_over::<TreeAgenda>(alloc, row, command, accepted, line.as_str())?;
+    transfers(alloc, alloc, row, command, accepted, line.as_str())?;
+    Ok(line)
+}
+
+/// Tests the runs of a row, and gives the line that sums them up.
+fn sum_of(alloc: Global, row: &Row, command: Option<Command>) -> Result<String, Fail> {
+    let accepted = planned(alloc, alloc, row.changes)?;
+    sum_under(alloc, row, command, &accepted)
 }
 
 /// Tests a run over each agenda.
@@ -350,8 +447,5 @@ pub fn runs(alloc: Global, row: &Row, command: Option<Command>) -> Result<(), Fa
 /// Tests a run over each agenda, and the line that sums it up.
 pub fn sums(alloc: Global, row: &Row, wanted: &str) -> Result<(), Fail> {
     let line = sum_of(alloc, row, None)?;
-    if line.as_str() != wanted {
-        return Err(Fail::new(format_args!("{line}, not {wanted}")));
-    }
-    Ok(())
+    same(&line.as_str(), &wanted, "the line of a run")
 }

@@ -1,11 +1,10 @@
 //! A run from readers to writers, as the program makes it over files.
-use crate::frames::capture;
-use crate::runs::{Row, all_told};
+use crate::frames::{Frame, capture};
+use crate::runs::{Row, line_told};
 use bridge_check::Accepted;
 use bridge_config::Command;
 use bridge_drives::{has_instance, same};
 use bridge_folder::{Halted, run_over};
-use bridge_report::summary;
 use bridge_run::Outcome;
 use std::alloc::{AllocError, Allocator, Global};
 use std::io::{Read, Write};
@@ -50,45 +49,74 @@ pub fn transferred<R: Read + Drop, W: Write + Drop, A: Allocator + Copy>(
     }
 }
 
-/// Tests a row from readers to writers: what it tells, the line that sums it up, and what each writer has.
-pub fn transfers(
-    alloc: Global,
-    row: &Row,
+/// What a run of three captures from readers to writers tells, and what each writer has.
+fn moved<A: Allocator + Copy>(
+    alloc: A,
     command: Option<Command>,
-    accepted: &Accepted<Global>,
-    line: &str,
-) -> Result<(), Fail> {
-    let [first, second, third] = row.come;
-    let first = capture(alloc, first)?;
-    let second = capture(alloc, second)?;
-    let third = capture(alloc, third)?;
-    let readers = three_of(alloc, first.as_slice(), second.as_slice(), third.as_slice())?;
+    accepted: &Accepted<A>,
+    texts: [&[u8]; 3],
+) -> Result<(Outcome<A>, Vec<Vec<u8, A>, A>), Fail> {
+    let [first, second, third] = texts;
+    let readers = three_of(alloc, first, second, third)?;
     let writers = three_of(
         alloc,
-        Vec::<u8>::new(alloc),
+        Vec::<u8, A>::new(alloc),
         Vec::new(alloc),
         Vec::new(alloc),
     )?;
-    let Ok((outcome, written)) = transferred(alloc, accepted, command, readers, writers)? else {
-        return Err(Fail::from("a run that stopped"));
-    };
-    all_told(&outcome, row)?;
-    let other = summary(alloc, &outcome)?;
-    same(
-        &other.as_str(),
-        &line,
-        "the line of a run between readers and writers",
-    )?;
+    match transferred(alloc, accepted, command, readers, writers)? {
+        Ok(done) => Ok(done),
+        Err(_) => Err(Fail::from("a run that stopped")),
+    }
+}
+
+/// Tests what each writer has.
+fn are_written<A: Allocator + Copy>(
+    alloc: A,
+    written: &[Vec<u8, A>],
+    left: &[&[Frame]],
+) -> Result<(), Fail> {
     same(
         &written.len(),
-        &row.left.len(),
+        &left.len(),
         "the writers that are handed back",
     )?;
-    for (octets, frames) in written.iter().zip(&row.left) {
+    for (octets, frames) in written.iter().zip(left) {
         let wanted = capture(alloc, frames)?;
-        if octets != &wanted {
+        if octets.as_slice() != wanted.as_slice() {
             return Err(Fail::from("other octets in a writer"));
         }
     }
     Ok(())
+}
+
+/// Tests a row of three captures from readers to writers.
+fn transfers_from<A: Allocator + Copy>(
+    alloc: A,
+    row: &Row,
+    command: Option<Command>,
+    accepted: &Accepted<A>,
+    texts: [&[u8]; 3],
+    line: &str,
+) -> Result<(), Fail> {
+    let (outcome, written) = moved(alloc, command, accepted, texts)?;
+    line_told(alloc, &outcome, row, line)?;
+    are_written(alloc, &written, &row.left)
+}
+
+/// Tests a row from readers to writers: what it tells, the line that sums it up, and what each writer has.
+pub fn transfers<A: Allocator + Copy>(
+    alloc: A,
+    heap: Global,
+    row: &Row,
+    command: Option<Command>,
+    accepted: &Accepted<A>,
+    line: &str,
+) -> Result<(), Fail> {
+    let [first, second, third] = row.come;
+    let first = capture(heap, first)?;
+    let second = capture(heap, second)?;
+    let third = capture(heap, third)?;
+    let texts = [first.as_slice(), second.as_slice(), third.as_slice()];
+    transfers_from(alloc, row, command, accepted, texts, line)
 }
