@@ -1,6 +1,6 @@
 //! What is measured.
 use anyhow::Result;
-use bridge_cycle::CyclicList;
+use bridge_cycle::{CyclicList, Egress};
 use bridge_frame::Speed;
 use bridge_port::{Item, Port};
 use std::alloc::Global;
@@ -56,6 +56,21 @@ fn fill(port: &mut Port<u32, Global>) -> u64 {
     count
 }
 
+/// Asks for the next start of a full port and makes it, and fills its place again.
+fn time_starts(clock: &impl Clock, port: &mut Port<u32, Global>, rounds: u64) -> Result<Tally> {
+    let mut count = 0;
+    let begin = Instant::now(clock)?;
+    for round in 0..rounds {
+        let Some(class) = start_one(port) else {
+            break;
+        };
+        offer_one(port, class);
+        count = round + 1;
+    }
+    let time = begin.elapsed(clock)?;
+    Ok(Tally { count, time })
+}
+
 /// Asks for the next start and makes it, with eight full queues, and fills its place again.
 pub(crate) fn measure_starts(
     clock: &impl Clock,
@@ -63,18 +78,25 @@ pub(crate) fn measure_starts(
     list: CyclicList<u8, Global>,
     rounds: u64,
 ) -> Result<Tally> {
-    let mut port = Port::new(alloc, Speed::Mbps1000, Some(list), [ROOM; 8])?;
+    let lists = Some(Egress::Cyclic(list));
+    let mut port = Port::new(alloc, Speed::Mbps1000, lists, [ROOM; 8])?;
     fill(&mut port);
-    let mut count = 0;
+    let tally = time_starts(clock, &mut port, rounds);
+    drop(port);
+    tally
+}
+
+/// Fills the queues of a new port, and makes all their starts beside the clock.
+fn time_offers(clock: &impl Clock, port: &mut Port<u32, Global>) -> Result<Tally> {
     let begin = Instant::now(clock)?;
-    for round in 0..rounds {
-        let Some(class) = start_one(&mut port) else {
-            break;
-        };
-        offer_one(&mut port, class);
-        count = round + 1;
-    }
+    let taken = fill(port);
     let time = begin.elapsed(clock)?;
+    let mut count = 0u64;
+    for _ in 0..taken {
+        if start_one(port).is_some() {
+            count = count.saturating_add(1);
+        }
+    }
     Ok(Tally { count, time })
 }
 
@@ -88,15 +110,13 @@ pub(crate) fn measure_offers(
     let mut count = 0u64;
     let mut time = Duration::ZERO;
     for _ in 0..fills {
-        let mut port = Port::new(alloc, Speed::Mbps1000, Some(list.copy(alloc)?), [ROOM; 8])?;
-        let begin = Instant::now(clock)?;
-        let taken = fill(&mut port);
-        time = time.saturating_add(begin.elapsed(clock)?);
-        for _ in 0..taken {
-            if start_one(&mut port).is_some() {
-                count = count.saturating_add(1);
-            }
-        }
+        let lists = Some(Egress::Cyclic(list.copy(alloc)?));
+        let mut port = Port::new(alloc, Speed::Mbps1000, lists, [ROOM; 8])?;
+        let tally = time_offers(clock, &mut port);
+        drop(port);
+        let tally = tally?;
+        count = count.saturating_add(tally.count);
+        time = time.saturating_add(tally.time);
     }
     Ok(Tally { count, time })
 }

@@ -6,14 +6,16 @@ use Rattle.std.proofs.lemmas.Bool.{and_parts}
 use lib.IntN.{ℤ, pos}
 use lib.Signed.{◌≤ℤ◌, ◌<ℤ◌, le_z}
 use Rattle.bridge_cycle.specs.Cyclic as cyclic
-use Rattle.bridge_cycle.specs.CyclicLaws.{turned}
+use Rattle.bridge_cycle.specs.Joined as joined
+use Rattle.bridge_cycle.specs.JoinedLaws.{IsTurnOf, list_turned, joined_turned}
 use Rattle.bridge_base.specs.Members.{In}
 use Rattle.bridge_cycle.proofs.Lists.{among}
+use Rattle.bridge_cycle.proofs.Changes.{among_both}
 use Rattle.bridge_cycle.specs.declared.timeline.Turn.{Turn}
 use Rattle.bridge_cycle.proofs.Cases.{by_bool}
 use Rattle.bridge_gate.specs.declared.schedule.GateEntry.{GateEntry}
 use Rattle.bridge_gate.specs.declared.schedule.Schedule.{Schedule}
-use Rattle.bridge_gate.specs.declared.schedule.Schedule.TheVariants.{Fixed, Cyclic}
+use Rattle.bridge_gate.specs.declared.schedule.Schedule.TheVariants.{Fixed, Cyclic, Joined}
 use Rattle.bridge_gate.specs.Schedules.{turn_at, IsLawful, is_priority, has_priorities}
 
 le_or : (a b : ℤ) → (a ≤ℤ b) ⊎ (b <ℤ a)
@@ -24,10 +26,11 @@ pub record IsOrdered (turn_at : ℕ → Option (Turn GateEntry)) : Type 0 where
   pub rises : (t u : ℕ) (x y : Turn GateEntry) → turn_at t ≡ Some x → turn_at u ≡ Some y → t ≤ u → x.start ≤ℤ y.start
   pub one : (t u : ℕ) (x y : Turn GateEntry) → turn_at t ≡ Some x → turn_at u ≡ Some y → t ≤ u → x.start ≡ y.start → x ≡ y
 
-list_rises : (l : cyclic.Cyclic GateEntry) → cyclic.IsLawful l → (t u : ℕ) (x y : Turn GateEntry) → cyclic.turn_at l t ≡ Some x → cyclic.turn_at l u ≡ Some y → t ≤ u → x.start ≤ℤ y.start
-list_rises l w t u x y h k le =
-    let a = turned l t x w h in
-    let b = turned l u y w k in
+-- what the turns of a timeline are says that they come in order
+timeline_rises : (turns : ℕ → Option (Turn GateEntry)) (cycle : ℕ) → ((t : ℕ) (x : Turn GateEntry) → turns t ≡ Some x → IsTurnOf turns cycle t x) → (t u : ℕ) (x y : Turn GateEntry) → turns t ≡ Some x → turns u ≡ Some y → t ≤ u → x.start ≤ℤ y.start
+timeline_rises turns cycle is t u x y h k le =
+    let a : IsTurnOf turns cycle t x = is t x h in
+    let b : IsTurnOf turns cycle u y = is u y k in
     elim (le_or y.start (pos t)) [
       | inl early ↦
           let m = b.ends in
@@ -36,14 +39,17 @@ list_rises l w t u x y h k le =
       | inr late ↦ let m = a.begins in omega (arith, ints)
     ]
 
-list_one : (l : cyclic.Cyclic GateEntry) → cyclic.IsLawful l → (t u : ℕ) (x y : Turn GateEntry) → cyclic.turn_at l t ≡ Some x → cyclic.turn_at l u ≡ Some y → t ≤ u → x.start ≡ y.start → x ≡ y
-list_one l w t u x y h k le e =
-    let a = turned l t x w h in
-    let b = turned l u y w k in
+timeline_one : (turns : ℕ → Option (Turn GateEntry)) (cycle : ℕ) → ((t : ℕ) (x : Turn GateEntry) → turns t ≡ Some x → IsTurnOf turns cycle t x) → (t u : ℕ) (x y : Turn GateEntry) → turns t ≡ Some x → turns u ≡ Some y → t ≤ u → x.start ≡ y.start → x ≡ y
+timeline_one turns cycle is t u x y h k le e =
+    let a : IsTurnOf turns cycle t x = is t x h in
+    let b : IsTurnOf turns cycle u y = is u y k in
     let begins : x.start ≤ℤ pos t = a.begins in
     let ends : u < y.end = b.ends in
     let early : y.start ≤ℤ pos t = subst (λ (z : ℤ). z ≤ℤ pos t) e begins in
     same_Some x y (sym h ∙ b.same t early (omega arith))
+
+timeline_ordered : (turns : ℕ → Option (Turn GateEntry)) (cycle : ℕ) → ((t : ℕ) (x : Turn GateEntry) → turns t ≡ Some x → IsTurnOf turns cycle t x) → IsOrdered turns
+timeline_ordered turns cycle is = record { rises = timeline_rises turns cycle is; one = timeline_one turns cycle is }
 
 pub ordered : {A : Type 0} (s : Schedule A) → IsLawful s → IsOrdered (turn_at s)
 ordered (Fixed lets ipv) w =
@@ -51,7 +57,8 @@ ordered (Fixed lets ipv) w =
       rises = λ t u x y h k le. let e : x ≡ y = same_Some x y (sym h ∙ k) in subst (λ (z : Turn GateEntry). x.start ≤ℤ z.start) e (omega (arith, ints));
       one = λ t u x y h k le e. same_Some x y (sym h ∙ k);
     }
-ordered (Cyclic l) w = record { rises = list_rises l w; one = list_one l w }
+ordered (Cyclic l) w = timeline_ordered (cyclic.turn_at l) l.cycle (λ t x h. list_turned l t x w h)
+ordered (Joined j) w = timeline_ordered (joined.turn_at j) (joined.cycle_of j) (λ t x h. joined_turned j t x w h)
 
 all_in : {X : Type 0} (f : X → Bool) (xs : List X) (x : X) → list_all f xs ≡ true → In x xs → f x ≡ true
 all_in f [] x h i = absurd i
@@ -64,3 +71,9 @@ turn_priority (Fixed lets ipv) t x p h = let e = same_Some _ _ h in ap (λ (y : 
 turn_priority (Cyclic l) t x p h =
     let a = among l t x h in
     ap (λ (y : GateEntry). is_priority y.ipv) (sym a.2) ∙ all_in (λ (e : GateEntry × ℕ). is_priority e.0.ipv) l.entries a.0 p a.1
+turn_priority (Joined j) t x p h =
+    let ps : (list_all (λ e. is_priority e.0.ipv) j.old.entries ≡ true) × (list_all (λ e. is_priority e.0.ipv) j.new.entries ≡ true) = and_parts (list_all (λ e. is_priority e.0.ipv) j.old.entries) (list_all (λ e. is_priority e.0.ipv) j.new.entries) p in
+    elim (among_both j t x h) [
+      | inl a ↦ ap (λ (y : GateEntry). is_priority y.ipv) (sym a.2) ∙ all_in (λ (e : GateEntry × ℕ). is_priority e.0.ipv) j.old.entries a.0 ps.0 a.1
+      | inr a ↦ ap (λ (y : GateEntry). is_priority y.ipv) (sym a.2) ∙ all_in (λ (e : GateEntry × ℕ). is_priority e.0.ipv) j.new.entries a.0 ps.1 a.1
+    ]

@@ -1,17 +1,19 @@
-use Rattle.std.specs.Prelude.{ℕ, Bool, true, Option, Some, None, pos, nat_le}
+use Rattle.std.specs.Prelude.{ℕ, Bool, true, ◌&&◌, Option, Some, None, pos, nat_le}
 use Rattle.std.specs.List.{list_all}
 use Rattle.bridge_cycle.specs.Cyclic as cyclic
+use Rattle.bridge_cycle.specs.Joined as joined
 use Rattle.bridge_cycle.specs.declared.timeline.Turn.{Turn}
 use Rattle.bridge_gate.specs.declared.schedule.GateEntry.{GateEntry}
 use Rattle.bridge_gate.specs.declared.schedule.GatePlan.{GatePlan}
 use Rattle.bridge_gate.specs.declared.schedule.Schedule.{Schedule}
-use Rattle.bridge_gate.specs.declared.schedule.Schedule.TheVariants.{Fixed, Cyclic}
+use Rattle.bridge_gate.specs.declared.schedule.Schedule.TheVariants.{Fixed, Cyclic, Joined}
 use Rattle.bridge_gate.specs.Gates.{GateRules}
 
 -- the turn that has a moment, where a fixed state is one turn for all moments
 abbrev pub turn_at : {A : Type 0} → Schedule A → ℕ → Option (Turn GateEntry)
 turn_at (Fixed lets ipv) t = Some (record { state = record { lets = lets; ipv = ipv; octets = None }; start = pos 0; end = 18446744073709551615 })
 turn_at (Cyclic l) t = cyclic.turn_at l t
+turn_at (Joined j) t = joined.turn_at j t
 
 -- the rules that a plan sets
 abbrev pub rules_of : {A : Type 0} → GatePlan A → GateRules
@@ -21,6 +23,7 @@ rules_of p = record { turn_at = turn_at p.schedule; shut_on_rx = p.shut_on_rx; s
 abbrev pub IsLawful : {A : Type 0} → Schedule A → Type 0
 IsLawful (Fixed lets ipv) = Unit {0}
 IsLawful (Cyclic l) = cyclic.IsLawful l
+IsLawful (Joined j) = joined.IsLawful j
 
 -- an internal priority value is a priority, where there is one
 abbrev pub is_priority : Option ℕ → Bool
@@ -31,3 +34,4 @@ is_priority (Some ipv) = nat_le ipv 7
 abbrev pub has_priorities : {A : Type 0} → Schedule A → Bool
 has_priorities (Fixed lets ipv) = is_priority ipv
 has_priorities (Cyclic l) = list_all (λ e. is_priority e.0.ipv) l.entries
+has_priorities (Joined j) = list_all (λ e. is_priority e.0.ipv) j.old.entries && list_all (λ e. is_priority e.0.ipv) j.new.entries

@@ -2,7 +2,7 @@ ghost use Rattle.std.specs.Prelude.{◌≡◌, ◌<◌, Some, IfOk};
 ghost use Rattle.std.specs.List.{list_all};
 ghost use Rattle.bridge_gate.specs.Schedules.{turn_at, IsLawful, is_priority, has_priorities};
 
-use bridge_cycle::{CyclicList, END_OF_TURNS, NoMemory, Timeline, Turn};
+use bridge_cycle::{CyclicList, END_OF_TURNS, Joined, NoMemory, Timeline, Turn};
 use std::alloc::Allocator;
 
 /// What a gate does in one turn.
@@ -23,6 +23,8 @@ pub enum Schedule<A: Allocator + Copy> {
     Fixed { lets: bool, ipv: Option<u8> },
     /// It follows a list.
     Cyclic(CyclicList<GateEntry, A>),
+    /// It follows a list that another one takes over from at a moment.
+    Joined(Joined<GateEntry, A>),
 }
 
 /// How a gate is set.
@@ -54,6 +56,7 @@ impl<A: Allocator + Copy> Schedule<A> {
                 end: u64::MAX,
             },
             Schedule::Cyclic(list) => list.turn(t),
+            Schedule::Joined(joined) => joined.turn(t),
         }
     }
 
@@ -64,6 +67,10 @@ impl<A: Allocator + Copy> Schedule<A> {
         match self {
             Schedule::Fixed { lets: _, ipv } => is_priority(*ipv),
             Schedule::Cyclic(list) => are_priorities(list.entries()),
+            Schedule::Joined(joined) => {
+                let (old, new) = joined.lists();
+                are_priorities(old.entries()) && are_priorities(new.entries())
+            }
         }
     }
 
@@ -77,6 +84,7 @@ impl<A: Allocator + Copy> Schedule<A> {
                 ipv: *ipv,
             }),
             Schedule::Cyclic(list) => Ok(Schedule::Cyclic(list.copy(alloc)?)),
+            Schedule::Joined(joined) => Ok(Schedule::Joined(joined.copy(alloc)?)),
         }
     }
 }

@@ -1,5 +1,5 @@
 -- The fits of the heads, the best of them, and the next start.
-use Rattle.std.proofs.Common.{◌≡◌, ◌≢◌, ℕ, true, false, ◌<◌, ◌≤◌, ◌+◌, ◌^◌, ◌++◌, List, [], ◌∷◌, length, arith, refl, ap, ◌∙◌, sym, subst, inl, inr, ◌⊎◌, Option, Some, None, max, get_or-set_same, get_or-set_other}
+use Rattle.std.proofs.Common.{◌≡◌, ◌≢◌, ℕ, true, false, ◌<◌, ◌≤◌, ◌+◌, ◌*◌, ◌^◌, ◌++◌, List, [], ◌∷◌, length, arith, refl, ap, ◌∙◌, sym, subst, inl, inr, ◌⊎◌, Option, Some, None, max, get_or-set_same, get_or-set_other}
 use Rattle.std.proofs.lemmas.Bool.Decides.{nat_tests}
 use Rattle.std.proofs.lemmas.Bool.{cases_lt}
 use Rattle.std.specs.Prelude.{nat_lt, nat_eq, ◌&&◌, ◌||◌, slice_index_or, slice_get, slice_set, drop, MatchOption}
@@ -9,13 +9,12 @@ use Rattle.std.proofs.lemmas.Option.{same_Some, none-some}
 use Rattle.bridge_base.specs.declared.TheConstants.{LONGEST_FRAME}
 use Rattle.bridge_frame.specs.declared.Speed.{Speed}
 use Rattle.bridge_frame.specs.Link.{occupied}
-use Rattle.bridge_cycle.specs.Cyclic.{Cyclic}
 use Rattle.bridge_cycle.specs.Moments.{Fits, IsFirst}
 use Rattle.bridge_cycle.proofs.Cases.{by_bool}
 use Rattle.bridge_port.specs.declared.item.Item.{Item}
 use Rattle.bridge_port.specs.Heads.{IsFit, is_past, IsSoonest, IsBest, sooner, sooner_of, StartsNext, AreFits}
 use Rattle.bridge_port.specs.Standing.{State, IsIdle, AllStartable, NoStartBefore, queue_of}
-use Rattle.bridge_port.specs.Opening.{opens_of, ever_of}
+use Rattle.bridge_port.specs.Opening.{ever, Opening, opens}
 use Rattle.bridge_port.proofs.Ports.{heads, nil_cons, below_length}
 
 pub head_some : {X : Type 0} (q : List X) (x : X) → slice_get q 0 ≡ Some x → q ≡ x ∷ drop 1 q
@@ -26,22 +25,22 @@ pub head_none : {X : Type 0} (q : List X) → slice_get q 0 ≡ None → q ≡ [
 head_none [] h = refl
 head_none (x ∷ q) h = absurd (cc)
 
-pub startable_head : {T : Type 0} (list : Option (Cyclic ℕ)) (speed : Speed) (c : ℕ) (q : List (Item T)) (x : Item T) → slice_get q 0 ≡ Some x → AllStartable list speed c q → (ever_of list c (occupied x.len speed) ≡ true) × (x.len ≤ LONGEST_FRAME)
+pub startable_head : {T : Type 0} (list : Opening) (speed : Speed) (c : ℕ) (q : List (Item T)) (x : Item T) → slice_get q 0 ≡ Some x → AllStartable list speed c q → (ever list c (occupied x.len speed) ≡ true) × (x.len ≤ LONGEST_FRAME)
 startable_head list speed c [] x h a = absurd (cc)
-startable_head list speed c (y ∷ q) x h a = let e : y ≡ x = same_Some _ _ h in subst (λ (z : Item _). (ever_of list c (occupied z.len speed) ≡ true) × (z.len ≤ LONGEST_FRAME)) e a.0
+startable_head list speed c (y ∷ q) x h a = let e : y ≡ x = same_Some _ _ h in subst (λ (z : Item _). (ever list c (occupied z.len speed) ≡ true) × (z.len ≤ LONGEST_FRAME)) e a.0
 
 -- The fit of one class.
 
 -- the fit of a head
-pub fit_is : {T : Type 0} (list : Option (Cyclic ℕ)) (speed : Speed) (from c k : ℕ) (q : List (Item T)) (x : Item T) (rest : List (Item T)) → q ≡ x ∷ rest → IsFirst (opens_of list c) (occupied x.len speed) from k → k ≤ from + 10 ^ 9 → IsFit list speed from c q (Some k)
+pub fit_is : {T : Type 0} (list : Opening) (speed : Speed) (from c k : ℕ) (q : List (Item T)) (x : Item T) (rest : List (Item T)) → q ≡ x ∷ rest → IsFirst (opens list c) (occupied x.len speed) from k → k ≤ from + 2 * 10 ^ 9 → IsFit list speed from c q (Some k)
 fit_is {T} list speed from c k q x rest e first soon = let P : List (Item T) → Type 0 = λ r. IsFit list speed from c r (Some k) in subst P (sym e) (first, soon)
 
 -- where nothing is queued there is none
-pub fit_none : {T : Type 0} (list : Option (Cyclic ℕ)) (speed : Speed) (from c : ℕ) (q : List (Item T)) → q ≡ [] → IsFit list speed from c q None
+pub fit_none : {T : Type 0} (list : Opening) (speed : Speed) (from c : ℕ) (q : List (Item T)) → q ≡ [] → IsFit list speed from c q None
 fit_none {T} list speed from c q e = let P : List (Item T) → Type 0 = λ r. IsFit list speed from c r None in subst P (sym e) tt
 
 -- it stays the fit from a later moment on, where nothing fits before that
-pub fit_later : {T : Type 0} (list : Option (Cyclic ℕ)) (speed : Speed) (from later c : ℕ) (q : List (Item T)) (f : Option ℕ) → IsFit list speed from c q f → from ≤ later → ((x : Item T) (rest : List (Item T)) → q ≡ x ∷ rest → (u : ℕ) → from ≤ u → u < later → ¬ Fits (opens_of list c) (occupied x.len speed) u) → IsFit list speed later c q f
+pub fit_later : {T : Type 0} (list : Opening) (speed : Speed) (from later c : ℕ) (q : List (Item T)) (f : Option ℕ) → IsFit list speed from c q f → from ≤ later → ((x : Item T) (rest : List (Item T)) → q ≡ x ∷ rest → (u : ℕ) → from ≤ u → u < later → ¬ Fits (opens list c) (occupied x.len speed) u) → IsFit list speed later c q f
 fit_later list speed from later c [] None i l calm = tt
 fit_later list speed from later c [] (Some k) i l calm = i
 fit_later list speed from later c (x ∷ rest) None i l calm = i
@@ -54,7 +53,7 @@ fit_later list speed from later c (x ∷ rest) (Some k) i l calm =
     ]
 
 -- and where it does not lie before that
-pub fit_ahead : {T : Type 0} (list : Option (Cyclic ℕ)) (speed : Speed) (from later c : ℕ) (q : List (Item T)) (f : Option ℕ) → IsFit list speed from c q f → from ≤ later → is_past f later ≡ false → IsFit list speed later c q f
+pub fit_ahead : {T : Type 0} (list : Opening) (speed : Speed) (from later c : ℕ) (q : List (Item T)) (f : Option ℕ) → IsFit list speed from c q f → from ≤ later → is_past f later ≡ false → IsFit list speed later c q f
 fit_ahead list speed from later c [] None i l ahead = tt
 fit_ahead list speed from later c [] (Some k) i l ahead = i
 fit_ahead list speed from later c (x ∷ rest) None i l ahead = i
@@ -64,41 +63,41 @@ fit_ahead list speed from later c (x ∷ rest) (Some k) i l ahead =
     let a : later ≤ k = grind (arith, nat_tests) in (record { after = a; fits = first.fits; least = λ u lo hi. first.least u (omega arith) hi }, omega arith)
 
 -- an item behind a head changes nothing
-pub fit_behind : {T : Type 0} (list : Option (Cyclic ℕ)) (speed : Speed) (from c k : ℕ) (q : List (Item T)) (x : Item T) → IsFit list speed from c q (Some k) → IsFit list speed from c (q ++ x ∷ []) (Some k)
+pub fit_behind : {T : Type 0} (list : Opening) (speed : Speed) (from c k : ℕ) (q : List (Item T)) (x : Item T) → IsFit list speed from c q (Some k) → IsFit list speed from c (q ++ x ∷ []) (Some k)
 fit_behind list speed from c k [] x i = absurd i
 fit_behind list speed from c k (y ∷ q) x i = i
 
-pub nothing_queued : {T : Type 0} (list : Option (Cyclic ℕ)) (speed : Speed) (from c : ℕ) (q : List (Item T)) → IsFit list speed from c q None → q ≡ []
+pub nothing_queued : {T : Type 0} (list : Opening) (speed : Speed) (from c : ℕ) (q : List (Item T)) → IsFit list speed from c q None → q ≡ []
 nothing_queued list speed from c [] i = refl
 nothing_queued list speed from c (x ∷ q) i = absurd i
 
 -- the head and its fit
-record HeadFits {T : Type 0} (list : Option (Cyclic ℕ)) (speed : Speed) (from c : ℕ) (q : List (Item T)) (k : ℕ) : Type 0 where
+record HeadFits {T : Type 0} (list : Opening) (speed : Speed) (from c : ℕ) (q : List (Item T)) (k : ℕ) : Type 0 where
   pub item : Item T
   pub rest : List (Item T)
   pub is_head : q ≡ item ∷ rest
-  pub first : IsFirst (opens_of list c) (occupied item.len speed) from k
-  pub soon : k ≤ from + 10 ^ 9
+  pub first : IsFirst (opens list c) (occupied item.len speed) from k
+  pub soon : k ≤ from + 2 * 10 ^ 9
 
-head_fits : {T : Type 0} (list : Option (Cyclic ℕ)) (speed : Speed) (from c : ℕ) (q : List (Item T)) (k : ℕ) → IsFit list speed from c q (Some k) → HeadFits list speed from c q k
+head_fits : {T : Type 0} (list : Opening) (speed : Speed) (from c : ℕ) (q : List (Item T)) (k : ℕ) → IsFit list speed from c q (Some k) → HeadFits list speed from c q k
 head_fits list speed from c [] k i = absurd i
 head_fits list speed from c (x ∷ rest) k i = record { item = x; rest = rest; is_head = refl; first = i.0; soon = i.1 }
 
 -- what a head has for its fit
-pub record FitOfHead {T : Type 0} (list : Option (Cyclic ℕ)) (speed : Speed) (from c : ℕ) (x : Item T) (f : Option ℕ) : Type 0 where
+pub record FitOfHead {T : Type 0} (list : Opening) (speed : Speed) (from c : ℕ) (x : Item T) (f : Option ℕ) : Type 0 where
   pub at : ℕ
   pub is : f ≡ Some at
-  pub first : IsFirst (opens_of list c) (occupied x.len speed) from at
+  pub first : IsFirst (opens list c) (occupied x.len speed) from at
 
-pub fit_of_head : {T : Type 0} (list : Option (Cyclic ℕ)) (speed : Speed) (from c : ℕ) (q : List (Item T)) (x : Item T) (rest : List (Item T)) (f : Option ℕ) → q ≡ x ∷ rest → IsFit list speed from c q f → FitOfHead list speed from c x f
+pub fit_of_head : {T : Type 0} (list : Opening) (speed : Speed) (from c : ℕ) (q : List (Item T)) (x : Item T) (rest : List (Item T)) (f : Option ℕ) → q ≡ x ∷ rest → IsFit list speed from c q f → FitOfHead list speed from c x f
 fit_of_head list speed from c [] x rest f e i = absurd (nil_cons x rest e)
 fit_of_head list speed from c (y ∷ q) x rest None e i = absurd i
 fit_of_head {T} list speed from c (y ∷ q) x rest (Some k) e i =
     let same : y ≡ x = heads y x q rest e in
-    record { at = k; is = refl; first = subst (λ (z : Item T). IsFirst (opens_of list c) (occupied z.len speed) from k) same i.0 }
+    record { at = k; is = refl; first = subst (λ (z : Item T). IsFirst (opens list c) (occupied z.len speed) from k) same i.0 }
 
 -- The fits of the classes behind one that is made anew, and of those ahead.
-pub fits_set_behind : {T : Type 0} (list : Option (Cyclic ℕ)) (speed : Speed) (from : ℕ) (queues : List (List (Item T))) (fits : List (Option ℕ)) (n : ℕ) (f : Option ℕ) → n < length fits → IsFit list speed from n (slice_index_or queues n []) f → ((c : ℕ) → c < n → IsFit list speed from c (slice_index_or queues c []) (slice_index_or fits c None)) → (c : ℕ) → c < n + 1 → IsFit list speed from c (slice_index_or queues c []) (slice_index_or (slice_set fits n f) c None)
+pub fits_set_behind : {T : Type 0} (list : Opening) (speed : Speed) (from : ℕ) (queues : List (List (Item T))) (fits : List (Option ℕ)) (n : ℕ) (f : Option ℕ) → n < length fits → IsFit list speed from n (slice_index_or queues n []) f → ((c : ℕ) → c < n → IsFit list speed from c (slice_index_or queues c []) (slice_index_or fits c None)) → (c : ℕ) → c < n + 1 → IsFit list speed from c (slice_index_or queues c []) (slice_index_or (slice_set fits n f) c None)
 fits_set_behind {T} list speed from queues fits n f within new behind c l = elim (cases_lt c n) [
   | inl a ↦ let other : c ≢ n = omega arith in rw get_or-set_other (behind c a)
   | inr a ↦
@@ -107,14 +106,14 @@ fits_set_behind {T} list speed from queues fits n f within new behind c l = elim
       subst P same (rw get_or-set_same new)
 ]
 
-pub fits_set_ahead : {T : Type 0} (list : Option (Cyclic ℕ)) (speed : Speed) (from : ℕ) (queues : List (List (Item T))) (fits : List (Option ℕ)) (n : ℕ) (f : Option ℕ) → ((c : ℕ) → n ≤ c → is_past (slice_index_or fits c None) from ≡ false → IsFit list speed from c (slice_index_or queues c []) (slice_index_or fits c None)) → (c : ℕ) → n + 1 ≤ c → is_past (slice_index_or (slice_set fits n f) c None) from ≡ false → IsFit list speed from c (slice_index_or queues c []) (slice_index_or (slice_set fits n f) c None)
+pub fits_set_ahead : {T : Type 0} (list : Opening) (speed : Speed) (from : ℕ) (queues : List (List (Item T))) (fits : List (Option ℕ)) (n : ℕ) (f : Option ℕ) → ((c : ℕ) → n ≤ c → is_past (slice_index_or fits c None) from ≡ false → IsFit list speed from c (slice_index_or queues c []) (slice_index_or fits c None)) → (c : ℕ) → n + 1 ≤ c → is_past (slice_index_or (slice_set fits n f) c None) from ≡ false → IsFit list speed from c (slice_index_or queues c []) (slice_index_or (slice_set fits n f) c None)
 fits_set_ahead list speed from queues fits n f ahead c l not_past =
     let other : c ≢ n = omega arith in
     let before : is_past (slice_index_or fits c None) from ≡ false = rw get_or-set_other at not_past in
     rw get_or-set_other (ahead c (omega arith) before)
 
 -- the fits of all classes, where those of the eight are made anew
-pub fits_all : {T : Type 0} (list : Option (Cyclic ℕ)) (speed : Speed) (from : ℕ) (queues : List (List (Item T))) (fits : List (Option ℕ)) → length fits ≡ 8 → ((c : ℕ) → c < 8 → IsFit list speed from c (slice_index_or queues c []) (slice_index_or fits c None)) → ((c : ℕ) → 8 ≤ c → is_past (slice_index_or fits c None) from ≡ false → IsFit list speed from c (slice_index_or queues c []) (slice_index_or fits c None)) → (c : ℕ) → IsFit list speed from c (slice_index_or queues c []) (slice_index_or fits c None)
+pub fits_all : {T : Type 0} (list : Opening) (speed : Speed) (from : ℕ) (queues : List (List (Item T))) (fits : List (Option ℕ)) → length fits ≡ 8 → ((c : ℕ) → c < 8 → IsFit list speed from c (slice_index_or queues c []) (slice_index_or fits c None)) → ((c : ℕ) → 8 ≤ c → is_past (slice_index_or fits c None) from ≡ false → IsFit list speed from c (slice_index_or queues c []) (slice_index_or fits c None)) → (c : ℕ) → IsFit list speed from c (slice_index_or queues c []) (slice_index_or fits c None)
 fits_all list speed from queues fits size behind ahead c = elim (cases_lt c 8) [
   | inl a ↦ behind c a
   | inr a ↦

@@ -1,5 +1,5 @@
 -- What a port keeps over offers and starts.
-use Rattle.std.proofs.Common.{◌≡◌, ◌≢◌, ℕ, Bool, true, ◌+◌, ◌*◌, ◌^◌, ◌<◌, ◌≤◌, ◌++◌, List, [], ◌∷◌, length, arith, refl, ap, ◌∙◌, sym, subst, Option, Some, None, max, get_or-set_same, get_or-set_other, length-set}
+use Rattle.std.proofs.Common.{◌≡◌, ◌≢◌, ℕ, Bool, true, ◌+◌, ◌*◌, ◌^◌, ◌<◌, ◌≤◌, ◌++◌, List, [], ◌∷◌, length, arith, refl, ap, ◌∙◌, sym, subst, Some, None, max, get_or-set_same, get_or-set_other, length-set}
 use Rattle.std.proofs.lemmas.Bool.Decides.{nat_tests}
 use Rattle.std.proofs.lemmas.List.Sums.{sum_by-set, sum_by_push, sum_by-cons}
 use Rattle.std.specs.Prelude.{if◌then◌else◌, nat_le, nat_eq, ◌&&◌, is_none, slice_index_or, slice_set, drop, sum_by, count_by}
@@ -8,18 +8,17 @@ use Rattle.std.proofs.lemmas.Bool.{leb-false}
 use Rattle.bridge_base.specs.declared.TheConstants.{END_OF_TIME, LONGEST_FRAME, MOST_ARRIVALS}
 use Rattle.bridge_frame.specs.declared.Speed.{Speed}
 use Rattle.bridge_frame.specs.Link.{occupied}
-use Rattle.bridge_cycle.specs.Cyclic.{Cyclic}
 use Rattle.bridge_cycle.proofs.Cases.{by_bool}
 use Rattle.bridge_port.specs.declared.item.Item.{Item}
 use Rattle.bridge_port.specs.declared.item.Refusal.TheVariants as refusal
 use Rattle.bridge_port.specs.Standing.{State, queue_of, refusal_of, AllStartable, IsKept, IsNext, started_state, queues_with, offered_state, copy_of, count_queued, NoStartBefore, StandsFor, IsBegun}
-use Rattle.bridge_port.specs.Opening.{ever_of}
+use Rattle.bridge_port.specs.Opening.{ever, Opening}
 use Rattle.bridge_port.proofs.Ports.{tail_is, below_length, stands_offered, stands_started, next_one}
 use Rattle.bridge_port.specs.Schedule.{Copy}
 
 -- what is not refused fits at some moment, and its queue has room
-pub admitted : {T : Type 0} (p : State T) (c : ℕ) (x : Item T) → refusal_of p c x ≡ None → (ever_of p.list c (occupied x.len p.speed) ≡ true) × (length (queue_of p c) < slice_index_or p.rooms c 0)
-admitted p c x h = by_bool (ever_of p.list c (occupied x.len p.speed))
+pub admitted : {T : Type 0} (p : State T) (c : ℕ) (x : Item T) → refusal_of p c x ≡ None → (ever p.list c (occupied x.len p.speed) ≡ true) × (length (queue_of p c) < slice_index_or p.rooms c 0)
+admitted p c x h = by_bool (ever p.list c (occupied x.len p.speed))
     (λ can.
     let z : (if nat_le (slice_index_or p.rooms c 0) (length (queue_of p c)) then Some refusal.Full else None) ≡ None = rw can at h in
     by_bool (nat_le (slice_index_or p.rooms c 0) (length (queue_of p c)))
@@ -49,11 +48,11 @@ count_popped f qs c x rest e =
     let h = count_cons f x rest in
     omega (arith, a, b, d, h)
 
-startable_push : {T : Type 0} (list : Option (Cyclic ℕ)) (speed : Speed) (c : ℕ) (q : List (Item T)) (x : Item T) → AllStartable list speed c q → ever_of list c (occupied x.len speed) ≡ true → x.len ≤ LONGEST_FRAME → AllStartable list speed c (q ++ x ∷ [])
+startable_push : {T : Type 0} (list : Opening) (speed : Speed) (c : ℕ) (q : List (Item T)) (x : Item T) → AllStartable list speed c q → ever list c (occupied x.len speed) ≡ true → x.len ≤ LONGEST_FRAME → AllStartable list speed c (q ++ x ∷ [])
 startable_push list speed c [] x a can len = ((can, len), tt)
 startable_push list speed c (y ∷ q) x a can len = (a.0, startable_push list speed c q x a.1 can len)
 
-startable_tail : {T : Type 0} (list : Option (Cyclic ℕ)) (speed : Speed) (c : ℕ) (q : List (Item T)) (x : Item T) (rest : List (Item T)) → q ≡ x ∷ rest → AllStartable list speed c q → AllStartable list speed c (drop 1 q)
+startable_tail : {T : Type 0} (list : Opening) (speed : Speed) (c : ℕ) (q : List (Item T)) (x : Item T) (rest : List (Item T)) → q ≡ x ∷ rest → AllStartable list speed c q → AllStartable list speed c (drop 1 q)
 startable_tail {T} list speed c q x rest e a =
     let b : AllStartable list speed c (x ∷ rest) = subst (AllStartable list speed c) e a in
     subst (AllStartable list speed c) (sym (tail_is q x rest e)) b.1
@@ -96,7 +95,7 @@ kept_refused p t k early few = record {
   few = omega arith;
 }
 
-pub kept_started : {T : Type 0} (p : State T) (k c : ℕ) (x : Item T) → IsKept p → IsNext p k c x → k ≤ max p.free p.earliest + 10 ^ 9 → occupied x.len p.speed ≤ 10 ^ 9 → IsKept (started_state p k c x)
+pub kept_started : {T : Type 0} (p : State T) (k c : ℕ) (x : Item T) → IsKept p → IsNext p k c x → k ≤ max p.free p.earliest + 2 * 10 ^ 9 → occupied x.len p.speed ≤ 10 ^ 9 → IsKept (started_state p k c x)
 kept_started {T} p k c x kept n soon short =
     let below = below_length p.queues c x n.rest n.is_head in
     let fewer = count_popped (λ (y : Item T). true) p.queues c x n.rest n.is_head in

@@ -1,52 +1,109 @@
 -- What fits at some moment of a port.
-use Rattle.std.proofs.Common.{◌≡◌, ◌≢◌, ℕ, Bool, true, false, ◌<◌, ◌≤◌, ◌+◌, Option, Some, None, List, arith, refl, sym, subst, inl, inr, get_or-set_other, get_or-set_same}
+use Rattle.std.proofs.Common.{◌≡◌, ◌≢◌, ℕ, Bool, true, false, ◌<◌, ◌≤◌, ◌+◌, ◌*◌, Some, List, arith, refl, sym, subst, inl, inr, get_or-set_other, get_or-set_same}
 use Rattle.std.specs.Prelude.{◌↔◌, IsTrue, slice_index_or, slice_set, length}
-use Rattle.std.proofs.lemmas.Bool.{cases_lt}
+use Rattle.std.proofs.lemmas.Bool.{cases_lt, and_parts, and_from}
 use Rattle.bridge_cycle.specs.Moments.{Fits, IsFirst}
+use Rattle.bridge_cycle.specs.Cyclic.{Cyclic, IsLawful}
+use Rattle.bridge_cycle.specs.Joined.{Joined}
 use Rattle.bridge_cycle.specs.Opens.{opens_in}
-use Rattle.bridge_cycle.specs.Cyclic.{Cyclic, turn_at, IsLawful}
+use Rattle.bridge_cycle.specs.Egress.{turn_at}
+use Rattle.bridge_cycle.specs.declared.egress.Egress.{Egress}
+use Rattle.bridge_cycle.specs.declared.egress.Egress.TheVariants as egress
+use Rattle.bridge_cycle.specs.declared.cyclic.TheConstants.{LONGEST_CYCLE}
 use Rattle.bridge_cycle.specs.Runs.{IsLongestRun, Allows}
 use Rattle.bridge_cycle.specs.declared.run.Run.{Run}
 use Rattle.bridge_cycle.specs.declared.run.Run.TheVariants.{Never}
+use Rattle.bridge_cycle.proofs.Changes.{soon_over}
 use Rattle.bridge_cycle.proofs.Fitting.{some_fits_is}
 use Rattle.bridge_cycle.proofs.Repeats.{fits_near}
 use Rattle.bridge_cycle.proofs.Lists.{list_repeats, allows_is}
-use Rattle.bridge_port.specs.Opening.{opens_of, ever_of, IsMade, HasRuns}
+use Rattle.bridge_port.specs.Opening.{Always, AreRuns, ever, Exchanged, IsMade, list_ever, list_opens, One, Opening, opening_of, opens}
 
--- the test of what fits says that some moment fits
-pub ever_is : (list : Option (Cyclic ℕ)) (c n : ℕ) → IsMade list → (ever_of list c n ≡ true) ↔ ((t : ℕ) × Fits (opens_of list c) n t)
-ever_is None c n made = (λ h. (0, λ u a b. refl), λ f. refl)
-ever_is (Some l) c n made = some_fits_is (λ u. opens_in (turn_at l u) c) l.cycle n made.cycle_some (list_repeats l c made)
+-- a port is open where the turn of its lists is
+pub opens_at : {A : Type 0} (e : Egress A) (c u : ℕ) → opens (opening_of (Some e)) c u ≡ opens_in (turn_at e u) c
+opens_at (egress.Cyclic l) c u = refl
+opens_at (egress.Joined j) c u = refl
+
+pub fits_at : {A : Type 0} (e : Egress A) (c n t : ℕ) → Fits (opens (opening_of (Some e)) c) n t → Fits (λ v. opens_in (turn_at e v) c) n t
+fits_at (egress.Cyclic l) c n t f = f
+fits_at (egress.Joined j) c n t f = f
+
+pub first_at : {A : Type 0} (e : Egress A) (c n from t : ℕ) → IsFirst (λ v. opens_in (turn_at e v) c) n from t → IsFirst (opens (opening_of (Some e)) c) n from t
+first_at (egress.Cyclic l) c n from t f = f
+first_at (egress.Joined j) c n from t f = f
+
+-- the test of what fits under a list says that it fits at some moment
+pub list_ever_is : (l : Cyclic ℕ) (c n : ℕ) → IsLawful l → (list_ever l c n ≡ true) ↔ ((t : ℕ) × Fits (list_opens l c) n t)
+list_ever_is l c n lawful = some_fits_is (list_opens l c) l.cycle n lawful.cycle_some (list_repeats l c lawful)
+
+-- what fits under a list at some moment fits at most a longest cycle after any moment
+pub list_soon : (l : Cyclic ℕ) (c n from : ℕ) → IsLawful l → list_ever l c n ≡ true → (u : ℕ) × (from ≤ u) × (u ≤ from + LONGEST_CYCLE) × Fits (list_opens l c) n u
+list_soon l c n from lawful can =
+    let some = (list_ever_is l c n lawful).0 can in
+    let near = fits_near (list_opens l c) l.cycle n some.0 from lawful.cycle_some (list_repeats l c lawful) some.1 in
+    let short = lawful.cycle in
+    (near.0, near.1, (let before = near.2 in omega arith), near.3)
+
+-- what fits under each list at some moment fits at most two longest cycles after any moment, also where the lists are exchanged before the frame is through
+pub ever_soon : (list : Opening) (c n from : ℕ) → IsMade list → ever list c n ≡ true → (u : ℕ) × (from ≤ u) × (u ≤ from + 2 * LONGEST_CYCLE) × Fits (opens list c) n u
+ever_soon Always c n from made can = (from, omega arith, omega arith, λ u a b. refl)
+ever_soon (One l) c n from made can =
+    let near = list_soon l c n from made can in
+    (near.0, near.1, (let before = near.2 in omega arith), near.3)
+ever_soon (Exchanged j) c n from made can =
+    let both = and_parts (list_ever j.old c n) (list_ever j.new c n) can in
+    soon_over j c n from (λ v. list_soon j.old c n v made.old both.0) (λ v. list_soon j.new c n v made.new both.1)
+
+-- so it fits at some moment
+pub ever_fits : (list : Opening) (c n : ℕ) → IsMade list → ever list c n ≡ true → (t : ℕ) × Fits (opens list c) n t
+ever_fits list c n made can = let soon = ever_soon list c n 0 made can in (soon.0, soon.3)
+
+-- the test of lists that are exchanged says that it fits at some moment under each
+pub exchanged_ever_is : (j : Joined ℕ) (c n : ℕ) → IsMade (Exchanged j) → (ever (Exchanged j) c n ≡ true) ↔ (((t : ℕ) × Fits (list_opens j.old c) n t) × ((t : ℕ) × Fits (list_opens j.new c) n t))
+exchanged_ever_is j c n lawful =
+    let old = list_ever_is j.old c n lawful.old in
+    let new = list_ever_is j.new c n lawful.new in (
+      λ h. let both = and_parts (list_ever j.old c n) (list_ever j.new c n) h in (old.0 both.0, new.0 both.1),
+      λ f. and_from (list_ever j.old c n) (list_ever j.new c n) (old.1 f.0) (new.1 f.1),
+    )
 
 same_bool : (a b : Bool) → (a ≡ true → b ≡ true) → (b ≡ true → a ≡ true) → a ≡ b
 same_bool true b f g = sym (f refl)
 same_bool false true f g = g refl
 same_bool false false f g = refl
 
--- the longest run of a class decides what fits
-pub run_decides : (list : Option (Cyclic ℕ)) (runs : List Run) (c n : ℕ) (b : Bool) → HasRuns list runs → c < 8 → IsTrue b ↔ Allows (slice_index_or runs c Never) n → b ≡ ever_of list c n
-run_decides list runs c n b has l is =
-    let run = slice_index_or runs c Never in
-    let fits = allows_is (opens_of list c) run (has.longest c l) n in
-    let ever = ever_is list c n has.made in
-    same_bool b (ever_of list c n) (λ h. ever.1 (fits.0 (is.0 h))) (λ h. is.1 (fits.1 (ever.0 h)))
+-- the run of a class decides what fits
+pub run_decides : (test : ℕ → ℕ → Bool) (runs : List Run) (c n : ℕ) (b : Bool) → AreRuns test runs → c < 8 → IsTrue b ↔ Allows (slice_index_or runs c Never) n → b ≡ test c n
+run_decides test runs c n b are l is =
+    let allows = are c l n in
+    same_bool b (test c n) (λ h. allows.0 (is.0 h)) (λ h. is.1 (allows.1 h))
 
--- what fits at some moment fits within a cycle of any moment
-pub fits_soon : (l : Cyclic ℕ) (c n from : ℕ) → IsLawful l → ever_of (Some l) c n ≡ true → (u : ℕ) × (from ≤ u) × (u ≤ from + 1000000000) × Fits (λ v. opens_in (turn_at l v) c) n u
-fits_soon l c n from made ever =
-    let some = (ever_is (Some l) c n made).0 ever in
-    let near = fits_near (λ v. opens_in (turn_at l v) c) l.cycle n some.0 from made.cycle_some (list_repeats l c made) some.1 in
-    let short = made.cycle in
-    (near.0, near.1, (let before = near.2 in omega arith), near.3)
+-- the longest runs of a list are its runs
+pub longest_are : (l : Cyclic ℕ) (runs : List Run) → IsLawful l → ((c : ℕ) → c < 8 → IsLongestRun (list_opens l c) (slice_index_or runs c Never)) → AreRuns (list_ever l) runs
+longest_are l runs lawful longest c b n =
+    let fits = allows_is (list_opens l c) (slice_index_or runs c Never) (longest c b) n in
+    let is = list_ever_is l c n lawful in
+    (λ h. is.1 (fits.0 h), λ h. fits.1 (is.0 h))
 
-pub first_soon : (opens : ℕ → Bool) (n from first u : ℕ) → IsFirst opens n from first → from ≤ u → u ≤ from + 1000000000 → Fits opens n u → first ≤ from + 1000000000
+-- the shorter of the runs of each class are those of lists that are exchanged
+pub shorter_are : (j : Joined ℕ) (old new runs : List Run) → AreRuns (list_ever j.old) old → AreRuns (list_ever j.new) new → ((c : ℕ) → c < 8 → (n : ℕ) → Allows (slice_index_or runs c Never) n ↔ (Allows (slice_index_or old c Never) n × Allows (slice_index_or new c Never) n)) → AreRuns (ever (Exchanged j)) runs
+shorter_are j old new runs one other both c b n =
+    let of_old = one c b n in
+    let of_new = other c b n in
+    let is = both c b n in (
+      λ h. let each = is.0 h in and_from (list_ever j.old c n) (list_ever j.new c n) (of_old.0 each.0) (of_new.0 each.1),
+      λ h. let each = and_parts (list_ever j.old c n) (list_ever j.new c n) h in is.1 (of_old.1 each.0, of_new.1 each.1),
+    )
+
+pub first_soon : (opens : ℕ → Bool) (n from first u : ℕ) → IsFirst opens n from first → from ≤ u → u ≤ from + 2 * LONGEST_CYCLE → Fits opens n u → first ≤ from + 2 * LONGEST_CYCLE
 first_soon opens n from first u is a b f = elim (cases_lt u first) [ inl l ↦ absurd (is.least u a l f) | inr l ↦ omega arith ]
 
-pub runs_more : (list : Option (Cyclic ℕ)) (runs : List Run) (i : ℕ) (run : Run) → i < length runs → IsLongestRun (opens_of list i) run → ((c : ℕ) → c < i → IsLongestRun (opens_of list c) (slice_index_or runs c Never)) → (c : ℕ) → c < i + 1 → IsLongestRun (opens_of list c) (slice_index_or (slice_set runs i run) c Never)
-runs_more list runs i run l is before c k = elim (cases_lt c i) [
+-- the run of one class more
+pub runs_more : (P : ℕ → Run → Type 0) (runs : List Run) (i : ℕ) (run : Run) → i < length runs → P i run → ((c : ℕ) → c < i → P c (slice_index_or runs c Never)) → (c : ℕ) → c < i + 1 → P c (slice_index_or (slice_set runs i run) c Never)
+runs_more P runs i run l is before c k = elim (cases_lt c i) [
   | inl a ↦ let other : c ≢ i = omega arith in rw get_or-set_other (before c a)
   | inr a ↦
       let same : i ≡ c = omega arith in
-      let P : ℕ → Type 0 = λ n. IsLongestRun (opens_of list n) (slice_index_or (slice_set runs i run) n Never) in
-      subst P same (rw get_or-set_same is)
+      let Q : ℕ → Type 0 = λ n. P n (slice_index_or (slice_set runs i run) n Never) in
+      subst Q same (rw get_or-set_same is)
 ]

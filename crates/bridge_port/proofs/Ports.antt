@@ -10,11 +10,11 @@ use Rattle.bridge_frame.specs.Link.{occupied}
 use Rattle.bridge_cycle.specs.Moments.{Fits}
 use Rattle.bridge_cycle.proofs.Cases.{by_bool}
 use Rattle.bridge_port.specs.declared.item.Item.{Item}
+use Rattle.bridge_port.specs.Opening.{ever, opens}
 use Rattle.bridge_port.specs.declared.item.Refusal.{Refusal}
 use Rattle.bridge_port.specs.declared.item.Refusal.TheVariants as refusal
 use Rattle.bridge_port.specs.Schedule.{Fate, Never, Full, Queued, Started, Copy, Rules, is_there, occupies, waiting, is_free, head, IsAnswer, StartsFit, IsLawful, behind, count_started, is_queued, is_started, not_before, queue, Begun, here, there}
 use Rattle.bridge_port.specs.Solo.{IsWhole}
-use Rattle.bridge_port.specs.Opening.{opens_of, ever_of}
 use Rattle.bridge_port.specs.Standing.{State, rules_of, queue_of, StandsFor, NoStartBefore, IsNext, IsBegun, IsIdle, refusal_of, fate_of, queues_with, offered_state, copy_of, started_state}
 use Rattle.bridge_port.proofs.Laws.{IsUnstarted, Idle, lawful_later, lawful_offer, free_new, offered_later}
 use Rattle.bridge_port.proofs.Starts.{front, there_no, started_of, IsStarted, lawful_start, queue_begun, queue_other}
@@ -34,7 +34,7 @@ idle_to p xs t st calm u h below free c q is fits = elim (front (rules_of p) c 0
   | inl b ↦ none-some q (sym b.no_head ∙ is)
   | inr f ↦
       let e = same_Some _ _ (sym f.is_head ∙ is) in
-      let fits2 : Fits (opens_of p.list c) (occupied f.item.len p.speed) u = rw (ap (λ (z : ℕ × _). occupied z.1.len p.speed) e) fits in
+      let fits2 : Fits (opens p.list c) (occupied f.item.len p.speed) u = rw (ap (λ (z : ℕ × _). occupied z.1.len p.speed) e) fits in
       calm c f.item (queue c f.after) (sym (st.queues c) ∙ queue_begun c 0 f.place f.item xs f.after f.begun) u h (leb-true _ _ (sym (st.link u h) ∙ free)) below fits2
 ]
 
@@ -109,7 +109,7 @@ pushed {X} qs c x d l = by_bool (nat_eq c d)
     rw (get_or-set_other, e) (sym (append-nil (slice_index_or qs d []))))
 
 offered_by : {T : Type 0} (p : State T) (xs : List (Copy (Item T))) (t c : ℕ) (x : Item T) (o : Option Refusal) → refusal_of p c x ≡ o → c < length p.queues → p.earliest ≤ t → NoStartBefore p t → StandsFor p xs → StandsFor (record p { queues = queues_with o p.queues c x; earliest = t; offered = p.offered + 1 }) (record { at = t; class = c; item = x; fate = fate_of o } ∷ xs)
-offered_by {T} p xs t c x o e l le calm st = by_bool (ever_of p.list c (occupied x.len p.speed))
+offered_by {T} p xs t c x o e l le calm st = by_bool (ever p.list c (occupied x.len p.speed))
     (λ can.
     let z : (if nat_le (slice_index_or p.rooms c 0) (length (queue_of p c)) then Some refusal.Full else None) ≡ o = rw can at e in
     by_bool (nat_le (slice_index_or p.rooms c 0) (length (queue_of p c)))
@@ -254,8 +254,8 @@ idle_calm p t idle c x rest e u a b l = λ f. nil_cons x rest (sym (idle c) ∙ 
 pub next_one : {T : Type 0} (p : State T) (k c : ℕ) (x : Item T) (l d : ℕ) (y : Item T) → IsNext p k c x → IsNext p l d y → (k ≡ l) × (c ≡ d) × (x ≡ y)
 next_one {T} p k c x l d y n m = elim (cases_order k l) [
   | inl e ↦
-      let fits_y : Fits (opens_of p.list d) (occupied y.len p.speed) k = subst (λ (t : ℕ). Fits (opens_of p.list d) (occupied y.len p.speed) t) (sym e) m.fits in
-      let fits_x : Fits (opens_of p.list c) (occupied x.len p.speed) l = subst (λ (t : ℕ). Fits (opens_of p.list c) (occupied x.len p.speed) t) e n.fits in
+      let fits_y : Fits (opens p.list d) (occupied y.len p.speed) k = subst (λ (t : ℕ). Fits (opens p.list d) (occupied y.len p.speed) t) (sym e) m.fits in
+      let fits_x : Fits (opens p.list c) (occupied x.len p.speed) l = subst (λ (t : ℕ). Fits (opens p.list c) (occupied x.len p.speed) t) e n.fits in
       let up : d ≤ c = n.highest d y m.rest m.is_head fits_y in
       let down : c ≤ d = m.highest c x n.rest n.is_head fits_x in
       let same : c ≡ d = omega arith in

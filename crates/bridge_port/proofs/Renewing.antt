@@ -1,18 +1,17 @@
 -- What becomes of the fits of the heads, and of the best of them, over offers and starts.
-use Rattle.std.proofs.Common.{◌≡◌, ◌≢◌, ℕ, true, false, ◌<◌, ◌≤◌, ◌+◌, ◌-◌, ◌^◌, ◌++◌, List, [], ◌∷◌, length, arith, refl, ap, ◌∙◌, sym, subst, Option, Some, None, max, get_or-set_same, get_or-set_other, inl, inr}
+use Rattle.std.proofs.Common.{◌≡◌, ◌≢◌, ℕ, true, false, ◌<◌, ◌≤◌, ◌+◌, ◌-◌, ◌*◌, ◌^◌, ◌++◌, List, [], ◌∷◌, length, arith, refl, ap, ◌∙◌, sym, subst, Option, Some, None, max, get_or-set_same, get_or-set_other, inl, inr}
 use Rattle.std.proofs.lemmas.Bool.Decides.{nat_tests}
 use Rattle.std.proofs.lemmas.Bool.{cases_order}
 use Rattle.std.specs.Prelude.{IsSome, nat_lt, nat_eq, slice_index_or, slice_get, slice_set, drop, sum_by, count_by}
 use Rattle.bridge_base.specs.declared.TheConstants.{END_OF_TIME, LONGEST_FRAME, MOST_ARRIVALS}
 use Rattle.bridge_frame.specs.Link.{occupied}
 use Rattle.bridge_frame.specs.declared.Speed.{Speed}
-use Rattle.bridge_cycle.specs.Cyclic.{Cyclic}
 use Rattle.bridge_cycle.specs.Moments.{IsFirst}
 use Rattle.bridge_cycle.proofs.Cases.{by_bool}
 use Rattle.bridge_port.specs.declared.item.Item.{Item}
 use Rattle.bridge_port.specs.Heads.{IsFit, is_past, IsBest, sooner, GainsHead, AreFits, KeepsHeads, StartsNext}
 use Rattle.bridge_port.specs.Standing.{State, count_queued, queue_of, queues_with, IsKept, IsNext, NoStartBefore, started_state}
-use Rattle.bridge_port.specs.Opening.{opens_of}
+use Rattle.bridge_port.specs.Opening.{Opening, opens}
 use Rattle.bridge_port.proofs.Best.{fit_is, fit_none, fit_later, fit_ahead, fit_behind, nothing_queued, fit_of_head, best_put, head_some}
 use Rattle.bridge_port.proofs.Keeping.{by_class, count_popped, count_pushed, kept_refused, kept_started, next_short}
 use Rattle.bridge_port.proofs.Ports.{heads}
@@ -55,7 +54,7 @@ by_class_both {X} P qs fits c v f l within new old d = by_bool (nat_eq c d)
     rw (get_or-set_other, get_or-set_other) (old d))
 
 -- an item that becomes a head
-heads_gained : {T : Type 0} (p : State T) (t c j queued : ℕ) (x : Item T) (fits : List (Option ℕ)) (best : Option (ℕ × ℕ)) → KeepsHeads p queued fits best → c < 8 → length fits ≡ 8 → slice_index_or fits c None ≡ None → p.earliest ≤ t → NoStartBefore p t → IsFirst (opens_of p.list c) (occupied x.len p.speed) (max p.free t) j → j ≤ max p.free t + 10 ^ 9 → IsKept (record p { queues = queues_with None p.queues c x; earliest = t; offered = p.offered + 1 }) → KeepsHeads (record p { queues = queues_with None p.queues c x; earliest = t; offered = p.offered + 1 }) (queued + 1) (slice_set fits c (Some j)) (sooner best j c)
+heads_gained : {T : Type 0} (p : State T) (t c j queued : ℕ) (x : Item T) (fits : List (Option ℕ)) (best : Option (ℕ × ℕ)) → KeepsHeads p queued fits best → c < 8 → length fits ≡ 8 → slice_index_or fits c None ≡ None → p.earliest ≤ t → NoStartBefore p t → IsFirst (opens p.list c) (occupied x.len p.speed) (max p.free t) j → j ≤ max p.free t + 2 * 10 ^ 9 → IsKept (record p { queues = queues_with None p.queues c x; earliest = t; offered = p.offered + 1 }) → KeepsHeads (record p { queues = queues_with None p.queues c x; earliest = t; offered = p.offered + 1 }) (queued + 1) (slice_set fits c (Some j)) (sooner best j c)
 heads_gained {T} p t c j queued x fits best k l size none le calm first soon kept =
     let eight = k.kept.queues in
     let within : c < length p.queues = omega arith in
@@ -82,8 +81,8 @@ heads_offered {T} p t c from queued x fits others best after k l size le calm is
     by_option (slice_index_or fits c None)
     (λ none.
     let g = gained none in
-    let first : IsFirst (opens_of p.list c) (occupied x.len p.speed) (max p.free t) g.at = subst (λ (n : ℕ). IsFirst (opens_of p.list c) (occupied x.len p.speed) n g.at) is g.first in
-    let soon : g.at ≤ max p.free t + 10 ^ 9 = let near = g.soon in omega arith in
+    let first : IsFirst (opens p.list c) (occupied x.len p.speed) (max p.free t) g.at = subst (λ (n : ℕ). IsFirst (opens p.list c) (occupied x.len p.speed) n g.at) is g.first in
+    let soon : g.at ≤ max p.free t + 2 * 10 ^ 9 = let near = g.soon in omega arith in
     let made : KeepsHeads new (queued + 1) (slice_set fits c (Some g.at)) (sooner best g.at c) = heads_gained p t c g.at queued x fits best k l size none le calm first soon kept in
     rw (g.fits, g.best) made)
     (λ j some.
@@ -128,7 +127,7 @@ pub none_queued : {X : Type 0} (qs : List (List X)) (d : ℕ) → sum_by (count_
 none_queued qs d none = empty_so qs d (slice_index_or qs d []) refl none
 
 -- and has no fit
-no_fit : {T : Type 0} (list : Option (Cyclic ℕ)) (speed : Speed) (from c : ℕ) (q : List (Item T)) (f : Option ℕ) → IsFit list speed from c q f → q ≡ [] → f ≡ None
+no_fit : {T : Type 0} (list : Opening) (speed : Speed) (from c : ℕ) (q : List (Item T)) (f : Option ℕ) → IsFit list speed from c q f → q ≡ [] → f ≡ None
 no_fit list speed from c [] None i e = refl
 no_fit list speed from c [] (Some k) i e = absurd i
 no_fit list speed from c (x ∷ rest) f i e = absurd (cc)

@@ -1,19 +1,18 @@
 -- When the heads of a port may start, and the best of them: the one that fits first, and of several the one of the highest class.
-use Rattle.std.specs.Prelude.{◌≡◌, ℕ, Bool, false, true, ◌<◌, ◌≤◌, ◌+◌, ◌^◌, ◌&&◌, ◌||◌, max, length, nat_lt, nat_eq, Option, Some, None, List, [], ◌∷◌, slice_index_or, slice_set, if◌then◌else◌}
+use Rattle.std.specs.Prelude.{◌≡◌, ℕ, Bool, false, true, ◌<◌, ◌≤◌, ◌+◌, ◌*◌, ◌^◌, ◌&&◌, ◌||◌, max, length, nat_lt, nat_eq, Option, Some, None, List, [], ◌∷◌, slice_index_or, slice_set, if◌then◌else◌}
 use Rattle.bridge_frame.specs.declared.Speed.{Speed}
 use Rattle.bridge_frame.specs.Link.{occupied}
 use Rattle.bridge_cycle.specs.Moments.{IsFirst}
-use Rattle.bridge_cycle.specs.Cyclic.{Cyclic}
 use Rattle.bridge_port.specs.declared.item.Item.{Item}
 use Rattle.bridge_port.specs.Standing.{State, IsNext, IsKept, count_queued, queue_of}
-use Rattle.bridge_port.specs.Opening.{opens_of}
+use Rattle.bridge_port.specs.Opening.{Opening, opens}
 
--- the least moment from `from` on at which the head of a class may start, at most 10^9 ns later; None where nothing is queued
-abbrev pub IsFit : {T : Type 0} → Option (Cyclic ℕ) → Speed → ℕ → ℕ → List (Item T) → Option ℕ → Type 0
+-- the least moment from `from` on at which the head of a class may start, at most 2 * 10^9 ns later; None where nothing is queued
+abbrev pub IsFit : {T : Type 0} → Opening → Speed → ℕ → ℕ → List (Item T) → Option ℕ → Type 0
 IsFit list speed from c [] None = Unit {0}
 IsFit list speed from c [] (Some k) = ⊥
 IsFit list speed from c (x ∷ rest) None = ⊥
-IsFit list speed from c (x ∷ rest) (Some k) = IsFirst (opens_of list c) (occupied x.len speed) from k × (k ≤ from + 10 ^ 9)
+IsFit list speed from c (x ∷ rest) (Some k) = IsFirst (opens list c) (occupied x.len speed) from k × (k ≤ from + 2 * 10 ^ 9)
 
 -- a moment that lies before `from`
 abbrev pub is_past : Option ℕ → ℕ → Bool
@@ -43,18 +42,18 @@ sooner_of best None c = best
 sooner_of best (Some k) c = sooner best k c
 
 -- an item of this length becomes the head of class c: its fit is kept, and the best of all
-pub record GainsHead (list : Option (Cyclic ℕ)) (speed : Speed) (from c len : ℕ) (old new : List (Option ℕ)) (before after : Option (ℕ × ℕ)) : Type 0 where
+pub record GainsHead (list : Opening) (speed : Speed) (from c len : ℕ) (old new : List (Option ℕ)) (before after : Option (ℕ × ℕ)) : Type 0 where
   pub at : ℕ
-  pub first : IsFirst (opens_of list c) (occupied len speed) from at
-  pub soon : at ≤ from + 10 ^ 9
+  pub first : IsFirst (opens list c) (occupied len speed) from at
+  pub soon : at ≤ from + 2 * 10 ^ 9
   pub fits : new ≡ slice_set old c (Some at)
   pub best : after ≡ sooner before at c
 
--- the next start of a port: its moment, at most 10^9 ns after the link is free and an offer may come, and its class
+-- the next start of a port: its moment, at most 2 * 10^9 ns after the link is free and an offer may come, and its class
 pub record StartsNext {T : Type 0} (p : State T) (k c : ℕ) : Type 0 where
   pub item : Item T
   pub next : IsNext p k c item
-  pub soon : k ≤ max p.free p.earliest + 10 ^ 9
+  pub soon : k ≤ max p.free p.earliest + 2 * 10 ^ 9
   pub below : c < length p.queues
 
 -- the fits of the heads of a port, by class

@@ -1,34 +1,71 @@
 -- When the classes of a port are open, and how long.
-use Rattle.std.specs.Prelude.{ℕ, Bool, true, ◌<◌, ◌&&◌, nat_le, Option, Some, None, List, slice_index_or}
+use Rattle.std.specs.Prelude.{◌≡◌, ◌↔◌, ℕ, Bool, true, ◌<◌, ◌&&◌, nat_le, Option, Some, None, List, slice_index_or}
 use Rattle.std.specs.List.{list_all}
 use Rattle.bridge_cycle.specs.Opens.{opens_in}
-use Rattle.bridge_cycle.specs.Cyclic.{Cyclic, turn_at, IsLawful}
+use Rattle.bridge_cycle.specs.Cyclic as cyclic
+use Rattle.bridge_cycle.specs.Joined as joined
+use Rattle.bridge_cycle.specs.declared.egress.Egress.{Egress}
+use Rattle.bridge_cycle.specs.declared.egress.Egress.TheVariants.{Cyclic, Joined}
 use Rattle.bridge_cycle.specs.Fitting.{some_fits}
-use Rattle.bridge_cycle.specs.Runs.{IsLongestRun}
+use Rattle.bridge_cycle.specs.Runs.{Allows}
 use Rattle.bridge_cycle.specs.declared.run.Run.{Run}
 use Rattle.bridge_cycle.specs.declared.run.Run.TheVariants.{Never}
 use Rattle.bridge_port.specs.declared.queues.TheConstants.{LARGEST_ROOM}
 
--- whether a class is open at a moment: always without a list
-abbrev pub opens_of : Option (Cyclic ℕ) → ℕ → ℕ → Bool
-opens_of None c u = true
-opens_of (Some l) c u = opens_in (turn_at l u) c
+-- when the gates of a port are open: always, as one list says, or as two say that are exchanged once
+pub data Opening : Type 0 where
+  Always : Opening
+  One : cyclic.Cyclic ℕ → Opening
+  Exchanged : joined.Joined ℕ → Opening
 
--- whether a class is open for this long at some moment
-abbrev pub ever_of : Option (Cyclic ℕ) → ℕ → ℕ → Bool
-ever_of None c n = true
-ever_of (Some l) c n = some_fits (λ u. opens_in (turn_at l u) c) l.cycle n
+-- the gates of a port with these lists: always open without one
+abbrev pub opening_of : {A : Type 0} → Option (Egress A) → Opening
+opening_of None = Always
+opening_of (Some (Cyclic l)) = One l
+opening_of (Some (Joined j)) = Exchanged j
 
--- a list that can be made
-abbrev pub IsMade : Option (Cyclic ℕ) → Type 0
-IsMade None = Unit {0}
-IsMade (Some l) = IsLawful l
+-- whether a list opens a class at a moment
+abbrev pub list_opens : cyclic.Cyclic ℕ → ℕ → ℕ → Bool
+list_opens l c u = opens_in (cyclic.turn_at l u) c
+
+-- whether a class is open at a moment
+abbrev pub opens : Opening → ℕ → ℕ → Bool
+opens Always c u = true
+opens (One l) c u = list_opens l c u
+opens (Exchanged j) c u = opens_in (joined.turn_at j u) c
+
+-- whether a list opens a class for this long at some moment
+abbrev pub list_ever : cyclic.Cyclic ℕ → ℕ → ℕ → Bool
+list_ever l c n = some_fits (list_opens l c) l.cycle n
+
+-- whether each list opens a class for this long at some moment: of lists that are exchanged the old one and the new one, each by itself
+abbrev pub ever : Opening → ℕ → ℕ → Bool
+ever Always c n = true
+ever (One l) c n = list_ever l c n
+ever (Exchanged j) c n = list_ever j.old c n && list_ever j.new c n
+
+-- the same of the lists of a port
+abbrev pub opens_of : {A : Type 0} → Option (Egress A) → ℕ → ℕ → Bool
+opens_of list = opens (opening_of list)
+
+abbrev pub ever_of : {A : Type 0} → Option (Egress A) → ℕ → ℕ → Bool
+ever_of list = ever (opening_of list)
+
+-- each list can be made
+abbrev pub IsMade : Opening → Type 0
+IsMade Always = Unit {0}
+IsMade (One l) = cyclic.IsLawful l
+IsMade (Exchanged j) = joined.IsLawful j
 
 -- rooms of queues, in frames
 abbrev pub are_rooms : List ℕ → Bool
 are_rooms rooms = list_all (λ n. nat_le 1 n && nat_le n LARGEST_ROOM) rooms
 
--- the longest runs of the eight classes
-pub record HasRuns (list : Option (Cyclic ℕ)) (runs : List Run) : Type 0 where
+-- the runs of the eight classes allow the lengths that a test accepts
+abbrev pub AreRuns : (ℕ → ℕ → Bool) → List Run → Type 0
+AreRuns test runs = (c : ℕ) → c < 8 → (n : ℕ) → Allows (slice_index_or runs c Never) n ↔ (test c n ≡ true)
+
+-- the runs that a port keeps for its gates
+pub record HasRuns (list : Opening) (runs : List Run) : Type 0 where
   pub made : IsMade list
-  pub longest : (c : ℕ) → c < 8 → IsLongestRun (opens_of list c) (slice_index_or runs c Never)
+  pub allow : AreRuns (ever list) runs

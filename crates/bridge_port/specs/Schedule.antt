@@ -15,7 +15,7 @@ pub record Copy (X : Type 0) : Type 0 where
   pub item : X
   pub fate : Fate
 
--- What a port is made of: which class is open when, which lengths of a class fit at some moment, the rooms, and how long a copy occupies the link.
+-- What a port is made of: which class is open when, which lengths of a class ever fit, the rooms, and how long a copy occupies the link.
 pub record Rules (X : Type 0) : Type 0 where
   pub opens : ℕ → ℕ → Bool
   pub ever : ℕ → ℕ → Bool

@@ -4,8 +4,7 @@ use Rattle.bridge_base.specs.declared.TheConstants.{END_OF_TIME, LONGEST_FRAME, 
 use Rattle.bridge_frame.specs.declared.Speed.{Speed}
 use Rattle.bridge_frame.specs.Link.{occupied}
 use Rattle.bridge_cycle.specs.Moments.{Fits}
-use Rattle.bridge_cycle.specs.Cyclic.{Cyclic}
-use Rattle.bridge_port.specs.Opening.{opens_of, ever_of}
+use Rattle.bridge_port.specs.Opening.{ever, Opening, opens}
 use Rattle.bridge_port.specs.declared.item.Item.{Item}
 use Rattle.bridge_port.specs.declared.item.Refusal.{Refusal}
 use Rattle.bridge_port.specs.declared.item.Refusal.TheVariants as refusal
@@ -13,11 +12,11 @@ use Rattle.bridge_port.specs.Rings.{queues_of, rooms_of}
 use Rattle.circular_buffer.specs.Buffer.{Buffer}
 use Rattle.bridge_port.specs.Schedule.{Fate, Never, Full, Queued, Copy, Rules, IsLawful, count_started, is_free, not_before, queue, Begun}
 
--- What a port keeps: its queues by class, the oldest item first, the moment from which its link is free, and the least
--- moment that the next offer may have.
+-- What a port keeps: when its gates are open, its queues by class, the oldest item first, the moment from which its link
+-- is free, and the least moment that the next offer may have.
 pub record State (T : Type 0) : Type 0 where
   pub speed : Speed
-  pub list : Option (Cyclic ℕ)
+  pub list : Opening
   pub rooms : List ℕ
   pub queues : List (List (Item T))
   pub free : ℕ
@@ -26,16 +25,16 @@ pub record State (T : Type 0) : Type 0 where
   pub started : ℕ
 
 -- what is seen of the fields of a port
-abbrev pub state : {T : Type 0} → Speed → Option (Cyclic ℕ) → List (Buffer (Item T)) → ℕ → ℕ → ℕ → ℕ → State T
+abbrev pub state : {T : Type 0} → Speed → Opening → List (Buffer (Item T)) → ℕ → ℕ → ℕ → ℕ → State T
 state speed list rings free earliest offered started = record { speed = speed; list = list; rooms = rooms_of rings; queues = queues_of rings; free = free; earliest = earliest; offered = offered; started = started }
 
 -- a port that was offered nothing
-abbrev pub idle_state : {T : Type 0} → Speed → Option (Cyclic ℕ) → List ℕ → State T
+abbrev pub idle_state : {T : Type 0} → Speed → Opening → List ℕ → State T
 idle_state speed list rooms = record { speed = speed; list = list; rooms = rooms; queues = replicate 8 []; free = 0; earliest = 0; offered = 0; started = 0 }
 
 -- what a port says to schedules
 abbrev pub rules_of : {T : Type 0} → State T → Rules (Item T)
-rules_of p = record { opens = opens_of p.list; ever = ever_of p.list; room = λ c. slice_index_or p.rooms c 0; occ = λ x. occupied x.len p.speed }
+rules_of p = record { opens = opens p.list; ever = ever p.list; room = λ c. slice_index_or p.rooms c 0; occ = λ x. occupied x.len p.speed }
 
 abbrev pub queue_of : {T : Type 0} → State T → ℕ → List (Item T)
 queue_of p c = slice_index_or p.queues c []
@@ -51,7 +50,7 @@ pub record StandsFor {T : Type 0} (p : State T) (xs : List (Copy (Item T))) : Ty
 
 -- no start is asked for before t
 abbrev pub NoStartBefore : {T : Type 0} → State T → ℕ → Type 0
-NoStartBefore {T} p t = (c : ℕ) (x : Item T) (rest : List (Item T)) → queue_of p c ≡ x ∷ rest → (u : ℕ) → p.earliest ≤ u → p.free ≤ u → u < t → ¬ Fits (opens_of p.list c) (occupied x.len p.speed) u
+NoStartBefore {T} p t = (c : ℕ) (x : Item T) (rest : List (Item T)) → queue_of p c ≡ x ∷ rest → (u : ℕ) → p.earliest ≤ u → p.free ≤ u → u < t → ¬ Fits (opens p.list c) (occupied x.len p.speed) u
 
 -- the next start: the head of the highest class whose head fits at the least moment at which one does
 pub record IsNext {T : Type 0} (p : State T) (k c : ℕ) (x : Item T) : Type 0 where
@@ -59,9 +58,9 @@ pub record IsNext {T : Type 0} (p : State T) (k c : ℕ) (x : Item T) : Type 0 w
   pub is_head : queue_of p c ≡ x ∷ rest
   pub after : p.earliest ≤ k
   pub free : p.free ≤ k
-  pub fits : Fits (opens_of p.list c) (occupied x.len p.speed) k
+  pub fits : Fits (opens p.list c) (occupied x.len p.speed) k
   pub least : NoStartBefore p k
-  pub highest : (d : ℕ) (y : Item T) (others : List (Item T)) → queue_of p d ≡ y ∷ others → Fits (opens_of p.list d) (occupied y.len p.speed) k → d ≤ c
+  pub highest : (d : ℕ) (y : Item T) (others : List (Item T)) → queue_of p d ≡ y ∷ others → Fits (opens p.list d) (occupied y.len p.speed) k → d ≤ c
 
 -- nothing is queued
 abbrev pub IsIdle : {T : Type 0} → State T → Type 0
@@ -72,10 +71,10 @@ abbrev pub IsDue : {T : Type 0} → State T → Option ℕ → Type 0
 IsDue p None = IsIdle p
 IsDue {T} p (Some k) = (c : ℕ) × (x : Item T) × IsNext p k c x
 
--- why an item is refused: no moment fits it, else its queue is full
+-- why an item is refused: under a list of the port no moment fits it, else its queue is full
 abbrev pub refusal_of : {T : Type 0} → State T → ℕ → Item T → Option Refusal
 refusal_of p c x =
-    if not (ever_of p.list c (occupied x.len p.speed)) then Some refusal.NeverFits
+    if not (ever p.list c (occupied x.len p.speed)) then Some refusal.NeverFits
     else if nat_le (slice_index_or p.rooms c 0) (length (queue_of p c)) then Some refusal.Full
     else None
 
@@ -126,10 +125,10 @@ count_queued f p = sum_by (count_by f) p.queues
 abbrev pub limit : ℕ → ℕ
 limit started = END_OF_TIME + 3 * 10 ^ 9 * started
 
--- these items of a class fit at some moment, and are no longer than a frame may be
-abbrev pub AllStartable : {T : Type 0} → Option (Cyclic ℕ) → Speed → ℕ → List (Item T) → Type 0
+-- these items of a class fit at some moment under each list, and are no longer than a frame may be
+abbrev pub AllStartable : {T : Type 0} → Opening → Speed → ℕ → List (Item T) → Type 0
 AllStartable list speed c [] = Unit {0}
-AllStartable list speed c (x ∷ xs) = ((ever_of list c (occupied x.len speed) ≡ true) × (x.len ≤ LONGEST_FRAME)) × AllStartable list speed c xs
+AllStartable list speed c (x ∷ xs) = ((ever list c (occupied x.len speed) ≡ true) × (x.len ≤ LONGEST_FRAME)) × AllStartable list speed c xs
 
 -- what every port keeps
 pub record IsKept {T : Type 0} (p : State T) : Type 0 where

@@ -1,12 +1,12 @@
 //! When the heads of a port may start, and which starts next.
 ghost use Rattle.std.specs.Prelude.{◌≡◌, ◌+◌, ◌<◌, ◌≤◌, ℕ, false, true, None, IsSome, [], vec_len, slice_index_or, slice_set};
 ghost use Rattle.bridge_frame.specs.Link.{occupied};
-ghost use Rattle.bridge_port.specs.Opening.{ever_of};
+ghost use Rattle.bridge_port.specs.Opening.{ever};
 ghost use Rattle.bridge_port.specs.Rings.{queues_of};
 ghost use Rattle.bridge_port.specs.Standing.{AllStartable};
 ghost use Rattle.bridge_port.specs.Heads as heads;
 
-use crate::egress::Egress;
+use crate::gates::Gates;
 use crate::item::Item;
 use crate::queues::head;
 use bridge_base::LONGEST_FRAME;
@@ -48,7 +48,7 @@ fn is_past(fit: Option<u64>, from: u64) -> bool
 // Not inlined, so that the loop of `renew` stays small.
 #[inline(never)]
 fn fit_of<T: Drop, A: Allocator + Copy>(
-    egress: &Egress<A>,
+    gates: &Gates<A>,
     speed: Speed,
     rings: &Vec<HeapCircularBuffer<Item<T>, A>, A>,
     class: usize,
@@ -57,14 +57,14 @@ fn fit_of<T: Drop, A: Allocator + Copy>(
     requires class { class < 8 }
     requires eight { vec_len rings.now ≡ 8 }
     requires from { from < 9_000_000_000_000_000_000 }
-    requires startable { AllStartable egress.now speed class (slice_index_or (queues_of rings.now.items) class []) }
-    ensures { heads.IsFit egress.now speed from class (slice_index_or (queues_of rings.now.items) class []) result }
+    requires startable { AllStartable gates.now speed class (slice_index_or (queues_of rings.now.items) class []) }
+    ensures { heads.IsFit gates.now speed from class (slice_index_or (queues_of rings.now.items) class []) result }
 {
     match head(rings, class) {
         None => None,
         Some(item) => {
             let occ = occupation(item.len, speed);
-            Some(egress.earliest_fit(class, occ, from))
+            Some(gates.earliest_fit(class, occ, from))
         }
     }
 }
@@ -72,7 +72,7 @@ fn fit_of<T: Drop, A: Allocator + Copy>(
 /// Makes the fit of a class anew where it lies before `from`, and gives it.
 fn renewed<T: Drop, A: Allocator + Copy>(
     fits: &mut [Option<u64>; 8],
-    egress: &Egress<A>,
+    gates: &Gates<A>,
     speed: Speed,
     rings: &Vec<HeapCircularBuffer<Item<T>, A>, A>,
     class: usize,
@@ -81,17 +81,17 @@ fn renewed<T: Drop, A: Allocator + Copy>(
     requires class { class < 8 }
     requires eight { vec_len rings.now ≡ 8 }
     requires from { from < 9_000_000_000_000_000_000 }
-    requires startable { AllStartable egress.now speed class (slice_index_or (queues_of rings.now.items) class []) }
+    requires startable { AllStartable gates.now speed class (slice_index_or (queues_of rings.now.items) class []) }
     requires kept { heads.is_past (slice_index_or fits.old class None) from ≡ false
-        → heads.IsFit egress.now speed from class (slice_index_or (queues_of rings.now.items) class []) (slice_index_or fits.old class None) }
-    ensures fit { heads.IsFit egress.now speed from class (slice_index_or (queues_of rings.now.items) class []) result }
+        → heads.IsFit gates.now speed from class (slice_index_or (queues_of rings.now.items) class []) (slice_index_or fits.old class None) }
+    ensures fit { heads.IsFit gates.now speed from class (slice_index_or (queues_of rings.now.items) class []) result }
     ensures fits { fits.new ≡ slice_set fits.old class result }
 {
     let kept = fits[class];
     if !is_past(kept, from) {
         return kept;
     }
-    let fit = fit_of(egress, speed, rings, class, from);
+    let fit = fit_of(gates, speed, rings, class, from);
     fits[class] = fit;
     fit
 }
@@ -99,23 +99,23 @@ fn renewed<T: Drop, A: Allocator + Copy>(
 /// Makes anew what lies before `from` of the fits of all classes, and gives the best of them.
 pub fn renew<T: Drop, A: Allocator + Copy>(
     fits: &mut [Option<u64>; 8],
-    egress: &Egress<A>,
+    gates: &Gates<A>,
     speed: Speed,
     rings: &Vec<HeapCircularBuffer<Item<T>, A>, A>,
     from: u64,
 ) -> Option<(u64, usize)>
     requires eight { vec_len rings.now ≡ 8 }
     requires from { from < 9_000_000_000_000_000_000 }
-    requires startable { (c : ℕ) → AllStartable egress.now speed c (slice_index_or (queues_of rings.now.items) c []) }
+    requires startable { (c : ℕ) → AllStartable gates.now speed c (slice_index_or (queues_of rings.now.items) c []) }
     requires kept { (c : ℕ) → heads.is_past (slice_index_or fits.old c None) from ≡ false
-        → heads.IsFit egress.now speed from c (slice_index_or (queues_of rings.now.items) c []) (slice_index_or fits.old c None) }
+        → heads.IsFit gates.now speed from c (slice_index_or (queues_of rings.now.items) c []) (slice_index_or fits.old c None) }
     ensures fits { (c : ℕ)
-        → heads.IsFit egress.now speed from c (slice_index_or (queues_of rings.now.items) c []) (slice_index_or fits.new c None) }
+        → heads.IsFit gates.now speed from c (slice_index_or (queues_of rings.now.items) c []) (slice_index_or fits.new c None) }
     ensures best { heads.IsBest fits.new 8 result }
 {
     let mut best = None;
     for class in 0..8usize {
-        let fit = renewed(fits, egress, speed, rings, class, from);
+        let fit = renewed(fits, gates, speed, rings, class, from);
         best = sooner_of(best, fit, class);
     }
     best
@@ -126,7 +126,7 @@ pub fn renew<T: Drop, A: Allocator + Copy>(
 pub fn with_item<A: Allocator + Copy>(
     fits: &mut [Option<u64>; 8],
     best: Option<(u64, usize)>,
-    egress: &Egress<A>,
+    gates: &Gates<A>,
     speed: Speed,
     class: usize,
     len: u32,
@@ -135,16 +135,16 @@ pub fn with_item<A: Allocator + Copy>(
     requires class { class < 8 }
     requires from { from < 9_000_000_000_000_000_000 }
     requires length { len ≤ LONGEST_FRAME }
-    requires ever { ever_of egress.now class (occupied len speed) ≡ true }
+    requires ever { ever gates.now class (occupied len speed) ≡ true }
     ensures behind { IsSome (slice_index_or fits.old class None) → (fits.new ≡ fits.old) × (result ≡ best) }
     ensures gained { slice_index_or fits.old class None ≡ None
-        → heads.GainsHead egress.now speed from class len fits.old fits.new best result }
+        → heads.GainsHead gates.now speed from class len fits.old fits.new best result }
 {
     match fits[class] {
         Some(_) => best,
         None => {
             let occ = occupation(len, speed);
-            let fit = egress.earliest_fit(class, occ, from);
+            let fit = gates.earliest_fit(class, occ, from);
             fits[class] = Some(fit);
             sooner(best, fit, class)
         }
@@ -155,7 +155,7 @@ pub fn with_item<A: Allocator + Copy>(
 #[inline(always)]
 pub fn renew_left<T: Drop, A: Allocator + Copy>(
     fits: &mut [Option<u64>; 8],
-    egress: &Egress<A>,
+    gates: &Gates<A>,
     speed: Speed,
     rings: &Vec<HeapCircularBuffer<Item<T>, A>, A>,
     class: usize,
@@ -165,19 +165,19 @@ pub fn renew_left<T: Drop, A: Allocator + Copy>(
     requires class { class < 8 }
     requires eight { vec_len rings.now ≡ 8 }
     requires from { from < 9_000_000_000_000_000_000 }
-    requires startable { (c : ℕ) → AllStartable egress.now speed c (slice_index_or (queues_of rings.now.items) c []) }
+    requires startable { (c : ℕ) → AllStartable gates.now speed c (slice_index_or (queues_of rings.now.items) c []) }
     requires kept { (c : ℕ) → heads.is_past (slice_index_or fits.old c None) from ≡ false
-        → heads.IsFit egress.now speed from c (slice_index_or (queues_of rings.now.items) c []) (slice_index_or fits.old c None) }
+        → heads.IsFit gates.now speed from c (slice_index_or (queues_of rings.now.items) c []) (slice_index_or fits.old c None) }
     requires none { left ≡ 0 → (c : ℕ)
-        → heads.IsFit egress.now speed from c (slice_index_or (queues_of rings.now.items) c []) (slice_index_or (slice_set fits.old class None) c None) }
+        → heads.IsFit gates.now speed from c (slice_index_or (queues_of rings.now.items) c []) (slice_index_or (slice_set fits.old class None) c None) }
     requires no_head { left ≡ 0 → (c : ℕ) → slice_index_or (slice_set fits.old class None) c None ≡ None }
     ensures fits { (c : ℕ)
-        → heads.IsFit egress.now speed from c (slice_index_or (queues_of rings.now.items) c []) (slice_index_or fits.new c None) }
+        → heads.IsFit gates.now speed from c (slice_index_or (queues_of rings.now.items) c []) (slice_index_or fits.new c None) }
     ensures best { heads.IsBest fits.new 8 result }
 {
     if left == 0 {
         fits[class] = None;
         return None;
     }
-    renew(fits, egress, speed, rings, from)
+    renew(fits, gates, speed, rings, from)
 }

@@ -14,7 +14,7 @@ pub struct Item<T> {
 /// Why an item is not queued.
 #[derive(Clone, Copy, Debug, PartialEq, Eq, Error)]
 pub enum Refusal {
-    /// The class is open for so long at no moment.
+    /// Under a list of the port the class is open for so long at no moment.
     #[error("no moment fits the frame")]
     NeverFits,
     /// The queue of the class holds as many frames as its room.

@@ -1,11 +1,14 @@
 //! Laws of schedules.
-ghost use Rattle.std.specs.Prelude.{◌≡◌, ◌≢◌, ◌+◌, ◌<◌, ◌≤◌, ◌↔◌, ◌∷◌, ℕ, List, Option, Some, true};
+ghost use Rattle.std.specs.Prelude.{◌≡◌, ◌≢◌, ◌+◌, ◌*◌, ◌<◌, ◌≤◌, ◌↔◌, ◌∷◌, ℕ, List, Some, true};
 ghost use Rattle.bridge_cycle.specs.Cyclic.{Cyclic};
+ghost use Rattle.bridge_cycle.specs.Joined.{Joined};
 ghost use Rattle.bridge_cycle.specs.Moments.{Fits};
-ghost use Rattle.bridge_port.specs.Opening.{ever_of, IsMade, opens_of};
+ghost use Rattle.bridge_port.specs.Opening.{Always, ever, Exchanged, IsMade, list_opens, One, Opening, opens};
 ghost use Rattle.bridge_base.specs.Members.{In};
 ghost use Rattle.bridge_port.specs.Schedule.{Begun, Copy, Rules, IsAnswer, IsLawful, OfferedUpTo, Started, head, is_free};
 ghost use Rattle.bridge_port.specs.Solo.{HasOwnWindow, IsSolo, IsWhole, SameOffers, only};
+
+use bridge_cycle::LONGEST_CYCLE;
 
 /// A lawful schedule up to a moment is one up to each lower moment that is after its last start and not before its last
 /// offer.
@@ -59,11 +62,26 @@ pub fn own_windows_isolate<X: Drop>()
         → IsSolo r (only c xs) }
 {}
 
-/// The test of what fits says that the class is open for so long at some moment.
+/// The test of what fits says that the class is open for so long at some moment: without a list, under one list, and of
+/// lists that are exchanged under the old one and under the new one, each by itself.
 pub fn ever_is_fitting()
-    ensures { (list : Option (Cyclic ℕ)) (c n : ℕ)
+    ensures none { (c n : ℕ) → (ever Always c n ≡ true) ↔ ((t : ℕ) × Fits (opens Always c) n t) }
+    ensures one { (l : Cyclic ℕ) (c n : ℕ)
+        → IsMade (One l)
+        → (ever (One l) c n ≡ true) ↔ ((t : ℕ) × Fits (opens (One l) c) n t) }
+    ensures exchanged { (j : Joined ℕ) (c n : ℕ)
+        → IsMade (Exchanged j)
+        → (ever (Exchanged j) c n ≡ true)
+        ↔ (((t : ℕ) × Fits (list_opens j.old c) n t) × ((t : ℕ) × Fits (list_opens j.new c) n t)) }
+{}
+
+/// Where the test of what fits says so, the class is open for so long from some moment of the next two seconds on, also
+/// where the lists are exchanged before the frame is through.
+pub fn ever_fits_soon()
+    ensures { (list : Opening) (c n from : ℕ)
         → IsMade list
-        → (ever_of list c n ≡ true) ↔ ((t : ℕ) × Fits (opens_of list c) n t) }
+        → ever list c n ≡ true
+        → (u : ℕ) × (from ≤ u) × (u ≤ from + 2 * LONGEST_CYCLE) × Fits (opens list c) n u }
 {}
 
 /// What becomes of the copies of a queue that has the link alone follows from its offers.

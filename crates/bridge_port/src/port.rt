@@ -1,19 +1,21 @@
 //! The port.
 ghost use Rattle.std.specs.Prelude.{◌≡◌, ◌<◌, ◌≤◌, ◌+◌, ◌-◌, ◌*◌, ◌^◌, ◌&&◌, ℕ, Bool, true, Option, Some, None, IfOk, IfSome, IfNone, List, [], ◌∷◌, length, map, max, replicate, is_none, MatchOption, if◌then◌else◌};
 
-use crate::egress::Egress;
+use crate::gates::Gates;
 use crate::heads::{renew_left, with_item};
 use crate::item::{Item, Refusal};
 use crate::queues::{is_full, pop_at, push_at, with_rooms};
 use bridge_base::{END_OF_SENDING, END_OF_TIME, LONGEST_FRAME, MOST_ARRIVALS};
-use bridge_cycle::{CyclicList, NoMemory};
+use bridge_cycle::{Egress, NoMemory};
 use bridge_frame::{Speed, occupation};
 use circular_buffer::HeapCircularBuffer;
 use std::alloc::Allocator;
 use std::marker::Model;
 
 /// An egress port: eight queues with their transmission gates, served in strict priority. A frame starts only where its
-/// class stays open until the link is free again (IEEE 802.1Q-2018, 8.6.8, 8.6.8.1 and 8.6.8.4).
+/// class stays open until the link is free again (IEEE 802.1Q-2018, 8.6.8, 8.6.8.1 and 8.6.8.4); so it may be sent over
+/// the moment at which the lists are exchanged where its class is open under the old list up to it, and under the new
+/// one from it on.
 ///
 /// It stands for the list of copies that were offered to it, each with what became of it. It keeps how many items are
 /// queued, when the head of each class may start, and which of them starts next: only what an offer or a start changes of
@@ -21,7 +23,7 @@ use std::marker::Model;
 #[derive(Drop)]
 pub struct Port<T: Drop, A: Allocator + Copy> {
     speed: Speed,
-    egress: Egress<A>,
+    gates: Gates<A>,
     rings: Vec<HeapCircularBuffer<Item<T>, A>, A>,
     free: u64,
     earliest: u64,
@@ -39,36 +41,38 @@ impl<T: Drop, A: Allocator + Copy> Model for Port<T, A> {
 
     ghost Value = { State T };
 
-    ghost view = { λ p. state p.speed p.egress p.rings.items p.free p.earliest p.offered p.started };
+    ghost view = { λ p. state p.speed p.gates p.rings.items p.free p.earliest p.offered p.started };
 
-    ghost invariant = { λ p. KeepsHeads (state p.speed p.egress p.rings.items p.free p.earliest p.offered p.started) p.queued p.fits p.best };
+    ghost invariant = { λ p. KeepsHeads (state p.speed p.gates p.rings.items p.free p.earliest p.offered p.started) p.queued p.fits p.best };
 }
 
 impl<T: Drop, A: Allocator + Copy> Port<T, A> {
     ghost use Rattle.bridge_port.specs.declared.item.Item.{Item};
     ghost use Rattle.bridge_port.specs.Schedule.{Copy, IsLawful};
-    ghost use Rattle.bridge_port.specs.Opening.{are_rooms};
+    ghost use Rattle.bridge_port.specs.Opening.{are_rooms, opening_of};
     ghost use Rattle.bridge_port.specs.Heads.{StartsNext};
     ghost use Rattle.bridge_port.specs.Solo.{IsWhole};
     ghost use Rattle.bridge_port.specs.Standing.{answer_of, copy_of, count_queued, idle_state, IsBegun, IsDue, IsIdle, IsKept, IsNext, limit, NoStartBefore, offered_state, refusal_of, rules_of, StandsFor, started_state};
 
     /// An idle port of this speed and with these rooms of frames for the classes from 0 to 7, each 1 to 4096, which
     /// `are_rooms` tells. Without a list all classes are always open; bit c of a list's state says whether class c is.
+    /// Where a list takes over from another one at a moment (8.6.9.4), the old list says so before that moment and the
+    /// new one from it on; an item has to fit at some moment under each of them, also before that moment.
     pub fn new(
         alloc: A,
         speed: Speed,
-        list: Option<CyclicList<u8, A>>,
+        list: Option<Egress<A>>,
         rooms: [u16; 8],
     ) -> Result<Port<T, A>, NoMemory>
         requires { are_rooms rooms ≡ true }
-        ensures new { IfOk result (λ p. p ≡ idle_state speed list rooms) }
+        ensures new { IfOk result (λ p. p ≡ idle_state speed (opening_of list) rooms) }
         ensures stands { IfOk result (λ p. StandsFor p []) }
         ensures idle { IfOk result (λ p. IsDue p None) }
     {
         let rings = with_rooms(alloc, &rooms)?;
         Ok(Port {
             speed,
-            egress: Egress::new(list),
+            gates: Gates::new(list),
             rings,
             free: 0,
             earliest: 0,
@@ -85,7 +89,7 @@ impl<T: Drop, A: Allocator + Copy> Port<T, A> {
         requires { class < 8 }
         ensures { (x : Item T) → x.len ≡ len → result ≡ refusal_of self.now class x }
     {
-        if !self.egress.can_fit(class, occupation(len, self.speed)) {
+        if !self.gates.can_fit(class, occupation(len, self.speed)) {
             Some(Refusal::NeverFits)
         } else if is_full(&self.rings, class) {
             Some(Refusal::Full)
@@ -95,7 +99,7 @@ impl<T: Drop, A: Allocator + Copy> Port<T, A> {
     }
 
     /// Offers an item to the queue of a class (0 to 7) at a moment in ns. A refused item comes back, with the first
-    /// reason that applies: no moment fits it, its queue is full.
+    /// reason that applies: no moment fits it under a list of the port, its queue is full.
     #[inline(always)]
     pub fn offer(&mut self, t: u64, class: u8, item: Item<T>) -> Result<(), (Item<T>, Refusal)>
         requires class { class < 8 }
@@ -122,7 +126,7 @@ impl<T: Drop, A: Allocator + Copy> Port<T, A> {
                 self.best = with_item(
                     &mut self.fits,
                     self.best,
-                    &self.egress,
+                    &self.gates,
                     self.speed,
                     class,
                     item.len,
@@ -195,7 +199,7 @@ impl<T: Drop, A: Allocator + Copy> Port<T, A> {
                         let from = self.free.max(self.earliest);
                         self.best = renew_left(
                             &mut self.fits,
-                            &self.egress,
+                            &self.gates,
                             self.speed,
                             &self.rings,
                             class,

@@ -4,6 +4,8 @@
 #[cfg(test)]
 mod cycle;
 #[cfg(test)]
+mod exchange;
+#[cfg(test)]
 mod filter;
 #[cfg(test)]
 mod forward;

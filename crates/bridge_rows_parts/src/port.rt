@@ -3,10 +3,11 @@ ghost use Rattle.std.specs.Prelude.{◌≡◌, true};
 ghost use Rattle.bridge_port.specs.Standing.{NoStartBefore};
 
 use crate::must::must;
-use bridge_cycle::{CyclicList, ListFault};
+use bridge_cycle::{CyclicList, Egress, ListFault};
 use bridge_frame::{Speed, occupation};
 use bridge_port::{
-    Item, NoMemory, Port, Refusal, alone_follows, are_rooms, ever_is_fitting, own_windows_isolate,
+    Item, NoMemory, Port, Refusal, alone_follows, are_rooms, ever_fits_soon, ever_is_fitting,
+    own_windows_isolate,
 };
 use bridge_refusing::RefusesOne;
 use std::alloc::{AllocError, Allocator};
@@ -14,13 +15,13 @@ use std::process::Abort;
 use std::test::Fail;
 
 /// What is offered: the moment, the class and the length, with why it is refused.
-type Offer = (u64, u8, u32, Option<Refusal>);
+pub(crate) type Offer = (u64, u8, u32, Option<Refusal>);
 
 /// What starts: the class, the length, the moment and when it is done.
-type Start = (u8, u32, u64, u64);
+pub(crate) type Start = (u8, u32, u64, u64);
 
 /// Class 7 in the first half of each millisecond, the other classes in the second half.
-const HALVES: [(u8, u64); 2] = [(0b1000_0000, 500_000), (0b0111_1111, 500_000)];
+pub(crate) const HALVES: [(u8, u64); 2] = [(0b1000_0000, 500_000), (0b0111_1111, 500_000)];
 
 /// Classes 5 and 6 in the first 2 of 10 microseconds, class 5 alone in the others.
 const BURST: [(u8, u64); 2] = [(0b0110_0000, 2_000), (0b0010_0000, 8_000)];
@@ -28,24 +29,24 @@ const BURST: [(u8, u64); 2] = [(0b0110_0000, 2_000), (0b0010_0000, 8_000)];
 /// All classes in the first half of each millisecond, none in the second half.
 const ALL_OR_NONE: [(u8, u64); 2] = [(0b1111_1111, 500_000), (0, 500_000)];
 
-const CLASS_7: [(u8, u64); 1] = [(0b1000_0000, 1_000_000)];
+pub(crate) const CLASS_7: [(u8, u64); 1] = [(0b1000_0000, 1_000_000)];
 
-const WIDE: [u16; 8] = [64; 8];
+pub(crate) const WIDE: [u16; 8] = [64; 8];
 
 const NARROW: [u16; 8] = [64, 64, 64, 64, 64, 64, 64, 1];
 
 #[derive(Clone, Copy)]
-struct Row<'a> {
-    speed: Speed,
-    cycle: u64,
-    entries: &'a [(u8, u64)],
-    rooms: [u16; 8],
-    offers: &'a [Offer],
-    starts: &'a [Start],
+pub(crate) struct Row<'a> {
+    pub(crate) speed: Speed,
+    pub(crate) cycle: u64,
+    pub(crate) entries: &'a [(u8, u64)],
+    pub(crate) rooms: [u16; 8],
+    pub(crate) offers: &'a [Offer],
+    pub(crate) starts: &'a [Start],
 }
 
 /// A list whose base is 0.
-fn list_of<A: Allocator + Copy>(
+pub(crate) fn list_of<A: Allocator + Copy>(
     alloc: A,
     cycle: u64,
     entries: &[(u8, u64)],
@@ -125,7 +126,7 @@ fn port_of<A: Allocator + Copy>(
     let list = match row.entries {
         [] => None,
         entries => match list_of(alloc, row.cycle, entries) {
-            Ok(list) => Some(list),
+            Ok(list) => Some(Egress::Cyclic(list)),
             Err(_) => return Err(NoMemory),
         },
     };
@@ -148,19 +149,31 @@ fn offer_all<A: Allocator + Copy>(
     starts_before(port, row.speed, u64::MAX, starts)
 }
 
-/// Offers what a row says, and compares what starts.
-fn goes_as_said<A: Allocator + Copy>(
+/// Offers to a port what a row says, and compares what starts.
+pub(crate) fn answers_as_said<A: Allocator + Copy>(
+    rt: &impl Abort,
+    alloc: A,
+    port: &mut Port<u32, A>,
+    name: &str,
+    row: &Row,
+) -> Result<(), AllocError> {
+    let mut starts = Vec::new(alloc);
+    offer_all(rt, port, name, row, &mut starts)?;
+    must(rt, starts.as_slice() == row.starts, name, 0);
+    must(rt, port.offered() == row.offers.len() as u64, name, 1);
+    must(rt, port.started() == row.starts.len() as u64, name, 2);
+    Ok(())
+}
+
+/// Offers what a row says to a port of the list of the row, and compares what starts.
+pub(crate) fn goes_as_said<A: Allocator + Copy>(
     rt: &impl Abort,
     alloc: A,
     name: &str,
     row: &Row,
 ) -> Result<(), Fail> {
     let mut port = port_of(rt, alloc, row)?;
-    let mut starts = Vec::new(alloc);
-    offer_all(rt, &mut port, name, row, &mut starts)?;
-    must(rt, starts.as_slice() == row.starts, name, 0);
-    must(rt, port.offered() == row.offers.len() as u64, name, 1);
-    must(rt, port.started() == row.starts.len() as u64, name, 2);
+    answers_as_said(rt, alloc, &mut port, name, row)?;
     Ok(())
 }
 
@@ -380,6 +393,7 @@ fn each_growth_of_a_port_is_refused_in_turn(rt: HostRuntime) {
 #[test]
 fn the_laws_can_be_named() {
     ever_is_fitting();
+    ever_fits_soon();
     alone_follows::<u32>();
     own_windows_isolate::<u32>();
 }

@@ -15,6 +15,7 @@ use Rattle.bridge_capture.specs.declared.fault.CaptureFault.TheVariants as fault
 use Rattle.bridge_capture.specs.Written.{written_item, written_text, written_header}
 use Rattle.bridge_capture.proofs.Written.{written_more}
 use Rattle.bridge_capture.specs.Sinks.{AppendsFront}
+use Rattle.bridge_port.specs.Opening.{Always}
 use Rattle.bridge_port.specs.Seen.{all_seen}
 use Rattle.bridge_port.specs.Standing.{State, StandsFor, IsDue, IsIdle}
 use Rattle.bridge_port.proofs.Ports.{idle_whole}
@@ -30,7 +31,7 @@ use Rattle.bridge_wire.proofs.Running.{goes_until, is_up_to, stops_after, HasGon
 
 -- a new port of one queue
 abbrev pub new_port : {A : Type 0} → Speed → ℕ → State (Vec ℕ A)
-new_port speed room = record { speed = speed; list = None; rooms = room ∷ 1 ∷ 1 ∷ 1 ∷ 1 ∷ 1 ∷ 1 ∷ 1 ∷ []; queues = replicate 8 []; free = 0; earliest = 0; offered = 0; started = 0 }
+new_port speed room = record { speed = speed; list = Always; rooms = room ∷ 1 ∷ 1 ∷ 1 ∷ 1 ∷ 1 ∷ 1 ∷ 1 ∷ []; queues = replicate 8 []; free = 0; earliest = 0; offered = 0; started = 0 }
 
 none_left : (speed : Speed) → IsOutput speed [] []
 none_left speed = record { rises = tt; members = λ d. ((λ h. absurd h), (λ h. absurd h.listed)) }

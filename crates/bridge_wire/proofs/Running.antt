@@ -1,27 +1,25 @@
 -- Frames of a capture, one after the other.
-use Rattle.std.proofs.Common.{◌≡◌, ℕ, Bool, true, false, ◌+◌, ◌≤◌, List, [], ◌∷◌, ◌++◌, length, refl, ap, ◌∙◌, sym, subst, arith, inl, inr, Option, Some, None, Result, Ok, Err, append_assoc, length-append, reverse, add-zero, zero-add}
+use Rattle.std.proofs.Common.{◌≡◌, ℕ, Bool, true, false, ◌+◌, ◌≤◌, List, [], ◌∷◌, ◌++◌, length, refl, ap, ◌∙◌, sym, subst, arith, inl, inr, Option, Some, None, Result, Ok, Err, length-append, reverse, add-zero, zero-add}
 use Rattle.std.specs.Prelude.{not, ◌&&◌, map, filter, count_by, Vec, if◌then◌else◌, is_none, slice_index_or, IsErr}
 use Rattle.std.specs.List.{flat_map}
 use Rattle.std.specs.Io.KnownBytes.{Appends}
 use Rattle.std.proofs.KnownBytes.{Appends-trans}
 use Rattle.std.proofs.lemmas.List.{map-append, reverse-append, append-nil}
-use Rattle.std.proofs.lemmas.Grind.{flat_map-append}
 use Rattle.std.proofs.lemmas.Bool.{le-ltb}
 use Rattle.bridge_frame.specs.declared.Speed.{Speed}
 use Rattle.bridge_frame.specs.Link.{occupied}
 use Rattle.bridge_capture.specs.Grammar.{Captured}
 use Rattle.bridge_capture.specs.Standing.{last_time}
-use Rattle.bridge_capture.specs.Written.{written_item, written_text, written_header}
+use Rattle.bridge_capture.specs.Written.{written_item, written_text}
 use Rattle.bridge_capture.specs.Sinks.{AppendsFront}
 use Rattle.bridge_capture.proofs.Written.{front_of_second, written_more}
-use Rattle.bridge_cycle.specs.Cyclic.{Cyclic}
 use Rattle.bridge_cycle.proofs.Cases.{by_bool}
 use Rattle.bridge_port.specs.declared.item.Item.{Item}
 use Rattle.bridge_port.specs.declared.item.Refusal.{Refusal}
 use Rattle.bridge_port.specs.declared.item.Refusal.TheVariants as refusal
 use Rattle.bridge_port.specs.Schedule.{Started, Copy, IsLawful, is_accepted}
 use Rattle.bridge_port.specs.Seen.{all_seen, SameRooms}
-use Rattle.bridge_port.specs.Opening.{opens_of, ever_of}
+use Rattle.bridge_port.specs.Opening.{Always, ever, Opening, opens}
 use Rattle.bridge_port.specs.Standing.{State, StandsFor, NoStartBefore, IsDue, rules_of, refusal_of, fate_of, copy_of, offered_state, answer_of, count_queued}
 use Rattle.bridge_port.proofs.Ports.{idle_calm, up_to}
 use Rattle.bridge_port.proofs.Watched.{lawful_seen}
@@ -66,10 +64,10 @@ same_rooms : {X : Type 0} (xs : List (Copy X)) (room other : ℕ → ℕ) → Ar
 same_rooms [] room other a e = tt
 same_rooms (x ∷ xs) room other a e = (ap room a.0 ∙ (e ∙ ap other (sym a.0)), same_rooms xs room other a.1 e)
 
-pub goes_until : {A : Type 0} (speed : Speed) (room : ℕ) (frames : List Captured) (p : State (Vec ℕ A)) (sent full : ℕ) (left : List Captured) (moment : ℕ) → p.list ≡ None → p.speed ≡ speed → slice_index_or p.rooms 0 0 ≡ room → (s : Sends p (offers_of frames) sent full left) → IsLawful (rules_of p) moment s.copies → (goes : GoesThrough speed room frames (all_seen frame_of s.copies) left) × (goes.until ≡ moment)
+pub goes_until : {A : Type 0} (speed : Speed) (room : ℕ) (frames : List Captured) (p : State (Vec ℕ A)) (sent full : ℕ) (left : List Captured) (moment : ℕ) → p.list ≡ Always → p.speed ≡ speed → slice_index_or p.rooms 0 0 ≡ room → (s : Sends p (offers_of frames) sent full left) → IsLawful (rules_of p) moment s.copies → (goes : GoesThrough speed room frames (all_seen frame_of s.copies) left) × (goes.until ≡ moment)
 goes_until {A} speed room frames p sent full left moment no_list pace places s lawful =
     let seen = lawful_seen frame_of (rules_of p) (λ (f : Frame). occupied f.len p.speed) (λ c. room) (λ x. refl) moment s.copies (same_rooms s.copies (λ c. slice_index_or p.rooms c 0) (λ c. room) s.class places) lawful in
-    let P : Option (Cyclic ℕ) → Type 0 = λ l. IsLawful (record { opens = opens_of l; ever = ever_of l; room = λ c. room; occ = λ (f : Frame). occupied f.len p.speed }) moment (all_seen frame_of s.copies) in
+    let P : Opening → Type 0 = λ l. IsLawful (record { opens = opens l; ever = ever l; room = λ c. room; occ = λ (f : Frame). occupied f.len p.speed }) moment (all_seen frame_of s.copies) in
     let Q : Speed → Type 0 = λ v. IsLawful (one_queue v room) moment (all_seen frame_of s.copies) in (
       record {
         offers = s.offered_so;

@@ -9,6 +9,7 @@ use Rattle.bridge_capture.specs.Sinks.{AppendsFront}
 use Rattle.bridge_base.specs.Members.{In}
 use Rattle.bridge_base.specs.declared.TheConstants.{END_OF_SENDING}
 use Rattle.bridge_port.specs.declared.item.Item.{Item}
+use Rattle.bridge_port.specs.Opening.{Always}
 use Rattle.bridge_port.specs.Schedule.{Copy, is_accepted}
 use Rattle.bridge_port.specs.Seen.{all_seen}
 use Rattle.bridge_port.specs.Standing.{State, StandsFor, NoStartBefore, count_queued}
@@ -34,7 +35,7 @@ AreOfClass c (x ∷ xs) = (x.class ≡ c) × AreOfClass c xs
 
 -- a port without a list, of a speed, with a room for class 0, whose queued frames have no more octets than their lengths
 pub record IsOneQueue {A : Type 0} (speed : Speed) (room : ℕ) (p : State (Vec ℕ A)) : Type 0 where
-  pub list : p.list ≡ None
+  pub list : p.list ≡ Always
   pub pace : p.speed ≡ speed
   pub places : slice_index_or p.rooms 0 0 ≡ room
   pub within : count_queued is_overlong p ≡ 0

@@ -3,28 +3,28 @@ use Rattle.std.specs.Prelude.{drop}
 use Rattle.bridge_frame.specs.Link.{occupied}
 use Rattle.bridge_cycle.specs.Moments.{IsFirst}
 use Rattle.bridge_port.specs.Rings.{queues_of}
-use Rattle.bridge_port.specs.Opening.{opens_of, ever_of}
+use Rattle.bridge_port.specs.Opening.{ever, opens}
 use Rattle.bridge_port.proofs.Best.{fit_is, fit_none, head_some, head_none, startable_head}
 use Rattle.bridge_port.proofs.heads.fit_of.Goals as goal
 
 pub returns-in-None : goal.returns-in-None
 returns-in-None g c =
     let queue = slice_index_or (queues_of c.args.rings.now.items) c.args.class [] in
-    fit_none c.args.egress.now c.args.speed c.args.from c.args.class queue (head_none queue (sym c.in-None.ensures))
+    fit_none c.args.gates.now c.args.speed c.args.from c.args.class queue (head_none queue (sym c.in-None.ensures))
 
 pub earliest_fit-requires : goal.earliest_fit-requires
 earliest_fit-requires g c =
     let queue = slice_index_or (queues_of c.args.rings.now.items) c.args.class [] in
     let item = c.in-Some.item.now in
-    let can = startable_head c.args.egress.now c.args.speed c.args.class queue item (sym c.in-Some.ensures) c.requires.startable in
+    let can = startable_head c.args.gates.now c.args.speed c.args.class queue item (sym c.in-Some.ensures) c.requires.startable in
     let bounded : c.occupation-occ.result ≤ 7392000 = c.occupation-occ.ensures.bounded can.1 in
-    record { class = c.requires.class; occ = omega arith; from = c.requires.from; ever = ap (λ n. ever_of c.args.egress.now c.args.class n) c.occupation-occ.ensures.exact ∙ can.0 }
+    record { class = c.requires.class; occ = omega arith; from = c.requires.from; ever = ap (λ n. ever c.args.gates.now c.args.class n) c.occupation-occ.ensures.exact ∙ can.0 }
 
 pub returns-in-Some : goal.returns-in-Some
 returns-in-Some g c =
-    let list = c.args.egress.now in
+    let list = c.args.gates.now in
     let queue = slice_index_or (queues_of c.args.rings.now.items) c.args.class [] in
     let item = c.in-Some.item.now in
     let is : queue ≡ item ∷ drop 1 queue = head_some queue item (sym c.in-Some.ensures) in
-    let first : IsFirst (opens_of list c.args.class) (occupied item.len c.args.speed) c.args.from c.earliest_fit.result = subst (λ (n : ℕ). IsFirst (opens_of list c.args.class) n c.args.from c.earliest_fit.result) c.occupation-occ.ensures.exact c.earliest_fit.ensures.first in
+    let first : IsFirst (opens list c.args.class) (occupied item.len c.args.speed) c.args.from c.earliest_fit.result = subst (λ (n : ℕ). IsFirst (opens list c.args.class) n c.args.from c.earliest_fit.result) c.occupation-occ.ensures.exact c.earliest_fit.ensures.first in
     fit_is list c.args.speed c.args.from c.args.class c.earliest_fit.result queue item (drop 1 queue) is first c.earliest_fit.ensures.soon

@@ -12,8 +12,8 @@ loop-class-preserved g c =
     let within : c.loop-class.class < length c.loop-class.fits = omega arith in
     record {
       size = rw set (length-set c.loop-class.fits c.loop-class.class c.renewed-fit.result ∙ size);
-      behind = rw set (fits_set_behind c.args.egress.now c.args.speed c.args.from queues c.loop-class.fits c.loop-class.class c.renewed-fit.result within c.renewed-fit.ensures.fit c.loop-class.invariant.behind);
-      ahead = rw set (fits_set_ahead c.args.egress.now c.args.speed c.args.from queues c.loop-class.fits c.loop-class.class c.renewed-fit.result c.loop-class.invariant.ahead);
+      behind = rw set (fits_set_behind c.args.gates.now c.args.speed c.args.from queues c.loop-class.fits c.loop-class.class c.renewed-fit.result within c.renewed-fit.ensures.fit c.loop-class.invariant.behind);
+      ahead = rw set (fits_set_ahead c.args.gates.now c.args.speed c.args.from queues c.loop-class.fits c.loop-class.class c.renewed-fit.result c.loop-class.invariant.ahead);
       best = rw (set, c.sooner_of-best.ensures) (best_more c.loop-class.fits c.loop-class.class c.renewed-fit.result c.loop-class.best within c.loop-class.invariant.best);
     }
 
@@ -21,7 +21,7 @@ pub returns-clause-fits : goal.returns-clause-fits
 returns-clause-fits g c =
     let queues = queues_of c.args.rings.now.items in
     let end : c.loop-class.class ≡ 8 = omega arith in
-    fits_all c.args.egress.now c.args.speed c.args.from queues c.loop-class.fits c.loop-class.invariant.size
+    fits_all c.args.gates.now c.args.speed c.args.from queues c.loop-class.fits c.loop-class.invariant.size
     (λ d l. c.loop-class.invariant.behind d (omega arith))
     (λ d l past. c.loop-class.invariant.ahead d (omega arith) past)
 

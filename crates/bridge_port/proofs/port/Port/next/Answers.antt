@@ -8,6 +8,6 @@ use Rattle.bridge_port.proofs.port.Port.next.Goals as goal
 pub returns-clause-next : goal.returns-clause-next
 returns-clause-next g c =
     let f = c.self.inside in
-    let p = state f.speed f.egress f.rings.items f.free f.earliest f.offered f.started in
+    let p = state f.speed f.gates f.rings.items f.free f.earliest f.offered f.started in
     let P : State _ → Type 0 = λ q. MatchOption f.best (IsIdle q) (λ b. StartsNext q b.0 b.1) in
     subst P c.self.view_is (best_is_next p f.fits f.best c.self.invariant.kept.queues c.self.invariant.are_fits c.self.invariant.is_best)

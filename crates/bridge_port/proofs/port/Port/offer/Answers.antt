@@ -14,7 +14,7 @@ push_at-requires-clause-room g c =
 pub invariant_of-self-in-None : goal.invariant_of-self-in-None
 invariant_of-self-in-None g c =
     let f = c.self.inside in
-    let p = state f.speed f.egress f.rings.items f.free f.earliest f.offered f.started in
+    let p = state f.speed f.gates f.rings.items f.free f.earliest f.offered f.started in
     let P : State _ → Type 0 = λ q. refusal_of q c.args.class c.args.item ≡ None in
     let none : refusal_of p c.args.class c.args.item ≡ None = subst P (sym c.self.view_is) (sym (c.in-None.ensures c.args.item refl)) in
     let Q : State _ → Type 0 = λ q. q.offered < MOST_ARRIVALS in
@@ -28,7 +28,7 @@ invariant_of-self-in-None g c =
 pub invariant_of-self : goal.invariant_of-self
 invariant_of-self g c =
     let f = c.self.inside in
-    let p = state f.speed f.egress f.rings.items f.free f.earliest f.offered f.started in
+    let p = state f.speed f.gates f.rings.items f.free f.earliest f.offered f.started in
     let E : State _ → Type 0 = λ q. q.earliest ≤ c.args.t in
     let N : State _ → Type 0 = λ q. NoStartBefore q c.args.t in
     let Q : State _ → Type 0 = λ q. q.offered < MOST_ARRIVALS in

@@ -8,7 +8,7 @@ use Rattle.bridge_port.proofs.port.Port.start.Goals as goal
 pub renew_left-self-inside-requires-clause-kept : goal.renew_left-self-inside-requires-clause-kept
 renew_left-self-inside-requires-clause-kept g c =
     let f = c.self.inside in
-    let p = state f.speed f.egress f.rings.items f.free f.earliest f.offered f.started in
+    let p = state f.speed f.gates f.rings.items f.free f.earliest f.offered f.started in
     let S : State _ → Type 0 = λ q. StartsNext q c.in-Some.k c.in-Some.class in
     let starts : StartsNext p c.in-Some.k c.in-Some.class = subst S (sym c.self.view_is) c.in-Some.ensures.next in
     let fit = next_fit p c.in-Some.k c.in-Some.class starts.item f.fits c.self.invariant.are_fits starts.next in
@@ -19,7 +19,7 @@ renew_left-self-inside-requires-clause-kept g c =
 pub renew_left-self-inside-requires-clause-none : goal.renew_left-self-inside-requires-clause-none
 renew_left-self-inside-requires-clause-none g c =
     let f = c.self.inside in
-    let p = state f.speed f.egress f.rings.items f.free f.earliest f.offered f.started in
+    let p = state f.speed f.gates f.rings.items f.free f.earliest f.offered f.started in
     let S : State _ → Type 0 = λ q. StartsNext q c.in-Some.k c.in-Some.class in
     let starts : StartsNext p c.in-Some.k c.in-Some.class = subst S (sym c.self.view_is) c.in-Some.ensures.next in
     λ none. rw c.pop_at-taken.ensures.queues (fits_empty p c.in-Some.class c.max-from.result f.fits c.self.invariant.are_fits (search rules) (emptied p c.in-Some.k c.in-Some.class f.queued c.self.invariant.all starts none))
@@ -27,7 +27,7 @@ renew_left-self-inside-requires-clause-none g c =
 pub renew_left-self-inside-requires-clause-no_head : goal.renew_left-self-inside-requires-clause-no_head
 renew_left-self-inside-requires-clause-no_head g c =
     let f = c.self.inside in
-    let p = state f.speed f.egress f.rings.items f.free f.earliest f.offered f.started in
+    let p = state f.speed f.gates f.rings.items f.free f.earliest f.offered f.started in
     let S : State _ → Type 0 = λ q. StartsNext q c.in-Some.k c.in-Some.class in
     let starts : StartsNext p c.in-Some.k c.in-Some.class = subst S (sym c.self.view_is) c.in-Some.ensures.next in
     λ none. fits_emptied p c.in-Some.class f.fits c.self.invariant.are_fits (search rules) (emptied p c.in-Some.k c.in-Some.class f.queued c.self.invariant.all starts none)
@@ -35,7 +35,7 @@ renew_left-self-inside-requires-clause-no_head g c =
 pub invariant_of-self : goal.invariant_of-self
 invariant_of-self g c =
     let f = c.self.inside in
-    let p = state f.speed f.egress f.rings.items f.free f.earliest f.offered f.started in
+    let p = state f.speed f.gates f.rings.items f.free f.earliest f.offered f.started in
     let S : State _ → Type 0 = λ q. StartsNext q c.in-Some.k c.in-Some.class in
     let starts : StartsNext p c.in-Some.k c.in-Some.class = subst S (sym c.self.view_is) c.in-Some.ensures.next in
     let queues = c.pop_at-taken.ensures.queues in
