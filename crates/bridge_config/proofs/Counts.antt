@@ -1,5 +1,5 @@
 -- How many items an array has.
-use Rattle.std.proofs.Common.{◌≡◌, ℕ, suc, ◌+◌, ◌<◌, ◌==◌, true, List, [], ◌∷◌, ◌++◌, length, Result, Ok, Err, refl, ap, ◌∙◌, arith}
+use Rattle.std.proofs.Common.{◌≡◌, ℕ, suc, ◌+◌, ◌<◌, ◌==◌, true, List, [], ◌∷◌, ◌++◌, length, Option, Result, Ok, Err, refl, ap, ◌∙◌, arith}
 use Rattle.std.proofs.lemmas.Bool.{false≢true}
 use Rattle.std.proofs.lemmas.List.{length-append}
 use Rattle.std.proofs.lemmas.Bool.Decides.{nat_tests}
@@ -54,7 +54,7 @@ counted read earlier i (item (boolean b) ds) xs tables h = absurd (false≢true 
 counted read earlier i (item (datetime t) ds) xs tables h = absurd (false≢true tables)
 counted read earlier i (item (array es) ds) xs tables h = absurd (false≢true tables)
 
-pub as_many : {A : Type 0} (ports : List (PortPlan A)) (vs : List Value) → instances port_at (items_view vs) ≡ Ok ports → are_tables (items_view vs) ≡ true → 0 < length vs → 0 < length ports
-as_many ports vs h tables some =
-    let all : length ports ≡ 0 + count_of (items_view vs) = counted port_at [] 1 (items_view vs) ports tables h in
+pub as_many : {A : Type 0} (change : Option ℕ) (ports : List (PortPlan A)) (vs : List Value) → instances (port_at change) (items_view vs) ≡ Ok ports → are_tables (items_view vs) ≡ true → 0 < length vs → 0 < length ports
+as_many change ports vs h tables some =
+    let all : length ports ≡ 0 + count_of (items_view vs) = counted (port_at change) [] 1 (items_view vs) ports tables h in
     omega (arith, all, count_of_view vs, some)

@@ -1,6 +1,7 @@
 pub mod Own
 pub mod Commanded
 pub mod Counts
+pub mod Listed
 mod Examples
 pub mod PlanPorts
 pub mod InOrder

@@ -8,6 +8,7 @@ use Rattle.bridge_config.specs.Document as doc
 -- the items that the arrays hold
 abbrev pub items_of_arrays : Arrays → doc.Arrays
 items_of_arrays a = record {
+  changes = items_view a.changes.now;
   ports = items_view a.ports.now;
   vlans = items_view a.vlans.now;
   statics = items_view a.statics.now;

@@ -3,7 +3,7 @@ use Rattle.std.specs.Prelude.{ℕ, suc, Bool, true, false, not, ◌&&◌, List, 
 use Rattle.std.specs.List.{list_any}
 use Rattle.std.specs.Cmp.Lexicographic.{pointwise}
 use Rattle.std.specs.Str.Lossy.{utf8_valid_len}
-use Rattle.toml.specs.Data.{Data, array, Items, no_items, item, Members, no_members, member, get_member}
+use Rattle.toml.specs.Data.{Data, array, table, Items, no_items, item, Members, no_members, member, get_member}
 use Rattle.toml.specs.Parse.{parse_document}
 use Rattle.bridge_keys.specs.declared.fault.Section.{Section}
 use Rattle.bridge_keys.specs.declared.fault.Section.TheVariants as section
@@ -14,12 +14,13 @@ use Rattle.bridge_keys.specs.Readers.{◌>>=◌, are_tables, instances}
 use Rattle.bridge_config.specs.declared.command.Command.{Command}
 use Rattle.bridge_config.specs.Model.{Policing, Plan}
 use Rattle.bridge_config.specs.Rules.{port_set}
-use Rattle.bridge_config.specs.Sections.{provided, port_at, vlan_at, static_at, stream_at, gate_at, meter_at, filter_at}
+use Rattle.bridge_config.specs.Sections.{provided, change_at, port_at, vlan_at, static_at, stream_at, gate_at, meter_at, filter_at}
 use Rattle.bridge_config.specs.Commands.{command_at}
 
 -- the most instances of a section
 abbrev pub limit_of : Section → ℕ
 limit_of section.Top = 0
+limit_of section.Change = 1
 limit_of section.Port = 16
 limit_of section.Vlan = 4094
 limit_of section.Static = 4096
@@ -53,7 +54,7 @@ items_of section members = items_in section (get_member (name_of section) member
 
 -- the sections of a plan
 abbrev pub plan_sections : List Section
-plan_sections = section.Port ∷ section.Vlan ∷ section.Static ∷ section.Stream ∷ section.Gate ∷ section.Meter ∷ section.Filter ∷ []
+plan_sections = section.Change ∷ section.Port ∷ section.Vlan ∷ section.Static ∷ section.Stream ∷ section.Gate ∷ section.Meter ∷ section.Filter ∷ []
 
 -- whether a text is the name of one of the sections
 abbrev pub is_section : List Section → List ℕ → Bool
@@ -66,6 +67,7 @@ are_sections sections (member k d ms) = is_section sections k && are_sections se
 
 -- the items of all sections
 pub record Arrays : Type 0 where
+  pub changes : Items
   pub ports : Items
   pub vlans : Items
   pub statics : Items
@@ -78,6 +80,7 @@ pub record Arrays : Type 0 where
 unfoldable pub first_pass : Members → Result Arrays PlanFault
 first_pass members = do
   keys ← provided (are_sections plan_sections members) (fault.UnknownKey section.Top 0)
+  changes ← items_of section.Change members
   ports ← items_of section.Port members
   some ← provided (not (is_empty ports)) fault.NoPorts
   vlans ← items_of section.Vlan members
@@ -86,12 +89,26 @@ first_pass members = do
   gates ← items_of section.Gate members
   meters ← items_of section.Meter members
   filters ← items_of section.Filter members
-  Ok (record { ports = ports; vlans = vlans; statics = statics; streams = streams; gates = gates; meters = meters; filters = filters })
+  Ok (record { changes = changes; ports = ports; vlans = vlans; statics = statics; streams = streams; gates = gates; meters = meters; filters = filters })
 
--- the gates, meters and filters, the last each by the gates and meters
-unfoldable pub policing_of : {A : Type 0} → Arrays → Result (Policing A) PlanFault
-policing_of arrays = do
-  gates ← instances gate_at arrays.gates
+-- the first item, where there is one
+abbrev pub first_item : Items → Option Data
+first_item no_items = None
+first_item (item d _) = Some d
+
+-- the moment of the change of schedules of a table, where there is one
+abbrev pub change_in : Option Data → Result (Option ℕ) PlanFault
+change_in (Some (table ms)) = change_at 1 ms >>= λ moment. Ok (Some moment)
+change_in _ = Ok None
+
+-- the moment of the change of schedules, where the plan has one: there is no second one
+unfoldable pub change_of : Items → Result (Option ℕ) PlanFault
+change_of items = change_in (first_item items)
+
+-- the gates, meters and filters, by the change of schedules, the filters also by the gates and meters
+unfoldable pub policing_of : {A : Type 0} → Option ℕ → Arrays → Result (Policing A) PlanFault
+policing_of change arrays = do
+  gates ← instances (gate_at change) arrays.gates
   meters ← instances meter_at arrays.meters
   filters ← instances (filter_at gates meters) arrays.filters
   Ok (record { gates = gates; meters = meters; filters = filters })
@@ -99,11 +116,12 @@ policing_of arrays = do
 -- second pass: the instances, section by section, each by what stands before
 unfoldable pub second_pass : {A : Type 0} → Arrays → Result (Plan A) PlanFault
 second_pass arrays = do
-  ports ← instances port_at arrays.ports
+  change ← change_of arrays.changes
+  ports ← instances (port_at change) arrays.ports
   vlans ← instances (vlan_at (port_set ports)) arrays.vlans
   statics ← instances (static_at (port_set ports) vlans) arrays.statics
   streams ← instances (stream_at ports) arrays.streams
-  policing ← policing_of arrays
+  policing ← policing_of change arrays
   Ok (record { ports = ports; database = record { vlans = vlans; statics = statics }; streams = streams; gates = policing.gates; meters = policing.meters; filters = policing.filters })
 
 -- the plan of a document

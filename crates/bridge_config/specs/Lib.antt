@@ -5,3 +5,4 @@ pub mod Sections
 pub mod Commands
 pub mod Document
 pub mod Arrays
+pub mod Lists

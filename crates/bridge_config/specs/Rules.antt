@@ -3,8 +3,12 @@ use Rattle.std.specs.Prelude.{◌≡◌, ◌≤◌, ◌<◌, ℕ, Bool, true, no
 use Rattle.std.specs.List.{list_any}
 use Rattle.std.specs.List.Sorted.{IsPermutation, IsStrictlyIncreasing}
 use Rattle.std.specs.Option.{ForSome}
+use Rattle.bridge_base.specs.declared.TheConstants.{END_OF_TIME}
 use Rattle.bridge_cycle.specs.Cyclic.{Cyclic, IsLawful}
+use Rattle.bridge_cycle.specs.declared.egress.Egress.{Egress}
+use Rattle.bridge_cycle.specs.declared.egress.Egress.TheVariants as egress
 use Rattle.bridge_meter.specs.declared.MeterPlan.{MeterPlan}
+use Rattle.bridge_gate.specs.declared.schedule.GateEntry.{GateEntry}
 use Rattle.bridge_gate.specs.declared.schedule.GatePlan.{GatePlan}
 use Rattle.bridge_gate.specs.Schedules as schedules
 use Rattle.bridge_ident.specs.declared.StreamEntry.{StreamEntry}
@@ -27,6 +31,10 @@ pub record IsInOrder (all ns : List ℕ) : Type 0 where
   pub rises : IsStrictlyIncreasing ns
   pub same : IsPermutation all ns
 
+-- the moment of a change of schedules, where there is one, is before the end of time
+abbrev pub IsBeforeEnd : Option ℕ → Type 0
+IsBeforeEnd change = ForSome change (λ t. t < END_OF_TIME)
+
 -- whether a port has the number
 abbrev pub has_port : {A : Type 0} → List (PortPlan A) → ℕ → Bool
 has_port ports n = list_any (λ p. nat_eq p.number n) ports
@@ -41,6 +49,11 @@ pub record IsPortList (l : Cyclic ℕ) : Type 0 where
   pub lawful : IsLawful l
   pub classes : All (λ e. e.0 < 256) l.entries
 
+-- what holds of each gate control list of a port: of the one, or of the old and of the new one
+abbrev pub ForEachList : {A : Type 0} → (Cyclic ℕ → Type 0) → Egress A → Type 0
+ForEachList P (egress.Cyclic l) = P l
+ForEachList P (egress.Joined j) = P j.old × P j.new
+
 -- the ranges of a port
 pub record IsPort {A : Type 0} (p : PortPlan A) : Type 0 where
   pub number_from : 1 ≤ p.number
@@ -52,7 +65,7 @@ pub record IsPort {A : Type 0} (p : PortPlan A) : Type 0 where
   pub eight_classes : length p.classes ≡ 8
   pub rooms : are_within 1 4096 p.rooms ≡ true
   pub eight_rooms : length p.rooms ≡ 8
-  pub list : ForSome p.list IsPortList
+  pub list : ForSome p.list (ForEachList IsPortList)
 
 -- ports whose numbers differ
 pub record ArePorts {A : Type 0} (ports : List (PortPlan A)) : Type 0 where
@@ -101,6 +114,11 @@ pub record IsStream {A : Type 0} (ports : List (PortPlan A)) (s : StreamEntry) :
   pub vid_from : 1 ≤ s.vid
   pub vid_to : s.vid ≤ 4094
   pub address : length s.address ≡ 6
+
+-- a list of a gate is lawful, and its internal priority values are priorities
+pub record IsGateList (l : Cyclic GateEntry) : Type 0 where
+  pub lawful : IsLawful l
+  pub priorities : All (λ e. schedules.is_priority e.0.ipv ≡ true) l.entries
 
 -- gates whose numbers differ, with lawful lists
 pub record AreGates {A : Type 0} (gates : List (ℕ × GatePlan A)) : Type 0 where

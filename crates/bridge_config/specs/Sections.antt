@@ -1,8 +1,10 @@
 -- The sections of a plan, key by key in the order of the table of keys.
-use Rattle.std.specs.Prelude.{ℕ, ◌*◌, ◌-◌, ◌^◌, Bool, true, false, not, ◌&&◌, List, [], ◌∷◌, ◌++◌, Option, Some, None, Result, Ok, Err, replicate}
+use Rattle.std.specs.Prelude.{ℕ, ◌-◌, ◌^◌, Bool, true, false, not, ◌&&◌, List, [], ◌∷◌, ◌++◌, Option, Some, None, Result, Ok, Err, replicate}
 use Rattle.toml.specs.Data.{Members, get_member}
 use Rattle.bridge_base.specs.declared.TheConstants.{END_OF_TIME}
 use Rattle.bridge_cycle.specs.Cyclic.{Cyclic, fault_of}
+use Rattle.bridge_cycle.specs.declared.egress.Egress.{Egress}
+use Rattle.bridge_cycle.specs.declared.egress.Egress.TheVariants as egress
 use Rattle.bridge_meter.specs.declared.TheConstants.{HIGHEST_RATE, LARGEST_BURST}
 use Rattle.bridge_meter.specs.declared.MeterPlan.{MeterPlan}
 use Rattle.bridge_gate.specs.declared.schedule.GateEntry.{GateEntry}
@@ -38,18 +40,44 @@ provided false e = Err e
 abbrev pub no_duplicate : Section → ℕ → Bool → Result Bool PlanFault
 no_duplicate section index stands = provided (not stands) (fault.Duplicate section index)
 
+-- the parts of a list: the moment at which a cycle begins, its length, and the entries where there are some
+pub record Parts (X : Type 0) : Type 0 where
+  pub base : ℕ
+  pub cycle : ℕ
+  pub entries : Option (List X)
+
+-- the parts that stand at three keys, the base, the cycle and the entries
+unfoldable pub list_parts : {X : Type 0} → Section → ℕ → Field → Field → Field → (Members → Result X PlanFault) → Members → Result (Parts X) PlanFault
+list_parts section index base_key cycle_key entries_key entry members =
+    let at : Field → Place = λ key. record { section = section; index = index; field = key } in do
+      base ← default_to 0 (at base_key) base_key (between 0 (END_OF_TIME - 1)) members
+      cycle ← only_with entries_key 0 (required (at cycle_key) cycle_key (between 0 (2 ^ 63 - 1)) members) members
+      entries ← list_at (at entries_key) entry (get_member (key_of entries_key) members)
+      Ok (record { base = base; cycle = cycle; entries = entries })
+
 -- the list of a base, a cycle and entries, or its fault
 abbrev pub list_of_parts : {S : Type 0} → Section → ℕ → ℕ → ℕ → List (S × ℕ) → Result (Cyclic S) PlanFault
 list_of_parts section index base cycle entries = elim (fault_of cycle entries) [ None ↦ Ok (record { base = base; cycle = cycle; entries = entries }) | Some e ↦ Err (fault.BadList section index e) ]
 
--- the same where there are entries
-abbrev pub list_if : {S : Type 0} → Section → ℕ → ℕ → ℕ → Option (List (S × ℕ)) → Result (Option (Cyclic S)) PlanFault
-list_if section index base cycle None = Ok None
-list_if section index base cycle (Some entries) = list_of_parts section index base cycle entries >>= λ l. Ok (Some l)
+-- the list of some parts, where there are entries
+abbrev pub list_if : {S : Type 0} → Section → ℕ → Parts (S × ℕ) → Result (Option (Cyclic S)) PlanFault
+list_if section index parts = elim parts.entries [ None ↦ Ok None | Some entries ↦ list_of_parts section index parts.base parts.cycle entries >>= λ l. Ok (Some l) ]
 
 -- whether an instance has the number
 abbrev pub has_number : {X : Type 0} → List (ℕ × X) → ℕ → Bool
 has_number xs n = is_there n xs
+
+-- CHANGE
+
+-- whether a table has no key but those of a change of schedules
+abbrev pub has_change_keys : Members → Bool
+has_change_keys members = are_known (field.At ∷ []) members
+
+-- the moment of a change of schedules, by its place
+unfoldable pub change_at : ℕ → Members → Result ℕ PlanFault
+change_at index members = do
+  keys ← provided (has_change_keys members) (fault.UnknownKey section.Change index)
+  required (record { section = section.Change; index = index; field = field.At }) field.At (between 0 (END_OF_TIME - 1)) members
 
 -- PORT
 
@@ -60,35 +88,60 @@ port_entry place members = do
   ns ← required place field.Ns (between 0 (2 ^ 63 - 1)) members
   Ok (classes, ns)
 
+-- the parts of a port's list that stand at three keys
+abbrev pub port_parts : ℕ → Field → Field → Field → Members → Result (Parts (ℕ × ℕ)) PlanFault
+port_parts index base_key cycle_key gates_key members =
+    list_parts section.Port index base_key cycle_key gates_key (port_entry (record { section = section.Port; index = index; field = gates_key })) members
+
+-- the keys that an entry of a port's list may have
+abbrev pub port_entry_keys : List Field
+port_entry_keys = field.Open ∷ field.Ns ∷ []
+
+-- the keys of the list that takes over at the change of schedules, where the plan has one
+abbrev pub next_port_keys : Option ℕ → Members → List Field
+next_port_keys None _ = []
+next_port_keys (Some _) ms = field.NextGates ∷ with_key field.NextGates (field.NextBase ∷ field.NextCycle ∷ []) ms
+
 -- the keys that a port may have
-abbrev pub port_keys : Members → List Field
-port_keys members = field.Number ∷ field.Mbps ∷ field.Vid ∷ field.Priority ∷ field.Classes ∷ field.Rooms ∷ field.Gates ∷ with_key field.Gates (field.Base ∷ field.Cycle ∷ []) members
+abbrev pub port_keys : Option ℕ → Members → List Field
+port_keys change members =
+    field.Number ∷ field.Mbps ∷ field.Vid ∷ field.Priority ∷ field.Classes ∷ field.Rooms ∷ field.Gates
+    ∷ with_key field.Gates (field.Base ∷ field.Cycle ∷ next_port_keys change members) members
 
--- whether a table has no key but those of a port, and each entry of its list none but its own
-abbrev pub has_port_keys : Members → Bool
-has_port_keys members = are_known (port_keys members) members && are_known_at (field.Open ∷ field.Ns ∷ []) (get_member (key_of field.Gates) members)
+-- whether a table has no key but those of a port, and each entry of its lists none but its own
+abbrev pub has_port_keys : Option ℕ → Members → Bool
+has_port_keys change members =
+    are_known (port_keys change members) members
+    && (are_known_at port_entry_keys (get_member (key_of field.Gates) members) && are_known_at port_entry_keys (get_member (key_of field.NextGates) members))
 
--- the gate control list, where there is one: its base, its cycle and its entries
-unfoldable pub port_list : ℕ → Members → Result (Option (Cyclic ℕ)) PlanFault
-port_list index members =
+-- the gate control lists of a port: none, one, or one that another one takes over from at the change of schedules
+abbrev pub egress_of : {A : Type 0} → Option (Cyclic ℕ) → Option ℕ → Option (Cyclic ℕ) → Option (Egress A)
+egress_of None change new = None
+egress_of (Some old) None new = Some (egress.Cyclic old)
+egress_of (Some old) (Some moment) None = Some (egress.Cyclic old)
+egress_of (Some old) (Some moment) (Some new) = Some (egress.Joined (record { old = old; new = new; at = moment }))
+
+-- the gate control lists, by the change of schedules: the parts of the first one and of the next one, then both lists
+unfoldable pub port_list : {A : Type 0} → Option ℕ → ℕ → Members → Result (Option (Egress A)) PlanFault
+port_list change index members = do
+  first ← port_parts index field.Base field.Cycle field.Gates members
+  next ← port_parts index field.NextBase field.NextCycle field.NextGates members
+  old ← list_if section.Port index first
+  new ← list_if section.Port index next
+  Ok (egress_of old change new)
+
+-- a port, by the change of schedules, the ports before it and its place
+unfoldable pub port_at : {A : Type 0} → Option ℕ → List (PortPlan A) → ℕ → Members → Result (PortPlan A) PlanFault
+port_at change ports index members =
     let at : Field → Place = λ key. record { section = section.Port; index = index; field = key } in do
-      base ← default_to 0 (at field.Base) field.Base (between 0 (END_OF_TIME - 1)) members
-      cycle ← only_with field.Gates 0 (required (at field.Cycle) field.Cycle (between 0 (2 ^ 63 - 1)) members) members
-      gates ← list_at (at field.Gates) (port_entry (at field.Gates)) (get_member (key_of field.Gates) members)
-      list_if section.Port index base cycle gates
-
--- a port, by those before it and its place
-unfoldable pub port_at : {A : Type 0} → List (PortPlan A) → ℕ → Members → Result (PortPlan A) PlanFault
-port_at ports index members =
-    let at : Field → Place = λ key. record { section = section.Port; index = index; field = key } in do
-      keys ← provided (has_port_keys members) (fault.UnknownKey section.Port index)
+      keys ← provided (has_port_keys change members) (fault.UnknownKey section.Port index)
       number ← required (at field.Number) field.Number (between 1 16) members
       speed ← required (at field.Mbps) field.Mbps speed members
       vid ← default_to 1 (at field.Vid) field.Vid (between 1 4094) members
       priority ← default_to 0 (at field.Priority) field.Priority (between 0 7) members
       classes ← default_to (0 ∷ 1 ∷ 2 ∷ 3 ∷ 4 ∷ 5 ∷ 6 ∷ 7 ∷ []) (at field.Classes) field.Classes (eight 0 7) members
       rooms ← default_to (replicate 8 64) (at field.Rooms) field.Rooms (eight 1 4096) members
-      list ← port_list index members
+      list ← port_list change index members
       own ← no_duplicate section.Port index (has_port ports number)
       Ok (record { number = number; speed = speed; vid = vid; priority = priority; classes = classes; rooms = rooms; list = list })
 
@@ -155,41 +208,64 @@ gate_entry place members = do
   octets ← optional place field.Octets (between 0 LARGEST_NUMBER) members
   Ok (record { lets = lets; ipv = ipv; octets = octets }, ns)
 
+-- the parts of a gate's list that stand at three keys
+abbrev pub gate_parts : ℕ → Field → Field → Field → Members → Result (Parts (GateEntry × ℕ)) PlanFault
+gate_parts index base_key cycle_key entries_key members =
+    list_parts section.Gate index base_key cycle_key entries_key (gate_entry (record { section = section.Gate; index = index; field = entries_key })) members
+
+-- the keys of the list that takes over at the change of schedules, where the plan has one
+abbrev pub next_gate_keys : Option ℕ → Members → List Field
+next_gate_keys None _ = []
+next_gate_keys (Some _) ms = field.NextEntries ∷ with_key field.NextEntries (field.NextBase ∷ field.NextCycle ∷ []) ms
+
 -- the keys that a gate may have
-abbrev pub gate_keys : Members → List Field
-gate_keys members =
+abbrev pub gate_keys : Option ℕ → Members → List Field
+gate_keys change members =
     field.Number ∷ field.ShutOnRx ∷ field.ShutOnOctets ∷ field.Entries
-    ∷ (without_key field.Entries (field.State ∷ field.Ipv ∷ []) members ++ with_key field.Entries (field.Base ∷ field.Cycle ∷ []) members)
+    ∷ (without_key field.Entries (field.State ∷ field.Ipv ∷ []) members ++ with_key field.Entries (field.Base ∷ field.Cycle ∷ next_gate_keys change members) members)
 
--- whether a table has no key but those of a gate, and each entry of its list none but its own
-abbrev pub has_gate_keys : Members → Bool
-has_gate_keys members = are_known (gate_keys members) members && are_known_at (field.Open ∷ field.Ns ∷ field.Ipv ∷ field.Octets ∷ []) (get_member (key_of field.Entries) members)
+-- the keys that an entry of a gate's list may have
+abbrev pub gate_entry_keys : List Field
+gate_entry_keys = field.Open ∷ field.Ns ∷ field.Ipv ∷ field.Octets ∷ []
 
--- the list, where there is one: its base, its cycle and its entries
-unfoldable pub gate_list : ℕ → Members → Result (Option (Cyclic GateEntry)) PlanFault
-gate_list index members =
-    let at : Field → Place = λ key. record { section = section.Gate; index = index; field = key } in do
-      base ← default_to 0 (at field.Base) field.Base (between 0 (END_OF_TIME - 1)) members
-      cycle ← only_with field.Entries 0 (required (at field.Cycle) field.Cycle (between 0 (2 ^ 63 - 1)) members) members
-      entries ← list_at (at field.Entries) (gate_entry (at field.Entries)) (get_member (key_of field.Entries) members)
-      list_if section.Gate index base cycle entries
+-- whether a table has no key but those of a gate, and each entry of its lists none but its own
+abbrev pub has_gate_keys : Option ℕ → Members → Bool
+has_gate_keys change members =
+    are_known (gate_keys change members) members
+    && (are_known_at gate_entry_keys (get_member (key_of field.Entries) members) && are_known_at gate_entry_keys (get_member (key_of field.NextEntries) members))
 
--- a list, or without one a state for good
-abbrev pub schedule_of : {A : Type 0} → Bool → Option ℕ → Option (Cyclic GateEntry) → Schedule A
+-- the lists of a gate: none, one, or one that another one takes over from at the change of schedules
+abbrev pub lists_of : {A : Type 0} → Option (Cyclic GateEntry) → Option ℕ → Option (Cyclic GateEntry) → Option (Schedule A)
+lists_of None change new = None
+lists_of (Some old) None new = Some (schedule.Cyclic old)
+lists_of (Some old) (Some moment) None = Some (schedule.Cyclic old)
+lists_of (Some old) (Some moment) (Some new) = Some (schedule.Joined (record { old = old; new = new; at = moment }))
+
+-- the lists, by the change of schedules: the parts of the first one and of the next one, then both lists
+unfoldable pub gate_list : {A : Type 0} → Option ℕ → ℕ → Members → Result (Option (Schedule A)) PlanFault
+gate_list change index members = do
+  first ← gate_parts index field.Base field.Cycle field.Entries members
+  next ← gate_parts index field.NextBase field.NextCycle field.NextEntries members
+  old ← list_if section.Gate index first
+  new ← list_if section.Gate index next
+  Ok (lists_of old change new)
+
+-- lists, or without one a state for good
+abbrev pub schedule_of : {A : Type 0} → Bool → Option ℕ → Option (Schedule A) → Schedule A
 schedule_of lets ipv None = schedule.Fixed lets ipv
-schedule_of lets ipv (Some list) = schedule.Cyclic list
+schedule_of lets ipv (Some lists) = lists
 
--- a gate with its number, by those before it and its place
-unfoldable pub gate_at : {A : Type 0} → List (ℕ × GatePlan A) → ℕ → Members → Result (ℕ × GatePlan A) PlanFault
-gate_at gates index members =
+-- a gate with its number, by the change of schedules, the gates before it and its place
+unfoldable pub gate_at : {A : Type 0} → Option ℕ → List (ℕ × GatePlan A) → ℕ → Members → Result (ℕ × GatePlan A) PlanFault
+gate_at change gates index members =
     let at : Field → Place = λ key. record { section = section.Gate; index = index; field = key } in do
-      keys ← provided (has_gate_keys members) (fault.UnknownKey section.Gate index)
+      keys ← provided (has_gate_keys change members) (fault.UnknownKey section.Gate index)
       number ← required (at field.Number) field.Number (between 0 LARGEST_NUMBER) members
       shut_on_rx ← default_to false (at field.ShutOnRx) field.ShutOnRx switch members
       shut_on_octets ← default_to false (at field.ShutOnOctets) field.ShutOnOctets switch members
       lets ← only_without field.Entries false (required (at field.State) field.State (text openness_of) members) members
       ipv ← optional (at field.Ipv) field.Ipv (between 0 7) members
-      list ← gate_list index members
+      list ← gate_list change index members
       own ← no_duplicate section.Gate index (has_number gates number)
       Ok (number, record { shut_on_rx = shut_on_rx; shut_on_octets = shut_on_octets; schedule = schedule_of lets ipv list })
 

@@ -13,6 +13,7 @@ use toml::{Table, Value};
 /// The items of all sections of a plan.
 #[derive(Clone, Copy)]
 pub(crate) struct Arrays<'a> {
+    pub changes: &'a [Value],
     pub ports: &'a [Value],
     pub vlans: &'a [Value],
     pub statics: &'a [Value],
@@ -28,6 +29,7 @@ fn limit_of(section: Section) -> usize
 {
     match section {
         Section::Top => 0,
+        Section::Change => 1,
         Section::Port => 16,
         Section::Vlan => 4094,
         Section::Static => 4096,
@@ -117,6 +119,7 @@ pub(crate) fn first_pass<'a>(table: &'a Table) -> Result<Arrays<'a>, PlanFault>
     ensures takes_no_memory { IfErr result (λ e. ¬ (e ≡ NoMemory)) }
 {
     let sections = [
+        Section::Change,
         Section::Port,
         Section::Vlan,
         Section::Static,
@@ -128,6 +131,7 @@ pub(crate) fn first_pass<'a>(table: &'a Table) -> Result<Arrays<'a>, PlanFault>
     if !are_sections(&sections, table) {
         return Err(PlanFault::UnknownKey(Section::Top, 0));
     }
+    let changes = items_of(Section::Change, table)?;
     let ports = items_of(Section::Port, table)?;
     if is_empty(ports) {
         return Err(PlanFault::NoPorts);
@@ -139,6 +143,7 @@ pub(crate) fn first_pass<'a>(table: &'a Table) -> Result<Arrays<'a>, PlanFault>
     let meters = items_of(Section::Meter, table)?;
     let filters = items_of(Section::Filter, table)?;
     Ok(Arrays {
+        changes,
         ports,
         vlans,
         statics,

@@ -1,28 +1,41 @@
 //! Stream gates of a plan.
-ghost use Rattle.std.specs.Prelude.{◌≡◌, IfOk, All, false, true, option_map};
+ghost use Rattle.std.specs.Prelude.{◌≡◌, ◌<◌, IfOk, All, false, true};
 ghost use Rattle.std.specs.Option.{ForSome};
 ghost use Rattle.toml.specs.Data.{get_member};
 ghost use Rattle.toml.specs.View.{table_view};
-ghost use Rattle.bridge_cycle.specs.Cyclic.{IsLawful};
 ghost use Rattle.bridge_gate.specs.Schedules as schedules;
-ghost use Rattle.bridge_keys.specs.declared.fault.Field.TheVariants as the_field;
 ghost use Rattle.bridge_keys.specs.declared.fault.Section.TheVariants as the_section;
 ghost use Rattle.bridge_keys.specs.Keys.{key_of};
-ghost use Rattle.bridge_keys.specs.Readers.{Gives, GivesAs, list_at};
+ghost use Rattle.bridge_keys.specs.Readers.{Gives, GivesAs, are_known, are_known_at};
+ghost use Rattle.bridge_config.specs.Lists.{parts_in};
 ghost use Rattle.bridge_config.specs.Sections as sections;
 ghost use Rattle.bridge_config.specs.Rules as rules;
 
-use crate::lists::{LARGEST, LARGEST_NUMBER, LAST_MOMENT, list_if};
+use crate::lists::{LARGEST, LARGEST_NUMBER, ListKeys, Parts, list_if, parts_of};
 use crate::numbers::{has_number, in_8_bits, in_32_bits};
-use bridge_cycle::CyclicList;
+use bridge_base::END_OF_TIME;
+use bridge_cycle::{CyclicList, Joined};
 use bridge_gate::{GateEntry, GatePlan, Schedule};
 use bridge_keys::{
     Between, Entry, Field, Openness, Place, PlanFault, Section, SectionReader, Switch, Text,
-    are_known, are_known_at, default_to, has_key, list_at, optional, required, required_with,
-    required_without, value_at,
+    are_known, are_known_at, default_to, has_key, optional, required, required_without, value_at,
 };
 use std::alloc::Allocator;
 use toml::Table;
+
+/// The keys of the first list of a gate.
+const ENTRIES: ListKeys = ListKeys {
+    base: Field::Base,
+    cycle: Field::Cycle,
+    entries: Field::Entries,
+};
+
+/// The keys of the list that takes over at the change of schedules.
+const NEXT_ENTRIES: ListKeys = ListKeys {
+    base: Field::NextBase,
+    cycle: Field::NextCycle,
+    entries: Field::NextEntries,
+};
 
 /// An entry of a gate's list, and its interval in ns.
 #[derive(Clone, Copy)]
@@ -67,132 +80,158 @@ impl Entry for Turns {
     }
 }
 
-/// Whether a table has the keys of a gate alone.
-fn has_keys(table: &Table) -> bool
-    ensures { result ≡ sections.has_gate_keys (table_view table.now) }
+/// The keys of a gate that has a list: 6, and those of the list that takes over at the change of schedules, of which 2
+/// stand beside `next_entries`.
+const KEYS: [Field; 9] = [
+    Field::Number,
+    Field::ShutOnRx,
+    Field::ShutOnOctets,
+    Field::Entries,
+    Field::Base,
+    Field::Cycle,
+    Field::NextEntries,
+    Field::NextBase,
+    Field::NextCycle,
+];
+
+/// The keys of a gate in one state for good.
+const FIXED_KEYS: [Field; 6] = [
+    Field::Number,
+    Field::ShutOnRx,
+    Field::ShutOnOctets,
+    Field::Entries,
+    Field::State,
+    Field::Ipv,
+];
+
+/// Whether a table has no key but those of a gate, where the plan may have a change of schedules.
+fn are_gate_keys(change: Option<u64>, table: &Table) -> bool
+    ensures { result ≡ are_known (sections.gate_keys change (table_view table.now)) (table_view table.now) }
 {
-    let known = if has_key(table, Field::Entries) {
-        are_known(
-            table,
-            &[
-                Field::Number,
-                Field::ShutOnRx,
-                Field::ShutOnOctets,
-                Field::Entries,
-                Field::Base,
-                Field::Cycle,
-            ],
-        )
+    if !has_key(table, Field::Entries) {
+        are_known(table, &FIXED_KEYS)
+    } else if change.is_none() {
+        are_known(table, &KEYS[..6])
+    } else if !has_key(table, Field::NextEntries) {
+        are_known(table, &KEYS[..7])
     } else {
-        are_known(
-            table,
-            &[
-                Field::Number,
-                Field::ShutOnRx,
-                Field::ShutOnOctets,
-                Field::Entries,
-                Field::State,
-                Field::Ipv,
-            ],
-        )
-    };
-    known
-        && are_known_at(
-            value_at(table, Field::Entries.key()),
-            &[Field::Open, Field::Ns, Field::Ipv, Field::Octets],
-        )
+        are_known(table, &KEYS)
+    }
 }
 
-/// The entries of a list, where there is one.
-fn entries_of<A: Allocator + Copy>(
-    alloc: A,
-    place: Place,
-    table: &Table,
-) -> Result<Option<Vec<(GateEntry, u64), A>>, PlanFault>
-    ensures reads { GivesAs (λ x. option_map (λ v. v.items) x) result (list_at place (sections.gate_entry place) (get_member (key_of the_field.Entries) (table_view table.now))) }
-    ensures priorities { IfOk result (λ x. ForSome x (λ v. All (λ e. schedules.is_priority e.0.ipv ≡ true) v.items)) }
+/// Whether no entry of a list has a key but its own.
+fn are_entry_keys(key: Field, table: &Table) -> bool
+    ensures { result ≡ are_known_at sections.gate_entry_keys (get_member (key_of key) (table_view table.now)) }
 {
-    list_at(
-        alloc,
-        place,
-        &Turns { place },
-        value_at(table, Field::Entries.key()),
+    are_known_at(
+        value_at(table, key.key()),
+        &[Field::Open, Field::Ns, Field::Ipv, Field::Octets],
     )
 }
 
-/// The list of a table, where there is one.
+/// Whether a table has the keys of a gate alone.
+fn has_keys(change: Option<u64>, table: &Table) -> bool
+    ensures { result ≡ sections.has_gate_keys change (table_view table.now) }
+{
+    are_gate_keys(change, table)
+        && are_entry_keys(Field::Entries, table)
+        && are_entry_keys(Field::NextEntries, table)
+}
+
+/// The parts of the list that stands at three keys of a gate's table.
+fn gate_parts<A: Allocator + Copy>(
+    alloc: A,
+    index: u32,
+    keys: ListKeys,
+    table: &Table,
+) -> Result<Parts<(GateEntry, u64), A>, PlanFault>
+    ensures reads { GivesAs parts_in result (sections.gate_parts index keys.base keys.cycle keys.entries (table_view table.now)) }
+    ensures base { IfOk result (λ p. p.base < END_OF_TIME) }
+    ensures priorities { IfOk result (λ p. ForSome p.entries (λ v. All (λ e. schedules.is_priority e.0.ipv ≡ true) v.items)) }
+{
+    let place = Place {
+        section: Section::Gate,
+        index,
+        field: keys.entries,
+    };
+    parts_of(alloc, Section::Gate, index, keys, &Turns { place }, table)
+}
+
+/// The lists of a gate, by the moment of the change of schedules.
+fn lists_of<A: Allocator + Copy>(
+    old: Option<CyclicList<GateEntry, A>>,
+    change: Option<u64>,
+    new: Option<CyclicList<GateEntry, A>>,
+) -> Option<Schedule<A>>
+    requires old { ForSome old rules.IsGateList }
+    requires change { rules.IsBeforeEnd change }
+    requires new { ForSome new rules.IsGateList }
+    ensures lists { result ≡ sections.lists_of old change new }
+    ensures priorities { ForSome result (λ s. schedules.has_priorities s ≡ true) }
+    ensures lawful { ForSome result schedules.IsLawful }
+{
+    let Some(old) = old else {
+        return None;
+    };
+    let Some(moment) = change else {
+        return Some(Schedule::Cyclic(old));
+    };
+    match new {
+        Some(new) => Some(Schedule::Joined(Joined::new(old, new, moment))),
+        None => Some(Schedule::Cyclic(old)),
+    }
+}
+
+/// The lists of a table, by the moment of the change of schedules.
 #[tactic(auto, unfolding(crate::specs::Sections::gate_list))]
 fn gate_list<A: Allocator + Copy>(
     alloc: A,
+    change: Option<u64>,
     index: u32,
     table: &Table,
-) -> Result<Option<CyclicList<GateEntry, A>>, PlanFault>
-    ensures reads { Gives result (sections.gate_list index (table_view table.now)) }
-    ensures lawful { IfOk result (λ l. ForSome l IsLawful) }
-    ensures priorities { IfOk result (λ l. ForSome l (λ c. All (λ e. schedules.is_priority e.0.ipv ≡ true) c.entries)) }
+) -> Result<Option<Schedule<A>>, PlanFault>
+    requires { rules.IsBeforeEnd change }
+    ensures reads { Gives result (sections.gate_list change index (table_view table.now)) }
+    ensures priorities { IfOk result (λ s. ForSome s (λ x. schedules.has_priorities x ≡ true)) }
+    ensures lawful { IfOk result (λ s. ForSome s schedules.IsLawful) }
 {
-    let at = |field: Field| -> Place
-        ensures { result ≡ record { section = the_section.Gate; index = index; field = field } }
-    {
-        Place {
-            section: Section::Gate,
-            index,
-            field,
-        }
-    };
-    let base = default_to(
-        0,
-        table,
-        at(Field::Base),
-        Field::Base,
-        &Between {
-            low: 0,
-            high: LAST_MOMENT,
-        },
-    )?;
-    let cycle = required_with(
-        Field::Entries,
-        0,
-        table,
-        at(Field::Cycle),
-        Field::Cycle,
-        &Between {
-            low: 0,
-            high: LARGEST,
-        },
-    )?;
-    let entries = entries_of(alloc, at(Field::Entries), table)?;
-    list_if(alloc, Section::Gate, index, base, cycle, entries)
+    let first = gate_parts(alloc, index, ENTRIES, table)?;
+    let next = gate_parts(alloc, index, NEXT_ENTRIES, table)?;
+    let old = list_if(alloc, Section::Gate, index, first)?;
+    let new = list_if(alloc, Section::Gate, index, next)?;
+    Ok(lists_of(old, change, new))
 }
 
-/// A list, or without one a state for good.
+/// Lists, or without one a state for good.
 fn schedule_of<A: Allocator + Copy>(
     lets: bool,
     ipv: Option<u8>,
-    list: Option<CyclicList<GateEntry, A>>,
+    lists: Option<Schedule<A>>,
 ) -> Schedule<A>
     requires ipv { schedules.is_priority ipv ≡ true }
-    requires priorities { ForSome list (λ c. All (λ e. schedules.is_priority e.0.ipv ≡ true) c.entries) }
-    requires lawful { ForSome list IsLawful }
-    ensures schedule { result ≡ sections.schedule_of lets ipv list }
+    requires priorities { ForSome lists (λ s. schedules.has_priorities s ≡ true) }
+    requires lawful { ForSome lists schedules.IsLawful }
+    ensures schedule { result ≡ sections.schedule_of lets ipv lists }
     ensures priorities { schedules.has_priorities result ≡ true }
     ensures lawful { schedules.IsLawful result }
 {
-    match list {
-        Some(list) => Schedule::Cyclic(list),
+    match lists {
+        Some(lists) => lists,
         None => Schedule::Fixed { lets, ipv },
     }
 }
 
-/// The gate of a table with its number, by those before it.
+/// The gate of a table with its number, by the moment of the change of schedules and the gates before it.
 #[tactic(auto, unfolding(crate::specs::Sections::gate_at))]
 fn gate_of<A: Allocator + Copy>(
     alloc: A,
+    change: Option<u64>,
     gates: &[(u32, GatePlan<A>)],
     index: u32,
     table: &Table,
 ) -> Result<(u32, GatePlan<A>), PlanFault>
-    ensures reads { Gives result (sections.gate_at gates.now index (table_view table.now)) }
+    requires { rules.IsBeforeEnd change }
+    ensures reads { Gives result (sections.gate_at change gates.now index (table_view table.now)) }
     ensures own { IfOk result (λ g. sections.has_number gates.now g.0 ≡ false) }
     ensures priorities { IfOk result (λ g. schedules.has_priorities g.1.schedule ≡ true) }
     ensures lawful { IfOk result (λ g. schedules.IsLawful g.1.schedule) }
@@ -206,7 +245,7 @@ fn gate_of<A: Allocator + Copy>(
             field,
         }
     };
-    if !has_keys(table) {
+    if !has_keys(change, table) {
         return Err(PlanFault::UnknownKey(Section::Gate, index));
     }
     let number = required(
@@ -240,28 +279,30 @@ fn gate_of<A: Allocator + Copy>(
         Field::Ipv,
         &Between { low: 0, high: 7 },
     )?;
-    let list = gate_list(alloc, index, table)?;
+    let lists = gate_list(alloc, change, index, table)?;
     if has_number(gates, number) {
         return Err(PlanFault::Duplicate(Section::Gate, index));
     }
     let plan = GatePlan {
         shut_on_rx,
         shut_on_octets,
-        schedule: schedule_of(lets, in_8_bits(ipv), list),
+        schedule: schedule_of(lets, in_8_bits(ipv), lists),
     };
     Ok((number as u32, plan))
 }
 
-/// The section of gates.
+/// The section of gates, by the moment of the change of schedules.
 #[derive(Clone, Copy)]
-pub(crate) struct Gates;
+pub(crate) struct Gates {
+    pub change: Option<u64>,
+}
 
 impl<A: Allocator + Copy> SectionReader<A> for Gates {
     type Instance = (u32, GatePlan<A>);
 
-    ghost reading = { λ _. sections.gate_at };
+    ghost reading = { λ s. sections.gate_at s.change };
 
-    ghost Keeps = { λ _. rules.AreGates };
+    ghost Keeps = { λ s gates. rules.IsBeforeEnd s.change × rules.AreGates gates };
 
     #[tactic(auto, using(crate::proofs::Own::gates_push))]
     fn read(
@@ -271,6 +312,6 @@ impl<A: Allocator + Copy> SectionReader<A> for Gates {
         index: u32,
         table: &Table,
     ) -> Result<(u32, GatePlan<A>), PlanFault> {
-        gate_of(alloc, earlier, index, table)
+        gate_of(alloc, self.change, earlier, index, table)
     }
 }

@@ -2,6 +2,7 @@
 //! The plan of a bridge: its ports, VLANs, streams, gates, meters and filters; and the commands that come to it.
 
 mod arrays;
+mod changes;
 mod command;
 mod commands;
 mod filters;

@@ -1,14 +1,19 @@
-//! The list of a port or a gate, where it has entries.
-ghost use Rattle.std.specs.Prelude.{◌≡◌, ◌<◌, IfOk, option_map};
+//! The lists of a port or a gate, where it has entries.
+ghost use Rattle.std.specs.Prelude.{◌≡◌, ◌<◌, All, IfOk, option_map};
 ghost use Rattle.std.specs.Option.{ForSome};
+ghost use Rattle.toml.specs.View.{table_view};
 ghost use Rattle.bridge_cycle.specs.Cyclic.{IsLawful};
-ghost use Rattle.bridge_keys.specs.Readers.{Gives};
+ghost use Rattle.bridge_keys.specs.Readers.{Gives, GivesAs};
+ghost use Rattle.bridge_config.specs.Lists.{parts_in};
 ghost use Rattle.bridge_config.specs.Sections as sections;
 
 use bridge_base::END_OF_TIME;
 use bridge_cycle::{CyclicList, ListFault};
-use bridge_keys::{PlanFault, Section};
+use bridge_keys::{
+    Between, Entry, Field, Place, PlanFault, Section, default_to, list_at, required_with, value_at,
+};
 use std::alloc::Allocator;
+use toml::Table;
 
 /// The largest number of a document.
 pub(crate) const LARGEST: u64 = 9_223_372_036_854_775_807;
@@ -16,23 +21,107 @@ pub(crate) const LARGEST: u64 = 9_223_372_036_854_775_807;
 /// The largest number of an instance or a stream handle, and the largest limit of octets of a gate: 2^32 - 1.
 pub(crate) const LARGEST_NUMBER: u64 = u32::MAX as u64;
 
-/// The largest moment, in ns, at which a cycle may begin or a command come.
+/// The largest moment, in ns, at which a cycle may begin, schedules may change or a command may come.
 pub(crate) const LAST_MOMENT: u64 = END_OF_TIME - 1;
 
-/// The list of a base, a cycle and entries, where there are entries.
+/// The keys at which the parts of a list stand.
+#[derive(Clone, Copy)]
+pub(crate) struct ListKeys {
+    /// The moment at which a cycle begins.
+    pub base: Field,
+    /// The length of the cycle.
+    pub cycle: Field,
+    /// The entries.
+    pub entries: Field,
+}
+
+/// The parts of a list.
+#[derive(Drop)]
+pub(crate) struct Parts<X, A: Allocator + Copy> {
+    /// The moment at which a cycle begins, in ns.
+    pub base: u64,
+    /// The length of the cycle, in ns.
+    pub cycle: u64,
+    /// The entries, where there are some.
+    pub entries: Option<Vec<X, A>>,
+}
+
+/// The parts of the list that stands at three keys of a table, whose entries are read by `entry`.
+#[tactic(auto, unfolding(crate::specs::Sections::list_parts))]
+pub(crate) fn parts_of<A: Allocator + Copy, E: Entry>(
+    alloc: A,
+    section: Section,
+    index: u32,
+    keys: ListKeys,
+    entry: &E,
+    table: &Table,
+) -> Result<Parts<E::Out, A>, PlanFault>
+where
+    E::Out: Drop,
+    ensures reads { GivesAs parts_in result (sections.list_parts section index keys.base keys.cycle keys.entries (E.reading entry.now) (table_view table.now)) }
+    ensures base { IfOk result (λ p. p.base < END_OF_TIME) }
+    ensures entries { IfOk result (λ p. ForSome p.entries (λ v. All (E.Fits entry.now) v.items)) }
+{
+    let at = |field: Field| -> Place
+        ensures { result ≡ record { section = section; index = index; field = field } }
+    {
+        Place {
+            section,
+            index,
+            field,
+        }
+    };
+    let base = default_to(
+        0,
+        table,
+        at(keys.base),
+        keys.base,
+        &Between {
+            low: 0,
+            high: LAST_MOMENT,
+        },
+    )?;
+    let cycle = required_with(
+        keys.entries,
+        0,
+        table,
+        at(keys.cycle),
+        keys.cycle,
+        &Between {
+            low: 0,
+            high: LARGEST,
+        },
+    )?;
+    let entries = list_at(
+        alloc,
+        at(keys.entries),
+        entry,
+        value_at(table, keys.entries.key()),
+    )?;
+    Ok(Parts {
+        base,
+        cycle,
+        entries,
+    })
+}
+
+/// The list of these parts, where there are entries.
 pub(crate) fn list_if<S: Copy, A: Allocator + Copy>(
     alloc: A,
     section: Section,
     index: u32,
-    base: u64,
-    cycle: u64,
-    entries: Option<Vec<(S, u64), A>>,
+    parts: Parts<(S, u64), A>,
 ) -> Result<Option<CyclicList<S, A>>, PlanFault>
-    requires { base < END_OF_TIME }
-    ensures reads { Gives result (sections.list_if section index base cycle (option_map (λ v. v.items) entries)) }
+    requires { parts.base < END_OF_TIME }
+    ensures reads { Gives result (sections.list_if section index (parts_in parts)) }
     ensures lawful { IfOk result (λ l. ForSome l IsLawful) }
-    ensures entries { IfOk result (λ l. option_map (λ c. c.entries) l ≡ option_map (λ v. v.items) entries) }
+    ensures entries { IfOk result (λ l. option_map (λ c. c.entries) l ≡ option_map (λ v. v.items) parts.entries) }
 {
+    let Parts {
+        base,
+        cycle,
+        entries,
+    } = parts;
     match entries {
         None => Ok(None),
         Some(entries) => match CyclicList::new(alloc, base, cycle, entries) {

@@ -11,6 +11,7 @@ ghost use Rattle.bridge_config.specs.Document as doc;
 ghost use Rattle.bridge_config.specs.Arrays.{items_of_arrays, AreFew};
 
 use crate::arrays::{Arrays, first_pass};
+use crate::changes::change_of;
 use crate::filters::filters_of;
 use crate::gates::Gates;
 use crate::meters::Meters;
@@ -219,13 +220,18 @@ impl<A: Allocator + Copy> Model for Policing<A> {
     ghost invariant = { λ p. rules.IsPolicing {A = A} (record { gates = p.gates.items; meters = p.meters.items; filters = p.filters.items }) };
 }
 
-/// The gates, meters and filters of the arrays of a document.
+/// The gates, meters and filters of the arrays of a document, by the moment of the change of schedules.
 #[tactic(auto, unfolding(crate::specs::Document::policing_of))]
-fn policing_of<A: Allocator + Copy>(alloc: A, arrays: Arrays<'_>) -> Result<Policing<A>, PlanFault>
-    requires { AreFew arrays }
-    ensures { Gives result (doc.policing_of (items_of_arrays arrays.entry)) }
+fn policing_of<A: Allocator + Copy>(
+    alloc: A,
+    change: Option<u64>,
+    arrays: Arrays<'_>,
+) -> Result<Policing<A>, PlanFault>
+    requires change { rules.IsBeforeEnd change }
+    requires few { AreFew arrays }
+    ensures { Gives result (doc.policing_of change (items_of_arrays arrays.entry)) }
 {
-    let gates = read_instances(alloc, &Gates, arrays.gates)?;
+    let gates = read_instances(alloc, &Gates { change }, arrays.gates)?;
     let meters = read_instances(alloc, &Meters, arrays.meters)?;
     let filters = filters_of(alloc, &gates, &meters, arrays.filters)?;
     Ok(Policing {
@@ -241,12 +247,13 @@ fn second_pass<A: Allocator + Copy>(alloc: A, arrays: Arrays<'_>) -> Result<Plan
     requires { AreFew arrays }
     ensures { Gives result (doc.second_pass (items_of_arrays arrays.entry)) }
 {
-    let ports = read_instances(alloc, &Ports, arrays.ports)?;
+    let change = change_of(arrays.changes)?;
+    let ports = read_instances(alloc, &Ports { change }, arrays.ports)?;
     let all = port_set(&ports);
     let vlans = read_instances(alloc, &Vlans { all }, arrays.vlans)?;
     let statics = read_instances(alloc, &Statics { all, vlans: &vlans }, arrays.statics)?;
     let streams = read_instances(alloc, &Streams { ports: &ports }, arrays.streams)?;
-    let policing = policing_of(alloc, arrays)?;
+    let policing = policing_of(alloc, change, arrays)?;
     let Ok(forwarding) = Forwarding::new(alloc, vlans, statics) else {
         return Err(PlanFault::NoMemory);
     };
@@ -279,8 +286,8 @@ pub(crate) fn document_of(heap: Global, text: &[u8]) -> Result<Table, PlanFault>
 }
 
 /// The plan of a TOML text, or its first fault: `TooLong`, `Syntax`, an unknown key at the top, then the sections in
-/// the order port, VLAN, static entry, stream, gate, meter, filter, first each as an array (`NotAList`, `TooMany`,
-/// `NoPorts`), then instance by instance and key by key. `NoMemory` comes only where a growth was refused.
+/// the order change, port, VLAN, static entry, stream, gate, meter, filter, first each as an array (`NotAList`,
+/// `TooMany`, `NoPorts`), then instance by instance and key by key. `NoMemory` comes only where a growth was refused.
 ///
 /// The document is read in `heap`, the plan is made in `alloc`.
 pub fn plan_of<A: Allocator + Copy>(

@@ -1,22 +1,22 @@
 //! Ports of a plan.
-ghost use Rattle.std.specs.Prelude.{◌≡◌, ◌<◌, IfOk, All, false, option_map};
+ghost use Rattle.std.specs.Prelude.{◌≡◌, ◌<◌, IfOk, All, false};
 ghost use Rattle.std.specs.Option.{ForSome};
 ghost use Rattle.toml.specs.Data.{get_member};
 ghost use Rattle.toml.specs.View.{table_view};
-ghost use Rattle.bridge_keys.specs.declared.fault.Field.TheVariants as the_field;
 ghost use Rattle.bridge_keys.specs.declared.fault.Section.TheVariants as the_section;
 ghost use Rattle.bridge_keys.specs.Keys.{key_of};
-ghost use Rattle.bridge_keys.specs.Readers.{Gives, GivesAs, list_at};
+ghost use Rattle.bridge_keys.specs.Readers.{Gives, GivesAs, are_known, are_known_at};
+ghost use Rattle.bridge_config.specs.Lists.{parts_in};
 ghost use Rattle.bridge_config.specs.Sections as sections;
 ghost use Rattle.bridge_config.specs.Rules as rules;
 
-use crate::lists::{LARGEST, LAST_MOMENT, list_if};
-use bridge_cycle::CyclicList;
+use crate::lists::{LARGEST, ListKeys, Parts, list_if, parts_of};
+use bridge_base::END_OF_TIME;
+use bridge_cycle::{CyclicList, Egress, Joined};
 use bridge_frame::Speed;
 use bridge_keys::{
     Between, Classes, Entry, Field, Finds, Mbps, Place, PlanFault, Rooms, Section, SectionReader,
-    SetOf, are_known, are_known_at, default_to, has_key, list_at, required, required_with,
-    value_at,
+    SetOf, are_known, are_known_at, default_to, has_key, required, value_at,
 };
 use std::alloc::Allocator;
 use toml::Table;
@@ -36,10 +36,24 @@ pub struct PortPlan<A: Allocator + Copy> {
     pub classes: [u8; 8],
     /// The frames that each class's queue holds at most, from class 0; 1 to 4096.
     pub rooms: [u16; 8],
-    /// The open classes, as bits from class 0 on, by time; all are always open without one
-    /// (IEEE 802.1Q-2018 8.6.8).
-    pub list: Option<CyclicList<u8, A>>,
+    /// The open classes, as bits from class 0 on, by time, also where another list takes over at the change of
+    /// schedules; all are always open without one (IEEE 802.1Q-2018 8.6.8, 8.6.9.4).
+    pub list: Option<Egress<A>>,
 }
+
+/// The keys of the first list of a port.
+const GATES: ListKeys = ListKeys {
+    base: Field::Base,
+    cycle: Field::Cycle,
+    entries: Field::Gates,
+};
+
+/// The keys of the list that takes over at the change of schedules.
+const NEXT_GATES: ListKeys = ListKeys {
+    base: Field::NextBase,
+    cycle: Field::NextCycle,
+    entries: Field::NextGates,
+};
 
 /// An entry of a port's list: its open classes as bits, and its interval in ns.
 #[derive(Clone, Copy)]
@@ -69,44 +83,52 @@ impl Entry for PortEntry {
     }
 }
 
-/// Whether a table has the keys of a port alone.
-fn has_keys(table: &Table) -> bool
-    ensures { result ≡ sections.has_port_keys (table_view table.now) }
+/// The keys of a port: 7 that it may always have, 2 that stand beside `gates`, and those of the list that takes over at
+/// the change of schedules, of which 2 stand beside `next_gates`.
+const KEYS: [Field; 12] = [
+    Field::Number,
+    Field::Mbps,
+    Field::Vid,
+    Field::Priority,
+    Field::Classes,
+    Field::Rooms,
+    Field::Gates,
+    Field::Base,
+    Field::Cycle,
+    Field::NextGates,
+    Field::NextBase,
+    Field::NextCycle,
+];
+
+/// Whether a table has no key but those of a port, where the plan may have a change of schedules.
+fn are_port_keys(change: Option<u64>, table: &Table) -> bool
+    ensures { result ≡ are_known (sections.port_keys change (table_view table.now)) (table_view table.now) }
 {
-    let known = if has_key(table, Field::Gates) {
-        are_known(
-            table,
-            &[
-                Field::Number,
-                Field::Mbps,
-                Field::Vid,
-                Field::Priority,
-                Field::Classes,
-                Field::Rooms,
-                Field::Gates,
-                Field::Base,
-                Field::Cycle,
-            ],
-        )
+    if !has_key(table, Field::Gates) {
+        are_known(table, &KEYS[..7])
+    } else if change.is_none() {
+        are_known(table, &KEYS[..9])
+    } else if !has_key(table, Field::NextGates) {
+        are_known(table, &KEYS[..10])
     } else {
-        are_known(
-            table,
-            &[
-                Field::Number,
-                Field::Mbps,
-                Field::Vid,
-                Field::Priority,
-                Field::Classes,
-                Field::Rooms,
-                Field::Gates,
-            ],
-        )
-    };
-    known
-        && are_known_at(
-            value_at(table, Field::Gates.key()),
-            &[Field::Open, Field::Ns],
-        )
+        are_known(table, &KEYS)
+    }
+}
+
+/// Whether no entry of a list has a key but its own.
+fn are_entry_keys(key: Field, table: &Table) -> bool
+    ensures { result ≡ are_known_at sections.port_entry_keys (get_member (key_of key) (table_view table.now)) }
+{
+    are_known_at(value_at(table, key.key()), &[Field::Open, Field::Ns])
+}
+
+/// Whether a table has the keys of a port alone.
+fn has_keys(change: Option<u64>, table: &Table) -> bool
+    ensures { result ≡ sections.has_port_keys change (table_view table.now) }
+{
+    are_port_keys(change, table)
+        && are_entry_keys(Field::Gates, table)
+        && are_entry_keys(Field::NextGates, table)
 }
 
 /// Whether a port has a number.
@@ -116,76 +138,86 @@ pub(crate) fn has_port<A: Allocator + Copy>(ports: &[PortPlan<A>], number: u64) 
     ports.iter().any(|p| p.number as u64 == number)
 }
 
-/// The entries of a list, where there is one.
-fn entries_of<A: Allocator + Copy>(
+/// The parts of the list that stands at three keys of a port's table.
+fn port_parts<A: Allocator + Copy>(
     alloc: A,
-    place: Place,
+    index: u32,
+    keys: ListKeys,
     table: &Table,
-) -> Result<Option<Vec<(u8, u64), A>>, PlanFault>
-    ensures reads { GivesAs (λ x. option_map (λ v. v.items) x) result (list_at place (sections.port_entry place) (get_member (key_of the_field.Gates) (table_view table.now))) }
-    ensures classes { IfOk result (λ x. ForSome x (λ v. All (λ e. e.0 < 256) v.items)) }
+) -> Result<Parts<(u8, u64), A>, PlanFault>
+    ensures reads { GivesAs parts_in result (sections.port_parts index keys.base keys.cycle keys.entries (table_view table.now)) }
+    ensures base { IfOk result (λ p. p.base < END_OF_TIME) }
+    ensures classes { IfOk result (λ p. ForSome p.entries (λ v. All (λ e. e.0 < 256) v.items)) }
 {
-    list_at(
+    let place = Place {
+        section: Section::Port,
+        index,
+        field: keys.entries,
+    };
+    parts_of(
         alloc,
-        place,
+        Section::Port,
+        index,
+        keys,
         &PortEntry { place },
-        value_at(table, Field::Gates.key()),
+        table,
     )
 }
 
-/// The gate control list of a table, where there is one.
+/// The gate control lists of a port, by the moment of the change of schedules.
+fn egress_of<A: Allocator + Copy>(
+    old: Option<CyclicList<u8, A>>,
+    change: Option<u64>,
+    new: Option<CyclicList<u8, A>>,
+) -> Option<Egress<A>>
+    requires old { ForSome old rules.IsPortList }
+    requires change { rules.IsBeforeEnd change }
+    requires new { ForSome new rules.IsPortList }
+    ensures lists { result ≡ sections.egress_of old change new }
+    ensures each { ForSome result (rules.ForEachList rules.IsPortList) }
+{
+    let Some(old) = old else {
+        return None;
+    };
+    let Some(moment) = change else {
+        return Some(Egress::Cyclic(old));
+    };
+    match new {
+        Some(new) => Some(Egress::Joined(Joined::new(old, new, moment))),
+        None => Some(Egress::Cyclic(old)),
+    }
+}
+
+/// The gate control lists of a table, by the moment of the change of schedules.
 #[tactic(auto, unfolding(crate::specs::Sections::port_list))]
 fn port_list<A: Allocator + Copy>(
     alloc: A,
+    change: Option<u64>,
     index: u32,
     table: &Table,
-) -> Result<Option<CyclicList<u8, A>>, PlanFault>
-    ensures reads { Gives result (sections.port_list index (table_view table.now)) }
-    ensures list { IfOk result (λ l. ForSome l rules.IsPortList) }
+) -> Result<Option<Egress<A>>, PlanFault>
+    requires { rules.IsBeforeEnd change }
+    ensures reads { Gives result (sections.port_list change index (table_view table.now)) }
+    ensures list { IfOk result (λ l. ForSome l (rules.ForEachList rules.IsPortList)) }
 {
-    let at = |field: Field| -> Place
-        ensures { result ≡ record { section = the_section.Port; index = index; field = field } }
-    {
-        Place {
-            section: Section::Port,
-            index,
-            field,
-        }
-    };
-    let base = default_to(
-        0,
-        table,
-        at(Field::Base),
-        Field::Base,
-        &Between {
-            low: 0,
-            high: LAST_MOMENT,
-        },
-    )?;
-    let cycle = required_with(
-        Field::Gates,
-        0,
-        table,
-        at(Field::Cycle),
-        Field::Cycle,
-        &Between {
-            low: 0,
-            high: LARGEST,
-        },
-    )?;
-    let gates = entries_of(alloc, at(Field::Gates), table)?;
-    list_if(alloc, Section::Port, index, base, cycle, gates)
+    let first = port_parts(alloc, index, GATES, table)?;
+    let next = port_parts(alloc, index, NEXT_GATES, table)?;
+    let old = list_if(alloc, Section::Port, index, first)?;
+    let new = list_if(alloc, Section::Port, index, next)?;
+    Ok(egress_of(old, change, new))
 }
 
-/// The port of a table, by those before it.
+/// The port of a table, by the moment of the change of schedules and the ports before it.
 #[tactic(auto, unfolding(crate::specs::Sections::port_at))]
 fn port_of<A: Allocator + Copy>(
     alloc: A,
+    change: Option<u64>,
     ports: &[PortPlan<A>],
     index: u32,
     table: &Table,
 ) -> Result<PortPlan<A>, PlanFault>
-    ensures reads { Gives result (sections.port_at ports.now index (table_view table.now)) }
+    requires { rules.IsBeforeEnd change }
+    ensures reads { Gives result (sections.port_at change ports.now index (table_view table.now)) }
     ensures own { IfOk result (λ p. rules.has_port ports.now p.number ≡ false) }
     ensures port { IfOk result (λ p. rules.IsPort p) }
 {
@@ -198,7 +230,7 @@ fn port_of<A: Allocator + Copy>(
             field,
         }
     };
-    if !has_keys(table) {
+    if !has_keys(change, table) {
         return Err(PlanFault::UnknownKey(Section::Port, index));
     }
     let number = required(
@@ -230,7 +262,7 @@ fn port_of<A: Allocator + Copy>(
         &Classes,
     )?;
     let rooms = default_to([64; 8], table, at(Field::Rooms), Field::Rooms, &Rooms)?;
-    let list = port_list(alloc, index, table)?;
+    let list = port_list(alloc, change, index, table)?;
     if has_port(ports, number) {
         return Err(PlanFault::Duplicate(Section::Port, index));
     }
@@ -245,16 +277,18 @@ fn port_of<A: Allocator + Copy>(
     })
 }
 
-/// The section of ports.
+/// The section of ports, by the moment of the change of schedules.
 #[derive(Clone, Copy)]
-pub(crate) struct Ports;
+pub(crate) struct Ports {
+    pub change: Option<u64>,
+}
 
 impl<A: Allocator + Copy> SectionReader<A> for Ports {
     type Instance = PortPlan<A>;
 
-    ghost reading = { λ _. sections.port_at };
+    ghost reading = { λ s. sections.port_at s.change };
 
-    ghost Keeps = { λ _. rules.ArePorts };
+    ghost Keeps = { λ s ports. rules.IsBeforeEnd s.change × rules.ArePorts ports };
 
     #[tactic(auto, using(crate::proofs::Own::ports_push))]
     fn read(
@@ -264,6 +298,6 @@ impl<A: Allocator + Copy> SectionReader<A> for Ports {
         index: u32,
         table: &Table,
     ) -> Result<PortPlan<A>, PlanFault> {
-        port_of(alloc, earlier, index, table)
+        port_of(alloc, self.change, earlier, index, table)
     }
 }

@@ -14,6 +14,8 @@ use thiserror::Error;
 pub enum Section {
     /// The top of a plan.
     Top,
+    /// The change of schedules, at most one.
+    Change,
     /// Ports, at most 16.
     Port,
     /// VLANs.
@@ -39,6 +41,7 @@ impl Section {
     {
         match self {
             Section::Top => "top",
+            Section::Change => "change",
             Section::Port => "port",
             Section::Vlan => "vlan",
             Section::Static => "static",
@@ -72,6 +75,12 @@ pub enum Field {
     Cycle,
     /// The gate control list of a port.
     Gates,
+    /// The same as `Base` of the list that takes over at the change of schedules.
+    NextBase,
+    /// The same as `Cycle` of the list that takes over at the change of schedules.
+    NextCycle,
+    /// The gate control list of a port from the change of schedules on.
+    NextGates,
     /// The classes, or the state, of an entry of a list.
     Open,
     /// The interval of an entry of a list, in ns.
@@ -100,6 +109,8 @@ pub enum Field {
     Ipv,
     /// The list of a stream gate.
     Entries,
+    /// The list of a stream gate from the change of schedules on.
+    NextEntries,
     /// The most octets of an interval.
     Octets,
     /// The committed information rate.
@@ -128,7 +139,7 @@ pub enum Field {
     BlockOversize,
     /// Whether the frames of a filter are protected.
     Protected,
-    /// The moment of a command, in ns.
+    /// The moment of a command or of the change of schedules, in ns.
     At,
     /// The flag that a command clears.
     Clear,
@@ -149,6 +160,9 @@ impl Field {
             Field::Base => "base",
             Field::Cycle => "cycle",
             Field::Gates => "gates",
+            Field::NextBase => "next_base",
+            Field::NextCycle => "next_cycle",
+            Field::NextGates => "next_gates",
             Field::Open => "open",
             Field::Ns => "ns",
             Field::Members => "members",
@@ -163,6 +177,7 @@ impl Field {
             Field::State => "state",
             Field::Ipv => "ipv",
             Field::Entries => "entries",
+            Field::NextEntries => "next_entries",
             Field::Octets => "octets",
             Field::Cir => "cir",
             Field::Cbs => "cbs",

@@ -37,6 +37,27 @@ ebs = 4
 colour = \"aware\"
 ";
 
+/// A port and a gate whose lists are exchanged.
+const CHANGE: &str = "
+[[change]]
+at = 2000000
+
+[[port]]
+number = 4
+mbps = 1000
+cycle = 1000
+gates = [{ open = [7], ns = 1000 }]
+next_cycle = 500
+next_gates = [{ open = [0], ns = 500 }]
+
+[[gate]]
+number = 4
+cycle = 1000
+entries = [{ open = true, ns = 1000 }]
+next_cycle = 500
+next_entries = [{ open = false, ns = 500 }]
+";
+
 fn has_port<A: Allocator + Copy>(rt: &impl Abort, port: &PortPlan<A>) {
     let number = u64::from(port.number);
     must(rt, port.speed == Speed::Mbps1000, "speed of port", number);
@@ -149,7 +170,7 @@ fn is_gate<A: Allocator + Copy>(number: u32, schedule: &Schedule<A>) -> bool {
             lets: true,
             ipv: Some(0),
         } => number == 99,
-        Schedule::Fixed { .. } => false,
+        Schedule::Fixed { .. } | Schedule::Joined(_) => false,
     }
 }
 
@@ -297,7 +318,8 @@ fn refuse_each<A: Allocator + Copy>(
     alloc: A,
     heap: Global,
 ) -> Result<(), AllocError> {
-    let text = text_with(alloc, METER)?;
+    let mut text = text_with(alloc, METER)?;
+    text.push_str(CHANGE)?;
     refuse(rt, alloc, heap, text.as_bytes());
     Ok(())
 }

@@ -1,0 +1,81 @@
+//! The change of schedules of a plan.
+ghost use Rattle.std.specs.Prelude.{◌≡◌, ◌<◌, IfErr, IfOk, option_map};
+ghost use Rattle.toml.specs.View.{items_view, table_view, view};
+ghost use Rattle.bridge_keys.specs.declared.fault.PlanFault.TheVariants.{NoMemory};
+ghost use Rattle.bridge_keys.specs.Readers.{Gives};
+ghost use Rattle.bridge_config.specs.Document as doc;
+ghost use Rattle.bridge_config.specs.Rules as rules;
+ghost use Rattle.bridge_config.specs.Sections as sections;
+
+use crate::lists::LAST_MOMENT;
+use bridge_base::END_OF_TIME;
+use bridge_keys::{Between, Field, Place, PlanFault, Section, are_known, required};
+use toml::{Table, Value};
+
+/// Whether a table has the keys of a change of schedules alone.
+fn has_keys(table: &Table) -> bool
+    ensures { result ≡ sections.has_change_keys (table_view table.now) }
+{
+    are_known(table, &[Field::At])
+}
+
+/// The moment of the change of schedules of a table.
+#[tactic(auto, unfolding(crate::specs::Sections::change_at))]
+fn moment_of(index: u32, table: &Table) -> Result<u64, PlanFault>
+    ensures reads { Gives result (sections.change_at index (table_view table.now)) }
+    ensures bounded { IfOk result (λ t. t < END_OF_TIME) }
+    ensures takes_no_memory { IfErr result (λ e. ¬ (e ≡ NoMemory)) }
+{
+    if !has_keys(table) {
+        return Err(PlanFault::UnknownKey(Section::Change, index));
+    }
+    let place = Place {
+        section: Section::Change,
+        index,
+        field: Field::At,
+    };
+    required(
+        table,
+        place,
+        Field::At,
+        &Between {
+            low: 0,
+            high: LAST_MOMENT,
+        },
+    )
+}
+
+/// The first item, where there is one.
+fn first_item(items: &[Value]) -> Option<&Value>
+    ensures { option_map (λ v. view v.now) result ≡ doc.first_item (items_view items.now) }
+{
+    match items.split_first() {
+        Some((first, _)) => Some(first),
+        None => None,
+    }
+}
+
+/// The moment of the change of schedules of a table, where there is one.
+fn change_in(value: Option<&Value>) -> Result<Option<u64>, PlanFault>
+    ensures reads { Gives result (doc.change_in (option_map (λ v. view v.now) value.entry)) }
+    ensures bounded { IfOk result rules.IsBeforeEnd }
+    ensures takes_no_memory { IfErr result (λ e. ¬ (e ≡ NoMemory)) }
+{
+    match value {
+        Some(Value::Table(table)) => match moment_of(1, table) {
+            Ok(moment) => Ok(Some(moment)),
+            Err(fault) => Err(fault),
+        },
+        _ => Ok(None),
+    }
+}
+
+/// The moment of the change of schedules of a section, where it has one. Takes no memory.
+#[tactic(auto, unfolding(crate::specs::Document::change_of))]
+pub(crate) fn change_of(items: &[Value]) -> Result<Option<u64>, PlanFault>
+    ensures reads { Gives result (doc.change_of (items_view items.now)) }
+    ensures bounded { IfOk result rules.IsBeforeEnd }
+    ensures takes_no_memory { IfErr result (λ e. ¬ (e ≡ NoMemory)) }
+{
+    change_in(first_item(items))
+}
