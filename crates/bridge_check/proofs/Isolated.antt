@@ -3,7 +3,7 @@ use Rattle.std.proofs.Common.{◌≡◌, ◌<◌, ◌≤◌, ◌+◌, ◌-◌, �
 use Rattle.std.specs.Prelude.{option_map, slice_index, is_some}
 use Rattle.std.specs.List.{list_any, list_all}
 use Rattle.std.proofs.lemmas.Bool.{and_parts, or_parts, eqb-true, not-true, not-false, false≢true, cases_lt}
-use Rattle.std.specs.Option.{ForSome}
+use Rattle.std.specs.Option.{ForSome, option_or}
 use Rattle.std.specs.Bool.{if◌then◌else◌}
 use Rattle.std.proofs.lemmas.Bool.Decides.{nat_tests}
 use Rattle.std.proofs.lemmas.List.Sums.{AllPass-from_list_all}
@@ -13,22 +13,25 @@ use Rattle.bridge_base.specs.Members.{In}
 use Rattle.bridge_cycle.specs.Moments.{is_open}
 use Rattle.bridge_cycle.specs.Opens.{opens_in}
 use Rattle.bridge_cycle.specs.declared.timeline.Turn.{Turn}
+use Rattle.bridge_cycle.specs.declared.egress.Egress.{Egress}
+use Rattle.bridge_cycle.specs.declared.egress.Egress.TheVariants as egress
 use Rattle.bridge_cycle.proofs.Lists.{among}
+use Rattle.bridge_cycle.proofs.Changes.{opens_before, opens_after}
 use Rattle.bridge_frame.specs.Link.{occupied}
 use Rattle.bridge_filter.specs.declared.FilterPlan.{FilterPlan}
 use Rattle.bridge_filter.specs.Finding.{lesser_number}
 use Rattle.bridge_filter.proofs.Numbered.{same_eq}
-use Rattle.bridge_port.specs.Opening.{opens_of, IsMade}
-use Rattle.bridge_port.proofs.Opening.{ever_is}
+use Rattle.bridge_port.specs.Opening.{opens_of, opening_of, IsMade}
+use Rattle.bridge_port.proofs.Opening as opening
 use Rattle.bridge_keys.specs.Readers.{are_within}
 use Rattle.bridge_config.specs.declared.ports.PortPlan.{PortPlan}
 use Rattle.bridge_config.specs.Model.{Plan}
-use Rattle.bridge_config.specs.Rules.{port_at, IsPlan, IsPort, IsPortList}
+use Rattle.bridge_config.specs.Rules.{port_at, IsPlan, IsPort, IsPortList, ForEachList}
 use Rattle.bridge_config.proofs.PlanPorts.{class_below, each_in, port_is}
 use Rattle.bridge_check.specs.declared.fault.CheckFault.{CheckFault}
 use Rattle.bridge_check.specs.declared.fault.CheckFault.TheVariants as fault
 use Rattle.bridge_check.specs.Reach.{any_below, reaches, reaches_class, reaches_port, reaches_priority}
-use Rattle.bridge_check.specs.Windows.{is_shared, shared_from, shared_at, longest_frame, ever_fits}
+use Rattle.bridge_check.specs.Windows.{is_shared, shared_from, shared_in, shared_at, longest_frame, ever_fits}
 use Rattle.bridge_check.specs.Faults.{first_of, first_below, fault_unless, is_gate_shared, is_meter_shared, is_one_meter, is_greatest, has_catch_all, other_at, shared_on, never_fits, fault_of, first_in_reach}
 use Rattle.bridge_check.specs.Acceptable.{IsIsolated}
 
@@ -228,20 +231,34 @@ not_beside s c d small h oc od =
     right_false true b h t = h
     right_false false b h t = absurd (false≢true t)
 
-open_alone : (list : Option (Cyclic ℕ)) (c d u : ℕ) → ForSome list IsPortList → shared_at list c ≡ None → opens_of list c u ≡ true → opens_of list d u ≡ true → d ≡ c
-open_alone None c d u is h oc od = absurd (cc)
-open_alone (Some l) c d u is h oc od =
+open_in : (l : Cyclic ℕ) (c d u : ℕ) → IsPortList l → shared_in l c ≡ None → opens_in (turn_at l u) c ≡ true → opens_in (turn_at l u) d ≡ true → d ≡ c
+open_in l c d u own h oc od =
     let (x, at, opened) = turn_open (turn_at l u) c oc in
     let other : is_open x.state d ≡ true = ap (λ o. opens_in o d) (sym at) ∙ od in
     let (e, i, state) = among l u x at in
-    let own = is l refl in
     let small : x.state < 256 = subst (λ (z : ℕ). z < 256) state (each_in (λ (y : ℕ × ℕ). y.0 < 256) l.entries e own.classes i) in
     let alone : is_shared x.state c ≡ false = subst (λ (z : ℕ). is_shared z c ≡ false) state (none_shared l.entries 0 c e h i) in
     not_beside x.state c d small alone opened other
 
-made : (list : Option (Cyclic ℕ)) → ForSome list IsPortList → IsMade list
+neither : {X : Type 0} (a b : Option X) → option_or a b ≡ None → (a ≡ None) × (b ≡ None)
+neither None b h = (refl, h)
+neither (Some x) b h = absurd (cc)
+
+open_alone : {A : Type 0} (list : Option (Egress A)) (c d u : ℕ) → ForSome list (ForEachList IsPortList) → shared_at list c ≡ None → opens_of list c u ≡ true → opens_of list d u ≡ true → d ≡ c
+open_alone None c d u is h oc od = absurd (cc)
+open_alone (Some (egress.Cyclic l)) c d u is h oc od = open_in l c d u (is (egress.Cyclic l) refl) h oc od
+open_alone (Some (egress.Joined j)) c d u is h oc od =
+    let (old, new) = is (egress.Joined j) refl in
+    let (before, after) = neither (shared_in j.old c) (shared_in j.new c) h in
+    elim (cases_lt u j.at) [
+      | inl l ↦ open_in j.old c d u old before (sym (opens_before j c u l) ∙ oc) (sym (opens_before j d u l) ∙ od)
+      | inr r ↦ open_in j.new c d u new after (sym (opens_after j c u r) ∙ oc) (sym (opens_after j d u r) ∙ od)
+    ]
+
+made : {A : Type 0} (list : Option (Egress A)) → ForSome list (ForEachList IsPortList) → IsMade (opening_of list)
 made None is = tt
-made (Some l) is = (is l refl).lawful
+made (Some (egress.Cyclic l)) is = (is (egress.Cyclic l) refl).lawful
+made (Some (egress.Joined j)) is = let (old, new) = is (egress.Joined j) refl in record { old = old.lawful; new = new.lawful }
 
 pub isolated : {A : Type 0} (p : Plan A) (n : ℕ) (f : FilterPlan) → IsPlan p → In (n, f) p.filters → fault_of p n f ≡ None → IsIsolated p n f
 isolated p n f plan listed h =
@@ -272,5 +289,5 @@ isolated p n f plan listed h =
           let fitting : never_fits (port_at p.ports q) c f.max_sdu ≡ false = not-true (never_fits (port_at p.ports q) c f.max_sdu) (holds (not (never_fits (port_at p.ports q) c f.max_sdu)) _ told) in
           let ever : not (ever_fits port c m) ≡ false = subst (λ (o : Option (PortPlan _)). never_fits o c (Some m) ≡ false) at (subst (λ (s : Option ℕ). never_fits (port_at p.ports q) c s ≡ false) e fitting) in
           let (is, number) = port_is p.ports q port plan.ports at in
-          (ever_is port.list c (occupied (longest_frame m) port.speed) (made port.list is.list)).0 (not-false (ever_fits port c m) ever);
+          opening.ever_fits (opening_of port.list) c (occupied (longest_frame m) port.speed) (made port.list is.list) (not-false (ever_fits port c m) ever);
     }

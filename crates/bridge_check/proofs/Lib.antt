@@ -1,3 +1,4 @@
+pub mod Both
 pub mod Runs
 pub mod Told
 pub mod Others

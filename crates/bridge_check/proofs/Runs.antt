@@ -1,5 +1,5 @@
 -- The longest run of a class decides what fits at some moment.
-use Rattle.std.proofs.Common.{◌≡◌, ℕ, Bool, Some}
+use Rattle.std.proofs.Common.{◌≡◌, ℕ, Bool}
 use Rattle.std.specs.Prelude.{◌↔◌, IsTrue}
 use Rattle.std.specs.Bool.{one_answer}
 use Rattle.bridge_cycle.specs.Cyclic.{Cyclic, turn_at, IsLawful}
@@ -7,11 +7,11 @@ use Rattle.bridge_cycle.specs.Opens.{opens_in}
 use Rattle.bridge_cycle.specs.Runs.{IsLongestRun, Allows}
 use Rattle.bridge_cycle.specs.declared.run.Run.{Run}
 use Rattle.bridge_cycle.proofs.Lists.{allows_is}
-use Rattle.bridge_port.specs.Opening.{ever_of, opens_of}
-use Rattle.bridge_port.proofs.Opening.{ever_is}
+use Rattle.bridge_port.specs.Opening.{list_ever, list_opens}
+use Rattle.bridge_port.proofs.Opening.{list_ever_is}
 
-pub run_decides : (l : Cyclic ℕ) (run : Run) (c n : ℕ) (b : Bool) → IsLawful l → IsLongestRun (λ v. opens_in (turn_at l v) c) run → IsTrue b ↔ Allows run n → b ≡ ever_of (Some l) c n
+pub run_decides : (l : Cyclic ℕ) (run : Run) (c n : ℕ) (b : Bool) → IsLawful l → IsLongestRun (λ v. opens_in (turn_at l v) c) run → IsTrue b ↔ Allows run n → b ≡ list_ever l c n
 run_decides l run c n b lawful longest is =
-    let fits = allows_is (opens_of (Some l) c) run longest n in
-    let ever = ever_is (Some l) c n lawful in
-    one_answer b (ever_of (Some l) c n) (λ h. fits.0 (is.0 h), λ some. is.1 (fits.1 some)) (ever.0, ever.1)
+    let fits = allows_is (list_opens l c) run longest n in
+    let ever = list_ever_is l c n lawful in
+    one_answer b (list_ever l c n) (λ h. fits.0 (is.0 h), λ some. is.1 (fits.1 some)) (ever.0, ever.1)

@@ -15,6 +15,7 @@ use Rattle.bridge_base.specs.Members.{In}
 use Rattle.bridge_cycle.specs.declared.timeline.Turn.{Turn}
 use Rattle.bridge_cycle.proofs.Cases.{by_bool}
 use Rattle.bridge_cycle.proofs.Lists.{among}
+use Rattle.bridge_cycle.proofs.Changes.{among_both}
 use Rattle.bridge_gate.specs.declared.gate.GateAnswer.{GateAnswer}
 use Rattle.bridge_gate.specs.declared.gate.GateAnswer.TheVariants as gate
 use Rattle.bridge_gate.specs.declared.schedule.GateEntry.{GateEntry}
@@ -46,6 +47,7 @@ use Rattle.bridge_check.specs.Sending.{vid_of, priority_of, call_of, class_of}
 use Rattle.bridge_config.proofs.PlanPorts.{port_is}
 use Rattle.bridge_frame.proofs.Heads.{head_few}
 use Rattle.bridge_check.proofs.Heads.{priority_few}
+use Rattle.bridge_check.proofs.Both.{in_front, in_back}
 use Rattle.bridge_check.proofs.Isolated.{each_passes, isolated}
 
 passes_any : {X : Type 0} (t : X → Bool) (xs : List X) (x : X) → In x xs → t x ≡ true → list_any t xs ≡ true
@@ -226,6 +228,12 @@ in_map g [] x i = absurd i
 in_map g (y ∷ ys) x (inl e) = inl (ap g e)
 in_map g (y ∷ ys) x (inr i) = inr (in_map g ys x i)
 
+-- the state of an entry of a list
+state_of : (l : List (GateEntry × ℕ)) (e : GateEntry × ℕ) (x : GateEntry) → In e l → e.0 ≡ x → list_all (λ (y : GateEntry × ℕ). schedules.is_priority y.0.ipv) l ≡ true → In x (map (λ (y : GateEntry × ℕ). y.0) l) × (schedules.is_priority x.ipv ≡ true)
+state_of l e x i same has =
+    let own : schedules.is_priority e.0.ipv ≡ true = each_passes (λ (y : GateEntry × ℕ). schedules.is_priority y.0.ipv) l e has i in
+    (subst (λ (z : GateEntry). In z (map (λ (y : GateEntry × ℕ). y.0) l)) same (in_map (λ (y : GateEntry × ℕ). y.0) l e i), subst (λ (z : GateEntry). schedules.is_priority z.ipv ≡ true) same own)
+
 pub record IsEntry (es : List GateEntry) (e : GateEntry) : Type 0 where
   pub listed : In e es
   pub priority : schedules.is_priority e.ipv ≡ true
@@ -236,11 +244,20 @@ entry_of (schedule.Fixed lets ipv) t x h has =
     record { listed = inl (sym same); priority = subst (λ (e : GateEntry). schedules.is_priority e.ipv ≡ true) same has }
 entry_of (schedule.Cyclic l) t x h has =
     let (e, i, same) = among l t x h in
-    let own : schedules.is_priority e.0.ipv ≡ true = each_passes (λ (y : GateEntry × ℕ). schedules.is_priority y.0.ipv) l.entries e has i in
-    record {
-      listed = subst (λ (z : GateEntry). In z (map (λ (y : GateEntry × ℕ). y.0) l.entries)) same (in_map (λ (y : GateEntry × ℕ). y.0) l.entries e i);
-      priority = subst (λ (z : GateEntry). schedules.is_priority z.ipv ≡ true) same own;
-    }
+    let (listed, priority) = state_of l.entries e x.state i same has in
+    record { listed = listed; priority = priority }
+entry_of (schedule.Joined j) t x h has =
+    let (before, after) = and_parts (list_all (λ e. schedules.is_priority e.0.ipv) j.old.entries) (list_all (λ e. schedules.is_priority e.0.ipv) j.new.entries) has in
+    elim (among_both j t x h) [
+      | inl a ↦
+          let (e, i, same) = a in
+          let (listed, priority) = state_of j.old.entries e x.state i same before in
+          record { listed = in_front x.state (map (λ (y : GateEntry × ℕ). y.0) j.old.entries) (map (λ (y : GateEntry × ℕ). y.0) j.new.entries) listed; priority = priority }
+      | inr b ↦
+          let (e, i, same) = b in
+          let (listed, priority) = state_of j.new.entries e x.state i same after in
+          record { listed = in_back x.state (map (λ (y : GateEntry × ℕ). y.0) j.old.entries) (map (λ (y : GateEntry × ℕ). y.0) j.new.entries) listed; priority = priority }
+    ]
 
 lookup_by : {A : Type 0} (b : Bool) (x : ℕ × GatePlan A) (xs : List (ℕ × GatePlan A)) (n : ℕ) (g : GatePlan A) → (schedules.has_priorities x.1.schedule && list_all (λ (y : ℕ × GatePlan A). schedules.has_priorities y.1.schedule) xs) ≡ true → cond b (Some x.1) (lookup (nat_eq n) xs) ≡ Some g → (list_all (λ (y : ℕ × GatePlan A). schedules.has_priorities y.1.schedule) xs ≡ true → lookup (nat_eq n) xs ≡ Some g → schedules.has_priorities g.schedule ≡ true) → schedules.has_priorities g.schedule ≡ true
 lookup_by {A} true x xs n g all h more = let (here, rest) = and_parts (schedules.has_priorities x.1.schedule) (list_all (λ (y : ℕ × GatePlan A). schedules.has_priorities y.1.schedule) xs) all in subst (λ (z : GatePlan A). schedules.has_priorities z.schedule ≡ true) (same_Some _ _ h) here

@@ -1,11 +1,11 @@
 -- The queues that the frames of a filter may come to: pairs of a port and a class.
-use Rattle.std.specs.Prelude.{ℕ, zero, suc, Bool, true, false, not, ◌&&◌, ◌||◌, List, [], ◌∷◌, map, Option, Some, None, nat_eq, slice_index}
+use Rattle.std.specs.Prelude.{ℕ, zero, suc, Bool, true, false, not, ◌&&◌, ◌||◌, List, [], ◌∷◌, ◌++◌, map, Option, Some, None, nat_eq, slice_index}
 use Rattle.std.specs.List.{list_any, list_all}
 use Rattle.std.specs.Map.{lookup}
 use Rattle.bridge_gate.specs.declared.schedule.GateEntry.{GateEntry}
 use Rattle.bridge_gate.specs.declared.schedule.GatePlan.{GatePlan}
 use Rattle.bridge_gate.specs.declared.schedule.Schedule.{Schedule}
-use Rattle.bridge_gate.specs.declared.schedule.Schedule.TheVariants.{Fixed, Cyclic}
+use Rattle.bridge_gate.specs.declared.schedule.Schedule.TheVariants.{Fixed, Cyclic, Joined}
 use Rattle.bridge_ident.specs.declared.Kind.{Kind}
 use Rattle.bridge_ident.specs.declared.Kind.TheVariants.{Null, Source}
 use Rattle.bridge_ident.specs.declared.StreamEntry.{StreamEntry}
@@ -35,10 +35,11 @@ abbrev pub reaches_port : {A : Type 0} → Plan A → Option ℕ → ℕ → Boo
 reaches_port p None q = true
 reaches_port p (Some h) q = not (are_null h p.streams) || leads_to p.database h q p.streams
 
--- the entries of a schedule; a fixed state is one entry
+-- the entries of a schedule, of both lists where they are exchanged; a fixed state is one entry
 abbrev pub entries_of : {A : Type 0} → Schedule A → List GateEntry
 entries_of (Fixed lets ipv) = record { lets = lets; ipv = ipv; octets = None } ∷ []
 entries_of (Cyclic l) = map (λ e. e.0) l.entries
+entries_of (Joined j) = map (λ e. e.0) j.old.entries ++ map (λ e. e.0) j.new.entries
 
 -- the entries of a gate, where it is there
 abbrev pub entries_if : {A : Type 0} → Option (GatePlan A) → List GateEntry

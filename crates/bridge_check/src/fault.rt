@@ -44,7 +44,7 @@ pub enum CheckFault {
         other: u32,
     },
     /// The port opens the class of a queue of its frames beside another class, first from this phase of its list on, in
-    /// ns; 0 without a list.
+    /// ns, where lists are exchanged of the old one, else of the new one; 0 without a list.
     #[error("a window that another class shares")]
     WindowShared {
         filter: u32,
@@ -52,7 +52,7 @@ pub enum CheckFault {
         class: u8,
         at: u64,
     },
-    /// Its longest frame fits in the class at no moment.
+    /// Its longest frame fits in the class at no moment, under a list of the port.
     #[error("a longest frame that never fits")]
     MaxSduNeverFits {
         filter: u32,

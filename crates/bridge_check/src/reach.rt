@@ -84,7 +84,8 @@ fn lets_in(entries: &[(GateEntry, u64)], priority: Option<u8>, k: u8) -> bool
     false
 }
 
-/// Whether a schedule lets frames through with a priority.
+/// Whether a schedule lets frames through with a priority, under one of its lists where they are exchanged.
+#[tactic(auto, using(crate::proofs::Both::lets_both))]
 fn lets<A: Allocator + Copy>(schedule: &Schedule<A>, priority: Option<u8>, k: u8) -> bool
     ensures { result ≡ spec.lets (spec.entries_of schedule.now) priority k }
 {
@@ -98,6 +99,10 @@ fn lets<A: Allocator + Copy>(schedule: &Schedule<A>, priority: Option<u8>, k: u8
             gives(&entry, priority, k)
         }
         Schedule::Cyclic(list) => lets_in(list.entries(), priority, k),
+        Schedule::Joined(joined) => {
+            let (old, new) = joined.lists();
+            lets_in(old.entries(), priority, k) || lets_in(new.entries(), priority, k)
+        }
     }
 }
 

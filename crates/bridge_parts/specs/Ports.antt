@@ -7,6 +7,7 @@ use Rattle.bridge_config.specs.declared.ports.PortPlan.{PortPlan}
 use Rattle.bridge_port.specs.declared.item.Item.{Item}
 use Rattle.bridge_port.specs.declared.item.Refusal.{Refusal}
 use Rattle.bridge_port.specs.Schedule.{Copy}
+use Rattle.bridge_port.specs.Opening.{opening_of}
 use Rattle.bridge_port.specs.Standing.{StandsFor, IsDue, IsNext, IsBegun, refusal_of, copy_of, count_queued, limit}
 use Rattle.bridge_run.specs.declared.load.Load.{Load}
 use Rattle.bridge_parts.specs.declared.slot.Slot.{Slot}
@@ -100,7 +101,7 @@ pub record IsMade {A : Type 0} (out : PortPlan A) (s : Slot A) : Type 0 where
   pub priority : s.priority ≡ out.priority
   pub classes : s.classes ≡ out.classes
   pub pace : s.port.speed ≡ out.speed
-  pub list : s.port.list ≡ out.list
+  pub list : s.port.list ≡ opening_of out.list
   pub rooms : s.port.rooms ≡ out.rooms
 
 abbrev pub AreAlike : {A : Type 0} → Option (PortPlan A) → Option (Slot A) → Type 0

@@ -6,6 +6,13 @@ use Rattle.std.specs.Prelude.{slice_set}
 use Rattle.bridge_parts.proofs.Porting.{below, here, kept_same, slot_counted, same_slot}
 use Rattle.bridge_parts.proofs.ports.Ports.count.Goals as goal
 
+pub index_mut-requires : goal.index_mut-requires
+index_mut-requires g c =
+    let there = c.requires.there in
+    let given = subst (λ (z : PortsState _ _). slot_at z c.args.number ≡ Some there.0) (sym c.self.view_is) there.1 in
+    let under = below c.self.inside.slots.items c.args.number there.0 given in
+    search (rules, under)
+
 pub count_frame-requires : goal.count_frame-requires
 count_frame-requires g c =
     let slots = c.self.inside.slots.items in
