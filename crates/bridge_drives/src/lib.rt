@@ -287,7 +287,10 @@ fn has_started<G: Agenda + Drop>(
 /// Ends a bridge at which no start is due.
 fn finished<G: Agenda + Drop>(bridge: Bridge<'_, G, Global>) -> Result<Outcome<Global>, Fail> {
     match bridge.due() {
-        Some(_) => Err(Fail::from("a start that is still due")),
+        Some(_) => {
+            drop(bridge);
+            Err(Fail::from("a start that is still due"))
+        }
         None => Ok(bridge.finish()),
     }
 }
@@ -342,6 +345,9 @@ pub fn driven<G: Agenda + Drop>(
     };
     match drive(alloc, accepted, &mut bridge, command, frames) {
         Ok(gone) => ended(bridge, gone),
-        Err(fail) => Err(fail),
+        Err(fail) => {
+            drop(bridge);
+            Err(fail)
+        }
     }
 }

@@ -1,5 +1,5 @@
 -- Which fault ends a run over files.
-use Rattle.std.proofs.Common.{◌≡◌, ℕ, List, Option, inl, inr, subst, refl}
+use Rattle.std.proofs.Common.{◌≡◌, ℕ, List, Option, Result, Ok, Err, IfErr, inl, inr, subst, refl}
 use Rattle.bridge_config.specs.Model.{Plan}
 use Rattle.bridge_program.specs.declared.fault.Fault.{Fault}
 use Rattle.bridge_program.specs.declared.fault.Fault.TheVariants as fault
@@ -21,14 +21,23 @@ report_fails p input output (fault.File path) h = inr (inr h)
 report_fails p input output (fault.Run f) h = tt
 report_fails p input output f h = absurd h
 
--- the same of a run under an accepted plan, by what the folder and the list of the ports are
-pub input_ends : {A : Type 0} (p : Plan A) (plan : List ℕ) (commands : Option (List ℕ)) (input output ports folder listed : List ℕ) (f : Fault) → IsAcceptedPlan p → AreNumbers p ports → folder ≡ input → listed ≡ ports → IsOfCaptures folder listed f → EndsRun A plan commands input output f
-input_ends p plan commands input output ports folder listed f ok own here there h =
-    inr (p, ok, input_fails p input output ports f own (subst (λ l. IsOfCaptures input l f) there (subst (λ d. IsOfCaptures d listed f) here h)))
+-- the same by what the folder and the list of the ports are
+pub input_ends : {A : Type 0} (p : Plan A) (input output ports folder listed : List ℕ) (f : Fault) → AreNumbers p ports → folder ≡ input → listed ≡ ports → IsOfCaptures folder listed f → EndsSending p input output f
+input_ends p input output ports folder listed f own here there h =
+    input_fails p input output ports f own (subst (λ l. IsOfCaptures input l f) there (subst (λ d. IsOfCaptures d listed f) here h))
 
-pub output_ends : {A : Type 0} (p : Plan A) (plan : List ℕ) (commands : Option (List ℕ)) (input output ports folder listed : List ℕ) (f : Fault) → IsAcceptedPlan p → AreNumbers p ports → folder ≡ output → listed ≡ ports → IsOfCaptures folder listed f → EndsRun A plan commands input output f
-output_ends p plan commands input output ports folder listed f ok own here there h =
-    inr (p, ok, output_fails p input output ports f own (subst (λ l. IsOfCaptures output l f) there (subst (λ d. IsOfCaptures d listed f) here h)))
+pub output_ends : {A : Type 0} (p : Plan A) (input output ports folder listed : List ℕ) (f : Fault) → AreNumbers p ports → folder ≡ output → listed ≡ ports → IsOfCaptures folder listed f → EndsSending p input output f
+output_ends p input output ports folder listed f own here there h =
+    output_fails p input output ports f own (subst (λ l. IsOfCaptures output l f) there (subst (λ d. IsOfCaptures d listed f) here h))
 
-pub report_ends : {A : Type 0} (p : Plan A) (plan : List ℕ) (commands : Option (List ℕ)) (input output folder : List ℕ) (f : Fault) → IsAcceptedPlan p → folder ≡ output → IsOfReport folder f → EndsRun A plan commands input output f
-report_ends p plan commands input output folder f ok here h = inr (p, ok, report_fails p input output f (subst (λ d. IsOfReport d f) here h))
+pub report_ends : {A : Type 0} (p : Plan A) (input output folder : List ℕ) (f : Fault) → folder ≡ output → IsOfReport folder f → EndsSending p input output f
+report_ends p input output folder f here h = report_fails p input output f (subst (λ d. IsOfReport d f) here h)
+
+-- the same of what is answered
+pub all_told : {A X : Type 0} (p : Plan A) (input output folder : List ℕ) (r : Result X Fault) → folder ≡ output → IfErr r (IsOfReport folder) → IfErr r (EndsSending p input output)
+all_told p input output folder (Ok line) here h = tt
+all_told p input output folder (Err f) here h = report_ends p input output folder f here h
+
+pub all_sent : {A X : Type 0} (p : Plan A) (plan : List ℕ) (commands : Option (List ℕ)) (input output : List ℕ) (r : Result X Fault) → IsAcceptedPlan p → IfErr r (EndsSending p input output) → IfErr r (EndsRun A plan commands input output)
+all_sent p plan commands input output (Ok line) ok h = tt
+all_sent p plan commands input output (Err f) ok h = inr (p, ok, h)

@@ -1,7 +1,7 @@
 //! The job of a run over a folder of captures.
 ghost use Rattle.std.specs.Prelude.{◌≡◌, IfOk, IfErr, option_map, string_bytes};
 ghost use Rattle.bridge_config.specs.Commands.{AreCommands};
-ghost use Rattle.bridge_folder.specs.Files.{EndsReading, EndsRun, IsAcceptedPlan, IsOfReport, PrintsRun};
+ghost use Rattle.bridge_folder.specs.Files.{EndsReading, EndsRun, EndsSending, IsAcceptedPlan, IsOfReport, PrintsRun};
 
 use crate::files::{create_all, is_same_folder, open_all};
 use crate::paths::report_path;
@@ -37,6 +37,23 @@ pub fn run_job<H: AllocGlobal + Files>(
         Ok(read) => read,
         Err(fault) => return Err(fault),
     };
+    let sent = send(rt, &accepted, &orders, input, output);
+    drop(accepted);
+    sent
+}
+
+/// What is printed for a run under an accepted plan from one folder into another.
+fn send<H: AllocGlobal + Files>(
+    rt: &H,
+    accepted: &Accepted<Global>,
+    orders: &[Command],
+    input: String,
+    output: String,
+) -> Result<String, Fault>
+    requires commands { AreCommands accepted.now orders.now }
+    ensures ok { IfOk result (λ line. PrintsRun Global (string_bytes line)) }
+    ensures err { IfErr result (EndsSending accepted.now (string_bytes input) (string_bytes output)) }
+{
     let Ok(ports) = accepted.plan().port_numbers(rt.alloc()) else {
         return Err(Fault::Run(RunFault::NoMemory));
     };
@@ -51,14 +68,28 @@ pub fn run_job<H: AllocGlobal + Files>(
         Ok(writers) => writers,
         Err(fault) => return Err(fault),
     };
-    let outcome = match run_over(rt.alloc(), &accepted, &orders, readers, writers) {
+    let outcome = match run_over(rt.alloc(), accepted, orders, readers, writers) {
         Ok((outcome, _)) => outcome,
         Err(halted) => return Err(Fault::Run(halted.fault)),
     };
-    if let Err(fault) = put_report(rt, &outcome, output.as_str()) {
+    let told = tell(rt, &outcome, output.as_str());
+    drop(outcome);
+    told
+}
+
+/// What is printed of what a run tells, once its report is written into a folder.
+fn tell<H: AllocGlobal + Files>(
+    rt: &H,
+    outcome: &Outcome<Global>,
+    folder: &str,
+) -> Result<String, Fault>
+    ensures ok { IfOk result (λ line. PrintsRun Global (string_bytes line)) }
+    ensures err { IfErr result (IsOfReport folder.now) }
+{
+    if let Err(fault) = put_report(rt, outcome, folder) {
         return Err(fault);
     }
-    match summary(rt.alloc(), &outcome) {
+    match summary(rt.alloc(), outcome) {
         Ok(line) => Ok(line),
         Err(_) => Err(Fault::Run(RunFault::NoMemory)),
     }

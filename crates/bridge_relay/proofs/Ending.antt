@@ -2,11 +2,10 @@
 use Rattle.std.proofs.Common.{◌≡◌, ℕ, zero, suc, ◌+◌, ◌<◌, ◌≤◌, List, [], ◌∷◌, arith, refl, ap, ◌∙◌, sym, subst, Option, Some, None}
 use Rattle.std.specs.Prelude.{slice_index_or}
 use Rattle.bridge_capture.specs.Grammar.{Captured}
-use Rattle.bridge_cycle.specs.Cyclic.{Cyclic}
 use Rattle.bridge_frame.specs.Link.{occupied}
 use Rattle.bridge_frame.specs.declared.Speed.{Speed}
 use Rattle.bridge_port.specs.declared.item.Item.{Item}
-use Rattle.bridge_port.specs.Opening.{opens_of, ever_of}
+use Rattle.bridge_port.specs.Opening.{Opening, opens, ever}
 use Rattle.bridge_port.specs.Schedule.{Copy, IsLawful}
 use Rattle.bridge_port.specs.Seen.{all_seen, SameRooms}
 use Rattle.bridge_port.specs.Solo.{IsWhole}
@@ -39,7 +38,7 @@ same_rooms room other h (x ∷ xs) = (h x.class, same_rooms room other h xs)
 lawful_out : {A : Type 0} (out : PortPlan A) (s : Slot A) (h : ℕ) (xs : List (Copy (Item (Load A)))) → IsMade out s → IsLawful (rules_of s.port) h xs → IsLawful (egress out) h (all_seen carried xs)
 lawful_out {A} out s h xs m l =
     let z = lawful_seen carried (rules_of s.port) (λ x. occupied x.len out.speed) (λ c. slice_index_or out.rooms c 0) (λ x. ap (λ (v : Speed). occupied x.len v) (sym m.pace)) h xs (same_rooms (λ c. slice_index_or s.port.rooms c 0) (λ c. slice_index_or out.rooms c 0) (λ c. ap (λ (v : List ℕ). slice_index_or v c 0) m.rooms) xs) l in
-    subst (λ (v : Option (Cyclic ℕ)). IsLawful {X = Carried} (record { opens = opens_of v; ever = ever_of v; room = λ c. slice_index_or out.rooms c 0; occ = λ x. occupied x.len out.speed }) h (all_seen carried xs)) m.list z
+    subst (λ (v : Opening). IsLawful {X = Carried} (record { opens = opens v; ever = ever v; room = λ c. slice_index_or out.rooms c 0; occ = λ x. occupied x.len out.speed }) h (all_seen carried xs)) m.list z
 
 -- the port of a bridge that a port of its plan made
 pub record Stood {G A : Type 0} (b : RelayState G A) (q : ℕ) (out : PortPlan A) : Type 0 where

@@ -46,16 +46,14 @@ pub record IsMadeOf {G A : Type 0} (held : G → ℕ → Option ℕ) (b : RelayS
   pub arrived : b.arrived ≡ 0
   pub earliest : b.earliest ≡ 0
 
-pub made_of : {G A : Type 0} (held : G → ℕ → Option ℕ) (b : RelayState G A) (p : Plan A) (filters : List (ℕ × FilterPlan)) (gates : List (ℕ × GatePlan A)) (meters : List (ℕ × MeterPlan)) → b.plan ≡ p → IsPlan p → IsAcceptable p → b.streams ≡ b.plan.streams → filters ≡ b.plan.filters → gates ≡ b.plan.gates → meters ≡ b.plan.meters → filter.Stands (plans_of filters gates meters) b.police [] → KeepsNumbers gates b.police.gates → KeepsNumbers meters b.police.meters → ((q : ℕ) → 1 ≤ q → IsFirst (port_at b.plan.ports q) (slot_at b.ports q)) → ((q : ℕ) → held b.ports.agenda q ≡ None) → b.tables ≡ fresh_tables b.plan.filters → b.arrived ≡ 0 → b.earliest ≡ 0 → IsMadeOf held b
-made_of {G} {A} held b p filters gates meters plan rules acceptable streams f g m police keeps_gates keeps_meters ports none tables arrived earliest = record {
+pub made_of : {G A : Type 0} (held : G → ℕ → Option ℕ) (b : RelayState G A) (p : Plan A) → b.plan ≡ p → IsPlan p → IsAcceptable p → b.streams ≡ b.plan.streams → filter.Stands (police_of b.plan) b.police [] → KeepsNumbers b.plan.gates b.police.gates → KeepsNumbers b.plan.meters b.police.meters → ((q : ℕ) → 1 ≤ q → IsFirst (port_at b.plan.ports q) (slot_at b.ports q)) → ((q : ℕ) → held b.ports.agenda q ≡ None) → b.tables ≡ fresh_tables b.plan.filters → b.arrived ≡ 0 → b.earliest ≡ 0 → IsMadeOf held b
+made_of held b p plan rules acceptable streams police gates meters ports none tables arrived earliest = record {
   rules = subst IsPlan (sym plan) rules;
   acceptable = subst IsAcceptable (sym plan) acceptable;
   streams = streams;
-  police = subst (λ (z : List (ℕ × FilterPlan)). filter.Stands (plans_of z b.plan.gates b.plan.meters) b.police []) f
-      (subst (λ (z : List (ℕ × GatePlan A)). filter.Stands (plans_of filters z b.plan.meters) b.police []) g
-      (subst (λ (z : List (ℕ × MeterPlan)). filter.Stands (plans_of filters gates z) b.police []) m police));
-  gates = subst (λ (z : List (ℕ × GatePlan A)). KeepsNumbers z b.police.gates) g keeps_gates;
-  meters = subst (λ (z : List (ℕ × MeterPlan)). KeepsNumbers z b.police.meters) m keeps_meters;
+  police = police;
+  gates = gates;
+  meters = meters;
   ports = ports;
   none_due = none;
   tables = tables;

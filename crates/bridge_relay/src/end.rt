@@ -119,7 +119,7 @@ impl<'a, G: Agenda + Drop, A: Allocator + Copy> Relay<'a, G, A> {
         let Relay {
             alloc,
             plan: _,
-            ident: _,
+            ident,
             police,
             ports: bridge_ports,
             tables,
@@ -127,7 +127,9 @@ impl<'a, G: Agenda + Drop, A: Allocator + Copy> Relay<'a, G, A> {
             earliest: _,
         } = self;
         let ports = bridge_ports.counts(ports);
+        drop(ident);
         let filters = views_of(alloc, &police, tables, order, filters);
+        drop(police);
         Outcome { filters, ports }
     }
 }

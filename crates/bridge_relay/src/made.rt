@@ -1,9 +1,13 @@
 //! How a bridge is made.
 ghost use Rattle.std.specs.Prelude.{◌≡◌, ℕ, [], None, IfOk};
+ghost use Rattle.bridge_filter.specs.Plans.{KeepsNumbers};
+ghost use Rattle.bridge_filter.specs.Standing as standing;
+ghost use Rattle.bridge_run.specs.Events as events;
 ghost use Rattle.bridge_relay.specs.Relays.{Stands};
 
 use crate::relay::Relay;
 use bridge_check::Accepted;
+use bridge_config::Plan;
 use bridge_cycle::NoMemory;
 use bridge_events::Agenda;
 use bridge_filter::Police;
@@ -36,6 +40,18 @@ fn ident_of<A: Allocator + Copy>(alloc: A, streams: &[StreamEntry]) -> Result<Id
     Ok(Ident::indexed(alloc, entries)?)
 }
 
+/// The filters, gates and meters of a plan, to which nothing has come.
+fn police_of<A: Allocator + Copy>(alloc: A, plan: &Plan<A>) -> Result<Police<A>, NoMemory>
+    ensures stands { IfOk result (λ p. standing.Stands (events.police_of plan.now) p []) }
+    ensures gates { IfOk result (λ p. KeepsNumbers plan.now.gates p.gates) }
+    ensures meters { IfOk result (λ p. KeepsNumbers plan.now.meters p.meters) }
+{
+    let filters = Vec::from_slice(alloc, plan.filters())?;
+    let meters = Vec::from_slice(alloc, plan.meters())?;
+    let gates = gates_of(alloc, plan.gates())?;
+    Ok(Police::new(alloc, filters, gates, meters)?)
+}
+
 impl<'a, G: Agenda + Drop, A: Allocator + Copy> Relay<'a, G, A> {
     /// A bridge of an accepted plan, to which nothing has come.
     pub fn new(alloc: A, accepted: &'a Accepted<A>) -> Result<Relay<'a, G, A>, NoMemory>
@@ -44,13 +60,10 @@ impl<'a, G: Agenda + Drop, A: Allocator + Copy> Relay<'a, G, A> {
         ensures none_due { IfOk result (λ b. (q : ℕ) → G.held b.ports.agenda q ≡ None) }
     {
         let plan = accepted.plan();
-        let filters = Vec::from_slice(alloc, plan.filters())?;
-        let meters = Vec::from_slice(alloc, plan.meters())?;
-        let gates = gates_of(alloc, plan.gates())?;
-        let police = Police::new(alloc, filters, gates, meters)?;
-        let ports = Ports::new(alloc, plan)?;
         let tables = tables_of(alloc, plan.filters())?;
         let ident = ident_of(alloc, plan.streams())?;
+        let ports = Ports::new(alloc, plan)?;
+        let police = police_of(alloc, plan)?;
         Ok(Relay {
             alloc,
             plan,

@@ -120,7 +120,10 @@ pub fn simulate_over<R: ByteSource, W: ByteSink, G: Agenda + Drop, A: Allocator 
     };
     let mut lines = match begin_all(&ports, lines, sinks) {
         Ok(lines) => lines,
-        Err(fault) => return Err(fault),
+        Err(fault) => {
+            drop(relay);
+            return Err(fault);
+        }
     };
     match run(
         commands,
@@ -132,7 +135,10 @@ pub fn simulate_over<R: ByteSource, W: ByteSink, G: Agenda + Drop, A: Allocator 
         &mut spares,
     ) {
         Ok(()) => Ok(relay.finish(&order, views, counts)),
-        Err(fault) => Err(fault),
+        Err(fault) => {
+            drop(relay);
+            Err(fault)
+        }
     }
 }
 

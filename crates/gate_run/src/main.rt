@@ -34,16 +34,30 @@ fn run(rt: &(impl AllocGlobal + Print + Env + Files)) -> Result<(), Fault> {
     let line = run_job(rt, plan, input, output, commands)?;
     print(rt, line.as_str())?;
     for port in PORTS {
-        let Ok(path) = capture_path(rt.alloc(), folder.as_str(), port) else {
-            return Err(Fault::Words);
-        };
-        let octets = written(rt, path)?;
-        let Ok(lines) = lines_of(rt.alloc(), &octets) else {
-            return Err(Fault::Words);
-        };
-        print(rt, lines.as_str())?;
+        print_capture(rt, folder.as_str(), port)?;
     }
-    let Ok(path) = report_path(rt.alloc(), folder.as_str()) else {
+    print_report(rt, folder.as_str())
+}
+
+/// Prints the octets of the capture that a port wrote.
+fn print_capture(
+    rt: &(impl AllocGlobal + Print + Files),
+    folder: &str,
+    port: u8,
+) -> Result<(), Fault> {
+    let Ok(path) = capture_path(rt.alloc(), folder, port) else {
+        return Err(Fault::Words);
+    };
+    let octets = written(rt, path)?;
+    match lines_of(rt.alloc(), &octets) {
+        Ok(lines) => print(rt, lines.as_str()),
+        Err(_) => Err(Fault::Words),
+    }
+}
+
+/// Prints the report.
+fn print_report(rt: &(impl AllocGlobal + Print + Files), folder: &str) -> Result<(), Fault> {
+    let Ok(path) = report_path(rt.alloc(), folder) else {
         return Err(Fault::Words);
     };
     let report = written(rt, path)?;
