@@ -68,8 +68,9 @@ fn ending<G: Agenda + Drop, A: Allocator + Copy>(
     sinks: &mut [VecSink<Global>],
 ) -> Result<Option<RunFault>, Fail> {
     let accepted = planned(alloc, heap, &[])?;
-    let ended = simulated::<G, _, _, _>(alloc, &accepted, None, sources, sinks)?;
-    Ok(ended.err())
+    let ended = simulated::<G, _, _, _>(alloc, &accepted, None, sources, sinks);
+    drop(accepted);
+    Ok(ended?.err())
 }
 
 /// Tests how a run over an agenda stops.

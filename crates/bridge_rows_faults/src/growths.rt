@@ -62,9 +62,12 @@ fn ending_in<A: Allocator + Copy + Refuses>(
         return Ok(None);
     };
     if gate.has_refused() {
+        drop(accepted);
         return Ok(None);
     }
-    Ok(Some(ending_under(heap, gate, &accepted, sinks)?))
+    let ended = ending_under(heap, gate, &accepted, sinks);
+    drop(accepted);
+    Ok(Some(ended?))
 }
 
 /// Tests that each sink holds a front of these captures.

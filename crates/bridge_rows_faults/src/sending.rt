@@ -310,7 +310,9 @@ fn floods_under<G: Agenda + Drop, A: Allocator + Copy>(
 /// Tests the flood beside a frame of the protected stream, over an agenda.
 fn floods<G: Agenda + Drop, A: Allocator + Copy>(alloc: A, heap: Global) -> Result<(), Fail> {
     let accepted = planned(alloc, heap, &[])?;
-    floods_under::<G, A>(alloc, heap, &accepted)
+    let flooded = floods_under::<G, A>(alloc, heap, &accepted);
+    drop(accepted);
+    flooded
 }
 
 #[test]

@@ -167,10 +167,11 @@ fn stop_of<A: Allocator + Copy>(
 
 /// Tests a row.
 fn stops<A: Allocator + Copy>(alloc: A, heap: Global, row: &Row) -> Result<(), Fail> {
-    let accepted = planned(alloc, heap, &[])?;
     let text = text_of(heap, TWO, row.is_cut)?;
-    let stop = stop_of(alloc, heap, &accepted, &text, row.rooms)?;
-    same(&stop, &row.stop, row.what)
+    let accepted = planned(alloc, heap, &[])?;
+    let stop = stop_of(alloc, heap, &accepted, &text, row.rooms);
+    drop(accepted);
+    same(&stop?, &row.stop, row.what)
 }
 
 #[test]
@@ -215,10 +216,11 @@ fn writes_before_a_fault<A: Allocator + Copy>(
     alloc: A,
     heap: Global,
 ) -> Result<(), Fail> {
-    let accepted = planned(alloc, heap, &[])?;
     let part = text_of(heap, THREE, true)?;
-    let halted = halted_of(alloc, heap, &accepted, &part)?;
-    are_written(rt, &halted.writers);
+    let accepted = planned(alloc, heap, &[])?;
+    let halted = halted_of(alloc, heap, &accepted, &part);
+    drop(accepted);
+    are_written(rt, &halted?.writers);
     Ok(())
 }
 

@@ -143,7 +143,10 @@ fn end<G: Agenda + Drop, H: Allocator + Copy + Tells>(
 ) -> Result<(), Fail> {
     let before = heap.account();
     match bridge.due() {
-        Some(_) => Err(Fail::from("a start that is still due")),
+        Some(_) => {
+            drop(bridge);
+            Err(Fail::from("a start that is still due"))
+        }
         None => {
             let outcome = bridge.finish();
             assert!(rt; heap.account().left == before.left);
@@ -164,8 +167,26 @@ fn takes_no_memory<G: Agenda + Drop, H: Allocator + Copy + Tells>(
     };
     match use_bridge(rt, heap, accepted, &mut bridge) {
         Ok(()) => end(rt, heap, bridge),
-        Err(fail) => Err(fail),
+        Err(fail) => {
+            drop(bridge);
+            Err(fail)
+        }
     }
+}
+
+/// Drives a bridge of an accepted plan over each agenda, which gives all back.
+fn give_all_back<H: Allocator + Copy + Tells>(
+    rt: &impl Abort,
+    heap: H,
+    accepted: &Accepted<H>,
+) -> Result<(), Fail> {
+    let made = heap.account();
+    assert!(rt; made.left < NEVER && made.used > 0);
+    takes_no_memory::<RowAgenda, H>(rt, heap, accepted)?;
+    assert!(rt; heap.account().used == made.used, "all is given back");
+    takes_no_memory::<TreeAgenda, H>(rt, heap, accepted)?;
+    assert!(rt; heap.account().used == made.used, "all is given back");
+    Ok(())
 }
 
 /// Drives a bridge over each agenda, which gives all back.
@@ -177,18 +198,20 @@ pub(crate) fn gives_all_back<H: Allocator + Copy + Tells>(
     let Some(accepted) = accepted_in(heap, document) else {
         return Err(Fail::from("the plan was refused"));
     };
-    let made = heap.account();
-    assert!(rt; made.left < NEVER && made.used > 0);
-    takes_no_memory::<RowAgenda, H>(rt, heap, &accepted)?;
-    assert!(rt; heap.account().used == made.used, "all is given back");
-    takes_no_memory::<TreeAgenda, H>(rt, heap, &accepted)?;
-    assert!(rt; heap.account().used == made.used, "all is given back");
-    Ok(())
+    let given = give_all_back(rt, heap, &accepted);
+    drop(accepted);
+    given
 }
 
 /// Whether a bridge of an accepted plan can be made.
 fn is_bridge_of<G: Agenda + Drop, A: Allocator + Copy>(heap: A, accepted: &Accepted<A>) -> bool {
-    Bridge::<G, A>::new(heap, accepted).is_ok()
+    match Bridge::<G, A>::new(heap, accepted) {
+        Ok(bridge) => {
+            drop(bridge);
+            true
+        }
+        Err(_) => false,
+    }
 }
 
 /// Whether a bridge over an agenda can be made.
@@ -197,7 +220,11 @@ pub(crate) fn is_bridge_made<G: Agenda + Drop, A: Allocator + Copy>(
     document: Global,
 ) -> bool {
     match accepted_in(heap, document) {
-        Some(accepted) => is_bridge_of::<G, A>(heap, &accepted),
+        Some(accepted) => {
+            let is_made = is_bridge_of::<G, A>(heap, &accepted);
+            drop(accepted);
+            is_made
+        }
         None => false,
     }
 }
@@ -216,7 +243,11 @@ fn is_frame_taken<G: Agenda + Drop, A: Allocator + Copy>(
 /// Whether a bridge is made, and a frame comes to it that goes to two ports.
 fn is_relayed_by<G: Agenda + Drop, A: Allocator + Copy>(heap: A, accepted: &Accepted<A>) -> bool {
     match Bridge::<G, A>::new(heap, accepted) {
-        Ok(mut bridge) => is_frame_taken(heap, accepted, &mut bridge),
+        Ok(mut bridge) => {
+            let is_taken = is_frame_taken(heap, accepted, &mut bridge);
+            drop(bridge);
+            is_taken
+        }
         Err(_) => false,
     }
 }
@@ -227,7 +258,11 @@ pub(crate) fn is_frame_relayed<G: Agenda + Drop, A: Allocator + Copy>(
     document: Global,
 ) -> bool {
     match accepted_in(heap, document) {
-        Some(accepted) => is_relayed_by::<G, A>(heap, &accepted),
+        Some(accepted) => {
+            let is_relayed = is_relayed_by::<G, A>(heap, &accepted);
+            drop(accepted);
+            is_relayed
+        }
         None => false,
     }
 }

@@ -7,7 +7,7 @@ use crate::parts::{
 };
 use bridge_check::check;
 use bridge_config::Plan;
-use bridge_cycle::{CyclicList, ListFault, Run, Timeline, first_fit, longest_run};
+use bridge_cycle::{CyclicList, Joined, ListFault, Run, Timeline, first_fit, longest_run};
 use bridge_filter::NoMemory;
 use bridge_forward::Forwarding;
 use bridge_frame::{Head, Tag};
@@ -62,6 +62,48 @@ pub(crate) fn use_list<H: Allocator + Copy + Tells>(
     let made = heap.account();
     begins(rt, made);
     ask_list(rt, &list);
+    assert!(rt; heap.account() == made);
+    Ok(())
+}
+
+/// Turns and fits of lists that are exchanged at 2,000,000.
+fn ask_joined<A: Allocator + Copy>(rt: &impl Abort, joined: &Joined<u8, A>) {
+    assert!(rt; joined.turn(1_700_000).end == 2_000_000);
+    assert!(rt; (joined.at(), joined.cycle()) == (2_000_000, 1_000_000));
+    assert!(rt; fit_of_both(rt, joined, 7, 672, 1_499_329) == 2_000_000);
+}
+
+/// The first fit of a class that both lists open for `occ` ns or more.
+fn fit_of_both<A: Allocator + Copy>(
+    rt: &impl Abort,
+    joined: &Joined<u8, A>,
+    class: u8,
+    occ: u64,
+    from: u64,
+) -> u64
+    requires class { class < 8 }
+    requires occ { occ ≤ 1_000_000_000 }
+    requires from { from < 9_000_000_000_000_000_000 }
+{
+    let (old, new) = joined.lists();
+    let before = longest_run(old, class);
+    let after = longest_run(new, class);
+    assert!(rt; before.allows(occ));
+    assert!(rt; after.allows(occ));
+    first_fit(joined, class, occ, from)
+}
+
+/// Makes two lists that are exchanged at a moment, and asks them.
+pub(crate) fn use_joined<H: Allocator + Copy + Tells>(
+    rt: &impl Abort,
+    heap: H,
+) -> Result<(), ListFault> {
+    let old = list_of(heap)?;
+    let new = list_of(heap)?;
+    let made = heap.account();
+    begins(rt, made);
+    let joined = Joined::new(old, new, 2_000_000);
+    ask_joined(rt, &joined);
     assert!(rt; heap.account() == made);
     Ok(())
 }

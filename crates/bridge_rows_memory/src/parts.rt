@@ -4,7 +4,7 @@ ghost use Rattle.bridge_gate.specs.Schedules.{has_priorities};
 ghost use Rattle.bridge_filter.specs.Plans.{is_there, are_distinct, all_have_priorities};
 
 use bridge_config::{Plan, PlanFault, plan_of};
-use bridge_cycle::{CyclicList, ListFault};
+use bridge_cycle::{CyclicList, Egress, ListFault};
 use bridge_filter::{FilterPlan, NoMemory, Police};
 use bridge_forward::{Forwarding, PortSet, StaticEntry, Vlan};
 use bridge_frame::Speed;
@@ -197,7 +197,7 @@ pub(crate) fn port_of<A: Allocator + Copy>(alloc: A) -> Result<Port<u32, A>, NoM
     let Ok(list) = list_of(alloc) else {
         return Err(NoMemory);
     };
-    Port::new(alloc, Speed::Mbps1000, Some(list), [1; 8])
+    Port::new(alloc, Speed::Mbps1000, Some(Egress::Cyclic(list)), [1; 8])
 }
 
 /// The plan of a text, whose document lies in `heap`.

@@ -1,7 +1,7 @@
 //! What is made in a heap that counts, and used there.
 use crate::account::{NEVER, Tells, counting};
 use crate::bridges::gives_all_back;
-use crate::calls::{have_port, use_database, use_gate, use_ident, use_list, use_plan};
+use crate::calls::{have_port, use_database, use_gate, use_ident, use_joined, use_list, use_plan};
 use crate::police::use_police;
 use std::alloc::{Allocator, Global};
 use std::process::Abort;
@@ -11,6 +11,7 @@ use std::test::Fail;
 #[derive(Clone, Copy)]
 enum Made {
     List,
+    Change,
     Gate,
     Identification,
     Database,
@@ -29,6 +30,7 @@ fn use_made<H: Allocator + Copy + Tells>(
 ) -> Result<(), Fail> {
     match made {
         Made::List => Ok(use_list(rt, heap)?),
+        Made::Change => Ok(use_joined(rt, heap)?),
         Made::Gate => Ok(use_gate(rt, heap)?),
         Made::Identification => Ok(use_ident(rt, heap)?),
         Made::Database => Ok(use_database(rt, heap)?),
@@ -48,6 +50,11 @@ fn takes_no_memory(rt: &impl Abort, document: Global, made: Made) -> Result<(), 
 #[test]
 fn a_list_takes_no_memory(rt: HostRuntime) -> Result<(), Fail> {
     takes_no_memory(&rt, rt.alloc(), Made::List)
+}
+
+#[test]
+fn lists_that_are_exchanged_take_no_memory(rt: HostRuntime) -> Result<(), Fail> {
+    takes_no_memory(&rt, rt.alloc(), Made::Change)
 }
 
 #[test]

@@ -61,13 +61,14 @@ fn octets(numbers: &mut Numbers) -> [u8; 18] {
     [a, b, c, d, e, f, 2, 0, 0, 0, 0, 1, g, h, i, j, 0x88, 0xb5]
 }
 
-/// A capture of thirty frames, of 14 to 1,522 octets each, at times that do not fall.
+/// A capture of thirty frames, of 14 to 1,522 octets each, at times from one on that do not fall.
 pub(crate) fn foreign<A: Allocator + Copy>(
     alloc: A,
     numbers: &mut Numbers,
+    from: u32,
 ) -> Result<Vec<u8, A>, AllocError> {
     let mut text = header(alloc)?;
-    let mut at = 0u32;
+    let mut at = from;
     for _ in 0..30 {
         at = at.saturating_add(numbers.below(9_000) as u32);
         let len = 14 + numbers.below(1_509) as u32;

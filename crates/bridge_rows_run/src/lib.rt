@@ -7,6 +7,8 @@ mod agendas;
 #[cfg(test)]
 mod commands;
 #[cfg(test)]
+mod exchange;
+#[cfg(test)]
 mod foreign;
 #[cfg(test)]
 mod policing;

@@ -6,7 +6,10 @@ use bridge_events::{Agenda, RowAgenda, TreeAgenda};
 use bridge_report::{report, section, write_report};
 use bridge_run::Outcome;
 use bridge_trials::frames::{Frame, TO_A, capture, flood, header};
-use bridge_trials::plans::{BASE, BLOCKS, Change, ONE_FRAME, ROOM_FOR_ONE, accepted_of};
+use bridge_trials::plans::{
+    AT_2_000_000, BASE, BLOCKS, Change, NEXT_TURNS, NEXT_WINDOWS, ONE_FRAME, ROOM_FOR_ONE,
+    accepted_of,
+};
 use bridge_trials::runs::{outcome_of, planned};
 use std::alloc::{Allocator, Global};
 use std::process::Abort;
@@ -50,6 +53,18 @@ fn shows_over<G: Agenda + Drop, A: Allocator + Copy>(
     begins_with(alloc, &outcome, wanted)
 }
 
+/// Tests the section of filter 10 of a run over each agenda, under an accepted plan.
+fn shows_over_each<A: Allocator + Copy>(
+    alloc: A,
+    heap: Global,
+    accepted: &Accepted<A>,
+    texts: [&[u8]; 3],
+    wanted: &str,
+) -> Result<(), Fail> {
+    shows_over::<RowAgenda, A>(alloc, heap, accepted, texts, wanted)?;
+    shows_over::<TreeAgenda, A>(alloc, heap, accepted, texts, wanted)
+}
+
 /// Tests the section of filter 10 of a run over each agenda.
 fn shows<A: Allocator + Copy>(
     alloc: A,
@@ -59,8 +74,9 @@ fn shows<A: Allocator + Copy>(
     wanted: &str,
 ) -> Result<(), Fail> {
     let accepted = planned(alloc, heap, changes)?;
-    shows_over::<RowAgenda, A>(alloc, heap, &accepted, texts, wanted)?;
-    shows_over::<TreeAgenda, A>(alloc, heap, &accepted, texts, wanted)
+    let shown = shows_over_each(alloc, heap, &accepted, texts, wanted);
+    drop(accepted);
+    shown
 }
 
 /// Tests the section of filter 10 of a run with frames on port 1 alone.
@@ -117,25 +133,71 @@ fn other_frames_change_no_section(rt: HostRuntime) -> Result<(), Fail> {
     shows_beside_another(rt.alloc(), rt.alloc())
 }
 
-/// Tests that any frames on the ports 2 and 3 change nothing of what is told of one frame.
+/// Frames of the protected stream under some plan, and the section that is told of them.
+struct Shown {
+    changes: &'static [Change],
+    frames: &'static [Frame],
+    /// When other frames begin to come.
+    others: u32,
+    section: &'static str,
+}
+
+/// One frame.
+const ONE_SHOWN: Shown = Shown {
+    changes: &[],
+    frames: SENT,
+    others: 0,
+    section: ONE,
+};
+
+/// Frames before a change of the lists and behind it.
+const EXCHANGED: Shown = Shown {
+    changes: &[AT_2_000_000, NEXT_WINDOWS, NEXT_TURNS],
+    frames: &[
+        (1_100_000, 60, TO_A),
+        (2_100_000, 60, TO_A),
+        (2_600_000, 60, TO_A),
+    ],
+    others: 1_900_000,
+    section: "filter 10 protected\nmatching 3\nsdu passed 3 refused 0\ngate passed 2 refused 1\nred 0\nflags blocked no rx no octets no red no\nbucket none\nqueued 2 full 0 never 0\ndelay 672\nframe 1 pass\nframe 2 gate-closed\nframe 3 pass\nout 1 port 3 start 1100000 done 1100672\nout 3 port 3 start 2600000 done 2600672\nend\n",
+};
+
+/// Tests that any frames on the ports 2 and 3 change nothing of what is told of the protected stream.
 fn shows_beside_any<A: Allocator + Copy>(
     alloc: A,
     heap: Global,
     numbers: &mut Numbers,
+    shown: &Shown,
 ) -> Result<(), Fail> {
-    let one = capture(heap, SENT)?;
-    let second = foreign(heap, numbers)?;
-    let third = foreign(heap, numbers)?;
-    shows(alloc, heap, &[], [&one, &second, &third], ONE)
+    let own = capture(heap, shown.frames)?;
+    let second = foreign(heap, numbers, shown.others)?;
+    let third = foreign(heap, numbers, shown.others)?;
+    shows(
+        alloc,
+        heap,
+        shown.changes,
+        [&own, &second, &third],
+        shown.section,
+    )
+}
+
+/// Tests that a hundred times.
+fn shows_beside_many(alloc: Global, shown: &Shown) -> Result<(), Fail> {
+    let mut numbers = Numbers::of(1);
+    for _ in 0..100 {
+        shows_beside_any(alloc, alloc, &mut numbers, shown)?;
+    }
+    Ok(())
 }
 
 #[test]
 fn any_frames_change_no_section(rt: HostRuntime) -> Result<(), Fail> {
-    let mut numbers = Numbers::of(1);
-    for _ in 0..100 {
-        shows_beside_any(rt.alloc(), rt.alloc(), &mut numbers)?;
-    }
-    Ok(())
+    shows_beside_many(rt.alloc(), &ONE_SHOWN)
+}
+
+#[test]
+fn any_frames_change_no_section_where_lists_are_exchanged(rt: HostRuntime) -> Result<(), Fail> {
+    shows_beside_many(rt.alloc(), &EXCHANGED)
 }
 
 /// Tests that frames come to filter 99 and leave.
@@ -155,16 +217,18 @@ fn outcome_of_others<A: Allocator + Copy>(
     second: &[u8],
     third: &[u8],
 ) -> Result<Outcome<A>, Fail> {
-    let accepted = planned(alloc, heap, &[])?;
     let none = header(heap)?;
+    let accepted = planned(alloc, heap, &[])?;
     let texts = [none.as_slice(), second, third];
-    outcome_of::<TreeAgenda, A>(alloc, heap, &accepted, None, texts, false, None)
+    let outcome = outcome_of::<TreeAgenda, A>(alloc, heap, &accepted, None, texts, false, None);
+    drop(accepted);
+    outcome
 }
 
 fn catches_any<A: Allocator + Copy>(rt: &impl Abort, alloc: A, heap: Global) -> Result<(), Fail> {
     let mut numbers = Numbers::of(1);
-    let second = foreign(heap, &mut numbers)?;
-    let third = foreign(heap, &mut numbers)?;
+    let second = foreign(heap, &mut numbers, 0)?;
+    let third = foreign(heap, &mut numbers, 0)?;
     let outcome = outcome_of_others(alloc, heap, &second, &third)?;
     are_caught(rt, &outcome)
 }
@@ -241,12 +305,23 @@ fn without_filter<A: Allocator + Copy>(alloc: A, heap: Global) -> Option<Accepte
     }
 }
 
+/// Tests the same over each agenda.
+fn shows_nothing_over_each<A: Allocator + Copy>(
+    alloc: A,
+    heap: Global,
+    accepted: &Accepted<A>,
+) -> Result<(), Fail> {
+    shows_nothing::<RowAgenda, A>(alloc, heap, accepted)?;
+    shows_nothing::<TreeAgenda, A>(alloc, heap, accepted)
+}
+
 fn shows_no_filter<A: Allocator + Copy>(alloc: A, heap: Global) -> Result<(), Fail> {
     let Some(accepted) = without_filter(alloc, heap) else {
         return Err(Fail::from("a plan that is not accepted"));
     };
-    shows_nothing::<RowAgenda, A>(alloc, heap, &accepted)?;
-    shows_nothing::<TreeAgenda, A>(alloc, heap, &accepted)
+    let shown = shows_nothing_over_each(alloc, heap, &accepted);
+    drop(accepted);
+    shown
 }
 
 #[test]

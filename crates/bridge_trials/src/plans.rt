@@ -93,6 +93,69 @@ pub const ROOM_FOR_ONE: Change = (
 /// Port 3 has 10 Mb/s.
 pub const SLOW: Change = ("number = 3\nmbps = 1000", "number = 3\nmbps = 10");
 
+/// Lists are exchanged at 2,000,000.
+pub const AT_2_000_000: Change = (
+    "[[port]]\nnumber = 1\n",
+    "[[change]]\nat = 2000000\n[[port]]\nnumber = 1\n",
+);
+
+/// Lists are exchanged at 100,000.
+pub const AT_100_000: Change = (
+    "[[port]]\nnumber = 1\n",
+    "[[change]]\nat = 100000\n[[port]]\nnumber = 1\n",
+);
+
+/// The next list of port 3 opens class 7 behind the others.
+pub const NEXT_WINDOWS: Change = (
+    "[[vlan]]\n",
+    "next_cycle = 1000000\nnext_gates = [{ open = [0, 1, 2, 3, 4, 5, 6], ns = 500000 }, { open = [7], ns = 500000 }]\n[[vlan]]\n",
+);
+
+/// The next list of port 3 opens class 7 alone.
+pub const ONLY_CLASS_7: Change = (
+    "[[vlan]]\n",
+    "next_cycle = 1000000\nnext_gates = [{ open = [7], ns = 1000000 }]\n[[vlan]]\n",
+);
+
+/// The next list of port 3 opens class 0 beside class 7.
+pub const BESIDE_CLASS_7: Change = (
+    "[[vlan]]\n",
+    "next_cycle = 1000000\nnext_gates = [{ open = [7, 0], ns = 500000 }, { open = [1, 2, 3, 4, 5, 6], ns = 500000 }]\n[[vlan]]\n",
+);
+
+/// In the next list of port 3 the window of class 7 has 4,319 ns, one less than the longest frame of filter 10 needs.
+pub const TOO_SHORT: Change = (
+    "[[vlan]]\n",
+    "next_cycle = 1000000\nnext_gates = [{ open = [7], ns = 4319 }, { open = [0], ns = 500000 }]\n[[vlan]]\n",
+);
+
+/// There it has 4,320 ns.
+pub const LONG_ENOUGH: Change = (
+    "[[vlan]]\n",
+    "next_cycle = 1000000\nnext_gates = [{ open = [7], ns = 4320 }, { open = [0], ns = 500000 }]\n[[vlan]]\n",
+);
+
+/// The next list of gate 1 is open from 500,000 to 800,000.
+pub const NEXT_TURNS: Change = (
+    "[[gate]]\nnumber = 99\n",
+    "next_cycle = 1000000\nnext_entries = [{ open = false, ns = 500000 }, { open = true, ns = 300000, ipv = 7, octets = 600 }, { open = false, ns = 200000 }]\n[[gate]]\nnumber = 99\n",
+);
+
+/// The next list of gate 1 is its first one.
+pub const SAME_TURNS: Change = (
+    "[[gate]]\nnumber = 99\n",
+    "next_cycle = 1000000\nnext_entries = [{ open = true, ns = 300000, ipv = 7, octets = 600 }, { open = false, ns = 700000 }]\n[[gate]]\nnumber = 99\n",
+);
+
+/// In the next list of gate 1 an open entry gives no internal priority value.
+pub const WITHOUT_VALUE: Change = (
+    "[[gate]]\nnumber = 99\n",
+    "next_cycle = 1000000\nnext_entries = [{ open = true, ns = 300000 }, { open = false, ns = 700000 }]\n[[gate]]\nnumber = 99\n",
+);
+
+/// No filter is protected.
+pub const UNPROTECTED: Change = ("protected = true\n", "");
+
 /// A text with what stands in the place of a part of it.
 fn changed<A: Allocator + Copy>(alloc: A, text: &str, change: Change) -> Result<String<A>, Fail> {
     match text.split_once(change.0) {

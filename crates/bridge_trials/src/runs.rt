@@ -435,7 +435,9 @@ fn sum_under(
 /// Tests the runs of a row, and gives the line that sums them up.
 fn sum_of(alloc: Global, row: &Row, command: Option<Command>) -> Result<String, Fail> {
     let accepted = planned(alloc, alloc, row.changes)?;
-    sum_under(alloc, row, command, &accepted)
+    let sum = sum_under(alloc, row, command, &accepted);
+    drop(accepted);
+    sum
 }
 
 /// Tests a run over each agenda.
