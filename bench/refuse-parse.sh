@@ -1,16 +1,16 @@
 #!/bin/sh
 # Refuses growths of memory while a small plan is read, one a run: refuse-parse.sh FIRST LAST
 #
-# The program crates/bench_config reads its plan with growth FIRST refused, then the next one, up to LAST, those of the
-# TOML reader too (`rt try --fail-alloc`). A run has to end for want of memory; once all growths are behind, with a plan.
+# The program crates/gate_check reads its plan with growth FIRST refused, then the next one, up to LAST, those of the
+# TOML reader too (`rt try --fail-alloc`). A run has to end for want of memory; once all growths are behind, with a plan that is accepted.
 # Anything else is told, and the script then ends with status 1. It takes some seconds a run.
-cd "$(dirname "$0")/../crates/bench_config" || exit 1
+cd "$(dirname "$0")/../crates/gate_check" || exit 1
 other=0
 for growth in $(seq "$1" "$2"); do
-    said=$(rt try --fail-alloc "$growth" 2>&1)
+    said=$(rt try --fail-alloc "$growth" --data plan.toml=data/plan.toml -- check plan.toml 2>&1)
     case $said in
         *"no memory"* | *"out of memory"*) echo "growth $growth: refused" ;;
-        *"a plan"*) echo "growth $growth: there is none, a plan"; break ;;
+        *"accepted:"*) echo "growth $growth: there is none, the plan is accepted"; break ;;
         *) echo "growth $growth: $said"; other=1 ;;
     esac
 done

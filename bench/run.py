@@ -1,9 +1,9 @@
 #!/usr/bin/env python3
-"""Times `tsnbridge wire` and `tsnbridge run` beside other programs: run.py [--beside PROGRAM] [FOLDER]
+"""Times `tsnbridge wire`, `run` and `check` beside other programs: run.py [--beside PROGRAM] [FOLDER]
 
 `wire 1000 64` over captures of 10,000, 100,000 and 1,000,000 frames, of 64 octets and of mixed sizes, beside `cp` and,
 where they are installed, `editcap` and `tcprewrite`; `run` over plans of 4, 8 and 16 ports with a capture for each, of many
-filters and streams, and of long gate control lists, beside `cp` of the captures. PROGRAM is one with the same command line. All run in turn on the same files, which are in memory by
+filters and streams, and of long gate control lists, beside `cp` of the captures; `check` of two large plans, alone. PROGRAM is one with the same command line. All run in turn on the same files, which are in memory by
 then. A row has the shortest of eleven times (of seven, for a run), its nanoseconds for each frame, its ratio to `cp`, the
 least processor time for each frame, its ratio to that of PROGRAM, and the peak memory (where GNU `time` is installed).
 Files go into FOLDER, by default a new one that is removed at the end.
@@ -16,6 +16,7 @@ import tempfile
 import time
 
 import captures
+import plans
 
 TOP = os.path.dirname(os.path.dirname(os.path.abspath(__file__)))
 PROGRAM = os.path.join(TOP, "crates", "tsnbridge", "out", "tsnbridge")
@@ -111,6 +112,16 @@ def measure_run(work, ports, count, flows, entries, beside):
     shutil.rmtree(case)
 
 
+def measure_check(work, kind):
+    """Prints the row of a check of a large plan."""
+    source = os.path.join(work, f"{kind}.toml")
+    with open(source, "w", encoding="utf-8") as file:
+        file.write(plans.TEXTS[kind]())
+    times = [once([PROGRAM, "check", source], os.path.join(work, "out")) for _ in range(11)]
+    print(f"| {kind} | {os.path.getsize(source):,} | {min(seconds for seconds, _ in times) * 1e3:.1f} |", flush=True)
+    os.remove(source)
+
+
 def main():
     words = sys.argv[1:]
     beside = None
@@ -125,6 +136,9 @@ def main():
             measure_wire(work, count, kind, beside)
     for case in RUNS:
         measure_run(work, *case, beside)
+    print("\n| plan | octets | ms of `check` |\n|---|---|---|")
+    for kind in plans.TEXTS:
+        measure_check(work, kind)
     if not words:
         shutil.rmtree(work)
 

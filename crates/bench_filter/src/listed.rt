@@ -1,7 +1,8 @@
 //! Whether lists of filters, gates and meters go together, item by item.
 
-ghost use Rattle.std.specs.Prelude.{◌≡◌};
-ghost use Rattle.bridge_filter.specs.Plans.{is_there, are_distinct, is_there_if_any, has_instances, have_instances, all_have_priorities, all_within_limits};
+ghost use Rattle.std.specs.Prelude.{◌≡◌, ◌&&◌};
+ghost use Rattle.std.specs.List.{list_all};
+ghost use Rattle.bridge_filter.specs.Plans.{is_there, are_distinct, is_there_if_any, all_have_priorities, all_within_limits};
 
 use bridge_filter::FilterPlan;
 use bridge_gate::GatePlan;
@@ -41,12 +42,12 @@ fn is_listed_if_any<X>(list: &[(u32, X)], number: Option<u32>) -> bool
 }
 
 /// Whether the gates and the meters that filters name are there.
-pub(crate) fn have_all_instances<A: Allocator + Copy>(
+pub(crate) fn have_all_instances<G, M>(
     filters: &[(u32, FilterPlan)],
-    gates: &[(u32, GatePlan<A>)],
-    meters: &[(u32, MeterPlan)],
+    gates: &[(u32, G)],
+    meters: &[(u32, M)],
 ) -> bool
-    ensures { result ≡ have_instances filters.now gates.now meters.now }
+    ensures { result ≡ list_all (λ f. is_there f.1.gate gates.now && is_there_if_any f.1.meter meters.now) filters.now }
 {
     filters.iter().all(|filter| is_listed(gates, filter.1.gate)
         && is_listed_if_any(meters, filter.1.meter))

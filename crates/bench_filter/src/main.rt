@@ -3,7 +3,6 @@
 //! writes its figures to standard error.
 
 ghost use Rattle.std.specs.Prelude.{◌≡◌, ◌≤◌, IfOk, IfSome, true};
-ghost use Rattle.bridge_gate.specs.Schedules.{has_priorities};
 
 mod listed;
 
@@ -14,7 +13,8 @@ use bridge_meter::MeterPlan;
 use listed::{are_all_distinct, are_all_within_limits, have_all_instances, have_all_priorities};
 use std::alloc::Allocator;
 use std::io;
-use std::time::Instant;
+use std::rt::Clock;
+use std::time::{Duration, Instant};
 
 /// How many frames come.
 const CALLS: u64 = 4_000_000;
@@ -39,14 +39,29 @@ fn main(rt: HostRuntime) -> io::Result<()> {
             eprintln!(rt; "no police of {filters} filters")?;
             return Ok(());
         };
-        let start = Instant::now(&rt)?;
-        let passed = passes(&mut police, CALLS, filters);
-        let time = start.elapsed(&rt)?;
+        let measured = measure(&rt, &mut police, filters);
+        drop(police);
+        let (time, passed) = measured?;
         eprintln!(rt;
             "{CALLS} calls of pass, {filters} filters: {time:?}, {passed} frames passed"
         )?;
     }
     Ok(())
+}
+
+/// How long the calls take, and how many frames pass.
+fn measure<A: Allocator + Copy>(
+    rt: &impl Clock,
+    police: &mut Police<A>,
+    filters: u32,
+) -> io::Result<(Duration, u64)>
+    requires early { police.old.earliest ≡ 0 }
+    requires fresh { police.old.calls ≡ 0 }
+    requires some { 1 ≤ filters }
+{
+    let start = Instant::now(rt)?;
+    let passed = passes(police, CALLS, filters);
+    Ok((start.elapsed(rt)?, passed))
 }
 
 /// The next number of a sequence without a pattern that a processor would learn.
@@ -78,9 +93,7 @@ fn passes<A: Allocator + Copy>(police: &mut Police<A>, calls: u64, streams: u32)
 }
 
 /// Open for 300,000 ns, then closed for 700,000 ns.
-fn window<A: Allocator + Copy>(alloc: A) -> Result<GatePlan<A>, NoMemory>
-    ensures { IfOk result (λ g. has_priorities g.schedule ≡ true) }
-{
+fn window<A: Allocator + Copy>(alloc: A) -> Result<GatePlan<A>, NoMemory> {
     let open = GateEntry {
         lets: true,
         ipv: Some(7),
