@@ -3,7 +3,7 @@
 #
 # The program crates/gate_check reads its plan with growth FIRST refused, then the next one, up to LAST, those of the
 # TOML reader too (`rt try --fail-alloc`). A run has to end for want of memory; once all growths are behind, with a plan that is accepted.
-# Anything else is told, and the script then ends with status 1. It takes some seconds a run.
+# Anything else is told, and the script then ends with status 1. It takes half a minute a run.
 cd "$(dirname "$0")/../crates/gate_check" || exit 1
 other=0
 for growth in $(seq "$1" "$2"); do
