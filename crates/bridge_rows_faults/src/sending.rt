@@ -7,8 +7,8 @@ use bridge_run::{Dropped, Outcome, View};
 use bridge_trials::frames::{Frame, RESERVED, SHORT, TO_A, TO_B, VID_20, capture, flood, header};
 use bridge_trials::plans::{ROOM_FOR_ONE, SLOW, fault_of, text_of};
 use bridge_trials::runs::{
-    ALONE, CAUGHT, IDLE, NOTHING, PASS, Row, Start, Told, count_of, counts, departed, outcome_of,
-    planned, runs, sums, tells,
+    ALONE, CAUGHT, IDLE, NOTHING, PASS, Row, Start, Told, count_of, counts, departed, each_runs,
+    outcome_of, planned, sums, tells,
 };
 use std::alloc::{Allocator, Global};
 use std::process::Abort;
@@ -58,11 +58,12 @@ const LAST: Row = Row {
     ..FITS
 };
 
+/// Frames at the end of a window, and one at the end of time.
+const WAITING: &[&Row] = &[&FITS, &WAITS, &LAST];
+
 #[test]
 fn a_frame_waits_for_a_window_that_holds_it(rt: HostRuntime) -> Result<(), Fail> {
-    runs(rt.alloc(), &FITS, None)?;
-    runs(rt.alloc(), &WAITS, None)?;
-    runs(rt.alloc(), &LAST, None)
+    each_runs(rt.alloc(), WAITING)
 }
 
 /// Frames of both filters at one moment.
@@ -102,10 +103,12 @@ const IN_ORDER: Row = Row {
     ..IDLE
 };
 
+/// Frames of both filters, and of one, at one moment.
+const AT_ONE_MOMENT: &[&Row] = &[&TOGETHER, &IN_ORDER];
+
 #[test]
 fn frames_come_at_one_moment(rt: HostRuntime) -> Result<(), Fail> {
-    runs(rt.alloc(), &TOGETHER, None)?;
-    runs(rt.alloc(), &IN_ORDER, None)
+    each_runs(rt.alloc(), AT_ONE_MOMENT)
 }
 
 /// What is told of two frames of the protected stream that pass, but for their departures.
@@ -143,10 +146,12 @@ const NO_ROOM: Row = Row {
     ..ROOM
 };
 
+/// Frames for a queue with room for both, and with room for one.
+const INTO_A_QUEUE: &[&Row] = &[&ROOM, &NO_ROOM];
+
 #[test]
 fn a_queue_may_be_full(rt: HostRuntime) -> Result<(), Fail> {
-    runs(rt.alloc(), &ROOM, None)?;
-    runs(rt.alloc(), &NO_ROOM, None)
+    each_runs(rt.alloc(), INTO_A_QUEUE)
 }
 
 /// The longest frame that fits on a slow port.
@@ -187,10 +192,12 @@ fn is_refused<A: Allocator + Copy>(rt: &impl Abort, alloc: A, heap: Global) -> R
     Ok(())
 }
 
+/// The longest frame that fits at 10 Mb/s, and one more octet.
+const AT_10_MBPS: &[&Row] = &[&LONGEST, &TOO_LONG];
+
 #[test]
 fn a_slow_port_has_a_longest_frame(rt: HostRuntime) -> Result<(), Fail> {
-    runs(rt.alloc(), &LONGEST, None)?;
-    runs(rt.alloc(), &TOO_LONG, None)?;
+    each_runs(rt.alloc(), AT_10_MBPS)?;
     is_refused(&rt, rt.alloc(), rt.alloc())
 }
 

@@ -6,22 +6,56 @@ use bridge_filter::{Clear, Flags};
 use bridge_trials::frames::TO_A;
 use bridge_trials::plans::SHUTS_ON_OCTETS;
 use bridge_trials::runs::{IDLE, NO_FLAGS, NOTHING, PASS, Row, Told, runs};
+use std::alloc::Global;
 use std::test::Fail;
 
-fn command(at: u64, clear: Clear, number: u32) -> Option<Command> {
-    Some(Command { at, clear, number })
+/// Commands that clear filter 10, or another one, and the row of each.
+const CLEARS_OF_A_FILTER: &[(&Row, Command)] = &[
+    (
+        &UNBLOCKED,
+        Command {
+            at: 25_000,
+            clear: Clear::Blocked,
+            number: 10,
+        },
+    ),
+    (
+        &UNBLOCKED,
+        Command {
+            at: 30_000,
+            clear: Clear::Blocked,
+            number: 10,
+        },
+    ),
+    (
+        &UNBLOCKED_LATE,
+        Command {
+            at: 30_001,
+            clear: Clear::Blocked,
+            number: 10,
+        },
+    ),
+    (
+        &BLOCKED,
+        Command {
+            at: 25_000,
+            clear: Clear::Blocked,
+            number: 99,
+        },
+    ),
+];
+
+/// Tests a run with each command.
+fn each_clears(alloc: Global, rows: &[(&Row, Command)]) -> Result<(), Fail> {
+    for (row, command) in rows {
+        runs(alloc, row, Some(*command))?;
+    }
+    Ok(())
 }
 
 #[test]
 fn a_blocked_filter_is_cleared(rt: HostRuntime) -> Result<(), Fail> {
-    let early = command(25_000, Clear::Blocked, 10);
-    runs(rt.alloc(), &UNBLOCKED, early)?;
-    let at_once = command(30_000, Clear::Blocked, 10);
-    runs(rt.alloc(), &UNBLOCKED, at_once)?;
-    let late = command(30_001, Clear::Blocked, 10);
-    runs(rt.alloc(), &UNBLOCKED_LATE, late)?;
-    let other = command(25_000, Clear::Blocked, 99);
-    runs(rt.alloc(), &BLOCKED, other)
+    each_clears(rt.alloc(), CLEARS_OF_A_FILTER)
 }
 
 /// The second frame exceeds the octets of the turn, the third doesn't.
@@ -75,17 +109,50 @@ const SHUT_AGAIN: Row = Row {
     ..CLEARED_OF_OCTETS
 };
 
+/// Commands that clear gate 1, and the row of each.
+const CLEARS_OF_A_GATE: &[(&Row, Command)] = &[
+    (
+        &CLEARED_OF_OCTETS,
+        Command {
+            at: 30_000,
+            clear: Clear::Octets,
+            number: 1,
+        },
+    ),
+    (
+        &SHUT_AGAIN,
+        Command {
+            at: 30_000,
+            clear: Clear::Octets,
+            number: 1,
+        },
+    ),
+    (
+        &CLEARED_OF_A_FRAME,
+        Command {
+            at: 1_000_000,
+            clear: Clear::Rx,
+            number: 1,
+        },
+    ),
+];
+
 #[test]
 fn a_gate_is_cleared(rt: HostRuntime) -> Result<(), Fail> {
-    let octets = command(30_000, Clear::Octets, 1);
-    runs(rt.alloc(), &CLEARED_OF_OCTETS, octets)?;
-    runs(rt.alloc(), &SHUT_AGAIN, octets)?;
-    let rx = command(1_000_000, Clear::Rx, 1);
-    runs(rt.alloc(), &CLEARED_OF_A_FRAME, rx)
+    each_clears(rt.alloc(), CLEARS_OF_A_GATE)
 }
+
+/// A command that clears meter 5, and its row.
+const CLEARS_OF_A_METER: &[(&Row, Command)] = &[(
+    &CLEARED_OF_RED,
+    Command {
+        at: 64_000,
+        clear: Clear::Red,
+        number: 5,
+    },
+)];
 
 #[test]
 fn a_meter_is_cleared(rt: HostRuntime) -> Result<(), Fail> {
-    let red = command(64_000, Clear::Red, 5);
-    runs(rt.alloc(), &CLEARED_OF_RED, red)
+    each_clears(rt.alloc(), CLEARS_OF_A_METER)
 }

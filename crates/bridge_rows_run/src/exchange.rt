@@ -12,7 +12,7 @@ use bridge_trials::plans::{
     text_of,
 };
 use bridge_trials::runs::{
-    CAUGHT, IDLE, NOTHING, PASS, Row, Told, outcome_of, planned, runs, tells,
+    CAUGHT, IDLE, NOTHING, PASS, Row, Told, each_runs, outcome_of, planned, tells,
 };
 use std::alloc::{Allocator, Global};
 use std::test::Fail;
@@ -73,10 +73,12 @@ const NOT_EXCHANGED: Row = Row {
     ports: [[0; 6], [1, 0, 0, 0, 0, 0], [0, 0, 0, 0, 1, 0]],
 };
 
+/// Frames over a change, and without one.
+const WITH_AND_WITHOUT_A_CHANGE: &[&Row] = &[&EXCHANGED, &NOT_EXCHANGED];
+
 #[test]
 fn lists_are_exchanged(rt: HostRuntime) -> Result<(), Fail> {
-    runs(rt.alloc(), &EXCHANGED, None)?;
-    runs(rt.alloc(), &NOT_EXCHANGED, None)
+    each_runs(rt.alloc(), WITH_AND_WITHOUT_A_CHANGE)
 }
 
 /// Two frames of the greatest size in one turn, of which the change makes two.
@@ -110,10 +112,12 @@ const COUNTED_ON: Row = Row {
     ..COUNTED_ANEW
 };
 
+/// Frames in a turn that the change makes two of, and in a whole one.
+const IN_A_TURN_THAT_IS_CUT: &[&Row] = &[&COUNTED_ANEW, &COUNTED_ON];
+
 #[test]
 fn octets_are_counted_anew(rt: HostRuntime) -> Result<(), Fail> {
-    runs(rt.alloc(), &COUNTED_ANEW, None)?;
-    runs(rt.alloc(), &COUNTED_ON, None)
+    each_runs(rt.alloc(), IN_A_TURN_THAT_IS_CUT)
 }
 
 /// What is told of a frame of filter 99 that fits under the old list alone.

@@ -6,7 +6,9 @@ use bridge_filter::Verdict::{
 use bridge_meter::Buckets;
 use bridge_trials::frames::{MARKED, TO_A, UNTAGGED};
 use bridge_trials::plans::{BLOCKS, ONE_FRAME, SHUTS_ON_OCTETS, SHUTS_ON_RX, TWO_FRAMES};
-use bridge_trials::runs::{ALONE, ELIGIBLE, IDLE, NO_FLAGS, NOTHING, PASS, Row, Told, runs, sums};
+use bridge_trials::runs::{
+    ALONE, ELIGIBLE, IDLE, NO_FLAGS, NOTHING, PASS, Row, Told, each_runs, runs, sums,
+};
 use std::test::Fail;
 
 #[test]
@@ -94,11 +96,12 @@ pub(crate) const CLEARED_OF_A_FRAME: Row = Row {
     ..NEXT_WINDOW
 };
 
+/// Frames that a closed gate refuses, and some that it lets through.
+const AT_A_CLOSED_GATE: &[&Row] = &[&IN_TIME, &NEXT_WINDOW, &SHUT_BY_A_FRAME];
+
 #[test]
 fn a_closed_gate_refuses(rt: HostRuntime) -> Result<(), Fail> {
-    runs(rt.alloc(), &IN_TIME, None)?;
-    runs(rt.alloc(), &NEXT_WINDOW, None)?;
-    runs(rt.alloc(), &SHUT_BY_A_FRAME, None)
+    each_runs(rt.alloc(), AT_A_CLOSED_GATE)
 }
 
 /// A frame of the maximum, one above it, and a short one.
@@ -157,10 +160,12 @@ pub(crate) const UNBLOCKED_LATE: Row = Row {
     ..BLOCKED
 };
 
+/// A frame above the maximum, with a filter that it blocks and one that it does not.
+const OVERSIZED: &[&Row] = &[&NOT_BLOCKED, &BLOCKED];
+
 #[test]
 fn an_oversized_frame_blocks(rt: HostRuntime) -> Result<(), Fail> {
-    runs(rt.alloc(), &NOT_BLOCKED, None)?;
-    runs(rt.alloc(), &BLOCKED, None)
+    each_runs(rt.alloc(), OVERSIZED)
 }
 
 /// Two frames with all octets of a turn, and one in the next turn.
@@ -240,11 +245,12 @@ const SHUT_BY_OCTETS: Row = Row {
     ..ABOVE_THE_LIMIT
 };
 
+/// Frames that have all octets of a turn, and one more.
+const IN_ONE_TURN: &[&Row] = &[&WITHIN_THE_LIMIT, &ABOVE_THE_LIMIT, &SHUT_BY_OCTETS];
+
 #[test]
 fn octets_of_a_turn_are_limited(rt: HostRuntime) -> Result<(), Fail> {
-    runs(rt.alloc(), &WITHIN_THE_LIMIT, None)?;
-    runs(rt.alloc(), &ABOVE_THE_LIMIT, None)?;
-    runs(rt.alloc(), &SHUT_BY_OCTETS, None)
+    each_runs(rt.alloc(), IN_ONE_TURN)
 }
 
 /// A yellow frame.
@@ -297,11 +303,12 @@ const YELLOW_UNTAGGED: Row = Row {
     ..YELLOW
 };
 
+/// Frames that the meter makes yellow and red.
+const METERED: &[&Row] = &[&YELLOW, &YELLOW_AND_RED, &YELLOW_UNTAGGED];
+
 #[test]
 fn an_eligible_frame_leaves_marked(rt: HostRuntime) -> Result<(), Fail> {
-    runs(rt.alloc(), &YELLOW, None)?;
-    runs(rt.alloc(), &YELLOW_AND_RED, None)?;
-    runs(rt.alloc(), &YELLOW_UNTAGGED, None)
+    each_runs(rt.alloc(), METERED)
 }
 
 /// Two green frames, a red one, and a later one that is red since all are.

@@ -446,6 +446,15 @@ pub fn runs(alloc: Global, row: &Row, command: Option<Command>) -> Result<(), Fa
     Ok(())
 }
 
+/// Tests runs one after the other, each over each agenda. A constant of references to rows is far cheaper to prove than
+/// a call for each row.
+pub fn each_runs(alloc: Global, rows: &[&Row]) -> Result<(), Fail> {
+    for row in rows {
+        runs(alloc, row, None)?;
+    }
+    Ok(())
+}
+
 /// Tests a run over each agenda, and the line that sums it up.
 pub fn sums(alloc: Global, row: &Row, wanted: &str) -> Result<(), Fail> {
     let line = sum_of(alloc, row, None)?;
