@@ -51,7 +51,7 @@ others p [] n q c port from to at = refl
 others p (g ∷ gs) n q c port from to at = rw (in_reach p g.1 q c port from to at, others p gs n q c port from to at) refl
 
 -- no queue of a port that isn't there is reached
-unreached : {A : Type 0} (p : Plan A) (f : FilterPlan) (q c : ℕ) → port_at p.ports q ≡ None → reaches p f q c ≡ false
+pub unreached : {A : Type 0} (p : Plan A) (f : FilterPlan) (q c : ℕ) → port_at p.ports q ≡ None → reaches p f q c ≡ false
 unreached p f q c at = rw at (and-false (reaches_port p f.handle q))
 
 none_below : {X : Type 0} (n : ℕ) (tell : ℕ → Option X) → ((k : ℕ) → tell k ≡ None) → first_below n tell ≡ None

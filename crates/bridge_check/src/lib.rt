@@ -12,3 +12,4 @@ mod windows;
 
 pub use accepted::{Accepted, Refused, check};
 pub use fault::CheckFault;
+pub use reach::may_wait;

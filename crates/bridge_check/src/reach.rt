@@ -1,9 +1,10 @@
 //! Which ports and priorities the frames of a filter may have.
-ghost use Rattle.std.specs.Prelude.{◌≡◌, ◌≤◌, ◌+◌, map};
+ghost use Rattle.std.specs.Prelude.{◌≡◌, ◌≤◌, ◌+◌, map, Some};
+ghost use Rattle.bridge_config.specs.Rules.{port_at};
 ghost use Rattle.bridge_check.specs.Reach as spec;
 ghost use Rattle.bridge_check.specs.Reached as reached;
 
-use bridge_config::Plan;
+use bridge_config::{Plan, PortPlan};
 use bridge_filter::FilterPlan;
 use bridge_gate::{GateEntry, GatePlan, Schedule};
 use bridge_ident::{Kind, StreamEntry};
@@ -162,6 +163,42 @@ pub(crate) fn reach_of<A: Allocator + Copy>(plan: &Plan<A>, filter: &FilterPlan)
         ports: ports_of(plan, filter.handle),
         priorities: priorities_of(plan, filter),
     }
+}
+
+/// Whether frames of a filter may be queued in a class of a port, 1 to 16: where some priority that its gate may give
+/// them has the class there, and where the port is one to which their destination may lead.
+#[tactic(auto, using(crate::proofs::Told::unreached))]
+pub fn may_wait<A: Allocator + Copy>(
+    plan: &Plan<A>,
+    filter: &FilterPlan,
+    port: u8,
+    class: u8,
+) -> bool
+    requires from { 1 ≤ port }
+    requires to { port ≤ 16 }
+    ensures { result ≡ spec.reaches plan.now filter.now port class }
+{
+    match plan.port(port) {
+        Some(found) => may_wait_at(plan, filter, port, found, class),
+        None => false,
+    }
+}
+
+/// The same at a port that the plan has.
+#[tactic(auto, using(crate::proofs::Told::in_reach))]
+fn may_wait_at<A: Allocator + Copy>(
+    plan: &Plan<A>,
+    filter: &FilterPlan,
+    number: u8,
+    port: &PortPlan<A>,
+    class: u8,
+) -> bool
+    requires from { 1 ≤ number }
+    requires to { number ≤ 16 }
+    requires port { port_at plan.now.ports number ≡ Some port.now }
+    ensures { result ≡ spec.reaches plan.now filter.now number class }
+{
+    reach_of(plan, filter).has(number, &port.classes, class)
 }
 
 impl Reach {

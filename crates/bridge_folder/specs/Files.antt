@@ -1,5 +1,5 @@
 -- The files of a run that fail, and what a run over them prints.
-use Rattle.std.specs.Prelude.{◌≡◌, ◌⊎◌, ℕ, List, Option, Ok, string_bytes}
+use Rattle.std.specs.Prelude.{◌≡◌, ◌⊎◌, ℕ, List, Option, None, Some, Ok, string_bytes}
 use Rattle.bridge_base.specs.Members.{In}
 use Rattle.bridge_config.specs.Document.{plan_of_text}
 use Rattle.bridge_config.specs.Model.{Plan}
@@ -17,6 +17,11 @@ use Rattle.bridge_folder.specs.Paths.{capture_path, report_path}
 abbrev pub IsCapture : List ℕ → List ℕ → List ℕ → Type 0
 IsCapture folder ports path = (port : ℕ) × In port ports × (path ≡ capture_path folder port)
 
+-- the fault of the file of a path
+abbrev pub IsFile : List ℕ → Fault → Type 0
+IsFile path (fault.File p) = string_bytes p ≡ path
+IsFile path f = ⊥
+
 -- such a capture failed, or memory was refused
 abbrev pub IsOfCaptures : List ℕ → List ℕ → Fault → Type 0
 IsOfCaptures folder ports (fault.File path) = IsCapture folder ports (string_bytes path)
@@ -28,6 +33,12 @@ abbrev pub IsOfReport : List ℕ → Fault → Type 0
 IsOfReport folder (fault.File path) = string_bytes path ≡ report_path folder
 IsOfReport folder (fault.Run f) = f ≡ run.NoMemory
 IsOfReport folder f = ⊥
+
+-- an output of a folder failed, a capture of one of these ports or the report, or memory was refused
+abbrev pub IsOfOutputs : List ℕ → List ℕ → Fault → Type 0
+IsOfOutputs folder ports (fault.File path) = IsCapture folder ports (string_bytes path) ⊎ (string_bytes path ≡ report_path folder)
+IsOfOutputs folder ports (fault.Run f) = f ≡ run.NoMemory
+IsOfOutputs folder ports f = ⊥
 
 -- the plan of some text
 abbrev pub IsPlanOfText : {A : Type 0} → Plan A → Type 0
@@ -63,3 +74,28 @@ EndsRun A plan commands input output f = EndsReading A plan commands f ⊎ ((p :
 -- the line sums up what some run tells
 abbrev pub PrintsRun : (A : Type 0) → List ℕ → Type 0
 PrintsRun A line = (outcome : Outcome A) × (line ≡ summary_of outcome.ports.items)
+
+-- the picture of this path failed, or memory was refused
+abbrev pub IsOfPicture : List ℕ → Fault → Type 0
+IsOfPicture file (fault.File path) = string_bytes path ≡ file
+IsOfPicture file (fault.Run f) = f ≡ run.NoMemory
+IsOfPicture file f = ⊥
+
+-- which fault ends the picture of a plan, by the paths of both: that of the plan for some text, or that of the picture
+abbrev pub EndsPicture : (A : Type 0) → List ℕ → List ℕ → Fault → Type 0
+EndsPicture A plan file f = ((text : List ℕ) × EndsPlan A plan text f) ⊎ IsOfPicture file f
+
+-- the picture that is asked for failed, or memory was refused
+abbrev pub IsOfShowing : Option (List ℕ) → Fault → Type 0
+IsOfShowing None f = f ≡ fault.Run run.NoMemory
+IsOfShowing (Some file) f = IsOfPicture file f
+
+-- which fault ends a run under a plan, by the path of its picture, where one is asked for
+abbrev pub EndsShown : {A : Type 0} → Plan A → List ℕ → List ℕ → Option (List ℕ) → Fault → Type 0
+EndsShown p input output None f = EndsSending p input output f
+EndsShown p input output (Some file) f = EndsSending p input output f ⊎ IsOfPicture file f
+
+-- which fault ends a run over files, by the path of its picture too: one of the run, or one of the picture
+abbrev pub EndsDrawn : (A : Type 0) → List ℕ → Option (List ℕ) → List ℕ → List ℕ → Option (List ℕ) → Fault → Type 0
+EndsDrawn A plan commands input output None f = EndsRun A plan commands input output f
+EndsDrawn A plan commands input output (Some file) f = EndsRun A plan commands input output f ⊎ IsOfPicture file f

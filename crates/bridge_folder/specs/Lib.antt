@@ -1,3 +1,5 @@
 pub mod Paths
 pub mod Flushed
 pub mod Files
+pub mod Taken
+pub mod Wiring

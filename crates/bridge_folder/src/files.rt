@@ -1,12 +1,14 @@
 //! The captures of a folder as files.
-ghost use Rattle.std.specs.Prelude.{◌≡◌, length, IfOk, IfErr};
-ghost use Rattle.bridge_folder.specs.Files.{IsOfCaptures};
+ghost use Rattle.std.specs.Prelude.{◌≡◌, length, IfOk, IfErr, string_bytes};
+ghost use Rattle.bridge_folder.specs.Files.{IsFile, IsOfCaptures};
+ghost use Rattle.bridge_folder.specs.Taken.{BeginWith};
 
+use crate::output::{FileId, Output, add_file, are_same, file_at, file_of, is_one_of, output_at};
 use crate::paths::capture_path;
 use bridge_lanes::RunFault;
-use bridge_program::Fault;
+use bridge_program::{Fault, NoMemory};
 use std::fs;
-use std::os::unix::fs::MetadataExt;
+use std::fs::OpenFile;
 use std::rt::Files;
 
 /// Opens the captures of ports in a folder, one after the other. The first that can't be opened is `File` of its path.
@@ -33,35 +35,61 @@ pub fn open_all<H: AllocGlobal + Files>(
     Ok(files)
 }
 
-/// Makes the captures of ports in a folder anew, one after the other. The first that can't be made is `File` of its path.
+/// Adds the files that are open to a list, where the system tells which they are. What stood in the list stays.
+pub fn add_files<F: OpenFile>(list: &mut Vec<FileId>, files: &[F]) -> Result<(), NoMemory>
+    ensures { BeginWith list.old.items list.new.items }
+{
+    for file in files {
+        let Ok(()) = add_file(list, file_of(file)) else {
+            return Err(NoMemory);
+        };
+    }
+    Ok(())
+}
+
+/// Opens the captures of ports in a folder to be written anew, one after the other. The first that can't be opened or
+/// made, or that is one of the files that are taken, is `File` of its path. What they hold stays until they are written.
 pub fn create_all<H: AllocGlobal + Files>(
     rt: &H,
     folder: &str,
     ports: &[u8],
-) -> Result<Vec<H::File>, Fault>
-    ensures all { IfOk result (λ files. length files.items ≡ length ports.now) }
+    taken: &[FileId],
+) -> Result<Vec<Output<H::File>>, Fault>
+    ensures all { IfOk result (λ outputs. length outputs.items ≡ length ports.now) }
     ensures only { IfErr result (IsOfCaptures folder.now ports.now) }
 {
-    let mut files = Vec::new(rt.alloc());
+    let mut outputs = Vec::new(rt.alloc());
     for port in ports {
         let Ok(path) = capture_path(rt.alloc(), folder, *port) else {
             return Err(Fault::Run(RunFault::NoMemory));
         };
-        let Ok(file) = fs::create(rt, path.as_str()) else {
-            return Err(Fault::File(path));
+        let output = match output_beside(rt, path, taken) {
+            Ok(output) => output,
+            Err(fault) => return Err(fault),
         };
-        if files.push(file).is_err() {
+        if outputs.push(output).is_err() {
             return Err(Fault::Run(RunFault::NoMemory));
         }
     }
-    Ok(files)
+    Ok(outputs)
+}
+
+/// Opens a file to be written anew. It is `File` of its path where it can't be opened or made, or is one of those taken.
+fn output_beside<H: AllocGlobal + Files>(
+    rt: &H,
+    path: String,
+    taken: &[FileId],
+) -> Result<Output<H::File>, Fault>
+    ensures { IfErr result (IsFile (string_bytes path)) }
+{
+    match output_at(rt, path.as_str()) {
+        Ok(output) if !is_one_of(taken, output.id()) => Ok(output),
+        _ => Err(Fault::File(path)),
+    }
 }
 
 /// Whether two paths lead to one folder, whatever they are called: to the same inode of the same device. Where one of them
 /// can't be looked at, they don't.
 pub fn is_same_folder(rt: &impl Files, one: &str, other: &str) -> bool {
-    match (fs::metadata(rt, one), fs::metadata(rt, other)) {
-        (Ok(one), Ok(other)) => one.dev() == other.dev() && one.ino() == other.ino(),
-        _ => false,
-    }
+    are_same(file_at(rt, one), file_at(rt, other))
 }

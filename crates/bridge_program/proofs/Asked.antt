@@ -1,10 +1,12 @@
 -- What the words of the command line ask for.
-use Rattle.std.proofs.Common.{◌≡◌, ◌∙◌, ℕ, List, [], Option, None, Some, option_map, sym, ap, subst, string_bytes, codes}
+use Rattle.std.proofs.Common.{◌≡◌, ◌∙◌, ℕ, List, [], Option, None, Some, option_map, sym, ap, subst, inl, inr, refl, string_bytes, codes}
 use Rattle.bridge_frame.specs.declared.Speed.{Speed}
-use Rattle.clap.specs.Words.{Row, Text, subcommand_of}
+use Rattle.clap.specs.Words.{Row, Text, fault_of, subcommand_of}
+use Rattle.clap.proofs.OnLiterals.{clap_on_literals}
 use Rattle.bridge_program.specs.declared.job.Job.{Job}
 use Rattle.bridge_program.specs.declared.job.Job.TheVariants as job
-use Rattle.bridge_program.specs.CommandLine.{AsksFor, AsksForCheck, AsksForRun, AsksForWire, commands}
+use Rattle.bridge_program.specs.CommandLine.{AsksFor, AsksForCheck, AsksForPicture, AsksForRun, AsksForWire, commands}
+use Rattle.bridge_program.specs.Helping.{IsHelp}
 
 -- the name of what was found stands before its values
 pub name_first : {X : Type 0} (f : X → Text) (g : X → List Row) (found : Option X) (name : Text) → option_map f found ≡ Some name → option_map (λ (p : Text × List Row). p.0) (option_map (λ b. (f b, g b)) found) ≡ Some name
@@ -27,14 +29,35 @@ pub asks_for_none : (words : List Text) (name : Text) (values : List Row) (found
     → (name ≡ codes "wire" → (speed : Speed) (room : ℕ) (input output : Text) → ¬ AsksForWire values speed room input output)
     → (name ≡ codes "check" → (plan : Text) → ¬ AsksForCheck values plan)
     → (name ≡ codes "run" → (plan input output : Text) (commands : Option Text) → ¬ AsksForRun values plan input output commands)
+    → (name ≡ codes "picture" → (plan file : Text) → ¬ AsksForPicture values plan file)
     → (asked : Job) → ¬ AsksFor words asked
-asks_for_none words name values found some same named rows wire check run job.Text asks = some asks
-asks_for_none words name values found some same named rows wire check run (job.Wire speed room input output) (own, names, asks) =
+asks_for_none words name values found some same named rows wire check run picture job.Text asks = some asks
+asks_for_none words name values found some same named rows wire check run picture (job.Wire speed room input output) (own, names, asks) =
     wire (named_so name found _ own named (same ∙ names.named)) speed room (string_bytes input) (string_bytes output)
     (subst (λ v. AsksForWire v speed room (string_bytes input) (string_bytes output)) (values_so values found _ own rows (same ∙ names.named)) asks)
-asks_for_none words name values found some same named rows wire check run (job.Check plan) (own, names, asks) =
+asks_for_none words name values found some same named rows wire check run picture (job.Check plan) (own, names, asks) =
     check (named_so name found _ own named (same ∙ names.named)) (string_bytes plan)
     (subst (λ v. AsksForCheck v (string_bytes plan)) (values_so values found _ own rows (same ∙ names.named)) asks)
-asks_for_none words name values found some same named rows wire check run (job.Run plan input output file) (own, names, asks) =
+asks_for_none words name values found some same named rows wire check run picture (job.Run plan input output file) (own, names, asks) =
     run (named_so name found _ own named (same ∙ names.named)) (string_bytes plan) (string_bytes input) (string_bytes output) (option_map string_bytes file)
     (subst (λ v. AsksForRun v (string_bytes plan) (string_bytes input) (string_bytes output) (option_map string_bytes file)) (values_so values found _ own rows (same ∙ names.named)) asks)
+asks_for_none words name values found some same named rows wire check run picture (job.Picture plan file) (own, names, asks) =
+    picture (named_so name found _ own named (same ∙ names.named)) (string_bytes plan) (string_bytes file)
+    (subst (λ v. AsksForPicture v (string_bytes plan) (string_bytes file)) (values_so values found _ own rows (same ∙ names.named)) asks)
+
+-- nothing is wrong with no words
+no_words : fault_of commands [] ≡ []
+unfolding clap_on_literals
+no_words = refl
+
+no_help : ¬ IsHelp []
+no_help (inl help) = help
+no_help (inr version) = version
+
+-- words that ask for help or for the version ask for no job
+pub no_job : (words : List Text) (asked : Job) → IsHelp (fault_of commands words) → ¬ AsksFor words asked
+no_job words job.Text help asks = no_help (subst IsHelp (ap (fault_of commands) asks ∙ no_words) help)
+no_job words (job.Wire speed room input output) help (own, names, asks) = no_help (subst IsHelp names.faultless help)
+no_job words (job.Check plan) help (own, names, asks) = no_help (subst IsHelp names.faultless help)
+no_job words (job.Run plan input output file) help (own, names, asks) = no_help (subst IsHelp names.faultless help)
+no_job words (job.Picture plan file) help (own, names, asks) = no_help (subst IsHelp names.faultless help)

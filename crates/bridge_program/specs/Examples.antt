@@ -1,9 +1,10 @@
 -- Words of the command line, computed.
-use Rattle.std.specs.Prelude.{◌≡◌, [], ◌∷◌, List, None, Some, codes, option_map, refl}
+use Rattle.std.specs.Prelude.{◌≡◌, [], ◌∷◌, List, None, Some, codes, false, option_map, refl, true}
 use Rattle.clap.specs.Words.{Text, fault_of, first_of, subcommand_of}
-use Rattle.clap.specs.declared.error.kind.ErrorKind.TheVariants.{ArgumentConflict, DisplayHelp, MissingRequiredArgument, UnknownArgument}
+use Rattle.clap.specs.declared.error.kind.ErrorKind.TheVariants.{ArgumentConflict, DisplayHelp, DisplayVersion, MissingRequiredArgument, UnknownArgument}
 use Rattle.clap.proofs.OnLiterals.{clap_on_literals}
 use Rattle.bridge_program.specs.CommandLine.{commands}
+use Rattle.bridge_program.specs.Helping.{explains}
 
 -- `wire 1000 4 a.pcap b.pcap`
 abbrev wire_words : List Text
@@ -110,6 +111,43 @@ pub commands_twice : fault_of commands (codes "run" ∷ codes "p" ∷ codes "i" 
 unfolding clap_on_literals
 commands_twice = refl
 
+-- `check --explain plan.toml`
+abbrev explained_words : List Text
+explained_words = codes "check" ∷ codes "--explain" ∷ codes "plan.toml" ∷ []
+
+-- nothing is wrong with these words
+pub explained_faultless : fault_of commands explained_words ≡ []
+unfolding clap_on_literals
+explained_faultless = refl
+
+-- the value goes by its name, as without the flag
+pub explained_plan : option_map (λ p. first_of (codes "plan") p.1) (subcommand_of commands explained_words) ≡ Some (Some (codes "plan.toml"))
+unfolding clap_on_literals
+explained_plan = refl
+
+-- `clap` has the flag, and among the words it is
+pub explained_flag : option_map (λ p. first_of (codes "explain") p.1) (subcommand_of commands explained_words) ≡ Some (Some (codes "true"))
+unfolding clap_on_literals
+explained_flag = refl
+
+pub explained_explains : explains explained_words ≡ true
+explained_explains = refl
+
+-- `check -- --explain` has a path, and no flag
+abbrev path_words : List Text
+path_words = codes "check" ∷ codes "--" ∷ codes "--explain" ∷ []
+
+pub path_plan : option_map (λ p. first_of (codes "plan") p.1) (subcommand_of commands path_words) ≡ Some (Some (codes "--explain"))
+unfolding clap_on_literals
+path_plan = refl
+
+pub path_flag : option_map (λ p. first_of (codes "explain") p.1) (subcommand_of commands path_words) ≡ Some (Some (codes "false"))
+unfolding clap_on_literals
+path_flag = refl
+
+pub path_explains : explains path_words ≡ false
+path_explains = refl
+
 -- a missing word, a word too many, a request for help or for a version
 pub one_missing : fault_of commands (codes "wire" ∷ codes "1000" ∷ codes "4" ∷ codes "a.pcap" ∷ []) ≡ MissingRequiredArgument ∷ []
 unfolding clap_on_literals
@@ -123,6 +161,15 @@ pub help_asked : fault_of commands (codes "--help" ∷ []) ≡ DisplayHelp ∷ [
 unfolding clap_on_literals
 help_asked = refl
 
-pub version_asked : fault_of commands (codes "--version" ∷ []) ≡ UnknownArgument ∷ []
+pub version_asked : fault_of commands (codes "--version" ∷ []) ≡ DisplayVersion ∷ []
 unfolding clap_on_literals
 version_asked = refl
+
+-- behind a command
+pub wire_help_asked : fault_of commands (codes "wire" ∷ codes "--help" ∷ []) ≡ DisplayHelp ∷ []
+unfolding clap_on_literals
+wire_help_asked = refl
+
+pub wire_version_asked : fault_of commands (codes "wire" ∷ codes "-V" ∷ []) ≡ DisplayVersion ∷ []
+unfolding clap_on_literals
+wire_version_asked = refl

@@ -1,5 +1,5 @@
 -- The jobs of the program: what each prints, and which fault ends it.
-use Rattle.std.specs.Prelude.{◌≡◌, ◌⊎◌, ℕ, List, Option, None, Some, Ok, Err}
+use Rattle.std.specs.Prelude.{◌≡◌, ◌⊎◌, ◌+◌, ℕ, List, Option, None, Some, Ok, Err}
 use Rattle.bridge_frame.specs.declared.Speed.{Speed}
 use Rattle.bridge_text.specs.Hex.{octets_spelled}
 use Rattle.bridge_text.specs.declared.fault.HexFault.TheVariants as hex
@@ -42,6 +42,10 @@ EndsText input f = IsOfStandardFile f
 -- the text is a capture, the writer has the capture of what left, and the line is that of the run
 abbrev pub PrintsCounts : Speed → ℕ → List ℕ → Option (List ℕ) → Option (List ℕ) → List ℕ → Type 0
 PrintsCounts speed room input old new line = (count : WireCount) × Wires speed room input old new count × (line ≡ counts_line count)
+
+-- the line of some run through one queue, whose counts add up
+abbrev pub IsCountsLine : List ℕ → Type 0
+IsCountsLine line = (count : WireCount) × (count.malformed + count.sent + count.full ≡ count.frames) × (line ≡ counts_line count)
 
 -- which fault ends a run over the text of a capture: its own, or the writer failed
 abbrev pub EndsWire : List ℕ → Fault → Type 0

@@ -4,7 +4,7 @@ ghost use Rattle.bridge_frame.specs.declared.Speed.{Speed};
 ghost use Rattle.bridge_lanes.specs.declared.fault.RunFault.{RunFault};
 ghost use Rattle.clap.specs.Words.{Text, first_of, found_of, kind_of, rows_of};
 ghost use Rattle.bridge_program.specs.declared.job.Job.{Job};
-ghost use Rattle.bridge_program.specs.CommandLine.{AsksFor, AsksForCheck, AsksForRun, AsksForWire, HasRoom, IsCheckJob, IsRunJob, IsWireJob, fault_of_kind};
+ghost use Rattle.bridge_program.specs.CommandLine.{AsksFor, AsksForCheck, AsksForPicture, AsksForRun, AsksForWire, HasRoom, IsCheckJob, IsPictureJob, IsRunJob, IsWireJob, fault_of_kind};
 
 use crate::command::matches_of;
 use crate::fault::Fault;
@@ -47,10 +47,18 @@ pub enum Job {
         /// The path of the commands that come to the bridge, if any do.
         commands: Option<String>,
     },
+    /// A picture of a plan.
+    Picture {
+        /// The path of the plan.
+        plan: String,
+        /// The path of the picture that is made.
+        file: String,
+    },
 }
 
 /// The job that the words after the program's name ask for: `Text` without words, `Wire` for `wire MBPS ROOM IN OUT`,
-/// `Check` for `check PLAN`, `Run` for `run PLAN IN OUT`, also with `--commands FILE` (once, wherever `clap` takes options).
+/// `Check` for `check PLAN`, `Run` for `run PLAN IN OUT`, also with `--commands FILE` (once, wherever `clap` takes options),
+/// `Picture` for `picture PLAN FILE`.
 ///
 /// MBPS is 10, 100, 1000, 2500 or 10000 and ROOM is 1 to 4096, both as decimal digits alone. `Words` for all other words,
 /// also for a request for help or for a version, and `Run` with `NoMemory` where a growth was refused.
@@ -70,7 +78,10 @@ pub fn job_of(alloc: Global, words: &[String]) -> Result<Job, Fault>
                 Some(values) => check_job(alloc, values),
                 None => match matches.subcommand_matches("run") {
                     Some(values) => run_job(alloc, values),
-                    None => Err(Fault::Words),
+                    None => match matches.subcommand_matches("picture") {
+                        Some(values) => picture_job(alloc, values),
+                        None => Err(Fault::Words),
+                    },
                 },
             },
         },
@@ -158,15 +169,33 @@ fn run_job(alloc: Global, values: &ArgMatches) -> Result<Job, Fault>
     })
 }
 
+/// The job of a `picture` command with these values.
+fn picture_job(alloc: Global, values: &ArgMatches) -> Result<Job, Fault>
+    ensures ok { IfOk result (IsPictureJob (rows_of (found_of values.now))) }
+    ensures room { IfOk result HasRoom }
+    ensures words { result ≡ Err Fault.Words → (plan file : Text) → ¬ AsksForPicture (rows_of (found_of values.now)) plan file }
+    ensures only { IfErr result (λ fault. (fault ≡ Fault.Words) ⊎ (fault ≡ Fault.Run RunFault.NoMemory)) }
+{
+    let Some(path) = value_of(values, "plan") else {
+        return Err(Fault::Words);
+    };
+    let Some(to_file) = value_of(values, "file") else {
+        return Err(Fault::Words);
+    };
+    let plan = String::from_str(alloc, path)?;
+    let file = String::from_str(alloc, to_file)?;
+    Ok(Job::Picture { plan, file })
+}
+
 /// The value of a command by its name.
-fn value_of<'a>(values: &ArgMatches<'a>, name: &str) -> Option<&'a str>
+pub(crate) fn value_of<'a>(values: &ArgMatches<'a>, name: &str) -> Option<&'a str>
     ensures { option_map (λ s. s.now) result ≡ first_of name.now (rows_of (found_of values.now)) }
 {
     values.get_str(name)
 }
 
 /// The fault of words that `clap` refuses.
-fn fault_of(error: &Error) -> Fault
+pub(crate) fn fault_of(error: &Error) -> Fault
     ensures { result ≡ fault_of_kind (kind_of error.now) }
 {
     match error.kind() {

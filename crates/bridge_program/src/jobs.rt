@@ -1,7 +1,7 @@
 //! The jobs, from what is read to what is printed.
 ghost use Rattle.std.specs.Prelude.{◌≡◌, ◌≤◌, ℕ, List, Some, Ok, IfOk, IfErr, string_bytes};
 ghost use Rattle.bridge_config.specs.Document.{plan_of_text};
-ghost use Rattle.bridge_program.specs.Jobs.{Accepts, EndsCheck, EndsPlan, EndsText, EndsWire, IsOfRun, PrintsAccepted, PrintsCounts, PrintsText};
+ghost use Rattle.bridge_program.specs.Jobs.{Accepts, EndsCheck, EndsPlan, EndsText, EndsWire, IsCountsLine, IsOfRun, PrintsAccepted, PrintsCounts, PrintsText};
 ghost use Rattle.bridge_program.specs.Reading.{IsOfFile, IsOfStandardFile};
 
 use crate::accepting::{check_line, checked};
@@ -51,6 +51,7 @@ pub fn wire_job<R: Read + Drop, W: Write + Drop>(
     requires room { (1 ≤ room) × (room ≤ LARGEST_ROOM) }
     ensures ok { (input : List ℕ) → R.remaining reader ≡ Some input →
         IfOk result (λ done. PrintsCounts speed room input (W.contents writer) (W.contents done.1) (string_bytes done.0)) }
+    ensures line { IfOk result (λ done. IsCountsLine (string_bytes done.0)) }
     ensures err { (input : List ℕ) → R.remaining reader ≡ Some input → IfErr result (EndsWire input) }
     ensures one { IfErr result IsOfRun }
 {

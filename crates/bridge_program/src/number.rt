@@ -3,8 +3,9 @@ ghost use Rattle.std.specs.Prelude.{◌≡◌, ◌<◌, ◌^◌, MatchOption};
 ghost use Rattle.std.specs.Option.{SomeIff};
 ghost use Rattle.std.specs.Str.Parse.{IsNumeral, digits_value};
 ghost use Rattle.bridge_frame.specs.declared.Speed.{Speed};
-ghost use Rattle.bridge_program.specs.Numbers.{IsRoom, IsSpeed};
+ghost use Rattle.bridge_program.specs.Numbers.{IsMoment, IsRoom, IsSpeed};
 
+use bridge_base::END_OF_TIME;
 use bridge_frame::Speed;
 use bridge_port::LARGEST_ROOM;
 
@@ -42,5 +43,18 @@ pub fn speed_of(word: &str) -> Option<Speed>
     match number_of(word) {
         Some(number) => Speed::of(number),
         None => None,
+    }
+}
+
+/// The moment that a word gives, in ns: decimal digits alone, below 4 * 10^18.
+pub fn moment_of(word: &str) -> Option<u64>
+    ensures { SomeIff result (IsMoment word.now) (digits_value 10 word.now) }
+{
+    if word.as_bytes().first() == Some(&b'+') {
+        return None;
+    }
+    match word.parse::<u64>() {
+        Ok(moment) if moment < END_OF_TIME => Some(moment),
+        _ => None,
     }
 }

@@ -8,6 +8,12 @@ mod command;
 #[cfg(test)]
 mod commanded;
 #[cfg(test)]
+mod flag;
+#[cfg(test)]
+mod help;
+#[cfg(test)]
 mod must;
 #[cfg(test)]
 mod program;
+#[cfg(test)]
+mod sketch;

@@ -1,10 +1,13 @@
 #![tactic(auto)]
-//! `run` over a folder of captures, then what it wrote: the octets of each capture, and the report.
+//! `run` over a folder of captures, then what it wrote: the octets of each capture, and the report; then runs that are
+//! refused, over files that are to keep what they hold.
+
+mod kept;
 
 use bridge_folder::{capture_path, report_path, run_job};
-use bridge_program::{Fault, Job, end, job_of, print, read_at_most, words_of};
+use bridge_program::{Fault, Job, end, job_of, print, words_of};
 use bridge_text::lines_of;
-use std::fs;
+use kept::{octets_of, print_kept};
 use std::process::ExitCode;
 use std::rt::{Env, Files};
 
@@ -36,7 +39,8 @@ fn run(rt: &(impl AllocGlobal + Print + Env + Files)) -> Result<(), Fault> {
     for port in PORTS {
         print_capture(rt, folder.as_str(), port)?;
     }
-    print_report(rt, folder.as_str())
+    print_report(rt, folder.as_str())?;
+    print_kept(rt)
 }
 
 /// Prints the octets of the capture that a port wrote.
@@ -48,7 +52,7 @@ fn print_capture(
     let Ok(path) = capture_path(rt.alloc(), folder, port) else {
         return Err(Fault::Words);
     };
-    let octets = written(rt, path)?;
+    let octets = octets_of(rt, path.as_str())?;
     match lines_of(rt.alloc(), &octets) {
         Ok(lines) => print(rt, lines.as_str()),
         Err(_) => Err(Fault::Words),
@@ -60,20 +64,9 @@ fn print_report(rt: &(impl AllocGlobal + Print + Files), folder: &str) -> Result
     let Ok(path) = report_path(rt.alloc(), folder) else {
         return Err(Fault::Words);
     };
-    let report = written(rt, path)?;
+    let report = octets_of(rt, path.as_str())?;
     match String::from_utf8(report) {
         Ok(text) => print(rt, text.as_str()),
         Err(_) => Err(Fault::Words),
-    }
-}
-
-/// The octets of a file.
-fn written(rt: &(impl AllocGlobal + Files), path: String) -> Result<Vec<u8>, Fault> {
-    let Ok(reader) = fs::open(rt, path.as_str()) else {
-        return Err(Fault::File(path));
-    };
-    match read_at_most(rt.alloc(), reader, u64::MAX) {
-        Ok(octets) => Ok(octets),
-        Err(_) => Err(Fault::File(path)),
     }
 }

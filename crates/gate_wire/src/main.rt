@@ -1,8 +1,14 @@
 #![tactic(auto)]
-//! `wire` over two files, then the octets of the one that it wrote.
+//! `wire` over two files, then the octets of the one that it wrote; then the same from standard input and to standard
+//! output, and over files that are to keep what they hold.
 
-use bridge_program::{Fault, Job, end, job_of, print, read_at_most, wire_job, words_of};
+mod kept;
+
+use bridge_folder::{Said, say, wire_files, wire_over};
+use bridge_frame::Speed;
+use bridge_program::{Fault, Job, end, job_of, print, words_of};
 use bridge_text::lines_of;
+use kept::{octets_of, print_refused};
 use std::fs;
 use std::process::ExitCode;
 use std::rt::{Env, Files};
@@ -14,8 +20,8 @@ fn main(rt: HostRuntime) -> ExitCode {
     }
 }
 
-/// Does the job, and prints the lines of what was written.
-fn run(rt: &(impl AllocGlobal + Print + Env + Files)) -> Result<(), Fault> {
+/// Does the job, prints the lines of what was written, and then goes through the other rows.
+fn run(rt: &(impl Input + AllocGlobal + Print + Eprint + Env + Files)) -> Result<(), Fault> {
     let words = words_of(rt)?;
     let Job::Wire {
         speed,
@@ -26,22 +32,51 @@ fn run(rt: &(impl AllocGlobal + Print + Env + Files)) -> Result<(), Fault> {
     else {
         return Err(Fault::Words);
     };
-    let Ok(reader) = fs::open(rt, input.as_str()) else {
-        return Err(Fault::File(input));
+    let written = String::from_str(rt.alloc(), output.as_str())?;
+    let said = wire_files(rt, speed, room, input, output)?;
+    say(rt, &said)?;
+    print_lines(rt, &octets_of(rt, written.as_str())?)?;
+    print_piped(rt)?;
+    print_beside(rt)?;
+    print_refused(rt)
+}
+
+/// From standard input into a file that held something longer.
+fn print_piped(rt: &(impl Input + AllocGlobal + Print + Eprint + Files)) -> Result<(), Fault> {
+    print(rt, "from standard input\n")?;
+    let input = String::from_str(rt.alloc(), "-")?;
+    let output = String::from_str(rt.alloc(), "long.txt")?;
+    let said = wire_files(rt, Speed::Mbps1000, 4, input, output)?;
+    say(rt, &said)?;
+    print_lines(rt, &octets_of(rt, "long.txt")?)
+}
+
+/// What is said where the capture goes to standard output, with a writer in its place.
+fn print_beside(rt: &(impl AllocGlobal + Print + Files)) -> Result<(), Fault> {
+    print(rt, "to standard output\n")?;
+    let Ok(reader) = fs::open(rt, "in.pcap") else {
+        return Err(Fault::Words);
     };
-    let Ok(writer) = fs::create(rt, output.as_str()) else {
-        return Err(Fault::File(output));
-    };
-    let (line, _) = wire_job(rt.alloc(), speed, room, reader, writer)?;
-    print(rt, line.as_str())?;
-    let Ok(written) = fs::open(rt, output.as_str()) else {
-        return Err(Fault::File(output));
-    };
-    let Ok(octets) = read_at_most(rt.alloc(), written, u64::MAX) else {
-        return Err(Fault::File(output));
-    };
-    let Ok(lines) = lines_of(rt.alloc(), &octets) else {
-        return Err(Fault::File(output));
-    };
-    print(rt, lines.as_str())
+    let output = String::from_str(rt.alloc(), "-")?;
+    let writer = Vec::new(rt.alloc());
+    let (said, octets) = wire_over(rt.alloc(), Speed::Mbps1000, 4, reader, writer, output)?;
+    match &said {
+        Said::Printed(_) => Err(Fault::Words),
+        Said::Noted(line) => print_noted(rt, line.as_str(), &octets),
+    }
+}
+
+/// Prints a line that is noted, and the octets of the capture beside it.
+fn print_noted(rt: &(impl AllocGlobal + Print), line: &str, octets: &[u8]) -> Result<(), Fault> {
+    print(rt, "noted ")?;
+    print(rt, line)?;
+    print_lines(rt, octets)
+}
+
+/// Prints the octets of a capture.
+fn print_lines(rt: &(impl AllocGlobal + Print), octets: &[u8]) -> Result<(), Fault> {
+    match lines_of(rt.alloc(), octets) {
+        Ok(lines) => print(rt, lines.as_str()),
+        Err(_) => Err(Fault::Words),
+    }
 }

@@ -2,8 +2,11 @@
 //! The program: it reads its job, does it, and ends with the status and the line of the first fault.
 ghost use Rattle.bridge_program.specs.CommandLine.{HasRoom};
 
-use bridge_folder::run_job;
-use bridge_program::{Fault, Job, check_job, end, job_of, print, text_job, wire_job, words_of};
+use bridge_folder::{Said, drawn_job, explain, explain_accepted, picture_job, say, wire_files};
+use bridge_program::{
+    Fault, Job, Sketch, check_job, end, help_of, job_of, print, sketch_of, text_job,
+    wants_explanation, words_of,
+};
 use std::fs;
 use std::process::ExitCode;
 use std::rt::{Env, Files};
@@ -11,46 +14,70 @@ use std::rt::{Env, Files};
 fn main(rt: HostRuntime) -> ExitCode {
     match run(&rt) {
         Ok(()) => ExitCode::from(0),
-        Err(fault) => end(&rt, &fault),
+        Err(fault) => {
+            let code = end(&rt, &fault);
+            explain_if_asked(&rt, &fault);
+            code
+        }
     }
 }
 
-/// Does the job that the words ask for, and prints what it says.
-fn run(rt: &(impl Input + AllocGlobal + Print + Env + Files)) -> Result<(), Fault> {
-    let words = words_of(rt)?;
-    let line = line_of(rt, job_of(rt.alloc(), &words)?)?;
-    print(rt, line.as_str())
+/// Tells more of a fault, where the words ask for it.
+fn explain_if_asked(rt: &(impl AllocGlobal + Eprint + Env + Files), fault: &Fault) {
+    if let Ok(words) = words_of(rt) {
+        if wants_explanation(&words) {
+            explain(rt, &words, fault);
+        }
+    }
 }
 
-/// What a job says, over standard input or the files that it names.
-fn line_of(rt: &(impl Input + AllocGlobal + Files), job: Job) -> Result<String, Fault>
+/// Prints the help that the words ask for, or does their job and says what it says.
+fn run(rt: &(impl Input + AllocGlobal + Print + Eprint + Env + Files)) -> Result<(), Fault> {
+    let words = words_of(rt)?;
+    if let Some(text) = help_of(rt.alloc(), &words)? {
+        return print(rt, text.as_str());
+    }
+    let job = job_of(rt.alloc(), &words)?;
+    let sketch = sketch_of(rt.alloc(), &words)?;
+    if let Some(said) = said_of(rt, job, sketch)? {
+        say(rt, &said)?;
+    }
+    if wants_explanation(&words) {
+        explain_accepted(rt, &words);
+    }
+    Ok(())
+}
+
+/// What a job says, over standard input and output or the files that it names, where it says something; a run with the
+/// picture that is asked for beside it.
+fn said_of(
+    rt: &(impl Input + AllocGlobal + Print + Files),
+    job: Job,
+    sketch: Option<Sketch>,
+) -> Result<Option<Said>, Fault>
     requires { HasRoom job }
 {
-    match job {
-        Job::Text => text_job(rt.alloc(), rt.reader()),
+    let line = match job {
+        Job::Text => text_job(rt.alloc(), rt.reader())?,
         Job::Wire {
             speed,
             room,
             input,
             output,
-        } => {
-            let Ok(reader) = fs::open(rt, input.as_str()) else {
-                return Err(Fault::File(input));
-            };
-            let Ok(writer) = fs::create(rt, output.as_str()) else {
-                return Err(Fault::File(output));
-            };
-            let (line, _) = wire_job(rt.alloc(), speed, room, reader, writer)?;
-            Ok(line)
-        }
-        Job::Check { plan } => check(rt, plan),
+        } => return Ok(Some(wire_files(rt, speed, room, input, output)?)),
+        Job::Check { plan } => check(rt, plan)?,
         Job::Run {
             plan,
             input,
             output,
             commands,
-        } => run_job(rt, plan, input, output, commands),
-    }
+        } => drawn_job(rt, plan, input, output, commands, sketch)?,
+        Job::Picture { plan, file } => {
+            picture_job(rt, plan, file)?;
+            return Ok(None);
+        }
+    };
+    Ok(Some(Said::Printed(line)))
 }
 
 /// What is printed for the plan of a file.

@@ -1,0 +1,58 @@
+//! Why a file can't be opened, made, read or written.
+ghost use Rattle.std.specs.Prelude.{IfOk, string_bytes};
+ghost use Rattle.bridge_explain.specs.Said.{BeginsWith};
+
+use crate::text::of_file;
+use std::alloc::{AllocError, Global};
+
+/// What is found of a file that can't be opened, made, read or written.
+#[derive(Clone, Copy, Debug, PartialEq, Eq)]
+pub enum Cause {
+    /// There is no file of this name.
+    NotFound,
+    /// The folder in which it should lie isn't there.
+    NoFolder,
+    /// It is a folder.
+    Folder,
+    /// What should be its folder is a file.
+    NoFolderButFile,
+    /// The user may not read it.
+    NotReadable,
+    /// The user may not make or write it.
+    NotWritable,
+    /// It is the folder of the captures that are read.
+    SameFolder,
+    /// The job reads this file, or writes it for something else.
+    Taken,
+    /// Standard input or output.
+    Standard,
+    /// Nothing is found.
+    Unknown,
+}
+
+/// Why a file can't be opened, made, read or written, by what was found of it. It begins with the path of the file.
+pub fn explain_file(alloc: Global, path: &str, cause: Cause) -> Result<String, AllocError>
+    ensures { IfOk result (λ said. BeginsWith path.now (string_bytes said)) }
+{
+    of_file(alloc, path, sentence_of(cause))
+}
+
+/// What is said of a cause.
+fn sentence_of(cause: Cause) -> &'static str {
+    match cause {
+        Cause::NotFound =>
+            ": there is no such file. See the spelling, and the folder from which the program is called.\n",
+        Cause::NoFolder => ": the folder in which it should lie is not there. Make it first.\n",
+        Cause::Folder => ": it is a folder, and a file is wanted.\n",
+        Cause::NoFolderButFile => ": what should be its folder is a file.\n",
+        Cause::NotReadable => ": there is no permission to read it.\n",
+        Cause::NotWritable => ": there is no permission to write it, or no room.\n",
+        Cause::SameFolder => {
+            ": it is the folder of the captures that are read, which would be overwritten. Name another folder.\n"
+        }
+        Cause::Taken =>
+            ": the job reads this file, or writes something else into it, which would be lost. Name another one.\n",
+        Cause::Standard => ": standard input or output can't be read or written.\n",
+        Cause::Unknown => ": the system gives no reason that is known here.\n",
+    }
+}

@@ -1,0 +1,34 @@
+#![tactic(auto)]
+//! What a planner is told beside the line of a fault: where it is, what was found there, what may stand there and what to
+//! change; and of a plan that is accepted where its protected frames wait, and what of it is of no use.
+
+mod allowed;
+mod capture;
+mod check;
+mod document;
+mod duplicates;
+mod entries;
+mod faults;
+mod file;
+mod found;
+mod keys;
+mod nearest;
+mod plan;
+mod position;
+mod run;
+mod strays;
+mod text;
+mod useless;
+mod value;
+mod warn;
+mod windows;
+mod words;
+
+pub use capture::explain_capture;
+pub use check::explain_check;
+pub use file::{Cause, explain_file};
+pub use nearest::{Named, nearest_name};
+pub use plan::{explain_commands, explain_plan};
+pub use run::{explain_run, explain_text};
+pub use warn::warn_of_plan;
+pub use words::explain_words;

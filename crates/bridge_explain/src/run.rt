@@ -1,0 +1,45 @@
+//! Why a run stopped, or a text was not run.
+ghost use Rattle.std.specs.Prelude.{IfOk, codes, string_bytes};
+ghost use Rattle.bridge_explain.specs.Said.{BeginsWith};
+
+use crate::capture::explain_capture;
+use crate::text::of_file;
+use bridge_capture::CaptureFault;
+use bridge_lanes::RunFault;
+use bridge_program::TextFault;
+use std::alloc::{AllocError, Global};
+
+/// Why a run stopped, by the path of the capture and its first octets. It begins with the path.
+pub fn explain_run(
+    alloc: Global,
+    path: &str,
+    octets: &[u8],
+    fault: &RunFault,
+) -> Result<String, AllocError>
+    ensures { IfOk result (λ said. BeginsWith path.now (string_bytes said)) }
+{
+    match fault {
+        RunFault::Capture { fault, .. } => explain_capture(alloc, path, octets, fault),
+        RunFault::Write { .. } => explain_capture(alloc, path, octets, &CaptureFault::Write),
+        RunFault::NoMemory => of_file(alloc, path, ": there is not enough memory for the run.\n"),
+    }
+}
+
+/// Why a text of standard input was not run. It begins with `-`, which stands for standard input.
+pub fn explain_text(alloc: Global, fault: &TextFault) -> Result<String, AllocError>
+    ensures { IfOk result (λ said. BeginsWith (codes "-") (string_bytes said)) }
+{
+    match fault {
+        TextFault::NotHex => of_file(
+            alloc,
+            "-",
+            ": standard input must be hexadecimal digits in pairs, with blanks between pairs alone. The commands take files: check, run, wire.\n",
+        ),
+        TextFault::TooLong => of_file(
+            alloc,
+            "-",
+            ": standard input may have at most 4194304 characters and 1048576 pairs of digits. Send a capture file: wire MBPS ROOM IN OUT.\n",
+        ),
+        TextFault::Run(fault) => explain_run(alloc, "-", &[], fault),
+    }
+}

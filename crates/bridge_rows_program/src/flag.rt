@@ -1,0 +1,146 @@
+//! The flag `--explain`: which words have it, and that it changes no job.
+use crate::must::must;
+use bridge_program::{Fault, job_of, wants_explanation};
+use std::alloc::{AllocError, Global};
+use std::process::Abort;
+use std::test::Fail;
+
+/// Words with the flag, and the same words without it.
+type Pair = (&'static [&'static str], &'static [&'static str]);
+
+const FLAGGED: &[Pair] = &[
+    (&["check", "PLAN", "--explain"], &["check", "PLAN"]),
+    (&["check", "--explain", "PLAN"], &["check", "PLAN"]),
+    (
+        &["check", "--explain", "--", "-PLAN"],
+        &["check", "--", "-PLAN"],
+    ),
+    (
+        &["wire", "10", "1", "--explain", "IN", "OUT"],
+        &["wire", "10", "1", "IN", "OUT"],
+    ),
+    (
+        &["run", "PLAN", "IN", "OUT", "--explain"],
+        &["run", "PLAN", "IN", "OUT"],
+    ),
+    (
+        &[
+            "run",
+            "--explain",
+            "PLAN",
+            "IN",
+            "--commands",
+            "FILE",
+            "OUT",
+        ],
+        &["run", "PLAN", "IN", "--commands", "FILE", "OUT"],
+    ),
+];
+
+/// Words without the flag that give a job.
+const PLAIN: &[&[&str]] = &[
+    &["check", "explain"],
+    &["check", "--", "--explain"],
+    &["wire", "10", "1", "IN", "--", "--explain"],
+    &["run", "PLAN", "IN", "OUT", "--commands=--explain"],
+    &["run", "PLAN", "IN", "--", "--explain"],
+];
+
+/// Words that are refused, whether they have the flag or not.
+const REFUSED: &[&[&str]] = &[
+    &["--explain"],
+    &["--explain", "check", "PLAN"],
+    &["check", "--explain"],
+    &["check", "PLAN", "--explain", "--explain"],
+    &["check", "PLAN", "--explain=yes"],
+    &["check", "PLAN", "--explained"],
+    &["check", "PLAN", "-e"],
+    &["run", "PLAN", "IN", "OUT", "--commands", "--explain"],
+];
+
+/// The words of a command line.
+fn owned_of(alloc: Global, line: &[&str]) -> Result<Vec<String>, AllocError> {
+    let mut words = Vec::new(alloc);
+    for word in line {
+        words.push(String::from_str(alloc, word)?)?;
+    }
+    Ok(words)
+}
+
+/// The job of these words, written out.
+fn told(alloc: Global, words: &[String]) -> Result<String, Fail> {
+    match job_of(alloc, words) {
+        Ok(job) => Ok(format!(in alloc; "{job:?}")?),
+        Err(_) => Err(Fail::from("words that are refused")),
+    }
+}
+
+/// Whether the first words have the flag, the second ones don't, and both ask for one job.
+fn is_flagged(alloc: Global, pair: &Pair) -> Result<bool, Fail> {
+    let with = owned_of(alloc, pair.0)?;
+    let without = owned_of(alloc, pair.1)?;
+    let one = told(alloc, &with)?;
+    let other = told(alloc, &without)?;
+    let differ = wants_explanation(&with) && !wants_explanation(&without);
+    Ok(differ && one.as_str() == other.as_str())
+}
+
+/// Tests each pair.
+fn each_is_flagged(rt: &impl Abort, alloc: Global) -> Result<(), Fail> {
+    let mut number = 0;
+    for pair in FLAGGED {
+        let holds = is_flagged(alloc, pair)?;
+        must(rt, holds, "pair", number);
+        number = number.saturating_add(1);
+    }
+    Ok(())
+}
+
+#[test]
+fn the_flag_changes_no_job(rt: HostRuntime) -> Result<(), Fail> {
+    each_is_flagged(&rt, rt.alloc())
+}
+
+/// Whether the words ask for a job, and don't have the flag.
+fn is_plain(alloc: Global, line: &[&str]) -> Result<bool, Fail> {
+    let words = owned_of(alloc, line)?;
+    Ok(job_of(alloc, &words).is_ok() && !wants_explanation(&words))
+}
+
+/// Tests each row of words that don't have the flag.
+fn each_is_plain(rt: &impl Abort, alloc: Global) -> Result<(), Fail> {
+    let mut number = 0;
+    for line in PLAIN {
+        let holds = is_plain(alloc, line)?;
+        must(rt, holds, "words", number);
+        number = number.saturating_add(1);
+    }
+    Ok(())
+}
+
+#[test]
+fn a_path_is_no_flag(rt: HostRuntime) -> Result<(), Fail> {
+    each_is_plain(&rt, rt.alloc())
+}
+
+/// Whether the words are refused.
+fn is_refused(alloc: Global, line: &[&str]) -> Result<bool, Fail> {
+    let words = owned_of(alloc, line)?;
+    Ok(matches!(job_of(alloc, &words), Err(Fault::Words)))
+}
+
+/// Tests each row of words that are refused.
+fn each_is_refused(rt: &impl Abort, alloc: Global) -> Result<(), Fail> {
+    let mut number = 0;
+    for line in REFUSED {
+        let holds = is_refused(alloc, line)?;
+        must(rt, holds, "words", number);
+        number = number.saturating_add(1);
+    }
+    Ok(())
+}
+
+#[test]
+fn the_flag_stands_behind_a_command_once(rt: HostRuntime) -> Result<(), Fail> {
+    each_is_refused(&rt, rt.alloc())
+}

@@ -1,0 +1,145 @@
+//! Words that ask for a picture, of a plan or of a run.
+use crate::must::must;
+use bridge_program::{Fault, job_of, sketch_of};
+use std::alloc::{AllocError, Global};
+use std::process::Abort;
+use std::test::Fail;
+
+/// Words, and the picture that they ask for beside their job, written out.
+type Row = (&'static [&'static str], &'static str);
+
+const ASKED: &[Row] = &[
+    (
+        &["run", "PLAN", "IN", "OUT", "--picture", "FILE"],
+        "Some(Sketch { file: \"FILE\", from: None, to: None })",
+    ),
+    (
+        &["run", "--picture=a b", "--from", "7", "PLAN", "IN", "OUT"],
+        "Some(Sketch { file: \"a b\", from: Some(7), to: None })",
+    ),
+    (
+        &[
+            "run",
+            "PLAN",
+            "IN",
+            "OUT",
+            "--to=3999999999999999999",
+            "--picture",
+            "FILE",
+            "--from",
+            "0",
+            "--commands",
+            "C",
+        ],
+        "Some(Sketch { file: \"FILE\", from: Some(0), to: Some(3999999999999999999) })",
+    ),
+    (&["run", "PLAN", "IN", "OUT"], "None"),
+    (&["run", "PLAN", "IN", "OUT", "--commands", "C"], "None"),
+    (&["picture", "PLAN", "FILE"], "None"),
+    (&["check", "PLAN"], "None"),
+    (&["wire", "10", "1", "IN", "OUT"], "None"),
+];
+
+const REFUSED: &[&[&str]] = &[
+    &["run", "PLAN", "IN", "OUT", "--from", "7"],
+    &["run", "PLAN", "IN", "OUT", "--to", "7"],
+    &["run", "PLAN", "IN", "OUT", "--picture"],
+    &[
+        "run",
+        "PLAN",
+        "IN",
+        "OUT",
+        "--picture",
+        "P",
+        "--picture",
+        "Q",
+    ],
+    &["run", "PLAN", "IN", "OUT", "--picture", "P", "--from", "x"],
+    &["run", "PLAN", "IN", "OUT", "--picture", "P", "--from", "+7"],
+    &["run", "PLAN", "IN", "OUT", "--picture", "P", "--from", ""],
+    &[
+        "run",
+        "PLAN",
+        "IN",
+        "OUT",
+        "--picture",
+        "P",
+        "--to",
+        "4000000000000000000",
+    ],
+    &[
+        "run",
+        "PLAN",
+        "IN",
+        "OUT",
+        "--picture",
+        "P",
+        "--from",
+        "7",
+        "--to",
+        "7",
+    ],
+    &["check", "PLAN", "--picture", "P"],
+    &["picture", "PLAN"],
+    &["picture", "PLAN", "FILE", "MORE"],
+];
+
+/// The words of a command line.
+fn owned_of(alloc: Global, line: &[&str]) -> Result<Vec<String>, AllocError> {
+    let mut words = Vec::new(alloc);
+    for word in line {
+        words.push(String::from_str(alloc, word)?)?;
+    }
+    Ok(words)
+}
+
+/// Whether these words ask for the picture that is wanted.
+fn asks(alloc: Global, row: &Row) -> Result<bool, Fail> {
+    let words = owned_of(alloc, row.0)?;
+    match sketch_of(alloc, &words) {
+        Ok(sketch) => {
+            let told = format!(in alloc; "{sketch:?}")?;
+            Ok(told.as_str() == row.1)
+        }
+        Err(_) => Err(Fail::from("words that are refused")),
+    }
+}
+
+/// Whether these words are refused.
+fn is_refused(alloc: Global, line: &[&str]) -> Result<bool, Fail> {
+    let words = owned_of(alloc, line)?;
+    Ok(matches!(sketch_of(alloc, &words), Err(Fault::Words)))
+}
+
+#[test]
+fn words_ask_for_a_picture_of_a_run(rt: HostRuntime) -> Result<(), Fail> {
+    let mut number = 0;
+    for row in ASKED {
+        must(&rt, asks(rt.alloc(), row)?, "row", number);
+        number = number.saturating_add(1);
+    }
+    Ok(())
+}
+
+#[test]
+fn other_words_are_refused(rt: HostRuntime) -> Result<(), Fail> {
+    let mut number = 0;
+    for line in REFUSED {
+        must(&rt, is_refused(rt.alloc(), line)?, "row", number);
+        number = number.saturating_add(1);
+    }
+    Ok(())
+}
+
+#[test]
+fn words_ask_for_a_picture_of_a_plan(rt: HostRuntime) -> Result<(), Fail> {
+    let words = owned_of(rt.alloc(), &["picture", "a b/PLAN", "./FILE"])?;
+    match job_of(rt.alloc(), &words) {
+        Ok(job) => {
+            let told = format!(in rt.alloc(); "{job:?}")?;
+            assert!(rt; told.as_str() == "Picture { plan: \"a b/PLAN\", file: \"./FILE\" }");
+            Ok(())
+        }
+        Err(_) => Err(Fail::from("no picture of a plan")),
+    }
+}

@@ -1,0 +1,138 @@
+//! A case of a file, and what is told of it.
+
+use bridge_check::{CheckFault, check};
+use bridge_config::{Plan, commands_of, plan_of};
+use bridge_explain::{
+    explain_check, explain_commands, explain_plan, explain_run, explain_text, explain_words,
+    warn_of_plan,
+};
+use bridge_program::{Fault, TextFault, fault_line, job_of, wire_text};
+use bridge_text::octets_of;
+use std::alloc::{AllocError, Global};
+
+/// The first line of a case.
+pub fn heading_of(part: &str) -> &str {
+    match part.split_once('\n') {
+        Some((heading, _)) => heading,
+        None => part,
+    }
+}
+
+/// The lines of a case below its heading.
+fn lines_of(part: &str) -> &str {
+    match part.split_once('\n') {
+        Some((_, lines)) => lines,
+        None => "",
+    }
+}
+
+/// What is told of a case: by the first word of its heading its lines are a plan, commands to the bridge of a plan, the
+/// hexadecimal text of a capture, or words of the command line.
+pub fn told(alloc: Global, plan: &str, part: &str) -> Result<String, AllocError> {
+    let lines = lines_of(part);
+    if part.starts_with("plan") {
+        told_of_plan(alloc, lines)
+    } else if part.starts_with("commands") {
+        told_of_commands(alloc, lines, plan)
+    } else if part.starts_with("capture") {
+        told_of_capture(alloc, lines)
+    } else if part.starts_with("words") {
+        told_of_words(alloc, lines)
+    } else {
+        String::from_str(alloc, "no case\n")
+    }
+}
+
+/// The line of a fault, and what is told beside it.
+pub fn with_line(alloc: Global, fault: &Fault, said: &str) -> Result<String, AllocError> {
+    match fault_line(alloc, fault) {
+        Ok((line, _)) => format!(in alloc; "{line}\n{said}"),
+        Err(_) => Err(AllocError),
+    }
+}
+
+/// What is told of the text of a plan.
+fn told_of_plan(alloc: Global, text: &str) -> Result<String, AllocError> {
+    match plan_of(alloc, alloc, text.as_bytes()) {
+        Ok(plan) => told_of_check(alloc, plan),
+        Err(fault) => {
+            let said = explain_plan(alloc, "plan.toml", text.as_bytes(), &fault)?;
+            with_line(alloc, &Fault::Plan(fault), said.as_str())
+        }
+    }
+}
+
+/// What is told of a plan.
+fn told_of_check(alloc: Global, plan: Plan<Global>) -> Result<String, AllocError> {
+    match check(alloc, plan) {
+        Ok(accepted) => told_of_accepted(alloc, accepted.plan()),
+        Err(refused) => told_of_refused(alloc, &refused.plan, refused.fault),
+    }
+}
+
+/// What is told of a plan that is accepted.
+fn told_of_accepted(alloc: Global, plan: &Plan<Global>) -> Result<String, AllocError> {
+    let said = warn_of_plan(alloc, plan)?;
+    format!(in alloc; "accepted\n{said}")
+}
+
+/// What is told of a plan that is not accepted.
+fn told_of_refused(
+    alloc: Global,
+    plan: &Plan<Global>,
+    fault: CheckFault,
+) -> Result<String, AllocError> {
+    let said = explain_check(alloc, "plan.toml", plan, &fault)?;
+    with_line(alloc, &Fault::Check(fault), said.as_str())
+}
+
+/// What is told of the text of commands to the bridge of a plan.
+fn told_of_commands(alloc: Global, text: &str, plan: &str) -> Result<String, AllocError> {
+    let Ok(bridge) = plan_of(alloc, alloc, plan.as_bytes()) else {
+        return String::from_str(alloc, "no plan\n");
+    };
+    match commands_of(alloc, alloc, text.as_bytes(), &bridge) {
+        Ok(_commands) => String::from_str(alloc, "accepted\n"),
+        Err(fault) => {
+            let said = explain_commands(
+                alloc,
+                "commands.toml",
+                text.as_bytes(),
+                plan.as_bytes(),
+                &fault,
+            )?;
+            with_line(alloc, &Fault::Commands(fault), said.as_str())
+        }
+    }
+}
+
+/// What is told of the hexadecimal text of a capture.
+fn told_of_capture(alloc: Global, text: &str) -> Result<String, AllocError> {
+    let fault = match wire_text(alloc, text.as_bytes()) {
+        Ok(_lines) => return String::from_str(alloc, "accepted\n"),
+        Err(fault) => fault,
+    };
+    let said = match (fault, octets_of(alloc, text.as_bytes())) {
+        (TextFault::Run(fault), Ok(octets)) => explain_run(alloc, "in/1.pcap", &octets, &fault)?,
+        _ => explain_text(alloc, &fault)?,
+    };
+    with_line(alloc, &Fault::Text(fault), said.as_str())
+}
+
+/// What is told of words of the command line, with blanks between them.
+fn told_of_words(alloc: Global, text: &str) -> Result<String, AllocError> {
+    let mut words = Vec::new(alloc);
+    for word in text.split_whitespace() {
+        let word = String::from_str(alloc, word)?;
+        if words.push(word).is_err() {
+            return Err(AllocError);
+        }
+    }
+    match job_of(alloc, &words) {
+        Ok(_job) => String::from_str(alloc, "accepted\n"),
+        Err(fault) => {
+            let said = explain_words(alloc, &words)?;
+            with_line(alloc, &fault, said.as_str())
+        }
+    }
+}
