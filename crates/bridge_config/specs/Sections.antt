@@ -130,9 +130,9 @@ port_list change index members = do
   new ← list_if section.Port index next
   Ok (egress_of old change new)
 
--- a port, by the change of schedules, the ports before it and its place
-unfoldable pub port_at : {A : Type 0} → Option ℕ → List (PortPlan A) → ℕ → Members → Result (PortPlan A) PlanFault
-port_at change ports index members =
+-- a port, by the change of schedules, whether a number is that of a port before it, and its place
+unfoldable pub port_among : {A : Type 0} → Option ℕ → (ℕ → Bool) → ℕ → Members → Result (PortPlan A) PlanFault
+port_among change is_port index members =
     let at : Field → Place = λ key. record { section = section.Port; index = index; field = key } in do
       keys ← provided (has_port_keys change members) (fault.UnknownKey section.Port index)
       number ← required (at field.Number) field.Number (between 1 16) members
@@ -142,8 +142,12 @@ port_at change ports index members =
       classes ← default_to (0 ∷ 1 ∷ 2 ∷ 3 ∷ 4 ∷ 5 ∷ 6 ∷ 7 ∷ []) (at field.Classes) field.Classes (eight 0 7) members
       rooms ← default_to (replicate 8 64) (at field.Rooms) field.Rooms (eight 1 4096) members
       list ← port_list change index members
-      own ← no_duplicate section.Port index (has_port ports number)
+      own ← no_duplicate section.Port index (is_port number)
       Ok (record { number = number; speed = speed; vid = vid; priority = priority; classes = classes; rooms = rooms; list = list })
+
+-- a port, by the change of schedules, the ports before it and its place
+abbrev pub port_at : {A : Type 0} → Option ℕ → List (PortPlan A) → ℕ → Members → Result (PortPlan A) PlanFault
+port_at change ports index members = port_among change (has_port ports) index members
 
 -- VLAN
 
@@ -184,18 +188,22 @@ static_at all vlans statics index members =
 abbrev pub has_stream_keys : Members → Bool
 has_stream_keys members = are_known (field.Handle ∷ field.Port ∷ field.Kind ∷ field.Address ∷ field.Vid ∷ field.Tag ∷ []) members
 
--- a stream, by the ports and its place
-unfoldable pub stream_at : {A : Type 0} → List (PortPlan A) → List StreamEntry → ℕ → Members → Result StreamEntry PlanFault
-stream_at ports earlier index members =
+-- a stream, by whether a number is that of a port, and its place
+unfoldable pub stream_among : (ℕ → Bool) → ℕ → Members → Result StreamEntry PlanFault
+stream_among is_port index members =
     let at : Field → Place = λ key. record { section = section.Stream; index = index; field = key } in do
       keys ← provided (has_stream_keys members) (fault.UnknownKey section.Stream index)
       handle ← required (at field.Handle) field.Handle (between 0 LARGEST_NUMBER) members
-      port ← required (at field.Port) field.Port (known (has_port ports) 1 16) members
+      port ← required (at field.Port) field.Port (known is_port 1 16) members
       kind ← required (at field.Kind) field.Kind (text kind_of) members
       address ← required (at field.Address) field.Address (text address_of) members
       vid ← required (at field.Vid) field.Vid (between 1 4094) members
       tag ← required (at field.Tag) field.Tag (text tag_of) members
       Ok (record { handle = handle; port = port; kind = kind; address = address; vid = vid; tag = tag })
+
+-- a stream, by the ports and its place
+abbrev pub stream_at : {A : Type 0} → List (PortPlan A) → List StreamEntry → ℕ → Members → Result StreamEntry PlanFault
+stream_at ports earlier index members = stream_among (has_port ports) index members
 
 -- GATE
 
@@ -298,18 +306,22 @@ meter_at meters index members =
 abbrev pub has_filter_keys : Members → Bool
 has_filter_keys members = are_known (field.Number ∷ field.Handle ∷ field.Priority ∷ field.Gate ∷ field.MaxSdu ∷ field.Meter ∷ field.BlockOversize ∷ field.Protected ∷ []) members
 
--- a filter with its number, by the gates, the meters, the filters before it and its place
-unfoldable pub filter_at : {A : Type 0} → List (ℕ × GatePlan A) → List (ℕ × MeterPlan) → List (ℕ × FilterPlan) → ℕ → Members → Result (ℕ × FilterPlan) PlanFault
-filter_at gates meters filters index members =
+-- a filter with its number, by whether a number is that of a gate, of a meter and of a filter before it, and its place
+unfoldable pub filter_among : (ℕ → Bool) → (ℕ → Bool) → (ℕ → Bool) → ℕ → Members → Result (ℕ × FilterPlan) PlanFault
+filter_among is_gate is_meter is_filter index members =
     let at : Field → Place = λ key. record { section = section.Filter; index = index; field = key } in do
       keys ← provided (has_filter_keys members) (fault.UnknownKey section.Filter index)
       number ← required (at field.Number) field.Number (between 0 LARGEST_NUMBER) members
       handle ← optional (at field.Handle) field.Handle (between 0 LARGEST_NUMBER) members
       priority ← optional (at field.Priority) field.Priority (between 0 7) members
-      gate ← required (at field.Gate) field.Gate (known (has_number gates) 0 LARGEST_NUMBER) members
+      gate ← required (at field.Gate) field.Gate (known is_gate 0 LARGEST_NUMBER) members
       max_sdu ← optional (at field.MaxSdu) field.MaxSdu (between 0 65535) members
-      meter ← optional (at field.Meter) field.Meter (known (has_number meters) 0 LARGEST_NUMBER) members
+      meter ← optional (at field.Meter) field.Meter (known is_meter 0 LARGEST_NUMBER) members
       block_oversize ← default_to false (at field.BlockOversize) field.BlockOversize switch members
       protected ← default_to false (at field.Protected) field.Protected switch members
-      own ← no_duplicate section.Filter index (has_number filters number)
+      own ← no_duplicate section.Filter index (is_filter number)
       Ok (number, record { handle = handle; priority = priority; gate = gate; max_sdu = max_sdu; meter = meter; block_oversize = block_oversize; protected = protected })
+
+-- a filter with its number, by the gates, the meters, the filters before it and its place
+abbrev pub filter_at : {A : Type 0} → List (ℕ × GatePlan A) → List (ℕ × MeterPlan) → List (ℕ × FilterPlan) → ℕ → Members → Result (ℕ × FilterPlan) PlanFault
+filter_at gates meters filters index members = filter_among (has_number gates) (has_number meters) (has_number filters) index members

@@ -1,5 +1,6 @@
 //! Stream filters of a plan.
 ghost use Rattle.std.specs.Prelude.{◌≡◌, ◌≤◌, IfErr, IfOk, false, true, length};
+ghost use Rattle.std.specs.Option.{ForSome};
 ghost use Rattle.toml.specs.View.{table_view, items_view};
 ghost use Rattle.bridge_filter.specs.Plans.{has_instances};
 ghost use Rattle.bridge_keys.specs.declared.fault.PlanFault.TheVariants.{NoMemory};
@@ -9,12 +10,12 @@ ghost use Rattle.bridge_config.specs.Sections as sections;
 ghost use Rattle.bridge_config.specs.Rules as rules;
 
 use crate::lists::LARGEST_NUMBER;
-use crate::numbers::{NumbersOf, has_number, in_8_bits, in_32_bits};
+use crate::numbers::{NumbersOf, in_8_bits, in_32_bits};
 use bridge_filter::FilterPlan;
 use bridge_gate::GatePlan;
 use bridge_keys::{
-    Between, Field, Known, Place, PlanFault, Section, SectionReader, Switch, are_known, default_to,
-    optional, read_instances, required,
+    Between, Field, Finds, Known, Place, PlanFault, Section, SectionReader, Switch, are_known,
+    default_to, optional, read_instances, required,
 };
 use bridge_meter::MeterPlan;
 use std::alloc::Allocator;
@@ -45,19 +46,20 @@ fn has_keys(table: &Table) -> bool
     )
 }
 
-/// The filter of a table with its number, by those before it, where these are the gates and meters.
-#[tactic(auto, unfolding(crate::specs::Sections::filter_at))]
-fn filter_of<A: Allocator + Copy>(
-    gates: &[(u32, GatePlan<A>)],
-    meters: &[(u32, MeterPlan)],
-    filters: &[(u32, FilterPlan)],
+/// The filter of a table with its number, by what finds the numbers of gates, meters and the filters before it.
+#[tactic(auto, unfolding(crate::specs::Sections::filter_among))]
+fn filter_among<G: Finds + Drop, M: Finds + Drop, F: Finds + Drop>(
+    gates: G,
+    meters: M,
+    filters: F,
     index: u32,
     table: &Table,
 ) -> Result<(u32, FilterPlan), PlanFault>
-    ensures reads { Gives result (sections.filter_at gates.now meters.now filters.now index (table_view table.now)) }
-    ensures own { IfOk result (λ f. sections.has_number filters.now f.0 ≡ false) }
+    ensures reads { Gives result (sections.filter_among (G.among gates) (M.among meters) (F.among filters) index (table_view table.now)) }
+    ensures own { IfOk result (λ f. F.among filters f.0 ≡ false) }
     ensures filter { IfOk result (λ f. rules.IsFilter f) }
-    ensures instances { IfOk result (λ f. has_instances gates.now meters.now f.1 ≡ true) }
+    ensures gate { IfOk result (λ f. G.among gates f.1.gate ≡ true) }
+    ensures meter { IfOk result (λ f. ForSome f.1.meter (λ n. M.among meters n ≡ true)) }
     ensures takes_no_memory { IfErr result (λ e. ¬ (e ≡ NoMemory)) }
 {
     let at = |field: Field| -> Place
@@ -85,7 +87,7 @@ fn filter_of<A: Allocator + Copy>(
         at(Field::Gate),
         Field::Gate,
         &Known {
-            among: NumbersOf { instances: gates },
+            among: gates,
             range: NUMBER,
         },
     )?;
@@ -103,7 +105,7 @@ fn filter_of<A: Allocator + Copy>(
         at(Field::Meter),
         Field::Meter,
         &Known {
-            among: NumbersOf { instances: meters },
+            among: meters,
             range: NUMBER,
         },
     )?;
@@ -121,7 +123,7 @@ fn filter_of<A: Allocator + Copy>(
         Field::Protected,
         &Switch,
     )?;
-    if has_number(filters, number) {
+    if filters.has(number) {
         return Err(PlanFault::Duplicate(Section::Filter, index));
     }
     let plan = FilterPlan {
@@ -134,6 +136,26 @@ fn filter_of<A: Allocator + Copy>(
         protected,
     };
     Ok((number as u32, plan))
+}
+
+/// The filter of a table with its number, by those before it, where these are the gates and meters.
+fn filter_of<A: Allocator + Copy>(
+    gates: &[(u32, GatePlan<A>)],
+    meters: &[(u32, MeterPlan)],
+    filters: &[(u32, FilterPlan)],
+    index: u32,
+    table: &Table,
+) -> Result<(u32, FilterPlan), PlanFault>
+    ensures reads { Gives result (sections.filter_at gates.now meters.now filters.now index (table_view table.now)) }
+    ensures own { IfOk result (λ f. sections.has_number filters.now f.0 ≡ false) }
+    ensures filter { IfOk result (λ f. rules.IsFilter f) }
+    ensures instances { IfOk result (λ f. has_instances gates.now meters.now f.1 ≡ true) }
+    ensures takes_no_memory { IfErr result (λ e. ¬ (e ≡ NoMemory)) }
+{
+    let gates = NumbersOf { instances: gates };
+    let meters = NumbersOf { instances: meters };
+    let filters = NumbersOf { instances: filters };
+    filter_among(gates, meters, filters, index, table)
 }
 
 /// The section of filters, where these are the gates and meters.

@@ -138,6 +138,20 @@ pub(crate) fn has_port<A: Allocator + Copy>(ports: &[PortPlan<A>], number: u64) 
     ports.iter().any(|p| p.number as u64 == number)
 }
 
+/// The numbers of the ports of a plan.
+#[derive(Clone, Copy)]
+pub(crate) struct PortNumbers<'a, A: Allocator + Copy> {
+    pub ports: &'a [PortPlan<A>],
+}
+
+impl<'a, A: Allocator + Copy> Finds for PortNumbers<'a, A> {
+    ghost among = { λ s. rules.has_port s.ports.now };
+
+    fn has(&self, number: u64) -> bool {
+        has_port(self.ports, number)
+    }
+}
+
 /// The parts of the list that stands at three keys of a port's table.
 fn port_parts<A: Allocator + Copy>(
     alloc: A,
@@ -207,18 +221,18 @@ fn port_list<A: Allocator + Copy>(
     Ok(egress_of(old, change, new))
 }
 
-/// The port of a table, by the moment of the change of schedules and the ports before it.
-#[tactic(auto, unfolding(crate::specs::Sections::port_at))]
-fn port_of<A: Allocator + Copy>(
+/// The port of a table, by the moment of the change of schedules and what finds the numbers of the ports before it.
+#[tactic(auto, unfolding(crate::specs::Sections::port_among))]
+fn port_among<A: Allocator + Copy, P: Finds + Drop>(
     alloc: A,
     change: Option<u64>,
-    ports: &[PortPlan<A>],
+    ports: P,
     index: u32,
     table: &Table,
 ) -> Result<PortPlan<A>, PlanFault>
     requires { rules.IsBeforeEnd change }
-    ensures reads { Gives result (sections.port_at change ports.now index (table_view table.now)) }
-    ensures own { IfOk result (λ p. rules.has_port ports.now p.number ≡ false) }
+    ensures reads { Gives result (sections.port_among change (P.among ports) index (table_view table.now)) }
+    ensures own { IfOk result (λ p. P.among ports p.number ≡ false) }
     ensures port { IfOk result (λ p. rules.IsPort p) }
 {
     let at = |field: Field| -> Place
@@ -263,7 +277,7 @@ fn port_of<A: Allocator + Copy>(
     )?;
     let rooms = default_to([64; 8], table, at(Field::Rooms), Field::Rooms, &Rooms)?;
     let list = port_list(alloc, change, index, table)?;
-    if has_port(ports, number) {
+    if ports.has(number) {
         return Err(PlanFault::Duplicate(Section::Port, index));
     }
     Ok(PortPlan {
@@ -275,6 +289,22 @@ fn port_of<A: Allocator + Copy>(
         rooms,
         list,
     })
+}
+
+/// The port of a table, by the moment of the change of schedules and the ports before it.
+fn port_of<A: Allocator + Copy>(
+    alloc: A,
+    change: Option<u64>,
+    ports: &[PortPlan<A>],
+    index: u32,
+    table: &Table,
+) -> Result<PortPlan<A>, PlanFault>
+    requires { rules.IsBeforeEnd change }
+    ensures reads { Gives result (sections.port_at change ports.now index (table_view table.now)) }
+    ensures own { IfOk result (λ p. rules.has_port ports.now p.number ≡ false) }
+    ensures port { IfOk result (λ p. rules.IsPort p) }
+{
+    port_among(alloc, change, PortNumbers { ports }, index, table)
 }
 
 /// The section of ports, by the moment of the change of schedules.

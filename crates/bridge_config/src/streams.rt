@@ -1,5 +1,5 @@
 //! Stream identifications of a plan.
-ghost use Rattle.std.specs.Prelude.{◌≡◌, IfErr, IfOk, All, ◌++◌, ◌∷◌, []};
+ghost use Rattle.std.specs.Prelude.{◌≡◌, ◌≤◌, true, IfErr, IfOk, All, ◌++◌, ◌∷◌, []};
 ghost use Rattle.toml.specs.View.{table_view};
 ghost use Rattle.bridge_keys.specs.declared.fault.PlanFault.TheVariants.{NoMemory};
 ghost use Rattle.bridge_keys.specs.declared.fault.Section.TheVariants as the_section;
@@ -9,7 +9,7 @@ ghost use Rattle.bridge_config.specs.Texts as texts;
 ghost use Rattle.bridge_config.specs.Rules as rules;
 
 use crate::lists::LARGEST_NUMBER;
-use crate::ports::{PortPlan, has_port};
+use crate::ports::{PortNumbers, PortPlan};
 use bridge_ident::{Kind, StreamEntry, TagKind};
 use bridge_keys::{
     Address, Between, Field, Finds, Known, Meaning, Place, PlanFault, Section, SectionReader, Text,
@@ -60,20 +60,6 @@ impl Meaning for TagText {
     }
 }
 
-/// The numbers of the ports of a plan.
-#[derive(Clone, Copy)]
-struct PortNumbers<'a, A: Allocator + Copy> {
-    ports: &'a [PortPlan<A>],
-}
-
-impl<'a, A: Allocator + Copy> Finds for PortNumbers<'a, A> {
-    ghost among = { λ s. rules.has_port s.ports.now };
-
-    fn has(&self, number: u64) -> bool {
-        has_port(self.ports, number)
-    }
-}
-
 /// Whether a table has the keys of a stream identification alone.
 fn has_keys(table: &Table) -> bool
     ensures { result ≡ sections.has_stream_keys (table_view table.now) }
@@ -91,16 +77,19 @@ fn has_keys(table: &Table) -> bool
     )
 }
 
-/// The stream identification of a table, where these are the ports.
-#[tactic(auto, unfolding(crate::specs::Sections::stream_at))]
-fn stream_of<A: Allocator + Copy>(
-    ports: &[PortPlan<A>],
-    earlier: &[StreamEntry],
+/// The stream identification of a table, by what finds the numbers of ports.
+#[tactic(auto, unfolding(crate::specs::Sections::stream_among))]
+fn stream_among<P: Finds + Drop>(
+    ports: P,
     index: u32,
     table: &Table,
 ) -> Result<StreamEntry, PlanFault>
-    ensures reads { Gives result (sections.stream_at ports.now earlier.now index (table_view table.now)) }
-    ensures stream { IfOk result (λ s. rules.IsStream ports.now s) }
+    ensures reads { Gives result (sections.stream_among (P.among ports) index (table_view table.now)) }
+    ensures port { IfOk result (λ s. P.among ports s.port ≡ true) }
+    ensures port_from { IfOk result (λ s. 1 ≤ s.port) }
+    ensures port_to { IfOk result (λ s. s.port ≤ 16) }
+    ensures vid_from { IfOk result (λ s. 1 ≤ s.vid) }
+    ensures vid_to { IfOk result (λ s. s.vid ≤ 4094) }
     ensures takes_no_memory { IfErr result (λ e. ¬ (e ≡ NoMemory)) }
 {
     let at = |field: Field| -> Place
@@ -129,7 +118,7 @@ fn stream_of<A: Allocator + Copy>(
         at(Field::Port),
         Field::Port,
         &Known {
-            among: PortNumbers { ports },
+            among: ports,
             range: Between { low: 1, high: 16 },
         },
     )?;
@@ -165,6 +154,20 @@ fn stream_of<A: Allocator + Copy>(
         vid: vid as u16,
         tag,
     })
+}
+
+/// The stream identification of a table, where these are the ports.
+fn stream_of<A: Allocator + Copy>(
+    ports: &[PortPlan<A>],
+    earlier: &[StreamEntry],
+    index: u32,
+    table: &Table,
+) -> Result<StreamEntry, PlanFault>
+    ensures reads { Gives result (sections.stream_at ports.now earlier.now index (table_view table.now)) }
+    ensures stream { IfOk result (λ s. rules.IsStream ports.now s) }
+    ensures takes_no_memory { IfErr result (λ e. ¬ (e ≡ NoMemory)) }
+{
+    stream_among(PortNumbers { ports }, index, table)
 }
 
 /// The section of stream identifications, where these are the ports.

@@ -17,7 +17,7 @@ const LAST_MOMENT: u64 = END_OF_TIME - 1;
 const HIGHEST_RATE: u64 = 100_000_000_000;
 
 /// What may stand at a key.
-#[derive(Clone, Copy, Debug, PartialEq, Eq)]
+#[derive(Clone, Copy)]
 pub(crate) enum Allowed {
     /// A whole number of a range.
     Between { low: u64, high: u64 },

@@ -10,7 +10,7 @@ use std::alloc::{AllocError, Global};
 const HEADER: usize = 24;
 
 /// What a file looks like by its first octets.
-#[derive(Clone, Copy, Debug, PartialEq, Eq)]
+#[derive(Clone, Copy)]
 enum Looks {
     Empty,
     NextGeneration,

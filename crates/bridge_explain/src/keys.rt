@@ -4,7 +4,7 @@ use bridge_keys::{Field, Section, has_key};
 use toml::{Table, Value};
 
 /// Why a known key may not stand in a table.
-#[derive(Clone, Copy, Debug, PartialEq, Eq)]
+#[derive(Clone, Copy)]
 pub(crate) enum Misplaced {
     /// It stands only beside another key.
     Beside(Field),

@@ -4,7 +4,7 @@
 //! a line. What is written in another way has no place here.
 
 /// A line and a column of a text, each from 1. A column counts characters.
-#[derive(Clone, Copy, Debug, PartialEq, Eq)]
+#[derive(Clone, Copy)]
 pub(crate) struct Position {
     pub line: usize,
     pub column: usize,

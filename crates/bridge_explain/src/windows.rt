@@ -18,7 +18,7 @@ const STEPS: [u32; 14] = [
 ];
 
 /// A time for which a class is open without a break, in ns from phase 0 of its list.
-#[derive(Clone, Copy, Debug, PartialEq, Eq)]
+#[derive(Clone, Copy)]
 struct Window {
     from: u64,
     length: u64,

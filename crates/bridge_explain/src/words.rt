@@ -8,7 +8,7 @@ use crate::value::put_text;
 use std::alloc::{AllocError, Global};
 
 /// A command of the program.
-#[derive(Clone, Copy, Debug, PartialEq, Eq)]
+#[derive(Clone, Copy)]
 enum Verb {
     Check,
     Picture,
@@ -31,7 +31,7 @@ impl Named for Verb {
 }
 
 /// An option of the program.
-#[derive(Clone, Copy, Debug, PartialEq, Eq)]
+#[derive(Clone, Copy)]
 enum Switch {
     Commands,
     Explain,

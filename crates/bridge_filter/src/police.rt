@@ -71,10 +71,23 @@ impl<A: Allocator + Copy> Police<A> {
         ensures meters { IfOk result (λ p. KeepsNumbers meters.items p.meters) }
     {
         let filters = filters_of(alloc, &filters)?;
-        let gates = gates_of(alloc, gates)?;
-        let meters = meters_of(alloc, &meters)?;
+        let Ok(gates) = gates_of(alloc, gates) else {
+            drop(filters);
+            drop(meters);
+            return Err(NoMemory);
+        };
+        let Ok(meters) = meters_of(alloc, &meters) else {
+            drop(filters);
+            drop(gates);
+            return Err(NoMemory);
+        };
         let any = any_of(&filters, &gates, &meters);
-        let rows = rows_of(alloc, &filters, &gates, &meters, &any)?;
+        let Ok(rows) = rows_of(alloc, &filters, &gates, &meters, &any) else {
+            drop(filters);
+            drop(gates);
+            drop(meters);
+            return Err(NoMemory);
+        };
         Ok(Police {
             filters,
             rows,

@@ -5,16 +5,10 @@ use Rattle.bridge_program.specs.declared.fault.Fault.{Fault}
 use Rattle.bridge_lanes.specs.declared.fault.RunFault.TheVariants as run
 use Rattle.bridge_program.specs.declared.fault.Fault.TheVariants as fault
 use Rattle.bridge_stream.specs.Simulated.{AreNumbers}
-use Rattle.bridge_base.specs.Members.{In}
 use Rattle.bridge_program.specs.Commanding.{EndsCommanded}
 use Rattle.bridge_program.specs.Reading.{IsOfFile}
-use Rattle.bridge_folder.specs.Files.{EndsDrawn, EndsPicture, EndsReading, EndsRun, EndsSending, EndsShown, IsAcceptedPlan, IsFile, IsOfCaptures, IsOfOutputs, IsOfPicture, IsOfReport, IsOfShowing, IsPlanOfText}
-use Rattle.bridge_folder.specs.Paths.{capture_path}
-
--- a file that failed is that of a capture
-pub is_capture : (folder ports path : List ℕ) (port : ℕ) (f : Fault) → In port ports → path ≡ capture_path folder port → IsFile path f → IsOfCaptures folder ports f
-is_capture folder ports path port (fault.File p) here is h = (port, here, h ∙ is)
-is_capture folder ports path port f here is h = absurd h
+use Rattle.bridge_folder.specs.Files.{EndsDrawn, EndsPicture, EndsReading, EndsRun, EndsSending, EndsShown, IsAcceptedPlan, IsOfOutputs, IsOfPicture, IsOfReport, IsOfShowing, IsPlanOfText}
+use Rattle.bridge_files.specs.Files.{IsOfCaptures}
 
 -- a capture or the report that failed is an output
 pub capture_told : (folder ports : List ℕ) (f : Fault) → IsOfCaptures folder ports f → IsOfOutputs folder ports f

@@ -1,5 +1,1 @@
-pub mod Kept
-pub mod Devices
-pub mod Ran
 pub mod Ended
-pub mod Taken

@@ -1,6 +1,5 @@
 -- The files of a run that fail, and what a run over them prints.
 use Rattle.std.specs.Prelude.{◌≡◌, ◌⊎◌, ℕ, List, Option, None, Some, Ok, string_bytes}
-use Rattle.bridge_base.specs.Members.{In}
 use Rattle.bridge_config.specs.Document.{plan_of_text}
 use Rattle.bridge_config.specs.Model.{Plan}
 use Rattle.bridge_lanes.specs.declared.fault.RunFault.TheVariants as run
@@ -11,22 +10,8 @@ use Rattle.bridge_program.specs.Jobs.{Accepts, EndsPlan}
 use Rattle.bridge_report.specs.Summary.{summary_of}
 use Rattle.bridge_run.specs.declared.outcome.Outcome.{Outcome}
 use Rattle.bridge_stream.specs.Simulated.{AreNumbers}
-use Rattle.bridge_folder.specs.Paths.{capture_path, report_path}
-
--- the path of the capture of one of these ports in a folder
-abbrev pub IsCapture : List ℕ → List ℕ → List ℕ → Type 0
-IsCapture folder ports path = (port : ℕ) × In port ports × (path ≡ capture_path folder port)
-
--- the fault of the file of a path
-abbrev pub IsFile : List ℕ → Fault → Type 0
-IsFile path (fault.File p) = string_bytes p ≡ path
-IsFile path f = ⊥
-
--- such a capture failed, or memory was refused
-abbrev pub IsOfCaptures : List ℕ → List ℕ → Fault → Type 0
-IsOfCaptures folder ports (fault.File path) = IsCapture folder ports (string_bytes path)
-IsOfCaptures folder ports (fault.Run f) = f ≡ run.NoMemory
-IsOfCaptures folder ports f = ⊥
+use Rattle.bridge_files.specs.Files.{IsCapture}
+use Rattle.bridge_files.specs.Paths.{report_path}
 
 -- the report of a folder failed, or memory was refused
 abbrev pub IsOfReport : List ℕ → Fault → Type 0

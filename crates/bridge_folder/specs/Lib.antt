@@ -1,5 +1,1 @@
-pub mod Paths
-pub mod Flushed
 pub mod Files
-pub mod Taken
-pub mod Wiring

@@ -2,15 +2,13 @@
 //!
 //! Nothing here can fail: what can't be read again is left out.
 
-use crate::output::{are_same, file_at};
-use crate::paths::{capture_path, report_path};
-use crate::wiring::is_standard;
 use bridge_check::CheckFault;
 use bridge_config::plan_of;
 use bridge_explain::{
     Cause, explain_check, explain_commands, explain_file, explain_plan, explain_run, explain_text,
     explain_words, warn_of_plan,
 };
+use bridge_files::{are_same, capture_path, file_at, is_standard, report_path};
 use bridge_keys::PlanFault;
 use bridge_lanes::RunFault;
 use bridge_program::{Fault, Job, job_of, read_at_most, sketch_of};

@@ -3,14 +3,13 @@ ghost use Rattle.std.specs.Prelude.{◌≡◌, IfOk, IfErr, length, option_map, 
 ghost use Rattle.bridge_config.specs.Commands.{AreCommands};
 ghost use Rattle.bridge_folder.specs.Files.{EndsDrawn, EndsReading, EndsRun, EndsSending, EndsShown, IsAcceptedPlan, IsOfOutputs, IsOfReport, IsOfShowing, PrintsRun};
 
-use crate::files::{add_files, create_all, is_same_folder, open_all};
-use crate::output::{FileId, Output, add_file, file_at, is_one_of, output_at};
-use crate::paths::report_path;
 use crate::picturing::put_sketch;
-use crate::running::run_over;
-use crate::taking::open_taken;
 use bridge_check::Accepted;
 use bridge_config::{Command, Plan};
+use bridge_files::{
+    FileId, Output, add_file, add_files, create_all, file_at, is_one_of, is_same_folder, open_all,
+    open_taken, output_at, report_path, run_over,
+};
 use bridge_lanes::RunFault;
 use bridge_program::{Fault, NoMemory, Sketch, commanded, fault_of_file, plan_from};
 use bridge_report::{ReportFault, summary, write_report};

@@ -2,11 +2,9 @@
 ghost use Rattle.std.specs.Prelude.{◌≤◌, IfErr, string_bytes};
 ghost use Rattle.bridge_folder.specs.Files.{EndsPicture, IsOfPicture};
 
-use crate::output::{FileId, Output, is_one_of, output_at};
-use crate::paths::capture_path;
-use crate::taking::open_taken;
 use bridge_capture::ReadAhead;
 use bridge_config::{Plan, PortPlan};
+use bridge_files::{FileId, Output, capture_path, is_one_of, open_taken, output_at};
 use bridge_lanes::RunFault;
 use bridge_picture::{Arrivals, Mark, draw_plan, draw_run, has_marks};
 use bridge_program::{Fault, NoMemory, Sketch, fault_of_file, plan_from};

@@ -145,6 +145,31 @@ impl Drawing {
         self.put(shape.as_str())
     }
 
+    /// A text of a style that is a word and a number.
+    pub(crate) fn named(
+        &mut self,
+        style: &str,
+        x: u64,
+        y: u64,
+        word: &str,
+        number: u32,
+    ) -> Result<(), AllocError> {
+        let words = format!(in self.alloc; "{word} {number}")?;
+        self.text(style, x, y, words.as_str())
+    }
+
+    /// A text of a style that lists numbers.
+    pub(crate) fn listed(
+        &mut self,
+        style: &str,
+        x: u64,
+        y: u64,
+        numbers: &[u32],
+    ) -> Result<(), AllocError> {
+        let words = list_text(self.alloc, numbers)?;
+        self.text(style, x, y, words.as_str())
+    }
+
     /// The whole picture as a text.
     pub(crate) fn end(self) -> Result<String, AllocError>
         ensures { IfOk result (λ text. length (string_bytes text) ≤ MOST_OCTETS) }
@@ -159,6 +184,25 @@ impl Drawing {
         text.push_str("</svg>\n")?;
         within(alloc, text)
     }
+}
+
+/// The numbers that a text lists before it says how many more there are.
+const MOST_LISTED: usize = 3;
+
+/// Some numbers as a text: the first ones, and how many more there are.
+fn list_text(alloc: Global, numbers: &[u32]) -> Result<String, AllocError> {
+    let mut text = String::new(alloc);
+    for number in numbers.iter().take(MOST_LISTED) {
+        if !text.is_empty() {
+            text.push_str(" ")?;
+        }
+        write!(text, "{number}")?;
+    }
+    let more = numbers.len().saturating_sub(MOST_LISTED);
+    if more > 0 {
+        write!(text, " +{more}")?;
+    }
+    Ok(text)
 }
 
 /// A text, where it isn't too long, else a picture that says so.

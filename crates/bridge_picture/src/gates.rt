@@ -1,6 +1,6 @@
 //! Lanes of stream gates, with their open entries.
 use crate::drawing::{ACROSS, Drawing, LEFT};
-use crate::lanes::{LANE, list_text};
+use crate::lanes::LANE;
 use crate::span::Span;
 use crate::windows::{Lane, extent};
 use bridge_config::Plan;
@@ -75,15 +75,32 @@ fn put_turns<A: Allocator + Copy>(
     Ok(at >= end)
 }
 
-/// The numbers of the filters that use a gate, as a text.
-fn users_of(alloc: Global, filters: &[(u32, FilterPlan)], gate: u32) -> Result<String, AllocError> {
+/// Draws the number of a gate beside its lane, and those of the filters that use it.
+fn put_users(
+    alloc: Global,
+    drawing: &mut Drawing,
+    filters: &[(u32, FilterPlan)],
+    gate: u32,
+) -> Result<(), AllocError> {
+    let line = drawing.down().saturating_add(115);
+    drawing.named("", 200, line, "gate", gate)?;
+    let users = users_of(alloc, filters, gate)?;
+    drawing.listed("s r", 1_450, line, &users)
+}
+
+/// The numbers of the filters that use a gate.
+fn users_of(
+    alloc: Global,
+    filters: &[(u32, FilterPlan)],
+    gate: u32,
+) -> Result<Vec<u32>, AllocError> {
     let mut numbers = Vec::new(alloc);
     for (number, filter) in filters {
         if filter.gate == gate {
             numbers.push(*number)?;
         }
     }
-    list_text(alloc, &numbers)
+    Ok(numbers)
 }
 
 /// Draws the lane of a gate, and answers whether all of it is drawn.
@@ -96,17 +113,12 @@ fn put_gate<A: Allocator + Copy>(
     schedule: &Schedule<A>,
     most: u32,
 ) -> Result<bool, AllocError> {
-    let top = drawing.down();
-    let line = top.saturating_add(115);
+    put_users(alloc, drawing, filters, number)?;
     let lane = Lane {
-        top,
+        top: drawing.down(),
         height: LANE - 20,
         most,
     };
-    let name = format!(in alloc; "gate {number}")?;
-    let users = users_of(alloc, filters, number)?;
-    drawing.text("", 200, line, name.as_str())?;
-    drawing.text("s r", 1_450, line, users.as_str())?;
     put_empty(drawing, lane)?;
     let is_whole = put_turns(alloc, drawing, span, lane, schedule)?;
     drawing.go_down(LANE);

@@ -12,25 +12,6 @@ use std::alloc::{AllocError, Allocator, Global};
 /// The height of a lane, in tenths of a pixel.
 pub(crate) const LANE: u64 = 150;
 
-/// The numbers that a text lists before it says how many more there are.
-const MOST_LISTED: usize = 3;
-
-/// Some numbers as a text: the first ones, and how many more there are.
-pub(crate) fn list_text(alloc: Global, numbers: &[u32]) -> Result<String, AllocError> {
-    let mut text = String::new(alloc);
-    for number in numbers.iter().take(MOST_LISTED) {
-        if !text.is_empty() {
-            text.push_str(" ")?;
-        }
-        write!(text, "{number}")?;
-    }
-    let more = numbers.len().saturating_sub(MOST_LISTED);
-    if more > 0 {
-        write!(text, " +{more}")?;
-    }
-    Ok(text)
-}
-
 /// The speed of a link in Mb/s.
 fn megabits(speed: Speed) -> u32 {
     match speed {
@@ -75,28 +56,37 @@ fn put_class<A: Allocator + Copy>(
     requires to { port.now.number ≤ 16 }
     requires class { class < 8 }
 {
-    let owners = owners_of(alloc, plan, port.number, class)?;
-    let top = drawing.down();
-    let line = top.saturating_add(115);
+    let is_own = put_owners(alloc, drawing, plan, port.number, class)?;
     let lane = Lane {
-        top,
+        top: drawing.down(),
         height: LANE - 20,
         most,
     };
-    let style = if owners.is_empty() { "open" } else { "own" };
-    let name = format!(in alloc; "class {class}")?;
-    let listed = list_text(alloc, &owners)?;
-    drawing.text(
-        if owners.is_empty() { "" } else { "b" },
-        200,
-        line,
-        name.as_str(),
-    )?;
-    drawing.text("s r", 1_450, line, listed.as_str())?;
-    drawing.bar("lane", LEFT, top, ACROSS, lane.height)?;
+    let style = if is_own { "own" } else { "open" };
+    drawing.bar("lane", LEFT, lane.top, ACROSS, lane.height)?;
     let is_whole = put_windows(drawing, span, lane, style, &port.list, class)?;
     drawing.go_down(LANE);
     Ok(is_whole)
+}
+
+/// Draws the number of a class beside its lane, and those of the protected filters whose frames may wait there; answers
+/// whether there are some.
+fn put_owners<A: Allocator + Copy>(
+    alloc: Global,
+    drawing: &mut Drawing,
+    plan: &Plan<A>,
+    port: u8,
+    class: u8,
+) -> Result<bool, AllocError>
+    requires from { 1 ≤ port }
+    requires to { port ≤ 16 }
+{
+    let owners = owners_of(alloc, plan, port, class)?;
+    let line = drawing.down().saturating_add(115);
+    let style = if owners.is_empty() { "" } else { "b" };
+    drawing.named(style, 200, line, "class", class as u32)?;
+    drawing.listed("s r", 1_450, line, &owners)?;
+    Ok(!owners.is_empty())
 }
 
 /// Draws the head and the lanes of a port, class 7 on top, and answers how many are drawn in part.
@@ -111,19 +101,28 @@ pub(crate) fn put_port<A: Allocator + Copy>(
     requires from { 1 ≤ port.now.number }
     requires to { port.now.number ≤ 16 }
 {
-    let number = port.number;
-    let speed = megabits(port.speed);
-    let head = format!(in alloc; "port {number}")?;
-    let link = format!(in alloc; "{speed} Mb/s")?;
-    drawing.go_down(250);
-    let line = drawing.down();
-    drawing.text("h", 100, line, head.as_str())?;
-    drawing.text("s", LEFT, line, link.as_str())?;
-    drawing.go_down(60);
+    put_head(alloc, drawing, port.number, port.speed)?;
     let mut parts = 0usize;
     for below in 0..8u8 {
         let is_whole = put_class(alloc, drawing, span, plan, port, 7 - below, most)?;
         parts = parts.saturating_add(usize::from(!is_whole));
     }
     Ok(parts)
+}
+
+/// Draws the head of a port.
+fn put_head(
+    alloc: Global,
+    drawing: &mut Drawing,
+    number: u8,
+    speed: Speed,
+) -> Result<(), AllocError> {
+    let speed = megabits(speed);
+    drawing.go_down(250);
+    let line = drawing.down();
+    drawing.named("h", 100, line, "port", number as u32)?;
+    let link = format!(in alloc; "{speed} Mb/s")?;
+    drawing.text("s", LEFT, line, link.as_str())?;
+    drawing.go_down(60);
+    Ok(())
 }

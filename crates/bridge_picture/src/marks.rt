@@ -33,7 +33,7 @@ pub struct Mark {
 }
 
 /// A frame that came, with its filter.
-#[derive(Clone, Copy, Debug, PartialEq, Eq)]
+#[derive(Clone, Copy)]
 struct Arrival {
     at: u64,
     port: u8,
@@ -124,6 +124,22 @@ impl Arrivals {
     {
         let streams = Vec::from_slice(self.alloc, plan.streams())?;
         let ident = Ident::indexed(self.alloc, streams)?;
+        let read = self.read_known(plan, &ident, port, source);
+        drop(ident);
+        read
+    }
+
+    /// Takes in the capture of a port, whose frames' stream handles these are.
+    fn read_known<A: Allocator + Copy, R: ByteSource>(
+        &mut self,
+        plan: &Plan<A>,
+        ident: &Ident<Global>,
+        port: &PortPlan<A>,
+        source: &mut R,
+    ) -> Result<(), AllocError>
+        requires from { 1 ≤ port.now.number }
+        requires to { port.now.number ≤ 16 }
+    {
         let Ok(mut capture) = Capture::begin(source) else {
             return Ok(());
         };
@@ -131,13 +147,16 @@ impl Arrivals {
             let Ok(Some(packet)) = capture.next(self.alloc, source) else {
                 return Ok(());
             };
-            if let Some(filter) = filter_of_frame(plan, &ident, port, &packet) {
-                self.found.push(Arrival {
-                    at: packet.time,
-                    port: port.number,
-                    filter,
-                })?;
-            }
+            let filter = filter_of_frame(plan, ident, port, &packet);
+            self.add(packet.time, port.number, filter)?;
+        }
+        Ok(())
+    }
+
+    /// Takes in a frame, if it has a filter.
+    fn add(&mut self, at: u64, port: u8, filter: Option<u32>) -> Result<(), AllocError> {
+        if let Some(filter) = filter {
+            self.found.push(Arrival { at, port, filter })?;
         }
         Ok(())
     }

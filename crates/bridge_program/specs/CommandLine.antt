@@ -55,9 +55,17 @@ picture_command = with_rule (with_rule (with_rule (new_app (codes "picture")) (w
 abbrev pub program : App
 program = on_top (λ s. record s { no_binary_name = true; has_version = true; propagate_version = true }) (new_app (codes "tsnbridge"))
 
+-- the command that needs no plan
+abbrev pub wiring : App
+wiring = with_subcommand program wire_command.top
+
+-- the commands that take no folder
+abbrev pub plain_jobs : App
+plain_jobs = with_subcommand wiring check_command.top
+
 -- the commands that don't draw alone, by words that don't begin with the program's name
 abbrev pub jobs : App
-jobs = with_subcommand (with_subcommand (with_subcommand program wire_command.top) check_command.top) run_command.top
+jobs = with_subcommand plain_jobs run_command.top
 
 -- all commands
 abbrev pub commands : App

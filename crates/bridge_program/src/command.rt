@@ -1,15 +1,15 @@
 //! The commands and their words: one table, by which `clap` reads the words and writes the help.
 ghost use Rattle.std.specs.Prelude.{◌≡◌, ◌≢◌, [], IfOk, IfErr, false, map, string_bytes, codes, fold};
-ghost use Rattle.clap.specs.Words.{FailsBy, app_of, fault_of, kind_of, rule_of, subcommand_of, subcommand_rows_of};
+ghost use Rattle.clap.specs.Words.{FailsBy, app_of, fault_of, kind_of, rule_of, subcommand_of, subcommand_rows_of, with_subcommand};
 ghost use Rattle.clap.specs.declared.builder.command.Command.TheViews.{out-Command as fields_of};
-ghost use Rattle.bridge_program.specs.CommandLine.{check_command, commands, described, jobs, picture_command, program, rule_in, run_command, wire_command, with_word};
+ghost use Rattle.bridge_program.specs.CommandLine.{check_command, commands, described, jobs, picture_command, plain_jobs, program, rule_in, run_command, wire_command, wiring, with_word};
 
 use clap::error::ErrorKind;
 use clap::{Arg, ArgAction, ArgMatches, Command, Error};
 use std::alloc::{AllocError, Global};
 
 /// How a word of a command is written.
-#[derive(Clone, Copy, Debug, PartialEq, Eq)]
+#[derive(Clone, Copy)]
 pub(crate) enum Form {
     /// In its place, where it has to be.
     Place,
@@ -20,7 +20,7 @@ pub(crate) enum Form {
 }
 
 /// A word of a command.
-#[derive(Clone, Copy, Debug)]
+#[derive(Clone, Copy)]
 pub(crate) struct Word {
     /// The name by which the value is read; an option is written by it, behind `--`.
     id: &'static str,
@@ -33,7 +33,7 @@ pub(crate) struct Word {
 }
 
 /// A command.
-#[derive(Clone, Copy, Debug)]
+#[derive(Clone, Copy)]
 pub(crate) struct Description {
     /// The word by which it is called.
     name: &'static str,
@@ -234,21 +234,49 @@ pub fn matches_of<'a>(alloc: Global, words: &'a [String]) -> Result<ArgMatches<'
 pub(crate) fn commands_of<'a>(alloc: Global) -> Result<Command<'a>, AllocError>
     ensures { IfOk result (λ c. app_of c ≡ commands) }
 {
-    let picture = picture_of(alloc)?;
-    jobs_of(alloc)?.subcommand(picture)
+    let program = jobs_of(alloc)?;
+    with_command(alloc, program, &PICTURE)
 }
 
 /// The program with the commands that don't draw alone.
 fn jobs_of<'a>(alloc: Global) -> Result<Command<'a>, AllocError>
     ensures { IfOk result (λ c. app_of c ≡ jobs) }
 {
-    let wire = wire_of(alloc)?;
-    let check = check_of(alloc)?;
-    let run = run_of(alloc)?;
-    program_of(alloc)?
-        .subcommand(wire)?
-        .subcommand(check)?
-        .subcommand(run)
+    let program = plain_jobs_of(alloc)?;
+    with_command(alloc, program, &RUN)
+}
+
+/// The program with the commands that take no folder.
+fn plain_jobs_of<'a>(alloc: Global) -> Result<Command<'a>, AllocError>
+    ensures { IfOk result (λ c. app_of c ≡ plain_jobs) }
+{
+    let program = wiring_of(alloc)?;
+    with_command(alloc, program, &CHECK)
+}
+
+/// The program with the command that needs no plan.
+fn wiring_of<'a>(alloc: Global) -> Result<Command<'a>, AllocError>
+    ensures { IfOk result (λ c. app_of c ≡ wiring) }
+{
+    let program = program_of(alloc)?;
+    with_command(alloc, program, &WIRE)
+}
+
+/// The program with the command of a description behind those that it has.
+fn with_command<'a>(
+    alloc: Global,
+    program: Command<'a>,
+    description: &Description,
+) -> Result<Command<'a>, AllocError>
+    ensures { IfOk result (λ c. app_of c ≡ with_subcommand (app_of program.entry) (described description.now).top) }
+{
+    match command_of(alloc, description) {
+        Ok(command) => program.subcommand(command),
+        Err(error) => {
+            drop(program);
+            Err(error)
+        }
+    }
 }
 
 /// The program without its commands.
@@ -261,39 +289,6 @@ fn program_of<'a>(alloc: Global) -> Result<Command<'a>, AllocError>
         .version(VERSION)
         .propagate_version(true)
         .bin_name(PROGRAM.name)
-}
-
-/// `wire MBPS ROOM IN OUT`.
-fn wire_of<'a>(alloc: Global) -> Result<Command<'a>, AllocError>
-    ensures command { IfOk result (λ c. app_of c ≡ wire_command) }
-    ensures local { IfOk result (λ c. (fields_of c).has_globals ≡ false) }
-{
-    command_of(alloc, &WIRE)
-}
-
-/// `check PLAN`.
-fn check_of<'a>(alloc: Global) -> Result<Command<'a>, AllocError>
-    ensures command { IfOk result (λ c. app_of c ≡ check_command) }
-    ensures local { IfOk result (λ c. (fields_of c).has_globals ≡ false) }
-{
-    command_of(alloc, &CHECK)
-}
-
-/// `picture PLAN FILE`.
-fn picture_of<'a>(alloc: Global) -> Result<Command<'a>, AllocError>
-    ensures command { IfOk result (λ c. app_of c ≡ picture_command) }
-    ensures local { IfOk result (λ c. (fields_of c).has_globals ≡ false) }
-{
-    command_of(alloc, &PICTURE)
-}
-
-/// `run PLAN IN OUT`, with `--commands FILE` if commands are wanted, and with `--picture FILE` and a stretch of time if a
-/// picture is.
-fn run_of<'a>(alloc: Global) -> Result<Command<'a>, AllocError>
-    ensures command { IfOk result (λ c. app_of c ≡ run_command) }
-    ensures local { IfOk result (λ c. (fields_of c).has_globals ≡ false) }
-{
-    command_of(alloc, &RUN)
 }
 
 /// The command of a description.

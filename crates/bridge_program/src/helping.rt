@@ -10,8 +10,8 @@ ghost use Rattle.bridge_program.specs.Helping.{AsksForHelp, IsHelp, is_help_kind
 use crate::command::{commands_of, matches_of};
 use crate::fault::Fault;
 use bridge_wire::RunFault;
-use clap::Error;
 use clap::error::ErrorKind;
+use clap::{Command, Error};
 use std::alloc::{AllocError, Global};
 
 /// The text that the words after the program's name ask for, if they ask for one: the help of the program by `--help`, `-h` or
@@ -43,11 +43,21 @@ pub fn manual_of(alloc: Global) -> Result<String, Fault>
     let mut manual = String::new(alloc);
     push_help(alloc, &mut manual, &["--help"])?;
     let program = commands_of(alloc)?;
+    let pushed = push_each(alloc, &mut manual, &program);
+    drop(program);
+    pushed?;
+    Ok(manual)
+}
+
+/// Adds the help of each command of the program, behind an empty line.
+fn push_each(alloc: Global, manual: &mut String, program: &Command<'_>) -> Result<(), Fault>
+    ensures { IfErr result (λ fault. fault ≡ Fault.Run RunFault.NoMemory) }
+{
     for command in program.get_subcommands() {
         manual.push_str("\n")?;
-        push_help(alloc, &mut manual, &[command.get_name(), "--help"])?;
+        push_help(alloc, manual, &[command.get_name(), "--help"])?;
     }
-    Ok(manual)
+    Ok(())
 }
 
 /// Adds the line of these words, and the text that they ask for.

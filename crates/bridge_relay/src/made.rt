@@ -61,9 +61,21 @@ impl<'a, G: Agenda + Drop, A: Allocator + Copy> Relay<'a, G, A> {
     {
         let plan = accepted.plan();
         let tables = tables_of(alloc, plan.filters())?;
-        let ident = ident_of(alloc, plan.streams())?;
-        let ports = Ports::new(alloc, plan)?;
-        let police = police_of(alloc, plan)?;
+        let Ok(ident) = ident_of(alloc, plan.streams()) else {
+            drop(tables);
+            return Err(NoMemory);
+        };
+        let Ok(ports) = Ports::new(alloc, plan) else {
+            drop(tables);
+            drop(ident);
+            return Err(NoMemory);
+        };
+        let Ok(police) = police_of(alloc, plan) else {
+            drop(tables);
+            drop(ident);
+            drop(ports);
+            return Err(NoMemory);
+        };
         Ok(Relay {
             alloc,
             plan,

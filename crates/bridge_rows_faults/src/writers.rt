@@ -2,7 +2,7 @@
 use bridge_capture::CaptureFault;
 use bridge_check::Accepted;
 use bridge_drives::same;
-use bridge_folder::Halted;
+use bridge_files::Halted;
 use bridge_refusing::RefusesOne;
 use bridge_stream::RunFault;
 use bridge_trials::frames::{Frame, TO_A, capture, header};

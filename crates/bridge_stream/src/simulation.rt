@@ -101,6 +101,24 @@ pub fn simulate_over<R: ByteSource, W: ByteSink, G: Agenda + Drop, A: Allocator 
     let Ok(lists) = lists_of(alloc, accepted.plan()) else {
         return Err(RunFault::NoMemory);
     };
+    let Ok(mut spares) = spares_in(alloc) else {
+        drop(lists);
+        return Err(RunFault::NoMemory);
+    };
+    let mut lanes = match look_at_all(alloc, &lists.ports, sources) {
+        Ok(lanes) => lanes,
+        Err(fault) => {
+            drop(lists);
+            drop(spares);
+            return Err(fault);
+        }
+    };
+    let Ok(mut relay) = Relay::<G, A>::new(alloc, accepted) else {
+        drop(lists);
+        drop(spares);
+        drop(lanes);
+        return Err(RunFault::NoMemory);
+    };
     let Lists {
         ports,
         order,
@@ -108,24 +126,16 @@ pub fn simulate_over<R: ByteSource, W: ByteSink, G: Agenda + Drop, A: Allocator 
         views,
         counts,
     } = lists;
-    let Ok(mut spares) = spares_in(alloc) else {
-        return Err(RunFault::NoMemory);
-    };
-    let mut lanes = match look_at_all(alloc, &ports, sources) {
-        Ok(lanes) => lanes,
-        Err(fault) => return Err(fault),
-    };
-    let Ok(mut relay) = Relay::<G, A>::new(alloc, accepted) else {
-        return Err(RunFault::NoMemory);
-    };
     let mut lines = match begin_all(&ports, lines, sinks) {
         Ok(lines) => lines,
         Err(fault) => {
+            drop(spares);
+            drop(lanes);
             drop(relay);
             return Err(fault);
         }
     };
-    match run(
+    let done = run(
         commands,
         &mut relay,
         &mut lanes,
@@ -133,7 +143,10 @@ pub fn simulate_over<R: ByteSource, W: ByteSink, G: Agenda + Drop, A: Allocator 
         sources,
         sinks,
         &mut spares,
-    ) {
+    );
+    drop(spares);
+    drop(lanes);
+    match done {
         Ok(()) => Ok(relay.finish(&order, views, counts)),
         Err(fault) => {
             drop(relay);

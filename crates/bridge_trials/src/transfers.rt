@@ -4,7 +4,7 @@ use crate::runs::{Row, line_told};
 use bridge_check::Accepted;
 use bridge_config::Command;
 use bridge_drives::{has_instance, same};
-use bridge_folder::{Halted, run_over};
+use bridge_files::{Halted, run_over};
 use bridge_run::Outcome;
 use std::alloc::{AllocError, Allocator, Global};
 use std::io::{Read, Write};

@@ -176,15 +176,21 @@ pub fn wire<R: ByteSource, W: ByteSink, A: Allocator + Copy>(
         Err(fault) => return Err(fault_of(1, fault)),
     };
     let Ok(mut port) = Port::new(alloc, speed, None, [room, 1, 1, 1, 1, 1, 1, 1]) else {
+        drop(lane);
         return Err(RunFault::NoMemory);
     };
     let Ok(mut spares) = Spares::new(alloc) else {
+        drop(lane);
+        drop(port);
         return Err(RunFault::NoMemory);
     };
     let Ok(mut writer) = Writer::begin(sink) else {
+        drop(lane);
+        drop(port);
+        drop(spares);
         return Err(RunFault::Write { port: 1 });
     };
-    run_through(
+    let done = run_through(
         speed,
         &mut lane,
         &mut port,
@@ -192,5 +198,9 @@ pub fn wire<R: ByteSource, W: ByteSink, A: Allocator + Copy>(
         source,
         sink,
         &mut spares,
-    )
+    );
+    drop(lane);
+    drop(port);
+    drop(spares);
+    done
 }

@@ -6,7 +6,8 @@
 
 mod section;
 
-use bridge_folder::{report_path, run_job};
+use bridge_files::report_path;
+use bridge_folder::run_job;
 use bridge_program::{Fault, end, print, read_at_most, words_of};
 use section::{Finding, compared, said_of, sections_of};
 use std::fs;

@@ -4,7 +4,8 @@
 
 mod kept;
 
-use bridge_folder::{capture_path, report_path, run_job};
+use bridge_files::{capture_path, report_path};
+use bridge_folder::run_job;
 use bridge_program::{Fault, Job, end, job_of, print, words_of};
 use bridge_text::lines_of;
 use kept::{octets_of, print_kept};

@@ -1,6 +1,6 @@
 //! Files that `wire` refuses, and what they hold afterwards.
 
-use bridge_folder::wire_files;
+use bridge_files::wire_files;
 use bridge_frame::Speed;
 use bridge_program::{Fault, fault_line, print, read_at_most};
 use std::fs;

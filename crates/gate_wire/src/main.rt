@@ -4,7 +4,7 @@
 
 mod kept;
 
-use bridge_folder::{Said, say, wire_files, wire_over};
+use bridge_files::{Said, say, wire_files, wire_over};
 use bridge_frame::Speed;
 use bridge_program::{Fault, Job, end, job_of, print, words_of};
 use bridge_text::lines_of;

@@ -2,7 +2,8 @@
 //! The program: it reads its job, does it, and ends with the status and the line of the first fault.
 ghost use Rattle.bridge_program.specs.CommandLine.{HasRoom};
 
-use bridge_folder::{Said, drawn_job, explain, explain_accepted, picture_job, say, wire_files};
+use bridge_files::{Said, say, wire_files};
+use bridge_folder::{drawn_job, explain, explain_accepted, picture_job};
 use bridge_program::{
     Fault, Job, Sketch, check_job, end, help_of, job_of, print, sketch_of, text_job,
     wants_explanation, words_of,

@@ -83,8 +83,8 @@ returns-in-Err-begin_all-clause-wrote g c = λ ports port are e.
     (subst (λ ns. HeadersStop g.W.ByteSink.contents g.W.ByteSink.has_failed ns c.args.sinks.now c.begin_all.new.sinks (run.Write port)) (sym there)
     (subst (λ f. HeadersStop g.W.ByteSink.contents g.W.ByteSink.has_failed c.deref-2.result.now c.args.sinks.now c.begin_all.new.sinks f) fault c.in-Err-begin_all.ensures.stops))
 
-pub run-requires-clause-may : goal.run-requires-clause-may
-run-requires-clause-may g c =
+pub run-done-requires-clause-may : goal.run-done-requires-clause-may
+run-done-requires-clause-may g c =
     let p = c.args.accepted.now in
     let lists = subst (λ z. AreListsOf z c.in-Ok.lists) c.plan.ensures.plan c.in-Ok.ensures in
     let start = c.in-Ok-new.ensures.start in
@@ -94,8 +94,8 @@ run-requires-clause-may g c =
     (subst AreLanes (sym moved) c.in-Ok-look_at_all.ensures.lanes)
     (subst (λ ls. room_of ls ≤ _) (sym moved) c.in-Ok-look_at_all.ensures.room)
 
-pub run-requires-clause-sources : goal.run-requires-clause-sources
-run-requires-clause-sources g c =
+pub run-done-requires-clause-sources : goal.run-done-requires-clause-sources
+run-done-requires-clause-sources g c =
     let p = c.args.accepted.now in
     let lists = subst (λ z. AreListsOf z c.in-Ok.lists) c.plan.ensures.plan c.in-Ok.ensures in
     let long = c.look_at_all.auto.sources in
@@ -103,8 +103,8 @@ run-requires-clause-sources g c =
     lanes_many p c.in-Ok.lists.ports.items c.deref_mut.result.now (length c.look_at_all.new.sources) lists.ports
     (ap numbers c.deref_mut.ensures.value ∙ c.in-Ok-look_at_all.ensures.numbers ∙ c.deref.ensures.value) (omega (arith, long, asked))
 
-pub run-requires-clause-sinks : goal.run-requires-clause-sinks
-run-requires-clause-sinks g c =
+pub run-done-requires-clause-sinks : goal.run-done-requires-clause-sinks
+run-done-requires-clause-sinks g c =
     let p = c.args.accepted.now in
     let lists = subst (λ z. AreListsOf z c.in-Ok.lists) c.plan.ensures.plan c.in-Ok.ensures in
     let long = c.begin_all.auto.sinks in
@@ -117,15 +117,15 @@ run-requires-clause-sinks g c =
 pub finish-requires-clause-rises : goal.finish-requires-clause-rises
 finish-requires-clause-rises g c =
     let lists = subst (λ z. AreListsOf z c.in-Ok.lists) c.plan.ensures.plan c.in-Ok.ensures in
-    subst (Rising (λ x y. x.0 < y.0)) (sym c.deref-in-Ok-run.ensures.value) lists.rises
+    subst (Rising (λ x y. x.0 < y.0)) (sym c.deref-in-Ok-done.ensures.value) lists.rises
 
 pub finish-requires-clause-same : goal.finish-requires-clause-same
 finish-requires-clause-same g c = λ n.
     let lists = subst (λ z. AreListsOf z c.in-Ok.lists) c.plan.ensures.plan c.in-Ok.ensures in
-    ap (lookup (nat_eq n)) c.deref-in-Ok-run.ensures.value ∙ lists.same n ∙ ap (λ z. lookup (nat_eq n) z.filters) (sym (c.run.ensures.same.0 ∙ c.in-Ok-new.ensures.start.0))
+    ap (lookup (nat_eq n)) c.deref-in-Ok-done.ensures.value ∙ lists.same n ∙ ap (λ z. lookup (nat_eq n) z.filters) (sym (c.run-done.ensures.same.0 ∙ c.in-Ok-new.ensures.start.0))
 
-pub returns-in-Ok-run-clause-ok : goal.returns-in-Ok-run-clause-ok
-returns-in-Ok-run-clause-ok g c = λ ports texts are read.
+pub returns-in-Ok-done-clause-ok : goal.returns-in-Ok-done-clause-ok
+returns-in-Ok-done-clause-ok g c = λ ports texts are read.
     let p = c.args.accepted.now in
     let lists = subst (λ z. AreListsOf z c.in-Ok.lists) c.plan.ensures.plan c.in-Ok.ensures in
     let own = one_order p ports c.in-Ok.lists.ports.items are lists.ports in
@@ -137,25 +137,25 @@ returns-in-Ok-run-clause-ok g c = λ ports texts are read.
     let looked = c.look_at_all.auto.sources in
     let asked = c.requires.sources in
     let size = lanes_many p ports lanes (length c.look_at_all.new.sources) are named (omega (arith, looked, asked)) in
-    let named_then = c.run.ensures.same.1 ∙ named in
-    let ran = c.run.auto.sources in
-    let size_then = lanes_many p ports c.run.new.lanes (length c.run.new.sources) are named_then (omega (arith, looked, asked, ran)) in
-    has_run g.R.ByteSource.remaining g.W.ByteSink.contents p ports c.args.commands.now texts c.args.sinks.now c.run.new.relay c.run.new.lanes c.run.new.sources c.run.new.sinks c.finish.result are named_then size_then
-    (c.in-Ok-run.ensures.goes p texts c.args.sinks.now
+    let named_then = c.run-done.ensures.same.1 ∙ named in
+    let ran = c.run-done.auto.sources in
+    let size_then = lanes_many p ports c.run-done.new.lanes (length c.run-done.new.sources) are named_then (omega (arith, looked, asked, ran)) in
+    has_run g.R.ByteSource.remaining g.W.ByteSink.contents p ports c.args.commands.now texts c.args.sinks.now c.run-done.new.relay c.run-done.new.lanes c.run-done.new.sources c.run-done.new.sinks c.finish.result are named_then size_then
+    (c.in-Ok-done.ensures.goes p texts c.args.sinks.now
     (under_first g.R.ByteSource.remaining g.W.ByteSink.contents p ports texts (first_of_commands c.args.commands.now) c.args.sinks.now c.in-Ok-new.relay lanes c.look_at_all.new.sources c.begin_all.new.sinks are named size
     (subst (λ ls. AreAheadOf g.R.ByteSource.remaining texts (λ q. []) ls c.look_at_all.new.sources) (sym moved) (c.in-Ok-look_at_all.ensures.begins texts (subst (λ ns. AreTexts g.R.ByteSource.remaining ns texts c.args.sources.now) same read)))
     c.in-Ok-new.ensures.stands
     (subst (λ ns. AreWritten g.W.ByteSink.contents ns c.args.sinks.now c.begin_all.new.sinks (λ q. [])) (sym there) c.in-Ok-begin_all.ensures.headers)))
     (λ es left s. c.finish.ensures.ends p es left s)
 
-pub returns-in-Ok-run-clause-isolated : goal.returns-in-Ok-run-clause-isolated
-returns-in-Ok-run-clause-isolated g c = λ ports texts. isolates c.args.accepted.now ports c.args.commands.now texts g.W.ByteSink.contents c.args.sinks.now c.run.new.sinks c.finish.result c.plan.ensures.rules c.plan.ensures.acceptable
+pub returns-in-Ok-done-clause-isolated : goal.returns-in-Ok-done-clause-isolated
+returns-in-Ok-done-clause-isolated g c = λ ports texts. isolates c.args.accepted.now ports c.args.commands.now texts g.W.ByteSink.contents c.args.sinks.now c.run-done.new.sinks c.finish.result c.plan.ensures.rules c.plan.ensures.acceptable
 
-pub returns-in-Ok-run-clause-others_change_nothing : goal.returns-in-Ok-run-clause-others_change_nothing
-returns-in-Ok-run-clause-others_change_nothing g c = λ ports texts. others_change_nothing c.args.accepted.now ports c.args.commands.now texts g.W.ByteSink.contents c.args.sinks.now c.run.new.sinks c.finish.result c.plan.ensures.rules c.plan.ensures.acceptable
+pub returns-in-Ok-done-clause-others_change_nothing : goal.returns-in-Ok-done-clause-others_change_nothing
+returns-in-Ok-done-clause-others_change_nothing g c = λ ports texts. others_change_nothing c.args.accepted.now ports c.args.commands.now texts g.W.ByteSink.contents c.args.sinks.now c.run-done.new.sinks c.finish.result c.plan.ensures.rules c.plan.ensures.acceptable
 
-pub returns-in-Ok-run-clause-few : goal.returns-in-Ok-run-clause-few
-returns-in-Ok-run-clause-few g c = λ ports texts ran q out at. few_leave c.args.accepted.now (events ran.inputs) ran.left c.finish.result q out ran.ends at
+pub returns-in-Ok-done-clause-few : goal.returns-in-Ok-done-clause-few
+returns-in-Ok-done-clause-few g c = λ ports texts ran q out at. few_leave c.args.accepted.now (events ran.inputs) ran.left c.finish.result q out ran.ends at
 
 pub returns-clause-err : goal.returns-clause-err
 returns-clause-err g c = λ ports texts are read.
@@ -170,13 +170,13 @@ returns-clause-err g c = λ ports texts are read.
     let looked = c.look_at_all.auto.sources in
     let asked = c.requires.sources in
     let size = lanes_many p ports lanes (length c.look_at_all.new.sources) are named (omega (arith, looked, asked)) in
-    let stops = c.in-Err-run.ensures.goes p texts c.args.sinks.now
+    let stops = c.in-Err-done.ensures.goes p texts c.args.sinks.now
     (under_first g.R.ByteSource.remaining g.W.ByteSink.contents p ports texts (first_of_commands c.args.commands.now) c.args.sinks.now c.in-Ok-new.relay lanes c.look_at_all.new.sources c.begin_all.new.sinks are named size
     (subst (λ ls. AreAheadOf g.R.ByteSource.remaining texts (λ q. []) ls c.look_at_all.new.sources) (sym moved) (c.in-Ok-look_at_all.ensures.begins texts (subst (λ ns. AreTexts g.R.ByteSource.remaining ns texts c.args.sources.now) same read)))
     c.in-Ok-new.ensures.stands
     (subst (λ ns. AreWritten g.W.ByteSink.contents ns c.args.sinks.now c.begin_all.new.sinks (λ q. [])) (sym there) c.in-Ok-begin_all.ensures.headers)) in
-    stops_among p ports c.args.commands.now texts g.W.ByteSink.contents g.W.ByteSink.has_failed c.args.sinks.now c.run.new.sinks c.in-Err-run.fault
-    (subst (λ ns. StopsAmong p texts c.args.commands.now g.W.ByteSink.contents ns c.args.sinks.now c.run.new.sinks c.in-Err-run.fault) (c.run.ensures.same.1 ∙ named) stops)
+    stops_among p ports c.args.commands.now texts g.W.ByteSink.contents g.W.ByteSink.has_failed c.args.sinks.now c.run-done.new.sinks c.in-Err-done.fault
+    (subst (λ ns. StopsAmong p texts c.args.commands.now g.W.ByteSink.contents ns c.args.sinks.now c.run-done.new.sinks c.in-Err-done.fault) (c.run-done.ensures.same.1 ∙ named) stops)
 
 pub returns-clause-read : goal.returns-clause-read
 returns-clause-read g c = λ ports port are e i w at lent.
@@ -184,7 +184,7 @@ returns-clause-read g c = λ ports port are e i w at lent.
     let lists = subst (λ z. AreListsOf z c.in-Ok.lists) c.plan.ensures.plan c.in-Ok.ensures in
     let same = one_order p ports c.in-Ok.lists.ports.items are lists.ports ∙ sym c.deref.ensures.value in
     let named = ap numbers c.deref_mut.ensures.value ∙ c.in-Ok-look_at_all.ensures.numbers ∙ sym same in
-    c.in-Err-run.ensures.read port (ap (λ f. Err f) (err_is c.in-Err-run.fault _ e)) i w (subst (λ ns. slice_get ns i ≡ Some port) (sym named) at) lent
+    c.in-Err-done.ensures.read port (ap (λ f. Err f) (err_is c.in-Err-done.fault _ e)) i w (subst (λ ns. slice_get ns i ≡ Some port) (sym named) at) lent
 
 pub returns-clause-wrote : goal.returns-clause-wrote
 returns-clause-wrote g c = λ ports port are e i w at lent.
@@ -192,7 +192,7 @@ returns-clause-wrote g c = λ ports port are e i w at lent.
     let lists = subst (λ z. AreListsOf z c.in-Ok.lists) c.plan.ensures.plan c.in-Ok.ensures in
     let same = one_order p ports c.in-Ok.lists.ports.items are lists.ports ∙ sym c.deref.ensures.value in
     let named = ap numbers c.deref_mut.ensures.value ∙ c.in-Ok-look_at_all.ensures.numbers ∙ sym same in
-    c.in-Err-run.ensures.wrote port (ap (λ f. Err f) (err_is c.in-Err-run.fault _ e)) i w (subst (λ ns. slice_get ns i ≡ Some port) (sym named) at) lent
+    c.in-Err-done.ensures.wrote port (ap (λ f. Err f) (err_is c.in-Err-done.fault _ e)) i w (subst (λ ns. slice_get ns i ≡ Some port) (sym named) at) lent
 
 pub returns-clause-sure : goal.returns-clause-sure
-returns-clause-sure g c = λ sure port e. c.run.ensures.sure (c.look_at_all.ensures.lasts sure) port (c.in-Err-run.is ∙ ap Err (err_is _ _ e))
+returns-clause-sure g c = λ sure port e. c.run-done.ensures.sure (c.look_at_all.ensures.lasts sure) port (c.in-Err-done.is ∙ ap Err (err_is _ _ e))

@@ -13,11 +13,11 @@ returns-clause-ok g c = λ text is.
     let contents = g.W.ByteSink.contents in
     let running = running_new c.args.speed c.args.room c.in-Ok-new.port (contents c.args.sink.now) (contents c.begin-2.new.sink) c.in-Ok-new.ensures.new c.in-Ok-new.ensures.stands c.in-Ok-begin.ensures.ok in
     let under : IsUnderWay c.args.speed c.args.room text (g.R.ByteSource.remaining c.begin.new.source) c.in-Ok.lane c.in-Ok-new.port no_count (contents c.args.sink.now) (contents c.begin-2.new.sink) = record { frames = []; ahead = c.in-Ok.ensures.begins text is; running = running } in
-    ends_ok c.args.speed c.args.room text (contents c.args.sink.now) (contents c.run_through.new.sink) c.run_through.result (c.run_through.ensures.ends c.args.room text (contents c.args.sink.now) under)
+    ends_ok c.args.speed c.args.room text (contents c.args.sink.now) (contents c.run_through-done.new.sink) c.run_through-done.result (c.run_through-done.ensures.ends c.args.room text (contents c.args.sink.now) under)
 
 pub returns-clause-err : goal.returns-clause-err
 returns-clause-err g c = λ text is.
     let contents = g.W.ByteSink.contents in
     let running = running_new c.args.speed c.args.room c.in-Ok-new.port (contents c.args.sink.now) (contents c.begin-2.new.sink) c.in-Ok-new.ensures.new c.in-Ok-new.ensures.stands c.in-Ok-begin.ensures.ok in
     let under : IsUnderWay c.args.speed c.args.room text (g.R.ByteSource.remaining c.begin.new.source) c.in-Ok.lane c.in-Ok-new.port no_count (contents c.args.sink.now) (contents c.begin-2.new.sink) = record { frames = []; ahead = c.in-Ok.ensures.begins text is; running = running } in
-    ends_err c.args.speed c.args.room text (contents c.args.sink.now) (contents c.run_through.new.sink) c.run_through.result (c.run_through.ensures.ends c.args.room text (contents c.args.sink.now) under)
+    ends_err c.args.speed c.args.room text (contents c.args.sink.now) (contents c.run_through-done.new.sink) c.run_through-done.result (c.run_through-done.ensures.ends c.args.room text (contents c.args.sink.now) under)

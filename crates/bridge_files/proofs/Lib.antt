@@ -1,0 +1,5 @@
+pub mod Failed
+pub mod Kept
+pub mod Devices
+pub mod Ran
+pub mod Taken

@@ -1,0 +1,158 @@
+-- A run into sinks, as one into the writers behind them.
+use Rattle.std.proofs.Common.{◌≡◌, ℕ, ◌≤◌, inl, inr, Bool, true, false, Option, Some, None, List, [], ◌∷◌, ◌++◌, length, take, drop, slice_get, refl, sym, ap, subst, ◌∙◌, arith, take_all, drop_of_length-le, append-nil, rules, zero, suc, map}
+use Rattle.std.proofs.lemmas.List.{length-map}
+use Rattle.std.proofs.lemmas.Option.{slice_get_within}
+use Rattle.std.proofs.KnownBytes.{Appends-kept}
+use Rattle.bridge_capture.specs.Grammar.{Captured}
+use Rattle.bridge_capture.specs.Written.{written_text}
+use Rattle.bridge_config.specs.declared.command.Command.{Command}
+use Rattle.bridge_config.specs.Model.{Plan}
+use Rattle.bridge_lanes.specs.declared.fault.RunFault.{RunFault}
+use Rattle.bridge_lanes.specs.declared.fault.RunFault.TheVariants as run
+use Rattle.bridge_run.specs.Merge.{Input}
+use Rattle.bridge_run.specs.declared.outcome.Outcome.{Outcome}
+use Rattle.bridge_program.proofs.Runs.{kept_appends}
+use Rattle.bridge_lanes.specs.Devices.{HasFailed}
+use Rattle.bridge_lanes.specs.Lanes.{AreTexts}
+use Rattle.bridge_stream.specs.Lines.{AreWritten}
+use Rattle.bridge_stream.specs.Simulated.{AreNumbers, Runs, Stops}
+use Rattle.bridge_stream.specs.Taking.{StopsAmong, StopsSo}
+use Rattle.bridge_stream.proofs.Simulating.{ports_many}
+use Rattle.bridge_files.specs.Flushed.{AllKept, NoneFailed, StopsFlushed}
+use Rattle.bridge_files.proofs.Kept.{kept_at, kept_length, kept_through, none_at, there}
+
+-- a list that was lent and came back with as many
+pub lent : {X : Type 0} (old new : List X) (n : ℕ) → n ≡ length old → length new ≡ length old → take n (new ++ drop (length new) old) ≡ new
+lent old new n many same =
+    ap (λ l. take n (new ++ l)) (drop_of_length-le old (omega (arith, same))) ∙ ap (take n) (append-nil new) ∙ take_all n new (omega (arith, many, same))
+
+-- what sinks hold between, writers hold in the end
+pub written_over : {W S : Type 0} (contents : W → Option (List ℕ)) (sunk : S → Option (List ℕ)) (ports : List ℕ) (writers news : List W) (olds mids : List S) (left : ℕ → List Captured) → AllKept contents sunk writers olds → AllKept sunk contents mids news → length mids ≡ length olds → AreWritten sunk ports olds mids left → AreWritten contents ports writers news left
+written_over contents sunk ports writers news olds mids left before after same written i q old new at held holds =
+    let many = kept_length contents sunk writers olds before in
+    let within = slice_get_within writers i old held in
+    let o = there olds i (omega (arith, many, within)) in
+    let m = there mids i (omega (arith, many, within, same)) in
+    Appends-kept (contents old) (sunk m.0) (contents new) (written_text (left q))
+    (kept_appends (contents old) (sunk o.0) (sunk m.0) (written_text (left q)) (kept_at contents sunk writers olds i old o.0 before held o.1) (written i q o.0 m.0 at o.1 m.1))
+    (kept_at sunk contents mids news i m.0 new after m.1 holds)
+
+-- a whole run
+pub runs_over : {A W S : Type 0} (p : Plan A) (contents : W → Option (List ℕ)) (sunk : S → Option (List ℕ)) (ports : List ℕ) (commands : List Command) (texts : ℕ → List ℕ) (writers news : List W) (olds mids : List S) (o : Outcome A) → AllKept contents sunk writers olds → AllKept sunk contents mids news → length mids ≡ length olds → Runs p ports commands texts sunk olds mids o → Runs p ports commands texts contents writers news o
+runs_over p contents sunk ports commands texts writers news olds mids o before after same ran = record {
+  frames = ran.frames;
+  inputs = ran.inputs;
+  left = ran.left;
+  reads = ran.reads;
+  others = ran.others;
+  merged = ran.merged;
+  ends = ran.ends;
+  written = written_over contents sunk ports writers news olds mids ran.left before after same ran.written;
+}
+
+-- a run that stopped under way, at a capture or for want of memory
+so_over : {A W S : Type 0} (p : Plan A) (contents : W → Option (List ℕ)) (sunk : S → Option (List ℕ)) (ports : List ℕ) (texts : ℕ → List ℕ) (commanded : List Input) (next : Option Input) (writers news : List W) (olds mids : List S) (fault : RunFault) → ((port : ℕ) → ¬ (fault ≡ run.Write port)) → AllKept contents sunk writers olds → AllKept sunk contents mids news → length mids ≡ length olds → StopsSo p texts commanded next sunk ports olds mids fault → StopsSo p texts commanded next contents ports writers news fault
+so_over p contents sunk ports texts commanded next writers news olds mids (run.Capture port fault) other before after same s = record {
+  frames = s.frames;
+  inputs = s.inputs;
+  left = s.left;
+  taken = s.taken;
+  own = s.own;
+  refused = s.refused;
+  behind = s.behind;
+  others = s.others;
+  reaches = s.reaches;
+  written = written_over contents sunk ports writers news olds mids s.left before after same s.written;
+}
+so_over p contents sunk ports texts commanded next writers news olds mids (run.Write port) other before after same s = absurd (other port refl)
+so_over p contents sunk ports texts commanded next writers news olds mids run.NoMemory other before after same s = record {
+  frames = s.frames;
+  inputs = s.inputs;
+  left = s.left;
+  moment = s.moment;
+  taken = s.taken;
+  late = s.late;
+  reaches = s.reaches;
+  written = written_over contents sunk ports writers news olds mids s.left before after same s.written;
+}
+
+among_over : {A W S : Type 0} (p : Plan A) (contents : W → Option (List ℕ)) (sunk : S → Option (List ℕ)) (ports : List ℕ) (commands : List Command) (texts : ℕ → List ℕ) (writers news : List W) (olds mids : List S) (fault : RunFault) → ((port : ℕ) → ¬ (fault ≡ run.Write port)) → AllKept contents sunk writers olds → AllKept sunk contents mids news → length mids ≡ length olds → StopsAmong p texts commands sunk ports olds mids fault → StopsAmong p texts commands contents ports writers news fault
+among_over p contents sunk ports commands texts writers news olds mids fault other before after same s = record {
+  done = s.done;
+  later = s.later;
+  all = s.all;
+  stops = so_over p contents sunk ports texts _ _ writers news olds mids fault other before after same s.stops;
+}
+
+untouched_over : {W S : Type 0} (contents : W → Option (List ℕ)) (sunk : S → Option (List ℕ)) (writers news : List W) (olds mids : List S) → AllKept contents sunk writers olds → AllKept sunk contents mids news → mids ≡ olds → AllKept contents contents writers news
+untouched_over contents sunk writers news olds mids before after same = kept_through contents sunk contents writers olds news before (subst (λ l. AllKept sunk contents l news) same after)
+
+-- no sink failed of a port
+no_write : {S : Type 0} (failed : S → Bool) (ports : List ℕ) (mids : List S) (port place : ℕ) → length mids ≡ length ports → NoneFailed failed mids → HasFailed failed ports port mids → slice_get ports place ≡ Some port → ⊥
+no_write failed ports mids port place same sound bad at =
+    let within = slice_get_within ports place port at in
+    let m = there mids place (omega (arith, same, within)) in
+    let yes : failed m.0 ≡ true = bad place m.0 at m.1 in
+    let no : failed m.0 ≡ false = none_at failed mids place m.0 sound m.1 in
+    let both : true ≡ false = cc in
+    absurd (search rules)
+
+-- a run that stopped, none of whose sinks failed
+pub stops_over : {A W S : Type 0} (p : Plan A) (contents : W → Option (List ℕ)) (sunk : S → Option (List ℕ)) (failed : S → Bool) (ports : List ℕ) (commands : List Command) (texts : ℕ → List ℕ) (writers news : List W) (olds mids : List S) (fault : RunFault)
+    → AllKept contents sunk writers olds → AllKept sunk contents mids news → length mids ≡ length olds → length mids ≡ length ports → NoneFailed failed mids → ((port : ℕ) → fault ≡ run.Write port → HasFailed failed ports port mids)
+    → Stops p ports commands texts sunk failed olds mids fault → StopsFlushed p ports commands texts contents writers news fault
+stops_over p contents sunk failed ports commands texts writers news olds mids (run.Capture port fault) before after same many sound bad stops = elim stops [
+  | inl first ↦ inl (first.own, first.looks, untouched_over contents sunk writers news olds mids before after first.untouched)
+  | inr among ↦ inr (among_over p contents sunk ports commands texts writers news olds mids (run.Capture port fault) (λ q e. absurd (search rules)) before after same among)
+]
+stops_over p contents sunk failed ports commands texts writers news olds mids (run.Write port) before after same many sound bad stops = elim stops [
+  | inl first ↦ no_write failed ports mids port first.headers.place many sound (bad port refl) first.headers.there
+  | inr among ↦ no_write failed ports mids port among.stops.written.place many sound (bad port refl) among.stops.written.there
+]
+stops_over p contents sunk failed ports commands texts writers news olds mids run.NoMemory before after same many sound bad stops = elim stops [
+  | inl first ↦ inl (untouched_over contents sunk writers news olds mids before after first)
+  | inr among ↦ inr (among_over p contents sunk ports commands texts writers news olds mids run.NoMemory (λ q e. absurd (search rules)) before after same among)
+]
+
+-- as many as ports have none behind them
+pub none_behind : {A : Type 0} (p : Plan A) (ports : List ℕ) (n port : ℕ) → AreNumbers p ports → n ≡ length p.ports → ¬ (slice_get ports n ≡ Some port)
+none_behind p ports n port are many at = let within = slice_get_within ports n port at in let all = ports_many p ports are in absurd (omega (arith, within, all, many))
+
+-- a place without an item is behind the list
+pub behind : {X : Type 0} (xs : List X) (n : ℕ) → slice_get xs n ≡ None → length xs ≤ n
+behind [] n e = omega arith
+behind (x ∷ xs) zero e = absurd (cc)
+behind (x ∷ xs) (suc n) e = let more = behind xs n e in omega (arith, more)
+
+-- where none of some has a place, none of none has
+pub none_kept : {V : Type 0} (f : V → Option (List ℕ)) (vs ws : List V) → length vs ≡ 0 → ws ≡ [] → AllKept f f vs ws
+none_kept f [] [] many same = tt
+none_kept f [] (w ∷ ws) many same = absurd (cc)
+none_kept f (v ∷ vs) ws many same = absurd (omega (arith, many))
+
+-- two lists that give the same have as many, and the same at each place
+pub same_many : {X Y Z : Type 0} (f : X → Z) (g : Y → Z) (xs : List X) (ys : List Y) → map f xs ≡ map g ys → length xs ≡ length ys
+same_many f g xs ys same = sym (length-map xs f) ∙ ap length same ∙ length-map ys g
+
+some_is : {X : Type 0} (a b : X) → Some a ≡ Some b → a ≡ b
+some_is a b h = cc
+
+head_is : {X : Type 0} (a b : X) (xs ys : List X) → a ∷ xs ≡ b ∷ ys → a ≡ b
+head_is a b xs ys h = cc
+
+tail_is : {X : Type 0} (a b : X) (xs ys : List X) → a ∷ xs ≡ b ∷ ys → xs ≡ ys
+tail_is a b xs ys h = cc
+
+map_at : {X Y Z : Type 0} (f : X → Z) (g : Y → Z) (xs : List X) (ys : List Y) (i : ℕ) (x : X) (y : Y) → map f xs ≡ map g ys → slice_get xs i ≡ Some x → slice_get ys i ≡ Some y → f x ≡ g y
+map_at f g [] ys i x y same a b = absurd (cc)
+map_at f g (u ∷ xs) [] i x y same a b = absurd (cc)
+map_at f g (u ∷ xs) (v ∷ ys) zero x y same a b = ap f (sym (some_is u x a)) ∙ head_is (f u) (g v) (map f xs) (map g ys) same ∙ ap g (some_is v y b)
+map_at f g (u ∷ xs) (v ∷ ys) (suc i) x y same a b = map_at f g xs ys i x y (tail_is (f u) (g v) (map f xs) (map g ys) same) a b
+
+-- the texts of readers are those of the sources before them
+pub texts_over : {R S : Type 0} (remaining : R → Option (List ℕ)) (asked : S → Option (List ℕ)) (ports : List ℕ) (texts : ℕ → List ℕ) (readers : List R) (sources : List S) → map asked sources ≡ map remaining readers → AreTexts remaining ports texts readers → AreTexts asked ports texts sources
+texts_over remaining asked ports texts readers sources same read i q s at held =
+    let many = same_many asked remaining sources readers same in
+    let within = slice_get_within sources i s held in
+    let r = there readers i (omega (arith, many, within)) in
+    map_at asked remaining sources readers i s r.0 same held r.1 ∙ read i q r.0 at r.1

@@ -1,0 +1,95 @@
+//! The captures of a folder as files.
+ghost use Rattle.std.specs.Prelude.{◌≡◌, length, IfOk, IfErr, string_bytes};
+ghost use Rattle.bridge_files.specs.Files.{IsFile, IsOfCaptures};
+ghost use Rattle.bridge_files.specs.Taken.{BeginWith};
+
+use crate::output::{FileId, Output, add_file, are_same, file_at, file_of, is_one_of, output_at};
+use crate::paths::capture_path;
+use bridge_lanes::RunFault;
+use bridge_program::{Fault, NoMemory};
+use std::fs;
+use std::fs::OpenFile;
+use std::rt::Files;
+
+/// Opens the captures of ports in a folder, one after the other. The first that can't be opened is `File` of its path.
+pub fn open_all<H: AllocGlobal + Files>(
+    rt: &H,
+    folder: &str,
+    ports: &[u8],
+) -> Result<Vec<H::File>, Fault>
+    ensures all { IfOk result (λ files. length files.items ≡ length ports.now) }
+    ensures only { IfErr result (IsOfCaptures folder.now ports.now) }
+{
+    let mut files = Vec::new(rt.alloc());
+    for port in ports {
+        let Ok(path) = capture_path(rt.alloc(), folder, *port) else {
+            return Err(Fault::Run(RunFault::NoMemory));
+        };
+        let Ok(file) = fs::open(rt, path.as_str()) else {
+            return Err(Fault::File(path));
+        };
+        if files.push(file).is_err() {
+            return Err(Fault::Run(RunFault::NoMemory));
+        }
+    }
+    Ok(files)
+}
+
+/// Adds the files that are open to a list, where the system tells which they are. What stood in the list stays.
+pub fn add_files<F: OpenFile>(list: &mut Vec<FileId>, files: &[F]) -> Result<(), NoMemory>
+    ensures { BeginWith list.old.items list.new.items }
+{
+    for file in files {
+        let Ok(()) = add_file(list, file_of(file)) else {
+            return Err(NoMemory);
+        };
+    }
+    Ok(())
+}
+
+/// Opens the captures of ports in a folder to be written anew, one after the other. The first that can't be opened or
+/// made, or that is one of the files that are taken, is `File` of its path. What they hold stays until they are written.
+pub fn create_all<H: AllocGlobal + Files>(
+    rt: &H,
+    folder: &str,
+    ports: &[u8],
+    taken: &[FileId],
+) -> Result<Vec<Output<H::File>>, Fault>
+    ensures all { IfOk result (λ outputs. length outputs.items ≡ length ports.now) }
+    ensures only { IfErr result (IsOfCaptures folder.now ports.now) }
+{
+    let mut outputs = Vec::new(rt.alloc());
+    for port in ports {
+        let Ok(path) = capture_path(rt.alloc(), folder, *port) else {
+            return Err(Fault::Run(RunFault::NoMemory));
+        };
+        let output = match output_beside(rt, path, taken) {
+            Ok(output) => output,
+            Err(fault) => return Err(fault),
+        };
+        if outputs.push(output).is_err() {
+            return Err(Fault::Run(RunFault::NoMemory));
+        }
+    }
+    Ok(outputs)
+}
+
+/// Opens a file to be written anew. It is `File` of its path where it can't be opened or made, or is one of those taken.
+fn output_beside<H: AllocGlobal + Files>(
+    rt: &H,
+    path: String,
+    taken: &[FileId],
+) -> Result<Output<H::File>, Fault>
+    ensures { IfErr result (IsFile (string_bytes path)) }
+{
+    match output_at(rt, path.as_str()) {
+        Ok(output) if !is_one_of(taken, output.id()) => Ok(output),
+        _ => Err(Fault::File(path)),
+    }
+}
+
+/// Whether two paths lead to one folder, whatever they are called: to the same inode of the same device. Where one of them
+/// can't be looked at, they don't.
+pub fn is_same_folder(rt: &impl Files, one: &str, other: &str) -> bool {
+    are_same(file_at(rt, one), file_at(rt, other))
+}

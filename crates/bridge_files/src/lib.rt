@@ -1,0 +1,18 @@
+#![tactic(auto)]
+//! The files of a job: captures that are opened and made, what is read from them and written into them, and what is lost of
+//! them by a fault.
+
+mod files;
+mod output;
+mod paths;
+mod running;
+mod taking;
+mod transfer;
+mod wiring;
+
+pub use files::{add_files, create_all, is_same_folder, open_all};
+pub use output::{FileId, Output, add_file, are_same, file_at, file_of, is_one_of, output_at};
+pub use paths::{capture_path, report_path};
+pub use running::{Halted, run_over};
+pub use taking::open_taken;
+pub use wiring::{Said, is_standard, say, wire_files, wire_over};
