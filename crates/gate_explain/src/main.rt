@@ -1,12 +1,13 @@
 #![tactic(auto)]
-//! What is told beside the line of each kind of fault, and of plans that are accepted.
+//! The help of the program and of each of its commands, as docs/COMMANDS.md has it; then what is told beside the line of each kind
+//! of fault, and of plans that are accepted.
 //!
 //! The words name a plan that takes commands, and files of cases. `data/README.md` says how they are written.
 
 mod cases;
 mod faults;
 
-use bridge_program::{Fault, end, print, read_at_most, words_of};
+use bridge_program::{Fault, end, manual_of, print, read_at_most, words_of};
 use cases::{heading_of, told};
 use faults::{told_of_causes, told_of_faults};
 use std::fs;
@@ -20,12 +21,14 @@ fn main(rt: HostRuntime) -> ExitCode {
     }
 }
 
-/// Tells of each case of the files that the words name, then of each fault that no text has here.
+/// Prints the help, tells of each case of the files that the words name, then of each fault that no text has here.
 fn run(rt: &(impl AllocGlobal + Print + Env + Files)) -> Result<(), Fault> {
     let words = words_of(rt)?;
     let [plan, files @ ..] = words.as_slice() else {
         return Err(Fault::Words);
     };
+    let manual = manual_of(rt.alloc())?;
+    print(rt, manual.as_str())?;
     let plan = text_in(rt, plan.as_str())?;
     for file in files {
         let text = text_in(rt, file.as_str())?;

@@ -1,14 +1,16 @@
 #![tactic(auto)]
 //! `run` over a folder of captures, then what it wrote: the octets of each capture, and the report; then runs that are
-//! refused, over files that are to keep what they hold.
+//! refused, over files that are to keep what they hold; then pictures.
 
 mod kept;
+mod pictures;
 
 use bridge_files::{capture_path, report_path};
 use bridge_folder::run_job;
 use bridge_program::{Fault, Job, end, job_of, print, words_of};
 use bridge_text::lines_of;
 use kept::{octets_of, print_kept};
+use pictures::print_pictures;
 use std::process::ExitCode;
 use std::rt::{Env, Files};
 
@@ -41,7 +43,8 @@ fn run(rt: &(impl AllocGlobal + Print + Env + Files)) -> Result<(), Fault> {
         print_capture(rt, folder.as_str(), port)?;
     }
     print_report(rt, folder.as_str())?;
-    print_kept(rt)
+    print_kept(rt)?;
+    print_pictures(rt)
 }
 
 /// Prints the octets of the capture that a port wrote.

@@ -1,11 +1,9 @@
-#![tactic(auto)]
 //! Pictures of a plan and of a run over files: what they hold, that a run writes the same octets with one as without, and
 //! that a picture replaces no file of its job.
 
+use crate::kept::octets_of;
 use bridge_folder::{drawn_job, picture_job, run_job};
-use bridge_program::{Fault, Sketch, end, fault_line, print, read_at_most};
-use std::fs;
-use std::process::ExitCode;
+use bridge_program::{Fault, Sketch, fault_line, print};
 use std::rt::Files;
 
 /// The files that a run writes.
@@ -19,18 +17,8 @@ const TAKEN: [&str; 4] = [
     "drawn/report.txt",
 ];
 
-/// The most octets of a file that is read.
-const MOST: u64 = 4_000_000;
-
-fn main(rt: HostRuntime) -> ExitCode {
-    match run(&rt) {
-        Ok(()) => ExitCode::from(0),
-        Err(fault) => end(&rt, &fault),
-    }
-}
-
 /// Draws all, and prints what came of it.
-fn run(rt: &(impl AllocGlobal + Print + Files)) -> Result<(), Fault> {
+pub fn print_pictures(rt: &(impl AllocGlobal + Print + Files)) -> Result<(), Fault> {
     draw_plan(rt, "plan.svg")?;
     print_file(rt, "plan.svg")?;
     let line = plain(rt)?;
@@ -80,17 +68,6 @@ fn drawn(
     let file = owned(rt, file)?;
     let sketch = Sketch { file, from, to };
     drawn_job(rt, plan, input, output, None, Some(sketch))
-}
-
-/// The octets of a file.
-fn octets_of(rt: &(impl AllocGlobal + Files), path: &str) -> Result<Vec<u8>, Fault> {
-    let Ok(reader) = fs::open(rt, path) else {
-        return Err(Fault::File(owned(rt, path)?));
-    };
-    match read_at_most(rt.alloc(), reader, MOST) {
-        Ok(octets) => Ok(octets),
-        Err(_) => Err(Fault::File(owned(rt, path)?)),
-    }
 }
 
 /// Prints what a file holds.
