@@ -296,17 +296,26 @@ fn is_read<A: Allocator + Copy>(alloc: A, text: &[u8]) -> bool {
     }
 }
 
+/// Tests how a reading ends where a growth is refused, or none.
+fn ends_under(rt: &impl Abort, ended: Outcome, is_refused: bool, n: u64) {
+    let ran_out = is_refused && ended.1 == Some(CaptureFault::NoMemory);
+    must(rt, ran_out || ended == (2, None), "growth", n);
+}
+
+/// Tests readings in an allocator that refuses growth number `n`, and says whether it was asked for that.
+fn is_refused<A: Allocator + Copy>(rt: &impl Abort, alloc: A, text: &[u8], n: u64) -> bool {
+    let gate = RefusesOne::new(alloc, n);
+    let ended = outcome_of(&gate, text);
+    must(rt, is_read(&gate, text), "growth", n);
+    ends_under(rt, ended, gate.refused(), n);
+    gate.refused()
+}
+
 fn refuse_each<A: Allocator + Copy>(rt: &impl Abort, alloc: A, text: &[u8]) {
     for n in 1..1000 {
-        let gate = RefusesOne::new(alloc, n);
-        let ended = outcome_of(&gate, text);
-        must(rt, is_read(&gate, text), "growth", n);
-        if !gate.refused() {
-            assert!(rt; ended == (2, None));
+        if !is_refused(rt, alloc, text, n) {
             return;
         }
-        let is_refused = ended.1 == Some(CaptureFault::NoMemory);
-        must(rt, is_refused || ended == (2, None), "growth", n);
     }
     assert!(rt; false, "some growth was always refused");
 }
@@ -318,21 +327,54 @@ fn each_growth_is_refused_in_turn(rt: HostRuntime) -> Result<(), Fail> {
     Ok(())
 }
 
+/// Whether there is a further packet.
+fn has_next<R: ByteSource, A: Allocator + Copy>(
+    alloc: A,
+    capture: &mut Capture,
+    source: &mut R,
+) -> Result<bool, CaptureFault> {
+    match capture.next(alloc, source) {
+        Ok(packet) => Ok(packet.is_some()),
+        Err(fault) => Err(fault),
+    }
+}
+
+/// There is a packet, and none behind it is given, again and again.
+fn gives_one<R: ByteSource, A: Allocator + Copy>(
+    rt: &impl Abort,
+    alloc: A,
+    capture: &mut Capture,
+    source: &mut R,
+) {
+    assert!(rt; has_next(alloc, capture, source) == Ok(true));
+    for _ in 0..3 {
+        let next = has_next(alloc, capture, source);
+        assert!(rt; next == Err(CaptureFault::NoMemory));
+    }
+}
+
 /// The second packet is refused, again and again.
 fn refused_for_good<A: Allocator + Copy>(
     rt: &impl Abort,
     alloc: A,
     text: &[u8],
 ) -> Result<(), CaptureFault> {
-    let gate = RefusesOne::new(alloc, 2);
     let mut source = SliceSource::new(text);
     let mut capture = Capture::begin(&mut source)?;
-    assert!(rt; capture.next(&gate, &mut source)?.is_some());
-    for _ in 0..3 {
-        let fault = capture.next(&gate, &mut source).err();
-        assert!(rt; fault == Some(CaptureFault::NoMemory));
-    }
+    gives_one(rt, &RefusesOne::new(alloc, 2), &mut capture, &mut source);
     Ok(())
+}
+
+/// No further packet is there, again and again.
+fn gives_none<R: ByteSource, A: Allocator + Copy>(
+    rt: &impl Abort,
+    alloc: A,
+    capture: &mut Capture,
+    source: &mut R,
+) {
+    for _ in 0..3 {
+        assert!(rt; has_next(alloc, capture, source) == Ok(false));
+    }
 }
 
 /// Nothing is behind the last packet, again and again.
@@ -344,9 +386,7 @@ fn ended_for_good<A: Allocator + Copy>(
     let mut source = SliceSource::new(text);
     let mut capture = Capture::begin(&mut source)?;
     capture.rest(alloc, &mut source)?;
-    for _ in 0..3 {
-        assert!(rt; capture.next(alloc, &mut source)?.is_none());
-    }
+    gives_none(rt, alloc, &mut capture, &mut source);
     Ok(())
 }
 
@@ -627,10 +667,14 @@ fn a_sink_fails_anywhere(rt: HostRuntime) -> Result<(), Fail> {
     Ok(())
 }
 
-/// Whether all of a text is written; a sink that isn't given memory has failed.
-fn is_written<A: Allocator + Copy>(rt: &impl Abort, alloc: A, text: &[u8]) -> bool {
-    let mut sink = VecSink::new(alloc);
-    match write_both(&mut sink) {
+/// Whether all of a text was written; a sink that isn't given memory has failed.
+fn holds_all<A: Allocator + Copy>(
+    rt: &impl Abort,
+    sink: &VecSink<A>,
+    wrote: Result<(), CaptureFault>,
+    text: &[u8],
+) -> bool {
+    match wrote {
         Ok(()) => {
             assert!(rt; sink.octets() == text);
             true
@@ -643,12 +687,24 @@ fn is_written<A: Allocator + Copy>(rt: &impl Abort, alloc: A, text: &[u8]) -> bo
     }
 }
 
+/// Whether all of a text is written.
+fn is_written<A: Allocator + Copy>(rt: &impl Abort, alloc: A, text: &[u8]) -> bool {
+    let mut sink = VecSink::new(alloc);
+    let wrote = write_both(&mut sink);
+    holds_all(rt, &sink, wrote, text)
+}
+
+/// Whether all of a text is written where growth number `n` is refused: it is where that is not asked for.
+fn is_written_without<A: Allocator + Copy>(rt: &impl Abort, alloc: A, text: &[u8], n: u64) -> bool {
+    let gate = RefusesOne::new(alloc, n);
+    let is_written = is_written(rt, &gate, text);
+    must(rt, is_written != gate.refused(), "growth", n);
+    is_written
+}
+
 fn refuse_each_of_a_sink<A: Allocator + Copy>(rt: &impl Abort, alloc: A, text: &[u8]) {
     for n in 1..1000 {
-        let gate = RefusesOne::new(alloc, n);
-        let is_written = is_written(rt, &gate, text);
-        must(rt, is_written != gate.refused(), "growth", n);
-        if is_written {
+        if is_written_without(rt, alloc, text, n) {
             return;
         }
     }
@@ -662,14 +718,31 @@ fn each_growth_of_a_sink_is_refused_in_turn(rt: HostRuntime) -> Result<(), Fail>
     Ok(())
 }
 
+/// Reads both packets of a source that does not fail.
+fn reads_both<R: ByteSource, A: Allocator + Copy>(
+    rt: &impl Abort,
+    alloc: A,
+    source: &mut R,
+) -> Result<(), CaptureFault> {
+    let packets = packets_of(alloc, source)?;
+    assert!(rt; are_both(&packets));
+    assert!(rt; !source.failed());
+    Ok(())
+}
+
+/// Writes both packets to a sink that does not fail.
+fn writes_both<W: ByteSink>(rt: &impl Abort, sink: &mut W) -> Result<(), CaptureFault> {
+    write_both(sink)?;
+    assert!(rt; !sink.failed());
+    Ok(())
+}
+
 fn reads_one_by_one<A: Allocator + Copy>(
     rt: &impl Abort,
     alloc: A,
     text: &[u8],
 ) -> Result<(), CaptureFault> {
-    let packets = packets_of(alloc, &mut SliceSource::one_by_one(text))?;
-    assert!(rt; are_both(&packets));
-    Ok(())
+    reads_both(rt, alloc, &mut SliceSource::one_by_one(text))
 }
 
 fn writes_one_by_one<A: Allocator + Copy>(
@@ -678,9 +751,9 @@ fn writes_one_by_one<A: Allocator + Copy>(
     text: &[u8],
 ) -> Result<(), CaptureFault> {
     let mut sink = VecSink::one_by_one(alloc);
-    write_both(&mut sink)?;
+    let wrote = writes_both(rt, &mut sink);
     assert!(rt; sink.octets() == text);
-    Ok(())
+    wrote
 }
 
 #[test]
@@ -696,11 +769,7 @@ fn reads_a_cursor<A: Allocator + Copy>(
     alloc: A,
     text: &[u8],
 ) -> Result<(), CaptureFault> {
-    let mut source = FromRead::new(Cursor::new(text));
-    let packets = packets_of(alloc, &mut source)?;
-    assert!(rt; are_both(&packets));
-    assert!(rt; !source.failed());
-    Ok(())
+    reads_both(rt, alloc, &mut FromRead::new(Cursor::new(text)))
 }
 
 fn writes_a_vec<A: Allocator + Copy>(
@@ -709,11 +778,10 @@ fn writes_a_vec<A: Allocator + Copy>(
     text: &[u8],
 ) -> Result<(), CaptureFault> {
     let mut sink = FromWrite::new(Vec::new(alloc));
-    write_both(&mut sink)?;
-    assert!(rt; !sink.failed());
+    let wrote = writes_both(rt, &mut sink);
     let octets = sink.into_inner();
     assert!(rt; octets.as_slice() == text);
-    Ok(())
+    wrote
 }
 
 #[test]
@@ -731,13 +799,30 @@ fn is_read_ahead<A: Allocator + Copy, H: Allocator + Copy>(
     heap: H,
     text: &[u8],
 ) -> Result<bool, CaptureFault> {
-    let Ok(mut source) = ReadAhead::new(alloc, Cursor::new(text)) else {
-        return Ok(false);
-    };
-    let packets = packets_of(heap, &mut source)?;
-    assert!(rt; are_both(&packets));
-    assert!(rt; !source.failed());
-    Ok(true)
+    match ReadAhead::new(alloc, Cursor::new(text)) {
+        Ok(mut source) => {
+            let read = reads_both(rt, heap, &mut source);
+            drop(source);
+            read?;
+            Ok(true)
+        }
+        Err(_) => Ok(false),
+    }
+}
+
+/// Tests what is behind a buffer for writing that is finished.
+fn is_finished<A: Allocator + Copy, H: Allocator + Copy>(
+    rt: &impl Abort,
+    sink: WriteBehind<Vec<u8, H>, A>,
+    text: &[u8],
+) -> Result<(), CaptureFault> {
+    match sink.finish() {
+        Ok(octets) => {
+            assert!(rt; octets.as_slice() == text);
+            Ok(())
+        }
+        Err(_) => Err(CaptureFault::Write),
+    }
 }
 
 /// Writes both packets through a buffer in an allocator, where that is given.
@@ -747,32 +832,29 @@ fn is_written_behind<A: Allocator + Copy, H: Allocator + Copy>(
     heap: H,
     text: &[u8],
 ) -> Result<bool, CaptureFault> {
-    let Ok(mut sink) = WriteBehind::new(alloc, Vec::new(heap)) else {
-        return Ok(false);
-    };
-    write_both(&mut sink)?;
-    assert!(rt; !sink.failed());
-    match sink.finish() {
-        Ok(octets) => {
-            assert!(rt; octets.as_slice() == text);
+    match WriteBehind::new(alloc, Vec::new(heap)) {
+        Ok(mut sink) => {
+            let wrote = writes_both(rt, &mut sink);
+            is_finished(rt, sink, text)?;
+            wrote?;
             Ok(true)
         }
-        Err(_) => Err(CaptureFault::Write),
+        Err(_) => Ok(false),
     }
 }
 
-/// Tests a buffer for reading and one for writing whose allocator refuses growth number `n`.
-fn buffers_go<A: Allocator + Copy>(
+/// Tests a buffer for reading and one for writing in an allocator that refuses growth number `n`.
+fn buffers_are<A: Allocator + Copy, H: Allocator + Copy>(
     rt: &impl Abort,
     alloc: A,
+    heap: H,
     text: &[u8],
     n: u64,
 ) -> Result<(), CaptureFault> {
-    let gate = RefusesOne::new(alloc, n);
-    let is_read = is_read_ahead(rt, &gate, alloc, text)?;
+    let is_read = is_read_ahead(rt, alloc, heap, text)?;
     must(rt, is_read == (n != 1), "a buffer for reading, growth", n);
     if is_read {
-        let is_written = is_written_behind(rt, &gate, alloc, text)?;
+        let is_written = is_written_behind(rt, alloc, heap, text)?;
         must(
             rt,
             is_written == (n != 2),
@@ -781,6 +863,16 @@ fn buffers_go<A: Allocator + Copy>(
         );
     }
     Ok(())
+}
+
+/// The same, with that allocator.
+fn buffers_go<A: Allocator + Copy>(
+    rt: &impl Abort,
+    alloc: A,
+    text: &[u8],
+    n: u64,
+) -> Result<(), CaptureFault> {
+    buffers_are(rt, &RefusesOne::new(alloc, n), alloc, text, n)
 }
 
 #[test]

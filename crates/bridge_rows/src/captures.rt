@@ -23,6 +23,53 @@ fn push_word<A: Allocator>(
     text.extend_from_slice(&octets)
 }
 
+fn push_words<A: Allocator>(
+    text: &mut Vec<u8, A>,
+    order: Order,
+    words: &Words,
+) -> Result<(), AllocError> {
+    for word in words {
+        push_word(text, order, *word)?;
+    }
+    Ok(())
+}
+
+fn push_header<A: Allocator>(
+    text: &mut Vec<u8, A>,
+    order: Order,
+    magic: u32,
+) -> Result<(), AllocError> {
+    push_word(text, order, magic)?;
+    let version = match order {
+        Order::Little => [2, 0, 4, 0],
+        Order::Big => [0, 2, 0, 4],
+    };
+    text.extend_from_slice(&version)?;
+    push_words(text, order, &[0, 0, 65_535, 1])
+}
+
+fn push_records<A: Allocator>(
+    text: &mut Vec<u8, A>,
+    order: Order,
+    records: &[Words],
+) -> Result<(), AllocError> {
+    for words in records {
+        push_words(text, order, words)?;
+        text.extend_from_slice(&FRAME)?;
+    }
+    Ok(())
+}
+
+fn push_capture<A: Allocator>(
+    text: &mut Vec<u8, A>,
+    order: Order,
+    magic: u32,
+    records: &[Words],
+) -> Result<(), AllocError> {
+    push_header(text, order, magic)?;
+    push_records(text, order, records)
+}
+
 /// A capture under this magic: its records' words, each with the frame.
 pub fn capture_under<A: Allocator + Copy>(
     alloc: A,
@@ -31,22 +78,10 @@ pub fn capture_under<A: Allocator + Copy>(
     records: &[Words],
 ) -> Result<Vec<u8, A>, AllocError> {
     let mut text = Vec::new(alloc);
-    push_word(&mut text, order, magic)?;
-    let version = match order {
-        Order::Little => [2, 0, 4, 0],
-        Order::Big => [0, 2, 0, 4],
-    };
-    text.extend_from_slice(&version)?;
-    for word in [0, 0, 65_535, 1] {
-        push_word(&mut text, order, word)?;
+    match push_capture(&mut text, order, magic, records) {
+        Ok(()) => Ok(text),
+        Err(refused) => Err(refused),
     }
-    for words in records {
-        for word in words {
-            push_word(&mut text, order, *word)?;
-        }
-        text.extend_from_slice(&FRAME)?;
-    }
-    Ok(text)
 }
 
 /// A capture in the written form: its records' words, each with the frame.

@@ -1,6 +1,6 @@
 //! Rows for the hexadecimal text of captures.
 use crate::must::must;
-use bridge_capture::{CaptureFault, VecSink, Writer};
+use bridge_capture::{ByteSink, CaptureFault, VecSink, Writer};
 use bridge_refusing::RefusesOne;
 use bridge_text::{HexFault, MAX_OCTETS, MAX_TEXT, lines_of, octets_of};
 use std::alloc::{AllocError, Allocator};
@@ -18,14 +18,22 @@ const FIRST_LINE: &str = "0000000040890100120000003c00000002000000000a0200000000
 
 const SECOND_LINE: &str = "00000000e08b0100120000003c00000002000000000a0200000000018100000a88b5\n";
 
+/// Writes a capture of the frame at each of these moments.
+fn write_each<W: ByteSink>(sink: &mut W, moments: &[u32]) -> Result<(), CaptureFault> {
+    let mut writer = Writer::begin(sink)?;
+    for done in moments {
+        writer.put(sink, u64::from(*done), 60, &FRAME)?;
+    }
+    Ok(())
+}
+
 /// A capture of the frame at each of these moments.
 fn capture_of<A: Allocator>(alloc: A, moments: &[u32]) -> Result<VecSink<A>, CaptureFault> {
     let mut sink = VecSink::new(alloc);
-    let mut writer = Writer::begin(&mut sink)?;
-    for done in moments {
-        writer.put(&mut sink, u64::from(*done), 60, &FRAME)?;
+    match write_each(&mut sink, moments) {
+        Ok(()) => Ok(sink),
+        Err(fault) => Err(fault),
     }
-    Ok(sink)
 }
 
 /// So many times the one text, and then the other.
@@ -40,7 +48,7 @@ fn repeated<A: Allocator + Copy>(
     Ok(text)
 }
 
-const SPELLED: [(&str, Result<&[u8], HexFault>); 12] = [
+const SPELLED: &[(&str, Result<&[u8], HexFault>)] = &[
     ("", Ok(&[])),
     (" \t\r\n", Ok(&[])),
     ("4d3cb2a1", Ok(&[0x4d, 0x3c, 0xb2, 0xa1])),
@@ -71,13 +79,13 @@ fn spells<A: Allocator + Copy>(
 
 #[test]
 fn a_text_spells_octets(rt: HostRuntime) {
-    for (text, wanted) in &SPELLED {
+    for (text, wanted) in SPELLED {
         spells(&rt, rt.alloc(), text, *wanted);
     }
 }
 
 /// How often an octet stands before a text, and the fault.
-const LIMITS: [(usize, u8, &str, Option<HexFault>); 11] = [
+const LIMITS: &[(usize, u8, &str, Option<HexFault>)] = &[
     (2 * MAX_OCTETS, b'0', "", None),
     (2 * MAX_OCTETS, b'0', " \n", None),
     (2 * MAX_OCTETS, b'0', "00", Some(HexFault::TooLong)),
@@ -105,24 +113,30 @@ fn is_limited<A: Allocator + Copy>(
     Ok(())
 }
 
-fn spells_most<A: Allocator + Copy>(rt: &impl Abort, alloc: A) -> Result<(), Fail> {
-    let text = repeated(alloc, 2 * MAX_OCTETS, b'f', "")?;
-    let octets = octets_of(alloc, &text)?;
+/// Tests that these are as many octets as there may be, with each bit set.
+fn are_most(rt: &impl Abort, octets: &[u8]) {
     assert!(rt; octets.len() == 1_048_576);
     assert!(rt; octets.iter().all(|octet| *octet == 0xff));
+}
+
+fn spells_most<A: Allocator + Copy>(rt: &impl Abort, alloc: A) -> Result<(), Fail> {
+    let text = repeated(alloc, 2 * MAX_OCTETS, b'f', "")?;
+    let spelled = octets_of(alloc, &text);
+    drop(text);
+    are_most(rt, &spelled?);
     Ok(())
 }
 
 #[test]
 fn a_text_has_limits(rt: HostRuntime) -> Result<(), Fail> {
-    for (count, octet, end, wanted) in &LIMITS {
+    for (count, octet, end, wanted) in LIMITS {
         is_limited(&rt, rt.alloc(), *count, *octet, end, *wanted)?;
     }
     spells_most(&rt, rt.alloc())
 }
 
 /// The moments of a capture, and its lines.
-const LINES: [(&[u32], &[&str]); 3] = [
+const LINES: &[(&[u32], &[&str])] = &[
     (&[], &[HEADER_LINE]),
     (&[100_672], &[HEADER_LINE, FIRST_LINE]),
     (&[100_672, 101_344], &[HEADER_LINE, FIRST_LINE, SECOND_LINE]),
@@ -136,6 +150,49 @@ fn joined<A: Allocator + Copy>(alloc: A, lines: &[&str]) -> Result<String<A>, Al
     Ok(text)
 }
 
+/// Tests that a text is these lines.
+fn is_joined<A: Allocator + Copy>(
+    rt: &impl Abort,
+    alloc: A,
+    text: &str,
+    lines: &[&str],
+) -> Result<(), Fail> {
+    let wanted = joined(alloc, lines)?;
+    must(rt, text == wanted.as_str(), "lines", lines.len() as u64);
+    Ok(())
+}
+
+/// Tests the octets of so many lines.
+fn has_octets<A: Allocator + Copy>(
+    rt: &impl Abort,
+    alloc: A,
+    text: &str,
+    octets: &[u8],
+    count: usize,
+) -> Result<(), Fail> {
+    let read = octets_of(alloc, text.as_bytes())?;
+    must(
+        rt,
+        read.as_slice() == octets,
+        "octets of lines",
+        count as u64,
+    );
+    Ok(())
+}
+
+/// Tests that a text is these lines, and spells the octets.
+fn are_lines<A: Allocator + Copy>(
+    rt: &impl Abort,
+    alloc: A,
+    text: &str,
+    octets: &[u8],
+    lines: &[&str],
+) -> Result<(), Fail> {
+    is_joined(rt, alloc, text, lines)?;
+    has_octets(rt, alloc, text, octets, lines.len())
+}
+
+/// Tests the lines of octets, and the octets of these.
 fn has_lines<A: Allocator + Copy>(
     rt: &impl Abort,
     alloc: A,
@@ -143,44 +200,40 @@ fn has_lines<A: Allocator + Copy>(
     lines: &[&str],
 ) -> Result<(), Fail> {
     let text = lines_of(alloc, octets)?;
-    let wanted = joined(alloc, lines)?;
-    must(
-        rt,
-        text.as_str() == wanted.as_str(),
-        "lines",
-        lines.len() as u64,
-    );
-    let read = octets_of(alloc, text.as_bytes())?;
-    must(
-        rt,
-        read.as_slice() == octets,
-        "octets of lines",
-        lines.len() as u64,
-    );
-    Ok(())
+    let compared = are_lines(rt, alloc, text.as_str(), octets, lines);
+    drop(text);
+    compared
+}
+
+/// Tests the lines of a capture of the frame at each of these moments.
+fn capture_has_lines<A: Allocator + Copy>(
+    rt: &impl Abort,
+    alloc: A,
+    moments: &[u32],
+    lines: &[&str],
+) -> Result<(), Fail> {
+    let capture = capture_of(alloc, moments)?;
+    has_lines(rt, alloc, capture.octets(), lines)
 }
 
 #[test]
 fn a_capture_is_a_line_for_each_record(rt: HostRuntime) -> Result<(), Fail> {
-    for (moments, lines) in &LINES {
-        let capture = capture_of(rt.alloc(), moments)?;
-        has_lines(&rt, rt.alloc(), capture.octets(), lines)?;
+    for (moments, lines) in LINES {
+        capture_has_lines(&rt, rt.alloc(), moments, lines)?;
     }
     Ok(())
 }
 
-/// Tests that the lines of a capture, and the octets of a text, take one growth.
-fn takes_one_growth<A: Allocator + Copy>(
-    rt: &impl Abort,
-    alloc: A,
-    octets: &[u8],
-    text: &[u8],
-    n: u64,
-) {
+/// Tests that the lines of a capture take one growth.
+fn lines_take_one_growth<A: Allocator + Copy>(rt: &impl Abort, alloc: A, octets: &[u8], n: u64) {
     let gate = RefusesOne::new(alloc, n);
     let wrote = lines_of(&gate, octets).is_ok();
     must(rt, gate.refused() == (n == 1), "growth of lines", n);
     must(rt, wrote == (n > 1), "lines, growth", n);
+}
+
+/// Tests that the octets of a text take one growth.
+fn octets_take_one_growth<A: Allocator + Copy>(rt: &impl Abort, alloc: A, text: &[u8], n: u64) {
     let gate = RefusesOne::new(alloc, n);
     let fault = octets_of(&gate, text).err();
     must(rt, gate.refused() == (n == 1), "growth of octets", n);
@@ -192,12 +245,22 @@ fn takes_one_growth<A: Allocator + Copy>(
     must(rt, fault == wanted, "octets, growth", n);
 }
 
+/// Tests that lines of octets, and octets of these lines, take one growth.
+fn take_one_growth<A: Allocator + Copy>(
+    rt: &impl Abort,
+    alloc: A,
+    octets: &[u8],
+) -> Result<(), Fail> {
+    let text = lines_of(alloc, octets)?;
+    for n in 1..3 {
+        lines_take_one_growth(rt, alloc, octets, n);
+        octets_take_one_growth(rt, alloc, text.as_bytes(), n);
+    }
+    Ok(())
+}
+
 #[test]
 fn each_growth_of_a_text_is_refused_in_turn(rt: HostRuntime) -> Result<(), Fail> {
     let capture = capture_of(rt.alloc(), &[100_672, 101_344])?;
-    let text = lines_of(rt.alloc(), capture.octets())?;
-    for n in 1..3 {
-        takes_one_growth(&rt, rt.alloc(), capture.octets(), text.as_bytes(), n);
-    }
-    Ok(())
+    take_one_growth(&rt, rt.alloc(), capture.octets())
 }

@@ -29,6 +29,38 @@ fn run<R: ByteSource, W: ByteSink, A: Allocator + Copy>(
     wire(alloc, Speed::Mbps1000, 4, source, sink)
 }
 
+/// The same with a queue of so many places.
+fn run_in<W: ByteSink, A: Allocator + Copy>(
+    rt: &impl Abort,
+    alloc: A,
+    places: u16,
+    text: &[u8],
+    sink: &mut W,
+) -> Result<WireCount, RunFault> {
+    assert!(rt; 1 <= places);
+    assert!(rt; places <= 4_096);
+    let mut source = SliceSource::new(text);
+    wire(alloc, Speed::Mbps1000, places, &mut source, sink)
+}
+
+/// Tests what leaves of so many frames.
+fn leaves<A: Allocator + Copy>(
+    rt: &impl Abort,
+    alloc: A,
+    octets: &[u8],
+    departures: &[Words],
+    frames: u64,
+) -> Result<(), Fail> {
+    let left = capture_of(alloc, departures)?;
+    must(
+        rt,
+        octets == left.as_slice(),
+        "what leaves of frames",
+        frames,
+    );
+    Ok(())
+}
+
 /// Tests a run over a link of 1,000 Mb/s and a queue of so many places: its counts, and what leaves.
 fn goes<A: Allocator + Copy>(
     rt: &impl Abort,
@@ -38,20 +70,10 @@ fn goes<A: Allocator + Copy>(
     wanted: WireCount,
     departures: &[Words],
 ) -> Result<(), Fail> {
-    assert!(rt; 1 <= places);
-    assert!(rt; places <= 4_096);
-    let left = capture_of(alloc, departures)?;
     let mut sink = VecSink::new(alloc);
-    let mut source = SliceSource::new(text);
-    let count = wire(alloc, Speed::Mbps1000, places, &mut source, &mut sink)?;
-    must(rt, count == wanted, "the counts of frames", wanted.frames);
-    must(
-        rt,
-        sink.octets() == left.as_slice(),
-        "what leaves of frames",
-        wanted.frames,
-    );
-    Ok(())
+    let ran = run_in(rt, alloc, places, text, &mut sink);
+    must(rt, ran == Ok(wanted), "the counts of frames", wanted.frames);
+    leaves(rt, alloc, sink.octets(), departures, wanted.frames)
 }
 
 /// The same of a capture of records.
@@ -131,6 +153,17 @@ fn a_frame_of_13_octets_is_malformed(rt: HostRuntime) -> Result<(), Fail> {
     short_frame_goes(&rt, rt.alloc())
 }
 
+/// Tests that so many octets are written of what leaves.
+fn has_front(rt: &impl Abort, octets: &[u8], left: &[u8], written: usize) {
+    assert!(rt; written <= left.len());
+    must(
+        rt,
+        octets == &left[..written],
+        "what is written, of",
+        written as u64,
+    );
+}
+
 /// Tests how a run ends, and that a front of what leaves is written.
 fn ends<A: Allocator + Copy>(
     rt: &impl Abort,
@@ -152,13 +185,24 @@ fn ends<A: Allocator + Copy>(
         "the fault where there are written",
         written as u64,
     );
-    assert!(rt; written <= left.len());
-    must(
-        rt,
-        sink.octets() == &left[..written],
-        "what is written, of",
-        written as u64,
-    );
+    has_front(rt, sink.octets(), left, written);
+}
+
+/// Tests a source that fails after so many octets.
+fn source_fails<A: Allocator + Copy>(
+    rt: &impl Abort,
+    alloc: A,
+    text: &[u8],
+    left: &[u8],
+    n: usize,
+) {
+    let written = match n {
+        0..=57 => 0,
+        58..=91 => 24,
+        _ => 58,
+    };
+    let mut source = SliceSource::failing_after(text, n);
+    ends(rt, alloc, &mut source, CaptureFault::Read, left, written);
 }
 
 #[test]
@@ -166,20 +210,7 @@ fn a_source_fails_anywhere(rt: HostRuntime) -> Result<(), Fail> {
     let text = capture_of(rt.alloc(), &ARRIVALS)?;
     let left = capture_of(rt.alloc(), &DEPARTURES)?;
     for n in 0..93 {
-        let written = match n {
-            0..=57 => 0,
-            58..=91 => 24,
-            _ => 58,
-        };
-        let mut source = SliceSource::failing_after(&text, n);
-        ends(
-            &rt,
-            rt.alloc(),
-            &mut source,
-            CaptureFault::Read,
-            &left,
-            written,
-        );
+        source_fails(&rt, rt.alloc(), &text, &left, n);
     }
     Ok(())
 }
@@ -194,15 +225,19 @@ const CUTS: [(usize, CaptureFault, usize); 6] = [
     (91, CaptureFault::RecordCut(2), 24),
 ];
 
+fn cut_anywhere<A: Allocator + Copy>(rt: &impl Abort, alloc: A, text: &[u8], left: &[u8]) {
+    for (n, fault, written) in &CUTS {
+        assert!(rt; *n <= text.len());
+        let mut source = SliceSource::new(&text[..*n]);
+        ends(rt, alloc, &mut source, *fault, left, *written);
+    }
+}
+
 #[test]
 fn a_capture_is_cut_anywhere(rt: HostRuntime) -> Result<(), Fail> {
     let text = capture_of(rt.alloc(), &ARRIVALS)?;
     let left = capture_of(rt.alloc(), &DEPARTURES)?;
-    for (n, fault, written) in &CUTS {
-        assert!(rt; *n <= text.len());
-        let mut source = SliceSource::new(&text[..*n]);
-        ends(&rt, rt.alloc(), &mut source, *fault, &left, *written);
-    }
+    cut_anywhere(&rt, rt.alloc(), &text, &left);
     Ok(())
 }
 
@@ -215,13 +250,7 @@ fn sink_fails<A: Allocator + Copy>(rt: &impl Abort, alloc: A, text: &[u8], left:
         Ok(BOTH)
     };
     must(rt, ended == wanted, "a sink that fails after", n as u64);
-    assert!(rt; n <= left.len());
-    must(
-        rt,
-        sink.octets() == &left[..n],
-        "its octets after",
-        n as u64,
-    );
+    has_front(rt, sink.octets(), left, n);
 }
 
 #[test]
@@ -250,13 +279,17 @@ fn an_octet_a_call_is_the_same(rt: HostRuntime) -> Result<(), Fail> {
     Ok(())
 }
 
-/// Whether all leaves; where it doesn't, memory ran out.
-fn is_run<A: Allocator + Copy>(rt: &impl Abort, alloc: A, text: &[u8], left: &[u8]) -> bool {
-    let mut sink = VecSink::new(alloc);
-    match run(alloc, &mut SliceSource::new(text), &mut sink) {
+/// Whether a run ended well, with all that leaves; where it didn't, memory ran out.
+fn is_whole(
+    rt: &impl Abort,
+    ended: Result<WireCount, RunFault>,
+    octets: &[u8],
+    left: &[u8],
+) -> bool {
+    match ended {
         Ok(count) => {
             assert!(rt; count == BOTH);
-            assert!(rt; sink.octets() == left);
+            assert!(rt; octets == left);
             true
         }
         Err(fault) => {
@@ -267,12 +300,30 @@ fn is_run<A: Allocator + Copy>(rt: &impl Abort, alloc: A, text: &[u8], left: &[u
     }
 }
 
+/// Whether all leaves; where it doesn't, memory ran out.
+fn is_run<A: Allocator + Copy>(rt: &impl Abort, alloc: A, text: &[u8], left: &[u8]) -> bool {
+    let mut sink = VecSink::new(alloc);
+    let ended = run(alloc, &mut SliceSource::new(text), &mut sink);
+    is_whole(rt, ended, sink.octets(), left)
+}
+
+/// Tests a run in an allocator that refuses growth number `n`, and says whether it was asked for that.
+fn is_refused<A: Allocator + Copy>(
+    rt: &impl Abort,
+    alloc: A,
+    text: &[u8],
+    left: &[u8],
+    n: u64,
+) -> bool {
+    let gate = RefusesOne::new(alloc, n);
+    let is_run = is_run(rt, &gate, text, left);
+    must(rt, is_run || gate.refused(), "growth", n);
+    gate.refused()
+}
+
 fn refuse_each<A: Allocator + Copy>(rt: &impl Abort, alloc: A, text: &[u8], left: &[u8]) {
     for n in 1..1_000 {
-        let gate = RefusesOne::new(alloc, n);
-        let is_run = is_run(rt, &gate, text, left);
-        must(rt, is_run || gate.refused(), "growth", n);
-        if !gate.refused() {
+        if !is_refused(rt, alloc, text, left, n) {
             return;
         }
     }
