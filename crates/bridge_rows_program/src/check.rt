@@ -1,6 +1,6 @@
 //! Which plans isolate their protected filters: a plan of one protected filter, and each change of it that is refused.
-use bridge_check::{CheckFault, check};
-use bridge_config::plan_of;
+use bridge_check::{Accepted, CheckFault, Refused, check};
+use bridge_config::{Plan, plan_of};
 use bridge_program::{Fault, NoMemory, check_line, fault_line};
 use bridge_refusing::RefusesOne;
 use std::alloc::{Allocator, Global};
@@ -87,15 +87,30 @@ pub fn changed(alloc: Global, text: &str, change: Change) -> Result<String, Fail
     }
 }
 
+/// What the program says of a plan that is accepted, and its status.
+fn said_of_accepted(alloc: Global, accepted: Accepted<Global>) -> Result<(String, u8), NoMemory> {
+    let line = check_line(alloc, &accepted);
+    drop(accepted);
+    Ok((line?, 0))
+}
+
+/// What the program says of a plan that is read, and its status.
+fn said_of_plan(alloc: Global, plan: Plan<Global>) -> Result<(String, u8), NoMemory> {
+    match check(alloc, plan) {
+        Ok(accepted) => said_of_accepted(alloc, accepted),
+        Err(refused) => {
+            let fault = refused.fault;
+            drop(refused);
+            fault_line(alloc, &Fault::Check(fault))
+        }
+    }
+}
+
 /// What the program says of a plan, and its status.
 fn said_of(alloc: Global, text: &[u8]) -> Result<(String, u8), NoMemory> {
-    let plan = match plan_of(alloc, alloc, text) {
-        Ok(plan) => plan,
-        Err(fault) => return fault_line(alloc, &Fault::Plan(fault)),
-    };
-    match check(alloc, plan) {
-        Ok(accepted) => Ok((check_line(alloc, &accepted)?, 0)),
-        Err(refused) => fault_line(alloc, &Fault::Check(refused.fault)),
+    match plan_of(alloc, alloc, text) {
+        Ok(plan) => said_of_plan(alloc, plan),
+        Err(fault) => fault_line(alloc, &Fault::Plan(fault)),
     }
 }
 
@@ -211,31 +226,60 @@ enum Ending {
     Said,
 }
 
+/// How the line of an accepted plan ends.
+fn ending_accepted<A: Allocator + Copy>(alloc: A, accepted: &Accepted<A>) -> Ending {
+    match check_line(alloc, accepted) {
+        Ok(line) if line.as_str() == ACCEPTED => Ending::Said,
+        _ => Ending::Unsaid,
+    }
+}
+
+/// How a check ends that refuses its plan.
+fn ending_refused<A: Allocator + Copy>(refused: &Refused<A>) -> Ending {
+    if refused.fault == CheckFault::NoMemory && refused.plan.filters().len() == 2 {
+        Ending::HandedBack
+    } else {
+        Ending::Unmade
+    }
+}
+
+/// How the check of a plan that is read ends.
+fn ending_with<A: Allocator + Copy>(alloc: A, plan: Plan<A>) -> Ending {
+    match check(alloc, plan) {
+        Ok(accepted) => {
+            let ending = ending_accepted(alloc, &accepted);
+            drop(accepted);
+            ending
+        }
+        Err(refused) => {
+            let ending = ending_refused(&refused);
+            drop(refused);
+            ending
+        }
+    }
+}
+
 /// How the check of the plan ends.
 fn ending_of<A: Allocator + Copy>(alloc: A, heap: Global) -> Ending {
-    let Ok(plan) = plan_of(alloc, heap, BASE.as_bytes()) else {
-        return Ending::Unmade;
-    };
-    match check(alloc, plan) {
-        Ok(accepted) => match check_line(alloc, &accepted) {
-            Ok(line) if line.as_str() == ACCEPTED => Ending::Said,
-            _ => Ending::Unsaid,
-        },
-        Err(refused)
-            if refused.fault == CheckFault::NoMemory && refused.plan.filters().len() == 2 => {
-            Ending::HandedBack
-        }
+    match plan_of(alloc, heap, BASE.as_bytes()) {
+        Ok(plan) => ending_with(alloc, plan),
         Err(_) => Ending::Unmade,
     }
+}
+
+/// How it ends where growth number `n` is refused, and whether that was asked for.
+fn ending_without<A: Allocator + Copy>(alloc: A, heap: Global, n: u64) -> (Ending, bool) {
+    let gate = RefusesOne::new(alloc, n);
+    let ending = ending_of(&gate, heap);
+    (ending, gate.refused())
 }
 
 fn refuse_each<A: Allocator + Copy>(rt: &impl Abort, alloc: A, heap: Global) {
     let mut last = Ending::Unmade;
     let mut handed_back = false;
     for n in 1..1_000 {
-        let gate = RefusesOne::new(alloc, n);
-        let ending = ending_of(&gate, heap);
-        if !gate.refused() {
+        let (ending, is_refused) = ending_without(alloc, heap, n);
+        if !is_refused {
             assert!(rt; ending == Ending::Said);
             assert!(rt; last == Ending::Unsaid);
             assert!(rt; handed_back);

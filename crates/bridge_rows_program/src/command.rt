@@ -1,6 +1,6 @@
 //! The command line: its jobs, the words that it refuses, and what it says of a run.
 use crate::must::must;
-use bridge_capture::{Order, SliceSource, VecSink};
+use bridge_capture::{ByteSink, Order, SliceSource, VecSink};
 use bridge_frame::Speed;
 use bridge_program::{Fault, Job, NoMemory, fault_line, job_of, wire_line};
 use bridge_refusing::RefusesOne;
@@ -43,30 +43,41 @@ const WIRES: [(&[&str], Speed, u16); 6] = [
     ),
 ];
 
+/// The job that words ask for.
+fn job_from(alloc: Global, line: &[&str]) -> Result<Job, Fail> {
+    let words = words_of(alloc, line)?;
+    match job_of(alloc, &words) {
+        Ok(job) => Ok(job),
+        Err(_) => Err(Fail::from("words that are refused")),
+    }
+}
+
+/// Whether a job is a run over these files, with its speed and its places.
+fn is_wire(job: &Job, link: Speed, places: u16, from: &str, to: &str) -> bool {
+    match job {
+        Job::Wire {
+            speed,
+            room,
+            input,
+            output,
+        } => {
+            *speed == link && *room == places && input.as_str() == from && output.as_str() == to
+        }
+        _ => false,
+    }
+}
+
 fn asks_for_a_wire(
     rt: &impl Abort,
     alloc: Global,
     line: &[&str],
     link: Speed,
     places: u16,
-) -> Result<(), AllocError> {
-    let words = words_of(alloc, line)?;
-    match job_of(alloc, &words) {
-        Ok(
-            Job::Wire {
-                speed,
-                room,
-                input,
-                output,
-            },
-        ) => {
-            assert!(rt; speed == link);
-            assert!(rt; room == places);
-            assert!(rt; input.as_str() == "IN");
-            assert!(rt; output.as_str() == "OUT");
-        }
-        _ => panic!(rt; "no run over files"),
-    }
+) -> Result<(), Fail> {
+    let job = job_from(alloc, line)?;
+    let is_wire = is_wire(&job, link, places, "IN", "OUT");
+    drop(job);
+    must(rt, is_wire, "a run over files, places", u64::from(places));
     Ok(())
 }
 
@@ -80,48 +91,61 @@ fn words_ask_for_a_run_over_files(rt: HostRuntime) -> Result<(), Fail> {
 
 #[test]
 fn a_path_is_taken_as_it_stands(rt: HostRuntime) -> Result<(), Fail> {
-    let words = words_of(rt.alloc(), &["wire", "10", "1", "--", "a b/IN", "-OUT"])?;
-    match job_of(rt.alloc(), &words) {
-        Ok(Job::Wire { input, output, .. }) => {
-            assert!(rt; input.as_str() == "a b/IN");
-            assert!(rt; output.as_str() == "-OUT");
-            Ok(())
-        }
-        _ => Err(Fail::from("no run over files")),
+    let job = job_from(rt.alloc(), &["wire", "10", "1", "--", "a b/IN", "-OUT"])?;
+    assert!(rt; is_wire(&job, Speed::Mbps10, 1, "a b/IN", "-OUT"));
+    drop(job);
+    Ok(())
+}
+
+/// Whether a job is the check of this plan.
+fn is_check(job: &Job, path: &str) -> bool {
+    match job {
+        Job::Check { plan } => plan.as_str() == path,
+        _ => false,
     }
 }
 
 #[test]
 fn words_ask_for_a_check(rt: HostRuntime) -> Result<(), Fail> {
-    let words = words_of(rt.alloc(), &["check", "a b/PLAN"])?;
-    match job_of(rt.alloc(), &words) {
-        Ok(Job::Check { plan }) => {
-            assert!(rt; plan.as_str() == "a b/PLAN");
-            Ok(())
+    let job = job_from(rt.alloc(), &["check", "a b/PLAN"])?;
+    assert!(rt; is_check(&job, "a b/PLAN"));
+    drop(job);
+    Ok(())
+}
+
+/// Whether a path is the one that is wanted, if one is.
+fn is_path(path: &Option<String>, wanted: Option<&str>) -> bool {
+    match (path, wanted) {
+        (Some(path), Some(wanted)) => path.as_str() == wanted,
+        (None, None) => true,
+        _ => false,
+    }
+}
+
+/// Whether a job is the run of a plan from and to these folders, with a file of commands where that is given.
+fn is_run(job: &Job, path: &str, from: &str, to: &str, file: Option<&str>) -> bool {
+    match job {
+        Job::Run {
+            plan,
+            input,
+            output,
+            commands,
+        } => {
+            plan.as_str() == path
+                && input.as_str() == from
+                && output.as_str() == to
+                && is_path(commands, file)
         }
-        _ => Err(Fail::from("no check of a plan")),
+        _ => false,
     }
 }
 
 #[test]
 fn words_ask_for_a_run_of_a_plan(rt: HostRuntime) -> Result<(), Fail> {
-    let words = words_of(rt.alloc(), &["run", "a b/PLAN", "IN", "./OUT"])?;
-    match job_of(rt.alloc(), &words) {
-        Ok(
-            Job::Run {
-                plan,
-                input,
-                output,
-                commands: None,
-            },
-        ) => {
-            assert!(rt; plan.as_str() == "a b/PLAN");
-            assert!(rt; input.as_str() == "IN");
-            assert!(rt; output.as_str() == "./OUT");
-            Ok(())
-        }
-        _ => Err(Fail::from("no run of a plan")),
-    }
+    let job = job_from(rt.alloc(), &["run", "a b/PLAN", "IN", "./OUT"])?;
+    assert!(rt; is_run(&job, "a b/PLAN", "IN", "./OUT", None));
+    drop(job);
+    Ok(())
 }
 
 const COMMANDED: [&[&str]; 6] = [
@@ -133,27 +157,11 @@ const COMMANDED: [&[&str]; 6] = [
     &["run", "--commands", "FILE", "--", "PLAN", "IN", "OUT"],
 ];
 
-fn asks_for_commands(rt: &impl Abort, alloc: Global, line: &[&str]) -> Result<(), AllocError> {
-    let words = words_of(alloc, line)?;
-    match job_of(alloc, &words) {
-        Ok(
-            Job::Run {
-                plan,
-                input,
-                output,
-                commands,
-            },
-        ) => {
-            assert!(rt; plan.as_str() == "PLAN");
-            assert!(rt; input.as_str() == "IN");
-            assert!(rt; output.as_str() == "OUT");
-            match commands {
-                Some(path) => assert!(rt; path.as_str() == "FILE"),
-                None => panic!(rt; "no commands"),
-            }
-        }
-        _ => panic!(rt; "no run with commands"),
-    }
+fn asks_for_commands(rt: &impl Abort, alloc: Global, line: &[&str]) -> Result<(), Fail> {
+    let job = job_from(alloc, line)?;
+    let is_run = is_run(&job, "PLAN", "IN", "OUT", Some("FILE"));
+    drop(job);
+    assert!(rt; is_run);
     Ok(())
 }
 
@@ -250,6 +258,17 @@ const NANOSECONDS: [Words; 2] = [[0, 100_000, 18, 60], [0, 100_000, 18, 60]];
 
 const MICROSECONDS: [Words; 2] = [[0, 100, 18, 60], [0, 100, 18, 60]];
 
+/// What is said of a capture that goes through a queue of one place.
+fn line_through<W: ByteSink, A: Allocator + Copy>(
+    alloc: A,
+    text: &[u8],
+    sink: &mut W,
+) -> Result<String<A>, Fail> {
+    let mut source = SliceSource::new(text);
+    let count = wire(alloc, Speed::Mbps1000, 1, &mut source, sink)?;
+    Ok(wire_line(alloc, &count)?)
+}
+
 fn goes_through<A: Allocator + Copy>(
     rt: &impl Abort,
     alloc: A,
@@ -258,11 +277,9 @@ fn goes_through<A: Allocator + Copy>(
     records: &[Words],
 ) -> Result<(), Fail> {
     let text = capture_under(alloc, magic, order, records)?;
-    let mut source = SliceSource::new(&text);
-    let mut sink = VecSink::new(alloc);
-    let count = wire(alloc, Speed::Mbps1000, 1, &mut source, &mut sink)?;
-    let line = wire_line(alloc, &count)?;
-    assert!(rt; line.as_str() == "frames 2 malformed 0 sent 1 full 1\n");
+    let line = line_through(alloc, &text, &mut VecSink::new(alloc));
+    drop(text);
+    assert!(rt; line?.as_str() == "frames 2 malformed 0 sent 1 full 1\n");
     Ok(())
 }
 

@@ -1,9 +1,11 @@
 //! Plans with commands: which are taken, and which fault comes first.
 use crate::check::{BASE, Change, NO_VALUE, NONE, changed};
 use crate::must::must;
+use bridge_check::Accepted;
+use bridge_config::{Command, Plan};
 use bridge_program::{Fault, NoMemory, commanded, fault_line, plan_from};
 use bridge_refusing::RefusesOne;
-use std::alloc::{Allocator, Global};
+use std::alloc::{AllocError, Allocator, Global};
 use std::io::{Error, ErrorKind, Read, Result as ReadResult};
 use std::process::Abort;
 use std::test::Fail;
@@ -51,6 +53,46 @@ impl Read for Broken {
     }
 }
 
+/// A file of commands by its path, if there is a reader of it.
+fn file_of<R: Read + Drop>(
+    heap: Global,
+    commands: Option<R>,
+) -> Result<Option<(String, R)>, AllocError> {
+    match commands {
+        Some(reader) => Ok(Some((String::from_str(heap, "FILE")?, reader))),
+        None => Ok(None),
+    }
+}
+
+/// How many commands a plan that is read takes from a reader, or its fault.
+fn taken_with<R: Read + Drop, A: Allocator + Copy>(
+    alloc: A,
+    heap: Global,
+    plan: Plan<A>,
+    commands: Option<R>,
+) -> Result<usize, Fault> {
+    match file_of(heap, commands) {
+        Ok(file) => count_of(commanded(alloc, heap, plan, file)),
+        Err(refused) => {
+            drop(plan);
+            Err(Fault::from(refused))
+        }
+    }
+}
+
+/// How many commands are taken, or the fault.
+fn count_of<A: Allocator + Copy>(
+    taken: Result<(Accepted<A>, Vec<Command, A>), Fault>,
+) -> Result<usize, Fault> {
+    match taken {
+        Ok((accepted, commands)) => {
+            drop(accepted);
+            Ok(commands.len())
+        }
+        Err(fault) => Err(fault),
+    }
+}
+
 /// How many commands a plan takes from a reader, or its fault.
 fn taken<R: Read + Drop, A: Allocator + Copy>(
     alloc: A,
@@ -59,13 +101,10 @@ fn taken<R: Read + Drop, A: Allocator + Copy>(
     commands: Option<R>,
 ) -> Result<usize, Fault> {
     let path = String::from_str(heap, "PLAN")?;
-    let plan = plan_from(alloc, heap, path, plan.as_bytes())?;
-    let file = match commands {
-        Some(reader) => Some((String::from_str(heap, "FILE")?, reader)),
-        None => None,
-    };
-    let (_, commands) = commanded(alloc, heap, plan, file)?;
-    Ok(commands.len())
+    match plan_from(alloc, heap, path, plan.as_bytes()) {
+        Ok(plan) => taken_with(alloc, heap, plan, commands),
+        Err(fault) => Err(fault),
+    }
 }
 
 /// Tests the line of a plan that isn't run with commands, after a change of the plan.
@@ -136,6 +175,18 @@ fn the_plan_is_read_then_the_commands_then_it_is_checked(rt: HostRuntime) -> Res
     )
 }
 
+/// Tests the line of a fault.
+fn has_line(
+    rt: &impl Abort,
+    alloc: Global,
+    fault: &Fault,
+    wanted: Option<&str>,
+) -> Result<(), Fail> {
+    let (line, _) = fault_line(alloc, fault)?;
+    assert!(rt; wanted == Some(line.as_str()));
+    Ok(())
+}
+
 /// Tests how many commands are in so many spaces, or the line that refuses them.
 fn spaces_end(
     rt: &impl Abort,
@@ -144,17 +195,16 @@ fn spaces_end(
     wanted: Option<&str>,
 ) -> Result<(), Fail> {
     let text = " ".repeat(alloc, length)?;
-    match taken(alloc, alloc, BASE, Some(text.as_bytes())) {
+    let ended = taken(alloc, alloc, BASE, Some(text.as_bytes()));
+    drop(text);
+    match ended {
         Ok(count) => {
             assert!(rt; count == 0);
             assert!(rt; wanted.is_none());
+            Ok(())
         }
-        Err(fault) => {
-            let (line, _) = fault_line(alloc, &fault)?;
-            assert!(rt; wanted == Some(line.as_str()));
-        }
+        Err(fault) => has_line(rt, alloc, &fault, wanted),
     }
-    Ok(())
 }
 
 #[test]

@@ -144,46 +144,46 @@ const VERSION: &str = "tsnbridge 1.0.0\n";
 /// Words, and the text that they get, if they get one.
 type Row = (&'static [&'static str], Option<&'static str>);
 
-const ASKING: &[Row] = &[
-    (&["--help"], Some(PROGRAM)),
-    (&["-h"], Some(PROGRAM)),
-    (&["help"], Some(PROGRAM)),
-    (&["--help", "wire"], Some(PROGRAM)),
-    (&["--version"], Some(VERSION)),
-    (&["-V"], Some(VERSION)),
-    (&["wire", "--help"], Some(WIRE)),
-    (&["wire", "-h"], Some(WIRE)),
-    (&["help", "wire"], Some(WIRE)),
-    (&["wire", "1000", "4", "IN", "--help"], Some(WIRE)),
-    (&["wire", "fast", "4", "IN", "OUT", "-h"], Some(WIRE)),
-    (&["wire", "--explain", "--help"], Some(WIRE)),
-    (&["wire", "--version"], Some("tsnbridge-wire 1.0.0\n")),
-    (&["check", "--help"], Some(CHECK)),
-    (&["help", "check"], Some(CHECK)),
-    (&["check", "PLAN", "-V"], Some("tsnbridge-check 1.0.0\n")),
-    (&["run", "--help"], Some(RUN)),
-    (&["run", "PLAN", "-h"], Some(RUN)),
-    (&["help", "run"], Some(RUN)),
-    (&["run", "-V"], Some("tsnbridge-run 1.0.0\n")),
-    (&["picture", "--help"], Some(PICTURE)),
-    (&["help", "picture"], Some(PICTURE)),
+const ASKING: &[&Row] = &[
+    &(&["--help"], Some(PROGRAM)),
+    &(&["-h"], Some(PROGRAM)),
+    &(&["help"], Some(PROGRAM)),
+    &(&["--help", "wire"], Some(PROGRAM)),
+    &(&["--version"], Some(VERSION)),
+    &(&["-V"], Some(VERSION)),
+    &(&["wire", "--help"], Some(WIRE)),
+    &(&["wire", "-h"], Some(WIRE)),
+    &(&["help", "wire"], Some(WIRE)),
+    &(&["wire", "1000", "4", "IN", "--help"], Some(WIRE)),
+    &(&["wire", "fast", "4", "IN", "OUT", "-h"], Some(WIRE)),
+    &(&["wire", "--explain", "--help"], Some(WIRE)),
+    &(&["wire", "--version"], Some("tsnbridge-wire 1.0.0\n")),
+    &(&["check", "--help"], Some(CHECK)),
+    &(&["help", "check"], Some(CHECK)),
+    &(&["check", "PLAN", "-V"], Some("tsnbridge-check 1.0.0\n")),
+    &(&["run", "--help"], Some(RUN)),
+    &(&["run", "PLAN", "-h"], Some(RUN)),
+    &(&["help", "run"], Some(RUN)),
+    &(&["run", "-V"], Some("tsnbridge-run 1.0.0\n")),
+    &(&["picture", "--help"], Some(PICTURE)),
+    &(&["help", "picture"], Some(PICTURE)),
 ];
 
-const OTHERS: &[Row] = &[
-    (&[], None),
-    (&["wire", "1000", "4", "IN", "OUT"], None),
-    (&["check", "help"], None),
-    (&["check", "--", "--help"], None),
-    (&["run", "help", "IN", "OUT", "--commands=-h"], None),
-    (&["run", "PLAN", "IN", "OUT", "--", "-V"], None),
-    (&["wire", "1000", "4", "IN", "OUT", "MORE", "--help"], None),
-    (&["check", "--helping"], None),
-    (&["check", "--help=more"], None),
-    (&["help", "fly"], None),
-    (&["fly", "--help"], None),
-    (&["-hV"], None),
-    (&["fly"], None),
-    (&["check"], None),
+const OTHERS: &[&Row] = &[
+    &(&[], None),
+    &(&["wire", "1000", "4", "IN", "OUT"], None),
+    &(&["check", "help"], None),
+    &(&["check", "--", "--help"], None),
+    &(&["run", "help", "IN", "OUT", "--commands=-h"], None),
+    &(&["run", "PLAN", "IN", "OUT", "--", "-V"], None),
+    &(&["wire", "1000", "4", "IN", "OUT", "MORE", "--help"], None),
+    &(&["check", "--helping"], None),
+    &(&["check", "--help=more"], None),
+    &(&["help", "fly"], None),
+    &(&["fly", "--help"], None),
+    &(&["-hV"], None),
+    &(&["fly"], None),
+    &(&["check"], None),
 ];
 
 /// Whether these words get the text that is wanted.
@@ -206,7 +206,7 @@ fn owned_of(alloc: Global, line: &[&str]) -> Result<Vec<String>, AllocError> {
 }
 
 /// Tests each row of a table.
-fn each_gets(rt: &impl Abort, alloc: Global, rows: &[Row]) -> Result<(), Fail> {
+fn each_gets(rt: &impl Abort, alloc: Global, rows: &[&Row]) -> Result<(), Fail> {
     let mut number = 0;
     for row in rows {
         let holds = gets(alloc, row)?;

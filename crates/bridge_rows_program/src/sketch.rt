@@ -131,15 +131,18 @@ fn other_words_are_refused(rt: HostRuntime) -> Result<(), Fail> {
     Ok(())
 }
 
-#[test]
-fn words_ask_for_a_picture_of_a_plan(rt: HostRuntime) -> Result<(), Fail> {
-    let words = owned_of(rt.alloc(), &["picture", "a b/PLAN", "./FILE"])?;
-    match job_of(rt.alloc(), &words) {
-        Ok(job) => {
-            let told = format!(in rt.alloc(); "{job:?}")?;
-            assert!(rt; told.as_str() == "Picture { plan: \"a b/PLAN\", file: \"./FILE\" }");
-            Ok(())
-        }
+/// The job that words ask for, written out.
+fn told_of(alloc: Global, line: &[&str]) -> Result<String, Fail> {
+    let words = owned_of(alloc, line)?;
+    match job_of(alloc, &words) {
+        Ok(job) => Ok(format!(in alloc; "{job:?}")?),
         Err(_) => Err(Fail::from("no picture of a plan")),
     }
+}
+
+#[test]
+fn words_ask_for_a_picture_of_a_plan(rt: HostRuntime) -> Result<(), Fail> {
+    let told = told_of(rt.alloc(), &["picture", "a b/PLAN", "./FILE"])?;
+    assert!(rt; told.as_str() == "Picture { plan: \"a b/PLAN\", file: \"./FILE\" }");
+    Ok(())
 }
