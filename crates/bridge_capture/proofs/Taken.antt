@@ -7,7 +7,7 @@ use Rattle.bridge_capture.specs.declared.form.Form.{Form}
 use Rattle.bridge_capture.specs.declared.fault.CaptureFault.{CaptureFault}
 use Rattle.bridge_capture.specs.declared.fault.CaptureFault.TheVariants as faults
 use Rattle.bridge_capture.specs.Grammar.{Place, captured_of}
-use Rattle.bridge_capture.specs.Reading.{CutsOctets}
+use Rattle.bridge_capture.specs.Reading.{CutsOctets, IsOfWords}
 use Rattle.bridge_capture.specs.Taken.{TakesOfRecord, IsSound}
 use Rattle.bridge_capture.proofs.Fronts.{time_front, captured_front, original_front}
 
@@ -27,3 +27,11 @@ octets_taken form place old mid new w faults.NoMemory len few sound p same = (w,
 octets_taken form place old mid new w fault len few sound p cut =
     let o = cut.1.1.0 in
     subst (TakesOfRecord form place old new) (sym cut.0) (w ++ o, inr (sound_more form place w o len sound, brief_more form w o len cut.1.1.1), Consumes-trans old mid new w o p cut.1.1.2)
+
+-- a record's words were refused
+pub words_taken : (form : Form) (place : Place) (old new : Option (List ℕ)) (w : List ℕ) (fault : CaptureFault) → IsOfWords fault → length w ≡ 16 → Consumes old new w → TakesOfRecord form place old new fault
+words_taken form place old new w faults.Read told len p = absurd told
+words_taken form place old new w (faults.RecordCut number) told len p = absurd told
+words_taken form place old new w faults.TooManyRecords told len p = absurd told
+words_taken form place old new w faults.NoMemory told len p = absurd told
+words_taken form place old new w fault told len p = (w, len, p)

@@ -1,9 +1,9 @@
-use Rattle.std.proofs.Common.{rules, arith, Some, None, ◌∙◌, subst, take_all}
+use Rattle.std.proofs.Common.{rules, arith, Some, None, ◌∙◌, inl, subst, take, take_all}
 use Rattle.std.specs.Io.KnownBytes.{Consumes}
 use Rattle.std.proofs.lemmas.List.{length-take}
 use Rattle.bridge_capture.specs.Grammar.{Place}
 use Rattle.bridge_capture.proofs.Fronts.{ended, too_many, cut_words, words_refused, octets_refused, whole_record, head_is, unsaid}
-use Rattle.bridge_capture.proofs.Taken.{octets_taken}
+use Rattle.bridge_capture.proofs.Taken.{octets_taken, words_taken}
 use Rattle.bridge_capture.proofs.record.front_record.Goals as goal
 use Rattle.bridge_capture.proofs.record.front_record.Goals.{in-Ok, in-Ok-2, in-Err}
 
@@ -59,3 +59,14 @@ returns-in-Err-take_octets-clause-taken g c =
     let head = c.head_of-head.ensures in
     let sound = head_is place _ _ _ _ _ _ None head.time head.captured head.original c.in_default.ensures.judged in
     octets_taken c.args.form place _ _ _ words c.in-Err-take_octets.fault (search rules) (search rules) sound full (rw head.captured at c.in-Err-take_octets.ensures.octets)
+
+pub returns-then-count-lt16-clause-taken : goal.returns-then-count-lt16-clause-taken
+returns-then-count-lt16-clause-taken g c =
+    (take c.in-Ok-fill.count c.fill-2.new.buf, inl (omega (arith, length-take c.in-Ok-fill.count c.fill-2.new.buf, c.if-count-lt16.true)), c.in-Ok-fill.ensures.bytes)
+
+pub returns-in-Err-judge_head-clause-taken : goal.returns-in-Err-judge_head-clause-taken
+returns-in-Err-judge_head-clause-taken g c =
+    let place : Place = record { number = c.args.number; earliest = c.args.earliest } in
+    let words = c.fill-2.new.buf in
+    let full = subst (Consumes _ _) (take_all c.in-Ok-fill.count words (omega (arith, c.in-Ok-fill.ensures.count))) c.in-Ok-fill.ensures.bytes in
+    words_taken c.args.form place _ _ words c.in-Err-judge_head.fault c.in-Err-judge_head.ensures.only (search rules) full
