@@ -1,1 +1,2 @@
 pub mod Sets
+mod Lists
