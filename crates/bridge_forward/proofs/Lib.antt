@@ -1,2 +1,3 @@
 pub mod Memberships
 mod KeyNumbers
+mod Entries
