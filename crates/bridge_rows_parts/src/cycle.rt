@@ -56,14 +56,27 @@ fn faults<A: Allocator + Copy>(rt: &impl Abort, alloc: A) {
     }
 }
 
+/// Tests the fault of a list of so many entries of one interval.
+fn has_fault<A: Allocator + Copy>(
+    rt: &impl Abort,
+    alloc: A,
+    cycle: u64,
+    interval: u64,
+    count: usize,
+    wanted: Option<ListFault>,
+) -> Result<(), AllocError> {
+    let intervals = Vec::from_elem(alloc, interval, count)?;
+    let fault = fault_of(alloc, cycle, &intervals);
+    must(rt, fault == wanted, "a long list of cycle", cycle);
+    Ok(())
+}
+
 /// The faults of lists of as many entries as there may be, and of one more.
 fn faults_of_long_lists<A: Allocator + Copy>(rt: &impl Abort, alloc: A) -> Result<(), AllocError> {
-    let many = Vec::from_elem(alloc, 0u64, 257)?;
-    let most = Vec::from_elem(alloc, 1u64, 256)?;
-    assert!(rt; fault_of(alloc, 0, &many) == Some(ListFault::TooManyEntries));
-    assert!(rt; fault_of(alloc, 256, &most) == None);
-    assert!(rt; fault_of(alloc, 255, &most) == Some(ListFault::OverCycle));
-    Ok(())
+    let over = Some(ListFault::OverCycle);
+    has_fault(rt, alloc, 0, 0, 257, Some(ListFault::TooManyEntries))?;
+    has_fault(rt, alloc, 256, 1, 256, None)?;
+    has_fault(rt, alloc, 255, 1, 256, over)
 }
 
 #[test]
@@ -97,18 +110,28 @@ const TURNS: [Moment; 6] = [
     (1_500_000, 1, 1_500_000, 1_800_000),
 ];
 
+/// Tests what a copy of that list has, and its turns.
+fn is_from_500_000<A: Allocator + Copy>(rt: &impl Abort, copy: &CyclicList<u8, A>) {
+    assert!(rt; copy.entries() == FROM_500_000.as_slice());
+    assert!(rt; copy.base() == 500_000 && copy.cycle() == 1_000_000);
+    turns(rt, copy, &TURNS);
+}
+
 /// Tests the turns of a list and of its copy.
 fn turns_before_0<A: Allocator + Copy>(rt: &impl Abort, alloc: A) -> Result<(), ListFault> {
     let entries = Vec::from_slice(alloc, &FROM_500_000)?;
     let list = CyclicList::new(alloc, 500_000, 1_000_000, entries)?;
-    let Ok(copy) = list.copy(alloc) else {
-        return Err(ListFault::NoMemory);
-    };
-    assert!(rt; copy.entries() == FROM_500_000.as_slice());
-    assert!(rt; copy.base() == 500_000 && copy.cycle() == 1_000_000);
     turns(rt, &list, &TURNS);
-    turns(rt, &copy, &TURNS);
-    Ok(())
+    let copied = list.copy(alloc);
+    drop(list);
+    match copied {
+        Ok(copy) => {
+            is_from_500_000(rt, &copy);
+            drop(copy);
+            Ok(())
+        }
+        Err(_) => Err(ListFault::NoMemory),
+    }
 }
 
 #[test]
@@ -242,15 +265,24 @@ fn made_and_copied<A: Allocator + Copy>(alloc: A) -> Result<usize, ListFault> {
     }
 }
 
+/// Tests a list and its copy where growth number `n` is refused, and says whether that was asked for.
+fn is_refused<A: Allocator + Copy>(rt: &impl Abort, alloc: A, n: u64) -> bool {
+    let gate = RefusesOne::new(alloc, n);
+    let made = made_and_copied(&gate);
+    let wanted = if gate.refused() {
+        Err(ListFault::NoMemory)
+    } else {
+        Ok(2)
+    };
+    must(rt, made == wanted, "growth", n);
+    gate.refused()
+}
+
 fn refuse_each<A: Allocator + Copy>(rt: &impl Abort, alloc: A) {
     for n in 1..1000u64 {
-        let gate = RefusesOne::new(alloc, n);
-        let made = made_and_copied(&gate);
-        if !gate.refused() {
-            assert!(rt; made == Ok(2));
+        if !is_refused(rt, alloc, n) {
             break;
         }
-        must(rt, made == Err(ListFault::NoMemory), "growth", n);
     }
 }
 

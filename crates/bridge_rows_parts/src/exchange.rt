@@ -53,7 +53,9 @@ fn exchanges_as_said<A: Allocator + Copy>(
     exchange: &Exchange,
 ) -> Result<(), Fail> {
     let mut port = port_of(rt, alloc, exchange)?;
-    answers_as_said(rt, alloc, &mut port, name, &exchange.row)?;
+    let answered = answers_as_said(rt, alloc, &mut port, name, &exchange.row);
+    drop(port);
+    answered?;
     Ok(())
 }
 

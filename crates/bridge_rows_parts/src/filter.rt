@@ -1,5 +1,5 @@
 //! Stream filters: worked examples of verdicts, counters, flags and buckets.
-ghost use Rattle.std.specs.Prelude.{◌≡◌, ◌⊎◌, Some, None, true, IfOk, IsTrue};
+ghost use Rattle.std.specs.Prelude.{◌≡◌, ◌⊎◌, Some, None, true, IfOk, IsTrue, ◌∷◌, []};
 ghost use Rattle.bridge_meter.specs.Colours.{is_within_limits};
 ghost use Rattle.bridge_gate.specs.Schedules.{has_priorities};
 ghost use Rattle.bridge_filter.specs.Plans.{KeepsNumbers, is_there, are_distinct, all_have_priorities};
@@ -13,7 +13,7 @@ use bridge_filter::{Clear, FilterPlan, Flags, NoMemory, Police, Ruling, Verdict}
 use bridge_gate::{GateEntry, GatePlan, Schedule};
 use bridge_meter::{Buckets, MeterPlan};
 use bridge_refusing::RefusesOne;
-use std::alloc::Allocator;
+use std::alloc::{AllocError, Allocator};
 use std::process::Abort;
 use std::test::Fail;
 
@@ -103,6 +103,29 @@ fn window<A: Allocator + Copy>(
     }
 }
 
+/// One item.
+fn one_of<T: Drop, A: Allocator + Copy>(alloc: A, item: T) -> Result<Vec<T, A>, AllocError>
+    ensures { IfOk result (λ v. v.items ≡ item ∷ []) }
+{
+    let mut items = Vec::with_capacity(alloc, 1)?;
+    items.push(item)?;
+    Ok(items)
+}
+
+/// Two items.
+fn two_of<T: Drop, A: Allocator + Copy>(
+    alloc: A,
+    first: T,
+    second: T,
+) -> Result<Vec<T, A>, AllocError>
+    ensures { IfOk result (λ v. v.items ≡ first ∷ second ∷ []) }
+{
+    let mut items = Vec::with_capacity(alloc, 2)?;
+    items.push(first)?;
+    items.push(second)?;
+    Ok(items)
+}
+
 /// The gates 1, with this plan, and 99, which is always open.
 fn gates_of<A: Allocator + Copy>(
     alloc: A,
@@ -122,11 +145,10 @@ fn gates_of<A: Allocator + Copy>(
             ipv: Some(0),
         },
     };
-    let mut gates = Vec::with_capacity(alloc, 2)?;
-    if gates.push((1, window)).is_err() || gates.push((99, open)).is_err() {
-        return Err(NoMemory);
+    match two_of(alloc, (1, window), (99, open)) {
+        Ok(gates) => Ok(gates),
+        Err(_) => Err(NoMemory),
     }
-    Ok(gates)
 }
 
 /// The police of filter 10 for one stream and filter 99 for all others, given in this order from behind, with the
@@ -305,6 +327,7 @@ fn goes_as_said<A: Allocator + Copy>(rt: &impl Abort, alloc: A, row: &Row) -> Re
     let gate = window(alloc, row.shut_on_rx, row.shut_on_octets)?;
     let mut police = police_of(alloc, own, gate, row.meter)?;
     take_all(rt, &mut police, row.steps);
+    drop(police);
     Ok(())
 }
 
@@ -503,11 +526,7 @@ fn pair_of<A: Allocator + Copy>(alloc: A, first: FilterPlan) -> Result<Police<A>
         ..OWN
     };
     let filters = Vec::from_slice(alloc, &[(20, first), (21, second)])?;
-    let window = window(alloc, false, false)?;
-    let mut gates = Vec::with_capacity(alloc, 1)?;
-    if gates.push((1, window)).is_err() {
-        return Err(NoMemory);
-    }
+    let gates = one_of(alloc, (1, window(alloc, false, false)?))?;
     Police::new(alloc, filters, gates, Vec::new(alloc))
 }
 
@@ -539,6 +558,7 @@ fn goes_to_a_pair<A: Allocator + Copy>(
     assert!(rt; first.meter == None);
     let mut police = pair_of(alloc, first)?;
     rules_all(rt, &mut police, frames);
+    drop(police);
     Ok(())
 }
 
@@ -627,20 +647,30 @@ fn filter_of_all_handles_counts_before_a_greater_one(rt: HostRuntime) -> Result<
 
 fn is_made<A: Allocator + Copy>(alloc: A) -> bool {
     match window(alloc, true, true) {
-        Ok(gate) => police_of(alloc, OWN, gate, ONE_FRAME).is_ok(),
+        Ok(gate) => {
+            let made = police_of(alloc, OWN, gate, ONE_FRAME);
+            let is_made = made.is_ok();
+            drop(made);
+            is_made
+        }
         Err(_) => false,
     }
 }
 
+/// Tests that one is made but where growth number `n` is refused, and says whether that was asked for.
+fn is_refused<A: Allocator + Copy>(rt: &impl Abort, alloc: A, n: u64) -> bool {
+    let gate = RefusesOne::new(alloc, n);
+    let is_made = is_made(&gate);
+    must(rt, is_made != gate.refused(), "growth", n);
+    gate.refused()
+}
+
 fn refuse_each<A: Allocator + Copy>(rt: &impl Abort, alloc: A) {
     for n in 1..1000u64 {
-        let refusing = RefusesOne::new(alloc, n);
-        let made = is_made(&refusing);
-        if !refusing.refused() {
-            assert!(rt; made && n > 8, "with all growths granted");
+        if !is_refused(rt, alloc, n) {
+            assert!(rt; n > 8);
             return;
         }
-        must(rt, !made, "growth", n);
     }
     assert!(rt; false, "too many growths");
 }

@@ -60,17 +60,23 @@ fn goes_to<A: Allocator + Copy>(
     );
 }
 
-fn go_to_members<A: Allocator + Copy>(rt: &impl Abort, alloc: A) -> Result<(), NoMemory> {
-    let database = small(alloc)?;
+/// Tests where frames go of a database of one VLAN and one static entry.
+fn are_members<A: Allocator + Copy>(rt: &impl Abort, database: &Forwarding<A>) {
     assert!(rt; database.vlans().len() == 1);
     assert!(rt; database.statics().len() == 1);
     for (vid, address, wanted) in &MEMBERS {
         let [first, second, third, fourth] = *wanted;
-        goes_to(rt, &database, 1, *vid, address, first);
-        goes_to(rt, &database, 2, *vid, address, second);
-        goes_to(rt, &database, 3, *vid, address, third);
-        goes_to(rt, &database, 4, *vid, address, fourth);
+        goes_to(rt, database, 1, *vid, address, first);
+        goes_to(rt, database, 2, *vid, address, second);
+        goes_to(rt, database, 3, *vid, address, third);
+        goes_to(rt, database, 4, *vid, address, fourth);
     }
+}
+
+fn go_to_members<A: Allocator + Copy>(rt: &impl Abort, alloc: A) -> Result<(), NoMemory> {
+    let database = small(alloc)?;
+    are_members(rt, &database);
+    drop(database);
     Ok(())
 }
 
@@ -105,8 +111,8 @@ fn address_of(number: u16) -> [u8; 6] {
     [2, 0, 0, 0, high, low]
 }
 
-fn find_each<A: Allocator + Copy>(rt: &impl Abort, alloc: A) -> Result<(), NoMemory> {
-    let database = large(alloc)?;
+/// Tests where frames go of a database of many entries.
+fn are_found<A: Allocator + Copy>(rt: &impl Abort, database: &Forwarding<A>) {
     for number in 0..4096 {
         let wanted = if number % 2 == 0 { 0b10 } else { 0x8000 };
         let ports = database.forward(1, 10, &address_of(number));
@@ -114,6 +120,12 @@ fn find_each<A: Allocator + Copy>(rt: &impl Abort, alloc: A) -> Result<(), NoMem
     }
     let others = database.forward(1, 10, &address_of(4096));
     assert!(rt; others.bits() == 0xFFFE);
+}
+
+fn find_each<A: Allocator + Copy>(rt: &impl Abort, alloc: A) -> Result<(), NoMemory> {
+    let database = large(alloc)?;
+    are_found(rt, &database);
+    drop(database);
     Ok(())
 }
 
@@ -124,18 +136,26 @@ fn each_of_many_entries_is_found(rt: HostRuntime) -> Result<(), Fail> {
 }
 
 fn is_made<A: Allocator + Copy>(alloc: A) -> bool {
-    small(alloc).is_ok()
+    let made = small(alloc);
+    let is_made = made.is_ok();
+    drop(made);
+    is_made
+}
+
+/// Tests that one is made but where growth number `n` is refused, and says whether that was asked for.
+fn is_refused<A: Allocator + Copy>(rt: &impl Abort, alloc: A, n: u64) -> bool {
+    let gate = RefusesOne::new(alloc, n);
+    let is_made = is_made(&gate);
+    must(rt, is_made != gate.refused(), "growth", n);
+    gate.refused()
 }
 
 fn refuse_each<A: Allocator + Copy>(rt: &impl Abort, alloc: A) {
     for n in 1..1_000 {
-        let gate = RefusesOne::new(alloc, n);
-        let is_made = is_made(&gate);
-        if !gate.refused() {
-            assert!(rt; is_made && n > 4);
+        if !is_refused(rt, alloc, n) {
+            assert!(rt; n > 4);
             return;
         }
-        must(rt, !is_made, "growth", n);
     }
     assert!(rt; false, "some growth was always refused");
 }

@@ -1,4 +1,5 @@
 //! Frames: worked examples of heads, of the time on a link and of the drop eligible indication.
+use crate::must::must;
 use bridge_frame::{FrameFault, Head, Speed, Tag, mark_drop_eligible, occupation, parse};
 use std::process::Abort;
 
@@ -48,7 +49,7 @@ fn five_speeds_are_known(rt: HostRuntime) {
         (42, None),
         (0, None),
     ] {
-        assert_eq!(rt; Speed::of(mbps), want, "{mbps} Mb/s");
+        must(&rt, Speed::of(mbps) == want, "Mb/s", u64::from(mbps));
     }
 }
 
@@ -65,7 +66,7 @@ fn a_frame_without_a_head_is_malformed(rt: HostRuntime) {
         (TAGGED, 17, 9_217, Some(FrameFault::TooShort)),
     ] {
         let read = head_of(&rt, &octets, captured, len);
-        assert_eq!(rt; read.err(), fault, "{captured} octets of {len}");
+        must(&rt, read.err() == fault, "octets", captured as u64);
     }
 }
 

@@ -103,6 +103,7 @@ fn goes_as_said<A: Allocator + Copy>(rt: &impl Abort, plan: GatePlan<A>, steps: 
     assert!(rt; plan.schedule.has_priorities());
     let mut gate = StreamGate::new(plan);
     take_all(rt, &mut gate, steps);
+    drop(gate);
 }
 
 /// Takes the steps at a gate with this window.
@@ -239,9 +240,17 @@ const UNLIMITED: [Step; 3] = [
     Step::Asks(3_999_999_999_999_999_999, 1, Through(Some(3))),
 ];
 
+/// Whether a gate that is open for good has a priority that there is.
+fn fixed_has_priorities<A: Allocator + Copy>(alloc: A, ipv: u8) -> bool {
+    let plan = fixed_plan(alloc, ipv);
+    let has_priorities = plan.schedule.has_priorities();
+    drop(plan);
+    has_priorities
+}
+
 fn fixed_gate_goes<A: Allocator + Copy>(rt: &impl Abort, alloc: A) {
     goes_as_said(rt, fixed_plan(alloc, 3), &UNLIMITED);
-    assert!(rt; !fixed_plan(alloc, 8).schedule.has_priorities());
+    assert!(rt; !fixed_has_priorities(alloc, 8));
 }
 
 #[test]
@@ -251,16 +260,22 @@ fn a_fixed_gate_has_no_limit(rt: HostRuntime) {
 
 /// A plan, and its copy.
 fn made_and_copied<A: Allocator + Copy>(alloc: A) -> Result<GatePlan<A>, ListFault> {
-    let Ok(plan) = base_plan(alloc, true, false)?.copy(alloc) else {
-        return Err(ListFault::NoMemory);
-    };
-    Ok(plan)
+    let plan = base_plan(alloc, true, false)?;
+    let copied = plan.copy(alloc);
+    drop(plan);
+    match copied {
+        Ok(copy) => Ok(copy),
+        Err(_) => Err(ListFault::NoMemory),
+    }
 }
 
 /// Whether a plan and its copy can be made, where nothing but memory is wanted.
 fn is_made<A: Allocator + Copy>(rt: &impl Abort, alloc: A) -> bool {
     match made_and_copied(alloc) {
-        Ok(_) => true,
+        Ok(copy) => {
+            drop(copy);
+            true
+        }
         Err(fault) => {
             assert!(rt; fault == ListFault::NoMemory);
             false
@@ -268,15 +283,19 @@ fn is_made<A: Allocator + Copy>(rt: &impl Abort, alloc: A) -> bool {
     }
 }
 
+/// Tests that one is made but where growth number `n` is refused, and says whether that was asked for.
+fn is_refused<A: Allocator + Copy>(rt: &impl Abort, alloc: A, n: u64) -> bool {
+    let gate = RefusesOne::new(alloc, n);
+    let is_made = is_made(rt, &gate);
+    must(rt, is_made != gate.refused(), "growth", n);
+    gate.refused()
+}
+
 fn refuse_each<A: Allocator + Copy>(rt: &impl Abort, alloc: A) {
     for n in 1..1000u64 {
-        let refusing = RefusesOne::new(alloc, n);
-        let is_made = is_made(rt, &refusing);
-        if !refusing.refused() {
-            assert!(rt; is_made);
+        if !is_refused(rt, alloc, n) {
             return;
         }
-        must(rt, !is_made, "growth", n);
     }
     assert!(rt; false, "some growth was always refused");
 }

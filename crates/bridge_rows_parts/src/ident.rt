@@ -100,6 +100,7 @@ fn table_goes<A: Allocator + Copy>(
 ) -> Result<(), AllocError> {
     let table = table_of(alloc, &[entry(1, kind)], has_index)?;
     has_handles(rt, &table, wanted);
+    drop(table);
     Ok(())
 }
 
@@ -130,7 +131,13 @@ fn rows() -> [Row; 6] {
     ]
 }
 
-/// Tests the handles of a tagged frame and of an untagged one in a table of two entries.
+/// Tests the handles of a tagged frame and of an untagged one.
+fn has_first<A: Allocator + Copy>(rt: &impl Abort, table: &Ident<A>, wanted: [Option<u32>; 2]) {
+    has_handle(rt, table, 1, &head(Some(10)), 10, wanted[0]);
+    has_handle(rt, table, 1, &head(None), 10, wanted[1]);
+}
+
+/// Tests these handles in a table of two entries.
 fn matches_first<A: Allocator + Copy>(
     rt: &impl Abort,
     alloc: A,
@@ -139,8 +146,8 @@ fn matches_first<A: Allocator + Copy>(
 ) -> Result<(), AllocError> {
     let (entries, wanted) = row;
     let table = table_of(alloc, entries, has_index)?;
-    has_handle(rt, &table, 1, &head(Some(10)), 10, wanted[0]);
-    has_handle(rt, &table, 1, &head(None), 10, wanted[1]);
+    has_first(rt, &table, *wanted);
+    drop(table);
     Ok(())
 }
 
@@ -195,11 +202,16 @@ fn is_found<A: Allocator + Copy>(rt: &impl Abort, table: &Ident<A>, number: u16)
     has_handle(rt, table, port, missed, number * 16, None);
 }
 
+fn are_found<A: Allocator + Copy>(rt: &impl Abort, table: &Ident<A>) {
+    for number in 0..4096u16 {
+        is_found(rt, table, number);
+    }
+}
+
 fn find_each<A: Allocator + Copy>(rt: &impl Abort, alloc: A) -> Result<(), AllocError> {
     let table = Ident::indexed(alloc, many(alloc)?)?;
-    for number in 0..4096u16 {
-        is_found(rt, &table, number);
-    }
+    are_found(rt, &table);
+    drop(table);
     Ok(())
 }
 
@@ -211,18 +223,26 @@ fn each_of_many_entries_is_found(rt: HostRuntime) -> Result<(), Fail> {
 
 fn is_made<A: Allocator + Copy>(alloc: A) -> bool {
     let entries = [entry(1, TagKind::All), source(2, TagKind::Tagged)];
-    table_of(alloc, &entries, true).is_ok()
+    let made = table_of(alloc, &entries, true);
+    let is_made = made.is_ok();
+    drop(made);
+    is_made
+}
+
+/// Tests that one is made but where growth number `n` is refused, and says whether that was asked for.
+fn is_refused<A: Allocator + Copy>(rt: &impl Abort, alloc: A, n: u64) -> bool {
+    let gate = RefusesOne::new(alloc, n);
+    let is_made = is_made(&gate);
+    must(rt, is_made != gate.refused(), "growth", n);
+    gate.refused()
 }
 
 fn refuse_each<A: Allocator + Copy>(rt: &impl Abort, alloc: A) {
     for n in 1..1_000 {
-        let gate = RefusesOne::new(alloc, n);
-        let is_made = is_made(&gate);
-        if !gate.refused() {
-            assert!(rt; is_made && n > 4);
+        if !is_refused(rt, alloc, n) {
+            assert!(rt; n > 4);
             return;
         }
-        must(rt, !is_made, "growth", n);
     }
     assert!(rt; false, "some growth was always refused");
 }

@@ -1,6 +1,7 @@
 //! Lists that are exchanged at a moment: worked examples of turns, of fits, of copies.
 ghost use Rattle.std.specs.Prelude.{◌<◌, ◌≤◌};
 
+use crate::must::must;
 use bridge_cycle::{
     CyclicList, Egress, Joined, ListFault, NoMemory, Timeline, first_fit, longest_run,
 };
@@ -47,11 +48,8 @@ fn expect_turns<L: Timeline<State = u8>>(rt: &impl Abort, timeline: &L, rows: &[
     for (t, state, start, end) in rows {
         assert!(rt; *t < 4_000_000_000_000_000_000u64);
         let turn = timeline.turn(*t);
-        assert_eq!(rt;
-            (turn.state, turn.start, turn.end),
-            (*state, *start, *end),
-            "at {t}"
-        );
+        let is_said = turn.state == *state && turn.start == *start && turn.end == *end;
+        must(rt, is_said, "the turn at", *t);
     }
 }
 
@@ -82,24 +80,36 @@ const AT_0: [Row; 3] = [
     (1_000_000, OTHER_CLASSES, 1_000_000, 1_500_000),
 ];
 
+/// Asserts that lists that are exchanged at a moment have each of these turns.
+fn turns_are<A: Allocator + Copy>(
+    rt: &impl Abort,
+    alloc: A,
+    at: u64,
+    rows: &[Row],
+) -> Result<(), ListFault>
+    requires { at < 4_000_000_000_000_000_000 }
+{
+    let joined = swapped_at(alloc, at)?;
+    expect_turns(rt, &joined, rows);
+    drop(joined);
+    Ok(())
+}
+
 #[test]
 fn a_turn_ends_at_the_change(rt: HostRuntime) -> Result<(), Fail> {
-    let joined = swapped_at(rt.alloc(), 2_000_000)?;
-    expect_turns(&rt, &joined, &AT_AN_END);
+    turns_are(&rt, rt.alloc(), 2_000_000, &AT_AN_END)?;
     Ok(())
 }
 
 #[test]
 fn a_change_cuts_the_turn_that_it_comes_in(rt: HostRuntime) -> Result<(), Fail> {
-    let joined = swapped_at(rt.alloc(), 250_000)?;
-    expect_turns(&rt, &joined, &WITHIN_A_TURN);
+    turns_are(&rt, rt.alloc(), 250_000, &WITHIN_A_TURN)?;
     Ok(())
 }
 
 #[test]
 fn from_a_change_at_0_on_the_new_list_holds(rt: HostRuntime) -> Result<(), Fail> {
-    let joined = swapped_at(rt.alloc(), 0)?;
-    expect_turns(&rt, &joined, &AT_0);
+    turns_are(&rt, rt.alloc(), 0, &AT_0)?;
     Ok(())
 }
 
@@ -129,6 +139,7 @@ fn a_turn_goes_on_to_the_end_of_its_cycle(rt: HostRuntime) -> Result<(), Fail> {
     )?;
     let joined = Joined::new(old, new, 2_000_000);
     expect_turns(&rt, &joined, &PAST_THE_INTERVAL);
+    drop(joined);
     Ok(())
 }
 
@@ -152,12 +163,17 @@ fn fit_of<A: Allocator + Copy>(
     first_fit(joined, class, occ, from)
 }
 
+fn fit_over_the_change<A: Allocator + Copy>(rt: &impl Abort, joined: &Joined<u8, A>) {
+    assert!(rt; fit_of(rt, joined, 0, 672, 1_999_328) == 1_999_328);
+    assert!(rt; fit_of(rt, joined, 0, 672, 1_999_329) == 1_999_329);
+    assert!(rt; fit_of(rt, joined, 7, 672, 1_499_329) == 2_500_000);
+}
+
 #[test]
 fn a_frame_may_run_on_over_the_change(rt: HostRuntime) -> Result<(), Fail> {
     let joined = swapped_at(rt.alloc(), 2_000_000)?;
-    assert_eq!(rt; fit_of(&rt, &joined, 0, 672, 1_999_328), 1_999_328);
-    assert_eq!(rt; fit_of(&rt, &joined, 0, 672, 1_999_329), 1_999_329);
-    assert_eq!(rt; fit_of(&rt, &joined, 7, 672, 1_499_329), 2_500_000);
+    fit_over_the_change(&rt, &joined);
+    drop(joined);
     Ok(())
 }
 
@@ -166,51 +182,86 @@ fn whole<A: Allocator + Copy>(alloc: A, cycle: u64) -> Result<CyclicList<u8, A>,
     CyclicList::new(alloc, 0, cycle, Vec::from_slice(alloc, &[(CLASS_7, 1)])?)
 }
 
+/// Tests the cycles of lists that are exchanged at 5, of which the greater one is 3,000.
+fn has_cycles<A: Allocator + Copy>(rt: &impl Abort, joined: &Joined<u8, A>, old: u64, new: u64) {
+    let (before, after) = joined.lists();
+    assert!(rt; joined.cycle() == 3_000);
+    assert!(rt; before.cycle() == old && after.cycle() == new);
+    assert!(rt; joined.at() == 5);
+}
+
+fn has_greater_cycle<A: Allocator + Copy>(
+    rt: &impl Abort,
+    alloc: A,
+    old: u64,
+    new: u64,
+) -> Result<(), ListFault> {
+    let before = whole(alloc, old)?;
+    let joined = Joined::new(before, whole(alloc, new)?, 5);
+    has_cycles(rt, &joined, old, new);
+    drop(joined);
+    Ok(())
+}
+
 #[test]
 fn the_cycle_is_the_greater_one(rt: HostRuntime) -> Result<(), Fail> {
-    for (old, new) in [(1_000, 3_000), (3_000, 1_000)] {
-        let joined = Joined::new(whole(rt.alloc(), old)?, whole(rt.alloc(), new)?, 5);
-        assert_eq!(rt; joined.cycle(), 3_000);
-        let (before, after) = joined.lists();
-        assert_eq!(rt; (before.cycle(), after.cycle(), joined.at()), (old, new, 5));
-    }
+    has_greater_cycle(&rt, rt.alloc(), 1_000, 3_000)?;
+    has_greater_cycle(&rt, rt.alloc(), 3_000, 1_000)?;
     Ok(())
 }
 
 #[test]
 fn the_lists_of_a_port_are_one_or_two(rt: HostRuntime) -> Result<(), Fail> {
     let one = Egress::Cyclic(list_of(rt.alloc(), 0, &SEVEN_FIRST)?);
-    assert_eq!(rt; one.cycle(), 1_000_000);
+    assert!(rt; one.cycle() == 1_000_000);
     expect_turns(&rt, &one, &[(2_000_000, CLASS_7, 2_000_000, 2_500_000)]);
+    drop(one);
     Ok(())
 }
 
 #[test]
 fn the_lists_of_a_port_change(rt: HostRuntime) -> Result<(), Fail> {
     let two = Egress::Joined(swapped_at(rt.alloc(), 2_000_000)?);
-    assert_eq!(rt; two.cycle(), 1_000_000);
+    assert!(rt; two.cycle() == 1_000_000);
     expect_turns(&rt, &two, &AT_AN_END);
+    drop(two);
     Ok(())
 }
 
 /// The lists of a port that change, copied, and what the copy opens first.
 fn made_and_copied<A: Allocator + Copy>(alloc: A) -> Result<u8, ListFault> {
     let lists = Egress::Joined(swapped_at(alloc, 2_000_000)?);
-    match lists.copy(alloc) {
-        Ok(copy) => Ok(copy.turn(0).state),
+    let copied = lists.copy(alloc);
+    drop(lists);
+    match copied {
+        Ok(copy) => {
+            let state = copy.turn(0).state;
+            drop(copy);
+            Ok(state)
+        }
         Err(NoMemory) => Err(ListFault::NoMemory),
     }
+}
+
+/// Tests these where growth number `n` is refused, and says whether that was asked for.
+fn is_refused<A: Allocator + Copy>(rt: &impl Abort, alloc: A, n: u64) -> bool {
+    let gate = RefusesOne::new(alloc, n);
+    let made = made_and_copied(&gate);
+    let wanted = if gate.refused() {
+        Err(ListFault::NoMemory)
+    } else {
+        Ok(CLASS_7)
+    };
+    must(rt, made == wanted, "growth", n);
+    gate.refused()
 }
 
 #[test]
 fn each_growth_of_joined_lists_is_refused_in_turn(rt: HostRuntime) {
     for n in 1..1000u64 {
-        let gate = RefusesOne::new(rt.alloc(), n);
-        let made = made_and_copied(&gate);
-        if !gate.refused() {
-            assert_eq!(rt; (made, n), (Ok(CLASS_7), 9));
+        if !is_refused(&rt, rt.alloc(), n) {
+            assert!(rt; n == 9);
             break;
         }
-        assert_eq!(rt; made, Err(ListFault::NoMemory), "growth {n}");
     }
 }

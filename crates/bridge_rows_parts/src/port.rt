@@ -173,7 +173,9 @@ pub(crate) fn goes_as_said<A: Allocator + Copy>(
     row: &Row,
 ) -> Result<(), Fail> {
     let mut port = port_of(rt, alloc, row)?;
-    answers_as_said(rt, alloc, &mut port, name, row)?;
+    let answered = answers_as_said(rt, alloc, &mut port, name, row);
+    drop(port);
+    answered?;
     Ok(())
 }
 
@@ -353,10 +355,15 @@ fn an_entry_may_open_all_eight_classes(rt: HostRuntime) -> Result<(), Fail> {
     goes_as_said(&rt, rt.alloc(), "all classes", &ALL_CLASSES)
 }
 
-fn is_idle<A: Allocator + Copy>(rt: &impl Abort, alloc: A) -> Result<(), NoMemory> {
-    let port = Port::<u32, A>::new(alloc, Speed::Mbps100, None, WIDE)?;
+fn has_no_start<A: Allocator + Copy>(rt: &impl Abort, port: &Port<u32, A>) {
     assert!(rt; port.next_start() == None);
     assert!(rt; port.offered() == 0 && port.started() == 0 && port.earliest() == 0);
+}
+
+fn is_idle<A: Allocator + Copy>(rt: &impl Abort, alloc: A) -> Result<(), NoMemory> {
+    let port = Port::<u32, A>::new(alloc, Speed::Mbps100, None, WIDE)?;
+    has_no_start(rt, &port);
+    drop(port);
     Ok(())
 }
 
@@ -368,19 +375,26 @@ fn an_idle_port_has_no_start(rt: HostRuntime) -> Result<(), Fail> {
 
 /// Whether a port can be made, where nothing but memory is wanted.
 fn is_made<A: Allocator + Copy>(alloc: A) -> bool {
-    Port::<u32, A>::new(alloc, Speed::Mbps1000, None, NARROW).is_ok()
+    let made = Port::<u32, A>::new(alloc, Speed::Mbps1000, None, NARROW);
+    let is_made = made.is_ok();
+    drop(made);
+    is_made
+}
+
+/// Tests that one is made but where growth number `n` is refused, and says whether that was asked for.
+fn is_refused<A: Allocator + Copy>(rt: &impl Abort, alloc: A, n: u64) -> bool {
+    let gate = RefusesOne::new(alloc, n);
+    let is_made = is_made(&gate);
+    must(rt, is_made != gate.refused(), "growth", n);
+    gate.refused()
 }
 
 fn refuse_each<A: Allocator + Copy>(rt: &impl Abort, alloc: A) {
     for n in 1..1_000 {
-        let gate = RefusesOne::new(alloc, n);
-        let is_made = is_made(&gate);
-        if !gate.refused() {
-            assert!(rt; is_made);
+        if !is_refused(rt, alloc, n) {
             assert!(rt; n == 10);
             return;
         }
-        must(rt, !is_made, "growth", n);
     }
     assert!(rt; false, "some growth was always refused");
 }
