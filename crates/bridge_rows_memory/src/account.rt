@@ -1,7 +1,8 @@
 //! A heap that counts.
 use bridge_refusing::RefusesOne;
 use linked_list_allocator::LocalHeap;
-use std::alloc::{AllocError, Global};
+use std::alloc::{AllocError, Allocator, Global};
+use std::process::Abort;
 
 /// A heap of its own, which counts growths and says how much of it is in use.
 pub(crate) type Counting = RefusesOne<LocalHeap>;
@@ -28,6 +29,11 @@ pub(crate) fn counting(alloc: Global, n: u64) -> Result<Counting, AllocError> {
 pub(crate) trait Tells {
     /// What it tells now.
     fn account(&self) -> Account;
+}
+
+/// Tests that nothing was asked of an allocator since it told this.
+pub(crate) fn is_untouched<H: Allocator + Copy + Tells>(rt: &impl Abort, heap: H, told: Account) {
+    assert!(rt; heap.account() == told);
 }
 
 impl Tells for &Counting {

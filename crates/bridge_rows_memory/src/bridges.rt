@@ -2,7 +2,7 @@
 ghost use Rattle.std.specs.Prelude.{◌≡◌};
 ghost use Rattle.bridge_core.specs.Bridges.{plan_in};
 
-use crate::account::{NEVER, Tells};
+use crate::account::{NEVER, Tells, is_untouched};
 use crate::parts;
 use bridge_check::{Accepted, check};
 use bridge_config::Command;
@@ -60,6 +60,22 @@ fn send<G: Agenda + Drop, A: Allocator + Copy>(bridge: &mut Bridge<'_, G, A>) ->
     starts
 }
 
+/// What leaves gives its octets back.
+fn leave_first<G: Agenda + Drop, H: Allocator + Copy + Tells>(
+    rt: &impl Abort,
+    heap: H,
+    bridge: &mut Bridge<'_, G, H>,
+)
+    ensures plan { plan_in bridge.new ≡ plan_in bridge.old }
+{
+    let came = heap.account();
+    assert!(rt; bridge.due() == Some((3, 100_000)));
+    assert!(rt; send(bridge) == 1);
+    let sent = heap.account();
+    assert!(rt; sent.left == came.left);
+    assert!(rt; sent.used < came.used);
+}
+
 /// A frame that goes to one port takes its octets and what the lists of its filter grow by, and what leaves gives its octets
 /// back.
 fn come_first<G: Agenda + Drop, H: Allocator + Copy + Tells>(
@@ -73,13 +89,8 @@ fn come_first<G: Agenda + Drop, H: Allocator + Copy + Tells>(
 {
     let made = heap.account();
     come(heap, accepted, bridge, 1, TO_ONE)?;
-    let came = heap.account();
-    assert!(rt; made.left.saturating_sub(came.left) == 4);
-    assert!(rt; bridge.due() == Some((3, 100_000)));
-    assert!(rt; send(bridge) == 1);
-    let sent = heap.account();
-    assert!(rt; sent.left == came.left);
-    assert!(rt; sent.used < came.used);
+    assert!(rt; made.left.saturating_sub(heap.account().left) == 4);
+    leave_first(rt, heap, bridge);
     Ok(())
 }
 
@@ -118,7 +129,7 @@ fn is_idle<G: Agenda + Drop, H: Allocator + Copy + Tells>(
     assert!(rt; bridge.due() == None);
     assert!(rt; bridge.arrived() == 0 && bridge.earliest() == 0);
     assert!(rt; bridge.earliest_command() == 0);
-    assert!(rt; heap.account() == made);
+    is_untouched(rt, heap, made);
 }
 
 /// Drives a bridge; no other call takes memory.

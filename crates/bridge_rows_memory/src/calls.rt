@@ -1,11 +1,11 @@
 //! Calls that take no memory and give none back.
 ghost use Rattle.std.specs.Prelude.{◌<◌, ◌≤◌};
 
-use crate::account::{Account, NEVER, Tells};
+use crate::account::{Account, NEVER, Tells, is_untouched};
 use crate::parts::{
     LISTENER, METER, TALKER, database_of, ident_of, list_of, plan_in, port_of, window_of,
 };
-use bridge_check::check;
+use bridge_check::{Accepted, check};
 use bridge_config::Plan;
 use bridge_cycle::{CyclicList, Joined, ListFault, Run, Timeline, first_fit, longest_run};
 use bridge_filter::NoMemory;
@@ -62,7 +62,8 @@ pub(crate) fn use_list<H: Allocator + Copy + Tells>(
     let made = heap.account();
     begins(rt, made);
     ask_list(rt, &list);
-    assert!(rt; heap.account() == made);
+    is_untouched(rt, heap, made);
+    drop(list);
     Ok(())
 }
 
@@ -104,7 +105,8 @@ pub(crate) fn use_joined<H: Allocator + Copy + Tells>(
     begins(rt, made);
     let joined = Joined::new(old, new, 2_000_000);
     ask_joined(rt, &joined);
-    assert!(rt; heap.account() == made);
+    is_untouched(rt, heap, made);
+    drop(joined);
     Ok(())
 }
 
@@ -133,7 +135,8 @@ pub(crate) fn use_gate<H: Allocator + Copy + Tells>(
     assert!(rt; plan.schedule.turn(0).end == 300_000);
     let mut gate = StreamGate::new(plan);
     ask_gate(rt, &mut gate);
-    assert!(rt; heap.account() == made);
+    is_untouched(rt, heap, made);
+    drop(gate);
     Ok(())
 }
 
@@ -182,7 +185,8 @@ pub(crate) fn use_ident<H: Allocator + Copy + Tells>(
     let made = heap.account();
     begins(rt, made);
     ask_ident(rt, &table);
-    assert!(rt; heap.account() == made);
+    is_untouched(rt, heap, made);
+    drop(table);
     Ok(())
 }
 
@@ -214,7 +218,8 @@ pub(crate) fn use_database<H: Allocator + Copy + Tells>(
     let made = heap.account();
     begins(rt, made);
     ask_database(rt, &database);
-    assert!(rt; heap.account() == made);
+    is_untouched(rt, heap, made);
+    drop(database);
     Ok(())
 }
 
@@ -256,8 +261,16 @@ pub(crate) fn have_port<H: Allocator + Copy + Tells>(
     let made = heap.account();
     begins(rt, made);
     use_port(rt, &mut port);
-    assert!(rt; heap.account() == made);
+    is_untouched(rt, heap, made);
+    drop(port);
     Ok(())
+}
+
+/// The readers of gates, meters and filters.
+fn read_sections<A: Allocator + Copy>(rt: &impl Abort, plan: &Plan<A>) {
+    assert!(rt; plan.gates().len() == 2);
+    assert!(rt; plan.meters().len() == 1);
+    assert!(rt; plan.filters().len() == 2);
 }
 
 /// Each reader of a plan.
@@ -267,11 +280,25 @@ fn read_plan<A: Allocator + Copy>(rt: &impl Abort, plan: &Plan<A>) {
     assert!(rt; plan.vlans().len() == 1);
     assert!(rt; plan.statics().len() == 1);
     assert!(rt; plan.streams().len() == 1);
-    assert!(rt; plan.gates().len() == 2);
-    assert!(rt; plan.meters().len() == 1);
-    assert!(rt; plan.filters().len() == 2);
+    read_sections(rt, plan);
     assert!(rt; plan.forward(1, 10, &LISTENER).bits() == 0b100);
     assert!(rt; plan.forward(1, 10, &TALKER).bits() == 0b110);
+}
+
+/// An accepted plan that is read takes no memory, and what its check took was given back.
+fn use_accepted<H: Allocator + Copy + Tells>(
+    rt: &impl Abort,
+    heap: H,
+    accepted: &Accepted<H>,
+    made: Account,
+) {
+    let checked = heap.account();
+    assert!(rt;
+        checked.used == made.used,
+        "what a check took is given back"
+    );
+    read_plan(rt, accepted.plan());
+    is_untouched(rt, heap, checked);
 }
 
 /// A plan that is read takes no memory, and what its check took is given back.
@@ -284,16 +311,16 @@ pub(crate) fn use_plan<H: Allocator + Copy + Tells>(
     let made = heap.account();
     begins(rt, made);
     read_plan(rt, &plan);
-    assert!(rt; heap.account() == made);
-    let Ok(accepted) = check(heap, plan) else {
-        return Err(Fail::from("the plan was refused"));
-    };
-    let checked = heap.account();
-    assert!(rt;
-        checked.used == made.used,
-        "what a check took is given back"
-    );
-    read_plan(rt, accepted.plan());
-    assert!(rt; heap.account() == checked);
-    Ok(())
+    is_untouched(rt, heap, made);
+    match check(heap, plan) {
+        Ok(accepted) => {
+            use_accepted(rt, heap, &accepted, made);
+            drop(accepted);
+            Ok(())
+        }
+        Err(refused) => {
+            drop(refused);
+            Err(Fail::from("the plan was refused"))
+        }
+    }
 }

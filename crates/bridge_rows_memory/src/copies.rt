@@ -42,6 +42,17 @@ fn made_in<H: Allocator + Copy + Tells>(from: H, to: H, before: Account) -> Maki
     }
 }
 
+/// What the heaps tell, where something was made, which is let go.
+fn making_of<T: Drop, E>(made: Result<T, E>, making: Making) -> Result<Making, E> {
+    match made {
+        Ok(made) => {
+            drop(made);
+            Ok(making)
+        }
+        Err(fault) => Err(fault),
+    }
+}
+
 fn new_list<H: Allocator + Copy + Tells>(from: H, to: H) -> Result<Making, Fail> {
     let entries = Vec::from_slice(from, &HALVES)?;
     let before = from.account();
@@ -52,22 +63,28 @@ fn new_list<H: Allocator + Copy + Tells>(from: H, to: H) -> Result<Making, Fail>
 fn list_copy<H: Allocator + Copy + Tells>(from: H, to: H) -> Result<Making, Fail> {
     let list = list_of(from)?;
     let before = from.account();
-    let _copy = list.copy(to)?;
-    Ok(made_in(from, to, before))
+    let copied = list.copy(to);
+    let making = made_in(from, to, before);
+    drop(list);
+    Ok(making_of(copied, making)?)
 }
 
 fn schedule_copy<H: Allocator + Copy + Tells>(from: H, to: H) -> Result<Making, Fail> {
     let plan = window_of(from)?;
     let before = from.account();
-    let _copy = plan.schedule.copy(to)?;
-    Ok(made_in(from, to, before))
+    let copied = plan.schedule.copy(to);
+    let making = made_in(from, to, before);
+    drop(plan);
+    Ok(making_of(copied, making)?)
 }
 
 fn gate_plan_copy<H: Allocator + Copy + Tells>(from: H, to: H) -> Result<Making, Fail> {
     let plan = window_of(from)?;
     let before = from.account();
-    let _copy = plan.copy(to)?;
-    Ok(made_in(from, to, before))
+    let copied = plan.copy(to);
+    let making = made_in(from, to, before);
+    drop(plan);
+    Ok(making_of(copied, making)?)
 }
 
 fn port_numbers<H: Allocator + Copy + Tells>(
@@ -77,8 +94,10 @@ fn port_numbers<H: Allocator + Copy + Tells>(
 ) -> Result<Making, Fail> {
     let plan = plan_in(from, document)?;
     let before = from.account();
-    let _numbers = plan.port_numbers(to)?;
-    Ok(made_in(from, to, before))
+    let numbers = plan.port_numbers(to);
+    let making = made_in(from, to, before);
+    drop(plan);
+    Ok(making_of(numbers, making)?)
 }
 
 fn filter_numbers<H: Allocator + Copy + Tells>(
@@ -88,8 +107,10 @@ fn filter_numbers<H: Allocator + Copy + Tells>(
 ) -> Result<Making, Fail> {
     let plan = plan_in(from, document)?;
     let before = from.account();
-    let _numbers = plan.filter_numbers(to)?;
-    Ok(made_in(from, to, before))
+    let numbers = plan.filter_numbers(to);
+    let making = made_in(from, to, before);
+    drop(plan);
+    Ok(making_of(numbers, making)?)
 }
 
 fn make<H: Allocator + Copy + Tells>(

@@ -1,5 +1,5 @@
 //! One of each part, made in an allocator.
-ghost use Rattle.std.specs.Prelude.{◌≡◌, true, IfOk, IsTrue};
+ghost use Rattle.std.specs.Prelude.{◌≡◌, true, IfOk, IsTrue, ◌∷◌, []};
 ghost use Rattle.bridge_gate.specs.Schedules.{has_priorities};
 ghost use Rattle.bridge_filter.specs.Plans.{is_there, are_distinct, all_have_priorities};
 
@@ -166,18 +166,22 @@ pub(crate) fn database_of<A: Allocator + Copy>(
     Forwarding::new(alloc, vlans, statics)
 }
 
+/// One item.
+fn one_of<T: Drop, A: Allocator + Copy>(alloc: A, item: T) -> Result<Vec<T, A>, AllocError>
+    ensures { IfOk result (λ v. v.items ≡ item ∷ []) }
+{
+    let mut items = Vec::with_capacity(alloc, 1)?;
+    items.push(item)?;
+    Ok(items)
+}
+
 /// Gate 1.
 fn gates_of<A: Allocator + Copy>(alloc: A) -> Result<Vec<(u32, GatePlan<A>), A>, NoMemory>
     ensures distinct { IfOk result (λ v. are_distinct v.items ≡ true) }
     ensures priorities { IfOk result (λ v. all_have_priorities v.items ≡ true) }
     ensures there { IfOk result (λ v. is_there 1 v.items ≡ true) }
 {
-    let window = window_of(alloc)?;
-    let mut gates = Vec::with_capacity(alloc, 1)?;
-    if gates.push((1, window)).is_err() {
-        return Err(NoMemory);
-    }
-    Ok(gates)
+    Ok(one_of(alloc, (1, window_of(alloc)?))?)
 }
 
 /// The police of filter 10, with gate 1 and meter 5.

@@ -2,7 +2,7 @@
 ghost use Rattle.std.specs.Prelude.{◌≡◌, IsTrue};
 ghost use Rattle.bridge_filter.specs.Plans.{is_there, KeepsNumbers};
 
-use crate::account::{NEVER, Tells};
+use crate::account::{NEVER, Tells, is_untouched};
 use crate::parts::police_of;
 use bridge_filter::Verdict::{
     Blocked, GateClosed, OctetsExceeded, Oversize, Pass, Red, ShutByOctets, ShutByRx,
@@ -24,6 +24,15 @@ const NO_FLAGS: Flags = Flags {
     red: false,
 };
 
+/// Tests that filter 10 rules a frame with this verdict.
+fn is_ruled(rt: &impl Abort, ruling: Option<Ruling>, verdict: Verdict, t: u64) {
+    let wanted = Ruling {
+        filter: 10,
+        verdict,
+    };
+    assert!(rt; ruling == Some(wanted), "the frame at {t}");
+}
+
 /// Gives the police frames of the stream, each with its moment and its octets, and compares the verdicts.
 fn verdicts<A: Allocator + Copy>(
     rt: &impl Abort,
@@ -38,11 +47,7 @@ fn verdicts<A: Allocator + Copy>(
         assert!(rt; police.earliest() <= *t && *t < 4_000_000_000_000_000_000);
         assert!(rt; police.calls() < 1000);
         let ruling = police.pass(*t, Some(1), 0, false, *sdu, 64);
-        let wanted = Ruling {
-            filter: 10,
-            verdict: *wanted,
-        };
-        assert!(rt; ruling == Some(wanted), "the frame at {t}");
+        is_ruled(rt, ruling, *wanted, *t);
     }
 }
 
@@ -115,6 +120,7 @@ pub(crate) fn use_police<H: Allocator + Copy + Tells>(
     let made = heap.account();
     assert!(rt; made.left < NEVER && made.used > 0);
     ask_police(rt, &mut police);
-    assert!(rt; heap.account() == made);
+    is_untouched(rt, heap, made);
+    drop(police);
     Ok(())
 }

@@ -44,51 +44,64 @@ const MADE: [Made; 13] = [
     Made::Relayed,
 ];
 
+/// Whether something was made, which is let go.
+fn was_made<T: Drop, E: Drop>(made: Result<T, E>) -> bool {
+    made.is_ok()
+}
+
 fn makes_list<A: Allocator + Copy>(heap: A) -> bool {
-    list_of(heap).is_ok()
+    was_made(list_of(heap))
 }
 
 fn makes_wrong_list<A: Allocator + Copy>(heap: A) -> bool {
-    wrong_list(heap).is_ok()
+    was_made(wrong_list(heap))
 }
 
 fn copies_list<A: Allocator + Copy>(heap: A) -> bool {
     match list_of(heap) {
-        Ok(list) => list.copy(heap).is_ok(),
+        Ok(list) => {
+            let copied = list.copy(heap);
+            drop(list);
+            was_made(copied)
+        }
         Err(_) => false,
     }
 }
 
 fn copies_gate_plan<A: Allocator + Copy>(heap: A) -> bool {
     match window_of(heap) {
-        Ok(plan) => plan.copy(heap).is_ok(),
+        Ok(plan) => {
+            let copied = plan.copy(heap);
+            drop(plan);
+            was_made(copied)
+        }
         Err(_) => false,
     }
 }
 
 fn makes_ident<A: Allocator + Copy>(heap: A) -> bool {
-    ident_of(heap).is_ok()
+    was_made(ident_of(heap))
 }
 
 fn makes_database<A: Allocator + Copy>(heap: A) -> bool {
-    database_of(heap).is_ok()
+    was_made(database_of(heap))
 }
 
 fn makes_police<A: Allocator + Copy>(heap: A) -> bool {
-    police_of(heap).is_ok()
+    was_made(police_of(heap))
 }
 
 fn makes_port<A: Allocator + Copy>(heap: A) -> bool {
-    port_of(heap).is_ok()
+    was_made(port_of(heap))
 }
 
 fn makes_plan<A: Allocator + Copy>(heap: A, document: Global) -> bool {
-    plan_in(heap, document).is_ok()
+    was_made(plan_in(heap, document))
 }
 
 fn accepts<A: Allocator + Copy>(heap: A, document: Global) -> bool {
     match plan_in(heap, document) {
-        Ok(plan) => check(heap, plan).is_ok(),
+        Ok(plan) => was_made(check(heap, plan)),
         Err(_) => false,
     }
 }
@@ -112,18 +125,26 @@ fn is_made<A: Allocator + Copy>(made: Made, heap: A, document: Global) -> bool {
     }
 }
 
+/// Tests something where growth number `n` is refused, and that nothing is in use afterwards; says whether that growth was
+/// asked for.
+fn is_refused(rt: &impl Abort, document: Global, made: Made, n: u64) -> Result<bool, Fail> {
+    let heap = counting(document, n)?;
+    let is_made = is_made(made, &heap, document);
+    let is_refused = heap.refused();
+    let used = heap.inner().used();
+    drop(heap);
+    let wanted = !is_refused && made != Made::WrongList;
+    assert!(rt; used == 0 && is_made == wanted, "{made:?}, growth {n}");
+    Ok(is_refused)
+}
+
 /// Refuses each growth in turn, and sees that nothing is in use afterwards.
 fn refuse_each(rt: &impl Abort, document: Global, made: Made) -> Result<(), Fail> {
     for n in 1..1_000 {
-        let heap = counting(document, n)?;
-        let is_made = is_made(made, &heap, document);
-        assert!(rt; heap.inner().used() == 0, "{made:?}, growth {n}");
-        if !heap.refused() {
-            assert!(rt; is_made == (made != Made::WrongList), "{made:?}");
+        if !is_refused(rt, document, made, n)? {
             assert!(rt; n > 1, "{made:?}");
             return Ok(());
         }
-        assert!(rt; !is_made, "{made:?}, growth {n}");
     }
     Err(Fail::from("some growth was always refused"))
 }
