@@ -5,7 +5,7 @@ Each of the folders vehicle, cell, aircraft and change beside this file gets two
 `normal`, in which all talkers keep to the plan, and `babbling`, in which one of them sends at the rate of its link, under the
 addresses of other streams, and with any priority; all others send the same frames as in `normal` (in `change` it sends to the
 address of the stream, around a change of schedules and in a window of the stream). The merge gate gets the same plans and
-captures in `crates/gate_examples/data`. `line` gets what comes to each of its two bridges, but for the port of the second
+captures in `crates/gate_run/data`. `line` gets what comes to each of its two bridges, but for the port of the second
 that the first one feeds. The seed is fixed, so the same files come out each time.
 
 The files are little-endian and count nanoseconds. A record's moment is that at which the whole frame has come, and only the
@@ -17,7 +17,7 @@ import shutil
 import struct
 
 TOP = os.path.dirname(os.path.abspath(__file__))
-GATE = os.path.join(os.path.dirname(TOP), "crates", "gate_examples", "data")
+GATE = os.path.join(os.path.dirname(TOP), "crates", "gate_run", "data")
 SEED = 20260801
 GAP = 12
 

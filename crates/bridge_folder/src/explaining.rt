@@ -11,7 +11,8 @@ use bridge_explain::{
 use bridge_files::{are_same, capture_path, file_at, is_standard, report_path};
 use bridge_keys::PlanFault;
 use bridge_lanes::RunFault;
-use bridge_program::{Fault, Job, job_of, read_at_most, sketch_of};
+use bridge_program::{Fault, read_at_most};
+use bridge_words::{Job, job_of, sketch_of};
 use std::fs;
 use std::io::{Error, ErrorKind};
 use std::rt::Files;

@@ -11,9 +11,10 @@ use bridge_files::{
     open_taken, output_at, report_path, run_over,
 };
 use bridge_lanes::RunFault;
-use bridge_program::{Fault, NoMemory, Sketch, commanded, fault_of_file, plan_from};
+use bridge_program::{Fault, NoMemory, commanded, fault_of_file, plan_from};
 use bridge_report::{ReportFault, summary, write_report};
 use bridge_run::Outcome;
+use bridge_words::Sketch;
 use std::alloc::Global;
 use std::fs::OpenFile;
 use std::io::Write;

@@ -5,13 +5,8 @@ pub mod PlanLines
 pub mod CheckLines
 pub mod RefusedCommands
 pub mod Accepting
-pub mod Numbers
-pub mod CommandLine
-pub mod Helping
 pub mod Commanding
 pub mod Counts
-pub mod Examples
 pub mod Numbering
 pub mod Reading
 pub mod Jobs
-pub mod Sketching

@@ -3,22 +3,16 @@
 
 mod accepting;
 mod captures;
-mod command;
 mod commanding;
 mod counts;
-mod explaining;
 mod fault;
-mod helping;
 mod host;
 mod isolation;
-mod job;
 mod jobs;
 mod line;
-mod number;
 mod plan_line;
 mod reading;
 mod refused_commands;
-mod sketch;
 mod status;
 mod text;
 
@@ -26,13 +20,9 @@ pub use accepting::{accepted_of, check_line, checked};
 pub use captures::{Halted, through};
 pub use commanding::commanded;
 pub use counts::wire_line;
-pub use explaining::wants_explanation;
 pub use fault::{Fault, NoMemory, TextFault};
-pub use helping::{help_of, manual_of};
 pub use host::{end, print, words_of};
-pub use job::{Job, job_of};
 pub use jobs::{check_job, fault_of_file, plan_from, planned, standard_file, text_job, wire_job};
 pub use line::fault_line;
 pub use reading::{ReadFault, read_at_most};
-pub use sketch::{Sketch, sketch_of};
 pub use text::wire_text;

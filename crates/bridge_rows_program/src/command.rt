@@ -2,10 +2,11 @@
 use crate::must::must;
 use bridge_capture::{ByteSink, Order, SliceSource, VecSink};
 use bridge_frame::Speed;
-use bridge_program::{Fault, Job, NoMemory, fault_line, job_of, wire_line};
+use bridge_program::{Fault, NoMemory, fault_line, wire_line};
 use bridge_refusing::RefusesOne;
 use bridge_rows::captures::{Words, capture_under};
 use bridge_wire::{WireCount, wire};
+use bridge_words::{Job, job_of};
 use std::alloc::{AllocError, Allocator, Global};
 use std::process::Abort;
 use std::test::Fail;

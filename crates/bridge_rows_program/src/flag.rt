@@ -1,6 +1,7 @@
 //! The flag `--explain`: which words have it, and that it changes no job.
 use crate::must::must;
-use bridge_program::{Fault, job_of, wants_explanation};
+use bridge_program::Fault;
+use bridge_words::{job_of, wants_explanation};
 use std::alloc::{AllocError, Global};
 use std::process::Abort;
 use std::test::Fail;

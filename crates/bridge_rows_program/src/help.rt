@@ -1,6 +1,6 @@
 //! Words that ask for help or for the version, with the text that they get, and words that ask for neither.
 use crate::must::must;
-use bridge_program::help_of;
+use bridge_words::help_of;
 use std::alloc::{AllocError, Global};
 use std::process::Abort;
 use std::test::Fail;

@@ -1,6 +1,7 @@
 //! Words that ask for a picture, of a plan or of a run.
 use crate::must::must;
-use bridge_program::{Fault, job_of, sketch_of};
+use bridge_program::Fault;
+use bridge_words::{job_of, sketch_of};
 use std::alloc::{AllocError, Global};
 use std::process::Abort;
 use std::test::Fail;

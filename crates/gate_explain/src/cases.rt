@@ -6,8 +6,9 @@ use bridge_explain::{
     explain_check, explain_commands, explain_plan, explain_run, explain_text, explain_words,
     warn_of_plan,
 };
-use bridge_program::{Fault, TextFault, fault_line, job_of, wire_text};
+use bridge_program::{Fault, TextFault, fault_line, wire_text};
 use bridge_text::octets_of;
+use bridge_words::job_of;
 use std::alloc::{AllocError, Global};
 
 /// The first line of a case.

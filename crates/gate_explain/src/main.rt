@@ -7,7 +7,8 @@
 mod cases;
 mod faults;
 
-use bridge_program::{Fault, end, manual_of, print, read_at_most, words_of};
+use bridge_program::{Fault, end, print, read_at_most, words_of};
+use bridge_words::manual_of;
 use cases::{heading_of, told};
 use faults::{told_of_causes, told_of_faults};
 use std::fs;

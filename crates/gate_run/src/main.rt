@@ -1,31 +1,56 @@
 #![tactic(auto)]
-//! `run` over a folder of captures, then what it wrote: the octets of each capture, and the report; then runs that are
-//! refused, over files that are to keep what they hold; then pictures.
+//! The jobs over files: `run` over a folder of captures, then what it wrote: the octets of each capture, and the report;
+//! runs that are refused, over files that are to keep what they hold; pictures; `wire` over two files, then the octets of
+//! the one that it wrote, from standard input and to standard output, and over files that are to keep what they hold;
+//! `check`; and the examples, each with a babbling talker and without.
 
+mod checking;
+mod examples;
 mod kept;
 mod pictures;
+mod refused;
+mod section;
+mod wiring;
+mod wording;
 
 use bridge_files::{capture_path, report_path};
 use bridge_folder::run_job;
-use bridge_program::{Fault, Job, end, job_of, print, words_of};
+use bridge_program::{Fault, end, print, words_of};
 use bridge_text::lines_of;
+use bridge_words::{Job, job_of};
+use checking::print_checked;
+use examples::print_compared;
 use kept::{octets_of, print_kept};
 use pictures::print_pictures;
+use refused::print_refused;
 use std::process::ExitCode;
 use std::rt::{Env, Files};
+use wiring::print_wired;
 
 /// The ports of the plan.
 const PORTS: [u8; 3] = [1, 2, 3];
 
 fn main(rt: HostRuntime) -> ExitCode {
     match run(&rt) {
-        Ok(()) => ExitCode::from(0),
+        Ok(true) => ExitCode::from(0),
+        Ok(false) => ExitCode::from(1),
         Err(fault) => end(&rt, &fault),
     }
 }
 
-/// Does the job, and prints what was written.
-fn run(rt: &(impl AllocGlobal + Print + Env + Files)) -> Result<(), Fault> {
+/// Does the jobs, and prints what was written; whether each example is as it is to be.
+fn run(rt: &(impl Input + AllocGlobal + Print + Eprint + Env + Files)) -> Result<bool, Fault> {
+    print_run(rt)?;
+    print_kept(rt)?;
+    print_pictures(rt)?;
+    print_wired(rt)?;
+    print_refused(rt)?;
+    print_checked(rt)?;
+    print_compared(rt)
+}
+
+/// Does the job of the words, and prints what was written.
+fn print_run(rt: &(impl AllocGlobal + Print + Env + Files)) -> Result<(), Fault> {
     let words = words_of(rt)?;
     let Job::Run {
         plan,
@@ -42,9 +67,7 @@ fn run(rt: &(impl AllocGlobal + Print + Env + Files)) -> Result<(), Fault> {
     for port in PORTS {
         print_capture(rt, folder.as_str(), port)?;
     }
-    print_report(rt, folder.as_str())?;
-    print_kept(rt)?;
-    print_pictures(rt)
+    print_report(rt, folder.as_str())
 }
 
 /// Prints the octets of the capture that a port wrote.

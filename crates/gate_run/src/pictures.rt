@@ -3,7 +3,8 @@
 
 use crate::kept::octets_of;
 use bridge_folder::{drawn_job, picture_job, run_job};
-use bridge_program::{Fault, Sketch, fault_line, print};
+use bridge_program::{Fault, fault_line, print};
+use bridge_words::Sketch;
 use std::rt::Files;
 
 /// The files that a run writes.

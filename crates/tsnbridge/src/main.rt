@@ -1,13 +1,11 @@
 #![tactic(auto)]
 //! The program: it reads its job, does it, and ends with the status and the line of the first fault.
-ghost use Rattle.bridge_program.specs.CommandLine.{HasRoom};
+ghost use Rattle.bridge_words.specs.CommandLine.{HasRoom};
 
 use bridge_files::{Said, say, wire_files};
 use bridge_folder::{drawn_job, explain, explain_accepted, picture_job};
-use bridge_program::{
-    Fault, Job, Sketch, check_job, end, help_of, job_of, print, sketch_of, text_job,
-    wants_explanation, words_of,
-};
+use bridge_program::{Fault, check_job, end, print, text_job, words_of};
+use bridge_words::{Job, Sketch, help_of, job_of, sketch_of, wants_explanation};
 use std::fs;
 use std::process::ExitCode;
 use std::rt::{Env, Files};

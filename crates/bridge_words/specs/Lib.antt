@@ -1,0 +1,5 @@
+pub mod Numbers
+pub mod CommandLine
+pub mod Helping
+pub mod Examples
+pub mod Sketching

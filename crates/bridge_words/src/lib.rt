@@ -1,0 +1,14 @@
+#![tactic(auto)]
+//! The words of the command line: the job that they ask for, and what they ask for beside it.
+
+mod command;
+mod explaining;
+mod helping;
+mod job;
+mod number;
+mod sketch;
+
+pub use explaining::wants_explanation;
+pub use helping::{help_of, manual_of};
+pub use job::{Job, job_of};
+pub use sketch::{Sketch, sketch_of};

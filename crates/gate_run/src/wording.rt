@@ -1,0 +1,17 @@
+//! Jobs of the command line, by a line of their words.
+
+use bridge_program::Fault;
+use bridge_words::{Job, job_of};
+use std::alloc::Global;
+
+/// The job that the words of a line ask for, which single spaces part.
+pub fn job_in(alloc: Global, line: &str) -> Result<Job, Fault> {
+    let mut words = Vec::new(alloc);
+    for word in line.split(' ') {
+        let word = String::from_str(alloc, word)?;
+        if words.push(word).is_err() {
+            return Err(Fault::Words);
+        }
+    }
+    job_of(alloc, &words)
+}
