@@ -1,0 +1,12 @@
+pub mod Places
+pub mod Order
+pub mod Steps
+pub mod Sorted
+pub mod Beginning
+pub mod Simulating
+pub mod Giving
+pub mod Taken
+pub mod Written
+pub mod Departing
+pub mod Commanded
+pub mod Running

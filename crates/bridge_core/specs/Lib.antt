@@ -1,1 +1,4 @@
 pub mod Bridges
+pub mod Lines
+pub mod Taking
+pub mod Simulated

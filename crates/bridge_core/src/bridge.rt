@@ -19,6 +19,7 @@ ghost use Rattle.bridge_parts.specs.Ports.{NotBefore, IsAfter};
 ghost use Rattle.bridge_relay.specs.Relays.{one_more};
 ghost use Rattle.bridge_core.specs.Bridges.{arrived_in, earliest_in, IsReady, next_start, plan_in, queued_in, StandsAfter};
 
+use crate::simulation::filters_in_order;
 use bridge_base::{END_OF_TIME, LONGEST_FRAME, MOST_ARRIVALS, MOST_CAPTURED};
 use bridge_capture::Packet;
 use bridge_check::Accepted;
@@ -27,7 +28,6 @@ use bridge_events::Agenda;
 use bridge_filter::FilterPlan;
 use bridge_relay::{NoMemory, Relay, Sent};
 use bridge_run::{Outcome, PortCount, View};
-use bridge_stream::filters_in_order;
 use std::alloc::Allocator;
 use std::marker::Model;
 

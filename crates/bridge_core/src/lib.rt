@@ -1,12 +1,16 @@
 #![tactic(auto)]
-//! Time-aware bridges: one to which frames and commands come one by one, whole runs of captures, and the one queue of
-//! `wire`.
+//! Time-aware bridges: one to which frames and commands come one by one, whole runs of captures and commands, one record
+//! of each port ahead, and the one queue of `wire`.
 
 mod bridge;
+mod line;
+mod simulation;
+mod taking;
 
 pub use bridge::Bridge;
 pub use bridge_events::{Agenda, RowAgenda, TreeAgenda};
+pub use bridge_lanes::RunFault;
 pub use bridge_relay::{NoMemory, Sent};
 pub use bridge_run::{Departure, Dropped, Outcome, PortCount, View};
-pub use bridge_stream::{RunFault, simulate, simulate_over};
 pub use bridge_wire::{WireCount, wire};
+pub use simulation::{filters_in_order, simulate, simulate_over};

@@ -14,10 +14,10 @@ use Rattle.bridge_run.specs.declared.outcome.Outcome.{Outcome}
 use Rattle.bridge_program.proofs.Runs.{kept_appends}
 use Rattle.bridge_lanes.specs.Devices.{HasFailed}
 use Rattle.bridge_lanes.specs.Lanes.{AreTexts}
-use Rattle.bridge_stream.specs.Lines.{AreWritten}
-use Rattle.bridge_stream.specs.Simulated.{AreNumbers, Runs, Stops}
-use Rattle.bridge_stream.specs.Taking.{StopsAmong, StopsSo}
-use Rattle.bridge_stream.proofs.Simulating.{ports_many}
+use Rattle.bridge_core.specs.Lines.{AreWritten}
+use Rattle.bridge_core.specs.Simulated.{AreNumbers, Runs, Stops}
+use Rattle.bridge_core.specs.Taking.{StopsAmong, StopsSo}
+use Rattle.bridge_core.proofs.Simulating.{ports_many}
 use Rattle.bridge_files.specs.Flushed.{AllKept, NoneFailed, StopsFlushed}
 use Rattle.bridge_files.proofs.Kept.{kept_at, kept_length, kept_through, none_at, there}
 

@@ -6,7 +6,7 @@ use Rattle.bridge_config.specs.Model.{Plan}
 use Rattle.bridge_lanes.specs.declared.fault.RunFault.{RunFault}
 use Rattle.bridge_lanes.specs.declared.fault.RunFault.TheVariants as run
 use Rattle.bridge_lanes.specs.Lanes.{LooksFail}
-use Rattle.bridge_stream.specs.Taking.{IsOfCapture, StopsAmong}
+use Rattle.bridge_core.specs.Taking.{IsOfCapture, StopsAmong}
 
 -- each of these devices holds what the other of its place holds, and there are as many
 abbrev pub AllKept : {V W : Type 0} → (V → Option (List ℕ)) → (W → Option (List ℕ)) → List V → List W → Type 0

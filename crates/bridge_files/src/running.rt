@@ -2,7 +2,7 @@
 ghost use Rattle.std.specs.Prelude.{◌≡◌, ℕ, List, Some, length, slice_get, IfOk, IfErr};
 ghost use Rattle.bridge_config.specs.Commands.{AreCommands};
 ghost use Rattle.bridge_lanes.specs.Lanes.{AreTexts};
-ghost use Rattle.bridge_stream.specs.Simulated.{AreNumbers, Isolates, OthersChangeNothing, Runs};
+ghost use Rattle.bridge_core.specs.Simulated.{AreNumbers, Isolates, OthersChangeNothing, Runs};
 ghost use Rattle.bridge_files.specs.Flushed.{LosesOutput, StopsFlushed};
 
 use crate::transfer::{finish_all, sinks_of, sources_of};
@@ -10,7 +10,7 @@ use bridge_check::Accepted;
 use bridge_config::Command;
 use bridge_lanes::RunFault;
 use bridge_run::Outcome;
-use bridge_stream::simulate;
+use bridge_core::simulate;
 use std::alloc::Allocator;
 use std::io::{Read, Write};
 

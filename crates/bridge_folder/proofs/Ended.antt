@@ -4,7 +4,7 @@ use Rattle.bridge_config.specs.Model.{Plan}
 use Rattle.bridge_program.specs.declared.fault.Fault.{Fault}
 use Rattle.bridge_lanes.specs.declared.fault.RunFault.TheVariants as run
 use Rattle.bridge_program.specs.declared.fault.Fault.TheVariants as fault
-use Rattle.bridge_stream.specs.Simulated.{AreNumbers}
+use Rattle.bridge_core.specs.Simulated.{AreNumbers}
 use Rattle.bridge_program.specs.Commanding.{EndsCommanded}
 use Rattle.bridge_program.specs.Reading.{IsOfFile}
 use Rattle.bridge_folder.specs.Files.{EndsDrawn, EndsPicture, EndsReading, EndsRun, EndsSending, EndsShown, IsAcceptedPlan, IsOfOutputs, IsOfPicture, IsOfReport, IsOfShowing, IsPlanOfText}

@@ -9,7 +9,7 @@ use Rattle.bridge_program.specs.Commanding.{EndsCommanded}
 use Rattle.bridge_program.specs.Jobs.{Accepts, EndsPlan}
 use Rattle.bridge_report.specs.Summary.{summary_of}
 use Rattle.bridge_run.specs.declared.outcome.Outcome.{Outcome}
-use Rattle.bridge_stream.specs.Simulated.{AreNumbers}
+use Rattle.bridge_core.specs.Simulated.{AreNumbers}
 use Rattle.bridge_files.specs.Files.{IsCapture}
 use Rattle.bridge_files.specs.Paths.{report_path}
 

@@ -2,7 +2,7 @@
 use crate::must::must;
 use bridge_capture::{CaptureFault, SliceSource, VecSink};
 use bridge_events::{Agenda, RowAgenda, TreeAgenda};
-use bridge_stream::RunFault;
+use bridge_core::RunFault;
 use bridge_trials::frames::{Frame, TO_A, capture, header, push_record};
 use bridge_trials::runs::{planned, simulated};
 use std::alloc::{AllocError, Allocator, Global};

@@ -5,7 +5,7 @@ use bridge_capture::{SliceSource, VecSink};
 use bridge_check::Accepted;
 use bridge_events::TreeAgenda;
 use bridge_refusing::RefusesOne;
-use bridge_stream::RunFault;
+use bridge_core::RunFault;
 use bridge_trials::frames::{Frame, capture, header};
 use bridge_trials::plans::{BASE, accepted_of};
 use bridge_trials::runs::{holds, simulated};

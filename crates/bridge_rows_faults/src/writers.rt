@@ -4,7 +4,7 @@ use bridge_check::Accepted;
 use bridge_drives::same;
 use bridge_files::Halted;
 use bridge_refusing::RefusesOne;
-use bridge_stream::RunFault;
+use bridge_core::RunFault;
 use bridge_trials::frames::{Frame, TO_A, capture, header};
 use bridge_trials::plans::{BASE, accepted_of};
 use bridge_trials::runs::planned;

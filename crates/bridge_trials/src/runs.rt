@@ -13,7 +13,7 @@ use bridge_port::Refusal;
 use bridge_relay::Sent;
 use bridge_report::summary;
 use bridge_run::{Departure, Dropped, Outcome, PortCount, View};
-use bridge_stream::{RunFault, simulate_over};
+use bridge_core::{RunFault, simulate_over};
 use std::alloc::{Allocator, Global};
 use std::test::Fail;
 

@@ -1,8 +1,8 @@
 use Rattle.std.proofs.Common.{◌≡◌, ◌≤◌, Some, None, length, map, take, slice_get, ap, sym, subst, ◌∙◌, arith, rules, inl, take_all, Err}
 use Rattle.bridge_config.specs.Model.{Plan}
-use Rattle.bridge_stream.specs.Simulated.{AreNumbers}
-use Rattle.bridge_stream.proofs.Beginning.{one_order}
-use Rattle.bridge_stream.proofs.Simulating.{isolates, others_change_nothing, ports_many}
+use Rattle.bridge_core.specs.Simulated.{AreNumbers}
+use Rattle.bridge_core.proofs.Beginning.{one_order}
+use Rattle.bridge_core.proofs.Simulating.{isolates, others_change_nothing, ports_many}
 use Rattle.std.proofs.lemmas.Option.{slice_get_within}
 use Rattle.bridge_files.specs.Flushed.{AllKept, NoneFailed}
 use Rattle.bridge_files.proofs.Devices.{asked, broken, sunk}

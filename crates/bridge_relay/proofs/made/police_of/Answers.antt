@@ -18,3 +18,12 @@ new-requires-clause-priorities g c = rw (c.in_ok-gates.ensures, c.gates.ensures.
 
 pub new-requires-clause-limits : goal.new-requires-clause-limits
 new-requires-clause-limits g c = rw (c.in_ok-meters.ensures.items, c.meters.ensures.meters) c.filters.ensures.rules.meters.limits
+
+pub returns-clause-stands : goal.returns-clause-stands
+returns-clause-stands g c = rw (c.in_ok-filters.ensures.items, c.filters.ensures.filters, c.in_ok-gates.ensures, c.gates.ensures.gates, c.in_ok-meters.ensures.items, c.meters.ensures.meters) at c.in_ok-new.ensures.stands
+
+pub returns-clause-gates : goal.returns-clause-gates
+returns-clause-gates g c = λ n there. c.in_ok-new.ensures.gates n (rw (c.in_ok-gates.ensures, c.gates.ensures.gates) there)
+
+pub returns-clause-meters : goal.returns-clause-meters
+returns-clause-meters g c = λ n there. c.in_ok-new.ensures.meters n (rw (c.in_ok-meters.ensures.items, c.meters.ensures.meters) there)

@@ -1,0 +1,51 @@
+use Rattle.std.proofs.Common.{◌<◌, length, slice_index_or, refl, ap, ◌∙◌, arith}
+use Rattle.std.proofs.lemmas.Grind.{common_steps}
+use Rattle.std.proofs.lemmas.List.{take_all}
+use Rattle.std.proofs.lemmas.Option.{slice_get-get_or}
+use Rattle.bridge_core.specs.declared.line.Line.{Line}
+use Rattle.bridge_core.specs.Lines.{numbers}
+use Rattle.bridge_core.proofs.Written.{headers_none, headers_more, headers_stop, headers_all, numbers_more}
+use Rattle.bridge_core.proofs.line.begin_all.Goals as goal
+
+pub loop-place-init : goal.loop-place-init
+loop-place-init g c =
+    let none = c.requires.none in
+    record {
+      headers = headers_none g.W.ByteSink.contents c.args.sinks.now;
+      numbers = ap numbers none;
+      few = grind (arith, common_steps);
+      room = c.requires.room;
+    }
+
+pub returns-in-Err-clause-stops : goal.returns-in-Err-clause-stops
+returns-in-Err-clause-stops g c =
+    let kept = c.loop-place.invariant in
+    let place = c.loop-place.place in
+    let below : place < length c.args.ports.now = c.loop-place-test.true in
+    let inside : place < length c.loop-place.sinks = omega (arith, kept.headers.size, c.requires.size) in
+    let mid = slice_index_or c.loop-place.sinks place c.index-sinks-place.result in
+    headers_stop g.W.ByteSink.contents g.W.ByteSink.has_failed c.args.ports.now c.args.sinks.now c.loop-place.sinks place (slice_index_or c.args.ports.now place 0) mid c.begin.new.sink
+    (slice_get-get_or c.args.ports.now place 0 below) (slice_get-get_or c.loop-place.sinks place c.index-sinks-place.result inside) c.in-Err.ensures.err c.in-Err.ensures.fails kept.headers
+
+pub loop-place-preserved : goal.loop-place-preserved
+loop-place-preserved g c =
+    let kept = c.loop-place.invariant in
+    let place = c.loop-place.place in
+    let below : place < length c.args.ports.now = c.loop-place-test.true in
+    let inside : place < length c.loop-place.sinks = omega (arith, kept.headers.size, c.requires.size) in
+    let mid = slice_index_or c.loop-place.sinks place c.index-sinks-place.result in
+    let few = kept.few in
+    let room = kept.room in
+    let line : Line = record { number = slice_index_or c.args.ports.now place 0; writer = c.in-Ok.writer } in
+    record {
+      headers = headers_more g.W.ByteSink.contents c.args.sinks.now c.loop-place.sinks place mid c.begin.new.sink (slice_get-get_or c.loop-place.sinks place c.index-sinks-place.result inside) c.in-Ok.ensures.ok kept.headers;
+      numbers = numbers_more c.loop-place.lines.items c.push.new.self.items line c.args.ports.now place c.in-Ok-push.ensures.items below refl kept.numbers;
+      few = grind (arith, common_steps);
+      room = grind (arith, common_steps);
+    }
+
+pub returns-clause-lines : goal.returns-clause-lines
+returns-clause-lines g c = c.loop-place.invariant.numbers ∙ take_all c.loop-place.place c.args.ports.now c.loop-place-test.false
+
+pub returns-clause-headers : goal.returns-clause-headers
+returns-clause-headers g c = headers_all g.W.ByteSink.contents c.args.ports.now c.args.sinks.now c.loop-place.sinks c.loop-place.place c.loop-place-test.false c.loop-place.invariant.headers

@@ -1,0 +1,87 @@
+use Rattle.std.proofs.Common.{rules, ◌≡◌, ℕ, ◌+◌, ◌<◌, ◌≤◌, ◌∷◌, List, length, take, drop, get_or, arith, refl, ap, sym, subst, ◌∙◌, Option, Some, None, Ok, Err, slice_get}
+use Rattle.bridge_filter.specs.declared.Clear.TheVariants.{Blocked}
+use Rattle.bridge_run.specs.Merge.{events}
+use Rattle.bridge_lanes.specs.Lanes.{numbers}
+use Rattle.bridge_core.specs.Lines.{numbers as written_numbers}
+use Rattle.bridge_core.specs.Taking.{asked, commands_of, first_of_commands, IsUnderWay}
+use Rattle.bridge_core.proofs.Running.{all_done, first_is, gone, has_it, idle_at, next_later, rises_behind, stops_at, stops_behind, with_it}
+use Rattle.bridge_core.proofs.Steps.{written_so}
+use Rattle.bridge_core.proofs.taking.run.Goals as goal
+
+pub obey-requires-clause-instance : goal.obey-requires-clause-instance
+obey-requires-clause-instance g c = has_it c.args.relay.now.plan c.loop-command.relay.plan c.args.commands.now c.loop-command.command-index _ c.requires.commands c.loop-command.invariant.plan c.loop-command-test.true
+
+pub returns-in-Err-clause-goes : goal.returns-in-Err-clause-goes
+returns-in-Err-clause-goes g c = λ p texts olds u.
+    let at = c.loop-command.command-index in
+    let l = c.loop-command-test.true in
+    let v = subst (λ o. IsUnderWay g.R.ByteSource.remaining g.W.ByteSink.contents p texts (commands_of (take at c.args.commands.now)) o olds c.loop-command.relay c.loop-command.lanes c.loop-command.sources c.loop-command.sinks)
+    (first_is c.args.commands.now at _ l) (c.loop-command.invariant.goes p texts olds u) in
+    stops_at p texts c.args.commands.now at _ g.W.ByteSink.contents (numbers c.obey.new.lanes) olds c.obey.new.sinks c.in-Err.fault l
+    (c.in-Err.ensures.goes p texts (commands_of (take at c.args.commands.now)) (first_of_commands (drop (at + 1) c.args.commands.now)) olds (next_later c.args.relay.now.plan c.args.commands.now at _ c.requires.commands l) v)
+
+pub returns-in-Err-clause-read : goal.returns-in-Err-clause-read
+returns-in-Err-clause-read g c = λ port e i w k m. c.in-Err.ensures.read port e i w (subst (λ ns. slice_get ns i ≡ Some port) (sym c.loop-command.invariant.numbers) k) m
+
+pub returns-in-Err-clause-sure : goal.returns-in-Err-clause-sure
+returns-in-Err-clause-sure g c = λ sure port e. c.obey.ensures.sure (c.loop-command.invariant.lasts sure) port (c.in-Err.is ∙ e)
+
+pub returns-in-Err-clause-wrote : goal.returns-in-Err-clause-wrote
+returns-in-Err-clause-wrote g c = λ port e i w k m. c.in-Err.ensures.wrote port e i w (subst (λ ns. slice_get ns i ≡ Some port) (sym c.loop-command.invariant.numbers) k) m
+
+pub loop-command-preserved : goal.loop-command-preserved
+loop-command-preserved g c =
+    let i = c.loop-command.invariant in
+    let at = c.loop-command.command-index in
+    let l = c.loop-command-test.true in
+    let same = c.obey.ensures.same in
+    record {
+      may = c.in_default.ensures.may;
+      lines = same.2 ∙ i.lines ∙ sym same.1;
+      sources = search rules;
+      sinks = search rules;
+      early = λ d rest e. let moved = c.in_default.ensures.moved in let z = rises_behind c.args.relay.now.plan c.args.commands.now at (record { at = 0; clear = Blocked; number = 0 }) c.requires.commands l d rest e in omega (arith, moved, z);
+      plan = same.0 ∙ i.plan;
+      numbers = same.1 ∙ i.numbers;
+      written = same.2 ∙ i.written;
+      lasts = λ sure. c.obey.ensures.lasts (i.lasts sure);
+      goes = λ p texts olds u.
+          let v = subst (λ o. IsUnderWay g.R.ByteSource.remaining g.W.ByteSink.contents p texts (commands_of (take at c.args.commands.now)) o olds c.loop-command.relay c.loop-command.lanes c.loop-command.sources c.loop-command.sinks)
+          (first_is c.args.commands.now at _ l) (i.goes p texts olds u) in
+          subst (λ cs. IsUnderWay g.R.ByteSource.remaining g.W.ByteSink.contents p texts cs (first_of_commands (drop (at + 1) c.args.commands.now)) olds c.obey.new.relay c.obey.new.lanes c.obey.new.sources c.obey.new.sinks) (sym (with_it c.args.commands.now at _ l))
+          (c.in_default.ensures.goes p texts (commands_of (take at c.args.commands.now)) (first_of_commands (drop (at + 1) c.args.commands.now)) olds (next_later c.args.relay.now.plan c.args.commands.now at _ c.requires.commands l) v);
+    }
+
+pub returns-in-Err-take_before-clause-goes : goal.returns-in-Err-take_before-clause-goes
+returns-in-Err-take_before-clause-goes g c = λ p texts olds u.
+    let i = c.loop-command.invariant in
+    let v = all_done g.R.ByteSource.remaining g.W.ByteSink.contents p texts c.args.commands.now c.loop-command.command-index olds c.loop-command.relay c.loop-command.lanes c.loop-command.sources c.loop-command.sinks (omega (arith, c.loop-command-test.false)) (i.goes p texts olds u) in
+    stops_behind p texts c.args.commands.now g.W.ByteSink.contents (numbers c.take_before.new.lanes) olds c.take_before.new.sinks c.in-Err-take_before.fault (c.in-Err-take_before.ensures.goes p texts (commands_of c.args.commands.now) None olds tt v)
+
+pub returns-in-Err-take_before-clause-read : goal.returns-in-Err-take_before-clause-read
+returns-in-Err-take_before-clause-read g c = λ port e i w k m. c.in-Err-take_before.ensures.read port e i w (subst (λ ns. slice_get ns i ≡ Some port) (sym c.loop-command.invariant.numbers) k) m
+
+pub returns-in-Err-take_before-clause-sure : goal.returns-in-Err-take_before-clause-sure
+returns-in-Err-take_before-clause-sure g c = λ sure port e. c.take_before.ensures.sure (c.loop-command.invariant.lasts sure) port (c.in-Err-take_before.is ∙ e)
+
+pub returns-in-Err-take_before-clause-wrote : goal.returns-in-Err-take_before-clause-wrote
+returns-in-Err-take_before-clause-wrote g c = λ port e i w k m. c.in-Err-take_before.ensures.wrote port e i w (subst (λ ns. slice_get ns i ≡ Some port) (sym c.loop-command.invariant.numbers) k) m
+
+pub returns-clause-goes : goal.returns-clause-goes
+returns-clause-goes g c = λ p texts olds u.
+    let i = c.loop-command.invariant in
+    let v = all_done g.R.ByteSource.remaining g.W.ByteSink.contents p texts c.args.commands.now c.loop-command.command-index olds c.loop-command.relay c.loop-command.lanes c.loop-command.sources c.loop-command.sinks (omega (arith, c.loop-command-test.false)) (i.goes p texts olds u) in
+    let w = c.in_default-take_before.ensures.goes p texts (commands_of c.args.commands.now) None olds tt v in
+    let size : length c.take_before.new.sources ≡ length c.take_before.new.lanes = search rules in
+    let z = c.take_before.ensures.same in
+    let same : written_numbers c.take_before.new.lines ≡ numbers c.take_before.new.lanes = z.2 ∙ i.lines ∙ sym z.1 in
+    gone g.R.ByteSource.remaining g.W.ByteSink.contents p texts c.args.commands.now olds c.take_before.new.relay c.depart_before.new.relay c.take_before.new.lanes c.take_before.new.sources c.take_before.new.sinks c.depart_before.new.sinks (written_numbers c.take_before.new.lines) c.depart_before.result w size same c.in_default-take_before.ensures.later
+    (c.depart_before.ensures.departs p (events w.inputs) olds w.left w.stands (written_so g.R.ByteSource.remaining g.W.ByteSink.contents p texts (commands_of c.args.commands.now) None olds c.take_before.new.relay c.take_before.new.lanes c.take_before.new.sources c.take_before.new.sinks w size (written_numbers c.take_before.new.lines) same))
+
+pub returns-clause-idle : goal.returns-clause-idle
+returns-clause-idle g c = idle_at _ c.depart_before.result c.depart_before.ensures.idle
+
+pub returns-clause-wrote : goal.returns-clause-wrote
+returns-clause-wrote g c = λ port e i w k m.
+    let v = c.loop-command.invariant in
+    c.depart_before.ensures.failed port e i w (subst (λ ns. slice_get ns i ≡ Some port) (sym (c.take_before.ensures.same.2 ∙ v.lines ∙ v.numbers)) k) m

@@ -1,0 +1,37 @@
+use Rattle.std.proofs.Common.{rules, ◌≡◌, ℕ, ◌<◌, ◌≤◌, List, length, arith, refl, ap, sym, subst, ◌∙◌, Option, Some, None, Ok, Err, slice_get}
+use Rattle.bridge_core.proofs.Steps.{before_next, early_next}
+use Rattle.bridge_lanes.specs.Lanes.{IsFirstAt, numbers}
+use Rattle.bridge_core.proofs.taking.take_before.Goals as goal
+
+pub loop-place-preserved : goal.loop-place-preserved
+loop-place-preserved g c =
+    let i = c.loop-place.invariant in
+    let same = c.take.ensures.same in
+    record {
+      may = c.in_default-take.ensures.may;
+      lines = same.2 ∙ i.lines ∙ sym same.1;
+      sources = search rules;
+      sinks = search rules;
+      until = refl;
+      early = early_next c.args.until c.loop-place.lanes c.in-Some.place c.take.new.relay.earliest c.in-Some.ensures.first c.in-Some.ensures.before c.in_default-take.ensures.moved;
+      plan = same.0 ∙ i.plan;
+      numbers = same.1 ∙ i.numbers;
+      written = same.2 ∙ i.written;
+      lasts = λ sure. c.take.ensures.lasts (i.lasts sure);
+      goes = λ p texts commanded next olds now u. c.in_default-take.ensures.goes p texts commanded next olds (before_next c.args.until next c.loop-place.lanes c.in-Some.place now c.in-Some.ensures.before) (i.goes p texts commanded next olds now u);
+    }
+
+pub returns-in-Err-clause-goes : goal.returns-in-Err-clause-goes
+returns-in-Err-clause-goes g c = λ p texts commanded next olds now u. c.in-Err.ensures.goes p texts commanded next olds (before_next c.args.until next c.loop-place.lanes c.in-Some.place now c.in-Some.ensures.before) (c.loop-place.invariant.goes p texts commanded next olds now u)
+
+pub returns-in-Err-clause-read : goal.returns-in-Err-clause-read
+returns-in-Err-clause-read g c = λ port e i w k m. c.in-Err.ensures.read port e i w (subst (λ ns. slice_get ns i ≡ Some port) (sym c.loop-place.invariant.numbers) k) m
+
+pub returns-in-Err-clause-sure : goal.returns-in-Err-clause-sure
+returns-in-Err-clause-sure g c = λ sure port e. c.take.ensures.sure (c.loop-place.invariant.lasts sure) port (c.in-Err.is ∙ e)
+
+pub returns-in-Err-clause-wrote : goal.returns-in-Err-clause-wrote
+returns-in-Err-clause-wrote g c = λ port e i w k m. c.in-Err.ensures.wrote port e i w (subst (λ ns. slice_get ns i ≡ Some port) (sym c.loop-place.invariant.numbers) k) m
+
+pub returns-clause-later : goal.returns-clause-later
+returns-clause-later g c = c.in_default.ensures.later refl

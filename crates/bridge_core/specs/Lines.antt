@@ -1,0 +1,55 @@
+-- Captures that are written, one of each port.
+use Rattle.std.specs.Prelude.{◌≡◌, ◌≢◌, ℕ, Bool, true, ◌<◌, Option, Some, List, [], ◌∷◌, slice_get, Result, Ok, Err}
+use Rattle.std.specs.Io.KnownBytes.{Appends}
+use Rattle.bridge_capture.specs.Grammar.{Captured}
+use Rattle.bridge_capture.specs.Written.{written_header, written_text}
+use Rattle.bridge_capture.specs.Sinks.{AppendsFront}
+use Rattle.bridge_config.specs.Model.{Plan}
+use Rattle.bridge_lanes.specs.declared.fault.RunFault.{RunFault}
+use Rattle.bridge_lanes.specs.declared.fault.RunFault.TheVariants as run
+use Rattle.bridge_run.specs.Events.{Event}
+use Rattle.bridge_run.specs.Outputs.{HasRun}
+use Rattle.bridge_relay.specs.Relays.{RelayState, Stands}
+use Rattle.bridge_core.specs.declared.line.Line.{Line}
+
+-- the numbers of the ports, in the order of the lines
+abbrev pub numbers : List Line → List ℕ
+numbers [] = []
+numbers (line ∷ more) = line.number ∷ numbers more
+
+-- each sink has the capture of what left its port
+abbrev pub AreWritten : {W : Type 0} → (W → Option (List ℕ)) → List ℕ → List W → List W → (ℕ → List Captured) → Type 0
+AreWritten {W} contents ports olds news left = (i q : ℕ) (old new : W) → slice_get ports i ≡ Some q → slice_get olds i ≡ Some old → slice_get news i ≡ Some new → Appends (contents old) (contents new) (written_text (left q))
+
+-- each sink has it but that of one port, which is there and has a front of it
+pub record AreWrittenBut {W : Type 0} (contents : W → Option (List ℕ)) (port : ℕ) (ports : List ℕ) (olds news : List W) (left : ℕ → List Captured) : Type 0 where
+  pub place : ℕ
+  pub there : slice_get ports place ≡ Some port
+  pub others : (i q : ℕ) (old new : W) → slice_get ports i ≡ Some q → q ≢ port → slice_get olds i ≡ Some old → slice_get news i ≡ Some new → Appends (contents old) (contents new) (written_text (left q))
+  pub broken : (i : ℕ) (old new : W) → slice_get ports i ≡ Some port → slice_get olds i ≡ Some old → slice_get news i ≡ Some new → AppendsFront (contents old) (contents new) (written_text (left port))
+
+-- the sinks before that of a port have their header, its own failed with a front of it, and those behind it are as they were
+pub record StopsAtHeader {W : Type 0} (contents : W → Option (List ℕ)) (has_failed : W → Bool) (ports : List ℕ) (port : ℕ) (olds news : List W) : Type 0 where
+  pub place : ℕ
+  pub there : slice_get ports place ≡ Some port
+  pub before : (i : ℕ) (old new : W) → i < place → slice_get olds i ≡ Some old → slice_get news i ≡ Some new → Appends (contents old) (contents new) written_header
+  pub broken : (old new : W) → slice_get olds place ≡ Some old → slice_get news place ≡ Some new → AppendsFront (contents old) (contents new) written_header
+  pub failed : (w : W) → slice_get news place ≡ Some w → has_failed w ≡ true
+  pub behind : (i : ℕ) → place < i → slice_get news i ≡ slice_get olds i
+
+-- why headers weren't written
+abbrev pub HeadersStop : {W : Type 0} → (W → Option (List ℕ)) → (W → Bool) → List ℕ → List W → List W → RunFault → Type 0
+HeadersStop contents has_failed ports olds news (run.Write port) = StopsAtHeader contents has_failed ports port olds news
+HeadersStop contents has_failed ports olds news fault = ⊥
+
+-- a frame more of a port was written, or the sink of the port failed
+abbrev pub Writes : {W : Type 0} → (W → Option (List ℕ)) → ℕ → List ℕ → List W → List W → (ℕ → List Captured) → Result (Unit {0}) RunFault → Type 0
+Writes contents port ports olds news left (Ok u) = AreWritten contents ports olds news left
+Writes contents port ports olds news left (Err (run.Write q)) = (q ≡ port) × AreWrittenBut contents port ports olds news left
+Writes contents port ports olds news left (Err fault) = ⊥
+
+-- frames left and were written, or a sink failed while the run was at most here
+abbrev pub Departs : {G A W : Type 0} → (W → Option (List ℕ)) → Plan A → List Event → Option ℕ → RelayState G A → List ℕ → List W → List W → Result (Unit {0}) RunFault → Type 0
+Departs contents p es until b ports olds news (Ok u) = (left : ℕ → List Captured) × Stands p b es left × AreWritten contents ports olds news left
+Departs contents p es until b ports olds news (Err (run.Write q)) = (left : ℕ → List Captured) × HasRun p es until left × AreWrittenBut contents q ports olds news left
+Departs contents p es until b ports olds news (Err fault) = ⊥

@@ -1,0 +1,195 @@
+-- Frames and commands that are taken one by one.
+use Rattle.std.specs.Prelude.{◌≡◌, ◌≢◌, ℕ, ◌+◌, ◌<◌, ◌≤◌, ◌⊎◌, nat_eq, Option, Some, None, IfSome, OnOk, List, [], ◌∷◌, ◌++◌, slice_get, slice_set, Result, Ok, Err, if◌then◌else◌}
+use Rattle.bridge_base.specs.Members.{Rising}
+use Rattle.bridge_base.specs.declared.TheConstants.{MOST_ARRIVALS}
+use Rattle.bridge_capture.specs.declared.fault.CaptureFault.{CaptureFault}
+use Rattle.bridge_capture.specs.declared.fault.CaptureFault.TheVariants as faults
+use Rattle.bridge_capture.specs.declared.packet.Packet.{Packet}
+use Rattle.bridge_capture.specs.Grammar.{Captured, Records, AtEnd}
+use Rattle.bridge_capture.specs.Reading.{view}
+use Rattle.bridge_capture.specs.Standing.{Gave, RefusedSo, StandsFor, records_left}
+use Rattle.bridge_config.specs.declared.command.Command.{Command}
+use Rattle.bridge_config.specs.declared.ports.PortPlan.{PortPlan}
+use Rattle.bridge_config.specs.Model.{Plan}
+use Rattle.bridge_config.specs.Rules.{port_at}
+use Rattle.bridge_lanes.specs.declared.fault.RunFault.{RunFault}
+use Rattle.bridge_lanes.specs.declared.fault.RunFault.TheVariants as run
+use Rattle.bridge_run.specs.Merge.{Input, frame, command, NotBefore, IsMerged, events, newest, inputs_of}
+use Rattle.bridge_run.specs.Outputs.{Reaches, HasRun}
+use Rattle.bridge_relay.specs.Relays.{RelayState, Stands}
+use Rattle.bridge_lanes.specs.declared.lane.Lane.{Lane}
+use Rattle.bridge_lanes.specs.Lanes.{AreAheadOf, IsLane, Looks, numbers, room, room_of}
+use Rattle.bridge_core.specs.Lines.{AreWritten, AreWrittenBut}
+
+-- an input does not come before the newest of these
+abbrev pub Follows : Input → List Input → Type 0
+Follows y [] = Unit {0}
+Follows y (x ∷ xs) = NotBefore y x
+
+-- a command as an input
+abbrev pub asked : Command → Input
+asked c = command c.at c.clear c.number
+
+-- the commands as inputs, newest first
+abbrev pub commands_of : List Command → List Input
+commands_of [] = []
+commands_of (c ∷ cs) = commands_of cs ++ asked c ∷ []
+
+-- the commands, and the frames of each port
+abbrev pub streams : List Input → (ℕ → List Captured) → ℕ → List Input
+streams commanded frames q = if nat_eq q 0 then commanded else inputs_of q (frames q)
+
+-- of the text of each port these frames were taken, and these commands, as inputs in their order; the next command comes no earlier
+pub record HasTaken {A : Type 0} (p : Plan A) (texts : ℕ → List ℕ) (commanded : List Input) (next : Option Input) (frames : ℕ → List Captured) (inputs : List Input) : Type 0 where
+  pub gave : (q : ℕ) (out : PortPlan A) → port_at p.ports q ≡ Some out → Gave (texts q) (frames q)
+  pub others : (q : ℕ) → port_at p.ports q ≡ None → frames q ≡ []
+  pub merged : IsMerged (streams commanded frames) inputs
+  pub commands : IfSome next (λ c. Follows c inputs)
+
+-- behind these frames of a port its text ends, or a frame comes that follows the newest input
+abbrev pub LooksOn : List ℕ → ℕ → List Captured → List Input → Type 0
+LooksOn text q taken inputs = Records text taken AtEnd ⊎ ((c : Captured) × Gave text (taken ++ c ∷ []) × Follows (frame q c) inputs)
+
+-- the same, and the frame comes at this moment or later
+abbrev pub LooksFrom : Option ℕ → List ℕ → ℕ → List Captured → List Input → Type 0
+LooksFrom until text q taken inputs = Records text taken AtEnd ⊎ ((c : Captured) × Gave text (taken ++ c ∷ []) × Follows (frame q c) inputs × ((t : ℕ) × (until ≡ Some t) × (t ≤ c.time)))
+
+-- the newest input came on a port
+abbrev pub IsNewestOf : ℕ → List Input → Type 0
+IsNewestOf port [] = ⊥
+IsNewestOf port (x ∷ xs) = x.rank ≡ port
+
+-- a fault of a capture, neither a want of memory nor a failed write
+abbrev pub IsOfCapture : CaptureFault → Type 0
+IsOfCapture fault = (fault ≢ faults.NoMemory) × (fault ≢ faults.Write)
+
+-- behind the newest input the capture of its port was refused: the run of what was taken, up to that input, was written
+pub record StopsReading {A W : Type 0} (p : Plan A) (texts : ℕ → List ℕ) (commanded : List Input) (next : Option Input) (contents : W → Option (List ℕ)) (ports : List ℕ) (olds news : List W) (port : ℕ) (fault : CaptureFault) : Type 0 where
+  pub frames : ℕ → List Captured
+  pub inputs : List Input
+  pub left : ℕ → List Captured
+  pub taken : HasTaken p texts commanded next frames inputs
+  pub own : IsOfCapture fault
+  pub refused : RefusedSo fault (texts port) (frames port)
+  pub behind : IsNewestOf port inputs
+  pub others : (q : ℕ) (out : PortPlan A) → port_at p.ports q ≡ Some out → q ≢ port → LooksOn (texts q) q (frames q) inputs
+  pub reaches : Reaches p (events inputs) (newest inputs) left
+  pub written : AreWritten contents ports olds news left
+
+-- the sink of a port failed: what left of the run of what was taken was written, but a front at that port
+pub record StopsWriting {A W : Type 0} (p : Plan A) (texts : ℕ → List ℕ) (commanded : List Input) (next : Option Input) (contents : W → Option (List ℕ)) (ports : List ℕ) (olds news : List W) (port : ℕ) : Type 0 where
+  pub frames : ℕ → List Captured
+  pub inputs : List Input
+  pub left : ℕ → List Captured
+  pub until : Option ℕ
+  pub taken : HasTaken p texts commanded next frames inputs
+  pub looks : (q : ℕ) (out : PortPlan A) → port_at p.ports q ≡ Some out → LooksFrom until (texts q) q (frames q) inputs
+  pub waits : IfSome next (λ c. (t : ℕ) × (until ≡ Some t) × (t ≤ c.at))
+  pub run : HasRun p (events inputs) until left
+  pub written : AreWrittenBut contents port ports olds news left
+
+-- memory ran out: the run of what was taken, up to some moment that is not before the newest input, was written
+pub record StopsForMemory {A W : Type 0} (p : Plan A) (texts : ℕ → List ℕ) (commanded : List Input) (next : Option Input) (contents : W → Option (List ℕ)) (ports : List ℕ) (olds news : List W) : Type 0 where
+  pub frames : ℕ → List Captured
+  pub inputs : List Input
+  pub left : ℕ → List Captured
+  pub moment : ℕ
+  pub taken : HasTaken p texts commanded next frames inputs
+  pub late : newest inputs ≤ moment
+  pub reaches : Reaches p (events inputs) moment left
+  pub written : AreWritten contents ports olds news left
+
+-- why a run stopped that was under way
+abbrev pub StopsSo : {A W : Type 0} → Plan A → (ℕ → List ℕ) → List Input → Option Input → (W → Option (List ℕ)) → List ℕ → List W → List W → RunFault → Type 0
+StopsSo p texts commanded next contents ports olds news (run.Capture port fault) = StopsReading p texts commanded next contents ports olds news port fault
+StopsSo p texts commanded next contents ports olds news (run.Write port) = StopsWriting p texts commanded next contents ports olds news port
+StopsSo p texts commanded next contents ports olds news run.NoMemory = StopsForMemory p texts commanded next contents ports olds news
+
+-- a bridge may take the frames of these lanes
+pub record MayTake {G A : Type 0} (b : RelayState G A) (lanes : List (Lane A)) : Type 0 where
+  pub each : (i : ℕ) (lane : Lane A) → slice_get lanes i ≡ Some lane → IsLane lane
+  pub from : (i : ℕ) (lane : Lane A) → slice_get lanes i ≡ Some lane → 1 ≤ lane.number
+  pub known : (i : ℕ) (lane : Lane A) → slice_get lanes i ≡ Some lane → (out : PortPlan A) × (port_at b.plan.ports lane.number ≡ Some out)
+  pub onward : (i : ℕ) (lane : Lane A) (p : Packet A) → slice_get lanes i ≡ Some lane → lane.ahead ≡ Some p → b.earliest ≤ p.time
+  pub few : b.arrived + room_of lanes ≤ MOST_ARRIVALS
+  pub rises : Rising (λ a b. a < b) (numbers lanes)
+
+-- a bridge stands for what was taken, what comes next is ahead, and what left is written
+pub record IsUnderWay {R W G A : Type 0} (remaining : R → Option (List ℕ)) (contents : W → Option (List ℕ)) (p : Plan A) (texts : ℕ → List ℕ) (commanded : List Input) (next : Option Input) (olds : List W) (b : RelayState G A) (lanes : List (Lane A)) (sources : List R) (sinks : List W) : Type 0 where
+  pub frames : ℕ → List Captured
+  pub inputs : List Input
+  pub left : ℕ → List Captured
+  pub taken : HasTaken p texts commanded next frames inputs
+  pub ahead : AreAheadOf remaining texts frames lanes sources
+  pub follow : (i : ℕ) (lane : Lane A) (c : Packet A) → slice_get lanes i ≡ Some lane → lane.ahead ≡ Some c → Follows (frame lane.number (view c)) inputs
+  pub covered : (q : ℕ) (out : PortPlan A) → port_at p.ports q ≡ Some out → (i : ℕ) × (slice_get (numbers lanes) i ≡ Some q)
+  pub stands : Stands p b (events inputs) left
+  pub written : AreWritten contents (numbers lanes) olds sinks left
+
+-- the frame that comes first comes before the next command
+abbrev pub TakesBefore : {A : Type 0} → List (Lane A) → ℕ → Option Input → Type 0
+TakesBefore {A} lanes place next = (l : Lane A) (c : Packet A) → slice_get lanes place ≡ Some l → l.ahead ≡ Some c → IfSome next (λ y. c.time < y.at)
+
+-- the frame at a place comes before this moment, where there is one
+abbrev pub IsBefore : {A : Type 0} → Option ℕ → List (Lane A) → ℕ → Type 0
+IsBefore {A} until lanes place = (l : Lane A) (c : Packet A) → slice_get lanes place ≡ Some l → l.ahead ≡ Some c → IfSome until (λ t. c.time < t)
+
+-- a frame was taken from the lane of a port
+pub record HasGiven {A : Type 0} (old new : List (Lane A)) (place : ℕ) (given : ℕ × Packet A) : Type 0 where
+  pub lane : Lane A
+  pub there : slice_get old place ≡ Some lane
+  pub number : lane.number ≡ given.0
+  pub ahead : lane.ahead ≡ Some given.1
+  pub now : new ≡ slice_set old place (record lane { ahead = None })
+
+-- a lane whose frame was taken looked at what comes next, and no other lane or source changed
+pub record HasLooked {R A : Type 0} (remaining : R → Option (List ℕ)) (old new : List (Lane A)) (before after : List R) (place : ℕ) (result : Result (Unit {0}) CaptureFault) : Type 0 where
+  pub was : Lane A
+  pub source : R
+  pub lane : Lane A
+  pub rest : R
+  pub there : slice_get old place ≡ Some was
+  pub lent : slice_get before place ≡ Some source
+  pub lanes : new ≡ slice_set old place lane
+  pub sources : after ≡ slice_set before place rest
+  pub number : lane.number ≡ was.number
+  pub looks : (text : List ℕ) (taken : List Captured) → StandsFor was.capture (remaining source) text taken → Looks lane (remaining rest) text taken result
+  pub is_lane : OnOk result (IsLane lane)
+  pub onward : OnOk result ((p : Packet A) → lane.ahead ≡ Some p → was.capture.latest ≤ p.time)
+  pub fewer : OnOk result (room lane ≤ records_left was.capture)
+
+-- a run went on, or stopped
+abbrev pub GoesOn : {R W G A : Type 0} → (R → Option (List ℕ)) → (W → Option (List ℕ)) → Plan A → (ℕ → List ℕ) → List Input → Option Input → List W → RelayState G A → List (Lane A) → List R → List W → Result (Unit {0}) RunFault → Type 0
+GoesOn remaining contents p texts commanded next olds b lanes sources sinks (Ok u) = IsUnderWay remaining contents p texts commanded next olds b lanes sources sinks
+GoesOn remaining contents p texts commanded next olds b lanes sources sinks (Err fault) = StopsSo p texts commanded next contents (numbers lanes) olds sinks fault
+
+-- no frame ahead comes before this moment, or none at all
+abbrev pub AreLater : {A : Type 0} → Option ℕ → List (Lane A) → Type 0
+AreLater {A} until lanes = (i : ℕ) (lane : Lane A) (p : Packet A) → slice_get lanes i ≡ Some lane → lane.ahead ≡ Some p → (t : ℕ) × (until ≡ Some t) × (t ≤ p.time)
+
+-- a command was done behind what was taken, or a run stopped before it
+abbrev pub Obeys : {R W G A : Type 0} → (R → Option (List ℕ)) → (W → Option (List ℕ)) → Plan A → (ℕ → List ℕ) → List Input → Command → Option Input → List W → RelayState G A → List (Lane A) → List R → List W → Result (Unit {0}) RunFault → Type 0
+Obeys remaining contents p texts commanded c next olds b lanes sources sinks (Ok u) = IsUnderWay remaining contents p texts (asked c ∷ commanded) next olds b lanes sources sinks
+Obeys remaining contents p texts commanded c next olds b lanes sources sinks (Err fault) = StopsSo p texts commanded (Some (asked c)) contents (numbers lanes) olds sinks fault
+
+-- the first of some commands, as an input
+abbrev pub first_of_commands : List Command → Option Input
+first_of_commands [] = None
+first_of_commands (c ∷ cs) = Some (asked c)
+
+-- a run stopped when some of the commands were done
+pub record StopsAmong {A W : Type 0} (p : Plan A) (texts : ℕ → List ℕ) (commands : List Command) (contents : W → Option (List ℕ)) (ports : List ℕ) (olds news : List W) (fault : RunFault) : Type 0 where
+  pub done : List Command
+  pub later : List Command
+  pub all : commands ≡ done ++ later
+  pub stops : StopsSo p texts (commands_of done) (first_of_commands later) contents ports olds news fault
+
+-- all frames and commands were taken, and no frame is ahead
+pub record IsThrough {R W G A : Type 0} (remaining : R → Option (List ℕ)) (contents : W → Option (List ℕ)) (p : Plan A) (texts : ℕ → List ℕ) (commands : List Command) (olds : List W) (b : RelayState G A) (lanes : List (Lane A)) (sources : List R) (sinks : List W) : Type 0 where
+  pub under : IsUnderWay remaining contents p texts (commands_of commands) None olds b lanes sources sinks
+  pub none : (i : ℕ) (lane : Lane A) → slice_get lanes i ≡ Some lane → lane.ahead ≡ None
+
+-- a run came to its end, or stopped
+abbrev pub HasGone : {R W G A : Type 0} → (R → Option (List ℕ)) → (W → Option (List ℕ)) → Plan A → (ℕ → List ℕ) → List Command → List W → RelayState G A → List (Lane A) → List R → List W → Result (Unit {0}) RunFault → Type 0
+HasGone remaining contents p texts commands olds b lanes sources sinks (Ok u) = IsThrough remaining contents p texts commands olds b lanes sources sinks
+HasGone remaining contents p texts commands olds b lanes sources sinks (Err fault) = StopsAmong p texts commands contents (numbers lanes) olds sinks fault

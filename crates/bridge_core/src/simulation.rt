@@ -1,0 +1,187 @@
+//! Captures through a bridge, from their texts to what is written.
+ghost use Rattle.std.specs.Prelude.{◌≡◌, ◌≢◌, ℕ, ◌<◌, List, [], Some, None, Option, length, nat_eq, map, true, Err, IfOk, IfErr};
+ghost use Rattle.std.specs.Map.{lookup};
+ghost use Rattle.bridge_base.specs.Members.{Rising};
+ghost use Rattle.bridge_config.specs.Commands.{AreCommands};
+ghost use Rattle.bridge_lanes.specs.Devices.{HasFailed, NeverFail};
+ghost use Rattle.bridge_lanes.specs.Lanes.{AreTexts};
+ghost use Rattle.bridge_core.specs.Simulated.{AreListsOf, AreNumbers, Isolates, OthersChangeNothing, Runs, Stops, WritesFew};
+
+use crate::line::{Line, begin_all};
+use crate::taking::run;
+use bridge_capture::{ByteSink, ByteSource, CaptureFault};
+use bridge_check::Accepted;
+use bridge_config::{Command, Plan};
+use bridge_cycle::NoMemory;
+use bridge_events::{Agenda, TreeAgenda};
+use bridge_filter::FilterPlan;
+use bridge_lanes::{RunFault, Spares, look_at_all};
+use bridge_relay::Relay;
+use bridge_run::{Outcome, PortCount, View};
+use std::alloc::Allocator;
+
+/// The filters of a plan by rising number.
+pub fn filters_in_order<A: Allocator + Copy>(
+    alloc: A,
+    plan: &Plan<A>,
+) -> Result<Vec<(u32, FilterPlan), A>, NoMemory>
+    ensures rises { IfOk result (λ v. Rising (λ x y. x.0 < y.0) v.items) }
+    ensures same { IfOk result (λ v. (n : ℕ) → lookup (nat_eq n) v.items ≡ lookup (nat_eq n) plan.now.filters) }
+{
+    let mut filters = Vec::from_slice(alloc, plan.filters())?;
+    filters.sort_by_key(|filter| filter.0)?;
+    Ok(filters)
+}
+
+/// What a run needs beside the bridge itself: the numbers of the ports and the filters in their order, and room for the
+/// captures that are written and for what is told of filters and ports.
+#[derive(Drop)]
+struct Lists<A: Allocator + Copy> {
+    ports: Vec<u8, A>,
+    order: Vec<(u32, FilterPlan), A>,
+    lines: Vec<Line, A>,
+    views: Vec<(u32, View<A>), A>,
+    counts: Vec<(u8, PortCount), A>,
+}
+
+/// The lists that a run under a plan needs.
+fn lists_of<A: Allocator + Copy>(alloc: A, plan: &Plan<A>) -> Result<Lists<A>, NoMemory>
+    ensures { IfOk result (AreListsOf plan.now) }
+{
+    let ports = plan.port_numbers(alloc)?;
+    let order = filters_in_order(alloc, plan)?;
+    let lines = Vec::with_capacity(alloc, ports.len())?;
+    let views = Vec::with_capacity(alloc, order.len())?;
+    let counts = Vec::with_capacity(alloc, 16)?;
+    Ok(Lists {
+        ports,
+        order,
+        lines,
+        views,
+        counts,
+    })
+}
+
+/// Room for octets that are used again.
+fn spares_in<A: Allocator + Copy>(alloc: A) -> Result<Spares<A>, NoMemory> {
+    Ok(Spares::new(alloc)?)
+}
+
+/// Sends captures, one for each port by rising number, and commands through a bridge of an accepted plan over an agenda,
+/// and writes the capture of what leaves each port, each frame with the moment at which it was done.
+///
+/// What it tells of a protected filter is what the filter's own events alone tell, each of its queues alone on an idle
+/// bridge; so captures and commands in which the filter's own are the same tell the same of it, whatever else came.
+pub fn simulate_over<R: ByteSource, W: ByteSink, G: Agenda + Drop, A: Allocator + Copy>(
+    alloc: A,
+    accepted: &Accepted<A>,
+    commands: &[Command],
+    sources: &mut [R],
+    sinks: &mut [W],
+) -> Result<Outcome<A>, RunFault>
+    requires sources { length sources.old ≡ length accepted.now.ports }
+    requires sinks { length sinks.old ≡ length accepted.now.ports }
+    requires commands { AreCommands accepted.now commands.now }
+    ensures ok { (ports : List ℕ) (texts : ℕ → List ℕ) → AreNumbers accepted.now ports → AreTexts R.remaining ports texts sources.old →
+        IfOk result (Runs accepted.now ports commands.now texts W.contents sinks.old sinks.new) }
+    ensures err { (ports : List ℕ) (texts : ℕ → List ℕ) → AreNumbers accepted.now ports → AreTexts R.remaining ports texts sources.old →
+        IfErr result (Stops accepted.now ports commands.now texts W.contents W.has_failed sinks.old sinks.new) }
+    ensures isolated { (ports : List ℕ) (texts : ℕ → List ℕ) →
+        IfOk result (Isolates accepted.now ports commands.now texts W.contents sinks.old sinks.new) }
+    ensures others_change_nothing { (ports : List ℕ) (texts : ℕ → List ℕ) →
+        IfOk result (OthersChangeNothing accepted.now ports commands.now texts W.contents sinks.old sinks.new) }
+    ensures few { (ports : List ℕ) (texts : ℕ → List ℕ) →
+        IfOk result (WritesFew accepted.now ports commands.now texts W.contents sinks.old sinks.new) }
+    ensures read { (ports : List ℕ) (port : ℕ) → AreNumbers accepted.now ports →
+        result ≡ Err (RunFault.Capture port CaptureFault.Read) → HasFailed R.has_failed ports port sources.new }
+    ensures sure { NeverFail R.never_fails sources.old → (port : ℕ) → result ≢ Err (RunFault.Capture port CaptureFault.Read) }
+    ensures wrote { (ports : List ℕ) (port : ℕ) → AreNumbers accepted.now ports →
+        result ≡ Err (RunFault.Write port) → HasFailed W.has_failed ports port sinks.new }
+{
+    let Ok(lists) = lists_of(alloc, accepted.plan()) else {
+        return Err(RunFault::NoMemory);
+    };
+    let Ok(mut spares) = spares_in(alloc) else {
+        drop(lists);
+        return Err(RunFault::NoMemory);
+    };
+    let mut lanes = match look_at_all(alloc, &lists.ports, sources) {
+        Ok(lanes) => lanes,
+        Err(fault) => {
+            drop(lists);
+            drop(spares);
+            return Err(fault);
+        }
+    };
+    let Ok(mut relay) = Relay::<G, A>::new(alloc, accepted) else {
+        drop(lists);
+        drop(spares);
+        drop(lanes);
+        return Err(RunFault::NoMemory);
+    };
+    let Lists {
+        ports,
+        order,
+        lines,
+        views,
+        counts,
+    } = lists;
+    let mut lines = match begin_all(&ports, lines, sinks) {
+        Ok(lines) => lines,
+        Err(fault) => {
+            drop(spares);
+            drop(lanes);
+            drop(relay);
+            return Err(fault);
+        }
+    };
+    let done = run(
+        commands,
+        &mut relay,
+        &mut lanes,
+        &mut lines,
+        sources,
+        sinks,
+        &mut spares,
+    );
+    drop(spares);
+    drop(lanes);
+    match done {
+        Ok(()) => Ok(relay.finish(&order, views, counts)),
+        Err(fault) => {
+            drop(relay);
+            Err(fault)
+        }
+    }
+}
+
+/// Sends captures, one for each port by rising number, and commands through a bridge of an accepted plan, as
+/// `simulate_over` does over an agenda that is an ordered tree.
+pub fn simulate<R: ByteSource, W: ByteSink, A: Allocator + Copy>(
+    alloc: A,
+    accepted: &Accepted<A>,
+    commands: &[Command],
+    sources: &mut [R],
+    sinks: &mut [W],
+) -> Result<Outcome<A>, RunFault>
+    requires sources { length sources.old ≡ length accepted.now.ports }
+    requires sinks { length sinks.old ≡ length accepted.now.ports }
+    requires commands { AreCommands accepted.now commands.now }
+    ensures ok { (ports : List ℕ) (texts : ℕ → List ℕ) → AreNumbers accepted.now ports → AreTexts R.remaining ports texts sources.old →
+        IfOk result (Runs accepted.now ports commands.now texts W.contents sinks.old sinks.new) }
+    ensures err { (ports : List ℕ) (texts : ℕ → List ℕ) → AreNumbers accepted.now ports → AreTexts R.remaining ports texts sources.old →
+        IfErr result (Stops accepted.now ports commands.now texts W.contents W.has_failed sinks.old sinks.new) }
+    ensures isolated { (ports : List ℕ) (texts : ℕ → List ℕ) →
+        IfOk result (Isolates accepted.now ports commands.now texts W.contents sinks.old sinks.new) }
+    ensures others_change_nothing { (ports : List ℕ) (texts : ℕ → List ℕ) →
+        IfOk result (OthersChangeNothing accepted.now ports commands.now texts W.contents sinks.old sinks.new) }
+    ensures few { (ports : List ℕ) (texts : ℕ → List ℕ) →
+        IfOk result (WritesFew accepted.now ports commands.now texts W.contents sinks.old sinks.new) }
+    ensures read { (ports : List ℕ) (port : ℕ) → AreNumbers accepted.now ports →
+        result ≡ Err (RunFault.Capture port CaptureFault.Read) → HasFailed R.has_failed ports port sources.new }
+    ensures sure { NeverFail R.never_fails sources.old → (port : ℕ) → result ≢ Err (RunFault.Capture port CaptureFault.Read) }
+    ensures wrote { (ports : List ℕ) (port : ℕ) → AreNumbers accepted.now ports →
+        result ≡ Err (RunFault.Write port) → HasFailed W.has_failed ports port sinks.new }
+{
+    simulate_over::<R, W, TreeAgenda, A>(alloc, accepted, commands, sources, sinks)
+}
