@@ -8,9 +8,9 @@ ghost use Rattle.bridge_files.specs.Flushed.{LosesOutput, StopsFlushed};
 use crate::transfer::{finish_all, sinks_of, sources_of};
 use bridge_check::Accepted;
 use bridge_config::Command;
+use bridge_core::simulate;
 use bridge_lanes::RunFault;
 use bridge_run::Outcome;
-use bridge_core::simulate;
 use std::alloc::Allocator;
 use std::io::{Read, Write};
 

@@ -1,8 +1,8 @@
 //! Runs that stop: captures that are refused, and sources and sinks that fail.
 use crate::must::must;
 use bridge_capture::{CaptureFault, SliceSource, VecSink};
-use bridge_events::{Agenda, RowAgenda, TreeAgenda};
 use bridge_core::RunFault;
+use bridge_events::{Agenda, RowAgenda, TreeAgenda};
 use bridge_trials::frames::{Frame, TO_A, capture, header, push_record};
 use bridge_trials::runs::{planned, simulated};
 use std::alloc::{AllocError, Allocator, Global};

@@ -1,10 +1,10 @@
 //! Runs from readers to writers that stop: a capture that is cut, writers without room, and memory that runs out.
 use bridge_capture::CaptureFault;
 use bridge_check::Accepted;
+use bridge_core::RunFault;
 use bridge_drives::same;
 use bridge_files::Halted;
 use bridge_refusing::RefusesOne;
-use bridge_core::RunFault;
 use bridge_trials::frames::{Frame, TO_A, capture, header};
 use bridge_trials::plans::{BASE, accepted_of};
 use bridge_trials::runs::planned;

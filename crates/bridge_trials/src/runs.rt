@@ -5,6 +5,7 @@ use crate::transfers::transfers;
 use bridge_capture::{ByteSink, ByteSource, SliceSource, VecSink};
 use bridge_check::Accepted;
 use bridge_config::Command;
+use bridge_core::{RunFault, simulate_over};
 use bridge_drives::{driven, has_instance, same};
 use bridge_events::{Agenda, RowAgenda, TreeAgenda};
 use bridge_filter::{Counters, Flags, Verdict};
@@ -13,7 +14,6 @@ use bridge_port::Refusal;
 use bridge_relay::Sent;
 use bridge_report::summary;
 use bridge_run::{Departure, Dropped, Outcome, PortCount, View};
-use bridge_core::{RunFault, simulate_over};
 use std::alloc::{Allocator, Global};
 use std::test::Fail;
 
