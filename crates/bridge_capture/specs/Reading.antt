@@ -1,15 +1,22 @@
 -- What reading one record gives.
-use Rattle.std.specs.Prelude.{◌≡◌, ◌<◌, ℕ, List, length, Option, Some, None, Result, Ok, Err, Vec}
+use Rattle.std.specs.Prelude.{◌≡◌, ◌<◌, ℕ, ⊤, List, length, Option, Some, None, Result, Ok, Err, Vec}
 use Rattle.std.specs.Io.KnownBytes.{Consumes, IsAtEnd}
 use Rattle.bridge_capture.specs.declared.fault.CaptureFault.{CaptureFault}
 use Rattle.bridge_capture.specs.declared.fault.CaptureFault.TheVariants as faults
 use Rattle.bridge_capture.specs.declared.packet.Packet.{Packet}
+use Rattle.bridge_capture.specs.declared.packet.Stamp.{Stamp}
 use Rattle.bridge_capture.specs.Grammar.{Captured, Front, Nothing, Fault, Record}
 use Rattle.bridge_capture.specs.Taken.{TakesFewer}
 
 -- a packet without where it lies in memory
 abbrev pub view : {A : Type 0} → Packet A → Captured
 view p = record { time = p.time; len = p.len; octets = p.octets.items }
+
+-- what a call gave that put a packet's octets into a vector
+abbrev pub packet_in : {A : Type 0} → Vec ℕ A → Result (Option Stamp) CaptureFault → Result (Option (Packet A)) CaptureFault
+packet_in octets (Ok (Some stamp)) = Ok (Some (record { time = stamp.time; len = stamp.len; octets = octets }))
+packet_in octets (Ok None) = Ok None
+packet_in octets (Err fault) = Err fault
 
 -- a fact of the packet, where a call gave one
 abbrev pub IfPacket : {A : Type 0} → Result (Option (Packet A)) CaptureFault → (Packet A → Type 0) → Type 0
@@ -35,10 +42,10 @@ CutsOctets number count old new faults.Read = TakesFewer count old new
 CutsOctets number count old new faults.NoMemory = new ≡ old
 CutsOctets number count old new fault = (fault ≡ faults.RecordCut number) × (IsAtEnd new × ((octets : List ℕ) × (length octets < count) × Consumes old new octets))
 
--- what a call took as the octets of a record
-abbrev pub TakesOctets : {A : Type 0} → ℕ → ℕ → Option (List ℕ) → Option (List ℕ) → Result (Vec ℕ A) CaptureFault → Type 0
-TakesOctets number count old new (Ok octets) = (length octets.items ≡ count) × Consumes old new octets.items
-TakesOctets number count old new (Err fault) = CutsOctets number count old new fault
+-- what a call took as the octets of a record, which it put there
+abbrev pub TakesOctets : ℕ → ℕ → Option (List ℕ) → Option (List ℕ) → List ℕ → Result ⊤ CaptureFault → Type 0
+TakesOctets number count old new octets (Ok done) = (length octets ≡ count) × Consumes old new octets
+TakesOctets number count old new octets (Err fault) = CutsOctets number count old new fault
 
 -- a fault of a record's words
 abbrev pub IsOfWords : CaptureFault → Type 0

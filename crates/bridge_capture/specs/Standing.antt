@@ -1,5 +1,5 @@
 -- A capture that is being read, and the text that its source had when it began.
-use Rattle.std.specs.Prelude.{◌≡◌, ℕ, ◌+◌, ◌-◌, ◌*◌, ◌^◌, ◌<◌, ◌≤◌, length, map, List, [], ◌∷◌, ◌++◌, Option, Some, None, Result, Ok, Err, drop}
+use Rattle.std.specs.Prelude.{◌≡◌, ℕ, ◌+◌, ◌-◌, ◌<◌, ◌≤◌, length, map, List, [], ◌∷◌, ◌++◌, Option, Some, None, Result, Ok, Err, drop}
 use Rattle.bridge_base.specs.declared.TheConstants.{END_OF_TIME, MOST_CAPTURED}
 use Rattle.bridge_capture.specs.declared.record.TheConstants.{MAX_RECORDS}
 use Rattle.bridge_capture.specs.declared.form.Form.{Form}

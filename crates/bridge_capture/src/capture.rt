@@ -2,7 +2,7 @@
 use crate::fault::CaptureFault;
 use crate::form::Form;
 use crate::header::{HEADER_LEN, judge};
-use crate::packet::Packet;
+use crate::packet::{Packet, Stamp};
 use crate::progress::Progress;
 use crate::record::{MAX_RECORDS, front_record};
 use crate::source::ByteSource;
@@ -40,7 +40,7 @@ impl Model for Capture {
 impl Capture {
     ghost use Rattle.std.specs.Prelude.{◌≡◌, ◌≢◌, ◌≤◌, ◌<◌, ◌+◌, ◌*◌, ◌^◌, ◌++◌, ℕ, List, [], length, Result, Ok, Err, Some, None, true, IfOk, IfErr, OnOk};
     ghost use Rattle.bridge_capture.specs.Grammar.{Captured, Records, AtEnd};
-    ghost use Rattle.bridge_capture.specs.Reading.{IfPacket};
+    ghost use Rattle.bridge_capture.specs.Reading.{IfPacket, packet_in};
     ghost use Rattle.bridge_capture.specs.Standing.{StandsFor, Begins, Answers, RefusedSo, IsReading, HasEnded, HasRefused, records_left, views, AreInOrder, TakesFor};
     ghost use Rattle.bridge_capture.specs.Taken.{TakesOfHeader};
 
@@ -115,30 +115,35 @@ impl Capture {
         ensures lasts { R.never_fails source.old ≡ true → R.never_fails source.new ≡ true }
         ensures no_write { result ≢ Err CaptureFault.Write }
     {
-        self.next_into(Vec::new(alloc), source)
+        let mut octets = Vec::new(alloc);
+        match self.read_into(&mut octets, source) {
+            Ok(Some(Stamp { time, len })) => Ok(Some(Packet { time, len, octets })),
+            Ok(None) => Ok(None),
+            Err(refusal) => Err(refusal),
+        }
     }
 
-    /// The next packet, as `next` gives it, its octets in the room of a vector whose own are let go. No growth of memory
-    /// where they fit, else one.
+    /// The next packet, as `next` gives it, its octets in a vector of the caller's, in place of what it holds. No growth
+    /// of memory where they fit, else one. Where no packet is given, what the vector holds is of no use.
     #[inline(always)]
-    pub fn next_into<R: ByteSource, A: Allocator>(
+    pub fn read_into<R: ByteSource, A: Allocator>(
         &mut self,
-        spare: Vec<u8, A>,
+        octets: &mut Vec<u8, A>,
         source: &mut R,
-    ) -> Result<Option<Packet<A>>, CaptureFault>
+    ) -> Result<Option<Stamp>, CaptureFault>
         ensures stands { (text : List ℕ) (given : List Captured) → StandsFor self.old (R.remaining source.old) text given →
-            Answers self.new (R.remaining source.new) text given result }
+            Answers self.new (R.remaining source.new) text given (packet_in octets.new result) }
         ensures taken { IfErr result (λ fault. IsReading self.old → TakesFor self.old (R.remaining source.old) (R.remaining source.new) fault) }
         ensures untouched { ¬ IsReading self.old → source.new ≡ source.old }
 
         // What holds of a packet, whatever the source tells.
-        ensures early { IfPacket result (λ packet. packet.time < END_OF_TIME) }
-        ensures onward { IfPacket result (λ packet. self.old.latest ≤ packet.time) }
-        ensures latest { IfPacket result (λ packet. self.new.latest ≡ packet.time) }
-        ensures small { IfPacket result (λ packet. length packet.octets.items ≤ MOST_CAPTURED) }
-        ensures within { IfPacket result (λ packet. length packet.octets.items ≤ packet.len) }
-        ensures fewer { IfPacket result (λ _. records_left self.old ≡ records_left self.new + 1) }
-        ensures reading { IfPacket result (λ _. IsReading self.new) }
+        ensures early { IfPacket (packet_in octets.new result) (λ packet. packet.time < END_OF_TIME) }
+        ensures onward { IfPacket (packet_in octets.new result) (λ packet. self.old.latest ≤ packet.time) }
+        ensures latest { IfPacket (packet_in octets.new result) (λ packet. self.new.latest ≡ packet.time) }
+        ensures small { IfPacket (packet_in octets.new result) (λ packet. length packet.octets.items ≤ MOST_CAPTURED) }
+        ensures within { IfPacket (packet_in octets.new result) (λ packet. length packet.octets.items ≤ packet.len) }
+        ensures fewer { IfPacket (packet_in octets.new result) (λ _. records_left self.old ≡ records_left self.new + 1) }
+        ensures reading { IfPacket (packet_in octets.new result) (λ _. IsReading self.new) }
 
         // Its end and its refusal are for good.
         ensures ends { result ≡ Ok None → HasEnded self.new }
@@ -157,11 +162,11 @@ impl Capture {
             Progress::Ended => Ok(None),
             Progress::Refused(fault) => Err(fault),
             Progress::Reading => {
-                match front_record(self.form, self.records + 1, self.latest, spare, source) {
-                    Ok(Some(packet)) => {
+                match front_record(self.form, self.records + 1, self.latest, octets, source) {
+                    Ok(Some(stamp)) => {
                         self.records += 1;
-                        self.latest = packet.time;
-                        Ok(Some(packet))
+                        self.latest = stamp.time;
+                        Ok(Some(stamp))
                     }
                     Ok(None) => {
                         self.progress = Progress::Ended;

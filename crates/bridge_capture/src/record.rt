@@ -1,13 +1,13 @@
 //! One record of a capture.
 ghost use Rattle.std.specs.Prelude.{◌≡◌, ◌≢◌, ◌≤◌, ◌<◌, ◌*◌, ◌^◌, Some, None, Err, true, length, IfSome, IfErr, MatchResult};
 ghost use Rattle.bridge_capture.specs.Grammar.{time_of, captured_of, original_of, head_fault, front_of};
-ghost use Rattle.bridge_capture.specs.Reading.{Takes, TakesOctets, IfPacket, IsOfWords};
+ghost use Rattle.bridge_capture.specs.Reading.{Takes, TakesOctets, IfPacket, IsOfWords, packet_in};
 ghost use Rattle.bridge_capture.specs.Taken.{TakesOfRecord};
 
 use crate::fault::CaptureFault;
 use crate::form::{Form, Unit};
 use crate::header::word;
-use crate::packet::Packet;
+use crate::packet::Stamp;
 use crate::source::ByteSource;
 use crate::transfer::fill;
 use bridge_base::{END_OF_TIME, MOST_CAPTURED};
@@ -29,6 +29,7 @@ struct Head {
 }
 
 /// The words that the sixteen octets are.
+#[inline(always)]
 fn head_of(form: Form, octets: &[u8]) -> Head
     requires { length octets.now ≡ 16 }
     ensures time { result.time ≡ time_of form octets.now }
@@ -49,6 +50,7 @@ fn head_of(form: Form, octets: &[u8]) -> Head
 }
 
 /// Whether record `number`, after one at `earliest`, may have these words; else their first fault.
+#[inline(always)]
 fn judge_head(number: u32, earliest: u64, head: Head) -> Result<(), CaptureFault>
     ensures judged { let fault = head_fault (record { number = number; earliest = earliest }) head.time head.captured head.original in
         MatchResult result (λ _. fault ≡ None) (λ f. fault ≡ Some f) }
@@ -69,50 +71,51 @@ fn judge_head(number: u32, earliest: u64, head: Head) -> Result<(), CaptureFault
     Ok(())
 }
 
-/// Takes the octets of record `number`, so many, into the room of a vector that is used again.
+/// Takes the octets of record `number`, so many, into a vector, in place of what it holds.
+#[inline(always)]
 fn take_octets<R: ByteSource, A: Allocator>(
     number: u32,
     captured: u32,
-    spare: Vec<u8, A>,
+    octets: &mut Vec<u8, A>,
     source: &mut R,
-) -> Result<Vec<u8, A>, CaptureFault>
-    ensures octets { TakesOctets number captured (R.remaining source.old) (R.remaining source.new) result }
+) -> Result<(), CaptureFault>
+    ensures octets { TakesOctets number captured (R.remaining source.old) (R.remaining source.new) octets.new.items result }
     ensures failed { result ≡ Err CaptureFault.Read → R.has_failed source.new ≡ true }
     ensures sure { R.never_fails source.old ≡ true → result ≢ Err CaptureFault.Read }
     ensures lasts { R.never_fails source.old ≡ true → R.never_fails source.new ≡ true }
 {
     // What stood there is read over, so that only what is longer is set to 0 first.
-    let mut octets = spare;
     if octets.resize(captured as usize, 0u8).is_err() {
         return Err(CaptureFault::NoMemory);
     }
-    let count = match fill(source, &mut octets) {
+    let count = match fill(source, octets) {
         Ok(count) => count,
         Err(_) => return Err(CaptureFault::Read),
     };
     if count < octets.len() {
         return Err(CaptureFault::RecordCut(number));
     }
-    Ok(octets)
+    Ok(())
 }
 
 /// Takes the record at the front of what the source has left, if there is one: record `number`,
-/// after one at `earliest`. Its octets lie in the room of a vector that is used again, where they fit.
+/// after one at `earliest`. Its octets are put into a vector, in place of what it holds.
+#[inline(always)]
 pub fn front_record<R: ByteSource, A: Allocator>(
     form: Form,
     number: u32,
     earliest: u64,
-    spare: Vec<u8, A>,
+    octets: &mut Vec<u8, A>,
     source: &mut R,
-) -> Result<Option<Packet<A>>, CaptureFault>
-    ensures record { IfSome (R.remaining source.old) (λ octets.
-        Takes (front_of form (record { number = number; earliest = earliest }) octets) (R.remaining source.new) result) }
+) -> Result<Option<Stamp>, CaptureFault>
+    ensures record { IfSome (R.remaining source.old) (λ text.
+        Takes (front_of form (record { number = number; earliest = earliest }) text) (R.remaining source.new) (packet_in octets.new result)) }
     ensures taken { IfErr result (TakesOfRecord form (record { number = number; earliest = earliest }) (R.remaining source.old) (R.remaining source.new)) }
-    ensures few { IfPacket result (λ _. number ≤ MAX_RECORDS) }
-    ensures early { IfPacket result (λ packet. packet.time < END_OF_TIME) }
-    ensures onward { IfPacket result (λ packet. earliest ≤ packet.time) }
-    ensures small { IfPacket result (λ packet. length packet.octets.items ≤ MOST_CAPTURED) }
-    ensures within { IfPacket result (λ packet. length packet.octets.items ≤ packet.len) }
+    ensures few { IfPacket (packet_in octets.new result) (λ _. number ≤ MAX_RECORDS) }
+    ensures early { IfPacket (packet_in octets.new result) (λ packet. packet.time < END_OF_TIME) }
+    ensures onward { IfPacket (packet_in octets.new result) (λ packet. earliest ≤ packet.time) }
+    ensures small { IfPacket (packet_in octets.new result) (λ packet. length packet.octets.items ≤ MOST_CAPTURED) }
+    ensures within { IfPacket (packet_in octets.new result) (λ packet. length packet.octets.items ≤ packet.len) }
     ensures failed { result ≡ Err CaptureFault.Read → R.has_failed source.new ≡ true }
     ensures sure { R.never_fails source.old ≡ true → result ≢ Err CaptureFault.Read }
     ensures lasts { R.never_fails source.old ≡ true → R.never_fails source.new ≡ true }
@@ -143,11 +146,10 @@ pub fn front_record<R: ByteSource, A: Allocator>(
     if let Err(fault) = judge_head(number, earliest, head) {
         return Err(fault);
     }
-    match take_octets(number, head.captured, spare, source) {
-        Ok(octets) => Ok(Some(Packet {
+    match take_octets(number, head.captured, octets, source) {
+        Ok(()) => Ok(Some(Stamp {
             time: head.time,
             len: head.original,
-            octets,
         })),
         Err(fault) => Err(fault),
     }

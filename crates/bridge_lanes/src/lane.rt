@@ -46,6 +46,7 @@ impl<A: Allocator + Copy> Lane<A> {
     }
 
     /// Reads the record behind the one that was taken, its octets in the room of a vector that is used again.
+    #[inline(always)]
     pub fn look<R: ByteSource>(
         &mut self,
         spare: Vec<u8, A>,
@@ -63,8 +64,22 @@ impl<A: Allocator + Copy> Lane<A> {
         ensures lasts { R.never_fails source.old ≡ true → R.never_fails source.new ≡ true }
         ensures no_write { result ≢ Err CaptureFault.Write }
     {
-        self.ahead = self.capture.next_into(spare, source)?;
-        Ok(())
+        let mut octets = spare;
+        match self.capture.read_into(&mut octets, source) {
+            Ok(Some(stamp)) => {
+                self.ahead = Some(Packet {
+                    time: stamp.time,
+                    len: stamp.len,
+                    octets,
+                });
+                Ok(())
+            }
+            Ok(None) => {
+                self.ahead = None;
+                Ok(())
+            }
+            Err(fault) => Err(fault),
+        }
     }
 }
 

@@ -18,6 +18,7 @@ use bridge_port::{Item, LARGEST_ROOM, Port};
 use std::alloc::Allocator;
 
 /// Offers the next frame of a capture, once all starts before it were made.
+#[inline(always)]
 fn take<W: ByteSink, A: Allocator + Copy>(
     speed: Speed,
     port: &mut Port<Vec<u8, A>, A>,
@@ -62,6 +63,7 @@ fn take<W: ByteSink, A: Allocator + Copy>(
 }
 
 /// Takes a frame of a capture, and looks at what comes behind it.
+#[inline(always)]
 fn take_next<R: ByteSource, W: ByteSink, A: Allocator + Copy>(
     speed: Speed,
     packet: Packet<A>,

@@ -12,6 +12,7 @@ use bridge_port::{Item, Port};
 use std::alloc::Allocator;
 
 /// Makes the next start, and writes the frame with the moment at which it was done. Its octets are spare then.
+#[inline(always)]
 pub fn depart<W: ByteSink, A: Allocator + Copy>(
     speed: Speed,
     port: &mut Port<Vec<u8, A>, A>,
@@ -43,6 +44,7 @@ pub fn depart<W: ByteSink, A: Allocator + Copy>(
 }
 
 /// Makes all starts before a moment in ns.
+#[inline(always)]
 pub fn depart_before<W: ByteSink, A: Allocator + Copy>(
     t: u64,
     speed: Speed,

@@ -2,18 +2,15 @@ use Rattle.std.proofs.Common.{rules, arith, Some, None, ◌∙◌, inl, subst, t
 use Rattle.std.specs.Io.KnownBytes.{Consumes}
 use Rattle.std.proofs.lemmas.List.{length-take}
 use Rattle.bridge_capture.specs.Grammar.{Place}
-use Rattle.bridge_capture.proofs.Fronts.{ended, too_many, cut_words, words_refused, octets_refused, whole_record, head_is, unsaid}
+use Rattle.bridge_capture.proofs.Fronts.{ended, too_many, cut_words, words_refused, octets_refused, whole_record, head_is}
 use Rattle.bridge_capture.proofs.Taken.{octets_taken, words_taken}
 use Rattle.bridge_capture.proofs.record.front_record.Goals as goal
-use Rattle.bridge_capture.proofs.record.front_record.Goals.{in-Ok, in-Ok-2, in-Err}
 
-pub returns-then-number-gt-MAX_RECORDS-clause-record : goal.returns-then-number-gt-MAX_RECORDS-clause-record
-returns-then-number-gt-MAX_RECORDS-clause-record g c =
-    elim c.match-fill.branch [
-      | in-Ok w ↦ rw w.result-is (too_many _ _ _ _ _ (omega (arith, length-take w.in-Ok.count c.fill.new.buf, w.in-Ok.ensures.count)) (search rules) w.in-Ok.ensures.bytes)
-      | in-Ok-2 w ↦ rw w.result-is (ended _ _ _ _ _ (search rules) w.in-Ok-2.ensures.bytes (w.in-Ok-2.ensures.end (search rules)))
-      | in-Err w ↦ rw w.result-is (unsaid _)
-    ]
+pub returns-in-Ok-clause-record : goal.returns-in-Ok-clause-record
+returns-in-Ok-clause-record g c = too_many _ _ _ _ _ (omega (arith, length-take c.in-Ok.count c.fill.new.buf, c.if-count-gt0.true, c.in-Ok.ensures.count)) (search rules) c.in-Ok.ensures.bytes
+
+pub returns-in-Ok-2-clause-record : goal.returns-in-Ok-2-clause-record
+returns-in-Ok-2-clause-record g c = ended _ _ _ _ _ (search rules) c.in-Ok-2.ensures.bytes (c.in-Ok-2.ensures.end (search rules))
 
 pub returns-then-count-eq0-clause-record : goal.returns-then-count-eq0-clause-record
 returns-then-count-eq0-clause-record g c = ended _ _ _ _ _ (search rules) c.in-Ok-fill.ensures.bytes (c.in-Ok-fill.ensures.end (search rules))
@@ -40,7 +37,7 @@ returns-in-Ok-take_octets-clause-record g c =
     let head = c.head_of-head.ensures in
     let sound = head_is place _ _ _ _ _ _ None head.time head.captured head.original c.in_default.ensures.judged in
     let took = c.in-Ok-take_octets.ensures.octets in
-    rw (head.time, head.original) (whole_record _ _ _ c.args.form place words c.in-Ok-take_octets.octets.items (search rules) (search rules) sound full took.1 (took.0 ∙ head.captured))
+    rw (head.time, head.original) (whole_record _ _ _ c.args.form place words c.take_octets.new.octets.items (search rules) (search rules) sound full took.1 (took.0 ∙ head.captured))
 
 pub returns-in-Err-take_octets-clause-record : goal.returns-in-Err-take_octets-clause-record
 returns-in-Err-take_octets-clause-record g c =

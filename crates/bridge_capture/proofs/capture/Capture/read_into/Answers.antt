@@ -1,13 +1,13 @@
 use Rattle.std.proofs.Common.{refl, rules, subst, sym}
 use Rattle.bridge_capture.specs.Standing.{CaptureState, StandsFor, TakesFor}
 use Rattle.bridge_capture.proofs.Turns.{goes_on, came_to_end, was_refused}
-use Rattle.bridge_capture.proofs.capture.Capture.next_into.Goals as goal
+use Rattle.bridge_capture.proofs.capture.Capture.read_into.Goals as goal
 
 pub returns-in-Ok-Some-clause-stands : goal.returns-in-Ok-Some-clause-stands
 returns-in-Ok-Some-clause-stands g c = λ text given h.
     let before : CaptureState = record { form = c.self.inside.form; records = c.self.inside.records; latest = c.self.inside.latest; progress = c.self.inside.progress } in
     let stood = subst (λ (z : CaptureState). StandsFor z (g.R.ByteSource.remaining c.args.source.now) text given) (sym c.self.view_is) h in
-    goes_on before _ _ _ text given c.in-Ok-Some.packet (search rules) (search rules) refl refl (rw c.in-Ok-Some.field-0-is at c.in-Ok-Some.ensures.record) stood
+    goes_on before _ _ _ text given (record { time = c.in-Ok-Some.stamp.time; len = c.in-Ok-Some.stamp.len; octets = c.front_record.new.octets }) (search rules) (search rules) refl refl (rw c.in-Ok-Some.field-0-is at c.in-Ok-Some.ensures.record) stood
 
 pub returns-in-Ok-None-clause-stands : goal.returns-in-Ok-None-clause-stands
 returns-in-Ok-None-clause-stands g c = λ text given h.
