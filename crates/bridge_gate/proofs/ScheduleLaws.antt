@@ -16,7 +16,7 @@ use Rattle.bridge_cycle.proofs.Cases.{by_bool}
 use Rattle.bridge_gate.specs.declared.schedule.GateEntry.{GateEntry}
 use Rattle.bridge_gate.specs.declared.schedule.Schedule.{Schedule}
 use Rattle.bridge_gate.specs.declared.schedule.Schedule.TheVariants.{Fixed, Cyclic, Joined}
-use Rattle.bridge_gate.specs.Schedules.{turn_at, IsLawful, is_priority, has_priorities}
+use Rattle.bridge_gate.specs.Schedules.{turn_at, IsKept, IsLawful, is_priority, has_priorities}
 
 le_or : (a b : ℤ) → (a ≤ℤ b) ⊎ (b <ℤ a)
 le_or a b = by_bool (le_z a b) (λ e. inl (grind (arith, ints))) (λ e. inr (grind (arith, ints)))
@@ -59,6 +59,12 @@ ordered (Fixed lets ipv) w =
     }
 ordered (Cyclic l) w = timeline_ordered (cyclic.turn_at l) l.cycle (λ t x h. list_turned l t x w h)
 ordered (Joined j) w = timeline_ordered (joined.turn_at j) (joined.cycle_of j) (λ t x h. joined_turned j t x w h)
+
+-- each turn may be kept
+pub kept : {A : Type 0} (s : Schedule A) (t : ℕ) (x : Turn GateEntry) → IsLawful s → turn_at s t ≡ Some x → IsKept s x
+kept (Fixed lets ipv) t x w h = record { lawful = w; same = λ u begins ends. h }
+kept (Cyclic l) t x w h = let turned : IsTurnOf (cyclic.turn_at l) l.cycle t x = list_turned l t x w h in record { lawful = w; same = λ u begins ends. turned.same u begins ends }
+kept (Joined j) t x w h = let turned : IsTurnOf (joined.turn_at j) (joined.cycle_of j) t x = joined_turned j t x w h in record { lawful = w; same = λ u begins ends. turned.same u begins ends }
 
 all_in : {X : Type 0} (f : X → Bool) (xs : List X) (x : X) → list_all f xs ≡ true → In x xs → f x ≡ true
 all_in f [] x h i = absurd i

@@ -1,4 +1,4 @@
-use Rattle.std.specs.Prelude.{ℕ, Bool, true, ◌&&◌, Option, Some, None, pos, nat_le}
+use Rattle.std.specs.Prelude.{◌≡◌, ℕ, Bool, true, ◌<◌, ◌≤ℤ◌, ◌&&◌, Option, Some, None, pos, nat_le}
 use Rattle.std.specs.List.{list_all}
 use Rattle.bridge_cycle.specs.Cyclic as cyclic
 use Rattle.bridge_cycle.specs.Joined as joined
@@ -24,6 +24,11 @@ abbrev pub IsLawful : {A : Type 0} → Schedule A → Type 0
 IsLawful (Fixed lets ipv) = Unit {0}
 IsLawful (Cyclic l) = cyclic.IsLawful l
 IsLawful (Joined j) = joined.IsLawful j
+
+-- a turn of a lawful schedule, which each of its moments has
+pub record IsKept {A : Type 0} (s : Schedule A) (x : Turn GateEntry) : Type 0 where
+  pub lawful : IsLawful s
+  pub same : (u : ℕ) → x.start ≤ℤ pos u → u < x.end → turn_at s u ≡ Some x
 
 -- an internal priority value is a priority, where there is one
 abbrev pub is_priority : Option ℕ → Bool

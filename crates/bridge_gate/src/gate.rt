@@ -1,7 +1,7 @@
 ghost use Rattle.std.specs.Prelude.{◌≡◌, ℕ, ◌<◌, ◌≤◌, ◌^◌, ◌+◌, ◌&&◌, List, [], ◌∷◌, Some, true, false, Option, IsSome};
 ghost use Rattle.bridge_gate.specs.declared.gate.GateAnswer.TheVariants as gate;
 ghost use Rattle.bridge_gate.specs.Gates.{GateRules, GateEvent, Asked, ClearedRx, ClearedOctets, answer, steps, is_shut_by_rx, is_shut_by_octets, last_asked};
-ghost use Rattle.bridge_gate.specs.Schedules.{rules_of, has_priorities};
+ghost use Rattle.bridge_gate.specs.Schedules.{rules_of, has_priorities, turn_at, IsLawful};
 ghost use Rattle.bridge_gate.specs.Standing.{StandsFor, reply, after, count_in};
 
 use crate::schedule::{GateEntry, GatePlan};
@@ -34,18 +34,20 @@ pub struct StreamGate<A: Allocator + Copy> {
     start: i64,
     count: u64,
     earliest: u64,
+    /// A turn of the schedule, which frames of one turn need not look for again.
+    turn: Turn<GateEntry>,
 }
 
 impl<A: Allocator + Copy> Model for StreamGate<A> {
     ghost use Rattle.std.specs.Prelude.{◌≡◌, ◌<◌, ◌^◌, true};
-    ghost use Rattle.bridge_gate.specs.Schedules.{has_priorities};
+    ghost use Rattle.bridge_gate.specs.Schedules.{has_priorities, IsKept};
     ghost use Rattle.bridge_gate.specs.Standing.{Gate};
 
     ghost Value = { Gate A };
 
     ghost view = { λ g. record { plan = g.plan; rx = g.rx; octets = g.octets; start = g.start; count = g.count; earliest = g.earliest } };
 
-    ghost invariant = { λ g. record { priorities : has_priorities g.plan.schedule ≡ true; few : g.count < 2 ^ 32 } };
+    ghost invariant = { λ g. record { priorities : has_priorities g.plan.schedule ≡ true; few : g.count < 2 ^ 32; kept : IsKept g.plan.schedule g.turn } };
 }
 
 impl<A: Allocator + Copy> StreamGate<A> {
@@ -56,6 +58,7 @@ impl<A: Allocator + Copy> StreamGate<A> {
         ensures plan { result.plan ≡ plan }
         ensures earliest { result.earliest ≡ 0 }
     {
+        let turn = plan.schedule.turn(0);
         StreamGate {
             plan,
             rx: false,
@@ -63,6 +66,7 @@ impl<A: Allocator + Copy> StreamGate<A> {
             start: 0,
             count: 0,
             earliest: 0,
+            turn,
         }
     }
 
@@ -80,8 +84,25 @@ impl<A: Allocator + Copy> StreamGate<A> {
         ensures plan { self.new.plan ≡ self.old.plan }
         ensures earliest { self.new.earliest ≡ t }
     {
-        let turn = self.plan.schedule.turn(t);
+        let turn = self.turn_at(t);
         self.tell(t, turn, sdu)
+    }
+
+    /// The turn that has the moment `t`: the one kept, or that of the schedule, which is kept then.
+    #[inline(always)]
+    fn turn_at(&mut self, t: u64) -> Turn<GateEntry>
+        requires range { t < END_OF_TIME }
+        ensures turn { turn_at self.old.plan.schedule t ≡ Some result }
+        ensures lawful { IsLawful self.old.plan.schedule }
+        ensures priorities { has_priorities self.old.plan.schedule ≡ true }
+        ensures same { self.new ≡ self.old }
+    {
+        if self.turn.start <= t as i64 && t < self.turn.end {
+            return self.turn;
+        }
+        let turn = self.plan.schedule.turn(t);
+        self.turn = turn;
+        turn
     }
 
     /// Clears the receive flag.
