@@ -1,12 +1,19 @@
 -- What fits at some moment of a port.
-use Rattle.std.proofs.Common.{◌≡◌, ◌≢◌, ℕ, Bool, true, false, ◌<◌, ◌≤◌, ◌+◌, ◌*◌, Some, List, arith, refl, sym, subst, inl, inr, get_or-set_other, get_or-set_same}
+use Rattle.std.proofs.Common.{◌≡◌, ◌≢◌, ℕ, Bool, true, false, ◌<◌, ◌≤◌, ◌+◌, ◌*◌, Some, List, arith, ap, ◌∙◌, refl, sym, subst, inl, inr, get_or-set_other, get_or-set_same}
 use Rattle.std.specs.Prelude.{◌↔◌, IsTrue, slice_index_or, slice_set, length}
 use Rattle.std.proofs.lemmas.Bool.{cases_lt, and_parts, and_from}
-use Rattle.bridge_cycle.specs.Moments.{Fits, IsFirst}
+use Rattle.bridge_cycle.specs.Moments.{Fits, IsFirst, is_open}
 use Rattle.bridge_cycle.specs.Cyclic.{Cyclic, IsLawful}
 use Rattle.bridge_cycle.specs.Joined.{Joined}
 use Rattle.bridge_cycle.specs.Opens.{opens_in}
 use Rattle.bridge_cycle.specs.Egress.{turn_at}
+use Rattle.bridge_cycle.specs.Egress as egress_of
+use Rattle.bridge_cycle.specs.EgressLaws.{egress_turned}
+use Rattle.bridge_cycle.specs.JoinedLaws.{IsTurnOf}
+use Rattle.bridge_cycle.specs.declared.timeline.Turn.{Turn}
+use lib.Signed.{◌≤ℤ◌}
+use lib.IntN.{pos}
+use Rattle.std.proofs.lemmas.Int.{ints}
 use Rattle.bridge_cycle.specs.declared.egress.Egress.{Egress}
 use Rattle.bridge_cycle.specs.declared.egress.Egress.TheVariants as egress
 use Rattle.bridge_cycle.specs.declared.cyclic.TheConstants.{LONGEST_CYCLE}
@@ -17,7 +24,7 @@ use Rattle.bridge_cycle.proofs.Changes.{soon_over}
 use Rattle.bridge_cycle.proofs.Fitting.{some_fits_is}
 use Rattle.bridge_cycle.proofs.Repeats.{fits_near}
 use Rattle.bridge_cycle.proofs.Lists.{list_repeats, allows_is}
-use Rattle.bridge_port.specs.Opening.{Always, AreRuns, ever, Exchanged, IsMade, list_ever, list_opens, One, Opening, opening_of, opens}
+use Rattle.bridge_port.specs.Opening.{Always, AreRuns, ever, Exchanged, HasTurn, IsMade, list_ever, list_opens, One, Opening, opening_of, opens}
 
 -- a port is open where the turn of its lists is
 pub opens_at : {A : Type 0} (e : Egress A) (c u : ℕ) → opens (opening_of (Some e)) c u ≡ opens_in (turn_at e u) c
@@ -31,6 +38,54 @@ fits_at (egress.Joined j) c n t f = f
 pub first_at : {A : Type 0} (e : Egress A) (c n from t : ℕ) → IsFirst (λ v. opens_in (turn_at e v) c) n from t → IsFirst (opens (opening_of (Some e)) c) n from t
 first_at (egress.Cyclic l) c n from t f = f
 first_at (egress.Joined j) c n from t f = f
+
+-- ---- the turn that is kept
+
+-- a turn of lawful lists has each of its moments
+pub turn_kept : {A : Type 0} (e : Egress A) (t : ℕ) (x : Turn ℕ) → egress_of.IsLawful e → turn_at e t ≡ Some x → HasTurn e x
+turn_kept e t x lawful h = λ u begins ends. (egress_turned e t x lawful h).same u begins ends
+
+-- what the state of a turn says holds of all its moments from one of them on
+in_turn : {A : Type 0} (e : Egress A) (c from u : ℕ) (x : Turn ℕ) → egress_of.IsLawful e → turn_at e from ≡ Some x → from ≤ u → u < x.end → opens_in (turn_at e u) c ≡ is_open x.state c
+in_turn e c from u x lawful h a b =
+    let turned : IsTurnOf (turn_at e) (egress_of.cycle_of e) from x = egress_turned e from x lawful h in
+    let begins : x.start ≤ℤ pos from = turned.begins in
+    ap (λ o. opens_in o c) (turned.same u (omega (arith, ints)) b)
+
+-- where the class is open for so long in the turn, the first moment is the one asked for
+pub first_open : {A : Type 0} (e : Egress A) (c n from : ℕ) (x : Turn ℕ) → egress_of.IsLawful e → turn_at e from ≡ Some x → is_open x.state c ≡ true → from + n ≤ x.end → IsFirst (λ v. opens_in (turn_at e v) c) n from from
+first_open e c n from x lawful h opened enough = record {
+  after = omega arith;
+  fits = λ u a b. in_turn e c from u x lawful h a (omega (arith, b, enough)) ∙ opened;
+  least = λ v a b. absurd (omega (arith, a, b));
+}
+
+-- where the class is closed in the turn, nothing fits before its end
+none_closed : {A : Type 0} (e : Egress A) (c n from v : ℕ) (x : Turn ℕ) → egress_of.IsLawful e → turn_at e from ≡ Some x → is_open x.state c ≡ false → 0 < n → from ≤ v → v < x.end → Fits (λ u. opens_in (turn_at e u) c) n v → ⊥
+none_closed e c n from v x lawful h closed some a b fits =
+    let opened = fits v (omega arith) (omega (arith, some)) in
+    let shut = in_turn e c from v x lawful h a b ∙ closed in
+    cc
+
+pub fits_behind : {A : Type 0} (e : Egress A) (c n from u : ℕ) (x : Turn ℕ) → egress_of.IsLawful e → turn_at e from ≡ Some x → is_open x.state c ≡ false → 0 < n → from ≤ u → Fits (λ v. opens_in (turn_at e v) c) n u → x.end ≤ u
+fits_behind e c n from u x lawful h closed some a fits = elim (cases_lt u x.end) [ inl l ↦ absurd (none_closed e c n from u x lawful h closed some a l fits) | inr l ↦ l ]
+
+pub first_behind : {A : Type 0} (e : Egress A) (c n from t : ℕ) (x : Turn ℕ) → egress_of.IsLawful e → turn_at e from ≡ Some x → is_open x.state c ≡ false → 0 < n → IsFirst (λ v. opens_in (turn_at e v) c) n x.end t → IsFirst (λ v. opens_in (turn_at e v) c) n from t
+first_behind e c n from t x lawful h closed some is =
+    let turned : IsTurnOf (turn_at e) (egress_of.cycle_of e) from x = egress_turned e from x lawful h in
+    record {
+      after = let late = is.after in let ends = turned.ends in omega (arith, late, ends);
+      fits = is.fits;
+      least = λ v a b fits. is.least v (fits_behind e c n from v x lawful h closed some a fits) b fits;
+    }
+
+pub end_soon : {A : Type 0} (e : Egress A) (from : ℕ) (x : Turn ℕ) → egress_of.IsLawful e → turn_at e from ≡ Some x → from ≤ x.end
+end_soon e from x lawful h = let ends = (egress_turned e from x lawful h).ends in omega (arith, ends)
+
+-- lists that can be made are lawful
+pub made_is : {A : Type 0} (e : Egress A) → IsMade (opening_of (Some e)) → egress_of.IsLawful e
+made_is (egress.Cyclic l) made = made
+made_is (egress.Joined j) made = made
 
 -- the test of what fits under a list says that it fits at some moment
 pub list_ever_is : (l : Cyclic ℕ) (c n : ℕ) → IsLawful l → (list_ever l c n ≡ true) ↔ ((t : ℕ) × Fits (list_opens l c) n t)

@@ -1,10 +1,12 @@
 -- When the classes of a port are open, and how long.
-use Rattle.std.specs.Prelude.{◌≡◌, ◌↔◌, ℕ, Bool, true, ◌<◌, ◌&&◌, nat_le, Option, Some, None, List, slice_index_or}
+use Rattle.std.specs.Prelude.{◌≡◌, ◌↔◌, ℕ, Bool, true, ◌<◌, ◌≤ℤ◌, ◌&&◌, nat_le, pos, Option, Some, None, List, slice_index_or}
 use Rattle.std.specs.List.{list_all}
 use Rattle.bridge_cycle.specs.Opens.{opens_in}
 use Rattle.bridge_cycle.specs.Cyclic as cyclic
+use Rattle.bridge_cycle.specs.Egress as egress
 use Rattle.bridge_cycle.specs.Joined as joined
 use Rattle.bridge_cycle.specs.declared.egress.Egress.{Egress}
+use Rattle.bridge_cycle.specs.declared.timeline.Turn.{Turn}
 use Rattle.bridge_cycle.specs.declared.egress.Egress.TheVariants.{Cyclic, Joined}
 use Rattle.bridge_cycle.specs.Fitting.{some_fits}
 use Rattle.bridge_cycle.specs.Runs.{Allows}
@@ -69,3 +71,12 @@ AreRuns test runs = (c : ℕ) → c < 8 → (n : ℕ) → Allows (slice_index_or
 pub record HasRuns (list : Opening) (runs : List Run) : Type 0 where
   pub made : IsMade list
   pub allow : AreRuns (ever list) runs
+
+-- a turn of lists, which each of its moments has
+abbrev pub HasTurn : {A : Type 0} → Egress A → Turn ℕ → Type 0
+HasTurn list x = (u : ℕ) → x.start ≤ℤ pos u → u < x.end → egress.turn_at list u ≡ Some x
+
+-- the turn that a port keeps of its lists, where it has some
+abbrev pub KeepsTurn : {A : Type 0} → Option (Egress A) → Turn ℕ → Type 0
+KeepsTurn None x = Unit {0}
+KeepsTurn (Some list) x = HasTurn list x

@@ -48,7 +48,7 @@ fn is_past(fit: Option<u64>, from: u64) -> bool
 // Not inlined, so that the loop of `renew` stays small.
 #[inline(never)]
 fn fit_of<T: Drop, A: Allocator + Copy>(
-    gates: &Gates<A>,
+    gates: &mut Gates<A>,
     speed: Speed,
     rings: &Vec<HeapCircularBuffer<Item<T>, A>, A>,
     class: usize,
@@ -57,8 +57,9 @@ fn fit_of<T: Drop, A: Allocator + Copy>(
     requires class { class < 8 }
     requires eight { vec_len rings.now ≡ 8 }
     requires from { from < 9_000_000_000_000_000_000 }
-    requires startable { AllStartable gates.now speed class (slice_index_or (queues_of rings.now.items) class []) }
-    ensures { heads.IsFit gates.now speed from class (slice_index_or (queues_of rings.now.items) class []) result }
+    requires startable { AllStartable gates.old speed class (slice_index_or (queues_of rings.now.items) class []) }
+    ensures fit { heads.IsFit gates.old speed from class (slice_index_or (queues_of rings.now.items) class []) result }
+    ensures same { gates.new ≡ gates.old }
 {
     match head(rings, class) {
         None => None,
@@ -72,7 +73,7 @@ fn fit_of<T: Drop, A: Allocator + Copy>(
 /// Makes the fit of a class anew where it lies before `from`, and gives it.
 fn renewed<T: Drop, A: Allocator + Copy>(
     fits: &mut [Option<u64>; 8],
-    gates: &Gates<A>,
+    gates: &mut Gates<A>,
     speed: Speed,
     rings: &Vec<HeapCircularBuffer<Item<T>, A>, A>,
     class: usize,
@@ -81,11 +82,12 @@ fn renewed<T: Drop, A: Allocator + Copy>(
     requires class { class < 8 }
     requires eight { vec_len rings.now ≡ 8 }
     requires from { from < 9_000_000_000_000_000_000 }
-    requires startable { AllStartable gates.now speed class (slice_index_or (queues_of rings.now.items) class []) }
+    requires startable { AllStartable gates.old speed class (slice_index_or (queues_of rings.now.items) class []) }
     requires kept { heads.is_past (slice_index_or fits.old class None) from ≡ false
-        → heads.IsFit gates.now speed from class (slice_index_or (queues_of rings.now.items) class []) (slice_index_or fits.old class None) }
-    ensures fit { heads.IsFit gates.now speed from class (slice_index_or (queues_of rings.now.items) class []) result }
+        → heads.IsFit gates.old speed from class (slice_index_or (queues_of rings.now.items) class []) (slice_index_or fits.old class None) }
+    ensures fit { heads.IsFit gates.old speed from class (slice_index_or (queues_of rings.now.items) class []) result }
     ensures fits { fits.new ≡ slice_set fits.old class result }
+    ensures same { gates.new ≡ gates.old }
 {
     let kept = fits[class];
     if !is_past(kept, from) {
@@ -99,19 +101,20 @@ fn renewed<T: Drop, A: Allocator + Copy>(
 /// Makes anew what lies before `from` of the fits of all classes, and gives the best of them.
 pub fn renew<T: Drop, A: Allocator + Copy>(
     fits: &mut [Option<u64>; 8],
-    gates: &Gates<A>,
+    gates: &mut Gates<A>,
     speed: Speed,
     rings: &Vec<HeapCircularBuffer<Item<T>, A>, A>,
     from: u64,
 ) -> Option<(u64, usize)>
     requires eight { vec_len rings.now ≡ 8 }
     requires from { from < 9_000_000_000_000_000_000 }
-    requires startable { (c : ℕ) → AllStartable gates.now speed c (slice_index_or (queues_of rings.now.items) c []) }
+    requires startable { (c : ℕ) → AllStartable gates.old speed c (slice_index_or (queues_of rings.now.items) c []) }
     requires kept { (c : ℕ) → heads.is_past (slice_index_or fits.old c None) from ≡ false
-        → heads.IsFit gates.now speed from c (slice_index_or (queues_of rings.now.items) c []) (slice_index_or fits.old c None) }
+        → heads.IsFit gates.old speed from c (slice_index_or (queues_of rings.now.items) c []) (slice_index_or fits.old c None) }
     ensures fits { (c : ℕ)
-        → heads.IsFit gates.now speed from c (slice_index_or (queues_of rings.now.items) c []) (slice_index_or fits.new c None) }
+        → heads.IsFit gates.old speed from c (slice_index_or (queues_of rings.now.items) c []) (slice_index_or fits.new c None) }
     ensures best { heads.IsBest fits.new 8 result }
+    ensures same { gates.new ≡ gates.old }
 {
     let mut best = None;
     for class in 0..8usize {
@@ -126,7 +129,7 @@ pub fn renew<T: Drop, A: Allocator + Copy>(
 pub fn with_item<A: Allocator + Copy>(
     fits: &mut [Option<u64>; 8],
     best: Option<(u64, usize)>,
-    gates: &Gates<A>,
+    gates: &mut Gates<A>,
     speed: Speed,
     class: usize,
     len: u32,
@@ -135,10 +138,11 @@ pub fn with_item<A: Allocator + Copy>(
     requires class { class < 8 }
     requires from { from < 9_000_000_000_000_000_000 }
     requires length { len ≤ LONGEST_FRAME }
-    requires ever { ever gates.now class (occupied len speed) ≡ true }
+    requires ever { ever gates.old class (occupied len speed) ≡ true }
     ensures behind { IsSome (slice_index_or fits.old class None) → (fits.new ≡ fits.old) × (result ≡ best) }
     ensures gained { slice_index_or fits.old class None ≡ None
-        → heads.GainsHead gates.now speed from class len fits.old fits.new best result }
+        → heads.GainsHead gates.old speed from class len fits.old fits.new best result }
+    ensures same { gates.new ≡ gates.old }
 {
     match fits[class] {
         Some(_) => best,
@@ -155,7 +159,7 @@ pub fn with_item<A: Allocator + Copy>(
 #[inline(always)]
 pub fn renew_left<T: Drop, A: Allocator + Copy>(
     fits: &mut [Option<u64>; 8],
-    gates: &Gates<A>,
+    gates: &mut Gates<A>,
     speed: Speed,
     rings: &Vec<HeapCircularBuffer<Item<T>, A>, A>,
     class: usize,
@@ -165,15 +169,16 @@ pub fn renew_left<T: Drop, A: Allocator + Copy>(
     requires class { class < 8 }
     requires eight { vec_len rings.now ≡ 8 }
     requires from { from < 9_000_000_000_000_000_000 }
-    requires startable { (c : ℕ) → AllStartable gates.now speed c (slice_index_or (queues_of rings.now.items) c []) }
+    requires startable { (c : ℕ) → AllStartable gates.old speed c (slice_index_or (queues_of rings.now.items) c []) }
     requires kept { (c : ℕ) → heads.is_past (slice_index_or fits.old c None) from ≡ false
-        → heads.IsFit gates.now speed from c (slice_index_or (queues_of rings.now.items) c []) (slice_index_or fits.old c None) }
+        → heads.IsFit gates.old speed from c (slice_index_or (queues_of rings.now.items) c []) (slice_index_or fits.old c None) }
     requires none { left ≡ 0 → (c : ℕ)
-        → heads.IsFit gates.now speed from c (slice_index_or (queues_of rings.now.items) c []) (slice_index_or (slice_set fits.old class None) c None) }
+        → heads.IsFit gates.old speed from c (slice_index_or (queues_of rings.now.items) c []) (slice_index_or (slice_set fits.old class None) c None) }
     requires no_head { left ≡ 0 → (c : ℕ) → slice_index_or (slice_set fits.old class None) c None ≡ None }
     ensures fits { (c : ℕ)
-        → heads.IsFit gates.now speed from c (slice_index_or (queues_of rings.now.items) c []) (slice_index_or fits.new c None) }
+        → heads.IsFit gates.old speed from c (slice_index_or (queues_of rings.now.items) c []) (slice_index_or fits.new c None) }
     ensures best { heads.IsBest fits.new 8 result }
+    ensures same { gates.new ≡ gates.old }
 {
     if left == 0 {
         fits[class] = None;

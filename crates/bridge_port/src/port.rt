@@ -126,7 +126,7 @@ impl<T: Drop, A: Allocator + Copy> Port<T, A> {
                 self.best = with_item(
                     &mut self.fits,
                     self.best,
-                    &self.gates,
+                    &mut self.gates,
                     self.speed,
                     class,
                     item.len,
@@ -199,7 +199,7 @@ impl<T: Drop, A: Allocator + Copy> Port<T, A> {
                         let from = self.free.max(self.earliest);
                         self.best = renew_left(
                             &mut self.fits,
-                            &self.gates,
+                            &mut self.gates,
                             self.speed,
                             &self.rings,
                             class,

@@ -7,8 +7,8 @@ use Rattle.bridge_port.specs.Opening.{ever, opens}
 use Rattle.bridge_port.proofs.Best.{fit_is, fit_none, head_some, head_none, startable_head}
 use Rattle.bridge_port.proofs.heads.fit_of.Goals as goal
 
-pub returns-in-None : goal.returns-in-None
-returns-in-None g c =
+pub returns-in-None-clause-fit : goal.returns-in-None-clause-fit
+returns-in-None-clause-fit g c =
     let queue = slice_index_or (queues_of c.args.rings.now.items) c.args.class [] in
     fit_none c.args.gates.now c.args.speed c.args.from c.args.class queue (head_none queue (sym c.in-None.ensures))
 
@@ -20,8 +20,8 @@ earliest_fit-requires g c =
     let bounded : c.occupation-occ.result ≤ 7392000 = c.occupation-occ.ensures.bounded can.1 in
     record { class = c.requires.class; occ = omega arith; from = c.requires.from; ever = ap (λ n. ever c.args.gates.now c.args.class n) c.occupation-occ.ensures.exact ∙ can.0 }
 
-pub returns-in-Some : goal.returns-in-Some
-returns-in-Some g c =
+pub returns-in-Some-clause-fit : goal.returns-in-Some-clause-fit
+returns-in-Some-clause-fit g c =
     let list = c.args.gates.now in
     let queue = slice_index_or (queues_of c.args.rings.now.items) c.args.class [] in
     let item = c.in-Some.item.now in

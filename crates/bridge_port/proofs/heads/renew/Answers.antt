@@ -11,8 +11,9 @@ loop-class-preserved g c =
     let set = c.renewed-fit.ensures.fits in
     let within : c.loop-class.class < length c.loop-class.fits = omega arith in
     record {
+      gates = c.renewed-fit.ensures.same ∙ c.loop-class.invariant.gates;
       size = rw set (length-set c.loop-class.fits c.loop-class.class c.renewed-fit.result ∙ size);
-      behind = rw set (fits_set_behind c.args.gates.now c.args.speed c.args.from queues c.loop-class.fits c.loop-class.class c.renewed-fit.result within c.renewed-fit.ensures.fit c.loop-class.invariant.behind);
+      behind = rw set (fits_set_behind c.args.gates.now c.args.speed c.args.from queues c.loop-class.fits c.loop-class.class c.renewed-fit.result within (rw c.loop-class.invariant.gates at c.renewed-fit.ensures.fit) c.loop-class.invariant.behind);
       ahead = rw set (fits_set_ahead c.args.gates.now c.args.speed c.args.from queues c.loop-class.fits c.loop-class.class c.renewed-fit.result c.loop-class.invariant.ahead);
       best = rw (set, c.sooner_of-best.ensures) (best_more c.loop-class.fits c.loop-class.class c.renewed-fit.result c.loop-class.best within c.loop-class.invariant.best);
     }

@@ -5,8 +5,9 @@ use Rattle.bridge_port.proofs.heads.renew.Given as goal
 
 abbrev pub invariant-loop-class : goal.invariant-loop-class
 invariant-loop-class g l = record {
+  gates : l.gates ≡ l.fn.gates;
   size : length l.fits ≡ 8;
-  behind : (c : ℕ) → c < l.class → IsFit l.gates l.speed l.from c (slice_index_or (queues_of l.rings.items) c []) (slice_index_or l.fits c None);
-  ahead : (c : ℕ) → l.class ≤ c → is_past (slice_index_or l.fits c None) l.from ≡ false → IsFit l.gates l.speed l.from c (slice_index_or (queues_of l.rings.items) c []) (slice_index_or l.fits c None);
+  behind : (c : ℕ) → c < l.class → IsFit l.fn.gates l.speed l.from c (slice_index_or (queues_of l.rings.items) c []) (slice_index_or l.fits c None);
+  ahead : (c : ℕ) → l.class ≤ c → is_past (slice_index_or l.fits c None) l.from ≡ false → IsFit l.fn.gates l.speed l.from c (slice_index_or (queues_of l.rings.items) c []) (slice_index_or l.fits c None);
   best : IsBest l.fits l.class l.best;
 }

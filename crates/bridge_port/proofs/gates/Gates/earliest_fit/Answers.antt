@@ -1,25 +1,46 @@
-use Rattle.std.proofs.Common.{sym, Some, ◌≡◌, subst, ◌∙◌, arith, ap}
+use Rattle.std.proofs.Common.{sym, Some, ◌≡◌, subst, ◌∙◌, ap}
 use Rattle.bridge_cycle.specs.Moments.{Fits, IsFirst}
-use Rattle.bridge_port.specs.Opening.{Opening, opening_of, opens, IsMade}
-use Rattle.bridge_port.proofs.Opening.{ever_soon, first_at, first_soon, fits_at}
+use Rattle.bridge_port.specs.Opening.{KeepsTurn, Opening, opening_of, opens, IsMade}
+use Rattle.bridge_port.proofs.Opening.{ever_soon, first_at, first_soon, fits_at, made_is}
 use Rattle.bridge_port.proofs.gates.Gates.earliest_fit.Goals as goal
 
-pub first_fit-requires-clause-some : goal.first_fit-requires-clause-some
-first_fit-requires-clause-some g c =
-    let is : c.args.self.now ≡ opening_of (Some c.in-Some.list) = sym c.self.view_is ∙ ap opening_of c.in-Some.is in
-    let made : IsMade c.args.self.now = subst IsMade c.self.view_is c.self.invariant.made in
+pub turn_of-turn-requires : goal.turn_of-turn-requires
+turn_of-turn-requires g c = record {
+  range = c.requires.from;
+  kept = subst (λ o. KeepsTurn o c.self.inside.turn) c.in-Some.is c.self.invariant.turn;
+  lawful = made_is c.in-Some.list (subst IsMade (ap opening_of c.in-Some.is) c.self.invariant.runs.made);
+}
+
+pub fit_in-requires : goal.fit_in-requires
+fit_in-requires g c =
+    let list = c.in-Some.list in
+    let is : c.args.self.now ≡ opening_of (Some list) = sym c.self.view_is ∙ ap opening_of c.in-Some.is in
+    let made : IsMade c.args.self.now = subst IsMade c.self.view_is c.self.invariant.runs.made in
     let soon = ever_soon c.args.self.now c.args.class c.args.occ c.args.from made c.requires.ever in
     let fits = subst (λ (o : Opening). Fits (opens o c.args.class) c.args.occ soon.0) is soon.3 in
-    (soon.0, soon.1, (let near = soon.2 in omega arith), fits_at c.in-Some.list c.args.class c.args.occ soon.0 fits)
+    record {
+      class = c.requires.class;
+      occ = c.requires.occ;
+      from = c.requires.from;
+      lawful = made_is list (subst IsMade (ap opening_of c.in-Some.is) c.self.invariant.runs.made);
+      turn = c.turn_of-turn.ensures.turn;
+      some = (soon.0, soon.1, soon.2, fits_at list c.args.class c.args.occ soon.0 fits);
+    }
+
+pub invariant_of-self : goal.invariant_of-self
+invariant_of-self g c = record {
+  runs = c.self.invariant.runs;
+  turn = subst (λ o. KeepsTurn o c.turn_of-turn.new.kept) (sym c.in-Some.is) c.turn_of-turn.ensures.kept;
+}
 
 pub returns-in-Some-clause-first : goal.returns-in-Some-clause-first
 returns-in-Some-clause-first g c =
     let is : c.args.self.now ≡ opening_of (Some c.in-Some.list) = sym c.self.view_is ∙ ap opening_of c.in-Some.is in
-    let first = first_at c.in-Some.list c.args.class c.args.occ c.args.from c.first_fit.result c.first_fit.ensures in
-    subst (λ (o : Opening). IsFirst (opens o c.args.class) c.args.occ c.args.from c.first_fit.result) (sym is) first
+    let first = first_at c.in-Some.list c.args.class c.args.occ c.args.from c.fit_in.result c.fit_in.ensures in
+    subst (λ (o : Opening). IsFirst (opens o c.args.class) c.args.occ c.args.from c.fit_in.result) (sym is) first
 
 pub returns-in-Some-clause-soon : goal.returns-in-Some-clause-soon
 returns-in-Some-clause-soon g c =
-    let made : IsMade c.args.self.now = subst IsMade c.self.view_is c.self.invariant.made in
+    let made : IsMade c.args.self.now = subst IsMade c.self.view_is c.self.invariant.runs.made in
     let soon = ever_soon c.args.self.now c.args.class c.args.occ c.args.from made c.requires.ever in
-    first_soon _ c.args.occ c.args.from c.first_fit.result soon.0 (returns-in-Some-clause-first g c) soon.1 soon.2 soon.3
+    first_soon _ c.args.occ c.args.from c.fit_in.result soon.0 (returns-in-Some-clause-first g c) soon.1 soon.2 soon.3

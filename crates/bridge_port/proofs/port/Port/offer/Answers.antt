@@ -23,7 +23,7 @@ invariant_of-self-in-None g c =
     let N : State _ → Type 0 = λ q. NoStartBefore q c.args.t in
     let later : p.earliest ≤ c.args.t = subst E (sym c.self.view_is) c.requires.time.0 in
     let calm : NoStartBefore p c.args.t = subst N (sym c.self.view_is) c.requires.not_late in
-    rw (c.push_at.ensures.queues, c.push_at.ensures.rooms) (heads_offered p c.args.t c.args.class c.max-from.result f.queued c.args.item f.fits c.with_item-self-inside.new.fits f.best c.with_item-self-inside.result c.self.invariant c.requires.class (search rules) later calm c.max-from.ensures c.with_item-self-inside.ensures.behind c.with_item-self-inside.ensures.gained kept)
+    rw (c.with_item-self-inside.ensures.same, c.push_at.ensures.queues, c.push_at.ensures.rooms) (heads_offered p c.args.t c.args.class c.max-from.result f.queued c.args.item f.fits c.with_item-self-inside.new.fits f.best c.with_item-self-inside.result c.self.invariant c.requires.class (search rules) later calm c.max-from.ensures c.with_item-self-inside.ensures.behind c.with_item-self-inside.ensures.gained kept)
 
 pub invariant_of-self : goal.invariant_of-self
 invariant_of-self g c =

@@ -41,7 +41,7 @@ invariant_of-self g c =
     let queues = c.pop_at-taken.ensures.queues in
     let fits = rw queues at c.renew_left-self-inside.ensures.fits in
     let kept = heads_started p c.in-Some.k c.in-Some.class c.occupation-occ.result c.max-from.result f.queued c.in-Some-taken.item c.renew_left-self-inside.new.fits c.renew_left-self-inside.result c.self.invariant.kept c.self.invariant.all starts c.in-Some-taken.ensures.head c.occupation-occ.ensures.exact c.occupation-occ.ensures.bounded c.max-from.ensures fits c.renew_left-self-inside.ensures.best in
-    rw (queues, c.pop_at-taken.ensures.rooms, c.occupation-occ.ensures.exact) kept
+    rw (c.renew_left-self-inside.ensures.same, queues, c.pop_at-taken.ensures.rooms, c.occupation-occ.ensures.exact) kept
 
 pub returns-clause-next : goal.returns-clause-next
 returns-clause-next g c = search rules
