@@ -24,6 +24,7 @@ pub fn copies_of<A: Allocator + Copy>(
 }
 
 /// A frame's octets as they leave: marked where the frame is drop eligible.
+#[inline(always)]
 pub fn leave<A: Allocator + Copy>(octets: Vec<u8, A>, eligible: bool) -> Vec<u8, A>
     ensures marked { result.items ≡ leaving eligible octets.items }
     ensures kept { length result.items ≡ length octets.items }

@@ -107,6 +107,7 @@ impl<G: Agenda + Drop, A: Allocator + Copy> Ports<G, A> {
     }
 
     /// Offers an item with a priority (0 to 7) to a port.
+    #[inline(always)]
     pub fn offer(
         &mut self,
         number: u8,
@@ -137,6 +138,7 @@ impl<G: Agenda + Drop, A: Allocator + Copy> Ports<G, A> {
     }
 
     /// Makes the next start: the port, its moment and what began to leave.
+    #[inline(always)]
     pub fn start(&mut self) -> (u8, u64, Begun<A>)
         requires { (q k : ℕ) × (G.held self.old.agenda q ≡ Some k) }
         ensures which { IsLeast (G.held self.old.agenda) (Some (result.0, result.1)) }
@@ -196,6 +198,7 @@ impl<G: Agenda + Drop, A: Allocator + Copy> Ports<G, A> {
     }
 
     /// How many ports of a set there are, and the last of them.
+    #[inline(always)]
     pub fn outs(&self, set: PortSet) -> (usize, u8)
         ensures count { result.0 ≡ outs self.now.slots set 16 }
         ensures few { result.0 ≤ 16 }
@@ -216,6 +219,7 @@ impl<G: Agenda + Drop, A: Allocator + Copy> Ports<G, A> {
     }
 
     /// Counts a frame that came on a port.
+    #[inline(always)]
     pub fn count(&mut self, number: u8, came: Came)
         requires from { 1 ≤ number }
         requires there { (s : Slot A) × (slot_at self.old number ≡ Some s) × (s.count.frames < MOST_ARRIVALS) }

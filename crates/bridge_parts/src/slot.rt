@@ -77,6 +77,7 @@ impl<A: Allocator + Copy> Slot<A> {
     }
 
     /// Counts a frame that came.
+    #[inline(always)]
     pub fn count_frame(&mut self, came: Came)
         requires few { self.old.count.frames < MOST_ARRIVALS }
         requires counted { self.old.count.malformed + self.old.count.nowhere + self.old.count.unfiltered ≤ self.old.count.frames }
@@ -92,6 +93,7 @@ impl<A: Allocator + Copy> Slot<A> {
     }
 
     /// Offers an item with a priority (0 to 7).
+    #[inline(always)]
     pub fn offer(&mut self, t: u64, priority: u8, item: Item<Load<A>>) -> Result<(), Refusal>
         requires time { (self.old.port.earliest ≤ t) × (t < END_OF_TIME) }
         requires not_late { NoStartBefore self.old.port t }
@@ -119,6 +121,7 @@ impl<A: Allocator + Copy> Slot<A> {
     }
 
     /// Makes the next start, which is at `start`.
+    #[inline(always)]
     pub fn start(&mut self, start: u64) -> Begun<A>
         requires due { IsDue self.old.port (Some start) }
         requires speed { self.old.port.speed ≡ self.old.speed }

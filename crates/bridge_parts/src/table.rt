@@ -59,6 +59,7 @@ impl<A: Allocator + Copy> Table<A> {
     }
 
     /// Makes room for a verdict and for so many more copies.
+    #[inline(always)]
     pub fn promise(&mut self, copies: usize) -> Result<(), NoMemory>
         requires { self.old.owed + copies < 2 ^ 32 }
         ensures ok { OnOk result (self.new ≡ record self.old { owed = self.old.owed + copies; is_open = true }) }
@@ -74,6 +75,7 @@ impl<A: Allocator + Copy> Table<A> {
     }
 
     /// Writes a verdict down, and gives the number of its frame, from 1.
+    #[inline(always)]
     pub fn judge(&mut self, verdict: Verdict) -> u64
         requires { self.old.is_open ≡ true }
         ensures told { self.new ≡ record self.old { verdicts = self.old.verdicts ++ verdict ∷ []; is_open = false } }
@@ -108,6 +110,7 @@ impl<A: Allocator + Copy> Table<A> {
     }
 
     /// Writes down that a copy left, so long after its frame came.
+    #[inline(always)]
     pub fn depart(&mut self, departure: Departure, delay: u64)
         requires { 0 < self.old.owed }
         ensures { self.new ≡ record self.old { departures = self.old.departures ++ departure ∷ []; delay = longer self.old.delay delay; owed = self.old.owed - 1 } }

@@ -33,6 +33,7 @@ pub fn tables_of<A: Allocator + Copy>(
 }
 
 /// Writes down that a copy of a filter's frame left, so long after the frame came; nothing for a frame without a filter.
+#[inline(always)]
 pub fn depart<A: Allocator + Copy>(
     tables: &mut Tables<A>,
     flow: Option<u32>,
@@ -52,6 +53,7 @@ pub fn depart<A: Allocator + Copy>(
 
 /// Writes down that a copy of a filter's frame was not queued, where that was the answer; nothing for a frame without a
 /// filter.
+#[inline(always)]
 pub fn note<A: Allocator + Copy>(
     tables: &mut Tables<A>,
     flow: Option<u32>,
@@ -73,6 +75,7 @@ pub fn note<A: Allocator + Copy>(
 }
 
 /// Makes room for a verdict of a filter and for so many copies of its frame; nothing for a frame without a filter.
+#[inline(always)]
 pub fn promise<A: Allocator + Copy>(
     tables: &mut Tables<A>,
     flow: Option<u32>,
@@ -92,6 +95,7 @@ pub fn promise<A: Allocator + Copy>(
 }
 
 /// Writes a verdict of a filter down, and gives the number of its frame.
+#[inline(always)]
 pub fn judge<A: Allocator + Copy>(tables: &mut Tables<A>, number: u32, verdict: Verdict) -> u64
     requires { IsOpen tables.old.entries number }
     ensures told { tables.new.entries ≡ change number (λ t. judged t verdict) tables.old.entries }

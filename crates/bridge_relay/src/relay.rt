@@ -112,6 +112,7 @@ impl<'a, G: Agenda + Drop, A: Allocator + Copy> Relay<'a, G, A> {
     }
 
     /// Makes the next start. It takes no memory.
+    #[inline(always)]
     pub fn advance(&mut self) -> Sent<A>
         requires { (q k : ℕ) × (G.held self.old.ports.agenda q ≡ Some k) }
         ensures stands { (p : config.Plan A) (es : List Event) (left : ℕ → List Captured) → Stands p self.old es left → Stands p self.new es (one_more left result) }
@@ -162,6 +163,7 @@ impl<'a, G: Agenda + Drop, A: Allocator + Copy> Relay<'a, G, A> {
     }
 
     /// Where a frame goes that came on a port, and what the filters see of it.
+    #[inline(always)]
     fn way_of(&self, port: u8, octets: &[u8], len: u32) -> Way
         requires from { 1 ≤ port }
         requires to { port ≤ 16 }
@@ -192,6 +194,7 @@ impl<'a, G: Agenda + Drop, A: Allocator + Copy> Relay<'a, G, A> {
 
     /// Makes copies of octets for all ports of a set but the last, and room for what these and the last will tell of the
     /// filter. Where memory runs out the bridge is as before.
+    #[inline(always)]
     fn prepare(
         &mut self,
         set: PortSet,
@@ -213,6 +216,7 @@ impl<'a, G: Agenda + Drop, A: Allocator + Copy> Relay<'a, G, A> {
     }
 
     /// Offers a copy of a frame to a port.
+    #[inline(always)]
     fn offer_to(&mut self, number: u8, priority: u8, len: u32, load: Load<A>)
         requires from { 1 ≤ number }
         requires there { (s : Slot A) × (slot_at self.old.ports number ≡ Some s) }
@@ -238,6 +242,7 @@ impl<'a, G: Agenda + Drop, A: Allocator + Copy> Relay<'a, G, A> {
 
     /// Offers a frame to a port of a set whose ports before it have it. Its octets are those that came; they leave marked
     /// where the frame is drop eligible.
+    #[inline(always)]
     fn offer_copy(
         &mut self,
         set: PortSet,
@@ -310,6 +315,7 @@ impl<'a, G: Agenda + Drop, A: Allocator + Copy> Relay<'a, G, A> {
 
     /// Offers copies of a frame to the ports of a set, by rising number. The octets are those that came; they leave marked
     /// where the frame is drop eligible.
+    #[inline(always)]
     fn offer_all(
         &mut self,
         set: PortSet,
@@ -351,6 +357,7 @@ impl<'a, G: Agenda + Drop, A: Allocator + Copy> Relay<'a, G, A> {
 
     /// Polices a frame that came on a port, counts it there, and writes its verdict down: the answer of its filter and its
     /// number among that filter's frames.
+    #[inline(always)]
     fn rule(&mut self, port: u8, time: u64, len: u32, seen: Seen) -> Option<(Ruling, u64)>
         requires known { (s : Slot A) × (slot_at self.old.ports port ≡ Some s) }
         requires from { 1 ≤ port }
@@ -386,6 +393,7 @@ impl<'a, G: Agenda + Drop, A: Allocator + Copy> Relay<'a, G, A> {
     }
 
     /// Lets the room go that a frame was promised which is not offered.
+    #[inline(always)]
     fn forget(&mut self, filter: u32, set: PortSet)
         requires { (own : ℕ) × IsPending self.old (outs self.old.ports.slots set 16) own 1 filter }
         ensures state { self.new ≡ releasing self.old filter (outs self.old.ports.slots set 16) }
@@ -396,6 +404,7 @@ impl<'a, G: Agenda + Drop, A: Allocator + Copy> Relay<'a, G, A> {
     }
 
     /// Polices a frame that goes to a set of ports, and offers it where it passes. Room was made for what it tells.
+    #[inline(always)]
     fn relay(
         &mut self,
         port: u8,
@@ -455,6 +464,7 @@ impl<'a, G: Agenda + Drop, A: Allocator + Copy> Relay<'a, G, A> {
     }
 
     /// Takes a frame that came on a port. Where memory runs out the frame comes back, and the bridge is as before.
+    #[inline(always)]
     pub fn arrive(&mut self, port: u8, packet: Packet<A>) -> Result<(), (Packet<A>, NoMemory)>
         requires known { (out : PortPlan A) × (port_at self.old.plan.ports port ≡ Some out) }
         requires time { (self.old.earliest ≤ packet.time) × (packet.time < END_OF_TIME) }
@@ -507,6 +517,7 @@ fn first_with_copy(copies: usize, last: u8) -> u8
 }
 
 /// The VLAN, the priority and the drop eligible indication of a frame: by its tag, else those of its port.
+#[inline(always)]
 fn classified(tag: Option<Tag>, vid: u16, priority: u8) -> (u16, u8, bool)
     ensures { result ≡ classified tag vid priority }
 {
