@@ -38,6 +38,7 @@ impl Writer {
     /// Writes a record: the moment `done`, in ns, at which the frame had left, the length `len` that
     /// it had on the link, and its octets. Takes no memory. Where the sink fails, it holds a front
     /// of the record.
+    #[inline(always)]
     pub fn put<W: ByteSink>(
         &mut self,
         sink: &mut W,

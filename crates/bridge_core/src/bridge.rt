@@ -88,7 +88,8 @@ impl<'a, G: Agenda + Drop, A: Allocator + Copy> Bridge<'a, G, A> {
         ensures err { IfErr result (λ e. (self.new ≡ self.old) × (e.0 ≡ packet)) }
     {
         let after = packet.time + 1;
-        match self.relay.arrive(port, packet) {
+        let mut back = None;
+        match self.relay.arrive(port, packet, &mut back) {
             Ok(()) => {
                 self.command = after;
                 Ok(())

@@ -64,21 +64,26 @@ impl<A: Allocator + Copy> Lane<A> {
         ensures lasts { R.never_fails source.old ≡ true → R.never_fails source.new ≡ true }
         ensures no_write { result ≢ Err CaptureFault.Write }
     {
-        let mut octets = spare;
-        match self.capture.read_into(&mut octets, source) {
+        // Read where they stay: octets that are moved once more cost as much as those of a short frame.
+        let packet = self.ahead.insert(Packet {
+            time: 0,
+            len: 0,
+            octets: spare,
+        });
+        match self.capture.read_into(&mut packet.octets, source) {
             Ok(Some(stamp)) => {
-                self.ahead = Some(Packet {
-                    time: stamp.time,
-                    len: stamp.len,
-                    octets,
-                });
+                packet.time = stamp.time;
+                packet.len = stamp.len;
                 Ok(())
             }
             Ok(None) => {
                 self.ahead = None;
                 Ok(())
             }
-            Err(fault) => Err(fault),
+            Err(fault) => {
+                self.ahead = None;
+                Err(fault)
+            }
         }
     }
 }

@@ -37,3 +37,15 @@ outs_behind slots set n (suc m) none =
 -- so the ports up to n are all
 pub outs_all : {A : Type 0} (slots : List (Option (Slot A))) (set n : ℕ) → set / 2 ^ n ≡ 0 → n ≤ 16 → outs slots set 16 ≡ outs slots set n
 outs_all slots set n none few = let e : 16 ≡ (16 - n) + n = omega arith in ap (outs slots set) e ∙ outs_behind slots set n (16 - n) none
+
+-- a set that has no port up to n has none of them out
+pub out_not_before : {A : Type 0} (slots : List (Option (Slot A))) (set n q : ℕ) → ((r : ℕ) → 1 ≤ r → r ≤ n → has set r ≡ false) → 1 ≤ q → q ≤ n → goes_out slots set q ≡ false
+out_not_before slots set n q none low few = ap (λ (b : Bool). b && is_there (slot_in slots q)) (none q low few)
+
+pub outs_none : {A : Type 0} (slots : List (Option (Slot A))) (set n : ℕ) → ((r : ℕ) → 1 ≤ r → r ≤ n → has set r ≡ false) → outs slots set n ≡ 0
+outs_none slots set zero none = refl
+outs_none slots set (suc n) none =
+    let before = outs_none slots set n (λ r low few. none r low (omega (arith, few))) in
+    let out : goes_out slots set (n + 1) ≡ false = out_not_before slots set (suc n) (n + 1) none (omega arith) (omega arith) in
+    let none_is : ◌≡◌ {A = ℕ} (if goes_out slots set (n + 1) then 1 else 0) 0 = ap (λ (b : Bool). if b then 1 else 0) out in
+    omega (arith, before, none_is)

@@ -1,6 +1,7 @@
 //! The ports of a bridge, and which of them starts next.
-ghost use Rattle.std.specs.Prelude.{◌≡◌, ℕ, ◌<◌, ◌≤◌, ◌+◌, ◌-◌, List, [], ◌∷◌, Some, None, Option, length, nat_eq, if◌then◌else◌, slice_set, slice_index, IfOk, vec_capacity};
+ghost use Rattle.std.specs.Prelude.{◌≡◌, ℕ, false, ◌<◌, ◌≤◌, ◌+◌, ◌-◌, List, [], ◌∷◌, Some, None, Option, length, nat_eq, if◌then◌else◌, slice_set, slice_index, IfOk, vec_capacity};
 ghost use Rattle.bridge_events.specs.Least.{IsLeast};
+ghost use Rattle.bridge_forward.specs.Ports.{has};
 ghost use Rattle.bridge_config.specs.Rules.{port_at};
 ghost use Rattle.bridge_port.specs.Standing.{IsDue};
 ghost use Rattle.bridge_parts.specs.declared.slot.Slot.{Slot};
@@ -63,6 +64,19 @@ fn renew_from<G: Agenda>(agenda: &mut G, port: u8, before: Option<u64>, due: Opt
     renew(agenda, port, due);
 }
 
+/// How many ports stand before the first of a set, or none where the set has no port.
+#[inline(always)]
+fn first_place(set: PortSet) -> u8
+    ensures within { result ≤ 16 }
+    ensures none { (q : ℕ) → 1 ≤ q → q ≤ result → has set q ≡ false }
+{
+    let bits = set.bits();
+    if bits == 0 {
+        return 0;
+    }
+    bits.trailing_zeros() as u8
+}
+
 /// The port of a number as the plan has it, where it does.
 fn slot_of<A: Allocator + Copy>(
     alloc: A,
@@ -106,7 +120,8 @@ impl<G: Agenda + Drop, A: Allocator + Copy> Ports<G, A> {
         self.agenda.least()
     }
 
-    /// Offers an item with a priority (0 to 7) to a port.
+    /// Offers an item with a priority (0 to 7) to a port. The octets of one that is refused are handed back, in place of what
+    /// was there.
     #[inline(always)]
     pub fn offer(
         &mut self,
@@ -114,6 +129,7 @@ impl<G: Agenda + Drop, A: Allocator + Copy> Ports<G, A> {
         t: u64,
         priority: u8,
         item: Item<Load<A>>,
+        back: &mut Option<Vec<u8, A>>,
     ) -> Result<(), Refusal>
         requires from { 1 ≤ number }
         requires there { (s : Slot A) × (slot_at self.old number ≡ Some s) }
@@ -128,7 +144,7 @@ impl<G: Agenda + Drop, A: Allocator + Copy> Ports<G, A> {
         match &mut self.slots[number as usize - 1] {
             Some(slot) => {
                 let before = slot.port.next_start();
-                let answer = slot.offer(t, priority, item);
+                let answer = slot.offer(t, priority, item, back);
                 let due = slot.port.next_start();
                 renew_from(&mut self.agenda, number, before, due);
                 answer
@@ -207,7 +223,7 @@ impl<G: Agenda + Drop, A: Allocator + Copy> Ports<G, A> {
         let bits = set.bits();
         let mut count = 0;
         let mut last = 0;
-        let mut place = 0u8;
+        let mut place = first_place(set);
         while place < 16 && bits >> place != 0 {
             place += 1;
             if set.has(place) && self.has(place) {

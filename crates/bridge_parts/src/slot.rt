@@ -92,9 +92,15 @@ impl<A: Allocator + Copy> Slot<A> {
         }
     }
 
-    /// Offers an item with a priority (0 to 7).
+    /// Offers an item with a priority (0 to 7). The octets of one that is refused are handed back, in place of what was there.
     #[inline(always)]
-    pub fn offer(&mut self, t: u64, priority: u8, item: Item<Load<A>>) -> Result<(), Refusal>
+    pub fn offer(
+        &mut self,
+        t: u64,
+        priority: u8,
+        item: Item<Load<A>>,
+        back: &mut Option<Vec<u8, A>>,
+    ) -> Result<(), Refusal>
         requires time { (self.old.port.earliest ≤ t) × (t < END_OF_TIME) }
         requires not_late { NoStartBefore self.old.port t }
         requires length { item.len ≤ LONGEST_FRAME }
@@ -113,8 +119,9 @@ impl<A: Allocator + Copy> Slot<A> {
                 self.count.sent += 1;
                 Ok(())
             }
-            Err((_, refusal)) => {
+            Err((item, refusal)) => {
                 self.count.dropped += 1;
+                hand_back(item, back);
                 Err(refusal)
             }
         }
@@ -138,4 +145,12 @@ impl<A: Allocator + Copy> Slot<A> {
         let done = start + occupation(item.len, self.speed);
         Begun { class, done, item }
     }
+}
+
+/// Hands the octets of a frame back that was refused, in place of what was there.
+#[inline(always)]
+fn hand_back<A: Allocator + Copy>(item: Item<Load<A>>, back: &mut Option<Vec<u8, A>>) {
+    let Item { load, .. } = item;
+    let Load { octets, .. } = load;
+    *back = Some(octets);
 }

@@ -15,6 +15,7 @@ use circular_buffer::HeapCircularBuffer;
 use std::alloc::Allocator;
 
 /// The better of the best head so far and that of another class: the earlier one, at one moment that of the higher class.
+#[inline(always)]
 fn sooner(best: Option<(u64, usize)>, fit: u64, class: usize) -> Option<(u64, usize)>
     ensures { result ≡ heads.sooner best fit class }
 {
@@ -126,6 +127,7 @@ pub fn renew<T: Drop, A: Allocator + Copy>(
 
 /// Keeps the fit from `from` on of an item of `len` octets that comes to the queue of a class, where it is the head there,
 /// and gives the best of all.
+#[inline(always)]
 pub fn with_item<A: Allocator + Copy>(
     fits: &mut [Option<u64>; 8],
     best: Option<(u64, usize)>,

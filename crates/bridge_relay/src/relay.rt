@@ -215,9 +215,16 @@ impl<'a, G: Agenda + Drop, A: Allocator + Copy> Relay<'a, G, A> {
         Ok(copies)
     }
 
-    /// Offers a copy of a frame to a port.
+    /// Offers a copy of a frame to a port. Its octets are handed back where it is refused.
     #[inline(always)]
-    fn offer_to(&mut self, number: u8, priority: u8, len: u32, load: Load<A>)
+    fn offer_to(
+        &mut self,
+        number: u8,
+        priority: u8,
+        len: u32,
+        load: Load<A>,
+        back: &mut Option<Vec<u8, A>>,
+    )
         requires from { 1 ≤ number }
         requires there { (s : Slot A) × (slot_at self.old.ports number ≡ Some s) }
         requires time { (self.old.earliest ≤ load.at) × (load.at < END_OF_TIME) }
@@ -235,7 +242,9 @@ impl<'a, G: Agenda + Drop, A: Allocator + Copy> Relay<'a, G, A> {
         let t = load.at;
         let flow = load.flow;
         let own = load.own;
-        let answer = self.ports.offer(number, t, priority, Item { len, load });
+        let answer = self
+            .ports
+            .offer(number, t, priority, Item { len, load }, back);
         note(&mut self.tables, flow, own, number, answer);
         self.earliest = t;
     }
@@ -251,6 +260,7 @@ impl<'a, G: Agenda + Drop, A: Allocator + Copy> Relay<'a, G, A> {
         len: u32,
         eligible: bool,
         load: Load<A>,
+        back: &mut Option<Vec<u8, A>>,
     )
         requires from { 1 ≤ number }
         requires to { number ≤ 16 }
@@ -276,6 +286,7 @@ impl<'a, G: Agenda + Drop, A: Allocator + Copy> Relay<'a, G, A> {
                 own,
                 octets,
             },
+            back,
         );
     }
 
@@ -289,6 +300,7 @@ impl<'a, G: Agenda + Drop, A: Allocator + Copy> Relay<'a, G, A> {
         eligible: bool,
         first: &Load<A>,
         copies: &mut Vec<Vec<u8, A>, A>,
+        back: &mut Option<Vec<u8, A>>,
     )
         requires from { 1 ≤ number }
         requires to { number ≤ 16 }
@@ -307,7 +319,7 @@ impl<'a, G: Agenda + Drop, A: Allocator + Copy> Relay<'a, G, A> {
                     own: first.own,
                     octets,
                 };
-                self.offer_copy(set, number, priority, len, eligible, load);
+                self.offer_copy(set, number, priority, len, eligible, load, back);
             }
             None => unreachable!(),
         }
@@ -324,6 +336,7 @@ impl<'a, G: Agenda + Drop, A: Allocator + Copy> Relay<'a, G, A> {
         eligible: bool,
         first: Load<A>,
         copies: Vec<Vec<u8, A>, A>,
+        back: &mut Option<Vec<u8, A>>,
     )
         requires priority { priority ≤ 7 }
         requires along { MayRelay self.old (leaves first len eligible) × IsOffering G.held self.old self.old set priority (leaves first len eligible) 1 }
@@ -334,10 +347,19 @@ impl<'a, G: Agenda + Drop, A: Allocator + Copy> Relay<'a, G, A> {
         let (_, last) = self.ports.outs(set);
         let from = first_with_copy(copies.len(), last);
         for number in from..last {
-            self.offer_next(set, number, priority, len, eligible, &first, &mut copies);
+            self.offer_next(
+                set,
+                number,
+                priority,
+                len,
+                eligible,
+                &first,
+                &mut copies,
+                back,
+            );
         }
         if last > 0 {
-            self.offer_copy(set, last, priority, len, eligible, first);
+            self.offer_copy(set, last, priority, len, eligible, first, back);
         }
     }
 
@@ -403,7 +425,8 @@ impl<'a, G: Agenda + Drop, A: Allocator + Copy> Relay<'a, G, A> {
         release(&mut self.tables, filter, count);
     }
 
-    /// Polices a frame that goes to a set of ports, and offers it where it passes. Room was made for what it tells.
+    /// Polices a frame that goes to a set of ports, and offers it where it passes. Room was made for what it tells. Octets of
+    /// the frame that are not queued are handed back.
     #[inline(always)]
     fn relay(
         &mut self,
@@ -412,6 +435,7 @@ impl<'a, G: Agenda + Drop, A: Allocator + Copy> Relay<'a, G, A> {
         set: PortSet,
         seen: Seen,
         copies: Vec<Vec<u8, A>, A>,
+        back: &mut Option<Vec<u8, A>>,
     )
         requires known { (s : Slot A) × (slot_at self.old.ports port ≡ Some s) }
         requires from { 1 ≤ port }
@@ -439,7 +463,7 @@ impl<'a, G: Agenda + Drop, A: Allocator + Copy> Relay<'a, G, A> {
                     own: 0,
                     octets,
                 };
-                self.offer_all(set, seen.priority, len, false, load, copies);
+                self.offer_all(set, seen.priority, len, false, load, copies, back);
             }
             Some((Ruling { filter, verdict }, own)) => match verdict {
                 Verdict::Pass { ipv, eligible } => {
@@ -456,16 +480,26 @@ impl<'a, G: Agenda + Drop, A: Allocator + Copy> Relay<'a, G, A> {
                         eligible,
                         load,
                         copies,
+                        back,
                     );
                 }
-                _ => self.forget(filter, set),
+                _ => {
+                    hand_back(octets, back);
+                    self.forget(filter, set);
+                }
             },
         }
     }
 
-    /// Takes a frame that came on a port. Where memory runs out the frame comes back, and the bridge is as before.
+    /// Takes a frame that came on a port. Where memory runs out the frame comes back, and the bridge is as before. Else its
+    /// octets are handed back where they are not queued, so that their room can be used again.
     #[inline(always)]
-    pub fn arrive(&mut self, port: u8, packet: Packet<A>) -> Result<(), (Packet<A>, NoMemory)>
+    pub fn arrive(
+        &mut self,
+        port: u8,
+        packet: Packet<A>,
+        back: &mut Option<Vec<u8, A>>,
+    ) -> Result<(), (Packet<A>, NoMemory)>
         requires known { (out : PortPlan A) × (port_at self.old.plan.ports port ≡ Some out) }
         requires time { (self.old.earliest ≤ packet.time) × (packet.time < END_OF_TIME) }
         requires due { NotBefore (G.held self.old.ports.agenda) packet.time }
@@ -478,8 +512,14 @@ impl<'a, G: Agenda + Drop, A: Allocator + Copy> Relay<'a, G, A> {
     {
         let _plan = self.plan;
         match self.way_of(port, &packet.octets, packet.len) {
-            Way::Malformed => self.pass_over(port, packet.time, Came::Malformed),
-            Way::Nowhere => self.pass_over(port, packet.time, Came::Nowhere),
+            Way::Malformed => {
+                self.pass_over(port, packet.time, Came::Malformed);
+                hand_back(packet.octets, back);
+            }
+            Way::Nowhere => {
+                self.pass_over(port, packet.time, Came::Nowhere);
+                hand_back(packet.octets, back);
+            }
             Way::Goes {
                 set,
                 handle,
@@ -496,7 +536,7 @@ impl<'a, G: Agenda + Drop, A: Allocator + Copy> Relay<'a, G, A> {
                             dei,
                             sdu,
                         };
-                        self.relay(port, packet, set, seen, copies);
+                        self.relay(port, packet, set, seen, copies, back);
                     }
                     Err(refused) => return Err((packet, refused)),
                 }
@@ -504,6 +544,12 @@ impl<'a, G: Agenda + Drop, A: Allocator + Copy> Relay<'a, G, A> {
         }
         Ok(())
     }
+}
+
+/// Hands octets back that are not queued, in place of what was there.
+#[inline(always)]
+fn hand_back<A: Allocator + Copy>(octets: Vec<u8, A>, back: &mut Option<Vec<u8, A>>) {
+    *back = Some(octets);
 }
 
 /// The first port that may have a copy, where so many are kept for the ports before the last: none before the last has one

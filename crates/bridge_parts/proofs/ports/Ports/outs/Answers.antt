@@ -1,8 +1,21 @@
-use Rattle.std.proofs.Common.{◌≡◌, ℕ, ◌<◌, ◌≤◌, ◌/◌, ◌^◌, ◌∙◌, arith, ap, sym, inl, inr}
+use Rattle.std.proofs.Common.{◌≡◌, ℕ, true, ◌<◌, ◌≤◌, ◌/◌, ◌^◌, ◌∙◌, arith, ap, sym, inl, inr}
 use Rattle.std.proofs.lemmas.Bool.{cases_lt}
-use Rattle.bridge_parts.specs.Ports.{outs, IsLastOut}
-use Rattle.bridge_parts.proofs.Outs.{out_not_behind, outs_all}
+use Rattle.bridge_parts.specs.Ports.{goes_out, outs, IsLastOut}
+use Rattle.bridge_parts.proofs.Outs.{out_not_before, out_not_behind, outs_all, outs_none}
 use Rattle.bridge_parts.proofs.ports.Ports.outs.Goals as goal
+
+pub loop-place-init : goal.loop-place-init
+loop-place-init g c =
+    let first = c.first_place-place.ensures in
+    let slots = c.args.self.now.slots in
+    record {
+      within = first.within;
+      count = sym (outs_none slots c.args.set c.first_place-place.result first.none);
+      few = omega arith;
+      low = omega arith;
+      is_in = λ some. absurd {A = goes_out slots c.args.set 0 ≡ true} (omega (arith, some));
+      none_after = λ q later here. out_not_before slots c.args.set c.first_place-place.result q first.none (omega (arith, later)) here;
+    }
 
 pub returns-else-bits-place-ne0-clause-count : goal.returns-else-bits-place-ne0-clause-count
 returns-else-bits-place-ne0-clause-count g c =
