@@ -1,6 +1,7 @@
 pub mod Both
 pub mod Runs
 pub mod Told
+pub mod Led
 pub mod Others
 pub mod Least
 pub mod Isolated

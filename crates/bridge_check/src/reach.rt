@@ -1,11 +1,14 @@
 //! Which ports and priorities the frames of a filter may have.
-ghost use Rattle.std.specs.Prelude.{◌≡◌, ◌≤◌, ◌+◌, map, Some};
+ghost use Rattle.std.specs.Prelude.{◌≡◌, ◌≤◌, ◌+◌, ◌||◌, false, map, Some, option_map, nat_eq, slice_index_or};
+ghost use Rattle.std.specs.Map.{lookup};
+ghost use Rattle.bridge_forward.specs.Ports.{has};
 ghost use Rattle.bridge_config.specs.Rules.{port_at};
 ghost use Rattle.bridge_check.specs.Reach as spec;
 ghost use Rattle.bridge_check.specs.Reached as reached;
 
 use bridge_config::{Plan, PortPlan};
 use bridge_filter::FilterPlan;
+use bridge_forward::PortSet;
 use bridge_gate::{GateEntry, GatePlan, Schedule};
 use bridge_ident::{Kind, StreamEntry};
 use std::alloc::Allocator;
@@ -29,34 +32,27 @@ fn are_null(handle: u32, streams: &[StreamEntry]) -> bool
         .all(|e| e.handle != handle || is_null(e.kind))
 }
 
-/// Whether frames that an identification of the handle asks for go out of a port.
-fn leads_to<A: Allocator + Copy>(plan: &Plan<A>, handle: u32, port: u8) -> bool
-    requires from { 1 ≤ port }
-    requires to { port ≤ 16 }
-    ensures { result ≡ spec.leads_to plan.now.database handle port plan.now.streams }
+/// Marks the ports of a set among those from port 1 on.
+fn mark(ports: &mut [bool; 16], set: PortSet)
+    ensures { ports.new ≡ reached.told_below 16 (λ i. slice_index_or ports.old i false || has set (i + 1)) }
 {
-    for stream in plan.streams() {
-        if stream.handle == handle
-            && plan
-                .forward(stream.port, stream.vid, &stream.address)
-                .has(port)
-        {
-            return true;
-        }
+    for i in 0..16usize {
+        ports[i] = ports[i] || set.has(i as u8 + 1);
     }
-    false
 }
 
-/// Whether frames of a handle, or without one of any, may go out of a port.
-fn reaches_port<A: Allocator + Copy>(plan: &Plan<A>, handle: Option<u32>, port: u8) -> bool
-    requires from { 1 ≤ port }
-    requires to { port ≤ 16 }
-    ensures { result ≡ spec.reaches_port plan.now handle port }
+/// Out of which ports, from port 1, frames go that the identifications of a handle ask for.
+fn led_ports<A: Allocator + Copy>(plan: &Plan<A>, handle: u32) -> [bool; 16]
+    ensures { result ≡ reached.told_below 16 (λ i. spec.leads_to plan.now.database handle (i + 1) plan.now.streams) }
 {
-    match handle {
-        None => true,
-        Some(handle) => !are_null(handle, plan.streams()) || leads_to(plan, handle, port),
+    let mut ports = [false; 16];
+    for stream in plan.streams() {
+        if stream.handle == handle {
+            let set = plan.forward(stream.port, stream.vid, &stream.address);
+            mark(&mut ports, set);
+        }
     }
+    ports
 }
 
 /// Whether an entry lets frames through with a priority.
@@ -107,21 +103,27 @@ fn lets<A: Allocator + Copy>(schedule: &Schedule<A>, priority: Option<u8>, k: u8
     }
 }
 
-/// Whether the gate of a number lets frames through with a priority.
-fn gate_lets<A: Allocator + Copy>(
-    gates: &[(u32, GatePlan<A>)],
-    number: u32,
-    priority: Option<u8>,
-    k: u8,
-) -> bool
-    ensures { result ≡ spec.lets (spec.entries_at gates.now number) priority k }
+/// Whether a schedule lets frames through with each priority.
+fn let_through<A: Allocator + Copy>(schedule: &Schedule<A>, priority: Option<u8>) -> [bool; 8]
+    ensures { result ≡ reached.told_below 8 (spec.lets (spec.entries_of schedule.now) priority) }
+{
+    let mut priorities = [false; 8];
+    for k in 0..8usize {
+        priorities[k] = lets(schedule, priority, k as u8);
+    }
+    priorities
+}
+
+/// The gate of a number.
+fn gate_at<A: Allocator + Copy>(gates: &[(u32, GatePlan<A>)], number: u32) -> Option<&GatePlan<A>>
+    ensures { option_map (λ g. g.now) result ≡ lookup (nat_eq number) gates.now }
 {
     for gate in gates {
         if gate.0 == number {
-            return lets(&gate.1.schedule, priority, k);
+            return Some(&gate.1);
         }
     }
-    false
+    None
 }
 
 /// What the frames of a filter may come to.
@@ -133,26 +135,24 @@ pub(crate) struct Reach {
     pub priorities: [bool; 8],
 }
 
-/// Whether they may go out of each port.
+/// Whether they may go out of each port: of any, where it isn't known to which their destination leads.
 fn ports_of<A: Allocator + Copy>(plan: &Plan<A>, handle: Option<u32>) -> [bool; 16]
     ensures { result ≡ reached.told_below 16 (λ i. spec.reaches_port plan.now handle (i + 1)) }
 {
-    let mut ports = [false; 16];
-    for i in 0..16usize {
-        ports[i] = reaches_port(plan, handle, i as u8 + 1);
+    match handle {
+        Some(handle) if are_null(handle, plan.streams()) => led_ports(plan, handle),
+        _ => [true; 16],
     }
-    ports
 }
 
 /// Whether they may have each priority.
 fn priorities_of<A: Allocator + Copy>(plan: &Plan<A>, filter: &FilterPlan) -> [bool; 8]
     ensures { result ≡ reached.told_below 8 (spec.reaches_priority plan.now filter.now) }
 {
-    let mut priorities = [false; 8];
-    for k in 0..8usize {
-        priorities[k] = gate_lets(plan.gates(), filter.gate, filter.priority, k as u8);
+    match gate_at(plan.gates(), filter.gate) {
+        Some(gate) => let_through(&gate.schedule, filter.priority),
+        None => [false; 8],
     }
-    priorities
 }
 
 /// What the frames of a filter may come to.
