@@ -6,6 +6,7 @@ use Rattle.std.proofs.lemmas.Option.{same_Some}
 use Rattle.std.proofs.lemmas.Bool.{eqb-true}
 use Rattle.bridge_cycle.proofs.Cases.{by_bool}
 use Rattle.bridge_filter.specs.declared.FilterPlan.{FilterPlan}
+use Rattle.bridge_filter.specs.declared.find.Route.{Route}
 use Rattle.bridge_filter.specs.Verdicts.{Call, flow, lesser, is_match}
 use Rattle.bridge_filter.specs.Plans.{is_there, are_distinct}
 use Rattle.bridge_filter.proofs.Numbered.{same_eq}
@@ -82,3 +83,8 @@ flow_none fs c h = no_number (flow fs c) h
 pub flow_there : (fs : List (ℕ × FilterPlan)) (c : Call) (o : Option ℕ) → are_distinct fs ≡ true → o ≡ option_map (λ (x : ℕ × FilterPlan). x.0) (flow fs c) → IfSome o (λ n. IsTrue (is_there n fs))
 flow_there fs c None distinct h = tt
 flow_there fs c (Some n) distinct h = let f = flow_numbered fs c n distinct h in found_there n fs f.plan f.found
+
+-- so of a route to it
+pub found_there_too : (fs : List (ℕ × FilterPlan)) (c : Call) (o : Option Route) → are_distinct fs ≡ true → option_map (λ (r : Route). r.number) o ≡ option_map (λ (x : ℕ × FilterPlan). x.0) (flow fs c) → IfSome o (λ r. is_there r.number fs ≡ true)
+found_there_too fs c None distinct h = tt
+found_there_too fs c (Some r) distinct h = flow_there fs c (Some r.number) distinct h

@@ -1,10 +1,11 @@
 -- How a frame's filter is found: by the row of its stream handle, which has for each priority the least number of the filters that take such frames.
 use Rattle.std.specs.Prelude.{◌≡◌, ℕ, ◌<◌, Bool, false, ◌&&◌, nat_eq, nat_lt, min, Option, Some, None, is_none, IfSome, List, [], ◌∷◌, if◌then◌else◌, slice_index_or, slice_get}
 use Rattle.std.specs.Option.{option_map, unwrap_or}
-use Rattle.std.specs.Map.{lookup}
+use Rattle.std.specs.Map.{lookup, keys_of}
 use Rattle.bridge_filter.specs.declared.FilterPlan.{FilterPlan}
 use Rattle.bridge_filter.specs.declared.find.Route.{Route}
-use Rattle.bridge_filter.specs.Verdicts.{takes_handle, takes_priority}
+use Rattle.bridge_filter.specs.Verdicts.{takes_handle, takes_priority, flow, call}
+use Rattle.bridge_filter.specs.Standing.{PoliceState}
 
 -- the lesser of two numbers, where either may be none
 abbrev pub lesser_number : Option ℕ → Option ℕ → Option ℕ
@@ -93,3 +94,8 @@ HasRoutes row fs gates meters = (k : ℕ) → k < 8 → IfSome (slot row k) (IsR
 -- so of all rows
 abbrev pub HaveRoutes : List (ℕ × List (Option Route)) → List (Option Route) → List (ℕ × FilterPlan) → List ℕ → List ℕ → Type 0
 HaveRoutes rows any fs gates meters = (handle : Option ℕ) → HasRoutes (row_of rows any handle) fs gates meters
+
+-- what is found for frames with a handle and a priority: their filter, where one matches, with the places of its instances
+pub record IsFound {A : Type 0} (s : PoliceState A) (handle : Option ℕ) (priority : ℕ) (o : Option Route) : Type 0 where
+  pub number : (at sdu octets : ℕ) (dei : Bool) → option_map (λ r. r.number) o ≡ option_map (λ f. f.0) (flow s.filters (call at handle priority dei sdu octets))
+  pub route : IfSome o (IsRoute s.filters (keys_of s.gates) (keys_of s.meters))

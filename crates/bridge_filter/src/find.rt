@@ -14,13 +14,15 @@ use bridge_gate::StreamGate;
 use bridge_meter::Meter;
 use std::alloc::Allocator;
 
-/// A filter by its number, with its place among the filters and those of its gate and its meter among theirs.
+/// A filter that was found for a frame: its number, with its place among the filters and those of its gate and its meter
+/// among theirs.
 #[derive(Clone, Copy)]
-pub(crate) struct Route {
+pub struct Route {
+    /// The number of the filter.
     pub number: u32,
-    pub filter: usize,
-    pub gate: usize,
-    pub meter: Option<usize>,
+    pub(crate) filter: usize,
+    pub(crate) gate: usize,
+    pub(crate) meter: Option<usize>,
 }
 
 /// The filter of a frame, if any, for each priority.
@@ -61,6 +63,7 @@ pub(crate) fn takes_priority(asked: Option<u8>, priority: u8) -> bool
 }
 
 /// The row of frames with this handle: that of the handle, or that of all other frames.
+#[inline(always)]
 pub(crate) fn row_of<'a, A: Allocator + Copy>(
     rows: &'a Rows<A>,
     any: &'a Row,
@@ -170,6 +173,7 @@ fn route_among<A: Allocator + Copy>(
 }
 
 /// The filter of a frame with this handle and this priority, which is the least of the filters that match.
+#[inline(always)]
 pub(crate) fn route_of<A: Allocator + Copy>(
     filters: &Numbered<Filter, A>,
     gates: &Numbered<StreamGate<A>, A>,

@@ -13,6 +13,7 @@ mod police;
 mod rows;
 
 pub use bridge_cycle::NoMemory;
+pub use find::Route;
 pub use police::Police;
 
 /// How a stream filter is set (IEEE 802.1Q-2018, 8.6.5.1.1).

@@ -10,10 +10,11 @@ ghost use Rattle.bridge_filter.specs.Counts.{verdicts_of, counters_of, flags_of,
 ghost use Rattle.bridge_filter.specs.Plans.{KeepsNumbers, is_there, are_distinct, have_instances, all_have_priorities, all_within_limits, plans_of};
 ghost use Rattle.bridge_filter.specs.Standing.{Stands, has_instance, shown_counters, shown_flags, shown_buckets};
 ghost use Rattle.bridge_filter.specs.Steps.{HasMeter};
+ghost use Rattle.bridge_filter.specs.Finding.{IsFound};
 
 use crate::clearing::{clear_blocked, clear_octets, clear_red, clear_rx};
 use crate::filter::Filter;
-use crate::find::{Row, Rows, route_of};
+use crate::find::{Route, Row, Rows, route_of};
 use crate::instances::{Frame, Numbered, gate_flags, meter_state};
 use crate::judge::judge;
 use crate::making::{filters_of, gates_of, meters_of};
@@ -124,6 +125,54 @@ impl<A: Allocator + Copy> Police<A> {
         ensures calls { self.new.calls ≡ self.old.calls + 1 }
         ensures earliest { self.new.earliest ≡ t }
     {
+        let found = self.find(handle, priority);
+        self.pass_by(t, handle, priority, dei, sdu, octets, found)
+    }
+
+    /// The filter of frames with this stream handle and priority (0 to 7), where one matches, for `pass_by`.
+    #[inline(always)]
+    pub fn find(&self, handle: Option<u32>, priority: u8) -> Option<Route>
+        ensures found { IsFound self.now handle priority result }
+        ensures there { IfSome result (λ r. is_there r.number self.now.filters ≡ true) }
+    {
+        route_of(
+            &self.filters,
+            &self.gates,
+            &self.meters,
+            &self.rows,
+            &self.any,
+            handle,
+            priority,
+        )
+    }
+
+    /// What `pass` says of a frame whose filter was found before, with no other frame or command between that matters:
+    /// which filter a frame has never changes. It takes no memory.
+    #[inline(always)]
+    pub fn pass_by(
+        &mut self,
+        t: u64,
+        handle: Option<u32>,
+        priority: u8,
+        dei: bool,
+        sdu: u32,
+        octets: u32,
+        found: Option<Route>,
+    ) -> Option<Ruling>
+        requires found { IsFound self.old handle priority found }
+        requires time { self.old.earliest ≤ t }
+        requires range { t < END_OF_TIME }
+        requires few { self.old.calls < 2 ^ 63 }
+        ensures stands { (p : Plans) (es : List Event) → Stands p self.old es → Stands p self.new (Came (call t handle priority dei sdu octets) ∷ es) }
+        ensures answer { (p : Plans) (es : List Event) → Stands p self.old es → result ≡ ruled (judged p (told p es) (call t handle priority dei sdu octets) (flow p.filters (call t handle priority dei sdu octets))) }
+        ensures filter { option_map (λ r. r.filter) result ≡ option_map (λ f. f.0) (flow self.old.filters (call t handle priority dei sdu octets)) }
+        ensures priority { IfSome result (λ r. HasPriority r.verdict) }
+        ensures filters { self.new.filters ≡ self.old.filters }
+        ensures gates { KeepsNumbers self.old.gates self.new.gates }
+        ensures meters { KeepsNumbers self.old.meters self.new.meters }
+        ensures calls { self.new.calls ≡ self.old.calls + 1 }
+        ensures earliest { self.new.earliest ≡ t }
+    {
         let frame = Frame {
             at: t,
             dei,
@@ -132,15 +181,7 @@ impl<A: Allocator + Copy> Police<A> {
         };
         self.calls += 1;
         self.earliest = t;
-        let route = route_of(
-            &self.filters,
-            &self.gates,
-            &self.meters,
-            &self.rows,
-            &self.any,
-            handle,
-            priority,
-        )?;
+        let route = found?;
         let verdict = judge(
             &mut self.filters,
             &mut self.gates,
@@ -160,15 +201,7 @@ impl<A: Allocator + Copy> Police<A> {
         ensures filter { (at sdu octets : ℕ) (dei : Bool) → result ≡ option_map (λ f. f.0) (flow self.now.filters (call at handle priority dei sdu octets)) }
         ensures there { IfSome result (λ n. is_there n self.now.filters ≡ true) }
     {
-        match route_of(
-            &self.filters,
-            &self.gates,
-            &self.meters,
-            &self.rows,
-            &self.any,
-            handle,
-            priority,
-        ) {
+        match self.find(handle, priority) {
             Some(route) => Some(route.number),
             None => None,
         }

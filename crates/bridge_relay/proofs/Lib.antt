@@ -17,3 +17,4 @@ pub mod Viewing
 pub mod Ended
 pub mod Clearing
 pub mod Firsts
+pub mod Found

@@ -4,6 +4,7 @@ ghost use Rattle.bridge_filter.specs.Verdicts.{flow, call};
 ghost use Rattle.bridge_config.specs.declared.ports.PortPlan.{PortPlan};
 ghost use Rattle.bridge_parts.specs.declared.slot.Slot.{Slot};
 ghost use Rattle.bridge_filter.specs.Plans.{is_there};
+ghost use Rattle.bridge_filter.specs.Finding.{IsFound};
 ghost use Rattle.bridge_run.specs.Events.{way_of};
 ghost use Rattle.bridge_parts.specs.Tables.{change_if, promised};
 ghost use Rattle.bridge_parts.specs.Ports.{outs, slot_at, goes_out};
@@ -28,7 +29,7 @@ use bridge_capture::Packet;
 use bridge_config::Plan;
 use bridge_cycle::NoMemory;
 use bridge_events::Agenda;
-use bridge_filter::{Clear, Police, Ruling, Verdict};
+use bridge_filter::{Clear, Police, Route, Ruling, Verdict};
 use bridge_forward::PortSet;
 use bridge_frame::{Tag, parse};
 use bridge_ident::Ident;
@@ -377,15 +378,23 @@ impl<'a, G: Agenda + Drop, A: Allocator + Copy> Relay<'a, G, A> {
         self.earliest = t;
     }
 
-    /// Polices a frame that came on a port, counts it there, and writes its verdict down: the answer of its filter and its
-    /// number among that filter's frames.
+    /// Polices a frame that came on a port by the filter that was found for it, counts it there, and writes its verdict down:
+    /// the answer of its filter and its number among that filter's frames.
     #[inline(always)]
-    fn rule(&mut self, port: u8, time: u64, len: u32, seen: Seen) -> Option<(Ruling, u64)>
+    fn rule(
+        &mut self,
+        port: u8,
+        time: u64,
+        len: u32,
+        seen: Seen,
+        found: Option<Route>,
+    ) -> Option<(Ruling, u64)>
         requires known { (s : Slot A) × (slot_at self.old.ports port ≡ Some s) }
         requires from { 1 ≤ port }
         requires time { (self.old.earliest ≤ time) × (time < END_OF_TIME) }
         requires fresh { IsFresh self.old }
         requires open { IfSome (filter_number self.old.plan (called time len seen)) (IsOpen self.old.tables) }
+        requires found { IsFound self.old.police seen.handle seen.priority found }
         requires length { len ≤ LONGEST_FRAME }
         ensures ruled { (s : Slot A) × (slot_at self.old.ports port ≡ Some s) × ((r : Option Ruling) × HasRuled self.old self.new port s (called time len seen) r × IsNumbered self.old.tables r result) }
         ensures priority { IfSome result (λ j. HasPriority j.0.verdict) }
@@ -399,7 +408,7 @@ impl<'a, G: Agenda + Drop, A: Allocator + Copy> Relay<'a, G, A> {
         } = seen;
         let ruling = self
             .police
-            .pass(time, handle, priority, dei, sdu, len.max(60) + 4);
+            .pass_by(time, handle, priority, dei, sdu, len.max(60) + 4, found);
         self.earliest = time;
         match ruling {
             None => {
@@ -434,6 +443,7 @@ impl<'a, G: Agenda + Drop, A: Allocator + Copy> Relay<'a, G, A> {
         packet: Packet<A>,
         set: PortSet,
         seen: Seen,
+        found: Option<Route>,
         copies: Vec<Vec<u8, A>, A>,
         back: &mut Option<Vec<u8, A>>,
     )
@@ -448,6 +458,7 @@ impl<'a, G: Agenda + Drop, A: Allocator + Copy> Relay<'a, G, A> {
         requires right { is_flow_stray self.old.plan.filters (filter_number self.old.plan (called packet.time packet.len seen)) ≡ false }
         requires length { (packet.len ≤ LONGEST_FRAME) × (length packet.octets.items ≤ packet.len) }
         requires priority { seen.priority ≤ 7 }
+        requires found { IsFound self.old.police seen.handle seen.priority found }
         requires copies { HasCopies self.old.ports.slots set 1 packet.octets.items copies.items }
         ensures stands { (p : config.Plan A) (es : List Event) (left : ℕ → List Captured) → way_of p (arrival packet.time port packet.octets.items packet.len) ≡ goes set seen → Stands p (one_less self.old) es left → Stands p self.new (Arrived (arrival packet.time port packet.octets.items packet.len) ∷ es) left }
         ensures due { NotBefore (G.held self.new.ports.agenda) packet.time }
@@ -455,7 +466,7 @@ impl<'a, G: Agenda + Drop, A: Allocator + Copy> Relay<'a, G, A> {
         ensures sound { IsSound G.held self.new }
     {
         let Packet { time, len, octets } = packet;
-        match self.rule(port, time, len, seen) {
+        match self.rule(port, time, len, seen, found) {
             None => {
                 let load = Load {
                     at: time,
@@ -527,7 +538,8 @@ impl<'a, G: Agenda + Drop, A: Allocator + Copy> Relay<'a, G, A> {
                 dei,
                 sdu,
             } => {
-                let filter = self.police.filter_of(handle, priority);
+                let found = self.police.find(handle, priority);
+                let filter = number_of(found);
                 match self.prepare(set, filter, &packet.octets) {
                     Ok(copies) => {
                         let seen = Seen {
@@ -536,13 +548,24 @@ impl<'a, G: Agenda + Drop, A: Allocator + Copy> Relay<'a, G, A> {
                             dei,
                             sdu,
                         };
-                        self.relay(port, packet, set, seen, copies, back);
+                        self.relay(port, packet, set, seen, found, copies, back);
                     }
                     Err(refused) => return Err((packet, refused)),
                 }
             }
         }
         Ok(())
+    }
+}
+
+/// The number of a filter that was found.
+#[inline(always)]
+fn number_of(found: Option<Route>) -> Option<u32>
+    ensures { result ≡ option_map (λ r. r.number) found }
+{
+    match found {
+        Some(route) => Some(route.number),
+        None => None,
     }
 }
 

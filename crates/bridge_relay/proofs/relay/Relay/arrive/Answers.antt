@@ -3,6 +3,7 @@ use Rattle.std.specs.Prelude.{IfSome, IsTrue, Vec, max}
 use Rattle.std.specs.Option.{option_map}
 use Rattle.bridge_filter.specs.declared.FilterPlan.{FilterPlan}
 use Rattle.bridge_filter.specs.Plans.{is_there}
+use Rattle.bridge_filter.specs.Finding.{IsFound}
 use Rattle.bridge_filter.specs.Verdicts.{flow}
 use Rattle.bridge_config.specs.Rules.{port_at}
 use Rattle.bridge_run.specs.declared.way.Way.{Way}
@@ -13,6 +14,7 @@ use Rattle.bridge_parts.specs.Ports.{slot_at, outs, NotBefore}
 use Rattle.bridge_relay.specs.declared.relay.Seen.{Seen}
 use Rattle.bridge_relay.specs.Relays.{RelayState, IsSound, HasSpare, Stands, is_flow_stray}
 use Rattle.bridge_relay.specs.Relaying.{HasCopies, IsFresh, called, filter_number, one_less}
+use Rattle.bridge_relay.proofs.Found.{number_there}
 use Rattle.bridge_relay.proofs.Offered.{stray_not}
 use Rattle.bridge_relay.proofs.Offering.{all_in}
 use Rattle.bridge_relay.proofs.Relayed.{port_is}
@@ -107,7 +109,7 @@ relay-requires-clause-known g c =
     let number = is.1 in
     let low : 1 ≤ port = omega (arith, from, number) in
     let slot = slot_of (port_at now.plan.ports port) (slot_at now.ports port) c.requires.known.0 (sound.alike port low) c.requires.known.1 in
-    let filter = c.filter_of-filter.result in
+    let filter = c.number_of-filter.result in
     let set = c.in-Goes.set in
     let k = outs now.ports.slots set 16 in
     let sees : Seen = record { handle = c.in-Goes.handle; priority = c.in-Goes.priority; dei = c.in-Goes.dei; sdu = c.in-Goes.sdu } in
@@ -129,7 +131,7 @@ relay-requires-clause-from g c =
 pub relay-requires-clause-due : goal.relay-requires-clause-due
 relay-requires-clause-due g c =
     let now = c.args.self.now in
-    let filter = c.filter_of-filter.result in
+    let filter = c.number_of-filter.result in
     let set = c.in-Goes.set in
     let k = outs now.ports.slots set 16 in
     let sees : Seen = record { handle = c.in-Goes.handle; priority = c.in-Goes.priority; dei = c.in-Goes.dei; sdu = c.in-Goes.sdu } in
@@ -146,7 +148,7 @@ relay-requires-clause-fresh g c =
     let from = is.0.number_from in
     let number = is.1 in
     let low : 1 ≤ port = omega (arith, from, number) in
-    let filter = c.filter_of-filter.result in
+    let filter = c.number_of-filter.result in
     let set = c.in-Goes.set in
     let k = outs now.ports.slots set 16 in
     let sees : Seen = record { handle = c.in-Goes.handle; priority = c.in-Goes.priority; dei = c.in-Goes.dei; sdu = c.in-Goes.sdu } in
@@ -163,13 +165,13 @@ relay-requires-clause-open g c =
     let from = is.0.number_from in
     let number = is.1 in
     let low : 1 ≤ port = omega (arith, from, number) in
-    let filter = c.filter_of-filter.result in
+    let filter = c.number_of-filter.result in
     let set = c.in-Goes.set in
     let k = outs now.ports.slots set 16 in
     let sees : Seen = record { handle = c.in-Goes.handle; priority = c.in-Goes.priority; dei = c.in-Goes.dei; sdu = c.in-Goes.sdu } in
     let same : c.prepare.new.self ≡ promising now filter k = c.in-Ok.ensures.ok in
-    let there : IfSome filter (λ n. IsTrue (is_there n now.plan.filters)) = subst (λ (v : RelayState _ _). IfSome filter (λ n. IsTrue (is_there n v.plan.filters))) c.self.view_is (subst (λ (fs : _). IfSome filter (λ n. IsTrue (is_there n fs))) c.self.invariant.filters c.filter_of-filter.ensures.there) in
-    let numbered : filter ≡ filter_number now.plan (called c.args.packet.time c.args.packet.len sees) = c.filter_of-filter.ensures.filter c.args.packet.time sees.sdu (metered c.args.packet.len) sees.dei ∙ (ap (λ (fs : _). option_map (λ (f : ℕ × FilterPlan). f.0) (flow fs (called c.args.packet.time c.args.packet.len sees))) c.self.invariant.filters ∙ ap (λ (v : RelayState _ _). filter_number v.plan (called c.args.packet.time c.args.packet.len sees)) c.self.view_is) in
+    let there : IfSome filter (λ n. IsTrue (is_there n now.plan.filters)) = subst (λ (v : RelayState _ _). IfSome filter (λ n. IsTrue (is_there n v.plan.filters))) c.self.view_is (subst (λ (fs : _). IfSome filter (λ n. IsTrue (is_there n fs))) c.self.invariant.filters (number_there _ _ _ c.number_of-filter.ensures c.find-found.ensures.there)) in
+    let numbered : filter ≡ filter_number now.plan (called c.args.packet.time c.args.packet.len sees) = (c.number_of-filter.ensures ∙ c.find-found.ensures.found.number c.args.packet.time sees.sdu (metered c.args.packet.len) sees.dei) ∙ (ap (λ (fs : _). option_map (λ (f : ℕ × FilterPlan). f.0) (flow fs (called c.args.packet.time c.args.packet.len sees))) c.self.invariant.filters ∙ ap (λ (v : RelayState _ _). filter_number v.plan (called c.args.packet.time c.args.packet.len sees)) c.self.view_is) in
     subst (λ (v : RelayState _ _). IfSome (filter_number v.plan (called c.args.packet.time c.args.packet.len sees)) (IsOpen v.tables)) (sym same) (subst (λ (o : Option ℕ). IfSome o (IsOpen (promising now filter k).tables)) numbered (open_promised g.G.Agenda.held now filter k sound there))
 
 pub relay-requires-clause-spare : goal.relay-requires-clause-spare
@@ -182,13 +184,13 @@ relay-requires-clause-spare g c =
     let from = is.0.number_from in
     let number = is.1 in
     let low : 1 ≤ port = omega (arith, from, number) in
-    let filter = c.filter_of-filter.result in
+    let filter = c.number_of-filter.result in
     let set = c.in-Goes.set in
     let k = outs now.ports.slots set 16 in
     let sees : Seen = record { handle = c.in-Goes.handle; priority = c.in-Goes.priority; dei = c.in-Goes.dei; sdu = c.in-Goes.sdu } in
     let same : c.prepare.new.self ≡ promising now filter k = c.in-Ok.ensures.ok in
-    let there : IfSome filter (λ n. IsTrue (is_there n now.plan.filters)) = subst (λ (v : RelayState _ _). IfSome filter (λ n. IsTrue (is_there n v.plan.filters))) c.self.view_is (subst (λ (fs : _). IfSome filter (λ n. IsTrue (is_there n fs))) c.self.invariant.filters c.filter_of-filter.ensures.there) in
-    let numbered : filter ≡ filter_number now.plan (called c.args.packet.time c.args.packet.len sees) = c.filter_of-filter.ensures.filter c.args.packet.time sees.sdu (metered c.args.packet.len) sees.dei ∙ (ap (λ (fs : _). option_map (λ (f : ℕ × FilterPlan). f.0) (flow fs (called c.args.packet.time c.args.packet.len sees))) c.self.invariant.filters ∙ ap (λ (v : RelayState _ _). filter_number v.plan (called c.args.packet.time c.args.packet.len sees)) c.self.view_is) in
+    let there : IfSome filter (λ n. IsTrue (is_there n now.plan.filters)) = subst (λ (v : RelayState _ _). IfSome filter (λ n. IsTrue (is_there n v.plan.filters))) c.self.view_is (subst (λ (fs : _). IfSome filter (λ n. IsTrue (is_there n fs))) c.self.invariant.filters (number_there _ _ _ c.number_of-filter.ensures c.find-found.ensures.there)) in
+    let numbered : filter ≡ filter_number now.plan (called c.args.packet.time c.args.packet.len sees) = (c.number_of-filter.ensures ∙ c.find-found.ensures.found.number c.args.packet.time sees.sdu (metered c.args.packet.len) sees.dei) ∙ (ap (λ (fs : _). option_map (λ (f : ℕ × FilterPlan). f.0) (flow fs (called c.args.packet.time c.args.packet.len sees))) c.self.invariant.filters ∙ ap (λ (v : RelayState _ _). filter_number v.plan (called c.args.packet.time c.args.packet.len sees)) c.self.view_is) in
     subst (λ (v : RelayState _ _). IfSome (filter_number v.plan (called c.args.packet.time c.args.packet.len sees)) (HasSpare v (outs v.ports.slots set 16))) (sym same) (subst (λ (o : Option ℕ). IfSome o (HasSpare (promising now filter k) k)) numbered (spare_promised g.G.Agenda.held now filter k sound there))
 
 pub relay-requires-clause-right : goal.relay-requires-clause-right
@@ -201,19 +203,27 @@ relay-requires-clause-right g c =
     let from = is.0.number_from in
     let number = is.1 in
     let low : 1 ≤ port = omega (arith, from, number) in
-    let filter = c.filter_of-filter.result in
+    let filter = c.number_of-filter.result in
     let set = c.in-Goes.set in
     let k = outs now.ports.slots set 16 in
     let sees : Seen = record { handle = c.in-Goes.handle; priority = c.in-Goes.priority; dei = c.in-Goes.dei; sdu = c.in-Goes.sdu } in
     let same : c.prepare.new.self ≡ promising now filter k = c.in-Ok.ensures.ok in
-    let there : IfSome filter (λ n. IsTrue (is_there n now.plan.filters)) = subst (λ (v : RelayState _ _). IfSome filter (λ n. IsTrue (is_there n v.plan.filters))) c.self.view_is (subst (λ (fs : _). IfSome filter (λ n. IsTrue (is_there n fs))) c.self.invariant.filters c.filter_of-filter.ensures.there) in
-    let numbered : filter ≡ filter_number now.plan (called c.args.packet.time c.args.packet.len sees) = c.filter_of-filter.ensures.filter c.args.packet.time sees.sdu (metered c.args.packet.len) sees.dei ∙ (ap (λ (fs : _). option_map (λ (f : ℕ × FilterPlan). f.0) (flow fs (called c.args.packet.time c.args.packet.len sees))) c.self.invariant.filters ∙ ap (λ (v : RelayState _ _). filter_number v.plan (called c.args.packet.time c.args.packet.len sees)) c.self.view_is) in
+    let there : IfSome filter (λ n. IsTrue (is_there n now.plan.filters)) = subst (λ (v : RelayState _ _). IfSome filter (λ n. IsTrue (is_there n v.plan.filters))) c.self.view_is (subst (λ (fs : _). IfSome filter (λ n. IsTrue (is_there n fs))) c.self.invariant.filters (number_there _ _ _ c.number_of-filter.ensures c.find-found.ensures.there)) in
+    let numbered : filter ≡ filter_number now.plan (called c.args.packet.time c.args.packet.len sees) = (c.number_of-filter.ensures ∙ c.find-found.ensures.found.number c.args.packet.time sees.sdu (metered c.args.packet.len) sees.dei) ∙ (ap (λ (fs : _). option_map (λ (f : ℕ × FilterPlan). f.0) (flow fs (called c.args.packet.time c.args.packet.len sees))) c.self.invariant.filters ∙ ap (λ (v : RelayState _ _). filter_number v.plan (called c.args.packet.time c.args.packet.len sees)) c.self.view_is) in
     subst (λ (v : RelayState _ _). is_flow_stray v.plan.filters (filter_number v.plan (called c.args.packet.time c.args.packet.len sees)) ≡ false) (sym same) (subst (λ (o : Option ℕ). is_flow_stray now.plan.filters o ≡ false) numbered (stray_not now.plan.filters filter there))
+
+pub relay-requires-clause-found : goal.relay-requires-clause-found
+relay-requires-clause-found g c =
+    let now = c.args.self.now in
+    let filter = c.number_of-filter.result in
+    let k = outs now.ports.slots c.in-Goes.set 16 in
+    let same : c.prepare.new.self ≡ promising now filter k = c.in-Ok.ensures.ok in
+    subst (λ (v : RelayState _ _). IsFound v.police c.in-Goes.handle c.in-Goes.priority c.find-found.result) (sym same) (subst (λ (v : RelayState _ _). IsFound v.police c.in-Goes.handle c.in-Goes.priority c.find-found.result) c.self.view_is c.find-found.ensures.found)
 
 pub relay-requires-clause-copies : goal.relay-requires-clause-copies
 relay-requires-clause-copies g c =
     let now = c.args.self.now in
-    let filter = c.filter_of-filter.result in
+    let filter = c.number_of-filter.result in
     let set = c.in-Goes.set in
     let k = outs now.ports.slots set 16 in
     let sees : Seen = record { handle = c.in-Goes.handle; priority = c.in-Goes.priority; dei = c.in-Goes.dei; sdu = c.in-Goes.sdu } in
@@ -232,7 +242,7 @@ returns-clause-stands g c = λ p es left st.
       | in-Malformed w ↦ subst (λ (v : RelayState _ _). Stands p v (Arrived a ∷ es) left) (sym w.self-is) (w.pass_over.ensures.stands p es a left refl (way ∙ w.in-Malformed.is) st)
       | in-Nowhere w ↦ subst (λ (v : RelayState _ _). Stands p v (Arrived a ∷ es) left) (sym w.self-is) (w.pass_over-in-Nowhere.ensures.stands p es a left refl (way ∙ w.in-Nowhere.is) st)
       | in-Goes+in-Ok w ↦
-          let filter = w.filter_of-filter.result in
+          let filter = w.number_of-filter.result in
           let set = w.in-Goes.set in
           let k = outs now.ports.slots set 16 in
           let sees : Seen = record { handle = w.in-Goes.handle; priority = w.in-Goes.priority; dei = w.in-Goes.dei; sdu = w.in-Goes.sdu } in
@@ -252,8 +262,8 @@ returns-clause-waits g c =
 
 pub prepare-requires-clause-there : goal.prepare-requires-clause-there
 prepare-requires-clause-there g c =
-    let filter = c.filter_of-filter.result in
-    subst (λ (v : RelayState _ _). IfSome filter (λ n. IsTrue (is_there n v.plan.filters))) c.self.view_is (subst (λ (fs : _). IfSome filter (λ n. IsTrue (is_there n fs))) c.self.invariant.filters c.filter_of-filter.ensures.there)
+    let filter = c.number_of-filter.result in
+    subst (λ (v : RelayState _ _). IfSome filter (λ n. IsTrue (is_there n v.plan.filters))) c.self.view_is (subst (λ (fs : _). IfSome filter (λ n. IsTrue (is_there n fs))) c.self.invariant.filters (number_there _ _ _ c.number_of-filter.ensures c.find-found.ensures.there))
 
 pub returns-clause-moved : goal.returns-clause-moved
 returns-clause-moved g c =
@@ -267,7 +277,7 @@ returns-clause-moved g c =
           subst (λ (v : RelayState _ _). (v.arrived ≡ now.arrived + 1) × (v.earliest ≡ c.args.packet.time) × (v.plan ≡ now.plan)) (sym w.self-is) (passed.arrived, passed.earliest, passed.plan)
       | in-Goes+in-Ok w ↦
           let k = outs now.ports.slots w.in-Goes.set 16 in
-          let same : w.prepare.new.self ≡ promising now w.filter_of-filter.result k = w.in-Ok.ensures.ok in
+          let same : w.prepare.new.self ≡ promising now w.number_of-filter.result k = w.in-Ok.ensures.ok in
           let moved = w.relay.ensures.moved in
           subst (λ (v : RelayState _ _). (v.arrived ≡ now.arrived + 1) × (v.earliest ≡ c.args.packet.time) × (v.plan ≡ now.plan)) (sym w.self-is) (moved.0 ∙ ap (λ (v : RelayState _ _). v.arrived) same, moved.2, moved.1 ∙ ap (λ (v : RelayState _ _). v.plan) same)
     ]

@@ -2,15 +2,13 @@ use Rattle.std.proofs.Common.{arith, ◌≤◌, ◌<◌, ◌^◌, ◌∙◌, sym
 use Rattle.bridge_filter.specs.Plans.{KeepsNumbers}
 use Rattle.bridge_filter.specs.Verdicts.{Unfiltered, Judged, call, told, ruled}
 use Rattle.bridge_filter.specs.Standing.{PoliceState, Stands}
+use Rattle.bridge_filter.specs.Finding.{IsFound}
 use Rattle.bridge_filter.specs.Steps.{plans_in}
 use Rattle.bridge_filter.proofs.Numbered.{keeps_numbers}
 use Rattle.bridge_filter.proofs.Flows.{flow_numbered, flow_none}
 use Rattle.bridge_filter.proofs.Rowed.{number_of}
 use Rattle.bridge_filter.proofs.Passing.{stands_after, are_policed, kept_unfiltered, policed_unfiltered, judged_unfiltered, judged_by, have_later, sound_unfiltered, sound_judged}
-use Rattle.bridge_filter.proofs.police.Police.pass.Goals as goal
-
-pub route_of-requires-clause-meters : goal.route_of-requires-clause-meters
-route_of-requires-clause-meters g c = λ n f found. (c.self.invariant.instances n f found).meter
+use Rattle.bridge_filter.proofs.police.Police.pass_by.Goals as goal
 
 pub invariant_of-self : goal.invariant_of-self
 invariant_of-self g c =
@@ -23,7 +21,8 @@ returns-in_err-route-clause-stands g c = λ p es stands.
     let i = c.self.inside in
     let fs = plans_in i.filters.entries in
     let frame = call c.args.t c.args.handle c.args.priority c.args.dei c.args.sdu c.args.octets in
-    let number = c.route_of.ensures.number c.args.t c.args.sdu c.args.octets c.args.dei in
+    let found = subst (λ (z : PoliceState _). IsFound z c.args.handle c.args.priority c.args.found) (sym c.self.view_is) c.requires.found in
+    let number = found.number c.args.t c.args.sdu c.args.octets c.args.dei in
     let none = flow_none fs frame (sym (ap number_of c.in_err-route.was) ∙ number) in
     let st = subst (λ (z : PoliceState _). Stands p z es) (sym c.self.view_is) stands in
     let step = judged_unfiltered p fs (told p es) frame st.filters none in
@@ -48,7 +47,8 @@ returns-clause-stands g c = λ p es stands.
     let n = c.in_ok-route.route.number in
     let fs = plans_in i.filters.entries in
     let frame = call c.args.t c.args.handle c.args.priority c.args.dei c.args.sdu c.args.octets in
-    let number = c.route_of.ensures.number c.args.t c.args.sdu c.args.octets c.args.dei in
+    let found = subst (λ (z : PoliceState _). IsFound z c.args.handle c.args.priority c.args.found) (sym c.self.view_is) c.requires.found in
+    let number = found.number c.args.t c.args.sdu c.args.octets c.args.dei in
     let flow = flow_numbered fs frame n c.self.invariant.distinct (sym (ap number_of c.in_ok-route.was) ∙ number) in
     let st = subst (λ (z : PoliceState _). Stands p z es) (sym c.self.view_is) stands in
     let are = are_policed p _ es st in
@@ -63,7 +63,8 @@ returns-clause-answer g c = λ p es stands.
     let n = c.in_ok-route.route.number in
     let fs = plans_in i.filters.entries in
     let frame = call c.args.t c.args.handle c.args.priority c.args.dei c.args.sdu c.args.octets in
-    let number = c.route_of.ensures.number c.args.t c.args.sdu c.args.octets c.args.dei in
+    let found = subst (λ (z : PoliceState _). IsFound z c.args.handle c.args.priority c.args.found) (sym c.self.view_is) c.requires.found in
+    let number = found.number c.args.t c.args.sdu c.args.octets c.args.dei in
     let flow = flow_numbered fs frame n c.self.invariant.distinct (sym (ap number_of c.in_ok-route.was) ∙ number) in
     let st = subst (λ (z : PoliceState _). Stands p z es) (sym c.self.view_is) stands in
     let verdict = r.ensures.verdict p (told p es) flow.plan c.args.handle c.args.priority flow.found st.kept (are_policed p _ es st) in
