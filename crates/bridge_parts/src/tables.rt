@@ -1,6 +1,6 @@
 //! The tables of all filters, by number.
-ghost use Rattle.std.specs.Prelude.{◌≡◌, ℕ, true, ◌+◌, nat_eq, Some, OnOk, OnErr, IfOk, IfSome, length};
-ghost use Rattle.std.specs.Map.{lookup};
+ghost use Rattle.std.specs.Prelude.{◌≡◌, ℕ, true, ◌+◌, nat_eq, Some, OnOk, OnErr, IfOk, IfSome, IsSome, length, slice_get};
+ghost use Rattle.std.specs.Map.{keys_of, lookup};
 ghost use Rattle.bridge_filter.specs.Plans.{are_distinct, is_there};
 ghost use Rattle.bridge_parts.specs.Told.{fresh, fresh_tables, HasTold};
 ghost use Rattle.bridge_parts.specs.Tables.{TableState, change, change_if, after_answer, departed, judged, released, promised, IsOpen, MayPromise, Owes, OwesSo};
@@ -32,6 +32,44 @@ pub fn tables_of<A: Allocator + Copy>(
     Ok(tables)
 }
 
+/// The place of a number where it is found at once: numbers that follow one another in the order of the plan have places
+/// that do.
+#[inline(always)]
+fn own_place<A: Allocator + Copy>(tables: &Tables<A>, number: u32) -> Option<usize>
+    ensures { IfSome result (λ place. slice_get (keys_of tables.now.entries) place ≡ Some number) }
+{
+    let (first, _) = tables.get_index(0)?;
+    let place = number.saturating_sub(*first) as usize;
+    match tables.get_index(place) {
+        Some((own, _)) if *own == number => Some(place),
+        _ => None,
+    }
+}
+
+/// The place of a number, by its hash.
+#[inline(never)]
+fn found_place<A: Allocator + Copy>(tables: &Tables<A>, number: u32) -> usize
+    requires { IsSome (lookup (nat_eq number) tables.now.entries) }
+    ensures { slice_get (keys_of tables.now.entries) result ≡ Some number }
+{
+    match tables.get_index_of(&number) {
+        Some(place) => place,
+        None => unreachable!(),
+    }
+}
+
+/// The place of a number.
+#[inline(always)]
+fn place_of<A: Allocator + Copy>(tables: &Tables<A>, number: u32) -> usize
+    requires { IsSome (lookup (nat_eq number) tables.now.entries) }
+    ensures { slice_get (keys_of tables.now.entries) result ≡ Some number }
+{
+    match own_place(tables, number) {
+        Some(place) => place,
+        None => found_place(tables, number),
+    }
+}
+
 /// Writes down that a copy of a filter's frame left, so long after the frame came; nothing for a frame without a filter.
 #[inline(always)]
 pub fn depart<A: Allocator + Copy>(
@@ -44,10 +82,9 @@ pub fn depart<A: Allocator + Copy>(
     ensures { tables.new.entries ≡ change_if flow (λ t. departed t departure delay) tables.old.entries }
 {
     if let Some(number) = flow {
-        match tables.get_mut(&number) {
-            Some(table) => table.depart(departure, delay),
-            None => unreachable!(),
-        }
+        let place = place_of(tables, number);
+        let (_, table) = tables.pair_mut(place);
+        table.depart(departure, delay);
     }
 }
 
@@ -86,10 +123,11 @@ pub fn promise<A: Allocator + Copy>(
     ensures err { OnErr result (tables.new.entries ≡ tables.old.entries) }
 {
     match flow {
-        Some(number) => match tables.get_mut(&number) {
-            Some(table) => table.promise(copies),
-            None => unreachable!(),
-        },
+        Some(number) => {
+            let place = place_of(tables, number);
+            let (_, table) = tables.pair_mut(place);
+            table.promise(copies)
+        }
         None => Ok(()),
     }
 }
@@ -101,10 +139,9 @@ pub fn judge<A: Allocator + Copy>(tables: &mut Tables<A>, number: u32, verdict: 
     ensures told { tables.new.entries ≡ change number (λ t. judged t verdict) tables.old.entries }
     ensures own { (t : TableState) → lookup (nat_eq number) tables.old.entries ≡ Some t → result ≡ length t.verdicts + 1 }
 {
-    match tables.get_mut(&number) {
-        Some(table) => table.judge(verdict),
-        None => unreachable!(),
-    }
+    let place = place_of(tables, number);
+    let (_, table) = tables.pair_mut(place);
+    table.judge(verdict)
 }
 
 /// So many copies of a filter's frame are not offered.

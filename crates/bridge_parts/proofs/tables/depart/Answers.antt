@@ -1,13 +1,21 @@
-use Rattle.std.proofs.Common.{rules, ◌≡◌, ◌∙◌, sym, nat_eq, ap, Option, ℕ}
-use Rattle.std.specs.Map.{set_value}
-use Rattle.bridge_parts.specs.Tables.{departed, change_if}
-use Rattle.bridge_parts.proofs.Changing.{change_is}
+use Rattle.std.proofs.Common.{ℕ, ◌<◌, ◌≡◌, ◌∙◌, ap, sym, subst, nat_eq, Option, Some}
+use Rattle.std.specs.Prelude.{IfSome}
+use Rattle.std.proofs.lemmas.Option.{same_Some}
+use Rattle.bridge_parts.specs.Tables.{Owes, TableState, change_if, departed}
+use Rattle.bridge_parts.proofs.Changing.{change_at, own_at}
 use Rattle.bridge_parts.proofs.tables.depart.Goals as goal
 
-pub returns-in-Some-get_mut : goal.returns-in-Some-get_mut
-returns-in-Some-get_mut g c =
-    let n = c.in-Some.number in
-    let old = c.args.tables.now.entries in
-    let new = (c.get_mut.follows.lender c.depart.new.self).entries in
-    let e : new ≡ set_value (nat_eq n) old c.depart.new.self = search rules in
-    e ∙ (change_is n (λ t. departed t c.args.departure c.args.delay) old c.in-Some-get_mut.table.now c.depart.new.self (sym c.in-Some-get_mut.ensures.value) c.depart.ensures ∙ sym (ap (λ (o : Option ℕ). change_if o (λ t. departed t c.args.departure c.args.delay) old) c.in-Some.is))
+pub depart-requires : goal.depart-requires
+depart-requires g c =
+    let at = c.pair_mut-table in
+    let m = c.args.tables.now in
+    let owes = subst (λ (o : Option ℕ). IfSome o (Owes m.entries)) c.in-Some.is c.requires in
+    let found = own_at m c.place_of-place.result at.result.0.now c.in-Some.number at.result.1.now at.ensures.unique at.ensures.value c.place_of-place.ensures in
+    subst (λ (t : TableState). 0 < t.owed) (same_Some owes.0 at.result.1.now (sym owes.1 ∙ found)) owes.2
+
+pub returns-in-Some : goal.returns-in-Some
+returns-in-Some g c =
+    let at = c.pair_mut-table in
+    let m = c.args.tables.now in
+    let f : TableState → TableState = λ t. departed t c.args.departure c.args.delay in
+    change_at m c.place_of-place.result at.result.0.now c.in-Some.number f at.result.1.now c.depart.new.self at.ensures.unique at.ensures.value c.place_of-place.ensures c.depart.ensures ∙ sym (ap (λ (o : Option ℕ). change_if o f m.entries) c.in-Some.is)
