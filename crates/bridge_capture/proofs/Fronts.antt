@@ -1,11 +1,11 @@
 -- What stands at the front, by what was read of it.
-use Rattle.std.proofs.Common.{◌≡◌, ℕ, ◌+◌, ◌≤◌, ◌<◌, false, List, [], ◌++◌, length, drop, Option, Some, None, refl, sym, ap, ◌∙◌, subst, nat_eq, arith}
+use Rattle.std.proofs.Common.{◌≡◌, ℕ, ◌+◌, ◌-◌, ◌≤◌, ◌<◌, false, List, [], ◌++◌, length, take, drop, slice_range, Option, Some, None, refl, sym, ap, ◌∙◌, subst, nat_eq, arith, append_assoc, length-take-le}
 use Rattle.bridge_capture.specs.Reading.{Fails, CutsOctets}
 use Rattle.std.specs.Prelude.{IfSome}
 use Rattle.std.specs.Io.KnownBytes.{Consumes, IsAtEnd}
 use Rattle.std.proofs.lemmas.Bool.{le-ltb, lt-ltb, le-leb, lt-leb}
 use Rattle.std.proofs.lemmas.List.{length-append, length-drop, append-nil, drop_at, take_at}
-use lib.Seq.{drop-append-le, take-append-le}
+use lib.Seq.{drop-append-le, take-append-le, take-add}
 use Rattle.std.proofs.Math.Seq.{drop-append-add}
 use Rattle.bridge_capture.specs.declared.form.Form.{Form}
 use Rattle.bridge_capture.specs.declared.fault.CaptureFault.{CaptureFault}
@@ -98,6 +98,22 @@ whole_record (Some bytes) (Some rest) (Some last) form place w o len few h p q a
     let octets : octets_at 16 (captured_of form text) text ≡ o = rw (n, drop_at w rest 16 len, q) (take_at o last (length o) refl) in
     let after : drop (16 + captured_of form text) text ≡ last = rw n (ap (λ (k : ℕ). drop (k + length o) text) (sym len) ∙ drop-append-add w rest (length o) ∙ ap (drop (length o)) q ∙ drop_at o last (length o) refl) in
     (last, ap (front_of form place) p ∙ front_with_words form place w rest len few ∙ ap (record_with_head form place text) h ∙ rw (le-ltb (length text) (16 + captured_of form text) enough, octets, after, time_front form w rest len, original_front form w rest len) refl, refl)
+
+-- it is whole, and its octets were taken with its words
+pub whole_at_once : (old new : Option (List ℕ)) (form : Form) (place : Place) (lent : List ℕ) (end : ℕ) → place.number ≤ 1000000 → end ≤ length lent → end ≡ 16 + captured_of form (take 16 lent)
+    → head_fault place (time_of form (take 16 lent)) (captured_of form (take 16 lent)) (original_of form (take 16 lent)) ≡ None → Consumes old new (take end lent)
+    → IfSome old (λ bytes. (more : List ℕ) × (front_of form place bytes ≡ Record (record { time = time_of form (take 16 lent); len = original_of form (take 16 lent); octets = slice_range lent 16 end }) more) × (new ≡ Some more))
+whole_at_once None new form place lent end few within is h p = tt
+whole_at_once (Some bytes) None form place lent end few within is h p = absurd p
+whole_at_once (Some bytes) (Some rest) form place lent end few within is h p =
+    let w = take 16 lent in
+    let o = slice_range lent 16 end in
+    let n = captured_of form w in
+    let len : length w ≡ 16 = length-take-le 16 lent (omega arith) in
+    let least : end - 16 ≡ n = omega arith in
+    let all : length o ≡ n = length-take-le (end - 16) (drop 16 lent) (omega (arith, length-drop 16 lent)) ∙ least in
+    let parts : take end lent ≡ w ++ o = ap (λ k. take k lent) {y = 16 + (end - 16)} (omega arith) ∙ take-add 16 (end - 16) lent in
+    whole_record (Some bytes) (Some (o ++ rest)) (Some rest) form place w o len few h (p ∙ ap (λ l. l ++ rest) parts ∙ append_assoc w o rest) refl all
 
 -- ---- the words' faults, one after the other
 

@@ -1,5 +1,5 @@
 -- Octets between a caller and std's readers and writers.
-use Rattle.std.specs.Prelude.{ℕ, List, Option, slice_range}
+use Rattle.std.specs.Prelude.{ℕ, List, [], Option, slice_range, if◌then◌else◌}
 use Rattle.std.specs.Io.KnownBytes.{prepend_known, append_known}
 use Rattle.bridge_capture.specs.declared.window.Window.{Window}
 use Rattle.bridge_capture.specs.declared.read_ahead.ReadAhead.{ReadAhead}
@@ -8,6 +8,10 @@ use Rattle.bridge_capture.specs.declared.write_behind.WriteBehind.{WriteBehind}
 -- the octets that were read ahead and not given yet
 abbrev pub at_hand : {A : Type 0} → Window A → List ℕ
 at_hand w = slice_range w.octets.items w.start w.end
+
+-- those that are lent: none once the reader has failed
+abbrev pub ahead_at_hand : {R A : Type 0} → ReadAhead R A → List ℕ
+ahead_at_hand s = if s.source.is_broken then [] else at_hand s.window
 
 -- these, and then what the reader has left, where it tells that
 abbrev pub ahead_remaining : {R A : Type 0} → (R → Option (List ℕ)) → ReadAhead R A → Option (List ℕ)

@@ -1,5 +1,5 @@
 //! std's readers as sources.
-ghost use Rattle.std.specs.Prelude.{◌≡◌, false};
+ghost use Rattle.std.specs.Prelude.{◌≡◌, [], false};
 
 use crate::source::{Broken, ByteSource};
 use std::io::Read;
@@ -39,6 +39,8 @@ impl<R: Read> ByteSource for FromRead<R> {
 
     ghost never_fails = { λ _. false };
 
+    ghost at_hand = { λ _. [] };
+
     fn read(&mut self, buf: &mut [u8]) -> Result<usize, Broken> {
         if self.is_broken {
             return Err(Broken);
@@ -55,4 +57,10 @@ impl<R: Read> ByteSource for FromRead<R> {
     fn failed(&self) -> bool {
         self.is_broken
     }
+
+    fn lent(&self) -> &[u8] {
+        &[]
+    }
+
+    fn skip(&mut self, _count: usize) {}
 }

@@ -52,6 +52,10 @@ impl<W: Write> ByteSink for FromWrite<W> {
         }
     }
 
+    fn write_both(&mut self, _first: &[u8], _second: &[u8]) -> bool {
+        false
+    }
+
     fn failed(&self) -> bool {
         self.is_broken
     }

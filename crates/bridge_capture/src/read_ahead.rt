@@ -1,7 +1,7 @@
 //! std's readers as sources that read ahead.
 ghost use Rattle.std.specs.Prelude.{◌≡◌, ◌≤◌, length, true, false, IfOk, OnOk, OnErr, IsErr};
 ghost use Rattle.std.specs.Io.KnownBytes.{ReadConsumes};
-ghost use Rattle.bridge_capture.specs.Buffered.{ahead_remaining};
+ghost use Rattle.bridge_capture.specs.Buffered.{ahead_remaining, ahead_at_hand};
 
 use crate::from_read::FromRead;
 use crate::source::{Broken, ByteSource};
@@ -71,6 +71,8 @@ impl<R: Read, A: Allocator> ByteSource for ReadAhead<R, A> {
 
     ghost never_fails = { λ _. false };
 
+    ghost at_hand = { ahead_at_hand };
+
     #[inline(always)]
     fn read(&mut self, buf: &mut [u8]) -> Result<usize, Broken> {
         if self.window.len() < buf.len() || self.source.failed() {
@@ -82,5 +84,18 @@ impl<R: Read, A: Allocator> ByteSource for ReadAhead<R, A> {
 
     fn failed(&self) -> bool {
         self.source.failed()
+    }
+
+    #[inline(always)]
+    fn lent(&self) -> &[u8] {
+        if self.source.failed() {
+            return &[];
+        }
+        self.window.octets()
+    }
+
+    #[inline(always)]
+    fn skip(&mut self, count: usize) {
+        self.window.skip(count);
     }
 }

@@ -1,8 +1,8 @@
 //! One record of a capture.
-ghost use Rattle.std.specs.Prelude.{◌≡◌, ◌≢◌, ◌≤◌, ◌<◌, ◌*◌, ◌^◌, Some, None, Err, true, length, IfSome, IfErr, MatchResult};
+ghost use Rattle.std.specs.Prelude.{◌≡◌, ◌≢◌, ◌≤◌, ◌<◌, ◌+◌, ◌*◌, ◌^◌, Some, None, Err, true, length, take, IfSome, IfErr, MatchResult};
 ghost use Rattle.bridge_capture.specs.Grammar.{time_of, captured_of, original_of, head_fault, front_of};
 ghost use Rattle.bridge_capture.specs.Reading.{Takes, TakesOctets, IfPacket, IsOfWords, packet_in};
-ghost use Rattle.bridge_capture.specs.Taken.{TakesOfRecord};
+ghost use Rattle.bridge_capture.specs.Taken.{TakesOfRecord, IsSound};
 
 use crate::fault::CaptureFault;
 use crate::form::{Form, Unit};
@@ -98,10 +98,75 @@ fn take_octets<R: ByteSource, A: Allocator>(
     Ok(())
 }
 
+/// The words of record `number`, after one at `earliest`, where it is at hand whole and has no fault.
+#[inline(always)]
+fn head_at_hand(form: Form, number: u32, earliest: u64, lent: &[u8]) -> Option<Head>
+    ensures few { IfSome result (λ _. number ≤ MAX_RECORDS) }
+    ensures whole { IfSome result (λ head. 16 + head.captured ≤ length lent.now) }
+    ensures time { IfSome result (λ head. head.time ≡ time_of form (take 16 lent.now)) }
+    ensures captured { IfSome result (λ head. head.captured ≡ captured_of form (take 16 lent.now)) }
+    ensures original { IfSome result (λ head. head.original ≡ original_of form (take 16 lent.now)) }
+    ensures sound { IfSome result (λ _. IsSound form (record { number = number; earliest = earliest }) (take 16 lent.now)) }
+    ensures early { IfSome result (λ head. head.time < END_OF_TIME) }
+    ensures onward { IfSome result (λ head. earliest ≤ head.time) }
+    ensures small { IfSome result (λ head. head.captured ≤ MOST_CAPTURED) }
+    ensures within { IfSome result (λ head. head.captured ≤ head.original) }
+{
+    if number > MAX_RECORDS || lent.len() < 16 {
+        return None;
+    }
+    let head = head_of(form, &lent[..16]);
+    match judge_head(number, earliest, head) {
+        Ok(()) if lent.len() - 16 >= head.captured as usize => Some(head),
+        _ => None,
+    }
+}
+
 /// Takes the record at the front of what the source has left, if there is one: record `number`,
 /// after one at `earliest`. Its octets are put into a vector, in place of what it holds.
 #[inline(always)]
 pub fn front_record<R: ByteSource, A: Allocator>(
+    form: Form,
+    number: u32,
+    earliest: u64,
+    octets: &mut Vec<u8, A>,
+    source: &mut R,
+) -> Result<Option<Stamp>, CaptureFault>
+    ensures record { IfSome (R.remaining source.old) (λ text.
+        Takes (front_of form (record { number = number; earliest = earliest }) text) (R.remaining source.new) (packet_in octets.new result)) }
+    ensures taken { IfErr result (TakesOfRecord form (record { number = number; earliest = earliest }) (R.remaining source.old) (R.remaining source.new)) }
+    ensures few { IfPacket (packet_in octets.new result) (λ _. number ≤ MAX_RECORDS) }
+    ensures early { IfPacket (packet_in octets.new result) (λ packet. packet.time < END_OF_TIME) }
+    ensures onward { IfPacket (packet_in octets.new result) (λ packet. earliest ≤ packet.time) }
+    ensures small { IfPacket (packet_in octets.new result) (λ packet. length packet.octets.items ≤ MOST_CAPTURED) }
+    ensures within { IfPacket (packet_in octets.new result) (λ packet. length packet.octets.items ≤ packet.len) }
+    ensures failed { result ≡ Err CaptureFault.Read → R.has_failed source.new ≡ true }
+    ensures sure { R.never_fails source.old ≡ true → result ≢ Err CaptureFault.Read }
+    ensures lasts { R.never_fails source.old ≡ true → R.never_fails source.new ≡ true }
+    ensures broken { R.has_failed source.old ≡ true → result ≡ Err CaptureFault.Read }
+    ensures no_write { result ≢ Err CaptureFault.Write }
+{
+    let lent = source.lent();
+    let Some(head) = head_at_hand(form, number, earliest, lent) else {
+        return read_record(form, number, earliest, octets, source);
+    };
+    let end = 16 + head.captured as usize;
+    octets.clear();
+    if octets.extend_from_slice(&lent[16..end]).is_err() {
+        source.skip(16);
+        return Err(CaptureFault::NoMemory);
+    }
+    source.skip(end);
+    Ok(Some(Stamp {
+        time: head.time,
+        len: head.original,
+    }))
+}
+
+/// The same, of a record that isn't at hand, or has a fault.
+#[cold]
+#[inline(never)]
+fn read_record<R: ByteSource, A: Allocator>(
     form: Form,
     number: u32,
     earliest: u64,

@@ -1,6 +1,6 @@
 //! Where octets go.
-ghost use Rattle.std.specs.Prelude.{◌≡◌, ◌≤◌, ◌<◌, ℕ, List, Option, Bool, true, false, length, IsErr, IfOk, OnOk, OnErr};
-ghost use Rattle.std.specs.Io.KnownBytes.{WriteAppends};
+ghost use Rattle.std.specs.Prelude.{◌≡◌, ◌≤◌, ◌<◌, ◌++◌, ℕ, List, Option, Bool, true, false, length, IsErr, IfOk, OnOk, OnErr};
+ghost use Rattle.std.specs.Io.KnownBytes.{WriteAppends, Appends};
 
 use crate::source::Broken;
 
@@ -20,6 +20,13 @@ pub trait ByteSink {
         ensures fails { OnErr result (has_failed self.new ≡ true) }
         ensures works { OnOk result (has_failed self.new ≡ false) }
         ensures stays { has_failed self.old ≡ true → IsErr result };
+
+    /// Takes both, one behind the other, where it has room for them at once, and says so; else nothing.
+    fn write_both(&mut self, first: &[u8], second: &[u8]) -> bool
+        ensures bytes { result ≡ true → Appends (contents self.old) (contents self.new) (first.now ++ second.now) }
+        ensures fresh { result ≡ true → has_failed self.old ≡ false }
+        ensures works { result ≡ true → has_failed self.new ≡ false }
+        ensures untouched { result ≡ false → self.new ≡ self.old };
 
     /// Whether it has failed.
     fn failed(&self) -> bool

@@ -1,5 +1,5 @@
 //! Octets of memory as a source, which tells them and can fail at a stated place.
-ghost use Rattle.std.specs.Prelude.{◌≡◌, ◌≤◌, ◌-◌, ◌<◌, ◌⊎◌, length, Some, true, false, IfOk, OnOk, OnErr, IsErr, IsOk, option_map};
+ghost use Rattle.std.specs.Prelude.{◌≡◌, ◌≤◌, ◌-◌, ◌<◌, ◌⊎◌, [], length, Some, true, false, IfOk, OnOk, OnErr, IsErr, IsOk, option_map};
 ghost use Rattle.std.specs.Io.KnownBytes.{ReadConsumes};
 ghost use Rattle.bridge_capture.specs.Memory.{is_sure};
 
@@ -79,6 +79,8 @@ impl<'a> ByteSource for SliceSource<'a> {
 
     ghost never_fails = { λ s. is_sure s };
 
+    ghost at_hand = { λ _. [] };
+
     fn read(&mut self, buf: &mut [u8]) -> Result<usize, Broken>
         ensures count { IfOk result (λ n. n ≤ length buf.new) }
         ensures bytes { ReadConsumes (Some self.old.octets) (Some self.new.octets) result buf.new }
@@ -116,4 +118,10 @@ impl<'a> ByteSource for SliceSource<'a> {
     fn failed(&self) -> bool {
         self.is_broken
     }
+
+    fn lent(&self) -> &[u8] {
+        &[]
+    }
+
+    fn skip(&mut self, _count: usize) {}
 }

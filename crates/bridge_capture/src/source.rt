@@ -1,6 +1,6 @@
 //! Where octets come from.
-ghost use Rattle.std.specs.Prelude.{◌≡◌, ◌≤◌, ℕ, List, Option, Bool, true, false, length, IsErr, IsOk, IfOk, OnOk, OnErr};
-ghost use Rattle.std.specs.Io.KnownBytes.{ReadConsumes};
+ghost use Rattle.std.specs.Prelude.{◌≡◌, ◌≤◌, ◌<◌, ℕ, List, Option, Bool, true, false, length, take, IsErr, IsOk, IfOk, OnOk, OnErr};
+ghost use Rattle.std.specs.Io.KnownBytes.{ReadConsumes, Consumes};
 
 use thiserror::Error;
 
@@ -20,6 +20,9 @@ pub trait ByteSource {
     /// Whether it never fails.
     ghost never_fails: { Self → Bool };
 
+    /// The next octets, as far as it lends them without reading.
+    ghost at_hand: { Self → List ℕ };
+
     /// Puts the next octets at the front of the buffer and says how many: at most those that it
     /// has left. 0 for a buffer with room means that there is none left.
     fn read(&mut self, buf: &mut [u8]) -> Result<usize, Broken>
@@ -34,4 +37,16 @@ pub trait ByteSource {
     /// Whether it has failed.
     fn failed(&self) -> bool
         ensures { result ≡ has_failed self.now };
+
+    /// The octets that come next, as far as they are at hand; none once it has failed.
+    fn lent(&self) -> &[u8]
+        ensures lent { result.now ≡ at_hand self.now }
+        ensures sound { 0 < length result.now → has_failed self.now ≡ false };
+
+    /// Lets go of so many of the octets at hand.
+    fn skip(&mut self, count: usize)
+        requires { count ≤ length (at_hand self.old) }
+        ensures bytes { Consumes (remaining self.old) (remaining self.new) (take count (at_hand self.old)) }
+        ensures stays { has_failed self.new ≡ has_failed self.old }
+        ensures lasts { never_fails self.old ≡ true → never_fails self.new ≡ true };
 }

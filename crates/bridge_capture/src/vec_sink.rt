@@ -125,6 +125,10 @@ impl<A: Allocator> ByteSink for VecSink<A> {
         }
     }
 
+    fn write_both(&mut self, _first: &[u8], _second: &[u8]) -> bool {
+        false
+    }
+
     fn failed(&self) -> bool {
         self.is_broken
     }

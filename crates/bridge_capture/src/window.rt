@@ -61,6 +61,23 @@ impl<A: Allocator> Window<A> {
         self.start = to;
     }
 
+    /// The octets that it holds.
+    #[inline(always)]
+    pub fn octets(&self) -> &[u8]
+        ensures { result.now ≡ slice_range self.now.octets.items self.now.start self.now.end }
+    {
+        &self.octets[self.start..self.end]
+    }
+
+    /// Lets go of the first octets.
+    #[inline(always)]
+    pub fn skip(&mut self, count: usize)
+        requires { count ≤ self.old.end - self.old.start }
+        ensures { slice_range self.old.octets.items self.old.start self.old.end ≡ take count (slice_range self.old.octets.items self.old.start self.old.end) ++ slice_range self.new.octets.items self.new.start self.new.end }
+    {
+        self.start += count;
+    }
+
     /// Asks the source for as many octets as there is room for, where it holds none.
     pub fn refill<R: ByteSource>(&mut self, source: &mut R) -> Result<(), Broken>
         requires { self.old.start ≡ self.old.end }

@@ -113,6 +113,17 @@ impl<W: Write + Drop, A: Allocator> ByteSink for WriteBehind<W, A> {
         Ok(octets.len())
     }
 
+    #[inline(always)]
+    fn write_both(&mut self, first: &[u8], second: &[u8]) -> bool {
+        let room = self.held.capacity() - self.held.len();
+        if room < first.len() || room - first.len() < second.len() || self.sink.failed() {
+            return false;
+        }
+        append(&mut self.held, first);
+        append(&mut self.held, second);
+        true
+    }
+
     fn failed(&self) -> bool {
         self.sink.failed()
     }
@@ -129,7 +140,9 @@ impl<W: Write + Drop, A: Allocator> Drop for WriteBehind<W, A> {
 #[inline(always)]
 fn append<A: Allocator>(held: &mut Vec<u8, A>, octets: &[u8])
     requires { vec_len held.old + length octets.now ≤ vec_capacity held.old }
-    ensures { held.new.items ≡ held.old.items ++ octets.now }
+    ensures items { held.new.items ≡ held.old.items ++ octets.now }
+    ensures length { vec_len held.new ≡ vec_len held.old + length octets.now }
+    ensures capacity { vec_capacity held.old ≤ vec_capacity held.new }
 {
     let Ok(()) = held.extend_from_slice(octets) else {
         unreachable!()

@@ -1,5 +1,5 @@
 //! Writing a capture.
-ghost use Rattle.std.specs.Prelude.{◌≡◌, ◌≤◌, ◌<◌, ◌*◌, ◌^◌, length, true, Err, OnOk, OnErr};
+ghost use Rattle.std.specs.Prelude.{◌≡◌, ◌≤◌, ◌<◌, ◌*◌, ◌^◌, ◌++◌, length, true, Err, OnOk, OnErr};
 ghost use Rattle.std.specs.Io.KnownBytes.{Appends};
 ghost use Rattle.bridge_capture.specs.Sinks.{AppendsFront};
 ghost use Rattle.bridge_capture.specs.Written.{written_header, written_words, written_record};
@@ -56,14 +56,30 @@ impl Writer {
         ensures again { W.has_failed sink.old ≡ true → result ≡ Err CaptureFault.Write }
     {
         let words = head_words(done, len, octets.len() as u32);
-        match write_all(sink, &words) {
-            Ok(()) => {}
-            Err(_) => return Err(CaptureFault::Write),
+        if sink.write_both(&words, octets) {
+            return Ok(());
         }
-        match write_all(sink, octets) {
-            Ok(()) => Ok(()),
-            Err(_) => Err(CaptureFault::Write),
-        }
+        put_parts(sink, &words, octets)
+    }
+}
+
+/// Writes a record's words and then its octets, for which the sink has no room at once.
+#[cold]
+#[inline(never)]
+fn put_parts<W: ByteSink>(sink: &mut W, words: &[u8; 16], octets: &[u8]) -> Result<(), CaptureFault>
+    ensures ok { OnOk result (Appends (W.contents sink.old) (W.contents sink.new) (words.now ++ octets.now)) }
+    ensures err { OnErr result (AppendsFront (W.contents sink.old) (W.contents sink.new) (words.now ++ octets.now)) }
+    ensures only { OnErr result (result ≡ Err CaptureFault.Write) }
+    ensures fails { OnErr result (W.has_failed sink.new ≡ true) }
+    ensures again { W.has_failed sink.old ≡ true → result ≡ Err CaptureFault.Write }
+{
+    match write_all(sink, words) {
+        Ok(()) => {}
+        Err(_) => return Err(CaptureFault::Write),
+    }
+    match write_all(sink, octets) {
+        Ok(()) => Ok(()),
+        Err(_) => Err(CaptureFault::Write),
     }
 }
 

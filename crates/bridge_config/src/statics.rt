@@ -1,5 +1,6 @@
 //! Static filtering entries of a plan.
-ghost use Rattle.std.specs.Prelude.{◌≡◌, IfErr, IfOk, false, true};
+ghost use Rattle.std.specs.Prelude.{◌≡◌, ◌&&◌, nat_eq, IfErr, IfOk, false, true};
+ghost use Rattle.std.specs.Str.{bytes_eq};
 ghost use Rattle.toml.specs.View.{table_view};
 ghost use Rattle.bridge_keys.specs.declared.fault.PlanFault.TheVariants.{NoMemory};
 ghost use Rattle.bridge_keys.specs.declared.fault.Section.TheVariants as the_section;
@@ -16,13 +17,22 @@ use bridge_keys::{
 use std::alloc::Allocator;
 use toml::Table;
 
-/// Whether an entry has a VLAN and an address.
+/// Whether an entry has a VLAN and an address. The last octets of two addresses differ most often, and go first.
+#[inline(always)]
+fn is_static(entry: &StaticEntry, vid: u64, address: &[u8; 6]) -> bool
+    ensures { result ≡ (nat_eq entry.now.vid vid && bytes_eq entry.now.address address.now) }
+{
+    if entry.address[4] != address[4] || entry.address[5] != address[5] {
+        return false;
+    }
+    entry.vid as u64 == vid && entry.address == *address
+}
+
+/// Whether one of these entries has a VLAN and an address.
 fn has_static(statics: &[StaticEntry], vid: u64, address: &[u8; 6]) -> bool
     ensures { result ≡ rules.has_static statics.now vid address.now }
 {
-    statics
-        .iter()
-        .any(|s| s.vid as u64 == vid && s.address == *address)
+    statics.iter().any(|s| is_static(s, vid, address))
 }
 
 /// Whether a table has the keys of a static entry alone.

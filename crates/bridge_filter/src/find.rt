@@ -62,6 +62,31 @@ pub(crate) fn takes_priority(asked: Option<u8>, priority: u8) -> bool
     }
 }
 
+/// The row of a handle where it is found at once: handles that follow one another in the order of the filters have rows
+/// that do.
+#[inline(always)]
+fn own_row<'a, A: Allocator + Copy>(rows: &'a Rows<A>, handle: u32) -> Option<&'a Row>
+    ensures { IfSome result (λ row. lookup (nat_eq handle) rows.now.entries ≡ Some row.now) }
+{
+    let _rows = rows.len();
+    let (first, _) = rows.get_index(0)?;
+    match rows.get_index(handle.saturating_sub(*first) as usize) {
+        Some((own, row)) if *own == handle => Some(row),
+        _ => None,
+    }
+}
+
+/// The row of a handle, by its hash.
+#[inline(never)]
+fn found_row<'a, A: Allocator + Copy>(rows: &'a Rows<A>, any: &'a Row, handle: u32) -> &'a Row
+    ensures { result.now ≡ finding.row_of rows.now.entries any.now (Some handle) }
+{
+    match rows.get(&handle) {
+        Some(row) => row,
+        None => any,
+    }
+}
+
 /// The row of frames with this handle: that of the handle, or that of all other frames.
 #[inline(always)]
 pub(crate) fn row_of<'a, A: Allocator + Copy>(
@@ -73,9 +98,9 @@ pub(crate) fn row_of<'a, A: Allocator + Copy>(
 {
     match handle {
         None => any,
-        Some(handle) => match rows.get(&handle) {
+        Some(handle) => match own_row(rows, handle) {
             Some(row) => row,
-            None => any,
+            None => found_row(rows, any, handle),
         },
     }
 }

@@ -146,8 +146,8 @@ impl<A: Allocator + Copy> Police<A> {
         )
     }
 
-    /// What `pass` says of a frame whose filter was found before, with no other frame or command between that matters:
-    /// which filter a frame has never changes. It takes no memory.
+    /// What `pass` says of a frame whose filter was found by `find`. Frames and commands in between change nothing of that:
+    /// which filter a frame has stays the same. It takes no memory.
     #[inline(always)]
     pub fn pass_by(
         &mut self,

@@ -161,6 +161,7 @@ fn by_address_of<A: Allocator + Copy>(
 }
 
 /// The first entry at a port, in a VLAN, for an address.
+#[inline(always)]
 fn first_at<A: Allocator + Copy>(
     firsts: &Firsts<A>,
     port: u8,
@@ -179,6 +180,7 @@ fn first_at<A: Allocator + Copy>(
 }
 
 /// The one of two entries that stands first.
+#[inline(always)]
 fn lesser(destination: Option<First>, source: Option<First>) -> Option<First>
     ensures { result ≡ lesser destination source }
 {
@@ -198,6 +200,7 @@ fn handle_of(first: Option<First>) -> Option<u32>
 
 impl<A: Allocator + Copy> ByAddress<A> {
     /// The handle of the first entry for either address of a frame.
+    #[inline(always)]
     fn handle_of(&self, port: u8, head: &Head, vid: u16) -> Option<u32>
         ensures { (entries : List StreamEntry)
             → AreByAddress (names_vlan head.now.tag) entries self.now.destinations self.now.sources

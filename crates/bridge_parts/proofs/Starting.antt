@@ -14,5 +14,5 @@ start_is old new start c x due which = let z = (which start due.0 due.1 due.2).0
 pub moved_is : {A : Type 0} (s : Slot A) (new : State (Load A)) (start c : ℕ) (x : Item (Load A)) → new.earliest - 1 ≡ start → new ≡ started_state s.port (new.earliest - 1) c x → record s { port = new } ≡ started_slot s start c x
 moved_is {A} s new start c x k moved = ap (λ (p : State (Load A)). record s { port = p }) (moved ∙ ap (λ (n : ℕ). started_state s.port n c x) k)
 
-pub done_is : {T : Type 0} (old new : State T) (start c : ℕ) (x : Item T) (speed : Speed) (occ : ℕ) → new.earliest - 1 ≡ start → new ≡ started_state old (new.earliest - 1) c x → old.speed ≡ speed → occ ≡ occupied x.len speed → start + occ ≡ new.free
-done_is {T} old new start c x speed occ k moved same exact = ap (λ (n : ℕ). n + occ) (sym k) ∙ (ap (λ (n : ℕ). new.earliest - 1 + n) (exact ∙ ap (λ (v : Speed). occupied x.len v) (sym same)) ∙ sym (ap (λ (p : State T). p.free) moved))
+pub done_is : {T : Type 0} (old new : State T) (start c : ℕ) (x : Item T) (speed : Speed) (done : ℕ) → new.earliest - 1 ≡ start → new ≡ started_state old (new.earliest - 1) c x → old.speed ≡ speed → done ≡ new.free → done ≡ start + occupied x.len speed
+done_is {T} old new start c x speed done k moved same free = free ∙ (ap (λ (p : State T). p.free) moved ∙ (ap (λ (n : ℕ). n + occupied x.len old.speed) k ∙ ap (λ (v : Speed). start + occupied x.len v) same))

@@ -10,7 +10,7 @@ ghost use Rattle.bridge_run.specs.declared.load.Load.{Load};
 use bridge_base::{END_OF_SENDING, END_OF_TIME, LONGEST_FRAME, MOST_ARRIVALS};
 use bridge_config::PortPlan;
 use bridge_cycle::NoMemory;
-use bridge_frame::{Speed, occupation};
+use bridge_frame::Speed;
 use bridge_port::{Item, Port, Refusal};
 use bridge_run::{Load, PortCount};
 use std::alloc::Allocator;
@@ -142,7 +142,7 @@ impl<A: Allocator + Copy> Slot<A> {
         ensures length { result.item.len ≤ LONGEST_FRAME }
     {
         let (item, class) = self.port.start();
-        let done = start + occupation(item.len, self.speed);
+        let done = self.port.free();
         Begun { class, done, item }
     }
 }

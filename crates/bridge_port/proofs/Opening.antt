@@ -20,11 +20,12 @@ use Rattle.bridge_cycle.specs.declared.cyclic.TheConstants.{LONGEST_CYCLE}
 use Rattle.bridge_cycle.specs.Runs.{IsLongestRun, Allows}
 use Rattle.bridge_cycle.specs.declared.run.Run.{Run}
 use Rattle.bridge_cycle.specs.declared.run.Run.TheVariants.{Never}
-use Rattle.bridge_cycle.proofs.Changes.{soon_over}
+use Rattle.bridge_cycle.specs.declared.run.Run.TheVariants as run
+use Rattle.bridge_cycle.proofs.Changes.{opens_after, opens_before, soon_over}
 use Rattle.bridge_cycle.proofs.Fitting.{some_fits_is}
 use Rattle.bridge_cycle.proofs.Repeats.{fits_near}
 use Rattle.bridge_cycle.proofs.Lists.{list_repeats, allows_is}
-use Rattle.bridge_port.specs.Opening.{Always, AreRuns, ever, Exchanged, HasTurn, IsMade, list_ever, list_opens, One, Opening, opening_of, opens}
+use Rattle.bridge_port.specs.Opening.{Always, AreRuns, ever, Exchanged, HasRuns, HasTurn, IsMade, list_ever, list_opens, One, Opening, opening_of, opens}
 
 -- a port is open where the turn of its lists is
 pub opens_at : {A : Type 0} (e : Egress A) (c u : ℕ) → opens (opening_of (Some e)) c u ≡ opens_in (turn_at e u) c
@@ -112,6 +113,36 @@ ever_soon (Exchanged j) c n from made can =
 -- so it fits at some moment
 pub ever_fits : (list : Opening) (c n : ℕ) → IsMade list → ever list c n ≡ true → (t : ℕ) × Fits (opens list c) n t
 ever_fits list c n made can = let soon = ever_soon list c n 0 made can in (soon.0, soon.3)
+
+-- where each length fits under a list at some moment, the class is open at each moment
+list_always : (l : Cyclic ℕ) (c u : ℕ) → IsLawful l → ((n : ℕ) → list_ever l c n ≡ true) → list_opens l c u ≡ true
+list_always l c u lawful all =
+    let some = (list_ever_is l c (2 * l.cycle) lawful).0 (all (2 * l.cycle)) in
+    let repeats = list_repeats l c lawful in
+    let near = fits_near (list_opens l c) l.cycle (2 * l.cycle) some.0 u lawful.cycle_some repeats some.1 in
+    let cycle_some = lawful.cycle_some in
+    let behind = near.1 in
+    let before = near.2 in
+    sym (repeats u) ∙ near.3 (u + l.cycle) (omega (arith, before)) (omega (arith, behind, cycle_some))
+
+-- the same of the lists of a port
+pub always_open : (list : Opening) (c u : ℕ) → IsMade list → ((n : ℕ) → ever list c n ≡ true) → opens list c u ≡ true
+always_open Always c u made all = refl
+always_open (One l) c u made all = list_always l c u made all
+always_open (Exchanged j) c u made all = elim (cases_lt u j.at) [
+  | inl a ↦ opens_before j c u a ∙ list_always j.old c u made.old (λ n. (and_parts (list_ever j.old c n) (list_ever j.new c n) (all n)).0)
+  | inr b ↦ opens_after j c u b ∙ list_always j.new c u made.new (λ n. (and_parts (list_ever j.old c n) (list_ever j.new c n) (all n)).1)
+]
+
+-- a frame of a class that is always open may start at once
+pub first_at_once : (list : Opening) (runs : List Run) (c n from : ℕ) → HasRuns list runs → c < 8 → slice_index_or runs c Never ≡ run.Always → IsFirst (opens list c) n from from
+first_at_once list runs c n from has l always =
+    let all : (m : ℕ) → ever list c m ≡ true = λ m. (has.allow c l m).0 (rw always tt) in
+    record {
+      after = omega arith;
+      fits = λ u a b. always_open list c u has.made all;
+      least = λ v a b. absurd (omega (arith, a, b));
+    }
 
 -- the test of lists that are exchanged says that it fits at some moment under each
 pub exchanged_ever_is : (j : Joined ℕ) (c n : ℕ) → IsMade (Exchanged j) → (ever (Exchanged j) c n ≡ true) ↔ (((t : ℕ) × Fits (list_opens j.old c) n t) × ((t : ℕ) × Fits (list_opens j.new c) n t))

@@ -75,7 +75,7 @@ heads_gained {T} p t c j queued x fits best k l size none le calm first soon kep
     }
 
 -- an item that is queued
-pub heads_offered : {T : Type 0} (p : State T) (t c from queued : ℕ) (x : Item T) (fits others : List (Option ℕ)) (best after : Option (ℕ × ℕ)) → KeepsHeads p queued fits best → c < 8 → length fits ≡ 8 → p.earliest ≤ t → NoStartBefore p t → from ≡ max p.free t → (IsSome (slice_index_or fits c None) → (others ≡ fits) × (after ≡ best)) → (slice_index_or fits c None ≡ None → GainsHead p.list p.speed from c x.len fits others best after) → IsKept (record p { queues = queues_with None p.queues c x; earliest = t; offered = p.offered + 1 }) → KeepsHeads (record p { queues = queues_with None p.queues c x; earliest = t; offered = p.offered + 1 }) (queued + 1) others after
+pub heads_offered : {T : Type 0} (p : State T) (t c from queued : ℕ) (x : Item T) (fits others : List (Option ℕ)) (best after : Option (ℕ × ℕ)) → KeepsHeads p queued fits best → c < 8 → length fits ≡ 8 → p.earliest ≤ t → NoStartBefore p t → from ≡ max p.free t → (IsSome (slice_index_or fits c None) → (others ≡ fits) × (after ≡ best)) → (slice_index_or fits c None ≡ None → GainsHead p.list from c (occupied x.len p.speed) fits others best after) → IsKept (record p { queues = queues_with None p.queues c x; earliest = t; offered = p.offered + 1 }) → KeepsHeads (record p { queues = queues_with None p.queues c x; earliest = t; offered = p.offered + 1 }) (queued + 1) others after
 heads_offered {T} p t c from queued x fits others best after k l size le calm is behind gained kept =
     let new : State T = record p { queues = queues_with None p.queues c x; earliest = t; offered = p.offered + 1 } in
     by_option (slice_index_or fits c None)

@@ -41,10 +41,10 @@ abbrev pub sooner_of : Option (ℕ × ℕ) → Option ℕ → ℕ → Option (�
 sooner_of best None c = best
 sooner_of best (Some k) c = sooner best k c
 
--- an item of this length becomes the head of class c: its fit is kept, and the best of all
-pub record GainsHead (list : Opening) (speed : Speed) (from c len : ℕ) (old new : List (Option ℕ)) (before after : Option (ℕ × ℕ)) : Type 0 where
+-- an item that occupies the link for so many ns becomes the head of class c: its fit is kept, and the best of all
+pub record GainsHead (list : Opening) (from c occ : ℕ) (old new : List (Option ℕ)) (before after : Option (ℕ × ℕ)) : Type 0 where
   pub at : ℕ
-  pub first : IsFirst (opens list c) (occupied len speed) from at
+  pub first : IsFirst (opens list c) occ from at
   pub soon : at ≤ from + 2 * 10 ^ 9
   pub fits : new ≡ slice_set old c (Some at)
   pub best : after ≡ sooner before at c

@@ -143,7 +143,8 @@ impl<A: Allocator + Copy> Gates<A> {
         self.runs[class].allows(occ)
     }
 
-    /// The least moment from `from` on from which the class stays open for `occ` ns.
+    /// The least moment from `from` on from which the class stays open for `occ` ns: for a class that is always open `from`
+    /// itself, with no turn looked for.
     #[inline(always)]
     pub fn earliest_fit(&mut self, class: usize, occ: u64, from: u64) -> u64
         requires class { class < 8 }
@@ -154,6 +155,9 @@ impl<A: Allocator + Copy> Gates<A> {
         ensures soon { result ≤ from + 2_000_000_000 }
         ensures same { self.new ≡ self.old }
     {
+        if let Run::Always = self.runs[class] {
+            return from;
+        }
         match &self.list {
             None => from,
             Some(list) => {

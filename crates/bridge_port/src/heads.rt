@@ -1,6 +1,5 @@
 //! When the heads of a port may start, and which starts next.
 ghost use Rattle.std.specs.Prelude.{◌≡◌, ◌+◌, ◌<◌, ◌≤◌, ℕ, false, true, None, IsSome, [], vec_len, slice_index_or, slice_set};
-ghost use Rattle.bridge_frame.specs.Link.{occupied};
 ghost use Rattle.bridge_port.specs.Opening.{ever};
 ghost use Rattle.bridge_port.specs.Rings.{queues_of};
 ghost use Rattle.bridge_port.specs.Standing.{AllStartable};
@@ -9,7 +8,6 @@ ghost use Rattle.bridge_port.specs.Heads as heads;
 use crate::gates::Gates;
 use crate::item::Item;
 use crate::queues::head;
-use bridge_base::LONGEST_FRAME;
 use bridge_frame::{Speed, occupation};
 use circular_buffer::HeapCircularBuffer;
 use std::alloc::Allocator;
@@ -125,31 +123,29 @@ pub fn renew<T: Drop, A: Allocator + Copy>(
     best
 }
 
-/// Keeps the fit from `from` on of an item of `len` octets that comes to the queue of a class, where it is the head there,
-/// and gives the best of all.
+/// Keeps the fit from `from` on of an item that occupies the link for `occ` ns and comes to the queue of a class, where it
+/// is the head there, and gives the best of all.
 #[inline(always)]
 pub fn with_item<A: Allocator + Copy>(
     fits: &mut [Option<u64>; 8],
     best: Option<(u64, usize)>,
     gates: &mut Gates<A>,
-    speed: Speed,
     class: usize,
-    len: u32,
+    occ: u64,
     from: u64,
 ) -> Option<(u64, usize)>
     requires class { class < 8 }
     requires from { from < 9_000_000_000_000_000_000 }
-    requires length { len ≤ LONGEST_FRAME }
-    requires ever { ever gates.old class (occupied len speed) ≡ true }
+    requires occ { occ ≤ 1_000_000_000 }
+    requires ever { ever gates.old class occ ≡ true }
     ensures behind { IsSome (slice_index_or fits.old class None) → (fits.new ≡ fits.old) × (result ≡ best) }
     ensures gained { slice_index_or fits.old class None ≡ None
-        → heads.GainsHead gates.old speed from class len fits.old fits.new best result }
+        → heads.GainsHead gates.old from class occ fits.old fits.new best result }
     ensures same { gates.new ≡ gates.old }
 {
     match fits[class] {
         Some(_) => best,
         None => {
-            let occ = occupation(len, speed);
             let fit = gates.earliest_fit(class, occ, from);
             fits[class] = Some(fit);
             sooner(best, fit, class)

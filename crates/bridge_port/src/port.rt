@@ -47,6 +47,7 @@ impl<T: Drop, A: Allocator + Copy> Model for Port<T, A> {
 }
 
 impl<T: Drop, A: Allocator + Copy> Port<T, A> {
+    ghost use Rattle.bridge_frame.specs.Link.{occupied};
     ghost use Rattle.bridge_port.specs.declared.item.Item.{Item};
     ghost use Rattle.bridge_port.specs.Schedule.{Copy, IsLawful};
     ghost use Rattle.bridge_port.specs.Opening.{are_rooms, opening_of};
@@ -84,12 +85,12 @@ impl<T: Drop, A: Allocator + Copy> Port<T, A> {
         })
     }
 
-    /// Why an item would be refused now.
-    fn refusal(&self, class: usize, len: u32) -> Option<Refusal>
+    /// Why an item that occupies the link for `occ` ns would be refused now.
+    fn refusal(&self, class: usize, occ: u64) -> Option<Refusal>
         requires { class < 8 }
-        ensures { (x : Item T) → x.len ≡ len → result ≡ refusal_of self.now class x }
+        ensures { (x : Item T) → occ ≡ occupied x.len self.now.speed → result ≡ refusal_of self.now class x }
     {
-        if !self.gates.can_fit(class, occupation(len, self.speed)) {
+        if !self.gates.can_fit(class, occ) {
             Some(Refusal::NeverFits)
         } else if is_full(&self.rings, class) {
             Some(Refusal::Full)
@@ -116,22 +117,15 @@ impl<T: Drop, A: Allocator + Copy> Port<T, A> {
             → count_queued f self.new ≡ (if is_none (refusal_of self.old class item) && f item then 1 else 0) + count_queued f self.old }
     {
         let class = class as usize;
-        let refusal = self.refusal(class, item.len);
+        let occ = occupation(item.len, self.speed);
+        let refusal = self.refusal(class, occ);
         self.earliest = t;
         self.offered += 1;
         match refusal {
             Some(refusal) => Err((item, refusal)),
             None => {
                 let from = self.free.max(t);
-                self.best = with_item(
-                    &mut self.fits,
-                    self.best,
-                    &mut self.gates,
-                    self.speed,
-                    class,
-                    item.len,
-                    from,
-                );
+                self.best = with_item(&mut self.fits, self.best, &mut self.gates, class, occ, from);
                 push_at(&mut self.rings, class, item);
                 self.queued += 1;
                 Ok(())
@@ -196,7 +190,6 @@ impl<T: Drop, A: Allocator + Copy> Port<T, A> {
                         self.earliest = k + 1;
                         self.started += 1;
                         self.queued -= 1;
-                        let from = self.free.max(self.earliest);
                         self.best = renew_left(
                             &mut self.fits,
                             &mut self.gates,
@@ -204,7 +197,7 @@ impl<T: Drop, A: Allocator + Copy> Port<T, A> {
                             &self.rings,
                             class,
                             self.queued,
-                            from,
+                            self.free,
                         );
                         (item, class as u8)
                     }
@@ -238,5 +231,13 @@ impl<T: Drop, A: Allocator + Copy> Port<T, A> {
         ensures link { self.now.free ≤ limit self.now.started }
     {
         self.earliest
+    }
+
+    /// The moment in ns from which the link is free: that at which the frame that started last is done, 0 before any.
+    pub fn free(&self) -> u64
+        ensures free { result ≡ self.now.free }
+        ensures bounded { result ≤ limit self.now.started }
+    {
+        self.free
     }
 }

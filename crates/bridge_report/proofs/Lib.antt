@@ -1,4 +1,5 @@
 mod Digits
 mod Frames
+mod Fronts
 pub mod Puts
 pub mod Same

@@ -4,6 +4,7 @@ ghost use Rattle.std.specs.Io.KnownBytes.{Keeps, append_known};
 ghost use Rattle.bridge_report.specs.Growth.{GrowsOnOk};
 
 use crate::fault::ReportFault;
+use crate::line::Line;
 use crate::text::Text;
 use itoa::write_digits;
 use std::alloc::Allocator;
@@ -111,5 +112,12 @@ impl<W: Write + Drop, A: Allocator> Text for Held<W, A> {
         self.make_room(piece.len() + LONGEST)?;
         extend(&mut self.octets, piece.as_bytes())?;
         extend_by_number(&mut self.octets, number)
+    }
+
+    #[inline(always)]
+    fn put_line(&mut self, line: &Line) -> Result<(), ReportFault> {
+        let octets = line.octets();
+        self.make_room(octets.len())?;
+        extend(&mut self.octets, octets)
     }
 }

@@ -4,6 +4,7 @@
 mod fault;
 mod held;
 mod laws;
+mod line;
 mod lines;
 mod lists;
 mod sections;

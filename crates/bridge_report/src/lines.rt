@@ -4,6 +4,7 @@ ghost use Rattle.bridge_report.specs.Growth.{GrowsOnOk};
 ghost use Rattle.bridge_report.specs.Section.{bucket_line, counter_lines, delay_line, drop_line, each_flag, flag_named, flags_line, frame_line, full_in, header_line, matching_line, never_in, out_line, queued_line, red_line, tested_line};
 
 use crate::fault::ReportFault;
+use crate::line::Line;
 use crate::text::{Text, put_wide};
 use crate::word::{flag_word, kind_word, refusal_word, verdict_word};
 use bridge_filter::{Counters, Flags, Verdict};
@@ -163,10 +164,11 @@ pub fn put_delay<T: Text>(text: &mut T, delay: Option<u64>) -> Result<(), Report
 pub fn put_frame<T: Text>(text: &mut T, number: usize, verdict: Verdict) -> Result<(), ReportFault>
     ensures { GrowsOnOk T.contents text.old result (frame_line number verdict) text.new }
 {
-    text.put_number("frame ", number as u64)?;
-    text.put(" ")?;
-    text.put(verdict_word(verdict))?;
-    text.put("\n")
+    let mut line = Line::ending("\n");
+    line.put(verdict_word(verdict));
+    line.put(" ");
+    line.put_number("frame ", number as u64);
+    text.put_line(&line)
 }
 
 /// Puts a copy that was dropped.
@@ -191,9 +193,10 @@ pub fn put_out<T: Text>(text: &mut T, departure: &Departure) -> Result<(), Repor
         start,
         done,
     } = *departure;
-    text.put_number("out ", own)?;
-    text.put_number(" port ", u64::from(port))?;
-    text.put_number(" start ", start)?;
-    text.put_number(" done ", done)?;
-    text.put("\n")
+    let mut line = Line::ending("\n");
+    line.put_number(" done ", done);
+    line.put_number(" start ", start);
+    line.put_number(" port ", u64::from(port));
+    line.put_number("out ", own);
+    text.put_line(&line)
 }

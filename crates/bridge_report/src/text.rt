@@ -3,6 +3,7 @@ ghost use Rattle.std.specs.Prelude.{ℕ, ◌++◌, List, Option, Some, decimal, 
 ghost use Rattle.bridge_report.specs.Growth.{GrowsOnOk};
 
 use crate::fault::ReportFault;
+use crate::line::Line;
 use itoa::{Buffer, Integer};
 use std::alloc::Allocator;
 
@@ -17,6 +18,10 @@ pub trait Text {
     /// Puts a number behind a piece.
     fn put_number(&mut self, piece: &str, number: u64) -> Result<(), ReportFault>
         ensures { GrowsOnOk contents self.old result (piece.now ++ decimal number) self.new };
+
+    /// Puts a line at the end.
+    fn put_line(&mut self, line: &Line) -> Result<(), ReportFault>
+        ensures { GrowsOnOk contents self.old result line.now self.new };
 }
 
 /// Puts a number of any width behind a piece.
@@ -46,5 +51,9 @@ impl<A: Allocator> Text for String<A> {
         let mut digits = Buffer::new();
         self.put(piece)?;
         self.put(digits.format(number))
+    }
+
+    fn put_line(&mut self, line: &Line) -> Result<(), ReportFault> {
+        self.put(line.text())
     }
 }

@@ -1,5 +1,5 @@
 //! The words of a report.
-ghost use Rattle.std.specs.Prelude.{◌≡◌};
+ghost use Rattle.std.specs.Prelude.{◌≡◌, ◌≤◌, length};
 ghost use Rattle.bridge_report.specs.Words.{flag_word, kind_word, refusal_word, verdict_word};
 
 use bridge_filter::Verdict;
@@ -21,7 +21,8 @@ pub fn flag_word(flag: bool) -> &'static str
 
 /// What became of a frame.
 pub fn verdict_word(verdict: Verdict) -> &'static str
-    ensures { result.now ≡ verdict_word verdict }
+    ensures word { result.now ≡ verdict_word verdict }
+    ensures short { length result.now ≤ 15 }
 {
     match verdict {
         Verdict::Blocked => "blocked",

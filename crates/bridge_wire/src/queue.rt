@@ -42,7 +42,7 @@ fn take<W: ByteSink, A: Allocator + Copy>(
     ensures only { OnErr result (result ≡ Err (RunFault.Write 1)) }
     ensures fails { OnErr result (W.has_failed sink.new ≡ true) }
 {
-    if let Err(fault) = depart_before(packet.time, speed, port, writer, sink, spares) {
+    if let Err(fault) = depart_before(packet.time, port, writer, sink, spares) {
         return Err(fault);
     }
     count.frames += 1;
@@ -141,7 +141,7 @@ fn run_through<R: ByteSource, W: ByteSink, A: Allocator + Copy>(
             return Err(fault);
         }
     }
-    if let Err(fault) = depart_before(u64::MAX, speed, port, writer, sink, spares) {
+    if let Err(fault) = depart_before(u64::MAX, port, writer, sink, spares) {
         return Err(fault);
     }
     Ok(count)

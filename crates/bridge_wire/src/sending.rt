@@ -6,7 +6,6 @@ ghost use Rattle.bridge_wire.specs.Wire.{Offer};
 ghost use Rattle.bridge_wire.specs.Sending.{Goes, is_overlong, NotBefore, Sends};
 
 use bridge_capture::{ByteSink, Writer};
-use bridge_frame::{Speed, occupation};
 use bridge_lanes::{RunFault, Spares};
 use bridge_port::{Item, Port};
 use std::alloc::Allocator;
@@ -14,14 +13,12 @@ use std::alloc::Allocator;
 /// Makes the next start, and writes the frame with the moment at which it was done. Its octets are spare then.
 #[inline(always)]
 pub fn depart<W: ByteSink, A: Allocator + Copy>(
-    speed: Speed,
     port: &mut Port<Vec<u8, A>, A>,
     writer: &mut Writer,
     sink: &mut W,
     spares: &mut Spares<A>,
 ) -> Result<(), RunFault>
     requires due { (k : ℕ) × IsDue port.old (Some k) }
-    requires speed { port.old.speed ≡ speed }
     requires within { count_queued is_overlong port.old ≡ 0 }
     ensures goes { (offers : List Offer) (sent full : ℕ) (left : List Captured) → Sends port.old offers sent full left → Goes port.new offers sent full left (W.contents sink.old) (W.contents sink.new) result }
     ensures same { (port.new.list ≡ port.old.list) × (port.new.speed ≡ port.old.speed) × (port.new.rooms ≡ port.old.rooms) × (port.new.offered ≡ port.old.offered) }
@@ -33,7 +30,7 @@ pub fn depart<W: ByteSink, A: Allocator + Copy>(
     ensures fails { OnErr result (W.has_failed sink.new ≡ true) }
 {
     let (item, _) = port.start();
-    let done = port.earliest() - 1 + occupation(item.len, speed);
+    let done = port.free();
     let Item { len, load } = item;
     let answer = writer.put(sink, done, len, &load);
     spares.put(load);
@@ -47,13 +44,11 @@ pub fn depart<W: ByteSink, A: Allocator + Copy>(
 #[inline(always)]
 pub fn depart_before<W: ByteSink, A: Allocator + Copy>(
     t: u64,
-    speed: Speed,
     port: &mut Port<Vec<u8, A>, A>,
     writer: &mut Writer,
     sink: &mut W,
     spares: &mut Spares<A>,
 ) -> Result<(), RunFault>
-    requires speed { port.old.speed ≡ speed }
     requires within { count_queued is_overlong port.old ≡ 0 }
     ensures goes { (offers : List Offer) (sent full : ℕ) (left : List Captured) → Sends port.old offers sent full left → Goes port.new offers sent full left (W.contents sink.old) (W.contents sink.new) result }
     ensures same { (port.new.list ≡ port.old.list) × (port.new.speed ≡ port.old.speed) × (port.new.rooms ≡ port.old.rooms) × (port.new.offered ≡ port.old.offered) }
@@ -69,7 +64,7 @@ pub fn depart_before<W: ByteSink, A: Allocator + Copy>(
         if k >= t {
             return Ok(());
         }
-        depart(speed, port, writer, sink, spares)?;
+        depart(port, writer, sink, spares)?;
     }
     Ok(())
 }

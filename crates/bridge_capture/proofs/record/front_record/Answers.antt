@@ -1,69 +1,22 @@
-use Rattle.std.proofs.Common.{rules, arith, Some, None, ◌∙◌, inl, subst, take, take_all}
+use Rattle.std.proofs.Common.{rules, arith, ◌≡◌, ◌+◌, take, slice_range, sym, subst, length-take-le}
 use Rattle.std.specs.Io.KnownBytes.{Consumes}
-use Rattle.std.proofs.lemmas.List.{length-take}
 use Rattle.bridge_capture.specs.Grammar.{Place}
-use Rattle.bridge_capture.proofs.Fronts.{ended, too_many, cut_words, words_refused, octets_refused, whole_record, head_is}
-use Rattle.bridge_capture.proofs.Taken.{octets_taken, words_taken}
+use Rattle.bridge_capture.proofs.Fronts.{whole_at_once}
 use Rattle.bridge_capture.proofs.record.front_record.Goals as goal
 
-pub returns-in-Ok-clause-record : goal.returns-in-Ok-clause-record
-returns-in-Ok-clause-record g c = too_many _ _ _ _ _ (omega (arith, length-take c.in-Ok.count c.fill.new.buf, c.if-count-gt0.true, c.in-Ok.ensures.count)) (search rules) c.in-Ok.ensures.bytes
+pub returns-then-is_err-clause-taken : goal.returns-then-is_err-clause-taken
+returns-then-is_err-clause-taken g c =
+    let lent = c.lent-lent.result.now in
+    let left = g.R.ByteSource.remaining in
+    (take 16 lent, length-take-le 16 lent (omega (arith, c.in-Some.ensures.whole)), c.in-Some.ensures.sound, subst (λ l. Consumes (left c.args.source.now) (left c.skip.new.self) (take 16 l)) (sym c.lent-lent.ensures.lent) c.skip.ensures.bytes)
 
-pub returns-in-Ok-2-clause-record : goal.returns-in-Ok-2-clause-record
-returns-in-Ok-2-clause-record g c = ended _ _ _ _ _ (search rules) c.in-Ok-2.ensures.bytes (c.in-Ok-2.ensures.end (search rules))
-
-pub returns-then-count-eq0-clause-record : goal.returns-then-count-eq0-clause-record
-returns-then-count-eq0-clause-record g c = ended _ _ _ _ _ (search rules) c.in-Ok-fill.ensures.bytes (c.in-Ok-fill.ensures.end (search rules))
-
-pub returns-then-count-lt16-clause-record : goal.returns-then-count-lt16-clause-record
-returns-then-count-lt16-clause-record g c =
-    let held = length-take c.in-Ok-fill.count c.fill-2.new.buf in
-    cut_words _ _ _ _ _ (omega (arith, held, c.in-Ok-fill.ensures.count)) (omega (arith, held)) (search rules) c.in-Ok-fill.ensures.bytes (c.in-Ok-fill.ensures.end (omega (arith, c.in-Ok-fill.ensures.count)))
-
-pub returns-in-Err-judge_head-clause-record : goal.returns-in-Err-judge_head-clause-record
-returns-in-Err-judge_head-clause-record g c =
+pub returns-clause-record : goal.returns-clause-record
+returns-clause-record g c =
     let place : Place = record { number = c.args.number; earliest = c.args.earliest } in
-    let words = c.fill-2.new.buf in
-    let full = subst (Consumes _ _) (take_all c.in-Ok-fill.count words (omega (arith, c.in-Ok-fill.ensures.count))) c.in-Ok-fill.ensures.bytes in
-    let head = c.head_of-head.ensures in
-    let fault = head_is place _ _ _ _ _ _ (Some c.in-Err-judge_head.fault) head.time head.captured head.original c.in-Err-judge_head.ensures.judged in
-    words_refused _ _ c.args.form place words c.in-Err-judge_head.fault (search rules) (search rules) fault full
-
-pub returns-in-Ok-take_octets-clause-record : goal.returns-in-Ok-take_octets-clause-record
-returns-in-Ok-take_octets-clause-record g c =
-    let place : Place = record { number = c.args.number; earliest = c.args.earliest } in
-    let words = c.fill-2.new.buf in
-    let full = subst (Consumes _ _) (take_all c.in-Ok-fill.count words (omega (arith, c.in-Ok-fill.ensures.count))) c.in-Ok-fill.ensures.bytes in
-    let head = c.head_of-head.ensures in
-    let sound = head_is place _ _ _ _ _ _ None head.time head.captured head.original c.in_default.ensures.judged in
-    let took = c.in-Ok-take_octets.ensures.octets in
-    rw (head.time, head.original) (whole_record _ _ _ c.args.form place words c.take_octets.new.octets.items (search rules) (search rules) sound full took.1 (took.0 ∙ head.captured))
-
-pub returns-in-Err-take_octets-clause-record : goal.returns-in-Err-take_octets-clause-record
-returns-in-Err-take_octets-clause-record g c =
-    let place : Place = record { number = c.args.number; earliest = c.args.earliest } in
-    let words = c.fill-2.new.buf in
-    let full = subst (Consumes _ _) (take_all c.in-Ok-fill.count words (omega (arith, c.in-Ok-fill.ensures.count))) c.in-Ok-fill.ensures.bytes in
-    let head = c.head_of-head.ensures in
-    let sound = head_is place _ _ _ _ _ _ None head.time head.captured head.original c.in_default.ensures.judged in
-    octets_refused _ _ _ c.args.form place words c.in-Err-take_octets.fault (search rules) (search rules) sound full (rw head.captured at c.in-Err-take_octets.ensures.octets)
-
-pub returns-in-Err-take_octets-clause-taken : goal.returns-in-Err-take_octets-clause-taken
-returns-in-Err-take_octets-clause-taken g c =
-    let place : Place = record { number = c.args.number; earliest = c.args.earliest } in
-    let words = c.fill-2.new.buf in
-    let full = subst (Consumes _ _) (take_all c.in-Ok-fill.count words (omega (arith, c.in-Ok-fill.ensures.count))) c.in-Ok-fill.ensures.bytes in
-    let head = c.head_of-head.ensures in
-    let sound = head_is place _ _ _ _ _ _ None head.time head.captured head.original c.in_default.ensures.judged in
-    octets_taken c.args.form place _ _ _ words c.in-Err-take_octets.fault (search rules) (search rules) sound full (rw head.captured at c.in-Err-take_octets.ensures.octets)
-
-pub returns-then-count-lt16-clause-taken : goal.returns-then-count-lt16-clause-taken
-returns-then-count-lt16-clause-taken g c =
-    (take c.in-Ok-fill.count c.fill-2.new.buf, inl (omega (arith, length-take c.in-Ok-fill.count c.fill-2.new.buf, c.if-count-lt16.true)), c.in-Ok-fill.ensures.bytes)
-
-pub returns-in-Err-judge_head-clause-taken : goal.returns-in-Err-judge_head-clause-taken
-returns-in-Err-judge_head-clause-taken g c =
-    let place : Place = record { number = c.args.number; earliest = c.args.earliest } in
-    let words = c.fill-2.new.buf in
-    let full = subst (Consumes _ _) (take_all c.in-Ok-fill.count words (omega (arith, c.in-Ok-fill.ensures.count))) c.in-Ok-fill.ensures.bytes in
-    words_taken c.args.form place _ _ words c.in-Err-judge_head.fault c.in-Err-judge_head.ensures.only (search rules) full
+    let lent = c.lent-lent.result.now in
+    let left = g.R.ByteSource.remaining in
+    let head = c.in-Some.ensures in
+    let end = 16 + c.in-Some.head.captured in
+    let octets : c.extend_from_slice.new.self.items ≡ slice_range lent 16 end = search rules in
+    let gone = subst (λ l. Consumes (left c.args.source.now) (left c.skip-2.new.self) (take end l)) (sym c.lent-lent.ensures.lent) c.skip-2.ensures.bytes in
+    rw (head.time, head.original, octets) (whole_at_once _ _ c.args.form place lent end head.few head.whole (omega (arith, head.captured)) head.sound gone)

@@ -88,11 +88,8 @@ loop-packet-preserved g c =
           e.goes room text u.frames began stands gave u.running;
     }
 
-pub depart_before-requires-clause-speed : goal.depart_before-requires-clause-speed
-depart_before-requires-clause-speed g c = c.loop-packet.invariant.speed
-
-pub depart_before-requires-clause-within : goal.depart_before-requires-clause-within
-depart_before-requires-clause-within g c = c.loop-packet.invariant.within
+pub depart_before-requires : goal.depart_before-requires
+depart_before-requires g c = record { within = c.loop-packet.invariant.within }
 
 pub returns-in-Err-depart_before-clause-ends : goal.returns-in-Err-depart_before-clause-ends
 returns-in-Err-depart_before-clause-ends g c = λ room text began start.

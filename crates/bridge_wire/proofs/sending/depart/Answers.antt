@@ -1,6 +1,5 @@
 use Rattle.std.proofs.Common.{false, length, ◌≡◌, ◌+◌, ◌-◌, ap, sym, ◌∙◌, subst, append-nil, arith, [], ◌∷◌, ◌++◌}
 use Rattle.std.specs.Io.KnownBytes.{Appends}
-use Rattle.bridge_frame.specs.Link.{occupied}
 use Rattle.bridge_capture.specs.Written.{written_record, written_item}
 use Rattle.bridge_capture.specs.Sinks.{AppendsFront}
 use Rattle.bridge_wire.specs.Wire.{departure, IsShort}
@@ -19,8 +18,8 @@ returns-in-Ok-clause-goes g c = λ offers sent full left s.
     let octets = c.deref.result.now in
     let whole : is_overlong x ≡ false = within_of (is_overlong x) (count_queued is_overlong c.start-item.new.self) (count_queued is_overlong c.args.port.now) (e.counts is_overlong) c.requires.within in
     let short : IsShort d = (e.length, ltb-false x.len (length x.load.items) whole) in
-    let done : c.earliest.result - 1 + c.occupation.result ≡ d.time = ap (λ n. n - 1 + c.occupation.result) c.earliest.ensures.earliest ∙ ap (λ n. k + n) (c.occupation.ensures.exact ∙ ap (occupied x.len) (sym c.requires.speed)) in
-    let text : written_record (c.earliest.result - 1 + c.occupation.result) x.len octets ≡ written_item d ++ [] = ap (λ n. written_record n x.len octets) done ∙ (ap (written_record d.time x.len) c.deref.ensures.value ∙ sym (append-nil (written_item d))) in
+    let done : c.free-done.result ≡ d.time = c.free-done.ensures.free ∙ ap (λ s. s.free) e.moved in
+    let text : written_record c.free-done.result x.len octets ≡ written_item d ++ [] = ap (λ n. written_record n x.len octets) done ∙ (ap (written_record d.time x.len) c.deref.ensures.value ∙ sym (append-nil (written_item d))) in
     (d ∷ [], sends_start c.args.port.now c.start-item.new.self k c.start-item.result.1 x e.next e.moved e.stands short offers sent full left s, subst (Appends _ _) text c.in-Ok.ensures.ok)
 
 pub returns-in-Err-clause-goes : goal.returns-in-Err-clause-goes
@@ -32,8 +31,8 @@ returns-in-Err-clause-goes g c = λ offers sent full left s.
     let octets = c.deref.result.now in
     let whole : is_overlong x ≡ false = within_of (is_overlong x) (count_queued is_overlong c.start-item.new.self) (count_queued is_overlong c.args.port.now) (e.counts is_overlong) c.requires.within in
     let short : IsShort d = (e.length, ltb-false x.len (length x.load.items) whole) in
-    let done : c.earliest.result - 1 + c.occupation.result ≡ d.time = ap (λ n. n - 1 + c.occupation.result) c.earliest.ensures.earliest ∙ ap (λ n. k + n) (c.occupation.ensures.exact ∙ ap (occupied x.len) (sym c.requires.speed)) in
-    let text : written_record (c.earliest.result - 1 + c.occupation.result) x.len octets ≡ written_item d ++ [] = ap (λ n. written_record n x.len octets) done ∙ (ap (written_record d.time x.len) c.deref.ensures.value ∙ sym (append-nil (written_item d))) in
+    let done : c.free-done.result ≡ d.time = c.free-done.ensures.free ∙ ap (λ s. s.free) e.moved in
+    let text : written_record c.free-done.result x.len octets ≡ written_item d ++ [] = ap (λ n. written_record n x.len octets) done ∙ (ap (written_record d.time x.len) c.deref.ensures.value ∙ sym (append-nil (written_item d))) in
     (d ∷ [], sends_start c.args.port.now c.start-item.new.self k c.start-item.result.1 x e.next e.moved e.stands short offers sent full left s, subst (AppendsFront _ _) text c.in-Err.ensures.err)
 
 pub returns-in-Ok-clause-moment : goal.returns-in-Ok-clause-moment

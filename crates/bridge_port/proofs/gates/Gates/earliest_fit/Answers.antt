@@ -1,8 +1,18 @@
 use Rattle.std.proofs.Common.{sym, Some, ◌≡◌, subst, ◌∙◌, ap}
+use Rattle.std.specs.Prelude.{slice_index_or}
 use Rattle.bridge_cycle.specs.Moments.{Fits, IsFirst}
+use Rattle.bridge_cycle.specs.declared.run.Run.TheVariants.{Never}
+use Rattle.bridge_cycle.specs.declared.run.Run.TheVariants as run
 use Rattle.bridge_port.specs.Opening.{KeepsTurn, Opening, opening_of, opens, IsMade}
-use Rattle.bridge_port.proofs.Opening.{ever_soon, first_at, first_soon, fits_at, made_is}
+use Rattle.bridge_port.proofs.Opening.{ever_soon, first_at, first_at_once, first_soon, fits_at, made_is}
 use Rattle.bridge_port.proofs.gates.Gates.earliest_fit.Goals as goal
+
+pub returns-in-Always-clause-first : goal.returns-in-Always-clause-first
+returns-in-Always-clause-first g c =
+    let is = c.in-Always.is in
+    let always : slice_index_or c.self.inside.runs c.args.class Never ≡ run.Always = cc in
+    let first = first_at_once (opening_of c.self.inside.list) c.self.inside.runs c.args.class c.args.occ c.args.from c.self.invariant.runs c.requires.class always in
+    subst (λ (o : Opening). IsFirst (opens o c.args.class) c.args.occ c.args.from c.args.from) c.self.view_is first
 
 pub turn_of-turn-requires : goal.turn_of-turn-requires
 turn_of-turn-requires g c = record {

@@ -1,6 +1,7 @@
-use Rattle.std.proofs.Common.{◌≡◌, sym, None, subst, rules, ◌<◌, ◌≤◌, refl}
+use Rattle.std.proofs.Common.{◌≡◌, sym, None, subst, rules, ◌<◌, ◌≤◌}
 use Rattle.std.specs.Prelude.{length, slice_index_or}
 use Rattle.bridge_base.specs.declared.TheConstants.{MOST_ARRIVALS}
+use Rattle.bridge_frame.specs.Link.{occupied}
 use Rattle.bridge_port.specs.Standing.{State, state, refusal_of, IsKept, queue_of, NoStartBefore}
 use Rattle.bridge_port.proofs.Keeping.{admitted, kept_offered, offered_stands, offered_counts}
 use Rattle.bridge_port.proofs.Renewing.{heads_offered, heads_refused}
@@ -8,22 +9,27 @@ use Rattle.bridge_port.proofs.port.Port.offer.Goals as goal
 
 pub push_at-requires-clause-room : goal.push_at-requires-clause-room
 push_at-requires-clause-room g c =
+    let S : State _ → Type 0 = λ q. c.occupation-occ.result ≡ occupied c.args.item.len q.speed in
+    let exact : c.occupation-occ.result ≡ occupied c.args.item.len c.args.self.now.speed = subst S c.self.view_is c.occupation-occ.ensures.exact in
     let P : State _ → Type 0 = λ q. length (queue_of q c.args.class) < slice_index_or q.rooms c.args.class 0 in
-    subst P (sym c.self.view_is) (admitted c.args.self.now c.args.class c.args.item (sym (c.in-None.ensures c.args.item refl))).1
+    subst P (sym c.self.view_is) (admitted c.args.self.now c.args.class c.args.item (sym (c.in-None.ensures c.args.item exact))).1
 
 pub invariant_of-self-in-None : goal.invariant_of-self-in-None
 invariant_of-self-in-None g c =
+    let S : State _ → Type 0 = λ q. c.occupation-occ.result ≡ occupied c.args.item.len q.speed in
+    let exact : c.occupation-occ.result ≡ occupied c.args.item.len c.args.self.now.speed = subst S c.self.view_is c.occupation-occ.ensures.exact in
     let f = c.self.inside in
     let p = state f.speed f.gates f.rings.items f.free f.earliest f.offered f.started in
     let P : State _ → Type 0 = λ q. refusal_of q c.args.class c.args.item ≡ None in
-    let none : refusal_of p c.args.class c.args.item ≡ None = subst P (sym c.self.view_is) (sym (c.in-None.ensures c.args.item refl)) in
+    let none : refusal_of p c.args.class c.args.item ≡ None = subst P (sym c.self.view_is) (sym (c.in-None.ensures c.args.item exact)) in
     let Q : State _ → Type 0 = λ q. q.offered < MOST_ARRIVALS in
     let kept = kept_offered p c.args.t c.args.class c.args.item c.self.invariant.kept c.requires.class none c.requires.length c.requires.time.1 (subst Q (sym c.self.view_is) c.requires.few) in
     let E : State _ → Type 0 = λ q. q.earliest ≤ c.args.t in
     let N : State _ → Type 0 = λ q. NoStartBefore q c.args.t in
     let later : p.earliest ≤ c.args.t = subst E (sym c.self.view_is) c.requires.time.0 in
     let calm : NoStartBefore p c.args.t = subst N (sym c.self.view_is) c.requires.not_late in
-    rw (c.with_item-self-inside.ensures.same, c.push_at.ensures.queues, c.push_at.ensures.rooms) (heads_offered p c.args.t c.args.class c.max-from.result f.queued c.args.item f.fits c.with_item-self-inside.new.fits f.best c.with_item-self-inside.result c.self.invariant c.requires.class (search rules) later calm c.max-from.ensures c.with_item-self-inside.ensures.behind c.with_item-self-inside.ensures.gained kept)
+    let gained = rw c.occupation-occ.ensures.exact at c.with_item-self-inside.ensures.gained in
+    rw (c.with_item-self-inside.ensures.same, c.push_at.ensures.queues, c.push_at.ensures.rooms) (heads_offered p c.args.t c.args.class c.max-from.result f.queued c.args.item f.fits c.with_item-self-inside.new.fits f.best c.with_item-self-inside.result c.self.invariant c.requires.class (search rules) later calm c.max-from.ensures c.with_item-self-inside.ensures.behind gained kept)
 
 pub invariant_of-self : goal.invariant_of-self
 invariant_of-self g c =
@@ -52,5 +58,7 @@ returns-in-None-clause-stands g c =
 
 pub returns-in-None-clause-counts : goal.returns-in-None-clause-counts
 returns-in-None-clause-counts g c =
+    let S : State _ → Type 0 = λ q. c.occupation-occ.result ≡ occupied c.args.item.len q.speed in
+    let exact : c.occupation-occ.result ≡ occupied c.args.item.len c.args.self.now.speed = subst S c.self.view_is c.occupation-occ.ensures.exact in
     let kept : IsKept c.args.self.now = subst IsKept c.self.view_is c.self.invariant.kept in
-    offered_counts c.args.self.now _ c.args.t c.args.class c.args.item kept (returns-in-None-clause-moved g c) (sym (c.in-None.ensures c.args.item refl)) c.requires.class
+    offered_counts c.args.self.now _ c.args.t c.args.class c.args.item kept (returns-in-None-clause-moved g c) (sym (c.in-None.ensures c.args.item exact)) c.requires.class

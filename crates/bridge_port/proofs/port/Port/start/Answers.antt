@@ -14,7 +14,8 @@ renew_left-self-inside-requires-clause-kept g c =
     let fit = next_fit p c.in-Some.k c.in-Some.class starts.item f.fits c.self.invariant.are_fits starts.next in
     let after = starts.next.after in
     let free = starts.next.free in
-    rw c.pop_at-taken.ensures.queues (fits_started p c.in-Some.k c.in-Some.class f.fits c.max-from.result c.self.invariant.are_fits fit (omega arith) (omega arith))
+    let some = c.occupation-occ.ensures.some in
+    rw c.pop_at-taken.ensures.queues (fits_started p c.in-Some.k c.in-Some.class f.fits _ c.self.invariant.are_fits fit (omega arith) (omega arith))
 
 pub renew_left-self-inside-requires-clause-none : goal.renew_left-self-inside-requires-clause-none
 renew_left-self-inside-requires-clause-none g c =
@@ -22,7 +23,7 @@ renew_left-self-inside-requires-clause-none g c =
     let p = state f.speed f.gates f.rings.items f.free f.earliest f.offered f.started in
     let S : State _ → Type 0 = λ q. StartsNext q c.in-Some.k c.in-Some.class in
     let starts : StartsNext p c.in-Some.k c.in-Some.class = subst S (sym c.self.view_is) c.in-Some.ensures.next in
-    λ none. rw c.pop_at-taken.ensures.queues (fits_empty p c.in-Some.class c.max-from.result f.fits c.self.invariant.are_fits (search rules) (emptied p c.in-Some.k c.in-Some.class f.queued c.self.invariant.all starts none))
+    λ none. rw c.pop_at-taken.ensures.queues (fits_empty p c.in-Some.class _ f.fits c.self.invariant.are_fits (search rules) (emptied p c.in-Some.k c.in-Some.class f.queued c.self.invariant.all starts none))
 
 pub renew_left-self-inside-requires-clause-no_head : goal.renew_left-self-inside-requires-clause-no_head
 renew_left-self-inside-requires-clause-no_head g c =
@@ -39,8 +40,9 @@ invariant_of-self g c =
     let S : State _ → Type 0 = λ q. StartsNext q c.in-Some.k c.in-Some.class in
     let starts : StartsNext p c.in-Some.k c.in-Some.class = subst S (sym c.self.view_is) c.in-Some.ensures.next in
     let queues = c.pop_at-taken.ensures.queues in
+    let some = c.occupation-occ.ensures.some in
     let fits = rw queues at c.renew_left-self-inside.ensures.fits in
-    let kept = heads_started p c.in-Some.k c.in-Some.class c.occupation-occ.result c.max-from.result f.queued c.in-Some-taken.item c.renew_left-self-inside.new.fits c.renew_left-self-inside.result c.self.invariant.kept c.self.invariant.all starts c.in-Some-taken.ensures.head c.occupation-occ.ensures.exact c.occupation-occ.ensures.bounded c.max-from.ensures fits c.renew_left-self-inside.ensures.best in
+    let kept = heads_started p c.in-Some.k c.in-Some.class c.occupation-occ.result _ f.queued c.in-Some-taken.item c.renew_left-self-inside.new.fits c.renew_left-self-inside.result c.self.invariant.kept c.self.invariant.all starts c.in-Some-taken.ensures.head c.occupation-occ.ensures.exact c.occupation-occ.ensures.bounded (omega arith) fits c.renew_left-self-inside.ensures.best in
     rw (c.renew_left-self-inside.ensures.same, queues, c.pop_at-taken.ensures.rooms, c.occupation-occ.ensures.exact) kept
 
 pub returns-clause-next : goal.returns-clause-next
