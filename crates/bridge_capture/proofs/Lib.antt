@@ -7,4 +7,5 @@ pub mod Rising
 pub mod Steps
 pub mod Taken
 pub mod Turns
+pub mod Words
 pub mod Written

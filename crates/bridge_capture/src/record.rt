@@ -148,7 +148,12 @@ pub fn front_record<R: ByteSource, A: Allocator>(
 {
     let lent = source.lent();
     let Some(head) = head_at_hand(form, number, earliest, lent) else {
-        return read_record(form, number, earliest, octets, source);
+        // Taken apart, so that what is given stays in registers where the record is at hand.
+        return match read_record(form, number, earliest, octets, source) {
+            Ok(Some(Stamp { time, len })) => Ok(Some(Stamp { time, len })),
+            Ok(None) => Ok(None),
+            Err(fault) => Err(fault),
+        };
     };
     let end = 16 + head.captured as usize;
     octets.clear();

@@ -1,5 +1,6 @@
 //! Where octets go.
 ghost use Rattle.std.specs.Prelude.{◌≡◌, ◌≤◌, ◌<◌, ◌++◌, ℕ, List, Option, Bool, true, false, length, IsErr, IfOk, OnOk, OnErr};
+ghost use Rattle.std.specs.Int.{w64, to_le_bytes};
 ghost use Rattle.std.specs.Io.KnownBytes.{WriteAppends, Appends};
 
 use crate::source::Broken;
@@ -21,9 +22,10 @@ pub trait ByteSink {
         ensures works { OnOk result (has_failed self.new ≡ false) }
         ensures stays { has_failed self.old ≡ true → IsErr result };
 
-    /// Takes both, one behind the other, where it has room for them at once, and says so; else nothing.
-    fn write_both(&mut self, first: &[u8], second: &[u8]) -> bool
-        ensures bytes { result ≡ true → Appends (contents self.old) (contents self.new) (first.now ++ second.now) }
+    /// Takes the two numbers, the low one first, each in eight octets of little order, and the octets behind them, where it has
+    /// room for all of this at once, and says so; else nothing.
+    fn write_words(&mut self, low: u64, high: u64, octets: &[u8]) -> bool
+        ensures bytes { result ≡ true → Appends (contents self.old) (contents self.new) ((to_le_bytes w64 low ++ to_le_bytes w64 high) ++ octets.now) }
         ensures fresh { result ≡ true → has_failed self.old ≡ false }
         ensures works { result ≡ true → has_failed self.new ≡ false }
         ensures untouched { result ≡ false → self.new ≡ self.old };

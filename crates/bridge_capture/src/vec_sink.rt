@@ -125,7 +125,7 @@ impl<A: Allocator> ByteSink for VecSink<A> {
         }
     }
 
-    fn write_both(&mut self, _first: &[u8], _second: &[u8]) -> bool {
+    fn write_words(&mut self, _low: u64, _high: u64, _octets: &[u8]) -> bool {
         false
     }
 

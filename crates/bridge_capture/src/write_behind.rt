@@ -1,5 +1,6 @@
 //! std's writers as sinks that hold octets back.
 ghost use Rattle.std.specs.Prelude.{◌≡◌, ◌≤◌, ◌<◌, ◌+◌, ◌-◌, ◌++◌, [], length, drop, vec_len, vec_capacity, true, false, IsErr, IfOk, OnOk, OnErr};
+ghost use Rattle.std.specs.Int.{w64, to_le_bytes};
 ghost use Rattle.std.specs.Io.KnownBytes.{Keeps, WriteAppends};
 ghost use Rattle.bridge_capture.specs.Buffered.{behind_contents};
 
@@ -114,13 +115,13 @@ impl<W: Write + Drop, A: Allocator> ByteSink for WriteBehind<W, A> {
     }
 
     #[inline(always)]
-    fn write_both(&mut self, first: &[u8], second: &[u8]) -> bool {
+    fn write_words(&mut self, low: u64, high: u64, octets: &[u8]) -> bool {
         let room = self.held.capacity() - self.held.len();
-        if room < first.len() || room - first.len() < second.len() || self.sink.failed() {
+        if room < 16 || room - 16 < octets.len() || self.sink.failed() {
             return false;
         }
-        append(&mut self.held, first);
-        append(&mut self.held, second);
+        append_words(&mut self.held, low, high);
+        append(&mut self.held, octets);
         true
     }
 
@@ -147,6 +148,18 @@ fn append<A: Allocator>(held: &mut Vec<u8, A>, octets: &[u8])
     let Ok(()) = held.extend_from_slice(octets) else {
         unreachable!()
     };
+}
+
+/// Adds the octets of two numbers, the low one first, for which there is room.
+#[inline(always)]
+fn append_words<A: Allocator>(held: &mut Vec<u8, A>, low: u64, high: u64)
+    requires { vec_len held.old + 16 ≤ vec_capacity held.old }
+    ensures items { held.new.items ≡ held.old.items ++ (to_le_bytes w64 low ++ to_le_bytes w64 high) }
+    ensures length { vec_len held.new ≡ vec_len held.old + 16 }
+    ensures capacity { vec_capacity held.old ≤ vec_capacity held.new }
+{
+    append(held, &low.to_le_bytes());
+    append(held, &high.to_le_bytes());
 }
 
 /// Lets go of the first octets.

@@ -1,5 +1,6 @@
 //! Writing a capture.
 ghost use Rattle.std.specs.Prelude.{◌≡◌, ◌≤◌, ◌<◌, ◌*◌, ◌^◌, ◌++◌, length, true, Err, OnOk, OnErr};
+ghost use Rattle.std.specs.Int.{w64, to_le_bytes};
 ghost use Rattle.std.specs.Io.KnownBytes.{Appends};
 ghost use Rattle.bridge_capture.specs.Sinks.{AppendsFront};
 ghost use Rattle.bridge_capture.specs.Written.{written_header, written_words, written_record};
@@ -55,11 +56,12 @@ impl Writer {
         ensures fails { OnErr result (W.has_failed sink.new ≡ true) }
         ensures again { W.has_failed sink.old ≡ true → result ≡ Err CaptureFault.Write }
     {
-        let words = head_words(done, len, octets.len() as u32);
-        if sink.write_both(&words, octets) {
+        let captured = octets.len() as u32;
+        let (low, high) = word_pairs(done, len, captured);
+        if sink.write_words(low, high, octets) {
             return Ok(());
         }
-        put_parts(sink, &words, octets)
+        put_parts(sink, &head_words(done, len, captured), octets)
     }
 }
 
@@ -81,6 +83,20 @@ fn put_parts<W: ByteSink>(sink: &mut W, words: &[u8; 16], octets: &[u8]) -> Resu
         Ok(()) => Ok(()),
         Err(_) => Err(CaptureFault::Write),
     }
+}
+
+/// The four words of a record, two in a number: the whole seconds and the nanoseconds behind them, and the two lengths.
+#[inline(always)]
+fn word_pairs(done: u64, len: u32, captured: u32) -> (u64, u64)
+    requires { done < 2 ^ 32 * 10 ^ 9 }
+    ensures { to_le_bytes w64 result.0 ++ to_le_bytes w64 result.1 ≡ written_words done captured len }
+{
+    let seconds = done / 1_000_000_000;
+    let fraction = done % 1_000_000_000;
+    (
+        seconds + fraction * 0x1_0000_0000,
+        captured as u64 + len as u64 * 0x1_0000_0000,
+    )
 }
 
 /// The four words of a record.
