@@ -38,7 +38,10 @@ impl<A: Allocator + Copy> Spares<A> {
         ensures fewer { self.new ≡ self.old - 1 }
     {
         match self.kept.pop() {
-            Some(octets) => octets,
+            Some(mut octets) => {
+                octets.clear();
+                octets
+            }
             None => Vec::new(self.alloc),
         }
     }

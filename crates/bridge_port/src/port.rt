@@ -26,10 +26,10 @@ pub struct Port<T: Drop, A: Allocator + Copy> {
     gates: Gates<A>,
     rings: Vec<HeapCircularBuffer<Item<T>, A>, A>,
     free: u64,
+    queued: u64,
     earliest: u64,
     offered: u64,
     started: u64,
-    queued: u64,
     fits: [Option<u64>; 8],
     best: Option<(u64, usize)>,
 }
