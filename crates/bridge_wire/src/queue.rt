@@ -49,10 +49,13 @@ fn take<W: ByteSink, A: Allocator + Copy>(
     match parse(&packet.octets, packet.len) {
         Err(_) => count.malformed += 1,
         Ok(_) => {
-            let item = Item {
-                len: packet.len,
-                load: packet.octets,
-            };
+            let Packet {
+                len, mut octets, ..
+            } = packet;
+            // It takes none away. But their number is a value of its own then: moved together with the room of the
+            // vector, it would wait until what the reader stored last is written.
+            octets.truncate(len as usize);
+            let item = Item { len, load: octets };
             match port.offer(packet.time, 0, item) {
                 Ok(()) => count.sent += 1,
                 Err(_) => count.full += 1,

@@ -1,5 +1,6 @@
 use Rattle.std.proofs.Common.{◌≡◌, ◌++◌, ◌∷◌, [], ℕ, ap, sym, ◌∙◌, subst, refl, true, false}
 use Rattle.std.specs.Prelude.{is_ok, is_none, Vec}
+use Rattle.std.proofs.lemmas.List.{take_all}
 use Rattle.bridge_frame.specs.Frames.{head}
 use Rattle.bridge_capture.specs.Reading.{view}
 use Rattle.bridge_capture.specs.Standing.{last_time}
@@ -43,7 +44,8 @@ returns-after-offer-clause-continues g c = λ room frames began r.
     let count = c.args.count.now in
     let contents = g.W.ByteSink.contents in
     let same = c.depart_before.ensures.same in
-    let item : Item (Vec ℕ _) = record { len = packet.len; load = packet.octets } in
+    let item : Item (Vec ℕ _) = record { len = packet.len; load = c.truncate.new.self } in
+    let octets : c.truncate.new.self.items ≡ packet.octets.items = c.truncate.ensures.items ∙ take_all packet.len packet.octets.items c.requires.octets.1 in
     let some : is_well_formed (view packet) ≡ true = sym (ap is_ok (c.in-Ok.ensures.exact ∙ ap (λ octets. head octets packet.len) c.deref.ensures.value)) in
     let gone : HasGone old mid (contents c.args.sink.now) (contents c.depart_before.new.sink) = record { list = same.0; speed = same.1; rooms = same.2; offered = same.3; within = c.depart_before.ensures.within; goes = λ offers sent full left s. c.in_default.ensures.goes offers sent full left s } in
     let given : HasOffered mid new packet.time item = record { moved = c.offer.ensures.moved; stands = c.offer.ensures.stands; counts = c.offer.ensures.counts } in
@@ -52,5 +54,5 @@ returns-after-offer-clause-continues g c = λ room frames began r.
       | in-Ok-offer w ↦ w.count-is ∙ (counted_sent count ∙ ap (counted count) (answered_ok (refusal_of mid 0 item) item _ (sym c.offer.ensures.answer ∙ w.in-Ok-offer.is)))
       | in-Err-offer w ↦ w.count-is ∙ (counted_full count ∙ ap (counted count) (answered_err (refusal_of mid 0 item) item _ (sym c.offer.ensures.answer ∙ w.in-Err-offer.is)))
     ] in
-    let running = running_offered c.args.speed room frames old mid new count began (contents c.args.sink.now) (contents c.depart_before.new.sink) (view packet) item some refl (not_overlong item c.requires.octets.1) gone given r in
+    let running = running_offered c.args.speed room frames old mid new count began (contents c.args.sink.now) (contents c.depart_before.new.sink) (view packet) item some (ap (λ l. record { len = packet.len; octets = l }) octets) (not_overlong item (rw octets c.requires.octets.1)) gone given r in
     subst (λ n. IsRunning c.args.speed room (frames ++ view packet ∷ []) new n began (contents c.depart_before.new.sink)) (sym counts) running
