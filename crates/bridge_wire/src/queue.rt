@@ -50,7 +50,9 @@ fn take<W: ByteSink, A: Allocator + Copy>(
         Err(_) => count.malformed += 1,
         Ok(_) => {
             let Packet {
-                len, mut octets, ..
+                len,
+                mut octets,
+                ..
             } = packet;
             // It takes none away. But their number is a value of its own then: moved together with the room of the
             // vector, it would wait until what the reader stored last is written.
