@@ -1,4 +1,4 @@
-use Rattle.std.proofs.Common.{◌≡◌, ◌++◌, ◌∷◌, [], ℕ, ap, sym, ◌∙◌, subst, refl, true, false}
+use Rattle.std.proofs.Common.{◌≡◌, ◌++◌, ◌∷◌, [], ℕ, ap, sym, ◌∙◌, subst, true, false}
 use Rattle.std.specs.Prelude.{is_ok, is_none, Vec}
 use Rattle.std.proofs.lemmas.List.{take_all}
 use Rattle.bridge_frame.specs.Frames.{head}

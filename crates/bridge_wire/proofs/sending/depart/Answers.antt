@@ -1,4 +1,4 @@
-use Rattle.std.proofs.Common.{false, length, ◌≡◌, ◌+◌, ◌-◌, ap, sym, ◌∙◌, subst, append-nil, arith, [], ◌∷◌, ◌++◌}
+use Rattle.std.proofs.Common.{false, length, ◌≡◌, ◌-◌, ap, sym, ◌∙◌, subst, append-nil, arith, [], ◌∷◌, ◌++◌}
 use Rattle.std.specs.Io.KnownBytes.{Appends}
 use Rattle.bridge_capture.specs.Written.{written_record, written_item}
 use Rattle.bridge_capture.specs.Sinks.{AppendsFront}
