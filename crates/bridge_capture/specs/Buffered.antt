@@ -13,7 +13,7 @@ at_hand w = slice_range w.octets.items w.start w.end
 abbrev pub ahead_at_hand : {R A : Type 0} → ReadAhead R A → List ℕ
 ahead_at_hand s = if s.source.is_broken then [] else at_hand s.window
 
--- these, and then what the reader has left, where it tells that
+-- all that was read ahead and not given yet, and then what the reader has left, where it tells that
 abbrev pub ahead_remaining : {R A : Type 0} → (R → Option (List ℕ)) → ReadAhead R A → Option (List ℕ)
 ahead_remaining remaining s = prepend_known (at_hand s.window) (remaining s.source.reader)
 

@@ -52,7 +52,7 @@ impl<W: Write> ByteSink for FromWrite<W> {
         }
     }
 
-    fn write_words(&mut self, _low: u64, _high: u64, _octets: &[u8]) -> bool {
+    fn write_words(&mut self, _first: u64, _second: u64, _octets: &[u8]) -> bool {
         false
     }
 

@@ -22,10 +22,10 @@ pub trait ByteSink {
         ensures works { OnOk result (has_failed self.new ≡ false) }
         ensures stays { has_failed self.old ≡ true → IsErr result };
 
-    /// Takes the two numbers, the low one first, each in eight octets of little order, and the octets behind them, where it has
-    /// room for all of this at once, and says so; else nothing.
-    fn write_words(&mut self, low: u64, high: u64, octets: &[u8]) -> bool
-        ensures bytes { result ≡ true → Appends (contents self.old) (contents self.new) ((to_le_bytes w64 low ++ to_le_bytes w64 high) ++ octets.now) }
+    /// May take two numbers, each in eight octets of little order, and the octets behind them, all at once, and says whether it
+    /// did; else it takes nothing, and they are to be written one after the other.
+    fn write_words(&mut self, first: u64, second: u64, octets: &[u8]) -> bool
+        ensures bytes { result ≡ true → Appends (contents self.old) (contents self.new) ((to_le_bytes w64 first ++ to_le_bytes w64 second) ++ octets.now) }
         ensures fresh { result ≡ true → has_failed self.old ≡ false }
         ensures works { result ≡ true → has_failed self.new ≡ false }
         ensures untouched { result ≡ false → self.new ≡ self.old };

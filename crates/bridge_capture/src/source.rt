@@ -1,5 +1,5 @@
 //! Where octets come from.
-ghost use Rattle.std.specs.Prelude.{◌≡◌, ◌≤◌, ◌<◌, ℕ, List, Option, Bool, true, false, length, take, IsErr, IsOk, IfOk, OnOk, OnErr};
+ghost use Rattle.std.specs.Prelude.{◌≡◌, ◌≤◌, ◌<◌, ℕ, List, Option, Bool, true, false, length, take, drop, IsErr, IsOk, IfOk, OnOk, OnErr};
 ghost use Rattle.std.specs.Io.KnownBytes.{ReadConsumes, Consumes};
 
 use thiserror::Error;
@@ -47,6 +47,7 @@ pub trait ByteSource {
     fn skip(&mut self, count: usize)
         requires { count ≤ length (at_hand self.old) }
         ensures bytes { Consumes (remaining self.old) (remaining self.new) (take count (at_hand self.old)) }
+        ensures rest { at_hand self.new ≡ drop count (at_hand self.old) }
         ensures stays { has_failed self.new ≡ has_failed self.old }
         ensures lasts { never_fails self.old ≡ true → never_fails self.new ≡ true };
 }

@@ -125,7 +125,7 @@ impl<A: Allocator> ByteSink for VecSink<A> {
         }
     }
 
-    fn write_words(&mut self, _low: u64, _high: u64, _octets: &[u8]) -> bool {
+    fn write_words(&mut self, _first: u64, _second: u64, _octets: &[u8]) -> bool {
         false
     }
 

@@ -115,12 +115,12 @@ impl<W: Write + Drop, A: Allocator> ByteSink for WriteBehind<W, A> {
     }
 
     #[inline(always)]
-    fn write_words(&mut self, low: u64, high: u64, octets: &[u8]) -> bool {
+    fn write_words(&mut self, first: u64, second: u64, octets: &[u8]) -> bool {
         let room = self.held.capacity() - self.held.len();
         if room < 16 || room - 16 < octets.len() || self.sink.failed() {
             return false;
         }
-        append_words(&mut self.held, low, high);
+        append_words(&mut self.held, first, second);
         append(&mut self.held, octets);
         true
     }
@@ -150,16 +150,16 @@ fn append<A: Allocator>(held: &mut Vec<u8, A>, octets: &[u8])
     };
 }
 
-/// Adds the octets of two numbers, the low one first, for which there is room.
+/// Adds the octets of two numbers, one after the other, for which there is room.
 #[inline(always)]
-fn append_words<A: Allocator>(held: &mut Vec<u8, A>, low: u64, high: u64)
+fn append_words<A: Allocator>(held: &mut Vec<u8, A>, first: u64, second: u64)
     requires { vec_len held.old + 16 ≤ vec_capacity held.old }
-    ensures items { held.new.items ≡ held.old.items ++ (to_le_bytes w64 low ++ to_le_bytes w64 high) }
+    ensures items { held.new.items ≡ held.old.items ++ (to_le_bytes w64 first ++ to_le_bytes w64 second) }
     ensures length { vec_len held.new ≡ vec_len held.old + 16 }
     ensures capacity { vec_capacity held.old ≤ vec_capacity held.new }
 {
-    append(held, &low.to_le_bytes());
-    append(held, &high.to_le_bytes());
+    append(held, &first.to_le_bytes());
+    append(held, &second.to_le_bytes());
 }
 
 /// Lets go of the first octets.

@@ -57,8 +57,8 @@ impl Writer {
         ensures again { W.has_failed sink.old ≡ true → result ≡ Err CaptureFault.Write }
     {
         let captured = octets.len() as u32;
-        let (low, high) = word_pairs(done, len, captured);
-        if sink.write_words(low, high, octets) {
+        let (first, second) = word_pairs(done, len, captured);
+        if sink.write_words(first, second, octets) {
             return Ok(());
         }
         put_parts(sink, &head_words(done, len, captured), octets)

@@ -39,6 +39,8 @@ impl<A: Allocator + Copy> Spares<A> {
     {
         match self.kept.pop() {
             Some(mut octets) => {
+                // Who takes it reads over what it holds. It makes the length a value by itself, so that it isn't loaded
+                // together with the room while both are on their way into the list.
                 octets.clear();
                 octets
             }

@@ -54,8 +54,8 @@ fn take<W: ByteSink, A: Allocator + Copy>(
                 mut octets,
                 ..
             } = packet;
-            // It takes none away. But their number is a value of its own then: moved together with the room of the
-            // vector, it would wait until what the reader stored last is written.
+            // This takes nothing away. It makes the vector's length a value by itself, so that it isn't loaded together
+            // with the room while the reader's last store is on its way.
             octets.truncate(len as usize);
             let item = Item { len, load: octets };
             match port.offer(packet.time, 0, item) {
