@@ -26,6 +26,7 @@ use bridge_check::Accepted;
 use bridge_config::Command;
 use bridge_events::Agenda;
 use bridge_filter::FilterPlan;
+use bridge_lanes::Spares;
 use bridge_relay::{NoMemory, Relay, Sent};
 use bridge_run::{Outcome, PortCount, View};
 use std::alloc::Allocator;
@@ -38,6 +39,7 @@ use std::marker::Model;
 #[derive(Drop)]
 pub struct Bridge<'a, G: Agenda + Drop, A: Allocator + Copy> {
     relay: Relay<'a, G, A>,
+    spares: Spares<A>,
     order: Vec<(u32, FilterPlan), A>,
     views: Vec<(u32, View<A>), A>,
     counts: Vec<(u8, PortCount), A>,
@@ -67,6 +69,7 @@ impl<'a, G: Agenda + Drop, A: Allocator + Copy> Bridge<'a, G, A> {
         let relay = Relay::<G, A>::new(alloc, accepted)?;
         Ok(Bridge {
             relay,
+            spares: Spares::none(alloc),
             order,
             views,
             counts,
@@ -88,8 +91,7 @@ impl<'a, G: Agenda + Drop, A: Allocator + Copy> Bridge<'a, G, A> {
         ensures err { IfErr result (λ e. (self.new ≡ self.old) × (e.0 ≡ packet)) }
     {
         let after = packet.time + 1;
-        let mut back = None;
-        match self.relay.arrive(port, packet, &mut back) {
+        match self.relay.arrive(port, packet, &mut self.spares) {
             Ok(()) => {
                 self.command = after;
                 Ok(())
@@ -186,6 +188,7 @@ impl<'a, G: Agenda + Drop, A: Allocator + Copy> Bridge<'a, G, A> {
     {
         let Bridge {
             relay,
+            spares: _,
             order,
             views,
             counts,

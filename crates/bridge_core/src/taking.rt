@@ -50,15 +50,6 @@ fn look_at<R: ByteSource, A: Allocator + Copy>(
     lanes[place].look(spare, &mut sources[place])
 }
 
-/// A vector for the octets of the next frame: the one that a frame handed back which is not queued, else a spare one.
-#[inline(always)]
-fn room_in<A: Allocator + Copy>(back: Option<Vec<u8, A>>, spares: &mut Spares<A>) -> Vec<u8, A> {
-    match back {
-        Some(octets) => octets,
-        None => spares.take(),
-    }
-}
-
 /// Takes the frame that comes first, once all starts before it were made and written, and looks at what comes behind it
 /// in its capture.
 fn take<R: ByteSource, W: ByteSink, G: Agenda + Drop, A: Allocator + Copy>(
@@ -90,15 +81,14 @@ fn take<R: ByteSource, W: ByteSink, G: Agenda + Drop, A: Allocator + Copy>(
     if let Err(fault) = depart_before(Some(packet.time), relay, lines, sinks, spares) {
         return Err(fault);
     }
-    let mut back = None;
-    match relay.arrive(number, packet, &mut back) {
+    match relay.arrive(number, packet, spares) {
         Ok(()) => {}
         Err(_) => {
             relay.reached();
             return Err(RunFault::NoMemory);
         }
     }
-    match look_at(room_in(back, spares), place, lanes, sources) {
+    match look_at(spares.take(), place, lanes, sources) {
         Ok(()) => Ok(()),
         Err(fault) => {
             relay.reached();

@@ -1,4 +1,4 @@
-ghost use Rattle.std.specs.Prelude.{◌≡◌, ◌<◌, ◌≤◌, ◌-◌, ◌%◌, Some, None, length, true, ◌↔◌, IfOk, IfErr, unwrap_or};
+ghost use Rattle.std.specs.Prelude.{◌≡◌, ◌<◌, ◌≤◌, ◌-◌, ◌%◌, Some, None, length, true, ◌↔◌, IfOk, IfErr, IfSome, unwrap_or};
 ghost use Rattle.bridge_cycle.specs.declared.cyclic.ListFault.TheVariants as fault;
 ghost use Rattle.bridge_cycle.specs.Cyclic as cyclic;
 ghost use Rattle.bridge_cycle.specs.Ends as running;
@@ -86,6 +86,8 @@ pub struct CyclicList<S, A: Allocator + Copy> {
     cycle: u64,
     /// How far the moment 0 is into its cycle: from 1 to the cycle.
     shift: u64,
+    /// How many entries there are in a nanosecond of the intervals, times 2^32.
+    density: u64,
     entries: Vec<(S, u64), A>,
     ends: Vec<u64, A>,
 }
@@ -123,6 +125,7 @@ impl<S: Copy, A: Allocator + Copy> CyclicList<S, A> {
             base,
             cycle,
             shift: cycle - base % cycle,
+            density: density_of(&ends),
             entries,
             ends,
         })
@@ -136,6 +139,7 @@ impl<S: Copy, A: Allocator + Copy> CyclicList<S, A> {
             base: self.base,
             cycle: self.cycle,
             shift: self.shift,
+            density: self.density,
             entries: Vec::from_slice(alloc, &self.entries)?,
             ends: Vec::from_slice(alloc, &self.ends)?,
         })
@@ -215,8 +219,48 @@ fn ends_of<S: Copy, A: Allocator + Copy>(
     Ok(ends)
 }
 
-/// The place of the entry that has the phase.
-fn place_of(ends: &[u64], phase: u64) -> usize
+/// How many entries there are in a nanosecond of the intervals, times 2^32.
+fn density_of(ends: &[u64]) -> u64 {
+    let total = match ends.last() {
+        Some(end) => (*end).max(1),
+        None => 1,
+    };
+    ((ends.len() as u64) << 32) / total
+}
+
+/// Whether the entry at a place has the phase.
+#[inline(always)]
+fn has_phase(ends: &[u64], phase: u64, place: usize) -> bool
+    ensures { result ≡ true → running.IsPlaceOf ends.now phase place }
+{
+    place < ends.len()
+        && (place == 0 || ends[place - 1] <= phase)
+        && (place + 1 == ends.len() || phase < ends[place])
+}
+
+/// The place of the entry that has the phase, where it is the one that is guessed or a neighbour of that: where intervals
+/// are much the same, it is.
+#[inline(always)]
+fn place_near(ends: &[u64], phase: u64, guess: usize) -> Option<usize>
+    ensures { IfSome result (λ place. running.IsPlaceOf ends.now phase place) }
+{
+    if has_phase(ends, phase, guess) {
+        return Some(guess);
+    }
+    let below = guess.saturating_sub(1);
+    if has_phase(ends, phase, below) {
+        return Some(below);
+    }
+    let above = guess.saturating_add(1);
+    if has_phase(ends, phase, above) {
+        return Some(above);
+    }
+    None
+}
+
+/// The place of the entry that has the phase, by halving.
+#[inline(never)]
+fn place_among(ends: &[u64], phase: u64) -> usize
     requires some { 0 < length ends.now }
     ensures { running.IsPlaceOf ends.now phase result }
 {
@@ -233,13 +277,33 @@ fn place_of(ends: &[u64], phase: u64) -> usize
     low
 }
 
+/// The place of the entry that has the phase.
+#[inline(always)]
+fn place_of(ends: &[u64], density: u64, phase: u64) -> usize
+    requires some { 0 < length ends.now }
+    ensures { running.IsPlaceOf ends.now phase result }
+{
+    let guess = (phase.wrapping_mul(density) >> 32) as usize;
+    match place_near(ends, phase, guess) {
+        Some(place) => place,
+        None => place_among(ends, phase),
+    }
+}
+
 /// The state that has the phase, and the phases at which its interval begins and ends.
-fn interval_of<S: Copy>(entries: &[(S, u64)], ends: &[u64], cycle: u64, phase: u64) -> (S, u64, u64)
+#[inline(always)]
+fn interval_of<S: Copy>(
+    entries: &[(S, u64)],
+    ends: &[u64],
+    density: u64,
+    cycle: u64,
+    phase: u64,
+) -> (S, u64, u64)
     requires some { 0 < length entries.now }
     requires ends { running.AreEnds entries.now ends.now }
     ensures { cyclic.place entries.now 0 cycle phase ≡ Some (record { state = result.0; start = result.1; end = result.2 }) }
 {
-    let place = place_of(ends, phase);
+    let place = place_of(ends, density, phase);
     let start = if place == 0 { 0 } else { ends[place - 1] };
     let end = if place + 1 == ends.len() {
         cycle
@@ -260,7 +324,13 @@ impl<S: Copy, A: Allocator + Copy> Timeline for CyclicList<S, A> {
 
     fn turn(&self, t: u64) -> Turn<S> {
         let phase = (t + self.shift) % self.cycle;
-        let (state, start, end) = interval_of(&self.entries, &self.ends, self.cycle, phase);
+        let (state, start, end) = interval_of(
+            &self.entries,
+            &self.ends,
+            self.density,
+            self.cycle,
+            phase,
+        );
         Turn {
             state,
             start: t as i64 - (phase - start) as i64,

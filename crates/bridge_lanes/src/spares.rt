@@ -1,13 +1,13 @@
 //! Octets of frames that left, whose room is used again.
-ghost use Rattle.std.specs.Prelude.{◌≡◌, ◌≤◌, ◌+◌, ◌-◌, IfOk};
+ghost use Rattle.std.specs.Prelude.{◌≡◌, [], ◌≤◌, ◌+◌, ◌-◌, IfOk};
 
 use std::alloc::{AllocError, Allocator};
 use std::marker::Model;
 
 /// The most vectors that are kept.
-const MOST_KEPT: usize = 64;
+const MOST_KEPT: usize = 4096;
 
-/// Vectors of octets that are used again: up to 64 of them. What they hold is never looked at.
+/// Vectors of octets that are used again: up to 4096 of them. What they hold is never looked at.
 #[derive(Drop)]
 pub struct Spares<A: Allocator + Copy> {
     alloc: A,
@@ -24,6 +24,16 @@ impl<A: Allocator + Copy> Model for Spares<A> {
 }
 
 impl<A: Allocator + Copy> Spares<A> {
+    /// None for good: what is put there is let go. It takes no memory.
+    pub fn none(alloc: A) -> Spares<A>
+        ensures { result ≡ 0 }
+    {
+        Spares {
+            alloc,
+            kept: Vec::new(alloc),
+        }
+    }
+
     /// None at first. One growth of memory, for the list of them.
     pub fn new(alloc: A) -> Result<Spares<A>, AllocError>
         ensures none { IfOk result (λ spares. spares ≡ 0) }
@@ -32,10 +42,11 @@ impl<A: Allocator + Copy> Spares<A> {
         Ok(Spares { alloc, kept })
     }
 
-    /// One of them, or a new one without room. It takes no memory.
+    /// One of them, emptied, or a new one without room. It takes no memory.
     #[inline(always)]
     pub fn take(&mut self) -> Vec<u8, A>
         ensures fewer { self.new ≡ self.old - 1 }
+        ensures empty { result.items ≡ [] }
     {
         match self.kept.pop() {
             Some(mut octets) => {

@@ -32,16 +32,39 @@ pub fn tables_of<A: Allocator + Copy>(
     Ok(tables)
 }
 
-/// The place of a number where it is found at once: numbers that follow one another in the order of the plan have places
-/// that do.
+/// How far the numbers of two filters that follow one another lie apart, by the first two.
+#[inline(always)]
+fn step_of<A: Allocator + Copy>(tables: &Tables<A>, first: u32) -> u32
+    ensures { 0 < result }
+{
+    match tables.get_index(1) {
+        Some((second, _)) => second.saturating_sub(first).max(1),
+        None => 1,
+    }
+}
+
+/// The place of a number where it is found at once: numbers that rise by equal steps in the order of the plan have places
+/// that follow one another.
 #[inline(always)]
 fn own_place<A: Allocator + Copy>(tables: &Tables<A>, number: u32) -> Option<usize>
     ensures { IfSome result (λ place. slice_get (keys_of tables.now.entries) place ≡ Some number) }
 {
     let (first, _) = tables.get_index(0)?;
-    let place = number.saturating_sub(*first) as usize;
+    let place = (number.saturating_sub(*first) / step_of(tables, *first)) as usize;
     match tables.get_index(place) {
         Some((own, _)) if *own == number => Some(place),
+        _ => last_place(tables, number),
+    }
+}
+
+/// The place of a number where it is that of the last filter, as that of all other frames often is.
+#[inline(always)]
+fn last_place<A: Allocator + Copy>(tables: &Tables<A>, number: u32) -> Option<usize>
+    ensures { IfSome result (λ place. slice_get (keys_of tables.now.entries) place ≡ Some number) }
+{
+    let last = tables.len().saturating_sub(1);
+    match tables.get_index(last) {
+        Some((own, _)) if *own == number => Some(last),
         _ => None,
     }
 }

@@ -33,7 +33,8 @@ use bridge_filter::{Clear, Police, Route, Ruling, Verdict};
 use bridge_forward::PortSet;
 use bridge_frame::{Tag, parse};
 use bridge_ident::Ident;
-use bridge_parts::copies::{copies_of, leave};
+use bridge_lanes::Spares;
+use bridge_parts::copies::{copies_of, leave, spare_all};
 use bridge_parts::tables::{depart, judge, note, promise, release};
 use bridge_parts::{Begun, Came, Ports, Tables};
 use bridge_port::Item;
@@ -201,6 +202,7 @@ impl<'a, G: Agenda + Drop, A: Allocator + Copy> Relay<'a, G, A> {
         set: PortSet,
         filter: Option<u32>,
         octets: &[u8],
+        spares: &mut Spares<A>,
     ) -> Result<Vec<Vec<u8, A>, A>, NoMemory>
         requires there { IfSome filter (λ n. IsTrue (is_there n self.old.plan.filters)) }
         requires few { self.old.arrived < MOST_ARRIVALS }
@@ -210,13 +212,13 @@ impl<'a, G: Agenda + Drop, A: Allocator + Copy> Relay<'a, G, A> {
         ensures sound { OnOk result (IsSound G.held self.new) }
     {
         let (count, _) = self.ports.outs(set);
-        let copies = copies_of(self.alloc, octets, count.saturating_sub(1))?;
+        let copies = copies_of(self.alloc, octets, count.saturating_sub(1), spares)?;
         promise(&mut self.tables, filter, count)?;
         self.arrived += 1;
         Ok(copies)
     }
 
-    /// Offers a copy of a frame to a port. Its octets are handed back where it is refused.
+    /// Offers a copy of a frame to a port. Its octets are spare where it is refused.
     #[inline(always)]
     fn offer_to(
         &mut self,
@@ -224,7 +226,7 @@ impl<'a, G: Agenda + Drop, A: Allocator + Copy> Relay<'a, G, A> {
         priority: u8,
         len: u32,
         load: Load<A>,
-        back: &mut Option<Vec<u8, A>>,
+        spares: &mut Spares<A>,
     )
         requires from { 1 ≤ number }
         requires there { (s : Slot A) × (slot_at self.old.ports number ≡ Some s) }
@@ -243,9 +245,11 @@ impl<'a, G: Agenda + Drop, A: Allocator + Copy> Relay<'a, G, A> {
         let t = load.at;
         let flow = load.flow;
         let own = load.own;
+        let mut back = None;
         let answer = self
             .ports
-            .offer(number, t, priority, Item { len, load }, back);
+            .offer(number, t, priority, Item { len, load }, &mut back);
+        keep(back, spares);
         note(&mut self.tables, flow, own, number, answer);
         self.earliest = t;
     }
@@ -261,7 +265,7 @@ impl<'a, G: Agenda + Drop, A: Allocator + Copy> Relay<'a, G, A> {
         len: u32,
         eligible: bool,
         load: Load<A>,
-        back: &mut Option<Vec<u8, A>>,
+        spares: &mut Spares<A>,
     )
         requires from { 1 ≤ number }
         requires to { number ≤ 16 }
@@ -287,7 +291,7 @@ impl<'a, G: Agenda + Drop, A: Allocator + Copy> Relay<'a, G, A> {
                 own,
                 octets,
             },
-            back,
+            spares,
         );
     }
 
@@ -301,7 +305,7 @@ impl<'a, G: Agenda + Drop, A: Allocator + Copy> Relay<'a, G, A> {
         eligible: bool,
         first: &Load<A>,
         copies: &mut Vec<Vec<u8, A>, A>,
-        back: &mut Option<Vec<u8, A>>,
+        spares: &mut Spares<A>,
     )
         requires from { 1 ≤ number }
         requires to { number ≤ 16 }
@@ -320,7 +324,7 @@ impl<'a, G: Agenda + Drop, A: Allocator + Copy> Relay<'a, G, A> {
                     own: first.own,
                     octets,
                 };
-                self.offer_copy(set, number, priority, len, eligible, load, back);
+                self.offer_copy(set, number, priority, len, eligible, load, spares);
             }
             None => unreachable!(),
         }
@@ -337,7 +341,7 @@ impl<'a, G: Agenda + Drop, A: Allocator + Copy> Relay<'a, G, A> {
         eligible: bool,
         first: Load<A>,
         copies: Vec<Vec<u8, A>, A>,
-        back: &mut Option<Vec<u8, A>>,
+        spares: &mut Spares<A>,
     )
         requires priority { priority ≤ 7 }
         requires along { MayRelay self.old (leaves first len eligible) × IsOffering G.held self.old self.old set priority (leaves first len eligible) 1 }
@@ -356,11 +360,11 @@ impl<'a, G: Agenda + Drop, A: Allocator + Copy> Relay<'a, G, A> {
                 eligible,
                 &first,
                 &mut copies,
-                back,
+                spares,
             );
         }
         if last > 0 {
-            self.offer_copy(set, last, priority, len, eligible, first, back);
+            self.offer_copy(set, last, priority, len, eligible, first, spares);
         }
     }
 
@@ -435,7 +439,7 @@ impl<'a, G: Agenda + Drop, A: Allocator + Copy> Relay<'a, G, A> {
     }
 
     /// Polices a frame that goes to a set of ports, and offers it where it passes. Room was made for what it tells. Octets of
-    /// the frame that are not queued are handed back.
+    /// the frame that are not queued are spare.
     #[inline(always)]
     fn relay(
         &mut self,
@@ -445,7 +449,7 @@ impl<'a, G: Agenda + Drop, A: Allocator + Copy> Relay<'a, G, A> {
         seen: Seen,
         found: Option<Route>,
         copies: Vec<Vec<u8, A>, A>,
-        back: &mut Option<Vec<u8, A>>,
+        spares: &mut Spares<A>,
     )
         requires known { (s : Slot A) × (slot_at self.old.ports port ≡ Some s) }
         requires from { 1 ≤ port }
@@ -474,7 +478,7 @@ impl<'a, G: Agenda + Drop, A: Allocator + Copy> Relay<'a, G, A> {
                     own: 0,
                     octets,
                 };
-                self.offer_all(set, seen.priority, len, false, load, copies, back);
+                self.offer_all(set, seen.priority, len, false, load, copies, spares);
             }
             Some((Ruling { filter, verdict }, own)) => match verdict {
                 Verdict::Pass { ipv, eligible } => {
@@ -491,11 +495,12 @@ impl<'a, G: Agenda + Drop, A: Allocator + Copy> Relay<'a, G, A> {
                         eligible,
                         load,
                         copies,
-                        back,
+                        spares,
                     );
                 }
                 _ => {
-                    hand_back(octets, back);
+                    spares.put(octets);
+                    spare_all(copies, spares);
                     self.forget(filter, set);
                 }
             },
@@ -503,13 +508,13 @@ impl<'a, G: Agenda + Drop, A: Allocator + Copy> Relay<'a, G, A> {
     }
 
     /// Takes a frame that came on a port. Where memory runs out the frame comes back, and the bridge is as before. Else its
-    /// octets are handed back where they are not queued, so that their room can be used again.
+    /// octets are spare where they are not queued. Copies for more ports than one are made in spare vectors.
     #[inline(always)]
     pub fn arrive(
         &mut self,
         port: u8,
         packet: Packet<A>,
-        back: &mut Option<Vec<u8, A>>,
+        spares: &mut Spares<A>,
     ) -> Result<(), (Packet<A>, NoMemory)>
         requires known { (out : PortPlan A) × (port_at self.old.plan.ports port ≡ Some out) }
         requires time { (self.old.earliest ≤ packet.time) × (packet.time < END_OF_TIME) }
@@ -525,11 +530,11 @@ impl<'a, G: Agenda + Drop, A: Allocator + Copy> Relay<'a, G, A> {
         match self.way_of(port, &packet.octets, packet.len) {
             Way::Malformed => {
                 self.pass_over(port, packet.time, Came::Malformed);
-                hand_back(packet.octets, back);
+                spares.put(packet.octets);
             }
             Way::Nowhere => {
                 self.pass_over(port, packet.time, Came::Nowhere);
-                hand_back(packet.octets, back);
+                spares.put(packet.octets);
             }
             Way::Goes {
                 set,
@@ -540,7 +545,7 @@ impl<'a, G: Agenda + Drop, A: Allocator + Copy> Relay<'a, G, A> {
             } => {
                 let found = self.police.find(handle, priority);
                 let filter = number_of(found);
-                match self.prepare(set, filter, &packet.octets) {
+                match self.prepare(set, filter, &packet.octets, spares) {
                     Ok(copies) => {
                         let seen = Seen {
                             handle,
@@ -548,7 +553,7 @@ impl<'a, G: Agenda + Drop, A: Allocator + Copy> Relay<'a, G, A> {
                             dei,
                             sdu,
                         };
-                        self.relay(port, packet, set, seen, found, copies, back);
+                        self.relay(port, packet, set, seen, found, copies, spares);
                     }
                     Err(refused) => return Err((packet, refused)),
                 }
@@ -569,10 +574,12 @@ fn number_of(found: Option<Route>) -> Option<u32>
     }
 }
 
-/// Hands octets back that are not queued, in place of what was there.
+/// Keeps octets that were handed back, where there are some, as spare.
 #[inline(always)]
-fn hand_back<A: Allocator + Copy>(octets: Vec<u8, A>, back: &mut Option<Vec<u8, A>>) {
-    *back = Some(octets);
+fn keep<A: Allocator + Copy>(back: Option<Vec<u8, A>>, spares: &mut Spares<A>) {
+    if let Some(octets) = back {
+        spares.put(octets);
+    }
 }
 
 /// The first port that may have a copy, where so many are kept for the ports before the last: none before the last has one

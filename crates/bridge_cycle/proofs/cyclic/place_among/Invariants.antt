@@ -1,5 +1,5 @@
 use Rattle.std.proofs.Common.{◌-◌, ◌+◌, ◌<◌, ◌≤◌, length, slice_index}
-use Rattle.bridge_cycle.proofs.cyclic.place_of.Given as goal
+use Rattle.bridge_cycle.proofs.cyclic.place_among.Given as goal
 
 abbrev pub invariant-loop-low : goal.invariant-loop-low
 invariant-loop-low l =
