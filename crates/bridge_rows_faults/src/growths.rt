@@ -6,7 +6,7 @@ use bridge_check::Accepted;
 use bridge_core::RunFault;
 use bridge_events::TreeAgenda;
 use bridge_refusing::RefusesOne;
-use bridge_trials::frames::{Frame, capture, header};
+use bridge_trials::frames::{Frame, TO_B, capture, header};
 use bridge_trials::plans::{BASE, accepted_of};
 use bridge_trials::runs::{holds, simulated};
 use std::alloc::{AllocError, Allocator, Global};
@@ -17,11 +17,18 @@ use std::test::Fail;
 pub(crate) trait Refuses {
     /// Whether a growth was refused.
     fn has_refused(&self) -> bool;
+
+    /// The growths until the one that is refused.
+    fn growths_left(&self) -> u64;
 }
 
 impl<A: Allocator> Refuses for &RefusesOne<A> {
     fn has_refused(&self) -> bool {
         self.refused()
+    }
+
+    fn growths_left(&self) -> u64 {
+        self.left()
     }
 }
 
@@ -142,4 +149,77 @@ fn refuse_each<A: Allocator + Copy>(rt: &impl Abort, alloc: A, heap: Global) -> 
 #[test]
 fn each_growth_of_a_run_is_refused_in_turn(rt: HostRuntime) -> Result<(), Fail> {
     refuse_each(&rt, rt.alloc(), rt.alloc())
+}
+
+/// Frames to two ports, each of which has left both before the next one comes.
+const TO_TWO_IN_TURN: &[Frame] = &[
+    (100_000, 60, TO_B),
+    (1_100_000, 60, TO_B),
+    (2_100_000, 60, TO_B),
+    (3_100_000, 60, TO_B),
+    (4_100_000, 60, TO_B),
+    (5_100_000, 60, TO_B),
+    (6_100_000, 60, TO_B),
+    (7_100_000, 60, TO_B),
+];
+
+/// More growths than these runs ask for.
+const NEVER: u64 = 1_000_000;
+
+/// How many growths a run of frames from port 1 takes under an accepted plan.
+fn growths_under<A: Allocator + Copy + Refuses>(
+    heap: Global,
+    gate: A,
+    accepted: &Accepted<A>,
+    frames: &[Frame],
+) -> Result<u64, Fail> {
+    let before = gate.growths_left();
+    let empty = header(heap)?;
+    let text = capture(heap, frames)?;
+    let mut sources = [
+        SliceSource::new(&text),
+        SliceSource::new(&empty),
+        SliceSource::new(&empty),
+    ];
+    let mut sinks = [VecSink::new(heap), VecSink::new(heap), VecSink::new(heap)];
+    let ended = simulated::<TreeAgenda, _, _, _>(gate, accepted, None, &mut sources, &mut sinks)?;
+    match ended {
+        Ok(outcome) => drop(outcome),
+        Err(_) => return Err(Fail::from("a run that ended early")),
+    }
+    Ok(before.saturating_sub(gate.growths_left()))
+}
+
+/// How many growths a run of frames from port 1 takes, without its plan.
+fn growths_in<A: Allocator + Copy + Refuses>(
+    heap: Global,
+    gate: A,
+    frames: &[Frame],
+) -> Result<u64, Fail> {
+    let Some(accepted) = accepted_of(gate, heap, BASE) else {
+        return Err(Fail::from("the plan was refused"));
+    };
+    let growths = growths_under(heap, gate, &accepted, frames);
+    drop(accepted);
+    growths
+}
+
+/// How many growths a run of frames from port 1 takes, in a counting allocator.
+fn growths_of(heap: Global, frames: &[Frame]) -> Result<u64, Fail> {
+    let gate = RefusesOne::new(heap, NEVER);
+    growths_in(heap, &gate, frames)
+}
+
+/// The octets of copies that left are the room of those of later frames: a frame more takes a list for its copies, and no
+/// octets. (Five frames and eight need as much room in the lists of their filter.)
+#[test]
+fn copies_of_later_frames_take_no_octets(rt: HostRuntime) -> Result<(), Fail> {
+    let five = growths_of(rt.alloc(), &TO_TWO_IN_TURN[..5])?;
+    let eight = growths_of(rt.alloc(), TO_TWO_IN_TURN)?;
+    assert!(rt; five > 20, "growths of the run itself");
+    assert!(rt;
+        eight.saturating_sub(five) == 3,
+        "a list for each of three frames"
+    );
+    Ok(())
 }
