@@ -1,5 +1,5 @@
 //! The tables of all filters, by number.
-ghost use Rattle.std.specs.Prelude.{◌≡◌, ℕ, true, ◌+◌, nat_eq, Some, OnOk, OnErr, IfOk, IfSome, IsSome, length, slice_get};
+ghost use Rattle.std.specs.Prelude.{◌≡◌, ◌<◌, ℕ, true, ◌+◌, nat_eq, Some, OnOk, OnErr, IfOk, IfSome, IsSome, length, slice_get};
 ghost use Rattle.std.specs.Map.{keys_of, lookup};
 ghost use Rattle.bridge_filter.specs.Plans.{are_distinct, is_there};
 ghost use Rattle.bridge_parts.specs.Told.{fresh, fresh_tables, HasTold};
@@ -43,29 +43,28 @@ fn step_of<A: Allocator + Copy>(tables: &Tables<A>, first: u32) -> u32
     }
 }
 
+/// A place, where it is that of the number.
+#[inline(always)]
+fn tested<A: Allocator + Copy>(tables: &Tables<A>, place: usize, number: u32) -> Option<usize>
+    ensures { IfSome result (λ place. slice_get (keys_of tables.now.entries) place ≡ Some number) }
+{
+    match tables.get_index(place) {
+        Some((own, _)) if *own == number => Some(place),
+        _ => None,
+    }
+}
+
 /// The place of a number where it is found at once: numbers that rise by equal steps in the order of the plan have places
-/// that follow one another.
+/// that follow one another, and the number of the filter of all other frames is often the last.
 #[inline(always)]
 fn own_place<A: Allocator + Copy>(tables: &Tables<A>, number: u32) -> Option<usize>
     ensures { IfSome result (λ place. slice_get (keys_of tables.now.entries) place ≡ Some number) }
 {
     let (first, _) = tables.get_index(0)?;
     let place = (number.saturating_sub(*first) / step_of(tables, *first)) as usize;
-    match tables.get_index(place) {
-        Some((own, _)) if *own == number => Some(place),
-        _ => last_place(tables, number),
-    }
-}
-
-/// The place of a number where it is that of the last filter, as that of all other frames often is.
-#[inline(always)]
-fn last_place<A: Allocator + Copy>(tables: &Tables<A>, number: u32) -> Option<usize>
-    ensures { IfSome result (λ place. slice_get (keys_of tables.now.entries) place ≡ Some number) }
-{
-    let last = tables.len().saturating_sub(1);
-    match tables.get_index(last) {
-        Some((own, _)) if *own == number => Some(last),
-        _ => None,
+    match tested(tables, place, number) {
+        Some(place) => Some(place),
+        None => tested(tables, tables.len().saturating_sub(1), number),
     }
 }
 
