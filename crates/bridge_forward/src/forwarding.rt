@@ -5,7 +5,9 @@ ghost use Rattle.bridge_forward.specs.Ports.{has};
 ghost use Rattle.bridge_forward.specs.Database.{members_at, entry_at};
 ghost use Rattle.bridge_forward.specs.Forward.{is_reserved, goes_to, forward};
 
-use crate::index::{Entries, entries_of, key_of, members_of};
+use crate::index::{
+    Entries, entries_of, hint_of, hints_of, key_of, members_of, ports_at, ports_by_hash,
+};
 use crate::{NoMemory, PortSet, StaticEntry, Vlan};
 use std::alloc::Allocator;
 use std::marker::Model;
@@ -42,6 +44,8 @@ pub struct Forwarding<A: Allocator + Copy> {
     statics: Vec<StaticEntry, A>,
     members: Vec<Option<PortSet>, A>,
     entries: Entries<A>,
+    /// At which place the entry of a key may stand. It is tested there.
+    hints: Vec<u16, A>,
 }
 
 impl<A: Allocator + Copy> Model for Forwarding<A> {
@@ -67,11 +71,13 @@ impl<A: Allocator + Copy> Forwarding<A> {
     {
         let members = members_of(alloc, &vlans)?;
         let entries = entries_of(alloc, &statics)?;
+        let hints = hints_of(alloc, &entries)?;
         Ok(Forwarding {
             vlans,
             statics,
             members,
             entries,
+            hints,
         })
     }
 
@@ -115,10 +121,23 @@ impl<A: Allocator + Copy> Forwarding<A> {
         self.members.get(vid as usize).copied().flatten()
     }
 
+    /// The place at which the entry of a key may stand.
+    #[inline(always)]
+    fn place_of(&self, key: u64) -> usize {
+        match self.hints.get(hint_of(key, self.hints.len())) {
+            Some(place) => *place as usize,
+            None => 0,
+        }
+    }
+
     /// The ports of the static entry of a VLAN and an address.
     fn entry_at(&self, vid: u16, da: &[u8; 6]) -> Option<PortSet>
         ensures { result ≡ entry_at self.now.statics vid da.now }
     {
-        self.entries.get(&key_of(vid, *da)).copied()
+        let key = key_of(vid, *da);
+        match ports_at(&self.entries, self.place_of(key), key) {
+            Some(ports) => Some(ports),
+            None => ports_by_hash(&self.entries, key),
+        }
     }
 }

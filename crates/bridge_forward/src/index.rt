@@ -1,6 +1,6 @@
 //! Look-ups of sets of ports, made from lists.
 
-ghost use Rattle.std.specs.Prelude.{◌≡◌, ◌<◌, ℕ, List, [], ◌∷◌, All, IfOk, OnOk, Some, None, nat_eq, length, if◌then◌else◌};
+ghost use Rattle.std.specs.Prelude.{◌≡◌, ◌<◌, ℕ, List, [], ◌∷◌, All, IfOk, IfSome, OnOk, Some, None, nat_eq, length, if◌then◌else◌};
 ghost use Rattle.std.specs.Option.{option_or};
 ghost use Rattle.indexmap.specs.IndexMap.{get};
 ghost use Rattle.bridge_forward.specs.declared.Vlan.{Vlan};
@@ -91,6 +91,57 @@ fn keep_entry<A: Allocator + Copy>(
         → get nat_eq entries.new (key_of vid address) ≡ option_or (get nat_eq entries.old (key_of vid address)) (entry_at (entry ∷ []) vid address)) }
 {
     keep_first(entries, key_of(entry.vid, entry.address), entry.ports)
+}
+
+/// How many hints there are for each static entry.
+const HINTS_EACH: usize = 4;
+
+/// Which of so many hints is that of a key.
+#[inline(always)]
+pub(crate) fn hint_of(key: u64, hints: usize) -> usize {
+    let mixed = key.wrapping_mul(0x9E37_79B9_7F4A_7C15) >> 32;
+    (mixed.wrapping_mul(hints as u64) >> 32) as usize
+}
+
+/// Hints at the places of static entries, each at the hint of its key: where several have one, the last of them.
+pub(crate) fn hints_of<A: Allocator + Copy>(
+    alloc: A,
+    entries: &Entries<A>,
+) -> Result<Vec<u16, A>, AllocError> {
+    let count = entries.len().saturating_mul(HINTS_EACH);
+    let mut hints = Vec::from_elem(alloc, 0, count)?;
+    for place in 0..entries.len() {
+        if let Some((key, _)) = entries.get_index(place)
+            && let Some(hint) = hints.get_mut(hint_of(*key, count))
+        {
+            *hint = (place % 65_536) as u16;
+        }
+    }
+    Ok(hints)
+}
+
+/// The ports at a key, where they stand at a place.
+#[inline(always)]
+pub(crate) fn ports_at<A: Allocator + Copy>(
+    entries: &Entries<A>,
+    place: usize,
+    key: u64,
+) -> Option<PortSet>
+    ensures { IfSome result (λ ports. get nat_eq entries.now key ≡ Some ports) }
+{
+    let _entries = entries.len();
+    match entries.get_index(place) {
+        Some((own, ports)) if *own == key => Some(*ports),
+        _ => None,
+    }
+}
+
+/// The ports at a key, by its hash.
+#[inline(never)]
+pub(crate) fn ports_by_hash<A: Allocator + Copy>(entries: &Entries<A>, key: u64) -> Option<PortSet>
+    ensures { result ≡ get nat_eq entries.now key }
+{
+    entries.get(&key).copied()
 }
 
 /// The ports of each static entry.
