@@ -1,6 +1,6 @@
 //! Look-ups of the first entries that match, made from the list of entries.
 
-ghost use Rattle.std.specs.Prelude.{◌≡◌, ℕ, Bool, List, [], ◌∷◌, IfOk, OnOk, Some, None, true, false, nat_eq, if◌then◌else◌};
+ghost use Rattle.std.specs.Prelude.{◌≡◌, ℕ, Bool, List, [], ◌∷◌, IfOk, IfSome, OnOk, Some, None, true, false, nat_eq, if◌then◌else◌};
 ghost use Rattle.std.specs.Option.{option_map, option_or};
 ghost use Rattle.indexmap.specs.IndexMap.{get};
 ghost use Rattle.bridge_ident.specs.declared.Kind.TheVariants.{Null, Source};
@@ -30,6 +30,8 @@ type Firsts<A> = IndexMap<u128, First, BuildHasherDefault<FoldHasher>, A>;
 struct ByAddress<A: Allocator + Copy> {
     destinations: Firsts<A>,
     sources: Firsts<A>,
+    /// At which place among the destinations a key may stand. It is tested there.
+    hints: Vec<u16, A>,
 }
 
 /// The first entries of a table.
@@ -144,6 +146,40 @@ fn firsts_of<A: Allocator + Copy>(
     Ok(firsts)
 }
 
+/// How many hints there are for each destination.
+const HINTS_EACH: usize = 4;
+
+/// Which of so many hints is that of a key.
+#[inline(always)]
+fn hint_of(key: u128, hints: usize) -> usize {
+    let folded = ((key >> 64) ^ key) % PAST_64_BITS;
+    let mixed = (folded as u64).wrapping_mul(0x9E37_79B9_7F4A_7C15) >> 32;
+    (mixed.wrapping_mul(hints as u64) >> 32) as usize
+}
+
+/// The place at which a key may stand.
+#[inline(always)]
+fn place_of(hints: &[u16], key: u128) -> usize {
+    match hints.get(hint_of(key, hints.len())) {
+        Some(place) => *place as usize,
+        None => 0,
+    }
+}
+
+/// Hints at the places of entries, each at the hint of its key: where several have one, the last of them.
+fn hints_of<A: Allocator + Copy>(alloc: A, firsts: &Firsts<A>) -> Result<Vec<u16, A>, AllocError> {
+    let count = firsts.len().saturating_mul(HINTS_EACH);
+    let mut hints = Vec::from_elem(alloc, 0, count)?;
+    for place in 0..firsts.len() {
+        if let Some((key, _)) = firsts.get_index(place)
+            && let Some(hint) = hints.get_mut(hint_of(*key, count))
+        {
+            *hint = (place % 65_536) as u16;
+        }
+    }
+    Ok(hints)
+}
+
 /// The first entries of both kinds.
 fn by_address_of<A: Allocator + Copy>(
     alloc: A,
@@ -154,28 +190,46 @@ fn by_address_of<A: Allocator + Copy>(
 {
     let destinations = firsts_of(alloc, entries, Kind::Null, tagged)?;
     let sources = firsts_of(alloc, entries, Kind::Source, tagged)?;
+    let hints = hints_of(alloc, &destinations)?;
     Ok(ByAddress {
         destinations,
         sources,
+        hints,
     })
 }
 
-/// The first entry at a port, in a VLAN, for an address.
+/// The first entry at a key, where it stands at a place.
 #[inline(always)]
-fn first_at<A: Allocator + Copy>(
-    firsts: &Firsts<A>,
-    port: u8,
-    vid: u16,
-    address: [u8; 6],
-) -> Option<First>
-    ensures first { result ≡ get nat_eq firsts.now (key_of port vid address) }
-    ensures is_key { IsKey vid address }
+fn first_at<A: Allocator + Copy>(firsts: &Firsts<A>, place: usize, key: u128) -> Option<First>
+    ensures { IfSome result (λ first. get nat_eq firsts.now key ≡ Some first) }
 {
-    let key = key_of(port, vid, address);
+    let _firsts = firsts.len();
+    match firsts.get_index(place) {
+        Some((own, first)) if *own == key => Some(*first),
+        _ => None,
+    }
+}
+
+/// The first entry at a key, by its hash.
+#[inline(always)]
+fn first_by_hash<A: Allocator + Copy>(firsts: &Firsts<A>, key: u128) -> Option<First>
+    ensures { result ≡ get nat_eq firsts.now key }
+{
     if firsts.is_empty() {
         None
     } else {
         firsts.get(&key).copied()
+    }
+}
+
+/// The first entry at a key, looked for at its hint first.
+#[inline(always)]
+fn first_of<A: Allocator + Copy>(firsts: &Firsts<A>, hints: &[u16], key: u128) -> Option<First>
+    ensures { result ≡ get nat_eq firsts.now key }
+{
+    match first_at(firsts, place_of(hints, key), key) {
+        Some(first) => Some(first),
+        None => first_by_hash(firsts, key),
     }
 }
 
@@ -206,8 +260,10 @@ impl<A: Allocator + Copy> ByAddress<A> {
             → AreByAddress (names_vlan head.now.tag) entries self.now.destinations self.now.sources
             → result ≡ handle_in entries port head.now vid }
     {
-        let destination = first_at(&self.destinations, port, vid, head.da);
-        let source = first_at(&self.sources, port, vid, head.sa);
+        let da = key_of(port, vid, head.da);
+        let sa = key_of(port, vid, head.sa);
+        let destination = first_of(&self.destinations, &self.hints, da);
+        let source = first_by_hash(&self.sources, sa);
         handle_of(lesser(destination, source))
     }
 }
