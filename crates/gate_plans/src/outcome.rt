@@ -73,7 +73,10 @@ fn planned<A: Allocator + Copy>(alloc: A, heap: Global, text: &str) -> Result<St
     ensures { IfOk result (λ line. IsPlanLine A text.now (string_bytes line)) }
 {
     match plan_of(alloc, heap, text.as_bytes()) {
-        Ok(_plan) => String::from_str(alloc, "accepted"),
+        Ok(plan) => {
+            drop(plan);
+            String::from_str(alloc, "accepted")
+        }
         Err(fault) => line_of(alloc, &Fault::Plan(fault)),
     }
 }
