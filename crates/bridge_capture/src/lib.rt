@@ -11,6 +11,7 @@ mod form;
 mod from_read;
 mod from_write;
 mod header;
+mod held;
 mod laws;
 mod packet;
 mod progress;

@@ -1,25 +1,23 @@
 //! std's writers as sinks that hold octets back.
-ghost use Rattle.std.specs.Prelude.{◌≡◌, ◌≤◌, ◌<◌, ◌+◌, ◌-◌, ◌++◌, [], length, drop, vec_len, vec_capacity, true, false, IsErr, IfOk, OnOk, OnErr};
-ghost use Rattle.std.specs.Int.{w64, to_le_bytes};
+ghost use Rattle.std.specs.Prelude.{◌≡◌, ◌≤◌, ◌<◌, ◌-◌, length, true, false, IsErr, IfOk, OnOk, OnErr};
 ghost use Rattle.std.specs.Io.KnownBytes.{Keeps, WriteAppends};
 ghost use Rattle.bridge_capture.specs.Buffered.{behind_contents};
 
 use crate::from_write::FromWrite;
+use crate::held::{BLOCK, Held};
 use crate::sink::ByteSink;
 use crate::source::Broken;
 use crate::transfer::write_front;
 use std::alloc::{AllocError, Allocator};
 use std::io::Write;
 
-/// The octets that are held back at most.
-const MOST_HELD: usize = 131_072;
-
-/// A writer as a sink that holds up to 131,072 octets back. They are handed on where there is no room
-/// for more, by `finish`, and where the sink is let go. Any error of the writer is for good, an
-/// interrupted call and a write of nothing too: a writer that has failed is not asked again.
+/// A writer as a sink that holds octets back: up to 131,072, and what of a record goes beyond. Where more come, the first
+/// 131,072 are handed on, so that each write but the last is of whole pages of a file that is written from its start; what
+/// is left is handed on by `finish`, and where the sink is let go. Any error of the writer is for good, an interrupted call
+/// and a write of nothing too: a writer that has failed is not asked again.
 pub struct WriteBehind<W: Write + Drop, A: Allocator> {
     sink: FromWrite<W>,
-    held: Vec<u8, A>,
+    held: Held<A>,
 }
 
 impl<W: Write + Drop, A: Allocator> WriteBehind<W, A> {
@@ -28,7 +26,7 @@ impl<W: Write + Drop, A: Allocator> WriteBehind<W, A> {
         ensures contents { IfOk result (λ sink. Keeps (W.contents writer) (⟦<WriteBehind<W, A> as ByteSink>⟧.contents sink)) }
         ensures sound { IfOk result (λ sink. ⟦<WriteBehind<W, A> as ByteSink>⟧.has_failed sink ≡ false) }
     {
-        match Vec::with_capacity(alloc, MOST_HELD) {
+        match Held::new(alloc) {
             Ok(held) => Ok(WriteBehind {
                 sink: FromWrite::new(writer),
                 held,
@@ -42,7 +40,8 @@ impl<W: Write + Drop, A: Allocator> WriteBehind<W, A> {
         ensures contents { IfOk result (λ writer. Keeps (⟦<WriteBehind<W, A> as ByteSink>⟧.contents self) (W.contents writer)) }
         ensures failed { ⟦<WriteBehind<W, A> as ByteSink>⟧.has_failed self ≡ true → IsErr result }
     {
-        let handed = self.hand_on();
+        let held = self.held.len();
+        let handed = self.hand_on(held);
         let WriteBehind { sink, held: _ } = self;
         let mut writer = sink.into_inner();
         if handed.is_err() {
@@ -54,11 +53,11 @@ impl<W: Write + Drop, A: Allocator> WriteBehind<W, A> {
         }
     }
 
-    /// Hands on what is held back. What the writer does not take stays.
-    fn hand_on(&mut self) -> Result<(), Broken>
+    /// Hands on the first of what is held back. What the writer does not take stays.
+    fn hand_on(&mut self, count: usize) -> Result<(), Broken>
+        requires { count ≤ self.old.held.count }
         ensures kept { Keeps (behind_contents W.contents self.old) (behind_contents W.contents self.new) }
-        ensures none { OnOk result (self.new.held.items ≡ []) }
-        ensures length { OnOk result (vec_len self.new.held ≡ 0) }
+        ensures count { OnOk result (self.new.held.count ≡ self.old.held.count - count) }
         ensures fails { OnErr result (self.new.sink.is_broken ≡ true) }
         ensures works { OnOk result (self.new.sink.is_broken ≡ false) }
         ensures stays { self.old.sink.is_broken ≡ true → IsErr result }
@@ -66,13 +65,13 @@ impl<W: Write + Drop, A: Allocator> WriteBehind<W, A> {
         if self.sink.failed() {
             return Err(Broken);
         }
-        match write_front(&mut self.sink, &self.held) {
+        match write_front(&mut self.sink, &self.held.octets()[..count]) {
             Ok(()) => {
-                self.held.clear();
+                self.held.skip(count);
                 Ok(())
             }
-            Err(count) => {
-                remove_front(&mut self.held, count);
+            Err(taken) => {
+                self.held.skip(taken);
                 Err(Broken)
             }
         }
@@ -89,14 +88,19 @@ impl<W: Write + Drop, A: Allocator> WriteBehind<W, A> {
         ensures works { OnOk result (self.new.sink.is_broken ≡ false) }
         ensures stays { self.old.sink.is_broken ≡ true → IsErr result }
     {
-        if let Err(broken) = self.hand_on() {
+        let held = self.held.len();
+        let block = if held < BLOCK { held } else { BLOCK };
+        if let Err(broken) = self.hand_on(block) {
             return Err(broken);
         }
-        if octets.len() > self.held.capacity() {
-            return self.sink.write(octets);
-        }
-        append(&mut self.held, octets);
-        Ok(octets.len())
+        let room = self.held.room();
+        let count = if octets.len() < room {
+            octets.len()
+        } else {
+            room
+        };
+        self.held.put(&octets[..count]);
+        Ok(count)
     }
 }
 
@@ -107,21 +111,20 @@ impl<W: Write + Drop, A: Allocator> ByteSink for WriteBehind<W, A> {
 
     #[inline(always)]
     fn write(&mut self, octets: &[u8]) -> Result<usize, Broken> {
-        if self.held.capacity() - self.held.len() < octets.len() || self.sink.failed() {
+        if !self.held.takes(octets.len()) || self.sink.failed() {
             return self.write_on(octets);
         }
-        append(&mut self.held, octets);
+        self.held.put(octets);
         Ok(octets.len())
     }
 
     #[inline(always)]
     fn write_words(&mut self, first: u64, second: u64, octets: &[u8]) -> bool {
-        let room = self.held.capacity() - self.held.len();
-        if room < 16 || room - 16 < octets.len() || self.sink.failed() {
+        if !self.held.takes(16 + octets.len()) || self.sink.failed() {
             return false;
         }
-        append_words(&mut self.held, first, second);
-        append(&mut self.held, octets);
+        self.held.put_words(first, second);
+        self.held.put(octets);
         true
     }
 
@@ -132,42 +135,8 @@ impl<W: Write + Drop, A: Allocator> ByteSink for WriteBehind<W, A> {
 
 impl<W: Write + Drop, A: Allocator> Drop for WriteBehind<W, A> {
     fn drop(mut self) {
-        let _ = self.hand_on();
+        let held = self.held.len();
+        let _ = self.hand_on(held);
         let WriteBehind { sink: _, held: _ } = self;
     }
-}
-
-/// Adds octets for which there is room.
-#[inline(always)]
-fn append<A: Allocator>(held: &mut Vec<u8, A>, octets: &[u8])
-    requires { vec_len held.old + length octets.now ≤ vec_capacity held.old }
-    ensures items { held.new.items ≡ held.old.items ++ octets.now }
-    ensures length { vec_len held.new ≡ vec_len held.old + length octets.now }
-    ensures capacity { vec_capacity held.old ≤ vec_capacity held.new }
-{
-    let Ok(()) = held.extend_from_slice(octets) else {
-        unreachable!()
-    };
-}
-
-/// Adds the octets of two numbers, one after the other, for which there is room.
-#[inline(always)]
-fn append_words<A: Allocator>(held: &mut Vec<u8, A>, first: u64, second: u64)
-    requires { vec_len held.old + 16 ≤ vec_capacity held.old }
-    ensures items { held.new.items ≡ held.old.items ++ (to_le_bytes w64 first ++ to_le_bytes w64 second) }
-    ensures length { vec_len held.new ≡ vec_len held.old + 16 }
-    ensures capacity { vec_capacity held.old ≤ vec_capacity held.new }
-{
-    append(held, &first.to_le_bytes());
-    append(held, &second.to_le_bytes());
-}
-
-/// Lets go of the first octets.
-fn remove_front<A: Allocator>(held: &mut Vec<u8, A>, count: usize)
-    requires { count ≤ vec_len held.old }
-    ensures { held.new.items ≡ drop count held.old.items }
-{
-    let len = held.len();
-    held.as_mut_slice().copy_within(count..len, 0);
-    held.truncate(len - count);
 }

@@ -625,6 +625,57 @@ fn a_writer_that_failed_is_not_asked_again(rt: HostRuntime) -> Result<(), Fail> 
     Ok(())
 }
 
+/// A writer that takes all, and counts the calls that give it 131,072 octets and the others.
+#[derive(Drop)]
+struct Blocks<'a> {
+    whole: &'a Cell<u32>,
+    other: &'a Cell<u32>,
+}
+
+impl Write for Blocks<'_> {
+    fn write(&mut self, octets: &[u8]) -> io::Result<usize> {
+        let counted = if octets.len() == 131_072 {
+            self.whole
+        } else {
+            self.other
+        };
+        counted.set(counted.get().wrapping_add(1));
+        Ok(octets.len())
+    }
+
+    fn flush(&mut self) -> io::Result<()> {
+        Ok(())
+    }
+}
+
+/// Writes a thousand records of these octets.
+fn writes_records<W: ByteSink>(sink: &mut W, octets: &[u8]) -> Result<(), CaptureFault> {
+    let mut writer = Writer::begin(sink)?;
+    for done in 0..1000 {
+        writer.put(sink, done, 1500, octets)?;
+    }
+    Ok(())
+}
+
+#[test]
+fn each_write_but_the_last_is_a_whole_block(rt: HostRuntime) -> Result<(), Fail> {
+    let whole = Cell::new(0);
+    let other = Cell::new(0);
+    let octets = Vec::from_elem(rt.alloc(), 7, 1500)?;
+    let mut sink = WriteBehind::new(
+        rt.alloc(),
+        Blocks {
+            whole: &whole,
+            other: &other,
+        },
+    )?;
+    writes_records(&mut sink, &octets)?;
+    drop(sink);
+    // 24 octets of header and 1000 records of 1516 each.
+    assert!(rt; (whole.get(), other.get()) == (11, 1));
+    Ok(())
+}
+
 /// Writes both frames.
 fn write_both<W: ByteSink>(sink: &mut W) -> Result<(), CaptureFault> {
     let mut writer = Writer::begin(sink)?;
