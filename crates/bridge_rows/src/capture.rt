@@ -1,5 +1,5 @@
 //! Rows for captures.
-ghost use Rattle.std.specs.Prelude.{◌≤◌};
+ghost use Rattle.std.specs.Prelude.{◌≤◌, length};
 
 use crate::captures::{FRAME, Words, capture_of, capture_under};
 use crate::must::must;
@@ -649,7 +649,9 @@ impl Write for Blocks<'_> {
 }
 
 /// Writes a thousand records of these octets.
-fn writes_records<W: ByteSink>(sink: &mut W, octets: &[u8]) -> Result<(), CaptureFault> {
+fn writes_records<W: ByteSink>(sink: &mut W, octets: &[u8]) -> Result<(), CaptureFault>
+    requires { length octets.now ≤ 1500 }
+{
     let mut writer = Writer::begin(sink)?;
     for done in 0..1000 {
         writer.put(sink, done, 1500, octets)?;
