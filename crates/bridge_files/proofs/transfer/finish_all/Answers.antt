@@ -1,4 +1,5 @@
 use Rattle.std.proofs.Common.{◌≡◌, [], ◌∷◌, ◌++◌, false, sym, subst, ◌∙◌, arith, rules, length-append}
+use Rattle.std.proofs.lemmas.Bool.{false_from_ne_true, false≢true}
 use Rattle.std.proofs.lemmas.Iterator.Adapters.{YieldsList-from_vec}
 use Rattle.std.proofs.lemmas.Iterator.Consumers.{YieldsList-so_far, YieldsList-turn}
 use Rattle.bridge_files.specs.Flushed.{AllKept, NoneFailed}
@@ -8,7 +9,7 @@ use Rattle.bridge_files.proofs.transfer.finish_all.Goals as goal
 
 pub loop-sink-preserved : goal.loop-sink-preserved
 loop-sink-preserved g c =
-    let sound : c.in-Some.sink.sink.is_broken ≡ false = search rules in
+    let sound : c.in-Some.sink.sink.is_broken ≡ false = false_from_ne_true c.in-Some.sink.sink.is_broken (λ failed. false≢true (c.in-Ok.ensures.failed failed)) in
     record {
       kept = subst (AllKept (sunk g.W.Write.contents) g.W.Write.contents (c.loop-sink.yielded ++ c.in-Some.sink ∷ [])) (sym c.in-Ok-push.ensures.items)
           (kept_push (sunk g.W.Write.contents) g.W.Write.contents c.loop-sink.yielded c.loop-sink.flushed.items c.in-Some.sink c.in-Ok.writer c.loop-sink.invariant.kept c.in-Ok.ensures.contents);
