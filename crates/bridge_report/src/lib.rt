@@ -15,5 +15,5 @@ mod word;
 
 pub use fault::ReportFault;
 pub use laws::same_section;
-pub use sections::{report, section, write_report};
+pub use sections::{has_section, report, section, write_report};
 pub use totals::summary;

@@ -1,8 +1,9 @@
 //! The section of a report on a stream filter, and the report on all.
-ghost use Rattle.std.specs.Prelude.{◌≡◌, nat_eq, option_map, string_bytes, IfOk};
+ghost use Rattle.std.specs.Prelude.{◌≡◌, nat_eq, is_some, option_map, string_bytes, true, Some, IfOk};
 ghost use Rattle.std.specs.Map.{lookup};
 ghost use Rattle.std.specs.Io.KnownBytes.{Appends};
 ghost use Rattle.bridge_report.specs.Section.{report_of, section_of};
+ghost use Rattle.bridge_run.specs.declared.outcome.View.{View};
 
 use crate::fault::ReportFault;
 use crate::held::Held;
@@ -27,21 +28,28 @@ fn view_of<A: Allocator>(outcome: &Outcome<A>, filter: u32) -> Option<&View<A>>
     None
 }
 
-/// The section of a report on the stream filter with this number: its lines, each ended by a line feed. `None` where
-/// the run tells of no such filter.
+/// Whether the run tells of a stream filter with this number.
+pub fn has_section<A: Allocator>(outcome: &Outcome<A>, filter: u32) -> bool
+    ensures { result ≡ is_some (lookup (nat_eq filter) outcome.now.filters.items) }
+{
+    view_of(outcome, filter).is_some()
+}
+
+/// The section of a report on a stream filter of which the run tells: its lines, each ended by a line feed.
 pub fn section<A: Allocator + Copy>(
     alloc: A,
     outcome: &Outcome<A>,
     filter: u32,
-) -> Result<Option<String<A>>, NoMemory>
-    ensures { IfOk result (λ text. option_map string_bytes text ≡ option_map (section_of filter) (lookup (nat_eq filter) outcome.now.filters.items)) }
+) -> Result<String<A>, NoMemory>
+    requires there { is_some (lookup (nat_eq filter) outcome.now.filters.items) ≡ true }
+    ensures { (view : View A) → lookup (nat_eq filter) outcome.now.filters.items ≡ Some view → IfOk result (λ text. string_bytes text ≡ section_of filter view) }
 {
     let Some(view) = view_of(outcome, filter) else {
-        return Ok(None);
+        unreachable!();
     };
     let mut text = String::new(alloc);
     match put_section(&mut text, filter, view) {
-        Ok(()) => Ok(Some(text)),
+        Ok(()) => Ok(text),
         Err(_) => Err(NoMemory),
     }
 }

@@ -30,11 +30,13 @@ fn explain_if_asked(rt: &(impl AllocGlobal + Eprint + Env + Files), fault: &Faul
     }
 }
 
-/// Prints the help that the words ask for, or does their job and says what it says.
+/// Does the job of the words and says what it says; where they ask for help or for the version, prints that, and ends as for
+/// words that are refused.
 fn run(rt: &(impl Input + AllocGlobal + Print + Eprint + Env + Files)) -> Result<(), Fault> {
     let words = words_of(rt)?;
     if let Some(text) = help_of(rt.alloc(), &words)? {
-        return print(rt, text.as_str());
+        print(rt, text.as_str())?;
+        return Err(Fault::Words);
     }
     let job = job_of(rt.alloc(), &words)?;
     let sketch = sketch_of(rt.alloc(), &words)?;

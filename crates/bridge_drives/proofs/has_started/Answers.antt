@@ -1,7 +1,0 @@
-use Rattle.std.proofs.Common.{sym, ◌∙◌}
-use Rattle.bridge_core.specs.Bridges.{plan_in}
-use Rattle.bridge_drives.proofs.Known.{known}
-use Rattle.bridge_drives.proofs.has_started.Goals as goal
-
-pub started-requires : goal.started-requires
-started-requires g c = known (plan_in c.args.bridge.now) c.plan.result.now c.args.port c.in-Some.field-0.now (c.requires.plan ∙ sym c.plan.ensures.plan) c.in-Some.ensures.port

@@ -1,0 +1,87 @@
+//! The text of the base plan, and its changes.
+use std::alloc::{AllocError, Allocator};
+use std::test::Fail;
+
+/// Filter 10 is protected: its frames come in on port 1 in the window of gate 1, and go out of port 3 in class 7. Filter 99
+/// takes all others, in class 0.
+pub const BASE: &str = r#"
+[[port]]
+number = 1
+mbps = 1000
+rooms = [4, 4, 4, 4, 4, 4, 4, 4]
+[[port]]
+number = 2
+mbps = 1000
+rooms = [4, 4, 4, 4, 4, 4, 4, 4]
+[[port]]
+number = 3
+mbps = 1000
+rooms = [4, 4, 4, 4, 4, 4, 4, 4]
+cycle = 1000000
+gates = [{ open = [7], ns = 500000 }, { open = [0, 1, 2, 3, 4, 5, 6], ns = 500000 }]
+[[vlan]]
+vid = 10
+members = [1, 2, 3]
+[[static]]
+vid = 10
+address = "02-00-00-00-00-0A"
+ports = [3]
+[[stream]]
+handle = 1
+port = 1
+kind = "null"
+address = "02-00-00-00-00-0A"
+vid = 10
+tag = "tagged"
+[[gate]]
+number = 1
+cycle = 1000000
+entries = [{ open = true, ns = 300000, ipv = 7, octets = 600 }, { open = false, ns = 700000 }]
+[[gate]]
+number = 99
+state = "open"
+ipv = 0
+[[filter]]
+number = 10
+handle = 1
+gate = 1
+max_sdu = 500
+protected = true
+[[filter]]
+number = 99
+gate = 99
+"#;
+
+/// Lines of the plan, and what stands in their place.
+pub type Change = (&'static str, &'static str);
+
+/// A text with what stands in the place of a part of it.
+pub fn changed<A: Allocator + Copy>(
+    alloc: A,
+    text: &str,
+    change: Change,
+) -> Result<String<A>, Fail> {
+    match text.split_once(change.0) {
+        Some((before, after)) => {
+            let put = change.1;
+            Ok(format!(in alloc; "{before}{put}{after}")?)
+        }
+        None => Err(Fail::from("a plan without the line")),
+    }
+}
+
+/// The text of the plan after these changes.
+pub fn text_of<A: Allocator + Copy>(alloc: A, changes: &[Change]) -> Result<String<A>, Fail> {
+    let mut text = String::from_str(alloc, BASE)?;
+    for change in changes {
+        text = changed(alloc, &text, *change)?;
+    }
+    Ok(text)
+}
+
+/// The text of the plan, and more lines behind it.
+pub fn text_with<A: Allocator + Copy>(alloc: A, more: &str) -> Result<String<A>, AllocError> {
+    let mut text = String::from_str(alloc, BASE)?;
+    text.push_str(more)?;
+    Ok(text)
+}

@@ -1,0 +1,11 @@
+//! What a test says where it fails.
+use std::test::Fail;
+
+/// Fails where something does not hold, with what it is and a number that says where. A function of its own, since each text
+/// that is put together costs the proof of a test seconds.
+pub fn must(holds: bool, what: &str, number: u64) -> Result<(), Fail> {
+    if holds {
+        return Ok(());
+    }
+    Err(Fail::new(format_args!("{what} {number}")))
+}

@@ -1,0 +1,41 @@
+#![tactic(auto)]
+//! Files of cases: texts of plans and of commands, and what is to become of each; then the help of the program and of each
+//! of its commands, as docs/COMMANDS.md has it, what is told beside the line of each kind of fault, and of plans that are
+//! accepted.
+//!
+//! The words name the files of both, with `told` between them. `data/README.md` says how they are written.
+
+mod bases;
+mod case;
+mod judging;
+mod outcome;
+mod reading;
+mod telling;
+mod told_cases;
+mod told_faults;
+
+use bridge_program::{Fault, end, words_of};
+use judging::judged;
+use std::process::ExitCode;
+use std::rt::{Env, Files};
+use telling::tell_all;
+
+fn main(rt: HostRuntime) -> ExitCode {
+    match run(&rt) {
+        Ok(true) => ExitCode::from(0),
+        Ok(false) => ExitCode::from(1),
+        Err(fault) => end(&rt, &fault),
+    }
+}
+
+/// Judges the cases before the word `told`, and tells of those behind it; whether all are as they say.
+fn run(rt: &(impl AllocGlobal + Print + Env + Files)) -> Result<bool, Fault> {
+    let words = words_of(rt)?;
+    let Some(place) = words.iter().position(|word| word.as_str() == "told") else {
+        return Err(Fault::Words);
+    };
+    let (judges, tells) = words.split_at(place);
+    let holds = judged(rt, judges)?;
+    tell_all(rt, tells.get(1..).unwrap_or(&[]))?;
+    Ok(holds)
+}

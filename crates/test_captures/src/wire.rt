@@ -1,0 +1,301 @@
+//! One capture through one queue: worked examples of what leaves, of counts and of faults.
+use crate::must::must;
+use bridge_capture::{ByteSink, ByteSource, CaptureFault, SliceSource, VecSink};
+use bridge_frame::Speed;
+use bridge_wire::{RunFault, WireCount, wire};
+use fixture_alloc::{Ending, refuse_each};
+use fixture_text::captures::{Words, capture_of};
+use std::alloc::Allocator;
+use std::process::Abort;
+use std::test::Fail;
+
+const ARRIVALS: [Words; 2] = [[0, 100_000, 18, 60], [0, 100_001, 18, 60]];
+
+const DEPARTURES: [Words; 2] = [[0, 100_672, 18, 60], [0, 101_344, 18, 60]];
+
+const BOTH: WireCount = WireCount {
+    frames: 2,
+    malformed: 0,
+    sent: 2,
+    full: 0,
+};
+
+/// A run over a link of 1,000 Mb/s and a queue of 4 places.
+fn run<R: ByteSource, W: ByteSink, A: Allocator + Copy>(
+    alloc: A,
+    source: &mut R,
+    sink: &mut W,
+) -> Result<WireCount, RunFault> {
+    wire(alloc, Speed::Mbps1000, 4, source, sink)
+}
+
+/// The same with a queue of so many places.
+fn run_in<W: ByteSink, A: Allocator + Copy>(
+    rt: &impl Abort,
+    alloc: A,
+    places: u16,
+    text: &[u8],
+    sink: &mut W,
+) -> Result<WireCount, RunFault> {
+    assert!(rt; 1 <= places);
+    assert!(rt; places <= 4_096);
+    let mut source = SliceSource::new(text);
+    wire(alloc, Speed::Mbps1000, places, &mut source, sink)
+}
+
+/// Tests what leaves of so many frames.
+fn leaves<A: Allocator + Copy>(
+    rt: &impl Abort,
+    alloc: A,
+    octets: &[u8],
+    departures: &[Words],
+    frames: u64,
+) -> Result<(), Fail> {
+    let left = capture_of(alloc, departures)?;
+    must(
+        rt,
+        octets == left.as_slice(),
+        "what leaves of frames",
+        frames,
+    );
+    Ok(())
+}
+
+/// Tests a run over a link of 1,000 Mb/s and a queue of so many places: its counts, and what leaves.
+fn goes<A: Allocator + Copy>(
+    rt: &impl Abort,
+    alloc: A,
+    places: u16,
+    text: &[u8],
+    wanted: WireCount,
+    departures: &[Words],
+) -> Result<(), Fail> {
+    let mut sink = VecSink::new(alloc);
+    let ran = run_in(rt, alloc, places, text, &mut sink);
+    must(rt, ran == Ok(wanted), "the counts of frames", wanted.frames);
+    leaves(rt, alloc, sink.octets(), departures, wanted.frames)
+}
+
+/// The same of a capture of records.
+fn records_go<A: Allocator + Copy>(
+    rt: &impl Abort,
+    alloc: A,
+    places: u16,
+    arrivals: &[Words],
+    wanted: WireCount,
+    departures: &[Words],
+) -> Result<(), Fail> {
+    let text = capture_of(alloc, arrivals)?;
+    goes(rt, alloc, places, &text, wanted, departures)
+}
+
+const NONE: WireCount = WireCount {
+    frames: 0,
+    malformed: 0,
+    sent: 0,
+    full: 0,
+};
+
+const ONE_TOO_LONG: [Words; 2] = [[0, 100_000, 18, 60], [0, 100_000, 18, 9_217]];
+
+const FIRST_ALONE: [Words; 1] = [[0, 100_672, 18, 60]];
+
+const ONE_MALFORMED: WireCount = WireCount {
+    frames: 2,
+    malformed: 1,
+    sent: 1,
+    full: 0,
+};
+
+#[test]
+fn frames_leave_one_after_the_other(rt: HostRuntime) -> Result<(), Fail> {
+    records_go(&rt, rt.alloc(), 4, &[], NONE, &[])?;
+    records_go(&rt, rt.alloc(), 4, &ARRIVALS, BOTH, &DEPARTURES)?;
+    records_go(
+        &rt,
+        rt.alloc(),
+        4,
+        &ONE_TOO_LONG,
+        ONE_MALFORMED,
+        &FIRST_ALONE,
+    )
+}
+
+const AT_ONCE: [Words; 2] = [[0, 100_000, 18, 60], [0, 100_000, 18, 60]];
+
+const ONE_FULL: WireCount = WireCount {
+    frames: 2,
+    malformed: 0,
+    sent: 1,
+    full: 1,
+};
+
+#[test]
+fn a_queue_may_be_full(rt: HostRuntime) -> Result<(), Fail> {
+    records_go(&rt, rt.alloc(), 1, &AT_ONCE, ONE_FULL, &FIRST_ALONE)
+}
+
+const MALFORMED: WireCount = WireCount {
+    frames: 1,
+    malformed: 1,
+    sent: 0,
+    full: 0,
+};
+
+fn short_frame_goes<A: Allocator + Copy>(rt: &impl Abort, alloc: A) -> Result<(), Fail> {
+    let mut text = capture_of(alloc, &[[0, 100_000, 13, 60]])?;
+    text.resize(24 + 16 + 13, 0)?;
+    goes(rt, alloc, 4, &text, MALFORMED, &[])
+}
+
+#[test]
+fn a_frame_of_13_octets_is_malformed(rt: HostRuntime) -> Result<(), Fail> {
+    short_frame_goes(&rt, rt.alloc())
+}
+
+/// Tests that so many octets are written of what leaves.
+fn has_front(rt: &impl Abort, octets: &[u8], left: &[u8], written: usize) {
+    assert!(rt; written <= left.len());
+    must(
+        rt,
+        octets == &left[..written],
+        "what is written, of",
+        written as u64,
+    );
+}
+
+/// Tests how a run ends, and that a front of what leaves is written.
+fn ends<A: Allocator + Copy>(
+    rt: &impl Abort,
+    alloc: A,
+    source: &mut SliceSource<'_>,
+    wanted: CaptureFault,
+    left: &[u8],
+    written: usize,
+) {
+    let mut sink = VecSink::new(alloc);
+    let ended = run(alloc, source, &mut sink);
+    let fault = RunFault::Capture {
+        port: 1,
+        fault: wanted,
+    };
+    must(
+        rt,
+        ended == Err(fault),
+        "the fault where there are written",
+        written as u64,
+    );
+    has_front(rt, sink.octets(), left, written);
+}
+
+/// Tests a source that fails after so many octets.
+fn source_fails<A: Allocator + Copy>(
+    rt: &impl Abort,
+    alloc: A,
+    text: &[u8],
+    left: &[u8],
+    n: usize,
+) {
+    let written = match n {
+        0..=57 => 0,
+        58..=91 => 24,
+        _ => 58,
+    };
+    let mut source = SliceSource::failing_after(text, n);
+    ends(rt, alloc, &mut source, CaptureFault::Read, left, written);
+}
+
+#[test]
+fn a_source_fails_anywhere(rt: HostRuntime) -> Result<(), Fail> {
+    let text = capture_of(rt.alloc(), &ARRIVALS)?;
+    let left = capture_of(rt.alloc(), &DEPARTURES)?;
+    for n in 0..93 {
+        source_fails(&rt, rt.alloc(), &text, &left, n);
+    }
+    Ok(())
+}
+
+/// The octets of a capture, the fault where it ends there, and the octets that are written.
+const CUTS: [(usize, CaptureFault, usize); 6] = [
+    (0, CaptureFault::HeaderCut, 0),
+    (23, CaptureFault::HeaderCut, 0),
+    (25, CaptureFault::RecordCut(1), 0),
+    (57, CaptureFault::RecordCut(1), 0),
+    (59, CaptureFault::RecordCut(2), 24),
+    (91, CaptureFault::RecordCut(2), 24),
+];
+
+fn cut_anywhere<A: Allocator + Copy>(rt: &impl Abort, alloc: A, text: &[u8], left: &[u8]) {
+    for (n, fault, written) in &CUTS {
+        assert!(rt; *n <= text.len());
+        let mut source = SliceSource::new(&text[..*n]);
+        ends(rt, alloc, &mut source, *fault, left, *written);
+    }
+}
+
+#[test]
+fn a_capture_is_cut_anywhere(rt: HostRuntime) -> Result<(), Fail> {
+    let text = capture_of(rt.alloc(), &ARRIVALS)?;
+    let left = capture_of(rt.alloc(), &DEPARTURES)?;
+    cut_anywhere(&rt, rt.alloc(), &text, &left);
+    Ok(())
+}
+
+fn sink_fails<A: Allocator + Copy>(rt: &impl Abort, alloc: A, text: &[u8], left: &[u8], n: usize) {
+    let mut sink = VecSink::failing_after(alloc, n);
+    let ended = run(alloc, &mut SliceSource::new(text), &mut sink);
+    let wanted = if n < 92 {
+        Err(RunFault::Write { port: 1 })
+    } else {
+        Ok(BOTH)
+    };
+    must(rt, ended == wanted, "a sink that fails after", n as u64);
+    has_front(rt, sink.octets(), left, n);
+}
+
+#[test]
+fn a_sink_fails_anywhere(rt: HostRuntime) -> Result<(), Fail> {
+    let text = capture_of(rt.alloc(), &ARRIVALS)?;
+    let left = capture_of(rt.alloc(), &DEPARTURES)?;
+    assert!(rt; left.len() == 92);
+    for n in 0..93 {
+        sink_fails(&rt, rt.alloc(), &text, &left, n);
+    }
+    Ok(())
+}
+
+fn goes_one_by_one<A: Allocator + Copy>(rt: &impl Abort, alloc: A, text: &[u8], left: &[u8]) {
+    let mut source = SliceSource::one_by_one(text);
+    let mut sink = VecSink::one_by_one(alloc);
+    assert!(rt; run(alloc, &mut source, &mut sink) == Ok(BOTH));
+    assert!(rt; sink.octets() == left);
+}
+
+#[test]
+fn an_octet_a_call_is_the_same(rt: HostRuntime) -> Result<(), Fail> {
+    let text = capture_of(rt.alloc(), &ARRIVALS)?;
+    let left = capture_of(rt.alloc(), &DEPARTURES)?;
+    goes_one_by_one(&rt, rt.alloc(), &text, &left);
+    Ok(())
+}
+
+/// How a run goes, whose sink fails where it isn't given memory.
+fn running<A: Allocator + Copy>(alloc: A, text: &[u8], left: &[u8]) -> Ending {
+    let mut sink = VecSink::new(alloc);
+    match run(alloc, &mut SliceSource::new(text), &mut sink) {
+        Ok(count) => Ending::of(count == BOTH && sink.octets() == left, false),
+        Err(fault) => {
+            let write = RunFault::Write { port: 1 };
+            Ending::of(false, fault == RunFault::NoMemory || fault == write)
+        }
+    }
+}
+
+#[test]
+fn each_growth_of_a_run_is_refused_in_turn(rt: HostRuntime) -> Result<(), Fail> {
+    let text = capture_of(rt.alloc(), &ARRIVALS)?;
+    let left = capture_of(rt.alloc(), &DEPARTURES)?;
+    let growths = refuse_each(rt.alloc(), |gate| running(gate, &text, &left))?;
+    assert!(rt; growths > 8);
+    Ok(())
+}

@@ -1,0 +1,279 @@
+//! Bridges: what their calls take, and what is given back.
+ghost use Rattle.std.specs.Prelude.{◌≡◌};
+ghost use Rattle.bridge_core.specs.Bridges.{plan_in};
+
+use crate::account::{NEVER, Tells, is_untouched};
+use crate::parts;
+use bridge_check::{Accepted, check};
+use bridge_config::Command;
+use bridge_core::{Agenda, Bridge, RowAgenda, TreeAgenda};
+use fixture_bridge::{Frame, bring, come, obey};
+use bridge_filter::Clear;
+use std::alloc::{Allocator, Global};
+use std::process::Abort;
+use std::test::Fail;
+
+/// A frame of VLAN 10 from port 1 to the listener behind port 3.
+const TO_ONE: Frame = (
+    100_000,
+    60,
+    &[
+        2, 0, 0, 0, 0, 0x0a, 2, 0, 0, 0, 0, 1, 0x81, 0, 0, 0x0a, 0x88, 0xb5,
+    ],
+);
+
+/// The same, a millisecond later.
+const LATER: Frame = (
+    1_100_000,
+    60,
+    &[
+        2, 0, 0, 0, 0, 0x0a, 2, 0, 0, 0, 0, 1, 0x81, 0, 0, 0x0a, 0x88, 0xb5,
+    ],
+);
+
+/// A frame of VLAN 10 from port 1 to the ports 2 and 3.
+const TO_TWO: Frame = (
+    100_000,
+    60,
+    &[
+        2, 0, 0, 0, 0, 0x0b, 2, 0, 0, 0, 0, 1, 0x81, 0, 0, 0x0a, 0x88, 0xb5,
+    ],
+);
+
+/// The plan of these tests, where it is accepted.
+fn accepted_in<A: Allocator + Copy>(heap: A, document: Global) -> Option<Accepted<A>> {
+    match parts::plan_in(heap, document) {
+        Ok(plan) => check(heap, plan).ok(),
+        Err(_) => None,
+    }
+}
+
+/// Makes the starts that are due, and gives how many.
+fn send<G: Agenda + Drop, A: Allocator + Copy>(bridge: &mut Bridge<'_, G, A>) -> u64
+    ensures plan { plan_in bridge.new ≡ plan_in bridge.old }
+{
+    let mut starts: u64 = 0;
+    while bridge.due().is_some() {
+        let _sent = bridge.advance();
+        starts = starts.saturating_add(1);
+    }
+    starts
+}
+
+/// What leaves gives its octets back.
+fn leave_first<G: Agenda + Drop, H: Allocator + Copy + Tells>(
+    rt: &impl Abort,
+    heap: H,
+    bridge: &mut Bridge<'_, G, H>,
+)
+    ensures plan { plan_in bridge.new ≡ plan_in bridge.old }
+{
+    let came = heap.account();
+    assert!(rt; bridge.due() == Some((3, 100_000)));
+    assert!(rt; send(bridge) == 1);
+    let sent = heap.account();
+    assert!(rt; sent.left == came.left);
+    assert!(rt; sent.used < came.used);
+}
+
+/// A frame that goes to one port takes its octets and what the lists of its filter grow by, and what leaves gives its octets
+/// back.
+fn come_first<G: Agenda + Drop, H: Allocator + Copy + Tells>(
+    rt: &impl Abort,
+    heap: H,
+    accepted: &Accepted<H>,
+    bridge: &mut Bridge<'_, G, H>,
+) -> Result<(), Fail>
+    requires plan { plan_in bridge.old ≡ accepted.now }
+    ensures plan { plan_in bridge.new ≡ plan_in bridge.old }
+{
+    let made = heap.account();
+    come(heap, accepted, bridge, 1, TO_ONE)?;
+    assert!(rt; made.left.saturating_sub(heap.account().left) == 4);
+    leave_first(rt, heap, bridge);
+    Ok(())
+}
+
+/// A command takes no memory, and a second frame takes its octets alone.
+fn come_second<G: Agenda + Drop, H: Allocator + Copy + Tells>(
+    rt: &impl Abort,
+    heap: H,
+    accepted: &Accepted<H>,
+    bridge: &mut Bridge<'_, G, H>,
+) -> Result<(), Fail>
+    requires plan { plan_in bridge.old ≡ accepted.now }
+{
+    let sent = heap.account();
+    obey(accepted, bridge, &UNBLOCK)?;
+    assert!(rt; heap.account() == sent);
+    come(heap, accepted, bridge, 1, LATER)?;
+    assert!(rt; sent.left.saturating_sub(heap.account().left) == 1);
+    assert!(rt; send(bridge) == 1);
+    assert!(rt; heap.account().used == sent.used);
+    Ok(())
+}
+
+const UNBLOCK: Command = Command {
+    at: 200_000,
+    clear: Clear::Blocked,
+    number: 10,
+};
+
+/// Nothing has come to a bridge, and to ask it takes no memory.
+fn is_idle<G: Agenda + Drop, H: Allocator + Copy + Tells>(
+    rt: &impl Abort,
+    heap: H,
+    bridge: &Bridge<'_, G, H>,
+) {
+    let made = heap.account();
+    assert!(rt; bridge.due() == None);
+    assert!(rt; bridge.arrived() == 0 && bridge.earliest() == 0);
+    assert!(rt; bridge.earliest_command() == 0);
+    is_untouched(rt, heap, made);
+}
+
+/// Drives a bridge; no other call takes memory.
+fn use_bridge<G: Agenda + Drop, H: Allocator + Copy + Tells>(
+    rt: &impl Abort,
+    heap: H,
+    accepted: &Accepted<H>,
+    bridge: &mut Bridge<'_, G, H>,
+) -> Result<(), Fail>
+    requires plan { plan_in bridge.old ≡ accepted.now }
+{
+    is_idle(rt, heap, bridge);
+    come_first(rt, heap, accepted, bridge)?;
+    come_second(rt, heap, accepted, bridge)
+}
+
+/// Ends a bridge without a growth.
+fn end<G: Agenda + Drop, H: Allocator + Copy + Tells>(
+    rt: &impl Abort,
+    heap: H,
+    bridge: Bridge<'_, G, H>,
+) -> Result<(), Fail> {
+    let before = heap.account();
+    match bridge.due() {
+        Some(_) => {
+            drop(bridge);
+            Err(Fail::from("a start that is still due"))
+        }
+        None => {
+            let outcome = bridge.finish();
+            assert!(rt; heap.account().left == before.left);
+            assert!(rt; outcome.filters.len() == 2);
+            Ok(())
+        }
+    }
+}
+
+/// Drives a bridge over an agenda.
+fn takes_no_memory<G: Agenda + Drop, H: Allocator + Copy + Tells>(
+    rt: &impl Abort,
+    heap: H,
+    accepted: &Accepted<H>,
+) -> Result<(), Fail> {
+    let Ok(mut bridge) = Bridge::<G, H>::new(heap, accepted) else {
+        return Err(Fail::from("no memory"));
+    };
+    match use_bridge(rt, heap, accepted, &mut bridge) {
+        Ok(()) => end(rt, heap, bridge),
+        Err(fail) => {
+            drop(bridge);
+            Err(fail)
+        }
+    }
+}
+
+/// Drives a bridge of an accepted plan over each agenda, which gives all back.
+fn give_all_back<H: Allocator + Copy + Tells>(
+    rt: &impl Abort,
+    heap: H,
+    accepted: &Accepted<H>,
+) -> Result<(), Fail> {
+    let made = heap.account();
+    assert!(rt; made.left < NEVER && made.used > 0);
+    takes_no_memory::<RowAgenda, H>(rt, heap, accepted)?;
+    assert!(rt; heap.account().used == made.used, "all is given back");
+    takes_no_memory::<TreeAgenda, H>(rt, heap, accepted)?;
+    assert!(rt; heap.account().used == made.used, "all is given back");
+    Ok(())
+}
+
+/// Drives a bridge over each agenda, which gives all back.
+pub(crate) fn gives_all_back<H: Allocator + Copy + Tells>(
+    rt: &impl Abort,
+    heap: H,
+    document: Global,
+) -> Result<(), Fail> {
+    let Some(accepted) = accepted_in(heap, document) else {
+        return Err(Fail::from("the plan was refused"));
+    };
+    let given = give_all_back(rt, heap, &accepted);
+    drop(accepted);
+    given
+}
+
+/// Whether a bridge of an accepted plan can be made.
+fn is_bridge_of<G: Agenda + Drop, A: Allocator + Copy>(heap: A, accepted: &Accepted<A>) -> bool {
+    match Bridge::<G, A>::new(heap, accepted) {
+        Ok(bridge) => {
+            drop(bridge);
+            true
+        }
+        Err(_) => false,
+    }
+}
+
+/// Whether a bridge over an agenda can be made.
+pub(crate) fn is_bridge_made<G: Agenda + Drop, A: Allocator + Copy>(
+    heap: A,
+    document: Global,
+) -> bool {
+    match accepted_in(heap, document) {
+        Some(accepted) => {
+            let is_made = is_bridge_of::<G, A>(heap, &accepted);
+            drop(accepted);
+            is_made
+        }
+        None => false,
+    }
+}
+
+/// Whether a frame comes to a bridge that goes to two ports.
+fn is_frame_taken<G: Agenda + Drop, A: Allocator + Copy>(
+    heap: A,
+    accepted: &Accepted<A>,
+    bridge: &mut Bridge<'_, G, A>,
+) -> bool
+    requires plan { plan_in bridge.old ≡ accepted.now }
+{
+    bring(heap, accepted, bridge, 1, TO_TWO).is_ok()
+}
+
+/// Whether a bridge is made, and a frame comes to it that goes to two ports.
+fn is_relayed_by<G: Agenda + Drop, A: Allocator + Copy>(heap: A, accepted: &Accepted<A>) -> bool {
+    match Bridge::<G, A>::new(heap, accepted) {
+        Ok(mut bridge) => {
+            let is_taken = is_frame_taken(heap, accepted, &mut bridge);
+            drop(bridge);
+            is_taken
+        }
+        Err(_) => false,
+    }
+}
+
+/// Whether a plan is made, and a frame comes to a bridge of it that goes to two ports.
+pub(crate) fn is_frame_relayed<G: Agenda + Drop, A: Allocator + Copy>(
+    heap: A,
+    document: Global,
+) -> bool {
+    match accepted_in(heap, document) {
+        Some(accepted) => {
+            let is_relayed = is_relayed_by::<G, A>(heap, &accepted);
+            drop(accepted);
+            is_relayed
+        }
+        None => false,
+    }
+}
