@@ -1,6 +1,8 @@
 #![tactic(auto)]
 //! Limits and words that all crates of the bridge share.
 
+ghost use Rattle.std.specs.Prelude.{◌≡◌, ◌*◌, ◌^◌};
+
 /// The moment, in ns, that no frame and no base of a list reaches: each is below it.
 pub const END_OF_TIME: u64 = 4_000_000_000_000_000_000;
 
@@ -16,3 +18,13 @@ pub const MOST_CAPTURED: u32 = 262_144;
 
 /// The most frames that come to a bridge in one run: a million on each of sixteen ports.
 pub const MOST_ARRIVALS: u64 = 16_000_000;
+
+/// The figures of the limits: frames come and cycles are based before 4*10^18 ns, and all is sent before 4.1*10^18 ns; a frame
+/// has at most 9,216 octets, a capture holds at most 262,144 of a record, and at most 16,000,000 frames come in a run.
+pub fn the_limits()
+    ensures time { END_OF_TIME ≡ 4 * 10 ^ 18 }
+    ensures sending { END_OF_SENDING ≡ 41 * 10 ^ 17 }
+    ensures frame { LONGEST_FRAME ≡ 9_216 }
+    ensures captured { MOST_CAPTURED ≡ 262_144 }
+    ensures arrivals { MOST_ARRIVALS ≡ 16_000_000 }
+{}

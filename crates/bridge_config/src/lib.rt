@@ -20,5 +20,6 @@ pub use bridge_forward::PortSet;
 pub use bridge_keys::PlanFault;
 pub use command::Command;
 pub use commands::commands_of;
+pub use lists::the_limit;
 pub use plan::{Plan, plan_of};
 pub use ports::PortPlan;

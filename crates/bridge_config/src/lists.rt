@@ -1,5 +1,5 @@
 //! The lists of a port or a gate, where it has entries.
-ghost use Rattle.std.specs.Prelude.{◌≡◌, ◌<◌, All, IfOk, option_map};
+ghost use Rattle.std.specs.Prelude.{◌≡◌, ◌<◌, ◌-◌, ◌^◌, All, IfOk, option_map};
 ghost use Rattle.std.specs.Option.{ForSome};
 ghost use Rattle.toml.specs.View.{table_view};
 ghost use Rattle.bridge_cycle.specs.Cyclic.{IsLawful};
@@ -23,6 +23,11 @@ pub(crate) const LARGEST_NUMBER: u64 = u32::MAX as u64;
 
 /// The largest moment, in ns, at which a cycle may begin, schedules may change or a command may come.
 pub(crate) const LAST_MOMENT: u64 = END_OF_TIME - 1;
+
+/// The figure of the limit: numbers of instances, stream handles and limits of octets are below 2^32.
+pub fn the_limit()
+    ensures number { LARGEST_NUMBER ≡ 2 ^ 32 - 1 }
+{}
 
 /// The keys at which the parts of a list stand.
 #[derive(Clone, Copy)]

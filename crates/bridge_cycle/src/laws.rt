@@ -1,5 +1,5 @@
 //! Laws of the definitions alone, each the contract of a function that does nothing.
-ghost use Rattle.std.specs.Prelude.{◌≡◌, ℕ, Bool, true, ◌+◌, ◌*◌, ◌<◌, ◌≤◌, ◌↔◌, Some};
+ghost use Rattle.std.specs.Prelude.{◌≡◌, ℕ, Bool, true, ◌+◌, ◌*◌, ◌^◌, ◌<◌, ◌≤◌, ◌↔◌, Some};
 ghost use Rattle.bridge_base.specs.Members.{In};
 ghost use Rattle.bridge_cycle.specs.declared.run.Run.{Run};
 ghost use Rattle.bridge_cycle.specs.declared.timeline.Turn.{Turn};
@@ -10,7 +10,9 @@ ghost use Rattle.bridge_cycle.specs.Moments.{Fits, Repeats};
 ghost use Rattle.bridge_cycle.specs.Opens.{opens_in};
 ghost use Rattle.bridge_cycle.specs.Runs.{Allows, FitsSoon, IsLongestRun};
 
-use crate::cyclic::LONGEST_CYCLE;
+use crate::cyclic::{LONGEST_CYCLE, MOST_ENTRIES};
+use crate::fit::END_OF_SEARCHES;
+use crate::timeline::END_OF_TURNS;
 
 /// Where what is open repeats with the cycle, a length fits at some moment exactly if it fits at one
 /// of the first cycle.
@@ -81,4 +83,13 @@ pub fn joined_fits_soon()
         → Allows old occ
         → Allows new occ
         → (u : ℕ) × (from ≤ u) × (u ≤ from + 2 * LONGEST_CYCLE) × Fits (λ v. opens_in (joined.turn_at j v) class) occ u }
+{}
+
+/// The figures of the limits: a list has at most 256 entries and a cycle of at most 10^9 ns; turns are told below 9.1*10^18 ns,
+/// and searches begin below 9*10^18 ns.
+pub fn the_limits()
+    ensures entries { MOST_ENTRIES ≡ 256 }
+    ensures cycle { LONGEST_CYCLE ≡ 10 ^ 9 }
+    ensures turns { END_OF_TURNS ≡ 91 * 10 ^ 17 }
+    ensures searches { END_OF_SEARCHES ≡ 9 * 10 ^ 18 }
 {}

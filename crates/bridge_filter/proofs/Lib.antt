@@ -12,3 +12,4 @@ pub mod Starting
 pub mod Cleared
 pub mod Owned
 pub mod OwnShown
+pub mod Taken

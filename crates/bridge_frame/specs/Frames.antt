@@ -1,5 +1,5 @@
 -- The head of an Ethernet frame with an optional C-VLAN tag (IEEE 802.1Q-2018, clause 9).
-use Rattle.std.specs.Prelude.{ℕ, Bool, ◌+◌, ◌-◌, ◌*◌, ◌/◌, ◌%◌, ◌&&◌, nat_lt, nat_le, nat_eq, List, length, take, drop, slice_index, slice_set, Some, None, Result, Ok, Err, if◌then◌else◌}
+use Rattle.std.specs.Prelude.{ℕ, Bool, true, ◌+◌, ◌-◌, ◌*◌, ◌/◌, ◌%◌, ◌&&◌, nat_lt, nat_le, nat_eq, List, length, take, drop, slice_index, slice_set, Some, None, option_map, Result, Ok, Err, if◌then◌else◌}
 use Rattle.bridge_base.specs.declared.TheConstants.{LONGEST_FRAME}
 use Rattle.bridge_frame.specs.declared.Head.{Head}
 use Rattle.bridge_frame.specs.declared.Tag.{Tag}
@@ -55,3 +55,7 @@ with_drop_eligible octet = if nat_eq (octet / 16 % 2) 1 then octet else octet + 
 -- the frame with the drop eligible indication of its tag set, where it has a tag
 abbrev pub drop_eligible : List ℕ → List ℕ
 drop_eligible octets = if has_tag octets then slice_set octets 14 (with_drop_eligible (slice_index octets 14)) else octets
+
+-- a head whose tag, where it has one, is drop eligible
+abbrev pub marked : Head → Head
+marked h = record { da = h.da; sa = h.sa; tag = option_map (λ t. record { pcp = t.pcp; dei = true; vid = t.vid }) h.tag; sdu = h.sdu }

@@ -2,9 +2,11 @@
 //! Ethernet frames as a time-aware bridge sees them: their heads (IEEE 802.1Q-2018, clause 9), the time for which
 //! they occupy a link, and the drop eligible indication. Nothing here takes memory.
 
-ghost use Rattle.std.specs.Prelude.{◌≡◌, ◌≤◌, ◌<◌, length, OnOk, IfOk};
+ghost use Rattle.std.specs.Prelude.{◌≡◌, ◌≤◌, ◌<◌, ℕ, List, length, Ok, Err, OnOk, IfOk};
 ghost use Rattle.std.specs.Option.{ForSome};
-ghost use Rattle.bridge_frame.specs.Frames.{drop_eligible, has_tag, head, is_tagged, number_of, tag_in};
+ghost use Rattle.bridge_frame.specs.declared.FrameFault.{FrameFault};
+ghost use Rattle.bridge_frame.specs.declared.Head.{Head};
+ghost use Rattle.bridge_frame.specs.Frames.{drop_eligible, has_tag, head, is_tagged, marked, number_of, tag_in};
 ghost use Rattle.bridge_frame.specs.Link.{occupied, speed_of};
 
 use bridge_base::{LONGEST_FRAME, MOST_CAPTURED};
@@ -162,6 +164,13 @@ pub fn mark_drop_eligible(octets: &mut [u8]) -> bool
     }
     true
 }
+
+/// What is read of a frame that was marked drop eligible: the head that it had before, with its tag drop eligible, or the same
+/// fault.
+pub fn marked_head()
+    ensures head { (octets : List ℕ) (len : ℕ) (h : Head) → head octets len ≡ Ok h → head (drop_eligible octets) len ≡ Ok (marked h) }
+    ensures fault { (octets : List ℕ) (len : ℕ) (e : FrameFault) → head octets len ≡ Err e → head (drop_eligible octets) len ≡ Err e }
+{}
 
 /// How long a frame of this length occupies a link, in nanoseconds, rounded up: padded to 60 octets, with frame check
 /// sequence (4 octets), preamble and delimiter (8) and gap (12).

@@ -1,2 +1,3 @@
 mod Keys
 mod Walks
+pub mod Entries

@@ -1,6 +1,7 @@
 -- Stream identification by the destination or the source address (IEEE 802.1CB-2017, 6.4 and 6.5).
-use Rattle.std.specs.Prelude.{ℕ, Bool, true, false, not, ◌&&◌, nat_eq, Option, Some, None, List, [], ◌∷◌, if◌then◌else◌}
+use Rattle.std.specs.Prelude.{◌≡◌, ℕ, Bool, true, false, not, ◌&&◌, nat_eq, Option, Some, None, List, [], ◌∷◌, if◌then◌else◌}
 use Rattle.std.specs.Str.{bytes_eq}
+use Rattle.bridge_base.specs.Members.{In}
 use Rattle.bridge_frame.specs.declared.Head.{Head}
 use Rattle.bridge_frame.specs.declared.Tag.{Tag}
 use Rattle.bridge_ident.specs.declared.Kind.{Kind}
@@ -33,3 +34,10 @@ is_match e port head vid = nat_eq e.port port && nat_eq e.vid vid && bytes_eq e.
 abbrev pub handle_in : List StreamEntry → ℕ → Head → ℕ → Option ℕ
 handle_in [] port head vid = None
 handle_in (e ∷ es) port head vid = if is_match e port head vid then Some e.handle else handle_in es port head vid
+
+-- an entry of the table matches the frame and gives the handle h
+pub record HasEntry (entries : List StreamEntry) (port : ℕ) (head : Head) (vid h : ℕ) : Type 0 where
+  pub entry : StreamEntry
+  pub listed : In entry entries
+  pub handle : entry.handle ≡ h
+  pub matches : is_match entry port head vid ≡ true

@@ -2,8 +2,10 @@
 //! Stream identification (IEEE 802.1CB-2017, 6.4 null and 6.5 source MAC and VLAN identification): which stream
 //! handle a frame has.
 
-ghost use Rattle.std.specs.Prelude.{◌≡◌, IfOk};
-ghost use Rattle.bridge_ident.specs.Identification.{handle_in, is_match, names_vlan};
+ghost use Rattle.std.specs.Prelude.{◌≡◌, ℕ, List, Some, IfOk};
+ghost use Rattle.bridge_frame.specs.declared.Head.{Head};
+ghost use Rattle.bridge_ident.specs.declared.StreamEntry.{StreamEntry};
+ghost use Rattle.bridge_ident.specs.Identification.{handle_in, is_match, names_vlan, HasEntry};
 
 mod index;
 
@@ -152,3 +154,10 @@ impl<A: Allocator + Copy> Ident<A> {
         }
     }
 }
+
+/// The law that a handle is given by an entry: where a frame has one, an entry of the table that matches the frame has it.
+pub fn handle_is_of_an_entry()
+    ensures { (entries : List StreamEntry) (port vid h : ℕ) (head : Head)
+        → handle_in entries port head vid ≡ Some h
+        → HasEntry entries port head vid h }
+{}

@@ -2,7 +2,7 @@
 //! Two-rate, three-colour meters of streams, in the manner of the bandwidth profiles of MEF
 //! (IEEE 802.1Q-2018, 8.6.5.1.3: flow meters).
 
-ghost use Rattle.std.specs.Prelude.{◌≡◌, ℕ, ◌≤◌, ◌+◌, ◌-◌, ◌*◌, ◌↔◌, ◌&&◌, true, false, min, List, ◌∷◌, [], if◌then◌else◌};
+ghost use Rattle.std.specs.Prelude.{◌≡◌, ℕ, ◌≤◌, ◌+◌, ◌-◌, ◌*◌, ◌^◌, ◌↔◌, ◌&&◌, true, false, min, List, ◌∷◌, [], if◌then◌else◌};
 ghost use Rattle.bridge_meter.specs.declared.MeterPlan.{MeterPlan};
 ghost use Rattle.bridge_meter.specs.Bounds as bounds;
 ghost use Rattle.bridge_meter.specs.Colours.{MeterEvent, Came, Cleared, past, colour_of, buckets_after, limits, unit, is_red, is_within_limits};
@@ -241,4 +241,12 @@ pub fn buckets_step()
 /// subtractions stops at 0.
 pub fn bounds_are_covered()
     ensures { (plan : MeterPlan) (events : List MeterEvent) → InOrder (past plan events).judged → IsCovered (limits plan) (past plan events).judged }
+{}
+
+/// The figures of the limits: an octet is 8*10^9 units, so that a bit/s is one unit a nanosecond; rates are at most 10^11 bit/s
+/// and bursts below 2^32 octets.
+pub fn the_limits()
+    ensures units { UNITS_PER_OCTET ≡ 8 * 10 ^ 9 }
+    ensures rate { HIGHEST_RATE ≡ 10 ^ 11 }
+    ensures burst { LARGEST_BURST ≡ 2 ^ 32 - 1 }
 {}

@@ -8,6 +8,7 @@ ghost use Rattle.bridge_base.specs.Members.{In};
 ghost use Rattle.bridge_port.specs.Schedule.{Begun, Copy, Rules, IsAnswer, IsLawful, OfferedUpTo, Started, head, is_free};
 ghost use Rattle.bridge_port.specs.Solo.{HasOwnWindow, IsSolo, IsWhole, SameOffers, only};
 
+use crate::queues::LARGEST_ROOM;
 use bridge_cycle::LONGEST_CYCLE;
 
 /// A lawful schedule up to a moment is one up to each lower moment that is after its last start and not before its last
@@ -87,4 +88,9 @@ pub fn ever_fits_soon()
 /// What becomes of the copies of a queue that has the link alone follows from its offers.
 pub fn alone_follows<X: Drop>()
     ensures { (r : Rules X) (xs ys : List (Copy X)) → SameOffers xs ys → IsSolo r xs → IsSolo r ys → xs ≡ ys }
+{}
+
+/// The figure of the limit: a queue holds at most 4,096 frames.
+pub fn the_limit()
+    ensures room { LARGEST_ROOM ≡ 4_096 }
 {}

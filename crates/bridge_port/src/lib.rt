@@ -13,6 +13,7 @@ pub use item::{Item, Refusal};
 pub use law::{
     alone_follows, ever_fits_soon, ever_is_fitting, lawful_up_to_a_later_moment,
     lawful_up_to_a_lower_moment, lawful_with_a_start, lawful_with_an_offer, own_windows_isolate,
+    the_limit,
 };
 pub use port::Port;
 pub use queues::{LARGEST_ROOM, are_rooms};
