@@ -3,6 +3,26 @@
 
 ghost use Rattle.std.specs.Prelude.{◌≡◌, ◌*◌, ◌^◌};
 
+use std::alloc::{AllocError, AllocFailed};
+use thiserror::Error;
+
+/// Memory that was asked for was refused. Each crate that answers it hands this one type on.
+#[derive(Clone, Copy, Debug, PartialEq, Eq, Error)]
+#[error("no memory")]
+pub struct NoMemory;
+
+impl From<AllocError> for NoMemory {
+    fn from(_error: AllocError) -> NoMemory {
+        NoMemory
+    }
+}
+
+impl<T: Drop> From<AllocFailed<T>> for NoMemory {
+    fn from(_error: AllocFailed<T>) -> NoMemory {
+        NoMemory
+    }
+}
+
 /// The moment, in ns, that no frame and no base of a list reaches: each is below it.
 pub const END_OF_TIME: u64 = 4_000_000_000_000_000_000;
 

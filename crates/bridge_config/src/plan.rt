@@ -19,6 +19,7 @@ use crate::ports::{PortPlan, Ports};
 use crate::statics::Statics;
 use crate::streams::Streams;
 use crate::vlans::Vlans;
+use bridge_base::NoMemory;
 use bridge_filter::FilterPlan;
 use bridge_forward::{Forwarding, PortSet, StaticEntry, Vlan};
 use bridge_gate::GatePlan;
@@ -69,7 +70,7 @@ impl<A: Allocator + Copy> Plan<A> {
     }
 
     /// The numbers of the ports in rising order, as many as there are ports.
-    pub fn port_numbers<B: Allocator + Copy>(&self, alloc: B) -> Result<Vec<u8, B>, AllocError>
+    pub fn port_numbers<B: Allocator + Copy>(&self, alloc: B) -> Result<Vec<u8, B>, NoMemory>
         ensures { IfOk result (λ v. rules.IsInOrder (map (λ p. p.number) self.now.ports) v.items) }
     {
         let mut ports = numbers_of_ports(alloc, &self.ports)?;
@@ -123,15 +124,6 @@ impl<A: Allocator + Copy> Plan<A> {
         &self.filters
     }
 
-    /// The numbers of the stream filters in rising order, as many as there are filters.
-    pub fn filter_numbers<B: Allocator + Copy>(&self, alloc: B) -> Result<Vec<u32, B>, AllocError>
-        ensures { IfOk result (λ v. rules.IsInOrder (map (λ f. f.0) self.now.filters) v.items) }
-    {
-        let mut filters = numbers_of_filters(alloc, &self.filters)?;
-        filters.sort()?;
-        Ok(filters)
-    }
-
     /// The ports to which a frame to `da` goes that came on `port`, 1 to 16, and was classified in the VLAN `vid`
     /// (IEEE 802.1Q-2018, 8.6.2 to 8.6.4). Each is a port of the plan, and none is `port` itself. It takes two look-ups,
     /// however large the plan is, and no memory.
@@ -174,20 +166,6 @@ fn numbers_of_ports<A: Allocator + Copy, B: Allocator + Copy>(
     let mut numbers = Vec::with_capacity(alloc, ports.len())?;
     for port in ports {
         numbers.push(port.number).map_err(AllocError::from)?;
-    }
-    Ok(numbers)
-}
-
-/// The numbers of filters, in their order.
-fn numbers_of_filters<B: Allocator + Copy>(
-    alloc: B,
-    filters: &[(u32, FilterPlan)],
-) -> Result<Vec<u32, B>, AllocError>
-    ensures { IfOk result (λ v. v.items ≡ map (λ f. f.0) filters.now) }
-{
-    let mut numbers = Vec::with_capacity(alloc, filters.len())?;
-    for filter in filters {
-        numbers.push(filter.0).map_err(AllocError::from)?;
     }
     Ok(numbers)
 }

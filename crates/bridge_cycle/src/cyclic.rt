@@ -4,7 +4,7 @@ ghost use Rattle.bridge_cycle.specs.Cyclic as cyclic;
 ghost use Rattle.bridge_cycle.specs.Ends as running;
 
 use crate::timeline::{Timeline, Turn};
-use bridge_base::END_OF_TIME;
+use bridge_base::{END_OF_TIME, NoMemory};
 use std::alloc::{AllocError, Allocator};
 use std::marker::Model;
 use thiserror::Error;
@@ -49,22 +49,11 @@ impl ListFault {
     }
 }
 
-/// A growth was refused.
-#[derive(Clone, Copy, Debug, PartialEq, Eq, Error)]
-#[error("no memory")]
-pub struct NoMemory;
-
 impl From<AllocError> for ListFault {
     ghost from_gives = { λ _ e. e ≡ fault.NoMemory };
 
     fn from(_error: AllocError) -> ListFault {
         ListFault::NoMemory
-    }
-}
-
-impl From<AllocError> for NoMemory {
-    fn from(_error: AllocError) -> NoMemory {
-        NoMemory
     }
 }
 

@@ -1,7 +1,8 @@
 ghost use Rattle.std.specs.Prelude.{◌≡◌, IfOk};
 ghost use Rattle.bridge_cycle.specs.Egress as egress;
 
-use crate::cyclic::{CyclicList, NoMemory};
+use crate::cyclic::CyclicList;
+use bridge_base::NoMemory;
 use crate::joined::Joined;
 use crate::timeline::{Timeline, Turn};
 use std::alloc::Allocator;

@@ -13,7 +13,8 @@ pub mod laws;
 pub mod run;
 pub mod timeline;
 
-pub use cyclic::{CyclicList, LONGEST_CYCLE, ListFault, MOST_ENTRIES, NoMemory};
+pub use bridge_base::NoMemory;
+pub use cyclic::{CyclicList, LONGEST_CYCLE, ListFault, MOST_ENTRIES};
 pub use egress::Egress;
 pub use fit::{END_OF_SEARCHES, first_fit, is_open};
 pub use joined::Joined;

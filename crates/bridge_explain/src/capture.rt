@@ -2,6 +2,7 @@
 ghost use Rattle.std.specs.Prelude.{IfOk, string_bytes};
 ghost use Rattle.bridge_explain.specs.Said.{BeginsWith};
 
+use bridge_base::NoMemory;
 use crate::text::of_file;
 use bridge_capture::CaptureFault;
 use std::alloc::{AllocError, Global};
@@ -51,11 +52,11 @@ pub fn explain_capture(
     path: &str,
     octets: &[u8],
     fault: &CaptureFault,
-) -> Result<String, AllocError>
+) -> Result<String, NoMemory>
     ensures { IfOk result (λ said. BeginsWith path.now (string_bytes said)) }
 {
     let body = body_of(alloc, path, octets, fault)?;
-    of_file(alloc, path, body.as_str())
+    Ok(of_file(alloc, path, body.as_str())?)
 }
 
 /// What is said of a capture behind its path.

@@ -3,6 +3,7 @@ ghost use Rattle.std.specs.Prelude.{◌≡◌, ◌<◌, IfOk, nat_eq, string_byt
 ghost use Rattle.bridge_explain.specs.Others as spec;
 ghost use Rattle.bridge_explain.specs.Said.{BeginsWith};
 
+use bridge_base::NoMemory;
 use crate::text::of_file;
 use crate::windows::{longest_at, put_open, run_of};
 use bridge_base::LONGEST_FRAME;
@@ -20,11 +21,11 @@ pub fn explain_check<A: Allocator + Copy>(
     path: &str,
     plan: &Plan<A>,
     fault: &CheckFault,
-) -> Result<String, AllocError>
+) -> Result<String, NoMemory>
     ensures { IfOk result (λ said. BeginsWith path.now (string_bytes said)) }
 {
     let body = body_of(alloc, plan, fault)?;
-    of_file(alloc, path, body.as_str())
+    Ok(of_file(alloc, path, body.as_str())?)
 }
 
 /// What is said of a plan behind the name of its file.

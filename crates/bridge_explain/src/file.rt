@@ -2,6 +2,7 @@
 ghost use Rattle.std.specs.Prelude.{IfOk, string_bytes};
 ghost use Rattle.bridge_explain.specs.Said.{BeginsWith};
 
+use bridge_base::NoMemory;
 use crate::text::of_file;
 use std::alloc::{AllocError, Global};
 
@@ -31,10 +32,10 @@ pub enum Cause {
 }
 
 /// Why a file can't be opened, made, read or written, by what was found of it. It begins with the path of the file.
-pub fn explain_file(alloc: Global, path: &str, cause: Cause) -> Result<String, AllocError>
+pub fn explain_file(alloc: Global, path: &str, cause: Cause) -> Result<String, NoMemory>
     ensures { IfOk result (λ said. BeginsWith path.now (string_bytes said)) }
 {
-    of_file(alloc, path, sentence_of(cause))
+    Ok(of_file(alloc, path, sentence_of(cause))?)
 }
 
 /// What is said of a cause.

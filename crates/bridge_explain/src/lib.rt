@@ -27,7 +27,6 @@ mod words;
 pub use capture::explain_capture;
 pub use check::explain_check;
 pub use file::{Cause, explain_file};
-pub use nearest::{Named, nearest_name};
 pub use plan::{explain_commands, explain_plan};
 pub use run::{explain_run, explain_text};
 pub use warn::warn_of_plan;

@@ -2,6 +2,7 @@
 ghost use Rattle.std.specs.Prelude.{IfOk, string_bytes};
 ghost use Rattle.bridge_explain.specs.Said.{BeginsWith};
 
+use bridge_base::NoMemory;
 use crate::document::{Source, put_position};
 use crate::faults::put_fault;
 use crate::position::position_behind;
@@ -17,11 +18,11 @@ pub fn explain_plan(
     path: &str,
     text: &[u8],
     fault: &PlanFault,
-) -> Result<String, AllocError>
+) -> Result<String, NoMemory>
     ensures { IfOk result (λ said. BeginsWith path.now (string_bytes said)) }
 {
     let body = body_of(alloc, text, None, fault)?;
-    of_file(alloc, path, body.as_str())
+    Ok(of_file(alloc, path, body.as_str())?)
 }
 
 /// Why the text of a file has no commands to the bridge of a plan, by the fault of the commands and the text of the plan.
@@ -32,11 +33,11 @@ pub fn explain_commands(
     text: &[u8],
     plan: &[u8],
     fault: &PlanFault,
-) -> Result<String, AllocError>
+) -> Result<String, NoMemory>
     ensures { IfOk result (λ said. BeginsWith path.now (string_bytes said)) }
 {
     let body = body_of(alloc, text, Some(plan), fault)?;
-    of_file(alloc, path, body.as_str())
+    Ok(of_file(alloc, path, body.as_str())?)
 }
 
 /// What is said of a text behind the name of its file, with the text of the plan where it is one of commands.

@@ -2,6 +2,7 @@
 ghost use Rattle.std.specs.Prelude.{IfOk, codes, string_bytes};
 ghost use Rattle.bridge_explain.specs.Said.{BeginsWith};
 
+use bridge_base::NoMemory;
 use crate::capture::explain_capture;
 use crate::text::of_file;
 use bridge_capture::CaptureFault;
@@ -15,31 +16,35 @@ pub fn explain_run(
     path: &str,
     octets: &[u8],
     fault: &RunFault,
-) -> Result<String, AllocError>
+) -> Result<String, NoMemory>
     ensures { IfOk result (λ said. BeginsWith path.now (string_bytes said)) }
 {
     match fault {
         RunFault::Capture { fault, .. } => explain_capture(alloc, path, octets, fault),
         RunFault::Write { .. } => explain_capture(alloc, path, octets, &CaptureFault::Write),
-        RunFault::NoMemory => of_file(alloc, path, ": there is not enough memory for the run.\n"),
+        RunFault::NoMemory => Ok(of_file(
+            alloc,
+            path,
+            ": there is not enough memory for the run.\n",
+        )?),
     }
 }
 
 /// Why a text of standard input was not run. It begins with `-`, which stands for standard input.
-pub fn explain_text(alloc: Global, fault: &TextFault) -> Result<String, AllocError>
+pub fn explain_text(alloc: Global, fault: &TextFault) -> Result<String, NoMemory>
     ensures { IfOk result (λ said. BeginsWith (codes "-") (string_bytes said)) }
 {
     match fault {
-        TextFault::NotHex => of_file(
+        TextFault::NotHex => Ok(of_file(
             alloc,
             "-",
             ": standard input must be hexadecimal digits in pairs, with blanks between pairs alone. The commands take files: check, run, wire.\n",
-        ),
-        TextFault::TooLong => of_file(
+        )?),
+        TextFault::TooLong => Ok(of_file(
             alloc,
             "-",
             ": standard input may have at most 4194304 characters and 1048576 pairs of digits. Send a capture file: wire MBPS ROOM IN OUT.\n",
-        ),
+        )?),
         TextFault::Run(fault) => explain_run(alloc, "-", &[], fault),
     }
 }

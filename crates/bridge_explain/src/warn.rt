@@ -1,6 +1,7 @@
 //! What is said of a plan that is accepted.
 ghost use Rattle.std.specs.Prelude.{◌<◌, ◌≤◌};
 
+use bridge_base::NoMemory;
 use crate::useless::put_warnings;
 use crate::windows::{longest_at, put_open};
 use bridge_check::may_wait;
@@ -13,7 +14,7 @@ use std::alloc::{AllocError, Allocator, Global};
 pub fn warn_of_plan<A: Allocator + Copy>(
     alloc: Global,
     plan: &Plan<A>,
-) -> Result<String, AllocError> {
+) -> Result<String, NoMemory> {
     let mut said = String::new(alloc);
     put_filters(alloc, &mut said, plan)?;
     put_warnings(&mut said, plan)?;

@@ -2,6 +2,7 @@
 ghost use Rattle.std.specs.Prelude.{IfOk, codes, string_bytes};
 ghost use Rattle.bridge_explain.specs.Said.{BeginsWith};
 
+use bridge_base::NoMemory;
 use crate::nearest::{Named, nearest_name};
 use crate::text::of_file;
 use crate::value::put_text;
@@ -108,12 +109,12 @@ fn is_known(name: &str) -> bool {
 }
 
 /// Why the words after the program's name are refused: the first that is wrong, and how the command is called.
-pub fn explain_words(alloc: Global, words: &[String]) -> Result<String, AllocError>
+pub fn explain_words(alloc: Global, words: &[String]) -> Result<String, NoMemory>
     ensures { IfOk result (λ said. BeginsWith (codes "command line: ") (string_bytes said)) }
 {
     let mut body = String::new(alloc);
     put_words(alloc, &mut body, words)?;
-    of_file(alloc, "command line: ", body.as_str())
+    Ok(of_file(alloc, "command line: ", body.as_str())?)
 }
 
 /// Adds why words are refused.

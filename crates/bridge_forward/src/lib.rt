@@ -7,10 +7,9 @@ mod index;
 pub mod laws;
 mod port_set;
 
+pub use bridge_base::NoMemory;
 pub use forwarding::Forwarding;
 pub use port_set::PortSet;
-use std::alloc::{AllocError, AllocFailed};
-use thiserror::Error;
 
 /// A VLAN and the ports that belong to it (IEEE 802.1Q-2018, 8.8.2).
 #[derive(Clone, Copy, Debug, PartialEq, Eq)]
@@ -30,21 +29,4 @@ pub struct StaticEntry {
     pub address: [u8; 6],
     /// The ports. Those that aren't members of the VLAN get no frame by it.
     pub ports: PortSet,
-}
-
-/// A growth was refused.
-#[derive(Clone, Copy, Debug, PartialEq, Eq, Error)]
-#[error("no memory")]
-pub struct NoMemory;
-
-impl From<AllocError> for NoMemory {
-    fn from(_error: AllocError) -> NoMemory {
-        NoMemory
-    }
-}
-
-impl<T: Drop> From<AllocFailed<T>> for NoMemory {
-    fn from(_error: AllocFailed<T>) -> NoMemory {
-        NoMemory
-    }
 }

@@ -9,9 +9,10 @@ ghost use Rattle.bridge_ident.specs.Identification.{handle_in, is_match, names_v
 
 mod index;
 
+pub use bridge_base::NoMemory;
 use bridge_frame::{Head, Tag};
 use index::Index;
-use std::alloc::{AllocError, Allocator};
+use std::alloc::Allocator;
 use std::marker::Model;
 
 /// Which address an entry compares.
@@ -126,7 +127,7 @@ impl<A: Allocator + Copy> Ident<A> {
 
     /// The table of these entries, with an index by which a handle is found in the same time however many entries
     /// there are. What it was handed is dropped where memory runs out.
-    pub fn indexed(alloc: A, entries: Vec<StreamEntry, A>) -> Result<Ident<A>, AllocError>
+    pub fn indexed(alloc: A, entries: Vec<StreamEntry, A>) -> Result<Ident<A>, NoMemory>
         ensures { IfOk result (λ t. t ≡ entries.items) }
     {
         let index = Index::new(alloc, &entries)?;

@@ -1,6 +1,7 @@
 //! Marks for the frames of a run that were not let on: a second reading of the captures tells when each came.
 ghost use Rattle.std.specs.Prelude.{◌≤◌, length};
 
+use bridge_base::NoMemory;
 use bridge_base::MOST_CAPTURED;
 use bridge_capture::{ByteSource, Capture, MAX_RECORDS, Packet};
 use bridge_config::{Plan, PortPlan};
@@ -118,7 +119,7 @@ impl Arrivals {
         plan: &Plan<A>,
         port: &PortPlan<A>,
         source: &mut R,
-    ) -> Result<(), AllocError>
+    ) -> Result<(), NoMemory>
         requires from { 1 ≤ port.now.number }
         requires to { port.now.number ≤ 16 }
     {
@@ -126,7 +127,7 @@ impl Arrivals {
         let ident = Ident::indexed(self.alloc, streams)?;
         let read = self.read_known(plan, &ident, port, source);
         drop(ident);
-        read
+        Ok(read?)
     }
 
     /// Takes in the capture of a port, whose frames' stream handles these are.
@@ -163,7 +164,7 @@ impl Arrivals {
 
     /// The marks of what a run tells of the frames that were not let on, filter by filter. A frame that the captures don't
     /// have any more has none.
-    pub fn marks<A: Allocator>(mut self, outcome: &Outcome<A>) -> Result<Vec<Mark>, AllocError> {
+    pub fn marks<A: Allocator>(mut self, outcome: &Outcome<A>) -> Result<Vec<Mark>, NoMemory> {
         self.found.sort_by_key(|it| (it.filter, it.at, it.port))?;
         let mut marks = Vec::new(self.alloc);
         for (filter, view) in &outcome.filters {

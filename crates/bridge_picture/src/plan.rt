@@ -1,6 +1,7 @@
 //! The picture of a plan.
 ghost use Rattle.std.specs.Prelude.{◌≤◌, IfOk, length, string_bytes};
 
+use bridge_base::NoMemory;
 use crate::axis::{put_axis, put_change};
 use crate::drawing::{Drawing, LEFT};
 use crate::gates::put_gates;
@@ -95,7 +96,7 @@ fn put_title(
 /// the stream gates, with their internal priority values and the filters that use them; and the axis of time.
 ///
 /// What has no room is left out, and the picture says so.
-pub fn draw_plan<A: Allocator + Copy>(alloc: Global, plan: &Plan<A>) -> Result<String, AllocError>
+pub fn draw_plan<A: Allocator + Copy>(alloc: Global, plan: &Plan<A>) -> Result<String, NoMemory>
     ensures { IfOk result (λ text. length (string_bytes text) ≤ 2000000) }
 {
     let span = span_of(plan);
@@ -112,5 +113,5 @@ pub fn draw_plan<A: Allocator + Copy>(alloc: Global, plan: &Plan<A>) -> Result<S
         "green: a class in which frames of protected filters wait; grey: other windows; blue: open entries of a stream gate, with the internal priority value that they give",
     )?;
     put_parts(alloc, &mut drawing, ports.saturating_add(gates))?;
-    drawing.end()
+    Ok(drawing.end()?)
 }

@@ -1,6 +1,7 @@
 //! The picture of a run.
 ghost use Rattle.std.specs.Prelude.{◌≤◌, IfOk, length, string_bytes};
 
+use bridge_base::NoMemory;
 use crate::axis::{put_axis, put_change};
 use crate::drawing::{ACROSS, Drawing, LEFT};
 use crate::lanes::put_port;
@@ -349,7 +350,7 @@ pub fn draw_run<A: Allocator + Copy, B: Allocator>(
     marks: &[Mark],
     from: Option<u64>,
     to: Option<u64>,
-) -> Result<String, AllocError>
+) -> Result<String, NoMemory>
     ensures { IfOk result (λ text. length (string_bytes text) ≤ 2000000) }
 {
     let span = shown(outcome, marks, from, to);
@@ -367,7 +368,7 @@ pub fn draw_run<A: Allocator + Copy, B: Allocator>(
         &mut drawing,
         "green: a class in which frames of protected filters wait; red: refused by a queue; orange: stopped by the filter",
     )?;
-    drawing.end()
+    Ok(drawing.end()?)
 }
 
 /// Draws all ports, the axis, and what is left out.

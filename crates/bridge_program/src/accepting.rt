@@ -4,7 +4,8 @@ ghost use Rattle.bridge_program.specs.Accepting.{accepted_line, protected_in};
 ghost use Rattle.bridge_check.specs.Faults.{first_fault};
 ghost use Rattle.bridge_program.specs.Jobs.{Accepts, RefusesCheck, RefusesPlan};
 
-use crate::fault::{Fault, NoMemory};
+use crate::fault::Fault;
+use bridge_base::NoMemory;
 use bridge_check::{Accepted, check};
 use bridge_config::{Plan, plan_of};
 use bridge_filter::FilterPlan;

@@ -2,7 +2,7 @@
 ghost use Rattle.std.specs.Prelude.{◌≡◌, IfOk, string_bytes};
 ghost use Rattle.bridge_program.specs.Counts.{counts_line};
 
-use crate::fault::NoMemory;
+use bridge_base::NoMemory;
 use bridge_wire::WireCount;
 use std::alloc::Allocator;
 

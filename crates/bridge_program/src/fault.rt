@@ -11,17 +11,6 @@ use bridge_wire::RunFault;
 use std::alloc::AllocError;
 use thiserror::Error;
 
-/// A growth was refused.
-#[derive(Clone, Copy, Debug, PartialEq, Eq, Error)]
-#[error("no memory")]
-pub struct NoMemory;
-
-impl From<AllocError> for NoMemory {
-    fn from(_: AllocError) -> NoMemory {
-        NoMemory
-    }
-}
-
 /// Why a text is not run.
 #[derive(Clone, Copy, Debug, PartialEq, Eq, Error)]
 pub enum TextFault {

@@ -3,7 +3,8 @@ ghost use Rattle.std.specs.Prelude.{◌≡◌, ◌++◌, IfOk, string_bytes, cod
 ghost use Rattle.bridge_program.specs.Lines.{line_of, line_of_capture, line_of_run, line_of_text, not_read, not_written, refused, refused_at};
 ghost use Rattle.bridge_program.specs.Status.{status_of};
 
-use crate::fault::{Fault, NoMemory, TextFault};
+use crate::fault::{Fault, TextFault};
+use bridge_base::NoMemory;
 use crate::isolation::said_of_check;
 use crate::plan_line::said_of_plan;
 use crate::refused_commands::said_of_commands;

@@ -2,7 +2,7 @@
 ghost use Rattle.std.specs.Prelude.{◌≡◌, IfOk, string_bytes};
 ghost use Rattle.bridge_program.specs.RefusedCommands.{line_of_commands};
 
-use crate::fault::NoMemory;
+use bridge_base::NoMemory;
 use crate::plan_line::said_of_plan;
 use bridge_keys::PlanFault;
 use std::alloc::Allocator;

@@ -6,7 +6,7 @@ use bridge_explain::{
     explain_check, explain_commands, explain_plan, explain_run, explain_text, explain_words,
     warn_of_plan,
 };
-use bridge_program::{Fault, TextFault, fault_line, wire_text};
+use bridge_program::{Fault, NoMemory, TextFault, fault_line, wire_text};
 use bridge_text::octets_of;
 use bridge_words::job_of;
 use std::alloc::{AllocError, Global};
@@ -44,6 +44,14 @@ pub fn told(alloc: Global, plan: &str, part: &str) -> Result<String, AllocError>
     }
 }
 
+/// What is told, or the want of memory as std has it.
+pub fn plain(told: Result<String, NoMemory>) -> Result<String, AllocError> {
+    match told {
+        Ok(said) => Ok(said),
+        Err(NoMemory) => Err(AllocError),
+    }
+}
+
 /// The line of a fault, and what is told beside it.
 pub fn with_line(alloc: Global, fault: &Fault, said: &str) -> Result<String, AllocError> {
     match fault_line(alloc, fault) {
@@ -57,7 +65,7 @@ fn told_of_plan(alloc: Global, text: &str) -> Result<String, AllocError> {
     match plan_of(alloc, alloc, text.as_bytes()) {
         Ok(plan) => told_of_check(alloc, plan),
         Err(fault) => {
-            let said = explain_plan(alloc, "plan.toml", text.as_bytes(), &fault)?;
+            let said = plain(explain_plan(alloc, "plan.toml", text.as_bytes(), &fault))?;
             with_line(alloc, &Fault::Plan(fault), said.as_str())
         }
     }
@@ -73,7 +81,7 @@ fn told_of_check(alloc: Global, plan: Plan<Global>) -> Result<String, AllocError
 
 /// What is told of a plan that is accepted.
 fn told_of_accepted(alloc: Global, plan: &Plan<Global>) -> Result<String, AllocError> {
-    let said = warn_of_plan(alloc, plan)?;
+    let said = plain(warn_of_plan(alloc, plan))?;
     format!(in alloc; "accepted\n{said}")
 }
 
@@ -83,7 +91,7 @@ fn told_of_refused(
     plan: &Plan<Global>,
     fault: CheckFault,
 ) -> Result<String, AllocError> {
-    let said = explain_check(alloc, "plan.toml", plan, &fault)?;
+    let said = plain(explain_check(alloc, "plan.toml", plan, &fault))?;
     with_line(alloc, &Fault::Check(fault), said.as_str())
 }
 
@@ -95,13 +103,13 @@ fn told_of_commands(alloc: Global, text: &str, plan: &str) -> Result<String, All
     match commands_of(alloc, alloc, text.as_bytes(), &bridge) {
         Ok(_commands) => String::from_str(alloc, "accepted\n"),
         Err(fault) => {
-            let said = explain_commands(
+            let said = plain(explain_commands(
                 alloc,
                 "commands.toml",
                 text.as_bytes(),
                 plan.as_bytes(),
                 &fault,
-            )?;
+            ))?;
             with_line(alloc, &Fault::Commands(fault), said.as_str())
         }
     }
@@ -114,8 +122,8 @@ fn told_of_capture(alloc: Global, text: &str) -> Result<String, AllocError> {
         Err(fault) => fault,
     };
     let said = match (fault, octets_of(alloc, text.as_bytes())) {
-        (TextFault::Run(fault), Ok(octets)) => explain_run(alloc, "in/1.pcap", &octets, &fault)?,
-        _ => explain_text(alloc, &fault)?,
+        (TextFault::Run(fault), Ok(octets)) => plain(explain_run(alloc, "in/1.pcap", &octets, &fault))?,
+        _ => plain(explain_text(alloc, &fault))?,
     };
     with_line(alloc, &Fault::Text(fault), said.as_str())
 }
@@ -132,7 +140,7 @@ fn told_of_words(alloc: Global, text: &str) -> Result<String, AllocError> {
     match job_of(alloc, &words) {
         Ok(_job) => String::from_str(alloc, "accepted\n"),
         Err(fault) => {
-            let said = explain_words(alloc, &words)?;
+            let said = plain(explain_words(alloc, &words))?;
             with_line(alloc, &fault, said.as_str())
         }
     }

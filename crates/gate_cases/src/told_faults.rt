@@ -1,6 +1,6 @@
 //! Faults that no text of a case has.
 
-use crate::told_cases::with_line;
+use crate::told_cases::{plain, with_line};
 use bridge_capture::CaptureFault;
 use bridge_check::CheckFault;
 use bridge_config::plan_of;
@@ -53,7 +53,7 @@ pub fn told_of_faults(alloc: Global) -> Result<String, AllocError> {
     let mut said = String::new(alloc);
     said.push_str("== faults without a text\n")?;
     for fault in RUNS {
-        let told = explain_run(alloc, "in/2.pcap", &[], fault)?;
+        let told = plain(explain_run(alloc, "in/2.pcap", &[], fault))?;
         put(alloc, &mut said, &Fault::Run(*fault), told.as_str())?;
     }
     put_plans(alloc, &mut said)?;
@@ -70,9 +70,9 @@ fn put(alloc: Global, said: &mut String, fault: &Fault, told: &str) -> Result<()
 /// Adds what is told of plans and commands that are too long, or for which there is no memory.
 fn put_plans(alloc: Global, said: &mut String) -> Result<(), AllocError> {
     for fault in &[PlanFault::TooLong, PlanFault::NoMemory] {
-        let told = explain_plan(alloc, "plan.toml", &[], fault)?;
+        let told = plain(explain_plan(alloc, "plan.toml", &[], fault))?;
         put(alloc, said, &Fault::Plan(*fault), told.as_str())?;
-        let told = explain_commands(alloc, "commands.toml", &[], &[], fault)?;
+        let told = plain(explain_commands(alloc, "commands.toml", &[], &[], fault))?;
         put(alloc, said, &Fault::Commands(*fault), told.as_str())?;
     }
     put_memory(alloc, said)
@@ -83,7 +83,7 @@ fn put_memory(alloc: Global, said: &mut String) -> Result<(), AllocError> {
     let Ok(plan) = plan_of(alloc, alloc, b"[[port]]\nnumber = 1\nmbps = 10\n") else {
         return Ok(());
     };
-    let told = explain_check(alloc, "plan.toml", &plan, &CheckFault::NoMemory)?;
+    let told = plain(explain_check(alloc, "plan.toml", &plan, &CheckFault::NoMemory))?;
     put(
         alloc,
         said,
@@ -95,7 +95,7 @@ fn put_memory(alloc: Global, said: &mut String) -> Result<(), AllocError> {
 /// Adds what is told of a text that is too long, or for which there is no memory.
 fn put_texts(alloc: Global, said: &mut String) -> Result<(), AllocError> {
     for fault in &[TextFault::TooLong, TextFault::Run(RunFault::NoMemory)] {
-        let told = explain_text(alloc, fault)?;
+        let told = plain(explain_text(alloc, fault))?;
         put(alloc, said, &Fault::Text(*fault), told.as_str())?;
     }
     Ok(())
@@ -106,7 +106,7 @@ pub fn told_of_causes(alloc: Global) -> Result<String, AllocError> {
     let mut said = String::new(alloc);
     said.push_str("== causes of files\n")?;
     for cause in CAUSES {
-        let told = explain_file(alloc, "out/2.pcap", *cause)?;
+        let told = plain(explain_file(alloc, "out/2.pcap", *cause))?;
         said.push_str(told.as_str())?;
     }
     Ok(said)

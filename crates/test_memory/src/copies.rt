@@ -14,16 +14,14 @@ enum Made {
     ScheduleCopy,
     GatePlanCopy,
     PortNumbers,
-    FilterNumbers,
 }
 
-const MADE: [Made; 6] = [
+const MADE: [Made; 5] = [
     Made::List,
     Made::ListCopy,
     Made::ScheduleCopy,
     Made::GatePlanCopy,
     Made::PortNumbers,
-    Made::FilterNumbers,
 ];
 
 /// What the first heap tells before and after something of it is made in the second one, and the octets of that.
@@ -100,19 +98,6 @@ fn port_numbers<H: Allocator + Copy + Tells>(
     Ok(making_of(numbers, making)?)
 }
 
-fn filter_numbers<H: Allocator + Copy + Tells>(
-    from: H,
-    to: H,
-    document: Global,
-) -> Result<Making, Fail> {
-    let plan = plan_in(from, document)?;
-    let before = from.account();
-    let numbers = plan.filter_numbers(to);
-    let making = made_in(from, to, before);
-    drop(plan);
-    Ok(making_of(numbers, making)?)
-}
-
 fn make<H: Allocator + Copy + Tells>(
     made: Made,
     from: H,
@@ -125,7 +110,6 @@ fn make<H: Allocator + Copy + Tells>(
         Made::ScheduleCopy => schedule_copy(from, to),
         Made::GatePlanCopy => gate_plan_copy(from, to),
         Made::PortNumbers => port_numbers(from, to, document),
-        Made::FilterNumbers => filter_numbers(from, to, document),
     }
 }
 
