@@ -7,7 +7,7 @@ ghost use Rattle.bridge_parts.specs.Ports.{NotBefore};
 ghost use Rattle.bridge_core.specs.Bridges.{next_start, plan_in};
 
 use bridge_base::{END_OF_TIME, MOST_ARRIVALS, MOST_CAPTURED};
-use bridge_capture::Packet;
+use bridge_capture::{Capture, Packet, SliceSource};
 use bridge_check::Accepted;
 use bridge_config::Command;
 use bridge_core::{Agenda, Bridge, Outcome, Sent};
@@ -74,7 +74,7 @@ pub fn bring<G: Agenda + Drop, A: Allocator + Copy>(
     accepted: &Accepted<A>,
     bridge: &mut Bridge<'_, G, A>,
     port: u8,
-    frame: Frame,
+    frame: (u64, u32, &[u8]),
 ) -> Result<(), &'static str>
     requires plan { plan_in bridge.old ≡ accepted.now }
     ensures plan { plan_in bridge.new ≡ plan_in bridge.old }
@@ -107,7 +107,7 @@ pub fn come<G: Agenda + Drop, A: Allocator + Copy>(
     accepted: &Accepted<A>,
     bridge: &mut Bridge<'_, G, A>,
     port: u8,
-    frame: Frame,
+    frame: (u64, u32, &[u8]),
 ) -> Result<(), Fail>
     requires plan { plan_in bridge.old ≡ accepted.now }
     ensures plan { plan_in bridge.new ≡ plan_in bridge.old }
@@ -186,29 +186,81 @@ pub fn obey<G: Agenda + Drop, A: Allocator + Copy>(
     )
 }
 
+/// The frames of a capture.
+fn frames_of(alloc: Global, text: &[u8]) -> Result<Vec<Packet<Global>>, Fail> {
+    let mut source = SliceSource::new(text);
+    let Ok(mut capture) = Capture::begin(&mut source) else {
+        return Err(Fail::from("a capture that is refused"));
+    };
+    let mut frames = Vec::new(alloc);
+    for _ in 0..1_000_001 {
+        match capture.next(alloc, &mut source) {
+            Ok(Some(packet)) => frames.push(packet)?,
+            Ok(None) => return Ok(frames),
+            Err(_) => return Err(Fail::from("a record that is refused")),
+        }
+    }
+    Err(Fail::from("a capture without an end"))
+}
+
+/// The frames of the captures of the ports 1, 2 and 3.
+#[derive(Drop)]
+struct Frames {
+    first: Vec<Packet<Global>>,
+    second: Vec<Packet<Global>>,
+    third: Vec<Packet<Global>>,
+}
+
+impl Frames {
+    /// The frame of a port at a place.
+    fn at(&self, port: u8, place: usize) -> Option<&Packet<Global>> {
+        match port {
+            1 => self.first.get(place),
+            2 => self.second.get(place),
+            _ => self.third.get(place),
+        }
+    }
+}
+
+/// The frames of three captures.
+fn all_frames(alloc: Global, texts: [&[u8]; 3]) -> Result<Frames, Fail> {
+    let [first, second, third] = texts;
+    let first = frames_of(alloc, first)?;
+    let second = frames_of(alloc, second)?;
+    let third = frames_of(alloc, third)?;
+    Ok(Frames {
+        first,
+        second,
+        third,
+    })
+}
+
 /// Puts the frames of a port into the order in which all come.
-fn put_frames(order: &mut Vec<(u64, u8, usize)>, port: u8, frames: &[Frame]) -> Result<(), Fail> {
+fn put_frames(
+    order: &mut Vec<(u64, u8, usize)>,
+    port: u8,
+    frames: &[Packet<Global>],
+) -> Result<(), Fail> {
     for (place, frame) in frames.iter().enumerate() {
-        order.push((frame.0, port, place))?;
+        order.push((frame.time, port, place))?;
     }
     Ok(())
 }
 
-/// The order in which the frames of the ports 1, 2 and 3 and a command come, by moment, port and place among the port's
-/// frames. The command has port 0, so it comes before the frames of its moment.
+/// The order in which the frames of the ports and a command come, by moment, port and place among the port's frames. The
+/// command has port 0, so it comes before the frames of its moment.
 fn order_of(
     alloc: Global,
     command: Option<Command>,
-    frames: [&'static [Frame]; 3],
+    frames: &Frames,
 ) -> Result<Vec<(u64, u8, usize)>, Fail> {
-    let [first, second, third] = frames;
     let mut order = Vec::new(alloc);
     if let Some(command) = command {
         order.push((command.at, 0, 0))?;
     }
-    put_frames(&mut order, 1, first)?;
-    put_frames(&mut order, 2, second)?;
-    put_frames(&mut order, 3, third)?;
+    put_frames(&mut order, 1, &frames.first)?;
+    put_frames(&mut order, 2, &frames.second)?;
+    put_frames(&mut order, 3, &frames.third)?;
     order.sort()?;
     Ok(order)
 }
@@ -219,27 +271,27 @@ fn take<G: Agenda + Drop>(
     accepted: &Accepted<Global>,
     bridge: &mut Bridge<'_, G, Global>,
     command: Option<Command>,
-    frames: [&'static [Frame]; 3],
+    frames: &Frames,
     port: u8,
     place: usize,
 ) -> Result<(), Fail>
     requires plan { plan_in bridge.old ≡ accepted.now }
     ensures plan { plan_in bridge.new ≡ plan_in bridge.old }
 {
-    let [first, second, third] = frames;
-    let of_port = match port {
-        0 => {
-            return match command {
-                Some(command) => obey(accepted, bridge, &command),
-                None => Err(Fail::from("no command")),
-            };
-        }
-        1 => first,
-        2 => second,
-        _ => third,
-    };
-    match of_port.get(place) {
-        Some(frame) => come(alloc, accepted, bridge, port, *frame),
+    if port == 0 {
+        return match command {
+            Some(command) => obey(accepted, bridge, &command),
+            None => Err(Fail::from("no command")),
+        };
+    }
+    match frames.at(port, place) {
+        Some(frame) => come(
+            alloc,
+            accepted,
+            bridge,
+            port,
+            (frame.time, frame.len, &frame.octets),
+        ),
         None => Err(Fail::from("no frame")),
     }
 }
@@ -250,7 +302,7 @@ fn take_all<G: Agenda + Drop>(
     accepted: &Accepted<Global>,
     bridge: &mut Bridge<'_, G, Global>,
     command: Option<Command>,
-    frames: [&'static [Frame]; 3],
+    frames: &Frames,
     gone: &mut Vec<Sent<Global>>,
 ) -> Result<(), Fail>
     requires plan { plan_in bridge.old ≡ accepted.now }
@@ -301,7 +353,7 @@ fn drive<G: Agenda + Drop>(
     accepted: &Accepted<Global>,
     bridge: &mut Bridge<'_, G, Global>,
     command: Option<Command>,
-    frames: [&'static [Frame]; 3],
+    frames: &Frames,
 ) -> Result<Vec<Sent<Global>>, Fail>
     requires plan { plan_in bridge.old ≡ accepted.now }
 {
@@ -331,14 +383,12 @@ fn ended<G: Agenda + Drop>(
     }
 }
 
-/// Drives a bridge of an accepted plan by single calls: the frames of the ports 1, 2 and 3 and a command come one by one,
-/// the least moment first, then the command, then the least port. Gives what the whole run tells, and the frames that left
-/// in their order. What a call tells otherwise than it should is an `Err` with a text that says so.
-pub fn driven<G: Agenda + Drop>(
+/// Drives a bridge of an accepted plan by single calls: the frames of three captures and a command come one by one.
+fn driven_by<G: Agenda + Drop>(
     alloc: Global,
     accepted: &Accepted<Global>,
     command: Option<Command>,
-    frames: [&'static [Frame]; 3],
+    frames: &Frames,
 ) -> Result<(Outcome<Global>, Vec<Sent<Global>>), Fail> {
     let Ok(mut bridge) = Bridge::<G, Global>::new(alloc, accepted) else {
         return Err(Fail::from("no memory"));
@@ -350,4 +400,17 @@ pub fn driven<G: Agenda + Drop>(
             Err(fail)
         }
     }
+}
+
+/// Drives a bridge of an accepted plan by single calls: the frames of the captures of the ports 1, 2 and 3 and a command come
+/// one by one, the least moment first, then the command, then the least port. Gives what the whole run tells, and the frames
+/// that left in their order. What a call tells otherwise than it should is an `Err` with a text that says so.
+pub fn driven<G: Agenda + Drop>(
+    alloc: Global,
+    accepted: &Accepted<Global>,
+    command: Option<Command>,
+    texts: [&[u8]; 3],
+) -> Result<(Outcome<Global>, Vec<Sent<Global>>), Fail> {
+    let frames = all_frames(alloc, texts)?;
+    driven_by::<G>(alloc, accepted, command, &frames)
 }

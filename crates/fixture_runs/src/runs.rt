@@ -1,12 +1,14 @@
 //! A run with all that it tells and writes. What is not as it should be is an `Err` with a text that says so.
+ghost use Rattle.std.specs.Prelude.{◌≡◌, length};
+ghost use Rattle.bridge_config.specs.Commands.{AreCommands};
+
 use crate::frames::{Frame, capture};
 use crate::plans::{Change, accepted_of, text_of};
-use crate::transfers::transfers;
+use crate::transfers::transfers_from;
 use bridge_capture::{ByteSink, ByteSource, SliceSource, VecSink};
 use bridge_check::Accepted;
 use bridge_config::Command;
-use bridge_core::{RunFault, simulate_over};
-use fixture_bridge::{driven, has_instance, same};
+use bridge_core::{RunFault, simulate, simulate_over};
 use bridge_events::{Agenda, RowAgenda, TreeAgenda};
 use bridge_filter::{Counters, Flags, Verdict};
 use bridge_meter::Buckets;
@@ -14,6 +16,7 @@ use bridge_port::Refusal;
 use bridge_relay::Sent;
 use bridge_report::summary;
 use bridge_run::{Departure, Dropped, Outcome, PortCount, View};
+use fixture_bridge::{driven, has_instance, same};
 use std::alloc::{Allocator, Global};
 use std::test::Fail;
 
@@ -103,13 +106,50 @@ pub const IDLE: Row = Row {
     ports: [[0; 6]; 3],
 };
 
-/// Captures through a bridge over an agenda: the run's answer, where there is a source and a sink for each port and the
-/// plan has what the command names.
+/// By which call a run is made.
+#[derive(Clone, Copy)]
+pub enum Form {
+    /// The run that the program makes.
+    Plain,
+    /// Over the agenda that is a row.
+    Row,
+    /// Over the agenda that is a tree.
+    Tree,
+}
+
+/// Each of them.
+pub const FORMS: &[Form] = &[Form::Plain, Form::Row, Form::Tree];
+
+/// Captures through a bridge under commands of the plan's instances.
+fn commanded<R: ByteSource, W: ByteSink, A: Allocator + Copy>(
+    alloc: A,
+    accepted: &Accepted<A>,
+    commands: &[Command],
+    form: Form,
+    sources: &mut [R],
+    sinks: &mut [W],
+) -> Result<Outcome<A>, RunFault>
+    requires sources { length sources.old ≡ length accepted.now.ports }
+    requires sinks { length sinks.old ≡ length accepted.now.ports }
+    requires commands { AreCommands accepted.now commands.now }
+{
+    match form {
+        Form::Plain => simulate(alloc, accepted, commands, sources, sinks),
+        Form::Row => simulate_over::<R, W, RowAgenda, A>(alloc, accepted, commands, sources, sinks),
+        Form::Tree => simulate_over::<R, W, TreeAgenda, A>(
+            alloc, accepted, commands, sources, sinks,
+        ),
+    }
+}
+
+/// Captures through a bridge: the run's answer, where there is a source and a sink for each port and the plan has what the
+/// command names.
 #[tactic(auto, using(crate::proofs::Asked::alone, crate::proofs::Asked::none))]
-pub fn simulated<G: Agenda + Drop, R: ByteSource, W: ByteSink, A: Allocator + Copy>(
+pub fn simulated<R: ByteSource, W: ByteSink, A: Allocator + Copy>(
     alloc: A,
     accepted: &Accepted<A>,
     command: Option<Command>,
+    form: Form,
     sources: &mut [R],
     sinks: &mut [W],
 ) -> Result<Result<Outcome<A>, RunFault>, Fail> {
@@ -118,12 +158,12 @@ pub fn simulated<G: Agenda + Drop, R: ByteSource, W: ByteSink, A: Allocator + Co
         return Err(Fail::from("a source and a sink for each port"));
     }
     match command {
-        None => Ok(simulate_over::<R, W, G, A>(alloc, accepted, &[], sources, sinks)),
+        None => Ok(commanded(alloc, accepted, &[], form, sources, sinks)),
         Some(command) => {
             if !has_instance(accepted, command.clear, command.number) {
                 return Err(Fail::from("a command of what is not there"));
             }
-            Ok(simulate_over::<R, W, G, A>(alloc, accepted, &[command], sources, sinks))
+            Ok(commanded(alloc, accepted, &[command], form, sources, sinks))
         }
     }
 }
@@ -262,10 +302,11 @@ pub fn holds<A: Allocator + Copy>(
 }
 
 /// What a run of three captures over an agenda into sinks tells.
-fn outcome_into<G: Agenda + Drop, A: Allocator + Copy>(
+fn outcome_into<A: Allocator + Copy>(
     alloc: A,
     accepted: &Accepted<A>,
     command: Option<Command>,
+    form: Form,
     texts: [&[u8]; 3],
     single: bool,
     sinks: &mut [VecSink<Global>],
@@ -276,15 +317,16 @@ fn outcome_into<G: Agenda + Drop, A: Allocator + Copy>(
         source_of(second, single),
         source_of(third, single),
     ];
-    Ok(simulated::<G, _, _, _>(alloc, accepted, command, &mut sources, sinks)??)
+    Ok(simulated(alloc, accepted, command, form, &mut sources, sinks)??)
 }
 
 /// What a run of three captures over an agenda tells, with what it writes tested where that is given.
-pub fn outcome_of<G: Agenda + Drop, A: Allocator + Copy>(
+pub fn outcome_of<A: Allocator + Copy>(
     alloc: A,
     heap: Global,
     accepted: &Accepted<A>,
     command: Option<Command>,
+    form: Form,
     texts: [&[u8]; 3],
     single: bool,
     left: Option<&[&[Frame]]>,
@@ -294,7 +336,7 @@ pub fn outcome_of<G: Agenda + Drop, A: Allocator + Copy>(
         sink_of(heap, single),
         sink_of(heap, single),
     ];
-    let outcome = outcome_into::<G, A>(alloc, accepted, command, texts, single, &mut sinks)?;
+    let outcome = outcome_into(alloc, accepted, command, form, texts, single, &mut sinks)?;
     match left {
         Some(left) => match holds(heap, &sinks, left) {
             Ok(()) => Ok(outcome),
@@ -304,36 +346,54 @@ pub fn outcome_of<G: Agenda + Drop, A: Allocator + Copy>(
     }
 }
 
-/// Tests a run of three captures over an agenda, and gives the line that sums it up.
-fn line_over<G: Agenda + Drop, A: Allocator + Copy>(
+/// Tests what a run tells.
+fn judged<F: Fn(&Outcome<Global>) -> Result<(), Fail>>(
+    outcome: Outcome<Global>,
+    test: &F,
+) -> Result<(), Fail>
+    requires { F.IsAlwaysCallable test.now }
+{
+    test(&outcome)
+}
+
+/// Makes a run of three captures in each way: by each call, all octets at once or one a call, and frame by frame over each
+/// agenda. What it tells has to pass a test, and what it writes to be these frames, where they are given.
+pub fn each_way<F: Fn(&Outcome<Global>) -> Result<(), Fail>>(
+    alloc: Global,
+    accepted: &Accepted<Global>,
+    command: Option<Command>,
+    texts: [&[u8]; 3],
+    left: Option<&[&[Frame]]>,
+    test: F,
+) -> Result<(), Fail>
+    requires { F.IsAlwaysCallable test }
+{
+    for form in FORMS {
+        let outcome = outcome_of(alloc, alloc, accepted, command, *form, texts, false, left)?;
+        judged(outcome, &test)?;
+        let outcome = outcome_of(alloc, alloc, accepted, command, *form, texts, true, left)?;
+        judged(outcome, &test)?;
+    }
+    let (outcome, _) = driven::<RowAgenda>(alloc, accepted, command, texts)?;
+    judged(outcome, &test)?;
+    let (outcome, _) = driven::<TreeAgenda>(alloc, accepted, command, texts)?;
+    judged(outcome, &test)
+}
+
+/// Tests a run of three captures, and gives the line that sums it up.
+fn line_by<A: Allocator + Copy>(
     alloc: A,
     heap: Global,
     row: &Row,
     command: Option<Command>,
+    form: Form,
     accepted: &Accepted<A>,
     texts: [&[u8]; 3],
     single: bool,
 ) -> Result<String<A>, Fail> {
     let left: Option<&[&[Frame]]> = Some(&row.left);
-    let outcome = outcome_of::<G, A>(alloc, heap, accepted, command, texts, single, left)?;
+    let outcome = outcome_of(alloc, heap, accepted, command, form, texts, single, left)?;
     line_of(alloc, &outcome, row)
-}
-
-/// Tests a run over an agenda, and gives the line that sums it up.
-fn runs_over<G: Agenda + Drop, A: Allocator + Copy>(
-    alloc: A,
-    heap: Global,
-    row: &Row,
-    command: Option<Command>,
-    accepted: &Accepted<A>,
-    single: bool,
-) -> Result<String<A>, Fail> {
-    let [first, second, third] = row.come;
-    let first = capture(heap, first)?;
-    let second = capture(heap, second)?;
-    let third = capture(heap, third)?;
-    let texts = [first.as_slice(), second.as_slice(), third.as_slice()];
-    line_over::<G, A>(alloc, heap, row, command, accepted, texts, single)
 }
 
 /// The accepted plan of the worked examples after these changes.
@@ -391,45 +451,71 @@ fn drives_over<G: Agenda + Drop>(
     row: &Row,
     command: Option<Command>,
     accepted: &Accepted<Global>,
+    texts: [&[u8]; 3],
     line: &str,
 ) -> Result<(), Fail> {
-    let (outcome, gone) = driven::<G>(alloc, accepted, command, row.come)?;
+    let (outcome, gone) = driven::<G>(alloc, accepted, command, texts)?;
     have_left(&gone, row)?;
     line_told(alloc, &outcome, row, line)
 }
 
-/// Tests a run over each agenda, with sources and sinks that move all octets that they can or one a call; gives the line
-/// that sums it up.
-fn line_of_each<A: Allocator + Copy>(
-    alloc: A,
-    heap: Global,
+/// Tests a run by each call, with sources and sinks that move one octet a call; the line that sums it up is this one.
+fn each_is_line(
+    alloc: Global,
     row: &Row,
     command: Option<Command>,
-    accepted: &Accepted<A>,
-) -> Result<String<A>, Fail> {
-    runs_over::<RowAgenda, A>(alloc, heap, row, command, accepted, true)?;
-    runs_over::<TreeAgenda, A>(alloc, heap, row, command, accepted, true)?;
-    let line = runs_over::<RowAgenda, A>(alloc, heap, row, command, accepted, false)?;
-    let other = runs_over::<TreeAgenda, A>(alloc, heap, row, command, accepted, false)?;
-    if line != other {
-        return Err(Fail::from("a line for each agenda"));
+    accepted: &Accepted<Global>,
+    texts: [&[u8]; 3],
+    line: &str,
+) -> Result<(), Fail> {
+    for form in FORMS {
+        let moved = line_by(alloc, alloc, row, command, *form, accepted, texts, false)?;
+        same(&moved.as_str(), &line, "the line of a run")?;
+        let single = line_by(alloc, alloc, row, command, *form, accepted, texts, true)?;
+        same(&single.as_str(), &line, "the line of a run by octets")?;
     }
+    Ok(())
+}
+
+/// Tests the runs of three captures under a plan: by each call, a bridge that is driven call by call over each agenda, and a
+/// run from readers to writers; gives the line that sums them up.
+fn sum_of_texts(
+    alloc: Global,
+    row: &Row,
+    command: Option<Command>,
+    accepted: &Accepted<Global>,
+    texts: [&[u8]; 3],
+) -> Result<String, Fail> {
+    let line = line_by(
+        alloc,
+        alloc,
+        row,
+        command,
+        Form::Plain,
+        accepted,
+        texts,
+        false,
+    )?;
+    each_is_line(alloc, row, command, accepted, texts, line.as_str())?;
+    drives_over::<RowAgenda>(alloc, row, command, accepted, texts, line.as_str())?;
+    drives_over::<TreeAgenda>(alloc, row, command, accepted, texts, line.as_str())?;
+    transfers_from(alloc, row, command, accepted, texts, line.as_str())?;
     Ok(line)
 }
 
-/// Tests the runs of a plan: over each agenda, a bridge that is driven call by call over each, and a run from readers to
-/// writers; gives the line that sums them up.
+/// Tests the runs of a row under its plan.
 fn sum_under(
     alloc: Global,
     row: &Row,
     command: Option<Command>,
     accepted: &Accepted<Global>,
 ) -> Result<String, Fail> {
-    let line = line_of_each(alloc, alloc, row, command, accepted)?;
-    drives_over::<RowAgenda>(alloc, row, command, accepted, line.as_str())?;
-    drives_over::<TreeAgenda>(alloc, row, command, accepted, line.as_str())?;
-    transfers(alloc, alloc, row, command, accepted, line.as_str())?;
-    Ok(line)
+    let [first, second, third] = row.come;
+    let first = capture(alloc, first)?;
+    let second = capture(alloc, second)?;
+    let third = capture(alloc, third)?;
+    let texts = [first.as_slice(), second.as_slice(), third.as_slice()];
+    sum_of_texts(alloc, row, command, accepted, texts)
 }
 
 /// Tests the runs of a row, and gives the line that sums them up.
@@ -440,13 +526,13 @@ fn sum_of(alloc: Global, row: &Row, command: Option<Command>) -> Result<String, 
     sum
 }
 
-/// Tests a run over each agenda.
+/// Tests the runs of a row by each call.
 pub fn runs(alloc: Global, row: &Row, command: Option<Command>) -> Result<(), Fail> {
     sum_of(alloc, row, command)?;
     Ok(())
 }
 
-/// Tests runs one after the other, each over each agenda. A constant of references to rows is far cheaper to prove than
+/// Tests runs one after the other, each by each call. A constant of references to rows is far cheaper to prove than
 /// a call for each row.
 pub fn each_runs(alloc: Global, rows: &[&Row]) -> Result<(), Fail> {
     for row in rows {
@@ -455,7 +541,7 @@ pub fn each_runs(alloc: Global, rows: &[&Row]) -> Result<(), Fail> {
     Ok(())
 }
 
-/// Tests a run over each agenda, and the line that sums it up.
+/// Tests the runs of a row by each call, and the line that sums them up.
 pub fn sums(alloc: Global, row: &Row, wanted: &str) -> Result<(), Fail> {
     let line = sum_of(alloc, row, None)?;
     same(&line.as_str(), &wanted, "the line of a run")

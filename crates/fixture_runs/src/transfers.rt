@@ -3,9 +3,9 @@ use crate::frames::{Frame, capture};
 use crate::runs::{Row, line_told};
 use bridge_check::Accepted;
 use bridge_config::Command;
-use fixture_bridge::{has_instance, same};
 use bridge_files::{Halted, run_over};
 use bridge_run::Outcome;
+use fixture_bridge::{has_instance, same};
 use std::alloc::{AllocError, Allocator, Global};
 use std::io::{Read, Write};
 use std::test::Fail;
@@ -90,8 +90,8 @@ fn are_written<A: Allocator + Copy>(
     Ok(())
 }
 
-/// Tests a row of three captures from readers to writers.
-fn transfers_from<A: Allocator + Copy>(
+/// Tests a row of three captures from readers to writers: what it tells, the line that sums it up, and what each writer has.
+pub fn transfers_from<A: Allocator + Copy>(
     alloc: A,
     row: &Row,
     command: Option<Command>,
@@ -102,21 +102,4 @@ fn transfers_from<A: Allocator + Copy>(
     let (outcome, written) = moved(alloc, command, accepted, texts)?;
     line_told(alloc, &outcome, row, line)?;
     are_written(alloc, &written, &row.left)
-}
-
-/// Tests a row from readers to writers: what it tells, the line that sums it up, and what each writer has.
-pub fn transfers<A: Allocator + Copy>(
-    alloc: A,
-    heap: Global,
-    row: &Row,
-    command: Option<Command>,
-    accepted: &Accepted<A>,
-    line: &str,
-) -> Result<(), Fail> {
-    let [first, second, third] = row.come;
-    let first = capture(heap, first)?;
-    let second = capture(heap, second)?;
-    let third = capture(heap, third)?;
-    let texts = [first.as_slice(), second.as_slice(), third.as_slice()];
-    transfers_from(alloc, row, command, accepted, texts, line)
 }

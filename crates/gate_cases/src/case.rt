@@ -40,7 +40,7 @@ pub fn case_of(part: &str) -> Option<Case<'_>> {
     })
 }
 
-/// Lines in which `<80 [>` stands for 80 times `[`; none where such a form is not whole.
+/// Lines in which `<80 [>` stands for 80 times `[`, and `<3..5 n#>` for `n3n4n5`; none where such a form is not whole.
 pub fn written_out(alloc: Global, lines: &str) -> Result<Option<String>, AllocError> {
     let mut text = String::new(alloc);
     let mut pieces = lines.split('<');
@@ -48,19 +48,57 @@ pub fn written_out(alloc: Global, lines: &str) -> Result<Option<String>, AllocEr
         text.push_str(front)?;
     }
     for piece in pieces {
-        let Some((repeated, times, rest)) = form_of(piece) else {
+        let Some((times, repeated, rest)) = form_of(piece) else {
             return Ok(None);
         };
-        let written = repeated.repeat(alloc, times)?;
-        text.push_str(written.as_str())?;
+        if !put_form(alloc, &mut text, times, repeated)? {
+            return Ok(None);
+        }
         text.push_str(rest)?;
     }
     Ok(Some(text))
 }
 
-/// What is repeated, how often, and what follows the form's end.
-fn form_of(piece: &str) -> Option<(&str, usize, &str)> {
+/// How often something is repeated, what it is, and what follows the form's end.
+fn form_of(piece: &str) -> Option<(&str, &str, &str)> {
     let (form, rest) = piece.split_once('>')?;
     let (times, repeated) = form.split_once(' ')?;
-    Some((repeated, times.parse::<usize>().ok()?, rest))
+    Some((times, repeated, rest))
+}
+
+/// Puts a text as often as a number says, or once for each number of a range; says whether there is one.
+fn put_form(
+    alloc: Global,
+    text: &mut String,
+    times: &str,
+    repeated: &str,
+) -> Result<bool, AllocError> {
+    if let Some((first, last)) = times.split_once("..") {
+        return put_each(text, first, last, repeated);
+    }
+    let Ok(times) = times.parse::<usize>() else {
+        return Ok(false);
+    };
+    let written = repeated.repeat(alloc, times)?;
+    text.push_str(written.as_str())?;
+    Ok(true)
+}
+
+/// Puts a text once for each number of a range, with the number in the place of its `#`; says whether it has one.
+fn put_each(
+    text: &mut String,
+    first: &str,
+    last: &str,
+    repeated: &str,
+) -> Result<bool, AllocError> {
+    let (Ok(first), Ok(last)) = (first.parse::<u32>(), last.parse::<u32>()) else {
+        return Ok(false);
+    };
+    let Some((front, back)) = repeated.split_once('#') else {
+        return Ok(false);
+    };
+    for number in first..last.saturating_add(1) {
+        write!(text, "{front}{number}{back}")?;
+    }
+    Ok(true)
 }

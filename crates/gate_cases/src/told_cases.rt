@@ -122,7 +122,12 @@ fn told_of_capture(alloc: Global, text: &str) -> Result<String, AllocError> {
         Err(fault) => fault,
     };
     let said = match (fault, octets_of(alloc, text.as_bytes())) {
-        (TextFault::Run(fault), Ok(octets)) => plain(explain_run(alloc, "in/1.pcap", &octets, &fault))?,
+        (TextFault::Run(fault), Ok(octets)) => plain(explain_run(
+            alloc,
+            "in/1.pcap",
+            &octets,
+            &fault,
+        ))?,
         _ => plain(explain_text(alloc, &fault))?,
     };
     with_line(alloc, &Fault::Text(fault), said.as_str())

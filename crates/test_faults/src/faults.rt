@@ -2,9 +2,8 @@
 use crate::must::must;
 use bridge_capture::{CaptureFault, SliceSource, VecSink};
 use bridge_core::RunFault;
-use bridge_events::{Agenda, RowAgenda, TreeAgenda};
 use fixture_runs::frames::{Frame, TO_A, capture, header, push_record};
-use fixture_runs::runs::{planned, simulated};
+use fixture_runs::runs::{Form, planned, simulated};
 use std::alloc::{AllocError, Allocator, Global};
 use std::process::Abort;
 use std::test::Fail;
@@ -61,28 +60,30 @@ fn stopped<A: Allocator + Copy>(
 }
 
 /// How a run under the plan ends.
-fn ending<G: Agenda + Drop, A: Allocator + Copy>(
+fn ending<A: Allocator + Copy>(
     alloc: A,
     heap: Global,
+    form: Form,
     sources: &mut [SliceSource<'_>],
     sinks: &mut [VecSink<Global>],
 ) -> Result<Option<RunFault>, Fail> {
     let accepted = planned(alloc, heap, &[])?;
-    let ended = simulated::<G, _, _, _>(alloc, &accepted, None, sources, sinks);
+    let ended = simulated(alloc, &accepted, None, form, sources, sinks);
     drop(accepted);
     Ok(ended?.err())
 }
 
-/// Tests how a run over an agenda stops.
-fn stops_over<G: Agenda + Drop, A: Allocator + Copy>(
+/// Tests how a run stops.
+fn stops_by<A: Allocator + Copy>(
     rt: &impl Abort,
     alloc: A,
     heap: Global,
+    form: Form,
     sources: &mut [SliceSource<'_>],
     stop: &Stop,
 ) -> Result<(), Fail> {
     let mut sinks = [VecSink::new(heap), VecSink::new(heap), VecSink::new(heap)];
-    let ended = ending::<G, A>(alloc, heap, sources, &mut sinks)?;
+    let ended = ending(alloc, heap, form, sources, &mut sinks)?;
     stopped(rt, heap, ended, &sinks, stop)?;
     Ok(())
 }
@@ -101,7 +102,7 @@ fn stops_at_once<A: Allocator + Copy>(
         SliceSource::new(b),
         SliceSource::new(c),
     ];
-    stops_over::<RowAgenda, A>(rt, alloc, heap, &mut sources, stop)
+    stops_by(rt, alloc, heap, Form::Row, &mut sources, stop)
 }
 
 /// The same, where each is read octet by octet.
@@ -118,7 +119,7 @@ fn stops_by_octets<A: Allocator + Copy>(
         SliceSource::one_by_one(b),
         SliceSource::one_by_one(c),
     ];
-    stops_over::<TreeAgenda, A>(rt, alloc, heap, &mut sources, stop)
+    stops_by(rt, alloc, heap, Form::Tree, &mut sources, stop)
 }
 
 /// Tests how a run of three captures stops.
@@ -293,7 +294,7 @@ fn source_fails<A: Allocator + Copy>(
         SliceSource::new(&empty),
         SliceSource::new(&empty),
     ];
-    stops_over::<TreeAgenda, A>(rt, alloc, heap, &mut sources, &stop_after(n))
+    stops_by(rt, alloc, heap, Form::Plain, &mut sources, &stop_after(n))
 }
 
 #[test]
@@ -305,9 +306,10 @@ fn a_source_fails_anywhere(rt: HostRuntime) -> Result<(), Fail> {
 }
 
 /// How a run of three captures ends.
-fn ending_of<G: Agenda + Drop, A: Allocator + Copy>(
+fn ending_of<A: Allocator + Copy>(
     alloc: A,
     heap: Global,
+    form: Form,
     texts: [&[u8]; 3],
     sinks: &mut [VecSink<Global>],
 ) -> Result<Option<RunFault>, Fail> {
@@ -317,7 +319,7 @@ fn ending_of<G: Agenda + Drop, A: Allocator + Copy>(
         SliceSource::new(b),
         SliceSource::new(c),
     ];
-    ending::<G, A>(alloc, heap, &mut sources, sinks)
+    ending(alloc, heap, form, &mut sources, sinks)
 }
 
 /// Tests the octets of three sinks, one of which fails after so many octets.
@@ -343,7 +345,7 @@ fn third_fails<A: Allocator + Copy>(
         VecSink::new(heap),
         VecSink::failing_after(heap, n),
     ];
-    let ended = ending_of::<TreeAgenda, A>(alloc, heap, texts, &mut sinks)?;
+    let ended = ending_of(alloc, heap, Form::Plain, texts, &mut sinks)?;
     must(rt, ended == wanted, "the end after", n as u64);
     hold(rt, &sinks, left, n);
     Ok(())
@@ -418,7 +420,7 @@ fn first_fails<A: Allocator + Copy>(
         VecSink::new(heap),
     ];
     let texts = [empty.as_slice(); 3];
-    let ended = ending_of::<RowAgenda, A>(alloc, heap, texts, &mut sinks)?;
+    let ended = ending_of(alloc, heap, Form::Row, texts, &mut sinks)?;
     assert!(rt; ended == Some(RunFault::Write { port: 1 }));
     hold(rt, &sinks, [&empty[..n], &[], &[]], n);
     Ok(())

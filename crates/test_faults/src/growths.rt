@@ -4,11 +4,10 @@ use crate::sending::TO_TWO_PORTS;
 use bridge_capture::{SliceSource, VecSink};
 use bridge_check::Accepted;
 use bridge_core::RunFault;
-use bridge_events::TreeAgenda;
 use fixture_alloc::RefusesOne;
 use fixture_runs::frames::{Frame, TO_B, capture, header};
 use fixture_runs::plans::{BASE, accepted_of};
-use fixture_runs::runs::{holds, simulated};
+use fixture_runs::runs::{Form, holds, simulated};
 use std::alloc::{AllocError, Allocator, Global};
 use std::process::Abort;
 use std::test::Fail;
@@ -55,7 +54,7 @@ fn ending_under<A: Allocator + Copy>(
         SliceSource::new(&empty),
         SliceSource::new(&empty),
     ];
-    let ended = simulated::<TreeAgenda, _, _, _>(gate, accepted, None, &mut sources, sinks)?;
+    let ended = simulated(gate, accepted, None, Form::Plain, &mut sources, sinks)?;
     Ok(ended.err())
 }
 
@@ -182,7 +181,7 @@ fn growths_under<A: Allocator + Copy + Refuses>(
         SliceSource::new(&empty),
     ];
     let mut sinks = [VecSink::new(heap), VecSink::new(heap), VecSink::new(heap)];
-    let ended = simulated::<TreeAgenda, _, _, _>(gate, accepted, None, &mut sources, &mut sinks)?;
+    let ended = simulated(gate, accepted, None, Form::Plain, &mut sources, &mut sinks)?;
     match ended {
         Ok(outcome) => drop(outcome),
         Err(_) => return Err(Fail::from("a run that ended early")),

@@ -1,9 +1,9 @@
 //! Reports into writers, writers that fail, and memory that runs out.
-use fixture_bridge::same;
 use bridge_filter::{Counters, Flags, Verdict};
-use fixture_alloc::RefusesOne;
-use bridge_report::{has_section, ReportFault, report, section, summary, write_report};
+use bridge_report::{ReportFault, has_section, report, section, summary, write_report};
 use bridge_run::{Departure, Outcome, View};
+use fixture_alloc::RefusesOne;
+use fixture_bridge::same;
 use fixture_runs::runs::{CAUGHT, NO_FLAGS};
 use std::alloc::{AllocError, Allocator};
 use std::process::Abort;

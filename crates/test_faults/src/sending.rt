@@ -1,14 +1,13 @@
 //! Frames of both filters: when they leave, where they go, and which are dropped.
 use bridge_check::{Accepted, CheckFault};
-use fixture_bridge::same;
-use bridge_events::{Agenda, RowAgenda, TreeAgenda};
 use bridge_port::Refusal::{Full, NeverFits};
 use bridge_run::{Dropped, Outcome, View};
+use fixture_bridge::same;
 use fixture_runs::frames::{Frame, RESERVED, SHORT, TO_A, TO_B, VID_20, capture, flood, header};
 use fixture_runs::plans::{ROOM_FOR_ONE, SLOW, fault_of, text_of};
 use fixture_runs::runs::{
     ALONE, CAUGHT, IDLE, NOTHING, PASS, Row, Start, Told, count_of, counts, departed, each_runs,
-    outcome_of, planned, sums, tells,
+    each_way, planned, sums, tells,
 };
 use std::alloc::{Allocator, Global};
 use std::process::Abort;
@@ -299,31 +298,27 @@ fn told_of_a_flood<A: Allocator + Copy>(outcome: &Outcome<A>) -> Result<(), Fail
     counts(&outcome.ports, &FLOOD_COUNTS)
 }
 
-/// Tests the flood under an accepted plan.
-fn floods_under<G: Agenda + Drop, A: Allocator + Copy>(
-    alloc: A,
-    heap: Global,
-    accepted: &Accepted<A>,
-) -> Result<(), Fail> {
-    let own = capture(heap, &[(100_000, 60, TO_A)])?;
-    let others = flood(heap)?;
-    let none = header(heap)?;
+/// Tests the flood beside a frame of the protected stream, under an accepted plan.
+fn floods_under(alloc: Global, accepted: &Accepted<Global>) -> Result<(), Fail> {
+    let own = capture(alloc, &[(100_000, 60, TO_A)])?;
+    let others = flood(alloc)?;
+    let none = header(alloc)?;
     let texts = [own.as_slice(), others.as_slice(), none.as_slice()];
     let left: Option<&[&[Frame]]> = Some(&BESIDE_A_FLOOD);
-    let outcome = outcome_of::<G, A>(alloc, heap, accepted, None, texts, false, left)?;
-    told_of_a_flood(&outcome)
-}
-
-/// Tests the flood beside a frame of the protected stream, over an agenda.
-fn floods<G: Agenda + Drop, A: Allocator + Copy>(alloc: A, heap: Global) -> Result<(), Fail> {
-    let accepted = planned(alloc, heap, &[])?;
-    let flooded = floods_under::<G, A>(alloc, heap, &accepted);
-    drop(accepted);
-    flooded
+    each_way(
+        alloc,
+        accepted,
+        None,
+        texts,
+        left,
+        |outcome| told_of_a_flood(outcome),
+    )
 }
 
 #[test]
 fn a_flood_of_other_frames_changes_nothing(rt: HostRuntime) -> Result<(), Fail> {
-    floods::<RowAgenda, _>(rt.alloc(), rt.alloc())?;
-    floods::<TreeAgenda, _>(rt.alloc(), rt.alloc())
+    let accepted = planned(rt.alloc(), rt.alloc(), &[])?;
+    let flooded = floods_under(rt.alloc(), &accepted);
+    drop(accepted);
+    flooded
 }

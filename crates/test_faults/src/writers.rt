@@ -2,9 +2,9 @@
 use bridge_capture::CaptureFault;
 use bridge_check::Accepted;
 use bridge_core::RunFault;
-use fixture_bridge::same;
 use bridge_files::Halted;
 use fixture_alloc::RefusesOne;
+use fixture_bridge::same;
 use fixture_runs::frames::{Frame, TO_A, capture, header};
 use fixture_runs::plans::{BASE, accepted_of};
 use fixture_runs::runs::planned;

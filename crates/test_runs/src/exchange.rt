@@ -1,10 +1,9 @@
 //! Runs in which lists are exchanged at a moment.
 use bridge_check::{Accepted, CheckFault};
-use fixture_bridge::same;
-use bridge_events::{Agenda, RowAgenda, TreeAgenda};
 use bridge_filter::Verdict::{GateClosed, OctetsExceeded};
 use bridge_port::Refusal::NeverFits;
 use bridge_run::Outcome;
+use fixture_bridge::same;
 use fixture_runs::frames::{Frame, TO_A, capture, header};
 use fixture_runs::plans::{
     AT_2_000_000, AT_100_000, BESIDE_CLASS_7, Change, LONG_ENOUGH, NEXT_TURNS, NEXT_WINDOWS,
@@ -12,7 +11,7 @@ use fixture_runs::plans::{
     text_of,
 };
 use fixture_runs::runs::{
-    CAUGHT, IDLE, NOTHING, PASS, Row, Told, each_runs, outcome_of, planned, tells,
+    CAUGHT, IDLE, NOTHING, PASS, Row, Told, each_runs, each_way, planned, tells,
 };
 use std::alloc::{Allocator, Global};
 use std::test::Fail;
@@ -136,36 +135,26 @@ fn is_dropped<A: Allocator + Copy>(outcome: &Outcome<A>) -> Result<(), Fail> {
     tells(&others.1, &NEVER)
 }
 
-/// Tests a run over an agenda of a frame on port 2 that never fits.
-fn drops_over<G: Agenda + Drop, A: Allocator + Copy>(
-    alloc: A,
-    heap: Global,
-    accepted: &Accepted<A>,
-    frames: &[Frame],
-) -> Result<(), Fail> {
-    let one = capture(heap, frames)?;
-    let none = header(heap)?;
+/// Tests a run of a frame on port 2 that never fits.
+fn drops_under(alloc: Global, accepted: &Accepted<Global>, frames: &[Frame]) -> Result<(), Fail> {
+    let one = capture(alloc, frames)?;
+    let none = header(alloc)?;
     let left: Option<&[&[Frame]]> = Some(&[&[], &[], &[]]);
     let texts = [none.as_slice(), one.as_slice(), none.as_slice()];
-    let outcome = outcome_of::<G, A>(alloc, heap, accepted, None, texts, false, left)?;
-    is_dropped(&outcome)
-}
-
-/// Tests the same over each agenda.
-fn drops_over_each<A: Allocator + Copy>(
-    alloc: A,
-    heap: Global,
-    accepted: &Accepted<A>,
-    frames: &[Frame],
-) -> Result<(), Fail> {
-    drops_over::<RowAgenda, A>(alloc, heap, accepted, frames)?;
-    drops_over::<TreeAgenda, A>(alloc, heap, accepted, frames)
+    each_way(
+        alloc,
+        accepted,
+        None,
+        texts,
+        left,
+        |outcome| is_dropped(outcome),
+    )
 }
 
 /// Tests a frame under a plan whose next list of port 3 opens class 7 alone.
-fn drops<A: Allocator + Copy>(alloc: A, heap: Global, frames: &[Frame]) -> Result<(), Fail> {
-    let accepted = planned(alloc, heap, &[AT_2_000_000, ONLY_CLASS_7, UNPROTECTED])?;
-    let dropped = drops_over_each(alloc, heap, &accepted, frames);
+fn drops(alloc: Global, frames: &[Frame]) -> Result<(), Fail> {
+    let accepted = planned(alloc, alloc, &[AT_2_000_000, ONLY_CLASS_7, UNPROTECTED])?;
+    let dropped = drops_under(alloc, &accepted, frames);
     drop(accepted);
     dropped
 }
@@ -174,8 +163,8 @@ fn drops<A: Allocator + Copy>(alloc: A, heap: Global, frames: &[Frame]) -> Resul
 fn a_frame_that_the_next_list_never_lets_out_is_dropped_before_the_change(
     rt: HostRuntime,
 ) -> Result<(), Fail> {
-    drops(rt.alloc(), rt.alloc(), &[(600_000, 60, TO_A)])?;
-    drops(rt.alloc(), rt.alloc(), &[(2_100_000, 60, TO_A)])
+    drops(rt.alloc(), &[(600_000, 60, TO_A)])?;
+    drops(rt.alloc(), &[(2_100_000, 60, TO_A)])
 }
 
 /// Tests what the validator says of a plan whose lists are exchanged.

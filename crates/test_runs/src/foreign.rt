@@ -1,5 +1,5 @@
 //! Captures of any frames, drawn by a generator with a fixed seed.
-ghost use Rattle.std.specs.Prelude.{◌<◌};
+ghost use Rattle.std.specs.Prelude.{◌<◌, ◌≤◌};
 
 use fixture_runs::frames::{header, push_record};
 use std::alloc::{AllocError, Allocator};
@@ -49,7 +49,7 @@ fn control(numbers: &mut Numbers) -> [u8; 2] {
     (control as u16).to_be_bytes()
 }
 
-/// The first octets of a frame: with a tag, or with what is none in its place.
+/// The first octets of a frame from any source: with a tag, or with what is none in its place.
 fn octets(numbers: &mut Numbers) -> [u8; 18] {
     let [a, b, c, d, e, f] = address(numbers);
     let (g, h) = if numbers.below(4) == 0 {
@@ -58,10 +58,24 @@ fn octets(numbers: &mut Numbers) -> [u8; 18] {
         (0x81, 0)
     };
     let [i, j] = control(numbers);
-    [a, b, c, d, e, f, 2, 0, 0, 0, 0, 1, g, h, i, j, 0x88, 0xb5]
+    let source = numbers.below(256) as u8;
+    [
+        a, b, c, d, e, f, 2, 0, 0, 0, 0, source, g, h, i, j, 0x88, 0xb5,
+    ]
 }
 
-/// A capture of thirty frames, of 14 to 1,522 octets each, at times from one on that do not fall.
+/// How many of a frame's octets are captured: all that there are of its first ones, or fewer.
+fn captured(numbers: &mut Numbers, len: u32) -> usize
+    ensures { result ≤ 18 }
+{
+    let most = if len < 18 { 14 } else { 18 };
+    if numbers.below(8) == 0 {
+        return numbers.below(most) as usize;
+    }
+    most as usize
+}
+
+/// A capture of thirty frames, of 14 to 9,217 octets each, some of them cut, at times from one on that do not fall.
 pub(crate) fn foreign<A: Allocator + Copy>(
     alloc: A,
     numbers: &mut Numbers,
@@ -71,9 +85,9 @@ pub(crate) fn foreign<A: Allocator + Copy>(
     let mut at = from;
     for _ in 0..30 {
         at = at.saturating_add(numbers.below(9_000) as u32);
-        let len = 14 + numbers.below(1_509) as u32;
+        let len = 14 + numbers.below(9_204) as u32;
         let octets = octets(numbers);
-        let captured = if len < 18 { 14 } else { 18 };
+        let captured = captured(numbers, len);
         push_record(&mut text, 0, at, len, &octets[..captured])?;
     }
     Ok(text)

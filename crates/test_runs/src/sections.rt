@@ -1,18 +1,18 @@
-//! Sections of reports to the octet, over either agenda.
+//! Sections of reports to the octet, by each way in which a run is made.
 use crate::foreign::{Numbers, foreign};
 use bridge_check::Accepted;
-use fixture_bridge::same;
-use bridge_events::{Agenda, RowAgenda, TreeAgenda};
+use bridge_config::Command;
+use bridge_filter::Clear;
 use bridge_report::{has_section, report, section, write_report};
 use bridge_run::Outcome;
+use fixture_bridge::same;
 use fixture_runs::frames::{Frame, TO_A, capture, flood, header};
 use fixture_runs::plans::{
     AT_2_000_000, BASE, BLOCKS, Change, NEXT_TURNS, NEXT_WINDOWS, ONE_FRAME, ROOM_FOR_ONE,
     accepted_of,
 };
-use fixture_runs::runs::{outcome_of, planned};
+use fixture_runs::runs::{each_way, planned};
 use std::alloc::{Allocator, Global};
-use std::process::Abort;
 use std::test::Fail;
 
 /// Tests that a report begins with a section, and that it is the same where it is written.
@@ -41,56 +41,49 @@ fn is_shown<A: Allocator + Copy>(alloc: A, outcome: &Outcome<A>, wanted: &str) -
     same(&text.as_str(), &wanted, "a section")
 }
 
-/// Tests the section of filter 10 of a run over an agenda.
-fn shows_over<G: Agenda + Drop, A: Allocator + Copy>(
-    alloc: A,
-    heap: Global,
-    accepted: &Accepted<A>,
-    texts: [&[u8]; 3],
-    wanted: &str,
-) -> Result<(), Fail> {
-    let outcome = outcome_of::<G, A>(alloc, heap, accepted, None, texts, false, None)?;
-    is_shown(alloc, &outcome, wanted)?;
-    begins_with(alloc, &outcome, wanted)
-}
-
-/// Tests the section of filter 10 of a run over each agenda, under an accepted plan.
-fn shows_over_each<A: Allocator + Copy>(
-    alloc: A,
-    heap: Global,
-    accepted: &Accepted<A>,
-    texts: [&[u8]; 3],
-    wanted: &str,
-) -> Result<(), Fail> {
-    shows_over::<RowAgenda, A>(alloc, heap, accepted, texts, wanted)?;
-    shows_over::<TreeAgenda, A>(alloc, heap, accepted, texts, wanted)
-}
-
-/// Tests the section of filter 10 of a run over each agenda.
-fn shows<A: Allocator + Copy>(
-    alloc: A,
-    heap: Global,
+/// Tests the section of filter 10 of a run in each way.
+fn shows_with(
+    alloc: Global,
     changes: &[Change],
+    command: Option<Command>,
     texts: [&[u8]; 3],
     wanted: &str,
 ) -> Result<(), Fail> {
-    let accepted = planned(alloc, heap, changes)?;
-    let shown = shows_over_each(alloc, heap, &accepted, texts, wanted);
+    let accepted = planned(alloc, alloc, changes)?;
+    let shown = each_way(alloc, &accepted, command, texts, None, |outcome| {
+        is_shown(alloc, outcome, wanted)?;
+        begins_with(alloc, outcome, wanted)
+    });
     drop(accepted);
     shown
 }
 
+/// Tests the section of filter 10 of a run without a command.
+fn shows(alloc: Global, changes: &[Change], texts: [&[u8]; 3], wanted: &str) -> Result<(), Fail> {
+    shows_with(alloc, changes, None, texts, wanted)
+}
+
+/// Tests the section of filter 10 of a run with frames on port 1 alone, and a command.
+fn shows_commanded(
+    alloc: Global,
+    changes: &[Change],
+    command: Option<Command>,
+    frames: &[Frame],
+    wanted: &str,
+) -> Result<(), Fail> {
+    let own = capture(alloc, frames)?;
+    let none = header(alloc)?;
+    shows_with(alloc, changes, command, [&own, &none, &none], wanted)
+}
+
 /// Tests the section of filter 10 of a run with frames on port 1 alone.
-fn shows_alone<A: Allocator + Copy>(
-    alloc: A,
-    heap: Global,
+fn shows_alone(
+    alloc: Global,
     changes: &[Change],
     frames: &[Frame],
     wanted: &str,
 ) -> Result<(), Fail> {
-    let own = capture(heap, frames)?;
-    let none = header(heap)?;
-    shows(alloc, heap, changes, [&own, &none, &none], wanted)
+    shows_commanded(alloc, changes, None, frames, wanted)
 }
 
 const NO_FRAME: &str =
@@ -98,7 +91,7 @@ const NO_FRAME: &str =
 
 #[test]
 fn no_frame_has_no_line(rt: HostRuntime) -> Result<(), Fail> {
-    shows_alone(rt.alloc(), rt.alloc(), &[], &[], NO_FRAME)
+    shows_alone(rt.alloc(), &[], &[], NO_FRAME)
 }
 
 /// A frame at 100,000 that leaves port 3 at once.
@@ -109,29 +102,19 @@ const ONE: &str =
 const SENT: &[Frame] = &[(100_000, 60, TO_A)];
 
 /// Tests that other frames on port 2 change nothing of what is told of one frame.
-fn shows_one<A: Allocator + Copy>(alloc: A, heap: Global, others: &[u8]) -> Result<(), Fail> {
-    let one = capture(heap, SENT)?;
-    let none = header(heap)?;
-    shows(alloc, heap, &[], [&one, others, &none], ONE)
-}
-
-/// Tests that of one frame beside the flood.
-fn shows_beside_a_flood<A: Allocator + Copy>(alloc: A, heap: Global) -> Result<(), Fail> {
-    let many = flood(heap)?;
-    shows_one(alloc, heap, &many)
-}
-
-/// Tests that of one frame beside the same one.
-fn shows_beside_another<A: Allocator + Copy>(alloc: A, heap: Global) -> Result<(), Fail> {
-    let one = capture(heap, SENT)?;
-    shows_one(alloc, heap, &one)
+fn shows_one(alloc: Global, others: &[u8]) -> Result<(), Fail> {
+    let one = capture(alloc, SENT)?;
+    let none = header(alloc)?;
+    shows(alloc, &[], [&one, others, &none], ONE)
 }
 
 #[test]
 fn other_frames_change_no_section(rt: HostRuntime) -> Result<(), Fail> {
-    shows_alone(rt.alloc(), rt.alloc(), &[], SENT, ONE)?;
-    shows_beside_a_flood(rt.alloc(), rt.alloc())?;
-    shows_beside_another(rt.alloc(), rt.alloc())
+    shows_alone(rt.alloc(), &[], SENT, ONE)?;
+    let many = flood(rt.alloc())?;
+    shows_one(rt.alloc(), &many)?;
+    let another = capture(rt.alloc(), SENT)?;
+    shows_one(rt.alloc(), &another)
 }
 
 /// Frames of the protected stream under some plan, and the section that is told of them.
@@ -164,29 +147,18 @@ const EXCHANGED: Shown = Shown {
 };
 
 /// Tests that any frames on the ports 2 and 3 change nothing of what is told of the protected stream.
-fn shows_beside_any<A: Allocator + Copy>(
-    alloc: A,
-    heap: Global,
-    numbers: &mut Numbers,
-    shown: &Shown,
-) -> Result<(), Fail> {
-    let own = capture(heap, shown.frames)?;
-    let second = foreign(heap, numbers, shown.others)?;
-    let third = foreign(heap, numbers, shown.others)?;
-    shows(
-        alloc,
-        heap,
-        shown.changes,
-        [&own, &second, &third],
-        shown.section,
-    )
+fn shows_beside_any(alloc: Global, numbers: &mut Numbers, shown: &Shown) -> Result<(), Fail> {
+    let own = capture(alloc, shown.frames)?;
+    let second = foreign(alloc, numbers, shown.others)?;
+    let third = foreign(alloc, numbers, shown.others)?;
+    shows(alloc, shown.changes, [&own, &second, &third], shown.section)
 }
 
 /// Tests that a hundred times.
 fn shows_beside_many(alloc: Global, shown: &Shown) -> Result<(), Fail> {
     let mut numbers = Numbers::of(1);
     for _ in 0..100 {
-        shows_beside_any(alloc, alloc, &mut numbers, shown)?;
+        shows_beside_any(alloc, &mut numbers, shown)?;
     }
     Ok(())
 }
@@ -202,41 +174,34 @@ fn any_frames_change_no_section_where_lists_are_exchanged(rt: HostRuntime) -> Re
 }
 
 /// Tests that frames come to filter 99 and leave.
-fn are_caught<A: Allocator + Copy>(rt: &impl Abort, outcome: &Outcome<A>) -> Result<(), Fail> {
+fn are_caught(outcome: &Outcome<Global>) -> Result<(), Fail> {
     let [_, others] = outcome.filters.as_slice() else {
         return Err(Fail::from("other filters"));
     };
-    assert!(rt; others.1.counters.matching > 5, "frames of filter 99");
-    assert!(rt; others.1.departures.len() > 5, "copies that left");
-    Ok(())
-}
-
-/// What a run of captures on the ports 2 and 3 tells.
-fn outcome_of_others<A: Allocator + Copy>(
-    alloc: A,
-    heap: Global,
-    second: &[u8],
-    third: &[u8],
-) -> Result<Outcome<A>, Fail> {
-    let none = header(heap)?;
-    let accepted = planned(alloc, heap, &[])?;
-    let texts = [none.as_slice(), second, third];
-    let outcome = outcome_of::<TreeAgenda, A>(alloc, heap, &accepted, None, texts, false, None);
-    drop(accepted);
-    outcome
-}
-
-fn catches_any<A: Allocator + Copy>(rt: &impl Abort, alloc: A, heap: Global) -> Result<(), Fail> {
-    let mut numbers = Numbers::of(1);
-    let second = foreign(heap, &mut numbers, 0)?;
-    let third = foreign(heap, &mut numbers, 0)?;
-    let outcome = outcome_of_others(alloc, heap, &second, &third)?;
-    are_caught(rt, &outcome)
+    if others.1.counters.matching > 5 && others.1.departures.len() > 5 {
+        return Ok(());
+    }
+    Err(Fail::from("few frames of filter 99"))
 }
 
 #[test]
 fn any_frames_come_to_the_other_filter(rt: HostRuntime) -> Result<(), Fail> {
-    catches_any(&rt, rt.alloc(), rt.alloc())
+    let mut numbers = Numbers::of(1);
+    let none = header(rt.alloc())?;
+    let second = foreign(rt.alloc(), &mut numbers, 0)?;
+    let third = foreign(rt.alloc(), &mut numbers, 0)?;
+    let accepted = planned(rt.alloc(), rt.alloc(), &[])?;
+    let texts = [none.as_slice(), &second, &third];
+    let caught = each_way(
+        rt.alloc(),
+        &accepted,
+        None,
+        texts,
+        None,
+        |outcome| are_caught(outcome),
+    );
+    drop(accepted);
+    caught
 }
 
 /// Frames of the greatest length, one above it, and a short one that is blocked.
@@ -247,7 +212,26 @@ const OVERSIZED: &[Frame] = &[(10_000, 516, TO_A), (20_000, 517, TO_A), (30_000,
 
 #[test]
 fn a_blocked_filter_has_its_section(rt: HostRuntime) -> Result<(), Fail> {
-    shows_alone(rt.alloc(), rt.alloc(), &[BLOCKS], OVERSIZED, BLOCKED)
+    shows_alone(rt.alloc(), &[BLOCKS], OVERSIZED, BLOCKED)
+}
+
+/// The same, where the filter is unblocked before the last one.
+const UNBLOCKED: &str =
+    "filter 10 protected\nmatching 3\nsdu passed 2 refused 1\ngate passed 2 refused 0\nred 0\nflags blocked no rx no octets no red no\nbucket none\nqueued 2 full 0 never 0\ndelay 4320\nframe 1 pass\nframe 2 oversize\nframe 3 pass\nout 1 port 3 start 10000 done 14320\nout 3 port 3 start 30000 done 30672\nend\n";
+
+/// A command that clears the flag of a filter before the last frame.
+fn unblocks(number: u32) -> Option<Command> {
+    Some(Command {
+        at: 25_000,
+        clear: Clear::Blocked,
+        number,
+    })
+}
+
+#[test]
+fn a_command_for_another_filter_changes_no_section(rt: HostRuntime) -> Result<(), Fail> {
+    shows_commanded(rt.alloc(), &[BLOCKS], unblocks(99), OVERSIZED, BLOCKED)?;
+    shows_commanded(rt.alloc(), &[BLOCKS], unblocks(10), OVERSIZED, UNBLOCKED)
 }
 
 /// A yellow frame and a red one.
@@ -258,7 +242,7 @@ const METERED: &[Frame] = &[(100_000, 60, TO_A), (200_000, 60, TO_A)];
 
 #[test]
 fn a_meter_has_its_line(rt: HostRuntime) -> Result<(), Fail> {
-    shows_alone(rt.alloc(), rt.alloc(), &[ONE_FRAME], METERED, RED)
+    shows_alone(rt.alloc(), &[ONE_FRAME], METERED, RED)
 }
 
 /// Two frames at one moment, for a queue with room for one.
@@ -269,11 +253,11 @@ const QUEUED: &[Frame] = &[(100_000, 60, TO_A), (100_000, 60, TO_A)];
 
 #[test]
 fn a_drop_has_its_line(rt: HostRuntime) -> Result<(), Fail> {
-    shows_alone(rt.alloc(), rt.alloc(), &[ROOM_FOR_ONE], QUEUED, FULL)
+    shows_alone(rt.alloc(), &[ROOM_FOR_ONE], QUEUED, FULL)
 }
 
 /// Tests the report of a run that has no filter.
-fn is_empty<A: Allocator + Copy>(alloc: A, outcome: &Outcome<A>) -> Result<(), Fail> {
+fn is_empty(alloc: Global, outcome: &Outcome<Global>) -> Result<(), Fail> {
     let text = report(alloc, outcome)?;
     let written = write_report(alloc, outcome, Vec::new(alloc))?;
     if !text.is_empty() || !written.is_empty() {
@@ -285,47 +269,35 @@ fn is_empty<A: Allocator + Copy>(alloc: A, outcome: &Outcome<A>) -> Result<(), F
     Ok(())
 }
 
-/// Tests the report of a run over an agenda under a plan without a filter.
-fn shows_nothing<G: Agenda + Drop, A: Allocator + Copy>(
-    alloc: A,
-    heap: Global,
-    accepted: &Accepted<A>,
-) -> Result<(), Fail> {
-    let one = capture(heap, SENT)?;
-    let none = header(heap)?;
+/// Tests the report of a run under a plan without a filter.
+fn shows_nothing(alloc: Global, accepted: &Accepted<Global>) -> Result<(), Fail> {
+    let one = capture(alloc, SENT)?;
+    let none = header(alloc)?;
     let texts = [one.as_slice(), &none, &none];
-    let outcome = outcome_of::<G, A>(alloc, heap, accepted, None, texts, false, None)?;
-    is_empty(alloc, &outcome)
+    each_way(
+        alloc,
+        accepted,
+        None,
+        texts,
+        None,
+        |outcome| is_empty(alloc, outcome),
+    )
 }
 
 /// The plan without its filters, where it is accepted.
-fn without_filter<A: Allocator + Copy>(alloc: A, heap: Global) -> Option<Accepted<A>> {
+fn without_filter(alloc: Global) -> Option<Accepted<Global>> {
     match BASE.split_once("[[filter]]") {
-        Some((before, _)) => accepted_of(alloc, heap, before),
+        Some((before, _)) => accepted_of(alloc, alloc, before),
         None => None,
     }
 }
 
-/// Tests the same over each agenda.
-fn shows_nothing_over_each<A: Allocator + Copy>(
-    alloc: A,
-    heap: Global,
-    accepted: &Accepted<A>,
-) -> Result<(), Fail> {
-    shows_nothing::<RowAgenda, A>(alloc, heap, accepted)?;
-    shows_nothing::<TreeAgenda, A>(alloc, heap, accepted)
-}
-
-fn shows_no_filter<A: Allocator + Copy>(alloc: A, heap: Global) -> Result<(), Fail> {
-    let Some(accepted) = without_filter(alloc, heap) else {
-        return Err(Fail::from("a plan that is not accepted"));
-    };
-    let shown = shows_nothing_over_each(alloc, heap, &accepted);
-    drop(accepted);
-    shown
-}
-
 #[test]
 fn no_filter_has_no_section(rt: HostRuntime) -> Result<(), Fail> {
-    shows_no_filter(rt.alloc(), rt.alloc())
+    let Some(accepted) = without_filter(rt.alloc()) else {
+        return Err(Fail::from("a plan that is not accepted"));
+    };
+    let shown = shows_nothing(rt.alloc(), &accepted);
+    drop(accepted);
+    shown
 }
