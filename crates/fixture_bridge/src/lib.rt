@@ -68,6 +68,36 @@ fn depart<G: Agenda + Drop>(
     Ok(())
 }
 
+/// Hands a frame to a bridge on a port, behind all starts before it, and gives it back where memory runs out; else says why
+/// it can't come.
+pub fn hand<G: Agenda + Drop, A: Allocator + Copy>(
+    accepted: &Accepted<A>,
+    bridge: &mut Bridge<'_, G, A>,
+    port: u8,
+    packet: Packet<A>,
+) -> Result<Result<(), Packet<A>>, &'static str>
+    requires plan { plan_in bridge.old ≡ accepted.now }
+    ensures plan { plan_in bridge.new ≡ plan_in bridge.old }
+{
+    let Some(_) = accepted.plan().port(port) else {
+        return Err("a frame on a port that is not there");
+    };
+    let time = packet.time;
+    if time < bridge.earliest() || time >= END_OF_TIME || !is_calm(bridge, time) {
+        return Err("a frame at a wrong moment");
+    }
+    if packet.octets.len() as u64 > MOST_CAPTURED as u64
+        || packet.octets.len() as u64 > packet.len as u64
+        || bridge.arrived() >= MOST_ARRIVALS
+    {
+        return Err("a frame too long, or too many");
+    }
+    match bridge.arrive(port, packet) {
+        Ok(()) => Ok(Ok(())),
+        Err((packet, _)) => Ok(Err(packet)),
+    }
+}
+
 /// Brings a frame to a port, behind all starts before it; else says why it can't come.
 pub fn bring<G: Agenda + Drop, A: Allocator + Copy>(
     alloc: A,
@@ -83,19 +113,7 @@ pub fn bring<G: Agenda + Drop, A: Allocator + Copy>(
     let Ok(octets) = Vec::from_slice(alloc, captured) else {
         return Err("no memory");
     };
-    let Some(_) = accepted.plan().port(port) else {
-        return Err("a frame on a port that is not there");
-    };
-    if time < bridge.earliest() || time >= END_OF_TIME || !is_calm(bridge, time) {
-        return Err("a frame at a wrong moment");
-    }
-    if octets.len() as u64 > MOST_CAPTURED as u64
-        || octets.len() as u64 > len as u64
-        || bridge.arrived() >= MOST_ARRIVALS
-    {
-        return Err("a frame too long, or too many");
-    }
-    match bridge.arrive(port, Packet { time, len, octets }) {
+    match hand(accepted, bridge, port, Packet { time, len, octets })? {
         Ok(()) => Ok(()),
         Err(_) => Err("no memory"),
     }

@@ -5,7 +5,7 @@ use bridge_frame::Speed;
 use bridge_wire::{RunFault, WireCount, wire};
 use fixture_alloc::{Ending, refuse_each};
 use fixture_text::captures::{Words, capture_of};
-use std::alloc::Allocator;
+use std::alloc::{Allocator, Global};
 use std::process::Abort;
 use std::test::Fail;
 
@@ -297,5 +297,47 @@ fn each_growth_of_a_run_is_refused_in_turn(rt: HostRuntime) -> Result<(), Fail> 
     let left = capture_of(rt.alloc(), &DEPARTURES)?;
     let growths = refuse_each(rt.alloc(), |gate| running(gate, &text, &left))?;
     assert!(rt; growths > 8);
+    Ok(())
+}
+
+/// A capture of so many records without octets.
+fn empty_records(alloc: Global, count: u32) -> Result<Vec<u8>, Fail> {
+    let mut text = capture_of(alloc, &[])?;
+    for _ in 0..count {
+        text.extend_from_slice(&[0u8; 16])?;
+    }
+    Ok(text)
+}
+
+/// A million records is the most; each of these is malformed, so that the header alone is written.
+#[test]
+fn a_million_records_go_through(rt: HostRuntime) -> Result<(), Fail> {
+    let text = empty_records(rt.alloc(), 1_000_000)?;
+    let header = capture_of(rt.alloc(), &[])?;
+    let mut sink = VecSink::new(rt.alloc());
+    let ended = run(rt.alloc(), &mut SliceSource::new(&text), &mut sink);
+    let all = WireCount {
+        frames: 1_000_000,
+        malformed: 1_000_000,
+        sent: 0,
+        full: 0,
+    };
+    assert!(rt; ended == Ok(all));
+    assert!(rt; sink.octets() == header.as_slice());
+    Ok(())
+}
+
+#[test]
+fn a_record_more_is_refused(rt: HostRuntime) -> Result<(), Fail> {
+    let text = empty_records(rt.alloc(), 1_000_001)?;
+    let header = capture_of(rt.alloc(), &[])?;
+    let mut sink = VecSink::new(rt.alloc());
+    let ended = run(rt.alloc(), &mut SliceSource::new(&text), &mut sink);
+    let refused = RunFault::Capture {
+        port: 1,
+        fault: CaptureFault::TooManyRecords,
+    };
+    assert!(rt; ended == Err(refused));
+    assert!(rt; sink.octets() == header.as_slice());
     Ok(())
 }

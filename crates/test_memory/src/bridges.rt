@@ -4,11 +4,12 @@ ghost use Rattle.bridge_core.specs.Bridges.{plan_in};
 
 use crate::account::{NEVER, Tells, is_untouched};
 use crate::parts;
+use bridge_capture::Packet;
 use bridge_check::{Accepted, check};
 use bridge_config::Command;
-use bridge_core::{Agenda, Bridge, RowAgenda, TreeAgenda};
-use fixture_bridge::{Frame, bring, come, obey};
+use bridge_core::{Agenda, Bridge, Outcome, RowAgenda, TreeAgenda};
 use bridge_filter::Clear;
+use fixture_bridge::{Frame, bring, come, hand, obey, same};
 use std::alloc::{Allocator, Global};
 use std::process::Abort;
 use std::test::Fail;
@@ -276,4 +277,140 @@ pub(crate) fn is_frame_relayed<G: Agenda + Drop, A: Allocator + Copy>(
         }
         None => false,
     }
+}
+
+/// The frame that goes to two ports, where there is memory for it.
+fn packet_to_two<A: Allocator + Copy>(heap: A) -> Option<Packet<A>> {
+    let (time, len, captured) = TO_TWO;
+    match Vec::from_slice(heap, captured) {
+        Ok(octets) => Some(Packet { time, len, octets }),
+        Err(_) => None,
+    }
+}
+
+/// Tests that a frame came back as it was, and that a bridge is as if it had not come.
+fn is_as_before<G: Agenda + Drop, A: Allocator + Copy>(
+    bridge: &Bridge<'_, G, A>,
+    back: &Packet<A>,
+) -> Result<(), Fail> {
+    let (time, len, captured) = TO_TWO;
+    same(
+        &(back.time, back.len),
+        &(time, len),
+        "the frame that came back",
+    )?;
+    same(&back.octets.as_slice(), &captured, "its octets")?;
+    same(&bridge.due(), &None, "the start that is due")?;
+    same(&bridge.arrived(), &0, "the frames that came")?;
+    same(&bridge.earliest(), &0, "the moment of the next frame")
+}
+
+/// Hands a frame to a bridge, and again where it comes back and is to; says whether it came back.
+fn comes_back<G: Agenda + Drop, A: Allocator + Copy>(
+    accepted: &Accepted<A>,
+    bridge: &mut Bridge<'_, G, A>,
+    packet: Packet<A>,
+    again: bool,
+) -> Result<bool, Fail>
+    requires plan { plan_in bridge.old ≡ accepted.now }
+{
+    let back = match hand(accepted, bridge, 1, packet) {
+        Ok(Ok(())) => return Ok(false),
+        Ok(Err(back)) => back,
+        Err(why) => return Err(Fail::from(why)),
+    };
+    is_as_before(bridge, &back)?;
+    if !again {
+        return Ok(true);
+    }
+    match hand(accepted, bridge, 1, back) {
+        Ok(Ok(())) => Ok(true),
+        Ok(Err(_)) => Err(Fail::from("a second growth that is refused")),
+        Err(why) => Err(Fail::from(why)),
+    }
+}
+
+/// Tests what a run tells of so many frames to two ports, 0 or 1.
+fn tells_of<A: Allocator + Copy>(outcome: &Outcome<A>, frames: u64) -> Result<(), Fail> {
+    let [own, others] = outcome.filters.as_slice() else {
+        return Err(Fail::from("other filters"));
+    };
+    let copies = frames.saturating_mul(2);
+    same(&own.1.counters.matching, &0, "frames of filter 10")?;
+    same(&others.1.counters.matching, &frames, "frames of filter 99")?;
+    same(&(others.1.verdicts.len() as u64), &frames, "verdicts")?;
+    same(&(others.1.departures.len() as u64), &copies, "departures")?;
+    let mut sums = [0u64; 3];
+    for (_, count) in &outcome.ports {
+        let [came, sent, other] = sums;
+        sums = [
+            came.saturating_add(count.frames),
+            sent.saturating_add(count.sent),
+            other.saturating_add(count.dropped),
+        ];
+    }
+    same(&sums, &[frames, copies, 0], "counts of the ports")
+}
+
+/// Makes all starts of a bridge, ends it, and tests what it tells of so many frames.
+fn ends_with<G: Agenda + Drop, A: Allocator + Copy>(
+    mut bridge: Bridge<'_, G, A>,
+    frames: u64,
+) -> Result<(), Fail> {
+    let starts = send(&mut bridge);
+    match bridge.due() {
+        Some(_) => {
+            drop(bridge);
+            Err(Fail::from("a start that is still due"))
+        }
+        None => {
+            let outcome = bridge.finish();
+            same(&starts, &frames.saturating_mul(2), "starts")?;
+            tells_of(&outcome, frames)
+        }
+    }
+}
+
+/// Tests a bridge to which a frame comes that goes to two ports, and comes again where it comes back and is to; says whether
+/// it came back.
+fn takes_back<G: Agenda + Drop, A: Allocator + Copy>(
+    heap: A,
+    accepted: &Accepted<A>,
+    again: bool,
+) -> Result<bool, Fail> {
+    let Some(packet) = packet_to_two(heap) else {
+        return Ok(false);
+    };
+    let Ok(mut bridge) = Bridge::<G, A>::new(heap, accepted) else {
+        return Ok(false);
+    };
+    match comes_back(accepted, &mut bridge, packet, again) {
+        Ok(back) => {
+            ends_with(bridge, if back && !again { 0 } else { 1 })?;
+            Ok(back)
+        }
+        Err(fail) => {
+            drop(bridge);
+            Err(fail)
+        }
+    }
+}
+
+/// Tests the same over each agenda, where a plan can be made; says whether the frame came back.
+pub(crate) fn is_frame_back<A: Allocator + Copy>(
+    heap: A,
+    document: Global,
+    again: bool,
+    over_tree: bool,
+) -> Result<bool, Fail> {
+    let Some(accepted) = accepted_in(heap, document) else {
+        return Ok(false);
+    };
+    let back = if over_tree {
+        takes_back::<TreeAgenda, A>(heap, &accepted, again)
+    } else {
+        takes_back::<RowAgenda, A>(heap, &accepted, again)
+    };
+    drop(accepted);
+    back
 }

@@ -1,6 +1,6 @@
 //! Where something can't be made, all that was handed in is given back.
 use crate::account::counting;
-use crate::bridges::{is_bridge_made, is_frame_relayed};
+use crate::bridges::{is_bridge_made, is_frame_back, is_frame_relayed};
 use crate::parts::{
     database_of, ident_of, list_of, plan_in, police_of, port_of, window_of, wrong_list,
 };
@@ -153,6 +153,34 @@ fn refuse_each(rt: &impl Abort, document: Global, made: Made) -> Result<(), Fail
 fn what_is_refused_gives_all_back(rt: HostRuntime) -> Result<(), Fail> {
     for made in &MADE {
         refuse_each(&rt, rt.alloc(), *made)?;
+    }
+    Ok(())
+}
+
+/// Refuses each growth in turn, and counts how often a frame came back to be handed in again, or not.
+fn backs_of(document: Global, again: bool, over_tree: bool) -> Result<u32, Fail> {
+    let mut backs = 0u32;
+    for n in 1..1_000 {
+        let heap = counting(document, n)?;
+        let back = is_frame_back(&heap, document, again, over_tree);
+        let is_refused = heap.refused();
+        drop(heap);
+        if back? {
+            backs = backs.saturating_add(1);
+        }
+        if !is_refused {
+            return Ok(backs);
+        }
+    }
+    Err(Fail::from("some growth was always refused"))
+}
+
+/// A frame for which there is no memory comes back, the bridge is as before, and the frame can be handed in again.
+#[test]
+fn a_frame_comes_back_where_memory_runs_out(rt: HostRuntime) -> Result<(), Fail> {
+    for over_tree in [false, true] {
+        assert!(rt; backs_of(rt.alloc(), false, over_tree)? > 3);
+        assert!(rt; backs_of(rt.alloc(), true, over_tree)? > 3);
     }
     Ok(())
 }

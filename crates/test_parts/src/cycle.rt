@@ -256,6 +256,23 @@ fn a_frame_waits_for_a_window_that_is_long_enough(rt: HostRuntime) -> Result<(),
     Ok(())
 }
 
+/// Tests that a copy has the entries, the cycle and the turns of its list.
+fn is_copied<A: Allocator + Copy>(alloc: A) -> Result<bool, Fail> {
+    let list = list_of(alloc, &HALVES)?;
+    let copy = list.copy(alloc)?;
+    let mut are_same = copy.entries() == list.entries() && copy.cycle() == list.cycle();
+    for t in [0, 1, 499_999, 500_000, 999_999, 1_000_000, 1_234_567_890] {
+        are_same = are_same && copy.turn(t) == list.turn(t);
+    }
+    Ok(are_same)
+}
+
+#[test]
+fn a_copy_is_the_same_list(rt: HostRuntime) -> Result<(), Fail> {
+    assert!(rt; is_copied(rt.alloc())?);
+    Ok(())
+}
+
 /// A list, and its copy.
 fn made_and_copied<A: Allocator + Copy>(alloc: A) -> Result<usize, ListFault> {
     let list = list_of(alloc, &[(1, 300_000), (2, 700_000)])?;

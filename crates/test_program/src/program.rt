@@ -4,7 +4,7 @@ use bridge_capture::CaptureFault;
 use bridge_check::CheckFault;
 use bridge_cycle::ListFault;
 use bridge_keys::{Field, Place, PlanFault, Section};
-use bridge_program::{Fault, NoMemory, TextFault, fault_line, wire_text};
+use bridge_program::{Fault, NoMemory, TextFault, check_job, fault_line, wire_text};
 use bridge_wire::RunFault;
 use fixture_alloc::{Ending, refuse_each};
 use std::alloc::{AllocError, Allocator, Global};
@@ -70,6 +70,37 @@ fn a_text_is_refused(rt: HostRuntime) {
     for (text, wanted) in &REFUSED {
         is_refused(&rt, rt.alloc(), text, *wanted);
     }
+}
+
+/// A text of 1,048,576 octets is sent where it is a capture, and one of an octet more is too long.
+#[test]
+fn a_text_is_read_up_to_its_limit(rt: HostRuntime) -> Result<(), Fail> {
+    let mut text = "00".repeat(rt.alloc(), 1_048_576)?;
+    let magic = TextFault::Run(RunFault::Capture {
+        port: 1,
+        fault: CaptureFault::BadMagic,
+    });
+    assert!(rt; wire_text(rt.alloc(), text.as_bytes()).err() == Some(magic));
+    text.push_str("00")?;
+    assert!(rt; wire_text(rt.alloc(), text.as_bytes()).err() == Some(TextFault::TooLong));
+    Ok(())
+}
+
+/// The fault of a plan of so many spaces, which comes by the path of a file.
+fn fault_of_spaces(alloc: Global, length: usize) -> Result<Option<PlanFault>, Fail> {
+    let text = " ".repeat(alloc, length)?;
+    let path = String::from_str(alloc, "PLAN")?;
+    match check_job(alloc, alloc, path, text.as_bytes()) {
+        Err(Fault::Plan(fault)) => Ok(Some(fault)),
+        _ => Ok(None),
+    }
+}
+
+#[test]
+fn a_plan_is_read_up_to_its_limit(rt: HostRuntime) -> Result<(), Fail> {
+    assert!(rt; fault_of_spaces(rt.alloc(), 1_048_576)? == Some(PlanFault::NoPorts));
+    assert!(rt; fault_of_spaces(rt.alloc(), 1_048_577)? == Some(PlanFault::TooLong));
+    Ok(())
 }
 
 /// How a text is sent.
