@@ -5,8 +5,8 @@ use crate::port::{CLASS_7, HALVES, Row, WIDE, answers_as_said, goes_as_said, lis
 use bridge_cycle::{Egress, Joined, ListFault};
 use bridge_frame::Speed;
 use bridge_port::{NoMemory, Port, Refusal, are_rooms};
+use fixture_text::must::must;
 use std::alloc::Allocator;
-use std::process::Abort;
 use std::test::Fail;
 
 /// A list that takes over from that of a row at a moment, with the same base and cycle.
@@ -32,31 +32,29 @@ fn lists_of<A: Allocator + Copy>(
 }
 
 /// The port whose lists are exchanged.
-fn port_of<A: Allocator + Copy>(
-    rt: &impl Abort,
-    alloc: A,
-    exchange: &Exchange,
-) -> Result<Port<u32, A>, NoMemory> {
-    assert!(rt; are_rooms(&exchange.row.rooms));
-    assert!(rt; exchange.at < 4_000_000_000_000_000_000);
+fn port_of<A: Allocator + Copy>(alloc: A, exchange: &Exchange) -> Result<Port<u32, A>, Fail> {
+    must(are_rooms(&exchange.row.rooms), "rooms", 0)?;
+    must(
+        exchange.at < 4_000_000_000_000_000_000,
+        "a change",
+        exchange.at,
+    )?;
     match lists_of(alloc, &exchange.row, exchange.next, exchange.at) {
-        Ok(lists) => Port::new(alloc, exchange.row.speed, Some(lists), exchange.row.rooms),
-        Err(_) => Err(NoMemory),
+        Ok(lists) => Ok(Port::new(alloc, exchange.row.speed, Some(lists), exchange.row.rooms)?),
+        Err(_) => Err(Fail::from("no list")),
     }
 }
 
 /// Offers what a row says to a port whose lists are exchanged, and compares what starts.
 fn exchanges_as_said<A: Allocator + Copy>(
-    rt: &impl Abort,
     alloc: A,
     name: &str,
     exchange: &Exchange,
 ) -> Result<(), Fail> {
-    let mut port = port_of(rt, alloc, exchange)?;
-    let answered = answers_as_said(rt, alloc, &mut port, name, &exchange.row);
+    let mut port = port_of(alloc, exchange)?;
+    let answered = answers_as_said(alloc, &mut port, name, &exchange.row);
     drop(port);
-    answered?;
-    Ok(())
+    answered
 }
 
 /// The other classes in the first half of each millisecond, class 7 in the second half.
@@ -94,8 +92,8 @@ const NO_EXCHANGE: Row = Row {
 
 #[test]
 fn a_frame_may_be_sent_over_the_exchange(rt: HostRuntime) -> Result<(), Fail> {
-    exchanges_as_said(&rt, rt.alloc(), "over the exchange", &OVER_THE_EXCHANGE)?;
-    goes_as_said(&rt, rt.alloc(), "no exchange", &NO_EXCHANGE)
+    exchanges_as_said(rt.alloc(), "over the exchange", &OVER_THE_EXCHANGE)?;
+    goes_as_said(rt.alloc(), "no exchange", &NO_EXCHANGE)
 }
 
 /// Class 7 by the old list and by the new one, which alone opens it at 2,500,000.
@@ -135,14 +133,13 @@ const CUT_WINDOW: Exchange = Exchange {
 fn the_old_list_holds_before_the_exchange_and_the_new_one_from_it_on(
     rt: HostRuntime,
 ) -> Result<(), Fail> {
-    exchanges_as_said(&rt, rt.alloc(), "old then new", &OLD_THEN_NEW)?;
+    exchanges_as_said(rt.alloc(), "old then new", &OLD_THEN_NEW)?;
     exchanges_as_said(
-        &rt,
         rt.alloc(),
         "waits for the new list",
         &WAITS_FOR_THE_NEW_LIST,
     )?;
-    exchanges_as_said(&rt, rt.alloc(), "a cut window", &CUT_WINDOW)
+    exchanges_as_said(rt.alloc(), "a cut window", &CUT_WINDOW)
 }
 
 /// The new list never opens class 0.
@@ -198,19 +195,9 @@ const THE_SHORTER_WINDOW: Exchange = Exchange {
 
 #[test]
 fn a_frame_has_to_fit_under_each_list(rt: HostRuntime) -> Result<(), Fail> {
-    exchanges_as_said(
-        &rt,
-        rt.alloc(),
-        "never in the new list",
-        &NEVER_IN_THE_NEW_LIST,
-    )?;
-    exchanges_as_said(
-        &rt,
-        rt.alloc(),
-        "never in the old list",
-        &NEVER_IN_THE_OLD_LIST,
-    )?;
-    exchanges_as_said(&rt, rt.alloc(), "the shorter window", &THE_SHORTER_WINDOW)
+    exchanges_as_said(rt.alloc(), "never in the new list", &NEVER_IN_THE_NEW_LIST)?;
+    exchanges_as_said(rt.alloc(), "never in the old list", &NEVER_IN_THE_OLD_LIST)?;
+    exchanges_as_said(rt.alloc(), "the shorter window", &THE_SHORTER_WINDOW)
 }
 
 /// What is offered before the exchange, over it and behind it.
@@ -241,6 +228,6 @@ const ALIKE: Exchange = Exchange {
 
 #[test]
 fn a_new_list_that_equals_the_old_one_changes_nothing(rt: HostRuntime) -> Result<(), Fail> {
-    exchanges_as_said(&rt, rt.alloc(), "equal lists", &ALIKE)?;
-    goes_as_said(&rt, rt.alloc(), "one list", &ALIKE_ROW)
+    exchanges_as_said(rt.alloc(), "equal lists", &ALIKE)?;
+    goes_as_said(rt.alloc(), "one list", &ALIKE_ROW)
 }

@@ -4,7 +4,6 @@ ghost use Rattle.bridge_meter.specs.Colours.{is_within_limits};
 ghost use Rattle.bridge_gate.specs.Schedules.{has_priorities};
 ghost use Rattle.bridge_filter.specs.Plans.{KeepsNumbers, is_there, are_distinct, all_have_priorities};
 
-use crate::must::must;
 use bridge_cycle::CyclicList;
 use bridge_filter::Verdict::{
     Blocked, GateClosed, OctetsExceeded, Oversize, Red, ShutByOctets, ShutByRx, YellowDropped,
@@ -13,8 +12,8 @@ use bridge_filter::{Clear, FilterPlan, Flags, NoMemory, Police, Ruling, Verdict}
 use bridge_gate::{GateEntry, GatePlan, Schedule};
 use bridge_meter::{Buckets, MeterPlan};
 use fixture_alloc::{Ending, refuse_each};
+use fixture_text::must::must;
 use std::alloc::{AllocError, Allocator};
-use std::process::Abort;
 use std::test::Fail;
 
 const PASS: Verdict = Verdict::Pass {
@@ -221,23 +220,23 @@ const PLAIN: Row = Row {
 
 /// Gives the police a frame, and compares the ruling.
 fn rules<A: Allocator + Copy>(
-    rt: &impl Abort,
     police: &mut Police<A>,
     t: u64,
     handle: Option<u32>,
     priority: u8,
     sdu: u32,
     wanted: Option<Ruling>,
-)
+) -> Result<(), Fail>
     ensures filters { police.new.filters ≡ police.old.filters }
     ensures gates { KeepsNumbers police.old.gates police.new.gates }
     ensures meters { KeepsNumbers police.old.meters police.new.meters }
 {
-    assert!(rt; police.earliest() <= t);
-    assert!(rt; t < 4_000_000_000_000_000_000);
-    assert!(rt; police.calls() < 1000);
+    must(police.earliest() <= t, "rules", 1)?;
+    must(t < 4_000_000_000_000_000_000, "rules", 2)?;
+    must(police.calls() < 1000, "rules", 3)?;
     let ruling = police.pass(t, handle, priority, false, sdu, 64);
-    must(rt, ruling == wanted, "the frame at", t);
+    must(ruling == wanted, "the frame at", t)?;
+    Ok(())
 }
 
 /// Clears a flag of filter 10, gate 1 or meter 5.
@@ -285,7 +284,7 @@ fn is_shown<A: Allocator + Copy>(police: &Police<A>, step: &Step) -> bool
 }
 
 /// Does a step, or compares what is seen.
-fn take<A: Allocator + Copy>(rt: &impl Abort, police: &mut Police<A>, step: &Step)
+fn take<A: Allocator + Copy>(police: &mut Police<A>, step: &Step) -> Result<(), Fail>
     requires filter { IsTrue (is_there 10 police.old.filters) }
     requires gate { IsTrue (is_there 1 police.old.gates) }
     requires meter { IsTrue (is_there 5 police.old.meters) }
@@ -299,34 +298,36 @@ fn take<A: Allocator + Copy>(rt: &impl Abort, police: &mut Police<A>, step: &Ste
                 filter: 10,
                 verdict: *verdict,
             };
-            rules(rt, police, *t, Some(1), 0, *sdu, Some(wanted));
+            rules(police, *t, Some(1), 0, *sdu, Some(wanted))?;
         }
-        Step::Other(t, sdu, wanted) => rules(rt, police, *t, None, 0, *sdu, Some(*wanted)),
+        Step::Other(t, sdu, wanted) => rules(police, *t, None, 0, *sdu, Some(*wanted))?,
         Step::Clears(clear) => clear_own(police, *clear),
-        _ => assert!(rt; is_shown(police, step)),
+        _ => must(is_shown(police, step), "take", 1)?,
     }
+    Ok(())
 }
 
 /// Takes all steps.
-fn take_all<A: Allocator + Copy>(rt: &impl Abort, police: &mut Police<A>, steps: &[Step])
+fn take_all<A: Allocator + Copy>(police: &mut Police<A>, steps: &[Step]) -> Result<(), Fail>
     requires filter { IsTrue (is_there 10 police.old.filters) }
     requires gate { IsTrue (is_there 1 police.old.gates) }
     requires meter { IsTrue (is_there 5 police.old.meters) }
 {
     for step in steps {
-        take(rt, police, step);
+        take(police, step)?;
     }
+    Ok(())
 }
 
 /// Makes a police and takes the steps of a row.
-fn goes_as_said<A: Allocator + Copy>(rt: &impl Abort, alloc: A, row: &Row) -> Result<(), NoMemory> {
+fn goes_as_said<A: Allocator + Copy>(alloc: A, row: &Row) -> Result<(), Fail> {
     let own = row.own;
-    assert!(rt; own.gate == 1);
-    assert!(rt; own.meter == None || own.meter == Some(5));
-    assert!(rt; row.meter.is_within_limits());
+    must(own.gate == 1, "goes as said", 1)?;
+    must(own.meter == None || own.meter == Some(5), "goes as said", 2)?;
+    must(row.meter.is_within_limits(), "goes as said", 3)?;
     let gate = window(alloc, row.shut_on_rx, row.shut_on_octets)?;
     let mut police = police_of(alloc, own, gate, row.meter)?;
-    take_all(rt, &mut police, row.steps);
+    take_all(&mut police, row.steps)?;
     drop(police);
     Ok(())
 }
@@ -365,8 +366,8 @@ const NOT_SHUT: Row = Row {
 
 #[test]
 fn closed_gate_refuses(rt: HostRuntime) -> Result<(), Fail> {
-    goes_as_said(&rt, rt.alloc(), &SHUT_BY_A_FRAME)?;
-    goes_as_said(&rt, rt.alloc(), &NOT_SHUT)?;
+    goes_as_said(rt.alloc(), &SHUT_BY_A_FRAME)?;
+    goes_as_said(rt.alloc(), &NOT_SHUT)?;
     Ok(())
 }
 
@@ -405,8 +406,8 @@ const BLOCKED_BY_A_FRAME: Row = Row {
 
 #[test]
 fn oversized_frame_blocks(rt: HostRuntime) -> Result<(), Fail> {
-    goes_as_said(&rt, rt.alloc(), &BLOCKED_BY_A_FRAME)?;
-    goes_as_said(&rt, rt.alloc(), &NOT_BLOCKED)?;
+    goes_as_said(rt.alloc(), &BLOCKED_BY_A_FRAME)?;
+    goes_as_said(rt.alloc(), &NOT_BLOCKED)?;
     Ok(())
 }
 
@@ -449,9 +450,9 @@ const SHUT_BY_OCTETS: Row = Row {
 
 #[test]
 fn octets_of_a_turn_are_limited(rt: HostRuntime) -> Result<(), Fail> {
-    goes_as_said(&rt, rt.alloc(), &WITHIN_THE_LIMIT)?;
-    goes_as_said(&rt, rt.alloc(), &ABOVE_THE_LIMIT)?;
-    goes_as_said(&rt, rt.alloc(), &SHUT_BY_OCTETS)?;
+    goes_as_said(rt.alloc(), &WITHIN_THE_LIMIT)?;
+    goes_as_said(rt.alloc(), &ABOVE_THE_LIMIT)?;
+    goes_as_said(rt.alloc(), &SHUT_BY_OCTETS)?;
     Ok(())
 }
 
@@ -474,7 +475,7 @@ const YELLOW_AND_RED: Row = Row {
 
 #[test]
 fn yellow_frame_is_eligible(rt: HostRuntime) -> Result<(), Fail> {
-    goes_as_said(&rt, rt.alloc(), &YELLOW_AND_RED)?;
+    goes_as_said(rt.alloc(), &YELLOW_AND_RED)?;
     Ok(())
 }
 
@@ -486,7 +487,7 @@ const MORE_DATA: Row = Row {
 
 #[test]
 fn frame_with_more_data_is_eligible_too(rt: HostRuntime) -> Result<(), Fail> {
-    goes_as_said(&rt, rt.alloc(), &MORE_DATA)?;
+    goes_as_said(rt.alloc(), &MORE_DATA)?;
     Ok(())
 }
 
@@ -510,7 +511,7 @@ const DROPPED_AND_RED: Row = Row {
 
 #[test]
 fn dropped_yellow_frame_sets_no_flag(rt: HostRuntime) -> Result<(), Fail> {
-    goes_as_said(&rt, rt.alloc(), &DROPPED_AND_RED)?;
+    goes_as_said(rt.alloc(), &DROPPED_AND_RED)?;
     Ok(())
 }
 
@@ -534,10 +535,14 @@ fn pair_of<A: Allocator + Copy>(alloc: A, first: FilterPlan) -> Result<Police<A>
 type Handleless = (u64, u8, u32, Option<(u32, Verdict)>);
 
 /// Gives a police frames, and compares the rulings.
-fn rules_all<A: Allocator + Copy>(rt: &impl Abort, police: &mut Police<A>, frames: &[Handleless]) {
+fn rules_all<A: Allocator + Copy>(
+    police: &mut Police<A>,
+    frames: &[Handleless],
+) -> Result<(), Fail> {
     for (t, priority, sdu, wanted) in frames {
-        rules(rt, police, *t, None, *priority, *sdu, ruled(*wanted));
+        rules(police, *t, None, *priority, *sdu, ruled(*wanted))?;
     }
+    Ok(())
 }
 
 fn ruled(wanted: Option<(u32, Verdict)>) -> Option<Ruling> {
@@ -549,15 +554,14 @@ fn ruled(wanted: Option<(u32, Verdict)>) -> Option<Ruling> {
 
 /// Gives a police of two filters frames.
 fn goes_to_a_pair<A: Allocator + Copy>(
-    rt: &impl Abort,
     alloc: A,
     first: FilterPlan,
     frames: &[Handleless],
-) -> Result<(), NoMemory> {
-    assert!(rt; first.gate == 1);
-    assert!(rt; first.meter == None);
+) -> Result<(), Fail> {
+    must(first.gate == 1, "goes to a pair", 1)?;
+    must(first.meter == None, "goes to a pair", 2)?;
     let mut police = pair_of(alloc, first)?;
-    rules_all(rt, &mut police, frames);
+    rules_all(&mut police, frames)?;
     drop(police);
     Ok(())
 }
@@ -592,8 +596,8 @@ const SHARED_WITH_A_BLOCKED: [Handleless; 3] = [
 
 #[test]
 fn filters_share_a_gate(rt: HostRuntime) -> Result<(), Fail> {
-    goes_to_a_pair(&rt, rt.alloc(), FIRST, &SHARED)?;
-    goes_to_a_pair(&rt, rt.alloc(), FIRST_BLOCKING, &SHARED_WITH_A_BLOCKED)?;
+    goes_to_a_pair(rt.alloc(), FIRST, &SHARED)?;
+    goes_to_a_pair(rt.alloc(), FIRST_BLOCKING, &SHARED_WITH_A_BLOCKED)?;
     Ok(())
 }
 
@@ -618,7 +622,7 @@ const LEAST: Row = Row {
 
 #[test]
 fn least_filter_that_matches_counts(rt: HostRuntime) -> Result<(), Fail> {
-    goes_as_said(&rt, rt.alloc(), &LEAST)?;
+    goes_as_said(rt.alloc(), &LEAST)?;
     Ok(())
 }
 
@@ -641,7 +645,7 @@ const OF_ALL_HANDLES: Row = Row {
 
 #[test]
 fn filter_of_all_handles_counts_before_a_greater_one(rt: HostRuntime) -> Result<(), Fail> {
-    goes_as_said(&rt, rt.alloc(), &OF_ALL_HANDLES)?;
+    goes_as_said(rt.alloc(), &OF_ALL_HANDLES)?;
     Ok(())
 }
 
@@ -679,7 +683,7 @@ const CLEARED_OF_AN_OVERSIZED: Row = Row {
 
 #[test]
 fn cleared_filter_takes_frames_again(rt: HostRuntime) -> Result<(), Fail> {
-    goes_as_said(&rt, rt.alloc(), &CLEARED_OF_AN_OVERSIZED)?;
+    goes_as_said(rt.alloc(), &CLEARED_OF_AN_OVERSIZED)?;
     Ok(())
 }
 
@@ -719,9 +723,9 @@ const EXCEEDED_AGAIN: Row = Row {
 
 #[test]
 fn cleared_gate_takes_frames_again(rt: HostRuntime) -> Result<(), Fail> {
-    goes_as_said(&rt, rt.alloc(), &CLEARED_OF_A_FRAME)?;
-    goes_as_said(&rt, rt.alloc(), &CLEARED_OF_OCTETS)?;
-    goes_as_said(&rt, rt.alloc(), &EXCEEDED_AGAIN)?;
+    goes_as_said(rt.alloc(), &CLEARED_OF_A_FRAME)?;
+    goes_as_said(rt.alloc(), &CLEARED_OF_OCTETS)?;
+    goes_as_said(rt.alloc(), &EXCEEDED_AGAIN)?;
     Ok(())
 }
 
@@ -752,6 +756,6 @@ const CLEARED_OF_RED: Row = Row {
 
 #[test]
 fn cleared_meter_judges_again(rt: HostRuntime) -> Result<(), Fail> {
-    goes_as_said(&rt, rt.alloc(), &CLEARED_OF_RED)?;
+    goes_as_said(rt.alloc(), &CLEARED_OF_RED)?;
     Ok(())
 }

@@ -1,9 +1,8 @@
 //! The filtering database: worked examples of where frames go.
-use crate::must::must;
 use bridge_forward::{Forwarding, NoMemory, PortSet, StaticEntry, Vlan};
 use fixture_alloc::{Ending, refuse_each};
+use fixture_text::must::must;
 use std::alloc::Allocator;
-use std::process::Abort;
 use std::test::Fail;
 
 const LISTENER: [u8; 6] = [2, 0, 0, 0, 0, 0x0A];
@@ -41,48 +40,48 @@ const MEMBERS: [(u16, [u8; 6], [u16; 4]); 6] = [
 ];
 
 fn goes_to<A: Allocator + Copy>(
-    rt: &impl Abort,
     database: &Forwarding<A>,
     port: u8,
     vid: u16,
     address: &[u8; 6],
     bits: u16,
-) {
-    assert!(rt; 1 <= port);
-    assert!(rt; port <= 16);
+) -> Result<(), Fail> {
+    must(1 <= port, "goes to", 1)?;
+    must(port <= 16, "goes to", 2)?;
     let ports = database.forward(port, vid, address);
-    must(rt, ports.bits() == bits, "VLAN", u64::from(vid));
+    must(ports.bits() == bits, "VLAN", u64::from(vid))?;
     must(
-        rt,
         ports.has(3) == (bits & 0b100 != 0),
         "port 3 and VLAN",
         u64::from(vid),
-    );
+    )?;
+    Ok(())
 }
 
 /// Tests where frames go of a database of one VLAN and one static entry.
-fn are_members<A: Allocator + Copy>(rt: &impl Abort, database: &Forwarding<A>) {
-    assert!(rt; database.vlans().len() == 1);
-    assert!(rt; database.statics().len() == 1);
+fn are_members<A: Allocator + Copy>(database: &Forwarding<A>) -> Result<(), Fail> {
+    must(database.vlans().len() == 1, "are members", 1)?;
+    must(database.statics().len() == 1, "are members", 2)?;
     for (vid, address, wanted) in &MEMBERS {
         let [first, second, third, fourth] = *wanted;
-        goes_to(rt, database, 1, *vid, address, first);
-        goes_to(rt, database, 2, *vid, address, second);
-        goes_to(rt, database, 3, *vid, address, third);
-        goes_to(rt, database, 4, *vid, address, fourth);
+        goes_to(database, 1, *vid, address, first)?;
+        goes_to(database, 2, *vid, address, second)?;
+        goes_to(database, 3, *vid, address, third)?;
+        goes_to(database, 4, *vid, address, fourth)?;
     }
+    Ok(())
 }
 
-fn go_to_members<A: Allocator + Copy>(rt: &impl Abort, alloc: A) -> Result<(), NoMemory> {
+fn go_to_members<A: Allocator + Copy>(alloc: A) -> Result<(), Fail> {
     let database = small(alloc)?;
-    are_members(rt, &database);
+    are_members(&database)?;
     drop(database);
     Ok(())
 }
 
 #[test]
 fn frames_go_to_members(rt: HostRuntime) -> Result<(), Fail> {
-    go_to_members(&rt, rt.alloc())?;
+    go_to_members(rt.alloc())?;
     Ok(())
 }
 
@@ -112,26 +111,27 @@ fn address_of(number: u16) -> [u8; 6] {
 }
 
 /// Tests where frames go of a database of many entries.
-fn are_found<A: Allocator + Copy>(rt: &impl Abort, database: &Forwarding<A>) {
+fn are_found<A: Allocator + Copy>(database: &Forwarding<A>) -> Result<(), Fail> {
     for number in 0..4096 {
         let wanted = if number % 2 == 0 { 0b10 } else { 0x8000 };
         let ports = database.forward(1, 10, &address_of(number));
-        must(rt, ports.bits() == wanted, "entry", u64::from(number));
+        must(ports.bits() == wanted, "entry", u64::from(number))?;
     }
     let others = database.forward(1, 10, &address_of(4096));
-    assert!(rt; others.bits() == 0xFFFE);
+    must(others.bits() == 0xFFFE, "are found", 1)?;
+    Ok(())
 }
 
-fn find_each<A: Allocator + Copy>(rt: &impl Abort, alloc: A) -> Result<(), NoMemory> {
+fn find_each<A: Allocator + Copy>(alloc: A) -> Result<(), Fail> {
     let database = large(alloc)?;
-    are_found(rt, &database);
+    are_found(&database)?;
     drop(database);
     Ok(())
 }
 
 #[test]
 fn each_of_many_entries_is_found(rt: HostRuntime) -> Result<(), Fail> {
-    find_each(&rt, rt.alloc())?;
+    find_each(rt.alloc())?;
     Ok(())
 }
 

@@ -1,7 +1,7 @@
 //! Frames: worked examples of heads, of the time on a link and of the drop eligible indication.
-use crate::must::must;
 use bridge_frame::{FrameFault, Head, Speed, Tag, mark_drop_eligible, occupation, parse};
-use std::process::Abort;
+use fixture_text::must::must;
+use std::test::Fail;
 
 const TAGGED: [u8; 18] = [
     2, 0, 0, 0, 0, 0x0a, 2, 0, 0, 0, 0, 1, 0x81, 0, 0, 0x0a, 0x88, 0xb5,
@@ -12,11 +12,11 @@ const UNTAGGED: [u8; 18] = [
 ];
 
 /// The head of the first octets of a frame of this length.
-fn head_of(rt: &impl Abort, octets: &[u8], captured: usize, len: u32) -> Result<Head, FrameFault> {
-    assert!(rt; captured <= octets.len());
-    assert!(rt; captured <= 262_144);
-    assert!(rt; captured <= len as usize);
-    parse(&octets[..captured], len)
+fn head_of(octets: &[u8], captured: usize, len: u32) -> Result<Result<Head, FrameFault>, Fail> {
+    must(captured <= octets.len(), "head of", 1)?;
+    must(captured <= 262_144, "head of", 2)?;
+    must(captured <= len as usize, "head of", 3)?;
+    Ok(parse(&octets[..captured], len))
 }
 
 /// A frame's length, the speed of the link and the ns for which it is occupied.
@@ -39,7 +39,7 @@ fn a_link_is_occupied_for_whole_nanoseconds(rt: HostRuntime) {
 }
 
 #[test]
-fn five_speeds_are_known(rt: HostRuntime) {
+fn five_speeds_are_known(rt: HostRuntime) -> Result<(), Fail> {
     for (mbps, want) in [
         (10, Some(Speed::Mbps10)),
         (100, Some(Speed::Mbps100)),
@@ -49,12 +49,13 @@ fn five_speeds_are_known(rt: HostRuntime) {
         (42, None),
         (0, None),
     ] {
-        must(&rt, Speed::of(mbps) == want, "Mb/s", u64::from(mbps));
+        must(Speed::of(mbps) == want, "Mb/s", u64::from(mbps))?;
     }
+    Ok(())
 }
 
 #[test]
-fn a_frame_without_a_head_is_malformed(rt: HostRuntime) {
+fn a_frame_without_a_head_is_malformed(rt: HostRuntime) -> Result<(), Fail> {
     for (octets, captured, len, fault) in [
         (TAGGED, 13, 60, Some(FrameFault::TooShort)),
         (TAGGED, 17, 60, Some(FrameFault::TooShort)),
@@ -65,13 +66,14 @@ fn a_frame_without_a_head_is_malformed(rt: HostRuntime) {
         (TAGGED, 18, 9_217, Some(FrameFault::TooLong)),
         (TAGGED, 17, 9_217, Some(FrameFault::TooShort)),
     ] {
-        let read = head_of(&rt, &octets, captured, len);
-        must(&rt, read.err() == fault, "octets", captured as u64);
+        let read = head_of(&octets, captured, len)?;
+        must(read.err() == fault, "octets", captured as u64)?;
     }
+    Ok(())
 }
 
 #[test]
-fn a_head_has_a_tag_or_none(rt: HostRuntime) {
+fn a_head_has_a_tag_or_none(rt: HostRuntime) -> Result<(), Fail> {
     let tag = Tag {
         pcp: 0,
         dei: false,
@@ -83,13 +85,13 @@ fn a_head_has_a_tag_or_none(rt: HostRuntime) {
         tag: Some(tag),
         sdu: 44,
     };
-    assert_eq!(rt; head_of(&rt, &TAGGED, 18, 60), Ok(head));
+    assert_eq!(rt; head_of(&TAGGED, 18, 60)?, Ok(head));
     let head = Head {
         tag: None,
         sdu: 48,
         ..head
     };
-    assert_eq!(rt; head_of(&rt, &UNTAGGED, 18, 60), Ok(head));
+    assert_eq!(rt; head_of(&UNTAGGED, 18, 60)?, Ok(head));
     for (control, low, pcp, dei, vid) in [
         (0x00, 0x00, 0, false, 0),
         (0xe0, 0x0a, 7, false, 10),
@@ -100,11 +102,12 @@ fn a_head_has_a_tag_or_none(rt: HostRuntime) {
         let mut octets = TAGGED;
         octets[14] = control;
         octets[15] = low;
-        let Ok(head) = head_of(&rt, &octets, 18, 60) else {
+        let Ok(head) = head_of(&octets, 18, 60)? else {
             panic!(rt; "a frame of 18 octets");
         };
         assert_eq!(rt; head.tag, Some(Tag { pcp, dei, vid }));
     }
+    Ok(())
 }
 
 #[test]

@@ -1,13 +1,12 @@
 //! Stream gates: worked examples of answers, flags and octets.
 ghost use Rattle.std.specs.Prelude.{◌≡◌, IfOk};
 
-use crate::must::must;
 use bridge_cycle::{CyclicList, ListFault};
 use bridge_gate::GateAnswer::{Closed, OctetsExceeded, ShutByOctets, ShutByRx, Through};
 use bridge_gate::{GateAnswer, GateEntry, GatePlan, Schedule, StreamGate};
 use fixture_alloc::{Ending, refuse_each};
+use fixture_text::must::must;
 use std::alloc::Allocator;
-use std::process::Abort;
 use std::test::Fail;
 
 /// Open for internal priority value 7, with a limit of octets.
@@ -69,52 +68,54 @@ enum Step {
 
 /// Gives a gate a frame, and compares the answer.
 fn asks<A: Allocator + Copy>(
-    rt: &impl Abort,
     gate: &mut StreamGate<A>,
     t: u64,
     sdu: u32,
     wanted: GateAnswer,
-) {
-    assert!(rt; gate.earliest() <= t);
-    assert!(rt; t < 4_000_000_000_000_000_000);
+) -> Result<(), Fail> {
+    must(gate.earliest() <= t, "asks", 1)?;
+    must(t < 4_000_000_000_000_000_000, "asks", 2)?;
     let answer = gate.ask(t, sdu);
-    must(rt, answer == wanted, "the frame at", t);
-    must(rt, gate.earliest() == t, "the moment", t);
+    must(answer == wanted, "the frame at", t)?;
+    must(gate.earliest() == t, "the moment", t)?;
+    Ok(())
 }
 
-fn take<A: Allocator + Copy>(rt: &impl Abort, gate: &mut StreamGate<A>, step: &Step) {
+fn take<A: Allocator + Copy>(gate: &mut StreamGate<A>, step: &Step) -> Result<(), Fail> {
     match step {
-        Step::Asks(t, sdu, wanted) => asks(rt, gate, *t, *sdu, *wanted),
-        Step::Earliest(t) => assert!(rt; gate.earliest() == *t),
-        Step::Flagged(rx, octets) => assert!(rt; gate.flags() == (*rx, *octets)),
+        Step::Asks(t, sdu, wanted) => asks(gate, *t, *sdu, *wanted)?,
+        Step::Earliest(t) => must(gate.earliest() == *t, "take", 1)?,
+        Step::Flagged(rx, octets) => must(gate.flags() == (*rx, *octets), "take", 2)?,
         Step::ClearsRx => gate.clear_rx(),
         Step::ClearsOctets => gate.clear_octets(),
     }
+    Ok(())
 }
 
-fn take_all<A: Allocator + Copy>(rt: &impl Abort, gate: &mut StreamGate<A>, steps: &[Step]) {
+fn take_all<A: Allocator + Copy>(gate: &mut StreamGate<A>, steps: &[Step]) -> Result<(), Fail> {
     for step in steps {
-        take(rt, gate, step);
+        take(gate, step)?;
     }
+    Ok(())
 }
 
 /// Makes a gate, and takes the steps.
-fn goes_as_said<A: Allocator + Copy>(rt: &impl Abort, plan: GatePlan<A>, steps: &[Step]) {
-    assert!(rt; plan.schedule.has_priorities());
+fn goes_as_said<A: Allocator + Copy>(plan: GatePlan<A>, steps: &[Step]) -> Result<(), Fail> {
+    must(plan.schedule.has_priorities(), "goes as said", 1)?;
     let mut gate = StreamGate::new(plan);
-    take_all(rt, &mut gate, steps);
+    take_all(&mut gate, steps)?;
     drop(gate);
+    Ok(())
 }
 
 /// Takes the steps at a gate with this window.
 fn window_goes<A: Allocator + Copy>(
-    rt: &impl Abort,
     alloc: A,
     shut_on_rx: bool,
     shut_on_octets: bool,
     steps: &[Step],
-) -> Result<(), ListFault> {
-    goes_as_said(rt, base_plan(alloc, shut_on_rx, shut_on_octets)?, steps);
+) -> Result<(), Fail> {
+    goes_as_said(base_plan(alloc, shut_on_rx, shut_on_octets)?, steps)?;
     Ok(())
 }
 
@@ -138,8 +139,8 @@ const SHUT_BY_A_FRAME: [Step; 7] = [
 
 #[test]
 fn a_frame_at_a_closed_gate_may_shut_it(rt: HostRuntime) -> Result<(), Fail> {
-    window_goes(&rt, rt.alloc(), false, false, &NOT_SHUT)?;
-    window_goes(&rt, rt.alloc(), true, false, &SHUT_BY_A_FRAME)?;
+    window_goes(rt.alloc(), false, false, &NOT_SHUT)?;
+    window_goes(rt.alloc(), true, false, &SHUT_BY_A_FRAME)?;
     Ok(())
 }
 
@@ -164,9 +165,9 @@ const SHUT_BY_OCTETS: [Step; 4] = [
 
 #[test]
 fn octets_count_within_a_turn(rt: HostRuntime) -> Result<(), Fail> {
-    window_goes(&rt, rt.alloc(), false, false, &WITHIN_THE_LIMIT)?;
-    window_goes(&rt, rt.alloc(), false, false, &ABOVE_THE_LIMIT)?;
-    window_goes(&rt, rt.alloc(), false, true, &SHUT_BY_OCTETS)?;
+    window_goes(rt.alloc(), false, false, &WITHIN_THE_LIMIT)?;
+    window_goes(rt.alloc(), false, false, &ABOVE_THE_LIMIT)?;
+    window_goes(rt.alloc(), false, true, &SHUT_BY_OCTETS)?;
     Ok(())
 }
 
@@ -186,8 +187,8 @@ const CLEARED_ABOVE: [Step; 4] = [
 
 #[test]
 fn octets_used_stay_when_the_flag_is_cleared(rt: HostRuntime) -> Result<(), Fail> {
-    window_goes(&rt, rt.alloc(), false, true, &CLEARED_WITHIN)?;
-    window_goes(&rt, rt.alloc(), false, true, &CLEARED_ABOVE)?;
+    window_goes(rt.alloc(), false, true, &CLEARED_WITHIN)?;
+    window_goes(rt.alloc(), false, true, &CLEARED_ABOVE)?;
     Ok(())
 }
 
@@ -198,15 +199,15 @@ const IN_EQUAL_TURNS: [Step; 4] = [
     Step::Asks(1_000_000, 100, Through(Some(7))),
 ];
 
-fn equal_turns_go<A: Allocator + Copy>(rt: &impl Abort, alloc: A) -> Result<(), ListFault> {
+fn equal_turns_go<A: Allocator + Copy>(alloc: A) -> Result<(), Fail> {
     let entries = [(open_for(100), 500_000), (open_for(100), 500_000)];
-    goes_as_said(rt, plan_of(alloc, false, false, &entries)?, &IN_EQUAL_TURNS);
+    goes_as_said(plan_of(alloc, false, false, &entries)?, &IN_EQUAL_TURNS)?;
     Ok(())
 }
 
 #[test]
 fn equal_neighbours_are_turns_of_their_own(rt: HostRuntime) -> Result<(), Fail> {
-    equal_turns_go(&rt, rt.alloc())?;
+    equal_turns_go(rt.alloc())?;
     Ok(())
 }
 
@@ -218,7 +219,7 @@ const SHUT_ONCE: [Step; 3] = [
 
 #[test]
 fn a_shut_gate_sets_no_further_flag(rt: HostRuntime) -> Result<(), Fail> {
-    window_goes(&rt, rt.alloc(), true, true, &SHUT_ONCE)?;
+    window_goes(rt.alloc(), true, true, &SHUT_ONCE)?;
     Ok(())
 }
 
@@ -248,14 +249,16 @@ fn fixed_has_priorities<A: Allocator + Copy>(alloc: A, ipv: u8) -> bool {
     has_priorities
 }
 
-fn fixed_gate_goes<A: Allocator + Copy>(rt: &impl Abort, alloc: A) {
-    goes_as_said(rt, fixed_plan(alloc, 3), &UNLIMITED);
-    assert!(rt; !fixed_has_priorities(alloc, 8));
+fn fixed_gate_goes<A: Allocator + Copy>(alloc: A) -> Result<(), Fail> {
+    goes_as_said(fixed_plan(alloc, 3), &UNLIMITED)?;
+    must(!fixed_has_priorities(alloc, 8), "fixed gate goes", 1)?;
+    Ok(())
 }
 
 #[test]
-fn a_fixed_gate_has_no_limit(rt: HostRuntime) {
-    fixed_gate_goes(&rt, rt.alloc());
+fn a_fixed_gate_has_no_limit(rt: HostRuntime) -> Result<(), Fail> {
+    fixed_gate_goes(rt.alloc())?;
+    Ok(())
 }
 
 /// A plan, and its copy.
@@ -293,13 +296,13 @@ const OF_A_COPY: [Step; 3] = [
     Step::Asks(1_000_000, 1, ShutByRx),
 ];
 
-fn copy_goes<A: Allocator + Copy>(rt: &impl Abort, alloc: A) -> Result<(), ListFault> {
-    goes_as_said(rt, made_and_copied(alloc)?, &OF_A_COPY);
+fn copy_goes<A: Allocator + Copy>(alloc: A) -> Result<(), Fail> {
+    goes_as_said(made_and_copied(alloc)?, &OF_A_COPY)?;
     Ok(())
 }
 
 #[test]
 fn a_copy_is_set_alike(rt: HostRuntime) -> Result<(), Fail> {
-    copy_goes(&rt, rt.alloc())?;
+    copy_goes(rt.alloc())?;
     Ok(())
 }

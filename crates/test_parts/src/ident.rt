@@ -1,12 +1,11 @@
 //! Stream identification: worked examples of handles.
 ghost use Rattle.std.specs.Prelude.{◌<◌};
 
-use crate::must::must;
 use bridge_frame::{Head, Tag};
-use bridge_ident::{Ident, Kind, StreamEntry, TagKind};
+use bridge_ident::{Ident, Kind, NoMemory, StreamEntry, TagKind};
 use fixture_alloc::{Ending, refuse_each};
+use fixture_text::must::must;
 use std::alloc::{AllocError, Allocator};
-use std::process::Abort;
 use std::test::Fail;
 
 const TALKER: [u8; 6] = [2, 0, 0, 0, 0, 1];
@@ -51,7 +50,7 @@ fn table_of<A: Allocator + Copy>(
     alloc: A,
     entries: &[StreamEntry],
     has_index: bool,
-) -> Result<Ident<A>, AllocError> {
+) -> Result<Ident<A>, NoMemory> {
     let entries = Vec::from_slice(alloc, entries)?;
     if has_index {
         Ident::indexed(alloc, entries)
@@ -69,37 +68,40 @@ const KINDS: [(TagKind, [Option<u32>; 3]); 3] = [
 
 /// Tests the handle of a frame.
 fn has_handle<A: Allocator + Copy>(
-    rt: &impl Abort,
     table: &Ident<A>,
     port: u8,
     head: &Head,
     vid: u16,
     wanted: Option<u32>,
-) {
+) -> Result<(), Fail> {
     let handle = table.handle_of(port, head, vid);
-    must(rt, handle == wanted, "a frame of VLAN", u64::from(vid));
+    must(handle == wanted, "a frame of VLAN", u64::from(vid))?;
+    Ok(())
 }
 
 /// Tests the handles of frames in a table of one entry.
-fn has_handles<A: Allocator + Copy>(rt: &impl Abort, table: &Ident<A>, wanted: [Option<u32>; 3]) {
+fn has_handles<A: Allocator + Copy>(
+    table: &Ident<A>,
+    wanted: [Option<u32>; 3],
+) -> Result<(), Fail> {
     let tagged = head(Some(10));
-    must(rt, table.entries().len() == 1, "entries", 1);
-    has_handle(rt, table, 1, &tagged, 10, wanted[0]);
-    has_handle(rt, table, 1, &head(Some(0)), 10, wanted[1]);
-    has_handle(rt, table, 1, &head(None), 10, wanted[2]);
-    has_handle(rt, table, 2, &tagged, 10, None);
-    has_handle(rt, table, 1, &tagged, 20, None);
+    must(table.entries().len() == 1, "entries", 1)?;
+    has_handle(table, 1, &tagged, 10, wanted[0])?;
+    has_handle(table, 1, &head(Some(0)), 10, wanted[1])?;
+    has_handle(table, 1, &head(None), 10, wanted[2])?;
+    has_handle(table, 2, &tagged, 10, None)?;
+    has_handle(table, 1, &tagged, 20, None)?;
+    Ok(())
 }
 
 fn table_goes<A: Allocator + Copy>(
-    rt: &impl Abort,
     alloc: A,
     kind: TagKind,
     has_index: bool,
     wanted: [Option<u32>; 3],
-) -> Result<(), AllocError> {
+) -> Result<(), Fail> {
     let table = table_of(alloc, &[entry(1, kind)], has_index)?;
-    has_handles(rt, &table, wanted);
+    has_handles(&table, wanted)?;
     drop(table);
     Ok(())
 }
@@ -107,8 +109,8 @@ fn table_goes<A: Allocator + Copy>(
 #[test]
 fn tag_kinds(rt: HostRuntime) -> Result<(), Fail> {
     for (kind, wanted) in &KINDS {
-        table_goes(&rt, rt.alloc(), *kind, false, *wanted)?;
-        table_goes(&rt, rt.alloc(), *kind, true, *wanted)?;
+        table_goes(rt.alloc(), *kind, false, *wanted)?;
+        table_goes(rt.alloc(), *kind, true, *wanted)?;
     }
     Ok(())
 }
@@ -132,21 +134,17 @@ fn rows() -> [Row; 6] {
 }
 
 /// Tests the handles of a tagged frame and of an untagged one.
-fn has_first<A: Allocator + Copy>(rt: &impl Abort, table: &Ident<A>, wanted: [Option<u32>; 2]) {
-    has_handle(rt, table, 1, &head(Some(10)), 10, wanted[0]);
-    has_handle(rt, table, 1, &head(None), 10, wanted[1]);
+fn has_first<A: Allocator + Copy>(table: &Ident<A>, wanted: [Option<u32>; 2]) -> Result<(), Fail> {
+    has_handle(table, 1, &head(Some(10)), 10, wanted[0])?;
+    has_handle(table, 1, &head(None), 10, wanted[1])?;
+    Ok(())
 }
 
 /// Tests these handles in a table of two entries.
-fn matches_first<A: Allocator + Copy>(
-    rt: &impl Abort,
-    alloc: A,
-    row: &Row,
-    has_index: bool,
-) -> Result<(), AllocError> {
+fn matches_first<A: Allocator + Copy>(alloc: A, row: &Row, has_index: bool) -> Result<(), Fail> {
     let (entries, wanted) = row;
     let table = table_of(alloc, entries, has_index)?;
-    has_first(rt, &table, *wanted);
+    has_first(&table, *wanted)?;
     drop(table);
     Ok(())
 }
@@ -154,8 +152,8 @@ fn matches_first<A: Allocator + Copy>(
 #[test]
 fn first_match_counts(rt: HostRuntime) -> Result<(), Fail> {
     for row in &rows() {
-        matches_first(&rt, rt.alloc(), row, false)?;
-        matches_first(&rt, rt.alloc(), row, true)?;
+        matches_first(rt.alloc(), row, false)?;
+        matches_first(rt.alloc(), row, true)?;
     }
     Ok(())
 }
@@ -182,7 +180,7 @@ fn many<A: Allocator + Copy>(alloc: A) -> Result<Vec<StreamEntry, A>, AllocError
 }
 
 /// Tests the handle of a frame of an entry, and of one to its source or from its destination.
-fn is_found<A: Allocator + Copy>(rt: &impl Abort, table: &Ident<A>, number: u16)
+fn is_found<A: Allocator + Copy>(table: &Ident<A>, number: u16) -> Result<(), Fail>
     requires { number < 4096 }
 {
     let from = head(Some(10));
@@ -198,26 +196,28 @@ fn is_found<A: Allocator + Copy>(rt: &impl Abort, table: &Ident<A>, number: u16)
         (&to, &from)
     };
     let wanted = Some(u32::from(number));
-    has_handle(rt, table, port, found, number * 16, wanted);
-    has_handle(rt, table, port, missed, number * 16, None);
+    has_handle(table, port, found, number * 16, wanted)?;
+    has_handle(table, port, missed, number * 16, None)?;
+    Ok(())
 }
 
-fn are_found<A: Allocator + Copy>(rt: &impl Abort, table: &Ident<A>) {
+fn are_found<A: Allocator + Copy>(table: &Ident<A>) -> Result<(), Fail> {
     for number in 0..4096u16 {
-        is_found(rt, table, number);
+        is_found(table, number)?;
     }
+    Ok(())
 }
 
-fn find_each<A: Allocator + Copy>(rt: &impl Abort, alloc: A) -> Result<(), AllocError> {
+fn find_each<A: Allocator + Copy>(alloc: A) -> Result<(), Fail> {
     let table = Ident::indexed(alloc, many(alloc)?)?;
-    are_found(rt, &table);
+    are_found(&table)?;
     drop(table);
     Ok(())
 }
 
 #[test]
 fn each_of_many_entries_is_found(rt: HostRuntime) -> Result<(), Fail> {
-    find_each(&rt, rt.alloc())?;
+    find_each(rt.alloc())?;
     Ok(())
 }
 

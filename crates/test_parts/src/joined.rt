@@ -1,13 +1,12 @@
 //! Lists that are exchanged at a moment: worked examples of turns, of fits, of copies.
 ghost use Rattle.std.specs.Prelude.{◌<◌, ◌≤◌};
 
-use crate::must::must;
 use bridge_cycle::{
     CyclicList, Egress, Joined, ListFault, NoMemory, Timeline, first_fit, longest_run,
 };
 use fixture_alloc::{Ending, refuse_each};
+use fixture_text::must::must;
 use std::alloc::Allocator;
-use std::process::Abort;
 use std::test::Fail;
 
 const CLASS_7: u8 = 0b1000_0000;
@@ -44,13 +43,14 @@ fn swapped_at<A: Allocator + Copy>(alloc: A, at: u64) -> Result<Joined<u8, A>, L
 type Row = (u64, u8, i64, u64);
 
 /// Asserts that a timeline has each of these turns.
-fn expect_turns<L: Timeline<State = u8>>(rt: &impl Abort, timeline: &L, rows: &[Row]) {
+fn expect_turns<L: Timeline<State = u8>>(timeline: &L, rows: &[Row]) -> Result<(), Fail> {
     for (t, state, start, end) in rows {
-        assert!(rt; *t < 4_000_000_000_000_000_000u64);
+        must(*t < 4_000_000_000_000_000_000u64, "expect turns", 1)?;
         let turn = timeline.turn(*t);
         let is_said = turn.state == *state && turn.start == *start && turn.end == *end;
-        must(rt, is_said, "the turn at", *t);
+        must(is_said, "the turn at", *t)?;
     }
+    Ok(())
 }
 
 /// The change comes as a turn of both lists ends.
@@ -81,35 +81,30 @@ const AT_0: [Row; 3] = [
 ];
 
 /// Asserts that lists that are exchanged at a moment have each of these turns.
-fn turns_are<A: Allocator + Copy>(
-    rt: &impl Abort,
-    alloc: A,
-    at: u64,
-    rows: &[Row],
-) -> Result<(), ListFault>
+fn turns_are<A: Allocator + Copy>(alloc: A, at: u64, rows: &[Row]) -> Result<(), Fail>
     requires { at < 4_000_000_000_000_000_000 }
 {
     let joined = swapped_at(alloc, at)?;
-    expect_turns(rt, &joined, rows);
+    expect_turns(&joined, rows)?;
     drop(joined);
     Ok(())
 }
 
 #[test]
 fn a_turn_ends_at_the_change(rt: HostRuntime) -> Result<(), Fail> {
-    turns_are(&rt, rt.alloc(), 2_000_000, &AT_AN_END)?;
+    turns_are(rt.alloc(), 2_000_000, &AT_AN_END)?;
     Ok(())
 }
 
 #[test]
 fn a_change_cuts_the_turn_that_it_comes_in(rt: HostRuntime) -> Result<(), Fail> {
-    turns_are(&rt, rt.alloc(), 250_000, &WITHIN_A_TURN)?;
+    turns_are(rt.alloc(), 250_000, &WITHIN_A_TURN)?;
     Ok(())
 }
 
 #[test]
 fn from_a_change_at_0_on_the_new_list_holds(rt: HostRuntime) -> Result<(), Fail> {
-    turns_are(&rt, rt.alloc(), 0, &AT_0)?;
+    turns_are(rt.alloc(), 0, &AT_0)?;
     Ok(())
 }
 
@@ -138,19 +133,18 @@ fn a_turn_goes_on_to_the_end_of_its_cycle(rt: HostRuntime) -> Result<(), Fail> {
         &[(OTHER_CLASSES, 100_000), (CLASS_7, 1)],
     )?;
     let joined = Joined::new(old, new, 2_000_000);
-    expect_turns(&rt, &joined, &PAST_THE_INTERVAL);
+    expect_turns(&joined, &PAST_THE_INTERVAL)?;
     drop(joined);
     Ok(())
 }
 
 /// The first fit of a length that the longest runs of both lists allow.
 fn fit_of<A: Allocator + Copy>(
-    rt: &impl Abort,
     joined: &Joined<u8, A>,
     class: u8,
     occ: u64,
     from: u64,
-) -> u64
+) -> Result<u64, Fail>
     requires class { class < 8 }
     requires occ { occ ≤ 1_000_000_000 }
     requires from { from < 9_000_000_000_000_000_000 }
@@ -158,21 +152,34 @@ fn fit_of<A: Allocator + Copy>(
     let (old, new) = joined.lists();
     let before = longest_run(old, class);
     let after = longest_run(new, class);
-    assert!(rt; before.allows(occ));
-    assert!(rt; after.allows(occ));
-    first_fit(joined, class, occ, from)
+    must(before.allows(occ), "fit of", 1)?;
+    must(after.allows(occ), "fit of", 2)?;
+    Ok(first_fit(joined, class, occ, from))
 }
 
-fn fit_over_the_change<A: Allocator + Copy>(rt: &impl Abort, joined: &Joined<u8, A>) {
-    assert!(rt; fit_of(rt, joined, 0, 672, 1_999_328) == 1_999_328);
-    assert!(rt; fit_of(rt, joined, 0, 672, 1_999_329) == 1_999_329);
-    assert!(rt; fit_of(rt, joined, 7, 672, 1_499_329) == 2_500_000);
+fn fit_over_the_change<A: Allocator + Copy>(joined: &Joined<u8, A>) -> Result<(), Fail> {
+    must(
+        fit_of(joined, 0, 672, 1_999_328)? == 1_999_328,
+        "fit over the change",
+        1,
+    )?;
+    must(
+        fit_of(joined, 0, 672, 1_999_329)? == 1_999_329,
+        "fit over the change",
+        2,
+    )?;
+    must(
+        fit_of(joined, 7, 672, 1_499_329)? == 2_500_000,
+        "fit over the change",
+        3,
+    )?;
+    Ok(())
 }
 
 #[test]
 fn a_frame_may_run_on_over_the_change(rt: HostRuntime) -> Result<(), Fail> {
     let joined = swapped_at(rt.alloc(), 2_000_000)?;
-    fit_over_the_change(&rt, &joined);
+    fit_over_the_change(&joined)?;
     drop(joined);
     Ok(())
 }
@@ -183,30 +190,30 @@ fn whole<A: Allocator + Copy>(alloc: A, cycle: u64) -> Result<CyclicList<u8, A>,
 }
 
 /// Tests the cycles of lists that are exchanged at 5, of which the greater one is 3,000.
-fn has_cycles<A: Allocator + Copy>(rt: &impl Abort, joined: &Joined<u8, A>, old: u64, new: u64) {
+fn has_cycles<A: Allocator + Copy>(joined: &Joined<u8, A>, old: u64, new: u64) -> Result<(), Fail> {
     let (before, after) = joined.lists();
-    assert!(rt; joined.cycle() == 3_000);
-    assert!(rt; before.cycle() == old && after.cycle() == new);
-    assert!(rt; joined.at() == 5);
+    must(joined.cycle() == 3_000, "has cycles", 1)?;
+    must(
+        before.cycle() == old && after.cycle() == new,
+        "has cycles",
+        2,
+    )?;
+    must(joined.at() == 5, "has cycles", 3)?;
+    Ok(())
 }
 
-fn has_greater_cycle<A: Allocator + Copy>(
-    rt: &impl Abort,
-    alloc: A,
-    old: u64,
-    new: u64,
-) -> Result<(), ListFault> {
+fn has_greater_cycle<A: Allocator + Copy>(alloc: A, old: u64, new: u64) -> Result<(), Fail> {
     let before = whole(alloc, old)?;
     let joined = Joined::new(before, whole(alloc, new)?, 5);
-    has_cycles(rt, &joined, old, new);
+    has_cycles(&joined, old, new)?;
     drop(joined);
     Ok(())
 }
 
 #[test]
 fn the_cycle_is_the_greater_one(rt: HostRuntime) -> Result<(), Fail> {
-    has_greater_cycle(&rt, rt.alloc(), 1_000, 3_000)?;
-    has_greater_cycle(&rt, rt.alloc(), 3_000, 1_000)?;
+    has_greater_cycle(rt.alloc(), 1_000, 3_000)?;
+    has_greater_cycle(rt.alloc(), 3_000, 1_000)?;
     Ok(())
 }
 
@@ -214,7 +221,7 @@ fn the_cycle_is_the_greater_one(rt: HostRuntime) -> Result<(), Fail> {
 fn the_lists_of_a_port_are_one_or_two(rt: HostRuntime) -> Result<(), Fail> {
     let one = Egress::Cyclic(list_of(rt.alloc(), 0, &SEVEN_FIRST)?);
     assert!(rt; one.cycle() == 1_000_000);
-    expect_turns(&rt, &one, &[(2_000_000, CLASS_7, 2_000_000, 2_500_000)]);
+    expect_turns(&one, &[(2_000_000, CLASS_7, 2_000_000, 2_500_000)])?;
     drop(one);
     Ok(())
 }
@@ -223,7 +230,7 @@ fn the_lists_of_a_port_are_one_or_two(rt: HostRuntime) -> Result<(), Fail> {
 fn the_lists_of_a_port_change(rt: HostRuntime) -> Result<(), Fail> {
     let two = Egress::Joined(swapped_at(rt.alloc(), 2_000_000)?);
     assert!(rt; two.cycle() == 1_000_000);
-    expect_turns(&rt, &two, &AT_AN_END);
+    expect_turns(&two, &AT_AN_END)?;
     drop(two);
     Ok(())
 }

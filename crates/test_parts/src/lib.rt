@@ -20,6 +20,4 @@ mod joined;
 #[cfg(test)]
 mod meter;
 #[cfg(test)]
-mod must;
-#[cfg(test)]
 mod port;

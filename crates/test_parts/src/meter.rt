@@ -1,9 +1,9 @@
 //! Meters: worked examples of colours and of what the buckets hold then.
 
-use crate::must::must;
 use bridge_meter::Colour::{Green, Red, Yellow};
 use bridge_meter::{Buckets, Colour, Meter, MeterPlan, UNITS_PER_OCTET};
-use std::process::Abort;
+use fixture_text::must::must;
+use std::test::Fail;
 
 /// A colour-blind meter of 8 Mb/s and 128 octets.
 const BLIND: MeterPlan = MeterPlan {
@@ -17,9 +17,9 @@ const BLIND: MeterPlan = MeterPlan {
     mark_all_red: false,
 };
 
-fn meter_of(rt: &impl Abort, plan: MeterPlan) -> Meter {
-    assert!(rt; plan.is_within_limits());
-    Meter::new(plan)
+fn meter_of(plan: MeterPlan) -> Result<Meter, Fail> {
+    must(plan.is_within_limits(), "meter of", 1)?;
+    Ok(Meter::new(plan))
 }
 
 /// What is done with a meter, or seen of it.
@@ -32,32 +32,36 @@ enum Step {
     ClearsRed,
 }
 
-fn colours(rt: &impl Abort, meter: &mut Meter, t: u64, is_eligible: bool, wanted: Colour) {
-    assert!(rt; meter.state().at <= t);
+fn colours(meter: &mut Meter, t: u64, is_eligible: bool, wanted: Colour) -> Result<(), Fail> {
+    must(meter.state().at <= t, "colours", 1)?;
     let colour = meter.colour(t, 64, is_eligible);
-    must(rt, colour == wanted, "colour of the frame at", t);
+    must(colour == wanted, "colour of the frame at", t)?;
+    Ok(())
 }
 
-fn holds(rt: &impl Abort, meter: &Meter, wanted: Buckets) {
-    must(rt, meter.state() == wanted, "buckets at", wanted.at);
+fn holds(meter: &Meter, wanted: Buckets) -> Result<(), Fail> {
+    must(meter.state() == wanted, "buckets at", wanted.at)?;
+    Ok(())
 }
 
-fn take(rt: &impl Abort, meter: &mut Meter, step: &Step) {
+fn take(meter: &mut Meter, step: &Step) -> Result<(), Fail> {
     match step {
-        Step::Frame(t, is_eligible, wanted) => colours(rt, meter, *t, *is_eligible, *wanted),
+        Step::Frame(t, is_eligible, wanted) => colours(meter, *t, *is_eligible, *wanted)?,
         Step::Holds(committed, excess, at, all_red) => {
-            holds(rt, meter, held(*committed, *excess, *at, *all_red));
+            holds(meter, held(*committed, *excess, *at, *all_red))?;
         }
         Step::ClearsRed => meter.clear_red(),
     }
+    Ok(())
 }
 
 /// Makes a meter, and takes the steps.
-fn goes_as_said(rt: &impl Abort, plan: MeterPlan, steps: &[Step]) {
-    let mut meter = meter_of(rt, plan);
+fn goes_as_said(plan: MeterPlan, steps: &[Step]) -> Result<(), Fail> {
+    let mut meter = meter_of(plan)?;
     for step in steps {
-        take(rt, &mut meter, step);
+        take(&mut meter, step)?;
     }
+    Ok(())
 }
 
 fn held(committed: u128, excess: u128, at: u64, all_red: bool) -> Buckets {
@@ -85,9 +89,10 @@ const IN_TIME: [Step; 4] = [
 ];
 
 #[test]
-fn committed_bucket_refills_without_rounding(rt: HostRuntime) {
-    goes_as_said(&rt, BLIND, &TOO_EARLY);
-    goes_as_said(&rt, BLIND, &IN_TIME);
+fn committed_bucket_refills_without_rounding(rt: HostRuntime) -> Result<(), Fail> {
+    goes_as_said(BLIND, &TOO_EARLY)?;
+    goes_as_said(BLIND, &IN_TIME)?;
+    Ok(())
 }
 
 const MARKS_ALL: MeterPlan = MeterPlan {
@@ -113,9 +118,10 @@ const CLEARED: [Step; 6] = [
 ];
 
 #[test]
-fn all_are_red_after_one_red_frame(rt: HostRuntime) {
-    goes_as_said(&rt, MARKS_ALL, &ALL_RED);
-    goes_as_said(&rt, MARKS_ALL, &CLEARED);
+fn all_are_red_after_one_red_frame(rt: HostRuntime) -> Result<(), Fail> {
+    goes_as_said(MARKS_ALL, &ALL_RED)?;
+    goes_as_said(MARKS_ALL, &CLEARED)?;
+    Ok(())
 }
 
 const TWO_BUCKETS: MeterPlan = MeterPlan {
@@ -144,9 +150,10 @@ const OVERFLOW_IS_LOST: [Step; 4] = [
 ];
 
 #[test]
-fn overflow_goes_to_the_excess_bucket_with_coupling_alone(rt: HostRuntime) {
-    goes_as_said(&rt, COUPLED, &OVERFLOWS);
-    goes_as_said(&rt, TWO_BUCKETS, &OVERFLOW_IS_LOST);
+fn overflow_goes_to_the_excess_bucket_with_coupling_alone(rt: HostRuntime) -> Result<(), Fail> {
+    goes_as_said(COUPLED, &OVERFLOWS)?;
+    goes_as_said(TWO_BUCKETS, &OVERFLOW_IS_LOST)?;
+    Ok(())
 }
 
 const AWARE: MeterPlan = MeterPlan {
@@ -163,8 +170,9 @@ const ELIGIBLE: [Step; 2] = [
 ];
 
 #[test]
-fn drop_eligible_frame_is_yellow_where_aware(rt: HostRuntime) {
-    goes_as_said(&rt, AWARE, &ELIGIBLE);
+fn drop_eligible_frame_is_yellow_where_aware(rt: HostRuntime) -> Result<(), Fail> {
+    goes_as_said(AWARE, &ELIGIBLE)?;
+    Ok(())
 }
 
 const GREATEST: MeterPlan = MeterPlan {
@@ -192,7 +200,8 @@ const AT_THE_LAST_MOMENT: [Step; 2] = [
 ];
 
 #[test]
-fn greatest_rates_and_moment(rt: HostRuntime) {
-    goes_as_said(&rt, GREATEST, &AT_THE_LAST_MOMENT);
+fn greatest_rates_and_moment(rt: HostRuntime) -> Result<(), Fail> {
+    goes_as_said(GREATEST, &AT_THE_LAST_MOMENT)?;
     assert!(rt; !ABOVE_THE_GREATEST.is_within_limits());
+    Ok(())
 }

@@ -2,7 +2,6 @@
 ghost use Rattle.std.specs.Prelude.{◌≡◌, true};
 ghost use Rattle.bridge_port.specs.Standing.{NoStartBefore};
 
-use crate::must::must;
 use bridge_cycle::{CyclicList, Egress, ListFault};
 use bridge_frame::{Speed, occupation};
 use bridge_port::{
@@ -10,8 +9,8 @@ use bridge_port::{
     own_windows_isolate,
 };
 use fixture_alloc::{Ending, refuse_each};
+use fixture_text::must::must;
 use std::alloc::{AllocError, Allocator};
-use std::process::Abort;
 use std::test::Fail;
 
 /// What is offered: the moment, the class and the length, with why it is refused.
@@ -66,22 +65,21 @@ fn is_calm<A: Allocator + Copy>(port: &Port<u32, A>, t: u64) -> bool
 
 /// Offers a frame, and says why it is refused.
 fn offer<A: Allocator + Copy>(
-    rt: &impl Abort,
     port: &mut Port<u32, A>,
     t: u64,
     class: u8,
     len: u32,
-) -> Option<Refusal> {
-    assert!(rt; class < 8);
-    assert!(rt; port.earliest() <= t);
-    assert!(rt; t < 4_000_000_000_000_000_000);
-    assert!(rt; len <= 9_216);
-    assert!(rt; port.offered() < 16_000_000);
-    assert!(rt; is_calm(port, t));
-    match port.offer(t, class, Item { len, load: len }) {
+) -> Result<Option<Refusal>, Fail> {
+    must(class < 8, "offer", 1)?;
+    must(port.earliest() <= t, "offer", 2)?;
+    must(t < 4_000_000_000_000_000_000, "offer", 3)?;
+    must(len <= 9_216, "offer", 4)?;
+    must(port.offered() < 16_000_000, "offer", 5)?;
+    must(is_calm(port, t), "offer", 6)?;
+    Ok(match port.offer(t, class, Item { len, load: len }) {
         Ok(()) => None,
         Err((_, refusal)) => Some(refusal),
-    }
+    })
 }
 
 /// Makes the next start, if it is due before a moment.
@@ -117,66 +115,59 @@ fn starts_before<A: Allocator + Copy>(
 }
 
 /// The port of a row, with a list where there are entries.
-fn port_of<A: Allocator + Copy>(
-    rt: &impl Abort,
-    alloc: A,
-    row: &Row,
-) -> Result<Port<u32, A>, NoMemory> {
-    assert!(rt; are_rooms(&row.rooms));
+fn port_of<A: Allocator + Copy>(alloc: A, row: &Row) -> Result<Port<u32, A>, Fail> {
+    must(are_rooms(&row.rooms), "port of", 1)?;
     let list = match row.entries {
         [] => None,
         entries => match list_of(alloc, row.cycle, entries) {
             Ok(list) => Some(Egress::Cyclic(list)),
-            Err(_) => return Err(NoMemory),
+            Err(_) => return Err(Fail::from("no list")),
         },
     };
-    Port::new(alloc, row.speed, list, row.rooms)
+    Ok(Port::new(alloc, row.speed, list, row.rooms)?)
 }
 
 /// Offers what a row says and makes each start when it is due.
 fn offer_all<A: Allocator + Copy>(
-    rt: &impl Abort,
     port: &mut Port<u32, A>,
     name: &str,
     row: &Row,
     starts: &mut Vec<Start, A>,
-) -> Result<(), AllocError> {
+) -> Result<(), Fail> {
     for (t, class, len, refusal) in row.offers {
         starts_before(port, row.speed, *t, starts)?;
-        let refused = offer(rt, port, *t, *class, *len);
-        must(rt, refused == *refusal, name, *t);
+        let refused = offer(port, *t, *class, *len)?;
+        must(refused == *refusal, name, *t)?;
     }
-    starts_before(port, row.speed, u64::MAX, starts)
+    starts_before(port, row.speed, u64::MAX, starts)?;
+    Ok(())
 }
 
 /// Offers to a port what a row says, and compares what starts.
 pub(crate) fn answers_as_said<A: Allocator + Copy>(
-    rt: &impl Abort,
     alloc: A,
     port: &mut Port<u32, A>,
     name: &str,
     row: &Row,
-) -> Result<(), AllocError> {
+) -> Result<(), Fail> {
     let mut starts = Vec::new(alloc);
-    offer_all(rt, port, name, row, &mut starts)?;
-    must(rt, starts.as_slice() == row.starts, name, 0);
-    must(rt, port.offered() == row.offers.len() as u64, name, 1);
-    must(rt, port.started() == row.starts.len() as u64, name, 2);
+    offer_all(port, name, row, &mut starts)?;
+    must(starts.as_slice() == row.starts, name, 0)?;
+    must(port.offered() == row.offers.len() as u64, name, 1)?;
+    must(port.started() == row.starts.len() as u64, name, 2)?;
     Ok(())
 }
 
 /// Offers what a row says to a port of the list of the row, and compares what starts.
 pub(crate) fn goes_as_said<A: Allocator + Copy>(
-    rt: &impl Abort,
     alloc: A,
     name: &str,
     row: &Row,
 ) -> Result<(), Fail> {
-    let mut port = port_of(rt, alloc, row)?;
-    let answered = answers_as_said(rt, alloc, &mut port, name, row);
+    let mut port = port_of(alloc, row)?;
+    let answered = answers_as_said(alloc, &mut port, name, row);
     drop(port);
-    answered?;
-    Ok(())
+    answered
 }
 
 const HALVES_ROW: Row = Row {
@@ -209,9 +200,9 @@ const ONE_HALF_AT_10_MBPS: Row = Row {
 
 #[test]
 fn a_frame_starts_where_its_class_stays_open(rt: HostRuntime) -> Result<(), Fail> {
-    goes_as_said(&rt, rt.alloc(), "just fits", &JUST_FITS)?;
-    goes_as_said(&rt, rt.alloc(), "just too late", &JUST_TOO_LATE)?;
-    goes_as_said(&rt, rt.alloc(), "one half at 10 Mb/s", &ONE_HALF_AT_10_MBPS)
+    goes_as_said(rt.alloc(), "just fits", &JUST_FITS)?;
+    goes_as_said(rt.alloc(), "just too late", &JUST_TOO_LATE)?;
+    goes_as_said(rt.alloc(), "one half at 10 Mb/s", &ONE_HALF_AT_10_MBPS)
 }
 
 const BURST_ROW: Row = Row {
@@ -243,15 +234,13 @@ const THE_ORDER_OF_THE_OFFERS_DOES_NOT_MATTER: Row = Row {
 
 #[test]
 fn the_highest_class_that_fits_starts(rt: HostRuntime) -> Result<(), Fail> {
-    goes_as_said(&rt, rt.alloc(), "a long frame waits", &A_LONG_FRAME_WAITS)?;
+    goes_as_said(rt.alloc(), "a long frame waits", &A_LONG_FRAME_WAITS)?;
     goes_as_said(
-        &rt,
         rt.alloc(),
         "a short frame goes first",
         &A_SHORT_FRAME_GOES_FIRST,
     )?;
     goes_as_said(
-        &rt,
         rt.alloc(),
         "the order of the offers does not matter",
         &THE_ORDER_OF_THE_OFFERS_DOES_NOT_MATTER,
@@ -307,16 +296,14 @@ const NEVER_FITS_BEFORE_FULL: Row = Row {
 
 #[test]
 fn a_frame_is_refused_for_the_first_reason(rt: HostRuntime) -> Result<(), Fail> {
-    goes_as_said(&rt, rt.alloc(), "two at one moment", &TWO_AT_ONE_MOMENT)?;
-    goes_as_said(&rt, rt.alloc(), "one after the other", &ONE_AFTER_THE_OTHER)?;
+    goes_as_said(rt.alloc(), "two at one moment", &TWO_AT_ONE_MOMENT)?;
+    goes_as_said(rt.alloc(), "one after the other", &ONE_AFTER_THE_OTHER)?;
     goes_as_said(
-        &rt,
         rt.alloc(),
         "a class that is never open",
         &A_CLASS_THAT_IS_NEVER_OPEN,
     )?;
     goes_as_said(
-        &rt,
         rt.alloc(),
         "never fits before full",
         &NEVER_FITS_BEFORE_FULL,
@@ -352,24 +339,29 @@ const ALL_CLASSES: Row = Row {
 
 #[test]
 fn an_entry_may_open_all_eight_classes(rt: HostRuntime) -> Result<(), Fail> {
-    goes_as_said(&rt, rt.alloc(), "all classes", &ALL_CLASSES)
+    goes_as_said(rt.alloc(), "all classes", &ALL_CLASSES)
 }
 
-fn has_no_start<A: Allocator + Copy>(rt: &impl Abort, port: &Port<u32, A>) {
-    assert!(rt; port.next_start() == None);
-    assert!(rt; port.offered() == 0 && port.started() == 0 && port.earliest() == 0);
+fn has_no_start<A: Allocator + Copy>(port: &Port<u32, A>) -> Result<(), Fail> {
+    must(port.next_start() == None, "has no start", 1)?;
+    must(
+        port.offered() == 0 && port.started() == 0 && port.earliest() == 0,
+        "has no start",
+        2,
+    )?;
+    Ok(())
 }
 
-fn is_idle<A: Allocator + Copy>(rt: &impl Abort, alloc: A) -> Result<(), NoMemory> {
+fn is_idle<A: Allocator + Copy>(alloc: A) -> Result<(), Fail> {
     let port = Port::<u32, A>::new(alloc, Speed::Mbps100, None, WIDE)?;
-    has_no_start(rt, &port);
+    has_no_start(&port)?;
     drop(port);
     Ok(())
 }
 
 #[test]
 fn an_idle_port_has_no_start(rt: HostRuntime) -> Result<(), Fail> {
-    is_idle(&rt, rt.alloc())?;
+    is_idle(rt.alloc())?;
     Ok(())
 }
 
