@@ -1,5 +1,5 @@
 -- The priority of a frame is at most 7.
-use Rattle.std.proofs.Common.{◌≡◌, ◌≤◌, ℕ, Option, Some, None, refl}
+use Rattle.std.proofs.Common.{◌≤◌, Option, Some, None, refl}
 use Rattle.std.specs.Option.{ForSome}
 use Rattle.bridge_frame.specs.declared.Tag.{Tag}
 use Rattle.bridge_config.specs.declared.ports.PortPlan.{PortPlan}

@@ -1,12 +1,11 @@
 -- What the tests of a filter say of frames.
-use Rattle.std.proofs.Common.{◌≡◌, ◌<◌, ◌≤◌, ◌+◌, ◌-◌, ◌^◌, ℕ, zero, suc, Bool, true, false, not, ◌&&◌, ◌||◌, List, [], ◌∷◌, Option, Some, None, nat_eq, nat_le, refl, sym, ap, ◌∙◌, arith, subst, inl, inr, All, length, cond, ◌⊎◌}
+use Rattle.std.proofs.Common.{◌≡◌, ◌<◌, ◌≤◌, ◌+◌, ◌-◌, ◌^◌, ℕ, zero, suc, Bool, true, false, not, ◌&&◌, ◌||◌, List, [], ◌∷◌, Option, Some, None, nat_eq, nat_le, refl, sym, ap, ◌∙◌, arith, subst, inl, inr, cond, ◌⊎◌}
 use Rattle.std.specs.Prelude.{option_map, slice_index, is_some}
 use Rattle.std.specs.List.{list_any, list_all}
 use Rattle.std.proofs.lemmas.Bool.{and_parts, or_parts, eqb-true, not-true, not-false, false≢true, cases_lt}
 use Rattle.std.specs.Option.{ForSome, option_or}
 use Rattle.std.specs.Bool.{if◌then◌else◌}
 use Rattle.std.proofs.lemmas.Bool.Decides.{nat_tests}
-use Rattle.std.proofs.lemmas.List.Sums.{AllPass-from_list_all}
 use Rattle.std.proofs.Math.Nat.{div-eq_of_lt, pow-le-pow_right, zero-lt-suc}
 use Rattle.bridge_cycle.specs.Cyclic.{Cyclic, turn_at}
 use Rattle.bridge_base.specs.Members.{In}
@@ -23,7 +22,6 @@ use Rattle.bridge_filter.specs.Finding.{lesser_number}
 use Rattle.bridge_filter.proofs.Numbered.{same_eq}
 use Rattle.bridge_port.specs.Opening.{opens_of, opening_of, IsMade}
 use Rattle.bridge_port.proofs.Opening as opening
-use Rattle.bridge_keys.specs.Readers.{are_within}
 use Rattle.bridge_config.specs.declared.ports.PortPlan.{PortPlan}
 use Rattle.bridge_config.specs.Model.{Plan}
 use Rattle.bridge_config.specs.Rules.{port_at, IsPlan, IsPort, IsPortList, ForEachList}

@@ -1,5 +1,5 @@
 -- The reach of a filter has each queue to which a frame comes that the filter passes.
-use Rattle.std.proofs.Common.{◌≡◌, ◌<◌, ◌≤◌, ◌+◌, ℕ, zero, suc, Bool, true, false, not, ◌&&◌, ◌||◌, List, [], ◌∷◌, map, Ok, Option, Some, None, cond, nat_eq, nat_le, nat_lt, refl, sym, ap, ◌∙◌, arith, subst, inl, inr, ◌⊎◌}
+use Rattle.std.proofs.Common.{◌≡◌, ◌<◌, ◌≤◌, ◌+◌, ℕ, zero, suc, Bool, true, false, not, ◌&&◌, ◌||◌, List, [], ◌∷◌, map, Ok, Option, Some, None, cond, nat_eq, nat_le, nat_lt, refl, sym, ap, ◌∙◌, arith, subst, inl, inr}
 use Rattle.std.specs.Prelude.{slice_index, unwrap_or}
 use Rattle.std.specs.List.{list_any, list_all}
 use Rattle.std.specs.Map.{lookup}
@@ -36,6 +36,8 @@ use Rattle.bridge_filter.specs.declared.Verdict.TheVariants as verdict
 use Rattle.bridge_filter.specs.Plans.{plans_of, gate_or_closed}
 use Rattle.bridge_filter.specs.Verdicts.{Call, Plans, Step, flow, lesser, is_match, takes_handle, takes_priority, verdict_of, by_answer, by_meter, by_colour, gate_answer, gate_share, is_blocked, is_above}
 use Rattle.bridge_filter.proofs.Numbered.{same_eq}
+use Rattle.bridge_filter.proofs.Taken.{flow_matches, taken_handle}
+use Rattle.bridge_ident.proofs.Entries.{given}
 use Rattle.bridge_forward.specs.Ports.{has}
 use Rattle.bridge_forward.specs.Forward.{forward}
 use Rattle.bridge_config.specs.declared.ports.PortPlan.{PortPlan}
@@ -64,22 +66,6 @@ below_any (suc n) k t lt h = elim (cases_lt k n) [
 
 -- THE FLOW
 
-lesser_is : (f x : ℕ × FilterPlan) (o : Option (ℕ × FilterPlan)) (b : Bool) (g : ℕ × FilterPlan) → cond b (Some g) (Some f) ≡ Some x → (f ≡ x) ⊎ (g ≡ x)
-lesser_is f x o true g h = inr (same_Some _ _ h)
-lesser_is f x o false g h = inl (same_Some _ _ h)
-
-lesser_of : (f x : ℕ × FilterPlan) (o : Option (ℕ × FilterPlan)) → lesser f o ≡ Some x → (f ≡ x) ⊎ (o ≡ Some x)
-lesser_of f x None h = inl (same_Some _ _ h)
-lesser_of f x (Some g) h = elim (lesser_is f x None (nat_lt g.0 f.0) g h) [ inl e ↦ inl e | inr e ↦ inr (ap Some e) ]
-
-matches_by : (b : Bool) (f x : ℕ × FilterPlan) (fs : List (ℕ × FilterPlan)) (c : Call) → is_match f.1 c ≡ b → cond b (lesser f (flow fs c)) (flow fs c) ≡ Some x → (flow fs c ≡ Some x → is_match x.1 c ≡ true) → is_match x.1 c ≡ true
-matches_by true f x fs c e h more = elim (lesser_of f x (flow fs c) h) [ inl same ↦ subst (λ (z : ℕ × FilterPlan). is_match z.1 c ≡ true) same e | inr k ↦ more k ]
-matches_by false f x fs c e h more = more h
-
-matches : (fs : List (ℕ × FilterPlan)) (c : Call) (x : ℕ × FilterPlan) → flow fs c ≡ Some x → is_match x.1 c ≡ true
-matches [] c x h = absurd (cc)
-matches (f ∷ fs) c x h = matches_by (is_match f.1 c) f x fs c refl h (matches fs c x)
-
 lesser_some : (f : ℕ × FilterPlan) (o : Option (ℕ × FilterPlan)) → (g : ℕ × FilterPlan) × (lesser f o ≡ Some g)
 lesser_some f None = (f, refl)
 lesser_some f (Some g) = by_bool (nat_lt g.0 f.0) (λ e. (g, rw e refl)) (λ e. (f, rw e refl))
@@ -102,24 +88,6 @@ filtered p n f c plan listed h =
 
 -- THE PORT
 
-pub record IsFound (es : List StreamEntry) (port : ℕ) (head : Head) (vid h : ℕ) : Type 0 where
-  pub entry : StreamEntry
-  pub listed : In entry es
-  pub handle : entry.handle ≡ h
-  pub is : ident.is_match entry port head vid ≡ true
-
-found_by : (b : Bool) (e : StreamEntry) (es : List StreamEntry) (port : ℕ) (head : Head) (vid h : ℕ) → ident.is_match e port head vid ≡ b → cond b (Some e.handle) (ident.handle_in es port head vid) ≡ Some h → (ident.handle_in es port head vid ≡ Some h → IsFound es port head vid h) → IsFound (e ∷ es) port head vid h
-found_by true e es port head vid h is k more = record { entry = e; listed = inl refl; handle = same_Some _ _ k; is = is }
-found_by false e es port head vid h is k more = let f = more k in record { entry = f.entry; listed = inr f.listed; handle = f.handle; is = f.is }
-
-found : (es : List StreamEntry) (port : ℕ) (head : Head) (vid h : ℕ) → ident.handle_in es port head vid ≡ Some h → IsFound es port head vid h
-found [] port head vid h k = absurd (cc)
-found (e ∷ es) port head vid h k = found_by (ident.is_match e port head vid) e es port head vid h refl k (found es port head vid h)
-
-taken : (h : ℕ) (o : Option ℕ) → takes_handle (Some h) o ≡ true → o ≡ Some h
-taken h None k = absurd (false≢true k)
-taken h (Some m) k = ap Some (sym (eqb-true h m k))
-
 null_address : (e : StreamEntry) (head : Head) → is_null e.kind ≡ true → ident.compared_address e.kind head ≡ head.da
 null_address e head h = null_of e.kind head h
   where
@@ -130,11 +98,11 @@ null_address e head h = null_of e.kind head h
 same_bytes : (xs ys : List ℕ) → bytes_eq xs ys ≡ true → xs ≡ ys
 same_bytes xs ys h = (bytes_eq-Decides xs ys).0 h
 
-goes_by : {A : Type 0} (p : Plan A) (port : PortPlan A) (head : Head) (q h : ℕ) → IsFound p.streams port.number head (vid_of port head.tag) h → has (forward p.database port.number (vid_of port head.tag) head.da) q ≡ true → are_null h p.streams ≡ true → leads_to p.database h q p.streams ≡ true
+goes_by : {A : Type 0} (p : Plan A) (port : PortPlan A) (head : Head) (q h : ℕ) → ident.HasEntry p.streams port.number head (vid_of port head.tag) h → has (forward p.database port.number (vid_of port head.tag) head.da) q ≡ true → are_null h p.streams ≡ true → leads_to p.database h q p.streams ≡ true
 goes_by p port head q h f goes null =
     let e = f.entry in
     let vid = vid_of port head.tag in
-    let (abc, tag) = and_parts (nat_eq e.port port.number && nat_eq e.vid vid && bytes_eq e.address (ident.compared_address e.kind head)) (ident.takes_tag e.tag head.tag) f.is in
+    let (abc, tag) = and_parts (nat_eq e.port port.number && nat_eq e.vid vid && bytes_eq e.address (ident.compared_address e.kind head)) (ident.takes_tag e.tag head.tag) f.matches in
     let (ab, address) = and_parts (nat_eq e.port port.number && nat_eq e.vid vid) (bytes_eq e.address (ident.compared_address e.kind head)) abc in
     let (on, in_vlan) = and_parts (nat_eq e.port port.number) (nat_eq e.vid vid) ab in
     let own : nat_eq e.handle h ≡ true = rw f.handle (same_eq h) in
@@ -150,7 +118,7 @@ goes_by p port head q h f goes null =
 port_reached : {A : Type 0} (p : Plan A) (port : PortPlan A) (head : Head) (q : ℕ) (o : Option ℕ) → has (forward p.database port.number (vid_of port head.tag) head.da) q ≡ true → takes_handle o (ident.handle_in p.streams port.number head (vid_of port head.tag)) ≡ true → reaches_port p o q ≡ true
 port_reached p port head q None goes takes = refl
 port_reached p port head q (Some h) goes takes =
-    let f = found p.streams port.number head (vid_of port head.tag) h (taken h (ident.handle_in p.streams port.number head (vid_of port head.tag)) takes) in
+    let f = given p.streams port.number head (vid_of port head.tag) h (taken_handle h (ident.handle_in p.streams port.number head (vid_of port head.tag)) takes) in
     by_bool (are_null h p.streams)
     (λ null. rw (goes_by p port head q h f goes null) (or-true (not (are_null h p.streams))))
     (λ other. rw other refl)
@@ -294,7 +262,7 @@ pub sound : {A : Type 0} (p : Plan A) (port out : PortPlan A) (head : Head) (at 
 sound {A} p port out head at octets n f ss ipv eligible plan there few goes flows passes =
     let c = call_of p port at head octets in
     let k = priority_of port head.tag in
-    let (handle, priority) = and_parts (takes_handle f.handle c.handle) (takes_priority f.priority k) (matches p.filters c (n, f) flows) in
+    let (handle, priority) = and_parts (takes_handle f.handle c.handle) (takes_priority f.priority k) (flow_matches p.filters c (n, f) flows) in
     let gone : reaches_port p f.handle out.number ≡ true = port_reached p port head out.number f.handle goes handle in
     let through = let_by_verdict (plans_of p.filters p.gates p.meters) ss c n f ipv eligible passes in
     let entry = gate_entry (lookup (nat_eq f.gate) p.gates) at through.turn (λ g e. looked_up p.gates f.gate g plan.gates.priorities e) through.at in
