@@ -1,17 +1,16 @@
 //! Rows for captures.
 ghost use Rattle.std.specs.Prelude.{◌≤◌, length};
 
-use crate::must::must;
 use bridge_capture::{
     ByteSink, ByteSource, Capture, CaptureFault, FromRead, FromWrite, Order, Packet, ReadAhead,
     SliceSource, VecSink, WriteBehind, Writer, each_text_reads_one_way, written_is_read,
 };
 use fixture_alloc::{Ending, RefusesOne, refuse_each};
 use fixture_text::captures::{FRAME, Words, capture_of, capture_under};
+use fixture_text::must::must;
 use std::alloc::{AllocError, Allocator};
 use std::cell::Cell;
 use std::io::{self, Cursor, ErrorKind, Read, Write};
-use std::process::Abort;
 use std::test::Fail;
 
 const FIRST: Words = [0, 100_000, 18, 60];
@@ -43,9 +42,15 @@ fn outcome_of<A: Allocator + Copy>(alloc: A, text: &[u8]) -> Outcome {
 }
 
 /// Tests how a capture ends, and tells where it does not end so.
-fn ends<A: Allocator + Copy>(rt: &impl Abort, alloc: A, text: &[u8], wanted: Outcome, number: u64) {
+fn ends<A: Allocator + Copy>(
+    alloc: A,
+    text: &[u8],
+    wanted: Outcome,
+    number: u64,
+) -> Result<(), Fail> {
     let ended = outcome_of(alloc, text);
-    must(rt, ended == wanted, "a capture of", number);
+    must(ended == wanted, "a capture of", number)?;
+    Ok(())
 }
 
 /// The packets of a source.
@@ -83,40 +88,35 @@ fn cut_at(n: usize) -> Outcome {
     }
 }
 
-fn cut_anywhere<A: Allocator + Copy>(rt: &impl Abort, alloc: A) -> Result<(), AllocError> {
+fn cut_anywhere<A: Allocator + Copy>(alloc: A) -> Result<(), Fail> {
     let text = capture_of(alloc, &[FIRST, SECOND])?;
-    assert!(rt; text.len() == 92);
+    must(text.len() == 92, "cut anywhere", 1)?;
     for n in 0..93usize {
-        assert!(rt; n <= text.len());
-        ends(rt, alloc, &text[..n], cut_at(n), n as u64);
+        must(n <= text.len(), "cut anywhere", 2)?;
+        ends(alloc, &text[..n], cut_at(n), n as u64)?;
     }
     Ok(())
 }
 
 #[test]
 fn a_capture_is_cut_anywhere(rt: HostRuntime) -> Result<(), Fail> {
-    cut_anywhere(&rt, rt.alloc())?;
+    cut_anywhere(rt.alloc())?;
     Ok(())
 }
 
-fn spoiled<A: Allocator + Copy>(
-    rt: &impl Abort,
-    alloc: A,
-    place: usize,
-    fault: CaptureFault,
-) -> Result<(), AllocError> {
+fn spoiled<A: Allocator + Copy>(alloc: A, place: usize, fault: CaptureFault) -> Result<(), Fail> {
     let mut text = capture_of(alloc, &[FIRST, SECOND])?;
-    assert!(rt; place < text.len());
+    must(place < text.len(), "spoiled", 1)?;
     text[place] = 9;
-    ends(rt, alloc, &text, (0, Some(fault)), place as u64);
+    ends(alloc, &text, (0, Some(fault)), place as u64)?;
     Ok(())
 }
 
 #[test]
 fn a_header_is_judged(rt: HostRuntime) -> Result<(), Fail> {
-    spoiled(&rt, rt.alloc(), 0, CaptureFault::BadMagic)?;
-    spoiled(&rt, rt.alloc(), 4, CaptureFault::BadVersion)?;
-    spoiled(&rt, rt.alloc(), 20, CaptureFault::BadLinkType)?;
+    spoiled(rt.alloc(), 0, CaptureFault::BadMagic)?;
+    spoiled(rt.alloc(), 4, CaptureFault::BadVersion)?;
+    spoiled(rt.alloc(), 20, CaptureFault::BadLinkType)?;
     Ok(())
 }
 
@@ -143,34 +143,33 @@ const RECORDS: [(&[Words], Outcome); 7] = [
 ];
 
 fn records_end<A: Allocator + Copy>(
-    rt: &impl Abort,
     alloc: A,
     records: &[Words],
     wanted: Outcome,
-) -> Result<(), AllocError> {
+) -> Result<(), Fail> {
     let text = capture_of(alloc, records)?;
-    ends(rt, alloc, &text, wanted, records.len() as u64);
+    ends(alloc, &text, wanted, records.len() as u64)?;
     Ok(())
 }
 
 #[test]
 fn the_words_of_records_are_judged(rt: HostRuntime) -> Result<(), Fail> {
     for (records, wanted) in &RECORDS {
-        records_end(&rt, rt.alloc(), records, *wanted)?;
+        records_end(rt.alloc(), records, *wanted)?;
     }
     Ok(())
 }
 
-fn largest_record<A: Allocator + Copy>(rt: &impl Abort, alloc: A) -> Result<(), AllocError> {
+fn largest_record<A: Allocator + Copy>(alloc: A) -> Result<(), Fail> {
     let mut text = capture_of(alloc, &[[0, 0, 262_144, 262_144]])?;
     text.resize(24 + 16 + 262_144, 0)?;
-    ends(rt, alloc, &text, (1, None), 1);
+    ends(alloc, &text, (1, None), 1)?;
     Ok(())
 }
 
 #[test]
 fn the_largest_record_is_read(rt: HostRuntime) -> Result<(), Fail> {
-    largest_record(&rt, rt.alloc())?;
+    largest_record(rt.alloc())?;
     Ok(())
 }
 
@@ -190,62 +189,52 @@ fn many<A: Allocator + Copy>(
 
 /// How a source of such a capture ends that fails after so many octets.
 fn fails_behind<A: Allocator + Copy>(
-    rt: &impl Abort,
     alloc: A,
     text: &[u8],
     n: usize,
     wanted: Outcome,
-) {
+) -> Result<(), Fail> {
     let mut source = SliceSource::failing_after(text, n);
     let ended = outcome(alloc, &mut source);
-    must(
-        rt,
-        ended == wanted,
-        "a source that fails after octet",
-        n as u64,
-    );
+    must(ended == wanted, "a source that fails after octet", n as u64)?;
+    Ok(())
 }
 
-fn million_records<A: Allocator + Copy>(rt: &impl Abort, alloc: A) -> Result<(), AllocError> {
+fn million_records<A: Allocator + Copy>(alloc: A) -> Result<(), Fail> {
     let text = many(alloc, 1_000_000, 0)?;
-    ends(rt, alloc, &text, (1_000_000, None), 1_000_000);
+    ends(alloc, &text, (1_000_000, None), 1_000_000)?;
     let read = (1_000_000, Some(CaptureFault::Read));
-    fails_behind(rt, alloc, &text, 16_000_024, read);
+    fails_behind(alloc, &text, 16_000_024, read)?;
     Ok(())
 }
 
 /// One octet more is refused before the next one is asked for.
-fn more_than_a_million<A: Allocator + Copy>(rt: &impl Abort, alloc: A) -> Result<(), AllocError> {
+fn more_than_a_million<A: Allocator + Copy>(alloc: A) -> Result<(), Fail> {
     let text = many(alloc, 1_000_000, 2)?;
     let refused = (1_000_000, Some(CaptureFault::TooManyRecords));
-    fails_behind(rt, alloc, &text, 16_000_025, refused);
+    fails_behind(alloc, &text, 16_000_025, refused)?;
     Ok(())
 }
 
 #[test]
 fn a_capture_has_a_million_records_at_most(rt: HostRuntime) -> Result<(), Fail> {
-    million_records(&rt, rt.alloc())?;
-    more_than_a_million(&rt, rt.alloc())?;
+    million_records(rt.alloc())?;
+    more_than_a_million(rt.alloc())?;
     Ok(())
 }
 
-fn second_ends<A: Allocator + Copy>(
-    rt: &impl Abort,
-    alloc: A,
-    seconds: u32,
-    wanted: Outcome,
-) -> Result<(), AllocError> {
+fn second_ends<A: Allocator + Copy>(alloc: A, seconds: u32, wanted: Outcome) -> Result<(), Fail> {
     let words = [seconds, 4_294_967_295, 18, 60];
     let text = capture_under(alloc, 0xA1B2_C3D4, Order::Little, &[words])?;
-    ends(rt, alloc, &text, wanted, u64::from(seconds));
+    ends(alloc, &text, wanted, u64::from(seconds))?;
     Ok(())
 }
 
 #[test]
 fn a_fraction_may_be_above_one_second(rt: HostRuntime) -> Result<(), Fail> {
-    second_ends(&rt, rt.alloc(), 3_999_995_705, (1, None))?;
+    second_ends(rt.alloc(), 3_999_995_705, (1, None))?;
     let late = (0, Some(CaptureFault::TimeTooLate(1)));
-    second_ends(&rt, rt.alloc(), 3_999_995_706, late)?;
+    second_ends(rt.alloc(), 3_999_995_706, late)?;
     Ok(())
 }
 
@@ -262,7 +251,6 @@ fn is_one<A: Allocator>(packets: &[Packet<A>]) -> bool {
 }
 
 fn magic_is_read<A: Allocator + Copy>(
-    rt: &impl Abort,
     alloc: A,
     magic: u32,
     order: Order,
@@ -270,21 +258,16 @@ fn magic_is_read<A: Allocator + Copy>(
 ) -> Result<(), Fail> {
     let text = capture_under(alloc, magic, order, &[[0, fraction, 18, 60]])?;
     let packets = packets_of(alloc, &mut SliceSource::new(&text))?;
-    must(
-        rt,
-        is_one(&packets),
-        "a capture under magic",
-        u64::from(magic),
-    );
+    must(is_one(&packets), "a capture under magic", u64::from(magic))?;
     Ok(())
 }
 
 #[test]
 fn all_four_magics_are_read(rt: HostRuntime) -> Result<(), Fail> {
-    magic_is_read(&rt, rt.alloc(), 0xA1B2_3C4D, Order::Little, 100_000)?;
-    magic_is_read(&rt, rt.alloc(), 0xA1B2_3C4D, Order::Big, 100_000)?;
-    magic_is_read(&rt, rt.alloc(), 0xA1B2_C3D4, Order::Little, 100)?;
-    magic_is_read(&rt, rt.alloc(), 0xA1B2_C3D4, Order::Big, 100)?;
+    magic_is_read(rt.alloc(), 0xA1B2_3C4D, Order::Little, 100_000)?;
+    magic_is_read(rt.alloc(), 0xA1B2_3C4D, Order::Big, 100_000)?;
+    magic_is_read(rt.alloc(), 0xA1B2_C3D4, Order::Little, 100)?;
+    magic_is_read(rt.alloc(), 0xA1B2_C3D4, Order::Big, 100)?;
     Ok(())
 }
 
@@ -326,87 +309,83 @@ fn has_next<R: ByteSource, A: Allocator + Copy>(
 
 /// There is a packet, and none behind it is given, again and again.
 fn gives_one<R: ByteSource, A: Allocator + Copy>(
-    rt: &impl Abort,
     alloc: A,
     capture: &mut Capture,
     source: &mut R,
-) {
-    assert!(rt; has_next(alloc, capture, source) == Ok(true));
+) -> Result<(), Fail> {
+    must(has_next(alloc, capture, source) == Ok(true), "gives one", 1)?;
     for _ in 0..3 {
         let next = has_next(alloc, capture, source);
-        assert!(rt; next == Err(CaptureFault::NoMemory));
+        must(next == Err(CaptureFault::NoMemory), "gives one", 2)?;
     }
+    Ok(())
 }
 
 /// The second packet is refused, again and again.
-fn refused_for_good<A: Allocator + Copy>(
-    rt: &impl Abort,
-    alloc: A,
-    text: &[u8],
-) -> Result<(), CaptureFault> {
+fn refused_for_good<A: Allocator + Copy>(alloc: A, text: &[u8]) -> Result<(), Fail> {
     let mut source = SliceSource::new(text);
     let mut capture = Capture::begin(&mut source)?;
-    gives_one(rt, &RefusesOne::new(alloc, 2), &mut capture, &mut source);
+    gives_one(&RefusesOne::new(alloc, 2), &mut capture, &mut source)?;
     Ok(())
 }
 
 /// No further packet is there, again and again.
 fn gives_none<R: ByteSource, A: Allocator + Copy>(
-    rt: &impl Abort,
     alloc: A,
     capture: &mut Capture,
     source: &mut R,
-) {
+) -> Result<(), Fail> {
     for _ in 0..3 {
-        assert!(rt; has_next(alloc, capture, source) == Ok(false));
+        must(
+            has_next(alloc, capture, source) == Ok(false),
+            "gives none",
+            1,
+        )?;
     }
+    Ok(())
 }
 
 /// Nothing is behind the last packet, again and again.
-fn ended_for_good<A: Allocator + Copy>(
-    rt: &impl Abort,
-    alloc: A,
-    text: &[u8],
-) -> Result<(), CaptureFault> {
+fn ended_for_good<A: Allocator + Copy>(alloc: A, text: &[u8]) -> Result<(), Fail> {
     let mut source = SliceSource::new(text);
     let mut capture = Capture::begin(&mut source)?;
     capture.rest(alloc, &mut source)?;
-    gives_none(rt, alloc, &mut capture, &mut source);
+    gives_none(alloc, &mut capture, &mut source)?;
     Ok(())
 }
 
 #[test]
 fn a_refusal_is_for_good(rt: HostRuntime) -> Result<(), Fail> {
     let text = capture_of(rt.alloc(), &[FIRST, SECOND])?;
-    refused_for_good(&rt, rt.alloc(), &text)?;
-    ended_for_good(&rt, rt.alloc(), &text)?;
+    refused_for_good(rt.alloc(), &text)?;
+    ended_for_good(rt.alloc(), &text)?;
     Ok(())
 }
 
 /// A source of the two frames that fails after so many octets gives those before.
-fn source_fails<A: Allocator + Copy>(rt: &impl Abort, alloc: A, text: &[u8], n: usize) {
+fn source_fails<A: Allocator + Copy>(alloc: A, text: &[u8], n: usize) -> Result<(), Fail> {
     let mut source = SliceSource::failing_after(text, n);
     let (count, fault) = outcome(alloc, &mut source);
-    must(rt, source.failed(), "a source that fails after", n as u64);
+    must(source.failed(), "a source that fails after", n as u64)?;
     must(
-        rt,
         fault == Some(CaptureFault::Read),
         "the fault after",
         n as u64,
-    );
+    )?;
     let wanted = match n {
         0..58 => 0,
         58..92 => 1,
         _ => 2,
     };
-    must(rt, count == wanted, "the packets after", n as u64);
+    must(count == wanted, "the packets after", n as u64)?;
+    Ok(())
 }
 
 #[test]
 fn a_source_fails_anywhere(rt: HostRuntime) -> Result<(), Fail> {
     let text = capture_of(rt.alloc(), &[FIRST, SECOND])?;
     for n in 0..93 {
-        source_fails(&rt, rt.alloc(), &text, n);
+        source_fails(rt.alloc(), &text, n)?;
     }
     Ok(())
 }
@@ -422,43 +401,41 @@ fn refused_text<A: Allocator + Copy>(alloc: A, in_header: bool) -> Result<Vec<u8
 
 /// Tests the fault of a source that fails after so many octets, and whether it has failed.
 fn faults<A: Allocator + Copy>(
-    rt: &impl Abort,
     alloc: A,
     text: &[u8],
     n: usize,
     wanted: CaptureFault,
     has_failed: bool,
-) {
+) -> Result<(), Fail> {
     let mut source = SliceSource::failing_after(text, n);
     let ended = outcome(alloc, &mut source);
     must(
-        rt,
         source.failed() == has_failed,
         "a source that fails after",
         n as u64,
-    );
-    must(rt, ended == (0, Some(wanted)), "the fault after", n as u64);
+    )?;
+    must(ended == (0, Some(wanted)), "the fault after", n as u64)?;
+    Ok(())
 }
 
 fn refusal_comes_first<A: Allocator + Copy>(
-    rt: &impl Abort,
     alloc: A,
     in_header: bool,
     n: usize,
     wanted: CaptureFault,
-) -> Result<(), AllocError> {
-    assert!(rt; n > 0);
+) -> Result<(), Fail> {
+    must(n > 0, "refusal comes first", 1)?;
     let text = refused_text(alloc, in_header)?;
-    faults(rt, alloc, &text, n, wanted, false);
-    faults(rt, alloc, &text, n - 1, CaptureFault::Read, true);
+    faults(alloc, &text, n, wanted, false)?;
+    faults(alloc, &text, n - 1, CaptureFault::Read, true)?;
     Ok(())
 }
 
 #[test]
 fn a_refusal_comes_before_what_fails_behind_it(rt: HostRuntime) -> Result<(), Fail> {
-    refusal_comes_first(&rt, rt.alloc(), true, 24, CaptureFault::BadMagic)?;
+    refusal_comes_first(rt.alloc(), true, 24, CaptureFault::BadMagic)?;
     let lengths = CaptureFault::LengthsCross(1);
-    refusal_comes_first(&rt, rt.alloc(), false, 40, lengths)?;
+    refusal_comes_first(rt.alloc(), false, 40, lengths)?;
     Ok(())
 }
 
@@ -493,31 +470,35 @@ impl Write for ErrsOnce {
 }
 
 /// A source that has failed goes on failing.
-fn source_errs<R: ByteSource>(rt: &impl Abort, source: &mut R) {
+fn source_errs<R: ByteSource>(source: &mut R) -> Result<(), Fail> {
     for _ in 0..3 {
         let mut octets = [0; 4];
-        assert!(rt; source.read(&mut octets).is_err());
-        assert!(rt; source.failed());
+        must(source.read(&mut octets).is_err(), "source errs", 1)?;
+        must(source.failed(), "source errs", 2)?;
     }
+    Ok(())
 }
 
-fn reader_errs(rt: &impl Abort) {
+fn reader_errs() -> Result<(), Fail> {
     let mut source = FromRead::new(ErrsOnce { has_erred: false });
-    source_errs(rt, &mut source);
+    source_errs(&mut source)?;
+    Ok(())
 }
 
-fn sink_errs(rt: &impl Abort) {
+fn sink_errs() -> Result<(), Fail> {
     let mut sink = FromWrite::new(ErrsOnce { has_erred: false });
     for _ in 0..3 {
-        assert!(rt; sink.write(&[0; 4]).is_err());
-        assert!(rt; sink.failed());
+        must(sink.write(&[0; 4]).is_err(), "sink errs", 1)?;
+        must(sink.failed(), "sink errs", 2)?;
     }
+    Ok(())
 }
 
 #[test]
-fn an_error_is_for_good(rt: HostRuntime) {
-    reader_errs(&rt);
-    sink_errs(&rt);
+fn an_error_is_for_good(rt: HostRuntime) -> Result<(), Fail> {
+    reader_errs()?;
+    sink_errs()?;
+    Ok(())
 }
 
 /// A writer that takes some octets a call until its allowance is spent, and then fails. It counts its calls.
@@ -543,15 +524,15 @@ impl Write for Counts<'_> {
     }
 }
 
-fn buffer_errs<A: Allocator + Copy>(rt: &impl Abort, alloc: A) -> Result<(), AllocError> {
+fn buffer_errs<A: Allocator + Copy>(alloc: A) -> Result<(), Fail> {
     let mut source = ReadAhead::new(alloc, ErrsOnce { has_erred: false })?;
-    source_errs(rt, &mut source);
+    source_errs(&mut source)?;
     Ok(())
 }
 
 #[test]
 fn an_error_behind_a_buffer_is_for_good(rt: HostRuntime) -> Result<(), Fail> {
-    buffer_errs(&rt, rt.alloc())?;
+    buffer_errs(rt.alloc())?;
     Ok(())
 }
 
@@ -583,30 +564,28 @@ fn calls_of<A: Allocator + Copy>(
 }
 
 fn asks<A: Allocator + Copy>(
-    rt: &impl Abort,
     alloc: A,
     allowance: u32,
     is_finished: bool,
     wanted: u32,
-) -> Result<(), AllocError> {
+) -> Result<(), Fail> {
     let calls = calls_of(alloc, allowance, is_finished)?;
     must(
-        rt,
         calls == wanted,
         "the calls behind an allowance of",
         u64::from(allowance),
-    );
+    )?;
     Ok(())
 }
 
 #[test]
 fn a_writer_that_failed_is_not_asked_again(rt: HostRuntime) -> Result<(), Fail> {
     for allowance in 0..6 {
-        asks(&rt, rt.alloc(), allowance, true, allowance + 1)?;
-        asks(&rt, rt.alloc(), allowance, false, allowance + 1)?;
+        asks(rt.alloc(), allowance, true, allowance + 1)?;
+        asks(rt.alloc(), allowance, false, allowance + 1)?;
     }
-    asks(&rt, rt.alloc(), 6, true, 7)?;
-    asks(&rt, rt.alloc(), 6, false, 6)?;
+    asks(rt.alloc(), 6, true, 7)?;
+    asks(rt.alloc(), 6, false, 6)?;
     Ok(())
 }
 
@@ -671,7 +650,7 @@ fn write_both<W: ByteSink>(sink: &mut W) -> Result<(), CaptureFault> {
 }
 
 /// A sink that fails after so many octets of the two frames has those.
-fn sink_fails<A: Allocator + Copy>(rt: &impl Abort, alloc: A, text: &[u8], n: usize) {
+fn sink_fails<A: Allocator + Copy>(alloc: A, text: &[u8], n: usize) -> Result<(), Fail> {
     let mut sink = VecSink::failing_after(alloc, n);
     let wrote = write_both(&mut sink);
     let wanted = if n < 92 {
@@ -679,20 +658,15 @@ fn sink_fails<A: Allocator + Copy>(rt: &impl Abort, alloc: A, text: &[u8], n: us
     } else {
         Ok(())
     };
-    must(rt, wrote == wanted, "a sink that fails after", n as u64);
+    must(wrote == wanted, "a sink that fails after", n as u64)?;
     must(
-        rt,
         sink.failed() == (n < 92),
         "whether it failed after",
         n as u64,
-    );
-    assert!(rt; n <= text.len());
-    must(
-        rt,
-        sink.octets() == &text[..n],
-        "its octets after",
-        n as u64,
-    );
+    )?;
+    must(n <= text.len(), "sink fails", 1)?;
+    must(sink.octets() == &text[..n], "its octets after", n as u64)?;
+    Ok(())
 }
 
 #[test]
@@ -700,7 +674,7 @@ fn a_sink_fails_anywhere(rt: HostRuntime) -> Result<(), Fail> {
     let text = capture_of(rt.alloc(), &[FIRST, SECOND])?;
     assert!(rt; text.len() == 92);
     for n in 0..93 {
-        sink_fails(&rt, rt.alloc(), &text, n);
+        sink_fails(rt.alloc(), &text, n)?;
     }
     Ok(())
 }
@@ -723,89 +697,66 @@ fn each_growth_of_a_sink_is_refused_in_turn(rt: HostRuntime) -> Result<(), Fail>
 }
 
 /// Reads both packets of a source that does not fail.
-fn reads_both<R: ByteSource, A: Allocator + Copy>(
-    rt: &impl Abort,
-    alloc: A,
-    source: &mut R,
-) -> Result<(), CaptureFault> {
+fn reads_both<R: ByteSource, A: Allocator + Copy>(alloc: A, source: &mut R) -> Result<(), Fail> {
     let packets = packets_of(alloc, source)?;
-    assert!(rt; are_both(&packets));
-    assert!(rt; !source.failed());
+    must(are_both(&packets), "reads both", 1)?;
+    must(!source.failed(), "reads both", 2)?;
     Ok(())
 }
 
 /// Writes both packets to a sink that does not fail.
-fn writes_both<W: ByteSink>(rt: &impl Abort, sink: &mut W) -> Result<(), CaptureFault> {
+fn writes_both<W: ByteSink>(sink: &mut W) -> Result<(), Fail> {
     write_both(sink)?;
-    assert!(rt; !sink.failed());
+    must(!sink.failed(), "writes both", 1)?;
     Ok(())
 }
 
-fn reads_one_by_one<A: Allocator + Copy>(
-    rt: &impl Abort,
-    alloc: A,
-    text: &[u8],
-) -> Result<(), CaptureFault> {
-    reads_both(rt, alloc, &mut SliceSource::one_by_one(text))
+fn reads_one_by_one<A: Allocator + Copy>(alloc: A, text: &[u8]) -> Result<(), Fail> {
+    reads_both(alloc, &mut SliceSource::one_by_one(text))
 }
 
-fn writes_one_by_one<A: Allocator + Copy>(
-    rt: &impl Abort,
-    alloc: A,
-    text: &[u8],
-) -> Result<(), CaptureFault> {
+fn writes_one_by_one<A: Allocator + Copy>(alloc: A, text: &[u8]) -> Result<(), Fail> {
     let mut sink = VecSink::one_by_one(alloc);
-    let wrote = writes_both(rt, &mut sink);
-    assert!(rt; sink.octets() == text);
-    wrote
+    writes_both(&mut sink)?;
+    must(sink.octets() == text, "octets one by one", 0)
 }
 
 #[test]
 fn an_octet_a_call_is_the_same(rt: HostRuntime) -> Result<(), Fail> {
     let text = capture_of(rt.alloc(), &[FIRST, SECOND])?;
-    reads_one_by_one(&rt, rt.alloc(), &text)?;
-    writes_one_by_one(&rt, rt.alloc(), &text)?;
+    reads_one_by_one(rt.alloc(), &text)?;
+    writes_one_by_one(rt.alloc(), &text)?;
     Ok(())
 }
 
-fn reads_a_cursor<A: Allocator + Copy>(
-    rt: &impl Abort,
-    alloc: A,
-    text: &[u8],
-) -> Result<(), CaptureFault> {
-    reads_both(rt, alloc, &mut FromRead::new(Cursor::new(text)))
+fn reads_a_cursor<A: Allocator + Copy>(alloc: A, text: &[u8]) -> Result<(), Fail> {
+    reads_both(alloc, &mut FromRead::new(Cursor::new(text)))
 }
 
-fn writes_a_vec<A: Allocator + Copy>(
-    rt: &impl Abort,
-    alloc: A,
-    text: &[u8],
-) -> Result<(), CaptureFault> {
+fn writes_a_vec<A: Allocator + Copy>(alloc: A, text: &[u8]) -> Result<(), Fail> {
     let mut sink = FromWrite::new(Vec::new(alloc));
-    let wrote = writes_both(rt, &mut sink);
+    writes_both(&mut sink)?;
     let octets = sink.into_inner();
-    assert!(rt; octets.as_slice() == text);
-    wrote
+    must(octets.as_slice() == text, "octets of a vector", 0)
 }
 
 #[test]
 fn readers_and_writers_are_the_same(rt: HostRuntime) -> Result<(), Fail> {
     let text = capture_of(rt.alloc(), &[FIRST, SECOND])?;
-    reads_a_cursor(&rt, rt.alloc(), &text)?;
-    writes_a_vec(&rt, rt.alloc(), &text)?;
+    reads_a_cursor(rt.alloc(), &text)?;
+    writes_a_vec(rt.alloc(), &text)?;
     Ok(())
 }
 
 /// Reads both packets through a buffer in an allocator, where that is given.
 fn is_read_ahead<A: Allocator + Copy, H: Allocator + Copy>(
-    rt: &impl Abort,
     alloc: A,
     heap: H,
     text: &[u8],
-) -> Result<bool, CaptureFault> {
+) -> Result<bool, Fail> {
     match ReadAhead::new(alloc, Cursor::new(text)) {
         Ok(mut source) => {
-            let read = reads_both(rt, heap, &mut source);
+            let read = reads_both(heap, &mut source);
             drop(source);
             read?;
             Ok(true)
@@ -816,31 +767,28 @@ fn is_read_ahead<A: Allocator + Copy, H: Allocator + Copy>(
 
 /// Tests what is behind a buffer for writing that is finished.
 fn is_finished<A: Allocator + Copy, H: Allocator + Copy>(
-    rt: &impl Abort,
     sink: WriteBehind<Vec<u8, H>, A>,
     text: &[u8],
-) -> Result<(), CaptureFault> {
+) -> Result<(), Fail> {
     match sink.finish() {
-        Ok(octets) => {
-            assert!(rt; octets.as_slice() == text);
-            Ok(())
-        }
-        Err(_) => Err(CaptureFault::Write),
+        Ok(octets) => { must(octets.as_slice() == text, "octets behind a buffer", 0) }
+        Err(_) => Err(Fail::from("a writer that failed")),
     }
 }
 
 /// Writes both packets through a buffer in an allocator, where that is given.
 fn is_written_behind<A: Allocator + Copy, H: Allocator + Copy>(
-    rt: &impl Abort,
     alloc: A,
     heap: H,
     text: &[u8],
-) -> Result<bool, CaptureFault> {
+) -> Result<bool, Fail> {
     match WriteBehind::new(alloc, Vec::new(heap)) {
         Ok(mut sink) => {
-            let wrote = writes_both(rt, &mut sink);
-            is_finished(rt, sink, text)?;
-            wrote?;
+            if let Err(fail) = writes_both(&mut sink) {
+                drop(sink);
+                return Err(fail);
+            }
+            is_finished(sink, text)?;
             Ok(true)
         }
         Err(_) => Ok(false),
@@ -849,41 +797,30 @@ fn is_written_behind<A: Allocator + Copy, H: Allocator + Copy>(
 
 /// Tests a buffer for reading and one for writing in an allocator that refuses growth number `n`.
 fn buffers_are<A: Allocator + Copy, H: Allocator + Copy>(
-    rt: &impl Abort,
     alloc: A,
     heap: H,
     text: &[u8],
     n: u64,
-) -> Result<(), CaptureFault> {
-    let is_read = is_read_ahead(rt, alloc, heap, text)?;
-    must(rt, is_read == (n != 1), "a buffer for reading, growth", n);
+) -> Result<(), Fail> {
+    let is_read = is_read_ahead(alloc, heap, text)?;
+    must(is_read == (n != 1), "a buffer for reading, growth", n)?;
     if is_read {
-        let is_written = is_written_behind(rt, alloc, heap, text)?;
-        must(
-            rt,
-            is_written == (n != 2),
-            "a buffer for writing, growth",
-            n,
-        );
+        let is_written = is_written_behind(alloc, heap, text)?;
+        must(is_written == (n != 2), "a buffer for writing, growth", n)?;
     }
     Ok(())
 }
 
 /// The same, with that allocator.
-fn buffers_go<A: Allocator + Copy>(
-    rt: &impl Abort,
-    alloc: A,
-    text: &[u8],
-    n: u64,
-) -> Result<(), CaptureFault> {
-    buffers_are(rt, &RefusesOne::new(alloc, n), alloc, text, n)
+fn buffers_go<A: Allocator + Copy>(alloc: A, text: &[u8], n: u64) -> Result<(), Fail> {
+    buffers_are(&RefusesOne::new(alloc, n), alloc, text, n)
 }
 
 #[test]
 fn readers_and_writers_behind_buffers_are_the_same(rt: HostRuntime) -> Result<(), Fail> {
     let text = capture_of(rt.alloc(), &[FIRST, SECOND])?;
     for n in 1..5 {
-        buffers_go(&rt, rt.alloc(), &text, n)?;
+        buffers_go(rt.alloc(), &text, n)?;
     }
     Ok(())
 }

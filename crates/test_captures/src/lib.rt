@@ -4,8 +4,6 @@
 #[cfg(test)]
 mod capture;
 #[cfg(test)]
-mod must;
-#[cfg(test)]
 mod text;
 #[cfg(test)]
 mod wire;

@@ -1,10 +1,9 @@
 //! Rows for the hexadecimal text of captures.
-use crate::must::must;
 use bridge_capture::{ByteSink, CaptureFault, VecSink, Writer};
 use bridge_text::{HexFault, MAX_OCTETS, MAX_TEXT, lines_of, octets_of};
 use fixture_alloc::RefusesOne;
+use fixture_text::must::must;
 use std::alloc::{AllocError, Allocator};
-use std::process::Abort;
 use std::test::Fail;
 
 /// The octets of a tagged frame, of which 18 are captured.
@@ -64,24 +63,25 @@ const SPELLED: &[(&str, Result<&[u8], HexFault>)] = &[
 ];
 
 fn spells<A: Allocator + Copy>(
-    rt: &impl Abort,
     alloc: A,
     text: &str,
     wanted: Result<&[u8], HexFault>,
-) {
+) -> Result<(), Fail> {
     let is_spelled = match (octets_of(alloc, text.as_bytes()), wanted) {
         (Ok(octets), Ok(wanted)) => octets.as_slice() == wanted,
         (Err(fault), Err(wanted)) => fault == wanted,
         _ => false,
     };
-    must(rt, is_spelled, text, text.len() as u64);
+    must(is_spelled, text, text.len() as u64)?;
+    Ok(())
 }
 
 #[test]
-fn a_text_spells_octets(rt: HostRuntime) {
+fn a_text_spells_octets(rt: HostRuntime) -> Result<(), Fail> {
     for (text, wanted) in SPELLED {
-        spells(&rt, rt.alloc(), text, *wanted);
+        spells(rt.alloc(), text, *wanted)?;
     }
+    Ok(())
 }
 
 /// How often an octet stands before a text, and the fault.
@@ -100,39 +100,39 @@ const LIMITS: &[(usize, u8, &str, Option<HexFault>)] = &[
 ];
 
 fn is_limited<A: Allocator + Copy>(
-    rt: &impl Abort,
     alloc: A,
     count: usize,
     octet: u8,
     end: &str,
     wanted: Option<HexFault>,
-) -> Result<(), AllocError> {
+) -> Result<(), Fail> {
     let text = repeated(alloc, count, octet, end)?;
     let spelled = octets_of(alloc, &text);
-    must(rt, spelled.err() == wanted, end, count as u64);
+    must(spelled.err() == wanted, end, count as u64)?;
     Ok(())
 }
 
 /// Tests that these are as many octets as there may be, with each bit set.
-fn are_most(rt: &impl Abort, octets: &[u8]) {
-    assert!(rt; octets.len() == 1_048_576);
-    assert!(rt; octets.iter().all(|octet| *octet == 0xff));
+fn are_most(octets: &[u8]) -> Result<(), Fail> {
+    must(octets.len() == 1_048_576, "are most", 1)?;
+    must(octets.iter().all(|octet| *octet == 0xff), "are most", 2)?;
+    Ok(())
 }
 
-fn spells_most<A: Allocator + Copy>(rt: &impl Abort, alloc: A) -> Result<(), Fail> {
+fn spells_most<A: Allocator + Copy>(alloc: A) -> Result<(), Fail> {
     let text = repeated(alloc, 2 * MAX_OCTETS, b'f', "")?;
     let spelled = octets_of(alloc, &text);
     drop(text);
-    are_most(rt, &spelled?);
+    are_most(&spelled?)?;
     Ok(())
 }
 
 #[test]
 fn a_text_has_limits(rt: HostRuntime) -> Result<(), Fail> {
     for (count, octet, end, wanted) in LIMITS {
-        is_limited(&rt, rt.alloc(), *count, *octet, end, *wanted)?;
+        is_limited(rt.alloc(), *count, *octet, end, *wanted)?;
     }
-    spells_most(&rt, rt.alloc())
+    spells_most(rt.alloc())
 }
 
 /// The moments of a capture, and its lines.
@@ -151,110 +151,88 @@ fn joined<A: Allocator + Copy>(alloc: A, lines: &[&str]) -> Result<String<A>, Al
 }
 
 /// Tests that a text is these lines.
-fn is_joined<A: Allocator + Copy>(
-    rt: &impl Abort,
-    alloc: A,
-    text: &str,
-    lines: &[&str],
-) -> Result<(), Fail> {
+fn is_joined<A: Allocator + Copy>(alloc: A, text: &str, lines: &[&str]) -> Result<(), Fail> {
     let wanted = joined(alloc, lines)?;
-    must(rt, text == wanted.as_str(), "lines", lines.len() as u64);
+    must(text == wanted.as_str(), "lines", lines.len() as u64)?;
     Ok(())
 }
 
 /// Tests the octets of so many lines.
 fn has_octets<A: Allocator + Copy>(
-    rt: &impl Abort,
     alloc: A,
     text: &str,
     octets: &[u8],
     count: usize,
 ) -> Result<(), Fail> {
     let read = octets_of(alloc, text.as_bytes())?;
-    must(
-        rt,
-        read.as_slice() == octets,
-        "octets of lines",
-        count as u64,
-    );
+    must(read.as_slice() == octets, "octets of lines", count as u64)?;
     Ok(())
 }
 
 /// Tests that a text is these lines, and spells the octets.
 fn are_lines<A: Allocator + Copy>(
-    rt: &impl Abort,
     alloc: A,
     text: &str,
     octets: &[u8],
     lines: &[&str],
 ) -> Result<(), Fail> {
-    is_joined(rt, alloc, text, lines)?;
-    has_octets(rt, alloc, text, octets, lines.len())
+    is_joined(alloc, text, lines)?;
+    has_octets(alloc, text, octets, lines.len())
 }
 
 /// Tests the lines of octets, and the octets of these.
-fn has_lines<A: Allocator + Copy>(
-    rt: &impl Abort,
-    alloc: A,
-    octets: &[u8],
-    lines: &[&str],
-) -> Result<(), Fail> {
+fn has_lines<A: Allocator + Copy>(alloc: A, octets: &[u8], lines: &[&str]) -> Result<(), Fail> {
     let text = lines_of(alloc, octets)?;
-    let compared = are_lines(rt, alloc, text.as_str(), octets, lines);
-    drop(text);
-    compared
+    are_lines(alloc, text.as_str(), octets, lines)
 }
 
 /// Tests the lines of a capture of the frame at each of these moments.
 fn capture_has_lines<A: Allocator + Copy>(
-    rt: &impl Abort,
     alloc: A,
     moments: &[u32],
     lines: &[&str],
 ) -> Result<(), Fail> {
     let capture = capture_of(alloc, moments)?;
-    has_lines(rt, alloc, capture.octets(), lines)
+    has_lines(alloc, capture.octets(), lines)
 }
 
 #[test]
 fn a_capture_is_a_line_for_each_record(rt: HostRuntime) -> Result<(), Fail> {
     for (moments, lines) in LINES {
-        capture_has_lines(&rt, rt.alloc(), moments, lines)?;
+        capture_has_lines(rt.alloc(), moments, lines)?;
     }
     Ok(())
 }
 
 /// Tests that the lines of a capture take one growth.
-fn lines_take_one_growth<A: Allocator + Copy>(rt: &impl Abort, alloc: A, octets: &[u8], n: u64) {
+fn lines_take_one_growth<A: Allocator + Copy>(alloc: A, octets: &[u8], n: u64) -> Result<(), Fail> {
     let gate = RefusesOne::new(alloc, n);
     let wrote = lines_of(&gate, octets).is_ok();
-    must(rt, gate.refused() == (n == 1), "growth of lines", n);
-    must(rt, wrote == (n > 1), "lines, growth", n);
+    must(gate.refused() == (n == 1), "growth of lines", n)?;
+    must(wrote == (n > 1), "lines, growth", n)?;
+    Ok(())
 }
 
 /// Tests that the octets of a text take one growth.
-fn octets_take_one_growth<A: Allocator + Copy>(rt: &impl Abort, alloc: A, text: &[u8], n: u64) {
+fn octets_take_one_growth<A: Allocator + Copy>(alloc: A, text: &[u8], n: u64) -> Result<(), Fail> {
     let gate = RefusesOne::new(alloc, n);
     let fault = octets_of(&gate, text).err();
-    must(rt, gate.refused() == (n == 1), "growth of octets", n);
+    must(gate.refused() == (n == 1), "growth of octets", n)?;
     let wanted = if n == 1 {
         Some(HexFault::NoMemory)
     } else {
         None
     };
-    must(rt, fault == wanted, "octets, growth", n);
+    must(fault == wanted, "octets, growth", n)?;
+    Ok(())
 }
 
 /// Tests that lines of octets, and octets of these lines, take one growth.
-fn take_one_growth<A: Allocator + Copy>(
-    rt: &impl Abort,
-    alloc: A,
-    octets: &[u8],
-) -> Result<(), Fail> {
+fn take_one_growth<A: Allocator + Copy>(alloc: A, octets: &[u8]) -> Result<(), Fail> {
     let text = lines_of(alloc, octets)?;
     for n in 1..3 {
-        lines_take_one_growth(rt, alloc, octets, n);
-        octets_take_one_growth(rt, alloc, text.as_bytes(), n);
+        lines_take_one_growth(alloc, octets, n)?;
+        octets_take_one_growth(alloc, text.as_bytes(), n)?;
     }
     Ok(())
 }
@@ -262,5 +240,5 @@ fn take_one_growth<A: Allocator + Copy>(
 #[test]
 fn each_growth_of_a_text_is_refused_in_turn(rt: HostRuntime) -> Result<(), Fail> {
     let capture = capture_of(rt.alloc(), &[100_672, 101_344])?;
-    take_one_growth(&rt, rt.alloc(), capture.octets())
+    take_one_growth(rt.alloc(), capture.octets())
 }

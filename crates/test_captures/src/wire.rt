@@ -1,12 +1,11 @@
 //! One capture through one queue: worked examples of what leaves, of counts and of faults.
-use crate::must::must;
 use bridge_capture::{ByteSink, ByteSource, CaptureFault, SliceSource, VecSink};
 use bridge_frame::Speed;
 use bridge_wire::{RunFault, WireCount, wire};
 use fixture_alloc::{Ending, refuse_each};
 use fixture_text::captures::{Words, capture_of};
+use fixture_text::must::must;
 use std::alloc::{Allocator, Global};
-use std::process::Abort;
 use std::test::Fail;
 
 const ARRIVALS: [Words; 2] = [[0, 100_000, 18, 60], [0, 100_001, 18, 60]];
@@ -31,39 +30,31 @@ fn run<R: ByteSource, W: ByteSink, A: Allocator + Copy>(
 
 /// The same with a queue of so many places.
 fn run_in<W: ByteSink, A: Allocator + Copy>(
-    rt: &impl Abort,
     alloc: A,
     places: u16,
     text: &[u8],
     sink: &mut W,
-) -> Result<WireCount, RunFault> {
-    assert!(rt; 1 <= places);
-    assert!(rt; places <= 4_096);
+) -> Result<Result<WireCount, RunFault>, Fail> {
+    must(1 <= places, "places", 0)?;
+    must(places <= 4_096, "places", 4_096)?;
     let mut source = SliceSource::new(text);
-    wire(alloc, Speed::Mbps1000, places, &mut source, sink)
+    Ok(wire(alloc, Speed::Mbps1000, places, &mut source, sink))
 }
 
 /// Tests what leaves of so many frames.
 fn leaves<A: Allocator + Copy>(
-    rt: &impl Abort,
     alloc: A,
     octets: &[u8],
     departures: &[Words],
     frames: u64,
 ) -> Result<(), Fail> {
     let left = capture_of(alloc, departures)?;
-    must(
-        rt,
-        octets == left.as_slice(),
-        "what leaves of frames",
-        frames,
-    );
+    must(octets == left.as_slice(), "what leaves of frames", frames)?;
     Ok(())
 }
 
 /// Tests a run over a link of 1,000 Mb/s and a queue of so many places: its counts, and what leaves.
 fn goes<A: Allocator + Copy>(
-    rt: &impl Abort,
     alloc: A,
     places: u16,
     text: &[u8],
@@ -71,14 +62,13 @@ fn goes<A: Allocator + Copy>(
     departures: &[Words],
 ) -> Result<(), Fail> {
     let mut sink = VecSink::new(alloc);
-    let ran = run_in(rt, alloc, places, text, &mut sink);
-    must(rt, ran == Ok(wanted), "the counts of frames", wanted.frames);
-    leaves(rt, alloc, sink.octets(), departures, wanted.frames)
+    let ran = run_in(alloc, places, text, &mut sink)?;
+    must(ran == Ok(wanted), "the counts of frames", wanted.frames)?;
+    leaves(alloc, sink.octets(), departures, wanted.frames)
 }
 
 /// The same of a capture of records.
 fn records_go<A: Allocator + Copy>(
-    rt: &impl Abort,
     alloc: A,
     places: u16,
     arrivals: &[Words],
@@ -86,7 +76,7 @@ fn records_go<A: Allocator + Copy>(
     departures: &[Words],
 ) -> Result<(), Fail> {
     let text = capture_of(alloc, arrivals)?;
-    goes(rt, alloc, places, &text, wanted, departures)
+    goes(alloc, places, &text, wanted, departures)
 }
 
 const NONE: WireCount = WireCount {
@@ -109,16 +99,9 @@ const ONE_MALFORMED: WireCount = WireCount {
 
 #[test]
 fn frames_leave_one_after_the_other(rt: HostRuntime) -> Result<(), Fail> {
-    records_go(&rt, rt.alloc(), 4, &[], NONE, &[])?;
-    records_go(&rt, rt.alloc(), 4, &ARRIVALS, BOTH, &DEPARTURES)?;
-    records_go(
-        &rt,
-        rt.alloc(),
-        4,
-        &ONE_TOO_LONG,
-        ONE_MALFORMED,
-        &FIRST_ALONE,
-    )
+    records_go(rt.alloc(), 4, &[], NONE, &[])?;
+    records_go(rt.alloc(), 4, &ARRIVALS, BOTH, &DEPARTURES)?;
+    records_go(rt.alloc(), 4, &ONE_TOO_LONG, ONE_MALFORMED, &FIRST_ALONE)
 }
 
 const AT_ONCE: [Words; 2] = [[0, 100_000, 18, 60], [0, 100_000, 18, 60]];
@@ -132,7 +115,7 @@ const ONE_FULL: WireCount = WireCount {
 
 #[test]
 fn a_queue_may_be_full(rt: HostRuntime) -> Result<(), Fail> {
-    records_go(&rt, rt.alloc(), 1, &AT_ONCE, ONE_FULL, &FIRST_ALONE)
+    records_go(rt.alloc(), 1, &AT_ONCE, ONE_FULL, &FIRST_ALONE)
 }
 
 const MALFORMED: WireCount = WireCount {
@@ -142,37 +125,36 @@ const MALFORMED: WireCount = WireCount {
     full: 0,
 };
 
-fn short_frame_goes<A: Allocator + Copy>(rt: &impl Abort, alloc: A) -> Result<(), Fail> {
+fn short_frame_goes<A: Allocator + Copy>(alloc: A) -> Result<(), Fail> {
     let mut text = capture_of(alloc, &[[0, 100_000, 13, 60]])?;
     text.resize(24 + 16 + 13, 0)?;
-    goes(rt, alloc, 4, &text, MALFORMED, &[])
+    goes(alloc, 4, &text, MALFORMED, &[])
 }
 
 #[test]
 fn a_frame_of_13_octets_is_malformed(rt: HostRuntime) -> Result<(), Fail> {
-    short_frame_goes(&rt, rt.alloc())
+    short_frame_goes(rt.alloc())
 }
 
 /// Tests that so many octets are written of what leaves.
-fn has_front(rt: &impl Abort, octets: &[u8], left: &[u8], written: usize) {
-    assert!(rt; written <= left.len());
+fn has_front(octets: &[u8], left: &[u8], written: usize) -> Result<(), Fail> {
+    must(written <= left.len(), "has front", 1)?;
     must(
-        rt,
         octets == &left[..written],
         "what is written, of",
         written as u64,
-    );
+    )?;
+    Ok(())
 }
 
 /// Tests how a run ends, and that a front of what leaves is written.
 fn ends<A: Allocator + Copy>(
-    rt: &impl Abort,
     alloc: A,
     source: &mut SliceSource<'_>,
     wanted: CaptureFault,
     left: &[u8],
     written: usize,
-) {
+) -> Result<(), Fail> {
     let mut sink = VecSink::new(alloc);
     let ended = run(alloc, source, &mut sink);
     let fault = RunFault::Capture {
@@ -180,29 +162,29 @@ fn ends<A: Allocator + Copy>(
         fault: wanted,
     };
     must(
-        rt,
         ended == Err(fault),
         "the fault where there are written",
         written as u64,
-    );
-    has_front(rt, sink.octets(), left, written);
+    )?;
+    has_front(sink.octets(), left, written)?;
+    Ok(())
 }
 
 /// Tests a source that fails after so many octets.
 fn source_fails<A: Allocator + Copy>(
-    rt: &impl Abort,
     alloc: A,
     text: &[u8],
     left: &[u8],
     n: usize,
-) {
+) -> Result<(), Fail> {
     let written = match n {
         0..=57 => 0,
         58..=91 => 24,
         _ => 58,
     };
     let mut source = SliceSource::failing_after(text, n);
-    ends(rt, alloc, &mut source, CaptureFault::Read, left, written);
+    ends(alloc, &mut source, CaptureFault::Read, left, written)?;
+    Ok(())
 }
 
 #[test]
@@ -210,7 +192,7 @@ fn a_source_fails_anywhere(rt: HostRuntime) -> Result<(), Fail> {
     let text = capture_of(rt.alloc(), &ARRIVALS)?;
     let left = capture_of(rt.alloc(), &DEPARTURES)?;
     for n in 0..93 {
-        source_fails(&rt, rt.alloc(), &text, &left, n);
+        source_fails(rt.alloc(), &text, &left, n)?;
     }
     Ok(())
 }
@@ -225,23 +207,29 @@ const CUTS: [(usize, CaptureFault, usize); 6] = [
     (91, CaptureFault::RecordCut(2), 24),
 ];
 
-fn cut_anywhere<A: Allocator + Copy>(rt: &impl Abort, alloc: A, text: &[u8], left: &[u8]) {
+fn cut_anywhere<A: Allocator + Copy>(alloc: A, text: &[u8], left: &[u8]) -> Result<(), Fail> {
     for (n, fault, written) in &CUTS {
-        assert!(rt; *n <= text.len());
+        must(*n <= text.len(), "cut anywhere", 1)?;
         let mut source = SliceSource::new(&text[..*n]);
-        ends(rt, alloc, &mut source, *fault, left, *written);
+        ends(alloc, &mut source, *fault, left, *written)?;
     }
+    Ok(())
 }
 
 #[test]
 fn a_capture_is_cut_anywhere(rt: HostRuntime) -> Result<(), Fail> {
     let text = capture_of(rt.alloc(), &ARRIVALS)?;
     let left = capture_of(rt.alloc(), &DEPARTURES)?;
-    cut_anywhere(&rt, rt.alloc(), &text, &left);
+    cut_anywhere(rt.alloc(), &text, &left)?;
     Ok(())
 }
 
-fn sink_fails<A: Allocator + Copy>(rt: &impl Abort, alloc: A, text: &[u8], left: &[u8], n: usize) {
+fn sink_fails<A: Allocator + Copy>(
+    alloc: A,
+    text: &[u8],
+    left: &[u8],
+    n: usize,
+) -> Result<(), Fail> {
     let mut sink = VecSink::failing_after(alloc, n);
     let ended = run(alloc, &mut SliceSource::new(text), &mut sink);
     let wanted = if n < 92 {
@@ -249,8 +237,9 @@ fn sink_fails<A: Allocator + Copy>(rt: &impl Abort, alloc: A, text: &[u8], left:
     } else {
         Ok(BOTH)
     };
-    must(rt, ended == wanted, "a sink that fails after", n as u64);
-    has_front(rt, sink.octets(), left, n);
+    must(ended == wanted, "a sink that fails after", n as u64)?;
+    has_front(sink.octets(), left, n)?;
+    Ok(())
 }
 
 #[test]
@@ -259,23 +248,28 @@ fn a_sink_fails_anywhere(rt: HostRuntime) -> Result<(), Fail> {
     let left = capture_of(rt.alloc(), &DEPARTURES)?;
     assert!(rt; left.len() == 92);
     for n in 0..93 {
-        sink_fails(&rt, rt.alloc(), &text, &left, n);
+        sink_fails(rt.alloc(), &text, &left, n)?;
     }
     Ok(())
 }
 
-fn goes_one_by_one<A: Allocator + Copy>(rt: &impl Abort, alloc: A, text: &[u8], left: &[u8]) {
+fn goes_one_by_one<A: Allocator + Copy>(alloc: A, text: &[u8], left: &[u8]) -> Result<(), Fail> {
     let mut source = SliceSource::one_by_one(text);
     let mut sink = VecSink::one_by_one(alloc);
-    assert!(rt; run(alloc, &mut source, &mut sink) == Ok(BOTH));
-    assert!(rt; sink.octets() == left);
+    must(
+        run(alloc, &mut source, &mut sink) == Ok(BOTH),
+        "goes one by one",
+        1,
+    )?;
+    must(sink.octets() == left, "goes one by one", 2)?;
+    Ok(())
 }
 
 #[test]
 fn an_octet_a_call_is_the_same(rt: HostRuntime) -> Result<(), Fail> {
     let text = capture_of(rt.alloc(), &ARRIVALS)?;
     let left = capture_of(rt.alloc(), &DEPARTURES)?;
-    goes_one_by_one(&rt, rt.alloc(), &text, &left);
+    goes_one_by_one(rt.alloc(), &text, &left)?;
     Ok(())
 }
 

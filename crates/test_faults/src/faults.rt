@@ -1,11 +1,10 @@
 //! Runs that stop: captures that are refused, and sources and sinks that fail.
-use crate::must::must;
 use bridge_capture::{CaptureFault, SliceSource, VecSink};
 use bridge_core::RunFault;
 use fixture_runs::frames::{Frame, TO_A, capture, header, push_record};
 use fixture_runs::runs::{Form, planned, simulated};
+use fixture_text::must::must;
 use std::alloc::{AllocError, Allocator, Global};
-use std::process::Abort;
 use std::test::Fail;
 
 /// The frames in each sink, if it has a header.
@@ -29,16 +28,15 @@ const TWO_LEFT: Held = [
 
 /// Tests what a sink holds.
 fn has<A: Allocator + Copy>(
-    rt: &impl Abort,
     alloc: A,
     sink: &VecSink<A>,
     frames: Option<&[Frame]>,
-) -> Result<(), AllocError> {
+) -> Result<(), Fail> {
     match frames {
-        None => assert!(rt; sink.octets().is_empty(), "a sink with octets"),
+        None => must(sink.octets().is_empty(), "a sink with octets", 1)?,
         Some(frames) => {
             let wanted = capture(alloc, frames)?;
-            assert!(rt; sink.octets() == wanted.as_slice());
+            must(sink.octets() == wanted.as_slice(), "has", 2)?;
         }
     }
     Ok(())
@@ -46,15 +44,14 @@ fn has<A: Allocator + Copy>(
 
 /// Tests how a run stopped.
 fn stopped<A: Allocator + Copy>(
-    rt: &impl Abort,
     alloc: A,
     ended: Option<RunFault>,
     sinks: &[VecSink<A>],
     stop: &Stop,
-) -> Result<(), AllocError> {
-    assert!(rt; ended == Some(stop.0));
+) -> Result<(), Fail> {
+    must(ended == Some(stop.0), "stopped", 1)?;
     for (sink, frames) in sinks.iter().zip(&stop.1) {
-        has(rt, alloc, sink, *frames)?;
+        has(alloc, sink, *frames)?;
     }
     Ok(())
 }
@@ -75,7 +72,6 @@ fn ending<A: Allocator + Copy>(
 
 /// Tests how a run stops.
 fn stops_by<A: Allocator + Copy>(
-    rt: &impl Abort,
     alloc: A,
     heap: Global,
     form: Form,
@@ -84,13 +80,12 @@ fn stops_by<A: Allocator + Copy>(
 ) -> Result<(), Fail> {
     let mut sinks = [VecSink::new(heap), VecSink::new(heap), VecSink::new(heap)];
     let ended = ending(alloc, heap, form, sources, &mut sinks)?;
-    stopped(rt, heap, ended, &sinks, stop)?;
+    stopped(heap, ended, &sinks, stop)?;
     Ok(())
 }
 
 /// Tests how a run of three captures stops, each read at once.
 fn stops_at_once<A: Allocator + Copy>(
-    rt: &impl Abort,
     alloc: A,
     heap: Global,
     texts: [&[u8]; 3],
@@ -102,12 +97,11 @@ fn stops_at_once<A: Allocator + Copy>(
         SliceSource::new(b),
         SliceSource::new(c),
     ];
-    stops_by(rt, alloc, heap, Form::Row, &mut sources, stop)
+    stops_by(alloc, heap, Form::Row, &mut sources, stop)
 }
 
 /// The same, where each is read octet by octet.
 fn stops_by_octets<A: Allocator + Copy>(
-    rt: &impl Abort,
     alloc: A,
     heap: Global,
     texts: [&[u8]; 3],
@@ -119,19 +113,18 @@ fn stops_by_octets<A: Allocator + Copy>(
         SliceSource::one_by_one(b),
         SliceSource::one_by_one(c),
     ];
-    stops_by(rt, alloc, heap, Form::Tree, &mut sources, stop)
+    stops_by(alloc, heap, Form::Tree, &mut sources, stop)
 }
 
 /// Tests how a run of three captures stops.
 fn stops<A: Allocator + Copy>(
-    rt: &impl Abort,
     alloc: A,
     heap: Global,
     texts: [&[u8]; 3],
     stop: &Stop,
 ) -> Result<(), Fail> {
-    stops_at_once(rt, alloc, heap, texts, stop)?;
-    stops_by_octets(rt, alloc, heap, texts, stop)
+    stops_at_once(alloc, heap, texts, stop)?;
+    stops_by_octets(alloc, heap, texts, stop)
 }
 
 /// Three frames of the protected stream.
@@ -152,7 +145,6 @@ const CUTS: [(usize, CaptureFault, Held); 5] = [
 
 /// Tests how a run stops whose first capture is cut behind so many octets.
 fn stops_at_cut<A: Allocator + Copy>(
-    rt: &impl Abort,
     alloc: A,
     heap: Global,
     n: usize,
@@ -161,16 +153,16 @@ fn stops_at_cut<A: Allocator + Copy>(
 ) -> Result<(), Fail> {
     let empty = header(heap)?;
     let text = capture(heap, &THREE)?;
-    assert!(rt; text.len() == 126);
-    assert!(rt; n <= text.len());
+    must(text.len() == 126, "stops at cut", 1)?;
+    must(n <= text.len(), "stops at cut", 2)?;
     let stop = (RunFault::Capture { port: 1, fault }, held);
-    stops(rt, alloc, heap, [&text[..n], &empty, &empty], &stop)
+    stops(alloc, heap, [&text[..n], &empty, &empty], &stop)
 }
 
 #[test]
 fn a_capture_is_cut(rt: HostRuntime) -> Result<(), Fail> {
     for (n, fault, held) in &CUTS {
-        stops_at_cut(&rt, rt.alloc(), rt.alloc(), *n, *fault, *held)?;
+        stops_at_cut(rt.alloc(), rt.alloc(), *n, *fault, *held)?;
     }
     Ok(())
 }
@@ -183,14 +175,10 @@ const BACK: Stop = (
     HEADERS,
 );
 
-fn stops_where_time_goes_back<A: Allocator + Copy>(
-    rt: &impl Abort,
-    alloc: A,
-    heap: Global,
-) -> Result<(), Fail> {
+fn stops_where_time_goes_back<A: Allocator + Copy>(alloc: A, heap: Global) -> Result<(), Fail> {
     let empty = header(heap)?;
     let back = capture(heap, &[(5, 60, TO_A), (4, 60, TO_A)])?;
-    stops(rt, alloc, heap, [&empty, &back, &empty], &BACK)
+    stops(alloc, heap, [&empty, &back, &empty], &BACK)
 }
 
 const TOO_LATE: Stop = (
@@ -201,21 +189,17 @@ const TOO_LATE: Stop = (
     UNTOUCHED,
 );
 
-fn stops_where_it_is_late<A: Allocator + Copy>(
-    rt: &impl Abort,
-    alloc: A,
-    heap: Global,
-) -> Result<(), Fail> {
+fn stops_where_it_is_late<A: Allocator + Copy>(alloc: A, heap: Global) -> Result<(), Fail> {
     let empty = header(heap)?;
     let mut late = header(heap)?;
     push_record(&mut late, 3_999_999_999, 1_000_000_000, 60, TO_A)?;
-    stops(rt, alloc, heap, [&empty, &late, &empty], &TOO_LATE)
+    stops(alloc, heap, [&empty, &late, &empty], &TOO_LATE)
 }
 
 #[test]
 fn times_are_judged(rt: HostRuntime) -> Result<(), Fail> {
-    stops_where_time_goes_back(&rt, rt.alloc(), rt.alloc())?;
-    stops_where_it_is_late(&rt, rt.alloc(), rt.alloc())
+    stops_where_time_goes_back(rt.alloc(), rt.alloc())?;
+    stops_where_it_is_late(rt.alloc(), rt.alloc())
 }
 
 const NO_CAPTURE: Stop = (
@@ -228,7 +212,6 @@ const NO_CAPTURE: Stop = (
 
 /// Tests a run of frames on port 1 beside what is no capture on port 2.
 fn stops_untouched<A: Allocator + Copy>(
-    rt: &impl Abort,
     alloc: A,
     heap: Global,
     first: &[Frame],
@@ -236,13 +219,13 @@ fn stops_untouched<A: Allocator + Copy>(
     let empty = header(heap)?;
     let wrong = Vec::from_elem(heap, 0u8, 24)?;
     let text = capture(heap, first)?;
-    stops(rt, alloc, heap, [&text, &wrong, &empty], &NO_CAPTURE)
+    stops(alloc, heap, [&text, &wrong, &empty], &NO_CAPTURE)
 }
 
 #[test]
 fn no_sink_is_touched_before_all_first_looks(rt: HostRuntime) -> Result<(), Fail> {
-    stops_untouched(&rt, rt.alloc(), rt.alloc(), &[])?;
-    stops_untouched(&rt, rt.alloc(), rt.alloc(), &THREE)
+    stops_untouched(rt.alloc(), rt.alloc(), &[])?;
+    stops_untouched(rt.alloc(), rt.alloc(), &THREE)
 }
 
 const NO_HEADER: Stop = (
@@ -253,19 +236,15 @@ const NO_HEADER: Stop = (
     UNTOUCHED,
 );
 
-fn stops_at_the_lower_port<A: Allocator + Copy>(
-    rt: &impl Abort,
-    alloc: A,
-    heap: Global,
-) -> Result<(), Fail> {
+fn stops_at_the_lower_port<A: Allocator + Copy>(alloc: A, heap: Global) -> Result<(), Fail> {
     let empty = header(heap)?;
     let short: &[u8] = &[];
-    stops(rt, alloc, heap, [short, short, &empty], &NO_HEADER)
+    stops(alloc, heap, [short, short, &empty], &NO_HEADER)
 }
 
 #[test]
 fn the_lower_port_is_looked_at_first(rt: HostRuntime) -> Result<(), Fail> {
-    stops_at_the_lower_port(&rt, rt.alloc(), rt.alloc())
+    stops_at_the_lower_port(rt.alloc(), rt.alloc())
 }
 
 /// How a run stops whose first source fails after so many octets.
@@ -281,12 +260,7 @@ fn stop_after(n: usize) -> Stop {
 }
 
 /// Tests how a run stops whose first source fails after so many octets.
-fn source_fails<A: Allocator + Copy>(
-    rt: &impl Abort,
-    alloc: A,
-    heap: Global,
-    n: usize,
-) -> Result<(), Fail> {
+fn source_fails<A: Allocator + Copy>(alloc: A, heap: Global, n: usize) -> Result<(), Fail> {
     let empty = header(heap)?;
     let text = capture(heap, &THREE)?;
     let mut sources = [
@@ -294,13 +268,13 @@ fn source_fails<A: Allocator + Copy>(
         SliceSource::new(&empty),
         SliceSource::new(&empty),
     ];
-    stops_by(rt, alloc, heap, Form::Plain, &mut sources, &stop_after(n))
+    stops_by(alloc, heap, Form::Plain, &mut sources, &stop_after(n))
 }
 
 #[test]
 fn a_source_fails_anywhere(rt: HostRuntime) -> Result<(), Fail> {
     for n in 0..127 {
-        source_fails(&rt, rt.alloc(), rt.alloc(), n)?;
+        source_fails(rt.alloc(), rt.alloc(), n)?;
     }
     Ok(())
 }
@@ -323,16 +297,20 @@ fn ending_of<A: Allocator + Copy>(
 }
 
 /// Tests the octets of three sinks, one of which fails after so many octets.
-fn hold<A: Allocator + Copy>(rt: &impl Abort, sinks: &[VecSink<A>], wanted: [&[u8]; 3], n: usize) {
-    assert!(rt; sinks.len() == 3);
+fn hold<A: Allocator + Copy>(
+    sinks: &[VecSink<A>],
+    wanted: [&[u8]; 3],
+    n: usize,
+) -> Result<(), Fail> {
+    must(sinks.len() == 3, "hold", 1)?;
     for (sink, octets) in sinks.iter().zip(&wanted) {
-        must(rt, sink.octets() == *octets, "octets after", n as u64);
+        must(sink.octets() == *octets, "octets after", n as u64)?;
     }
+    Ok(())
 }
 
 /// Tests how a run ends whose third sink fails after so many octets.
 fn third_fails<A: Allocator + Copy>(
-    rt: &impl Abort,
     alloc: A,
     heap: Global,
     texts: [&[u8]; 3],
@@ -346,74 +324,52 @@ fn third_fails<A: Allocator + Copy>(
         VecSink::failing_after(heap, n),
     ];
     let ended = ending_of(alloc, heap, Form::Plain, texts, &mut sinks)?;
-    must(rt, ended == wanted, "the end after", n as u64);
-    hold(rt, &sinks, left, n);
+    must(ended == wanted, "the end after", n as u64)?;
+    hold(&sinks, left, n)?;
     Ok(())
 }
 
 const NOT_WRITTEN: RunFault = RunFault::Write { port: 3 };
 
-fn sink_fails_first<A: Allocator + Copy>(
-    rt: &impl Abort,
-    alloc: A,
-    heap: Global,
-) -> Result<(), Fail> {
+fn sink_fails_first<A: Allocator + Copy>(alloc: A, heap: Global) -> Result<(), Fail> {
     let mut text = capture(heap, &THREE)?;
     let empty = header(heap)?;
     text.pop();
     let texts = [text.as_slice(), &empty, &empty];
     let left = [empty.as_slice(); 3];
-    third_fails(rt, alloc, heap, texts, 24, Some(NOT_WRITTEN), left)
+    third_fails(alloc, heap, texts, 24, Some(NOT_WRITTEN), left)
 }
 
 #[test]
 fn a_sink_fails_before_a_capture_is_refused(rt: HostRuntime) -> Result<(), Fail> {
-    sink_fails_first(&rt, rt.alloc(), rt.alloc())
+    sink_fails_first(rt.alloc(), rt.alloc())
 }
 
 /// Tests how a run with one frame ends whose third sink fails after so many octets.
-fn last_fails<A: Allocator + Copy>(
-    rt: &impl Abort,
-    alloc: A,
-    heap: Global,
-    n: usize,
-) -> Result<(), Fail> {
+fn last_fails<A: Allocator + Copy>(alloc: A, heap: Global, n: usize) -> Result<(), Fail> {
     let text = capture(heap, &[(100_000, 60, TO_A)])?;
     let empty = header(heap)?;
     let left = capture(heap, &[(100_672, 60, TO_A)])?;
-    assert!(rt; left.len() == 58);
-    assert!(rt; n <= left.len());
+    must(left.len() == 58, "last fails", 1)?;
+    must(n <= left.len(), "last fails", 2)?;
     let wanted = if n < 58 { Some(NOT_WRITTEN) } else { None };
     let texts = [text.as_slice(), &empty, &empty];
-    third_fails(
-        rt,
-        alloc,
-        heap,
-        texts,
-        n,
-        wanted,
-        [&empty, &empty, &left[..n]],
-    )
+    third_fails(alloc, heap, texts, n, wanted, [&empty, &empty, &left[..n]])
 }
 
 #[test]
 fn the_last_sink_fails_anywhere(rt: HostRuntime) -> Result<(), Fail> {
     for n in 0..59 {
-        last_fails(&rt, rt.alloc(), rt.alloc(), n)?;
+        last_fails(rt.alloc(), rt.alloc(), n)?;
     }
     Ok(())
 }
 
 /// Tests how a run ends whose first sink fails within its header.
-fn first_fails<A: Allocator + Copy>(
-    rt: &impl Abort,
-    alloc: A,
-    heap: Global,
-    n: usize,
-) -> Result<(), Fail> {
+fn first_fails<A: Allocator + Copy>(alloc: A, heap: Global, n: usize) -> Result<(), Fail> {
     let empty = header(heap)?;
-    assert!(rt; empty.len() == 24);
-    assert!(rt; n <= empty.len());
+    must(empty.len() == 24, "first fails", 1)?;
+    must(n <= empty.len(), "first fails", 2)?;
     let mut sinks = [
         VecSink::failing_after(heap, n),
         VecSink::new(heap),
@@ -421,15 +377,15 @@ fn first_fails<A: Allocator + Copy>(
     ];
     let texts = [empty.as_slice(); 3];
     let ended = ending_of(alloc, heap, Form::Row, texts, &mut sinks)?;
-    assert!(rt; ended == Some(RunFault::Write { port: 1 }));
-    hold(rt, &sinks, [&empty[..n], &[], &[]], n);
+    must(ended == Some(RunFault::Write { port: 1 }), "first fails", 3)?;
+    hold(&sinks, [&empty[..n], &[], &[]], n)?;
     Ok(())
 }
 
 #[test]
 fn the_first_sink_fails_within_its_header(rt: HostRuntime) -> Result<(), Fail> {
     for n in 0..24 {
-        first_fails(&rt, rt.alloc(), rt.alloc(), n)?;
+        first_fails(rt.alloc(), rt.alloc(), n)?;
     }
     Ok(())
 }

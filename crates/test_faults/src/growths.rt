@@ -1,5 +1,4 @@
 //! Runs whose memory runs out.
-use crate::must::must;
 use crate::sending::TO_TWO_PORTS;
 use bridge_capture::{SliceSource, VecSink};
 use bridge_check::Accepted;
@@ -8,8 +7,8 @@ use fixture_alloc::RefusesOne;
 use fixture_runs::frames::{Frame, TO_B, capture, header};
 use fixture_runs::plans::{BASE, accepted_of};
 use fixture_runs::runs::{Form, holds, simulated};
+use fixture_text::must::must;
 use std::alloc::{AllocError, Allocator, Global};
-use std::process::Abort;
 use std::test::Fail;
 
 /// An allocator that tells whether it refused a growth.
@@ -78,21 +77,19 @@ fn ending_in<A: Allocator + Copy + Refuses>(
 
 /// Tests that each sink holds a front of these captures.
 fn fronts<A: Allocator + Copy>(
-    rt: &impl Abort,
     alloc: A,
     sinks: &[VecSink<A>],
     left: &[&[Frame]],
-) -> Result<(), AllocError> {
+) -> Result<(), Fail> {
     for (sink, frames) in sinks.iter().zip(left) {
         let whole = capture(alloc, frames)?;
-        assert!(rt; whole.starts_with(sink.octets()));
+        must(whole.starts_with(sink.octets()), "fronts", 1)?;
     }
     Ok(())
 }
 
 /// Tests how a run ends, and what its sinks hold.
 fn ends<A: Allocator + Copy>(
-    rt: &impl Abort,
     alloc: A,
     ended: Option<Option<RunFault>>,
     refused: bool,
@@ -101,12 +98,12 @@ fn ends<A: Allocator + Copy>(
 ) -> Result<End, Fail> {
     match ended {
         Some(Some(fault)) => {
-            must(rt, fault == RunFault::NoMemory, "growth", n);
-            fronts(rt, alloc, sinks, &TO_TWO_PORTS.left)?;
+            must(fault == RunFault::NoMemory, "growth", n)?;
+            fronts(alloc, sinks, &TO_TWO_PORTS.left)?;
             Ok(End::Stopped)
         }
         Some(None) => {
-            must(rt, !refused, "growth", n);
+            must(!refused, "growth", n)?;
             holds(alloc, sinks, &TO_TWO_PORTS.left)?;
             Ok(End::Whole)
         }
@@ -115,27 +112,23 @@ fn ends<A: Allocator + Copy>(
 }
 
 /// Tests a run in an allocator that refuses growth number `n`.
-fn ends_in<A: Allocator + Copy + Refuses>(
-    rt: &impl Abort,
-    heap: Global,
-    gate: A,
-    n: u64,
-) -> Result<End, Fail> {
+fn ends_in<A: Allocator + Copy + Refuses>(heap: Global, gate: A, n: u64) -> Result<End, Fail> {
     let mut sinks = [VecSink::new(heap), VecSink::new(heap), VecSink::new(heap)];
     let ended = ending_in(heap, gate, &mut sinks)?;
-    ends(rt, heap, ended, gate.has_refused(), &sinks, n)
+    ends(heap, ended, gate.has_refused(), &sinks, n)
 }
 
-fn refuse_each<A: Allocator + Copy>(rt: &impl Abort, alloc: A, heap: Global) -> Result<(), Fail> {
+fn refuse_each<A: Allocator + Copy>(alloc: A, heap: Global) -> Result<(), Fail> {
     let mut stopped = 0u32;
     for n in 1..1_000u64 {
         let gate = RefusesOne::new(alloc, n);
-        let end = ends_in(rt, heap, &gate, n)?;
+        let end = ends_in(heap, &gate, n)?;
         if !gate.refused() {
-            assert!(rt;
+            must(
                 stopped > 20 && matches!(end, End::Whole),
-                "growths of the run itself"
-            );
+                "growths of the run itself",
+                1,
+            )?;
             return Ok(());
         }
         if matches!(end, End::Stopped) {
@@ -147,7 +140,7 @@ fn refuse_each<A: Allocator + Copy>(rt: &impl Abort, alloc: A, heap: Global) -> 
 
 #[test]
 fn each_growth_of_a_run_is_refused_in_turn(rt: HostRuntime) -> Result<(), Fail> {
-    refuse_each(&rt, rt.alloc(), rt.alloc())
+    refuse_each(rt.alloc(), rt.alloc())
 }
 
 /// Frames to two ports, each of which has left both before the next one comes.

@@ -7,8 +7,6 @@ mod faults;
 #[cfg(test)]
 mod growths;
 #[cfg(test)]
-mod must;
-#[cfg(test)]
 mod reports;
 #[cfg(test)]
 mod sending;

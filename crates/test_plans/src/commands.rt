@@ -1,12 +1,11 @@
 //! Commands to the bridge of a plan, and each growth refused in turn.
 use crate::base::{fault_of_commands, plan_with};
-use crate::must::must;
 use bridge_config::{Command, Plan, commands_of};
 use bridge_filter::Clear;
 use bridge_keys::PlanFault;
 use fixture_alloc::{Ending, refuse_each};
+use fixture_text::must::must;
 use std::alloc::{Allocator, Global};
-use std::process::Abort;
 use std::test::Fail;
 
 /// Beside the base plan, with filters 10 and 99 and gates 1 and 99: a meter.
@@ -62,33 +61,25 @@ const SHOWN: [Command; 4] = [
     },
 ];
 
-fn are_shown(rt: &impl Abort, commands: &[Command]) {
-    assert!(rt; commands == SHOWN.as_slice());
-}
-
-fn show<A: Allocator + Copy>(
-    rt: &impl Abort,
-    alloc: A,
-    heap: Global,
-    plan: &Plan<A>,
-) -> Result<(), PlanFault> {
-    let commands = commands_of(alloc, heap, EACH_FLAG.as_bytes(), plan)?;
-    are_shown(rt, &commands);
+fn are_shown(commands: &[Command]) -> Result<(), Fail> {
+    must(commands == SHOWN.as_slice(), "are shown", 1)?;
     Ok(())
 }
 
-fn show_each<A: Allocator + Copy>(
-    rt: &impl Abort,
-    alloc: A,
-    heap: Global,
-) -> Result<(), PlanFault> {
+fn show<A: Allocator + Copy>(alloc: A, heap: Global, plan: &Plan<A>) -> Result<(), Fail> {
+    let commands = commands_of(alloc, heap, EACH_FLAG.as_bytes(), plan)?;
+    are_shown(&commands)?;
+    Ok(())
+}
+
+fn show_each<A: Allocator + Copy>(alloc: A, heap: Global) -> Result<(), Fail> {
     let plan = plan_with(alloc, heap, MORE)?;
-    show(rt, alloc, heap, &plan)
+    show(alloc, heap, &plan)
 }
 
 #[test]
 fn commands_are_shown_in_their_order(rt: HostRuntime) -> Result<(), Fail> {
-    show_each(&rt, rt.alloc(), rt.alloc())?;
+    show_each(rt.alloc(), rt.alloc())?;
     Ok(())
 }
 

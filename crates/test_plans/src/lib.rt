@@ -7,8 +7,6 @@ mod base;
 #[cfg(test)]
 mod commands;
 #[cfg(test)]
-mod must;
-#[cfg(test)]
 mod octets;
 #[cfg(test)]
 mod readers;

@@ -1,6 +1,5 @@
 //! The parts of the base plan, where its frames go, and each growth refused in turn.
 use crate::base::{fault_of, plan_with};
-use crate::must::must;
 use bridge_config::{Plan, PortPlan};
 use bridge_filter::FilterPlan;
 use bridge_forward::{PortSet, StaticEntry, Vlan};
@@ -11,8 +10,8 @@ use bridge_keys::PlanFault;
 use bridge_meter::MeterPlan;
 use fixture_alloc::{Ending, refuse_each};
 use fixture_text::base::text_with;
+use fixture_text::must::must;
 use std::alloc::{AllocError, Allocator, Global};
-use std::process::Abort;
 use std::test::Fail;
 
 const LISTENER: [u8; 6] = [2, 0, 0, 0, 0, 0x0A];
@@ -59,31 +58,34 @@ next_cycle = 500
 next_entries = [{ open = false, ns = 500 }]
 ";
 
-fn has_port<A: Allocator + Copy>(rt: &impl Abort, port: &PortPlan<A>) {
+fn has_port<A: Allocator + Copy>(port: &PortPlan<A>) -> Result<(), Fail> {
     let number = u64::from(port.number);
-    must(rt, port.speed == Speed::Mbps1000, "speed of port", number);
-    must(rt, port.vid == 1, "VLAN of port", number);
-    must(rt, port.priority == 0, "priority of port", number);
-    must(rt, port.classes == CLASSES, "classes of port", number);
-    must(rt, port.rooms == ROOMS, "rooms of port", number);
+    must(port.speed == Speed::Mbps1000, "speed of port", number)?;
+    must(port.vid == 1, "VLAN of port", number)?;
+    must(port.priority == 0, "priority of port", number)?;
+    must(port.classes == CLASSES, "classes of port", number)?;
+    must(port.rooms == ROOMS, "rooms of port", number)?;
     let is_last = port.number == 3;
-    must(rt, port.list.is_some() == is_last, "list of port", number);
+    must(port.list.is_some() == is_last, "list of port", number)?;
+    Ok(())
 }
 
-fn finds_port<A: Allocator + Copy>(rt: &impl Abort, plan: &Plan<A>, number: u8, is_there: bool) {
+fn finds_port<A: Allocator + Copy>(plan: &Plan<A>, number: u8, is_there: bool) -> Result<(), Fail> {
     let found = plan.port(number).is_some();
-    must(rt, found == is_there, "port", u64::from(number));
+    must(found == is_there, "port", u64::from(number))?;
+    Ok(())
 }
 
-fn has_ports<A: Allocator + Copy>(rt: &impl Abort, plan: &Plan<A>) {
-    assert!(rt; plan.ports().len() == 3);
+fn has_ports<A: Allocator + Copy>(plan: &Plan<A>) -> Result<(), Fail> {
+    must(plan.ports().len() == 3, "has ports", 1)?;
     for port in plan.ports() {
-        has_port(rt, port);
+        has_port(port)?;
     }
-    finds_port(rt, plan, 0, false);
-    finds_port(rt, plan, 1, true);
-    finds_port(rt, plan, 3, true);
-    finds_port(rt, plan, 4, false);
+    finds_port(plan, 0, false)?;
+    finds_port(plan, 1, true)?;
+    finds_port(plan, 3, true)?;
+    finds_port(plan, 4, false)?;
+    Ok(())
 }
 
 const STREAMS: [StreamEntry; 1] = [StreamEntry {
@@ -95,31 +97,35 @@ const STREAMS: [StreamEntry; 1] = [StreamEntry {
     tag: TagKind::Tagged,
 }];
 
-fn has_vlans(rt: &impl Abort, vlans: &[Vlan]) {
-    assert!(rt; vlans.len() == 1);
+fn has_vlans(vlans: &[Vlan]) -> Result<(), Fail> {
+    must(vlans.len() == 1, "has vlans", 1)?;
     for vlan in vlans {
-        assert!(rt; vlan.vid == 10);
-        assert!(rt; vlan.members.bits() == 0b111);
+        must(vlan.vid == 10, "has vlans", 2)?;
+        must(vlan.members.bits() == 0b111, "has vlans", 3)?;
     }
+    Ok(())
 }
 
-fn has_entries(rt: &impl Abort, entries: &[StaticEntry]) {
-    assert!(rt; entries.len() == 1);
+fn has_entries(entries: &[StaticEntry]) -> Result<(), Fail> {
+    must(entries.len() == 1, "has entries", 1)?;
     for entry in entries {
-        assert!(rt; entry.vid == 10);
-        assert!(rt; entry.address == LISTENER);
-        assert!(rt; entry.ports.bits() == 0b100);
+        must(entry.vid == 10, "has entries", 2)?;
+        must(entry.address == LISTENER, "has entries", 3)?;
+        must(entry.ports.bits() == 0b100, "has entries", 4)?;
     }
+    Ok(())
 }
 
-fn has_streams(rt: &impl Abort, streams: &[StreamEntry]) {
-    assert!(rt; streams == STREAMS.as_slice());
+fn has_streams(streams: &[StreamEntry]) -> Result<(), Fail> {
+    must(streams == STREAMS.as_slice(), "has streams", 1)?;
+    Ok(())
 }
 
-fn has_places<A: Allocator + Copy>(rt: &impl Abort, plan: &Plan<A>) {
-    has_vlans(rt, plan.vlans());
-    has_entries(rt, plan.statics());
-    has_streams(rt, plan.streams());
+fn has_places<A: Allocator + Copy>(plan: &Plan<A>) -> Result<(), Fail> {
+    has_vlans(plan.vlans())?;
+    has_entries(plan.statics())?;
+    has_streams(plan.streams())?;
+    Ok(())
 }
 
 const METERS: [(u32, MeterPlan); 1] = [(
@@ -175,31 +181,36 @@ fn is_gate<A: Allocator + Copy>(number: u32, schedule: &Schedule<A>) -> bool {
     }
 }
 
-fn has_gate<A: Allocator + Copy>(rt: &impl Abort, number: u32, gate: &GatePlan<A>) {
-    assert!(rt; !gate.shut_on_rx);
-    assert!(rt; !gate.shut_on_octets);
-    assert!(rt; is_gate(number, &gate.schedule));
+fn has_gate<A: Allocator + Copy>(number: u32, gate: &GatePlan<A>) -> Result<(), Fail> {
+    must(!gate.shut_on_rx, "has gate", 1)?;
+    must(!gate.shut_on_octets, "has gate", 2)?;
+    must(is_gate(number, &gate.schedule), "has gate", 3)?;
+    Ok(())
 }
 
-fn has_gates<A: Allocator + Copy>(rt: &impl Abort, gates: &[(u32, GatePlan<A>)]) {
-    assert!(rt; gates.len() == 2);
+fn has_gates<A: Allocator + Copy>(gates: &[(u32, GatePlan<A>)]) -> Result<(), Fail> {
+    must(gates.len() == 2, "has gates", 1)?;
     for (number, gate) in gates {
-        has_gate(rt, *number, gate);
+        has_gate(*number, gate)?;
     }
+    Ok(())
 }
 
-fn has_meters(rt: &impl Abort, meters: &[(u32, MeterPlan)]) {
-    assert!(rt; meters == METERS.as_slice());
+fn has_meters(meters: &[(u32, MeterPlan)]) -> Result<(), Fail> {
+    must(meters == METERS.as_slice(), "has meters", 1)?;
+    Ok(())
 }
 
-fn has_filters(rt: &impl Abort, filters: &[(u32, FilterPlan)]) {
-    assert!(rt; filters == FILTERS.as_slice());
+fn has_filters(filters: &[(u32, FilterPlan)]) -> Result<(), Fail> {
+    must(filters == FILTERS.as_slice(), "has filters", 1)?;
+    Ok(())
 }
 
-fn has_policing<A: Allocator + Copy>(rt: &impl Abort, plan: &Plan<A>) {
-    has_gates(rt, plan.gates());
-    has_meters(rt, plan.meters());
-    has_filters(rt, plan.filters());
+fn has_policing<A: Allocator + Copy>(plan: &Plan<A>) -> Result<(), Fail> {
+    has_gates(plan.gates())?;
+    has_meters(plan.meters())?;
+    has_filters(plan.filters())?;
+    Ok(())
 }
 
 /// The port on which a frame came, its VLAN and its address, and the ports to which it goes, as bits from port 1 on.
@@ -213,34 +224,35 @@ const FRAMES: [(u8, u16, [u8; 6], u16); 7] = [
     (1, 20, STRANGER, 0),
 ];
 
-fn are_ports(rt: &impl Abort, ports: PortSet, bits: u16, vid: u16) {
-    must(rt, ports.bits() == bits, "VLAN", u64::from(vid));
+fn are_ports(ports: PortSet, bits: u16, vid: u16) -> Result<(), Fail> {
+    must(ports.bits() == bits, "VLAN", u64::from(vid))?;
     let has_second = bits & 0b10 != 0;
     must(
-        rt,
         ports.has(2) == has_second,
         "port 2 and VLAN",
         u64::from(vid),
-    );
+    )?;
+    Ok(())
 }
 
 fn goes_to<A: Allocator + Copy>(
-    rt: &impl Abort,
     plan: &Plan<A>,
     port: u8,
     vid: u16,
     address: &[u8; 6],
     bits: u16,
-) {
-    assert!(rt; 1 <= port);
-    assert!(rt; port <= 16);
-    are_ports(rt, plan.forward(port, vid, address), bits, vid);
+) -> Result<(), Fail> {
+    must(1 <= port, "goes to", 1)?;
+    must(port <= 16, "goes to", 2)?;
+    are_ports(plan.forward(port, vid, address), bits, vid)?;
+    Ok(())
 }
 
-fn go_to<A: Allocator + Copy>(rt: &impl Abort, plan: &Plan<A>) {
+fn go_to<A: Allocator + Copy>(plan: &Plan<A>) -> Result<(), Fail> {
     for (port, vid, address, bits) in &FRAMES {
-        goes_to(rt, plan, *port, *vid, address, *bits);
+        goes_to(plan, *port, *vid, address, *bits)?;
     }
+    Ok(())
 }
 
 /// What is asked of a plan.
@@ -255,49 +267,49 @@ enum Asked {
     Frames,
 }
 
-fn ask<A: Allocator + Copy>(rt: &impl Abort, plan: &Plan<A>, asked: Asked) {
+fn ask<A: Allocator + Copy>(plan: &Plan<A>, asked: Asked) -> Result<(), Fail> {
     match asked {
-        Asked::Ports => has_ports(rt, plan),
-        Asked::Places => has_places(rt, plan),
-        Asked::Policing => has_policing(rt, plan),
-        Asked::Frames => go_to(rt, plan),
+        Asked::Ports => has_ports(plan)?,
+        Asked::Places => has_places(plan)?,
+        Asked::Policing => has_policing(plan)?,
+        Asked::Frames => go_to(plan)?,
     }
+    Ok(())
 }
 
 /// Asks the base plan with more lines.
 fn shows<A: Allocator + Copy>(
-    rt: &impl Abort,
     alloc: A,
     heap: Global,
     more: &str,
     asked: Asked,
-) -> Result<(), PlanFault> {
+) -> Result<(), Fail> {
     let plan = plan_with(alloc, heap, more)?;
-    ask(rt, &plan, asked);
+    ask(&plan, asked)?;
     Ok(())
 }
 
 #[test]
 fn ports_are_shown(rt: HostRuntime) -> Result<(), Fail> {
-    shows(&rt, rt.alloc(), rt.alloc(), METER, Asked::Ports)?;
+    shows(rt.alloc(), rt.alloc(), METER, Asked::Ports)?;
     Ok(())
 }
 
 #[test]
 fn vlans_entries_and_streams_are_shown(rt: HostRuntime) -> Result<(), Fail> {
-    shows(&rt, rt.alloc(), rt.alloc(), METER, Asked::Places)?;
+    shows(rt.alloc(), rt.alloc(), METER, Asked::Places)?;
     Ok(())
 }
 
 #[test]
 fn gates_meters_and_filters_are_shown(rt: HostRuntime) -> Result<(), Fail> {
-    shows(&rt, rt.alloc(), rt.alloc(), METER, Asked::Policing)?;
+    shows(rt.alloc(), rt.alloc(), METER, Asked::Policing)?;
     Ok(())
 }
 
 #[test]
 fn frames_of_the_base_plan_go(rt: HostRuntime) -> Result<(), Fail> {
-    shows(&rt, rt.alloc(), rt.alloc(), "", Asked::Frames)?;
+    shows(rt.alloc(), rt.alloc(), "", Asked::Frames)?;
     Ok(())
 }
 

@@ -1,5 +1,4 @@
 //! The command line: its jobs, the words that it refuses, and what it says of a run.
-use crate::must::must;
 use bridge_capture::{ByteSink, Order, SliceSource, VecSink};
 use bridge_frame::Speed;
 use bridge_program::{Fault, NoMemory, fault_line, wire_line};
@@ -7,8 +6,8 @@ use bridge_wire::{WireCount, wire};
 use bridge_words::{Job, job_of};
 use fixture_alloc::{Ending, refuse_each};
 use fixture_text::captures::{Words, capture_under};
+use fixture_text::must::must;
 use std::alloc::{AllocError, Allocator, Global};
-use std::process::Abort;
 use std::test::Fail;
 
 /// The words of a command line.
@@ -68,24 +67,18 @@ fn is_wire(job: &Job, link: Speed, places: u16, from: &str, to: &str) -> bool {
     }
 }
 
-fn asks_for_a_wire(
-    rt: &impl Abort,
-    alloc: Global,
-    line: &[&str],
-    link: Speed,
-    places: u16,
-) -> Result<(), Fail> {
+fn asks_for_a_wire(alloc: Global, line: &[&str], link: Speed, places: u16) -> Result<(), Fail> {
     let job = job_from(alloc, line)?;
     let is_wire = is_wire(&job, link, places, "IN", "OUT");
     drop(job);
-    must(rt, is_wire, "a run over files, places", u64::from(places));
+    must(is_wire, "a run over files, places", u64::from(places))?;
     Ok(())
 }
 
 #[test]
 fn words_ask_for_a_run_over_files(rt: HostRuntime) -> Result<(), Fail> {
     for (line, link, places) in &WIRES {
-        asks_for_a_wire(&rt, rt.alloc(), line, *link, *places)?;
+        asks_for_a_wire(rt.alloc(), line, *link, *places)?;
     }
     Ok(())
 }
@@ -158,18 +151,18 @@ const COMMANDED: [&[&str]; 6] = [
     &["run", "--commands", "FILE", "--", "PLAN", "IN", "OUT"],
 ];
 
-fn asks_for_commands(rt: &impl Abort, alloc: Global, line: &[&str]) -> Result<(), Fail> {
+fn asks_for_commands(alloc: Global, line: &[&str]) -> Result<(), Fail> {
     let job = job_from(alloc, line)?;
     let is_run = is_run(&job, "PLAN", "IN", "OUT", Some("FILE"));
     drop(job);
-    assert!(rt; is_run);
+    must(is_run, "asks for commands", 1)?;
     Ok(())
 }
 
 #[test]
 fn words_ask_for_a_run_with_commands(rt: HostRuntime) -> Result<(), Fail> {
     for line in &COMMANDED {
-        asks_for_commands(&rt, rt.alloc(), line)?;
+        asks_for_commands(rt.alloc(), line)?;
     }
     Ok(())
 }
@@ -227,22 +220,18 @@ const REFUSED: [&[&str]; 40] = [
 ];
 
 /// Tests the line and the status of words that are refused.
-fn refuses_words<A: Allocator + Copy>(
-    rt: &impl Abort,
-    alloc: A,
-    fault: &Fault,
-) -> Result<(), NoMemory> {
+fn refuses_words<A: Allocator + Copy>(alloc: A, fault: &Fault) -> Result<(), Fail> {
     let (said, status) = fault_line(alloc, fault)?;
-    assert!(rt; matches!(fault, Fault::Words));
-    assert!(rt; said.as_str() == "command line refused");
-    assert!(rt; status == 4);
+    must(matches!(fault, Fault::Words), "refuses words", 1)?;
+    must(said.as_str() == "command line refused", "refuses words", 2)?;
+    must(status == 4, "refuses words", 3)?;
     Ok(())
 }
 
-fn is_refused(rt: &impl Abort, alloc: Global, line: &[&str]) -> Result<(), Fail> {
+fn is_refused(alloc: Global, line: &[&str]) -> Result<(), Fail> {
     let words = words_of(alloc, line)?;
     match job_of(alloc, &words) {
-        Err(fault) => Ok(refuses_words(rt, alloc, &fault)?),
+        Err(fault) => Ok(refuses_words(alloc, &fault)?),
         Ok(_) => Err(Fail::from("words that were taken")),
     }
 }
@@ -250,7 +239,7 @@ fn is_refused(rt: &impl Abort, alloc: Global, line: &[&str]) -> Result<(), Fail>
 #[test]
 fn other_words_are_refused(rt: HostRuntime) -> Result<(), Fail> {
     for line in &REFUSED {
-        is_refused(&rt, rt.alloc(), line)?;
+        is_refused(rt.alloc(), line)?;
     }
     Ok(())
 }
@@ -271,7 +260,6 @@ fn line_through<W: ByteSink, A: Allocator + Copy>(
 }
 
 fn goes_through<A: Allocator + Copy>(
-    rt: &impl Abort,
     alloc: A,
     magic: u32,
     order: Order,
@@ -280,17 +268,21 @@ fn goes_through<A: Allocator + Copy>(
     let text = capture_under(alloc, magic, order, records)?;
     let line = line_through(alloc, &text, &mut VecSink::new(alloc));
     drop(text);
-    assert!(rt; line?.as_str() == "frames 2 malformed 0 sent 1 full 1\n");
+    must(
+        line?.as_str() == "frames 2 malformed 0 sent 1 full 1\n",
+        "goes through",
+        1,
+    )?;
     Ok(())
 }
 
 #[test]
 fn captures_of_each_magic_go_through_a_queue(rt: HostRuntime) -> Result<(), Fail> {
     let alloc = rt.alloc();
-    goes_through(&rt, alloc, 0xA1B2_3C4D, Order::Little, &NANOSECONDS)?;
-    goes_through(&rt, alloc, 0xA1B2_3C4D, Order::Big, &NANOSECONDS)?;
-    goes_through(&rt, alloc, 0xA1B2_C3D4, Order::Little, &MICROSECONDS)?;
-    goes_through(&rt, alloc, 0xA1B2_C3D4, Order::Big, &MICROSECONDS)
+    goes_through(alloc, 0xA1B2_3C4D, Order::Little, &NANOSECONDS)?;
+    goes_through(alloc, 0xA1B2_3C4D, Order::Big, &NANOSECONDS)?;
+    goes_through(alloc, 0xA1B2_C3D4, Order::Little, &MICROSECONDS)?;
+    goes_through(alloc, 0xA1B2_C3D4, Order::Big, &MICROSECONDS)
 }
 
 const COUNT: WireCount = WireCount {

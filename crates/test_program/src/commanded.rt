@@ -1,14 +1,13 @@
 //! Plans with commands: which are taken, and which fault comes first.
 use crate::check::{NO_VALUE, NONE};
-use crate::must::must;
 use bridge_check::Accepted;
 use bridge_config::{Command, Plan};
 use bridge_program::{Fault, NoMemory, commanded, fault_line, plan_from};
 use fixture_alloc::{Ending, refuse_each};
 use fixture_text::base::{BASE, Change, changed};
+use fixture_text::must::must;
 use std::alloc::{AllocError, Allocator, Global};
 use std::io::{Error, ErrorKind, Read, Result as ReadResult};
-use std::process::Abort;
 use std::test::Fail;
 
 const TWO: &str = r#"
@@ -124,30 +123,25 @@ fn refuses(alloc: Global, change: Change, commands: &str, want: &str) -> Result<
 
 /// Tests how many commands a plan takes, from a text if there is one.
 fn takes<A: Allocator + Copy>(
-    rt: &impl Abort,
     alloc: A,
     heap: Global,
     text: Option<&[u8]>,
     wanted: usize,
-) {
+) -> Result<(), Fail> {
     match taken(alloc, heap, BASE, text) {
-        Ok(count) => assert!(rt; count == wanted),
-        Err(_) => panic!(rt; "commands that are refused"),
+        Ok(count) => must(count == wanted, "takes", 1)?,
+        Err(_) => return Err(Fail::from("commands that are refused")),
     }
+    Ok(())
 }
 
 #[test]
-fn commands_are_taken(rt: HostRuntime) {
-    takes(&rt, rt.alloc(), rt.alloc(), Some("".as_bytes()), 0);
-    takes(
-        &rt,
-        rt.alloc(),
-        rt.alloc(),
-        Some("command = []".as_bytes()),
-        0,
-    );
-    takes(&rt, rt.alloc(), rt.alloc(), Some(TWO.as_bytes()), 2);
-    takes(&rt, rt.alloc(), rt.alloc(), None, 0);
+fn commands_are_taken(rt: HostRuntime) -> Result<(), Fail> {
+    takes(rt.alloc(), rt.alloc(), Some("".as_bytes()), 0)?;
+    takes(rt.alloc(), rt.alloc(), Some("command = []".as_bytes()), 0)?;
+    takes(rt.alloc(), rt.alloc(), Some(TWO.as_bytes()), 2)?;
+    takes(rt.alloc(), rt.alloc(), None, 0)?;
+    Ok(())
 }
 
 #[test]
@@ -177,54 +171,46 @@ fn the_plan_is_read_then_the_commands_then_it_is_checked(rt: HostRuntime) -> Res
 }
 
 /// Tests the line of a fault.
-fn has_line(
-    rt: &impl Abort,
-    alloc: Global,
-    fault: &Fault,
-    wanted: Option<&str>,
-) -> Result<(), Fail> {
+fn has_line(alloc: Global, fault: &Fault, wanted: Option<&str>) -> Result<(), Fail> {
     let (line, _) = fault_line(alloc, fault)?;
-    assert!(rt; wanted == Some(line.as_str()));
+    must(wanted == Some(line.as_str()), "has line", 1)?;
     Ok(())
 }
 
 /// Tests how many commands are in so many spaces, or the line that refuses them.
-fn spaces_end(
-    rt: &impl Abort,
-    alloc: Global,
-    length: usize,
-    wanted: Option<&str>,
-) -> Result<(), Fail> {
+fn spaces_end(alloc: Global, length: usize, wanted: Option<&str>) -> Result<(), Fail> {
     let text = " ".repeat(alloc, length)?;
     let ended = taken(alloc, alloc, BASE, Some(text.as_bytes()));
     drop(text);
     match ended {
         Ok(count) => {
-            assert!(rt; count == 0);
-            assert!(rt; wanted.is_none());
+            must(count == 0, "spaces end", 1)?;
+            must(wanted.is_none(), "spaces end", 2)?;
             Ok(())
         }
-        Err(fault) => has_line(rt, alloc, &fault, wanted),
+        Err(fault) => has_line(alloc, &fault, wanted),
     }
 }
 
 #[test]
 fn commands_are_read_up_to_their_limit(rt: HostRuntime) -> Result<(), Fail> {
-    spaces_end(&rt, rt.alloc(), 1_048_576, None)?;
+    spaces_end(rt.alloc(), 1_048_576, None)?;
     let too_long = Some("commands refused: TooLong");
-    spaces_end(&rt, rt.alloc(), 1_048_577, too_long)
+    spaces_end(rt.alloc(), 1_048_577, too_long)
 }
 
-fn broken_is_a_file<A: Allocator + Copy>(rt: &impl Abort, alloc: A, heap: Global) {
+fn broken_is_a_file<A: Allocator + Copy>(alloc: A, heap: Global) -> Result<(), Fail> {
     match taken(alloc, heap, BASE, Some(Broken)) {
-        Err(Fault::File(path)) => assert!(rt; path.as_str() == "FILE"),
-        _ => panic!(rt; "commands of a reader that fails"),
+        Err(Fault::File(path)) => must(path.as_str() == "FILE", "broken is a file", 1)?,
+        _ => return Err(Fail::from("commands of a reader that fails")),
     }
+    Ok(())
 }
 
 #[test]
-fn commands_that_cannot_be_read_are_a_fault_of_their_file(rt: HostRuntime) {
-    broken_is_a_file(&rt, rt.alloc(), rt.alloc());
+fn commands_that_cannot_be_read_are_a_fault_of_their_file(rt: HostRuntime) -> Result<(), Fail> {
+    broken_is_a_file(rt.alloc(), rt.alloc())?;
+    Ok(())
 }
 
 /// How both commands are taken.

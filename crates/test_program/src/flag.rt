@@ -1,9 +1,8 @@
 //! The flag `--explain`: which words have it, and that it changes no job.
-use crate::must::must;
 use bridge_program::Fault;
 use bridge_words::{job_of, wants_explanation};
+use fixture_text::must::must;
 use std::alloc::{AllocError, Global};
-use std::process::Abort;
 use std::test::Fail;
 
 /// Words with the flag, and the same words without it.
@@ -87,11 +86,11 @@ fn is_flagged(alloc: Global, pair: &Pair) -> Result<bool, Fail> {
 }
 
 /// Tests each pair.
-fn each_is_flagged(rt: &impl Abort, alloc: Global) -> Result<(), Fail> {
+fn each_is_flagged(alloc: Global) -> Result<(), Fail> {
     let mut number = 0;
     for pair in FLAGGED {
         let holds = is_flagged(alloc, pair)?;
-        must(rt, holds, "pair", number);
+        must(holds, "pair", number)?;
         number = number.saturating_add(1);
     }
     Ok(())
@@ -99,7 +98,7 @@ fn each_is_flagged(rt: &impl Abort, alloc: Global) -> Result<(), Fail> {
 
 #[test]
 fn the_flag_changes_no_job(rt: HostRuntime) -> Result<(), Fail> {
-    each_is_flagged(&rt, rt.alloc())
+    each_is_flagged(rt.alloc())
 }
 
 /// Whether the words ask for a job, and don't have the flag.
@@ -109,11 +108,11 @@ fn is_plain(alloc: Global, line: &[&str]) -> Result<bool, Fail> {
 }
 
 /// Tests each row of words that don't have the flag.
-fn each_is_plain(rt: &impl Abort, alloc: Global) -> Result<(), Fail> {
+fn each_is_plain(alloc: Global) -> Result<(), Fail> {
     let mut number = 0;
     for line in PLAIN {
         let holds = is_plain(alloc, line)?;
-        must(rt, holds, "words", number);
+        must(holds, "words", number)?;
         number = number.saturating_add(1);
     }
     Ok(())
@@ -121,7 +120,7 @@ fn each_is_plain(rt: &impl Abort, alloc: Global) -> Result<(), Fail> {
 
 #[test]
 fn a_path_is_no_flag(rt: HostRuntime) -> Result<(), Fail> {
-    each_is_plain(&rt, rt.alloc())
+    each_is_plain(rt.alloc())
 }
 
 /// Whether the words are refused.
@@ -131,11 +130,11 @@ fn is_refused(alloc: Global, line: &[&str]) -> Result<bool, Fail> {
 }
 
 /// Tests each row of words that are refused.
-fn each_is_refused(rt: &impl Abort, alloc: Global) -> Result<(), Fail> {
+fn each_is_refused(alloc: Global) -> Result<(), Fail> {
     let mut number = 0;
     for line in REFUSED {
         let holds = is_refused(alloc, line)?;
-        must(rt, holds, "words", number);
+        must(holds, "words", number)?;
         number = number.saturating_add(1);
     }
     Ok(())
@@ -143,5 +142,5 @@ fn each_is_refused(rt: &impl Abort, alloc: Global) -> Result<(), Fail> {
 
 #[test]
 fn the_flag_stands_behind_a_command_once(rt: HostRuntime) -> Result<(), Fail> {
-    each_is_refused(&rt, rt.alloc())
+    each_is_refused(rt.alloc())
 }

@@ -1,8 +1,7 @@
 //! Words that ask for help or for the version, with the text that they get, and words that ask for neither.
-use crate::must::must;
 use bridge_words::help_of;
+use fixture_text::must::must;
 use std::alloc::{AllocError, Global};
-use std::process::Abort;
 use std::test::Fail;
 
 const PROGRAM: &str = "\
@@ -206,11 +205,11 @@ fn owned_of(alloc: Global, line: &[&str]) -> Result<Vec<String>, AllocError> {
 }
 
 /// Tests each row of a table.
-fn each_gets(rt: &impl Abort, alloc: Global, rows: &[&Row]) -> Result<(), Fail> {
+fn each_gets(alloc: Global, rows: &[&Row]) -> Result<(), Fail> {
     let mut number = 0;
     for row in rows {
         let holds = gets(alloc, row)?;
-        must(rt, holds, "row", number);
+        must(holds, "row", number)?;
         number = number.saturating_add(1);
     }
     Ok(())
@@ -218,10 +217,10 @@ fn each_gets(rt: &impl Abort, alloc: Global, rows: &[&Row]) -> Result<(), Fail> 
 
 #[test]
 fn words_that_ask_get_their_text(rt: HostRuntime) -> Result<(), Fail> {
-    each_gets(&rt, rt.alloc(), ASKING)
+    each_gets(rt.alloc(), ASKING)
 }
 
 #[test]
 fn other_words_get_none(rt: HostRuntime) -> Result<(), Fail> {
-    each_gets(&rt, rt.alloc(), OTHERS)
+    each_gets(rt.alloc(), OTHERS)
 }

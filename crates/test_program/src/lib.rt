@@ -12,8 +12,6 @@ mod flag;
 #[cfg(test)]
 mod help;
 #[cfg(test)]
-mod must;
-#[cfg(test)]
 mod program;
 #[cfg(test)]
 mod sketch;

@@ -1,5 +1,4 @@
 //! The program over text: worked examples, and the line and the status of each fault.
-use crate::must::must;
 use bridge_capture::CaptureFault;
 use bridge_check::CheckFault;
 use bridge_cycle::ListFault;
@@ -7,8 +6,8 @@ use bridge_keys::{Field, Place, PlanFault, Section};
 use bridge_program::{Fault, NoMemory, TextFault, check_job, fault_line, wire_text};
 use bridge_wire::RunFault;
 use fixture_alloc::{Ending, refuse_each};
+use fixture_text::must::must;
 use std::alloc::{AllocError, Allocator, Global};
-use std::process::Abort;
 use std::test::Fail;
 
 const HEADER: &str = "4d3cb2a1020004000000000000000000ffff000001000000\n";
@@ -60,16 +59,18 @@ const REFUSED: [(&str, TextFault); 5] = [
     ("4x", TextFault::NotHex),
 ];
 
-fn is_refused<A: Allocator + Copy>(rt: &impl Abort, alloc: A, text: &str, wanted: TextFault) {
+fn is_refused<A: Allocator + Copy>(alloc: A, text: &str, wanted: TextFault) -> Result<(), Fail> {
     let fault = wire_text(alloc, text.as_bytes()).err();
-    must(rt, fault == Some(wanted), text, text.len() as u64);
+    must(fault == Some(wanted), text, text.len() as u64)?;
+    Ok(())
 }
 
 #[test]
-fn a_text_is_refused(rt: HostRuntime) {
+fn a_text_is_refused(rt: HostRuntime) -> Result<(), Fail> {
     for (text, wanted) in &REFUSED {
-        is_refused(&rt, rt.alloc(), text, *wanted);
+        is_refused(rt.alloc(), text, *wanted)?;
     }
+    Ok(())
 }
 
 /// A text of 1,048,576 octets is sent where it is a capture, and one of an octet more is too long.
@@ -355,66 +356,45 @@ const COMMANDS: [(PlanFault, &str, u8); 12] = [
     (PlanFault::NoMemory, "no memory", 3),
 ];
 
-/// Whether a fault has this line and status; where it doesn't, memory ran out.
-fn is_said<A: Allocator + Copy>(
-    rt: &impl Abort,
-    alloc: A,
-    fault: &Fault,
-    line: &str,
-    status: u8,
-) -> bool {
+/// How the line and the status of a fault are told.
+fn saying<A: Allocator + Copy>(alloc: A, fault: &Fault, line: &str, status: u8) -> Ending {
     match fault_line(alloc, fault) {
-        Ok((said, ended)) => {
-            must(rt, said.as_str() == line, line, u64::from(status));
-            must(rt, ended == status, line, u64::from(status));
-            true
-        }
-        Err(NoMemory) => false,
+        Ok((said, ended)) => Ending::of(said.as_str() == line && ended == status, false),
+        Err(NoMemory) => Ending::NoMemory,
     }
 }
 
 /// Tests the line and the status of a fault, with each growth refused in turn.
-fn says<A: Allocator + Copy>(rt: &impl Abort, alloc: A, fault: &Fault, line: &str, status: u8) {
-    must(rt, is_said(rt, alloc, fault, line, status), line, 0);
-    for n in 1..1_000 {
-        let gate = RefusesOne::new(alloc, n);
-        let is_said = is_said(rt, &gate, fault, line, status);
-        must(rt, is_said || gate.refused(), line, n);
-        if !gate.refused() {
-            return;
-        }
-    }
-    assert!(rt; false, "some growth was always refused");
+fn says<A: Allocator + Copy>(alloc: A, fault: &Fault, line: &str, status: u8) -> Result<(), Fail> {
+    let growths = refuse_each(alloc, |gate| saying(gate, fault, line, status))?;
+    must(growths > 0, line, u64::from(status))
 }
 
-fn text_says<A: Allocator + Copy>(rt: &impl Abort, alloc: A, fault: TextFault, line: &str) {
-    says(rt, alloc, &Fault::Text(fault), line, 2);
+fn text_says<A: Allocator + Copy>(alloc: A, fault: TextFault, line: &str) -> Result<(), Fail> {
+    says(alloc, &Fault::Text(fault), line, 2)
 }
 
 fn run_says<A: Allocator + Copy>(
-    rt: &impl Abort,
     alloc: A,
     fault: RunFault,
     line: &str,
     status: u8,
-) {
-    says(rt, alloc, &Fault::Run(fault), line, status);
+) -> Result<(), Fail> {
+    says(alloc, &Fault::Run(fault), line, status)
 }
 
 fn check_says<A: Allocator + Copy>(
-    rt: &impl Abort,
     alloc: A,
     fault: CheckFault,
     line: &str,
     status: u8,
-) {
-    says(rt, alloc, &Fault::Check(fault), line, status);
+) -> Result<(), Fail> {
+    says(alloc, &Fault::Check(fault), line, status)
 }
 
-fn file_says(rt: &impl Abort, alloc: Global) -> Result<(), AllocError> {
+fn file_says(alloc: Global) -> Result<(), Fail> {
     let fault = Fault::File(String::from_str(alloc, "a/b.pcap")?);
-    says(rt, alloc, &fault, "file a/b.pcap", 3);
-    Ok(())
+    says(alloc, &fault, "file a/b.pcap", 3)
 }
 
 const NEVER_FITS: CheckFault = CheckFault::MaxSduNeverFits {
@@ -426,46 +406,44 @@ const NEVER_FITS: CheckFault = CheckFault::MaxSduNeverFits {
 #[test]
 fn a_fault_has_a_line_and_a_status(rt: HostRuntime) -> Result<(), Fail> {
     let alloc = rt.alloc();
-    text_says(&rt, alloc, TextFault::NotHex, "text refused: NotHex");
-    text_says(&rt, alloc, TextFault::TooLong, "text refused: TooLong");
-    text_says(
-        &rt,
-        alloc,
-        TextFault::Run(CUT),
-        "capture 1 refused: HeaderCut",
-    );
+    text_says(alloc, TextFault::NotHex, "text refused: NotHex")?;
+    text_says(alloc, TextFault::TooLong, "text refused: TooLong")?;
+    text_says(alloc, TextFault::Run(CUT), "capture 1 refused: HeaderCut")?;
     let not_written = RunFault::Write { port: 3 };
-    run_says(&rt, alloc, not_written, "capture 3 not written", 3);
-    run_says(&rt, alloc, RunFault::NoMemory, "no memory", 3);
+    run_says(alloc, not_written, "capture 3 not written", 3)?;
+    run_says(alloc, RunFault::NoMemory, "no memory", 3)?;
     let line = "plan refused: MaxSduNeverFits filter 4294967295 port 16 class 0";
-    check_says(&rt, alloc, NEVER_FITS, line, 1);
-    check_says(&rt, alloc, CheckFault::NoMemory, "no memory", 3);
-    says(&rt, alloc, &Fault::Words, "command line refused", 4);
-    file_says(&rt, alloc)?;
+    check_says(alloc, NEVER_FITS, line, 1)?;
+    check_says(alloc, CheckFault::NoMemory, "no memory", 3)?;
+    says(alloc, &Fault::Words, "command line refused", 4)?;
+    file_says(alloc)?;
     Ok(())
 }
 
 #[test]
-fn a_fault_of_a_capture_has_a_line_and_a_status(rt: HostRuntime) {
+fn a_fault_of_a_capture_has_a_line_and_a_status(rt: HostRuntime) -> Result<(), Fail> {
     for (port, fault, line, status) in &CAPTURES {
         let fault = RunFault::Capture {
             port: *port,
             fault: *fault,
         };
-        run_says(&rt, rt.alloc(), fault, line, *status);
+        run_says(rt.alloc(), fault, line, *status)?;
     }
+    Ok(())
 }
 
 #[test]
-fn a_fault_of_a_plan_has_a_line_and_a_status(rt: HostRuntime) {
+fn a_fault_of_a_plan_has_a_line_and_a_status(rt: HostRuntime) -> Result<(), Fail> {
     for (fault, line, status) in &PLANS {
-        says(&rt, rt.alloc(), &Fault::Plan(*fault), line, *status);
+        says(rt.alloc(), &Fault::Plan(*fault), line, *status)?;
     }
+    Ok(())
 }
 
 #[test]
-fn a_fault_of_commands_has_a_line_and_a_status(rt: HostRuntime) {
+fn a_fault_of_commands_has_a_line_and_a_status(rt: HostRuntime) -> Result<(), Fail> {
     for (fault, line, status) in &COMMANDS {
-        says(&rt, rt.alloc(), &Fault::Commands(*fault), line, *status);
+        says(rt.alloc(), &Fault::Commands(*fault), line, *status)?;
     }
+    Ok(())
 }

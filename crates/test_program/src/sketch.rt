@@ -1,9 +1,8 @@
 //! Words that ask for a picture, of a plan or of a run.
-use crate::must::must;
 use bridge_program::Fault;
 use bridge_words::{job_of, sketch_of};
+use fixture_text::must::must;
 use std::alloc::{AllocError, Global};
-use std::process::Abort;
 use std::test::Fail;
 
 /// Words, and the picture that they ask for beside their job, written out.
@@ -116,7 +115,7 @@ fn is_refused(alloc: Global, line: &[&str]) -> Result<bool, Fail> {
 fn words_ask_for_a_picture_of_a_run(rt: HostRuntime) -> Result<(), Fail> {
     let mut number = 0;
     for row in ASKED {
-        must(&rt, asks(rt.alloc(), row)?, "row", number);
+        must(asks(rt.alloc(), row)?, "row", number)?;
         number = number.saturating_add(1);
     }
     Ok(())
@@ -126,7 +125,7 @@ fn words_ask_for_a_picture_of_a_run(rt: HostRuntime) -> Result<(), Fail> {
 fn other_words_are_refused(rt: HostRuntime) -> Result<(), Fail> {
     let mut number = 0;
     for line in REFUSED {
-        must(&rt, is_refused(rt.alloc(), line)?, "row", number);
+        must(is_refused(rt.alloc(), line)?, "row", number)?;
         number = number.saturating_add(1);
     }
     Ok(())
