@@ -68,13 +68,13 @@ kept (Some x) = refl
 
 -- the first look at a text was refused, and nothing was written
 pub refuses_first : (speed : Speed) (room : ℕ) (text : List ℕ) (rest old : Option (List ℕ)) (fault : CaptureFault) → fault ≢ faults.Write → FailsFirst fault rest text → Stops speed room text rest old old (fault_at 1 fault)
-refuses_first speed room text rest old faults.NoMemory own looks = inl (record { looks = inl looks; untouched = kept old })
+refuses_first speed room text rest old faults.NoMemory own looks = inl (record { looks = inr (inl looks); untouched = kept old })
 refuses_first speed room text rest old fault own looks = ((λ e. absurd (cc), own), inl (record { looks = looks; untouched = kept old }))
 
 -- memory was refused right behind the first look
 pub wants_behind : {A : Type 0} (text : List ℕ) (rest old : Option (List ℕ)) (ahead : Option (Packet A)) → Finds text [] ahead → WantsMemory text rest old old
-wants_behind text rest old None finds = record { looks = inr (inl finds); untouched = kept old }
-wants_behind text rest old (Some p) finds = record { looks = inr (inr (view p, finds)); untouched = kept old }
+wants_behind text rest old None finds = record { looks = inr (inr (inl finds)); untouched = kept old }
+wants_behind text rest old (Some p) finds = record { looks = inr (inr (inr (view p, finds))); untouched = kept old }
 
 -- what comes behind the frames of a text, at this moment or later
 pub finds_from : {A : Type 0} (until : ℕ) (text : List ℕ) (frames : List Captured) (ahead : Option (Packet A)) → Finds text frames ahead → ((p : Packet A) → ahead ≡ Some p → until ≤ p.time) → LooksFrom until text frames

@@ -1,5 +1,5 @@
 -- One capture through one queue: what a run over a text is.
-use Rattle.std.specs.Prelude.{◌≡◌, ◌≢◌, ◌⊎◌, ℕ, Bool, true, ◌+◌, ◌<◌, ◌≤◌, All, not, is_ok, List, [], ◌∷◌, ◌++◌, length, map, filter, reverse, count_by, Option, ◌↔◌}
+use Rattle.std.specs.Prelude.{◌≡◌, ◌≢◌, ◌⊎◌, ℕ, Bool, true, ◌+◌, ◌<◌, ◌≤◌, All, not, is_ok, List, [], ◌∷◌, ◌++◌, length, map, filter, reverse, count_by, Option, Some, ◌↔◌}
 use Rattle.std.specs.Io.KnownBytes.{Appends, Keeps}
 use Rattle.bridge_frame.specs.declared.Speed.{Speed}
 use Rattle.bridge_frame.specs.Frames.{head}
@@ -141,9 +141,9 @@ pub record StopsWriting (speed : Speed) (room : ℕ) (text : List ℕ) (old new 
 abbrev pub IsOfCapture : CaptureFault → Type 0
 IsOfCapture fault = (fault ≢ faults.NoMemory) × (fault ≢ faults.Write)
 
--- memory was refused in the first look at the text, or right behind it, and nothing was written
+-- memory was refused before the first look at the text, in it, or right behind it, and nothing was written
 pub record WantsMemory (text : List ℕ) (rest old new : Option (List ℕ)) : Type 0 where
-  pub looks : FailsFirst faults.NoMemory rest text ⊎ BeginsWell text
+  pub looks : (rest ≡ Some text) ⊎ FailsFirst faults.NoMemory rest text ⊎ BeginsWell text
   pub untouched : Keeps old new
 
 -- why a run over a text stopped, of which the source has this left
