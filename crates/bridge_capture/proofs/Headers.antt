@@ -10,16 +10,22 @@ use Rattle.bridge_capture.specs.declared.fault.CaptureFault.{CaptureFault}
 use Rattle.bridge_capture.specs.declared.fault.CaptureFault.TheVariants as faults
 use Rattle.bridge_capture.specs.declared.progress.Progress.TheVariants.{Reading}
 use Rattle.bridge_capture.specs.Grammar.{Records, ReadsAfter, AtFault, form_of_magic, judged_header, header_of}
+use Rattle.bridge_capture.specs.Reading.{IsOfHeader}
 use Rattle.bridge_capture.specs.Standing.{StandsFor, Begins}
+use Rattle.bridge_capture.specs.Taken.{TakesFewer}
 use Rattle.bridge_capture.proofs.Fronts.{octets_front}
 
 -- a text whose header has a fault is a capture of nothing, with that fault
 records_fault : (text : List ℕ) (fault : CaptureFault) → header_of text ≡ Err fault → Records text [] (AtFault fault)
 records_fault text fault e = subst (λ (r : Result Form CaptureFault). ReadsAfter r text [] (AtFault fault)) (sym e) (refl, refl)
 
-pub begun_fault : (text : List ℕ) (left : Option (List ℕ)) (fault : CaptureFault) → header_of text ≡ Err fault → Begins text left (Err fault)
-begun_fault text left faults.Read e = tt
-begun_fault text left fault e = records_fault text fault e
+pub begun_fault : (text : List ℕ) (left : Option (List ℕ)) (fault : CaptureFault) → IsOfHeader fault → header_of text ≡ Err fault → Begins text left (Err fault)
+begun_fault text left faults.Read own e = absurd own
+begun_fault text left fault own e = records_fault text fault e
+
+-- the source failed within the header
+pub begun_short : (old new : Option (List ℕ)) (text : List ℕ) → old ≡ Some text → TakesFewer 24 old new → Begins text new (Err faults.Read)
+begun_short old new text is fewer = subst (λ (o : Option (List ℕ)). TakesFewer 24 o new) is fewer
 
 -- fewer octets than a header has
 header_cut : (old new : Option (List ℕ)) (text w : List ℕ) → old ≡ Some text → Consumes old new w → IsAtEnd new → length w < 24 → header_of text ≡ Err faults.HeaderCut

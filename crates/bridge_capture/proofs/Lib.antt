@@ -3,7 +3,6 @@ pub mod Fronts
 pub mod Headers
 pub mod OneWay
 pub mod Parts
-pub mod Rising
 pub mod Steps
 pub mod Taken
 pub mod Turns

@@ -1,6 +1,6 @@
 -- What a capture stands for after a call.
 use Rattle.std.proofs.Common.{◌≡◌, ℕ, List, [], ◌∷◌, ◌++◌, Option, Some, Result, Ok, refl, sym, ap, ◌∙◌, subst, drop}
-use Rattle.std.specs.Prelude.{IfSome}
+use Rattle.std.specs.Prelude.{IfSome, ◌≢◌}
 use Rattle.bridge_capture.specs.declared.form.Form.{Form}
 use Rattle.bridge_capture.specs.declared.fault.CaptureFault.{CaptureFault}
 use Rattle.bridge_capture.specs.declared.fault.CaptureFault.TheVariants as faults
@@ -9,7 +9,7 @@ use Rattle.bridge_capture.specs.declared.progress.Progress.{Progress}
 use Rattle.bridge_capture.specs.declared.progress.Progress.TheVariants.{Reading}
 use Rattle.bridge_capture.specs.Grammar.{Captured, Place, Front, Nothing, Fault, BeginsWith, Records, AtEnd, AtFault, Ending, EndsWith, ReadsAfter, front_of, after, first_place}
 use Rattle.bridge_capture.specs.Reading.{view, Takes, Fails}
-use Rattle.bridge_capture.specs.Standing.{CaptureState, place_of, Gave, RefusedSo, StandsAt, StandsFor}
+use Rattle.bridge_capture.specs.Standing.{CaptureState, place_of, Gave, RefusedSo, StandsAt, StandsFor, StopsIn, TakesFor}
 use Rattle.bridge_capture.proofs.Fronts.{if_some}
 use Rattle.bridge_capture.proofs.Steps.{begins_more, begins_ends}
 
@@ -60,13 +60,20 @@ of_text : (capture : CaptureState) (old : Option (List ℕ)) (text : List ℕ) (
     → IfSome old (λ bytes. front_of capture.form (place_of capture) bytes ≡ Fault fault) → StandsFor capture old text given → Records text given (AtFault fault)
 of_text capture old text given fault e at h = ends_so capture old text given (AtFault fault) e (if_some {P = λ bytes. front_of capture.form (place_of capture) bytes ≡ Fault fault} old (λ bytes q. fault_of _ fault q) at) h
 
+-- no more was taken of the next record
+stops_in : (capture : CaptureState) (old left : Option (List ℕ)) (text : List ℕ) (given : List Captured) (fault : CaptureFault) → capture.progress ≡ Reading
+    → TakesFor capture old left fault → StandsFor capture old text given → StopsIn fault left text given
+stops_in capture old left text given fault e took h =
+    let s = reads_on capture old text given e h in
+    record { form = capture.form; next = place_of capture; rest = s.0; header = s.2; begins = s.3; taken = subst (λ (o : Option (List ℕ)). TakesFor capture o left fault) s.1 took }
+
 -- it was refused
-pub was_refused : (capture : CaptureState) (old : Option (List ℕ)) (text : List ℕ) (given : List Captured) (fault : CaptureFault) → capture.progress ≡ Reading
-    → IfSome old (λ bytes. Fails fault (front_of capture.form (place_of capture) bytes)) → StandsFor capture old text given → RefusedSo fault text given
-was_refused capture old text given faults.Read e at h = so_far capture old text given e h
-was_refused capture old text given faults.NoMemory e at h = so_far capture old text given e h
-was_refused capture old text given faults.Write e at h = so_far capture old text given e h
-was_refused capture old text given fault e at h = of_text capture old text given fault e at h
+pub was_refused : (capture : CaptureState) (old left : Option (List ℕ)) (text : List ℕ) (given : List Captured) (fault : CaptureFault) → capture.progress ≡ Reading → fault ≢ faults.Write
+    → IfSome old (λ bytes. Fails fault (front_of capture.form (place_of capture) bytes)) → TakesFor capture old left fault → StandsFor capture old text given → RefusedSo fault left text given
+was_refused capture old left text given faults.Read e own at took h = stops_in capture old left text given faults.Read e took h
+was_refused capture old left text given faults.NoMemory e own at took h = stops_in capture old left text given faults.NoMemory e took h
+was_refused capture old left text given faults.Write e own at took h = absurd (own refl)
+was_refused capture old left text given fault e own at took h = of_text capture old text given fault e at h
 
 -- it has given these items, whatever comes
 pub has_given : (capture : CaptureState) (old : Option (List ℕ)) (text : List ℕ) (given : List Captured) → StandsFor capture old text given → capture.progress ≡ Reading → Gave text given

@@ -38,10 +38,10 @@ impl Model for Capture {
 }
 
 impl Capture {
-    ghost use Rattle.std.specs.Prelude.{◌≡◌, ◌≢◌, ◌≤◌, ◌<◌, ◌+◌, ◌*◌, ◌^◌, ◌++◌, ℕ, List, [], length, Result, Ok, Err, Some, None, true, IfOk, IfErr, OnOk};
-    ghost use Rattle.bridge_capture.specs.Grammar.{Captured, Records, AtEnd};
+    ghost use Rattle.std.specs.Prelude.{◌≡◌, ◌≢◌, ◌≤◌, ◌<◌, ◌+◌, ℕ, List, length, Ok, Err, Some, None, true, IfOk, IfErr};
+    ghost use Rattle.bridge_capture.specs.Grammar.{Captured};
     ghost use Rattle.bridge_capture.specs.Reading.{IfPacket, packet_in};
-    ghost use Rattle.bridge_capture.specs.Standing.{StandsFor, Begins, Answers, RefusedSo, IsReading, HasEnded, HasRefused, records_left, views, AreInOrder, TakesFor};
+    ghost use Rattle.bridge_capture.specs.Standing.{StandsFor, Begins, Answers, IsReading, HasEnded, HasRefused, records_left, TakesFor};
     ghost use Rattle.bridge_capture.specs.Taken.{TakesOfHeader};
 
     /// Reads the header of a capture. Takes no memory.
@@ -179,42 +179,5 @@ impl Capture {
                 }
             }
         }
-    }
-
-    /// All the packets that are still to come, to the end of the capture. Where a growth for the
-    /// list is refused, packets are lost, and the capture is refused with `NoMemory` from then on.
-    pub fn rest<R: ByteSource, A: Allocator + Copy>(
-        &mut self,
-        alloc: A,
-        source: &mut R,
-    ) -> Result<Vec<Packet<A>, A>, CaptureFault>
-        ensures whole { (text : List ℕ) (given : List Captured) → StandsFor self.old (R.remaining source.old) text given →
-            IfOk result (λ packets. Records text (given ++ views packets.items) AtEnd) }
-        ensures refused { (text : List ℕ) (given : List Captured) → StandsFor self.old (R.remaining source.old) text given →
-            IfErr result (λ fault. (more : List Captured) × RefusedSo fault text (given ++ more)) }
-
-        // What holds of the packets, whatever the source tells.
-        ensures in_order { IfOk result (λ packets. AreInOrder self.old.latest (views packets.items)) }
-        ensures few { IfOk result (λ packets. length packets.items ≤ records_left self.old) }
-
-        // Its end and its refusal are for good.
-        ensures ends { OnOk result (HasEnded self.new) }
-        ensures refuses { IfErr result (λ fault. HasRefused self.new fault) }
-        ensures again { (fault : _) → HasRefused self.old fault → result ≡ Err fault }
-
-        // Only a source that has failed is answered so, and each such source is.
-        ensures read { result ≡ Err CaptureFault.Read → IsReading self.old → R.has_failed source.new ≡ true }
-        ensures broken { R.has_failed source.old ≡ true → IsReading self.old → result ≡ Err CaptureFault.Read }
-        ensures sure { R.never_fails source.old ≡ true → IsReading self.old → result ≢ Err CaptureFault.Read }
-        ensures no_write { result ≢ Err CaptureFault.Write }
-    {
-        let mut packets = Vec::new(alloc);
-        while let Some(packet) = self.next(alloc, source)? {
-            if packets.push(packet).is_err() {
-                self.progress = Progress::Refused(CaptureFault::NoMemory);
-                return Err(CaptureFault::NoMemory);
-            }
-        }
-        Ok(packets)
     }
 }

@@ -39,6 +39,10 @@ impl<W: Write> ByteSink for FromWrite<W> {
 
     ghost has_failed = { λ s. s.is_broken };
 
+    ghost never_fails = { λ _. false };
+
+    ghost ran_out = { λ _. false };
+
     fn write(&mut self, octets: &[u8]) -> Result<usize, Broken> {
         if self.is_broken {
             return Err(Broken);

@@ -18,12 +18,12 @@ pub struct SliceSource<'a> {
 }
 
 impl<'a> Model for SliceSource<'a> {
-    ghost use Rattle.std.specs.Prelude.{◌<◌};
+    ghost use Rattle.std.specs.Prelude.{◌<◌, false};
     ghost use Rattle.bridge_capture.specs.Memory.{MemoryDevice};
 
     ghost Value = { MemoryDevice };
 
-    ghost view = { λ s. record { octets = s.rest.now; allowance = s.allowance; step = s.step; is_broken = s.is_broken } };
+    ghost view = { λ s. record { octets = s.rest.now; allowance = s.allowance; step = s.step; is_broken = s.is_broken; ran_out = false } };
 
     ghost invariant = { λ s. 0 < s.step };
 }
@@ -61,7 +61,7 @@ impl<'a> SliceSource<'a> {
 
     fn with(octets: &'a [u8], allowance: Option<usize>, step: usize) -> SliceSource<'a>
         requires { 0 < step }
-        ensures { result ≡ record { octets = octets.entry.now; allowance = allowance; step = step; is_broken = false } }
+        ensures { result ≡ record { octets = octets.entry.now; allowance = allowance; step = step; is_broken = false; ran_out = false } }
     {
         SliceSource {
             rest: octets,

@@ -61,6 +61,8 @@ pub fn write_all<W: ByteSink>(sink: &mut W, octets: &[u8]) -> Result<(), Broken>
     ensures all { OnOk result (Appends (W.contents sink.old) (W.contents sink.new) octets.now) }
     ensures front { OnErr result (AppendsFront (W.contents sink.old) (W.contents sink.new) octets.now) }
     ensures fails { OnErr result (W.has_failed sink.new ≡ true) }
+    ensures sure { W.never_fails sink.old ≡ true → OnErr result (W.ran_out sink.new ≡ true) }
+    ensures lasts { W.never_fails sink.old ≡ true → W.never_fails sink.new ≡ true }
     ensures stays { W.has_failed sink.old ≡ true → 0 < length octets.now → IsErr result }
 {
     if octets.is_empty() {
@@ -85,6 +87,8 @@ pub fn write_front<W: ByteSink>(sink: &mut W, octets: &[u8]) -> Result<(), usize
     ensures part { IfErr result (λ n. Appends (W.contents sink.old) (W.contents sink.new) (take n octets.now)) }
     ensures fails { OnErr result (W.has_failed sink.new ≡ true) }
     ensures works { W.has_failed sink.old ≡ false → OnOk result (W.has_failed sink.new ≡ false) }
+    ensures sure { W.never_fails sink.old ≡ true → OnErr result (W.ran_out sink.new ≡ true) }
+    ensures lasts { W.never_fails sink.old ≡ true → W.never_fails sink.new ≡ true }
     ensures stays { W.has_failed sink.old ≡ true → 0 < length octets.now → IsErr result }
 {
     let mut at = 0;

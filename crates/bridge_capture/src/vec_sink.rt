@@ -1,6 +1,7 @@
 //! A sink into memory, which tells what it holds and can fail at a stated place.
-ghost use Rattle.std.specs.Prelude.{◌≡◌, ◌≤◌, ◌-◌, ◌<◌, length, Some, true, false, IfOk, OnOk, OnErr, IsErr, option_map};
+ghost use Rattle.std.specs.Prelude.{◌≡◌, ◌≤◌, ◌-◌, ◌<◌, ◌⊎◌, length, Some, true, false, IfOk, OnOk, OnErr, IsErr, option_map};
 ghost use Rattle.std.specs.Io.KnownBytes.{WriteAppends};
+ghost use Rattle.bridge_capture.specs.Memory.{is_unbounded};
 
 use crate::sink::ByteSink;
 use crate::source::Broken;
@@ -16,6 +17,8 @@ pub struct VecSink<A: Allocator> {
     /// The most that it takes a call.
     step: usize,
     is_broken: bool,
+    /// Whether its growth was refused.
+    ran_out: bool,
 }
 
 impl<A: Allocator> Model for VecSink<A> {
@@ -24,7 +27,7 @@ impl<A: Allocator> Model for VecSink<A> {
 
     ghost Value = { MemoryDevice };
 
-    ghost view = { λ s. record { octets = s.octets.items; allowance = s.allowance; step = s.step; is_broken = s.is_broken } };
+    ghost view = { λ s. record { octets = s.octets.items; allowance = s.allowance; step = s.step; is_broken = s.is_broken; ran_out = s.ran_out } };
 
     ghost invariant = { λ s. 0 < s.step };
 }
@@ -37,6 +40,7 @@ impl<A: Allocator> VecSink<A> {
         ensures octets { result.octets ≡ [] }
         ensures never { result.allowance ≡ None }
         ensures sound { result.is_broken ≡ false }
+        ensures room { result.ran_out ≡ false }
     {
         VecSink::with(alloc, None, usize::MAX)
     }
@@ -47,6 +51,7 @@ impl<A: Allocator> VecSink<A> {
         ensures octets { result.octets ≡ [] }
         ensures after { result.allowance ≡ Some count }
         ensures sound { result.is_broken ≡ false }
+        ensures room { result.ran_out ≡ false }
     {
         VecSink::with(alloc, Some(count), usize::MAX)
     }
@@ -57,19 +62,21 @@ impl<A: Allocator> VecSink<A> {
         ensures never { result.allowance ≡ None }
         ensures single { result.step ≡ 1 }
         ensures sound { result.is_broken ≡ false }
+        ensures room { result.ran_out ≡ false }
     {
         VecSink::with(alloc, None, 1)
     }
 
     fn with(alloc: A, allowance: Option<usize>, step: usize) -> VecSink<A>
         requires { 0 < step }
-        ensures { result ≡ record { octets = []; allowance = allowance; step = step; is_broken = false } }
+        ensures { result ≡ record { octets = []; allowance = allowance; step = step; is_broken = false; ran_out = false } }
     {
         VecSink {
             octets: Vec::new(alloc),
             allowance,
             step,
             is_broken: false,
+            ran_out: false,
         }
     }
 
@@ -79,6 +86,13 @@ impl<A: Allocator> VecSink<A> {
     {
         &self.octets
     }
+
+    /// Whether its growth was refused.
+    pub fn ran_out(&self) -> bool
+        ensures { result ≡ self.now.ran_out }
+    {
+        self.ran_out
+    }
 }
 
 impl<A: Allocator> ByteSink for VecSink<A> {
@@ -86,15 +100,23 @@ impl<A: Allocator> ByteSink for VecSink<A> {
 
     ghost has_failed = { λ s. s.is_broken };
 
+    ghost never_fails = { λ s. is_unbounded s };
+
+    ghost ran_out = { λ s. s.ran_out };
+
     fn write(&mut self, octets: &[u8]) -> Result<usize, Broken>
         ensures count { IfOk result (λ n. n ≤ length octets.now) }
         ensures some { IfOk result (λ n. 0 < length octets.now → 0 < n) }
         ensures bytes { WriteAppends (Some self.old.octets) (Some self.new.octets) result octets.now }
         ensures fails { OnErr result (self.new.is_broken ≡ true) }
         ensures works { OnOk result (self.new.is_broken ≡ false) }
+        ensures sure { is_unbounded self.old ≡ true → OnErr result (self.new.ran_out ≡ true) }
+        ensures lasts { is_unbounded self.old ≡ true → is_unbounded self.new ≡ true }
         ensures stays { self.old.is_broken ≡ true → IsErr result }
 
-        // It counts what it takes.
+        // It fails only where it had failed, was to fail, or ran out of memory, and counts what it takes.
+        ensures fault { OnErr result ((self.old.is_broken ≡ true) ⊎ (self.old.allowance ≡ Some 0) ⊎ (self.new.ran_out ≡ true)) }
+        ensures room { OnOk result (self.new.ran_out ≡ self.old.ran_out) }
         ensures counted { IfOk result (λ n. self.new.allowance ≡ option_map (λ left. left - n) self.old.allowance) }
         ensures step { IfOk result (λ n. n ≤ self.old.step) }
         ensures kept { self.new.step ≡ self.old.step }
@@ -120,6 +142,7 @@ impl<A: Allocator> ByteSink for VecSink<A> {
             }
             Err(_) => {
                 self.is_broken = true;
+                self.ran_out = true;
                 Err(Broken)
             }
         }

@@ -109,6 +109,10 @@ impl<W: Write + Drop, A: Allocator> ByteSink for WriteBehind<W, A> {
 
     ghost has_failed = { λ s. s.sink.is_broken };
 
+    ghost never_fails = { λ _. false };
+
+    ghost ran_out = { λ _. false };
+
     #[inline(always)]
     fn write(&mut self, octets: &[u8]) -> Result<usize, Broken> {
         if !self.held.takes(octets.len()) || self.sink.failed() {

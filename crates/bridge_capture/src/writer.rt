@@ -24,6 +24,8 @@ impl Writer {
         ensures err { OnErr result (AppendsFront (W.contents sink.old) (W.contents sink.new) written_header) }
         ensures only { OnErr result (result ≡ Err CaptureFault.Write) }
         ensures fails { OnErr result (W.has_failed sink.new ≡ true) }
+        ensures sure { W.never_fails sink.old ≡ true → OnErr result (W.ran_out sink.new ≡ true) }
+        ensures lasts { W.never_fails sink.old ≡ true → W.never_fails sink.new ≡ true }
         ensures again { W.has_failed sink.old ≡ true → result ≡ Err CaptureFault.Write }
     {
         let header = [
@@ -54,6 +56,8 @@ impl Writer {
         ensures err { OnErr result (AppendsFront (W.contents sink.old) (W.contents sink.new) (written_record done len octets.now)) }
         ensures only { OnErr result (result ≡ Err CaptureFault.Write) }
         ensures fails { OnErr result (W.has_failed sink.new ≡ true) }
+        ensures sure { W.never_fails sink.old ≡ true → OnErr result (W.ran_out sink.new ≡ true) }
+        ensures lasts { W.never_fails sink.old ≡ true → W.never_fails sink.new ≡ true }
         ensures again { W.has_failed sink.old ≡ true → result ≡ Err CaptureFault.Write }
     {
         let captured = octets.len() as u32;
@@ -73,6 +77,8 @@ fn put_parts<W: ByteSink>(sink: &mut W, words: &[u8; 16], octets: &[u8]) -> Resu
     ensures err { OnErr result (AppendsFront (W.contents sink.old) (W.contents sink.new) (words.now ++ octets.now)) }
     ensures only { OnErr result (result ≡ Err CaptureFault.Write) }
     ensures fails { OnErr result (W.has_failed sink.new ≡ true) }
+    ensures sure { W.never_fails sink.old ≡ true → OnErr result (W.ran_out sink.new ≡ true) }
+    ensures lasts { W.never_fails sink.old ≡ true → W.never_fails sink.new ≡ true }
     ensures again { W.has_failed sink.old ≡ true → result ≡ Err CaptureFault.Write }
 {
     match write_all(sink, words) {

@@ -14,7 +14,7 @@ use Rattle.bridge_capture.specs.declared.record.TheConstants.{MAX_RECORDS}
 use Rattle.bridge_capture.specs.Reading.{view}
 use Rattle.bridge_lanes.specs.declared.fault.RunFault.TheVariants as run
 use Rattle.bridge_lanes.specs.Devices.{HasFailed, NeverFail}
-use Rattle.bridge_lanes.specs.Lanes.{AreAheadOf, AreLanes, AreTexts, BeginsWell, FailsFirst, FailsLook, fault_at, Finds, IsAhead, IsLane, LooksFail, numbers, room, room_of}
+use Rattle.bridge_lanes.specs.Lanes.{AreAheadOf, AreLanes, AreRests, AreTexts, AreUntaken, BeginsWell, FailsFirst, FailsLook, fault_at, Finds, IsAhead, IsLane, LooksFail, numbers, room, room_of}
 use Rattle.bridge_lanes.specs.declared.lane.Lane.{Lane}
 
 -- what is known once the captures of the first places were looked at
@@ -129,14 +129,21 @@ begins_well : {A : Type 0} (text : List ℕ) (ahead : Option (Packet A)) → Fin
 begins_well text None f = inl f
 begins_well text (Some p) f = inr (view p, f)
 
-fails_at : (texts : ℕ → List ℕ) (ports : List ℕ) (port : ℕ) (fault : CaptureFault) → LooksFail texts ports port fault → FailsLook texts ports (fault_at port fault)
-fails_at texts ports port faults.NoMemory h = tt
-fails_at texts ports port fault h = h
+fails_at : (texts : ℕ → List ℕ) (rests : ℕ → Option (List ℕ)) (ports : List ℕ) (port : ℕ) (fault : CaptureFault) → LooksFail texts rests ports port fault → FailsLook texts rests ports (fault_at port fault)
+fails_at texts rests ports port faults.NoMemory h = inr (port, h)
+fails_at texts rests ports port fault h = h
+
+-- nothing was read yet
+pub untaken : {R : Type 0} (remaining : R → Option (List ℕ)) (ports : List ℕ) (texts : ℕ → List ℕ) (rests : ℕ → Option (List ℕ)) (sources : List R) → length sources ≡ length ports → AreTexts remaining ports texts sources → AreRests remaining ports rests sources → AreUntaken texts rests ports
+untaken remaining ports texts rests sources size are left i q at =
+    let w = slice_get_within ports i q at in
+    let (r, has) = slice_get-some sources i (omega (arith, w, size)) in
+    sym (left i q r at has) ∙ are i q r at has
 
 -- a fault at the next place, where the captures before it have none
-pub fails_next : {A R : Type 0} (remaining : R → Option (List ℕ)) (never_fails : R → Bool) (ports : List ℕ) (olds news : List R) (lanes : List (Lane A)) (place number : ℕ) (d : R) (fault : CaptureFault) (texts : ℕ → List ℕ) → length lanes ≡ place → place < length news → slice_get ports place ≡ Some number → HasLooked remaining never_fails ports olds news lanes → AreTexts remaining ports texts olds → ((text : List ℕ) → remaining (get_or news place d) ≡ Some text → FailsFirst fault text) → FailsLook texts ports (fault_at number fault)
-fails_next {A} {R} remaining never_fails ports olds news lanes place number d fault texts size l there h are fails =
-    fails_at texts ports number fault (record {
+pub fails_next : {A R : Type 0} (remaining : R → Option (List ℕ)) (never_fails : R → Bool) (ports : List ℕ) (olds news : List R) (lanes : List (Lane A)) (place number : ℕ) (d new : R) (fault : CaptureFault) (texts : ℕ → List ℕ) (rests : ℕ → Option (List ℕ)) → length lanes ≡ place → place < length news → slice_get ports place ≡ Some number → HasLooked remaining never_fails ports olds news lanes → AreTexts remaining ports texts olds → AreRests remaining ports rests (set news place new) → ((text : List ℕ) → remaining (get_or news place d) ≡ Some text → FailsFirst fault (remaining new) text) → FailsLook texts rests ports (fault_at number fault)
+fails_next {A} {R} remaining never_fails ports olds news lanes place number d new fault texts rests size l there h are left fails =
+    fails_at texts rests ports number fault (record {
       place = place;
       there = there;
       before = λ i q below at.
@@ -144,7 +151,8 @@ fails_next {A} {R} remaining never_fails ports olds news lanes place number d fa
           let (r, has) = slice_get-some news i (omega (arith, below, l)) in
           let is : lane.number ≡ q = same_Some _ _ (sym (h.numbered i lane in_place) ∙ at) in
           subst (λ (n : ℕ). BeginsWell (texts n)) is (begins_well (texts lane.number) lane.ahead (h.begins texts are i lane r in_place has).finds);
-      fault = fails (texts number) (text_next remaining never_fails ports olds news lanes place number d texts size l there h are);
+      fault = subst (λ (o : Option (List ℕ)). FailsFirst fault o (texts number)) (left place number new there (slice_get-set_same news place new l))
+          (fails (texts number) (text_next remaining never_fails ports olds news lanes place number d texts size l there h are));
     })
 
 -- a fault of a capture is that of its first look, and no want of memory

@@ -9,6 +9,7 @@ use Rattle.bridge_capture.specs.declared.packet.Packet.{Packet}
 use Rattle.bridge_capture.specs.Grammar.{Captured, Records, AtEnd, AtFault}
 use Rattle.bridge_capture.specs.Reading.{view}
 use Rattle.bridge_capture.specs.Standing.{StandsFor, RefusedSo, Gave, IsReading, records_left}
+use Rattle.bridge_capture.specs.Taken.{TakesFewer}
 use Rattle.bridge_lanes.specs.declared.lane.Lane.{Lane}
 
 -- what holds of the frame ahead whatever its source tells
@@ -51,18 +52,18 @@ pub record IsAhead {A : Type 0} (lane : Lane A) (remaining : Option (List ℕ)) 
 -- what a look behind these frames of a text finds: what comes there, or its fault
 abbrev pub Looks : {A : Type 0} → Lane A → Option (List ℕ) → List ℕ → List Captured → Result (Unit {0}) CaptureFault → Type 0
 Looks lane remaining text taken (Ok u) = IsAhead lane remaining text taken
-Looks lane remaining text taken (Err fault) = RefusedSo fault text taken
+Looks lane remaining text taken (Err fault) = RefusedSo fault remaining text taken
 
--- the first fault of a text, unless the device or memory refused
-abbrev pub FailsFirst : CaptureFault → List ℕ → Type 0
-FailsFirst faults.Read text = Unit {0}
-FailsFirst faults.NoMemory text = Unit {0}
-FailsFirst fault text = Records text [] (AtFault fault)
+-- the first fault of a text, or its source failed in its header or its first record, or memory for that record was refused
+abbrev pub FailsFirst : CaptureFault → Option (List ℕ) → List ℕ → Type 0
+FailsFirst faults.Read remaining text = TakesFewer 24 (Some text) remaining ⊎ RefusedSo faults.Read remaining text []
+FailsFirst faults.NoMemory remaining text = RefusedSo faults.NoMemory remaining text []
+FailsFirst fault remaining text = Records text [] (AtFault fault)
 
 -- what a first look finds
 abbrev pub Begins : {A : Type 0} → Option (List ℕ) → List ℕ → Result (Lane A) CaptureFault → Type 0
 Begins remaining text (Ok lane) = IsAhead lane remaining text []
-Begins remaining text (Err fault) = FailsFirst fault text
+Begins remaining text (Err fault) = FailsFirst fault remaining text
 
 -- the place with the least moment ahead, and of several the least place
 pub record IsFirstAt {A : Type 0} (lanes : List (Lane A)) (place : ℕ) : Type 0 where
@@ -81,6 +82,14 @@ IsFirst lanes (Some place) = IsFirstAt lanes place
 abbrev pub AreTexts : {R : Type 0} → (R → Option (List ℕ)) → List ℕ → (ℕ → List ℕ) → List R → Type 0
 AreTexts {R} remaining ports texts sources = (i q : ℕ) (r : R) → slice_get ports i ≡ Some q → slice_get sources i ≡ Some r → remaining r ≡ Some (texts q)
 
+-- each source has this left, by its port
+abbrev pub AreRests : {R : Type 0} → (R → Option (List ℕ)) → List ℕ → (ℕ → Option (List ℕ)) → List R → Type 0
+AreRests {R} remaining ports rests sources = (i q : ℕ) (r : R) → slice_get ports i ≡ Some q → slice_get sources i ≡ Some r → remaining r ≡ rests q
+
+-- no octet of any text was taken
+abbrev pub AreUntaken : (ℕ → List ℕ) → (ℕ → Option (List ℕ)) → List ℕ → Type 0
+AreUntaken texts rests ports = (i q : ℕ) → slice_get ports i ≡ Some q → rests q ≡ Some (texts q)
+
 -- of each lane these frames of its text were taken, and what comes behind them is ahead
 abbrev pub AreAheadOf : {A R : Type 0} → (R → Option (List ℕ)) → (ℕ → List ℕ) → (ℕ → List Captured) → List (Lane A) → List R → Type 0
 AreAheadOf {A} {R} remaining texts taken lanes sources = (i : ℕ) (lane : Lane A) (r : R) → slice_get lanes i ≡ Some lane → slice_get sources i ≡ Some r → IsAhead lane (remaining r) (texts lane.number) (taken lane.number)
@@ -93,18 +102,18 @@ AreLanes {A} lanes = (i : ℕ) (lane : Lane A) → slice_get lanes i ≡ Some la
 abbrev pub BeginsWell : List ℕ → Type 0
 BeginsWell text = Records text [] AtEnd ⊎ ((captured : Captured) × Gave text (captured ∷ []))
 
--- the capture of a port has this fault before its first frame, and those of the ports before it have none
-pub record LooksFail (texts : ℕ → List ℕ) (ports : List ℕ) (port : ℕ) (why : CaptureFault) : Type 0 where
+-- the first look at the capture of a port failed so, and those at the captures of the ports before it did not
+pub record LooksFail (texts : ℕ → List ℕ) (rests : ℕ → Option (List ℕ)) (ports : List ℕ) (port : ℕ) (why : CaptureFault) : Type 0 where
   pub place : ℕ
   pub there : slice_get ports place ≡ Some port
   pub before : (i q : ℕ) → i < place → slice_get ports i ≡ Some q → BeginsWell (texts q)
-  pub fault : FailsFirst why (texts port)
+  pub fault : FailsFirst why (rests port) (texts port)
 
--- why first looks stop: the first fault of a capture, by the order of the ports, unless a device or memory refused
-abbrev pub FailsLook : (ℕ → List ℕ) → List ℕ → RunFault → Type 0
-FailsLook texts ports (run.Capture port fault) = LooksFail texts ports port fault
-FailsLook texts ports (run.Write port) = ⊥
-FailsLook texts ports run.NoMemory = Unit {0}
+-- why first looks stop: one failed, the first by the order of the ports, or memory was refused before any of them
+abbrev pub FailsLook : (ℕ → List ℕ) → (ℕ → Option (List ℕ)) → List ℕ → RunFault → Type 0
+FailsLook texts rests ports (run.Capture port fault) = LooksFail texts rests ports port fault
+FailsLook texts rests ports (run.Write port) = ⊥
+FailsLook texts rests ports run.NoMemory = AreUntaken texts rests ports ⊎ ((port : ℕ) × LooksFail texts rests ports port faults.NoMemory)
 
 -- the fault of a run for one of the capture of a port
 abbrev pub fault_at : ℕ → CaptureFault → RunFault

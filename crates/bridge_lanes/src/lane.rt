@@ -1,12 +1,12 @@
 //! Captures that are read, one record ahead.
-ghost use Rattle.std.specs.Prelude.{◌≡◌, ◌≢◌, ℕ, ◌<◌, ◌≤◌, List, [], None, Some, length, Err, true, IfOk, IfErr, OnOk};
+ghost use Rattle.std.specs.Prelude.{◌≡◌, ◌≢◌, ℕ, ◌<◌, ◌≤◌, List, Option, [], None, Some, length, Err, true, IfOk, IfErr, OnOk};
 ghost use Rattle.bridge_base.specs.Members.{Rising};
 ghost use Rattle.bridge_base.specs.declared.TheConstants.{MOST_ARRIVALS};
 ghost use Rattle.bridge_capture.specs.declared.record.TheConstants.{MAX_RECORDS};
 ghost use Rattle.bridge_capture.specs.Grammar.{Captured};
 ghost use Rattle.bridge_capture.specs.Standing.{StandsFor, IsReading, records_left};
 ghost use Rattle.bridge_lanes.specs.Devices.{HasFailed, NeverFail};
-ghost use Rattle.bridge_lanes.specs.Lanes.{AreAheadOf, AreLanes, AreTexts, Begins, FailsLook, fault_at, IsFirst, IsLane, Looks, numbers, room, room_of};
+ghost use Rattle.bridge_lanes.specs.Lanes.{AreAheadOf, AreLanes, AreRests, AreTexts, Begins, FailsLook, fault_at, IsFirst, IsLane, Looks, numbers, room, room_of};
 
 use crate::fault::RunFault;
 use bridge_capture::{ByteSource, Capture, CaptureFault, Packet};
@@ -154,7 +154,8 @@ pub fn look_at_all<R: ByteSource, A: Allocator + Copy>(
     ensures room { IfOk result (λ lanes. room_of lanes.items ≤ MOST_ARRIVALS) }
     ensures begins { (texts : ℕ → List ℕ) → AreTexts R.remaining ports.now texts sources.old →
         IfOk result (λ lanes. AreAheadOf R.remaining texts (λ _. []) lanes.items sources.new) }
-    ensures fails { (texts : ℕ → List ℕ) → AreTexts R.remaining ports.now texts sources.old → IfErr result (FailsLook texts ports.now) }
+    ensures fails { (texts : ℕ → List ℕ) (rests : ℕ → Option (List ℕ)) → AreTexts R.remaining ports.now texts sources.old →
+        AreRests R.remaining ports.now rests sources.new → IfErr result (FailsLook texts rests ports.now) }
     ensures read { (port : ℕ) → result ≡ Err (RunFault.Capture port CaptureFault.Read) → HasFailed R.has_failed ports.now port sources.new }
     ensures sure { NeverFail R.never_fails sources.old → (port : ℕ) → result ≢ Err (RunFault.Capture port CaptureFault.Read) }
     ensures lasts { NeverFail R.never_fails sources.old → NeverFail R.never_fails sources.new }

@@ -24,7 +24,7 @@ use Rattle.bridge_wire.specs.declared.count.WireCount.{WireCount}
 use Rattle.bridge_lanes.specs.declared.lane.Lane.{Lane}
 use Rattle.bridge_lanes.specs.Lanes.{FailsFirst, Finds, fault_at}
 use Rattle.bridge_lanes.specs.Lanes.{room as room_ahead}
-use Rattle.bridge_wire.specs.Wire.{offers_of, IsOutput, IsUpTo, IsWireRun, LooksFrom, Stops, StopsWriting, Wires}
+use Rattle.bridge_wire.specs.Wire.{offers_of, IsOutput, IsUpTo, IsWireRun, LooksFrom, Stops, StopsWriting, WantsMemory, Wires}
 use Rattle.bridge_lanes.specs.declared.fault.RunFault.{RunFault}
 use Rattle.bridge_wire.specs.Sending.{EndsSo, frame_of, no_count, NotBefore, IsRunning, IsUnderWay, Sends, StopsAfter}
 use Rattle.bridge_wire.proofs.Running.{goes_until, is_up_to, stops_after, HasGone}
@@ -58,18 +58,23 @@ length_some : {X : Type 0} (xs : List X) (x : X) → 1 ≤ length (xs ++ x ∷ [
 length_some [] x = omega arith
 length_some (y ∷ xs) x = omega arith
 
-stops_at : (speed : Speed) (room : ℕ) (text : List ℕ) (frames : List Captured) (began now : Option (List ℕ)) (fault : CaptureFault) → fault ≢ faults.Write → 1 ≤ length frames → RefusedSo fault text frames → IsUpTo speed room frames began now → Stops speed room text began now (fault_at 1 fault)
-stops_at speed room text frames began now faults.NoMemory own some refused up = inr (record { frames = frames; some = some; refused = refused; up = up })
-stops_at speed room text frames began now fault own some refused up = ((λ e. absurd (cc), own), inr (record { frames = frames; some = some; refused = refused; up = up }))
+stops_at : (speed : Speed) (room : ℕ) (text : List ℕ) (rest : Option (List ℕ)) (frames : List Captured) (began now : Option (List ℕ)) (fault : CaptureFault) → fault ≢ faults.Write → 1 ≤ length frames → RefusedSo fault rest text frames → IsUpTo speed room frames began now → Stops speed room text rest began now (fault_at 1 fault)
+stops_at speed room text rest frames began now faults.NoMemory own some refused up = inr (record { frames = frames; some = some; refused = refused; up = up })
+stops_at speed room text rest frames began now fault own some refused up = ((λ e. absurd (cc), own), inr (record { frames = frames; some = some; refused = refused; up = up }))
 
 kept : (old : Option (List ℕ)) → Keeps old old
 kept None = tt
 kept (Some x) = refl
 
 -- the first look at a text was refused, and nothing was written
-pub refuses_first : (speed : Speed) (room : ℕ) (text : List ℕ) (old : Option (List ℕ)) (fault : CaptureFault) → fault ≢ faults.Write → FailsFirst fault text → Stops speed room text old old (fault_at 1 fault)
-refuses_first speed room text old faults.NoMemory own looks = inl (kept old)
-refuses_first speed room text old fault own looks = ((λ e. absurd (cc), own), inl (record { looks = looks; untouched = kept old }))
+pub refuses_first : (speed : Speed) (room : ℕ) (text : List ℕ) (rest old : Option (List ℕ)) (fault : CaptureFault) → fault ≢ faults.Write → FailsFirst fault rest text → Stops speed room text rest old old (fault_at 1 fault)
+refuses_first speed room text rest old faults.NoMemory own looks = inl (record { looks = inr (inl looks); untouched = kept old })
+refuses_first speed room text rest old fault own looks = ((λ e. absurd (cc), own), inl (record { looks = looks; untouched = kept old }))
+
+-- memory was refused right behind the first look
+pub wants_behind : {A : Type 0} (text : List ℕ) (rest old : Option (List ℕ)) (ahead : Option (Packet A)) → Finds text [] ahead → WantsMemory text rest old old
+wants_behind text rest old None finds = record { looks = inr (inr (inl finds)); untouched = kept old }
+wants_behind text rest old (Some p) finds = record { looks = inr (inr (inr (view p, finds))); untouched = kept old }
 
 -- what comes behind the frames of a text, at this moment or later
 pub finds_from : {A : Type 0} (until : ℕ) (text : List ℕ) (frames : List Captured) (ahead : Option (Packet A)) → Finds text frames ahead → ((p : Packet A) → ahead ≡ Some p → until ≤ p.time) → LooksFrom until text frames
@@ -98,9 +103,9 @@ pub stops_writing : (speed : Speed) (room : ℕ) (text : List ℕ) (frames : Lis
 stops_writing speed room text frames moment began now s looks = record { frames = frames; copies = s.copies; left = s.left; goes = s.goes; from = s.from; looks = looks; writes = s.writes }
 
 -- the text was refused behind the frames that were taken
-pub stops_behind : {A : Type 0} (speed : Speed) (room : ℕ) (text : List ℕ) (frames : List Captured) (c : Captured) (p : State (Vec ℕ A)) (count : WireCount) (began now : Option (List ℕ)) (fault : CaptureFault) → fault ≢ faults.Write → RefusedSo fault text (frames ++ c ∷ []) → IsRunning speed room (frames ++ c ∷ []) p count began now → Stops speed room text began now (fault_at 1 fault)
-stops_behind {A} speed room text frames c p count began now fault own refused r =
-    stops_at speed room text (frames ++ c ∷ []) began now fault own (length_some frames c) refused (is_up_to speed room (frames ++ c ∷ []) p count began now r)
+pub stops_behind : {A : Type 0} (speed : Speed) (room : ℕ) (text : List ℕ) (rest : Option (List ℕ)) (frames : List Captured) (c : Captured) (p : State (Vec ℕ A)) (count : WireCount) (began now : Option (List ℕ)) (fault : CaptureFault) → fault ≢ faults.Write → RefusedSo fault rest text (frames ++ c ∷ []) → IsRunning speed room (frames ++ c ∷ []) p count began now → Stops speed room text rest began now (fault_at 1 fault)
+stops_behind {A} speed room text rest frames c p count began now fault own refused r =
+    stops_at speed room text rest (frames ++ c ∷ []) began now fault own (length_some frames c) refused (is_up_to speed room (frames ++ c ∷ []) p count began now r)
 
 -- a port that asks for no start for a very long time is idle
 pub idle_late : {T : Type 0} (p : State T) (t : ℕ) (next : Option ℕ) → IsDue p next → NotBefore t next → 4100000000000000000 ≤ t → IsIdle p
@@ -145,10 +150,10 @@ stops_at_end speed room text remaining lane old new count began now after u none
     let stops = stops_after speed room u.frames old new count new.earliest began now after u.running list pace places from (omega arith) gone s front in
     stops_writing speed room text u.frames new.earliest began after stops (inl (subst (Finds text u.frames) none u.ahead.finds))
 
-pub ends_ok : (speed : Speed) (room : ℕ) (text : List ℕ) (old new : Option (List ℕ)) (r : Result WireCount RunFault) → EndsSo speed room text old new r → IfOk r (Wires speed room text old new)
-ends_ok speed room text old new (Ok count) e = e
-ends_ok speed room text old new (Err fault) e = tt
+pub ends_ok : (speed : Speed) (room : ℕ) (text : List ℕ) (rest old new : Option (List ℕ)) (r : Result WireCount RunFault) → EndsSo speed room text rest old new r → IfOk r (Wires speed room text old new)
+ends_ok speed room text rest old new (Ok count) e = e
+ends_ok speed room text rest old new (Err fault) e = tt
 
-pub ends_err : (speed : Speed) (room : ℕ) (text : List ℕ) (old new : Option (List ℕ)) (r : Result WireCount RunFault) → EndsSo speed room text old new r → IfErr r (Stops speed room text old new)
-ends_err speed room text old new (Ok count) e = tt
-ends_err speed room text old new (Err fault) e = e
+pub ends_err : (speed : Speed) (room : ℕ) (text : List ℕ) (rest old new : Option (List ℕ)) (r : Result WireCount RunFault) → EndsSo speed room text rest old new r → IfErr r (Stops speed room text rest old new)
+ends_err speed room text rest old new (Ok count) e = tt
+ends_err speed room text rest old new (Err fault) e = e

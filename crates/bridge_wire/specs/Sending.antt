@@ -102,9 +102,9 @@ pub record IsUnderWay {A : Type 0} (speed : Speed) (room : ℕ) (text : List ℕ
 -- a run goes on, or stopped
 abbrev pub GoesOn : {A : Type 0} → Speed → ℕ → List ℕ → Option (List ℕ) → Lane A → State (Vec ℕ A) → WireCount → Option (List ℕ) → Option (List ℕ) → Result (Unit {0}) RunFault → Type 0
 GoesOn speed room text remaining lane p count began now (Ok u) = IsUnderWay speed room text remaining lane p count began now
-GoesOn speed room text remaining lane p count began now (Err fault) = Stops speed room text began now fault
+GoesOn speed room text remaining lane p count began now (Err fault) = Stops speed room text remaining began now fault
 
 -- a run came to its end, or stopped
-abbrev pub EndsSo : Speed → ℕ → List ℕ → Option (List ℕ) → Option (List ℕ) → Result WireCount RunFault → Type 0
-EndsSo speed room text old new (Ok count) = Wires speed room text old new count
-EndsSo speed room text old new (Err fault) = Stops speed room text old new fault
+abbrev pub EndsSo : Speed → ℕ → List ℕ → Option (List ℕ) → Option (List ℕ) → Option (List ℕ) → Result WireCount RunFault → Type 0
+EndsSo speed room text rest old new (Ok count) = Wires speed room text old new count
+EndsSo speed room text rest old new (Err fault) = Stops speed room text rest old new fault

@@ -1,5 +1,5 @@
 -- One capture through one queue: what a run over a text is.
-use Rattle.std.specs.Prelude.{◌≡◌, ◌≢◌, ◌⊎◌, ℕ, Bool, true, ◌+◌, ◌<◌, ◌≤◌, All, not, is_ok, List, [], ◌∷◌, ◌++◌, length, map, filter, reverse, count_by, Option, ◌↔◌}
+use Rattle.std.specs.Prelude.{◌≡◌, ◌≢◌, ◌⊎◌, ℕ, Bool, true, ◌+◌, ◌<◌, ◌≤◌, All, not, is_ok, List, [], ◌∷◌, ◌++◌, length, map, filter, reverse, count_by, Option, Some, ◌↔◌}
 use Rattle.std.specs.Io.KnownBytes.{Appends, Keeps}
 use Rattle.bridge_frame.specs.declared.Speed.{Speed}
 use Rattle.bridge_frame.specs.Frames.{head}
@@ -14,7 +14,7 @@ use Rattle.bridge_base.specs.Members.{In}
 use Rattle.bridge_base.specs.declared.TheConstants.{LONGEST_FRAME}
 use Rattle.bridge_port.specs.Schedule.{Started, Copy, Rules, IsLawful, is_accepted}
 use Rattle.bridge_port.specs.Solo.{IsWhole}
-use Rattle.bridge_lanes.specs.Lanes.{FailsFirst}
+use Rattle.bridge_lanes.specs.Lanes.{BeginsWell, FailsFirst}
 use Rattle.bridge_wire.specs.declared.count.WireCount.{WireCount}
 use Rattle.bridge_lanes.specs.declared.fault.RunFault.{RunFault}
 use Rattle.bridge_lanes.specs.declared.fault.RunFault.TheVariants as run
@@ -116,15 +116,15 @@ pub record IsUpTo (speed : Speed) (room : ℕ) (frames : List Captured) (old new
   pub writes : Appends old new (written_text left)
 
 -- behind these frames, one at least, the text was refused
-pub record StopsBehind (speed : Speed) (room : ℕ) (text : List ℕ) (old new : Option (List ℕ)) (fault : CaptureFault) : Type 0 where
+pub record StopsBehind (speed : Speed) (room : ℕ) (text : List ℕ) (rest : Option (List ℕ)) (old new : Option (List ℕ)) (fault : CaptureFault) : Type 0 where
   pub frames : List Captured
   pub some : 1 ≤ length frames
-  pub refused : RefusedSo fault text frames
+  pub refused : RefusedSo fault rest text frames
   pub up : IsUpTo speed room frames old new
 
 -- the text was refused before its first frame, and nothing was written
-pub record RefusesFirst (text : List ℕ) (old new : Option (List ℕ)) (fault : CaptureFault) : Type 0 where
-  pub looks : FailsFirst fault text
+pub record RefusesFirst (text : List ℕ) (rest : Option (List ℕ)) (old new : Option (List ℕ)) (fault : CaptureFault) : Type 0 where
+  pub looks : FailsFirst fault rest text
   pub untouched : Keeps old new
 
 -- the sink failed: these frames went through up to a moment that is neither before the last of them nor after the one that comes next, and it has a front of the capture of what left
@@ -141,11 +141,16 @@ pub record StopsWriting (speed : Speed) (room : ℕ) (text : List ℕ) (old new 
 abbrev pub IsOfCapture : CaptureFault → Type 0
 IsOfCapture fault = (fault ≢ faults.NoMemory) × (fault ≢ faults.Write)
 
--- why a run over a text stopped
-abbrev pub Stops : Speed → ℕ → List ℕ → Option (List ℕ) → Option (List ℕ) → RunFault → Type 0
-Stops speed room text old new (run.Capture port fault) = IsOfCapture fault × (RefusesFirst text old new fault ⊎ StopsBehind speed room text old new fault)
-Stops speed room text old new (run.Write port) = StopsWriting speed room text old new
-Stops speed room text old new run.NoMemory = Keeps old new ⊎ StopsBehind speed room text old new faults.NoMemory
+-- memory was refused before the first look at the text, in it, or right behind it, and nothing was written
+pub record WantsMemory (text : List ℕ) (rest old new : Option (List ℕ)) : Type 0 where
+  pub looks : (rest ≡ Some text) ⊎ FailsFirst faults.NoMemory rest text ⊎ BeginsWell text
+  pub untouched : Keeps old new
+
+-- why a run over a text stopped, of which the source has this left
+abbrev pub Stops : Speed → ℕ → List ℕ → Option (List ℕ) → Option (List ℕ) → Option (List ℕ) → RunFault → Type 0
+Stops speed room text rest old new (run.Capture port fault) = IsOfCapture fault × (RefusesFirst text rest old new fault ⊎ StopsBehind speed room text rest old new fault)
+Stops speed room text rest old new (run.Write port) = StopsWriting speed room text old new
+Stops speed room text rest old new run.NoMemory = WantsMemory text rest old new ⊎ StopsBehind speed room text rest old new faults.NoMemory
 
 -- a fault of the one capture that is read, or of the one that is written
 abbrev pub IsOfPortOne : RunFault → Type 0

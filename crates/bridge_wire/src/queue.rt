@@ -41,6 +41,8 @@ fn take<W: ByteSink, A: Allocator + Copy>(
     ensures counts { OnOk result ((count.new.frames ≡ count.old.frames + 1) × (port.new.offered ≤ count.new.frames) × (count.new.malformed + count.new.sent + count.new.full ≡ count.new.frames)) }
     ensures only { OnErr result (result ≡ Err (RunFault.Write 1)) }
     ensures fails { OnErr result (W.has_failed sink.new ≡ true) }
+    ensures sound { W.never_fails sink.old ≡ true → OnErr result (W.ran_out sink.new ≡ true) }
+    ensures holds { W.never_fails sink.old ≡ true → W.never_fails sink.new ≡ true }
 {
     if let Err(fault) = depart_before(packet.time, port, writer, sink, spares) {
         return Err(fault);
@@ -100,6 +102,8 @@ fn take_next<R: ByteSource, W: ByteSink, A: Allocator + Copy>(
     ensures sure { (number : ℕ) → R.never_fails source.old ≡ true → result ≢ Err (RunFault.Capture number CaptureFault.Read) }
     ensures lasts { R.never_fails source.old ≡ true → R.never_fails source.new ≡ true }
     ensures write { (number : ℕ) → result ≡ Err (RunFault.Write number) → W.has_failed sink.new ≡ true }
+    ensures sound { (number : ℕ) → W.never_fails sink.old ≡ true → result ≡ Err (RunFault.Write number) → W.ran_out sink.new ≡ true }
+    ensures holds { W.never_fails sink.old ≡ true → W.never_fails sink.new ≡ true }
 {
     if let Err(fault) = take(speed, port, writer, sink, count, packet, spares) {
         return Err(fault);
@@ -125,13 +129,14 @@ fn run_through<R: ByteSource, W: ByteSink, A: Allocator + Copy>(
     requires within { count_queued is_overlong port.old ≡ 0 }
     requires lane { IsLane lane.old }
     requires few { room_ahead lane.old ≤ MAX_RECORDS }
-    ensures ends { (room : ℕ) (text : List ℕ) (began : Option (List ℕ)) → IsUnderWay speed room text (R.remaining source.old) lane.old port.old no_count began (W.contents sink.old) → EndsSo speed room text began (W.contents sink.new) result }
+    ensures ends { (room : ℕ) (text : List ℕ) (began : Option (List ℕ)) → IsUnderWay speed room text (R.remaining source.old) lane.old port.old no_count began (W.contents sink.old) → EndsSo speed room text (R.remaining source.new) began (W.contents sink.new) result }
     ensures sums { IfOk result (λ count. count.malformed + count.sent + count.full ≡ count.frames) }
     ensures few { IfOk result (λ count. count.frames ≤ MAX_RECORDS) }
     ensures one { IfErr result IsOfPortOne }
     ensures read { (number : ℕ) → result ≡ Err (RunFault.Capture number CaptureFault.Read) → R.has_failed source.new ≡ true }
     ensures sure { (number : ℕ) → R.never_fails source.old ≡ true → result ≢ Err (RunFault.Capture number CaptureFault.Read) }
     ensures write { (number : ℕ) → result ≡ Err (RunFault.Write number) → W.has_failed sink.new ≡ true }
+    ensures sound { (number : ℕ) → W.never_fails sink.old ≡ true → result ≡ Err (RunFault.Write number) → W.ran_out sink.new ≡ true }
 {
     let mut count = WireCount {
         frames: 0,
@@ -168,7 +173,7 @@ pub fn wire<R: ByteSource, W: ByteSink, A: Allocator + Copy>(
 ) -> Result<WireCount, RunFault>
     requires room { (1 ≤ room) × (room ≤ LARGEST_ROOM) }
     ensures ok { (text : List ℕ) → R.remaining source.old ≡ Some text → IfOk result (Wires speed room text (W.contents sink.old) (W.contents sink.new)) }
-    ensures err { (text : List ℕ) → R.remaining source.old ≡ Some text → IfErr result (Stops speed room text (W.contents sink.old) (W.contents sink.new)) }
+    ensures err { (text : List ℕ) → R.remaining source.old ≡ Some text → IfErr result (Stops speed room text (R.remaining source.new) (W.contents sink.old) (W.contents sink.new)) }
 
     // What holds whatever the devices tell.
     ensures sums { IfOk result (λ count. count.malformed + count.sent + count.full ≡ count.frames) }
@@ -177,6 +182,7 @@ pub fn wire<R: ByteSource, W: ByteSink, A: Allocator + Copy>(
     ensures read { (port : ℕ) → result ≡ Err (RunFault.Capture port CaptureFault.Read) → R.has_failed source.new ≡ true }
     ensures sure { (port : ℕ) → R.never_fails source.old ≡ true → result ≢ Err (RunFault.Capture port CaptureFault.Read) }
     ensures write { (port : ℕ) → result ≡ Err (RunFault.Write port) → W.has_failed sink.new ≡ true }
+    ensures sound { (port : ℕ) → W.never_fails sink.old ≡ true → result ≡ Err (RunFault.Write port) → W.ran_out sink.new ≡ true }
 {
     let mut lane = match Lane::begin(alloc, 1, source) {
         Ok(lane) => lane,

@@ -28,6 +28,8 @@ pub fn depart<W: ByteSink, A: Allocator + Copy>(
     ensures late { (h : ℕ) → NoStartBefore port.old h → h < port.new.earliest }
     ensures only { OnErr result (result ≡ Err (RunFault.Write 1)) }
     ensures fails { OnErr result (W.has_failed sink.new ≡ true) }
+    ensures sound { W.never_fails sink.old ≡ true → OnErr result (W.ran_out sink.new ≡ true) }
+    ensures holds { W.never_fails sink.old ≡ true → W.never_fails sink.new ≡ true }
 {
     let (item, _) = port.start();
     let done = port.free();
@@ -59,6 +61,8 @@ pub fn depart_before<W: ByteSink, A: Allocator + Copy>(
     ensures late { OnErr result ((h : ℕ) → NoStartBefore port.old h → h ≤ port.new.earliest) }
     ensures only { OnErr result (result ≡ Err (RunFault.Write 1)) }
     ensures fails { OnErr result (W.has_failed sink.new ≡ true) }
+    ensures sound { W.never_fails sink.old ≡ true → OnErr result (W.ran_out sink.new ≡ true) }
+    ensures holds { W.never_fails sink.old ≡ true → W.never_fails sink.new ≡ true }
 {
     while let Some(k) = port.next_start() {
         if k >= t {

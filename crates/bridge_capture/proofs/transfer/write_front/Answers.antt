@@ -15,5 +15,6 @@ loop-at-preserved g c =
       within = search rules;
       fresh = λ e. let bad : false ≡ true = c.in-Ok.ensures.stays (c.loop-at.invariant.fresh e).1 in absurd cc;
       works = λ e. c.in-Ok.ensures.works;
+      sure = λ e. c.in-Ok.ensures.lasts (c.loop-at.invariant.sure e);
       written = subst (Appends _ _) joined (Appends-trans _ _ _ _ _ c.loop-at.invariant.written c.in-Ok.ensures.bytes);
     }

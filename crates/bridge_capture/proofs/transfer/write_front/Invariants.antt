@@ -9,6 +9,7 @@ invariant-loop-at g l =
       within : l.at ≤ length l.octets;
       fresh : g.W.ByteSink.has_failed l.fn.sink ≡ true → (l.at ≡ 0) × (g.W.ByteSink.has_failed l.sink ≡ true);
       works : g.W.ByteSink.has_failed l.fn.sink ≡ false → g.W.ByteSink.has_failed l.sink ≡ false;
+      sure : g.W.ByteSink.never_fails l.fn.sink ≡ true → g.W.ByteSink.never_fails l.sink ≡ true;
       written : Appends (contents l.fn.sink) (contents l.sink) (take l.at l.octets);
     }
 

@@ -1,6 +1,5 @@
-use Rattle.std.proofs.Common.{◌≡◌, Some, slice_get, ◌∙◌, sym, ap, subst}
+use Rattle.std.proofs.Common.{◌≡◌, Some, slice_get, ◌∙◌, sym, ap}
 use Rattle.std.proofs.lemmas.Option.{slice_get-get_or}
-use Rattle.bridge_lanes.specs.declared.lane.Lane.{Lane}
 use Rattle.bridge_lanes.proofs.Firsts.{first_so_far, none_so_far, so_far}
 use Rattle.bridge_lanes.proofs.lane.first_of.Goals as goal
 

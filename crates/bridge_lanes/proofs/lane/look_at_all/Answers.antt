@@ -1,7 +1,7 @@
-use Rattle.std.proofs.Common.{◌≡◌, Err, slice_index_or, ap, sym, ◌∙◌, subst, arith}
+use Rattle.std.proofs.Common.{◌≡◌, Err, inl, slice_index_or, ap, sym, ◌∙◌, subst, arith}
 use Rattle.std.proofs.lemmas.Grind.{common_steps}
 use Rattle.std.proofs.lemmas.Option.{slice_get-get_or}
-use Rattle.bridge_lanes.proofs.Looks.{failed_next, fails_next, few_enough, is_capture, lasts_set, looked_more, looked_start, same_numbers, sure_next}
+use Rattle.bridge_lanes.proofs.Looks.{failed_next, fails_next, few_enough, is_capture, lasts_set, looked_more, looked_start, same_numbers, sure_next, untaken}
 use Rattle.bridge_capture.specs.declared.fault.CaptureFault.TheVariants as faults
 use Rattle.bridge_lanes.specs.declared.fault.RunFault.TheVariants as run
 use Rattle.bridge_lanes.specs.Lanes.{FailsLook}
@@ -14,16 +14,19 @@ loop-place-init g c = record {
   room = grind (arith, common_steps);
 }
 
+pub returns-in-Err-clause-fails : goal.returns-in-Err-clause-fails
+returns-in-Err-clause-fails g c = λ texts rests are left. inl (untaken g.R.ByteSource.remaining c.args.ports.now texts rests c.args.sources.now c.requires.size are left)
+
 pub returns-in-Err-begin-clause-fails : goal.returns-in-Err-begin-clause-fails
-returns-in-Err-begin-clause-fails g c = λ texts are.
+returns-in-Err-begin-clause-fails g c = λ texts rests are left.
     let ports = c.args.ports.now in
     let place = c.loop-place.place in
     let long = c.loop-place.auto.sources in
     let size = c.requires.size in
     let below = c.loop-place-test.true in
-    subst (FailsLook texts ports) (sym c.fault_of.ensures)
-    (fails_next g.R.ByteSource.remaining g.R.ByteSource.never_fails ports c.args.sources.now c.loop-place.sources c.loop-place.lanes.items place (slice_index_or ports place 0) c.index-sources-place.result c.in-Err-begin.fault texts
-    (sym c.loop-place.lanes.ok.0 ∙ c.loop-place.invariant.count) (omega (arith, long, below)) (slice_get-get_or ports place 0 (omega (arith, size, below))) c.loop-place.invariant.looked are c.in-Err-begin.ensures.begins)
+    subst (FailsLook texts rests ports) (sym c.fault_of.ensures)
+    (fails_next g.R.ByteSource.remaining g.R.ByteSource.never_fails ports c.args.sources.now c.loop-place.sources c.loop-place.lanes.items place (slice_index_or ports place 0) c.index-sources-place.result c.begin.new.source c.in-Err-begin.fault texts rests
+    (sym c.loop-place.lanes.ok.0 ∙ c.loop-place.invariant.count) (omega (arith, long, below)) (slice_get-get_or ports place 0 (omega (arith, size, below))) c.loop-place.invariant.looked are left c.in-Err-begin.ensures.begins)
 
 pub returns-in-Err-begin-clause-read : goal.returns-in-Err-begin-clause-read
 returns-in-Err-begin-clause-read g c = λ port e.

@@ -17,6 +17,7 @@ loop-packet-init g c = record {
   few = let z = c.requires.few in omega arith;
   sums = omega arith;
   lasts = λ h. h;
+  holds = λ h. h;
   under = λ room text began u. u;
 }
 
@@ -63,6 +64,9 @@ returns-in-Err-clause-ends g c = λ room text began start.
 pub returns-in-Err-clause-sure : goal.returns-in-Err-clause-sure
 returns-in-Err-clause-sure g c = λ number sure is. c.take_next.ensures.sure number (c.loop-packet.invariant.lasts sure) (c.in-Err.is ∙ cc)
 
+pub returns-in-Err-clause-sound : goal.returns-in-Err-clause-sound
+returns-in-Err-clause-sound g c = λ number sure is. c.take_next.ensures.sound number (c.loop-packet.invariant.holds sure) (c.in-Err.is ∙ cc)
+
 pub loop-packet-smaller : goal.loop-packet-smaller
 loop-packet-smaller g c = let room = room_some c.loop-packet.lane c.in-Some.packet (sym c.take.ensures.value ∙ c.in-Some.is) in let fewer = c.in_default-take_next.ensures.fewer in omega arith
 
@@ -81,6 +85,7 @@ loop-packet-preserved g c =
       few = let room = room_some lane c.in-Some.packet ahead in let few = kept.few in let fewer = e.fewer in let one = e.counts.0 in omega arith;
       sums = e.counts.2;
       lasts = λ h. e.lasts (kept.lasts h);
+      holds = λ h. e.holds (kept.holds h);
       under = λ room text began start.
           let u = kept.under room text began start in
           let stands = subst (λ a. StandsFor lane.capture (g.R.ByteSource.remaining c.loop-packet.source) text (u.frames ++ one_ahead a)) ahead u.ahead.stands in
@@ -101,7 +106,7 @@ returns-in-Err-depart_before-clause-ends g c = λ room text began start.
     let e = c.in-Err-depart_before.ensures in
     let is : c.in-Err-depart_before.fault ≡ run.Write 1 = (let was = c.in-Err-depart_before.is in let only = e.only in cc) in
     let gone = e.goes (offers_of u.frames) c.loop-packet.count.sent c.loop-packet.count.full u.running.left u.running.sends in
-    subst (Stops c.args.speed room text began (contents c.depart_before.new.sink)) (sym is)
+    subst (Stops c.args.speed room text (g.R.ByteSource.remaining c.loop-packet.source) began (contents c.depart_before.new.sink)) (sym is)
     (stops_at_end c.args.speed room text (g.R.ByteSource.remaining c.loop-packet.source) c.loop-packet.lane c.loop-packet.port new c.loop-packet.count began (contents c.loop-packet.sink) (contents c.depart_before.new.sink) u none same.0 same.1 same.2 (e.late (last_time 0 u.frames) u.running.calm) gone.0 gone.1 gone.2)
 
 pub returns-clause-ends : goal.returns-clause-ends

@@ -20,6 +20,7 @@ invariant-loop-packet g l =
       few : l.count.frames + room_ahead l.lane ≤ MAX_RECORDS;
       sums : l.count.malformed + l.count.sent + l.count.full ≡ l.count.frames;
       lasts : g.R.ByteSource.never_fails l.fn.source ≡ true → g.R.ByteSource.never_fails l.source ≡ true;
+      holds : g.W.ByteSink.never_fails l.fn.sink ≡ true → g.W.ByteSink.never_fails l.sink ≡ true;
       under : (room : ℕ) (text : List ℕ) (began : Option (List ℕ)) → IsUnderWay l.fn.speed room text (remaining l.fn.source) l.fn.lane l.fn.port no_count began (contents l.fn.sink) → IsUnderWay l.fn.speed room text (remaining l.source) l.lane l.port l.count began (contents l.sink);
     }
 

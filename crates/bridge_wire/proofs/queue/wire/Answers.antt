@@ -1,7 +1,24 @@
-use Rattle.std.proofs.Common.{[]}
+use Rattle.std.proofs.Common.{[], Err, inl, ap, subst, sym, ◌∙◌}
 use Rattle.bridge_wire.specs.Sending.{IsUnderWay, no_count}
-use Rattle.bridge_wire.proofs.Ends.{ends_err, ends_ok, running_new, stops_at_header}
+use Rattle.bridge_wire.specs.Wire.{Stops}
+use Rattle.bridge_wire.proofs.Ends.{ends_err, ends_ok, refuses_first, running_new, stops_at_header, wants_behind}
 use Rattle.bridge_wire.proofs.queue.wire.Goals as goal
+
+pub returns-in-Err-clause-err : goal.returns-in-Err-clause-err
+returns-in-Err-clause-err g c = λ text is.
+    let contents = g.W.ByteSink.contents in
+    let rest = g.R.ByteSource.remaining c.begin.new.source in
+    subst (Stops c.args.speed c.args.room text rest (contents c.args.sink.now) (contents c.args.sink.now)) (sym c.fault_of.ensures)
+    (refuses_first c.args.speed c.args.room text rest (contents c.args.sink.now) c.in-Err.fault (λ e. c.begin.ensures.no_write (c.in-Err.is ∙ ap Err e)) (c.in-Err.ensures.begins text is))
+
+pub returns-in_default-clause-err : goal.returns-in_default-clause-err
+returns-in_default-clause-err g c = λ text is. inl (wants_behind text (g.R.ByteSource.remaining c.begin.new.source) (g.W.ByteSink.contents c.args.sink.now) c.in-Ok.lane.ahead (c.in-Ok.ensures.begins text is).finds)
+
+pub returns-in_default-new-clause-err : goal.returns-in_default-new-clause-err
+returns-in_default-new-clause-err g c = λ text is. inl (wants_behind text (g.R.ByteSource.remaining c.begin.new.source) (g.W.ByteSink.contents c.args.sink.now) c.in-Ok.lane.ahead (c.in-Ok.ensures.begins text is).finds)
+
+pub returns-clause-sure : goal.returns-clause-sure
+returns-clause-sure g c = λ port sure is. c.run_through-done.ensures.sure port (c.begin.ensures.lasts sure) is
 
 pub returns-in_default-begin-clause-err : goal.returns-in_default-begin-clause-err
 returns-in_default-begin-clause-err g c = λ text is.
@@ -13,11 +30,11 @@ returns-clause-ok g c = λ text is.
     let contents = g.W.ByteSink.contents in
     let running = running_new c.args.speed c.args.room c.in-Ok-new.port (contents c.args.sink.now) (contents c.begin-2.new.sink) c.in-Ok-new.ensures.new c.in-Ok-new.ensures.stands c.in-Ok-begin.ensures.ok in
     let under : IsUnderWay c.args.speed c.args.room text (g.R.ByteSource.remaining c.begin.new.source) c.in-Ok.lane c.in-Ok-new.port no_count (contents c.args.sink.now) (contents c.begin-2.new.sink) = record { frames = []; ahead = c.in-Ok.ensures.begins text is; running = running } in
-    ends_ok c.args.speed c.args.room text (contents c.args.sink.now) (contents c.run_through-done.new.sink) c.run_through-done.result (c.run_through-done.ensures.ends c.args.room text (contents c.args.sink.now) under)
+    ends_ok c.args.speed c.args.room text (g.R.ByteSource.remaining c.run_through-done.new.source) (contents c.args.sink.now) (contents c.run_through-done.new.sink) c.run_through-done.result (c.run_through-done.ensures.ends c.args.room text (contents c.args.sink.now) under)
 
 pub returns-clause-err : goal.returns-clause-err
 returns-clause-err g c = λ text is.
     let contents = g.W.ByteSink.contents in
     let running = running_new c.args.speed c.args.room c.in-Ok-new.port (contents c.args.sink.now) (contents c.begin-2.new.sink) c.in-Ok-new.ensures.new c.in-Ok-new.ensures.stands c.in-Ok-begin.ensures.ok in
     let under : IsUnderWay c.args.speed c.args.room text (g.R.ByteSource.remaining c.begin.new.source) c.in-Ok.lane c.in-Ok-new.port no_count (contents c.args.sink.now) (contents c.begin-2.new.sink) = record { frames = []; ahead = c.in-Ok.ensures.begins text is; running = running } in
-    ends_err c.args.speed c.args.room text (contents c.args.sink.now) (contents c.run_through-done.new.sink) c.run_through-done.result (c.run_through-done.ensures.ends c.args.room text (contents c.args.sink.now) under)
+    ends_err c.args.speed c.args.room text (g.R.ByteSource.remaining c.run_through-done.new.source) (contents c.args.sink.now) (contents c.run_through-done.new.sink) c.run_through-done.result (c.run_through-done.ensures.ends c.args.room text (contents c.args.sink.now) under)

@@ -8,6 +8,7 @@ loop-k-init g c = record {
   same = search rules;
   within = c.requires.within;
   earliest = λ h. h;
+  holds = λ h. h;
   calm = λ h z. z;
 }
 
@@ -23,6 +24,7 @@ loop-k-preserved g c =
       same = (same.0 ∙ kept.same.0, same.1 ∙ kept.same.1, same.2 ∙ kept.same.2, same.3 ∙ kept.same.3);
       within = c.depart.ensures.within;
       earliest = λ h. let e : c.depart.new.port.earliest ≡ c.in-Some.k + 1 = c.depart.ensures.moment c.in-Some.k c.in-Some.ensures.due in let l = c.if-k-t.false in omega arith;
+      holds = λ h. c.depart.ensures.holds (kept.holds h);
       calm = λ h z. calm_early c.depart.new.port h (let l = c.depart.ensures.late h (kept.calm h z) in omega arith);
     }
 

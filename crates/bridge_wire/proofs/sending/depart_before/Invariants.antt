@@ -16,6 +16,7 @@ invariant-loop-k g l =
       same : (l.port.list ≡ l.fn.port.list) × (l.port.speed ≡ l.fn.port.speed) × (l.port.rooms ≡ l.fn.port.rooms) × (l.port.offered ≡ l.fn.port.offered);
       within : count_queued is_overlong l.port ≡ 0;
       earliest : l.fn.port.earliest ≤ l.t → l.port.earliest ≤ l.t;
+      holds : g.W.ByteSink.never_fails l.fn.sink ≡ true → g.W.ByteSink.never_fails l.sink ≡ true;
       calm : (h : ℕ) → NoStartBefore l.fn.port h → NoStartBefore l.port h;
     }
 

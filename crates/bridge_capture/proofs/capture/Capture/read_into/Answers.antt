@@ -1,4 +1,4 @@
-use Rattle.std.proofs.Common.{refl, rules, subst, sym}
+use Rattle.std.proofs.Common.{Err, ap, refl, rules, subst, sym, ◌∙◌}
 use Rattle.bridge_capture.specs.Standing.{CaptureState, StandsFor, TakesFor}
 use Rattle.bridge_capture.proofs.Turns.{goes_on, came_to_end, was_refused}
 use Rattle.bridge_capture.proofs.capture.Capture.read_into.Goals as goal
@@ -20,7 +20,7 @@ pub returns-in-Err-clause-stands : goal.returns-in-Err-clause-stands
 returns-in-Err-clause-stands g c = λ text given h.
     let before : CaptureState = record { form = c.self.inside.form; records = c.self.inside.records; latest = c.self.inside.latest; progress = c.self.inside.progress } in
     let stood = subst (λ (z : CaptureState). StandsFor z (g.R.ByteSource.remaining c.args.source.now) text given) (sym c.self.view_is) h in
-    let r = was_refused before _ text given c.in-Err.fault (search rules) c.in-Err.ensures.record stood in
+    let r = was_refused before _ _ text given c.in-Err.fault (search rules) (λ e. c.front_record.ensures.no_write (c.in-Err.is ∙ ap Err e)) c.in-Err.ensures.record c.in-Err.ensures.taken stood in
     (r, r)
 
 pub returns-in-Err-clause-taken : goal.returns-in-Err-clause-taken

@@ -1,4 +1,4 @@
-use Rattle.std.proofs.Common.{◌≡◌, ◌++◌, ap, ◌∙◌, append_assoc}
+use Rattle.std.proofs.Common.{◌++◌, ap, ◌∙◌, append_assoc}
 use Rattle.std.specs.Int.{w64, to_le_bytes}
 use Rattle.bridge_capture.specs.Buffered.{held_back}
 use Rattle.bridge_capture.proofs.held.Held.put_words.Goals as goal
