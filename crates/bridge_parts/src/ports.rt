@@ -160,6 +160,8 @@ impl<G: Agenda + Drop, A: Allocator + Copy> Ports<G, A> {
         ensures which { IsLeast (G.held self.old.agenda) (Some (result.0, result.1)) }
         ensures started { (s : Slot A) × HasStarted self.old self.new result.0 s result.1 result.2 }
         ensures later { IsAfter (G.held self.new.agenda) result.0 result.1 }
+        ensures kept { AreKept G.held self.old.slots self.old.agenda }
+        ensures keeps { AreKept G.held self.new.slots self.new.agenda }
     {
         match self.agenda.least() {
             Some((number, start)) => {

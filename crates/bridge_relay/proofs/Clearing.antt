@@ -37,6 +37,7 @@ sound_cleared {G} {A} held b police t sound onward filters gates meters called a
   few = let f = sound.few.0 in (omega (arith, f, called), sound.few.1);
   alike = sound.alike;
   early = λ q s l at. let e = sound.early q s l at in (let z = e.0 in omega (arith, z, onward), e.1);
+  in_turn = sound.in_turn;
   frames = sound.frames;
   right = sound.right;
   there = sound.there;

@@ -35,7 +35,7 @@ same_rooms room other h [] = tt
 same_rooms room other h (x ∷ xs) = (h x.class, same_rooms room other h xs)
 
 -- what a port of a plan carries is lawful by the plan
-lawful_out : {A : Type 0} (out : PortPlan A) (s : Slot A) (h : ℕ) (xs : List (Copy (Item (Load A)))) → IsMade out s → IsLawful (rules_of s.port) h xs → IsLawful (egress out) h (all_seen carried xs)
+pub lawful_out : {A : Type 0} (out : PortPlan A) (s : Slot A) (h : ℕ) (xs : List (Copy (Item (Load A)))) → IsMade out s → IsLawful (rules_of s.port) h xs → IsLawful (egress out) h (all_seen carried xs)
 lawful_out {A} out s h xs m l =
     let z = lawful_seen carried (rules_of s.port) (λ x. occupied x.len out.speed) (λ c. slice_index_or out.rooms c 0) (λ x. ap (λ (v : Speed). occupied x.len v) (sym m.pace)) h xs (same_rooms (λ c. slice_index_or s.port.rooms c 0) (λ c. slice_index_or out.rooms c 0) (λ c. ap (λ (v : List ℕ). slice_index_or v c 0) m.rooms) xs) l in
     subst (λ (v : Opening). IsLawful {X = Carried} (record { opens = opens v; ever = ever v; room = λ c. slice_index_or out.rooms c 0; occ = λ x. occupied x.len out.speed }) h (all_seen carried xs)) m.list z
@@ -88,7 +88,7 @@ reaches_of held p b es left h st sound kept late due = record {
 }
 
 -- the moment up to which a port has run
-abbrev moment_of : {A : Type 0} → Option (Slot A) → ℕ
+abbrev pub moment_of : {A : Type 0} → Option (Slot A) → ℕ
 moment_of None = 0
 moment_of (Some s) = s.port.earliest
 
@@ -103,18 +103,22 @@ moments_within : {G A : Type 0} (held : G → ℕ → Option ℕ) (b : RelayStat
 moments_within held b t sound late zero = moment_within (slot_at b.ports 1) t (λ s e. let early = (sound.early 1 s (omega arith) e).0 in omega (arith, early, late))
 moments_within held b t sound late (suc n) = moment_within (slot_at b.ports (suc n)) t (λ s e. let early = (sound.early (suc n) s (omega arith) e).0 in omega (arith, early, late))
 
+-- each port has run up to a moment of its own
+pub run_so_far : {G A : Type 0} (held : G → ℕ → Option ℕ) (p : Plan A) (b : RelayState G A) (es : List Event) (left : ℕ → List Captured) (st : Stands p b es left) → IsSound held b → IsRun p es (λ q. moment_of (slot_at b.ports q)) (seen st.lists)
+run_so_far {G} {A} held p b es left st sound = record {
+  offers = st.offers;
+  lawful = λ q out e.
+      let s = stood held p b st.plan sound q out e in
+      subst (λ (h : ℕ). IsLawful (egress out) h (seen st.lists q)) (moment_some (slot_at b.ports q) s.slot s.there) (lawful_out out s.slot s.slot.port.earliest (st.lists q) s.made (st.each q s.slot s.from s.there).lawful);
+  others = λ q e. ap (all_seen carried) (st.others q e);
+}
+
 -- the run so far of a bridge at which starts may be due
 pub ran_of : {G A : Type 0} (held : G → ℕ → Option ℕ) (p : Plan A) (b : RelayState G A) (es : List Event) (left : ℕ → List Captured) (until : Option ℕ) → Stands p b es left → IsSound held b → ((t : ℕ) → until ≡ Some t → b.earliest ≤ t) → HasRun p es until left
 ran_of {G} {A} held p b es left until st sound early = record {
   moments = λ q. moment_of (slot_at b.ports q);
   lists = seen st.lists;
-  run = record {
-    offers = st.offers;
-    lawful = λ q out e.
-        let s = stood held p b st.plan sound q out e in
-        subst (λ (h : ℕ). IsLawful (egress out) h (seen st.lists q)) (moment_some (slot_at b.ports q) s.slot s.there) (lawful_out out s.slot s.slot.port.earliest (st.lists q) s.made (st.each q s.slot s.from s.there).lawful);
-    others = λ q e. ap (all_seen carried) (st.others q e);
-  };
+  run = run_so_far held p b es left st sound;
   within = λ q t is. moments_within held b t sound (early t is) q;
   output = output_of held p b es left st sound;
 }

@@ -119,6 +119,7 @@ first_sound {G} {A} held b m =
       few = (omega (arith, calls), omega (arith, arrived));
       alike = λ q l. alike_first (port_at b.plan.ports q) (slot_at b.ports q) (m.ports q l);
       early = λ q s l e. (let x = (new q s l e).earliest in omega (arith, x), let y = (new q s l e).offered in omega (arith, y));
+      in_turn = λ q r k s l e held_at. (let x = (new q s l e).earliest in omega (arith, x), λ z. let x = (new q s l e).earliest in omega (arith, x));
       frames = λ q s l e. (let x : s.count.frames ≡ 0 = ap (λ (c : PortCount). c.frames) (new q s l e).count in omega (arith, x));
       right = none_queued held b m (is_wrong b.plan.filters);
       there = λ n h. subst (λ (z : List (ℕ × TableState)). is_there n z ≡ true) (sym m.tables) (fresh_there b.plan.filters n ∙ h);

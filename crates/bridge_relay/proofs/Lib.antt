@@ -13,6 +13,7 @@ pub mod Spares
 pub mod Ways
 pub mod Offered
 pub mod Ending
+pub mod Nexts
 pub mod Viewing
 pub mod Ended
 pub mod Clearing

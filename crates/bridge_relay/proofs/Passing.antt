@@ -106,6 +106,14 @@ sound_passed {G} {A} held old new q s t v sound h there low onward few =
       early = λ r w l at. by_bool (nat_eq r q)
           (λ y. let e = sound.early q s low there in let a = e.0 in let b = e.1 in subst (λ (z : Slot A). (z.port.earliest ≤ new.earliest) × (z.port.offered ≤ new.arrived)) (passed_here old new q s v h.slots there r w y at) (omega (arith, a, time, onward), omega (arith, b, moved)))
           (λ y. let e = sound.early r w l (sym (passed_there old new q s v h.slots low r l y) ∙ at) in let a = e.0 in let b = e.1 in (omega (arith, a, time, onward), omega (arith, b, moved)));
+      in_turn = λ r m u w l at e.
+          let held_old : held old.ports.agenda m ≡ Some u = subst (λ (z : G). held z m ≡ Some u) h.agenda e in
+          by_bool (nat_eq r q)
+          (λ y.
+          let same : q ≡ r = grind (arith, nat_tests) in
+          subst (λ (z : Slot A). (z.port.earliest ≤ u + 1) × (m ≤ r → z.port.earliest ≤ u)) (passed_here old new q s v h.slots there r w y at)
+          (subst (λ (n : ℕ). (s.port.earliest ≤ u + 1) × (m ≤ n → s.port.earliest ≤ u)) same (sound.in_turn q m u s low there held_old)))
+          (λ y. sound.in_turn r m u w l (sym (passed_there old new q s v h.slots low r l y) ∙ at) held_old);
       frames = λ r w l at. by_bool (nat_eq r q)
           (λ y. let e = sound.frames q s low there in let f = frames_of s.count v in subst (λ (z : Slot A). z.count.frames ≤ new.arrived) (passed_here old new q s v h.slots there r w y at) (omega (arith, e, f, moved)))
           (λ y. let e = sound.frames r w l (sym (passed_there old new q s v h.slots low r l y) ∙ at) in omega (arith, e, moved));

@@ -82,6 +82,14 @@ sound_ruled {G} {A} held old new q s c r sound fresh h there low onward =
       early = λ k w l at. by_bool (nat_eq k q)
           (λ y. let e = sound.early q s low there in let a = e.0 in let b = e.1 in subst (λ (z : Slot A). (z.port.earliest ≤ new.earliest) × (z.port.offered ≤ new.arrived)) (passed_here old new q s v h.slots there k w y at) (omega (arith, a, time, onward), omega (arith, b, same)))
           (λ y. let e = sound.early k w l (sym (passed_there old new q s v h.slots low k l y) ∙ at) in let a = e.0 in let b = e.1 in (omega (arith, a, time, onward), omega (arith, b, same)));
+      in_turn = λ k r u w l at e.
+          let held_old : held old.ports.agenda r ≡ Some u = subst (λ (z : G). held z r ≡ Some u) h.agenda e in
+          by_bool (nat_eq k q)
+          (λ y.
+          let is : q ≡ k = grind (arith, nat_tests) in
+          subst (λ (z : Slot A). (z.port.earliest ≤ u + 1) × (r ≤ k → z.port.earliest ≤ u)) (passed_here old new q s v h.slots there k w y at)
+          (subst (λ (m : ℕ). (s.port.earliest ≤ u + 1) × (r ≤ m → s.port.earliest ≤ u)) is (sound.in_turn q r u s low there held_old)))
+          (λ y. sound.in_turn k r u w l (sym (passed_there old new q s v h.slots low k l y) ∙ at) held_old);
       frames = λ k w l at. by_bool (nat_eq k q)
           (λ y. let e = fresh.frames q s low there in let f = frames_of s.count v in subst (λ (z : Slot A). z.count.frames ≤ new.arrived) (passed_here old new q s v h.slots there k w y at) (omega (arith, e, f, same)))
           (λ y. let e = sound.frames k w l (sym (passed_there old new q s v h.slots low k l y) ∙ at) in omega (arith, e, same));

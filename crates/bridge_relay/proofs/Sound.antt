@@ -133,6 +133,29 @@ kept_by {G} {A} held old new n q k false t d delay kept fewer start port due lat
   dropped = kept.dropped;
 }
 
+-- after a start each port has started up to it in the order of starts
+pub early_started : {G A : Type 0} (held : G → ℕ → Option ℕ) (old : RelayState G A) (ports : PortsState G A) (q k : ℕ) (s : Slot A) (c : Begun A) → IsSound held old → HasStarted old.ports ports q s k c → 1 ≤ q → held old.ports.agenda q ≡ Some k → (p : ℕ) (r : Slot A) → 1 ≤ p → slot_at ports p ≡ Some r → (r.port.earliest ≤ k + 1) × (q + 1 ≤ p → r.port.earliest ≤ k)
+early_started {G} {A} held old ports q k s c sound h low due p r l at =
+    let now : Slot A = started_slot s k c.class c.item in
+    let at_now : slot_at ports q ≡ Some now = ap (λ (z : List (Option (Slot A))). slot_in z q) h.slots ∙ set_here old.ports.slots q (Some now) (below old.ports.slots q s h.there) in
+    by_bool (nat_eq p q)
+    (λ y.
+    let same : q ≡ p = grind (arith, nat_tests) in
+    let is : now ≡ r = some_is now r (sym at_now ∙ subst (λ (m : ℕ). slot_at ports m ≡ Some r) (sym same) at) in
+    subst (λ (v : Slot A). (v.port.earliest ≤ k + 1) × (q + 1 ≤ p → v.port.earliest ≤ k)) is (omega arith, λ z. absurd (omega (arith, same, z))))
+    (λ y.
+    let other : slot_at ports p ≡ slot_at old.ports p = ap (λ (z : List (Option (Slot A))). slot_in z p) h.slots ∙ set_there old.ports.slots p q (Some now) l low y in
+    let was = sound.in_turn p q k r l (sym other ∙ at) due in
+    (was.0, λ z. was.1 (omega (arith, z))))
+
+in_turn_after : (held : ℕ → Option ℕ) (q k e p : ℕ) → IsAfter held q k → (e ≤ k + 1) × (q + 1 ≤ p → e ≤ k) → (r u : ℕ) → held r ≡ Some u → (e ≤ u + 1) × (r ≤ p → e ≤ u)
+in_turn_after held q k e p later early r u h =
+    let a = early.0 in
+    elim (later r u h) [
+      | inl x ↦ (omega (arith, a, x), λ z. omega (arith, a, x))
+      | inr x ↦ (let y = x.0 in omega (arith, a, y), λ z. let y = x.0 in let w = x.1 in let m = early.1 (omega (arith, z, w)) in omega (arith, m, y))
+    ]
+
 -- everything that a bridge keeps it keeps over a start
 pub sound_started : {G A : Type 0} (held : G → ℕ → Option ℕ) (old : RelayState G A) (ports : PortsState G A) (tables : List (ℕ × TableState)) (earliest q k : ℕ) (s : Slot A) (c : Begun A) (d : Departure) (delay : ℕ) → IsSound held old → HasStarted old.ports ports q s k c → 1 ≤ q → held old.ports.agenda q ≡ Some k → IsAfter (held ports.agenda) q k → d.start ≡ k → d.port ≡ q → tables ≡ change_if c.item.load.flow (λ t. departed t d delay) old.tables → earliest ≡ max old.earliest (k + 1) → IsSound held (record old { ports = ports; tables = tables; earliest = earliest })
 sound_started {G} {A} held old ports tables earliest q k s c d delay sound h low due later start port told moved =
@@ -169,6 +192,7 @@ sound_started {G} {A} held old ports tables earliest q k s c d delay sound h low
           let was = sound.early p r l (sym other ∙ at) in
           let soon = was.0 in
           (omega arith, was.1));
+      in_turn = λ p r u v l at e. in_turn_after (held ports.agenda) q k v.port.earliest p later (early_started held old ports q k s c sound h low due p v l at) r u e;
       frames = λ p r l at. by_bool (nat_eq p q)
           (λ y.
           let same : q ≡ p = grind (arith, nat_tests) in
@@ -287,6 +311,16 @@ sound_offered {G} {A} held old ports tables q t c s x answer sound there h low c
     let new : RelayState G A = record old { ports = ports; tables = tables; earliest = t } in
     let at_now : slot_at ports q ≡ Some now = ap (λ (z : List (Option (Slot A))). slot_in z q) h.slots ∙ set_here old.ports.slots q (Some now) place in
     let noted : tables ≡ after_answer old.tables x.load.flow x.load.own q (refusal_by (refusal_of s.port c x)) = told ∙ ap (after_answer old.tables x.load.flow x.load.own q) h.answer in
+    let early : (p : ℕ) (r : Slot A) → 1 ≤ p → slot_at ports p ≡ Some r → (r.port.earliest ≤ t) × (r.port.offered ≤ old.arrived) = λ p r l at. by_bool (nat_eq p q)
+    (λ y.
+    let same : q ≡ p = grind (arith, nat_tests) in
+    let is : now ≡ r = some_is now r (sym at_now ∙ subst (λ (m : ℕ). slot_at ports m ≡ Some r) (sym same) at) in
+    subst (λ (v : Slot A). (v.port.earliest ≤ t) × (v.port.offered ≤ old.arrived)) is (omega arith, omega arith))
+    (λ y.
+    let other : slot_at ports p ≡ slot_at old.ports p = ap (λ (z : List (Option (Slot A))). slot_in z p) h.slots ∙ set_there old.ports.slots p q (Some now) l low y in
+    let was = sound.early p r l (sym other ∙ at) in
+    let soon = was.0 in
+    (omega arith, was.1)) in
     record {
       rules = sound.rules;
       acceptable = sound.acceptable;
@@ -304,16 +338,8 @@ sound_offered {G} {A} held old ports tables q t c s x answer sound there h low c
           (λ y.
           let other : slot_at ports p ≡ slot_at old.ports p = ap (λ (z : List (Option (Slot A))). slot_in z p) h.slots ∙ set_there old.ports.slots p q (Some now) l low y in
           subst (AreAlike (port_at old.plan.ports p)) (sym other) (sound.alike p l));
-      early = λ p r l at. by_bool (nat_eq p q)
-          (λ y.
-          let same : q ≡ p = grind (arith, nat_tests) in
-          let is : now ≡ r = some_is now r (sym at_now ∙ subst (λ (m : ℕ). slot_at ports m ≡ Some r) (sym same) at) in
-          subst (λ (v : Slot A). (v.port.earliest ≤ t) × (v.port.offered ≤ old.arrived)) is (omega arith, omega arith))
-          (λ y.
-          let other : slot_at ports p ≡ slot_at old.ports p = ap (λ (z : List (Option (Slot A))). slot_in z p) h.slots ∙ set_there old.ports.slots p q (Some now) l low y in
-          let was = sound.early p r l (sym other ∙ at) in
-          let soon = was.0 in
-          (omega arith, was.1));
+      early = early;
+      in_turn = λ p r k v l at e. let a = (early p v l at).0 in let b = calm r k e in (omega (arith, a, b), λ z. omega (arith, a, b));
       frames = λ p r l at. by_bool (nat_eq p q)
           (λ y.
           let same : q ≡ p = grind (arith, nat_tests) in
@@ -383,6 +409,7 @@ sound_promised {G} {A} held old tables filter k sound few small told =
       few = let f = sound.few.0 in (omega arith, omega arith);
       alike = sound.alike;
       early = λ q s l at. let e = sound.early q s l at in (e.0, let z = e.1 in omega arith);
+      in_turn = sound.in_turn;
       frames = λ q s l at. let z = sound.frames q s l at in omega arith;
       right = sound.right;
       there = λ n i. subst (λ (z : List (ℕ × TableState)). IsTrue (is_there n z)) (sym told) (subst IsTrue (sym (changed_there filter (λ (t : TableState). promised t k) old.tables n)) (sound.there n i));

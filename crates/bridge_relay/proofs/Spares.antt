@@ -170,6 +170,7 @@ sound_released {G} {A} held b own k n sound pending = record {
   few = sound.few;
   alike = sound.alike;
   early = sound.early;
+  in_turn = sound.in_turn;
   frames = sound.frames;
   right = sound.right;
   there = λ m i. subst IsTrue (sym (changed_there (Some n) (λ (t : TableState). released t k) b.tables m)) (sound.there m i);

@@ -90,6 +90,7 @@ pub record IsSound {G A : Type 0} (held : G → ℕ → Option ℕ) (b : RelaySt
   pub few : (b.police.calls ≤ b.arrived) × (b.arrived ≤ MOST_ARRIVALS)
   pub alike : (q : ℕ) → 1 ≤ q → AreAlike (port_at b.plan.ports q) (slot_at b.ports q)
   pub early : (q : ℕ) (s : Slot A) → 1 ≤ q → slot_at b.ports q ≡ Some s → (s.port.earliest ≤ b.earliest) × (s.port.offered ≤ b.arrived)
+  pub in_turn : (q r k : ℕ) (s : Slot A) → 1 ≤ q → slot_at b.ports q ≡ Some s → held b.ports.agenda r ≡ Some k → (s.port.earliest ≤ k + 1) × (r ≤ q → s.port.earliest ≤ k)
   pub frames : (q : ℕ) (s : Slot A) → 1 ≤ q → slot_at b.ports q ≡ Some s → s.count.frames ≤ b.arrived
   pub right : count_all (is_wrong b.plan.filters) b.ports ≡ 0
   pub there : (n : ℕ) → IsTrue (is_there n b.plan.filters) → IsTrue (is_there n b.tables)

@@ -4,11 +4,13 @@ ghost use Rattle.std.specs.Map.{lookup};
 ghost use Rattle.bridge_base.specs.Members.{In, Rising};
 ghost use Rattle.bridge_capture.specs.Grammar.{Captured};
 ghost use Rattle.bridge_config.specs.Model as config;
+ghost use Rattle.bridge_events.specs.Least.{IsLeast};
 ghost use Rattle.bridge_filter.specs.declared.FilterPlan.{FilterPlan};
 ghost use Rattle.bridge_filter.specs.Plans.{is_there};
 ghost use Rattle.bridge_port.specs.Schedule.{Copy};
 ghost use Rattle.bridge_run.specs.Events.{Event, own};
 ghost use Rattle.bridge_run.specs.Offers.{Carried};
+ghost use Rattle.bridge_run.specs.Next.{AreNext, IsNextAfter};
 ghost use Rattle.bridge_run.specs.Outputs.{Reaches, HasRun, Ends};
 ghost use Rattle.bridge_run.specs.Runs.{IsOutcome, IsSoloView, TellTheSame};
 ghost use Rattle.bridge_parts.specs.Ports.{NotBefore};
@@ -86,10 +88,17 @@ fn views_of<A: Allocator + Copy>(
 
 impl<'a, G: Agenda + Drop, A: Allocator + Copy> Relay<'a, G, A> {
     /// Up to each moment before which no start is due, the ports have done what they had to do; and each port has up to a
-    /// moment of its own, whatever is due.
+    /// moment of its own, whatever is due. What is due of each port is its next start.
     pub fn reached(&self)
         ensures reaches { (p : config.Plan A) (es : List Event) (left : ℕ → List Captured) (h : ℕ) → Stands p self.now es left → self.now.earliest ≤ h → NotBefore (G.held self.now.ports.agenda) h → Reaches p es h left }
         ensures ran { (p : config.Plan A) (es : List Event) (left : ℕ → List Captured) (until : Option ℕ) → Stands p self.now es left → ((t : ℕ) → until ≡ Some t → self.now.earliest ≤ t) → HasRun p es until left }
+        ensures each_next { (p : config.Plan A) (es : List Event) (left : ℕ → List Captured)
+            → Stands p self.now es left
+            → AreNext p es left (G.held self.now.ports.agenda) }
+        ensures next { (p : config.Plan A) (es : List Event) (left : ℕ → List Captured) (o : Option (ℕ × ℕ))
+            → Stands p self.now es left
+            → IsLeast (G.held self.now.ports.agenda) o
+            → IsNextAfter p es left o }
     {
         self.ports.keep();
     }

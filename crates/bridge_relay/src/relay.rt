@@ -20,9 +20,10 @@ ghost use Rattle.bridge_capture.specs.Grammar.{Captured};
 ghost use Rattle.bridge_events.specs.Least.{IsLeast};
 ghost use Rattle.bridge_port.specs.Standing.{limit};
 ghost use Rattle.bridge_run.specs.Events.{Arrival, Event, Arrived, Cleared, arrival};
+ghost use Rattle.bridge_run.specs.Next.{ReachesStart, SendsHead};
 ghost use Rattle.bridge_run.specs.Runs.{IsOutcome};
 ghost use Rattle.bridge_parts.specs.Ports.{NotBefore, IsAfter};
-ghost use Rattle.bridge_relay.specs.Relays.{one_more, RelayState, Stands, IsSent, waiting, HasSpare, IsAwaited, IsSound, is_flow_stray};
+ghost use Rattle.bridge_relay.specs.Relays.{captured, one_more, RelayState, Stands, IsSent, waiting, HasSpare, IsAwaited, IsSound, is_flow_stray};
 
 use bridge_base::{END_OF_TIME, LONGEST_FRAME, MOST_ARRIVALS, MOST_CAPTURED};
 use bridge_capture::Packet;
@@ -118,6 +119,12 @@ impl<'a, G: Agenda + Drop, A: Allocator + Copy> Relay<'a, G, A> {
     pub fn advance(&mut self) -> Sent<A>
         requires { (q k : ℕ) × (G.held self.old.ports.agenda q ≡ Some k) }
         ensures stands { (p : config.Plan A) (es : List Event) (left : ℕ → List Captured) → Stands p self.old es left → Stands p self.new es (one_more left result) }
+        ensures sends { (p : config.Plan A) (es : List Event) (left : ℕ → List Captured)
+            → Stands p self.old es left
+            → SendsHead p es left result.port result.class result.start (captured result) }
+        ensures reaches { (p : config.Plan A) (es : List Event) (left : ℕ → List Captured)
+            → Stands p self.old es left
+            → ReachesStart p es result.start result.port (one_more left result) }
         ensures which { IsLeast (G.held self.old.ports.agenda) (Some (result.port, result.start)) }
         ensures sent { IsSent self.old self.new result }
         ensures later { IsAfter (G.held self.new.ports.agenda) result.port result.start }

@@ -25,7 +25,7 @@ use Rattle.bridge_run.specs.declared.outcome.View.{View}
 use Rattle.bridge_run.specs.declared.outcome.Outcome.{Outcome}
 use Rattle.bridge_run.specs.Events.{Arrival, Event, Arrived, Cleared, police_of, call_of, calls, steps, flow_of, own}
 use Rattle.bridge_run.specs.Offers.{Carried, Offer, egress, offer_of, offers, offered, in_class}
-use Rattle.bridge_run.specs.Runs.{Delayed, IsView, IsRun, AreWhole, AtPort, IsOutcome, IsSoloView, TellTheSame}
+use Rattle.bridge_run.specs.Runs.{Delayed, IsView, IsRun, AreWhole, AtPort, IsOutcome, AreSolo, AreOwnQueues, IsSoloView, TellTheSame}
 use Rattle.bridge_run.proofs.Views.{departs_as, drops_as, delayed_as, greatest_as, told_once}
 use Rattle.bridge_filter.proofs.Members.{member_found, one_number}
 use Rattle.bridge_filter.proofs.OwnShown.{verdicts_own, buckets_own, flags_own}
@@ -36,13 +36,13 @@ use Rattle.bridge_run.proofs.Offering.{in_split, none_offered, offered_by, sent,
 
 -- MEMBERS OF LISTS
 
-in_only : {X : Type 0} (c : ℕ) (x : Copy X) (xs : List (Copy X)) → In x xs → x.class ≡ c → In x (only c xs)
+pub in_only : {X : Type 0} (c : ℕ) (x : Copy X) (xs : List (Copy X)) → In x xs → x.class ≡ c → In x (only c xs)
 in_only c x [] i e = absurd i
 in_only c x (y ∷ xs) i e = by_bool (nat_eq y.class c)
     (λ k. rw k (elim i [ inl same ↦ inl same | inr later ↦ inr (in_only c x xs later e) ]))
     (λ k. rw k (elim i [ inl same ↦ absurd (eqb-false y.class c k (ap (λ (v : Copy _). v.class) (sym same) ∙ e)) | inr later ↦ in_only c x xs later e ]))
 
-only_in : {X : Type 0} (c : ℕ) (x : Copy X) (xs : List (Copy X)) → In x (only c xs) → In x xs
+pub only_in : {X : Type 0} (c : ℕ) (x : Copy X) (xs : List (Copy X)) → In x (only c xs) → In x xs
 only_in c x [] i = absurd i
 only_in c x (y ∷ xs) i = by_bool (nat_eq y.class c)
     (λ k. let j : (x ≡ y) ⊎ In x (only c xs) = rw k at i in elim j [ inl same ↦ inl same | inr later ↦ inr (only_in c x xs later) ])
@@ -75,15 +75,15 @@ offered_only c (x ∷ xs) = by_bool (nat_eq x.class c) (λ k. rw (k, offered_onl
 -- THE FILTER'S QUEUES
 
 -- a list, where something is offered
-abbrev picked : List Offer → List (Copy Carried) → List (Copy Carried)
+abbrev pub picked : List Offer → List (Copy Carried) → List (Copy Carried)
 picked [] xs = []
 picked (o ∷ os) xs = xs
 
-in_picked : (x : Copy Carried) (o : Offer) (os : List Offer) (xs : List (Copy Carried)) → In o os → In x xs → In x (picked os xs)
+pub in_picked : (x : Copy Carried) (o : Offer) (os : List Offer) (xs : List (Copy Carried)) → In o os → In x xs → In x (picked os xs)
 in_picked x o [] xs i j = absurd i
 in_picked x o (y ∷ os) xs i j = j
 
-picked_in : (x : Copy Carried) (os : List Offer) (xs : List (Copy Carried)) → In x (picked os xs) → In x xs
+pub picked_in : (x : Copy Carried) (os : List Offer) (xs : List (Copy Carried)) → In x (picked os xs) → In x xs
 picked_in x [] xs i = absurd i
 picked_in x (o ∷ os) xs i = i
 
@@ -92,12 +92,12 @@ picked_empty [] = refl
 picked_empty (o ∷ os) = refl
 
 -- what events offer to a port, where it is there
-abbrev offers_if : {A : Type 0} → Plan A → Option (PortPlan A) → List Event → List Offer
+abbrev pub offers_if : {A : Type 0} → Plan A → Option (PortPlan A) → List Event → List Offer
 offers_if p None es = []
 offers_if p (Some out) es = offers p out es
 
 -- the queues that a filter's own events fill
-abbrev queues : {A : Type 0} → Plan A → ℕ → FilterPlan → List Event → (ℕ → List (Copy Carried)) → ℕ → ℕ → List (Copy Carried)
+abbrev pub queues : {A : Type 0} → Plan A → ℕ → FilterPlan → List Event → (ℕ → List (Copy Carried)) → ℕ → ℕ → List (Copy Carried)
 queues p s f es lists q c = picked (in_class c (offers_if p (port_at p.ports q) (own p s f es))) (only c (lists q))
 
 -- an offer of the filter's flow lies in the filter's reach
@@ -131,9 +131,10 @@ own_flow p s f out plan there (Arrived a ∷ es) o i = by_bool (is_number s (flo
     ])
     (λ k. let j : In o (offers p out (own p s f es)) = rw k at i in own_flow p s f out plan there es o j)
 
-record IsQueue {A : Type 0} (p : Plan A) (s : ℕ) (f : FilterPlan) (out : PortPlan A) (c : ℕ) (es : List Event) (xs : List (Copy Carried)) : Type 0 where
-  offers : offered xs ≡ in_class c (offers p out (own p s f es))
-  solo : IsSolo (egress out) xs
+-- the own queue of a class of a port
+pub record IsQueue {A : Type 0} (p : Plan A) (s : ℕ) (f : FilterPlan) (out : PortPlan A) (c : ℕ) (es : List Event) (xs : List (Copy Carried)) : Type 0 where
+  pub offers : offered xs ≡ in_class c (offers p out (own p s f es))
+  pub solo : IsSolo (egress out) xs
 
 queue_is : {A : Type 0} (p : Plan A) (s : ℕ) (f : FilterPlan) → IsSafe p s f → (es : List Event) → (moments : ℕ → ℕ) (lists : ℕ → List (Copy Carried)) → IsRun p es moments lists → AreWhole lists → (q c : ℕ) (out : PortPlan A) → port_at p.ports q ≡ Some out → (os : List Offer) → in_class c (offers p out (own p s f es)) ≡ os → IsQueue p s f out c es (picked os (only c (lists q)))
 queue_is p s f safe es moments lists run whole q c out at [] e = record { offers = sym e; solo = tt }
@@ -150,7 +151,7 @@ queue_is {A} p s f safe es moments lists run whole q c out at (o ∷ os) e =
     }
 
 -- the filter's copies at a port lie in its own queues
-lies_by : {A : Type 0} (p : Plan A) (s : ℕ) (f : FilterPlan) → IsSafe p s f → (es : List Event) → (moments : ℕ → ℕ) (lists : ℕ → List (Copy Carried)) → IsRun p es moments lists → (q : ℕ) (x : Copy Carried) (m : Option (PortPlan A)) → port_at p.ports q ≡ m → x.item.flow ≡ Some s → In x (lists q) → In x (picked (in_class x.class (offers_if p m (own p s f es))) (only x.class (lists q)))
+pub lies_by : {A : Type 0} (p : Plan A) (s : ℕ) (f : FilterPlan) → IsSafe p s f → (es : List Event) → (moments : ℕ → ℕ) (lists : ℕ → List (Copy Carried)) → IsRun p es moments lists → (q : ℕ) (x : Copy Carried) (m : Option (PortPlan A)) → port_at p.ports q ≡ m → x.item.flow ≡ Some s → In x (lists q) → In x (picked (in_class x.class (offers_if p m (own p s f es))) (only x.class (lists q)))
 lies_by p s f safe es moments lists run q x None at e i = let z : ⊥ = subst (In x) (run.others q at) i in absurd z
 lies_by p s f safe es moments lists run q x (Some out) at e i =
     let there = at_own p.ports q out at in
@@ -162,7 +163,7 @@ lies_by p s f safe es moments lists run q x (Some out) at e i =
 -- VIEWS
 
 -- what is told of a filter changes with neither the steps nor the copies of others
-view_as : {A : Type 0} (p : Plan A) (s : ℕ) (f : FilterPlan) → IsApart (police_of p) s f → (ss ts : List Step) → AreListed (police_of p) ss → ts ≡ own_steps s f ss → (P Q : ℕ → Copy Carried → Type 0) → ((q : ℕ) (x : Copy Carried) → x.item.flow ≡ Some s → P q x → Q q x) → ((q : ℕ) (x : Copy Carried) → x.item.flow ≡ Some s → Q q x → P q x) → (v : View A) → IsView p s f ss P v → IsView p s f ts Q v
+pub view_as : {A : Type 0} (p : Plan A) (s : ℕ) (f : FilterPlan) → IsApart (police_of p) s f → (ss ts : List Step) → AreListed (police_of p) ss → ts ≡ own_steps s f ss → (P Q : ℕ → Copy Carried → Type 0) → ((q : ℕ) (x : Copy Carried) → x.item.flow ≡ Some s → P q x → Q q x) → ((q : ℕ) (x : Copy Carried) → x.item.flow ≡ Some s → Q q x → P q x) → (v : View A) → IsView p s f ss P v → IsView p s f ts Q v
 view_as {A} p s f a ss ts l e P Q to from v h =
     let vs : verdicts_of s ts ≡ verdicts_of s ss = ap (verdicts_of s) e ∙ verdicts_own s f ss in
     let t = h.told in
@@ -182,14 +183,47 @@ view_as {A} p s f a ss ts l e P Q to from v h =
     }
 
 -- the queues of a port that is not there are empty
-none_there : {A : Type 0} (p : Plan A) (s : ℕ) (f : FilterPlan) (es : List Event) (lists : ℕ → List (Copy Carried)) (q c : ℕ) → lists q ≡ [] → queues p s f es lists q c ≡ []
+pub none_there : {A : Type 0} (p : Plan A) (s : ℕ) (f : FilterPlan) (es : List Event) (lists : ℕ → List (Copy Carried)) (q c : ℕ) → lists q ≡ [] → queues p s f es lists q c ≡ []
 none_there p s f es lists q c e =
     ap (λ (xs : List (Copy Carried)). picked (in_class c (offers_if p (port_at p.ports q) (own p s f es))) (only c xs)) e ∙ picked_empty (in_class c (offers_if p (port_at p.ports q) (own p s f es)))
 
-queue_at : {A : Type 0} (p : Plan A) (s : ℕ) (f : FilterPlan) → IsSafe p s f → (es : List Event) → (moments : ℕ → ℕ) (lists : ℕ → List (Copy Carried)) → IsRun p es moments lists → AreWhole lists → (q c : ℕ) (out : PortPlan A) → port_at p.ports q ≡ Some out → IsQueue p s f out c es (queues p s f es lists q c)
+pub queue_at : {A : Type 0} (p : Plan A) (s : ℕ) (f : FilterPlan) → IsSafe p s f → (es : List Event) → (moments : ℕ → ℕ) (lists : ℕ → List (Copy Carried)) → IsRun p es moments lists → AreWhole lists → (q c : ℕ) (out : PortPlan A) → port_at p.ports q ≡ Some out → IsQueue p s f out c es (queues p s f es lists q c)
 queue_at {A} p s f safe es moments lists run whole q c out at =
     let r = queue_is p s f safe es moments lists run whole q c out at (in_class c (offers p out (own p s f es))) refl in
     subst (λ (m : Option (PortPlan A)). IsQueue p s f out c es (picked (in_class c (offers_if p m (own p s f es))) (only c (lists q)))) (sym at) r
+
+-- the queues of a filter that fails no test are what its own events alone fill, each alone on an idle bridge
+pub solo_queues : {A : Type 0} (p : Plan A) (s : ℕ) (f : FilterPlan) → IsSafe p s f → (es : List Event) → (moments : ℕ → ℕ) (lists : ℕ → List (Copy Carried)) → IsRun p es moments lists → AreWhole lists → AreSolo p (own p s f es) (queues p s f es lists)
+solo_queues p s f safe es moments lists run whole = record {
+  offers = λ q c port at. (queue_at p s f safe es moments lists run whole q c port at).offers;
+  solo = λ q c port at. (queue_at p s f safe es moments lists run whole q c port at).solo;
+  others = λ q c at. none_there p s f es lists q c (run.others q at);
+}
+
+-- a copy in one of these queues is one of the port
+queued_at : {A : Type 0} (p : Plan A) (s : ℕ) (f : FilterPlan) (es : List Event) (lists : ℕ → List (Copy Carried)) (q c : ℕ) (x : Copy Carried) → In x (queues p s f es lists q c) → In x (lists q)
+queued_at p s f es lists q c x i = only_in c x (lists q) (picked_in x (in_class c (offers_if p (port_at p.ports q) (own p s f es))) (only c (lists q)) i)
+
+flow_queued : {A : Type 0} (p : Plan A) (s : ℕ) (f : FilterPlan) → IsSafe p s f → (es : List Event) → (moments : ℕ → ℕ) (lists : ℕ → List (Copy Carried)) → IsRun p es moments lists → AreWhole lists → (q c : ℕ) (x : Copy Carried) (m : Option (PortPlan A)) → port_at p.ports q ≡ m → In x (queues p s f es lists q c) → x.item.flow ≡ Some s
+flow_queued p s f safe es moments lists run whole q c x None at i = let z : ⊥ = subst (In x) (none_there p s f es lists q c (run.others q at)) i in absurd z
+flow_queued p s f safe es moments lists run whole q c x (Some out) at i =
+    let there = at_own p.ports q out at in
+    let queue = queue_at p s f safe es moments lists run whole q c out at in
+    let among : In (as_offer x) (in_class c (offers p out (own p s f es))) = subst (In (as_offer x)) queue.offers (in_offered x (queues p s f es lists q c) i) in
+    own_flow p s f out safe.plan there es (as_offer x) (in_class_in c (as_offer x) (offers p out (own p s f es)) among).0
+
+-- the filter's copies of a whole run are those of its own queues, each alone
+pub own_alone : {A : Type 0} (p : Plan A) (n : ℕ) (f : FilterPlan) (es : List Event) (moments : ℕ → ℕ) (lists : ℕ → List (Copy Carried)) → IsPlan p → IsAcceptable p → In (n, f) p.filters → f.protected ≡ true → IsRun p es moments lists → AreWhole lists → AreOwnQueues p n f es lists
+own_alone {A} p n f es moments lists plan good listed is run whole =
+    let safe : IsSafe p n f = record { plan = plan; listed = listed; passes = good n f listed is } in
+    record {
+      own = queues p n f es lists;
+      solo = solo_queues p n f safe es moments lists run whole;
+      same = λ q x. (
+        (λ h. (x.class, lies_by p n f safe es moments lists run q x (port_at p.ports q) refl h.1 h.0)),
+        (λ h. (queued_at p n f es lists q h.0 x h.1, flow_queued p n f safe es moments lists run whole q h.0 x (port_at p.ports q) refl h.1)),
+      );
+    }
 
 -- what a run tells of a filter that fails no test is what its own events alone tell
 pub run_alone : {A : Type 0} (p : Plan A) (s : ℕ) (f : FilterPlan) → IsSafe p s f → (es : List Event) → (lists : ℕ → List (Copy Carried)) (o : Outcome A) → IsOutcome p es lists o → (v : View A) → lookup (nat_eq s) o.filters.items ≡ Some v → IsSoloView p s f (own p s f es) v
@@ -199,12 +233,10 @@ run_alone {A} p s f safe es lists o out v found =
     let P : ℕ → Copy Carried → Type 0 = AtPort lists in
     let Q : ℕ → Copy Carried → Type 0 = λ q x. (c : ℕ) × In x (own_lists q c) in
     let to : (q : ℕ) (x : Copy Carried) → x.item.flow ≡ Some s → P q x → Q q x = λ q x e i. (x.class, lies_by p s f safe es out.moments lists out.run q x (port_at p.ports q) refl e i) in
-    let from : (q : ℕ) (x : Copy Carried) → x.item.flow ≡ Some s → Q q x → P q x = λ q x e i. only_in i.0 x (lists q) (picked_in x (in_class i.0 (offers_if p (port_at p.ports q) (own p s f es))) (only i.0 (lists q)) i.1) in
+    let from : (q : ℕ) (x : Copy Carried) → x.item.flow ≡ Some s → Q q x → P q x = λ q x e i. queued_at p s f es lists q i.0 x i.1 in
     record {
       lists = own_lists;
-      offers = λ q c port at. (queue_at p s f safe es out.moments lists out.run out.whole q c port at).offers;
-      solo = λ q c port at. (queue_at p s f safe es out.moments lists out.run out.whole q c port at).solo;
-      others = λ q c at. none_there p s f es lists q c (out.run.others q at);
+      solo = solo_queues p s f safe es out.moments lists out.run out.whole;
       view = view_as p s f (apart p s f safe) (steps p es) (steps p (own p s f es)) (told_listed (police_of p) (calls p es)) (steps_own p s f (apart p s f safe) es) P Q to from v (out.views s f v listed found);
     }
 

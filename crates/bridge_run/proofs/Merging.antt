@@ -12,7 +12,7 @@ use Rattle.bridge_base.specs.Members.{AllAfter, Rising}
 use Rattle.bridge_run.specs.Merge.{Input, NotBefore, of_rank, IsMerged, events, own_inputs}
 use Rattle.bridge_run.proofs.Views.{after_all, cons_is}
 
-in_at : (q : ℕ) (a : Input) (xs : List Input) → In a (of_rank q xs) → In a xs
+pub in_at : (q : ℕ) (a : Input) (xs : List Input) → In a (of_rank q xs) → In a xs
 in_at q a [] i = absurd i
 in_at q a (x ∷ xs) i = by_bool (nat_eq x.rank q)
     (λ k. let j : (a ≡ x) ⊎ In a (of_rank q xs) = rw k at i in elim j [ inl e ↦ inl e | inr l ↦ inr (in_at q a xs l) ])
@@ -30,7 +30,7 @@ later_there a b xs bs n r e =
     let z : a ∷ of_rank a.rank xs ≡ of_rank a.rank bs = rw (same_eq a.rank, k) at e in
     after_all NotBefore b a bs r.0 (in_at a.rank a bs (subst (In a) z (inl refl)))
 
-one_list : (xs ys : List Input) → Rising NotBefore xs → Rising NotBefore ys → ((q : ℕ) → of_rank q xs ≡ of_rank q ys) → xs ≡ ys
+pub one_list : (xs ys : List Input) → Rising NotBefore xs → Rising NotBefore ys → ((q : ℕ) → of_rank q xs ≡ of_rank q ys) → xs ≡ ys
 one_list [] [] r s h = refl
 one_list [] (b ∷ bs) r s h = let z : [] ≡ b ∷ of_rank b.rank bs = rw (same_eq b.rank) at (h b.rank) in absurd (cc)
 one_list (a ∷ xs) [] r s h = let z : a ∷ of_rank a.rank xs ≡ [] = rw (same_eq a.rank) at (h a.rank) in absurd (cc)
@@ -59,11 +59,11 @@ after_own : {A : Type 0} (p : Plan A) (n : ℕ) (f : FilterPlan) (R : Input → 
 after_own p n f R a [] h = tt
 after_own p n f R a (x ∷ xs) h = by_bool (is_own p n f x.event) (λ k. rw k (h.0, after_own p n f R a xs h.1)) (λ k. rw k (after_own p n f R a xs h.1))
 
-rising_own : {A : Type 0} (p : Plan A) (n : ℕ) (f : FilterPlan) (R : Input → Input → Type 0) (xs : List Input) → Rising R xs → Rising R (own_inputs p n f xs)
+pub rising_own : {A : Type 0} (p : Plan A) (n : ℕ) (f : FilterPlan) (R : Input → Input → Type 0) (xs : List Input) → Rising R xs → Rising R (own_inputs p n f xs)
 rising_own p n f R [] h = tt
 rising_own p n f R (x ∷ xs) h = by_bool (is_own p n f x.event) (λ k. rw k (after_own p n f R x xs h.0, rising_own p n f R xs h.1)) (λ k. rw k (rising_own p n f R xs h.1))
 
-own_of_rank : {A : Type 0} (p : Plan A) (n : ℕ) (f : FilterPlan) (q : ℕ) (xs : List Input) → of_rank q (own_inputs p n f xs) ≡ own_inputs p n f (of_rank q xs)
+pub own_of_rank : {A : Type 0} (p : Plan A) (n : ℕ) (f : FilterPlan) (q : ℕ) (xs : List Input) → of_rank q (own_inputs p n f xs) ≡ own_inputs p n f (of_rank q xs)
 own_of_rank p n f q [] = refl
 own_of_rank p n f q (x ∷ xs) = by_bool (is_own p n f x.event)
     (λ k. by_bool (nat_eq x.rank q) (λ j. rw (k, j, k, own_of_rank p n f q xs) refl) (λ j. rw (k, j) (own_of_rank p n f q xs)))
@@ -74,7 +74,7 @@ own_cons : {A : Type 0} (p : Plan A) (n : ℕ) (f : FilterPlan) (e : Event) (es 
 own_cons p n f (Arrived a) es = refl
 own_cons p n f (Cleared c m) es = refl
 
-events_own : {A : Type 0} (p : Plan A) (n : ℕ) (f : FilterPlan) (xs : List Input) → own p n f (events xs) ≡ events (own_inputs p n f xs)
+pub events_own : {A : Type 0} (p : Plan A) (n : ℕ) (f : FilterPlan) (xs : List Input) → own p n f (events xs) ≡ events (own_inputs p n f xs)
 events_own p n f [] = refl
 events_own p n f (x ∷ xs) = own_cons p n f x.event (events xs) ∙ by_bool (is_own p n f x.event) (λ k. rw (k, events_own p n f xs) refl) (λ k. rw k (events_own p n f xs))
 

@@ -61,7 +61,7 @@ going_on p at port set handle priority dei sdu on (Ok h) there w = by_bool (nat_
     let (a, b, c, d, e) = same_way _ _ _ _ _ _ _ _ _ _ z in
     record { on = on; parsed = h; at_port = there; is = refl; set_is = a; handle_is = b; priority_is = c; dei_is = d; sdu_is = e })
 
-going_if : {A : Type 0} (p : Plan A) (at port set : ℕ) (handle : Option ℕ) (priority : ℕ) (dei : Bool) (sdu : ℕ) (o : Option (PortPlan A)) (r : Result Head FrameFault) → port_at p.ports port ≡ o → way_if p o r ≡ Goes set handle priority dei sdu → IsGoing p at port set handle priority dei sdu r
+pub going_if : {A : Type 0} (p : Plan A) (at port set : ℕ) (handle : Option ℕ) (priority : ℕ) (dei : Bool) (sdu : ℕ) (o : Option (PortPlan A)) (r : Result Head FrameFault) → port_at p.ports port ≡ o → way_if p o r ≡ Goes set handle priority dei sdu → IsGoing p at port set handle priority dei sdu r
 going_if p at port set handle priority dei sdu None r there w = absurd (cc)
 going_if p at port set handle priority dei sdu (Some on) r there w = going_on p at port set handle priority dei sdu on r there w
 
@@ -177,7 +177,7 @@ sent p s f out safe there (Arrived a ∷ es) o i = elim (in_split o (offer_of p 
 
 -- CLASSES OF THE REACH
 
-in_class_join : (c : ℕ) (xs ys : List Offer) → in_class c (xs ++ ys) ≡ in_class c xs ++ in_class c ys
+pub in_class_join : (c : ℕ) (xs ys : List Offer) → in_class c (xs ++ ys) ≡ in_class c xs ++ in_class c ys
 in_class_join c [] ys = refl
 in_class_join c (x ∷ xs) ys = by_bool (nat_eq x.class c) (λ k. rw (k, in_class_join c xs ys) refl) (λ k. rw k (in_class_join c xs ys))
 

@@ -80,7 +80,7 @@ greatest_as P Q f g (Some m) h = (f m h.0, λ n q. h.1 n (g n q))
 
 -- ONE VIEW
 
-same_offers : (xs ys : List (Copy Carried)) → offered xs ≡ offered ys → SameOffers xs ys
+pub same_offers : (xs ys : List (Copy Carried)) → offered xs ≡ offered ys → SameOffers xs ys
 same_offers [] [] e = tt
 same_offers [] (y ∷ ys) e = absurd (cc)
 same_offers (x ∷ xs) [] e = absurd (cc)
@@ -89,8 +89,8 @@ same_offers (x ∷ xs) (y ∷ ys) e =
     (ap (λ (o : Offer). o.at) r.0, ap (λ (o : Offer). o.class) r.0, ap (λ (o : Offer). o.item) r.0, same_offers xs ys r.1)
 
 same_lists : {A : Type 0} (p : Plan A) (s : ℕ) (f : FilterPlan) (es : List Event) (u v : View A) (a : IsSoloView p s f es u) (b : IsSoloView p s f es v) (q c : ℕ) (o : Option (PortPlan A)) → port_at p.ports q ≡ o → a.lists q c ≡ b.lists q c
-same_lists p s f es u v a b q c None e = a.others q c e ∙ sym (b.others q c e)
-same_lists p s f es u v a b q c (Some out) e = one_outcome (egress out) (a.lists q c) (b.lists q c) (same_offers (a.lists q c) (b.lists q c) (a.offers q c out e ∙ sym (b.offers q c out e))) (a.solo q c out e) (b.solo q c out e)
+same_lists p s f es u v a b q c None e = a.solo.others q c e ∙ sym (b.solo.others q c e)
+same_lists p s f es u v a b q c (Some out) e = one_outcome (egress out) (a.lists q c) (b.lists q c) (same_offers (a.lists q c) (b.lists q c) (a.solo.offers q c out e ∙ sym (b.solo.offers q c out e))) (a.solo.solo q c out e) (b.solo.solo q c out e)
 
 -- a list of events tells one thing of a filter
 pub told_once : {A : Type 0} (p : Plan A) (s : ℕ) (f : FilterPlan) (es : List Event) (u v : View A) → IsSoloView p s f es u → IsSoloView p s f es v → TellTheSame u v

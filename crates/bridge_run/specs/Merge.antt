@@ -4,6 +4,7 @@ use Rattle.bridge_base.specs.Members.{Rising}
 use Rattle.bridge_capture.specs.Grammar.{Captured}
 use Rattle.bridge_filter.specs.declared.Clear.{Clear}
 use Rattle.bridge_filter.specs.declared.FilterPlan.{FilterPlan}
+use Rattle.bridge_config.specs.declared.command.Command.{Command}
 use Rattle.bridge_config.specs.Model.{Plan}
 use Rattle.bridge_run.specs.Events.{Event, Arrived, Cleared, arrival, is_own}
 
@@ -48,6 +49,19 @@ newest (x ∷ xs) = x.at
 abbrev pub inputs_of : ℕ → List Captured → List Input
 inputs_of q [] = []
 inputs_of q (c ∷ cs) = inputs_of q cs ++ frame q c ∷ []
+
+-- a command as an input
+abbrev pub asked : Command → Input
+asked c = command c.at c.clear c.number
+
+-- the commands as inputs, newest first
+abbrev pub commands_of : List Command → List Input
+commands_of [] = []
+commands_of (c ∷ cs) = commands_of cs ++ asked c ∷ []
+
+-- the commands, and the frames of each port
+abbrev pub streams : List Input → (ℕ → List Captured) → ℕ → List Input
+streams commanded frames q = if nat_eq q 0 then commanded else inputs_of q (frames q)
 
 -- of some inputs those of a filter
 abbrev pub own_inputs : {A : Type 0} → Plan A → ℕ → FilterPlan → List Input → List Input

@@ -20,7 +20,7 @@ use Rattle.bridge_run.specs.declared.outcome.Dropped.{Dropped}
 use Rattle.bridge_run.specs.declared.outcome.PortCount.{PortCount}
 use Rattle.bridge_run.specs.declared.outcome.View.{View}
 use Rattle.bridge_run.specs.declared.outcome.Outcome.{Outcome}
-use Rattle.bridge_run.specs.Events.{Arrival, Event, arrivals, way_of, flow_of, police_of, steps}
+use Rattle.bridge_run.specs.Events.{Arrival, Event, arrivals, way_of, flow_of, own as own_events, police_of, steps}
 use Rattle.bridge_run.specs.Offers.{Carried, egress, offers, offered, in_class}
 
 -- by start, then by port
@@ -151,12 +151,22 @@ pub record IsOutcome {A : Type 0} (p : Plan A) (es : List Event) (lists : ℕ �
   pub ports_are : (q : ℕ) → ((out : PortPlan A) × (port_at p.ports q ≡ Some out)) ↔ ((c : PortCount) × (lookup (nat_eq q) o.ports.items ≡ Some c))
   pub counts : (q : ℕ) (c : PortCount) → lookup (nat_eq q) o.ports.items ≡ Some c → IsCount p es q (lists q) c
 
--- what is told of a filter on an idle bridge, each of its queues alone
-pub record IsSoloView {A : Type 0} (p : Plan A) (s : ℕ) (f : FilterPlan) (es : List Event) (v : View A) : Type 0 where
-  pub lists : ℕ → ℕ → List (Copy Carried)
+-- what these events offer to each queue of an idle bridge fares as if the queue had its link alone
+pub record AreSolo {A : Type 0} (p : Plan A) (es : List Event) (lists : ℕ → ℕ → List (Copy Carried)) : Type 0 where
   pub offers : (q c : ℕ) (out : PortPlan A) → port_at p.ports q ≡ Some out → offered (lists q c) ≡ in_class c (offers p out es)
   pub solo : (q c : ℕ) (out : PortPlan A) → port_at p.ports q ≡ Some out → IsSolo (egress out) (lists q c)
   pub others : (q c : ℕ) → port_at p.ports q ≡ None → lists q c ≡ []
+
+-- of the copies of a run a filter's are those that its own events give, each of their queues alone on an idle bridge
+pub record AreOwnQueues {A : Type 0} (p : Plan A) (n : ℕ) (f : FilterPlan) (es : List Event) (lists : ℕ → List (Copy Carried)) : Type 0 where
+  pub own : ℕ → ℕ → List (Copy Carried)
+  pub solo : AreSolo p (own_events p n f es) own
+  pub same : (q : ℕ) (x : Copy Carried) → (In x (lists q) × (x.item.flow ≡ Some n)) ↔ ((c : ℕ) × In x (own q c))
+
+-- what is told of a filter on an idle bridge, each of its queues alone
+pub record IsSoloView {A : Type 0} (p : Plan A) (s : ℕ) (f : FilterPlan) (es : List Event) (v : View A) : Type 0 where
+  pub lists : ℕ → ℕ → List (Copy Carried)
+  pub solo : AreSolo p es lists
   pub view : IsView p s f (steps p es) (λ q x. (c : ℕ) × In x (lists q c)) v
 
 -- two views that tell the same

@@ -19,7 +19,7 @@ ghost use Rattle.bridge_port.specs.Solo.{IsSolo, IsWhole, last_done, only};
 ghost use Rattle.bridge_run.specs.Events.{arrivals, Event, own};
 ghost use Rattle.bridge_run.specs.Offers.{Carried, egress};
 ghost use Rattle.bridge_run.specs.Outputs.{Ends};
-ghost use Rattle.bridge_run.specs.Runs.{AreWhole, IsOnLink, IsOutcome, IsRun, IsSoloView, TellTheSame};
+ghost use Rattle.bridge_run.specs.Runs.{AreOwnQueues, AreWhole, IsOnLink, IsOutcome, IsRun, IsSoloView, TellTheSame};
 ghost use Rattle.bridge_run.specs.Merge.{Input, IsMerged, events, own_inputs};
 
 use std::alloc::Allocator;
@@ -35,6 +35,19 @@ pub fn own_queues<A: Allocator + Copy>()
         → port_at p.ports q ≡ Some out
         → In x (lists q)
         → (x.item.flow ≡ Some n) ↔ (reaches p f q x.class ≡ true) }
+{}
+
+/// In a whole run of an accepted plan the copies of a protected filter's frames are those that its own events alone give,
+/// each of its queues alone on an idle bridge.
+pub fn own_queues_alone<A: Allocator + Copy>()
+    ensures { (p : Plan A) (n : ℕ) (f : FilterPlan) (es : List Event) (moments : ℕ → ℕ) (lists : ℕ → List (Copy Carried))
+        → IsPlan p
+        → IsAcceptable p
+        → In (n, f) p.filters
+        → f.protected ≡ true
+        → IsRun p es moments lists
+        → AreWhole lists
+        → AreOwnQueues p n f es lists }
 {}
 
 /// While a class of a protected filter's reach is open at its port, no copy of another class occupies the link, at any

@@ -1,6 +1,6 @@
 use Rattle.std.proofs.Common.{◌≡◌, ℕ, ◌-◌, ◌<◌, ◌≤◌, arith, rules, sym, subst, ap, ◌∙◌, Some, length, refl, Option}
 use Rattle.bridge_parts.specs.declared.slot.Slot.{Slot}
-use Rattle.bridge_parts.specs.Ports.{PortsState, slot_in, slot_at, IsSlot}
+use Rattle.bridge_parts.specs.Ports.{PortsState, slot_in, slot_at, AreKept, IsSlot}
 use Rattle.bridge_port.specs.Standing.{State, IsDue}
 use Rattle.bridge_events.specs.Least.{IsLeast}
 use Rattle.bridge_parts.proofs.Porting.{below, here, kept_set, is_after, slot_started, has_started, none_held, not_none}
@@ -69,3 +69,17 @@ pub returns-clause-later : goal.returns-clause-later
 returns-clause-later g c =
     let z = subst (IsLeast (g.G.Agenda.held c.self.inside.agenda)) c.in-Some.is c.least.ensures in
     is_after g.G.Agenda.held c.self.inside.agenda c.renew.new.agenda c.in-Some.number c.in-Some.start c.start-begun.new.self.port c.next_start-due.result c.renew.ensures c.next_start-due.ensures.due (ap (λ (s : Slot _). s.port.earliest) c.start-begun.ensures.moved) z
+
+pub returns-clause-kept : goal.returns-clause-kept
+returns-clause-kept g c = subst (λ (v : PortsState _ _). AreKept g.G.Agenda.held v.slots v.agenda) c.self.view_is c.self.invariant
+
+pub returns-clause-keeps : goal.returns-clause-keeps
+returns-clause-keeps g c =
+    let slots = c.self.inside.slots.items in
+    let q = c.in-Some.number in
+    let slot = c.in-Some-index_mut.slot in
+    let o = c.self.invariant.others q c.in-Some.start c.in-Some.ensures.0 in
+    let low = below slots q o.1.0 o.1.1 in
+    let at = here slots q c.index_mut.result.now slot low c.index_mut.ensures.value c.in-Some-index_mut.is in
+    kept_set g.G.Agenda.held slots c.self.inside.agenda c.renew.new.agenda q c.start-begun.new.self c.next_start-due.result c.self.invariant o.0 low c.renew.ensures c.next_start-due.ensures.due
+    (slot_started slot c.start-begun.new.self c.in-Some.start c.start-begun.result.class c.start-begun.result.item c.start-begun.ensures.moved (c.self.invariant.each q slot o.0 at))

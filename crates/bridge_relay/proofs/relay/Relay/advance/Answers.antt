@@ -7,6 +7,7 @@ use Rattle.bridge_relay.proofs.Advancing.{count_started, right_item, short_item,
 use Rattle.bridge_run.specs.declared.outcome.Departure.{Departure}
 use Rattle.bridge_relay.proofs.Sound.{sound_started}
 use Rattle.bridge_relay.proofs.Standing.{stands_started}
+use Rattle.bridge_relay.proofs.Nexts.{made_after, made_at, reaches_start, sends_head}
 use Rattle.bridge_relay.proofs.relay.Relay.advance.Goals as goal
 
 pub depart-requires : goal.depart-requires
@@ -36,6 +37,27 @@ returns-clause-stands g c = λ p es left st.
     let sent : Sent _ = record { port = r.0; class = r.2.class; start = r.1; done = r.2.done; len = r.2.item.len; octets = r.2.item.load.octets } in
     let sound = sound_started g.G.Agenda.held old c.start-port.new.self c.depart.new.tables.entries c.max-self-inside.result r.0 r.1 s.0 r.2 d c.saturating_sub.result c.self.invariant s.1 s.1.from c.start-port.ensures.which.0 c.start-port.ensures.later refl refl c.depart.ensures c.max-self-inside.ensures in
     stands_started g.G.Agenda.held old c.start-port.new.self c.depart.new.tables.entries c.max-self-inside.result r.0 r.1 s.0 r.2 d c.saturating_sub.result c.self.invariant sound s.1 refl refl refl refl c.saturating_sub.ensures c.depart.ensures p es left (one_more left sent) (λ q. ap (λ (t : ℕ). if nat_eq q r.0 then left q ++ (record { time = t; len = r.2.item.len; octets = r.2.item.load.octets.items }) ∷ [] else left q) s.1.done) (subst (λ (v : RelayState _ _). Stands p v es left) (sym c.self.view_is) st)
+
+pub returns-clause-reaches : goal.returns-clause-reaches
+returns-clause-reaches g c = λ p es left st.
+    let s = c.start-port.ensures.started in
+    let b = c.self.inside in
+    let old : RelayState _ _ = record { plan = b.plan.now; streams = b.ident; police = b.police; ports = b.ports; tables = b.tables.entries; arrived = b.arrived; earliest = b.earliest } in
+    let r = c.start-port.result in
+    let d : Departure = record { own = r.2.item.load.own; port = r.0; start = r.1; done = r.2.done } in
+    let sent : Sent _ = record { port = r.0; class = r.2.class; start = r.1; done = r.2.done; len = r.2.item.len; octets = r.2.item.load.octets } in
+    let sound = sound_started g.G.Agenda.held old c.start-port.new.self c.depart.new.tables.entries c.max-self-inside.result r.0 r.1 s.0 r.2 d c.saturating_sub.result c.self.invariant s.1 s.1.from c.start-port.ensures.which.0 c.start-port.ensures.later refl refl c.depart.ensures c.max-self-inside.ensures in
+    let stood = stands_started g.G.Agenda.held old c.start-port.new.self c.depart.new.tables.entries c.max-self-inside.result r.0 r.1 s.0 r.2 d c.saturating_sub.result c.self.invariant sound s.1 refl refl refl refl c.saturating_sub.ensures c.depart.ensures p es left (one_more left sent) (λ q. ap (λ (t : ℕ). if nat_eq q r.0 then left q ++ (record { time = t; len = r.2.item.len; octets = r.2.item.load.octets.items }) ∷ [] else left q) s.1.done) (subst (λ (v : RelayState _ _). Stands p v es left) (sym c.self.view_is) st) in
+    let new : RelayState _ _ = record old { ports = c.start-port.new.self; tables = c.depart.new.tables.entries; earliest = c.max-self-inside.result } in
+    reaches_start g.G.Agenda.held p new es (one_more left sent) r.0 r.1 stood sound c.start-port.ensures.keeps (made_after g.G.Agenda.held old c.start-port.new.self c.depart.new.tables.entries c.max-self-inside.result r.0 r.1 s.0 r.2 c.self.invariant s.1 s.1.from c.start-port.ensures.which.0 c.start-port.ensures.later)
+
+pub returns-clause-sends : goal.returns-clause-sends
+returns-clause-sends g c = λ p es left st.
+    let s = c.start-port.ensures.started in
+    let b = c.self.inside in
+    let old : RelayState _ _ = record { plan = b.plan.now; streams = b.ident; police = b.police; ports = b.ports; tables = b.tables.entries; arrived = b.arrived; earliest = b.earliest } in
+    let r = c.start-port.result in
+    sends_head g.G.Agenda.held p old es left r.0 r.1 r.2.class r.2.done s.0 r.2.item (subst (λ (v : RelayState _ _). Stands p v es left) (sym c.self.view_is) st) c.self.invariant c.start-port.ensures.kept (made_at g.G.Agenda.held old (r.0, r.1) c.self.invariant c.start-port.ensures.which) s.1.from s.1.there s.1.next s.1.done
 
 pub returns-clause-sent : goal.returns-clause-sent
 returns-clause-sent g c =
