@@ -2,7 +2,8 @@
 ghost use Rattle.std.specs.Prelude.{◌≡◌, ◌≤◌, ◌+◌, vec_len};
 ghost use Rattle.bridge_capture.specs.declared.held.TheConstants.{BLOCK, MOST_MORE};
 
-use std::alloc::{AllocError, Allocator};
+use bridge_base::NoMemory;
+use std::alloc::Allocator;
 
 /// As many octets as are handed on at once: whole pages of a file whose start they are.
 pub const BLOCK: usize = 131_072;
@@ -25,12 +26,12 @@ impl<A: Allocator> Held<A> {
     ghost use Rattle.bridge_capture.specs.Buffered.{held_back};
 
     /// None at first. One growth of memory.
-    pub fn new(alloc: A) -> Result<Held<A>, AllocError>
+    pub fn new(alloc: A) -> Result<Held<A>, NoMemory>
         ensures none { IfOk result (λ held. held_back held ≡ []) }
     {
         match Vec::from_elem(alloc, 0u8, BLOCK + MOST_MORE) {
             Ok(octets) => Ok(Held { octets, count: 0 }),
-            Err(_) => Err(AllocError),
+            Err(_) => Err(NoMemory),
         }
     }
 

@@ -6,7 +6,8 @@ ghost use Rattle.bridge_capture.specs.Buffered.{ahead_remaining, ahead_at_hand};
 use crate::from_read::FromRead;
 use crate::source::{Broken, ByteSource};
 use crate::window::Window;
-use std::alloc::{AllocError, Allocator};
+use bridge_base::NoMemory;
+use std::alloc::Allocator;
 use std::io::Read;
 
 /// The octets that are asked of a reader at once.
@@ -22,7 +23,7 @@ pub struct ReadAhead<R: Read, A: Allocator> {
 
 impl<R: Read + Drop, A: Allocator> ReadAhead<R, A> {
     /// A source of what the reader gives. One growth of memory; where it is refused, the reader is let go.
-    pub fn new(alloc: A, reader: R) -> Result<ReadAhead<R, A>, AllocError>
+    pub fn new(alloc: A, reader: R) -> Result<ReadAhead<R, A>, NoMemory>
         ensures remaining { IfOk result (λ source. ⟦<ReadAhead<R, A> as ByteSource>⟧.remaining source ≡ R.remaining reader) }
         ensures sound { IfOk result (λ source. ⟦<ReadAhead<R, A> as ByteSource>⟧.has_failed source ≡ false) }
     {
@@ -31,7 +32,7 @@ impl<R: Read + Drop, A: Allocator> ReadAhead<R, A> {
                 source: FromRead::new(reader),
                 window,
             }),
-            Err(_) => Err(AllocError),
+            Err(_) => Err(NoMemory),
         }
     }
 }

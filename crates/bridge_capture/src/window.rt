@@ -3,7 +3,8 @@ ghost use Rattle.std.specs.Prelude.{◌≡◌, ◌≤◌, ◌<◌, ◌-◌, ◌+
 ghost use Rattle.std.specs.Io.KnownBytes.{Consumes, IsAtEnd, Keeps, prepend_known};
 
 use crate::source::{Broken, ByteSource};
-use std::alloc::{AllocError, Allocator};
+use bridge_base::NoMemory;
+use std::alloc::Allocator;
 
 /// Octets that were read ahead and not given yet: those from `start` to `end`.
 #[derive(Drop)]
@@ -18,7 +19,7 @@ pub struct Window<A: Allocator> {
 
 impl<A: Allocator> Window<A> {
     /// An empty window that is so wide. One growth of memory.
-    pub fn new(alloc: A, width: usize) -> Result<Window<A>, AllocError>
+    pub fn new(alloc: A, width: usize) -> Result<Window<A>, NoMemory>
         requires { 0 < width }
         ensures start { IfOk result (λ window. window.start ≡ 0) }
         ensures end { IfOk result (λ window. window.end ≡ 0) }
@@ -29,7 +30,7 @@ impl<A: Allocator> Window<A> {
                 start: 0,
                 end: 0,
             }),
-            Err(_) => Err(AllocError),
+            Err(_) => Err(NoMemory),
         }
     }
 

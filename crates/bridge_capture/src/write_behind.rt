@@ -8,7 +8,8 @@ use crate::held::{BLOCK, Held};
 use crate::sink::ByteSink;
 use crate::source::Broken;
 use crate::transfer::write_front;
-use std::alloc::{AllocError, Allocator};
+use bridge_base::NoMemory;
+use std::alloc::Allocator;
 use std::io::Write;
 
 /// A writer as a sink that holds octets back: up to 131,072, and what of a record goes beyond. Where more come, the first
@@ -22,7 +23,7 @@ pub struct WriteBehind<W: Write + Drop, A: Allocator> {
 
 impl<W: Write + Drop, A: Allocator> WriteBehind<W, A> {
     /// A sink into the writer. One growth of memory; where it is refused, the writer is let go.
-    pub fn new(alloc: A, writer: W) -> Result<WriteBehind<W, A>, AllocError>
+    pub fn new(alloc: A, writer: W) -> Result<WriteBehind<W, A>, NoMemory>
         ensures contents { IfOk result (λ sink. Keeps (W.contents writer) (⟦<WriteBehind<W, A> as ByteSink>⟧.contents sink)) }
         ensures sound { IfOk result (λ sink. ⟦<WriteBehind<W, A> as ByteSink>⟧.has_failed sink ≡ false) }
     {
@@ -31,7 +32,7 @@ impl<W: Write + Drop, A: Allocator> WriteBehind<W, A> {
                 sink: FromWrite::new(writer),
                 held,
             }),
-            Err(_) => Err(AllocError),
+            Err(_) => Err(NoMemory),
         }
     }
 

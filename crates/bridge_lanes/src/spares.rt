@@ -1,7 +1,8 @@
 //! Octets of frames that left, whose room is used again.
 ghost use Rattle.std.specs.Prelude.{◌≡◌, [], ◌≤◌, ◌+◌, ◌-◌, IfOk};
 
-use std::alloc::{AllocError, Allocator};
+use bridge_base::NoMemory;
+use std::alloc::Allocator;
 use std::marker::Model;
 
 /// The most vectors that are kept.
@@ -35,7 +36,7 @@ impl<A: Allocator + Copy> Spares<A> {
     }
 
     /// None at first. One growth of memory, for the list of them.
-    pub fn new(alloc: A) -> Result<Spares<A>, AllocError>
+    pub fn new(alloc: A) -> Result<Spares<A>, NoMemory>
         ensures none { IfOk result (λ spares. spares ≡ 0) }
     {
         let kept = Vec::with_capacity(alloc, MOST_KEPT)?;

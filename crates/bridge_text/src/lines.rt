@@ -6,6 +6,7 @@ ghost use Rattle.bridge_capture.specs.Grammar.{Captured, captured_of};
 ghost use Rattle.bridge_capture.specs.Written.{written_form, written_text};
 ghost use Rattle.bridge_text.specs.Lines.{hex_of, line_of, text_of};
 
+use bridge_base::NoMemory;
 use std::alloc::{AllocError, Allocator};
 
 /// The length of a capture's header, in octets.
@@ -49,7 +50,7 @@ fn push_line<A: Allocator>(text: &mut String<A>, octets: &[u8]) -> Result<(), Al
 /// The hexadecimal text of a written capture, in lower case: its header on one line and each of its
 /// records on one line, each line ended by a line feed. One growth of memory. Of octets that are no
 /// written capture, nothing is promised.
-pub fn lines_of<A: Allocator>(alloc: A, capture: &[u8]) -> Result<String<A>, AllocError>
+pub fn lines_of<A: Allocator>(alloc: A, capture: &[u8]) -> Result<String<A>, NoMemory>
     ensures { IfOk result (λ text. (frames : List Captured) → All (λ frame. length frame.octets < 2 ^ 32) frames →
         capture.now ≡ written_text frames → string_bytes text ≡ text_of frames) }
 {
