@@ -10,3 +10,4 @@ pub mod Best
 pub mod Renewing
 pub mod Isolation
 pub mod Alone
+pub mod Fitting

@@ -115,7 +115,7 @@ pub ever_fits : (list : Opening) (c n : ℕ) → IsMade list → ever list c n �
 ever_fits list c n made can = let soon = ever_soon list c n 0 made can in (soon.0, soon.3)
 
 -- where each length fits under a list at some moment, the class is open at each moment
-list_always : (l : Cyclic ℕ) (c u : ℕ) → IsLawful l → ((n : ℕ) → list_ever l c n ≡ true) → list_opens l c u ≡ true
+pub list_always : (l : Cyclic ℕ) (c u : ℕ) → IsLawful l → ((n : ℕ) → list_ever l c n ≡ true) → list_opens l c u ≡ true
 list_always l c u lawful all =
     let some = (list_ever_is l c (2 * l.cycle) lawful).0 (all (2 * l.cycle)) in
     let repeats = list_repeats l c lawful in
@@ -153,7 +153,7 @@ exchanged_ever_is j c n lawful =
       λ f. and_from (list_ever j.old c n) (list_ever j.new c n) (old.1 f.0) (new.1 f.1),
     )
 
-same_bool : (a b : Bool) → (a ≡ true → b ≡ true) → (b ≡ true → a ≡ true) → a ≡ b
+pub same_bool : (a b : Bool) → (a ≡ true → b ≡ true) → (b ≡ true → a ≡ true) → a ≡ b
 same_bool true b f g = sym (f refl)
 same_bool false true f g = g refl
 same_bool false false f g = refl

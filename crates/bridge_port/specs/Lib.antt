@@ -5,3 +5,4 @@ pub mod Standing
 pub mod Rings
 pub mod Heads
 pub mod Seen
+pub mod Spans

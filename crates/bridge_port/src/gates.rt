@@ -1,26 +1,35 @@
 //! When the classes of a port are open.
-ghost use Rattle.std.specs.Prelude.{◌≡◌, ◌↔◌, ◌+◌, ◌*◌, ◌<◌, ◌≤◌, ℕ, Some, true};
-ghost use Rattle.bridge_cycle.specs.Cyclic.{IsLawful};
+ghost use Rattle.std.specs.Prelude.{◌≡◌, ◌↔◌, ◌+◌, ◌*◌, ◌<◌, ◌≤◌, ℕ, IfOk, IfSome, Some, true, slice_index_or};
 ghost use Rattle.bridge_cycle.specs.Egress as egress;
-ghost use Rattle.bridge_cycle.specs.Joined as joined;
 ghost use Rattle.bridge_cycle.specs.Moments.{Fits, IsFirst};
 ghost use Rattle.bridge_cycle.specs.Opens.{opens_in};
 ghost use Rattle.bridge_cycle.specs.Runs.{Allows};
-ghost use Rattle.bridge_port.specs.Opening.{AreRuns, ever, Exchanged, HasRuns, HasTurn, KeepsTurn, list_ever, Opening, opening_of, opens};
+ghost use Rattle.bridge_cycle.specs.declared.run.Run.TheVariants.{Never};
+ghost use Rattle.bridge_port.specs.Opening.{ever, HasRuns, HasTurn, KeepsTurn, Opening, opening_of, opens};
+ghost use Rattle.bridge_port.specs.Spans.{AreKept, AreOfLists};
 
+use crate::spans::{Spans, fit_in_both, fit_in_list, spans_of_all};
 use bridge_cycle::{
-    CyclicList, END_OF_SEARCHES, Egress, Joined, LONGEST_CYCLE, Run, Timeline, Turn, first_fit,
-    is_open, longest_run,
+    END_OF_SEARCHES, Egress, LONGEST_CYCLE, Run, Timeline, Turn, first_fit, is_open,
 };
-use std::alloc::Allocator;
+use std::alloc::{AllocError, Allocator};
 use std::marker::Model;
 
-/// The gate control lists of a port, if it has some, with the longest time for which each class is open under each of
-/// them, and one of their turns, so that fits within it need not look for it again.
+/// What is kept of the lists of a port, so that no fit is looked for turn by turn: the longest time for which each class is
+/// open under each of them, and the spans for which each of them opens it.
+#[derive(Drop)]
+struct Kept<A: Allocator + Copy> {
+    runs: [Run; 8],
+    old: Spans<A>,
+    new: Spans<A>,
+}
+
+/// The gate control lists of a port, if it has some, with what is kept of them, and one of their turns, so that fits within it
+/// need not look for it again.
 #[derive(Drop)]
 pub struct Gates<A: Allocator + Copy> {
     list: Option<Egress<A>>,
-    runs: [Run; 8],
+    kept: Kept<A>,
     turn: Turn<u8>,
 }
 
@@ -29,20 +38,11 @@ impl<A: Allocator + Copy> Model for Gates<A> {
 
     ghost view = { λ g. opening_of g.list };
 
-    ghost invariant = { λ g. record { runs : HasRuns (opening_of g.list) g.runs; turn : KeepsTurn g.list g.turn } };
-}
-
-/// The longest runs of the classes of a list.
-fn runs_of<A: Allocator + Copy>(list: &CyclicList<u8, A>) -> [Run; 8]
-    ensures lawful { IsLawful list.now }
-    ensures runs { AreRuns (list_ever list.now) result }
-{
-    let _ = list.cycle();
-    let mut runs = [Run::Always; 8];
-    for class in 0..8usize {
-        runs[class] = longest_run(list, class as u8);
-    }
-    runs
+    ghost invariant = { λ g. record {
+      runs : HasRuns (opening_of g.list) g.kept.runs;
+      spans : AreKept g.list g.kept.old.runs g.kept.old.each.items g.kept.new.runs g.kept.new.each.items;
+      turn : KeepsTurn g.list g.turn;
+    } };
 }
 
 /// The shorter of two runs.
@@ -58,19 +58,46 @@ fn shorter(one: Run, other: Run) -> Run
     }
 }
 
-/// The shorter of the longest runs of each class of lists that are exchanged.
-fn runs_of_both<A: Allocator + Copy>(lists: &Joined<u8, A>) -> [Run; 8]
-    ensures lawful { joined.IsLawful lists.now }
-    ensures runs { AreRuns (ever (Exchanged lists.now)) result }
+/// The shorter of two runs of each class.
+fn shorter_each(one: &[Run; 8], other: &[Run; 8]) -> [Run; 8]
+    ensures { (c : ℕ) → c < 8 → (n : ℕ)
+        → Allows (slice_index_or result c Never) n ↔ (Allows (slice_index_or one.now c Never) n × Allows (slice_index_or other.now c Never) n) }
 {
-    let (old, new) = lists.lists();
-    let old = runs_of(old);
-    let new = runs_of(new);
     let mut runs = [Run::Never; 8];
     for class in 0..8usize {
-        runs[class] = shorter(old[class], new[class]);
+        runs[class] = shorter(one[class], other[class]);
     }
     runs
+}
+
+/// What is kept of lists: of the one list, or of the old one and the new one, with the shorter of the longest runs of each class.
+fn kept_of<A: Allocator + Copy>(alloc: A, list: &Option<Egress<A>>) -> Result<Kept<A>, AllocError>
+    ensures runs { IfOk result (λ k. HasRuns (opening_of list.now) k.runs) }
+    ensures spans { IfOk result (λ k. AreKept list.now k.old.runs k.old.each.items k.new.runs k.new.each.items) }
+{
+    match list {
+        None => Ok(Kept {
+            runs: [Run::Always; 8],
+            old: Spans::none(alloc),
+            new: Spans::none(alloc),
+        }),
+        Some(Egress::Cyclic(list)) => {
+            let old = spans_of_all(alloc, list)?;
+            let runs = old.runs;
+            Ok(Kept {
+                runs,
+                old,
+                new: Spans::none(alloc),
+            })
+        }
+        Some(Egress::Joined(lists)) => {
+            let (before, after) = lists.lists();
+            let old = spans_of_all(alloc, before)?;
+            let new = spans_of_all(alloc, after)?;
+            let runs = shorter_each(&old.runs, &new.runs);
+            Ok(Kept { runs, old, new })
+        }
+    }
 }
 
 /// The turn of lists that has a moment: the one kept, or that of the lists, which is kept then.
@@ -90,12 +117,33 @@ fn turn_of<A: Allocator + Copy>(kept: &mut Turn<u8>, list: &Egress<A>, t: u64) -
     turn
 }
 
-/// The least moment from `from` on from which the class stays open for `occ` ns, by the turn that has `from`: where the
-/// class is open in it for so long, nothing is looked for, and where it is closed in it, nothing before its end.
+/// The least moment from `from` on from which the class stays open for `occ` ns, where the spans show it.
+fn fit_by_spans<A: Allocator + Copy>(
+    list: &Egress<A>,
+    kept: &Kept<A>,
+    class: usize,
+    occ: u64,
+    from: u64,
+) -> Option<u64>
+    requires class { class < 8 }
+    requires occ { occ ≤ LONGEST_CYCLE }
+    requires from { from < END_OF_SEARCHES }
+    requires kept { AreOfLists list.now kept.now.old.runs kept.now.old.each.items kept.now.new.runs kept.now.new.each.items }
+    ensures { IfSome result (λ t. IsFirst (λ v. opens_in (egress.turn_at list.now v) class) occ from t) }
+{
+    match list {
+        Egress::Cyclic(list) => fit_in_list(list, &kept.old, class, occ, from),
+        Egress::Joined(lists) => fit_in_both(lists, &kept.old, &kept.new, class, occ, from),
+    }
+}
+
+/// The least moment from `from` on from which the class stays open for `occ` ns: where it is open for so long in the turn that
+/// has `from`, nothing is looked for, and else the spans show it.
 fn fit_in<A: Allocator + Copy>(
     list: &Egress<A>,
+    kept: &Kept<A>,
     turn: Turn<u8>,
-    class: u8,
+    class: usize,
     occ: u64,
     from: u64,
 ) -> u64
@@ -103,36 +151,32 @@ fn fit_in<A: Allocator + Copy>(
     requires occ { occ ≤ LONGEST_CYCLE }
     requires from { from < END_OF_SEARCHES }
     requires lawful { egress.IsLawful list.now }
+    requires kept { AreOfLists list.now kept.now.old.runs kept.now.old.each.items kept.now.new.runs kept.now.new.each.items }
     requires turn { egress.turn_at list.now from ≡ Some turn }
     requires some { (u : ℕ) × (from ≤ u) × (u ≤ from + 2 * LONGEST_CYCLE) × Fits (λ v. opens_in (egress.turn_at list.now v) class) occ u }
     ensures { IsFirst (λ v. opens_in (egress.turn_at list.now v) class) occ from result }
 {
-    if is_open(turn.state, class) {
-        if from + occ <= turn.end {
-            return from;
-        }
-    } else if occ > 0 && turn.end < END_OF_SEARCHES {
-        return first_fit(list, class, occ, turn.end);
+    if is_open(turn.state, class as u8) && from + occ <= turn.end {
+        return from;
     }
-    first_fit(list, class, occ, from)
+    match fit_by_spans(list, kept, class, occ, from) {
+        Some(fit) => fit,
+        None => first_fit(list, class as u8, occ, from),
+    }
 }
 
 impl<A: Allocator + Copy> Gates<A> {
     /// The gates of these lists, all always open without one.
-    pub fn new(list: Option<Egress<A>>) -> Gates<A>
-        ensures { result ≡ opening_of list }
+    pub fn new(alloc: A, list: Option<Egress<A>>) -> Result<Gates<A>, AllocError>
+        ensures { IfOk result (λ g. g ≡ opening_of list) }
     {
-        let runs = match &list {
-            None => [Run::Always; 8],
-            Some(Egress::Cyclic(list)) => runs_of(list),
-            Some(Egress::Joined(joined)) => runs_of_both(joined),
-        };
+        let kept = kept_of(alloc, &list)?;
         let turn = Turn {
             state: 0,
             start: 0,
             end: 0,
         };
-        Gates { list, runs, turn }
+        Ok(Gates { list, kept, turn })
     }
 
     /// Whether each list opens the class for `occ` ns at some moment.
@@ -140,7 +184,7 @@ impl<A: Allocator + Copy> Gates<A> {
         requires { class < 8 }
         ensures { result ≡ ever self.now class occ }
     {
-        self.runs[class].allows(occ)
+        self.kept.runs[class].allows(occ)
     }
 
     /// The least moment from `from` on from which the class stays open for `occ` ns: for a class that is always open `from`
@@ -155,14 +199,14 @@ impl<A: Allocator + Copy> Gates<A> {
         ensures soon { result ≤ from + 2_000_000_000 }
         ensures same { self.new ≡ self.old }
     {
-        if let Run::Always = self.runs[class] {
+        if let Run::Always = self.kept.runs[class] {
             return from;
         }
         match &self.list {
             None => from,
             Some(list) => {
                 let turn = turn_of(&mut self.turn, list, from);
-                fit_in(list, turn, class as u8, occ, from)
+                fit_in(list, &self.kept, turn, class, occ, from)
             }
         }
     }

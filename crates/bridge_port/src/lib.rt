@@ -7,6 +7,7 @@ mod item;
 mod law;
 mod port;
 mod queues;
+mod spans;
 
 pub use bridge_cycle::NoMemory;
 pub use item::{Item, Refusal};

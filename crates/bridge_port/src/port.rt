@@ -52,6 +52,7 @@ impl<T: Drop, A: Allocator + Copy> Port<T, A> {
     ghost use Rattle.bridge_port.specs.Schedule.{Copy, IsLawful};
     ghost use Rattle.bridge_port.specs.Opening.{are_rooms, opening_of};
     ghost use Rattle.bridge_port.specs.Heads.{StartsNext};
+    ghost use Rattle.bridge_port.specs.Rings.{queues_of, rooms_of};
     ghost use Rattle.bridge_port.specs.Solo.{IsWhole};
     ghost use Rattle.bridge_port.specs.Standing.{answer_of, copy_of, count_queued, idle_state, IsBegun, IsDue, IsIdle, IsKept, IsNext, limit, NoStartBefore, offered_state, refusal_of, rules_of, StandsFor, started_state};
 
@@ -71,9 +72,25 @@ impl<T: Drop, A: Allocator + Copy> Port<T, A> {
         ensures idle { IfOk result (λ p. IsDue p None) }
     {
         let rings = with_rooms(alloc, &rooms)?;
-        Ok(Port {
+        let gates = Gates::new(alloc, list)?;
+        Ok(Port::idle(speed, gates, rings))
+    }
+
+    /// An idle port with these gates and empty rings.
+    fn idle(
+        speed: Speed,
+        gates: Gates<A>,
+        rings: Vec<HeapCircularBuffer<Item<T>, A>, A>,
+    ) -> Port<T, A>
+        requires queues { queues_of rings.items ≡ replicate 8 [] }
+        requires rooms { length (rooms_of rings.items) ≡ 8 }
+        ensures new { result ≡ idle_state speed gates (rooms_of rings.items) }
+        ensures stands { StandsFor result [] }
+        ensures idle { IsDue result None }
+    {
+        Port {
             speed,
-            gates: Gates::new(list),
+            gates,
             rings,
             free: 0,
             earliest: 0,
@@ -82,7 +99,7 @@ impl<T: Drop, A: Allocator + Copy> Port<T, A> {
             queued: 0,
             fits: [None; 8],
             best: None,
-        })
+        }
     }
 
     /// Why an item that occupies the link for `occ` ns would be refused now.

@@ -4,14 +4,15 @@ use Rattle.bridge_cycle.specs.Moments.{Fits, IsFirst}
 use Rattle.bridge_cycle.specs.declared.run.Run.TheVariants.{Never}
 use Rattle.bridge_cycle.specs.declared.run.Run.TheVariants as run
 use Rattle.bridge_port.specs.Opening.{KeepsTurn, Opening, opening_of, opens, IsMade}
+use Rattle.bridge_port.specs.Spans.{AreKept}
 use Rattle.bridge_port.proofs.Opening.{ever_soon, first_at, first_at_once, first_soon, fits_at, made_is}
 use Rattle.bridge_port.proofs.gates.Gates.earliest_fit.Goals as goal
 
 pub returns-in-Always-clause-first : goal.returns-in-Always-clause-first
 returns-in-Always-clause-first g c =
     let is = c.in-Always.is in
-    let always : slice_index_or c.self.inside.runs c.args.class Never ≡ run.Always = cc in
-    let first = first_at_once (opening_of c.self.inside.list) c.self.inside.runs c.args.class c.args.occ c.args.from c.self.invariant.runs c.requires.class always in
+    let always : slice_index_or c.self.inside.kept.runs c.args.class Never ≡ run.Always = cc in
+    let first = first_at_once (opening_of c.self.inside.list) c.self.inside.kept.runs c.args.class c.args.occ c.args.from c.self.invariant.runs c.requires.class always in
     subst (λ (o : Opening). IsFirst (opens o c.args.class) c.args.occ c.args.from c.args.from) c.self.view_is first
 
 pub turn_of-turn-requires : goal.turn_of-turn-requires
@@ -33,6 +34,7 @@ fit_in-requires g c =
       occ = c.requires.occ;
       from = c.requires.from;
       lawful = made_is list (subst IsMade (ap opening_of c.in-Some.is) c.self.invariant.runs.made);
+      kept = subst (λ o. AreKept o c.self.inside.kept.old.runs c.self.inside.kept.old.each.items c.self.inside.kept.new.runs c.self.inside.kept.new.each.items) c.in-Some.is c.self.invariant.spans;
       turn = c.turn_of-turn.ensures.turn;
       some = (soon.0, soon.1, soon.2, fits_at list c.args.class c.args.occ soon.0 fits);
     }
@@ -40,6 +42,7 @@ fit_in-requires g c =
 pub invariant_of-self : goal.invariant_of-self
 invariant_of-self g c = record {
   runs = c.self.invariant.runs;
+  spans = c.self.invariant.spans;
   turn = subst (λ o. KeepsTurn o c.turn_of-turn.new.kept) (sym c.in-Some.is) c.turn_of-turn.ensures.kept;
 }
 

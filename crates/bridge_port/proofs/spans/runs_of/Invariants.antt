@@ -2,7 +2,7 @@ use Rattle.std.proofs.Common.{◌≡◌, length, ◌<◌, ℕ, slice_index_or}
 use Rattle.bridge_cycle.specs.Runs.{IsLongestRun}
 use Rattle.bridge_cycle.specs.declared.run.Run.TheVariants.{Never}
 use Rattle.bridge_port.specs.Opening.{list_opens}
-use Rattle.bridge_port.proofs.gates.runs_of.Given as goal
+use Rattle.bridge_port.proofs.spans.runs_of.Given as goal
 
 abbrev pub invariant-loop-class : goal.invariant-loop-class
 invariant-loop-class g l = record {

@@ -3,7 +3,7 @@ use Rattle.bridge_cycle.specs.declared.run.Run.{Run}
 use Rattle.bridge_cycle.specs.Runs.{IsLongestRun}
 use Rattle.bridge_port.specs.Opening.{list_opens}
 use Rattle.bridge_port.proofs.Opening.{longest_are, runs_more}
-use Rattle.bridge_port.proofs.gates.runs_of.Goals as goal
+use Rattle.bridge_port.proofs.spans.runs_of.Goals as goal
 
 pub loop-class-preserved : goal.loop-class-preserved
 loop-class-preserved g c =

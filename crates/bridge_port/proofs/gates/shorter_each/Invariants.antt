@@ -2,10 +2,10 @@ use Rattle.std.proofs.Common.{◌≡◌, length, ◌<◌, ℕ, slice_index_or}
 use Rattle.std.specs.Prelude.{◌↔◌}
 use Rattle.bridge_cycle.specs.Runs.{Allows}
 use Rattle.bridge_cycle.specs.declared.run.Run.TheVariants.{Never}
-use Rattle.bridge_port.proofs.gates.runs_of_both.Given as goal
+use Rattle.bridge_port.proofs.gates.shorter_each.Given as goal
 
 abbrev pub invariant-loop-class : goal.invariant-loop-class
-invariant-loop-class g l = record {
+invariant-loop-class l = record {
   size : length l.runs ≡ 8;
-  shorter : (c : ℕ) → c < l.class → (n : ℕ) → Allows (slice_index_or l.runs c Never) n ↔ (Allows (slice_index_or l.old c Never) n × Allows (slice_index_or l.new c Never) n);
+  shorter : (c : ℕ) → c < l.class → (n : ℕ) → Allows (slice_index_or l.runs c Never) n ↔ (Allows (slice_index_or l.one c Never) n × Allows (slice_index_or l.other c Never) n);
 }
