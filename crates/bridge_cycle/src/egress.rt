@@ -2,9 +2,9 @@ ghost use Rattle.std.specs.Prelude.{◌≡◌, IfOk};
 ghost use Rattle.bridge_cycle.specs.Egress as egress;
 
 use crate::cyclic::CyclicList;
-use bridge_base::NoMemory;
 use crate::joined::Joined;
 use crate::timeline::{Timeline, Turn};
+use bridge_base::NoMemory;
 use std::alloc::Allocator;
 
 /// The gate control lists of a port: bit c of a state says that class c is open (IEEE 802.1Q-2018
