@@ -2,8 +2,8 @@
 ghost use Rattle.std.specs.Prelude.{IfOk, string_bytes};
 ghost use Rattle.bridge_explain.specs.Said.{BeginsWith};
 
-use bridge_base::NoMemory;
 use crate::text::of_file;
+use bridge_base::NoMemory;
 use bridge_capture::CaptureFault;
 use std::alloc::{AllocError, Global};
 

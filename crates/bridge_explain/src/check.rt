@@ -3,10 +3,9 @@ ghost use Rattle.std.specs.Prelude.{◌≡◌, ◌<◌, IfOk, nat_eq, string_byt
 ghost use Rattle.bridge_explain.specs.Others as spec;
 ghost use Rattle.bridge_explain.specs.Said.{BeginsWith};
 
-use bridge_base::NoMemory;
 use crate::text::of_file;
 use crate::windows::{longest_at, put_open, run_of};
-use bridge_base::LONGEST_FRAME;
+use bridge_base::{LONGEST_FRAME, NoMemory};
 use bridge_check::CheckFault;
 use bridge_config::{Plan, PortPlan};
 use bridge_cycle::{Egress, Run, is_open};

@@ -2,8 +2,8 @@
 ghost use Rattle.std.specs.Prelude.{IfOk, string_bytes};
 ghost use Rattle.bridge_explain.specs.Said.{BeginsWith};
 
-use bridge_base::NoMemory;
 use crate::text::of_file;
+use bridge_base::NoMemory;
 use std::alloc::{AllocError, Global};
 
 /// What is found of a file that can't be opened, made, read or written.

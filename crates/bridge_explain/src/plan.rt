@@ -2,11 +2,11 @@
 ghost use Rattle.std.specs.Prelude.{IfOk, string_bytes};
 ghost use Rattle.bridge_explain.specs.Said.{BeginsWith};
 
-use bridge_base::NoMemory;
 use crate::document::{Source, put_position};
 use crate::faults::put_fault;
 use crate::position::position_behind;
 use crate::text::of_file;
+use bridge_base::NoMemory;
 use bridge_keys::PlanFault;
 use std::alloc::{AllocError, Global};
 use toml::de::Error;

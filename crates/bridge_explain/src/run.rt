@@ -2,9 +2,9 @@
 ghost use Rattle.std.specs.Prelude.{IfOk, codes, string_bytes};
 ghost use Rattle.bridge_explain.specs.Said.{BeginsWith};
 
-use bridge_base::NoMemory;
 use crate::capture::explain_capture;
 use crate::text::of_file;
+use bridge_base::NoMemory;
 use bridge_capture::CaptureFault;
 use bridge_lanes::RunFault;
 use bridge_program::TextFault;

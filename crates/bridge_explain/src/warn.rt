@@ -1,9 +1,9 @@
 //! What is said of a plan that is accepted.
 ghost use Rattle.std.specs.Prelude.{◌<◌, ◌≤◌};
 
-use bridge_base::NoMemory;
 use crate::useless::put_warnings;
 use crate::windows::{longest_at, put_open};
+use bridge_base::NoMemory;
 use bridge_check::may_wait;
 use bridge_config::{Plan, PortPlan};
 use bridge_filter::FilterPlan;

@@ -2,10 +2,10 @@
 ghost use Rattle.std.specs.Prelude.{IfOk, codes, string_bytes};
 ghost use Rattle.bridge_explain.specs.Said.{BeginsWith};
 
-use bridge_base::NoMemory;
 use crate::nearest::{Named, nearest_name};
 use crate::text::of_file;
 use crate::value::put_text;
+use bridge_base::NoMemory;
 use std::alloc::{AllocError, Global};
 
 /// A command of the program.

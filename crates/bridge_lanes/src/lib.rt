@@ -6,6 +6,7 @@ mod fault;
 mod lane;
 mod spares;
 
+pub use bridge_base::NoMemory;
 pub use fault::RunFault;
 pub use lane::{Lane, fault_of, first_of, look_at_all};
 pub use spares::Spares;

@@ -16,6 +16,7 @@ mod run;
 mod span;
 mod windows;
 
+pub use bridge_base::NoMemory;
 pub use marks::{Arrivals, Mark, MarkKind, has_marks};
 pub use plan::draw_plan;
 pub use run::draw_run;

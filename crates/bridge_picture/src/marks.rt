@@ -1,8 +1,7 @@
 //! Marks for the frames of a run that were not let on: a second reading of the captures tells when each came.
 ghost use Rattle.std.specs.Prelude.{◌≤◌, length};
 
-use bridge_base::NoMemory;
-use bridge_base::MOST_CAPTURED;
+use bridge_base::{MOST_CAPTURED, NoMemory};
 use bridge_capture::{ByteSource, Capture, MAX_RECORDS, Packet};
 use bridge_config::{Plan, PortPlan};
 use bridge_filter::{FilterPlan, Verdict};

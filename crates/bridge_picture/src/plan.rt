@@ -1,13 +1,13 @@
 //! The picture of a plan.
 ghost use Rattle.std.specs.Prelude.{◌≤◌, IfOk, length, string_bytes};
 
-use bridge_base::NoMemory;
 use crate::axis::{put_axis, put_change};
 use crate::drawing::{Drawing, LEFT};
 use crate::gates::put_gates;
 use crate::lanes::put_port;
 use crate::numbers::{moment, unit_of};
 use crate::span::{Span, change_of, span_of};
+use bridge_base::NoMemory;
 use bridge_config::Plan;
 use std::alloc::{AllocError, Allocator, Global};
 

@@ -1,7 +1,6 @@
 //! The picture of a run.
 ghost use Rattle.std.specs.Prelude.{◌≤◌, IfOk, length, string_bytes};
 
-use bridge_base::NoMemory;
 use crate::axis::{put_axis, put_change};
 use crate::drawing::{ACROSS, Drawing, LEFT};
 use crate::lanes::put_port;
@@ -11,6 +10,7 @@ use crate::numbers::{moment, unit_of};
 use crate::plan::{most_of, put_note, put_parts};
 use crate::span::{Span, change_of};
 use crate::windows::extent;
+use bridge_base::NoMemory;
 use bridge_config::{Plan, PortPlan};
 use bridge_filter::Verdict;
 use bridge_port::Refusal;

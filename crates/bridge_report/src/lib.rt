@@ -13,6 +13,7 @@ mod text;
 mod totals;
 mod word;
 
+pub use bridge_base::NoMemory;
 pub use fault::ReportFault;
 pub use laws::same_section;
 pub use sections::{has_section, report, section, write_report};

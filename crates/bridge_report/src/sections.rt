@@ -8,7 +8,7 @@ ghost use Rattle.bridge_run.specs.declared.outcome.View.{View};
 use crate::fault::ReportFault;
 use crate::held::Held;
 use crate::shown::{put_section, put_sections};
-use bridge_cycle::NoMemory;
+use bridge_base::NoMemory;
 use bridge_run::{Outcome, View};
 use std::alloc::Allocator;
 use std::io::Write;

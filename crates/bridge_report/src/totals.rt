@@ -2,7 +2,7 @@
 ghost use Rattle.std.specs.Prelude.{◌≡◌, ◌-◌, ◌++◌, string_bytes, IfOk, OnOk};
 ghost use Rattle.bridge_report.specs.Summary.{arrivals_text, copies_text, over_ports, summary_of};
 
-use bridge_cycle::NoMemory;
+use bridge_base::NoMemory;
 use bridge_run::{Outcome, PortCount};
 use std::alloc::{AllocError, Allocator};
 

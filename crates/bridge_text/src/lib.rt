@@ -5,6 +5,7 @@ mod fault;
 mod lines;
 mod octets;
 
+pub use bridge_base::NoMemory;
 pub use fault::HexFault;
 pub use lines::lines_of;
 pub use octets::{MAX_OCTETS, MAX_TEXT, octets_of};
