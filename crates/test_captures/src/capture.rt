@@ -2,8 +2,8 @@
 ghost use Rattle.std.specs.Prelude.{◌≤◌, length};
 
 use bridge_capture::{
-    ByteSink, ByteSource, Capture, CaptureFault, FromRead, FromWrite, Order, Packet, ReadAhead,
-    SliceSource, VecSink, WriteBehind, Writer, each_text_reads_one_way, written_is_read,
+    ByteSink, ByteSource, Capture, CaptureFault, FromRead, FromWrite, NoMemory, Order, Packet,
+    ReadAhead, SliceSource, VecSink, WriteBehind, Writer, each_text_reads_one_way, written_is_read,
 };
 use fixture_alloc::{Ending, RefusesOne, refuse_each};
 use fixture_text::captures::{FRAME, Words, capture_of, capture_under};
@@ -58,7 +58,18 @@ fn packets_of<R: ByteSource, A: Allocator + Copy>(
     alloc: A,
     source: &mut R,
 ) -> Result<Vec<Packet<A>, A>, CaptureFault> {
-    Capture::begin(source)?.rest(alloc, source)
+    let mut capture = Capture::begin(source)?;
+    let mut packets = Vec::new(alloc);
+    for _ in 0..1_000_001 {
+        match capture.next(alloc, source)? {
+            Some(packet) => match packets.push(packet) {
+                Ok(()) => {}
+                Err(_) => return Err(CaptureFault::NoMemory),
+            },
+            None => return Ok(packets),
+        }
+    }
+    Ok(packets)
 }
 
 /// Whether these are the two frames.
@@ -349,9 +360,10 @@ fn gives_none<R: ByteSource, A: Allocator + Copy>(
 fn ended_for_good<A: Allocator + Copy>(alloc: A, text: &[u8]) -> Result<(), Fail> {
     let mut source = SliceSource::new(text);
     let mut capture = Capture::begin(&mut source)?;
-    capture.rest(alloc, &mut source)?;
-    gives_none(alloc, &mut capture, &mut source)?;
-    Ok(())
+    for _ in 0..2 {
+        must(capture.next(alloc, &mut source)?.is_some(), "a packet", 0)?;
+    }
+    gives_none(alloc, &mut capture, &mut source)
 }
 
 #[test]
@@ -542,7 +554,7 @@ fn calls_of<A: Allocator + Copy>(
     alloc: A,
     allowance: u32,
     is_finished: bool,
-) -> Result<u32, AllocError> {
+) -> Result<u32, NoMemory> {
     let calls = Cell::new(0);
     let octets = Vec::from_elem(alloc, 7, 60_000)?;
     let mut sink = WriteBehind::new(
