@@ -56,12 +56,12 @@ pub first_is : (cs : List Command) (i : ℕ) (d : Command) → i < length cs →
 first_is cs i d l = ap first_of_commands (behind_it cs i d l)
 
 -- a run stopped before one of them
-pub stops_at : {A W : Type 0} (p : Plan A) (texts : ℕ → List ℕ) (cs : List Command) (i : ℕ) (d : Command) (contents : W → Option (List ℕ)) (ports : List ℕ) (olds news : List W) (fault : RunFault) → i < length cs → StopsSo p texts (commands_of (take i cs)) (Some (asked (get_or cs i d))) contents ports olds news fault → StopsAmong p texts cs contents ports olds news fault
-stops_at p texts cs i d contents ports olds news fault l stops = record {
+pub stops_at : {A W : Type 0} (p : Plan A) (texts : ℕ → List ℕ) (rests : ℕ → Option (List ℕ)) (cs : List Command) (i : ℕ) (d : Command) (contents : W → Option (List ℕ)) (ports : List ℕ) (olds news : List W) (fault : RunFault) → i < length cs → StopsSo p texts rests (commands_of (take i cs)) (Some (asked (get_or cs i d))) contents ports olds news fault → StopsAmong p texts rests cs contents ports olds news fault
+stops_at p texts rests cs i d contents ports olds news fault l stops = record {
   done = take i cs;
   later = drop i cs;
   all = sym (take-append-drop i cs);
-  stops = subst (λ (o : Option Input). StopsSo p texts (commands_of (take i cs)) o contents ports olds news fault) (sym (first_is cs i d l)) stops;
+  stops = subst (λ (o : Option Input). StopsSo p texts rests (commands_of (take i cs)) o contents ports olds news fault) (sym (first_is cs i d l)) stops;
 }
 
 no_more : {X : Type 0} (xs : List X) → xs ≡ xs ++ []
@@ -69,8 +69,8 @@ no_more [] = refl
 no_more (x ∷ xs) = ap (λ z. x ∷ z) (no_more xs)
 
 -- a run stopped behind the last
-pub stops_behind : {A W : Type 0} (p : Plan A) (texts : ℕ → List ℕ) (cs : List Command) (contents : W → Option (List ℕ)) (ports : List ℕ) (olds news : List W) (fault : RunFault) → StopsSo p texts (commands_of cs) None contents ports olds news fault → StopsAmong p texts cs contents ports olds news fault
-stops_behind p texts cs contents ports olds news fault stops = record { done = cs; later = []; all = no_more cs; stops = stops }
+pub stops_behind : {A W : Type 0} (p : Plan A) (texts : ℕ → List ℕ) (rests : ℕ → Option (List ℕ)) (cs : List Command) (contents : W → Option (List ℕ)) (ports : List ℕ) (olds news : List W) (fault : RunFault) → StopsSo p texts rests (commands_of cs) None contents ports olds news fault → StopsAmong p texts rests cs contents ports olds news fault
+stops_behind p texts rests cs contents ports olds news fault stops = record { done = cs; later = []; all = no_more cs; stops = stops }
 
 -- all commands are done
 pub all_done : {R W G A : Type 0} (remaining : R → Option (List ℕ)) (contents : W → Option (List ℕ)) (p : Plan A) (texts : ℕ → List ℕ) (cs : List Command) (i : ℕ) (olds : List W) (b : RelayState G A) (lanes : List (Lane A)) (sources : List R) (sinks : List W) → length cs ≤ i → IsUnderWay remaining contents p texts (commands_of (take i cs)) (first_of_commands (drop i cs)) olds b lanes sources sinks → IsUnderWay remaining contents p texts (commands_of cs) None olds b lanes sources sinks
@@ -98,8 +98,8 @@ gone remaining contents p texts cs olds b c lanes sources sinks news ports (Ok x
   };
   none = λ i lane e. none_ahead lane.ahead (λ q a. later i lane q e a);
 }
-gone remaining contents p texts cs olds b c lanes sources sinks news ports (Err fault) u size same later d =
-    stops_behind p texts cs contents (numbers lanes) olds news fault (depart_stops remaining contents p texts (commands_of cs) None olds b lanes sources sinks u size None c ports news fault same later tt d)
+gone remaining contents p texts cs olds b c lanes sources sinks news ports (Err fault) u size same later d = λ rests are.
+    stops_behind p texts rests cs contents (numbers lanes) olds news fault (depart_stops remaining contents p texts (commands_of cs) None olds b lanes sources sinks u size rests None c ports news fault same later tt d)
 
 pub idle_at : (P : Type 0) (r : Result (Unit {0}) RunFault) → OnOk r (◌≡◌ {A = Option ℕ} None None → P) → OnOk r P
 idle_at P (Ok u) h = h refl

@@ -27,9 +27,10 @@ use Rattle.bridge_core.proofs.Beginning.{covered, gave_none, known}
 use Rattle.bridge_core.proofs.Sorted.{rising_numbers}
 use Rattle.bridge_core.proofs.Steps.{lane_at, number_at, source_of}
 use Rattle.bridge_lanes.specs.declared.lane.Lane.{Lane}
-use Rattle.bridge_lanes.specs.Lanes.{AreAheadOf, AreLanes, BeginsWell, FailsLook, Finds, numbers, room_of}
+use Rattle.bridge_lanes.specs.Lanes.{AreAheadOf, AreLanes, AreRests, AreTexts, BeginsWell, FailsLook, Finds, numbers, room_of}
+use Rattle.bridge_lanes.proofs.Looks.{untaken}
 use Rattle.bridge_core.specs.Lines.{AreWritten, HeadersStop}
-use Rattle.bridge_core.specs.Simulated.{AreNumbers, Isolates, OthersChangeNothing, Runs, Stops}
+use Rattle.bridge_core.specs.Simulated.{AreNumbers, BeginWell, Isolates, OthersChangeNothing, Runs, Stops, WantsMemory}
 use Rattle.bridge_capture.specs.declared.fault.CaptureFault.{CaptureFault}
 use Rattle.bridge_core.specs.Taking.{IsOfCapture, commands_of, Follows, IsThrough, IsUnderWay, MayTake, StopsAmong, streams}
 
@@ -110,7 +111,7 @@ well_begun text None f = inl f
 well_begun text (Some c) f = inr (view c, f)
 
 -- where each first frame is ahead, each text begins well
-pub begin_well : {R A : Type 0} (remaining : R → Option (List ℕ)) (p : Plan A) (ports : List ℕ) (texts : ℕ → List ℕ) (lanes : List (Lane A)) (sources : List R) → AreNumbers p ports → numbers lanes ≡ ports → length sources ≡ length lanes → AreAheadOf remaining texts (λ q. []) lanes sources → (q : ℕ) (out : PortPlan A) → port_at p.ports q ≡ Some out → BeginsWell (texts q)
+pub begin_well : {R A : Type 0} (remaining : R → Option (List ℕ)) (p : Plan A) (ports : List ℕ) (texts : ℕ → List ℕ) (lanes : List (Lane A)) (sources : List R) → AreNumbers p ports → numbers lanes ≡ ports → length sources ≡ length lanes → AreAheadOf remaining texts (λ q. []) lanes sources → BeginWell p texts
 begin_well remaining p ports texts lanes sources are same size ahead q out e = let f = finds_at remaining p ports texts (λ n. []) lanes sources q out are same size ahead e in well_begun (texts q) f.lane.ahead f.finds
 
 -- a run that is through has run all
@@ -131,22 +132,26 @@ has_run {R} {W} {G} {A} remaining contents p ports commands texts olds b lanes s
     }
 
 -- a first look failed
-pub stops_look : {A W : Type 0} (p : Plan A) (ports : List ℕ) (commands : List Command) (texts : ℕ → List ℕ) (contents : W → Option (List ℕ)) (has_failed : W → Bool) (olds : List W) (fault : RunFault) → ((port : ℕ) (why : CaptureFault) → fault ≡ run.Capture port why → IsOfCapture why) → FailsLook texts ports fault → Stops p ports commands texts contents has_failed olds olds fault
-stops_look p ports commands texts contents has_failed olds (run.Capture port fault) own h = inl (record { own = own port fault refl; looks = h; untouched = refl })
-stops_look p ports commands texts contents has_failed olds (run.Write port) own h = absurd h
-stops_look p ports commands texts contents has_failed olds run.NoMemory own h = inl refl
+pub stops_look : {A W : Type 0} (p : Plan A) (ports : List ℕ) (commands : List Command) (texts : ℕ → List ℕ) (rests : ℕ → Option (List ℕ)) (contents : W → Option (List ℕ)) (has_failed : W → Bool) (olds : List W) (fault : RunFault) → ((port : ℕ) (why : CaptureFault) → fault ≡ run.Capture port why → IsOfCapture why) → FailsLook texts rests ports fault → Stops p ports commands texts rests contents has_failed olds olds fault
+stops_look p ports commands texts rests contents has_failed olds (run.Capture port fault) own h = inl (record { own = own port fault refl; looks = h; untouched = refl })
+stops_look p ports commands texts rests contents has_failed olds (run.Write port) own h = absurd h
+stops_look p ports commands texts rests contents has_failed olds run.NoMemory own h = inl (record { looks = inl h; untouched = refl })
+
+-- memory was refused before any look
+pub wants_first : {R A W : Type 0} (remaining : R → Option (List ℕ)) (p : Plan A) (ports : List ℕ) (texts : ℕ → List ℕ) (rests : ℕ → Option (List ℕ)) (sources : List R) (olds : List W) → AreNumbers p ports → length sources ≡ length p.ports → AreTexts remaining ports texts sources → AreRests remaining ports rests sources → WantsMemory p ports texts rests olds olds
+wants_first remaining p ports texts rests sources olds are many read left = record { looks = inl (inl (untaken remaining ports texts rests sources (many ∙ sym (ports_many p ports are)) read left)); untouched = refl }
 
 -- a header wasn't written
-pub stops_header : {A W : Type 0} (p : Plan A) (ports : List ℕ) (commands : List Command) (texts : ℕ → List ℕ) (contents : W → Option (List ℕ)) (has_failed : W → Bool) (olds news : List W) (fault : RunFault) → ((q : ℕ) (out : PortPlan A) → port_at p.ports q ≡ Some out → BeginsWell (texts q)) → HeadersStop contents has_failed ports olds news fault → Stops p ports commands texts contents has_failed olds news fault
-stops_header p ports commands texts contents has_failed olds news (run.Capture port fault) begins h = absurd h
-stops_header p ports commands texts contents has_failed olds news (run.Write port) begins h = inl (record { begins = begins; headers = h })
-stops_header p ports commands texts contents has_failed olds news run.NoMemory begins h = absurd h
+pub stops_header : {A W : Type 0} (p : Plan A) (ports : List ℕ) (commands : List Command) (texts : ℕ → List ℕ) (rests : ℕ → Option (List ℕ)) (contents : W → Option (List ℕ)) (has_failed : W → Bool) (olds news : List W) (fault : RunFault) → BeginWell p texts → HeadersStop contents has_failed ports olds news fault → Stops p ports commands texts rests contents has_failed olds news fault
+stops_header p ports commands texts rests contents has_failed olds news (run.Capture port fault) begins h = absurd h
+stops_header p ports commands texts rests contents has_failed olds news (run.Write port) begins h = inl (record { begins = begins; headers = h })
+stops_header p ports commands texts rests contents has_failed olds news run.NoMemory begins h = absurd h
 
 -- a run under way stopped
-pub stops_among : {A W : Type 0} (p : Plan A) (ports : List ℕ) (commands : List Command) (texts : ℕ → List ℕ) (contents : W → Option (List ℕ)) (has_failed : W → Bool) (olds news : List W) (fault : RunFault) → StopsAmong p texts commands contents ports olds news fault → Stops p ports commands texts contents has_failed olds news fault
-stops_among p ports commands texts contents has_failed olds news (run.Capture port fault) h = inr h
-stops_among p ports commands texts contents has_failed olds news (run.Write port) h = inr h
-stops_among p ports commands texts contents has_failed olds news run.NoMemory h = inr h
+pub stops_among : {A W : Type 0} (p : Plan A) (ports : List ℕ) (commands : List Command) (texts : ℕ → List ℕ) (rests : ℕ → Option (List ℕ)) (contents : W → Option (List ℕ)) (has_failed : W → Bool) (olds news : List W) (fault : RunFault) → StopsAmong p texts rests commands contents ports olds news fault → Stops p ports commands texts rests contents has_failed olds news fault
+stops_among p ports commands texts rests contents has_failed olds news (run.Capture port fault) h = inr h
+stops_among p ports commands texts rests contents has_failed olds news (run.Write port) h = inr h
+stops_among p ports commands texts rests contents has_failed olds news run.NoMemory h = inr h
 
 -- a run isolates each protected filter
 pub isolates : {A W : Type 0} (p : Plan A) (ports : List ℕ) (commands : List Command) (texts : ℕ → List ℕ) (contents : W → Option (List ℕ)) (olds news : List W) (o : Outcome A) → IsPlan p → IsAcceptable p → Isolates p ports commands texts contents olds news o

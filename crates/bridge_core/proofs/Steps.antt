@@ -32,6 +32,9 @@ some_is a b h = cc
 none_some : {X : Type 0} (o : Option X) (a : X) → o ≡ None → o ≡ Some a → ⊥
 none_some o a h k = cc
 
+is_apart : (a b : ℕ) → nat_eq a b ≡ false → a ≡ b → ⊥
+is_apart a b e same = grind (arith, nat_tests)
+
 -- lanes and their numbers
 
 pub number_at : {A : Type 0} (lanes : List (Lane A)) (i : ℕ) (l : Lane A) → slice_get lanes i ≡ Some l → slice_get (numbers lanes) i ≡ Some l.number
@@ -136,6 +139,10 @@ pub waits_of : (n : ℕ) (next : Option Input) → IfSome next (λ y. n < y.at) 
 waits_of n None h = tt
 waits_of n (Some y) h = (n, refl, omega (arith, h))
 
+waits_at : (n : ℕ) (next : Option Input) → IfSome next (λ y. n < y.at) → IfSome next (λ y. n ≤ y.at)
+waits_at n None h = tt
+waits_at n (Some y) h = omega (arith, h)
+
 -- a number stands at one place
 pub one_place : {A : Type 0} (lanes : List (Lane A)) (i j q : ℕ) → Rising (λ a b. a < b) (numbers lanes) → slice_get (numbers lanes) i ≡ Some q → slice_get (numbers lanes) j ≡ Some q → i ≡ j
 one_place lanes i j q r e f = by_order (i ≡ j) i j
@@ -178,18 +185,31 @@ module _ {R W G A : Type 0} (remaining : R → Option (List ℕ)) (contents : W 
   }
 
   -- starts before a moment were made, and a sink failed
-  pub depart_stops : (until : Option ℕ) (c : RelayState G A) (ports : List ℕ) (news : List W) (fault : RunFault) → ports ≡ numbers lanes → AreLater until lanes → IfSome next (λ y. (t : ℕ) × (until ≡ Some t) × (t ≤ y.at)) → Departs contents p (events u.inputs) until c ports olds news (Err fault) → StopsSo p texts commanded next contents (numbers lanes) olds news fault
-  depart_stops until c ports news (run.Capture port fault) same later waits d = absurd d
-  depart_stops until c ports news (run.Write port) same later waits d = write_stops until port news d.0 later waits d.1 (subst (λ ns. AreWrittenBut contents port ns olds news d.0) same d.2)
-  depart_stops until c ports news run.NoMemory same later waits d = absurd d
+  pub depart_stops : (rests : ℕ → Option (List ℕ)) (until : Option ℕ) (c : RelayState G A) (ports : List ℕ) (news : List W) (fault : RunFault) → ports ≡ numbers lanes → AreLater until lanes → IfSome next (λ y. (t : ℕ) × (until ≡ Some t) × (t ≤ y.at)) → Departs contents p (events u.inputs) until c ports olds news (Err fault) → StopsSo p texts rests commanded next contents (numbers lanes) olds news fault
+  depart_stops rests until c ports news (run.Capture port fault) same later waits d = absurd d
+  depart_stops rests until c ports news (run.Write port) same later waits d = write_stops until port news d.0 later waits d.1 (subst (λ ns. AreWrittenBut contents port ns olds news d.0) same d.2)
+  depart_stops rests until c ports news run.NoMemory same later waits d = absurd d
 
   -- what was written, by the numbers of the lines
   pub written_so : (ports : List ℕ) → ports ≡ numbers lanes → AreWritten contents ports olds sinks u.left
   written_so ports same = subst (λ ns. AreWritten contents ns olds sinks u.left) (sym same) u.written
 
   -- memory ran out before the next frame was taken
-  pub memory_before : (moment : ℕ) (news : List W) (left : ℕ → List Captured) → newest u.inputs ≤ moment → Reaches p (events u.inputs) moment left → AreWritten contents (numbers lanes) olds news left → StopsForMemory p texts commanded next contents (numbers lanes) olds news
-  memory_before moment news left late reaches written = record { frames = u.frames; inputs = u.inputs; left = left; moment = moment; late = late; taken = u.taken; reaches = reaches; written = written }
+  pub memory_before : (rests : ℕ → Option (List ℕ)) (moment : ℕ) (news : List W) (left : ℕ → List Captured) → newest u.inputs ≤ moment → AreLater (Some moment) lanes → IfSome next (λ y. moment < y.at) → Reaches p (events u.inputs) moment left → AreWritten contents (numbers lanes) olds news left → StopsForMemory p texts rests commanded next contents (numbers lanes) olds news
+  memory_before rests moment news left late later before reaches written = record {
+    frames = u.frames;
+    inputs = u.inputs;
+    left = left;
+    moment = moment;
+    late = late;
+    looks = λ q out e.
+        let z = port_looks q out e in
+        inl (looks_from (Some moment) (texts q) q (u.frames q) u.inputs z.1.ahead z.4 (λ d h. subst (λ (n : ℕ). Follows (frame n (view d)) u.inputs) z.3 (u.follow z.0 z.1 d z.2 h)) (λ d h. later z.0 z.1 d z.2 h));
+    waits = waits_at moment next before;
+    taken = u.taken;
+    reaches = reaches;
+    written = written;
+  }
 
   -- one frame more is taken
   module _ (may : MayTake b lanes) (place : ℕ) (first : IsFirstAt lanes place) (before : IfSome next (λ y. first.packet.time < y.at)) where
@@ -224,14 +244,14 @@ module _ {R W G A : Type 0} (remaining : R → Option (List ℕ)) (contents : W 
         }
 
     -- what comes behind it was refused
-    pub refused_next : (fault : CaptureFault) (news : List W) (left : ℕ → List Captured) → IsOfCapture fault → RefusedSo fault (texts first.lane.number) (u.frames first.lane.number ++ view first.packet ∷ []) → Reaches p (events (frame first.lane.number (view first.packet) ∷ u.inputs)) first.packet.time left → AreWritten contents (numbers lanes) olds news left → StopsReading p texts commanded next contents (numbers lanes) olds news first.lane.number fault
-    refused_next fault news left own refused reaches written = record {
+    pub refused_next : (rests : ℕ → Option (List ℕ)) (fault : CaptureFault) (news : List W) (left : ℕ → List Captured) → IsOfCapture fault → RefusedSo fault (rests first.lane.number) (texts first.lane.number) (u.frames first.lane.number ++ view first.packet ∷ []) → Reaches p (events (frame first.lane.number (view first.packet) ∷ u.inputs)) first.packet.time left → AreWritten contents (numbers lanes) olds news left → StopsReading p texts rests commanded next contents (numbers lanes) olds news first.lane.number fault
+    refused_next rests fault news left own refused reaches written = record {
       own = own;
       frames = with_frame u.frames first.lane.number (view first.packet);
       inputs = frame first.lane.number (view first.packet) ∷ u.inputs;
       left = left;
       taken = taken_next;
-      refused = subst (RefusedSo fault (texts first.lane.number)) (sym (frames_here u.frames first.lane.number (view first.packet))) refused;
+      refused = subst (RefusedSo fault (rests first.lane.number) (texts first.lane.number)) (sym (frames_here u.frames first.lane.number (view first.packet))) refused;
       behind = refl;
       others = λ q out e n.
           let z = port_looks q out e in
@@ -244,28 +264,49 @@ module _ {R W G A : Type 0} (remaining : R → Option (List ℕ)) (contents : W 
     }
 
     -- memory ran out behind it
-    pub memory_next : (news : List W) (left : ℕ → List Captured) → Reaches p (events (frame first.lane.number (view first.packet) ∷ u.inputs)) first.packet.time left → AreWritten contents (numbers lanes) olds news left → StopsForMemory p texts commanded next contents (numbers lanes) olds news
-    memory_next news left reaches written = record { frames = with_frame u.frames first.lane.number (view first.packet); inputs = frame first.lane.number (view first.packet) ∷ u.inputs; left = left; moment = first.packet.time; late = omega arith; taken = taken_next; reaches = reaches; written = written }
+    pub memory_next : (rests : ℕ → Option (List ℕ)) (news : List W) (left : ℕ → List Captured) → RefusedSo faults.NoMemory (rests first.lane.number) (texts first.lane.number) (u.frames first.lane.number ++ view first.packet ∷ []) → Reaches p (events (frame first.lane.number (view first.packet) ∷ u.inputs)) first.packet.time left → AreWritten contents (numbers lanes) olds news left → StopsForMemory p texts rests commanded next contents (numbers lanes) olds news
+    memory_next rests news left refused reaches written = record {
+      frames = with_frame u.frames first.lane.number (view first.packet);
+      inputs = frame first.lane.number (view first.packet) ∷ u.inputs;
+      left = left;
+      moment = first.packet.time;
+      late = omega arith;
+      looks = λ q out e. by_bool (nat_eq q first.lane.number)
+          (λ h.
+          let same : q ≡ first.lane.number = is_same q first.lane.number h in
+          let here = subst (RefusedSo faults.NoMemory (rests first.lane.number) (texts first.lane.number)) (sym (frames_here u.frames first.lane.number (view first.packet))) refused in
+          inr (sym same, subst (λ (n : ℕ). RefusedSo faults.NoMemory (rests n) (texts n) (with_frame u.frames first.lane.number (view first.packet) n)) (sym same) here))
+          (λ apart.
+          let z = port_looks q out e in
+          let elsewhere : z.0 ≢ place = λ h. absurd (let w : q ≡ first.lane.number = sym z.3 ∙ ap (λ (w : Lane A). w.number) (some_is z.1 first.lane (sym (subst (λ (k : ℕ). slice_get lanes k ≡ Some z.1) h z.2) ∙ first.there)) in is_apart q first.lane.number apart w) in
+          inl (subst (λ taken. LooksFrom (Some first.packet.time) (texts q) q taken (frame first.lane.number (view first.packet) ∷ u.inputs)) (sym (frames_there u.frames first.lane.number (view first.packet) q apart))
+          (looks_from (Some first.packet.time) (texts q) q (u.frames q) (frame first.lane.number (view first.packet) ∷ u.inputs) z.1.ahead z.4 (λ d h. subst (λ (k : ℕ). NotBefore (frame k (view d)) (frame first.lane.number (view first.packet))) z.3 (is_next lanes place first may.rises z.0 z.1 d z.2 h elsewhere))
+          (λ d h. all_later z.0 z.1 d z.2 h))));
+      waits = waits_at first.packet.time next before;
+      taken = taken_next;
+      reaches = reaches;
+      written = written;
+    }
 
     -- the capture stands for what it gave
     pub stood : (s : R) → slice_get sources place ≡ Some s → StandsFor first.lane.capture (remaining s) (texts first.lane.number) (u.frames first.lane.number ++ view first.packet ∷ [])
     stood s lent = subst (λ (o : Option (Packet A)). StandsFor first.lane.capture (remaining s) (texts first.lane.number) (u.frames first.lane.number ++ one_ahead o)) first.ahead (u.ahead place first.lane s first.there lent).stands
 
     -- the look behind it found a fault
-    pub look_stops : (fault : CaptureFault) (news : List W) (left : ℕ → List Captured) → (fault ≢ faults.Write) → RefusedSo fault (texts first.lane.number) (u.frames first.lane.number ++ view first.packet ∷ []) → Reaches p (events (frame first.lane.number (view first.packet) ∷ u.inputs)) first.packet.time left → AreWritten contents (numbers lanes) olds news left → StopsSo p texts commanded next contents (numbers lanes) olds news (fault_at first.lane.number fault)
-    look_stops faults.BadMagic news left o f r w = refused_next faults.BadMagic news left ((λ e. cc), o) f r w
-    look_stops faults.BadVersion news left o f r w = refused_next faults.BadVersion news left ((λ e. cc), o) f r w
-    look_stops faults.BadLinkType news left o f r w = refused_next faults.BadLinkType news left ((λ e. cc), o) f r w
-    look_stops faults.HeaderCut news left o f r w = refused_next faults.HeaderCut news left ((λ e. cc), o) f r w
-    look_stops (faults.RecordCut n) news left o f r w = refused_next (faults.RecordCut n) news left ((λ e. cc), o) f r w
-    look_stops (faults.LengthsCross n) news left o f r w = refused_next (faults.LengthsCross n) news left ((λ e. cc), o) f r w
-    look_stops (faults.RecordTooLarge n) news left o f r w = refused_next (faults.RecordTooLarge n) news left ((λ e. cc), o) f r w
-    look_stops (faults.TimeBack n) news left o f r w = refused_next (faults.TimeBack n) news left ((λ e. cc), o) f r w
-    look_stops (faults.TimeTooLate n) news left o f r w = refused_next (faults.TimeTooLate n) news left ((λ e. cc), o) f r w
-    look_stops faults.TooManyRecords news left o f r w = refused_next faults.TooManyRecords news left ((λ e. cc), o) f r w
-    look_stops faults.Read news left o f r w = refused_next faults.Read news left ((λ e. cc), o) f r w
-    look_stops faults.Write news left o f r w = refused_next faults.Write news left ((λ e. cc), o) f r w
-    look_stops faults.NoMemory news left o f r w = memory_next news left r w
+    pub look_stops : (rests : ℕ → Option (List ℕ)) (fault : CaptureFault) (news : List W) (left : ℕ → List Captured) → (fault ≢ faults.Write) → RefusedSo fault (rests first.lane.number) (texts first.lane.number) (u.frames first.lane.number ++ view first.packet ∷ []) → Reaches p (events (frame first.lane.number (view first.packet) ∷ u.inputs)) first.packet.time left → AreWritten contents (numbers lanes) olds news left → StopsSo p texts rests commanded next contents (numbers lanes) olds news (fault_at first.lane.number fault)
+    look_stops rests faults.BadMagic news left o f r w = refused_next rests faults.BadMagic news left ((λ e. cc), o) f r w
+    look_stops rests faults.BadVersion news left o f r w = refused_next rests faults.BadVersion news left ((λ e. cc), o) f r w
+    look_stops rests faults.BadLinkType news left o f r w = refused_next rests faults.BadLinkType news left ((λ e. cc), o) f r w
+    look_stops rests faults.HeaderCut news left o f r w = refused_next rests faults.HeaderCut news left ((λ e. cc), o) f r w
+    look_stops rests (faults.RecordCut n) news left o f r w = refused_next rests (faults.RecordCut n) news left ((λ e. cc), o) f r w
+    look_stops rests (faults.LengthsCross n) news left o f r w = refused_next rests (faults.LengthsCross n) news left ((λ e. cc), o) f r w
+    look_stops rests (faults.RecordTooLarge n) news left o f r w = refused_next rests (faults.RecordTooLarge n) news left ((λ e. cc), o) f r w
+    look_stops rests (faults.TimeBack n) news left o f r w = refused_next rests (faults.TimeBack n) news left ((λ e. cc), o) f r w
+    look_stops rests (faults.TimeTooLate n) news left o f r w = refused_next rests (faults.TimeTooLate n) news left ((λ e. cc), o) f r w
+    look_stops rests faults.TooManyRecords news left o f r w = refused_next rests faults.TooManyRecords news left ((λ e. cc), o) f r w
+    look_stops rests faults.Read news left o f r w = refused_next rests faults.Read news left ((λ e. cc), o) f r w
+    look_stops rests faults.Write news left o f r w = refused_next rests faults.Write news left ((λ e. cc), o) f r w
+    look_stops rests faults.NoMemory news left o f r w = memory_next rests news left f r w
 
 -- where the first does not come before a moment none does
 pub later_all : {A : Type 0} (until : Option ℕ) (lanes : List (Lane A)) (place : ℕ) → (first : IsFirstAt lanes place) → ((c : Packet A) → first.lane.ahead ≡ Some c → (t : ℕ) × (until ≡ Some t) × (t ≤ c.time)) → AreLater until lanes

@@ -17,10 +17,10 @@ use Rattle.bridge_config.specs.Rules.{port_at}
 use Rattle.bridge_lanes.specs.declared.fault.RunFault.TheVariants as run
 use Rattle.bridge_relay.specs.Relays.{RelayState}
 use Rattle.bridge_lanes.specs.declared.lane.Lane.{Lane}
-use Rattle.bridge_lanes.specs.Lanes.{AreAheadOf, fault_at, IsAhead, IsFirstAt, IsLane, IsNext, Looks, numbers, one_ahead, room, room_of}
+use Rattle.bridge_lanes.specs.Lanes.{AreAheadOf, AreRests, fault_at, IsAhead, IsFirstAt, IsLane, IsNext, Looks, numbers, one_ahead, room, room_of}
 use Rattle.bridge_core.specs.Taking.{HasGiven, HasLooked, MayTake}
 use Rattle.bridge_core.proofs.Places.{set_here, set_there, sum_at, sum_set}
-use Rattle.bridge_core.proofs.Steps.{by_place, numbers_set}
+use Rattle.bridge_core.proofs.Steps.{by_place, number_at, numbers_set}
 
 pub some_is : {X : Type 0} (a b : X) → Some a ≡ Some b → a ≡ b
 some_is a b h = cc
@@ -96,6 +96,13 @@ numbers_given lanes given place which g = ap numbers g.now ∙ numbers_set lanes
 
 pub numbers_renewed : {R A : Type 0} (remaining : R → Option (List ℕ)) (was : Lane A) (lanes new : List (Lane A)) (sources rest : List R) (place : ℕ) (result : Result (Unit {0}) CaptureFault) → slice_get lanes place ≡ Some was → IsRenewed remaining was lanes new sources rest place result → numbers new ≡ numbers lanes
 numbers_renewed remaining was lanes new sources rest place result there r = ap numbers r.lanes_are ∙ numbers_set lanes place was r.lane there r.number
+
+-- what the source of the lane has left
+pub rest_left : {R A : Type 0} (remaining : R → Option (List ℕ)) (was : Lane A) (lanes new : List (Lane A)) (sources rest : List R) (place : ℕ) (result : Result (Unit {0}) CaptureFault) (rests : ℕ → Option (List ℕ)) → slice_get lanes place ≡ Some was → length sources ≡ length lanes → (r : IsRenewed remaining was lanes new sources rest place result) → AreRests remaining (numbers new) rests rest → remaining r.left ≡ rests was.number
+rest_left remaining was lanes new sources rest place result rests there size r are =
+    let within = slice_get_within lanes place was there in
+    are place was.number r.left (ap (λ ns. slice_get ns place) (numbers_renewed remaining was lanes new sources rest place result there r) ∙ number_at lanes place was there)
+    (ap (λ ss. slice_get ss place) r.sources_are ∙ set_here sources place r.left (omega (arith, within, size)))
 
 -- the port of the lane is there
 pub port_known : {G A : Type 0} (b c : RelayState G A) (lanes given : List (Lane A)) (place : ℕ) (which : ℕ × Packet A) → MayTake b lanes → HasGiven lanes given place which → c.plan ≡ b.plan → (out : PortPlan A) × (port_at c.plan.ports which.0 ≡ Some out)

@@ -5,12 +5,17 @@ use Rattle.bridge_capture.specs.Grammar.{Captured}
 use Rattle.bridge_capture.specs.Written.{written_header, written_text}
 use Rattle.bridge_capture.specs.Sinks.{AppendsFront}
 use Rattle.bridge_config.specs.Model.{Plan}
+use Rattle.bridge_lanes.specs.Devices.{HasFailed}
 use Rattle.bridge_lanes.specs.declared.fault.RunFault.{RunFault}
 use Rattle.bridge_lanes.specs.declared.fault.RunFault.TheVariants as run
 use Rattle.bridge_run.specs.Events.{Event}
 use Rattle.bridge_run.specs.Outputs.{HasRun}
 use Rattle.bridge_relay.specs.Relays.{RelayState, Stands}
 use Rattle.bridge_core.specs.declared.line.Line.{Line}
+
+-- the sink of a port ran out of memory
+abbrev pub HasRunOut : {W : Type 0} → (W → Bool) → List ℕ → ℕ → List W → Type 0
+HasRunOut ran_out ports port sinks = HasFailed ran_out ports port sinks
 
 -- the numbers of the ports, in the order of the lines
 abbrev pub numbers : List Line → List ℕ

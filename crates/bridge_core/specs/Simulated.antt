@@ -18,7 +18,7 @@ use Rattle.bridge_run.specs.Merge.{Input, IsMerged, events, own_inputs}
 use Rattle.bridge_run.specs.Outputs.{Ends}
 use Rattle.bridge_run.specs.Runs.{IsSoloView, TellTheSame}
 use Rattle.bridge_core.specs.declared.simulation.Lists.{Lists}
-use Rattle.bridge_lanes.specs.Lanes.{BeginsWell, LooksFail}
+use Rattle.bridge_lanes.specs.Lanes.{BeginsWell, FailsLook, LooksFail}
 use Rattle.bridge_core.specs.Lines.{AreWritten, StopsAtHeader}
 use Rattle.bridge_core.specs.Taking.{commands_of, IsOfCapture, streams, StopsAmong}
 
@@ -50,21 +50,30 @@ pub record Runs {A W : Type 0} (p : Plan A) (ports : List ℕ) (commands : List 
   pub written : AreWritten contents ports olds news left
 
 -- the first look at the text of a port failed, those at the texts before it did not, and nothing was written
-pub record RefusesFirst {W : Type 0} (ports : List ℕ) (texts : ℕ → List ℕ) (olds news : List W) (port : ℕ) (fault : CaptureFault) : Type 0 where
+pub record RefusesFirst {W : Type 0} (ports : List ℕ) (texts : ℕ → List ℕ) (rests : ℕ → Option (List ℕ)) (olds news : List W) (port : ℕ) (fault : CaptureFault) : Type 0 where
   pub own : IsOfCapture fault
-  pub looks : LooksFail texts ports port fault
+  pub looks : LooksFail texts rests ports port fault
+  pub untouched : news ≡ olds
+
+-- all first looks at the texts of a plan's ports succeeded
+abbrev pub BeginWell : {A : Type 0} → Plan A → (ℕ → List ℕ) → Type 0
+BeginWell {A} p texts = (q : ℕ) (out : PortPlan A) → port_at p.ports q ≡ Some out → BeginsWell (texts q)
+
+-- memory was refused before a look, in a first look, or right behind all first looks, and nothing was written
+pub record WantsMemory {A W : Type 0} (p : Plan A) (ports : List ℕ) (texts : ℕ → List ℕ) (rests : ℕ → Option (List ℕ)) (olds news : List W) : Type 0 where
+  pub looks : FailsLook texts rests ports run.NoMemory ⊎ BeginWell p texts
   pub untouched : news ≡ olds
 
 -- all first looks succeeded, and the header of a port was not written
 pub record StopsAtFirst {A W : Type 0} (p : Plan A) (ports : List ℕ) (texts : ℕ → List ℕ) (contents : W → Option (List ℕ)) (has_failed : W → Bool) (olds news : List W) (port : ℕ) : Type 0 where
-  pub begins : (q : ℕ) (out : PortPlan A) → port_at p.ports q ≡ Some out → BeginsWell (texts q)
+  pub begins : BeginWell p texts
   pub headers : StopsAtHeader contents has_failed ports port olds news
 
--- why a run stopped: before anything was written, at a header, or under way
-abbrev pub Stops : {A W : Type 0} → Plan A → List ℕ → List Command → (ℕ → List ℕ) → (W → Option (List ℕ)) → (W → Bool) → List W → List W → RunFault → Type 0
-Stops p ports commands texts contents has_failed olds news (run.Capture port fault) = RefusesFirst ports texts olds news port fault ⊎ StopsAmong p texts commands contents ports olds news (run.Capture port fault)
-Stops p ports commands texts contents has_failed olds news (run.Write port) = StopsAtFirst p ports texts contents has_failed olds news port ⊎ StopsAmong p texts commands contents ports olds news (run.Write port)
-Stops p ports commands texts contents has_failed olds news run.NoMemory = (news ≡ olds) ⊎ StopsAmong p texts commands contents ports olds news run.NoMemory
+-- why a run stopped, of whose texts the sources have these rests left: before anything was written, at a header, or under way
+abbrev pub Stops : {A W : Type 0} → Plan A → List ℕ → List Command → (ℕ → List ℕ) → (ℕ → Option (List ℕ)) → (W → Option (List ℕ)) → (W → Bool) → List W → List W → RunFault → Type 0
+Stops p ports commands texts rests contents has_failed olds news (run.Capture port fault) = RefusesFirst ports texts rests olds news port fault ⊎ StopsAmong p texts rests commands contents ports olds news (run.Capture port fault)
+Stops p ports commands texts rests contents has_failed olds news (run.Write port) = StopsAtFirst p ports texts contents has_failed olds news port ⊎ StopsAmong p texts rests commands contents ports olds news (run.Write port)
+Stops p ports commands texts rests contents has_failed olds news run.NoMemory = WantsMemory p ports texts rests olds news ⊎ StopsAmong p texts rests commands contents ports olds news run.NoMemory
 
 -- this is what an outcome tells of a protected filter
 pub record TellsOf {A : Type 0} (p : Plan A) (n : ℕ) (f : FilterPlan) (o : Outcome A) (v : View A) : Type 0 where

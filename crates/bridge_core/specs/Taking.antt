@@ -18,7 +18,7 @@ use Rattle.bridge_run.specs.Merge.{Input, frame, command, NotBefore, IsMerged, e
 use Rattle.bridge_run.specs.Outputs.{Reaches, HasRun}
 use Rattle.bridge_relay.specs.Relays.{RelayState, Stands}
 use Rattle.bridge_lanes.specs.declared.lane.Lane.{Lane}
-use Rattle.bridge_lanes.specs.Lanes.{AreAheadOf, IsLane, Looks, numbers, room, room_of}
+use Rattle.bridge_lanes.specs.Lanes.{AreAheadOf, AreRests, IsLane, Looks, numbers, room, room_of}
 use Rattle.bridge_core.specs.Lines.{AreWritten, AreWrittenBut}
 
 -- an input does not come before the newest of these
@@ -64,13 +64,13 @@ abbrev pub IsOfCapture : CaptureFault → Type 0
 IsOfCapture fault = (fault ≢ faults.NoMemory) × (fault ≢ faults.Write)
 
 -- behind the newest input the capture of its port was refused: the run of what was taken, up to that input, was written
-pub record StopsReading {A W : Type 0} (p : Plan A) (texts : ℕ → List ℕ) (commanded : List Input) (next : Option Input) (contents : W → Option (List ℕ)) (ports : List ℕ) (olds news : List W) (port : ℕ) (fault : CaptureFault) : Type 0 where
+pub record StopsReading {A W : Type 0} (p : Plan A) (texts : ℕ → List ℕ) (rests : ℕ → Option (List ℕ)) (commanded : List Input) (next : Option Input) (contents : W → Option (List ℕ)) (ports : List ℕ) (olds news : List W) (port : ℕ) (fault : CaptureFault) : Type 0 where
   pub frames : ℕ → List Captured
   pub inputs : List Input
   pub left : ℕ → List Captured
   pub taken : HasTaken p texts commanded next frames inputs
   pub own : IsOfCapture fault
-  pub refused : RefusedSo fault (texts port) (frames port)
+  pub refused : RefusedSo fault (rests port) (texts port) (frames port)
   pub behind : IsNewestOf port inputs
   pub others : (q : ℕ) (out : PortPlan A) → port_at p.ports q ≡ Some out → q ≢ port → LooksOn (texts q) q (frames q) inputs
   pub reaches : Reaches p (events inputs) (newest inputs) left
@@ -88,22 +88,28 @@ pub record StopsWriting {A W : Type 0} (p : Plan A) (texts : ℕ → List ℕ) (
   pub run : HasRun p (events inputs) until left
   pub written : AreWrittenBut contents port ports olds news left
 
--- memory ran out: the run of what was taken, up to some moment that is not before the newest input, was written
-pub record StopsForMemory {A W : Type 0} (p : Plan A) (texts : ℕ → List ℕ) (commanded : List Input) (next : Option Input) (contents : W → Option (List ℕ)) (ports : List ℕ) (olds news : List W) : Type 0 where
+-- behind these frames of a port its text ends, or a frame comes at this moment or later; or the newest input is the last of them, and the look behind it wanted memory
+abbrev pub LooksOrWants : ℕ → List ℕ → Option (List ℕ) → ℕ → List Captured → List Input → Type 0
+LooksOrWants moment text rest q taken inputs = LooksFrom (Some moment) text q taken inputs ⊎ (IsNewestOf q inputs × RefusedSo faults.NoMemory rest text taken)
+
+-- memory ran out: the run of what was taken was written up to some moment, neither before the newest input nor after what comes next
+pub record StopsForMemory {A W : Type 0} (p : Plan A) (texts : ℕ → List ℕ) (rests : ℕ → Option (List ℕ)) (commanded : List Input) (next : Option Input) (contents : W → Option (List ℕ)) (ports : List ℕ) (olds news : List W) : Type 0 where
   pub frames : ℕ → List Captured
   pub inputs : List Input
   pub left : ℕ → List Captured
   pub moment : ℕ
   pub taken : HasTaken p texts commanded next frames inputs
   pub late : newest inputs ≤ moment
+  pub looks : (q : ℕ) (out : PortPlan A) → port_at p.ports q ≡ Some out → LooksOrWants moment (texts q) (rests q) q (frames q) inputs
+  pub waits : IfSome next (λ c. moment ≤ c.at)
   pub reaches : Reaches p (events inputs) moment left
   pub written : AreWritten contents ports olds news left
 
--- why a run stopped that was under way
-abbrev pub StopsSo : {A W : Type 0} → Plan A → (ℕ → List ℕ) → List Input → Option Input → (W → Option (List ℕ)) → List ℕ → List W → List W → RunFault → Type 0
-StopsSo p texts commanded next contents ports olds news (run.Capture port fault) = StopsReading p texts commanded next contents ports olds news port fault
-StopsSo p texts commanded next contents ports olds news (run.Write port) = StopsWriting p texts commanded next contents ports olds news port
-StopsSo p texts commanded next contents ports olds news run.NoMemory = StopsForMemory p texts commanded next contents ports olds news
+-- why a run stopped that was under way, of whose texts the sources have these rests left
+abbrev pub StopsSo : {A W : Type 0} → Plan A → (ℕ → List ℕ) → (ℕ → Option (List ℕ)) → List Input → Option Input → (W → Option (List ℕ)) → List ℕ → List W → List W → RunFault → Type 0
+StopsSo p texts rests commanded next contents ports olds news (run.Capture port fault) = StopsReading p texts rests commanded next contents ports olds news port fault
+StopsSo p texts rests commanded next contents ports olds news (run.Write port) = StopsWriting p texts commanded next contents ports olds news port
+StopsSo p texts rests commanded next contents ports olds news run.NoMemory = StopsForMemory p texts rests commanded next contents ports olds news
 
 -- a bridge may take the frames of these lanes
 pub record MayTake {G A : Type 0} (b : RelayState G A) (lanes : List (Lane A)) : Type 0 where
@@ -161,7 +167,8 @@ pub record HasLooked {R A : Type 0} (remaining : R → Option (List ℕ)) (old n
 -- a run went on, or stopped
 abbrev pub GoesOn : {R W G A : Type 0} → (R → Option (List ℕ)) → (W → Option (List ℕ)) → Plan A → (ℕ → List ℕ) → List Input → Option Input → List W → RelayState G A → List (Lane A) → List R → List W → Result (Unit {0}) RunFault → Type 0
 GoesOn remaining contents p texts commanded next olds b lanes sources sinks (Ok u) = IsUnderWay remaining contents p texts commanded next olds b lanes sources sinks
-GoesOn remaining contents p texts commanded next olds b lanes sources sinks (Err fault) = StopsSo p texts commanded next contents (numbers lanes) olds sinks fault
+GoesOn remaining contents p texts commanded next olds b lanes sources sinks (Err fault) =
+    (rests : ℕ → Option (List ℕ)) → AreRests remaining (numbers lanes) rests sources → StopsSo p texts rests commanded next contents (numbers lanes) olds sinks fault
 
 -- no frame ahead comes before this moment, or none at all
 abbrev pub AreLater : {A : Type 0} → Option ℕ → List (Lane A) → Type 0
@@ -170,7 +177,8 @@ AreLater {A} until lanes = (i : ℕ) (lane : Lane A) (p : Packet A) → slice_ge
 -- a command was done behind what was taken, or a run stopped before it
 abbrev pub Obeys : {R W G A : Type 0} → (R → Option (List ℕ)) → (W → Option (List ℕ)) → Plan A → (ℕ → List ℕ) → List Input → Command → Option Input → List W → RelayState G A → List (Lane A) → List R → List W → Result (Unit {0}) RunFault → Type 0
 Obeys remaining contents p texts commanded c next olds b lanes sources sinks (Ok u) = IsUnderWay remaining contents p texts (asked c ∷ commanded) next olds b lanes sources sinks
-Obeys remaining contents p texts commanded c next olds b lanes sources sinks (Err fault) = StopsSo p texts commanded (Some (asked c)) contents (numbers lanes) olds sinks fault
+Obeys remaining contents p texts commanded c next olds b lanes sources sinks (Err fault) =
+    (rests : ℕ → Option (List ℕ)) → AreRests remaining (numbers lanes) rests sources → StopsSo p texts rests commanded (Some (asked c)) contents (numbers lanes) olds sinks fault
 
 -- the first of some commands, as an input
 abbrev pub first_of_commands : List Command → Option Input
@@ -178,11 +186,11 @@ first_of_commands [] = None
 first_of_commands (c ∷ cs) = Some (asked c)
 
 -- a run stopped when some of the commands were done
-pub record StopsAmong {A W : Type 0} (p : Plan A) (texts : ℕ → List ℕ) (commands : List Command) (contents : W → Option (List ℕ)) (ports : List ℕ) (olds news : List W) (fault : RunFault) : Type 0 where
+pub record StopsAmong {A W : Type 0} (p : Plan A) (texts : ℕ → List ℕ) (rests : ℕ → Option (List ℕ)) (commands : List Command) (contents : W → Option (List ℕ)) (ports : List ℕ) (olds news : List W) (fault : RunFault) : Type 0 where
   pub done : List Command
   pub later : List Command
   pub all : commands ≡ done ++ later
-  pub stops : StopsSo p texts (commands_of done) (first_of_commands later) contents ports olds news fault
+  pub stops : StopsSo p texts rests (commands_of done) (first_of_commands later) contents ports olds news fault
 
 -- all frames and commands were taken, and no frame is ahead
 pub record IsThrough {R W G A : Type 0} (remaining : R → Option (List ℕ)) (contents : W → Option (List ℕ)) (p : Plan A) (texts : ℕ → List ℕ) (commands : List Command) (olds : List W) (b : RelayState G A) (lanes : List (Lane A)) (sources : List R) (sinks : List W) : Type 0 where
@@ -192,4 +200,5 @@ pub record IsThrough {R W G A : Type 0} (remaining : R → Option (List ℕ)) (c
 -- a run came to its end, or stopped
 abbrev pub HasGone : {R W G A : Type 0} → (R → Option (List ℕ)) → (W → Option (List ℕ)) → Plan A → (ℕ → List ℕ) → List Command → List W → RelayState G A → List (Lane A) → List R → List W → Result (Unit {0}) RunFault → Type 0
 HasGone remaining contents p texts commands olds b lanes sources sinks (Ok u) = IsThrough remaining contents p texts commands olds b lanes sources sinks
-HasGone remaining contents p texts commands olds b lanes sources sinks (Err fault) = StopsAmong p texts commands contents (numbers lanes) olds sinks fault
+HasGone remaining contents p texts commands olds b lanes sources sinks (Err fault) =
+    (rests : ℕ → Option (List ℕ)) → AreRests remaining (numbers lanes) rests sources → StopsAmong p texts rests commands contents (numbers lanes) olds sinks fault

@@ -6,8 +6,8 @@ ghost use Rattle.bridge_config.specs.Model as config;
 ghost use Rattle.bridge_parts.specs.Ports.{NotBefore};
 ghost use Rattle.bridge_relay.specs.Relays.{one_more, Stands};
 ghost use Rattle.bridge_run.specs.Events.{Event};
-ghost use Rattle.bridge_lanes.specs.Devices.{HasFailed};
-ghost use Rattle.bridge_core.specs.Lines.{AreWritten, Departs, HeadersStop, numbers, Writes};
+ghost use Rattle.bridge_lanes.specs.Devices.{HasFailed, NeverFail};
+ghost use Rattle.bridge_core.specs.Lines.{AreWritten, Departs, HasRunOut, HeadersStop, numbers, Writes};
 
 use bridge_base::LONGEST_FRAME;
 use bridge_capture::{ByteSink, Writer};
@@ -35,6 +35,8 @@ pub fn begin_all<W: ByteSink, A: Allocator + Copy>(
     ensures lines { IfOk result (λ lines. numbers lines.items ≡ ports.now) }
     ensures headers { IfOk result (λ _. AreWritten W.contents ports.now sinks.old sinks.new (λ _. [])) }
     ensures stops { IfErr result (HeadersStop W.contents W.has_failed ports.now sinks.old sinks.new) }
+    ensures sound { NeverFail W.never_fails sinks.old → IfErr result (HeadersStop W.contents W.ran_out ports.now sinks.old sinks.new) }
+    ensures holds { NeverFail W.never_fails sinks.old → NeverFail W.never_fails sinks.new }
 {
     let mut lines = lines;
     for place in 0..ports.len() {
@@ -82,6 +84,8 @@ pub fn write<W: ByteSink, A: Allocator + Copy>(
     ensures numbers { numbers lines.new ≡ numbers lines.old }
     ensures only { OnErr result (result ≡ Err (RunFault.Write sent.now.port)) }
     ensures failed { OnErr result (HasFailed W.has_failed (numbers lines.old) sent.now.port sinks.new) }
+    ensures sound { NeverFail W.never_fails sinks.old → OnErr result (HasRunOut W.ran_out (numbers lines.old) sent.now.port sinks.new) }
+    ensures holds { NeverFail W.never_fails sinks.old → NeverFail W.never_fails sinks.new }
 {
     let Some(place) = place_of(lines, sent.port) else {
         return Ok(());
@@ -112,6 +116,8 @@ pub fn depart_before<W: ByteSink, G: Agenda + Drop, A: Allocator + Copy>(
     ensures same { (relay.new.plan ≡ relay.old.plan) × (relay.new.arrived ≡ relay.old.arrived) }
     ensures numbers { numbers lines.new ≡ numbers lines.old }
     ensures failed { (port : ℕ) → result ≡ Err (RunFault.Write port) → HasFailed W.has_failed (numbers lines.old) port sinks.new }
+    ensures sound { NeverFail W.never_fails sinks.old → (port : ℕ) → result ≡ Err (RunFault.Write port) → HasRunOut W.ran_out (numbers lines.old) port sinks.new }
+    ensures holds { NeverFail W.never_fails sinks.old → NeverFail W.never_fails sinks.new }
     ensures only { OnErr result ((port : ℕ) × (result ≡ Err (RunFault.Write port))) }
 {
     while let Some((_, start)) = relay.due() {

@@ -4,7 +4,8 @@ ghost use Rattle.std.specs.Map.{lookup};
 ghost use Rattle.bridge_base.specs.Members.{Rising};
 ghost use Rattle.bridge_config.specs.Commands.{AreCommands};
 ghost use Rattle.bridge_lanes.specs.Devices.{HasFailed, NeverFail};
-ghost use Rattle.bridge_lanes.specs.Lanes.{AreTexts};
+ghost use Rattle.bridge_lanes.specs.Lanes.{AreRests, AreTexts};
+ghost use Rattle.bridge_core.specs.Lines.{HasRunOut};
 ghost use Rattle.bridge_core.specs.Simulated.{AreListsOf, AreNumbers, Isolates, OthersChangeNothing, Runs, Stops, WritesFew};
 
 use crate::line::{Line, begin_all};
@@ -84,8 +85,9 @@ pub fn simulate_over<R: ByteSource, W: ByteSink, G: Agenda + Drop, A: Allocator 
     requires commands { AreCommands accepted.now commands.now }
     ensures ok { (ports : List ℕ) (texts : ℕ → List ℕ) → AreNumbers accepted.now ports → AreTexts R.remaining ports texts sources.old →
         IfOk result (Runs accepted.now ports commands.now texts W.contents sinks.old sinks.new) }
-    ensures err { (ports : List ℕ) (texts : ℕ → List ℕ) → AreNumbers accepted.now ports → AreTexts R.remaining ports texts sources.old →
-        IfErr result (Stops accepted.now ports commands.now texts W.contents W.has_failed sinks.old sinks.new) }
+    ensures err { (ports : List ℕ) (texts : ℕ → List ℕ) (rests : ℕ → Option (List ℕ)) → AreNumbers accepted.now ports →
+        AreTexts R.remaining ports texts sources.old → AreRests R.remaining ports rests sources.new →
+        IfErr result (Stops accepted.now ports commands.now texts rests W.contents W.has_failed sinks.old sinks.new) }
     ensures isolated { (ports : List ℕ) (texts : ℕ → List ℕ) →
         IfOk result (Isolates accepted.now ports commands.now texts W.contents sinks.old sinks.new) }
     ensures others_change_nothing { (ports : List ℕ) (texts : ℕ → List ℕ) →
@@ -97,6 +99,8 @@ pub fn simulate_over<R: ByteSource, W: ByteSink, G: Agenda + Drop, A: Allocator 
     ensures sure { NeverFail R.never_fails sources.old → (port : ℕ) → result ≢ Err (RunFault.Capture port CaptureFault.Read) }
     ensures wrote { (ports : List ℕ) (port : ℕ) → AreNumbers accepted.now ports →
         result ≡ Err (RunFault.Write port) → HasFailed W.has_failed ports port sinks.new }
+    ensures sound { (ports : List ℕ) (port : ℕ) → AreNumbers accepted.now ports → NeverFail W.never_fails sinks.old →
+        result ≡ Err (RunFault.Write port) → HasRunOut W.ran_out ports port sinks.new }
 {
     let Ok(lists) = lists_of(alloc, accepted.plan()) else {
         return Err(RunFault::NoMemory);
@@ -169,8 +173,9 @@ pub fn simulate<R: ByteSource, W: ByteSink, A: Allocator + Copy>(
     requires commands { AreCommands accepted.now commands.now }
     ensures ok { (ports : List ℕ) (texts : ℕ → List ℕ) → AreNumbers accepted.now ports → AreTexts R.remaining ports texts sources.old →
         IfOk result (Runs accepted.now ports commands.now texts W.contents sinks.old sinks.new) }
-    ensures err { (ports : List ℕ) (texts : ℕ → List ℕ) → AreNumbers accepted.now ports → AreTexts R.remaining ports texts sources.old →
-        IfErr result (Stops accepted.now ports commands.now texts W.contents W.has_failed sinks.old sinks.new) }
+    ensures err { (ports : List ℕ) (texts : ℕ → List ℕ) (rests : ℕ → Option (List ℕ)) → AreNumbers accepted.now ports →
+        AreTexts R.remaining ports texts sources.old → AreRests R.remaining ports rests sources.new →
+        IfErr result (Stops accepted.now ports commands.now texts rests W.contents W.has_failed sinks.old sinks.new) }
     ensures isolated { (ports : List ℕ) (texts : ℕ → List ℕ) →
         IfOk result (Isolates accepted.now ports commands.now texts W.contents sinks.old sinks.new) }
     ensures others_change_nothing { (ports : List ℕ) (texts : ℕ → List ℕ) →
@@ -182,6 +187,8 @@ pub fn simulate<R: ByteSource, W: ByteSink, A: Allocator + Copy>(
     ensures sure { NeverFail R.never_fails sources.old → (port : ℕ) → result ≢ Err (RunFault.Capture port CaptureFault.Read) }
     ensures wrote { (ports : List ℕ) (port : ℕ) → AreNumbers accepted.now ports →
         result ≡ Err (RunFault.Write port) → HasFailed W.has_failed ports port sinks.new }
+    ensures sound { (ports : List ℕ) (port : ℕ) → AreNumbers accepted.now ports → NeverFail W.never_fails sinks.old →
+        result ≡ Err (RunFault.Write port) → HasRunOut W.ran_out ports port sinks.new }
 {
     simulate_over::<R, W, TreeAgenda, A>(alloc, accepted, commands, sources, sinks)
 }

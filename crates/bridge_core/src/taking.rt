@@ -7,7 +7,7 @@ ghost use Rattle.bridge_parts.specs.Ports.{NotBefore};
 ghost use Rattle.bridge_run.specs.Merge.{Input};
 ghost use Rattle.bridge_lanes.specs.Devices.{HasFailed, NeverFail};
 ghost use Rattle.bridge_lanes.specs.Lanes.{IsFirstAt, numbers, room_of};
-ghost use Rattle.bridge_core.specs.Lines.{numbers as written_numbers};
+ghost use Rattle.bridge_core.specs.Lines.{HasRunOut, numbers as written_numbers};
 ghost use Rattle.bridge_core.specs.Taking.{AreLater, asked, first_of_commands, GoesOn, HasGone, Obeys, HasGiven, HasLooked, IsBefore, IsUnderWay, MayTake, TakesBefore};
 
 use crate::line::{Line, depart_before};
@@ -76,6 +76,8 @@ fn take<R: ByteSource, W: ByteSink, G: Agenda + Drop, A: Allocator + Copy>(
     ensures sure { NeverFail R.never_fails sources.old → (port : ℕ) → result ≢ Err (RunFault.Capture port CaptureFault.Read) }
     ensures lasts { NeverFail R.never_fails sources.old → NeverFail R.never_fails sources.new }
     ensures wrote { (port : ℕ) → result ≡ Err (RunFault.Write port) → HasFailed W.has_failed (numbers lanes.old) port sinks.new }
+    ensures sound { NeverFail W.never_fails sinks.old → (port : ℕ) → result ≡ Err (RunFault.Write port) → HasRunOut W.ran_out (numbers lanes.old) port sinks.new }
+    ensures holds { NeverFail W.never_fails sinks.old → NeverFail W.never_fails sinks.new }
 {
     let (number, packet) = give(lanes, place);
     if let Err(fault) = depart_before(Some(packet.time), relay, lines, sinks, spares) {
@@ -148,6 +150,8 @@ fn take_before<R: ByteSource, W: ByteSink, G: Agenda + Drop, A: Allocator + Copy
     ensures sure { NeverFail R.never_fails sources.old → (port : ℕ) → result ≢ Err (RunFault.Capture port CaptureFault.Read) }
     ensures lasts { NeverFail R.never_fails sources.old → NeverFail R.never_fails sources.new }
     ensures wrote { (port : ℕ) → result ≡ Err (RunFault.Write port) → HasFailed W.has_failed (numbers lanes.old) port sinks.new }
+    ensures sound { NeverFail W.never_fails sinks.old → (port : ℕ) → result ≡ Err (RunFault.Write port) → HasRunOut W.ran_out (numbers lanes.old) port sinks.new }
+    ensures holds { NeverFail W.never_fails sinks.old → NeverFail W.never_fails sinks.new }
 {
     while let Some(place) = next_before(lanes, until) {
         if let Err(fault) = take(place, relay, lanes, lines, sources, sinks, spares) {
@@ -181,6 +185,8 @@ fn obey<R: ByteSource, W: ByteSink, G: Agenda + Drop, A: Allocator + Copy>(
     ensures sure { NeverFail R.never_fails sources.old → (port : ℕ) → result ≢ Err (RunFault.Capture port CaptureFault.Read) }
     ensures lasts { NeverFail R.never_fails sources.old → NeverFail R.never_fails sources.new }
     ensures wrote { (port : ℕ) → result ≡ Err (RunFault.Write port) → HasFailed W.has_failed (numbers lanes.old) port sinks.new }
+    ensures sound { NeverFail W.never_fails sinks.old → (port : ℕ) → result ≡ Err (RunFault.Write port) → HasRunOut W.ran_out (numbers lanes.old) port sinks.new }
+    ensures holds { NeverFail W.never_fails sinks.old → NeverFail W.never_fails sinks.new }
 {
     let at = Some(command.at);
     if let Err(fault) = take_before(at, relay, lanes, lines, sources, sinks, spares) {
@@ -215,6 +221,7 @@ pub fn run<R: ByteSource, W: ByteSink, G: Agenda + Drop, A: Allocator + Copy>(
     ensures read { (port : ℕ) → result ≡ Err (RunFault.Capture port CaptureFault.Read) → HasFailed R.has_failed (numbers lanes.old) port sources.new }
     ensures sure { NeverFail R.never_fails sources.old → (port : ℕ) → result ≢ Err (RunFault.Capture port CaptureFault.Read) }
     ensures wrote { (port : ℕ) → result ≡ Err (RunFault.Write port) → HasFailed W.has_failed (numbers lanes.old) port sinks.new }
+    ensures sound { NeverFail W.never_fails sinks.old → (port : ℕ) → result ≡ Err (RunFault.Write port) → HasRunOut W.ran_out (numbers lanes.old) port sinks.new }
 {
     for command in commands {
         if let Err(fault) = obey(*command, relay, lanes, lines, sources, sinks, spares) {

@@ -173,7 +173,8 @@ pub fn wire<R: ByteSource, W: ByteSink, A: Allocator + Copy>(
 ) -> Result<WireCount, RunFault>
     requires room { (1 ≤ room) × (room ≤ LARGEST_ROOM) }
     ensures ok { (text : List ℕ) → R.remaining source.old ≡ Some text → IfOk result (Wires speed room text (W.contents sink.old) (W.contents sink.new)) }
-    ensures err { (text : List ℕ) → R.remaining source.old ≡ Some text → IfErr result (Stops speed room text (R.remaining source.new) (W.contents sink.old) (W.contents sink.new)) }
+    ensures err { (text : List ℕ) → R.remaining source.old ≡ Some text →
+        IfErr result (Stops speed room text (R.remaining source.new) (W.contents sink.old) (W.contents sink.new)) }
 
     // What holds whatever the devices tell.
     ensures sums { IfOk result (λ count. count.malformed + count.sent + count.full ≡ count.frames) }

@@ -2,6 +2,7 @@ use Rattle.std.proofs.Common.{◌<◌, length, slice_index_or, refl, ap, ◌∙�
 use Rattle.std.proofs.lemmas.Grind.{common_steps}
 use Rattle.std.proofs.lemmas.List.{take_all}
 use Rattle.std.proofs.lemmas.Option.{slice_get-get_or}
+use Rattle.bridge_lanes.proofs.Looks.{lasts_set, sure_next}
 use Rattle.bridge_core.specs.declared.line.Line.{Line}
 use Rattle.bridge_core.specs.Lines.{numbers}
 use Rattle.bridge_core.proofs.Written.{headers_none, headers_more, headers_stop, headers_all, numbers_more}
@@ -13,6 +14,7 @@ loop-place-init g c =
     record {
       headers = headers_none g.W.ByteSink.contents c.args.sinks.now;
       numbers = ap numbers none;
+      holds = λ sure. sure;
       few = grind (arith, common_steps);
       room = c.requires.room;
     }
@@ -27,6 +29,24 @@ returns-in-Err-clause-stops g c =
     headers_stop g.W.ByteSink.contents g.W.ByteSink.has_failed c.args.ports.now c.args.sinks.now c.loop-place.sinks place (slice_index_or c.args.ports.now place 0) mid c.begin.new.sink
     (slice_get-get_or c.args.ports.now place 0 below) (slice_get-get_or c.loop-place.sinks place c.index-sinks-place.result inside) c.in-Err.ensures.err c.in-Err.ensures.fails kept.headers
 
+pub returns-in-Err-clause-sound : goal.returns-in-Err-clause-sound
+returns-in-Err-clause-sound g c = λ sure.
+    let kept = c.loop-place.invariant in
+    let place = c.loop-place.place in
+    let below : place < length c.args.ports.now = c.loop-place-test.true in
+    let inside : place < length c.loop-place.sinks = omega (arith, kept.headers.size, c.requires.size) in
+    let mid = slice_index_or c.loop-place.sinks place c.index-sinks-place.result in
+    headers_stop g.W.ByteSink.contents g.W.ByteSink.ran_out c.args.ports.now c.args.sinks.now c.loop-place.sinks place (slice_index_or c.args.ports.now place 0) mid c.begin.new.sink
+    (slice_get-get_or c.args.ports.now place 0 below) (slice_get-get_or c.loop-place.sinks place c.index-sinks-place.result inside) c.in-Err.ensures.err
+    (c.in-Err.ensures.sure (sure_next g.W.ByteSink.never_fails c.loop-place.sinks place c.index-sinks-place.result inside (kept.holds sure))) kept.headers
+
+pub returns-in-Err-clause-holds : goal.returns-in-Err-clause-holds
+returns-in-Err-clause-holds g c = λ sure.
+    let kept = c.loop-place.invariant in
+    let below = c.loop-place-test.true in
+    let inside : c.loop-place.place < length c.loop-place.sinks = omega (arith, kept.headers.size, c.requires.size, below) in
+    lasts_set g.W.ByteSink.never_fails c.loop-place.sinks c.loop-place.place c.index-sinks-place.result c.begin.new.sink inside c.begin.ensures.lasts (kept.holds sure)
+
 pub loop-place-preserved : goal.loop-place-preserved
 loop-place-preserved g c =
     let kept = c.loop-place.invariant in
@@ -40,6 +60,7 @@ loop-place-preserved g c =
     record {
       headers = headers_more g.W.ByteSink.contents c.args.sinks.now c.loop-place.sinks place mid c.begin.new.sink (slice_get-get_or c.loop-place.sinks place c.index-sinks-place.result inside) c.in-Ok.ensures.ok kept.headers;
       numbers = numbers_more c.loop-place.lines.items c.push.new.self.items line c.args.ports.now place c.in-Ok-push.ensures.items below refl kept.numbers;
+      holds = λ sure. lasts_set g.W.ByteSink.never_fails c.loop-place.sinks place c.index-sinks-place.result c.begin.new.sink inside c.begin.ensures.lasts (kept.holds sure);
       few = grind (arith, common_steps);
       room = grind (arith, common_steps);
     }

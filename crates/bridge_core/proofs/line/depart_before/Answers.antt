@@ -3,7 +3,7 @@ use Rattle.std.proofs.lemmas.Option.{none-some}
 use Rattle.bridge_base.specs.Members.{Rising}
 use Rattle.bridge_relay.specs.Relays.{one_more}
 use Rattle.bridge_lanes.specs.Devices.{HasFailed}
-use Rattle.bridge_core.specs.Lines.{AreWritten, numbers, Writes}
+use Rattle.bridge_core.specs.Lines.{AreWritten, HasRunOut, numbers, Writes}
 use Rattle.bridge_core.proofs.Departing.{waits_there, early_next, early_at, departs_stop, none_then, sooner}
 use Rattle.bridge_core.proofs.line.depart_before.Goals as goal
 use Rattle.bridge_core.proofs.line.depart_before.Goals.{in_default-via-in-None-1, in_default-via-in-Some-until+else-start-t}
@@ -14,6 +14,7 @@ loop-start-init g c = record {
   departs = λ p es olds left s w. (left, s, w);
   early = c.requires.early;
   same = (refl, refl);
+  holds = λ sure. sure;
   numbers = refl;
 }
 
@@ -85,6 +86,18 @@ returns-in-Err-clause-failed g c = λ port is.
     subst (λ q. HasFailed has_failed (numbers c.args.lines.now) q sinks) same
     (subst (λ l. HasFailed has_failed l c.advance-sent.result.port sinks) c.loop-start.invariant.numbers c.in-Err.ensures.failed)
 
+pub returns-in-Err-clause-sound : goal.returns-in-Err-clause-sound
+returns-in-Err-clause-sound g c = λ sure port is.
+    let only = c.in-Err.ensures.only in
+    let same : c.advance-sent.result.port ≡ port = cc in
+    let ran_out = g.W.ByteSink.ran_out in
+    let sinks = c.write.new.sinks in
+    subst (λ q. HasRunOut ran_out (numbers c.args.lines.now) q sinks) same
+    (subst (λ l. HasRunOut ran_out l c.advance-sent.result.port sinks) c.loop-start.invariant.numbers (c.in-Err.ensures.sound (c.loop-start.invariant.holds sure)))
+
+pub returns-in-Err-clause-holds : goal.returns-in-Err-clause-holds
+returns-in-Err-clause-holds g c = λ sure. c.write.ensures.holds (c.loop-start.invariant.holds sure)
+
 pub loop-start-smaller : goal.loop-start-smaller
 loop-start-smaller g c = let fewer = c.advance-sent.ensures.fewer in omega arith
 
@@ -108,6 +121,7 @@ loop-start-preserved g c =
           (one_more so_far.0 sent, c.advance-sent.ensures.stands p es so_far.0 so_far.1, subst (λ l. AreWritten contents l olds c.write.new.sinks (one_more so_far.0 sent)) kept.numbers writes);
       early = early_next until c.loop-start.relay.earliest c.advance-sent.new.self.earliest sent.start kept.early before c.advance-sent.ensures.sent.earliest;
       same = (same.0 ∙ kept.same.0, same.1 ∙ kept.same.1);
+      holds = λ sure. c.write.ensures.holds (kept.holds sure);
       numbers = c.write.ensures.numbers ∙ kept.numbers;
     }
 

@@ -2,6 +2,7 @@ use Rattle.std.proofs.Common.{◌≡◌, ◌≤◌, ℕ, List, Ok, IfSome}
 use Rattle.bridge_capture.specs.Grammar.{Captured}
 use Rattle.bridge_config.specs.Model.{Plan}
 use Rattle.bridge_run.specs.Events.{Event}
+use Rattle.bridge_lanes.specs.Devices.{NeverFail}
 use Rattle.bridge_relay.specs.Relays.{waiting, Stands}
 use Rattle.bridge_core.specs.Lines.{AreWritten, Departs, numbers}
 use Rattle.bridge_core.proofs.line.depart_before.Given as goal
@@ -15,6 +16,7 @@ invariant-loop-start g l =
       departs : (p : Plan g.row.A.Denot) (es : List Event) (olds : List g.row.W.Denot) (left : ℕ → List Captured) → Stands p l.fn.relay es left → AreWritten contents ports olds l.fn.sinks left → Departs contents p es l.fn.until l.relay ports olds l.sinks (Ok tt);
       early : IfSome l.fn.until (λ t. l.relay.earliest ≤ t);
       same : (l.relay.plan ≡ l.fn.relay.plan) × (l.relay.arrived ≡ l.fn.relay.arrived);
+      holds : NeverFail g.W.ByteSink.never_fails l.fn.sinks → NeverFail g.W.ByteSink.never_fails l.sinks;
       numbers : numbers l.lines ≡ ports;
     }
 

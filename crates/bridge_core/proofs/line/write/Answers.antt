@@ -4,6 +4,7 @@ use Rattle.std.specs.Io.KnownBytes.{Appends}
 use Rattle.std.proofs.lemmas.Option.{slice_get-get_or}
 use Rattle.bridge_capture.specs.Written.{written_record}
 use Rattle.bridge_capture.specs.Sinks.{AppendsFront}
+use Rattle.bridge_lanes.proofs.Looks.{lasts_set, sure_next}
 use Rattle.bridge_core.specs.Lines.{numbers}
 use Rattle.bridge_core.proofs.Written.{numbers_set, place_unique, set_here, writes_one, breaks_one, writes_none}
 use Rattle.bridge_core.proofs.line.write.Goals as goal
@@ -46,3 +47,22 @@ returns-in-Err-clause-failed g c = λ i w port is.
     let same : i ≡ place = place_unique (numbers c.args.lines.now) i place sent.port c.requires.rises port c.in-Some.ensures.there in
     let now : c.put.new.sink ≡ w = set_here c.args.sinks.now place c.put.new.sink w (rw same at is) in
     subst (λ z. g.W.ByteSink.has_failed z ≡ true) now c.in-Err.ensures.fails
+
+pub returns-in-Err-clause-sound : goal.returns-in-Err-clause-sound
+returns-in-Err-clause-sound g c = λ sure i w port is.
+    let sent = c.args.sent.now in
+    let place = c.in-Some.place in
+    let inside : place < length c.args.sinks.now = (let within = c.in-Some.ensures.within in let size = c.requires.size in omega (arith, within, size)) in
+    let same : i ≡ place = place_unique (numbers c.args.lines.now) i place sent.port c.requires.rises port c.in-Some.ensures.there in
+    let now : c.put.new.sink ≡ w = set_here c.args.sinks.now place c.put.new.sink w (rw same at is) in
+    subst (λ z. g.W.ByteSink.ran_out z ≡ true) now (c.in-Err.ensures.sure (sure_next g.W.ByteSink.never_fails c.args.sinks.now place c.index-sinks-place.result inside sure))
+
+pub returns-in-Ok-clause-holds : goal.returns-in-Ok-clause-holds
+returns-in-Ok-clause-holds g c = λ sure.
+    let inside : c.in-Some.place < length c.args.sinks.now = (let within = c.in-Some.ensures.within in let size = c.requires.size in omega (arith, within, size)) in
+    lasts_set g.W.ByteSink.never_fails c.args.sinks.now c.in-Some.place c.index-sinks-place.result c.put.new.sink inside c.put.ensures.lasts sure
+
+pub returns-in-Err-clause-holds : goal.returns-in-Err-clause-holds
+returns-in-Err-clause-holds g c = λ sure.
+    let inside : c.in-Some.place < length c.args.sinks.now = (let within = c.in-Some.ensures.within in let size = c.requires.size in omega (arith, within, size)) in
+    lasts_set g.W.ByteSink.never_fails c.args.sinks.now c.in-Some.place c.index-sinks-place.result c.put.new.sink inside c.put.ensures.lasts sure

@@ -1,4 +1,4 @@
-use Rattle.std.proofs.Common.{◌≡◌, ℕ, ◌<◌, ◌≤◌, List, [], Some, None, length, nat_eq, arith, Err, ap, sym, subst, ◌∙◌, slice_get}
+use Rattle.std.proofs.Common.{◌≡◌, ℕ, ◌<◌, ◌≤◌, List, [], Some, None, length, nat_eq, arith, Err, inl, inr, refl, ap, sym, subst, ◌∙◌, slice_get}
 use Rattle.std.specs.Map.{lookup}
 use Rattle.bridge_base.specs.Members.{Rising}
 use Rattle.bridge_lanes.specs.declared.fault.RunFault.TheVariants as run
@@ -6,12 +6,12 @@ use Rattle.bridge_config.specs.Model.{Plan}
 use Rattle.bridge_run.specs.Merge.{events}
 use Rattle.bridge_run.proofs.Few.{few_leave}
 use Rattle.bridge_relay.specs.Relays.{Stands}
-use Rattle.bridge_lanes.specs.Lanes.{AreAheadOf, AreLanes, AreTexts, FailsLook, numbers, room_of}
+use Rattle.bridge_lanes.specs.Lanes.{AreAheadOf, AreLanes, AreRests, AreTexts, FailsLook, numbers, room_of}
 use Rattle.bridge_core.specs.Lines.{AreWritten, HeadersStop, numbers as written_numbers}
 use Rattle.bridge_core.specs.Simulated.{AreListsOf, AreNumbers}
 use Rattle.bridge_core.specs.Taking.{first_of_commands, StopsAmong}
 use Rattle.bridge_core.proofs.Beginning.{one_order}
-use Rattle.bridge_core.proofs.Simulating.{begin_well, has_run, isolates, lanes_many, may_take, others_change_nothing, ports_many, stops_among, stops_header, stops_look, under_first}
+use Rattle.bridge_core.proofs.Simulating.{begin_well, has_run, isolates, lanes_many, may_take, others_change_nothing, ports_many, stops_among, stops_header, stops_look, under_first, wants_first}
 use Rattle.bridge_core.proofs.Sorted.{rising_numbers}
 use Rattle.bridge_core.proofs.Taken.{err_is}
 use Rattle.bridge_core.proofs.Written.{numbers_length, stop_failed}
@@ -38,18 +38,41 @@ look_at_all-requires-clause-rises g c =
     rising_numbers c.deref.result.now (subst (λ ns. AreNumbers c.args.accepted.now ns) (sym c.deref.ensures.value) lists.ports).rises
 
 pub returns-in-Err-clause-err : goal.returns-in-Err-clause-err
-returns-in-Err-clause-err g c = λ ports texts are read.
+returns-in-Err-clause-err g c = λ ports texts rests are read left.
     let p = c.args.accepted.now in
     let lists = subst (λ z. AreListsOf z c.in-Ok.lists) c.plan.ensures.plan c.in-Ok.ensures in
     let same = one_order p ports c.in-Ok.lists.ports.items are lists.ports ∙ sym c.deref.ensures.value in
-    stops_look p ports c.args.commands.now texts g.W.ByteSink.contents g.W.ByteSink.has_failed c.args.sinks.now c.in-Err.fault (λ port why is. c.in-Err.ensures.own port why (ap Err is))
-    (subst (λ ns. FailsLook texts ns c.in-Err.fault) (sym same) (c.in-Err.ensures.fails texts (subst (λ ns. AreTexts g.R.ByteSource.remaining ns texts c.args.sources.now) same read)))
+    stops_look p ports c.args.commands.now texts rests g.W.ByteSink.contents g.W.ByteSink.has_failed c.args.sinks.now c.in-Err.fault (λ port why is. c.in-Err.ensures.own port why (ap Err is))
+    (subst (λ ns. FailsLook texts rests ns c.in-Err.fault) (sym same) (c.in-Err.ensures.fails texts rests (subst (λ ns. AreTexts g.R.ByteSource.remaining ns texts c.args.sources.now) same read) (subst (λ ns. AreRests g.R.ByteSource.remaining ns rests c.look_at_all.new.sources) same left)))
 
 pub returns-in-Err-clause-read : goal.returns-in-Err-clause-read
 returns-in-Err-clause-read g c = λ ports port are e i w at lent.
     let lists = subst (λ z. AreListsOf z c.in-Ok.lists) c.plan.ensures.plan c.in-Ok.ensures in
     let same = one_order c.args.accepted.now ports c.in-Ok.lists.ports.items are lists.ports ∙ sym c.deref.ensures.value in
     c.in-Err.ensures.read port (ap (λ f. Err f) (err_is c.in-Err.fault _ e)) i w (subst (λ ns. slice_get ns i ≡ Some port) same at) lent
+
+pub returns-in_default-clause-err : goal.returns-in_default-clause-err
+returns-in_default-clause-err g c = λ ports texts rests are read left. inl (wants_first g.R.ByteSource.remaining c.args.accepted.now ports texts rests c.args.sources.now c.args.sinks.now are c.requires.sources read left)
+
+pub returns-in_default-spares_in-clause-err : goal.returns-in_default-spares_in-clause-err
+returns-in_default-spares_in-clause-err g c = λ ports texts rests are read left. inl (wants_first g.R.ByteSource.remaining c.args.accepted.now ports texts rests c.args.sources.now c.args.sinks.now are c.requires.sources read left)
+
+pub returns-in_default-new-clause-err : goal.returns-in_default-new-clause-err
+returns-in_default-new-clause-err g c = λ ports texts rests are read left.
+    let p = c.args.accepted.now in
+    let lists = subst (λ z. AreListsOf z c.in-Ok.lists) c.plan.ensures.plan c.in-Ok.ensures in
+    let own = one_order p ports c.in-Ok.lists.ports.items are lists.ports in
+    let same = own ∙ sym c.deref.ensures.value in
+    let lanes = c.in-Ok-look_at_all.lanes.items in
+    let named = c.in-Ok-look_at_all.ensures.numbers ∙ sym same in
+    let long = c.look_at_all.auto.sources in
+    let asked = c.requires.sources in
+    inl (record {
+      looks = inr (begin_well g.R.ByteSource.remaining p ports texts lanes c.look_at_all.new.sources are named
+          (lanes_many p ports lanes (length c.look_at_all.new.sources) are named (omega (arith, long, asked)))
+          (c.in-Ok-look_at_all.ensures.begins texts (subst (λ ns. AreTexts g.R.ByteSource.remaining ns texts c.args.sources.now) same read)));
+      untouched = refl;
+    })
 
 pub begin_all-requires-clause-size : goal.begin_all-requires-clause-size
 begin_all-requires-clause-size g c =
@@ -58,7 +81,7 @@ begin_all-requires-clause-size g c =
     c.requires.sinks ∙ sym (ports_many p c.in-Ok.lists.ports.items lists.ports) ∙ ap length (sym c.deref-2.ensures.value)
 
 pub returns-in-Err-begin_all-clause-err : goal.returns-in-Err-begin_all-clause-err
-returns-in-Err-begin_all-clause-err g c = λ ports texts are read.
+returns-in-Err-begin_all-clause-err g c = λ ports texts rests are read left.
     let p = c.args.accepted.now in
     let lists = subst (λ z. AreListsOf z c.in-Ok.lists) c.plan.ensures.plan c.in-Ok.ensures in
     let own = one_order p ports c.in-Ok.lists.ports.items are lists.ports in
@@ -68,7 +91,7 @@ returns-in-Err-begin_all-clause-err g c = λ ports texts are read.
     let named = c.in-Ok-look_at_all.ensures.numbers ∙ sym same in
     let long = c.look_at_all.auto.sources in
     let asked = c.requires.sources in
-    stops_header p ports c.args.commands.now texts g.W.ByteSink.contents g.W.ByteSink.has_failed c.args.sinks.now c.begin_all.new.sinks c.in-Err-begin_all.fault
+    stops_header p ports c.args.commands.now texts rests g.W.ByteSink.contents g.W.ByteSink.has_failed c.args.sinks.now c.begin_all.new.sinks c.in-Err-begin_all.fault
     (begin_well g.R.ByteSource.remaining p ports texts lanes c.look_at_all.new.sources are named
     (lanes_many p ports lanes (length c.look_at_all.new.sources) are named (omega (arith, long, asked)))
     (c.in-Ok-look_at_all.ensures.begins texts (subst (λ ns. AreTexts g.R.ByteSource.remaining ns texts c.args.sources.now) same read)))
@@ -82,6 +105,15 @@ returns-in-Err-begin_all-clause-wrote g c = λ ports port are e.
     stop_failed g.W.ByteSink.contents g.W.ByteSink.has_failed ports port c.args.sinks.now c.begin_all.new.sinks (rising_numbers ports are.rises)
     (subst (λ ns. HeadersStop g.W.ByteSink.contents g.W.ByteSink.has_failed ns c.args.sinks.now c.begin_all.new.sinks (run.Write port)) (sym there)
     (subst (λ f. HeadersStop g.W.ByteSink.contents g.W.ByteSink.has_failed c.deref-2.result.now c.args.sinks.now c.begin_all.new.sinks f) fault c.in-Err-begin_all.ensures.stops))
+
+pub returns-in-Err-begin_all-clause-sound : goal.returns-in-Err-begin_all-clause-sound
+returns-in-Err-begin_all-clause-sound g c = λ ports port are sure e.
+    let lists = subst (λ z. AreListsOf z c.in-Ok.lists) c.plan.ensures.plan c.in-Ok.ensures in
+    let there = one_order c.args.accepted.now ports c.in-Ok.lists.ports.items are lists.ports ∙ sym c.deref-2.ensures.value in
+    let fault = err_is c.in-Err-begin_all.fault _ e in
+    stop_failed g.W.ByteSink.contents g.W.ByteSink.ran_out ports port c.args.sinks.now c.begin_all.new.sinks (rising_numbers ports are.rises)
+    (subst (λ ns. HeadersStop g.W.ByteSink.contents g.W.ByteSink.ran_out ns c.args.sinks.now c.begin_all.new.sinks (run.Write port)) (sym there)
+    (subst (λ f. HeadersStop g.W.ByteSink.contents g.W.ByteSink.ran_out c.deref-2.result.now c.args.sinks.now c.begin_all.new.sinks f) fault (c.in-Err-begin_all.ensures.sound sure)))
 
 pub run-done-requires-clause-may : goal.run-done-requires-clause-may
 run-done-requires-clause-may g c =
@@ -158,7 +190,7 @@ pub returns-in-Ok-done-clause-few : goal.returns-in-Ok-done-clause-few
 returns-in-Ok-done-clause-few g c = λ ports texts ran q out at. few_leave c.args.accepted.now (events ran.inputs) ran.left c.finish.result q out ran.ends at
 
 pub returns-clause-err : goal.returns-clause-err
-returns-clause-err g c = λ ports texts are read.
+returns-clause-err g c = λ ports texts rests are read left.
     let p = c.args.accepted.now in
     let lists = subst (λ z. AreListsOf z c.in-Ok.lists) c.plan.ensures.plan c.in-Ok.ensures in
     let own = one_order p ports c.in-Ok.lists.ports.items are lists.ports in
@@ -174,9 +206,10 @@ returns-clause-err g c = λ ports texts are read.
     (under_first g.R.ByteSource.remaining g.W.ByteSink.contents p ports texts (first_of_commands c.args.commands.now) c.args.sinks.now c.in-Ok-new.relay lanes c.look_at_all.new.sources c.begin_all.new.sinks are named size
     (subst (λ ls. AreAheadOf g.R.ByteSource.remaining texts (λ q. []) ls c.look_at_all.new.sources) (sym moved) (c.in-Ok-look_at_all.ensures.begins texts (subst (λ ns. AreTexts g.R.ByteSource.remaining ns texts c.args.sources.now) same read)))
     c.in-Ok-new.ensures.stands
-    (subst (λ ns. AreWritten g.W.ByteSink.contents ns c.args.sinks.now c.begin_all.new.sinks (λ q. [])) (sym there) c.in-Ok-begin_all.ensures.headers)) in
-    stops_among p ports c.args.commands.now texts g.W.ByteSink.contents g.W.ByteSink.has_failed c.args.sinks.now c.run-done.new.sinks c.in-Err-done.fault
-    (subst (λ ns. StopsAmong p texts c.args.commands.now g.W.ByteSink.contents ns c.args.sinks.now c.run-done.new.sinks c.in-Err-done.fault) (c.run-done.ensures.same.1 ∙ named) stops)
+    (subst (λ ns. AreWritten g.W.ByteSink.contents ns c.args.sinks.now c.begin_all.new.sinks (λ q. [])) (sym there) c.in-Ok-begin_all.ensures.headers))
+    rests (subst (λ ns. AreRests g.R.ByteSource.remaining ns rests c.run-done.new.sources) (sym (c.run-done.ensures.same.1 ∙ named)) left) in
+    stops_among p ports c.args.commands.now texts rests g.W.ByteSink.contents g.W.ByteSink.has_failed c.args.sinks.now c.run-done.new.sinks c.in-Err-done.fault
+    (subst (λ ns. StopsAmong p texts rests c.args.commands.now g.W.ByteSink.contents ns c.args.sinks.now c.run-done.new.sinks c.in-Err-done.fault) (c.run-done.ensures.same.1 ∙ named) stops)
 
 pub returns-clause-read : goal.returns-clause-read
 returns-clause-read g c = λ ports port are e i w at lent.
@@ -193,6 +226,14 @@ returns-clause-wrote g c = λ ports port are e i w at lent.
     let same = one_order p ports c.in-Ok.lists.ports.items are lists.ports ∙ sym c.deref.ensures.value in
     let named = ap numbers c.deref_mut.ensures.value ∙ c.in-Ok-look_at_all.ensures.numbers ∙ sym same in
     c.in-Err-done.ensures.wrote port (ap (λ f. Err f) (err_is c.in-Err-done.fault _ e)) i w (subst (λ ns. slice_get ns i ≡ Some port) (sym named) at) lent
+
+pub returns-clause-sound : goal.returns-clause-sound
+returns-clause-sound g c = λ ports port are sure e i w at lent.
+    let p = c.args.accepted.now in
+    let lists = subst (λ z. AreListsOf z c.in-Ok.lists) c.plan.ensures.plan c.in-Ok.ensures in
+    let same = one_order p ports c.in-Ok.lists.ports.items are lists.ports ∙ sym c.deref.ensures.value in
+    let named = ap numbers c.deref_mut.ensures.value ∙ c.in-Ok-look_at_all.ensures.numbers ∙ sym same in
+    c.in-Err-done.ensures.sound (c.begin_all.ensures.holds sure) port (ap (λ f. Err f) (err_is c.in-Err-done.fault _ e)) i w (subst (λ ns. slice_get ns i ≡ Some port) (sym named) at) lent
 
 pub returns-clause-sure : goal.returns-clause-sure
 returns-clause-sure g c = λ sure port e. c.run-done.ensures.sure (c.look_at_all.ensures.lasts sure) port (c.in-Err-done.is ∙ ap Err (err_is _ _ e))

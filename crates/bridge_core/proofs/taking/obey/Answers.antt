@@ -11,18 +11,27 @@ pub returns-in-Err-clause-goes : goal.returns-in-Err-clause-goes
 returns-in-Err-clause-goes g c = λ p texts commanded next olds after u. c.in-Err.ensures.goes p texts commanded (Some (asked c.args.command)) olds refl u
 
 pub returns-in-Err-depart_before-clause-goes : goal.returns-in-Err-depart_before-clause-goes
-returns-in-Err-depart_before-clause-goes g c = λ p texts commanded next olds after u.
+returns-in-Err-depart_before-clause-goes g c = λ p texts commanded next olds after u rests are.
     let at = Some c.args.command.at in
     let v = c.in_default.ensures.goes p texts commanded (Some (asked c.args.command)) olds refl u in
     let size : length c.take_before.new.sources ≡ length c.take_before.new.lanes = search rules in
     let same : written_numbers c.take_before.new.lines ≡ numbers c.take_before.new.lanes = let z = c.take_before.ensures.same in z.2 ∙ c.requires.lines ∙ sym z.1 in
-    depart_stops g.R.ByteSource.remaining g.W.ByteSink.contents p texts commanded (Some (asked c.args.command)) olds c.take_before.new.relay c.take_before.new.lanes c.take_before.new.sources c.take_before.new.sinks v size
+    depart_stops g.R.ByteSource.remaining g.W.ByteSink.contents p texts commanded (Some (asked c.args.command)) olds c.take_before.new.relay c.take_before.new.lanes c.take_before.new.sources c.take_before.new.sinks v size rests
     at c.depart_before.new.relay (written_numbers c.take_before.new.lines) c.depart_before.new.sinks c.in-Err-depart_before.fault same c.in_default.ensures.later (c.args.command.at, refl, omega arith)
     (c.in-Err-depart_before.ensures.departs p (events v.inputs) olds v.left v.stands
     (written_so g.R.ByteSource.remaining g.W.ByteSink.contents p texts commanded (Some (asked c.args.command)) olds c.take_before.new.relay c.take_before.new.lanes c.take_before.new.sources c.take_before.new.sinks v size (written_numbers c.take_before.new.lines) same))
 
 pub returns-in-Err-depart_before-clause-wrote : goal.returns-in-Err-depart_before-clause-wrote
 returns-in-Err-depart_before-clause-wrote g c = λ port e i w h k. c.in-Err-depart_before.ensures.failed port e i w (subst (λ ns. slice_get ns i ≡ Some port) (sym (c.take_before.ensures.same.2 ∙ c.requires.lines)) h) k
+
+pub returns-in-Err-depart_before-clause-sound : goal.returns-in-Err-depart_before-clause-sound
+returns-in-Err-depart_before-clause-sound g c = λ sure port e i w h k. c.in-Err-depart_before.ensures.sound (c.take_before.ensures.holds sure) port e i w (subst (λ ns. slice_get ns i ≡ Some port) (sym (c.take_before.ensures.same.2 ∙ c.requires.lines)) h) k
+
+pub returns-in-Err-depart_before-clause-holds : goal.returns-in-Err-depart_before-clause-holds
+returns-in-Err-depart_before-clause-holds g c = λ sure. c.depart_before.ensures.holds (c.take_before.ensures.holds sure)
+
+pub returns-clause-holds : goal.returns-clause-holds
+returns-clause-holds g c = λ sure. c.depart_before.ensures.holds (c.take_before.ensures.holds sure)
 
 pub returns-clause-goes : goal.returns-clause-goes
 returns-clause-goes g c = λ p texts commanded next olds after u.

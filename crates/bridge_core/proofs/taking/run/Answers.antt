@@ -12,13 +12,13 @@ pub obey-requires-clause-instance : goal.obey-requires-clause-instance
 obey-requires-clause-instance g c = has_it c.args.relay.now.plan c.loop-command.relay.plan c.args.commands.now c.loop-command.command-index _ c.requires.commands c.loop-command.invariant.plan c.loop-command-test.true
 
 pub returns-in-Err-clause-goes : goal.returns-in-Err-clause-goes
-returns-in-Err-clause-goes g c = λ p texts olds u.
+returns-in-Err-clause-goes g c = λ p texts olds u rests are.
     let at = c.loop-command.command-index in
     let l = c.loop-command-test.true in
     let v = subst (λ o. IsUnderWay g.R.ByteSource.remaining g.W.ByteSink.contents p texts (commands_of (take at c.args.commands.now)) o olds c.loop-command.relay c.loop-command.lanes c.loop-command.sources c.loop-command.sinks)
     (first_is c.args.commands.now at _ l) (c.loop-command.invariant.goes p texts olds u) in
-    stops_at p texts c.args.commands.now at _ g.W.ByteSink.contents (numbers c.obey.new.lanes) olds c.obey.new.sinks c.in-Err.fault l
-    (c.in-Err.ensures.goes p texts (commands_of (take at c.args.commands.now)) (first_of_commands (drop (at + 1) c.args.commands.now)) olds (next_later c.args.relay.now.plan c.args.commands.now at _ c.requires.commands l) v)
+    stops_at p texts rests c.args.commands.now at _ g.W.ByteSink.contents (numbers c.obey.new.lanes) olds c.obey.new.sinks c.in-Err.fault l
+    (c.in-Err.ensures.goes p texts (commands_of (take at c.args.commands.now)) (first_of_commands (drop (at + 1) c.args.commands.now)) olds (next_later c.args.relay.now.plan c.args.commands.now at _ c.requires.commands l) v rests are)
 
 pub returns-in-Err-clause-read : goal.returns-in-Err-clause-read
 returns-in-Err-clause-read g c = λ port e i w k m. c.in-Err.ensures.read port e i w (subst (λ ns. slice_get ns i ≡ Some port) (sym c.loop-command.invariant.numbers) k) m
@@ -28,6 +28,9 @@ returns-in-Err-clause-sure g c = λ sure port e. c.obey.ensures.sure (c.loop-com
 
 pub returns-in-Err-clause-wrote : goal.returns-in-Err-clause-wrote
 returns-in-Err-clause-wrote g c = λ port e i w k m. c.in-Err.ensures.wrote port e i w (subst (λ ns. slice_get ns i ≡ Some port) (sym c.loop-command.invariant.numbers) k) m
+
+pub returns-in-Err-clause-sound : goal.returns-in-Err-clause-sound
+returns-in-Err-clause-sound g c = λ sure port e i w k m. c.in-Err.ensures.sound (c.loop-command.invariant.holds sure) port e i w (subst (λ ns. slice_get ns i ≡ Some port) (sym c.loop-command.invariant.numbers) k) m
 
 pub loop-command-preserved : goal.loop-command-preserved
 loop-command-preserved g c =
@@ -45,6 +48,7 @@ loop-command-preserved g c =
       numbers = same.1 ∙ i.numbers;
       written = same.2 ∙ i.written;
       lasts = λ sure. c.obey.ensures.lasts (i.lasts sure);
+      holds = λ sure. c.obey.ensures.holds (i.holds sure);
       goes = λ p texts olds u.
           let v = subst (λ o. IsUnderWay g.R.ByteSource.remaining g.W.ByteSink.contents p texts (commands_of (take at c.args.commands.now)) o olds c.loop-command.relay c.loop-command.lanes c.loop-command.sources c.loop-command.sinks)
           (first_is c.args.commands.now at _ l) (i.goes p texts olds u) in
@@ -53,10 +57,10 @@ loop-command-preserved g c =
     }
 
 pub returns-in-Err-take_before-clause-goes : goal.returns-in-Err-take_before-clause-goes
-returns-in-Err-take_before-clause-goes g c = λ p texts olds u.
+returns-in-Err-take_before-clause-goes g c = λ p texts olds u rests are.
     let i = c.loop-command.invariant in
     let v = all_done g.R.ByteSource.remaining g.W.ByteSink.contents p texts c.args.commands.now c.loop-command.command-index olds c.loop-command.relay c.loop-command.lanes c.loop-command.sources c.loop-command.sinks (omega (arith, c.loop-command-test.false)) (i.goes p texts olds u) in
-    stops_behind p texts c.args.commands.now g.W.ByteSink.contents (numbers c.take_before.new.lanes) olds c.take_before.new.sinks c.in-Err-take_before.fault (c.in-Err-take_before.ensures.goes p texts (commands_of c.args.commands.now) None olds tt v)
+    stops_behind p texts rests c.args.commands.now g.W.ByteSink.contents (numbers c.take_before.new.lanes) olds c.take_before.new.sinks c.in-Err-take_before.fault (c.in-Err-take_before.ensures.goes p texts (commands_of c.args.commands.now) None olds tt v rests are)
 
 pub returns-in-Err-take_before-clause-read : goal.returns-in-Err-take_before-clause-read
 returns-in-Err-take_before-clause-read g c = λ port e i w k m. c.in-Err-take_before.ensures.read port e i w (subst (λ ns. slice_get ns i ≡ Some port) (sym c.loop-command.invariant.numbers) k) m
@@ -66,6 +70,14 @@ returns-in-Err-take_before-clause-sure g c = λ sure port e. c.take_before.ensur
 
 pub returns-in-Err-take_before-clause-wrote : goal.returns-in-Err-take_before-clause-wrote
 returns-in-Err-take_before-clause-wrote g c = λ port e i w k m. c.in-Err-take_before.ensures.wrote port e i w (subst (λ ns. slice_get ns i ≡ Some port) (sym c.loop-command.invariant.numbers) k) m
+
+pub returns-in-Err-take_before-clause-sound : goal.returns-in-Err-take_before-clause-sound
+returns-in-Err-take_before-clause-sound g c = λ sure port e i w k m. c.in-Err-take_before.ensures.sound (c.loop-command.invariant.holds sure) port e i w (subst (λ ns. slice_get ns i ≡ Some port) (sym c.loop-command.invariant.numbers) k) m
+
+pub returns-clause-sound : goal.returns-clause-sound
+returns-clause-sound g c = λ sure port e i w k m.
+    let v = c.loop-command.invariant in
+    c.depart_before.ensures.sound (c.take_before.ensures.holds (v.holds sure)) port e i w (subst (λ ns. slice_get ns i ≡ Some port) (sym (c.take_before.ensures.same.2 ∙ v.lines ∙ v.numbers)) k) m
 
 pub returns-clause-goes : goal.returns-clause-goes
 returns-clause-goes g c = λ p texts olds u.

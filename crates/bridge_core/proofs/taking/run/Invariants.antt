@@ -19,6 +19,7 @@ invariant-loop-command g l = record {
   numbers : numbers l.lanes ≡ numbers l.fn.lanes;
   written : written_numbers l.lines ≡ written_numbers l.fn.lines;
   lasts : NeverFail g.R.ByteSource.never_fails l.fn.sources → NeverFail g.R.ByteSource.never_fails l.sources;
+  holds : NeverFail g.W.ByteSink.never_fails l.fn.sinks → NeverFail g.W.ByteSink.never_fails l.sinks;
   goes : (p : config.Plan g.row.A.Denot) (texts : ℕ → List ℕ) (olds : List g.row.W.Denot)
       → IsUnderWay g.R.ByteSource.remaining g.W.ByteSink.contents p texts [] (first_of_commands l.fn.commands) olds l.fn.relay l.fn.lanes l.fn.sources l.fn.sinks
       → IsUnderWay g.R.ByteSource.remaining g.W.ByteSink.contents p texts (commands_of (take l.command-index l.fn.commands)) (first_of_commands (drop l.command-index l.fn.commands)) olds l.relay l.lanes l.sources l.sinks;

@@ -1,6 +1,7 @@
-use Rattle.std.proofs.Common.{◌≡◌, ℕ, ◌+◌, ◌<◌, ◌≤◌, ◌∷◌, List, arith, refl, ap, sym, subst, ◌∙◌, Option, Some, None, Result, Ok, Err, slice_get, slice_set}
+use Rattle.std.proofs.Common.{◌≡◌, ℕ, ◌+◌, ◌<◌, ◌≤◌, ◌∷◌, ◌++◌, [], List, arith, refl, ap, sym, subst, ◌∙◌, Option, Some, None, Result, Ok, Err, slice_get, slice_set}
 use Rattle.bridge_config.specs.Model.{Plan}
 use Rattle.bridge_capture.specs.Reading.{view}
+use Rattle.bridge_capture.specs.Standing.{RefusedSo}
 use Rattle.bridge_parts.specs.Ports.{NotBefore}
 use Rattle.bridge_run.specs.Events.{arrival, Arrived}
 use Rattle.bridge_run.specs.Merge.{events, frame}
@@ -9,19 +10,19 @@ use Rattle.bridge_lanes.specs.Lanes.{fault_at, numbers, room_of}
 use Rattle.bridge_core.specs.Lines.{AreWritten, numbers as written_numbers}
 use Rattle.bridge_core.specs.Taking.{IsUnderWay, MayTake, StopsForMemory, StopsSo}
 use Rattle.bridge_core.proofs.Steps.{all_later, depart_stops, look_stops, memory_before, newest_late, number_at, one_place, stood, waits_of, went_on, written_so}
-use Rattle.bridge_core.proofs.Taken.{again, err_is, fewer_room, may_again, more_may_come, numbers_given, numbers_renewed, port_known, read_at, renewed, still_reading}
+use Rattle.bridge_core.proofs.Taken.{again, err_is, fewer_room, may_again, more_may_come, numbers_given, numbers_renewed, port_known, read_at, renewed, rest_left, still_reading}
 use Rattle.bridge_core.proofs.taking.take.Goals as goal
 
 pub depart_before-requires-clause-early : goal.depart_before-requires-clause-early
 depart_before-requires-clause-early g c = let h = c.give-number.ensures.given in c.requires.may.onward c.args.place h.lane c.give-number.result.1 h.there h.ahead
 
 pub returns-in-Err-clause-goes : goal.returns-in-Err-clause-goes
-returns-in-Err-clause-goes g c = λ p texts commanded next olds before u.
+returns-in-Err-clause-goes g c = λ p texts commanded next olds before u rests are.
     let h = c.give-number.ensures.given in
     let first = again c.args.lanes.now c.give-number.new.lanes c.args.place c.give-number.result c.requires.first h in
     let early = before h.lane c.give-number.result.1 h.there h.ahead in
-    subst (λ ns. StopsSo p texts commanded next g.W.ByteSink.contents ns olds c.depart_before.new.sinks c.in-Err.fault) (sym (numbers_given c.args.lanes.now c.give-number.new.lanes c.args.place c.give-number.result h))
-    (depart_stops g.R.ByteSource.remaining g.W.ByteSink.contents p texts commanded next olds c.args.relay.now c.args.lanes.now c.args.sources.now c.args.sinks.now u c.requires.sources
+    subst (λ ns. StopsSo p texts rests commanded next g.W.ByteSink.contents ns olds c.depart_before.new.sinks c.in-Err.fault) (sym (numbers_given c.args.lanes.now c.give-number.new.lanes c.args.place c.give-number.result h))
+    (depart_stops g.R.ByteSource.remaining g.W.ByteSink.contents p texts commanded next olds c.args.relay.now c.args.lanes.now c.args.sources.now c.args.sinks.now u c.requires.sources rests
     (Some c.give-number.result.1.time) c.depart_before.new.relay (written_numbers c.args.lines.now) c.depart_before.new.sinks c.in-Err.fault c.requires.lines
     (all_later g.R.ByteSource.remaining g.W.ByteSink.contents p texts commanded next olds c.args.relay.now c.args.lanes.now c.args.sources.now c.args.sinks.now u c.requires.sources c.requires.may c.args.place first early)
     (waits_of c.give-number.result.1.time next early)
@@ -33,6 +34,9 @@ returns-in-Err-clause-same g c = (c.depart_before.ensures.same.0, numbers_given 
 
 pub returns-in-Err-clause-wrote : goal.returns-in-Err-clause-wrote
 returns-in-Err-clause-wrote g c = λ port e i w h k. c.in-Err.ensures.failed port e i w (subst (λ ns. slice_get ns i ≡ Some port) (sym c.requires.lines) h) k
+
+pub returns-in-Err-clause-sound : goal.returns-in-Err-clause-sound
+returns-in-Err-clause-sound g c = λ sure port e i w h k. c.in-Err.ensures.sound sure port e i w (subst (λ ns. slice_get ns i ≡ Some port) (sym c.requires.lines) h) k
 
 pub arrive-requires-clause-known : goal.arrive-requires-clause-known
 arrive-requires-clause-known g c = port_known c.args.relay.now c.depart_before.new.relay c.args.lanes.now c.give-number.new.lanes c.args.place c.give-number.result c.requires.may c.give-number.ensures.given c.depart_before.ensures.same.0
@@ -52,15 +56,19 @@ pub look_at-requires-clause-reading : goal.look_at-requires-clause-reading
 look_at-requires-clause-reading g c = still_reading c.args.lanes.now c.give-number.new.lanes c.args.place c.give-number.result c.requires.may.each c.give-number.ensures.given
 
 pub returns-in-Err-arrive-clause-goes : goal.returns-in-Err-arrive-clause-goes
-returns-in-Err-arrive-clause-goes g c = λ p texts commanded next olds before u.
+returns-in-Err-arrive-clause-goes g c = λ p texts commanded next olds before u rests are.
     let h = c.give-number.ensures.given in
+    let first = again c.args.lanes.now c.give-number.new.lanes c.args.place c.give-number.result c.requires.first h in
+    let early = before h.lane c.give-number.result.1 h.there h.ahead in
     let d = c.in_default.ensures.departs p (events u.inputs) olds u.left u.stands
     (written_so g.R.ByteSource.remaining g.W.ByteSink.contents p texts commanded next olds c.args.relay.now c.args.lanes.now c.args.sources.now c.args.sinks.now u c.requires.sources (written_numbers c.args.lines.now) c.requires.lines) in
     let same : c.depart_before.new.relay ≡ c.arrive.new.self = sym c.in-Err-arrive.ensures.err.0 in
     let reaches = c.reached.ensures.reaches p (events u.inputs) d.0 c.give-number.result.1.time (subst (λ b. Stands p b (events u.inputs) d.0) same d.1) (subst (λ b. b.earliest ≤ c.give-number.result.1.time) same c.depart_before.ensures.early) (subst (λ b. NotBefore (g.G.Agenda.held b.ports.agenda) c.give-number.result.1.time) same c.in_default.ensures.waits) in
     let late = newest_late (frame h.lane.number (view c.give-number.result.1)) u.inputs (u.follow c.args.place h.lane c.give-number.result.1 h.there h.ahead) in
-    subst (λ ns. StopsForMemory p texts commanded next g.W.ByteSink.contents ns olds c.depart_before.new.sinks) (sym (numbers_given c.args.lanes.now c.give-number.new.lanes c.args.place c.give-number.result h))
-    (memory_before g.R.ByteSource.remaining g.W.ByteSink.contents p texts commanded next olds c.args.relay.now c.args.lanes.now c.args.sources.now c.args.sinks.now u c.requires.sources c.give-number.result.1.time c.depart_before.new.sinks d.0 late reaches
+    subst (λ ns. StopsForMemory p texts rests commanded next g.W.ByteSink.contents ns olds c.depart_before.new.sinks) (sym (numbers_given c.args.lanes.now c.give-number.new.lanes c.args.place c.give-number.result h))
+    (memory_before g.R.ByteSource.remaining g.W.ByteSink.contents p texts commanded next olds c.args.relay.now c.args.lanes.now c.args.sources.now c.args.sinks.now u c.requires.sources rests c.give-number.result.1.time c.depart_before.new.sinks d.0 late
+    (all_later g.R.ByteSource.remaining g.W.ByteSink.contents p texts commanded next olds c.args.relay.now c.args.lanes.now c.args.sources.now c.args.sinks.now u c.requires.sources c.requires.may c.args.place first early)
+    early reaches
     (subst (λ ns. AreWritten g.W.ByteSink.contents ns olds c.depart_before.new.sinks d.0) c.requires.lines d.2))
 
 pub returns-in-Err-arrive-clause-same : goal.returns-in-Err-arrive-clause-same
@@ -108,7 +116,7 @@ returns-in-Ok-look_at-clause-same g c =
     (c.in-Ok.ensures.moved.2 ∙ c.depart_before.ensures.same.0, numbers_renewed g.R.ByteSource.remaining h.lane c.args.lanes.now c.look_at.new.lanes c.args.sources.now c.look_at.new.sources c.args.place (Ok tt) h.there r, c.depart_before.ensures.numbers)
 
 pub returns-in-Err-look_at-clause-goes : goal.returns-in-Err-look_at-clause-goes
-returns-in-Err-look_at-clause-goes g c = λ p texts commanded next olds before u.
+returns-in-Err-look_at-clause-goes g c = λ p texts commanded next olds before u rests are.
     let h = c.give-number.ensures.given in
     let fault = c.in-Err-look_at.fault in
     let first = again c.args.lanes.now c.give-number.new.lanes c.args.place c.give-number.result c.requires.first h in
@@ -121,10 +129,11 @@ returns-in-Err-look_at-clause-goes g c = λ p texts commanded next olds before u
     let moved = c.in-Ok.ensures.moved in
     let at = moved.1 in
     let reaches = c.reached-in-Err-look_at.ensures.reaches p (Arrived (arrival packet.time h.lane.number packet.octets.items packet.len) ∷ events u.inputs) d.0 packet.time stands (omega (arith, at)) c.in-Ok.ensures.waits in
-    subst (λ z. StopsSo p texts commanded next g.W.ByteSink.contents (numbers c.look_at.new.lanes) olds c.depart_before.new.sinks z) (ap (λ n. fault_at n fault) h.number ∙ sym c.fault_of.ensures)
-    (subst (λ ns. StopsSo p texts commanded next g.W.ByteSink.contents ns olds c.depart_before.new.sinks (fault_at h.lane.number fault)) (sym (numbers_renewed g.R.ByteSource.remaining h.lane c.args.lanes.now c.look_at.new.lanes c.args.sources.now c.look_at.new.sources c.args.place (Err fault) h.there r))
-    (look_stops g.R.ByteSource.remaining g.W.ByteSink.contents p texts commanded next olds c.args.relay.now c.args.lanes.now c.args.sources.now c.args.sinks.now u c.requires.sources c.requires.may c.args.place first early fault c.depart_before.new.sinks d.0 (λ e. c.in-Err-look_at.ensures.no_write (ap (λ f. Err f) e))
-    (r.looks (texts h.lane.number) _ (stood g.R.ByteSource.remaining g.W.ByteSink.contents p texts commanded next olds c.args.relay.now c.args.lanes.now c.args.sources.now c.args.sinks.now u c.requires.sources c.requires.may c.args.place first early r.source r.lent))
+    subst (λ z. StopsSo p texts rests commanded next g.W.ByteSink.contents (numbers c.look_at.new.lanes) olds c.depart_before.new.sinks z) (ap (λ n. fault_at n fault) h.number ∙ sym c.fault_of.ensures)
+    (subst (λ ns. StopsSo p texts rests commanded next g.W.ByteSink.contents ns olds c.depart_before.new.sinks (fault_at h.lane.number fault)) (sym (numbers_renewed g.R.ByteSource.remaining h.lane c.args.lanes.now c.look_at.new.lanes c.args.sources.now c.look_at.new.sources c.args.place (Err fault) h.there r))
+    (look_stops g.R.ByteSource.remaining g.W.ByteSink.contents p texts commanded next olds c.args.relay.now c.args.lanes.now c.args.sources.now c.args.sinks.now u c.requires.sources c.requires.may c.args.place first early rests fault c.depart_before.new.sinks d.0 (λ e. c.in-Err-look_at.ensures.no_write (ap (λ f. Err f) e))
+    (subst (λ o. RefusedSo fault o (texts h.lane.number) (u.frames h.lane.number ++ view packet ∷ [])) (rest_left g.R.ByteSource.remaining h.lane c.args.lanes.now c.look_at.new.lanes c.args.sources.now c.look_at.new.sources c.args.place (Err fault) rests h.there c.requires.sources r are)
+    (r.looks (texts h.lane.number) _ (stood g.R.ByteSource.remaining g.W.ByteSink.contents p texts commanded next olds c.args.relay.now c.args.lanes.now c.args.sources.now c.args.sinks.now u c.requires.sources c.requires.may c.args.place first early r.source r.lent)))
     reaches (subst (λ ns. AreWritten g.W.ByteSink.contents ns olds c.depart_before.new.sinks d.0) c.requires.lines d.2)))
 
 pub returns-in-Err-look_at-clause-same : goal.returns-in-Err-look_at-clause-same

@@ -18,6 +18,7 @@ loop-place-preserved g c =
       numbers = same.1 ∙ i.numbers;
       written = same.2 ∙ i.written;
       lasts = λ sure. c.take.ensures.lasts (i.lasts sure);
+      holds = λ sure. c.take.ensures.holds (i.holds sure);
       goes = λ p texts commanded next olds now u. c.in_default-take.ensures.goes p texts commanded next olds (before_next c.args.until next c.loop-place.lanes c.in-Some.place now c.in-Some.ensures.before) (i.goes p texts commanded next olds now u);
     }
 
@@ -32,6 +33,9 @@ returns-in-Err-clause-sure g c = λ sure port e. c.take.ensures.sure (c.loop-pla
 
 pub returns-in-Err-clause-wrote : goal.returns-in-Err-clause-wrote
 returns-in-Err-clause-wrote g c = λ port e i w k m. c.in-Err.ensures.wrote port e i w (subst (λ ns. slice_get ns i ≡ Some port) (sym c.loop-place.invariant.numbers) k) m
+
+pub returns-in-Err-clause-sound : goal.returns-in-Err-clause-sound
+returns-in-Err-clause-sound g c = λ sure port e i w k m. c.in-Err.ensures.sound (c.loop-place.invariant.holds sure) port e i w (subst (λ ns. slice_get ns i ≡ Some port) (sym c.loop-place.invariant.numbers) k) m
 
 pub returns-clause-later : goal.returns-clause-later
 returns-clause-later g c = c.in_default.ensures.later refl

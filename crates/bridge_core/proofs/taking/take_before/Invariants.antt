@@ -20,6 +20,7 @@ invariant-loop-place g l = record {
   numbers : numbers l.lanes ≡ numbers l.fn.lanes;
   written : written_numbers l.lines ≡ written_numbers l.fn.lines;
   lasts : NeverFail g.R.ByteSource.never_fails l.fn.sources → NeverFail g.R.ByteSource.never_fails l.sources;
+  holds : NeverFail g.W.ByteSink.never_fails l.fn.sinks → NeverFail g.W.ByteSink.never_fails l.sinks;
   goes : (p : config.Plan g.row.A.Denot) (texts : ℕ → List ℕ) (commanded : List Input) (next : Option Input) (olds : List g.row.W.Denot) → IfSome next (λ y. l.fn.until ≡ Some y.at)
       → IsUnderWay g.R.ByteSource.remaining g.W.ByteSink.contents p texts commanded next olds l.fn.relay l.fn.lanes l.fn.sources l.fn.sinks
       → IsUnderWay g.R.ByteSource.remaining g.W.ByteSink.contents p texts commanded next olds l.relay l.lanes l.sources l.sinks;
