@@ -13,10 +13,11 @@ ghost use Rattle.bridge_port.specs.Schedule.{Copy};
 ghost use Rattle.bridge_port.specs.Standing.{limit};
 ghost use Rattle.bridge_run.specs.Events.{Arrived, arrival, Cleared, Event, own};
 ghost use Rattle.bridge_run.specs.Offers.{Carried};
+ghost use Rattle.bridge_run.specs.Next.{AreNext, IsNextAfter, ReachesStart, SendsHead};
 ghost use Rattle.bridge_run.specs.Outputs.{Ends, HasRun, Reaches};
 ghost use Rattle.bridge_run.specs.Runs.{IsOutcome, IsSoloView, TellTheSame};
 ghost use Rattle.bridge_parts.specs.Ports.{NotBefore, IsAfter};
-ghost use Rattle.bridge_relay.specs.Relays.{one_more};
+ghost use Rattle.bridge_relay.specs.Relays.{captured, one_more};
 ghost use Rattle.bridge_core.specs.Bridges.{arrived_in, earliest_in, IsReady, next_start, plan_in, queued_in, StandsAfter};
 
 use crate::simulation::filters_in_order;
@@ -114,15 +115,29 @@ impl<'a, G: Agenda + Drop, A: Allocator + Copy> Bridge<'a, G, A> {
 
     /// The port with the next start and its moment in ns, the least port where several have it; `None` where nothing is
     /// queued. It takes no memory.
+    ///
+    /// In the words of schedules (`next`): up to that moment no port has missed a start, ports below it have made theirs of
+    /// the moment too, and there the link of this port is free and the head of one of its classes fits.
     pub fn due(&self) -> Option<(u8, u64)>
-        ensures { IsLeast (next_start G.held self.now) result }
+        ensures next { (p : config.Plan A) (es : List Event) (left : ℕ → List Captured)
+            → StandsAfter p self.now es left
+            → IsNextAfter p es left result }
+        ensures least { IsLeast (next_start G.held self.now) result }
     {
+        self.relay.reached();
         self.relay.due()
     }
 
-    /// Makes the next start, and gives the frame that leaves. It takes no memory.
+    /// Makes the next start, and gives the frame that leaves: of the classes of its port whose head fits, the head of the
+    /// highest (`sends`). Then all starts up to it were made, by moment and then by port (`reaches`). It takes no memory.
     pub fn advance(&mut self) -> Sent<A>
         requires { (q k : ℕ) × (next_start G.held self.old q ≡ Some k) }
+        ensures sends { (p : config.Plan A) (es : List Event) (left : ℕ → List Captured)
+            → StandsAfter p self.old es left
+            → SendsHead p es left result.port result.class result.start (captured result) }
+        ensures reaches { (p : config.Plan A) (es : List Event) (left : ℕ → List Captured)
+            → StandsAfter p self.old es left
+            → ReachesStart p es result.start result.port (one_more left result) }
         ensures stands { (p : config.Plan A) (es : List Event) (left : ℕ → List Captured) → StandsAfter p self.old es left → StandsAfter p self.new es (one_more left result) }
         ensures which { IsLeast (next_start G.held self.old) (Some (result.port, result.start)) }
         ensures later { IsAfter (next_start G.held self.new) result.port result.start }
@@ -167,10 +182,13 @@ impl<'a, G: Agenda + Drop, A: Allocator + Copy> Bridge<'a, G, A> {
     }
 
     /// What the bridge stands for is a run: up to each moment before which no start is due, and each port up to a moment
-    /// of its own whatever is due.
+    /// of its own whatever is due. What is due of each port is the next start of its schedule (`next`).
     pub fn reached(&self)
         ensures reaches { (p : config.Plan A) (es : List Event) (left : ℕ → List Captured) (h : ℕ) → StandsAfter p self.now es left → earliest_in self.now ≤ h → NotBefore (next_start G.held self.now) h → Reaches p es h left }
         ensures ran { (p : config.Plan A) (es : List Event) (left : ℕ → List Captured) (until : Option ℕ) → StandsAfter p self.now es left → ((t : ℕ) → until ≡ Some t → earliest_in self.now ≤ t) → HasRun p es until left }
+        ensures next { (p : config.Plan A) (es : List Event) (left : ℕ → List Captured)
+            → StandsAfter p self.now es left
+            → AreNext p es left (next_start G.held self.now) }
     {
         self.relay.reached();
     }
