@@ -32,7 +32,7 @@ pub use fault::CaptureFault;
 pub use form::{Form, Order, Unit};
 pub use from_read::FromRead;
 pub use from_write::FromWrite;
-pub use laws::{each_text_reads_one_way, written_is_read};
+pub use laws::{each_text_reads_one_way, the_limits, written_is_read};
 pub use packet::{Packet, Stamp};
 pub use read_ahead::ReadAhead;
 pub use record::{MAX_RECORDS, SNAP_LENGTH};
