@@ -53,7 +53,28 @@ fn packets_of<R: ByteSource, A: Allocator + Copy>(
     alloc: A,
     source: &mut R,
 ) -> Result<Vec<Packet<A>, A>, CaptureFault> {
-    Capture::begin(source)?.rest(alloc, source)
+    let mut capture = Capture::begin(source)?;
+    rest_of(alloc, &mut capture, source)
+}
+
+/// The packets that are still to come, of which a row has no more than eight.
+fn rest_of<R: ByteSource, A: Allocator + Copy>(
+    alloc: A,
+    capture: &mut Capture,
+    source: &mut R,
+) -> Result<Vec<Packet<A>, A>, CaptureFault> {
+    let mut packets = Vec::new(alloc);
+    for _ in 0..9 {
+        match capture.next(alloc, source)? {
+            None => return Ok(packets),
+            Some(packet) => {
+                if packets.push(packet).is_err() {
+                    return Err(CaptureFault::NoMemory);
+                }
+            }
+        }
+    }
+    Err(CaptureFault::TooManyRecords)
 }
 
 /// Whether these are the two frames.
@@ -385,7 +406,7 @@ fn ended_for_good<A: Allocator + Copy>(
 ) -> Result<(), CaptureFault> {
     let mut source = SliceSource::new(text);
     let mut capture = Capture::begin(&mut source)?;
-    capture.rest(alloc, &mut source)?;
+    rest_of(alloc, &mut capture, &mut source)?;
     gives_none(rt, alloc, &mut capture, &mut source);
     Ok(())
 }
