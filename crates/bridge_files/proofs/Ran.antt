@@ -13,13 +13,20 @@ use Rattle.bridge_run.specs.Merge.{Input}
 use Rattle.bridge_run.specs.declared.outcome.Outcome.{Outcome}
 use Rattle.bridge_program.proofs.Runs.{kept_appends}
 use Rattle.bridge_lanes.specs.Devices.{HasFailed}
-use Rattle.bridge_lanes.specs.Lanes.{AreTexts}
+use Rattle.std.specs.Prelude.{nat_eq, if◌then◌else◌, ◌<◌}
+use Rattle.std.proofs.lemmas.Bool.{eq-eqb}
+use Rattle.std.proofs.lemmas.Bool.Decides.{nat_tests}
+use Rattle.bridge_base.specs.Members.{AllAfter, Rising}
+use Rattle.bridge_lanes.specs.Lanes.{AreRests, AreTexts}
 use Rattle.bridge_core.specs.Lines.{AreWritten}
 use Rattle.bridge_core.specs.Simulated.{AreNumbers, Runs, Stops}
 use Rattle.bridge_core.specs.Taking.{StopsAmong, StopsSo}
 use Rattle.bridge_core.proofs.Simulating.{ports_many}
 use Rattle.bridge_files.specs.Flushed.{AllKept, NoneFailed, StopsFlushed}
 use Rattle.bridge_files.proofs.Kept.{kept_at, kept_length, kept_through, none_at, there}
+
+some_is : {X : Type 0} (a b : X) → Some a ≡ Some b → a ≡ b
+some_is a b h = cc
 
 -- a list that was lent and came back with as many
 pub lent : {X : Type 0} (old new : List X) (n : ℕ) → n ≡ length old → length new ≡ length old → take n (new ++ drop (length new) old) ≡ new
@@ -51,8 +58,8 @@ runs_over p contents sunk ports commands texts writers news olds mids o before a
 }
 
 -- a run that stopped under way, at a capture or for want of memory
-so_over : {A W S : Type 0} (p : Plan A) (contents : W → Option (List ℕ)) (sunk : S → Option (List ℕ)) (ports : List ℕ) (texts : ℕ → List ℕ) (commanded : List Input) (next : Option Input) (writers news : List W) (olds mids : List S) (fault : RunFault) → ((port : ℕ) → ¬ (fault ≡ run.Write port)) → AllKept contents sunk writers olds → AllKept sunk contents mids news → length mids ≡ length olds → StopsSo p texts commanded next sunk ports olds mids fault → StopsSo p texts commanded next contents ports writers news fault
-so_over p contents sunk ports texts commanded next writers news olds mids (run.Capture port fault) other before after same s = record {
+so_over : {A W S : Type 0} (p : Plan A) (contents : W → Option (List ℕ)) (sunk : S → Option (List ℕ)) (ports : List ℕ) (texts : ℕ → List ℕ) (rests : ℕ → Option (List ℕ)) (commanded : List Input) (next : Option Input) (writers news : List W) (olds mids : List S) (fault : RunFault) → ((port : ℕ) → ¬ (fault ≡ run.Write port)) → AllKept contents sunk writers olds → AllKept sunk contents mids news → length mids ≡ length olds → StopsSo p texts rests commanded next sunk ports olds mids fault → StopsSo p texts rests commanded next contents ports writers news fault
+so_over p contents sunk ports texts rests commanded next writers news olds mids (run.Capture port fault) other before after same s = record {
   frames = s.frames;
   inputs = s.inputs;
   left = s.left;
@@ -64,24 +71,26 @@ so_over p contents sunk ports texts commanded next writers news olds mids (run.C
   reaches = s.reaches;
   written = written_over contents sunk ports writers news olds mids s.left before after same s.written;
 }
-so_over p contents sunk ports texts commanded next writers news olds mids (run.Write port) other before after same s = absurd (other port refl)
-so_over p contents sunk ports texts commanded next writers news olds mids run.NoMemory other before after same s = record {
+so_over p contents sunk ports texts rests commanded next writers news olds mids (run.Write port) other before after same s = absurd (other port refl)
+so_over p contents sunk ports texts rests commanded next writers news olds mids run.NoMemory other before after same s = record {
   frames = s.frames;
   inputs = s.inputs;
   left = s.left;
   moment = s.moment;
   taken = s.taken;
   late = s.late;
+  looks = s.looks;
+  waits = s.waits;
   reaches = s.reaches;
   written = written_over contents sunk ports writers news olds mids s.left before after same s.written;
 }
 
-among_over : {A W S : Type 0} (p : Plan A) (contents : W → Option (List ℕ)) (sunk : S → Option (List ℕ)) (ports : List ℕ) (commands : List Command) (texts : ℕ → List ℕ) (writers news : List W) (olds mids : List S) (fault : RunFault) → ((port : ℕ) → ¬ (fault ≡ run.Write port)) → AllKept contents sunk writers olds → AllKept sunk contents mids news → length mids ≡ length olds → StopsAmong p texts commands sunk ports olds mids fault → StopsAmong p texts commands contents ports writers news fault
-among_over p contents sunk ports commands texts writers news olds mids fault other before after same s = record {
+among_over : {A W S : Type 0} (p : Plan A) (contents : W → Option (List ℕ)) (sunk : S → Option (List ℕ)) (ports : List ℕ) (commands : List Command) (texts : ℕ → List ℕ) (rests : ℕ → Option (List ℕ)) (writers news : List W) (olds mids : List S) (fault : RunFault) → ((port : ℕ) → ¬ (fault ≡ run.Write port)) → AllKept contents sunk writers olds → AllKept sunk contents mids news → length mids ≡ length olds → StopsAmong p texts rests commands sunk ports olds mids fault → StopsAmong p texts rests commands contents ports writers news fault
+among_over p contents sunk ports commands texts rests writers news olds mids fault other before after same s = record {
   done = s.done;
   later = s.later;
   all = s.all;
-  stops = so_over p contents sunk ports texts _ _ writers news olds mids fault other before after same s.stops;
+  stops = so_over p contents sunk ports texts rests _ _ writers news olds mids fault other before after same s.stops;
 }
 
 untouched_over : {W S : Type 0} (contents : W → Option (List ℕ)) (sunk : S → Option (List ℕ)) (writers news : List W) (olds mids : List S) → AllKept contents sunk writers olds → AllKept sunk contents mids news → mids ≡ olds → AllKept contents contents writers news
@@ -98,21 +107,49 @@ no_write failed ports mids port place same sound bad at =
     absurd (search rules)
 
 -- a run that stopped, none of whose sinks failed
-pub stops_over : {A W S : Type 0} (p : Plan A) (contents : W → Option (List ℕ)) (sunk : S → Option (List ℕ)) (failed : S → Bool) (ports : List ℕ) (commands : List Command) (texts : ℕ → List ℕ) (writers news : List W) (olds mids : List S) (fault : RunFault)
+pub stops_over : {A W S : Type 0} (p : Plan A) (contents : W → Option (List ℕ)) (sunk : S → Option (List ℕ)) (failed : S → Bool) (ports : List ℕ) (commands : List Command) (texts : ℕ → List ℕ) (rests : ℕ → Option (List ℕ)) (writers news : List W) (olds mids : List S) (fault : RunFault)
     → AllKept contents sunk writers olds → AllKept sunk contents mids news → length mids ≡ length olds → length mids ≡ length ports → NoneFailed failed mids → ((port : ℕ) → fault ≡ run.Write port → HasFailed failed ports port mids)
-    → Stops p ports commands texts sunk failed olds mids fault → StopsFlushed p ports commands texts contents writers news fault
-stops_over p contents sunk failed ports commands texts writers news olds mids (run.Capture port fault) before after same many sound bad stops = elim stops [
+    → Stops p ports commands texts rests sunk failed olds mids fault → StopsFlushed p ports commands texts rests contents writers news fault
+stops_over p contents sunk failed ports commands texts rests writers news olds mids (run.Capture port fault) before after same many sound bad stops = elim stops [
   | inl first ↦ inl (first.own, first.looks, untouched_over contents sunk writers news olds mids before after first.untouched)
-  | inr among ↦ inr (among_over p contents sunk ports commands texts writers news olds mids (run.Capture port fault) (λ q e. absurd (search rules)) before after same among)
+  | inr among ↦ inr (among_over p contents sunk ports commands texts rests writers news olds mids (run.Capture port fault) (λ q e. absurd (search rules)) before after same among)
 ]
-stops_over p contents sunk failed ports commands texts writers news olds mids (run.Write port) before after same many sound bad stops = elim stops [
+stops_over p contents sunk failed ports commands texts rests writers news olds mids (run.Write port) before after same many sound bad stops = elim stops [
   | inl first ↦ no_write failed ports mids port first.headers.place many sound (bad port refl) first.headers.there
   | inr among ↦ no_write failed ports mids port among.stops.written.place many sound (bad port refl) among.stops.written.there
 ]
-stops_over p contents sunk failed ports commands texts writers news olds mids run.NoMemory before after same many sound bad stops = elim stops [
-  | inl first ↦ inl (untouched_over contents sunk writers news olds mids before after first)
-  | inr among ↦ inr (among_over p contents sunk ports commands texts writers news olds mids run.NoMemory (λ q e. absurd (search rules)) before after same among)
+stops_over p contents sunk failed ports commands texts rests writers news olds mids run.NoMemory before after same many sound bad stops = elim stops [
+  | inl wants ↦ inl (wants.looks, untouched_over contents sunk writers news olds mids before after wants.untouched)
+  | inr among ↦ inr (among_over p contents sunk ports commands texts rests writers news olds mids run.NoMemory (λ q e. absurd (search rules)) before after same among)
 ]
+
+-- what the source of a port has left
+abbrev pub rest_of : {S : Type 0} → (S → Option (List ℕ)) → List ℕ → List S → ℕ → Option (List ℕ)
+rest_of asked [] sources q = None
+rest_of asked (p ∷ ports) [] q = None
+rest_of asked (p ∷ ports) (s ∷ sources) q = if nat_eq p q then asked s else rest_of asked ports sources q
+
+after_at : (p q : ℕ) (ports : List ℕ) (i : ℕ) → AllAfter (λ a b. a < b) p ports → slice_get ports i ≡ Some q → p < q
+after_at p q [] i a e = absurd (cc)
+after_at p q (r ∷ ports) zero a e = subst (λ (z : ℕ). p < z) (some_is r q e) a.0
+after_at p q (r ∷ ports) (suc i) a e = after_at p q ports i a.1 e
+
+-- there are such rests of sources
+pub are_rests : {S : Type 0} (asked : S → Option (List ℕ)) (ports : List ℕ) (sources : List S) → Rising (λ a b. a < b) ports → AreRests asked ports (rest_of asked ports sources) sources
+are_rests asked [] sources r i q s at held = absurd (cc)
+are_rests asked (p ∷ ports) [] r i q s at held = absurd (cc)
+are_rests {S} asked (p ∷ ports) (t ∷ sources) r zero q s at held =
+    let same : p ≡ q = some_is p q at in
+    let is : t ≡ s = some_is t s held in
+    ap asked (sym is) ∙ sym (ap (λ b. if b then asked t else rest_of asked ports sources q) (eq-eqb p q same))
+are_rests {S} asked (p ∷ ports) (t ∷ sources) r (suc i) q s at held =
+    let less = after_at p q ports i r.0 at in
+    let apart : nat_eq p q ≡ false = grind (arith, nat_tests) in
+    are_rests asked ports sources r.1 i q s at held ∙ sym (ap (λ b. if b then asked t else rest_of asked ports sources q) apart)
+
+-- before anything was read
+pub none_read : {A W : Type 0} (p : Plan A) (ports : List ℕ) (commands : List Command) (texts : ℕ → List ℕ) (contents : W → Option (List ℕ)) (olds news : List W) → AllKept contents contents olds news → (rests : ℕ → Option (List ℕ)) × StopsFlushed p ports commands texts rests contents olds news run.NoMemory
+none_read p ports commands texts contents olds news kept = (λ q. Some (texts q), inl (inl (inl (λ i q at. refl)), kept))
 
 -- as many as ports have none behind them
 pub none_behind : {A : Type 0} (p : Plan A) (ports : List ℕ) (n port : ℕ) → AreNumbers p ports → n ≡ length p.ports → ¬ (slice_get ports n ≡ Some port)
@@ -133,9 +170,6 @@ none_kept f (v ∷ vs) ws many same = absurd (omega (arith, many))
 -- two lists that give the same have as many, and the same at each place
 pub same_many : {X Y Z : Type 0} (f : X → Z) (g : Y → Z) (xs : List X) (ys : List Y) → map f xs ≡ map g ys → length xs ≡ length ys
 same_many f g xs ys same = sym (length-map xs f) ∙ ap length same ∙ length-map ys g
-
-some_is : {X : Type 0} (a b : X) → Some a ≡ Some b → a ≡ b
-some_is a b h = cc
 
 head_is : {X : Type 0} (a b : X) (xs ys : List X) → a ∷ xs ≡ b ∷ ys → a ≡ b
 head_is a b xs ys h = cc

@@ -5,7 +5,8 @@ use Rattle.bridge_config.specs.declared.command.Command.{Command}
 use Rattle.bridge_config.specs.Model.{Plan}
 use Rattle.bridge_lanes.specs.declared.fault.RunFault.{RunFault}
 use Rattle.bridge_lanes.specs.declared.fault.RunFault.TheVariants as run
-use Rattle.bridge_lanes.specs.Lanes.{LooksFail}
+use Rattle.bridge_lanes.specs.Lanes.{FailsLook, LooksFail}
+use Rattle.bridge_core.specs.Simulated.{BeginWell}
 use Rattle.bridge_core.specs.Taking.{IsOfCapture, StopsAmong}
 
 -- each of these devices holds what the other of its place holds, and there are as many
@@ -20,12 +21,15 @@ abbrev pub NoneFailed : {V : Type 0} → (V → Bool) → List V → Type 0
 NoneFailed has_failed [] = Unit {0}
 NoneFailed has_failed (v ∷ vs) = (has_failed v ≡ false) × NoneFailed has_failed vs
 
--- why a run stopped whose outputs were all flushed: before anything was written, or under way, when all that had left was written
-abbrev pub StopsFlushed : {A W : Type 0} → Plan A → List ℕ → List Command → (ℕ → List ℕ) → (W → Option (List ℕ)) → List W → List W → RunFault → Type 0
-StopsFlushed p ports commands texts contents olds news (run.Capture port fault) =
-    (IsOfCapture fault × LooksFail texts ports port fault × AllKept contents contents olds news) ⊎ StopsAmong p texts commands contents ports olds news (run.Capture port fault)
-StopsFlushed p ports commands texts contents olds news (run.Write port) = ⊥
-StopsFlushed p ports commands texts contents olds news run.NoMemory = AllKept contents contents olds news ⊎ StopsAmong p texts commands contents ports olds news run.NoMemory
+-- why a run stopped whose outputs were all flushed, when its sources had these rests left: before anything was written, or under way, when all that had left was written
+abbrev pub StopsFlushed : {A W : Type 0} → Plan A → List ℕ → List Command → (ℕ → List ℕ) → (ℕ → Option (List ℕ)) → (W → Option (List ℕ)) → List W → List W → RunFault → Type 0
+StopsFlushed p ports commands texts rests contents olds news (run.Capture port fault) =
+    (IsOfCapture fault × LooksFail texts rests ports port fault × AllKept contents contents olds news)
+    ⊎ StopsAmong p texts rests commands contents ports olds news (run.Capture port fault)
+StopsFlushed p ports commands texts rests contents olds news (run.Write port) = ⊥
+StopsFlushed p ports commands texts rests contents olds news run.NoMemory =
+    ((FailsLook texts rests ports run.NoMemory ⊎ BeginWell p texts) × AllKept contents contents olds news)
+    ⊎ StopsAmong p texts rests commands contents ports olds news run.NoMemory
 
 -- an output is not there: the flush of its port failed, or there was no memory for what the outputs hold back before anything was read
 abbrev pub LosesOutput : ℕ → ℕ → RunFault → Type 0

@@ -1,5 +1,5 @@
 //! A run over readers and writers, one of each for each port.
-ghost use Rattle.std.specs.Prelude.{◌≡◌, ℕ, List, Some, length, slice_get, IfOk, IfErr};
+ghost use Rattle.std.specs.Prelude.{◌≡◌, ℕ, List, Option, Some, length, slice_get, IfOk, IfErr};
 ghost use Rattle.bridge_config.specs.Commands.{AreCommands};
 ghost use Rattle.bridge_lanes.specs.Lanes.{AreTexts};
 ghost use Rattle.bridge_core.specs.Simulated.{AreNumbers, Isolates, OthersChangeNothing, Runs};
@@ -39,8 +39,8 @@ pub fn run_over<R: Read + Drop, W: Write + Drop, A: Allocator + Copy>(
     ensures ok { (ports : List ℕ) (texts : ℕ → List ℕ) → AreNumbers accepted.now ports → AreTexts R.remaining ports texts readers.items →
         IfOk result (λ done. Runs accepted.now ports commands.now texts W.contents writers.items done.1.items done.0) }
     ensures err { (ports : List ℕ) (texts : ℕ → List ℕ) → AreNumbers accepted.now ports → AreTexts R.remaining ports texts readers.items →
-        IfErr result (λ halted. length halted.writers.items ≡ length ports →
-        StopsFlushed accepted.now ports commands.now texts W.contents writers.items halted.writers.items halted.fault) }
+        IfErr result (λ halted. length halted.writers.items ≡ length ports → (rests : ℕ → Option (List ℕ)) ×
+        StopsFlushed accepted.now ports commands.now texts rests W.contents writers.items halted.writers.items halted.fault) }
     ensures lost { (ports : List ℕ) (port : ℕ) → AreNumbers accepted.now ports →
         IfErr result (λ halted. slice_get ports (length halted.writers.items) ≡ Some port → LosesOutput port (length halted.writers.items) halted.fault) }
     ensures isolated { (ports : List ℕ) (texts : ℕ → List ℕ) →

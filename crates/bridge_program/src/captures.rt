@@ -1,5 +1,5 @@
 //! A capture through one queue, from a reader into a writer.
-ghost use Rattle.std.specs.Prelude.{◌≡◌, ◌≤◌, ◌+◌, ◌⊎◌, ℕ, List, Some, None, IfOk, IfErr, IfSome};
+ghost use Rattle.std.specs.Prelude.{◌≡◌, ◌≤◌, ◌+◌, ◌⊎◌, ℕ, List, Option, Some, None, IfOk, IfErr, IfSome};
 ghost use Rattle.bridge_wire.specs.Wire.{IsOfPortOne, Stops, Wires};
 
 use bridge_capture::{MAX_RECORDS, ReadAhead, WriteBehind};
@@ -33,7 +33,8 @@ pub fn through<R: Read + Drop, W: Write + Drop, A: Allocator + Copy>(
     ensures ok { (text : List ℕ) → R.remaining reader ≡ Some text →
         IfOk result (λ done. Wires speed room text (W.contents writer) (W.contents done.1) done.0) }
     ensures err { (text : List ℕ) → R.remaining reader ≡ Some text →
-        IfErr result (λ halted. IfSome halted.writer (λ w. Stops speed room text (W.contents writer) (W.contents w) halted.fault)) }
+        IfErr result (λ halted. IfSome halted.writer (λ w.
+        (rest : Option (List ℕ)) × Stops speed room text rest (W.contents writer) (W.contents w) halted.fault)) }
     ensures lost { IfErr result (λ halted. halted.writer ≡ None → (halted.fault ≡ RunFault.Write 1) ⊎ (halted.fault ≡ RunFault.NoMemory)) }
     ensures sums { IfOk result (λ done. done.0.malformed + done.0.sent + done.0.full ≡ done.0.frames) }
     ensures few { IfOk result (λ done. done.0.frames ≤ MAX_RECORDS) }

@@ -28,12 +28,17 @@ pub fn wire_text<A: Allocator + Copy>(alloc: A, text: &[u8]) -> Result<String<A>
     ensures too_long { result ≡ Err TextFault.TooLong → octets_spelled text.now ≡ Err hex.TooLong }
     ensures run { (fault : RunFault) (octets : List ℕ) → result ≡ Err (TextFault.Run fault) → octets_spelled text.now ≡ Ok octets → StopsText octets fault }
     ensures sure { (port : ℕ) → result ≢ Err (TextFault.Run (RunFault.Capture port capture_faults.Read)) }
+    ensures whole { (port : ℕ) → result ≢ Err (TextFault.Run (RunFault.Write port)) }
     ensures spelled { (fault : RunFault) → result ≡ Err (TextFault.Run fault) → (fault ≡ RunFault.NoMemory) ⊎ ((octets : List ℕ) × (octets_spelled text.now ≡ Ok octets)) }
 {
     let octets = octets_of(alloc, text)?;
     let mut source = SliceSource::new(&octets);
     let mut sink = VecSink::new(alloc);
     if let Err(fault) = wire(alloc, Speed::Mbps1000, ROOM, &mut source, &mut sink) {
+        // What the sink can't hold is a want of memory.
+        if sink.ran_out() {
+            return Err(TextFault::Run(RunFault::NoMemory));
+        }
         return Err(TextFault::Run(fault));
     }
     match lines_of(alloc, sink.octets()) {

@@ -3,27 +3,28 @@ use Rattle.bridge_config.specs.Model.{Plan}
 use Rattle.bridge_core.specs.Simulated.{AreNumbers}
 use Rattle.bridge_core.proofs.Beginning.{one_order}
 use Rattle.bridge_core.proofs.Simulating.{isolates, others_change_nothing, ports_many}
+use Rattle.bridge_core.proofs.Sorted.{rising_numbers}
 use Rattle.std.proofs.lemmas.Option.{slice_get_within}
 use Rattle.bridge_files.specs.Flushed.{AllKept, NoneFailed}
 use Rattle.bridge_files.proofs.Devices.{asked, broken, sunk}
 use Rattle.bridge_files.proofs.Kept.{kept_length, kept_same}
-use Rattle.bridge_files.proofs.Ran.{behind, lent, none_behind, none_kept, runs_over, same_many, stops_over, texts_over}
+use Rattle.bridge_files.proofs.Ran.{are_rests, behind, lent, none_behind, none_kept, none_read, rest_of, runs_over, same_many, stops_over, texts_over}
 use Rattle.bridge_files.proofs.running.run_over.Goals as goal
 
 pub returns-in_default-clause-err : goal.returns-in_default-clause-err
-returns-in_default-clause-err g c = λ ports texts are read many. inl (kept_same g.W.Write.contents c.args.writers.items)
+returns-in_default-clause-err g c = λ ports texts are read many. none_read c.args.accepted.now ports c.args.commands.now texts g.W.Write.contents c.args.writers.items c.args.writers.items (kept_same g.W.Write.contents c.args.writers.items)
 
 pub returns-in_default-clause-lost : goal.returns-in_default-clause-lost
 returns-in_default-clause-lost g c = λ ports port are at. absurd (none_behind c.args.accepted.now ports (length c.args.writers.items) port are c.requires.writers at)
 
 pub returns-in_default-with_capacity-clause-err : goal.returns-in_default-with_capacity-clause-err
-returns-in_default-with_capacity-clause-err g c = λ ports texts are read many. inl (kept_same g.W.Write.contents c.args.writers.items)
+returns-in_default-with_capacity-clause-err g c = λ ports texts are read many. none_read c.args.accepted.now ports c.args.commands.now texts g.W.Write.contents c.args.writers.items c.args.writers.items (kept_same g.W.Write.contents c.args.writers.items)
 
 pub returns-in_default-with_capacity-clause-lost : goal.returns-in_default-with_capacity-clause-lost
 returns-in_default-with_capacity-clause-lost g c = λ ports port are at. absurd (none_behind c.args.accepted.now ports (length c.args.writers.items) port are c.requires.writers at)
 
 pub returns-in_default-sources_of-clause-err : goal.returns-in_default-sources_of-clause-err
-returns-in_default-sources_of-clause-err g c = λ ports texts are read many. inl (kept_same g.W.Write.contents c.args.writers.items)
+returns-in_default-sources_of-clause-err g c = λ ports texts are read many. none_read c.args.accepted.now ports c.args.commands.now texts g.W.Write.contents c.args.writers.items c.args.writers.items (kept_same g.W.Write.contents c.args.writers.items)
 
 pub returns-in_default-sources_of-clause-lost : goal.returns-in_default-sources_of-clause-lost
 returns-in_default-sources_of-clause-lost g c = λ ports port are at. absurd (none_behind c.args.accepted.now ports (length c.args.writers.items) port are c.requires.writers at)
@@ -33,7 +34,7 @@ returns-in_default-sinks_of-clause-err g c = λ ports texts are read many.
     let all = ports_many c.args.accepted.now ports are in
     let asks = c.requires.writers in
     let none = c.in-Ok-with_capacity.ensures.items in
-    inl (none_kept g.W.Write.contents c.args.writers.items c.in-Ok-with_capacity.room.items (omega (arith, all, asks, many, ap length none)) none)
+    none_read c.args.accepted.now ports c.args.commands.now texts g.W.Write.contents c.args.writers.items c.in-Ok-with_capacity.room.items (none_kept g.W.Write.contents c.args.writers.items c.in-Ok-with_capacity.room.items (omega (arith, all, asks, many, ap length none)) none)
 
 pub simulate-ran-requires-clause-sources : goal.simulate-ran-requires-clause-sources
 simulate-ran-requires-clause-sources g c =
@@ -133,9 +134,13 @@ returns-clause-err g c = λ ports texts are read many.
     let whole = ap (take (length news)) back ∙ take_all (length news) mids full in
     let after = subst (λ l. AllKept (sunk contents) contents l news) whole c.finish_all-writers.ensures.kept in
     let sound = subst (NoneFailed broken) whole c.finish_all-writers.ensures.sound in
-    stops_over p contents (sunk contents) broken ports c.args.commands.now texts writers news olds mids c.in-Err.fault before after same (omega (arith, all, asks, size, same)) sound
-    (λ port e i w at held. c.in-Err.ensures.wrote ports port are (ap Err e) i w at held)
-    (c.in-Err.ensures.err ports texts are (texts_over g.R.Read.remaining (asked g.R.Read.remaining) ports texts c.args.readers.items c.deref_mut.result.now (ap (map (asked g.R.Read.remaining)) c.deref_mut.ensures.value ∙ c.in-Ok-sources_of.ensures) read))
+    let left = c.simulate-ran.new.sources in
+    let rests = rest_of (asked g.R.Read.remaining) ports left in (
+      rests,
+      stops_over p contents (sunk contents) broken ports c.args.commands.now texts rests writers news olds mids c.in-Err.fault before after same (omega (arith, all, asks, size, same)) sound
+          (λ port e i w at held. c.in-Err.ensures.wrote ports port are (ap Err e) i w at held)
+          (c.in-Err.ensures.err ports texts rests are (texts_over g.R.Read.remaining (asked g.R.Read.remaining) ports texts c.args.readers.items c.deref_mut.result.now (ap (map (asked g.R.Read.remaining)) c.deref_mut.ensures.value ∙ c.in-Ok-sources_of.ensures) read) (are_rests (asked g.R.Read.remaining) ports left (rising_numbers ports are.rises))),
+    )
 
 pub returns-clause-lost : goal.returns-clause-lost
 returns-clause-lost g c = λ ports port are there.

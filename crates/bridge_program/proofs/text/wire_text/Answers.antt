@@ -11,7 +11,7 @@ returns-in-Err-clause-run g c = λ fault octets is spelled.
     let same : items ≡ octets = let told = c.in_ok-octets.ensures.ok in cc in
     let told : Some c.new-source.result.octets ≡ Some octets = ap Some (c.new-source.ensures.octets ∙ (c.deref.ensures.value ∙ same)) in
     let one : c.in-Err.fault ≡ fault = cc in
-    subst (StopsText octets) one (stops_text octets (Some c.new-sink.result.octets) (Some c.wire.new.sink.octets) c.in-Err.fault (c.in-Err.ensures.err octets told) c.in-Err.ensures.one)
+    subst (StopsText octets) one (stops_text octets (Some c.wire.new.source.octets) (Some c.new-sink.result.octets) (Some c.wire.new.sink.octets) c.in-Err.fault (c.in-Err.ensures.err octets told) c.in-Err.ensures.one)
 
 pub returns-in-Ok-clause-ok : goal.returns-in-Ok-clause-ok
 returns-in-Ok-clause-ok g c =
