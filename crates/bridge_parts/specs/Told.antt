@@ -6,11 +6,12 @@ use Rattle.bridge_parts.specs.Tables.{TableState}
 
 -- a table of which nothing is told
 abbrev pub fresh : TableState
-fresh = record { verdicts = []; departures = []; drops = []; delay = None; owed = 0; is_open = false }
+fresh = record { verdicts = []; origins = []; departures = []; drops = []; delay = None; owed = 0; is_open = false }
 
 -- what a table tells
 pub record HasTold {A : Type 0} (t : TableState) (v : Told A) : Type 0 where
   pub verdicts : v.verdicts.items ≡ t.verdicts
+  pub origins : v.origins.items ≡ t.origins
   pub departures : v.departures.items ≡ t.departures
   pub drops : v.drops.items ≡ t.drops
   pub delay : v.delay ≡ t.delay

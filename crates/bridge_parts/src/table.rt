@@ -5,16 +5,17 @@ ghost use Rattle.bridge_parts.specs.Told.{fresh, HasTold};
 
 use bridge_cycle::NoMemory;
 use bridge_filter::Verdict;
-use bridge_run::{Departure, Dropped};
+use bridge_run::{Departure, Dropped, Origin};
 use std::alloc::Allocator;
 use std::marker::Model;
 use std::mem;
 
-/// What is told of a filter: the verdicts of its frames, the copies that left and those that were not queued, and the
-/// longest time in ns that one took.
+/// What is told of a filter: the verdicts of its frames and where these came, the copies that left and those that were
+/// not queued, and the longest time in ns that one took.
 #[derive(Drop)]
 pub struct Told<A: Allocator + Copy> {
     pub verdicts: Vec<Verdict, A>,
+    pub origins: Vec<Origin, A>,
     pub departures: Vec<Departure, A>,
     pub drops: Vec<Dropped, A>,
     pub delay: Option<u64>,
@@ -25,6 +26,7 @@ pub struct Told<A: Allocator + Copy> {
 #[derive(Drop)]
 pub struct Table<A: Allocator + Copy> {
     verdicts: Vec<Verdict, A>,
+    origins: Vec<Origin, A>,
     departures: Vec<Departure, A>,
     drops: Vec<Dropped, A>,
     delay: Option<u64>,
@@ -38,18 +40,19 @@ impl<A: Allocator + Copy> Model for Table<A> {
 
     ghost Value = { TableState };
 
-    ghost view = { λ t. record { verdicts = t.verdicts.items; departures = t.departures.items; drops = t.drops.items; delay = t.delay; owed = t.owed; is_open = t.is_open } };
+    ghost view = { λ t. record { verdicts = t.verdicts.items; origins = t.origins.items; departures = t.departures.items; drops = t.drops.items; delay = t.delay; owed = t.owed; is_open = t.is_open } };
 
-    ghost invariant = { λ t. HasRoom t.verdicts t.departures t.drops t.owed t.is_open };
+    ghost invariant = { λ t. HasRoom t.verdicts t.origins t.departures t.drops t.owed t.is_open };
 }
 
 impl<A: Allocator + Copy> Table<A> {
     /// Nothing is told.
     pub fn new(alloc: A) -> Table<A>
-        ensures { result ≡ record { verdicts = []; departures = []; drops = []; delay = None; owed = 0; is_open = false } }
+        ensures { result ≡ record { verdicts = []; origins = []; departures = []; drops = []; delay = None; owed = 0; is_open = false } }
     {
         Table {
             verdicts: Vec::new(alloc),
+            origins: Vec::new(alloc),
             departures: Vec::new(alloc),
             drops: Vec::new(alloc),
             delay: None,
@@ -67,6 +70,7 @@ impl<A: Allocator + Copy> Table<A> {
     {
         let owed = self.owed + copies;
         self.verdicts.reserve(1)?;
+        self.origins.reserve(1)?;
         self.departures.reserve(owed)?;
         self.drops.reserve(owed)?;
         self.owed = owed;
@@ -74,15 +78,19 @@ impl<A: Allocator + Copy> Table<A> {
         Ok(())
     }
 
-    /// Writes a verdict down, and gives the number of its frame, from 1.
+    /// Writes a verdict down and where its frame came, and gives the number of the frame, from 1.
     #[inline(always)]
-    pub fn judge(&mut self, verdict: Verdict) -> u64
+    pub fn judge(&mut self, verdict: Verdict, origin: Origin) -> u64
         requires { self.old.is_open ≡ true }
-        ensures told { self.new ≡ record self.old { verdicts = self.old.verdicts ++ verdict ∷ []; is_open = false } }
+        ensures told { self.new ≡ record self.old { verdicts = self.old.verdicts ++ verdict ∷ []; origins = self.old.origins ++ origin ∷ []; is_open = false } }
         ensures own { result ≡ length self.old.verdicts + 1 }
     {
         self.is_open = false;
         match self.verdicts.push(verdict) {
+            Ok(()) => {}
+            Err(_) => unreachable!(),
+        }
+        match self.origins.push(origin) {
             Ok(()) => {}
             Err(_) => unreachable!(),
         }
@@ -133,6 +141,7 @@ impl<A: Allocator + Copy> Table<A> {
     {
         let Table {
             verdicts,
+            origins,
             departures,
             drops,
             delay,
@@ -140,6 +149,7 @@ impl<A: Allocator + Copy> Table<A> {
         } = mem::replace(self, Table::new(alloc));
         Told {
             verdicts,
+            origins,
             departures,
             drops,
             delay,

@@ -9,7 +9,7 @@ use crate::table::{Table, Told};
 use bridge_cycle::NoMemory;
 use bridge_filter::{FilterPlan, Verdict};
 use bridge_port::Refusal;
-use bridge_run::{Departure, Dropped};
+use bridge_run::{Departure, Dropped, Origin};
 use indexmap::IndexMap;
 use std::alloc::{AllocError, Allocator};
 use std::hash::{BuildHasherDefault, FoldHasher};
@@ -169,16 +169,21 @@ pub fn promise<A: Allocator + Copy>(
     }
 }
 
-/// Writes a verdict of a filter down, and gives the number of its frame.
+/// Writes a verdict of a filter down and where its frame came, and gives the number of the frame.
 #[inline(always)]
-pub fn judge<A: Allocator + Copy>(tables: &mut Tables<A>, number: u32, verdict: Verdict) -> u64
+pub fn judge<A: Allocator + Copy>(
+    tables: &mut Tables<A>,
+    number: u32,
+    verdict: Verdict,
+    origin: Origin,
+) -> u64
     requires { IsOpen tables.old.entries number }
-    ensures told { tables.new.entries ≡ change number (λ t. judged t verdict) tables.old.entries }
+    ensures told { tables.new.entries ≡ change number (λ t. judged t verdict origin) tables.old.entries }
     ensures own { (t : TableState) → lookup (nat_eq number) tables.old.entries ≡ Some t → result ≡ length t.verdicts + 1 }
 {
     let place = place_of(tables, number);
     let (_, table) = tables.pair_mut(place);
-    table.judge(verdict)
+    table.judge(verdict, origin)
 }
 
 /// So many copies of a filter's frame are not offered.

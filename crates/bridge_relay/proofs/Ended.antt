@@ -9,6 +9,7 @@ use Rattle.bridge_base.specs.Members.{AllAfter, In, Rising}
 use Rattle.bridge_capture.specs.Grammar.{Captured}
 use Rattle.bridge_cycle.proofs.Cases.{by_bool}
 use Rattle.bridge_filter.specs.declared.FilterPlan.{FilterPlan}
+use Rattle.bridge_filter.specs.declared.Verdict.{Verdict}
 use Rattle.bridge_filter.specs.Plans.{is_there}
 use Rattle.bridge_filter.specs.Standing as filter
 use Rattle.bridge_config.specs.declared.ports.PortPlan.{PortPlan}
@@ -17,6 +18,7 @@ use Rattle.bridge_config.specs.Rules.{port_at}
 use Rattle.bridge_port.specs.Schedule.{Copy}
 use Rattle.bridge_run.specs.declared.outcome.Departure.{Departure}
 use Rattle.bridge_run.specs.declared.outcome.Dropped.{Dropped}
+use Rattle.bridge_run.specs.declared.outcome.Origin.{Origin}
 use Rattle.bridge_run.specs.declared.outcome.Outcome.{Outcome}
 use Rattle.bridge_run.specs.declared.outcome.PortCount.{PortCount}
 use Rattle.bridge_run.specs.declared.outcome.View.{View}
@@ -91,7 +93,7 @@ told_as : {A : Type 0} (p : Plan A) (n : ℕ) (lists : ℕ → List (Copy Carrie
 told_as {A} p n lists ds es xs ys a b d x l t =
     subst (λ (z : List Departure). IsTold p n (AtPort lists) z ys b) (sym d) (subst (λ (z : List Dropped). IsTold p n (AtPort lists) ds z b) (sym x) (subst (λ (z : Option ℕ). IsTold p n (AtPort lists) ds xs z) (sym l) t))
 
-view_is : {G A : Type 0} (held : G → ℕ → Option ℕ) (p : Plan A) (b : RelayState G A) (es : List Event) (left : ℕ → List Captured) (st : Stands p b es left) → IsSound held b → (n : ℕ) (f : FilterPlan) (v : View A) → lookup (nat_eq n) p.filters ≡ Some f → IsShown b.police b.tables n f v → IsView p n f (steps p es) (AtPort (seen st.lists)) v
+view_is : {G A : Type 0} (held : G → ℕ → Option ℕ) (p : Plan A) (b : RelayState G A) (es : List Event) (left : ℕ → List Captured) (st : Stands p b es left) → IsSound held b → (n : ℕ) (f : FilterPlan) (v : View A) → lookup (nat_eq n) p.filters ≡ Some f → IsShown b.police b.tables n f v → IsView p n f es (AtPort (seen st.lists)) v
 view_is {G} {A} held p b es left st sound n f v e s =
     let at : lookup (nat_eq n) b.plan.filters ≡ Some f = subst (λ (w : Plan A). lookup (nat_eq n) w.filters ≡ Some f) (sym st.plan) e in
     let listed : is_there n b.plan.filters ≡ true = ap is_some at in
@@ -99,7 +101,8 @@ view_is {G} {A} held p b es left st sound n f v e s =
     let shown = s.told t.0 t.1 in
     record {
       protected = s.protected;
-      verdicts = shown.verdicts ∙ st.verdicts n t.0 t.1;
+      verdicts = shown.verdicts ∙ ap (λ (z : List Verdict × List Origin). z.0) (st.verdicts n t.0 t.1);
+      origins = shown.origins ∙ ap (λ (z : List Verdict × List Origin). z.1) (st.verdicts n t.0 t.1);
       counters = s.counters (police_of p) (calls p es) st.police;
       flags = s.flags (police_of p) (calls p es) f st.police e;
       buckets = s.buckets (police_of p) (calls p es) f st.police e;

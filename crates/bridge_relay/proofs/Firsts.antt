@@ -30,7 +30,7 @@ use Rattle.bridge_parts.specs.declared.slot.Slot.{Slot}
 use Rattle.bridge_parts.specs.Ports.{slot_in, slot_at, AreAlike, IsFirst, IsMade, IsNew}
 use Rattle.bridge_parts.specs.Tables.{TableState}
 use Rattle.bridge_parts.specs.Told.{fresh, fresh_tables}
-use Rattle.bridge_relay.specs.Relays.{RelayState, HasLeft, IsKept, IsSound, Stands, count_in, count_all, is_wrong, is_of}
+use Rattle.bridge_relay.specs.Relays.{RelayState, HasLeft, IsKept, IsSound, Stands, written, count_in, count_all, is_wrong, is_of}
 
 -- what a bridge is made of
 pub record IsMadeOf {G A : Type 0} (held : G → ℕ → Option ℕ) (b : RelayState G A) : Type 0 where
@@ -152,7 +152,7 @@ first_stands {G} {A} held b m =
       others = λ q e. refl;
       each = λ q s l e. (new q s l e).stands;
       offers = λ q out e. refl;
-      verdicts = λ n t e. ap (λ (v : TableState). v.verdicts) (table_is held b m n t e);
+      verdicts = λ n t e. ap written (table_is held b m n t e);
       told = λ n t e. subst (λ (v : TableState). IsTold b.plan n (AtPort (λ q. [])) v.departures v.drops v.delay) (sym (table_is held b m n t e)) (none_told b.plan n);
       counts = λ q s l e. subst (IsCount b.plan [] q []) (sym (new q s l e).count) (record { frames = refl; malformed = refl; nowhere = refl; unfiltered = refl; sent = refl; dropped = refl });
       leaves = λ q s l e. record {

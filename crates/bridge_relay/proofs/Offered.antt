@@ -16,6 +16,7 @@ use Rattle.bridge_filter.specs.Verdicts as verdicts
 use Rattle.bridge_config.specs.declared.ports.PortPlan.{PortPlan}
 use Rattle.bridge_config.specs.Model.{Plan}
 use Rattle.bridge_config.specs.Rules.{port_at, IsPort}
+use Rattle.bridge_run.specs.declared.outcome.Origin.{Origin}
 use Rattle.bridge_run.specs.Events.{Arrival, Event, Arrived, count, metered, police_of, steps, way_of}
 use Rattle.bridge_run.specs.Offers.{Carried, Offer, offers, offer_of_step, leaving, step_of}
 use Rattle.bridge_parts.specs.declared.slot.Slot.{Slot}
@@ -103,7 +104,7 @@ offers_refused p out a es set sees r none po =
 pub own_is : {G A : Type 0} (p : Plan A) (b : RelayState G A) (es : List Event) (left : ℕ → List Captured) (n own : ℕ) (k : ℕ) → Stands p (one_less b) es left → HasSpare b k n → ((t : TableState) → lookup (nat_eq n) b.tables ≡ Some t → own ≡ length t.verdicts + 1) → own ≡ count p n es + 1
 own_is p b es left n own k st spare numbered =
     let z = numbered spare.0 spare.1 in
-    let v = ap length (st.verdicts n spare.0 spare.1) ∙ own_count p n es in
+    let v = ap (λ (z : List Verdict × List Origin). length z.0) (st.verdicts n spare.0 spare.1) ∙ own_count p n es in
     omega (arith, z, v)
 
 pub refused_by : (v : Verdict) → ((ipv : Option ℕ) (eligible : Bool) → v ≡ verdict.Pass ipv eligible → ⊥) → IsRefused v

@@ -30,7 +30,7 @@ use Rattle.bridge_parts.specs.declared.slot.Slot.{Slot}
 use Rattle.bridge_parts.specs.Slots.{offered_slot, counted_copy, refusal_to, refusal_by}
 use Rattle.bridge_parts.specs.Tables.{TableState, change, change_if, refused, after_answer}
 use Rattle.bridge_parts.specs.Ports.{PortsState, slot_in, slot_at, goes_out, outs, is_there, NotBefore}
-use Rattle.bridge_relay.specs.Relays.{RelayState, HasLeft, IsSound, IsAwaited, is_flow, is_of, count_all, seen}
+use Rattle.bridge_relay.specs.Relays.{RelayState, HasLeft, IsSound, IsAwaited, written, is_flow, is_of, count_all, seen}
 use Rattle.bridge_parts.specs.Ports.{AreAlike, IsMade}
 use Rattle.bridge_relay.specs.Relaying.{CountTheSame, HasOfferedTo, Carries, offer_to, offers_below, IsPending, IsOffering, MayRelay, HasCopies, leaves}
 use Rattle.bridge_parts.proofs.Porting.{below, set_here, set_there}
@@ -310,13 +310,13 @@ awaited_by b (Some n) own q left low p = record { table = p.table; there = p.the
 -- One port after another.
 
 -- the answer to an offer leaves the verdicts
-answered_verdicts : (old new : List (ℕ × TableState)) (flow : Option ℕ) (own port : ℕ) (o : Option Refusal) (n : ℕ) (t : TableState) → new ≡ after_answer old flow own port (refusal_by o) → lookup (nat_eq n) new ≡ Some t → (w : TableState) × (lookup (nat_eq n) old ≡ Some w) × (t.verdicts ≡ w.verdicts)
+answered_verdicts : (old new : List (ℕ × TableState)) (flow : Option ℕ) (own port : ℕ) (o : Option Refusal) (n : ℕ) (t : TableState) → new ≡ after_answer old flow own port (refusal_by o) → lookup (nat_eq n) new ≡ Some t → (w : TableState) × (lookup (nat_eq n) old ≡ Some w) × (written t ≡ written w)
 answered_verdicts old new flow own port None n t h found = (t, subst (λ (z : List (ℕ × TableState)). lookup (nat_eq n) z ≡ Some t) h found, refl)
 answered_verdicts old new flow own port (Some r) n t h found =
     let d : Dropped = record { own = own; port = port; refusal = r } in
     let c = changed flow (λ (v : TableState). refused v d) old n t (subst (λ (z : List (ℕ × TableState)). lookup (nat_eq n) z ≡ Some t) h found) in
-    (c.was, c.there, ap (λ (v : TableState). v.verdicts) c.is ∙ either (is_flow flow n) c.was d) where
-      either : (b : Bool) (v : TableState) (d : Dropped) → (if b then refused v d else v).verdicts ≡ v.verdicts
+    (c.was, c.there, ap written c.is ∙ either (is_flow flow n) c.was d) where
+      either : (b : Bool) (v : TableState) (d : Dropped) → written (if b then refused v d else v) ≡ written v
       either true v d = refl
       either false v d = refl
 

@@ -1,5 +1,5 @@
 -- A frame is counted at its port.
-use Rattle.std.proofs.Common.{◌≡◌, ℕ, Bool, true, false, ◌+◌, ◌-◌, ◌<◌, ◌≤◌, List, [], ◌∷◌, ◌++◌, length, arith, refl, ap, ◌∙◌, sym, subst, inl, inr, Option, Some, None, slice_set, slice_index_or}
+use Rattle.std.proofs.Common.{◌≡◌, ℕ, Bool, true, false, ◌+◌, ◌-◌, ◌<◌, ◌≤◌, List, [], ◌∷◌, ◌++◌, length, arith, refl, ap, ◌∙◌, sym, subst, inl, inr, Option, Some, None, append-nil, slice_set, slice_index_or}
 use Rattle.std.specs.Prelude.{nat_eq, if◌then◌else◌, ◌&&◌, ◌⊎◌, sum_by, count_by, IsTrue}
 use Rattle.std.specs.Map.{lookup}
 use Rattle.std.proofs.lemmas.Bool.Decides.{nat_tests}
@@ -17,10 +17,13 @@ use Rattle.bridge_config.specs.Model.{Plan}
 use Rattle.bridge_config.specs.Rules.{port_at}
 use Rattle.bridge_run.specs.declared.load.Load.{Load}
 use Rattle.bridge_run.specs.declared.outcome.Departure.{Departure}
+use Rattle.bridge_filter.specs.declared.Verdict.{Verdict}
+use Rattle.bridge_filter.specs.Own.{is_number}
+use Rattle.bridge_run.specs.declared.outcome.Origin.{Origin}
 use Rattle.bridge_run.specs.declared.outcome.PortCount.{PortCount}
 use Rattle.bridge_run.specs.declared.way.Way.{Way}
 use Rattle.bridge_run.specs.declared.way.Way.TheVariants.{Malformed, Nowhere, Goes}
-use Rattle.bridge_run.specs.Events.{Arrival, Event, Arrived, arrivals, way_of, call_of, call_by, calls, and_call, police_of, steps}
+use Rattle.bridge_run.specs.Events.{Arrival, Event, Arrived, arrivals, way_of, call_of, call_by, calls, and_call, flow_by, flow_of, origin, origins_of, police_of, steps}
 use Rattle.bridge_run.specs.Offers.{Carried, Offer, offers, offer_on}
 use Rattle.bridge_port.specs.Schedule.{Copy}
 use Rattle.bridge_port.specs.Standing.{StandsFor}
@@ -32,7 +35,7 @@ use Rattle.bridge_parts.specs.declared.slot.Came.TheVariants as came
 use Rattle.bridge_parts.specs.Slots.{counted_frame}
 use Rattle.bridge_parts.specs.Tables.{TableState}
 use Rattle.bridge_parts.specs.Ports.{PortsState, slot_in, slot_at}
-use Rattle.bridge_relay.specs.Relays.{RelayState, HasLeft, Stands, IsSound, IsKept, count_in, count_all, is_of, is_wrong, seen}
+use Rattle.bridge_relay.specs.Relays.{RelayState, HasLeft, Stands, IsSound, IsKept, written_of, count_in, count_all, is_of, is_wrong, seen}
 use Rattle.bridge_parts.specs.Ports.{AreAlike, IsMade}
 use Rattle.bridge_relay.specs.Relaying.{HasPassed, IsOver}
 use Rattle.bridge_parts.proofs.Porting.{below, set_here, set_there}
@@ -130,6 +133,18 @@ calls_over p es a came.Nowhere h = ap (λ (w : Way). and_call (call_by a w) (cal
 calls_over p es a came.Unfiltered h = absurd h
 calls_over p es a came.Policed h = absurd h
 
+flow_over : {A : Type 0} (p : Plan A) (a : Arrival) (v : Came) (n : ℕ) → IsOver v (way_of p a) → is_number n (flow_of p a) ≡ false
+flow_over p a came.Malformed n h = ap (λ (w : Way). is_number n (flow_by p (call_by a w))) h
+flow_over p a came.Nowhere n h = ap (λ (w : Way). is_number n (flow_by p (call_by a w))) h
+flow_over p a came.Unfiltered n h = absurd h
+flow_over p a came.Policed n h = absurd h
+
+written_over : {A : Type 0} (p : Plan A) (es : List Event) (a : Arrival) (v : Came) (n : ℕ) → IsOver v (way_of p a) → written_of p n es ≡ written_of p n (Arrived a ∷ es)
+written_over p es a v n h =
+    let vs : verdicts_of n (steps p es) ≡ verdicts_of n (steps p (Arrived a ∷ es)) = ap (λ (z : List verdicts.Event). verdicts_of n (verdicts.told (police_of p) z)) (sym (calls_over p es a v h)) in
+    let os : origins_of p n es ≡ origins_of p n (Arrived a ∷ es) = sym (append-nil (origins_of p n es)) ∙ ap (λ (b : Bool). origins_of p n es ++ (if b then origin a ∷ [] else [])) (sym (flow_over p a v n h)) in
+    ap (λ (z : List Verdict). (z, origins_of p n es)) vs ∙ ap (λ (z : List Origin). (verdicts_of n (steps p (Arrived a ∷ es)), z)) os
+
 offers_over : {A : Type 0} (p : Plan A) (out : PortPlan A) (es : List Event) (a : Arrival) (v : Came) → IsOver v (way_of p a) → offers p out (Arrived a ∷ es) ≡ offers p out es
 offers_over p out es a came.Malformed h = ap (λ (w : Way). offer_on p out a es w ++ offers p out es) h
 offers_over p out es a came.Nowhere h = ap (λ (w : Way). offer_on p out a es w ++ offers p out es) h
@@ -200,7 +215,7 @@ stands_passed {G} {A} old new q s t v h there low p es a port over left st =
           subst (λ (z : Slot A). StandsFor z.port (st.lists r)) (passed_here old new q s v h.slots there r w y at) (subst (λ (m : ℕ). StandsFor s.port (st.lists m)) same (st.each q s low there)))
           (λ y. st.each r w l (sym (passed_there old new q s v h.slots low r l y) ∙ at));
       offers = λ r out e. st.offers r out e ∙ sym (offers_over p out es a v over);
-      verdicts = λ n w found. st.verdicts n w (subst (λ (z : List (ℕ × TableState)). lookup (nat_eq n) z ≡ Some w) h.tables found) ∙ ap (λ (z : List verdicts.Event). verdicts_of n (verdicts.told (police_of p) z)) (sym same_calls);
+      verdicts = λ n w found. st.verdicts n w (subst (λ (z : List (ℕ × TableState)). lookup (nat_eq n) z ≡ Some w) h.tables found) ∙ written_over p es a v n over;
       told = λ n w found. st.told n w (subst (λ (z : List (ℕ × TableState)). lookup (nat_eq n) z ≡ Some w) h.tables found);
       counts = λ r w l at. by_bool (nat_eq r q)
           (λ y.

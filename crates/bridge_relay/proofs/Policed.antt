@@ -16,10 +16,12 @@ use Rattle.bridge_port.specs.Standing.{StandsFor}
 use Rattle.bridge_config.specs.declared.ports.PortPlan.{PortPlan}
 use Rattle.bridge_config.specs.Model.{Plan}
 use Rattle.bridge_config.specs.Rules.{port_at}
+use Rattle.bridge_filter.specs.Own.{is_number}
+use Rattle.bridge_run.specs.declared.outcome.Origin.{Origin}
 use Rattle.bridge_run.specs.declared.outcome.PortCount.{PortCount}
 use Rattle.bridge_run.specs.declared.way.Way.{Way}
 use Rattle.bridge_run.specs.declared.way.Way.TheVariants.{Goes}
-use Rattle.bridge_run.specs.Events.{Arrival, Event, Arrived, arrivals, and_call, call_by, call_of, calls, flow_by, flow_of, metered, police_of, steps, way_of}
+use Rattle.bridge_run.specs.Events.{Arrival, Event, Arrived, arrivals, and_call, call_by, call_of, calls, flow_by, flow_of, metered, origin, origins_of, police_of, steps, way_of}
 use Rattle.bridge_run.specs.Offers.{Carried, Offer, offers}
 use Rattle.bridge_run.specs.Runs.{IsTold, AtPort, IsCount, count_frames, is_malformed, is_nowhere, is_relayed, is_unfiltered}
 use Rattle.bridge_parts.specs.declared.slot.Slot.{Slot}
@@ -28,9 +30,9 @@ use Rattle.bridge_parts.specs.declared.slot.Came.TheVariants as came
 use Rattle.bridge_parts.specs.Slots.{counted_frame}
 use Rattle.bridge_parts.specs.Tables.{TableState, change, judged, released}
 use Rattle.bridge_parts.specs.Ports.{slot_at}
-use Rattle.bridge_relay.specs.Relays.{RelayState, HasLeft, Stands, is_flow, seen}
+use Rattle.bridge_relay.specs.Relays.{RelayState, HasLeft, Stands, written, is_flow, seen}
 use Rattle.bridge_relay.specs.declared.relay.Seen.{Seen}
-use Rattle.bridge_relay.specs.Relaying.{Carries, CountTheSame, HasRuled, called, came_as, goes, judged_by, one_less}
+use Rattle.bridge_relay.specs.Relaying.{Carries, CountTheSame, HasRuled, called, came_as, came_on, goes, judged_by, one_less}
 use Rattle.bridge_relay.proofs.Sound.{IsChangedFrom, changed}
 use Rattle.bridge_relay.proofs.Passing.{counting, passed_here, passed_there, counts_more, counts_same}
 use Rattle.bridge_relay.proofs.Leaving.{left_same}
@@ -51,17 +53,39 @@ judged_step p ss c (Some f) r h =
       same_ruling a b e = cc
 
 -- a filter's verdicts once a frame was policed
-verdicts_by : (b : Bool) (t : TableState) (v : Verdict) → (if b then judged t v else t).verdicts ≡ t.verdicts ++ (if b then v ∷ [] else [])
-verdicts_by true t v = refl
-verdicts_by false t v = sym (append-nil t.verdicts)
+written_by : (b : Bool) (t : TableState) (v : Verdict) (o : Origin) → written (if b then judged t v o else t) ≡ (t.verdicts ++ (if b then v ∷ [] else []), t.origins ++ (if b then o ∷ [] else []))
+written_by true t v o = refl
+written_by false t v o = ap (λ (z : List Verdict). (z, t.origins)) (sym (append-nil t.verdicts)) ∙ ap (λ (z : List Origin). (t.verdicts ++ [], z)) (sym (append-nil t.origins))
 
-pub verdicts_ruled : (p : verdicts.Plans) (ss : List verdicts.Step) (c : verdicts.Call) (o : Option (ℕ × FilterPlan)) (r : Option Ruling) (old new : List (ℕ × TableState)) (n : ℕ) (t : TableState) → r ≡ verdicts.ruled (verdicts.judged p ss c o) → new ≡ judged_by r old → lookup (nat_eq n) new ≡ Some t → ((w : TableState) → lookup (nat_eq n) old ≡ Some w → w.verdicts ≡ verdicts_of n ss) → t.verdicts ≡ verdicts_of n (verdicts.judged p ss c o ∷ ss)
-verdicts_ruled p ss c o None old new n t h tables found was =
-    was t (subst (λ (z : List (ℕ × TableState)). lookup (nat_eq n) z ≡ Some t) tables found) ∙ ap (λ (s : verdicts.Step). verdicts_of n (s ∷ ss)) (sym (unfiltered_step p ss c o h))
-verdicts_ruled p ss c o (Some r) old new n t h tables found was =
-    let d = changed (Some r.filter) (λ (w : TableState). judged w r.verdict) old n t (subst (λ (z : List (ℕ × TableState)). lookup (nat_eq n) z ≡ Some t) tables found) in
+none_more : (vs : List Verdict) (os : List Origin) → ◌≡◌ {A = List Verdict × List Origin} (vs, os) (vs, os ++ [])
+none_more vs os = ap (λ (z : List Origin). (vs, z)) (sym (append-nil os))
+
+flow_ruled : (p : verdicts.Plans) (ss : List verdicts.Step) (c : verdicts.Call) (o : Option (ℕ × FilterPlan)) (n : ℕ) → None ≡ verdicts.ruled (verdicts.judged p ss c o) → is_number n o ≡ false
+flow_ruled p ss c None n h = refl
+flow_ruled p ss c (Some f) n h = absurd (cc)
+
+number_ruled : (p : verdicts.Plans) (ss : List verdicts.Step) (c : verdicts.Call) (o : Option (ℕ × FilterPlan)) (r : Ruling) (n : ℕ) → Some r ≡ verdicts.ruled (verdicts.judged p ss c o) → nat_eq r.filter n ≡ is_number n o
+number_ruled p ss c None r n h = absurd (cc)
+number_ruled p ss c (Some f) r n h =
+    let is : r ≡ record { filter = f.0; verdict = verdicts.verdict_of p ss c f.0 f.1 } = same_ruling r (record { filter = f.0; verdict = verdicts.verdict_of p ss c f.0 f.1 }) h in
+    ap (λ (z : Ruling). nat_eq z.filter n) is where
+      same_ruling : (a b : Ruling) → Some a ≡ Some b → a ≡ b
+      same_ruling a b e = cc
+
+pub written_ruled : (p : verdicts.Plans) (ss : List verdicts.Step) (c : verdicts.Call) (o : Option (ℕ × FilterPlan)) (x : Origin) (os : List Origin) (r : Option Ruling) (old new : List (ℕ × TableState)) (n : ℕ) (t : TableState) → r ≡ verdicts.ruled (verdicts.judged p ss c o) → new ≡ judged_by x r old → lookup (nat_eq n) new ≡ Some t → ((w : TableState) → lookup (nat_eq n) old ≡ Some w → written w ≡ (verdicts_of n ss, os)) → written t ≡ (verdicts_of n (verdicts.judged p ss c o ∷ ss), os ++ (if is_number n o then x ∷ [] else []))
+written_ruled p ss c o x os None old new n t h tables found was =
+    was t (subst (λ (z : List (ℕ × TableState)). lookup (nat_eq n) z ≡ Some t) tables found)
+    ∙ (none_more (verdicts_of n ss) os
+    ∙ (ap (λ (b : Bool). (verdicts_of n ss, os ++ (if b then x ∷ [] else []))) (sym (flow_ruled p ss c o n h))
+    ∙ ap (λ (s : verdicts.Step). (verdicts_of n (s ∷ ss), os ++ (if is_number n o then x ∷ [] else []))) (sym (unfiltered_step p ss c o h))))
+written_ruled p ss c o x os (Some r) old new n t h tables found was =
+    let d = changed (Some r.filter) (λ (w : TableState). judged w r.verdict x) old n t (subst (λ (z : List (ℕ × TableState)). lookup (nat_eq n) z ≡ Some t) tables found) in
     let s = judged_step p ss c o r h in
-    ap (λ (w : TableState). w.verdicts) d.is ∙ (verdicts_by (nat_eq r.filter n) d.was r.verdict ∙ (ap (λ (z : List Verdict). z ++ (if nat_eq r.filter n then r.verdict ∷ [] else [])) (was d.was d.there) ∙ ap (λ (z : verdicts.Step). verdicts_of n (z ∷ ss)) (sym s.1)))
+    ap written d.is
+    ∙ (written_by (nat_eq r.filter n) d.was r.verdict x
+    ∙ (ap (λ (z : List Verdict × List Origin). (z.0 ++ (if nat_eq r.filter n then r.verdict ∷ [] else []), z.1 ++ (if nat_eq r.filter n then x ∷ [] else []))) (was d.was d.there)
+    ∙ (ap (λ (b : Bool). (verdicts_of n ss ++ (if nat_eq r.filter n then r.verdict ∷ [] else []), os ++ (if b then x ∷ [] else []))) (number_ruled p ss c o r n h)
+    ∙ ap (λ (z : verdicts.Step). (verdicts_of n (z ∷ ss), os ++ (if is_number n o then x ∷ [] else []))) (sym s.1))))
 
 -- What the port of the frame counts.
 
@@ -138,15 +162,15 @@ dropped_still c came.Nowhere = refl
 dropped_still c came.Unfiltered = refl
 dropped_still c came.Policed = refl
 
-told_judged : {A : Type 0} (p : Plan A) (lists : ℕ → List (Copy Carried)) (n : ℕ) (b : Bool) (t : TableState) (v : Verdict) → IsTold p n (AtPort lists) t.departures t.drops t.delay → IsTold p n (AtPort lists) (if b then judged t v else t).departures (if b then judged t v else t).drops (if b then judged t v else t).delay
-told_judged p lists n true t v h = h
-told_judged p lists n false t v h = h
+told_judged : {A : Type 0} (p : Plan A) (lists : ℕ → List (Copy Carried)) (n : ℕ) (b : Bool) (t : TableState) (v : Verdict) (o : Origin) → IsTold p n (AtPort lists) t.departures t.drops t.delay → IsTold p n (AtPort lists) (if b then judged t v o else t).departures (if b then judged t v o else t).drops (if b then judged t v o else t).delay
+told_judged p lists n true t v o h = h
+told_judged p lists n false t v o h = h
 
-told_ruled : {A : Type 0} (p : Plan A) (lists : ℕ → List (Copy Carried)) (r : Option Ruling) (old new : List (ℕ × TableState)) (n : ℕ) (t : TableState) → new ≡ judged_by r old → lookup (nat_eq n) new ≡ Some t → ((w : TableState) → lookup (nat_eq n) old ≡ Some w → IsTold p n (AtPort lists) w.departures w.drops w.delay) → IsTold p n (AtPort lists) t.departures t.drops t.delay
-told_ruled p lists None old new n t tables found was = was t (subst (λ (z : List (ℕ × TableState)). lookup (nat_eq n) z ≡ Some t) tables found)
-told_ruled p lists (Some r) old new n t tables found was =
-    let d = changed (Some r.filter) (λ (w : TableState). judged w r.verdict) old n t (subst (λ (z : List (ℕ × TableState)). lookup (nat_eq n) z ≡ Some t) tables found) in
-    subst (λ (w : TableState). IsTold p n (AtPort lists) w.departures w.drops w.delay) (sym d.is) (told_judged p lists n (nat_eq r.filter n) d.was r.verdict (was d.was d.there))
+told_ruled : {A : Type 0} (p : Plan A) (lists : ℕ → List (Copy Carried)) (o : Origin) (r : Option Ruling) (old new : List (ℕ × TableState)) (n : ℕ) (t : TableState) → new ≡ judged_by o r old → lookup (nat_eq n) new ≡ Some t → ((w : TableState) → lookup (nat_eq n) old ≡ Some w → IsTold p n (AtPort lists) w.departures w.drops w.delay) → IsTold p n (AtPort lists) t.departures t.drops t.delay
+told_ruled p lists o None old new n t tables found was = was t (subst (λ (z : List (ℕ × TableState)). lookup (nat_eq n) z ≡ Some t) tables found)
+told_ruled p lists o (Some r) old new n t tables found was =
+    let d = changed (Some r.filter) (λ (w : TableState). judged w r.verdict o) old n t (subst (λ (z : List (ℕ × TableState)). lookup (nat_eq n) z ≡ Some t) tables found) in
+    subst (λ (w : TableState). IsTold p n (AtPort lists) w.departures w.drops w.delay) (sym d.is) (told_judged p lists n (nat_eq r.filter n) d.was r.verdict o (was d.was d.there))
 
 -- the copies of the ports, and what they tell, stay where a frame is policed
 pub carries_ruled : {G A : Type 0} (p : Plan A) (old new : RelayState G A) (q : ℕ) (s : Slot A) (c : verdicts.Call) (r : Option Ruling) (es : List Event) (left : ℕ → List Captured) → HasRuled old new q s c r → slot_at old.ports q ≡ Some s → 1 ≤ q → Stands p (one_less old) es left → Carries p new (λ k out. offers p out es) left
@@ -161,7 +185,7 @@ carries_ruled {G} {A} p old new q s c r es left h there low st =
           (λ y. subst (λ (z : Slot A). StandsFor z.port (st.lists k)) (same k w y at) (subst (λ (m : ℕ). StandsFor s.port (st.lists m)) (back k y) (st.each q s low there)))
           (λ y. st.each k w l (sym (passed_there old new q s v h.slots low k l y) ∙ at));
       offers = st.offers;
-      told = λ n t found. told_ruled p (seen st.lists) r old.tables new.tables n t h.tables found (λ w e. st.told n w e);
+      told = λ n t found. told_ruled p (seen st.lists) (came_on q c.at) r old.tables new.tables n t h.tables found (λ w e. st.told n w e);
       sent = λ k w l at. by_bool (nat_eq k q)
           (λ y. subst (λ (z : Slot A). z.count.sent ≡ count_by (λ x. is_accepted x.fate) (seen st.lists k)) (same k w y at) (subst (λ (m : ℕ). (counting s v).count.sent ≡ count_by (λ x. is_accepted x.fate) (seen st.lists m)) (back k y) (sent_still s.count v ∙ (st.counts q s low there).sent)))
           (λ y. (st.counts k w l (sym (passed_there old new q s v h.slots low k l y) ∙ at)).sent);
@@ -178,7 +202,7 @@ pub record IsAfter {G A : Type 0} (ruled last : RelayState G A) : Type 0 where
   pub plan : last.plan ≡ ruled.plan
   pub police : last.police ≡ ruled.police
   pub arrived : last.arrived ≡ ruled.arrived
-  pub verdicts : (n : ℕ) (t : TableState) → lookup (nat_eq n) last.tables ≡ Some t → (w : TableState) × (lookup (nat_eq n) ruled.tables ≡ Some w) × (t.verdicts ≡ w.verdicts)
+  pub verdicts : (n : ℕ) (t : TableState) → lookup (nat_eq n) last.tables ≡ Some t → (w : TableState) × (lookup (nat_eq n) ruled.tables ≡ Some w) × (written t ≡ written w)
   pub counted : (q : ℕ) (s : Slot A) → 1 ≤ q → slot_at last.ports q ≡ Some s → (w : Slot A) × (slot_at ruled.ports q ≡ Some w) × CountTheSame s.count w.count
 
 -- the relay stands for one event more, a frame that was policed
@@ -192,7 +216,10 @@ stands_policed {G} {A} p es left a old ruled last s set sees r os st po h there 
     carries same
     (λ n t found.
     let w = after.verdicts n t found in
-    w.2 ∙ (verdicts_ruled (police_of p) (steps p es) (called a.at a.len sees) (verdicts.flow p.filters (called a.at a.len sees)) r old.tables ruled.tables n w.0 po.answer h.tables w.1 (λ u e. st.verdicts n u e) ∙ ap (verdicts_of n) (sym steps_now)))
+    w.2
+    ∙ (written_ruled (police_of p) (steps p es) (called a.at a.len sees) (verdicts.flow p.filters (called a.at a.len sees)) (origin a) (origins_of p n es) r old.tables ruled.tables n w.0 po.answer h.tables w.1 (λ u e. st.verdicts n u e)
+    ∙ (ap (λ (ss : List verdicts.Step). (verdicts_of n ss, origins_of p n es ++ (if is_number n (verdicts.flow p.filters (called a.at a.len sees)) then origin a ∷ [] else []))) (sym steps_now)
+    ∙ ap (λ (o : Option verdicts.Call). (verdicts_of n (steps p (Arrived a ∷ es)), origins_of p n es ++ (if is_number n (flow_by p o) then origin a ∷ [] else []))) (sym (call_is p es a set sees r po)))))
     (λ q u l at.
     let w = after.counted q u l at in
     counted_same p (Arrived a ∷ es) q u.count w.0.count w.2 (by_bool (nat_eq q a.port)

@@ -23,7 +23,7 @@ use Rattle.bridge_run.specs.Runs.{count_frames, is_malformed, is_nowhere, is_unf
 use Rattle.bridge_parts.specs.declared.slot.Slot.{Slot}
 use Rattle.bridge_parts.specs.Tables.{TableState}
 use Rattle.bridge_parts.specs.Ports.{slot_at, outs, NotBefore}
-use Rattle.bridge_relay.specs.Relays.{RelayState, Stands, IsSound}
+use Rattle.bridge_relay.specs.Relays.{RelayState, Stands, IsSound, written, written_of}
 use Rattle.bridge_relay.specs.Relaying.{Carries, offer_to, offers_to, offers_below, IsPending, IsOffering}
 use Rattle.bridge_relay.proofs.Offering.{carries_same}
 
@@ -94,7 +94,7 @@ pub record HasCounted {A : Type 0} (p : Plan A) (es : List Event) (q : ℕ) (c :
   pub unfiltered : c.unfiltered ≡ count_frames q (is_unfiltered p) es
 
 -- a bridge stands for events by what its parts stand for
-pub stands_of : {G A : Type 0} (p : Plan A) (b : RelayState G A) (es : List Event) (os : ℕ → PortPlan A → List Offer) (left : ℕ → List Captured) → b.plan ≡ p → filter.Stands (police_of p) b.police (calls p es) → Carries p b os left → ((q : ℕ) (out : PortPlan A) → port_at p.ports q ≡ Some out → os q out ≡ offers p out es) → ((n : ℕ) (t : TableState) → lookup (nat_eq n) b.tables ≡ Some t → t.verdicts ≡ verdicts_of n (steps p es)) → ((q : ℕ) (s : Slot A) → 1 ≤ q → slot_at b.ports q ≡ Some s → HasCounted p es q s.count) → b.arrived ≡ length (arrivals es) → Stands p b es left
+pub stands_of : {G A : Type 0} (p : Plan A) (b : RelayState G A) (es : List Event) (os : ℕ → PortPlan A → List Offer) (left : ℕ → List Captured) → b.plan ≡ p → filter.Stands (police_of p) b.police (calls p es) → Carries p b os left → ((q : ℕ) (out : PortPlan A) → port_at p.ports q ≡ Some out → os q out ≡ offers p out es) → ((n : ℕ) (t : TableState) → lookup (nat_eq n) b.tables ≡ Some t → written t ≡ written_of p n es) → ((q : ℕ) (s : Slot A) → 1 ≤ q → slot_at b.ports q ≡ Some s → HasCounted p es q s.count) → b.arrived ≡ length (arrivals es) → Stands p b es left
 stands_of p b es os left plan police st same verdicts counted arrived = record {
   plan = plan;
   police = police;

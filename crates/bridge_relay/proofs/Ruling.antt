@@ -11,6 +11,7 @@ use Rattle.bridge_filter.specs.declared.Verdict.TheVariants as verdict
 use Rattle.std.specs.Option.{option_map}
 use Rattle.bridge_filter.specs.declared.FilterPlan.{FilterPlan}
 use Rattle.bridge_filter.specs.Plans.{is_there, KeepsNumbers}
+use Rattle.bridge_run.specs.declared.outcome.Origin.{Origin}
 use Rattle.bridge_run.specs.Events.{metered}
 use Rattle.bridge_relay.specs.declared.relay.Seen.{Seen}
 use Rattle.bridge_filter.specs.Standing as filter
@@ -24,37 +25,37 @@ use Rattle.bridge_parts.specs.Tables.{TableState, change, judged}
 use Rattle.bridge_parts.specs.Ports.{PortsState, slot_in, slot_at}
 use Rattle.bridge_relay.specs.Relays.{RelayState, IsSound, IsKept, count_all, is_of, is_wrong}
 use Rattle.bridge_parts.specs.Ports.{AreAlike}
-use Rattle.bridge_relay.specs.Relaying.{HasRuled, IsFresh, called, came_as, judged_by}
+use Rattle.bridge_relay.specs.Relaying.{HasRuled, IsFresh, called, came_as, came_on, judged_by}
 use Rattle.bridge_parts.proofs.Porting.{below, set_here}
 use Rattle.bridge_relay.proofs.Sound.{changed, changed_there}
 use Rattle.bridge_relay.proofs.Passing.{counting, passed_here, passed_there, count_passed, frames_of, alike_passed}
 
-more_verdicts : (b : Bool) (t : TableState) (v : Verdict) → length t.verdicts ≤ length (if b then judged t v else t).verdicts
-more_verdicts true t v = longer_end t.verdicts v where
+more_verdicts : (b : Bool) (t : TableState) (v : Verdict) (o : Origin) → length t.verdicts ≤ length (if b then judged t v o else t).verdicts
+more_verdicts true t v o = longer_end t.verdicts v where
   longer_end : (xs : List Verdict) (x : Verdict) → length xs ≤ length (xs ++ x ∷ [])
   longer_end [] x = omega arith
   longer_end (y ∷ xs) x = let h = longer_end xs x in omega arith
-more_verdicts false t v = omega arith
+more_verdicts false t v o = omega arith
 
-kept_ruled : {G A : Type 0} (held : G → ℕ → Option ℕ) (old new : RelayState G A) (n : ℕ) (b : Bool) (w : TableState) (v : Verdict) → IsKept held old n w → count_all (is_of n) new.ports ≡ count_all (is_of n) old.ports → new.ports.agenda ≡ old.ports.agenda → new.arrived ≡ old.arrived → old.earliest ≤ new.earliest → IsKept held new n (if b then judged w v else w)
-kept_ruled {G} {A} held old new n b w v k counts agenda arrived onward =
-    let grown = more_verdicts b w v in
+kept_ruled : {G A : Type 0} (held : G → ℕ → Option ℕ) (old new : RelayState G A) (n : ℕ) (b : Bool) (w : TableState) (v : Verdict) (o : Origin) → IsKept held old n w → count_all (is_of n) new.ports ≡ count_all (is_of n) old.ports → new.ports.agenda ≡ old.ports.agenda → new.arrived ≡ old.arrived → old.earliest ≤ new.earliest → IsKept held new n (if b then judged w v o else w)
+kept_ruled {G} {A} held old new n b w v o k counts agenda arrived onward =
+    let grown = more_verdicts b w v o in
     let left : (d : Departure) → In d w.departures → (d.start < new.earliest) × ((q u : ℕ) → held new.ports.agenda q ≡ Some u → (d.start < u) ⊎ ((d.start ≡ u) × (d.port < q))) = λ d i. let z = k.left d i in ((let y = z.0 in omega arith), subst (λ (a : G). (q u : ℕ) → held a q ≡ Some u → (d.start < u) ⊎ ((d.start ≡ u) × (d.port < q))) (sym agenda) z.1) in
-    let heard : (d : Dropped) → In d w.drops → d.own ≤ length (if b then judged w v else w).verdicts = λ d i. let z = k.dropped d i in omega (arith, z, grown) in
+    let heard : (d : Dropped) → In d w.drops → d.own ≤ length (if b then judged w v o else w).verdicts = λ d i. let z = k.dropped d i in omega (arith, z, grown) in
     by_case b left heard where
-      by_case : (b : Bool) → ((d : Departure) → In d w.departures → (d.start < new.earliest) × ((q u : ℕ) → held new.ports.agenda q ≡ Some u → (d.start < u) ⊎ ((d.start ≡ u) × (d.port < q)))) → ((d : Dropped) → In d w.drops → d.own ≤ length (if b then judged w v else w).verdicts) → IsKept held new n (if b then judged w v else w)
+      by_case : (b : Bool) → ((d : Departure) → In d w.departures → (d.start < new.earliest) × ((q u : ℕ) → held new.ports.agenda q ≡ Some u → (d.start < u) ⊎ ((d.start ≡ u) × (d.port < q)))) → ((d : Dropped) → In d w.drops → d.own ≤ length (if b then judged w v o else w).verdicts) → IsKept held new n (if b then judged w v o else w)
       by_case true left heard = record { covered = let c = k.covered in omega (arith, counts, c); few = let f = k.few in omega arith; departures = k.departures; left = left; drops = k.drops; dropped = heard }
       by_case false left heard = record { covered = let c = k.covered in omega (arith, counts, c); few = let f = k.few in omega arith; departures = k.departures; left = left; drops = k.drops; dropped = heard }
 
-ruled_each : {G A : Type 0} (held : G → ℕ → Option ℕ) (old new : RelayState G A) (r : Option Ruling) (n : ℕ) (w : TableState) → new.tables ≡ judged_by r old.tables → lookup (nat_eq n) new.tables ≡ Some w → ((t : TableState) → lookup (nat_eq n) old.tables ≡ Some t → IsKept held old n t) → count_all (is_of n) new.ports ≡ count_all (is_of n) old.ports → new.ports.agenda ≡ old.ports.agenda → new.arrived ≡ old.arrived → old.earliest ≤ new.earliest → IsKept held new n w
-ruled_each held old new None n w tables found each counts agenda arrived onward = kept_ruled held old new n false w verdict.Blocked (each w (subst (λ (z : List (ℕ × TableState)). lookup (nat_eq n) z ≡ Some w) tables found)) counts agenda arrived onward
-ruled_each held old new (Some r) n w tables found each counts agenda arrived onward =
-    let c = changed (Some r.filter) (λ (t : TableState). judged t r.verdict) old.tables n w (subst (λ (z : List (ℕ × TableState)). lookup (nat_eq n) z ≡ Some w) tables found) in
-    subst (IsKept held new n) (sym c.is) (kept_ruled held old new n (nat_eq r.filter n) c.was r.verdict (each c.was c.there) counts agenda arrived onward)
+ruled_each : {G A : Type 0} (held : G → ℕ → Option ℕ) (old new : RelayState G A) (o : Origin) (r : Option Ruling) (n : ℕ) (w : TableState) → new.tables ≡ judged_by o r old.tables → lookup (nat_eq n) new.tables ≡ Some w → ((t : TableState) → lookup (nat_eq n) old.tables ≡ Some t → IsKept held old n t) → count_all (is_of n) new.ports ≡ count_all (is_of n) old.ports → new.ports.agenda ≡ old.ports.agenda → new.arrived ≡ old.arrived → old.earliest ≤ new.earliest → IsKept held new n w
+ruled_each held old new o None n w tables found each counts agenda arrived onward = kept_ruled held old new n false w verdict.Blocked o (each w (subst (λ (z : List (ℕ × TableState)). lookup (nat_eq n) z ≡ Some w) tables found)) counts agenda arrived onward
+ruled_each held old new o (Some r) n w tables found each counts agenda arrived onward =
+    let c = changed (Some r.filter) (λ (t : TableState). judged t r.verdict o) old.tables n w (subst (λ (z : List (ℕ × TableState)). lookup (nat_eq n) z ≡ Some w) tables found) in
+    subst (IsKept held new n) (sym c.is) (kept_ruled held old new n (nat_eq r.filter n) c.was r.verdict o (each c.was c.there) counts agenda arrived onward)
 
-there_judged : (r : Option Ruling) (tables : List (ℕ × TableState)) (n : ℕ) → is_there n (judged_by r tables) ≡ is_there n tables
-there_judged None tables n = refl
-there_judged (Some r) tables n = changed_there (Some r.filter) (λ (t : TableState). judged t r.verdict) tables n
+there_judged : (o : Origin) (r : Option Ruling) (tables : List (ℕ × TableState)) (n : ℕ) → is_there n (judged_by o r tables) ≡ is_there n tables
+there_judged o None tables n = refl
+there_judged o (Some r) tables n = changed_there (Some r.filter) (λ (t : TableState). judged t r.verdict o) tables n
 
 -- everything that a relay keeps it keeps where a frame is policed
 pub sound_ruled : {G A : Type 0} (held : G → ℕ → Option ℕ) (old new : RelayState G A) (q : ℕ) (s : Slot A) (c : verdicts.Call) (r : Option Ruling) → IsSound held old → IsFresh old → HasRuled old new q s c r → slot_at old.ports q ≡ Some s → 1 ≤ q → old.earliest ≤ c.at → IsSound held new
@@ -94,12 +95,12 @@ sound_ruled {G} {A} held old new q s c r sound fresh h there low onward =
           (λ y. let e = fresh.frames q s low there in let f = frames_of s.count v in subst (λ (z : Slot A). z.count.frames ≤ new.arrived) (passed_here old new q s v h.slots there k w y at) (omega (arith, e, f, same)))
           (λ y. let e = sound.frames k w l (sym (passed_there old new q s v h.slots low k l y) ∙ at) in omega (arith, e, same));
       right = let z = count_passed old new q s v h.slots there (is_wrong old.plan.filters) in rw h.plan (z ∙ sound.right);
-      there = λ n i. subst (λ (z : List (ℕ × TableState)). IsTrue (is_there n z)) (sym h.tables) (subst IsTrue (sym (there_judged r old.tables n)) (sound.there n (subst (λ (p : Plan A). IsTrue (is_there n p.filters)) h.plan i)));
-      each = λ n w found. ruled_each held old new r n w h.tables found (sound.each n) (count_passed old new q s v h.slots there (is_of n)) h.agenda same (omega (arith, time, onward));
+      there = λ n i. subst (λ (z : List (ℕ × TableState)). IsTrue (is_there n z)) (sym h.tables) (subst IsTrue (sym (there_judged (came_on q c.at) r old.tables n)) (sound.there n (subst (λ (p : Plan A). IsTrue (is_there n p.filters)) h.plan i)));
+      each = λ n w found. ruled_each held old new (came_on q c.at) r n w h.tables found (sound.each n) (count_passed old new q s v h.slots there (is_of n)) h.agenda same (omega (arith, time, onward));
     }
 
 -- a frame was policed, by the parts of the relay
-pub has_ruled : {G A : Type 0} (old : RelayState G A) (police : filter.PoliceState A) (ports : PortsState G A) (tables : List (ℕ × TableState)) (q : ℕ) (s : Slot A) (t len octets : ℕ) (sees : Seen) (r : Option Ruling) → octets ≡ metered len → ((p : verdicts.Plans) (es : List verdicts.Event) → filter.Stands p old.police es → filter.Stands p police (verdicts.Came (verdicts.call t sees.handle sees.priority sees.dei sees.sdu octets) ∷ es)) → ((p : verdicts.Plans) (es : List verdicts.Event) → filter.Stands p old.police es → r ≡ verdicts.ruled (verdicts.judged p (verdicts.told p es) (verdicts.call t sees.handle sees.priority sees.dei sees.sdu octets) (verdicts.flow p.filters (verdicts.call t sees.handle sees.priority sees.dei sees.sdu octets)))) → option_map (λ (x : Ruling). x.filter) r ≡ option_map (λ (f : ℕ × FilterPlan). f.0) (verdicts.flow old.police.filters (verdicts.call t sees.handle sees.priority sees.dei sees.sdu octets)) → old.police.filters ≡ old.plan.filters → police.filters ≡ old.police.filters → KeepsNumbers old.police.gates police.gates → KeepsNumbers old.police.meters police.meters → police.calls ≡ old.police.calls + 1 → police.earliest ≡ t → ports.slots ≡ slice_set old.ports.slots (q - 1) (Some (counting s (came_as r))) → ports.agenda ≡ old.ports.agenda → tables ≡ judged_by r old.tables → HasRuled old (record old { police = police; ports = ports; tables = tables; earliest = t }) q s (called t len sees) r
+pub has_ruled : {G A : Type 0} (old : RelayState G A) (police : filter.PoliceState A) (ports : PortsState G A) (tables : List (ℕ × TableState)) (q : ℕ) (s : Slot A) (t len octets : ℕ) (sees : Seen) (r : Option Ruling) → octets ≡ metered len → ((p : verdicts.Plans) (es : List verdicts.Event) → filter.Stands p old.police es → filter.Stands p police (verdicts.Came (verdicts.call t sees.handle sees.priority sees.dei sees.sdu octets) ∷ es)) → ((p : verdicts.Plans) (es : List verdicts.Event) → filter.Stands p old.police es → r ≡ verdicts.ruled (verdicts.judged p (verdicts.told p es) (verdicts.call t sees.handle sees.priority sees.dei sees.sdu octets) (verdicts.flow p.filters (verdicts.call t sees.handle sees.priority sees.dei sees.sdu octets)))) → option_map (λ (x : Ruling). x.filter) r ≡ option_map (λ (f : ℕ × FilterPlan). f.0) (verdicts.flow old.police.filters (verdicts.call t sees.handle sees.priority sees.dei sees.sdu octets)) → old.police.filters ≡ old.plan.filters → police.filters ≡ old.police.filters → KeepsNumbers old.police.gates police.gates → KeepsNumbers old.police.meters police.meters → police.calls ≡ old.police.calls + 1 → police.earliest ≡ t → ports.slots ≡ slice_set old.ports.slots (q - 1) (Some (counting s (came_as r))) → ports.agenda ≡ old.ports.agenda → tables ≡ judged_by (came_on q t) r old.tables → HasRuled old (record old { police = police; ports = ports; tables = tables; earliest = t }) q s (called t len sees) r
 has_ruled {G} {A} old police ports tables q s t len octets sees r counted stands answer number listed filters gates meters calls earliest slots agenda told = record {
   slots = slots;
   agenda = agenda;

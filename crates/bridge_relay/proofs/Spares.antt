@@ -22,8 +22,8 @@ use Rattle.bridge_run.specs.Runs.{IsTold, AtPort}
 use Rattle.bridge_parts.specs.declared.slot.Slot.{Slot}
 use Rattle.bridge_parts.specs.Tables.{TableState, change, change_if, judged, promised, released, IsOpen, OwesSo}
 use Rattle.bridge_parts.specs.Ports.{slot_in, slot_at, goes_out, outs, is_there as is_port}
-use Rattle.bridge_relay.specs.Relays.{RelayState, IsSound, IsKept, HasSpare, Stands, count_all, is_flow, is_flow_stray, is_of, seen}
-use Rattle.bridge_relay.specs.Relaying.{Carries, CountTheSame, HasCopies, HasRuled, IsFresh, IsPending, IsOffering, MayRelay, came_as, judged_by, one_less, releasing}
+use Rattle.bridge_relay.specs.Relays.{RelayState, IsSound, IsKept, HasSpare, Stands, written, count_all, is_flow, is_flow_stray, is_of, seen}
+use Rattle.bridge_relay.specs.Relaying.{Carries, CountTheSame, HasCopies, HasRuled, IsFresh, IsPending, IsOffering, MayRelay, came_as, came_on, judged_by, one_less, releasing}
 use Rattle.bridge_relay.proofs.Sound.{changed, changed_there, found_some}
 use Rattle.bridge_relay.proofs.Passing.{counting, passed_here, passed_there, count_passed}
 use Rattle.bridge_parts.proofs.Porting.{below, set_here}
@@ -38,7 +38,7 @@ some_is a b h = cc
 abbrev pub promising : {G A : Type 0} → RelayState G A → Option ℕ → ℕ → RelayState G A
 promising b filter k = record b { arrived = b.arrived + 1; tables = change_if filter (λ t. promised t k) b.tables }
 
-verdicts_promised : (b : Bool) (t : TableState) (k : ℕ) → (if b then promised t k else t).verdicts ≡ t.verdicts
+verdicts_promised : (b : Bool) (t : TableState) (k : ℕ) → written (if b then promised t k else t) ≡ written t
 verdicts_promised true t k = refl
 verdicts_promised false t k = refl
 
@@ -60,7 +60,7 @@ stands_promised {G} {A} p b filter k es left st = record {
   offers = st.offers;
   verdicts = λ n t found.
       let c = changed filter (λ (v : TableState). promised v k) b.tables n t found in
-      ap (λ (v : TableState). v.verdicts) c.is ∙ (verdicts_promised (is_flow filter n) c.was k ∙ st.verdicts n c.was c.there);
+      ap written c.is ∙ (verdicts_promised (is_flow filter n) c.was k ∙ st.verdicts n c.was c.there);
   told = λ n t found.
       let c = changed filter (λ (v : TableState). promised v k) b.tables n t found in
       subst (λ (v : TableState). IsTold p n (AtPort (seen st.lists)) v.departures v.drops v.delay) (sym c.is) (told_promised p (seen st.lists) n (is_flow filter n) c.was k (st.told n c.was c.there));
@@ -128,8 +128,8 @@ pending_ruled held old new q s c r k own sound h there spare numbered =
     let is = numbered t spare.1 in
     let grown = longer_end t.verdicts r.verdict in
     record {
-      table = judged t r.verdict;
-      there = subst (λ (z : List (ℕ × TableState)). lookup (nat_eq r.filter) z ≡ Some (judged t r.verdict)) (sym h.tables) (change_finds r.filter (λ (v : TableState). judged v r.verdict) old.tables t spare.1);
+      table = judged t r.verdict (came_on q c.at);
+      there = subst (λ (z : List (ℕ × TableState)). lookup (nat_eq r.filter) z ≡ Some (judged t r.verdict (came_on q c.at))) (sym h.tables) (change_finds r.filter (λ (v : TableState). judged v r.verdict (came_on q c.at)) old.tables t spare.1);
       spare = let z = spare.2 in let y = count_passed old new q s (came_as (Some r)) h.slots there (is_of r.filter) in omega (arith, z, y);
       heard = omega (arith, is, grown);
       later = λ d i. let z = (sound.each r.filter t spare.1).dropped d i in inl (omega (arith, z, is));
@@ -186,7 +186,7 @@ told_released : {A : Type 0} (p : Plan A) (lists : ℕ → List (Copy Carried)) 
 told_released p lists n true t k h = h
 told_released p lists n false t k h = h
 
-verdicts_released : (b : Bool) (t : TableState) (k : ℕ) → (if b then released t k else t).verdicts ≡ t.verdicts
+verdicts_released : (b : Bool) (t : TableState) (k : ℕ) → written (if b then released t k else t) ≡ written t
 verdicts_released true t k = refl
 verdicts_released false t k = refl
 
@@ -211,6 +211,6 @@ after_released b n k = record {
   arrived = refl;
   verdicts = λ m t found.
       let c = changed (Some n) (λ (v : TableState). released v k) b.tables m t found in
-      (c.was, c.there, ap (λ (v : TableState). v.verdicts) c.is ∙ verdicts_released (nat_eq n m) c.was k);
+      (c.was, c.there, ap written c.is ∙ verdicts_released (nat_eq n m) c.was k);
   counted = λ q s l at. (s, at, record { frames = refl; malformed = refl; nowhere = refl; unfiltered = refl });
 }

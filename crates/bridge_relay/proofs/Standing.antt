@@ -32,7 +32,7 @@ use Rattle.bridge_parts.specs.declared.slot.Begun as slot
 use Rattle.bridge_parts.specs.Slots.{started_slot}
 use Rattle.bridge_parts.specs.Tables.{TableState, change_if, departed, longer}
 use Rattle.bridge_parts.specs.Ports.{PortsState, slot_in, slot_at, HasStarted}
-use Rattle.bridge_relay.specs.Relays.{RelayState, HasLeft, Stands, IsSound, is_flow, seen}
+use Rattle.bridge_relay.specs.Relays.{RelayState, HasLeft, Stands, IsSound, written, is_flow, seen}
 use Rattle.bridge_parts.specs.Ports.{AreAlike, IsMade}
 use Rattle.bridge_parts.proofs.Porting.{below, set_here, set_there}
 use Rattle.bridge_relay.proofs.Sound.{changed}
@@ -83,7 +83,7 @@ if_true b x y t e h = rw e at h
 if_false : (b : Bool) (x y : TableState) (t : TableState) → b ≡ false → t ≡ (if b then x else y) → t ≡ y
 if_false b x y t e h = rw e at h
 
-verdicts_by : (b : Bool) (t : TableState) (d : Departure) (n : ℕ) → (if b then departed t d n else t).verdicts ≡ t.verdicts
+verdicts_by : (b : Bool) (t : TableState) (d : Departure) (n : ℕ) → written (if b then departed t d n else t) ≡ written t
 verdicts_by true t d n = refl
 verdicts_by false t d n = refl
 
@@ -139,7 +139,7 @@ stands_started {G} {A} held old ports tables earliest q k s c d delay sound soun
       offers = offers_now;
       verdicts = λ n t found.
           let r = changed c.item.load.flow (λ (v : TableState). departed v d delay) old.tables n t (subst (λ (z : List (ℕ × TableState)). lookup (nat_eq n) z ≡ Some t) told found) in
-          ap (λ (v : TableState). v.verdicts) r.is ∙ (verdicts_by (is_flow c.item.load.flow n) r.was d delay ∙ st.verdicts n r.was r.there);
+          ap written r.is ∙ (verdicts_by (is_flow c.item.load.flow n) r.was d delay ∙ st.verdicts n r.was r.there);
       told = λ n t found.
           let r = changed c.item.load.flow (λ (v : TableState). departed v d delay) old.tables n t (subst (λ (z : List (ℕ × TableState)). lookup (nat_eq n) z ≡ Some t) told found) in
           told_by p n q c.class k (carried c.item) (seen st.lists) (seen lists) out d delay r.was t at

@@ -11,6 +11,7 @@ use Rattle.bridge_parts.specs.Tables.{TableState}
 -- what a table tells is shown
 pub record ShowsTable {A : Type 0} (t : TableState) (v : View A) : Type 0 where
   pub verdicts : v.verdicts.items ≡ t.verdicts
+  pub origins : v.origins.items ≡ t.origins
   pub departures : v.departures.items ≡ t.departures
   pub drops : v.drops.items ≡ t.drops
   pub delay : v.delay ≡ t.delay

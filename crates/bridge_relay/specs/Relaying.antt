@@ -23,6 +23,7 @@ use Rattle.bridge_port.specs.Schedule.{Copy}
 use Rattle.bridge_port.specs.Standing.{StandsFor, refusal_of, copy_of, count_queued}
 use Rattle.bridge_run.specs.declared.load.Load.{Load}
 use Rattle.bridge_run.specs.declared.outcome.Dropped.{Dropped}
+use Rattle.bridge_run.specs.declared.outcome.Origin.{Origin}
 use Rattle.bridge_run.specs.declared.outcome.PortCount.{PortCount}
 use Rattle.bridge_run.specs.declared.way.Way.{Way}
 use Rattle.bridge_run.specs.declared.way.Way.TheVariants.{Malformed, Nowhere, Goes}
@@ -34,7 +35,7 @@ use Rattle.bridge_parts.specs.Tables.{TableState, after_answer, change, judged, 
 use Rattle.bridge_run.specs.Events.{metered}
 use Rattle.bridge_relay.specs.declared.relay.Seen.{Seen}
 use Rattle.bridge_parts.specs.Ports.{PortsState, slot_in, slot_at, goes_out, outs, is_there, NotBefore}
-use Rattle.bridge_relay.specs.Relays.{RelayState, HasLeft, IsSound, count_all, is_of, is_flow_stray, seen}
+use Rattle.bridge_relay.specs.Relays.{RelayState, HasLeft, IsSound, written, count_all, is_of, is_flow_stray, seen}
 
 abbrev pub HasWayPriority : Way → Type 0
 HasWayPriority (Goes set handle priority dei sdu) = priority ≤ 7
@@ -117,7 +118,7 @@ pub record IsOffering {G A : Type 0} (held : G → ℕ → Option ℕ) (first no
   pub pending : IfSome x.flow (IsPending now left x.own k)
   pub ahead : (q : ℕ) → k ≤ q → slot_at now.ports q ≡ slot_at first.ports q
   pub there : (q : ℕ) → 1 ≤ q → is_there (slot_at now.ports q) ≡ is_there (slot_at first.ports q)
-  pub verdicts : (n : ℕ) (t : TableState) → lookup (nat_eq n) now.tables ≡ Some t → (w : TableState) × (lookup (nat_eq n) first.tables ≡ Some w) × (t.verdicts ≡ w.verdicts)
+  pub verdicts : (n : ℕ) (t : TableState) → lookup (nat_eq n) now.tables ≡ Some t → (w : TableState) × (lookup (nat_eq n) first.tables ≡ Some w) × (written t ≡ written w)
   pub counted : (q : ℕ) (s : Slot A) → 1 ≤ q → slot_at now.ports q ≡ Some s → (w : Slot A) × (slot_at first.ports q ≡ Some w) × CountTheSame s.count w.count
   pub carries : (os : ℕ → PortPlan A → List Offer) (left : ℕ → List Captured) → Carries first.plan first os left → Carries first.plan now (offers_below set k priority x os) left
 
@@ -151,10 +152,14 @@ abbrev pub came_as : Option Ruling → Came
 came_as None = came.Unfiltered
 came_as (Some r) = came.Policed
 
--- the tables once a frame was policed
-abbrev pub judged_by : Option Ruling → List (ℕ × TableState) → List (ℕ × TableState)
-judged_by None tables = tables
-judged_by (Some r) tables = change r.filter (λ t. judged t r.verdict) tables
+-- where a frame came
+abbrev pub came_on : ℕ → ℕ → Origin
+came_on port at = record { port = port; at = at }
+
+-- the tables once a frame was policed that came there
+abbrev pub judged_by : Origin → Option Ruling → List (ℕ × TableState) → List (ℕ × TableState)
+judged_by o None tables = tables
+judged_by o (Some r) tables = change r.filter (λ t. judged t r.verdict o) tables
 
 -- a frame's number among those of its filter
 abbrev pub IsNumbered : List (ℕ × TableState) → Option Ruling → Option (Ruling × ℕ) → Type 0
@@ -172,7 +177,7 @@ pub record IsFresh {G A : Type 0} (b : RelayState G A) : Type 0 where
 pub record HasRuled {G A : Type 0} (old new : RelayState G A) (q : ℕ) (s : Slot A) (c : verdicts.Call) (r : Option Ruling) : Type 0 where
   pub slots : new.ports.slots ≡ slice_set old.ports.slots (q - 1) (Some (record s { count = counted_frame s.count (came_as r) }))
   pub agenda : new.ports.agenda ≡ old.ports.agenda
-  pub tables : new.tables ≡ judged_by r old.tables
+  pub tables : new.tables ≡ judged_by (came_on q c.at) r old.tables
   pub plan : new.plan ≡ old.plan
   pub streams : new.streams ≡ old.streams
   pub police : (p : verdicts.Plans) (es : List verdicts.Event) → filter.Stands p old.police es → filter.Stands p new.police (verdicts.Came c ∷ es)

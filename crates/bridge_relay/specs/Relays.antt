@@ -7,6 +7,7 @@ use Rattle.bridge_base.specs.Members.{In}
 use Rattle.bridge_base.specs.declared.TheConstants.{MOST_ARRIVALS}
 use Rattle.bridge_ident.specs.declared.StreamEntry.{StreamEntry}
 use Rattle.bridge_filter.specs.declared.FilterPlan.{FilterPlan}
+use Rattle.bridge_filter.specs.declared.Verdict.{Verdict}
 use Rattle.bridge_filter.specs.Plans.{is_there, KeepsNumbers}
 use Rattle.bridge_filter.specs.Counts.{verdicts_of}
 use Rattle.bridge_filter.specs.Standing as filter
@@ -21,7 +22,8 @@ use Rattle.bridge_check.specs.Acceptable.{IsAcceptable}
 use Rattle.bridge_run.specs.declared.load.Load.{Load}
 use Rattle.bridge_run.specs.declared.outcome.Departure.{Departure}
 use Rattle.bridge_run.specs.declared.outcome.Dropped.{Dropped}
-use Rattle.bridge_run.specs.Events.{Event, arrivals, calls, police_of, steps}
+use Rattle.bridge_run.specs.declared.outcome.Origin.{Origin}
+use Rattle.bridge_run.specs.Events.{Event, arrivals, calls, origins_of, police_of, steps}
 use Rattle.bridge_run.specs.Offers.{Carried, carried, offers, offered}
 use Rattle.bridge_run.specs.Outputs.{IsOutput}
 use Rattle.bridge_base.specs.Members.{Rising}
@@ -118,6 +120,14 @@ pub record HasLeft {A : Type 0} (s : Slot A) (copies : List (Copy Carried)) (lef
   pub before : (d : Captured) → In d left → d.time ≤ s.port.free
   pub many : s.port.started ≡ length left
 
+-- what a table has of a filter's frames: their verdicts, and where they came
+abbrev pub written : TableState → List Verdict × List Origin
+written t = (t.verdicts, t.origins)
+
+-- what events give of a filter's frames: their verdicts, and where they came
+abbrev pub written_of : {A : Type 0} → Plan A → ℕ → List Event → List Verdict × List Origin
+written_of p n es = (verdicts_of n (steps p es), origins_of p n es)
+
 -- the relay after these events, when these frames have left its ports: its filters for their frames, each port for some copies with their offers, each table for what these tell
 pub record Stands {G A : Type 0} (p : Plan A) (b : RelayState G A) (es : List Event) (left : ℕ → List Captured) : Type 0 where
   pub plan : b.plan ≡ p
@@ -126,7 +136,7 @@ pub record Stands {G A : Type 0} (p : Plan A) (b : RelayState G A) (es : List Ev
   pub others : (q : ℕ) → port_at p.ports q ≡ None → lists q ≡ []
   pub each : (q : ℕ) (s : Slot A) → 1 ≤ q → slot_at b.ports q ≡ Some s → StandsFor s.port (lists q)
   pub offers : (q : ℕ) (out : PortPlan A) → port_at p.ports q ≡ Some out → offered (seen lists q) ≡ offers p out es
-  pub verdicts : (n : ℕ) (t : TableState) → lookup (nat_eq n) b.tables ≡ Some t → t.verdicts ≡ verdicts_of n (steps p es)
+  pub verdicts : (n : ℕ) (t : TableState) → lookup (nat_eq n) b.tables ≡ Some t → written t ≡ written_of p n es
   pub told : (n : ℕ) (t : TableState) → lookup (nat_eq n) b.tables ≡ Some t → IsTold p n (AtPort (seen lists)) t.departures t.drops t.delay
   pub counts : (q : ℕ) (s : Slot A) → 1 ≤ q → slot_at b.ports q ≡ Some s → IsCount p es q (seen lists q) s.count
   pub leaves : (q : ℕ) (s : Slot A) → 1 ≤ q → slot_at b.ports q ≡ Some s → HasLeft s (seen lists q) (left q)

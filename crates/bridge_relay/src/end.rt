@@ -42,6 +42,7 @@ fn view_of<A: Allocator + Copy>(
 {
     let Told {
         verdicts,
+        origins,
         departures,
         drops,
         delay,
@@ -49,6 +50,7 @@ fn view_of<A: Allocator + Copy>(
     View {
         protected,
         verdicts,
+        origins,
         counters: police.counters(number),
         flags: police.flags(number),
         buckets: police.buckets(number),

@@ -39,7 +39,7 @@ use bridge_parts::copies::{copies_of, leave, spare_all};
 use bridge_parts::tables::{depart, judge, note, promise, release};
 use bridge_parts::{Begun, Came, Ports, Tables};
 use bridge_port::Item;
-use bridge_run::{Departure, Load, Way};
+use bridge_run::{Departure, Load, Origin, Way};
 use std::alloc::Allocator;
 use std::marker::Model;
 
@@ -389,8 +389,8 @@ impl<'a, G: Agenda + Drop, A: Allocator + Copy> Relay<'a, G, A> {
         self.earliest = t;
     }
 
-    /// Polices a frame that came on a port by the filter that was found for it, counts it there, and writes its verdict down:
-    /// the answer of its filter and its number among that filter's frames.
+    /// Polices a frame that came on a port by the filter that was found for it, counts it there, and writes down its verdict
+    /// and where it came: the answer of its filter and its number among that filter's frames.
     #[inline(always)]
     fn rule(
         &mut self,
@@ -428,7 +428,8 @@ impl<'a, G: Agenda + Drop, A: Allocator + Copy> Relay<'a, G, A> {
             }
             Some(ruling) => {
                 self.ports.count(port, Came::Policed);
-                let own = judge(&mut self.tables, ruling.filter, ruling.verdict);
+                let origin = Origin { port, at: time };
+                let own = judge(&mut self.tables, ruling.filter, ruling.verdict, origin);
                 Some((ruling, own))
             }
         }

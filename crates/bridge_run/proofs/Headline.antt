@@ -1,5 +1,5 @@
 -- What a run tells of a protected filter, its own events alone tell.
-use Rattle.std.proofs.Common.{◌≡◌, ℕ, true, List, [], ◌∷◌, ◌++◌, refl, ap, ◌∙◌, sym, subst, ◌⊎◌, inl, inr, Option, Some, None}
+use Rattle.std.proofs.Common.{◌≡◌, ℕ, true, List, [], ◌∷◌, ◌++◌, refl, ap, append-nil, ◌∙◌, sym, subst, ◌⊎◌, inl, inr, Option, Some, None}
 use Rattle.std.specs.Prelude.{nat_eq}
 use Rattle.std.specs.Map.{lookup}
 use Rattle.std.proofs.lemmas.Option.{same_Some}
@@ -23,7 +23,7 @@ use Rattle.bridge_check.specs.Acceptable.{IsAcceptable}
 use Rattle.bridge_check.specs.Reach.{reaches}
 use Rattle.bridge_run.specs.declared.outcome.View.{View}
 use Rattle.bridge_run.specs.declared.outcome.Outcome.{Outcome}
-use Rattle.bridge_run.specs.Events.{Arrival, Event, Arrived, Cleared, police_of, call_of, calls, steps, flow_of, own}
+use Rattle.bridge_run.specs.Events.{Arrival, Event, Arrived, Cleared, police_of, call_of, calls, steps, flow_of, origins_of, own}
 use Rattle.bridge_run.specs.Offers.{Carried, Offer, egress, offer_of, offers, offered, in_class}
 use Rattle.bridge_run.specs.Runs.{Delayed, IsView, IsRun, AreWhole, AtPort, IsOutcome, AreSolo, AreOwnQueues, IsSoloView, TellTheSame}
 use Rattle.bridge_run.proofs.Views.{departs_as, drops_as, delayed_as, greatest_as, told_once}
@@ -162,14 +162,25 @@ lies_by p s f safe es moments lists run q x (Some out) at e i =
 
 -- VIEWS
 
+-- where a filter's frames came its own events tell
+pub origins_own : {A : Type 0} (p : Plan A) (s : ℕ) (f : FilterPlan) (es : List Event) → origins_of p s (own p s f es) ≡ origins_of p s es
+origins_own p s f [] = refl
+origins_own p s f (Cleared clear n ∷ es) = by_bool (is_named s f clear n) (λ k. rw k (origins_own p s f es)) (λ k. rw k (origins_own p s f es))
+origins_own p s f (Arrived a ∷ es) = by_bool (is_number s (flow_of p a))
+    (λ k. rw (k, k, origins_own p s f es) refl)
+    (λ k. rw k (origins_own p s f es ∙ sym (append-nil (origins_of p s es))))
+
 -- what is told of a filter changes with neither the steps nor the copies of others
-pub view_as : {A : Type 0} (p : Plan A) (s : ℕ) (f : FilterPlan) → IsApart (police_of p) s f → (ss ts : List Step) → AreListed (police_of p) ss → ts ≡ own_steps s f ss → (P Q : ℕ → Copy Carried → Type 0) → ((q : ℕ) (x : Copy Carried) → x.item.flow ≡ Some s → P q x → Q q x) → ((q : ℕ) (x : Copy Carried) → x.item.flow ≡ Some s → Q q x → P q x) → (v : View A) → IsView p s f ss P v → IsView p s f ts Q v
-view_as {A} p s f a ss ts l e P Q to from v h =
+pub view_as : {A : Type 0} (p : Plan A) (s : ℕ) (f : FilterPlan) → IsApart (police_of p) s f → (es fs : List Event) → AreListed (police_of p) (steps p es) → steps p fs ≡ own_steps s f (steps p es) → origins_of p s fs ≡ origins_of p s es → (P Q : ℕ → Copy Carried → Type 0) → ((q : ℕ) (x : Copy Carried) → x.item.flow ≡ Some s → P q x → Q q x) → ((q : ℕ) (x : Copy Carried) → x.item.flow ≡ Some s → Q q x → P q x) → (v : View A) → IsView p s f es P v → IsView p s f fs Q v
+view_as {A} p s f a es fs l e came P Q to from v h =
+    let ss : List Step = steps p es in
+    let ts : List Step = steps p fs in
     let vs : verdicts_of s ts ≡ verdicts_of s ss = ap (verdicts_of s) e ∙ verdicts_own s f ss in
     let t = h.told in
     record {
       protected = h.protected;
       verdicts = h.verdicts ∙ sym vs;
+      origins = h.origins ∙ sym came;
       counters = h.counters ∙ ap counters_of (sym vs);
       flags = h.flags ∙ sym (ap (flags_of (police_of p) s f) e ∙ flags_own (police_of p) s f a ss l);
       buckets = h.buckets ∙ sym (ap (buckets_by (police_of p) f.meter) e ∙ buckets_own (police_of p) s f a ss l f.meter refl);
@@ -237,7 +248,7 @@ run_alone {A} p s f safe es lists o out v found =
     record {
       lists = own_lists;
       solo = solo_queues p s f safe es out.moments lists out.run out.whole;
-      view = view_as p s f (apart p s f safe) (steps p es) (steps p (own p s f es)) (told_listed (police_of p) (calls p es)) (steps_own p s f (apart p s f safe) es) P Q to from v (out.views s f v listed found);
+      view = view_as p s f (apart p s f safe) es (own p s f es) (told_listed (police_of p) (calls p es)) (steps_own p s f (apart p s f safe) es) (origins_own p s f es) P Q to from v (out.views s f v listed found);
     }
 
 pub protected_alone : {A : Type 0} (p : Plan A) (n : ℕ) (f : FilterPlan) (es : List Event) (lists : ℕ → List (Copy Carried)) (o : Outcome A) (v : View A) → IsPlan p → IsAcceptable p → In (n, f) p.filters → f.protected ≡ true → IsOutcome p es lists o → lookup (nat_eq n) o.filters.items ≡ Some v → IsSoloView p n f (own p n f es) v

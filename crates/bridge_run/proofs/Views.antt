@@ -105,6 +105,7 @@ told_once {A} p s f es u v a b =
     record {
       protected = a.view.protected ∙ sym b.view.protected;
       verdicts = a.view.verdicts ∙ sym b.view.verdicts;
+      origins = a.view.origins ∙ sym b.view.origins;
       counters = a.view.counters ∙ sym b.view.counters;
       flags = a.view.flags ∙ sym b.view.flags;
       buckets = a.view.buckets ∙ sym b.view.buckets;

@@ -1,5 +1,5 @@
 -- What happens to a bridge, and what its stream filters see of it.
-use Rattle.std.specs.Prelude.{ℕ, Bool, ◌+◌, max, nat_eq, Option, Some, None, List, [], ◌∷◌, Result, Ok, Err, if◌then◌else◌}
+use Rattle.std.specs.Prelude.{ℕ, Bool, ◌+◌, ◌++◌, max, nat_eq, Option, Some, None, List, [], ◌∷◌, Result, Ok, Err, if◌then◌else◌}
 use Rattle.bridge_frame.specs.declared.Head.{Head}
 use Rattle.bridge_frame.specs.declared.FrameFault.{FrameFault}
 use Rattle.bridge_frame.specs.Frames.{head}
@@ -14,6 +14,7 @@ use Rattle.bridge_config.specs.declared.ports.PortPlan.{PortPlan}
 use Rattle.bridge_config.specs.Model.{Plan}
 use Rattle.bridge_config.specs.Rules.{port_at}
 use Rattle.bridge_check.specs.Sending.{vid_of, priority_of, is_eligible}
+use Rattle.bridge_run.specs.declared.outcome.Origin.{Origin}
 use Rattle.bridge_run.specs.declared.way.Way.{Way}
 use Rattle.bridge_run.specs.declared.way.Way.TheVariants.{Malformed, Nowhere, Goes}
 
@@ -102,6 +103,16 @@ abbrev pub count : {A : Type 0} → Plan A → ℕ → List Event → ℕ
 count p n [] = 0
 count p n (Arrived a ∷ es) = (if is_number n (flow_of p a) then 1 else 0) + count p n es
 count p n (Cleared clear m ∷ es) = count p n es
+
+-- where a frame came
+abbrev pub origin : Arrival → Origin
+origin a = record { port = a.port; at = a.at }
+
+-- where each frame of a filter came, the oldest first
+abbrev pub origins_of : {A : Type 0} → Plan A → ℕ → List Event → List Origin
+origins_of p n [] = []
+origins_of p n (Arrived a ∷ es) = origins_of p n es ++ (if is_number n (flow_of p a) then origin a ∷ [] else [])
+origins_of p n (Cleared clear m ∷ es) = origins_of p n es
 
 -- the frames that came, newest first
 abbrev pub arrivals : List Event → List Arrival

@@ -4,7 +4,6 @@ use Rattle.std.specs.Map.{lookup}
 use Rattle.bridge_frame.specs.Link.{occupied}
 use Rattle.bridge_base.specs.Members.{In, Rising}
 use Rattle.bridge_filter.specs.declared.FilterPlan.{FilterPlan}
-use Rattle.bridge_filter.specs.Verdicts as verdicts
 use Rattle.bridge_filter.specs.Counts.{verdicts_of, counters_of, flags_of, buckets_by}
 use Rattle.bridge_port.specs.declared.item.Refusal.{Refusal}
 use Rattle.bridge_port.specs.declared.item.Refusal.TheVariants as refusal
@@ -20,7 +19,7 @@ use Rattle.bridge_run.specs.declared.outcome.Dropped.{Dropped}
 use Rattle.bridge_run.specs.declared.outcome.PortCount.{PortCount}
 use Rattle.bridge_run.specs.declared.outcome.View.{View}
 use Rattle.bridge_run.specs.declared.outcome.Outcome.{Outcome}
-use Rattle.bridge_run.specs.Events.{Arrival, Event, arrivals, way_of, flow_of, own as own_events, police_of, steps}
+use Rattle.bridge_run.specs.Events.{Arrival, Event, arrivals, way_of, flow_of, origins_of, own as own_events, police_of, steps}
 use Rattle.bridge_run.specs.Offers.{Carried, egress, offers, offered, in_class}
 
 -- by start, then by port
@@ -80,13 +79,14 @@ pub record IsTold {A : Type 0} (p : Plan A) (s : ℕ) (Lies : ℕ → Copy Carri
   pub drops_are : (d : Dropped) → In d drops ↔ Drops p s Lies d
   pub longest : IsGreatest (Delayed p s Lies) delay
 
--- what is told of a filter by what came of its events and where copies lie
-pub record IsView {A : Type 0} (p : Plan A) (s : ℕ) (f : FilterPlan) (ss : List verdicts.Step) (Lies : ℕ → Copy Carried → Type 0) (v : View A) : Type 0 where
+-- what is told of a filter by events and by where copies lie
+pub record IsView {A : Type 0} (p : Plan A) (s : ℕ) (f : FilterPlan) (es : List Event) (Lies : ℕ → Copy Carried → Type 0) (v : View A) : Type 0 where
   pub protected : v.protected ≡ f.protected
-  pub verdicts : v.verdicts.items ≡ verdicts_of s ss
-  pub counters : v.counters ≡ counters_of (verdicts_of s ss)
-  pub flags : v.flags ≡ flags_of (police_of p) s f ss
-  pub buckets : v.buckets ≡ buckets_by (police_of p) f.meter ss
+  pub verdicts : v.verdicts.items ≡ verdicts_of s (steps p es)
+  pub origins : v.origins.items ≡ origins_of p s es
+  pub counters : v.counters ≡ counters_of (verdicts_of s (steps p es))
+  pub flags : v.flags ≡ flags_of (police_of p) s f (steps p es)
+  pub buckets : v.buckets ≡ buckets_by (police_of p) f.meter (steps p es)
   pub told : IsTold p s Lies v.departures.items v.drops.items v.delay
 
 -- the copies of the ports, by number
@@ -146,7 +146,7 @@ pub record IsOutcome {A : Type 0} (p : Plan A) (es : List Event) (lists : ℕ �
   pub whole : AreWhole lists
   pub filters_rise : Rising (λ x y. x.0 < y.0) o.filters.items
   pub filters_are : (n : ℕ) → ((f : FilterPlan) × (lookup (nat_eq n) p.filters ≡ Some f)) ↔ ((v : View A) × (lookup (nat_eq n) o.filters.items ≡ Some v))
-  pub views : (n : ℕ) (f : FilterPlan) (v : View A) → lookup (nat_eq n) p.filters ≡ Some f → lookup (nat_eq n) o.filters.items ≡ Some v → IsView p n f (steps p es) (AtPort lists) v
+  pub views : (n : ℕ) (f : FilterPlan) (v : View A) → lookup (nat_eq n) p.filters ≡ Some f → lookup (nat_eq n) o.filters.items ≡ Some v → IsView p n f es (AtPort lists) v
   pub ports_rise : Rising (λ x y. x.0 < y.0) o.ports.items
   pub ports_are : (q : ℕ) → ((out : PortPlan A) × (port_at p.ports q ≡ Some out)) ↔ ((c : PortCount) × (lookup (nat_eq q) o.ports.items ≡ Some c))
   pub counts : (q : ℕ) (c : PortCount) → lookup (nat_eq q) o.ports.items ≡ Some c → IsCount p es q (lists q) c
@@ -167,12 +167,13 @@ pub record AreOwnQueues {A : Type 0} (p : Plan A) (n : ℕ) (f : FilterPlan) (es
 pub record IsSoloView {A : Type 0} (p : Plan A) (s : ℕ) (f : FilterPlan) (es : List Event) (v : View A) : Type 0 where
   pub lists : ℕ → ℕ → List (Copy Carried)
   pub solo : AreSolo p es lists
-  pub view : IsView p s f (steps p es) (λ q x. (c : ℕ) × In x (lists q c)) v
+  pub view : IsView p s f es (λ q x. (c : ℕ) × In x (lists q c)) v
 
 -- two views that tell the same
 pub record TellTheSame {A : Type 0} (u v : View A) : Type 0 where
   pub protected : u.protected ≡ v.protected
   pub verdicts : u.verdicts.items ≡ v.verdicts.items
+  pub origins : u.origins.items ≡ v.origins.items
   pub counters : u.counters ≡ v.counters
   pub flags : u.flags ≡ v.flags
   pub buckets : u.buckets ≡ v.buckets

@@ -14,7 +14,7 @@ judge-requires g c =
 pub returns-clause-told : goal.returns-clause-told
 returns-clause-told g c =
     let at = c.pair_mut-table in
-    change_at c.args.tables.now c.place_of-place.result at.result.0.now c.args.number (λ t. judged t c.args.verdict) at.result.1.now c.judge.new.self at.ensures.unique at.ensures.value c.place_of-place.ensures c.judge.ensures.told
+    change_at c.args.tables.now c.place_of-place.result at.result.0.now c.args.number (λ t. judged t c.args.verdict c.args.origin) at.result.1.now c.judge.new.self at.ensures.unique at.ensures.value c.place_of-place.ensures c.judge.ensures.told
 
 pub returns-clause-own : goal.returns-clause-own
 returns-clause-own g c = λ t is.
