@@ -1,7 +1,7 @@
 //! Reports into writers, writers that fail, and memory that runs out.
 use bridge_filter::{Counters, Flags, Verdict};
 use bridge_report::{ReportFault, has_section, report, section, summary, write_report};
-use bridge_run::{Departure, Outcome, View};
+use bridge_run::{Departure, Origin, Outcome, View};
 use fixture_alloc::RefusesOne;
 use fixture_bridge::same;
 use fixture_runs::runs::{CAUGHT, NO_FLAGS};
@@ -12,9 +12,11 @@ use std::test::Fail;
 /// What a run tells of one filter whose frames all passed and left port 1.
 fn told<A: Allocator + Copy>(alloc: A, frames: u64) -> Result<Outcome<A>, AllocError> {
     let mut verdicts = Vec::new(alloc);
+    let mut origins = Vec::new(alloc);
     let mut departures = Vec::new(alloc);
     for own in 0..frames {
         verdicts.push(CAUGHT)?;
+        origins.push(Origin { port: 2, at: own })?;
         departures.push(Departure {
             own,
             port: 1,
@@ -33,6 +35,7 @@ fn told<A: Allocator + Copy>(alloc: A, frames: u64) -> Result<Outcome<A>, AllocE
     let view = View {
         protected: false,
         verdicts,
+        origins,
         counters,
         flags: NO_FLAGS,
         buckets: None,

@@ -90,7 +90,7 @@ fn come_first<G: Agenda + Drop, H: Allocator + Copy + Tells>(
 {
     let made = heap.account();
     come(heap, accepted, bridge, 1, TO_ONE)?;
-    assert!(rt; made.left.saturating_sub(heap.account().left) == 4);
+    assert!(rt; made.left.saturating_sub(heap.account().left) == 5);
     leave_first(rt, heap, bridge);
     Ok(())
 }

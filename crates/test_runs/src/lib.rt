@@ -11,6 +11,8 @@ mod exchange;
 #[cfg(test)]
 mod foreign;
 #[cfg(test)]
+mod origins;
+#[cfg(test)]
 mod policing;
 #[cfg(test)]
 mod sections;
