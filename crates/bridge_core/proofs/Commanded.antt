@@ -10,12 +10,12 @@ use Rattle.bridge_config.specs.declared.ports.PortPlan.{PortPlan}
 use Rattle.bridge_config.specs.Model.{Plan}
 use Rattle.bridge_config.specs.Rules.{port_at}
 use Rattle.bridge_run.specs.Events.{Cleared}
-use Rattle.bridge_run.specs.Merge.{Input, frame, NotBefore, of_rank, IsMerged, events, inputs_of}
+use Rattle.bridge_run.specs.Merge.{Input, frame, NotBefore, of_rank, IsMerged, events, inputs_of, asked, commands_of, streams}
 use Rattle.bridge_relay.specs.Relays.{RelayState, Stands}
 use Rattle.bridge_lanes.specs.declared.lane.Lane.{Lane}
 use Rattle.bridge_lanes.specs.Lanes.{numbers}
 use Rattle.bridge_core.specs.Lines.{AreWritten}
-use Rattle.bridge_core.specs.Taking.{AreLater, asked, commands_of, Follows, HasTaken, IsUnderWay, MayTake, streams}
+use Rattle.bridge_core.specs.Taking.{AreLater, Follows, HasTaken, IsUnderWay, MayTake}
 use Rattle.bridge_core.proofs.Order.{in_order_next}
 use Rattle.bridge_core.proofs.Steps.{by_order}
 

@@ -9,8 +9,8 @@ use Rattle.bridge_config.specs.declared.ports.PortPlan.{PortPlan}
 use Rattle.bridge_config.specs.Model.{Plan}
 use Rattle.bridge_config.specs.Rules.{port_at}
 use Rattle.bridge_cycle.proofs.Cases.{by_bool}
-use Rattle.bridge_run.specs.Merge.{Input, frame, NotBefore, of_rank, IsMerged, inputs_of}
-use Rattle.bridge_core.specs.Taking.{Follows, streams, HasTaken}
+use Rattle.bridge_run.specs.Merge.{Input, frame, NotBefore, of_rank, IsMerged, inputs_of, streams}
+use Rattle.bridge_core.specs.Taking.{Follows, HasTaken}
 
 trans : (a b c : Input) → NotBefore a b → NotBefore b c → NotBefore a c
 trans a b c (inl l) (inl m) = inl (omega (arith, l, m))

@@ -10,12 +10,12 @@ use Rattle.bridge_config.specs.declared.command.Command.{Command}
 use Rattle.bridge_config.specs.Model.{Plan}
 use Rattle.bridge_config.specs.Commands.{has_instance, AreCommands}
 use Rattle.bridge_lanes.specs.declared.fault.RunFault.{RunFault}
-use Rattle.bridge_run.specs.Merge.{Input, events}
+use Rattle.bridge_run.specs.Merge.{Input, events, asked, commands_of}
 use Rattle.bridge_relay.specs.Relays.{RelayState}
 use Rattle.bridge_lanes.specs.declared.lane.Lane.{Lane}
 use Rattle.bridge_lanes.specs.Lanes.{numbers}
 use Rattle.bridge_core.specs.Lines.{AreWritten, Departs}
-use Rattle.bridge_core.specs.Taking.{AreLater, asked, commands_of, first_of_commands, HasGone, IsThrough, IsUnderWay, StopsAmong, StopsSo}
+use Rattle.bridge_core.specs.Taking.{AreLater, first_of_commands, HasGone, IsThrough, IsUnderWay, StopsAmong, StopsSo}
 use Rattle.bridge_core.proofs.Commanded.{commands_push}
 use Rattle.bridge_core.proofs.Steps.{depart_stops}
 

@@ -19,7 +19,7 @@ use Rattle.bridge_cycle.proofs.Cases.{by_bool}
 use Rattle.bridge_relay.specs.Relays.{RelayState, Stands}
 use Rattle.bridge_run.specs.declared.outcome.Outcome.{Outcome}
 use Rattle.bridge_run.specs.Events.{Event}
-use Rattle.bridge_run.specs.Merge.{Input, of_rank}
+use Rattle.bridge_run.specs.Merge.{Input, of_rank, commands_of, streams}
 use Rattle.bridge_run.specs.Outputs.{Ends}
 use Rattle.bridge_run.proofs.Headline.{protected_alone, two_runs}
 use Rattle.bridge_run.proofs.Merging.{own_ports}
@@ -32,7 +32,7 @@ use Rattle.bridge_lanes.proofs.Looks.{untaken}
 use Rattle.bridge_core.specs.Lines.{AreWritten, HeadersStop}
 use Rattle.bridge_core.specs.Simulated.{AreNumbers, BeginWell, Isolates, OthersChangeNothing, Runs, Stops, WantsMemory}
 use Rattle.bridge_capture.specs.declared.fault.CaptureFault.{CaptureFault}
-use Rattle.bridge_core.specs.Taking.{IsOfCapture, commands_of, Follows, IsThrough, IsUnderWay, MayTake, StopsAmong, streams}
+use Rattle.bridge_core.specs.Taking.{IsOfCapture, Follows, IsThrough, IsUnderWay, MayTake, StopsAmong}
 
 -- there are as many numbers as ports
 pub ports_many : {A : Type 0} (p : Plan A) (ports : List ℕ) → AreNumbers p ports → length ports ≡ length p.ports

@@ -14,13 +14,13 @@ use Rattle.bridge_lanes.specs.declared.fault.RunFault.TheVariants as run
 use Rattle.bridge_run.specs.declared.outcome.Outcome.{Outcome}
 use Rattle.bridge_run.specs.declared.outcome.View.{View}
 use Rattle.bridge_run.specs.Events.{arrivals, own}
-use Rattle.bridge_run.specs.Merge.{Input, IsMerged, events, own_inputs}
+use Rattle.bridge_run.specs.Merge.{Input, IsMerged, events, own_inputs, commands_of, streams}
 use Rattle.bridge_run.specs.Outputs.{Ends}
 use Rattle.bridge_run.specs.Runs.{IsSoloView, TellTheSame}
 use Rattle.bridge_core.specs.declared.simulation.Lists.{Lists}
 use Rattle.bridge_lanes.specs.Lanes.{BeginsWell, FailsLook, LooksFail}
 use Rattle.bridge_core.specs.Lines.{AreWritten, StopsAtHeader}
-use Rattle.bridge_core.specs.Taking.{commands_of, IsOfCapture, streams, StopsAmong}
+use Rattle.bridge_core.specs.Taking.{IsOfCapture, StopsAmong}
 
 -- the numbers of a plan's ports, by rising number
 abbrev pub AreNumbers : {A : Type 0} → Plan A → List ℕ → Type 0

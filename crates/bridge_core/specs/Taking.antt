@@ -14,7 +14,7 @@ use Rattle.bridge_config.specs.Model.{Plan}
 use Rattle.bridge_config.specs.Rules.{port_at}
 use Rattle.bridge_lanes.specs.declared.fault.RunFault.{RunFault}
 use Rattle.bridge_lanes.specs.declared.fault.RunFault.TheVariants as run
-use Rattle.bridge_run.specs.Merge.{Input, frame, command, NotBefore, IsMerged, events, newest, inputs_of}
+use Rattle.bridge_run.specs.Merge.{Input, frame, command, NotBefore, IsMerged, events, newest, inputs_of, asked, commands_of, streams}
 use Rattle.bridge_run.specs.Outputs.{Reaches, HasRun}
 use Rattle.bridge_relay.specs.Relays.{RelayState, Stands}
 use Rattle.bridge_lanes.specs.declared.lane.Lane.{Lane}
@@ -25,19 +25,6 @@ use Rattle.bridge_core.specs.Lines.{AreWritten, AreWrittenBut}
 abbrev pub Follows : Input → List Input → Type 0
 Follows y [] = Unit {0}
 Follows y (x ∷ xs) = NotBefore y x
-
--- a command as an input
-abbrev pub asked : Command → Input
-asked c = command c.at c.clear c.number
-
--- the commands as inputs, newest first
-abbrev pub commands_of : List Command → List Input
-commands_of [] = []
-commands_of (c ∷ cs) = commands_of cs ++ asked c ∷ []
-
--- the commands, and the frames of each port
-abbrev pub streams : List Input → (ℕ → List Captured) → ℕ → List Input
-streams commanded frames q = if nat_eq q 0 then commanded else inputs_of q (frames q)
 
 -- of the text of each port these frames were taken, and these commands, as inputs in their order; the next command comes no earlier
 pub record HasTaken {A : Type 0} (p : Plan A) (texts : ℕ → List ℕ) (commanded : List Input) (next : Option Input) (frames : ℕ → List Captured) (inputs : List Input) : Type 0 where

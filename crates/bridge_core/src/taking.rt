@@ -4,11 +4,11 @@ ghost use Rattle.bridge_config.specs.Model as config;
 ghost use Rattle.bridge_config.specs.Commands.{has_instance, AreCommands};
 ghost use Rattle.bridge_capture.specs.Standing.{IsReading};
 ghost use Rattle.bridge_parts.specs.Ports.{NotBefore};
-ghost use Rattle.bridge_run.specs.Merge.{Input};
+ghost use Rattle.bridge_run.specs.Merge.{Input, asked};
 ghost use Rattle.bridge_lanes.specs.Devices.{HasFailed, NeverFail};
 ghost use Rattle.bridge_lanes.specs.Lanes.{IsFirstAt, numbers, room_of};
 ghost use Rattle.bridge_core.specs.Lines.{HasRunOut, numbers as written_numbers};
-ghost use Rattle.bridge_core.specs.Taking.{AreLater, asked, first_of_commands, GoesOn, HasGone, Obeys, HasGiven, HasLooked, IsBefore, IsUnderWay, MayTake, TakesBefore};
+ghost use Rattle.bridge_core.specs.Taking.{AreLater, first_of_commands, GoesOn, HasGone, Obeys, HasGiven, HasLooked, IsBefore, IsUnderWay, MayTake, TakesBefore};
 
 use crate::line::{Line, depart_before};
 use bridge_capture::{ByteSink, ByteSource, CaptureFault, Packet};

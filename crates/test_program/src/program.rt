@@ -108,11 +108,7 @@ fn a_plan_is_read_up_to_its_limit(rt: HostRuntime) -> Result<(), Fail> {
 fn sending<A: Allocator + Copy>(alloc: A) -> Ending {
     match wire_text(alloc, ARRIVALS.as_bytes()) {
         Ok(lines) => Ending::of(lines.as_str() == DEPARTURES, false),
-        Err(fault) => {
-            let memory = TextFault::Run(RunFault::NoMemory);
-            let write = TextFault::Run(RunFault::Write { port: 1 });
-            Ending::of(false, fault == memory || fault == write)
-        }
+        Err(fault) => Ending::of(false, fault == TextFault::Run(RunFault::NoMemory)),
     }
 }
 

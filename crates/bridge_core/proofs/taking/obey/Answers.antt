@@ -1,8 +1,7 @@
 use Rattle.std.proofs.Common.{rules, ◌≡◌, ℕ, ◌<◌, ◌≤◌, List, length, arith, refl, ap, sym, subst, ◌∙◌, Option, Some, None, Ok, Err, slice_get}
-use Rattle.bridge_run.specs.Merge.{events}
+use Rattle.bridge_run.specs.Merge.{events, asked}
 use Rattle.bridge_lanes.specs.Lanes.{numbers}
 use Rattle.bridge_core.specs.Lines.{AreWritten, numbers as written_numbers}
-use Rattle.bridge_core.specs.Taking.{asked}
 use Rattle.bridge_core.proofs.Commanded.{command_next, may_still}
 use Rattle.bridge_core.proofs.Steps.{depart_stops, written_so}
 use Rattle.bridge_core.proofs.taking.obey.Goals as goal

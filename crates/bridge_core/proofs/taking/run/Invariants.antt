@@ -5,7 +5,8 @@ use Rattle.bridge_config.specs.Model as config
 use Rattle.bridge_lanes.specs.Devices.{NeverFail}
 use Rattle.bridge_lanes.specs.Lanes.{numbers}
 use Rattle.bridge_core.specs.Lines.{numbers as written_numbers}
-use Rattle.bridge_core.specs.Taking.{commands_of, first_of_commands, IsUnderWay, MayTake}
+use Rattle.bridge_run.specs.Merge.{commands_of}
+use Rattle.bridge_core.specs.Taking.{first_of_commands, IsUnderWay, MayTake}
 use Rattle.bridge_core.proofs.taking.run.Given as goal
 
 abbrev pub invariant-loop-command : goal.invariant-loop-command
