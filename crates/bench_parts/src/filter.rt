@@ -2,11 +2,13 @@
 
 ghost use Rattle.std.specs.Prelude.{◌≡◌, ◌≤◌, IfOk, IfSome, true};
 
+use crate::listed::{
+    are_all_distinct, are_all_within_limits, have_all_instances, have_all_priorities,
+};
 use bridge_cycle::CyclicList;
 use bridge_filter::{FilterPlan, NoMemory, Police, Verdict};
 use bridge_gate::{GateEntry, GatePlan, Schedule};
 use bridge_meter::MeterPlan;
-use crate::listed::{are_all_distinct, are_all_within_limits, have_all_instances, have_all_priorities};
 use std::alloc::Allocator;
 use std::io;
 use std::rt::Clock;

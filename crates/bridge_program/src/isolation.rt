@@ -2,8 +2,8 @@
 ghost use Rattle.std.specs.Prelude.{◌≡◌, IfOk, string_bytes};
 ghost use Rattle.bridge_program.specs.CheckLines.{filter_refused, line_of_check, queue_refused, queue_shared, window_shared};
 
-use bridge_base::NoMemory;
 use crate::line::memory_fault;
+use bridge_base::NoMemory;
 use bridge_check::CheckFault;
 use std::alloc::Allocator;
 

@@ -17,10 +17,10 @@ mod status;
 mod text;
 
 pub use accepting::{accepted_of, check_line, checked};
+pub use bridge_base::NoMemory;
 pub use captures::{Halted, through};
 pub use commanding::commanded;
 pub use counts::wire_line;
-pub use bridge_base::NoMemory;
 pub use fault::{Fault, TextFault};
 pub use host::{end, print, words_of};
 pub use jobs::{check_job, fault_of_file, plan_from, planned, standard_file, text_job, wire_job};

@@ -4,11 +4,11 @@ ghost use Rattle.bridge_program.specs.Lines.{line_of, line_of_capture, line_of_r
 ghost use Rattle.bridge_program.specs.Status.{status_of};
 
 use crate::fault::{Fault, TextFault};
-use bridge_base::NoMemory;
 use crate::isolation::said_of_check;
 use crate::plan_line::said_of_plan;
 use crate::refused_commands::said_of_commands;
 use crate::status::ending;
+use bridge_base::NoMemory;
 use bridge_capture::CaptureFault;
 use bridge_wire::RunFault;
 use std::alloc::Allocator;

@@ -3,8 +3,8 @@ ghost use Rattle.std.specs.Prelude.{◌≡◌, IfOk, string_bytes};
 ghost use Rattle.bridge_keys.specs.Keys.{name_of};
 ghost use Rattle.bridge_program.specs.PlanLines.{instance, key_at, line_of_list, line_of_plan, list_refused, plan_refused, plan_refused_at};
 
-use bridge_base::NoMemory;
 use crate::line::memory_fault;
+use bridge_base::NoMemory;
 use bridge_cycle::ListFault;
 use bridge_keys::{Place, PlanFault, Section};
 use std::alloc::Allocator;

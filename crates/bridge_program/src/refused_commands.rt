@@ -2,8 +2,8 @@
 ghost use Rattle.std.specs.Prelude.{◌≡◌, IfOk, string_bytes};
 ghost use Rattle.bridge_program.specs.RefusedCommands.{line_of_commands};
 
-use bridge_base::NoMemory;
 use crate::plan_line::said_of_plan;
+use bridge_base::NoMemory;
 use bridge_keys::PlanFault;
 use std::alloc::Allocator;
 
