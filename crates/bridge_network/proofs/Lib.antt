@@ -1,0 +1,7 @@
+pub mod Members
+pub mod Chain
+pub mod Once
+pub mod Marking
+pub mod Feeding
+pub mod Closed
+pub mod Settling

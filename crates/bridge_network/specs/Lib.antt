@@ -1,0 +1,5 @@
+pub mod Networks
+pub mod Alone
+pub mod Feeding
+pub mod Accepting
+pub mod Settled
