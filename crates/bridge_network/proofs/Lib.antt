@@ -5,3 +5,6 @@ pub mod Marking
 pub mod Feeding
 pub mod Closed
 pub mod Settling
+pub mod Paced
+pub mod Periods
+pub mod Hopping

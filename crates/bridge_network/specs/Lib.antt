@@ -3,3 +3,4 @@ pub mod Alone
 pub mod Feeding
 pub mod Accepting
 pub mod Settled
+pub mod Latency
