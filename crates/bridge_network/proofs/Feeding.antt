@@ -45,7 +45,7 @@ use Rattle.bridge_run.specs.Events.{Arrival, arrival, Event, Arrived, Cleared, w
 use Rattle.bridge_run.specs.Offers.{Offer, leaving, offer_by, offer_of_step, step_of, offer_on, offer_of, offers}
 use Rattle.bridge_run.proofs.Safe.{IsSafe, alone}
 use Rattle.bridge_run.proofs.Offering.{IsGoing, going_if, in_split, offered_by}
-use Rattle.bridge_network.specs.Feeding.{Sort, tag_of, is_kind, may_match, handles_of, flow_for, reaches_any, is_fed, may_go, sends_from, sends_only, tags_of, gives_to, takes_only}
+use Rattle.bridge_network.specs.Feeding.{Sort, tag_of, is_kind, may_match, handles_of, flow_for, reaches_any, is_fed, may_go, sends_from, sends_only, tags_of, gives_to, sort_by, takes_by, takes_only}
 use Rattle.bridge_network.proofs.Members.{in_left, in_right, map_in}
 use Rattle.bridge_network.proofs.Marking.{plain, SameHead, leaving_head}
 
@@ -373,9 +373,9 @@ only_stream p next is_of_stream q r n t f out on es o plan also good listed is a
     let safe : IsSafe next n f = record { plan = also; listed = listed; passes = good n f listed is } in
     let x = taken_way next on r n t f o safe there (way_of next (arrival t r o.item.octets o.item.len)) refl k in
     let e = x.entry in
-    let s : Sort = record { tag = plain x.parsed.tag; kind = e.kind; address = e.address } in
-    let one : list_all (λ (tag : Option Tag). not (gives_to next on n e tag) || sends_only p is_of_stream q (record { tag = tag; kind = e.kind; address = e.address })) (tags_of e.vid) ≡ true = each_passes (λ (e : StreamEntry). list_all (λ (tag : Option Tag). not (gives_to next on n e tag) || sends_only p is_of_stream q (record { tag = tag; kind = e.kind; address = e.address })) (tags_of e.vid)) next.streams e test x.listed in
-    let two : (not (gives_to next on n e (plain x.parsed.tag)) || sends_only p is_of_stream q s) ≡ true = each_passes (λ (tag : Option Tag). not (gives_to next on n e tag) || sends_only p is_of_stream q (record { tag = tag; kind = e.kind; address = e.address })) (tags_of e.vid) (plain x.parsed.tag) one x.tag in
+    let s : Sort = sort_by e (plain x.parsed.tag) in
+    let one : list_all (takes_by p is_of_stream q next on n e) (tags_of e.vid) ≡ true = each_passes (λ (e : StreamEntry). list_all (takes_by p is_of_stream q next on n e) (tags_of e.vid)) next.streams e test x.listed in
+    let two : takes_by p is_of_stream q next on n e (plain x.parsed.tag) ≡ true = each_passes (takes_by p is_of_stream q next on n e) (tags_of e.vid) (plain x.parsed.tag) one x.tag in
     let only : sends_only p is_of_stream q s ≡ true = after_not (gives_to next on n e (plain x.parsed.tag)) (sends_only p is_of_stream q s) x.gives two in
     let from = from_events p out es o i in
     let leaves = from.leaves in

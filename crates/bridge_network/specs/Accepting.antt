@@ -1,4 +1,4 @@
--- Which streams of a network are closed, by a test.
+-- Which streams of a network are closed, by a test on the plans.
 use Rattle.std.specs.Prelude.{ℕ, Bool, true, false, ◌&&◌, nat_eq, List, Option, Some, None, slice_get}
 use Rattle.std.specs.List.{list_any, list_all}
 use Rattle.bridge_filter.specs.declared.FilterPlan.{FilterPlan}
@@ -20,7 +20,7 @@ abbrev pub takes_from : {A : Type 0} → Option (Plan A) → List (ℕ × ℕ) �
 takes_from None stream s next on m = false
 takes_from (Some p) stream s next on m = takes_only p (is_listed stream s.from.bridge) s.from.port next on m
 
--- the same of a port, which may be open
+-- the same of a port, to which nothing comes over a link where it is open
 abbrev pub takes_at : {A : Type 0} → Network A → List (ℕ × ℕ) → Option Sender → Plan A → PortPlan A → ℕ → Bool
 takes_at n stream None next on m = true
 takes_at n stream (Some s) next on m = takes_from (slice_get n.bridges s.from.bridge) stream s next on m
@@ -28,8 +28,10 @@ takes_at n stream (Some s) next on m = takes_from (slice_get n.bridges s.from.br
 -- whether a filter is protected, and takes over links only frames of the stream
 abbrev pub hop_passes : {A : Type 0} → Network A → List (ℕ × ℕ) → ℕ → ℕ → Option (Plan A) → Bool
 hop_passes {A} n stream b m None = false
-hop_passes {A} n stream b m (Some p) = is_protected p m && list_all (λ (on : PortPlan A). takes_at n stream (sender n.links b on.number) p on m) p.ports
+hop_passes {A} n stream b m (Some p) =
+    is_protected p m
+    && list_all (λ (on : PortPlan A). takes_at n stream (sender n.links b on.number) p on m) p.ports
 
--- whether a stream is closed
+-- whether each hop of a stream passes
 abbrev pub stream_passes : {A : Type 0} → Network A → List (ℕ × ℕ) → Bool
 stream_passes n stream = list_all (λ (x : ℕ × ℕ). hop_passes n stream x.0 x.1 (slice_get n.bridges x.0)) stream

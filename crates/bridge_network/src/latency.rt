@@ -17,28 +17,32 @@ ghost use Rattle.bridge_run.specs.Merge.{Input, events, of_rank};
 ghost use Rattle.bridge_run.specs.Runs.{IsSoloView};
 ghost use Rattle.bridge_network.specs.Networks.{AreTimed, Hop, IsHop, Network, Sender, sender};
 ghost use Rattle.bridge_network.specs.Alone.{IsAlone, Reaches};
-ghost use Rattle.bridge_network.specs.Latency.{ComesInPeriods, ComesOf, Conforms, FitsWithin, InputsInPeriods, StartInPeriods, StartsWithin};
+ghost use Rattle.bridge_network.specs.Latency.{ComesInPeriods, ComesOf, Conforms, FitsWithin, InputsInPeriods, StartInPeriods};
+ghost use Rattle.bridge_network.specs.Latency.{StartsWithin, offer_time, time_on};
 
 use std::alloc::Allocator;
 
-/// Where the frames that a protected filter sends in a class of a port keep a gap of the longest wait and one frame, each
-/// of them is queued, starts at the first moment at which it fits, and at most that wait after it came.
+/// Frames that keep their gap never wait for one another. Where the frames that a protected filter offers in a class of a port
+/// come at least the longest wait and one frame apart, each of them is queued, starts at the first moment at which it fits, and
+/// at most that wait after it came.
 pub fn starts_in_time<A: Allocator + Copy>()
-    ensures { (p : Plan A) (n : ℕ) (f : FilterPlan) (es : List Event) (v : View A) (q c occ wait : ℕ) (out : PortPlan A) (x : Copy Carried)
+    ensures { (p : Plan A) (n : ℕ) (f : FilterPlan) (es : List Event) (v : View A) (q c occ wait : ℕ) (out : PortPlan A)
+        (x : Copy Carried)
         → (alone : IsSoloView p n f es v)
         → port_at p.ports q ≡ Some out
         → FitsWithin (opens_of out.list c) occ wait
         → 1 ≤ (egress out).room c
         → Conforms p out c es occ (wait + occ)
         → In x (alone.lists q c)
-        → StartsWithin (opens_of out.list c) (occupied x.item.len out.speed) wait x.at x.fate }
+        → StartsWithin (opens_of out.list c) (time_on out x.item) wait x.at x.fate }
 {}
 
-/// Where the frames that a protected filter sends in a class of a port come once a period of the lists, each between two
-/// phases of it, they start once a period, between the first fit of the shortest from the first phase on and that of the
-/// longest from the last one on.
+/// A stream that comes once a period leaves once a period. Where the frames that a protected filter offers in a class of a port
+/// come once a period of the lists, each between two phases of it, they start once a period, between the first fit of the
+/// shortest from the first phase on and that of the longest from the last one on.
 pub fn keeps_phase<A: Allocator + Copy>()
-    ensures { (p : Plan A) (n : ℕ) (f : FilterPlan) (es : List Event) (v : View A) (q base c period from upto least most first last next : ℕ) (out : PortPlan A)
+    ensures { (p : Plan A) (n : ℕ) (f : FilterPlan) (es : List Event) (v : View A) (q base c period : ℕ)
+        (from upto least most first last next : ℕ) (out : PortPlan A)
         → (alone : IsSoloView p n f es v)
         → port_at p.ports q ≡ Some out
         → Repeats (opens_of out.list c) base
@@ -46,32 +50,36 @@ pub fn keeps_phase<A: Allocator + Copy>()
         → IsFirst (opens_of out.list c) most upto last
         → last + most ≤ from + period
         → 1 ≤ (egress out).room c
-        → ((o : Offer) → In o (in_class c (offers p out es)) → ever_of out.list c (occupied o.item.len out.speed) ≡ true)
-        → ComesInPeriods base (λ (o : Offer). occupied o.item.len out.speed) period from upto least most next (in_class c (offers p out es))
-        → StartInPeriods base (opens_of out.list c) (λ (y : Carried). occupied y.len out.speed) period first last next (alone.lists q c) }
+        → ((o : Offer) → In o (in_class c (offers p out es)) → ever_of out.list c (offer_time out o) ≡ true)
+        → ComesInPeriods base (offer_time out) period from upto least most next (in_class c (offers p out es))
+        → StartInPeriods base (opens_of out.list c) (time_on out) period first last next (alone.lists q c) }
 {}
 
-/// Where the copies of a queue of a hop start once a period, and they alone come over a link to a port of the next hop, what
-/// comes there comes once a period, between the phases at which the copies are done, so much later.
+/// From hop to hop the period stays. Where the copies of a queue of a hop start once a period, and they alone come over a link to
+/// a port of the next hop, what comes there comes once a period, between the phases at which the copies are done, so much later.
 pub fn next_hop_in_periods<A: Allocator + Copy>()
-    ensures { (n : Network A) (stream : List (ℕ × ℕ)) (commands : ℕ → List Input) (captures : ℕ → ℕ → List Captured) (views : Hop A → Option (View A)) (g h : Hop A) (q base c period first last least most next : ℕ) (s : Sender) (out : PortPlan A)
+    ensures { (n : Network A) (stream : List (ℕ × ℕ)) (commands : ℕ → List Input) (captures : ℕ → ℕ → List Captured)
+        (views : Hop A → Option (View A)) (g h : Hop A) (q base c period first last least most next : ℕ) (s : Sender)
+        (out : PortPlan A)
         → (alone : IsAlone n commands captures stream views)
         → IsHop n stream h
         → sender n.links h.bridge q ≡ Some s
-        → StartInPeriods base (opens_of out.list c) (λ (y : Carried). occupied y.len out.speed) period first last next (alone.lists g s.from.port c)
-        → ((y : Copy Carried) → In y (alone.lists g s.from.port c) → least ≤ occupied y.item.len out.speed)
-        → ((y : Copy Carried) → In y (alone.lists g s.from.port c) → occupied y.item.len out.speed ≤ most)
+        → StartInPeriods base (opens_of out.list c) (time_on out) period first last next (alone.lists g s.from.port c)
+        → ((y : Copy Carried) → In y (alone.lists g s.from.port c) → least ≤ time_on out y.item)
+        → ((y : Copy Carried) → In y (alone.lists g s.from.port c) → time_on out y.item ≤ most)
         → last + most ≤ first + period
         → 0 < least
-        → ((x : Input) → Reaches n stream alone.lists h q s x → ComesOf (λ (y : Carried). occupied y.len out.speed) s.delay (alone.lists g s.from.port c) x)
+        → ((x : Input) → Reaches n stream alone.lists h q s x
+        → ComesOf (time_on out) s.delay (alone.lists g s.from.port c) x)
         → InputsInPeriods base period (first + least + s.delay) (last + most + s.delay) next (of_rank q (alone.own h)) }
 {}
 
-/// What inputs that come once a period offer in a class of a port comes once a period.
+/// What inputs that come once a period offer in a class of a port comes once a period, between the same phases.
 pub fn offers_in_periods<A: Allocator + Copy>()
     ensures { (p : Plan A) (out : PortPlan A) (base c period from upto least most next : ℕ) (xs : List Input)
         → AreTimed xs
-        → ((x : Input) (a : Arrival) → In x xs → x.event ≡ Arrived a → (least ≤ occupied a.len out.speed) × (occupied a.len out.speed ≤ most))
+        → ((x : Input) (a : Arrival) → In x xs → x.event ≡ Arrived a
+        → (least ≤ occupied a.len out.speed) × (occupied a.len out.speed ≤ most))
         → InputsInPeriods base period from upto next xs
-        → ComesInPeriods base (λ (o : Offer). occupied o.item.len out.speed) period from upto least most next (in_class c (offers p out (events xs))) }
+        → ComesInPeriods base (offer_time out) period from upto least most next (in_class c (offers p out (events xs))) }
 {}

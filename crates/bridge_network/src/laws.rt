@@ -1,5 +1,5 @@
 //! Laws of whole runs of networks, each the contract of a function that does nothing.
-ghost use Rattle.std.specs.Prelude.{◌≡◌, ◌<◌, ◌+◌, ℕ, Bool, List, Option, Some, nat_eq, true};
+ghost use Rattle.std.specs.Prelude.{◌≡◌, ℕ, Bool, List, Option, Some, nat_eq, true};
 ghost use Rattle.std.specs.Map.{lookup};
 ghost use Rattle.bridge_capture.specs.Grammar.{Captured};
 ghost use Rattle.bridge_run.specs.declared.outcome.View.{View};
@@ -24,11 +24,12 @@ ghost use Rattle.bridge_network.specs.Feeding.{takes_only};
 
 use std::alloc::Allocator;
 
-/// What a run of an accepted network tells of a closed stream, at each of its hops, is what the stream's own first arrivals
-/// alone tell on an idle network: each hop gets what the captures of open ports and the commands hold of it and what the
-/// hops of the stream sent to it over links, and nothing else.
+/// Each stream of a network has it to itself. What a whole run of an accepted network tells of a closed stream, at each of its
+/// hops, is what the stream tells alone on an idle network: a hop gets what the commands and the captures of open ports hold of
+/// it, what the hops of the stream sent to it over links, so much later, and nothing else.
 pub fn stream_alone<A: Allocator + Copy>()
-    ensures { (n : Network A) (stream : List (ℕ × ℕ)) (commands : ℕ → List Input) (captures : ℕ → ℕ → List Captured) (o : ℕ → Outcome A)
+    ensures { (n : Network A) (stream : List (ℕ × ℕ)) (commands : ℕ → List Input) (captures : ℕ → ℕ → List Captured)
+        (o : ℕ → Outcome A)
         → IsNetwork n
         → ((b : ℕ) → AreTimed (commands b))
         → IsClosed n stream
@@ -36,9 +37,11 @@ pub fn stream_alone<A: Allocator + Copy>()
         → IsAlone n commands captures stream (λ (h : Hop A). lookup (nat_eq h.number) (o h.bridge).filters.items) }
 {}
 
-/// A stream alone on an idle network has one course.
+/// A stream alone on an idle network has one course: the frames that come to it from outside and its own commands leave nothing
+/// open of what is told of any of its hops, whichever way the links lead.
 pub fn one_course<A: Allocator + Copy>()
-    ensures { (n : Network A) (stream : List (ℕ × ℕ)) (commands others : ℕ → List Input) (captures frames : ℕ → ℕ → List Captured) (tells says : Hop A → Option (View A)) (h : Hop A) (u v : View A)
+    ensures { (n : Network A) (stream : List (ℕ × ℕ)) (commands others : ℕ → List Input)
+        (captures frames : ℕ → ℕ → List Captured) (tells says : Hop A → Option (View A)) (h : Hop A) (u v : View A)
         → IsAlone n commands captures stream tells
         → IsAlone n others frames stream says
         → HaveSameFirst n stream commands captures others frames
@@ -48,10 +51,11 @@ pub fn one_course<A: Allocator + Copy>()
         → TellTheSame u v }
 {}
 
-/// Two runs of an accepted network in which the hops of a closed stream have the same own first arrivals tell the same of
-/// each hop, whatever else came to any bridge.
+/// Other traffic changes nothing of a stream. Two whole runs of an accepted network in which the same comes of a closed stream
+/// from outside tell the same of each of its hops, whatever else came to any bridge.
 pub fn others_change_nothing<A: Allocator + Copy>()
-    ensures { (n : Network A) (stream : List (ℕ × ℕ)) (commands others : ℕ → List Input) (captures frames : ℕ → ℕ → List Captured) (o r : ℕ → Outcome A) (h : Hop A) (u v : View A)
+    ensures { (n : Network A) (stream : List (ℕ × ℕ)) (commands others : ℕ → List Input)
+        (captures frames : ℕ → ℕ → List Captured) (o r : ℕ → Outcome A) (h : Hop A) (u v : View A)
         → IsNetwork n
         → ((b : ℕ) → AreTimed (commands b))
         → ((b : ℕ) → AreTimed (others b))
@@ -65,10 +69,12 @@ pub fn others_change_nothing<A: Allocator + Copy>()
         → TellTheSame u v }
 {}
 
-/// Where the test on the plans at the two ends of a link passes, the filter of a hop takes of all that the port at the other
-/// end may send, whatever comes to that bridge, only frames of filters of the stream.
+/// Nobody forges a frame of a stream over a link that passes the test. Where the test on the plans at its two ends passes, the
+/// filter of a hop takes, of all that the port at the other end may send, whatever comes to that bridge, only frames of filters
+/// of the stream.
 pub fn only_stream_is_taken<A: Allocator + Copy>()
-    ensures { (p next : Plan A) (is_of_stream : ℕ → Bool) (q r n t : ℕ) (f : FilterPlan) (out on : PortPlan A) (es : List Event) (o : Offer)
+    ensures { (p next : Plan A) (is_of_stream : ℕ → Bool) (q r n t : ℕ) (f : FilterPlan) (out on : PortPlan A)
+        (es : List Event) (o : Offer)
         → IsPlan p
         → IsPlan next
         → IsAcceptable next
@@ -82,12 +88,16 @@ pub fn only_stream_is_taken<A: Allocator + Copy>()
         → (m : ℕ × FilterPlan) × In m p.filters × (is_of_stream m.0 ≡ true) × (o.item.flow ≡ Some m.0) }
 {}
 
-/// A stream that passes the test is closed.
+/// A stream of an accepted network that passes the test at each of its hops is closed.
 pub fn tested_is_closed<A: Allocator + Copy>()
-    ensures { (n : Network A) (stream : List (ℕ × ℕ)) → IsNetwork n → stream_passes n stream ≡ true → IsClosed n stream }
+    ensures { (n : Network A) (stream : List (ℕ × ℕ))
+        → IsNetwork n
+        → stream_passes n stream ≡ true
+        → IsClosed n stream }
 {}
 
-/// Whole runs of single bridges, in which what comes over each link is what left its other end, are a run of the network.
+/// A network can be run bridge by bridge: whole runs of single bridges, in which what comes over each link is what left its
+/// other end, are a run of the network.
 pub fn settled_is_run<A: Allocator + Copy>()
     ensures { (n : Network A) (commands : ℕ → List Input) (captures : ℕ → ℕ → List Captured) (o : ℕ → Outcome A)
         → HasSettled n commands captures o
