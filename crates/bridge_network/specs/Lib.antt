@@ -4,3 +4,4 @@ pub mod Feeding
 pub mod Accepting
 pub mod Settled
 pub mod Latency
+pub mod Examples
