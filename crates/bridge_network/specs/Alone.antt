@@ -45,8 +45,9 @@ abbrev pub InQueue : (ℕ → ℕ → List (Copy Carried)) → ℕ → Copy Carr
 InQueue lists q x = (c : ℕ) × In x (lists q c)
 
 -- a stream alone on an idle network, of whose hops these views tell: each hop has its own inputs (`own`), on open ports
--- those from outside (`first`), on links what the hops of the stream sent to it and nothing else (`next`), one after another
--- (`apart`); each of its queues (`lists`) is alone on an idle bridge (`solo`), and so is what is told of it (`view`)
+-- those from outside (`first`), on links what the hops of the stream sent to it and nothing else (`next`), one after
+-- another (`apart`); each of its queues (`lists`) is alone on an idle bridge (`solo`), and so is what is told of it
+-- (`view`)
 pub record IsAlone {A : Type 0} (n : Network A) (commands : ℕ → List Input) (captures : ℕ → ℕ → List Captured)
     (stream : List (ℕ × ℕ)) (views : Hop A → Option (View A)) : Type 0 where
   pub own : Hop A → List Input

@@ -1,6 +1,6 @@
--- A link of two bridges, computed. Port 3 of the first bridge, with place 0, is linked to port 1 of the second, with place 1, over
--- 500 ns. A stream of VLAN 10 to 02-00-00-00-00-0A comes to port 1 of the first bridge, and is filter 1 of both; all other frames
--- are of filter 9.
+-- A link of two bridges, computed. Port 3 of the first bridge, with place 0, is linked to port 1 of the second, with
+-- place 1, over 500 ns. A stream of VLAN 10 to 02-00-00-00-00-0A comes to port 1 of the first bridge, and is filter 1
+-- of both; all other frames are of filter 9.
 use Rattle.std.specs.Prelude.{◌≡◌, ℕ, Bool, true, false, ◌&&◌, List, [], ◌∷◌, Option, Some, None, nat_eq, refl}
 use Rattle.bridge_capture.specs.Grammar.{Captured}
 use Rattle.bridge_frame.specs.declared.Speed.TheVariants.{Mbps1000}
@@ -50,7 +50,8 @@ first_hears_second = refl
 port_is_open : sender links 0 1 ≡ None
 port_is_open = refl
 
--- what left port 3 of the first bridge comes to port 1 of the second, 500 ns later, newest first; its capture isn't read
+-- what left port 3 of the first bridge comes to port 1 of the second, 500 ns later, newest first; its capture isn't
+-- read
 over_the_link : comes links no_commands captures left 1 1 ≡ frame 1 (frame_at 2500) ∷ frame 1 (frame_at 1500) ∷ []
 over_the_link = refl
 

@@ -85,7 +85,8 @@ priorities = 0 ∷ 1 ∷ 2 ∷ 3 ∷ 4 ∷ 5 ∷ 6 ∷ 7 ∷ []
 abbrev pub tags_with : ℕ → List (Option Tag)
 tags_with vid = map (λ (k : ℕ). Some (tag_of k vid)) priorities
 
--- the tags of frames that a port may classify in a VLAN: none, one of each priority alone, and one of each with the VLAN
+-- the tags of frames that a port may classify in a VLAN: none, one of each priority alone, and one of each with the
+-- VLAN
 abbrev pub tags_of : ℕ → List (Option Tag)
 tags_of vid = None ∷ (tags_with 0 ++ tags_with vid)
 
@@ -101,7 +102,8 @@ sort_by e tag = record { tag = tag; kind = e.kind; address = e.address }
 
 -- whether of the frames that an entry names, with this tag, only those of the stream come to the filter of a hop
 abbrev pub takes_by : {A : Type 0} → Plan A → (ℕ → Bool) → ℕ → Plan A → PortPlan A → ℕ → StreamEntry → Option Tag → Bool
-takes_by p is_of_stream q next on n e tag = not (gives_to next on n e tag) || sends_only p is_of_stream q (sort_by e tag)
+takes_by p is_of_stream q next on n e tag =
+    not (gives_to next on n e tag) || sends_only p is_of_stream q (sort_by e tag)
 
 -- whether of all that port q of a bridge sends the filter of a hop, at its port, takes only frames of the stream
 abbrev pub takes_only : {A : Type 0} → Plan A → (ℕ → Bool) → ℕ → Plan A → PortPlan A → ℕ → Bool

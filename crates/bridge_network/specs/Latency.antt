@@ -29,8 +29,8 @@ FitsWithin opens occ wait = (t : ℕ) → (u : ℕ) × (t ≤ u) × (u ≤ t + w
 abbrev pub IsPaced : ℕ → Offer → Offer → Type 0
 IsPaced gap a b = b.at + gap ≤ a.at
 
--- what events offer in a class of a port keeps to this: each frame comes at least a gap after the one before, is on the link
--- for at most `occ`, and fits at some moment
+-- what events offer in a class of a port keeps to this: each frame comes at least a gap after the one before, is on the
+-- link for at most `occ`, and fits at some moment
 pub record Conforms {A : Type 0} (p : Plan A) (out : PortPlan A) (c : ℕ) (es : List Event) (occ gap : ℕ) : Type 0
   where
     pub paced : Rising (IsPaced gap) (in_class c (offers p out es))
@@ -47,9 +47,9 @@ StartsWithin opens occ wait t f = (s : ℕ) × (f ≡ Started s) × IsFirst open
 abbrev pub IsMultiple : ℕ → ℕ → Type 0
 IsMultiple base p = (k : ℕ) × (p ≡ k * base)
 
--- what is offered, newest first, comes once a period: each offer has a period of its own, which begins at a multiple of the
--- base and at least `period` before the next one, the last so long before `next`; in it the frame comes between two phases,
--- and is on the link for between two lengths of time
+-- what is offered, newest first, comes once a period: each offer has a period of its own, which begins at a multiple of
+-- the base and at least `period` before the next one, the last so long before `next`; in it the frame comes between two
+-- phases, and is on the link for between two lengths of time
 abbrev pub ComesInPeriods : ℕ → (Offer → ℕ) → ℕ → ℕ → ℕ → ℕ → ℕ → ℕ → List Offer → Type 0
 ComesInPeriods base occ period from upto least most next [] = Unit {0}
 ComesInPeriods base occ period from upto least most next (o ∷ os) =
@@ -73,7 +73,8 @@ StartInPeriods base opens occ period first last next (x ∷ xs) =
 abbrev pub InputsInPeriods : ℕ → ℕ → ℕ → ℕ → ℕ → List Input → Type 0
 InputsInPeriods base period from upto next [] = Unit {0}
 InputsInPeriods base period from upto next (x ∷ xs) =
-    (p : ℕ) × IsMultiple base p × (p + period ≤ next) × (from + p ≤ x.at) × (x.at ≤ upto + p) × InputsInPeriods base period from upto p xs
+    (p : ℕ) × IsMultiple base p × (p + period ≤ next) × (from + p ≤ x.at) × (x.at ≤ upto + p)
+    × InputsInPeriods base period from upto p xs
 
 -- an input is a copy of a queue that started, when it was done and so much later
 pub record ComesOf (occ : Carried → ℕ) (delay : ℕ) (ys : List (Copy Carried)) (x : Input) : Type 0 where

@@ -17,14 +17,14 @@ ghost use Rattle.bridge_run.specs.Merge.{Input, events, of_rank};
 ghost use Rattle.bridge_run.specs.Runs.{IsSoloView};
 ghost use Rattle.bridge_network.specs.Networks.{AreTimed, Hop, IsHop, Network, Sender, sender};
 ghost use Rattle.bridge_network.specs.Alone.{IsAlone, Reaches};
-ghost use Rattle.bridge_network.specs.Latency.{ComesInPeriods, ComesOf, Conforms, FitsWithin, InputsInPeriods, StartInPeriods};
-ghost use Rattle.bridge_network.specs.Latency.{StartsWithin, offer_time, time_on};
+ghost use Rattle.bridge_network.specs.Latency.{ComesInPeriods, ComesOf, Conforms, FitsWithin, InputsInPeriods};
+ghost use Rattle.bridge_network.specs.Latency.{StartInPeriods, StartsWithin, offer_time, time_on};
 
 use std::alloc::Allocator;
 
-/// Frames that keep their gap never wait for one another. Where the frames that a protected filter offers in a class of a port
-/// come at least the longest wait and one frame apart, each of them is queued, starts at the first moment at which it fits, and
-/// at most that wait after it came.
+/// Frames that keep their gap never wait for one another. Where the frames that a protected filter offers in a class of
+/// a port come at least the longest wait and one frame apart, each of them is queued, starts at the first moment at
+/// which it fits, and at most that wait after it came.
 pub fn starts_in_time<A: Allocator + Copy>()
     ensures { (p : Plan A) (n : ℕ) (f : FilterPlan) (es : List Event) (v : View A) (q c occ wait : ℕ) (out : PortPlan A)
         (x : Copy Carried)
@@ -37,9 +37,9 @@ pub fn starts_in_time<A: Allocator + Copy>()
         → StartsWithin (opens_of out.list c) (time_on out x.item) wait x.at x.fate }
 {}
 
-/// A stream that comes once a period leaves once a period. Where the frames that a protected filter offers in a class of a port
-/// come once a period of the lists, each between two phases of it, they start once a period, between the first fit of the
-/// shortest from the first phase on and that of the longest from the last one on.
+/// A stream that comes once a period leaves once a period. Where the frames that a protected filter offers in a class
+/// of a port come once a period of the lists, each between two phases of it, they start once a period, between the
+/// first fit of the shortest from the first phase on and that of the longest from the last one on.
 pub fn keeps_phase<A: Allocator + Copy>()
     ensures { (p : Plan A) (n : ℕ) (f : FilterPlan) (es : List Event) (v : View A) (q base c period : ℕ)
         (from upto least most first last next : ℕ) (out : PortPlan A)
@@ -55,8 +55,9 @@ pub fn keeps_phase<A: Allocator + Copy>()
         → StartInPeriods base (opens_of out.list c) (time_on out) period first last next (alone.lists q c) }
 {}
 
-/// From hop to hop the period stays. Where the copies of a queue of a hop start once a period, and they alone come over a link to
-/// a port of the next hop, what comes there comes once a period, between the phases at which the copies are done, so much later.
+/// From hop to hop the period stays. Where the copies of a queue of a hop start once a period, and they alone come over
+/// a link to a port of the next hop, what comes there comes once a period, between the phases at which the copies are
+/// done, so much later.
 pub fn next_hop_in_periods<A: Allocator + Copy>()
     ensures { (n : Network A) (stream : List (ℕ × ℕ)) (commands : ℕ → List Input) (captures : ℕ → ℕ → List Captured)
         (views : Hop A → Option (View A)) (g h : Hop A) (q base c period first last least most next : ℕ) (s : Sender)
@@ -81,5 +82,6 @@ pub fn offers_in_periods<A: Allocator + Copy>()
         → ((x : Input) (a : Arrival) → In x xs → x.event ≡ Arrived a
         → (least ≤ occupied a.len out.speed) × (occupied a.len out.speed ≤ most))
         → InputsInPeriods base period from upto next xs
-        → ComesInPeriods base (offer_time out) period from upto least most next (in_class c (offers p out (events xs))) }
+        → ComesInPeriods base (offer_time out) period from upto least most next
+        (in_class c (offers p out (events xs))) }
 {}

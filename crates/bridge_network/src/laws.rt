@@ -24,9 +24,9 @@ ghost use Rattle.bridge_network.specs.Feeding.{takes_only};
 
 use std::alloc::Allocator;
 
-/// Each stream of a network has it to itself. What a whole run of an accepted network tells of a closed stream, at each of its
-/// hops, is what the stream tells alone on an idle network: a hop gets what the commands and the captures of open ports hold of
-/// it, what the hops of the stream sent to it over links, so much later, and nothing else.
+/// Each stream of a network has it to itself. What a whole run of an accepted network tells of a closed stream, at each
+/// of its hops, is what the stream tells alone on an idle network: a hop gets what the commands and the captures of
+/// open ports hold of it, what the hops of the stream sent to it over links, so much later, and nothing else.
 pub fn stream_alone<A: Allocator + Copy>()
     ensures { (n : Network A) (stream : List (ℕ × ℕ)) (commands : ℕ → List Input) (captures : ℕ → ℕ → List Captured)
         (o : ℕ → Outcome A)
@@ -37,8 +37,8 @@ pub fn stream_alone<A: Allocator + Copy>()
         → IsAlone n commands captures stream (λ (h : Hop A). lookup (nat_eq h.number) (o h.bridge).filters.items) }
 {}
 
-/// A stream alone on an idle network has one course: the frames that come to it from outside and its own commands leave nothing
-/// open of what is told of any of its hops, whichever way the links lead.
+/// A stream alone on an idle network has one course: the frames that come to it from outside and its own commands leave
+/// nothing open of what is told of any of its hops, whichever way the links lead.
 pub fn one_course<A: Allocator + Copy>()
     ensures { (n : Network A) (stream : List (ℕ × ℕ)) (commands others : ℕ → List Input)
         (captures frames : ℕ → ℕ → List Captured) (tells says : Hop A → Option (View A)) (h : Hop A) (u v : View A)
@@ -51,8 +51,8 @@ pub fn one_course<A: Allocator + Copy>()
         → TellTheSame u v }
 {}
 
-/// Other traffic changes nothing of a stream. Two whole runs of an accepted network in which the same comes of a closed stream
-/// from outside tell the same of each of its hops, whatever else came to any bridge.
+/// Other traffic changes nothing of a stream. Two whole runs of an accepted network in which the same comes of a closed
+/// stream from outside tell the same of each of its hops, whatever else came to any bridge.
 pub fn others_change_nothing<A: Allocator + Copy>()
     ensures { (n : Network A) (stream : List (ℕ × ℕ)) (commands others : ℕ → List Input)
         (captures frames : ℕ → ℕ → List Captured) (o r : ℕ → Outcome A) (h : Hop A) (u v : View A)
@@ -69,9 +69,9 @@ pub fn others_change_nothing<A: Allocator + Copy>()
         → TellTheSame u v }
 {}
 
-/// Nobody forges a frame of a stream over a link that passes the test. Where the test on the plans at its two ends passes, the
-/// filter of a hop takes, of all that the port at the other end may send, whatever comes to that bridge, only frames of filters
-/// of the stream.
+/// Nobody forges a frame of a stream over a link that passes the test. Where the test on the plans at its two ends
+/// passes, the filter of a hop takes, of all that the port at the other end may send, whatever comes to that bridge,
+/// only frames of filters of the stream.
 pub fn only_stream_is_taken<A: Allocator + Copy>()
     ensures { (p next : Plan A) (is_of_stream : ℕ → Bool) (q r n t : ℕ) (f : FilterPlan) (out on : PortPlan A)
         (es : List Event) (o : Offer)
@@ -96,8 +96,8 @@ pub fn tested_is_closed<A: Allocator + Copy>()
         → IsClosed n stream }
 {}
 
-/// A network can be run bridge by bridge: whole runs of single bridges, in which what comes over each link is what left its
-/// other end, are a run of the network.
+/// A network can be run bridge by bridge: whole runs of single bridges, in which what comes over each link is what left
+/// its other end, are a run of the network.
 pub fn settled_is_run<A: Allocator + Copy>()
     ensures { (n : Network A) (commands : ℕ → List Input) (captures : ℕ → ℕ → List Captured) (o : ℕ → Outcome A)
         → HasSettled n commands captures o
