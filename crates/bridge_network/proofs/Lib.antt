@@ -1,0 +1,10 @@
+pub mod Members
+pub mod Chain
+pub mod Once
+pub mod Marking
+pub mod Feeding
+pub mod Closed
+pub mod Settling
+pub mod Paced
+pub mod Periods
+pub mod Hopping

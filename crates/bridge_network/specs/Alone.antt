@@ -1,0 +1,72 @@
+-- A stream alone on an idle network.
+use Rattle.std.specs.Prelude.{◌≡◌, ℕ, true, ◌<◌, Option, Some, None, List, ◌↔◌}
+use Rattle.bridge_base.specs.Members.{In, Rising}
+use Rattle.bridge_capture.specs.Grammar.{Captured}
+use Rattle.bridge_filter.specs.declared.FilterPlan.{FilterPlan}
+use Rattle.bridge_port.specs.Schedule.{Copy, Started}
+use Rattle.bridge_config.specs.declared.ports.PortPlan.{PortPlan}
+use Rattle.bridge_config.specs.Model.{Plan}
+use Rattle.bridge_config.specs.Rules.{port_at}
+use Rattle.bridge_run.specs.declared.outcome.View.{View}
+use Rattle.bridge_run.specs.Events.{is_own, steps}
+use Rattle.bridge_run.specs.Offers.{Carried}
+use Rattle.bridge_run.specs.Merge.{Input, NotBefore, of_rank, events, own_inputs, frame}
+use Rattle.bridge_run.specs.Outputs.{departure}
+use Rattle.bridge_run.specs.Runs.{AreSolo, IsView}
+use Rattle.bridge_network.specs.Networks.{Network, Sender, sender, later, outside, Hop, hop, IsHop, AreTimed}
+
+-- a copy of a queue of a hop left its bridge, and comes over the link to port q of a hop, whose filter takes it
+pub record Reaches {A : Type 0} (n : Network A) (stream : List (ℕ × ℕ)) (lists : Hop A → ℕ → ℕ → List (Copy Carried))
+    (h : Hop A) (q : ℕ) (s : Sender) (x : Input) : Type 0 where
+  pub plan : Plan A
+  pub number : ℕ
+  pub filter : FilterPlan
+  pub is : IsHop n stream (hop s.from.bridge plan number filter)
+  pub out : PortPlan A
+  pub at : port_at plan.ports s.from.port ≡ Some out
+  pub class : ℕ
+  pub copy : Copy Carried
+  pub start : ℕ
+  pub listed : In copy (lists (hop s.from.bridge plan number filter) s.from.port class)
+  pub started : copy.fate ≡ Started start
+  pub input : x ≡ frame q (later s.delay (departure out.speed start copy.item))
+  pub own : is_own h.plan h.number h.filter x.event ≡ true
+
+-- a came after b, at a later moment
+abbrev pub IsLater : Input → Input → Type 0
+IsLater a b = b.at < a.at
+
+-- of what comes to port q of a hop's bridge from outside what is of the hop: frames of its filter, and its commands
+abbrev pub own_first : {A : Type 0} → Hop A → (ℕ → List Input) → (ℕ → ℕ → List Captured) → ℕ → List Input
+own_first h commands captures q = own_inputs h.plan h.number h.filter (outside commands captures h.bridge q)
+
+-- the copies of all queues of a port, by the number of the port
+abbrev pub InQueue : (ℕ → ℕ → List (Copy Carried)) → ℕ → Copy Carried → Type 0
+InQueue lists q x = (c : ℕ) × In x (lists q c)
+
+-- a stream alone on an idle network, of whose hops these views tell: each hop has its own inputs (`own`), on open ports
+-- those from outside (`first`), on links what the hops of the stream sent to it and nothing else (`next`), one after
+-- another (`apart`); each of its queues (`lists`) is alone on an idle bridge (`solo`), and so is what is told of it
+-- (`view`)
+pub record IsAlone {A : Type 0} (n : Network A) (commands : ℕ → List Input) (captures : ℕ → ℕ → List Captured)
+    (stream : List (ℕ × ℕ)) (views : Hop A → Option (View A)) : Type 0 where
+  pub own : Hop A → List Input
+  pub lists : Hop A → ℕ → ℕ → List (Copy Carried)
+  pub order : (h : Hop A) → IsHop n stream h → Rising NotBefore (own h)
+  pub timed : (h : Hop A) → IsHop n stream h → AreTimed (own h)
+  pub first : (h : Hop A) (q : ℕ) → IsHop n stream h → sender n.links h.bridge q ≡ None
+      → of_rank q (own h) ≡ own_first h commands captures q
+  pub apart : (h : Hop A) (q : ℕ) (s : Sender) → IsHop n stream h → sender n.links h.bridge q ≡ Some s
+      → Rising IsLater (of_rank q (own h))
+  pub next : (h : Hop A) (q : ℕ) (s : Sender) → IsHop n stream h → sender n.links h.bridge q ≡ Some s
+      → (x : Input) → In x (of_rank q (own h)) ↔ Reaches n stream lists h q s x
+  pub solo : (h : Hop A) → IsHop n stream h → AreSolo h.plan (events (own h)) (lists h)
+  pub view : (h : Hop A) (v : View A) → IsHop n stream h → views h ≡ Some v
+      → IsView h.plan h.number h.filter (steps h.plan (events (own h))) (InQueue (lists h)) v
+
+-- on each open port, and of the commands, the same comes of the stream from outside
+abbrev pub HaveSameFirst : {A : Type 0} → Network A → List (ℕ × ℕ) → (ℕ → List Input) → (ℕ → ℕ → List Captured)
+    → (ℕ → List Input) → (ℕ → ℕ → List Captured) → Type 0
+HaveSameFirst {A} n stream commands captures others frames =
+    (h : Hop A) (q : ℕ) → IsHop n stream h → sender n.links h.bridge q ≡ None
+    → own_first h commands captures q ≡ own_first h others frames q
