@@ -17,14 +17,14 @@ use Rattle.bridge_config.specs.Model.{Plan}
 use Rattle.bridge_config.specs.Rules.{port_at}
 use Rattle.bridge_run.specs.declared.outcome.View.{View}
 use Rattle.bridge_run.specs.declared.outcome.Outcome.{Outcome}
-use Rattle.bridge_run.specs.Events.{Event, arrival, flow_of, is_own, own, steps, calls, police_of}
+use Rattle.bridge_run.specs.Events.{Event, arrival, flow_of, is_own, own, calls, police_of}
 use Rattle.bridge_run.specs.Offers.{Carried, offers, in_class}
 use Rattle.bridge_run.specs.Merge.{Input, NotBefore, of_rank, events, inputs_of, own_inputs, frame}
 use Rattle.bridge_run.specs.Outputs.{IsOutput, Leaves, departure}
 use Rattle.bridge_run.specs.Runs.{AreSolo, AtPort, IsView}
 use Rattle.bridge_run.proofs.Safe.{IsSafe, apart}
 use Rattle.bridge_run.proofs.Steps.{steps_own}
-use Rattle.bridge_run.proofs.Headline.{as_offer, in_offered, only_in, picked_in, offers_if, queues, solo_queues, lies_by, view_as}
+use Rattle.bridge_run.proofs.Headline.{origins_own, as_offer, in_offered, only_in, picked_in, offers_if, queues, solo_queues, lies_by, view_as}
 use Rattle.bridge_run.proofs.Merging.{rising_own, own_of_rank, events_own}
 use Rattle.bridge_network.specs.Networks.{Network, Sender, sender, later, outside, coming, comes, IsNetworkRun, IsTimed, AreTimed, IsNetwork, Hop, hop, IsHop, IsOfStream, IsClosed}
 use Rattle.bridge_network.specs.Alone.{Reaches, IsLater, IsAlone}
@@ -141,7 +141,7 @@ module _ {A : Type 0} (n : Network A) (stream : List (ℕ × ℕ)) (commands : �
       let all : AreSolo h.plan (own h.plan h.number h.filter es) (lists_of h) = solo_queues h.plan h.number h.filter safe es told.moments (run.lists h.bridge) told.run told.whole in
       subst (λ (ds : List Event). AreSolo h.plan ds (lists_of h)) (events_own h.plan h.number h.filter (run.inputs h.bridge)) all
 
-  own_view : (h : Hop A) (v : View A) → IsHop n stream h → lookup (nat_eq h.number) (o h.bridge).filters.items ≡ Some v → IsView h.plan h.number h.filter (steps h.plan (events (own_of h))) (λ q x. (c : ℕ) × In x (lists_of h q c)) v
+  own_view : (h : Hop A) (v : View A) → IsHop n stream h → lookup (nat_eq h.number) (o h.bridge).filters.items ≡ Some v → IsView h.plan h.number h.filter (events (own_of h)) (λ q x. (c : ℕ) × In x (lists_of h q c)) v
   own_view h v is found =
       let safe = safe_of n stream h net is in
       let es = events (run.inputs h.bridge) in
@@ -152,8 +152,8 @@ module _ {A : Type 0} (n : Network A) (stream : List (ℕ × ℕ)) (commands : �
       let to : (q : ℕ) (x : Copy Carried) → x.item.flow ≡ Some h.number → P q x → Q q x = λ q x e i. (x.class, lies_by h.plan h.number h.filter safe es told.moments lists told.run q x (port_at h.plan.ports q) refl e i) in
       let from : (q : ℕ) (x : Copy Carried) → x.item.flow ≡ Some h.number → Q q x → P q x = λ q x e i. queued_in h.plan h.number h.filter es lists q i.0 x i.1 in
       let listed : lookup (nat_eq h.number) h.plan.filters ≡ Some h.filter = member_found h.plan.filters h.number h.filter safe.plan.filters.own safe.listed in
-      let all : IsView h.plan h.number h.filter (steps h.plan (own h.plan h.number h.filter es)) Q v = view_as h.plan h.number h.filter (apart h.plan h.number h.filter safe) (steps h.plan es) (steps h.plan (own h.plan h.number h.filter es)) (told_listed (police_of h.plan) (calls h.plan es)) (steps_own h.plan h.number h.filter (apart h.plan h.number h.filter safe) es) P Q to from v (told.views h.number h.filter v listed found) in
-      subst (λ (ds : List Event). IsView h.plan h.number h.filter (steps h.plan ds) Q v) (events_own h.plan h.number h.filter (run.inputs h.bridge)) all
+      let all : IsView h.plan h.number h.filter (own h.plan h.number h.filter es) Q v = view_as h.plan h.number h.filter (apart h.plan h.number h.filter safe) es (own h.plan h.number h.filter es) (told_listed (police_of h.plan) (calls h.plan es)) (steps_own h.plan h.number h.filter (apart h.plan h.number h.filter safe) es) (origins_own h.plan h.number h.filter es) P Q to from v (told.views h.number h.filter v listed found) in
+      subst (λ (ds : List Event). IsView h.plan h.number h.filter ds Q v) (events_own h.plan h.number h.filter (run.inputs h.bridge)) all
 
   -- the stream is as it is alone on an idle network
   pub alone_in : ((b : ℕ) → AreTimed (commands b)) → IsClosed n stream → IsAlone n commands captures stream (λ (h : Hop A). lookup (nat_eq h.number) (o h.bridge).filters.items)

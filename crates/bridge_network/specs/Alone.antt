@@ -8,7 +8,7 @@ use Rattle.bridge_config.specs.declared.ports.PortPlan.{PortPlan}
 use Rattle.bridge_config.specs.Model.{Plan}
 use Rattle.bridge_config.specs.Rules.{port_at}
 use Rattle.bridge_run.specs.declared.outcome.View.{View}
-use Rattle.bridge_run.specs.Events.{is_own, steps}
+use Rattle.bridge_run.specs.Events.{is_own}
 use Rattle.bridge_run.specs.Offers.{Carried}
 use Rattle.bridge_run.specs.Merge.{Input, NotBefore, of_rank, events, own_inputs, frame}
 use Rattle.bridge_run.specs.Outputs.{departure}
@@ -62,7 +62,7 @@ pub record IsAlone {A : Type 0} (n : Network A) (commands : ℕ → List Input) 
       → (x : Input) → In x (of_rank q (own h)) ↔ Reaches n stream lists h q s x
   pub solo : (h : Hop A) → IsHop n stream h → AreSolo h.plan (events (own h)) (lists h)
   pub view : (h : Hop A) (v : View A) → IsHop n stream h → views h ≡ Some v
-      → IsView h.plan h.number h.filter (steps h.plan (events (own h))) (InQueue (lists h)) v
+      → IsView h.plan h.number h.filter (events (own h)) (InQueue (lists h)) v
 
 -- on each open port, and of the commands, the same comes of the stream from outside
 abbrev pub HaveSameFirst : {A : Type 0} → Network A → List (ℕ × ℕ) → (ℕ → List Input) → (ℕ → ℕ → List Captured)

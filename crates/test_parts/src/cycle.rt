@@ -192,7 +192,9 @@ fn fit_of<A: Allocator + Copy>(
     let Run::For(most) = longest_run(list, class) else {
         return Err(Fail::from("the class is open at some moments, and not at all"));
     };
-    must(occ <= most, "fit of", 1)?;
+    if occ > most {
+        return Err(Fail::from("a length beyond the longest run"));
+    }
     Ok(first_fit(list, class, occ, from))
 }
 

@@ -75,7 +75,9 @@ fn offer<A: Allocator + Copy>(
     must(t < 4_000_000_000_000_000_000, "offer", 3)?;
     must(len <= 9_216, "offer", 4)?;
     must(port.offered() < 16_000_000, "offer", 5)?;
-    must(is_calm(port, t), "offer", 6)?;
+    if !is_calm(port, t) {
+        return Err(Fail::from("an offer behind a start"));
+    }
     Ok(match port.offer(t, class, Item { len, load: len }) {
         Ok(()) => None,
         Err((_, refusal)) => Some(refusal),

@@ -204,6 +204,6 @@ fn each_growth_of_a_check_is_refused_in_turn(rt: HostRuntime) -> Result<(), Fail
     let heap = rt.alloc();
     let read = refuse_each(heap, |gate| reading(gate, heap))?;
     let growths = refuse_each(heap, |gate| accepting(gate, heap))?;
-    assert!(rt; growths > read + 2);
+    assert!(rt; growths > read.saturating_add(2));
     Ok(())
 }
