@@ -2,16 +2,17 @@
 use crate::foreign::{Numbers, foreign};
 use bridge_check::Accepted;
 use bridge_config::Command;
+use bridge_events::{RowAgenda, TreeAgenda};
 use bridge_filter::Clear;
 use bridge_report::{has_section, report, section, write_report};
 use bridge_run::Outcome;
-use fixture_bridge::same;
+use fixture_bridge::{driven, same};
 use fixture_runs::frames::{Frame, TO_A, capture, flood, header};
 use fixture_runs::plans::{
     AT_2_000_000, BASE, BLOCKS, Change, NEXT_TURNS, NEXT_WINDOWS, ONE_FRAME, ROOM_FOR_ONE,
     accepted_of,
 };
-use fixture_runs::runs::{each_way, planned};
+use fixture_runs::runs::{FORMS, each_way, outcome_of, planned};
 use std::alloc::{Allocator, Global};
 use std::test::Fail;
 
@@ -41,7 +42,34 @@ fn is_shown<A: Allocator + Copy>(alloc: A, outcome: &Outcome<A>, wanted: &str) -
     same(&text.as_str(), &wanted, "a section")
 }
 
-/// Tests the section of filter 10 of a run in each way.
+/// Tests the section of filter 10 of what a run tells, also as the front of a report.
+fn is_told(alloc: Global, outcome: Outcome<Global>, wanted: &str) -> Result<(), Fail> {
+    is_shown(alloc, &outcome, wanted)?;
+    begins_with(alloc, &outcome, wanted)
+}
+
+/// Tests the section of filter 10 of a run in each way. (A closure that has `wanted` in it is none that `each_way` may be
+/// given: its captures are of another lifetime.)
+fn shows_under(
+    alloc: Global,
+    accepted: &Accepted<Global>,
+    command: Option<Command>,
+    texts: [&[u8]; 3],
+    wanted: &str,
+) -> Result<(), Fail> {
+    for form in FORMS {
+        for single in [false, true] {
+            let outcome = outcome_of(alloc, alloc, accepted, command, *form, texts, single, None)?;
+            is_told(alloc, outcome, wanted)?;
+        }
+    }
+    let (outcome, _) = driven::<RowAgenda>(alloc, accepted, command, texts)?;
+    is_told(alloc, outcome, wanted)?;
+    let (outcome, _) = driven::<TreeAgenda>(alloc, accepted, command, texts)?;
+    is_told(alloc, outcome, wanted)
+}
+
+/// Tests the section of filter 10 of a run under a plan and a command.
 fn shows_with(
     alloc: Global,
     changes: &[Change],
@@ -50,10 +78,7 @@ fn shows_with(
     wanted: &str,
 ) -> Result<(), Fail> {
     let accepted = planned(alloc, alloc, changes)?;
-    let shown = each_way(alloc, &accepted, command, texts, None, |outcome| {
-        is_shown(alloc, outcome, wanted)?;
-        begins_with(alloc, outcome, wanted)
-    });
+    let shown = shows_under(alloc, &accepted, command, texts, wanted);
     drop(accepted);
     shown
 }
