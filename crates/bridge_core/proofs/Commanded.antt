@@ -41,8 +41,8 @@ behind_next : (c : Command) (next : Option Input) (xs : List Input) → IfSome n
 behind_next c None xs h = tt
 behind_next c (Some y) xs h = behind c y h
 
-pub command_next : {R W G A : Type 0} (remaining : R → Option (List ℕ)) (contents : W → Option (List ℕ)) (p : Plan A) (texts : ℕ → List ℕ) (commanded : List Input) (c : Command) (next : Option Input) (olds : List W) (b d : RelayState G A) (lanes : List (Lane A)) (sources : List R) (sinks news : List W) (left : ℕ → List Captured) → (u : IsUnderWay remaining contents p texts commanded (Some (asked c)) olds b lanes sources sinks) → IfSome next (λ y. c.at ≤ y.at) → AreLater (Some c.at) lanes → Stands p d (Cleared c.clear c.number ∷ events u.inputs) left → AreWritten contents (numbers lanes) olds news left → IsUnderWay remaining contents p texts (asked c ∷ commanded) next olds d lanes sources news
-command_next remaining contents p texts commanded c next olds b d lanes sources sinks news left u after later stands written = record {
+pub command_next : {R W G A : Type 0} (remaining : R → Option (List ℕ)) (contents : W → Option (List ℕ)) (p : Plan A) (texts : ℕ → List ℕ) (commanded : List Input) (c : Command) (next : Option Input) (olds : List W) (b d : RelayState G A) (lanes : List (Lane A)) (sources : List R) (sinks news : List W) (left : ℕ → List Captured) → (u : IsUnderWay remaining contents p texts commanded (Some (asked c)) olds b lanes sources sinks) → IfSome next (λ y. c.at ≤ y.at) → AreLater (Some c.at) lanes → Stands p d (Cleared c.clear c.number ∷ events u.inputs) left → c.at ≤ d.earliest → AreWritten contents (numbers lanes) olds news left → IsUnderWay remaining contents p texts (asked c ∷ commanded) next olds d lanes sources news
+command_next remaining contents p texts commanded c next olds b d lanes sources sinks news left u after later stands late written = record {
   frames = u.frames;
   inputs = asked c ∷ u.inputs;
   left = left;
@@ -56,6 +56,7 @@ command_next remaining contents p texts commanded c next olds b d lanes sources 
   follow = λ i l e at is. let z = later i l e at is in let y = some_is c.at z.0 z.1 in let x = z.2 in behind c (frame l.number (view e)) (omega (arith, y, x));
   covered = u.covered;
   stands = stands;
+  late = late;
   written = written;
 }
 

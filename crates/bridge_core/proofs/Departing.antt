@@ -7,8 +7,8 @@ use Rattle.bridge_lanes.specs.declared.fault.RunFault.TheVariants as run
 use Rattle.bridge_events.specs.Least.{IsLeast}
 use Rattle.bridge_config.specs.Model.{Plan}
 use Rattle.bridge_run.specs.Events.{Event}
-use Rattle.bridge_run.specs.Outputs.{HasRun}
-use Rattle.bridge_parts.specs.Ports.{NotBefore}
+use Rattle.bridge_run.specs.Next.{ReachesStart}
+use Rattle.bridge_parts.specs.Ports.{IsAfter, NotBefore}
 use Rattle.bridge_relay.specs.Relays.{RelayState}
 use Rattle.bridge_core.specs.Lines.{AreWrittenBut, Departs, Writes}
 
@@ -18,6 +18,14 @@ least_same held q k r l a b = elim (a.1 r l b.0) [
   | inl less ↦ elim (b.1 q k a.0) [ inl more ↦ absurd (omega arith) | inr same ↦ sym same.0 ]
   | inr same ↦ same.0
 ]
+
+-- what is held after a start is not before what that was not before
+pub after_start : (held : ℕ → Option ℕ) (p t h : ℕ) → IsAfter held p t → h ≤ t → NotBefore held h
+after_start held p t h after low q k is = elim (after q k is) [ inl less ↦ omega (arith, less, low) | inr same ↦ let e = same.0 in omega (arith, e, low) ]
+
+-- the least moment is not before one that nothing held is before
+pub from_on : (held : ℕ → Option ℕ) (q k h : ℕ) → IsLeast held (Some (q, k)) → NotBefore held h → h ≤ k
+from_on held q k h least waits = waits q k least.0
 
 -- nothing held is before the least moment
 pub none_before : (held : ℕ → Option ℕ) (q k t : ℕ) → IsLeast held (Some (q, k)) → t ≤ k → NotBefore held t
@@ -47,12 +55,20 @@ sooner held until q k r l t u due start at less is =
     let moment = same_Some u t (sym at ∙ is) in
     omega arith
 
-pub early_at : (until : Option ℕ) (now t : ℕ) → IfSome until (λ t. now ≤ t) → until ≡ Some t → now ≤ t
-early_at None now t early is = absurd (none-some t is)
-early_at (Some u) now t early is = subst (λ z. now ≤ z) (same_Some u t is) early
+-- that moment bounds the start
+before_all : (until : Option ℕ) (start : ℕ) → ((t : ℕ) → until ≡ Some t → start < t) → IfSome until (λ t. start < t)
+before_all None start h = tt
+before_all (Some t) start h = h t refl
 
 -- the sink failed
-pub departs_stop : {G A W : Type 0} (contents : W → Option (List ℕ)) (p : Plan A) (es : List Event) (until : Option ℕ) (b : RelayState G A) (port : ℕ) (ports : List ℕ) (olds news : List W) (left : ℕ → List Captured) (fault : RunFault) → HasRun p es until left → Writes contents port ports olds news left (Err fault) → Departs contents p es until b ports olds news (Err fault)
-departs_stop contents p es until b port ports olds news left (run.Write q) ran w = (left, ran, subst (λ z. AreWrittenBut contents z ports olds news left) (sym w.0) w.1)
-departs_stop contents p es until b port ports olds news left run.NoMemory ran w = absurd w
-departs_stop contents p es until b port ports olds news left (run.Capture q fault) ran w = absurd w
+pub departs_stop : {G A W : Type 0} (contents : W → Option (List ℕ)) (p : Plan A) (es : List Event) (from : ℕ) (until : Option ℕ) (b : RelayState G A) (port moment : ℕ) (ports : List ℕ) (olds news : List W) (left : ℕ → List Captured) (fault : RunFault) → from ≤ moment → ((t : ℕ) → until ≡ Some t → moment < t) → ReachesStart p es moment port left → Writes contents port ports olds news left (Err fault) → Departs contents p es from until b ports olds news (Err fault)
+departs_stop contents p es from until b port moment ports olds news left (run.Write q) late before reaches w = record {
+  left = left;
+  moment = moment;
+  late = late;
+  early = before_all until moment before;
+  reaches = subst (λ z. ReachesStart p es moment z left) (sym w.0) reaches;
+  written = subst (λ z. AreWrittenBut contents z ports olds news left) (sym w.0) w.1;
+}
+departs_stop contents p es from until b port moment ports olds news left run.NoMemory late before reaches w = absurd w
+departs_stop contents p es from until b port moment ports olds news left (run.Capture q fault) late before reaches w = absurd w

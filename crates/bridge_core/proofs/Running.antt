@@ -83,8 +83,8 @@ none_ahead None h = refl
 none_ahead (Some p) h = absurd (let z = (h p refl).1 in cc)
 
 -- the last starts were made, or a sink failed
-pub gone : {R W G A : Type 0} (remaining : R → Option (List ℕ)) (contents : W → Option (List ℕ)) (p : Plan A) (texts : ℕ → List ℕ) (cs : List Command) (olds : List W) (b c : RelayState G A) (lanes : List (Lane A)) (sources : List R) (sinks news : List W) (ports : List ℕ) (r : Result (Unit {0}) RunFault) → (u : IsUnderWay remaining contents p texts (commands_of cs) None olds b lanes sources sinks) → length sources ≡ length lanes → ports ≡ numbers lanes → AreLater None lanes → Departs contents p (events u.inputs) None c ports olds news r → HasGone remaining contents p texts cs olds c lanes sources news r
-gone remaining contents p texts cs olds b c lanes sources sinks news ports (Ok x) u size same later d = record {
+pub gone : {R W G A : Type 0} (remaining : R → Option (List ℕ)) (contents : W → Option (List ℕ)) (p : Plan A) (texts : ℕ → List ℕ) (cs : List Command) (olds : List W) (b c : RelayState G A) (lanes : List (Lane A)) (sources : List R) (sinks news : List W) (ports : List ℕ) (r : Result (Unit {0}) RunFault) → (u : IsUnderWay remaining contents p texts (commands_of cs) None olds b lanes sources sinks) → length sources ≡ length lanes → ports ≡ numbers lanes → AreLater None lanes → b.earliest ≤ c.earliest → Departs contents p (events u.inputs) b.earliest None c ports olds news r → HasGone remaining contents p texts cs olds c lanes sources news r
+gone remaining contents p texts cs olds b c lanes sources sinks news ports (Ok x) u size same later onward d = record {
   under = record {
     frames = u.frames;
     inputs = u.inputs;
@@ -94,11 +94,12 @@ gone remaining contents p texts cs olds b c lanes sources sinks news ports (Ok x
     follow = u.follow;
     covered = u.covered;
     stands = d.1;
+    late = let late = u.late in omega (arith, late, onward);
     written = subst (λ ns. AreWritten contents ns olds news d.0) same d.2;
   };
   none = λ i lane e. none_ahead lane.ahead (λ q a. later i lane q e a);
 }
-gone remaining contents p texts cs olds b c lanes sources sinks news ports (Err fault) u size same later d = λ rests are.
+gone remaining contents p texts cs olds b c lanes sources sinks news ports (Err fault) u size same later onward d = λ rests are.
     stops_behind p texts rests cs contents (numbers lanes) olds news fault (depart_stops remaining contents p texts (commands_of cs) None olds b lanes sources sinks u size rests None c ports news fault same later tt d)
 
 pub idle_at : (P : Type 0) (r : Result (Unit {0}) RunFault) → OnOk r (◌≡◌ {A = Option ℕ} None None → P) → OnOk r P

@@ -103,6 +103,7 @@ under_first {R} {W} {G} {A} remaining contents p ports texts next olds b lanes s
   follow = λ i lane c e a. tt;
   covered = λ q out e. subst (λ ns. (i : ℕ) × (slice_get ns i ≡ Some q)) (sym same) (covered p ports q out are e);
   stands = stands;
+  late = omega arith;
   written = subst (λ ns. AreWritten contents ns olds sinks (λ q. [])) (sym same) written;
 }
 

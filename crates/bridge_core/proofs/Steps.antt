@@ -17,7 +17,8 @@ use Rattle.bridge_cycle.proofs.Cases.{by_bool}
 use Rattle.bridge_lanes.specs.declared.fault.RunFault.{RunFault}
 use Rattle.bridge_lanes.specs.declared.fault.RunFault.TheVariants as run
 use Rattle.bridge_run.specs.Merge.{Input, frame, NotBefore, events, newest}
-use Rattle.bridge_run.specs.Outputs.{Reaches, HasRun}
+use Rattle.bridge_run.specs.Next.{ReachesStart}
+use Rattle.bridge_run.specs.Outputs.{Reaches}
 use Rattle.bridge_relay.specs.Relays.{RelayState, Stands}
 use Rattle.bridge_lanes.specs.declared.lane.Lane.{Lane}
 use Rattle.bridge_lanes.specs.Lanes.{AreAheadOf, fault_at, IsAhead, Finds, IsFirstAt, numbers, one_ahead}
@@ -139,6 +140,13 @@ pub waits_of : (n : ℕ) (next : Option Input) → IfSome next (λ y. n < y.at) 
 waits_of n None h = tt
 waits_of n (Some y) h = (n, refl, omega (arith, h))
 
+later_than : (until : Option ℕ) (moment n : ℕ) → IfSome until (λ t. moment < t) → (t : ℕ) × (until ≡ Some t) × (t ≤ n) → (t : ℕ) × (Some (moment + 1) ≡ Some t) × (t ≤ n)
+later_than until moment n before (t, is, low) = (moment + 1, refl, let less : moment < t = subst (λ (o : Option ℕ). IfSome o (λ t. moment < t)) is before in omega (arith, less, low))
+
+waits_then : (until : Option ℕ) (moment : ℕ) (next : Option Input) → IfSome until (λ t. moment < t) → IfSome next (λ y. (t : ℕ) × (until ≡ Some t) × (t ≤ y.at)) → IfSome next (λ y. moment < y.at)
+waits_then until moment None before h = tt
+waits_then until moment (Some y) before (t, is, low) = let less : moment < t = subst (λ (o : Option ℕ). IfSome o (λ t. moment < t)) is before in omega (arith, less, low)
+
 waits_at : (n : ℕ) (next : Option Input) → IfSome next (λ y. n < y.at) → IfSome next (λ y. n ≤ y.at)
 waits_at n None h = tt
 waits_at n (Some y) h = omega (arith, h)
@@ -169,25 +177,26 @@ module _ {R W G A : Type 0} (remaining : R → Option (List ℕ)) (contents : W 
       (place.0, lane.0, lane.1, lane.2, subst (λ (n : ℕ). Finds (texts n) (u.frames n) lane.0.ahead) lane.2 finds)
 
   -- a sink failed while starts before a moment were made
-  pub write_stops : (until : Option ℕ) (port : ℕ) (news : List W) (left : ℕ → List Captured) → AreLater until lanes → IfSome next (λ c. (t : ℕ) × (until ≡ Some t) × (t ≤ c.at)) → HasRun p (events u.inputs) until left → AreWrittenBut contents port (numbers lanes) olds news left → StopsWriting p texts commanded next contents (numbers lanes) olds news port
-  write_stops until port news left later waits run written = record {
+  pub write_stops : (until : Option ℕ) (moment port : ℕ) (news : List W) (left : ℕ → List Captured) → AreLater until lanes → IfSome next (λ c. (t : ℕ) × (until ≡ Some t) × (t ≤ c.at)) → b.earliest ≤ moment → IfSome until (λ t. moment < t) → ReachesStart p (events u.inputs) moment port left → AreWrittenBut contents port (numbers lanes) olds news left → StopsWriting p texts commanded next contents (numbers lanes) olds news port
+  write_stops until moment port news left later waits from before reaches written = record {
     frames = u.frames;
     inputs = u.inputs;
     left = left;
-    until = until;
+    moment = moment;
     taken = u.taken;
+    late = let late = u.late in omega (arith, late, from);
     looks = λ q out e.
         let z = port_looks q out e in
-        looks_from until (texts q) q (u.frames q) u.inputs z.1.ahead z.4 (λ d h. subst (λ (n : ℕ). Follows (frame n (view d)) u.inputs) z.3 (u.follow z.0 z.1 d z.2 h)) (λ d h. later z.0 z.1 d z.2 h);
-    waits = waits;
-    run = run;
+        looks_from (Some (moment + 1)) (texts q) q (u.frames q) u.inputs z.1.ahead z.4 (λ d h. subst (λ (n : ℕ). Follows (frame n (view d)) u.inputs) z.3 (u.follow z.0 z.1 d z.2 h)) (λ d h. later_than until moment d.time before (later z.0 z.1 d z.2 h));
+    waits = waits_then until moment next before waits;
+    reaches = reaches;
     written = written;
   }
 
   -- starts before a moment were made, and a sink failed
-  pub depart_stops : (rests : ℕ → Option (List ℕ)) (until : Option ℕ) (c : RelayState G A) (ports : List ℕ) (news : List W) (fault : RunFault) → ports ≡ numbers lanes → AreLater until lanes → IfSome next (λ y. (t : ℕ) × (until ≡ Some t) × (t ≤ y.at)) → Departs contents p (events u.inputs) until c ports olds news (Err fault) → StopsSo p texts rests commanded next contents (numbers lanes) olds news fault
+  pub depart_stops : (rests : ℕ → Option (List ℕ)) (until : Option ℕ) (c : RelayState G A) (ports : List ℕ) (news : List W) (fault : RunFault) → ports ≡ numbers lanes → AreLater until lanes → IfSome next (λ y. (t : ℕ) × (until ≡ Some t) × (t ≤ y.at)) → Departs contents p (events u.inputs) b.earliest until c ports olds news (Err fault) → StopsSo p texts rests commanded next contents (numbers lanes) olds news fault
   depart_stops rests until c ports news (run.Capture port fault) same later waits d = absurd d
-  depart_stops rests until c ports news (run.Write port) same later waits d = write_stops until port news d.0 later waits d.1 (subst (λ ns. AreWrittenBut contents port ns olds news d.0) same d.2)
+  depart_stops rests until c ports news (run.Write port) same later waits d = write_stops until d.moment port news d.left later waits d.late d.early d.reaches (subst (λ ns. AreWrittenBut contents port ns olds news d.left) same d.written)
   depart_stops rests until c ports news run.NoMemory same later waits d = absurd d
 
   -- what was written, by the numbers of the lines
@@ -228,8 +237,8 @@ module _ {R W G A : Type 0} (remaining : R → Option (List ℕ)) (contents : W 
         let at : port_at p.ports first.lane.number ≡ Some known.0 = subst (λ (v : Plan A). port_at v.ports first.lane.number ≡ Some known.0) u.stands.plan known.1 in
         taken_frame p texts commanded next u.frames u.inputs first.lane.number (view first.packet) known.0 u.taken (may.from place first.lane first.there) at gave_next (u.follow place first.lane first.packet first.there first.ahead) before
 
-    pub went_on : (m : Lane A) (r : R) (c : RelayState G A) (news : List W) (left : ℕ → List Captured) → m.number ≡ first.lane.number → ((d : Packet A) → m.ahead ≡ Some d → first.packet.time ≤ d.time) → IsAhead m (remaining r) (texts first.lane.number) (u.frames first.lane.number ++ view first.packet ∷ []) → Stands p c (events (frame first.lane.number (view first.packet) ∷ u.inputs)) left → AreWritten contents (numbers lanes) olds news left → IsUnderWay remaining contents p texts commanded next olds c (slice_set lanes place m) (slice_set sources place r) news
-    went_on m r c news left number onward looks stands written =
+    pub went_on : (m : Lane A) (r : R) (c : RelayState G A) (news : List W) (left : ℕ → List Captured) → m.number ≡ first.lane.number → ((d : Packet A) → m.ahead ≡ Some d → first.packet.time ≤ d.time) → IsAhead m (remaining r) (texts first.lane.number) (u.frames first.lane.number ++ view first.packet ∷ []) → Stands p c (events (frame first.lane.number (view first.packet) ∷ u.inputs)) left → first.packet.time ≤ c.earliest → AreWritten contents (numbers lanes) olds news left → IsUnderWay remaining contents p texts commanded next olds c (slice_set lanes place m) (slice_set sources place r) news
+    went_on m r c news left number onward looks stands late written =
         let within = slice_get_within lanes place first.lane first.there in
         let same : numbers (slice_set lanes place m) ≡ numbers lanes = numbers_set lanes place first.lane m first.there number in record {
           frames = with_frame u.frames first.lane.number (view first.packet);
@@ -240,6 +249,7 @@ module _ {R W G A : Type 0} (remaining : R → Option (List ℕ)) (contents : W 
           follow = follow_next lanes place first m u.inputs may.rises number onward;
           covered = λ q out e. let z = u.covered q out e in (z.0, subst (λ (ns : List ℕ). slice_get ns z.0 ≡ Some q) (sym same) z.1);
           stands = stands;
+          late = late;
           written = subst (λ (ns : List ℕ). AreWritten contents ns olds news left) (sym same) written;
         }
 

@@ -1,5 +1,5 @@
 -- Captures that are written, one of each port.
-use Rattle.std.specs.Prelude.{◌≡◌, ◌≢◌, ℕ, Bool, true, ◌<◌, Option, Some, List, [], ◌∷◌, slice_get, Result, Ok, Err}
+use Rattle.std.specs.Prelude.{◌≡◌, ◌≢◌, ℕ, Bool, true, ◌<◌, ◌≤◌, Option, Some, IfSome, List, [], ◌∷◌, slice_get, Result, Ok, Err}
 use Rattle.std.specs.Io.KnownBytes.{Appends}
 use Rattle.bridge_capture.specs.Grammar.{Captured}
 use Rattle.bridge_capture.specs.Written.{written_header, written_text}
@@ -9,7 +9,7 @@ use Rattle.bridge_lanes.specs.Devices.{HasFailed}
 use Rattle.bridge_lanes.specs.declared.fault.RunFault.{RunFault}
 use Rattle.bridge_lanes.specs.declared.fault.RunFault.TheVariants as run
 use Rattle.bridge_run.specs.Events.{Event}
-use Rattle.bridge_run.specs.Outputs.{HasRun}
+use Rattle.bridge_run.specs.Next.{ReachesStart}
 use Rattle.bridge_relay.specs.Relays.{RelayState, Stands}
 use Rattle.bridge_core.specs.declared.line.Line.{Line}
 
@@ -53,8 +53,18 @@ Writes contents port ports olds news left (Ok u) = AreWritten contents ports old
 Writes contents port ports olds news left (Err (run.Write q)) = (q ≡ port) × AreWrittenBut contents port ports olds news left
 Writes contents port ports olds news left (Err fault) = ⊥
 
--- frames left and were written, or a sink failed while the run was at most here
-abbrev pub Departs : {G A W : Type 0} → (W → Option (List ℕ)) → Plan A → List Event → Option ℕ → RelayState G A → List ℕ → List W → List W → Result (Unit {0}) RunFault → Type 0
-Departs contents p es until b ports olds news (Ok u) = (left : ℕ → List Captured) × Stands p b es left × AreWritten contents ports olds news left
-Departs contents p es until b ports olds news (Err (run.Write q)) = (left : ℕ → List Captured) × HasRun p es until left × AreWrittenBut contents q ports olds news left
-Departs contents p es until b ports olds news (Err fault) = ⊥
+-- from one moment on and before another, if there is one, a port made a start whose frame its sink did not take:
+-- all starts before it were made, by moment, then by port, and what left was written, but a front at that port
+pub record StopsAtStart {A W : Type 0} (contents : W → Option (List ℕ)) (p : Plan A) (es : List Event) (from : ℕ) (until : Option ℕ) (port : ℕ) (ports : List ℕ) (olds news : List W) : Type 0 where
+  pub left : ℕ → List Captured
+  pub moment : ℕ
+  pub late : from ≤ moment
+  pub early : IfSome until (λ t. moment < t)
+  pub reaches : ReachesStart p es moment port left
+  pub written : AreWrittenBut contents port ports olds news left
+
+-- frames left and were written, or a sink failed at a start, which was made from one moment on and before another
+abbrev pub Departs : {G A W : Type 0} → (W → Option (List ℕ)) → Plan A → List Event → ℕ → Option ℕ → RelayState G A → List ℕ → List W → List W → Result (Unit {0}) RunFault → Type 0
+Departs contents p es from until b ports olds news (Ok u) = (left : ℕ → List Captured) × Stands p b es left × AreWritten contents ports olds news left
+Departs contents p es from until b ports olds news (Err (run.Write port)) = StopsAtStart contents p es from until port ports olds news
+Departs contents p es from until b ports olds news (Err fault) = ⊥

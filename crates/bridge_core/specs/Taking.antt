@@ -15,7 +15,8 @@ use Rattle.bridge_config.specs.Rules.{port_at}
 use Rattle.bridge_lanes.specs.declared.fault.RunFault.{RunFault}
 use Rattle.bridge_lanes.specs.declared.fault.RunFault.TheVariants as run
 use Rattle.bridge_run.specs.Merge.{Input, frame, command, NotBefore, IsMerged, events, newest, inputs_of, asked, commands_of, streams}
-use Rattle.bridge_run.specs.Outputs.{Reaches, HasRun}
+use Rattle.bridge_run.specs.Next.{ReachesStart}
+use Rattle.bridge_run.specs.Outputs.{Reaches}
 use Rattle.bridge_relay.specs.Relays.{RelayState, Stands}
 use Rattle.bridge_lanes.specs.declared.lane.Lane.{Lane}
 use Rattle.bridge_lanes.specs.Lanes.{AreAheadOf, AreRests, IsLane, Looks, numbers, room, room_of}
@@ -63,16 +64,18 @@ pub record StopsReading {A W : Type 0} (p : Plan A) (texts : ℕ → List ℕ) (
   pub reaches : Reaches p (events inputs) (newest inputs) left
   pub written : AreWritten contents ports olds news left
 
--- the sink of a port failed: what left of the run of what was taken was written, but a front at that port
+-- a port made a start whose frame its sink did not take, not before the newest input and before what comes next:
+-- all starts before it were made, by moment, then by port, and what left was written, but a front at that port
 pub record StopsWriting {A W : Type 0} (p : Plan A) (texts : ℕ → List ℕ) (commanded : List Input) (next : Option Input) (contents : W → Option (List ℕ)) (ports : List ℕ) (olds news : List W) (port : ℕ) : Type 0 where
   pub frames : ℕ → List Captured
   pub inputs : List Input
   pub left : ℕ → List Captured
-  pub until : Option ℕ
+  pub moment : ℕ
   pub taken : HasTaken p texts commanded next frames inputs
-  pub looks : (q : ℕ) (out : PortPlan A) → port_at p.ports q ≡ Some out → LooksFrom until (texts q) q (frames q) inputs
-  pub waits : IfSome next (λ c. (t : ℕ) × (until ≡ Some t) × (t ≤ c.at))
-  pub run : HasRun p (events inputs) until left
+  pub late : newest inputs ≤ moment
+  pub looks : (q : ℕ) (out : PortPlan A) → port_at p.ports q ≡ Some out → LooksFrom (Some (moment + 1)) (texts q) q (frames q) inputs
+  pub waits : IfSome next (λ c. moment < c.at)
+  pub reaches : ReachesStart p (events inputs) moment port left
   pub written : AreWrittenBut contents port ports olds news left
 
 -- behind these frames of a port its text ends, or a frame comes at this moment or later; or the newest input is the last of them, and the look behind it wanted memory
@@ -117,6 +120,7 @@ pub record IsUnderWay {R W G A : Type 0} (remaining : R → Option (List ℕ)) (
   pub follow : (i : ℕ) (lane : Lane A) (c : Packet A) → slice_get lanes i ≡ Some lane → lane.ahead ≡ Some c → Follows (frame lane.number (view c)) inputs
   pub covered : (q : ℕ) (out : PortPlan A) → port_at p.ports q ≡ Some out → (i : ℕ) × (slice_get (numbers lanes) i ≡ Some q)
   pub stands : Stands p b (events inputs) left
+  pub late : newest inputs ≤ b.earliest
   pub written : AreWritten contents (numbers lanes) olds sinks left
 
 -- the frame that comes first comes before the next command

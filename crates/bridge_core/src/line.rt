@@ -109,10 +109,12 @@ pub fn depart_before<W: ByteSink, G: Agenda + Drop, A: Allocator + Copy>(
     requires size { length sinks.old ≡ length lines.old }
     requires rises { Rising (λ a b. a < b) (numbers lines.old) }
     requires early { IfSome until (λ t. relay.old.earliest ≤ t) }
-    ensures departs { (p : config.Plan A) (es : List Event) (olds : List W) (left : ℕ → List Captured) → Stands p relay.old es left → AreWritten W.contents (numbers lines.old) olds sinks.old left → Departs W.contents p es until relay.new (numbers lines.old) olds sinks.new result }
+    requires waits { NotBefore (G.held relay.old.ports.agenda) relay.old.earliest }
+    ensures departs { (p : config.Plan A) (es : List Event) (olds : List W) (left : ℕ → List Captured) → Stands p relay.old es left → AreWritten W.contents (numbers lines.old) olds sinks.old left → Departs W.contents p es relay.old.earliest until relay.new (numbers lines.old) olds sinks.new result }
     ensures waits { OnOk result (IfSome until (NotBefore (G.held relay.new.ports.agenda))) }
     ensures idle { OnOk result (until ≡ None → (q : ℕ) → G.held relay.new.ports.agenda q ≡ None) }
     ensures early { IfSome until (λ t. relay.new.earliest ≤ t) }
+    ensures onward { relay.old.earliest ≤ relay.new.earliest }
     ensures same { (relay.new.plan ≡ relay.old.plan) × (relay.new.arrived ≡ relay.old.arrived) }
     ensures numbers { numbers lines.new ≡ numbers lines.old }
     ensures failed { (port : ℕ) → result ≡ Err (RunFault.Write port) → HasFailed W.has_failed (numbers lines.old) port sinks.new }
@@ -128,7 +130,6 @@ pub fn depart_before<W: ByteSink, G: Agenda + Drop, A: Allocator + Copy>(
         }
         let sent = relay.advance();
         if let Err(fault) = write(lines, sinks, &sent) {
-            relay.reached();
             return Err(fault);
         }
         let Sent { octets, .. } = sent;

@@ -67,8 +67,10 @@ fn take<R: ByteSource, W: ByteSink, G: Agenda + Drop, A: Allocator + Copy>(
     requires lines { written_numbers lines.old ≡ numbers lanes.old }
     requires sources { length sources.old ≡ length lanes.old }
     requires sinks { length sinks.old ≡ length lines.old }
+    requires waits { NotBefore (G.held relay.old.ports.agenda) relay.old.earliest }
     ensures goes { (p : config.Plan A) (texts : ℕ → List ℕ) (commanded : List Input) (next : Option Input) (olds : List W) → TakesBefore lanes.old place next → IsUnderWay R.remaining W.contents p texts commanded next olds relay.old lanes.old sources.old sinks.old → GoesOn R.remaining W.contents p texts commanded next olds relay.new lanes.new sources.new sinks.new result }
     ensures may { OnOk result (MayTake relay.new lanes.new) }
+    ensures waits { OnOk result (NotBefore (G.held relay.new.ports.agenda) relay.new.earliest) }
     ensures fewer { OnOk result (room_of lanes.new < room_of lanes.old) }
     ensures moved { OnOk result ((l : Lane A) (c : Packet A) → slice_get lanes.old place ≡ Some l → l.ahead ≡ Some c → relay.new.earliest ≡ c.time) }
     ensures same { (relay.new.plan ≡ relay.old.plan) × (numbers lanes.new ≡ numbers lanes.old) × (written_numbers lines.new ≡ written_numbers lines.old) }
@@ -140,9 +142,11 @@ fn take_before<R: ByteSource, W: ByteSink, G: Agenda + Drop, A: Allocator + Copy
     requires lines { written_numbers lines.old ≡ numbers lanes.old }
     requires sources { length sources.old ≡ length lanes.old }
     requires sinks { length sinks.old ≡ length lines.old }
+    requires waits { NotBefore (G.held relay.old.ports.agenda) relay.old.earliest }
     requires early { IfSome until (λ t. relay.old.earliest ≤ t) }
     ensures goes { (p : config.Plan A) (texts : ℕ → List ℕ) (commanded : List Input) (next : Option Input) (olds : List W) → IfSome next (λ y. until ≡ Some y.at) → IsUnderWay R.remaining W.contents p texts commanded next olds relay.old lanes.old sources.old sinks.old → GoesOn R.remaining W.contents p texts commanded next olds relay.new lanes.new sources.new sinks.new result }
     ensures may { OnOk result (MayTake relay.new lanes.new) }
+    ensures waits { OnOk result (NotBefore (G.held relay.new.ports.agenda) relay.new.earliest) }
     ensures later { OnOk result (AreLater until lanes.new) }
     ensures early { OnOk result (IfSome until (λ t. relay.new.earliest ≤ t)) }
     ensures same { (relay.new.plan ≡ relay.old.plan) × (numbers lanes.new ≡ numbers lanes.old) × (written_numbers lines.new ≡ written_numbers lines.old) }
@@ -175,10 +179,12 @@ fn obey<R: ByteSource, W: ByteSink, G: Agenda + Drop, A: Allocator + Copy>(
     requires lines { written_numbers lines.old ≡ numbers lanes.old }
     requires sources { length sources.old ≡ length lanes.old }
     requires sinks { length sinks.old ≡ length lines.old }
+    requires waits { NotBefore (G.held relay.old.ports.agenda) relay.old.earliest }
     requires time { relay.old.earliest ≤ command.at }
     requires instance { IsTrue (has_instance relay.old.plan command.clear command.number) }
     ensures goes { (p : config.Plan A) (texts : ℕ → List ℕ) (commanded : List Input) (next : Option Input) (olds : List W) → IfSome next (λ y. command.at ≤ y.at) → IsUnderWay R.remaining W.contents p texts commanded (Some (asked command)) olds relay.old lanes.old sources.old sinks.old → Obeys R.remaining W.contents p texts commanded command next olds relay.new lanes.new sources.new sinks.new result }
     ensures may { OnOk result (MayTake relay.new lanes.new) }
+    ensures waits { OnOk result (NotBefore (G.held relay.new.ports.agenda) relay.new.earliest) }
     ensures moved { OnOk result (relay.new.earliest ≡ command.at) }
     ensures same { (relay.new.plan ≡ relay.old.plan) × (numbers lanes.new ≡ numbers lanes.old) × (written_numbers lines.new ≡ written_numbers lines.old) }
     ensures read { (port : ℕ) → result ≡ Err (RunFault.Capture port CaptureFault.Read) → HasFailed R.has_failed (numbers lanes.old) port sources.new }

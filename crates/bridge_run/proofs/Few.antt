@@ -27,6 +27,7 @@ use Rattle.bridge_run.specs.declared.way.Way.TheVariants as way
 use Rattle.bridge_run.specs.Events.{Arrival, Event, Arrived, Cleared, arrivals, way_of, metered}
 use Rattle.bridge_run.specs.Offers.{Carried, offer_by, offer_of, offer_of_step, offer_on, offered, offers, step_of}
 use Rattle.bridge_run.specs.Outputs.{Ends, IsOutput, Leaves, LeavesBefore}
+use Rattle.bridge_run.specs.Runs.{IsRun}
 
 -- when a copy was done
 abbrev end_of : ℕ → Fate → ℕ
@@ -133,11 +134,15 @@ few_offers p out (Arrived a ∷ es) =
     omega (arith, one, rest, both)
 few_offers p out (Cleared clear n ∷ es) = few_offers p out es
 
--- no more frames leave a port in a whole run than come to the bridge
-pub few_leave : {A : Type 0} (p : Plan A) (es : List Event) (left : ℕ → List Captured) (o : Outcome A) (q : ℕ) (out : PortPlan A) → Ends p es left o → port_at p.ports q ≡ Some out → length (left q) ≤ length (arrivals es)
-few_leave p es left o q out ends at =
-    let most = few_left out.speed (ends.lists q) (left q) (ends.output q out at) in
-    let many = ap length (ends.outcome.run.offers q out at) in
-    let same : length (offered (ends.lists q)) ≡ length (ends.lists q) = length-map (ends.lists q) (λ (x : Copy Carried). record { at = x.at; class = x.class; item = x.item }) in
+-- no more frames have left a port in a run than came to the bridge
+pub few_so_far : {A : Type 0} (p : Plan A) (es : List Event) (moments : ℕ → ℕ) (lists : ℕ → List (Copy Carried)) (left : ℕ → List Captured) (q : ℕ) (out : PortPlan A) → IsRun p es moments lists → IsOutput out.speed (lists q) (left q) → port_at p.ports q ≡ Some out → length (left q) ≤ length (arrivals es)
+few_so_far p es moments lists left q out run output at =
+    let most = few_left out.speed (lists q) (left q) output in
+    let many = ap length (run.offers q out at) in
+    let same : length (offered (lists q)) ≡ length (lists q) = length-map (lists q) (λ (x : Copy Carried). record { at = x.at; class = x.class; item = x.item }) in
     let rest = few_offers p out es in
     omega (arith, most, many, same, rest)
+
+-- nor in a whole one
+pub few_leave : {A : Type 0} (p : Plan A) (es : List Event) (left : ℕ → List Captured) (o : Outcome A) (q : ℕ) (out : PortPlan A) → Ends p es left o → port_at p.ports q ≡ Some out → length (left q) ≤ length (arrivals es)
+few_leave p es left o q out ends at = few_so_far p es _ ends.lists left q out ends.outcome.run (ends.output q out at) at

@@ -18,7 +18,8 @@ ghost use Rattle.bridge_port.specs.Schedule.{Copy, IsLawful, Started};
 ghost use Rattle.bridge_port.specs.Solo.{IsSolo, IsWhole, last_done, only};
 ghost use Rattle.bridge_run.specs.Events.{arrivals, Event, own};
 ghost use Rattle.bridge_run.specs.Offers.{Carried, egress};
-ghost use Rattle.bridge_run.specs.Outputs.{Ends};
+ghost use Rattle.bridge_run.specs.Next.{ReachesStart};
+ghost use Rattle.bridge_run.specs.Outputs.{Ends, Reaches};
 ghost use Rattle.bridge_run.specs.Runs.{AreOwnQueues, AreWhole, IsOnLink, IsOutcome, IsRun, IsSoloView, TellTheSame};
 ghost use Rattle.bridge_run.specs.Merge.{Input, IsMerged, events, own_inputs};
 
@@ -145,11 +146,20 @@ pub fn others_change_nothing<A: Allocator + Copy>()
         → TellTheSame u v }
 {}
 
-/// No more frames leave a port in a whole run than come to the bridge; so the captures that are written have at most as
-/// many records as frames came, for each port.
+/// No more frames leave a port in a whole run than come to the bridge (`whole`), nor have left where a run has come to a
+/// moment (`so_far`) or to a start (`to_start`); so the captures that are written have at most as many records as frames
+/// came, for each port, also where a run stops.
 pub fn few_leave<A: Allocator + Copy>()
-    ensures { (p : Plan A) (es : List Event) (left : ℕ → List Captured) (o : Outcome A) (q : ℕ) (out : PortPlan A)
+    ensures whole { (p : Plan A) (es : List Event) (left : ℕ → List Captured) (o : Outcome A) (q : ℕ) (out : PortPlan A)
         → Ends p es left o
+        → port_at p.ports q ≡ Some out
+        → length (left q) ≤ length (arrivals es) }
+    ensures so_far { (p : Plan A) (es : List Event) (moment : ℕ) (left : ℕ → List Captured) (q : ℕ) (out : PortPlan A)
+        → Reaches p es moment left
+        → port_at p.ports q ≡ Some out
+        → length (left q) ≤ length (arrivals es) }
+    ensures to_start { (p : Plan A) (es : List Event) (moment port : ℕ) (left : ℕ → List Captured) (q : ℕ) (out : PortPlan A)
+        → ReachesStart p es moment port left
         → port_at p.ports q ≡ Some out
         → length (left q) ≤ length (arrivals es) }
 {}

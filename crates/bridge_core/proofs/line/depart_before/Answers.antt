@@ -4,7 +4,7 @@ use Rattle.bridge_base.specs.Members.{Rising}
 use Rattle.bridge_relay.specs.Relays.{one_more}
 use Rattle.bridge_lanes.specs.Devices.{HasFailed}
 use Rattle.bridge_core.specs.Lines.{AreWritten, HasRunOut, numbers, Writes}
-use Rattle.bridge_core.proofs.Departing.{waits_there, early_next, early_at, departs_stop, none_then, sooner}
+use Rattle.bridge_core.proofs.Departing.{waits_there, early_next, after_start, departs_stop, from_on, none_then, sooner}
 use Rattle.bridge_core.proofs.line.depart_before.Goals as goal
 use Rattle.bridge_core.proofs.line.depart_before.Goals.{in_default-via-in-None-1, in_default-via-in-Some-until+else-start-t}
 
@@ -15,6 +15,8 @@ loop-start-init g c = record {
   early = c.requires.early;
   same = (refl, refl);
   holds = λ sure. sure;
+  waits = c.requires.waits;
+  onward = omega arith;
   numbers = refl;
 }
 
@@ -53,11 +55,9 @@ returns-in-Err-clause-departs g c = λ p es olds left s w.
       | in_default-via-in-None-1 w ↦ λ t is. absurd (none_then _ until t kept.until is (search rules))
       | in_default-via-in-Some-until+else-start-t w ↦ λ t is. sooner (g.G.Agenda.held c.loop-start.relay.ports.agenda) until c.in-Some.field-0-0 c.in-Some.start sent.port sent.start t w.in-Some-until.t c.in-Some.ensures c.advance-sent.ensures.which (sym kept.until ∙ w.in-Some-until.is) w.if-start-t.false is
     ] in
-    let early = early_next until c.loop-start.relay.earliest c.advance-sent.new.self.earliest sent.start kept.early before c.advance-sent.ensures.sent.earliest in
-    let stands = c.advance-sent.ensures.stands p es so_far.0 so_far.1 in
-    let ran = c.reached.ensures.ran p es (one_more so_far.0 sent) until stands (λ t is. early_at until c.advance-sent.new.self.earliest t early is) in
+    let ran = c.advance-sent.ensures.reaches p es so_far.0 so_far.1 in
     let writes = c.in-Err.ensures.writes olds so_far.0 (subst (λ l. AreWritten contents l olds c.loop-start.sinks so_far.0) (sym kept.numbers) so_far.2) in
-    departs_stop contents p es until c.advance-sent.new.self sent.port ports olds c.write.new.sinks (one_more so_far.0 sent) c.in-Err.fault ran
+    departs_stop contents p es c.args.relay.now.earliest until c.advance-sent.new.self sent.port sent.start ports olds c.write.new.sinks (one_more so_far.0 sent) c.in-Err.fault (from_on (g.G.Agenda.held c.loop-start.relay.ports.agenda) sent.port sent.start c.args.relay.now.earliest c.advance-sent.ensures.which kept.waits) before ran
     (subst (λ l. Writes contents sent.port l olds c.write.new.sinks (one_more so_far.0 sent) (Err c.in-Err.fault)) kept.numbers writes)
 
 pub returns-in-Err-clause-early : goal.returns-in-Err-clause-early
@@ -122,11 +122,22 @@ loop-start-preserved g c =
       early = early_next until c.loop-start.relay.earliest c.advance-sent.new.self.earliest sent.start kept.early before c.advance-sent.ensures.sent.earliest;
       same = (same.0 ∙ kept.same.0, same.1 ∙ kept.same.1);
       holds = λ sure. c.write.ensures.holds (kept.holds sure);
+      waits = after_start (g.G.Agenda.held c.advance-sent.new.self.ports.agenda) sent.port sent.start c.args.relay.now.earliest c.advance-sent.ensures.later (from_on (g.G.Agenda.held c.loop-start.relay.ports.agenda) sent.port sent.start c.args.relay.now.earliest c.advance-sent.ensures.which kept.waits);
+      onward = let z = kept.onward in let y = c.advance-sent.ensures.sent.earliest in omega arith;
       numbers = c.write.ensures.numbers ∙ kept.numbers;
     }
 
 pub returns-clause-departs : goal.returns-clause-departs
 returns-clause-departs g c = c.loop-start.invariant.departs
+
+pub returns-clause-onward : goal.returns-clause-onward
+returns-clause-onward g c = c.loop-start.invariant.onward
+
+pub returns-in-Some-clause-onward : goal.returns-in-Some-clause-onward
+returns-in-Some-clause-onward g c = c.loop-start.invariant.onward
+
+pub returns-in-Err-clause-onward : goal.returns-in-Err-clause-onward
+returns-in-Err-clause-onward g c = let z = c.loop-start.invariant.onward in let y = c.advance-sent.ensures.sent.earliest in omega arith
 
 pub returns-clause-early : goal.returns-clause-early
 returns-clause-early g c = c.loop-start.invariant.early

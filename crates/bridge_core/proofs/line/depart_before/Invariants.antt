@@ -1,6 +1,7 @@
 use Rattle.std.proofs.Common.{◌≡◌, ◌≤◌, ℕ, List, Ok, IfSome}
 use Rattle.bridge_capture.specs.Grammar.{Captured}
 use Rattle.bridge_config.specs.Model.{Plan}
+use Rattle.bridge_parts.specs.Ports.{NotBefore}
 use Rattle.bridge_run.specs.Events.{Event}
 use Rattle.bridge_lanes.specs.Devices.{NeverFail}
 use Rattle.bridge_relay.specs.Relays.{waiting, Stands}
@@ -13,9 +14,11 @@ invariant-loop-start g l =
     let ports = numbers l.fn.lines in
     record {
       until : l.until ≡ l.fn.until;
-      departs : (p : Plan g.row.A.Denot) (es : List Event) (olds : List g.row.W.Denot) (left : ℕ → List Captured) → Stands p l.fn.relay es left → AreWritten contents ports olds l.fn.sinks left → Departs contents p es l.fn.until l.relay ports olds l.sinks (Ok tt);
+      departs : (p : Plan g.row.A.Denot) (es : List Event) (olds : List g.row.W.Denot) (left : ℕ → List Captured) → Stands p l.fn.relay es left → AreWritten contents ports olds l.fn.sinks left → Departs contents p es l.fn.relay.earliest l.fn.until l.relay ports olds l.sinks (Ok tt);
       early : IfSome l.fn.until (λ t. l.relay.earliest ≤ t);
       same : (l.relay.plan ≡ l.fn.relay.plan) × (l.relay.arrived ≡ l.fn.relay.arrived);
+      waits : NotBefore (g.G.Agenda.held l.relay.ports.agenda) l.fn.relay.earliest;
+      onward : l.fn.relay.earliest ≤ l.relay.earliest;
       holds : NeverFail g.W.ByteSink.never_fails l.fn.sinks → NeverFail g.W.ByteSink.never_fails l.sinks;
       numbers : numbers l.lines ≡ ports;
     }

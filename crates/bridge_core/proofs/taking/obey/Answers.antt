@@ -1,4 +1,5 @@
 use Rattle.std.proofs.Common.{rules, ◌≡◌, ℕ, ◌<◌, ◌≤◌, List, length, arith, refl, ap, sym, subst, ◌∙◌, Option, Some, None, Ok, Err, slice_get}
+use Rattle.bridge_parts.specs.Ports.{NotBefore}
 use Rattle.bridge_run.specs.Merge.{events, asked}
 use Rattle.bridge_lanes.specs.Lanes.{numbers}
 use Rattle.bridge_core.specs.Lines.{AreWritten, numbers as written_numbers}
@@ -40,7 +41,13 @@ returns-clause-goes g c = λ p texts commanded next olds after u.
     let d = c.in_default-depart_before.ensures.departs p (events v.inputs) olds v.left v.stands
     (written_so g.R.ByteSource.remaining g.W.ByteSink.contents p texts commanded (Some (asked c.args.command)) olds c.take_before.new.relay c.take_before.new.lanes c.take_before.new.sources c.take_before.new.sinks v size (written_numbers c.take_before.new.lines) same) in
     command_next g.R.ByteSource.remaining g.W.ByteSink.contents p texts commanded c.args.command next olds c.take_before.new.relay c.clear.new.self c.take_before.new.lanes c.take_before.new.sources c.take_before.new.sinks c.depart_before.new.sinks d.0 v after c.in_default.ensures.later
-    (c.clear.ensures.stands p (events v.inputs) d.0 d.1) (subst (λ ns. AreWritten g.W.ByteSink.contents ns olds c.depart_before.new.sinks d.0) same d.2)
+    (c.clear.ensures.stands p (events v.inputs) d.0 d.1) (let moved = c.clear.ensures.moved in let at = moved.0 in omega (arith, at)) (subst (λ ns. AreWritten g.W.ByteSink.contents ns olds c.depart_before.new.sinks d.0) same d.2)
+
+pub returns-clause-waits : goal.returns-clause-waits
+returns-clause-waits g c =
+    let moved = c.clear.ensures.moved in
+    subst (NotBefore (g.G.Agenda.held c.clear.new.self.ports.agenda)) (sym moved.0)
+    (subst (λ ports. NotBefore (g.G.Agenda.held ports.agenda) c.args.command.at) (sym moved.3) c.in_default-depart_before.ensures.waits)
 
 pub returns-clause-may : goal.returns-clause-may
 returns-clause-may g c =

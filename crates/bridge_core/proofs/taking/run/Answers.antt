@@ -48,6 +48,7 @@ loop-command-preserved g c =
       numbers = same.1 ∙ i.numbers;
       written = same.2 ∙ i.written;
       lasts = λ sure. c.obey.ensures.lasts (i.lasts sure);
+      waits = c.in_default.ensures.waits;
       holds = λ sure. c.obey.ensures.holds (i.holds sure);
       goes = λ p texts olds u.
           let v = subst (λ o. IsUnderWay g.R.ByteSource.remaining g.W.ByteSink.contents p texts (commands_of (take at c.args.commands.now)) o olds c.loop-command.relay c.loop-command.lanes c.loop-command.sources c.loop-command.sinks)
@@ -87,7 +88,7 @@ returns-clause-goes g c = λ p texts olds u.
     let size : length c.take_before.new.sources ≡ length c.take_before.new.lanes = search rules in
     let z = c.take_before.ensures.same in
     let same : written_numbers c.take_before.new.lines ≡ numbers c.take_before.new.lanes = z.2 ∙ i.lines ∙ sym z.1 in
-    gone g.R.ByteSource.remaining g.W.ByteSink.contents p texts c.args.commands.now olds c.take_before.new.relay c.depart_before.new.relay c.take_before.new.lanes c.take_before.new.sources c.take_before.new.sinks c.depart_before.new.sinks (written_numbers c.take_before.new.lines) c.depart_before.result w size same c.in_default-take_before.ensures.later
+    gone g.R.ByteSource.remaining g.W.ByteSink.contents p texts c.args.commands.now olds c.take_before.new.relay c.depart_before.new.relay c.take_before.new.lanes c.take_before.new.sources c.take_before.new.sinks c.depart_before.new.sinks (written_numbers c.take_before.new.lines) c.depart_before.result w size same c.in_default-take_before.ensures.later c.depart_before.ensures.onward
     (c.depart_before.ensures.departs p (events w.inputs) olds w.left w.stands (written_so g.R.ByteSource.remaining g.W.ByteSink.contents p texts (commands_of c.args.commands.now) None olds c.take_before.new.relay c.take_before.new.lanes c.take_before.new.sources c.take_before.new.sinks w size (written_numbers c.take_before.new.lines) same))
 
 pub returns-clause-idle : goal.returns-clause-idle

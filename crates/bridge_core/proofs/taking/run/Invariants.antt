@@ -3,6 +3,7 @@ use Rattle.std.specs.Prelude.{IfSome}
 use Rattle.bridge_config.specs.declared.command.Command.{Command}
 use Rattle.bridge_config.specs.Model as config
 use Rattle.bridge_lanes.specs.Devices.{NeverFail}
+use Rattle.bridge_parts.specs.Ports.{NotBefore}
 use Rattle.bridge_lanes.specs.Lanes.{numbers}
 use Rattle.bridge_core.specs.Lines.{numbers as written_numbers}
 use Rattle.bridge_run.specs.Merge.{commands_of}
@@ -20,6 +21,7 @@ invariant-loop-command g l = record {
   numbers : numbers l.lanes ≡ numbers l.fn.lanes;
   written : written_numbers l.lines ≡ written_numbers l.fn.lines;
   lasts : NeverFail g.R.ByteSource.never_fails l.fn.sources → NeverFail g.R.ByteSource.never_fails l.sources;
+  waits : NotBefore (g.G.Agenda.held l.relay.ports.agenda) l.relay.earliest;
   holds : NeverFail g.W.ByteSink.never_fails l.fn.sinks → NeverFail g.W.ByteSink.never_fails l.sinks;
   goes : (p : config.Plan g.row.A.Denot) (texts : ℕ → List ℕ) (olds : List g.row.W.Denot)
       → IsUnderWay g.R.ByteSource.remaining g.W.ByteSink.contents p texts [] (first_of_commands l.fn.commands) olds l.fn.relay l.fn.lanes l.fn.sources l.fn.sinks

@@ -90,7 +90,10 @@ returns-in-Ok-look_at-clause-goes g c = λ p texts commanded next olds before u.
     (went_on g.R.ByteSource.remaining g.W.ByteSink.contents p texts commanded next olds c.args.relay.now c.args.lanes.now c.args.sources.now c.args.sinks.now u c.requires.sources c.requires.may c.args.place first early
     r.lane r.left c.arrive.new.self c.depart_before.new.sinks d.0 r.number (λ e a. subst (λ (n : ℕ). n ≤ e.time) latest (r.onward e a))
     (r.looks (texts h.lane.number) _ (stood g.R.ByteSource.remaining g.W.ByteSink.contents p texts commanded next olds c.args.relay.now c.args.lanes.now c.args.sources.now c.args.sinks.now u c.requires.sources c.requires.may c.args.place first early r.source r.lent))
-    stands (subst (λ ns. AreWritten g.W.ByteSink.contents ns olds c.depart_before.new.sinks d.0) c.requires.lines d.2)))
+    stands (let moved = c.in-Ok.ensures.moved in let at = moved.1 in omega (arith, at)) (subst (λ ns. AreWritten g.W.ByteSink.contents ns olds c.depart_before.new.sinks d.0) c.requires.lines d.2)))
+
+pub returns-in-Ok-look_at-clause-waits : goal.returns-in-Ok-look_at-clause-waits
+returns-in-Ok-look_at-clause-waits g c = subst (NotBefore (g.G.Agenda.held c.arrive.new.self.ports.agenda)) (sym c.in-Ok.ensures.moved.1) c.in-Ok.ensures.waits
 
 pub returns-in-Ok-look_at-clause-may : goal.returns-in-Ok-look_at-clause-may
 returns-in-Ok-look_at-clause-may g c =

@@ -18,6 +18,7 @@ loop-place-preserved g c =
       numbers = same.1 ∙ i.numbers;
       written = same.2 ∙ i.written;
       lasts = λ sure. c.take.ensures.lasts (i.lasts sure);
+      waits = c.in_default-take.ensures.waits;
       holds = λ sure. c.take.ensures.holds (i.holds sure);
       goes = λ p texts commanded next olds now u. c.in_default-take.ensures.goes p texts commanded next olds (before_next c.args.until next c.loop-place.lanes c.in-Some.place now c.in-Some.ensures.before) (i.goes p texts commanded next olds now u);
     }
