@@ -7,10 +7,9 @@ use Rattle.bridge_lanes.specs.declared.fault.RunFault.TheVariants as run
 use Rattle.bridge_events.specs.Least.{IsLeast}
 use Rattle.bridge_config.specs.Model.{Plan}
 use Rattle.bridge_run.specs.Events.{Event}
-use Rattle.bridge_run.specs.Next.{ReachesStart}
 use Rattle.bridge_parts.specs.Ports.{IsAfter, NotBefore}
 use Rattle.bridge_relay.specs.Relays.{RelayState}
-use Rattle.bridge_core.specs.Lines.{AreWrittenBut, Departs, Writes}
+use Rattle.bridge_core.specs.Lines.{AreWrittenBut, Departs, MakesStart, Writes}
 
 -- the least moment is one
 pub least_same : (held : ℕ → Option ℕ) (q k r l : ℕ) → IsLeast held (Some (q, k)) → IsLeast held (Some (r, l)) → k ≡ l
@@ -61,14 +60,14 @@ before_all None start h = tt
 before_all (Some t) start h = h t refl
 
 -- the sink failed
-pub departs_stop : {G A W : Type 0} (contents : W → Option (List ℕ)) (p : Plan A) (es : List Event) (from : ℕ) (until : Option ℕ) (b : RelayState G A) (port moment : ℕ) (ports : List ℕ) (olds news : List W) (left : ℕ → List Captured) (fault : RunFault) → from ≤ moment → ((t : ℕ) → until ≡ Some t → moment < t) → ReachesStart p es moment port left → Writes contents port ports olds news left (Err fault) → Departs contents p es from until b ports olds news (Err fault)
-departs_stop contents p es from until b port moment ports olds news left (run.Write q) late before reaches w = record {
+pub departs_stop : {G A W : Type 0} (contents : W → Option (List ℕ)) (p : Plan A) (es : List Event) (from : ℕ) (until : Option ℕ) (b : RelayState G A) (port moment : ℕ) (ports : List ℕ) (olds news : List W) (left : ℕ → List Captured) (fault : RunFault) → from ≤ moment → ((t : ℕ) → until ≡ Some t → moment < t) → MakesStart p es moment port left → Writes contents port ports olds news left (Err fault) → Departs contents p es from until b ports olds news (Err fault)
+departs_stop contents p es from until b port moment ports olds news left (run.Write q) late before makes w = record {
   left = left;
   moment = moment;
   late = late;
   early = before_all until moment before;
-  reaches = subst (λ z. ReachesStart p es moment z left) (sym w.0) reaches;
+  makes = subst (λ z. MakesStart p es moment z left) (sym w.0) makes;
   written = subst (λ z. AreWrittenBut contents z ports olds news left) (sym w.0) w.1;
 }
-departs_stop contents p es from until b port moment ports olds news left run.NoMemory late before reaches w = absurd w
-departs_stop contents p es from until b port moment ports olds news left (run.Capture q fault) late before reaches w = absurd w
+departs_stop contents p es from until b port moment ports olds news left run.NoMemory late before makes w = absurd w
+departs_stop contents p es from until b port moment ports olds news left (run.Capture q fault) late before makes w = absurd w

@@ -17,12 +17,11 @@ use Rattle.bridge_cycle.proofs.Cases.{by_bool}
 use Rattle.bridge_lanes.specs.declared.fault.RunFault.{RunFault}
 use Rattle.bridge_lanes.specs.declared.fault.RunFault.TheVariants as run
 use Rattle.bridge_run.specs.Merge.{Input, frame, NotBefore, events, newest}
-use Rattle.bridge_run.specs.Next.{ReachesStart}
 use Rattle.bridge_run.specs.Outputs.{Reaches}
 use Rattle.bridge_relay.specs.Relays.{RelayState, Stands}
 use Rattle.bridge_lanes.specs.declared.lane.Lane.{Lane}
 use Rattle.bridge_lanes.specs.Lanes.{AreAheadOf, fault_at, IsAhead, Finds, IsFirstAt, numbers, one_ahead}
-use Rattle.bridge_core.specs.Lines.{AreWritten, AreWrittenBut, Departs}
+use Rattle.bridge_core.specs.Lines.{AreWritten, AreWrittenBut, Departs, MakesStart}
 use Rattle.bridge_core.specs.Taking.{AreLater, Follows, HasTaken, IsBefore, IsOfCapture, IsUnderWay, LooksFrom, LooksOn, MayTake, StopsForMemory, StopsReading, StopsSo, StopsWriting, TakesBefore}
 use Rattle.bridge_core.proofs.Order.{back, frames_here, frames_there, is_same, taken_frame, with_frame}
 use Rattle.bridge_core.proofs.Places.{rising_at, set_here, set_there}
@@ -177,8 +176,8 @@ module _ {R W G A : Type 0} (remaining : R → Option (List ℕ)) (contents : W 
       (place.0, lane.0, lane.1, lane.2, subst (λ (n : ℕ). Finds (texts n) (u.frames n) lane.0.ahead) lane.2 finds)
 
   -- a sink failed while starts before a moment were made
-  pub write_stops : (until : Option ℕ) (moment port : ℕ) (news : List W) (left : ℕ → List Captured) → AreLater until lanes → IfSome next (λ c. (t : ℕ) × (until ≡ Some t) × (t ≤ c.at)) → b.earliest ≤ moment → IfSome until (λ t. moment < t) → ReachesStart p (events u.inputs) moment port left → AreWrittenBut contents port (numbers lanes) olds news left → StopsWriting p texts commanded next contents (numbers lanes) olds news port
-  write_stops until moment port news left later waits from before reaches written = record {
+  pub write_stops : (until : Option ℕ) (moment port : ℕ) (news : List W) (left : ℕ → List Captured) → AreLater until lanes → IfSome next (λ c. (t : ℕ) × (until ≡ Some t) × (t ≤ c.at)) → b.earliest ≤ moment → IfSome until (λ t. moment < t) → MakesStart p (events u.inputs) moment port left → AreWrittenBut contents port (numbers lanes) olds news left → StopsWriting p texts commanded next contents (numbers lanes) olds news port
+  write_stops until moment port news left later waits from before makes written = record {
     frames = u.frames;
     inputs = u.inputs;
     left = left;
@@ -189,14 +188,14 @@ module _ {R W G A : Type 0} (remaining : R → Option (List ℕ)) (contents : W 
         let z = port_looks q out e in
         looks_from (Some (moment + 1)) (texts q) q (u.frames q) u.inputs z.1.ahead z.4 (λ d h. subst (λ (n : ℕ). Follows (frame n (view d)) u.inputs) z.3 (u.follow z.0 z.1 d z.2 h)) (λ d h. later_than until moment d.time before (later z.0 z.1 d z.2 h));
     waits = waits_then until moment next before waits;
-    reaches = reaches;
+    makes = makes;
     written = written;
   }
 
   -- starts before a moment were made, and a sink failed
   pub depart_stops : (rests : ℕ → Option (List ℕ)) (until : Option ℕ) (c : RelayState G A) (ports : List ℕ) (news : List W) (fault : RunFault) → ports ≡ numbers lanes → AreLater until lanes → IfSome next (λ y. (t : ℕ) × (until ≡ Some t) × (t ≤ y.at)) → Departs contents p (events u.inputs) b.earliest until c ports olds news (Err fault) → StopsSo p texts rests commanded next contents (numbers lanes) olds news fault
   depart_stops rests until c ports news (run.Capture port fault) same later waits d = absurd d
-  depart_stops rests until c ports news (run.Write port) same later waits d = write_stops until d.moment port news d.left later waits d.late d.early d.reaches (subst (λ ns. AreWrittenBut contents port ns olds news d.left) same d.written)
+  depart_stops rests until c ports news (run.Write port) same later waits d = write_stops until d.moment port news d.left later waits d.late d.early d.makes (subst (λ ns. AreWrittenBut contents port ns olds news d.left) same d.written)
   depart_stops rests until c ports news run.NoMemory same later waits d = absurd d
 
   -- what was written, by the numbers of the lines

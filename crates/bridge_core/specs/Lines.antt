@@ -1,5 +1,5 @@
 -- Captures that are written, one of each port.
-use Rattle.std.specs.Prelude.{◌≡◌, ◌≢◌, ℕ, Bool, true, ◌<◌, ◌≤◌, Option, Some, IfSome, List, [], ◌∷◌, slice_get, Result, Ok, Err}
+use Rattle.std.specs.Prelude.{◌≡◌, ◌≢◌, ℕ, Bool, true, ◌+◌, ◌<◌, ◌≤◌, nat_eq, Option, Some, IfSome, List, [], ◌∷◌, ◌++◌, slice_get, Result, Ok, Err, if◌then◌else◌}
 use Rattle.std.specs.Io.KnownBytes.{Appends}
 use Rattle.bridge_capture.specs.Grammar.{Captured}
 use Rattle.bridge_capture.specs.Written.{written_header, written_text}
@@ -9,7 +9,7 @@ use Rattle.bridge_lanes.specs.Devices.{HasFailed}
 use Rattle.bridge_lanes.specs.declared.fault.RunFault.{RunFault}
 use Rattle.bridge_lanes.specs.declared.fault.RunFault.TheVariants as run
 use Rattle.bridge_run.specs.Events.{Event}
-use Rattle.bridge_run.specs.Next.{ReachesStart}
+use Rattle.bridge_run.specs.Next.{ReachesStart, SendsHead}
 use Rattle.bridge_relay.specs.Relays.{RelayState, Stands}
 use Rattle.bridge_core.specs.declared.line.Line.{Line}
 
@@ -53,14 +53,22 @@ Writes contents port ports olds news left (Ok u) = AreWritten contents ports old
 Writes contents port ports olds news left (Err (run.Write q)) = (q ≡ port) × AreWrittenBut contents port ports olds news left
 Writes contents port ports olds news left (Err fault) = ⊥
 
--- from one moment on and before another, if there is one, a port made a start whose frame its sink did not take:
--- all starts before it were made, by moment, then by port, and what left was written, but a front at that port
+-- a port made the next start of a run of these events, at a moment, that of the head of a class: all starts before it were made, by moment, then by port; with it these frames have left the ports
+pub record MakesStart {A : Type 0} (p : Plan A) (es : List Event) (moment port : ℕ) (left : ℕ → List Captured) : Type 0 where
+  pub before : ℕ → List Captured
+  pub class : ℕ
+  pub frame : Captured
+  pub sends : SendsHead p es before port class moment frame
+  pub with_it : (q : ℕ) → left q ≡ (if nat_eq q port then before q ++ frame ∷ [] else before q)
+  pub reaches : ReachesStart p es moment port left
+
+-- from one moment on and before another, if there is one, a port made a start whose frame its sink did not take: what left was written, but a front at that port
 pub record StopsAtStart {A W : Type 0} (contents : W → Option (List ℕ)) (p : Plan A) (es : List Event) (from : ℕ) (until : Option ℕ) (port : ℕ) (ports : List ℕ) (olds news : List W) : Type 0 where
   pub left : ℕ → List Captured
   pub moment : ℕ
   pub late : from ≤ moment
   pub early : IfSome until (λ t. moment < t)
-  pub reaches : ReachesStart p es moment port left
+  pub makes : MakesStart p es moment port left
   pub written : AreWrittenBut contents port ports olds news left
 
 -- frames left and were written, or a sink failed at a start, which was made from one moment on and before another

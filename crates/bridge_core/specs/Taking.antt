@@ -15,12 +15,11 @@ use Rattle.bridge_config.specs.Rules.{port_at}
 use Rattle.bridge_lanes.specs.declared.fault.RunFault.{RunFault}
 use Rattle.bridge_lanes.specs.declared.fault.RunFault.TheVariants as run
 use Rattle.bridge_run.specs.Merge.{Input, frame, command, NotBefore, IsMerged, events, newest, inputs_of, asked, commands_of, streams}
-use Rattle.bridge_run.specs.Next.{ReachesStart}
 use Rattle.bridge_run.specs.Outputs.{Reaches}
 use Rattle.bridge_relay.specs.Relays.{RelayState, Stands}
 use Rattle.bridge_lanes.specs.declared.lane.Lane.{Lane}
 use Rattle.bridge_lanes.specs.Lanes.{AreAheadOf, AreRests, IsLane, Looks, numbers, room, room_of}
-use Rattle.bridge_core.specs.Lines.{AreWritten, AreWrittenBut}
+use Rattle.bridge_core.specs.Lines.{AreWritten, AreWrittenBut, MakesStart}
 
 -- an input does not come before the newest of these
 abbrev pub Follows : Input → List Input → Type 0
@@ -64,8 +63,7 @@ pub record StopsReading {A W : Type 0} (p : Plan A) (texts : ℕ → List ℕ) (
   pub reaches : Reaches p (events inputs) (newest inputs) left
   pub written : AreWritten contents ports olds news left
 
--- a port made a start whose frame its sink did not take, not before the newest input and before what comes next:
--- all starts before it were made, by moment, then by port, and what left was written, but a front at that port
+-- a port made a start whose frame its sink did not take, not before the newest input and before what comes next: what left was written, but a front at that port
 pub record StopsWriting {A W : Type 0} (p : Plan A) (texts : ℕ → List ℕ) (commanded : List Input) (next : Option Input) (contents : W → Option (List ℕ)) (ports : List ℕ) (olds news : List W) (port : ℕ) : Type 0 where
   pub frames : ℕ → List Captured
   pub inputs : List Input
@@ -75,7 +73,7 @@ pub record StopsWriting {A W : Type 0} (p : Plan A) (texts : ℕ → List ℕ) (
   pub late : newest inputs ≤ moment
   pub looks : (q : ℕ) (out : PortPlan A) → port_at p.ports q ≡ Some out → LooksFrom (Some (moment + 1)) (texts q) q (frames q) inputs
   pub waits : IfSome next (λ c. moment < c.at)
-  pub reaches : ReachesStart p (events inputs) moment port left
+  pub makes : MakesStart p (events inputs) moment port left
   pub written : AreWrittenBut contents port ports olds news left
 
 -- behind these frames of a port its text ends, or a frame comes at this moment or later; or the newest input is the last of them, and the look behind it wanted memory

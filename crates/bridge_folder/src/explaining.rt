@@ -68,6 +68,7 @@ fn said_of_job<H: AllocGlobal + Files>(
             let cause = cause_of(rt, words, job, path.as_str());
             explain_file(rt.alloc(), path.as_str(), cause).ok()
         }
+        Fault::Network(_) => None,
         Fault::Words => explain_words(rt.alloc(), words).ok(),
     }
 }
@@ -76,6 +77,7 @@ fn said_of_job<H: AllocGlobal + Files>(
 fn plan_path(job: &Job) -> Option<&str> {
     match job {
         Job::Check { plan } => Some(plan.as_str()),
+        Job::Bounds { plan } => Some(plan.as_str()),
         Job::Run { plan, .. } => Some(plan.as_str()),
         Job::Picture { plan, .. } => Some(plan.as_str()),
         _ => None,

@@ -63,6 +63,8 @@ pub enum Fault {
     Check(CheckFault),
     /// Commands that are refused, or want of memory for them.
     Commands(PlanFault),
+    /// A network of bridges that is refused, by the line that says so; who reads and tests networks writes it.
+    Network(String),
     /// The words of the command line.
     Words,
     /// A file that can't be opened, made, read or written, by its path as given.

@@ -9,7 +9,7 @@ use bridge_cycle::ListFault;
 use bridge_keys::PlanFault;
 use bridge_wire::RunFault;
 
-/// A plan or commands that are refused.
+/// A plan, commands or a network that are refused.
 const REFUSED_PLAN: u8 = 1;
 
 /// A text or a capture that is refused.
@@ -31,6 +31,7 @@ pub fn ending(fault: &Fault) -> u8
         Fault::Plan(fault) => ending_of_plan(fault),
         Fault::Check(fault) => ending_of_check(fault),
         Fault::Commands(fault) => ending_of_plan(fault),
+        Fault::Network(_) => REFUSED_PLAN,
         Fault::Words => WORDS,
         Fault::File(_) => FAILED,
     }

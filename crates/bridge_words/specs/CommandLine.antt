@@ -51,6 +51,14 @@ run_command = with_rule (with_rule (with_rule (with_rule (with_rule (with_rule (
 abbrev pub picture_command : App
 picture_command = with_rule (with_rule (with_rule (new_app (codes "picture")) (word_named (codes "plan"))) (word_named (codes "file"))) (flag_named (codes "explain"))
 
+-- `bounds PLAN`
+abbrev pub bounds_command : App
+bounds_command = with_rule (with_rule (new_app (codes "bounds")) (word_named (codes "plan"))) (flag_named (codes "explain"))
+
+-- `net check NET`
+abbrev pub net_command : App
+net_command = with_rule (with_rule (with_rule (new_app (codes "net")) (word_named (codes "task"))) (word_named (codes "network"))) (flag_named (codes "explain"))
+
 -- the program, whose words don't begin with its name, with a version for itself and each command
 abbrev pub program : App
 program = on_top (λ s. record s { no_binary_name = true; has_version = true; propagate_version = true }) (new_app (codes "tsnbridge"))
@@ -67,9 +75,17 @@ plain_jobs = with_subcommand wiring check_command.top
 abbrev pub jobs : App
 jobs = with_subcommand plain_jobs run_command.top
 
+-- the commands that run, check or draw
+abbrev pub drawing_jobs : App
+drawing_jobs = with_subcommand jobs picture_command.top
+
+-- the commands of one bridge
+abbrev pub bridge_jobs : App
+bridge_jobs = with_subcommand drawing_jobs bounds_command.top
+
 -- all commands
 abbrev pub commands : App
-commands = with_subcommand jobs picture_command.top
+commands = with_subcommand bridge_jobs net_command.top
 
 -- what `clap` reads of a word of a command's description
 abbrev pub rule_in : Form → Text → Rule
@@ -122,9 +138,15 @@ pub record AsksForRun (values : List Row) (plan input output : Text) (commands :
 abbrev pub AsksForPicture : List Row → Text → Text → Type 0
 AsksForPicture values plan file = (first_of (codes "plan") values ≡ Some plan) × (first_of (codes "file") values ≡ Some file)
 
+-- the values of `net` are the word `check` and the path of a network
+abbrev pub AsksForNetwork : List Row → Text → Type 0
+AsksForNetwork values network = (first_of (codes "task") values ≡ Some (codes "check")) × (first_of (codes "network") values ≡ Some network)
+
 -- a job of `wire`, by the values of the command
 abbrev pub IsWireJob : List Row → Job → Type 0
 IsWireJob values job.Text = ⊥
+IsWireJob values (job.Bounds plan) = ⊥
+IsWireJob values (job.Network network) = ⊥
 IsWireJob values (job.Picture plan file) = ⊥
 IsWireJob values (job.Check plan) = ⊥
 IsWireJob values (job.Run plan input output file) = ⊥
@@ -133,6 +155,8 @@ IsWireJob values (job.Wire speed room input output) = AsksForWire values speed r
 -- a job of `check`, by the values of the command
 abbrev pub IsCheckJob : List Row → Job → Type 0
 IsCheckJob values job.Text = ⊥
+IsCheckJob values (job.Bounds plan) = ⊥
+IsCheckJob values (job.Network network) = ⊥
 IsCheckJob values (job.Picture plan file) = ⊥
 IsCheckJob values (job.Wire speed room input output) = ⊥
 IsCheckJob values (job.Run plan input output file) = ⊥
@@ -141,6 +165,8 @@ IsCheckJob values (job.Check plan) = AsksForCheck values (string_bytes plan)
 -- a job of `run`, by the values of the command
 abbrev pub IsRunJob : List Row → Job → Type 0
 IsRunJob values job.Text = ⊥
+IsRunJob values (job.Bounds plan) = ⊥
+IsRunJob values (job.Network network) = ⊥
 IsRunJob values (job.Picture plan file) = ⊥
 IsRunJob values (job.Wire speed room input output) = ⊥
 IsRunJob values (job.Check plan) = ⊥
@@ -149,10 +175,32 @@ IsRunJob values (job.Run plan input output file) = AsksForRun values (string_byt
 -- a job of `picture`, by the values of the command
 abbrev pub IsPictureJob : List Row → Job → Type 0
 IsPictureJob values job.Text = ⊥
+IsPictureJob values (job.Bounds plan) = ⊥
+IsPictureJob values (job.Network network) = ⊥
 IsPictureJob values (job.Wire speed room input output) = ⊥
 IsPictureJob values (job.Check plan) = ⊥
 IsPictureJob values (job.Run plan input output file) = ⊥
 IsPictureJob values (job.Picture plan file) = AsksForPicture values (string_bytes plan) (string_bytes file)
+
+-- a job of `bounds`, by the values of the command
+abbrev pub IsBoundsJob : List Row → Job → Type 0
+IsBoundsJob values job.Text = ⊥
+IsBoundsJob values (job.Wire speed room input output) = ⊥
+IsBoundsJob values (job.Check plan) = ⊥
+IsBoundsJob values (job.Run plan input output file) = ⊥
+IsBoundsJob values (job.Picture plan file) = ⊥
+IsBoundsJob values (job.Network network) = ⊥
+IsBoundsJob values (job.Bounds plan) = AsksForCheck values (string_bytes plan)
+
+-- a job of `net`, by the values of the command
+abbrev pub IsNetworkJob : List Row → Job → Type 0
+IsNetworkJob values job.Text = ⊥
+IsNetworkJob values (job.Wire speed room input output) = ⊥
+IsNetworkJob values (job.Check plan) = ⊥
+IsNetworkJob values (job.Run plan input output file) = ⊥
+IsNetworkJob values (job.Picture plan file) = ⊥
+IsNetworkJob values (job.Bounds plan) = ⊥
+IsNetworkJob values (job.Network network) = AsksForNetwork values (string_bytes network)
 
 -- the words ask for this job
 abbrev pub AsksFor : List Text → Job → Type 0
@@ -163,6 +211,10 @@ AsksFor words (job.Check plan) =
     (values : List Row) × Names words (codes "check") values × AsksForCheck values (string_bytes plan)
 AsksFor words (job.Run plan input output file) =
     (values : List Row) × Names words (codes "run") values × AsksForRun values (string_bytes plan) (string_bytes input) (string_bytes output) (option_map string_bytes file)
+AsksFor words (job.Bounds plan) =
+    (values : List Row) × Names words (codes "bounds") values × AsksForCheck values (string_bytes plan)
+AsksFor words (job.Network network) =
+    (values : List Row) × Names words (codes "net") values × AsksForNetwork values (string_bytes network)
 AsksFor words (job.Picture plan file) =
     (values : List Row) × Names words (codes "picture") values × AsksForPicture values (string_bytes plan) (string_bytes file)
 
@@ -171,5 +223,7 @@ abbrev pub HasRoom : Job → Type 0
 HasRoom job.Text = Unit {0}
 HasRoom (job.Check plan) = Unit {0}
 HasRoom (job.Picture plan file) = Unit {0}
+HasRoom (job.Bounds plan) = Unit {0}
+HasRoom (job.Network network) = Unit {0}
 HasRoom (job.Run plan input output file) = Unit {0}
 HasRoom (job.Wire speed room input output) = (1 ≤ room) × (room ≤ LARGEST_ROOM)

@@ -2,7 +2,7 @@
 ghost use Rattle.std.specs.Prelude.{◌≡◌, ◌≢◌, [], IfOk, IfErr, false, map, string_bytes, codes, fold};
 ghost use Rattle.clap.specs.Words.{FailsBy, app_of, fault_of, kind_of, rule_of, subcommand_of, subcommand_rows_of, with_subcommand};
 ghost use Rattle.clap.specs.declared.builder.command.Command.TheViews.{out-Command as fields_of};
-ghost use Rattle.bridge_words.specs.CommandLine.{check_command, commands, described, jobs, picture_command, plain_jobs, program, rule_in, run_command, wire_command, wiring, with_word};
+ghost use Rattle.bridge_words.specs.CommandLine.{bounds_command, bridge_jobs, check_command, commands, described, drawing_jobs, jobs, net_command, picture_command, plain_jobs, program, rule_in, run_command, wire_command, wiring, with_word};
 
 use clap::error::ErrorKind;
 use clap::{Arg, ArgAction, ArgMatches, Command, Error};
@@ -197,6 +197,53 @@ Statuses:
   4  the words are refused",
 };
 
+const BOUNDS: Description = Description {
+    name: "bounds",
+    about: "Say how long the frames of protected streams may take",
+    words: &[PLAN, EXPLAIN],
+    after: "\
+For each queue of each protected filter one line: the most ns from a frame's arrival until it is out,
+whatever its talker and all others do.
+
+Example:
+  tsnbridge bounds examples/base.toml
+
+Statuses:
+  0  the plan is accepted; a line for each queue has its bound
+  1  the plan is refused
+  3  a file, a read, a write or memory failed
+  4  the words are refused",
+};
+
+const NET: Description = Description {
+    name: "net",
+    about: "Say whether a network of bridges protects its streams",
+    words: &[
+        Word {
+            id: "task",
+            value: "check",
+            form: Form::Place,
+            help: "what to do with the network: check",
+        },
+        Word {
+            id: "network",
+            value: "NET",
+            form: Form::Place,
+            help: "file of the network (TOML, at most 1,048,576 octets); its plans lie beside it",
+        },
+        EXPLAIN,
+    ],
+    after: "\
+Example:
+  tsnbridge net check examples/line/network.toml
+
+Statuses:
+  0  the network is accepted; one line counts what it has
+  1  the network or a plan of it is refused
+  3  a file, a read, a write or memory failed
+  4  the words are refused",
+};
+
 const PROGRAM: Description = Description {
     name: "tsnbridge",
     about: "Send captures of Ethernet frames through a time-aware bridge, exactly (IEEE 802.1Q-2018)",
@@ -210,7 +257,7 @@ Example:
 
 Statuses:
   0  the job is done
-  1  a plan or its commands are refused
+  1  a plan, its commands or a network are refused
   2  a text or a capture is refused
   3  a file, a read, a write or memory failed
   4  the words are refused",
@@ -233,6 +280,22 @@ pub fn matches_of<'a>(alloc: Global, words: &'a [String]) -> Result<ArgMatches<'
 /// The program with its commands.
 pub(crate) fn commands_of<'a>(alloc: Global) -> Result<Command<'a>, AllocError>
     ensures { IfOk result (λ c. app_of c ≡ commands) }
+{
+    let program = bridge_jobs_of(alloc)?;
+    with_command(alloc, program, &NET)
+}
+
+/// The program with the commands of one bridge.
+fn bridge_jobs_of<'a>(alloc: Global) -> Result<Command<'a>, AllocError>
+    ensures { IfOk result (λ c. app_of c ≡ bridge_jobs) }
+{
+    let program = drawing_jobs_of(alloc)?;
+    with_command(alloc, program, &BOUNDS)
+}
+
+/// The program with the commands that run, check or draw.
+fn drawing_jobs_of<'a>(alloc: Global) -> Result<Command<'a>, AllocError>
+    ensures { IfOk result (λ c. app_of c ≡ drawing_jobs) }
 {
     let program = jobs_of(alloc)?;
     with_command(alloc, program, &PICTURE)

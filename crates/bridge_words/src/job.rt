@@ -4,7 +4,7 @@ ghost use Rattle.bridge_frame.specs.declared.Speed.{Speed};
 ghost use Rattle.bridge_lanes.specs.declared.fault.RunFault.{RunFault};
 ghost use Rattle.clap.specs.Words.{Text, first_of, found_of, kind_of, rows_of};
 ghost use Rattle.bridge_words.specs.declared.job.Job.{Job};
-ghost use Rattle.bridge_words.specs.CommandLine.{AsksFor, AsksForCheck, AsksForPicture, AsksForRun, AsksForWire, HasRoom, IsCheckJob, IsPictureJob, IsRunJob, IsWireJob, fault_of_kind};
+ghost use Rattle.bridge_words.specs.CommandLine.{AsksFor, AsksForCheck, AsksForNetwork, AsksForPicture, AsksForRun, AsksForWire, HasRoom, IsBoundsJob, IsCheckJob, IsNetworkJob, IsPictureJob, IsRunJob, IsWireJob, fault_of_kind};
 
 use crate::command::matches_of;
 use crate::number::{room_of, speed_of};
@@ -47,6 +47,16 @@ pub enum Job {
         /// The path of the commands that come to the bridge, if any do.
         commands: Option<String>,
     },
+    /// How long the frames of a plan's protected filters may take.
+    Bounds {
+        /// The path of the plan.
+        plan: String,
+    },
+    /// Whether a network of bridges isolates its streams.
+    Network {
+        /// The path of the network.
+        network: String,
+    },
     /// A picture of a plan.
     Picture {
         /// The path of the plan.
@@ -58,7 +68,7 @@ pub enum Job {
 
 /// The job that the words after the program's name ask for: `Text` without words, `Wire` for `wire MBPS ROOM IN OUT`,
 /// `Check` for `check PLAN`, `Run` for `run PLAN IN OUT`, also with `--commands FILE` (once, wherever `clap` takes options),
-/// `Picture` for `picture PLAN FILE`.
+/// `Picture` for `picture PLAN FILE`, `Bounds` for `bounds PLAN`, `Network` for `net check NET`.
 ///
 /// MBPS is 10, 100, 1000, 2500 or 10000 and ROOM is 1 to 4096, both as decimal digits alone. `Words` for all other words,
 /// also for a request for help or for a version, and `Run` with `NoMemory` where a growth was refused.
@@ -71,22 +81,29 @@ pub fn job_of(alloc: Global, words: &[String]) -> Result<Job, Fault>
     if words.is_empty() {
         return Ok(Job::Text);
     }
-    match matches_of(alloc, words) {
-        Ok(matches) => match matches.subcommand_matches("wire") {
-            Some(values) => wire_job(alloc, values),
-            None => match matches.subcommand_matches("check") {
-                Some(values) => check_job(alloc, values),
-                None => match matches.subcommand_matches("run") {
-                    Some(values) => run_job(alloc, values),
-                    None => match matches.subcommand_matches("picture") {
-                        Some(values) => picture_job(alloc, values),
-                        None => Err(Fault::Words),
-                    },
-                },
-            },
-        },
-        Err(error) => Err(fault_of(&error)),
+    let matches = match matches_of(alloc, words) {
+        Ok(matches) => matches,
+        Err(error) => return Err(fault_of(&error)),
+    };
+    if let Some(values) = matches.subcommand_matches("wire") {
+        return wire_job(alloc, values);
     }
+    if let Some(values) = matches.subcommand_matches("check") {
+        return check_job(alloc, values);
+    }
+    if let Some(values) = matches.subcommand_matches("run") {
+        return run_job(alloc, values);
+    }
+    if let Some(values) = matches.subcommand_matches("picture") {
+        return picture_job(alloc, values);
+    }
+    if let Some(values) = matches.subcommand_matches("bounds") {
+        return bounds_job(alloc, values);
+    }
+    if let Some(values) = matches.subcommand_matches("net") {
+        return network_job(alloc, values);
+    }
+    Err(Fault::Words)
 }
 
 /// The job of a `wire` command with these values.
@@ -185,6 +202,40 @@ fn picture_job(alloc: Global, values: &ArgMatches) -> Result<Job, Fault>
     let plan = String::from_str(alloc, path)?;
     let file = String::from_str(alloc, to_file)?;
     Ok(Job::Picture { plan, file })
+}
+
+/// The job of a `bounds` command with these values.
+fn bounds_job(alloc: Global, values: &ArgMatches) -> Result<Job, Fault>
+    ensures ok { IfOk result (IsBoundsJob (rows_of (found_of values.now))) }
+    ensures room { IfOk result HasRoom }
+    ensures words { result ≡ Err Fault.Words → (plan : Text) → ¬ AsksForCheck (rows_of (found_of values.now)) plan }
+    ensures only { IfErr result (λ fault. (fault ≡ Fault.Words) ⊎ (fault ≡ Fault.Run RunFault.NoMemory)) }
+{
+    let Some(path) = value_of(values, "plan") else {
+        return Err(Fault::Words);
+    };
+    let plan = String::from_str(alloc, path)?;
+    Ok(Job::Bounds { plan })
+}
+
+/// The job of a `net` command with these values.
+fn network_job(alloc: Global, values: &ArgMatches) -> Result<Job, Fault>
+    ensures ok { IfOk result (IsNetworkJob (rows_of (found_of values.now))) }
+    ensures room { IfOk result HasRoom }
+    ensures words { result ≡ Err Fault.Words → (network : Text) → ¬ AsksForNetwork (rows_of (found_of values.now)) network }
+    ensures only { IfErr result (λ fault. (fault ≡ Fault.Words) ⊎ (fault ≡ Fault.Run RunFault.NoMemory)) }
+{
+    let Some(task) = value_of(values, "task") else {
+        return Err(Fault::Words);
+    };
+    if task != "check" {
+        return Err(Fault::Words);
+    }
+    let Some(path) = value_of(values, "network") else {
+        return Err(Fault::Words);
+    };
+    let network = String::from_str(alloc, path)?;
+    Ok(Job::Network { network })
 }
 
 /// The value of a command by its name.

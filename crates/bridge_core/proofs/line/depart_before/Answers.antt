@@ -1,9 +1,9 @@
 use Rattle.std.proofs.Common.{◌≡◌, ◌<◌, ℕ, Some, Err, refl, ◌∙◌, sym, subst, arith, rules}
 use Rattle.std.proofs.lemmas.Option.{none-some}
 use Rattle.bridge_base.specs.Members.{Rising}
-use Rattle.bridge_relay.specs.Relays.{one_more}
+use Rattle.bridge_relay.specs.Relays.{captured, one_more}
 use Rattle.bridge_lanes.specs.Devices.{HasFailed}
-use Rattle.bridge_core.specs.Lines.{AreWritten, HasRunOut, numbers, Writes}
+use Rattle.bridge_core.specs.Lines.{AreWritten, HasRunOut, MakesStart, numbers, Writes}
 use Rattle.bridge_core.proofs.Departing.{waits_there, early_next, after_start, departs_stop, from_on, none_then, sooner}
 use Rattle.bridge_core.proofs.line.depart_before.Goals as goal
 use Rattle.bridge_core.proofs.line.depart_before.Goals.{in_default-via-in-None-1, in_default-via-in-Some-until+else-start-t}
@@ -55,9 +55,16 @@ returns-in-Err-clause-departs g c = λ p es olds left s w.
       | in_default-via-in-None-1 w ↦ λ t is. absurd (none_then _ until t kept.until is (search rules))
       | in_default-via-in-Some-until+else-start-t w ↦ λ t is. sooner (g.G.Agenda.held c.loop-start.relay.ports.agenda) until c.in-Some.field-0-0 c.in-Some.start sent.port sent.start t w.in-Some-until.t c.in-Some.ensures c.advance-sent.ensures.which (sym kept.until ∙ w.in-Some-until.is) w.if-start-t.false is
     ] in
-    let ran = c.advance-sent.ensures.reaches p es so_far.0 so_far.1 in
+    let makes : MakesStart p es sent.start sent.port (one_more so_far.0 sent) = record {
+      before = so_far.0;
+      class = sent.class;
+      frame = captured sent;
+      sends = c.advance-sent.ensures.sends p es so_far.0 so_far.1;
+      with_it = λ q. refl;
+      reaches = c.advance-sent.ensures.reaches p es so_far.0 so_far.1;
+    } in
     let writes = c.in-Err.ensures.writes olds so_far.0 (subst (λ l. AreWritten contents l olds c.loop-start.sinks so_far.0) (sym kept.numbers) so_far.2) in
-    departs_stop contents p es c.args.relay.now.earliest until c.advance-sent.new.self sent.port sent.start ports olds c.write.new.sinks (one_more so_far.0 sent) c.in-Err.fault (from_on (g.G.Agenda.held c.loop-start.relay.ports.agenda) sent.port sent.start c.args.relay.now.earliest c.advance-sent.ensures.which kept.waits) before ran
+    departs_stop contents p es c.args.relay.now.earliest until c.advance-sent.new.self sent.port sent.start ports olds c.write.new.sinks (one_more so_far.0 sent) c.in-Err.fault (from_on (g.G.Agenda.held c.loop-start.relay.ports.agenda) sent.port sent.start c.args.relay.now.earliest c.advance-sent.ensures.which kept.waits) before makes
     (subst (λ l. Writes contents sent.port l olds c.write.new.sinks (one_more so_far.0 sent) (Err c.in-Err.fault)) kept.numbers writes)
 
 pub returns-in-Err-clause-early : goal.returns-in-Err-clause-early
