@@ -11,19 +11,30 @@ use std::alloc::{AllocError, Global};
 /// A command of the program.
 #[derive(Clone, Copy)]
 enum Verb {
+    Bounds,
     Check,
+    Net,
     Picture,
     Run,
     Wire,
 }
 
 /// The commands of the program.
-const VERBS: [Verb; 4] = [Verb::Check, Verb::Picture, Verb::Run, Verb::Wire];
+const VERBS: [Verb; 6] = [
+    Verb::Bounds,
+    Verb::Check,
+    Verb::Net,
+    Verb::Picture,
+    Verb::Run,
+    Verb::Wire,
+];
 
 impl Named for Verb {
     fn name(&self) -> &'static str {
         match self {
+            Verb::Bounds => "bounds",
             Verb::Check => "check",
+            Verb::Net => "net",
             Verb::Picture => "picture",
             Verb::Run => "run",
             Verb::Wire => "wire",
@@ -65,7 +76,9 @@ impl Named for Switch {
 /// How a command is called.
 fn usage_of(verb: Verb) -> &'static str {
     match verb {
+        Verb::Bounds => "bounds PLAN",
         Verb::Check => "check PLAN",
+        Verb::Net => "net check NET",
         Verb::Picture => "picture PLAN FILE",
         Verb::Run => { "run PLAN IN OUT [--commands FILE] [--picture FILE [--from NS] [--to NS]]" }
         Verb::Wire => "wire MBPS ROOM IN OUT",
@@ -75,8 +88,8 @@ fn usage_of(verb: Verb) -> &'static str {
 /// How many words a command takes.
 fn count_of(verb: Verb) -> usize {
     match verb {
-        Verb::Check => 1,
-        Verb::Picture => 2,
+        Verb::Bounds | Verb::Check => 1,
+        Verb::Net | Verb::Picture => 2,
         Verb::Run => 3,
         Verb::Wire => 4,
     }
@@ -239,6 +252,8 @@ fn put_verb(said: &mut String, words: &[String], verb: Verb) -> Result<(), Alloc
             said.push_str(
                 "--from and --to stand beside --picture, and are moments in ns below 4 * 10^18, the first before the second.\n",
             )?;
+        } else if verb == Verb::Net {
+            said.push_str("The first word behind `net` is `check`.\n")?;
         }
     }
     put_usage(said, "It is called", verb)

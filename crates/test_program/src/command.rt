@@ -107,6 +107,38 @@ fn words_ask_for_a_check(rt: HostRuntime) -> Result<(), Fail> {
     Ok(())
 }
 
+/// Whether a job is that of the bounds of this plan.
+fn is_bounds(job: &Job, path: &str) -> bool {
+    match job {
+        Job::Bounds { plan } => plan.as_str() == path,
+        _ => false,
+    }
+}
+
+/// Whether a job is the check of this network.
+fn is_network(job: &Job, path: &str) -> bool {
+    match job {
+        Job::Network { network } => network.as_str() == path,
+        _ => false,
+    }
+}
+
+#[test]
+fn words_ask_for_bounds(rt: HostRuntime) -> Result<(), Fail> {
+    let job = job_from(rt.alloc(), &["bounds", "a b/PLAN"])?;
+    assert!(rt; is_bounds(&job, "a b/PLAN"));
+    drop(job);
+    Ok(())
+}
+
+#[test]
+fn words_ask_for_the_check_of_a_network(rt: HostRuntime) -> Result<(), Fail> {
+    let job = job_from(rt.alloc(), &["net", "check", "a b/NET"])?;
+    assert!(rt; is_network(&job, "a b/NET"));
+    drop(job);
+    Ok(())
+}
+
 /// Whether a path is the one that is wanted, if one is.
 fn is_path(path: &Option<String>, wanted: Option<&str>) -> bool {
     match (path, wanted) {
@@ -167,7 +199,7 @@ fn words_ask_for_a_run_with_commands(rt: HostRuntime) -> Result<(), Fail> {
     Ok(())
 }
 
-const REFUSED: [&[&str]; 40] = [
+const REFUSED: [&[&str]; 46] = [
     &["wire", "999", "1", "IN", "OUT"],
     &["wire", "1000", "0", "IN", "OUT"],
     &["wire", "1000", "+1", "IN", "OUT"],
@@ -217,6 +249,12 @@ const REFUSED: [&[&str]; 40] = [
     &["run", "PLAN", "IN", "OUT", "-c", "FILE"],
     &["--commands", "FILE", "run", "PLAN", "IN", "OUT"],
     &["check", "PLAN", "--commands", "FILE"],
+    &["bounds"],
+    &["bounds", "PLAN", "MORE"],
+    &["net", "NET"],
+    &["net", "check"],
+    &["net", "run", "NET"],
+    &["net", "check", "NET", "MORE"],
 ];
 
 /// Tests the line and the status of words that are refused.

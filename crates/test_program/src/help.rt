@@ -14,6 +14,8 @@ Commands:
   check    Say whether a plan protects its streams
   run      Send the captures of all ports through the bridge of a plan
   picture  Draw the windows and the stream gates of a plan
+  bounds   Say how long the frames of protected streams may take
+  net      Say whether a network of bridges protects its streams
   help     Print this message or the help of the given subcommand(s)
 
 Options:
@@ -28,7 +30,7 @@ Example:
 
 Statuses:
   0  the job is done
-  1  a plan or its commands are refused
+  1  a plan, its commands or a network are refused
   2  a text or a capture is refused
   3  a file, a read, a write or memory failed
   4  the words are refused
@@ -138,6 +140,56 @@ Statuses:
   4  the words are refused
 ";
 
+const BOUNDS: &str = "\
+Say how long the frames of protected streams may take
+
+Usage: tsnbridge bounds [OPTIONS] <PLAN>
+
+Arguments:
+  <PLAN>  file of the plan (TOML, at most 1,048,576 octets)
+
+Options:
+      --explain  say more on standard error: of a fault, or of a plan that is accepted
+  -h, --help     Print help
+  -V, --version  Print version
+
+For each queue of each protected filter one line: the most ns from a frame's arrival until it is out,
+whatever its talker and all others do.
+
+Example:
+  tsnbridge bounds examples/base.toml
+
+Statuses:
+  0  the plan is accepted; a line for each queue has its bound
+  1  the plan is refused
+  3  a file, a read, a write or memory failed
+  4  the words are refused
+";
+
+const NET: &str = "\
+Say whether a network of bridges protects its streams
+
+Usage: tsnbridge net [OPTIONS] <check> <NET>
+
+Arguments:
+  <check>  what to do with the network: check
+  <NET>    file of the network (TOML, at most 1,048,576 octets); its plans lie beside it
+
+Options:
+      --explain  say more on standard error: of a fault, or of a plan that is accepted
+  -h, --help     Print help
+  -V, --version  Print version
+
+Example:
+  tsnbridge net check examples/line/network.toml
+
+Statuses:
+  0  the network is accepted; one line counts what it has
+  1  the network or a plan of it is refused
+  3  a file, a read, a write or memory failed
+  4  the words are refused
+";
+
 const VERSION: &str = "tsnbridge 1.0.0\n";
 
 /// Words, and the text that they get, if they get one.
@@ -166,6 +218,10 @@ const ASKING: &[&Row] = &[
     &(&["run", "-V"], Some("tsnbridge-run 1.0.0\n")),
     &(&["picture", "--help"], Some(PICTURE)),
     &(&["help", "picture"], Some(PICTURE)),
+    &(&["bounds", "--help"], Some(BOUNDS)),
+    &(&["help", "bounds"], Some(BOUNDS)),
+    &(&["net", "--help"], Some(NET)),
+    &(&["net", "check", "-h"], Some(NET)),
 ];
 
 const OTHERS: &[&Row] = &[

@@ -393,6 +393,11 @@ fn file_says(alloc: Global) -> Result<(), Fail> {
     says(alloc, &fault, "file a/b.pcap", 3)
 }
 
+fn network_says(alloc: Global) -> Result<(), Fail> {
+    let fault = Fault::Network(String::from_str(alloc, "network refused: LinkTwice link 2 a.1")?);
+    says(alloc, &fault, "network refused: LinkTwice link 2 a.1", 1)
+}
+
 const NEVER_FITS: CheckFault = CheckFault::MaxSduNeverFits {
     filter: 4_294_967_295,
     port: 16,
@@ -413,6 +418,7 @@ fn a_fault_has_a_line_and_a_status(rt: HostRuntime) -> Result<(), Fail> {
     check_says(alloc, CheckFault::NoMemory, "no memory", 3)?;
     says(alloc, &Fault::Words, "command line refused", 4)?;
     file_says(alloc)?;
+    network_says(alloc)?;
     Ok(())
 }
 
