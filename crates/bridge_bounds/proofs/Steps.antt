@@ -1,5 +1,5 @@
 -- Frames one after the other.
-use Rattle.std.proofs.Common.{◌≡◌, ℕ, zero, suc, Bool, ◌≤◌, ◌+◌, arith, subst, inl, inr}
+use Rattle.std.proofs.Common.{◌≡◌, ℕ, zero, suc, Bool, true, ◌<◌, ◌≤◌, ◌+◌, ◌*◌, arith, refl, subst, inl, inr}
 use Rattle.std.proofs.lemmas.Bool.{cases_lt}
 use Rattle.bridge_cycle.specs.Moments.{Fits, IsFirst}
 use Rattle.bridge_bounds.specs.Bounds.{EndsBy, IsLongest}
@@ -56,3 +56,35 @@ longest_bounds opens occ k d u v longest e =
     let (z, f, upto) = longest u in
     let same = ends_once opens occ k u v z e f in
     omega (arith, same, upto)
+
+-- where each moment has a first fit, so many frames end
+pub ends_some : (opens : ℕ → Bool) (occ k u : ℕ) → ((w : ℕ) → (s : ℕ) × IsFirst opens occ w s) → (v : ℕ) × EndsBy opens occ k u v
+ends_some opens occ zero u some = (u, refl)
+ends_some opens occ (suc k) u some =
+    let (w, e) = ends_some opens occ k u some in
+    let (s, first) = some w in
+    (s + occ, (w, s, e, first, refl))
+
+-- the frames behind the first one go on from its end
+pub ends_behind : (opens : ℕ → Bool) (occ k u v : ℕ) → EndsBy opens occ (suc k) u v → (s : ℕ) × IsFirst opens occ u s × EndsBy opens occ k (s + occ) v
+ends_behind opens occ zero u v (w, s, e, first, is) = (s, subst (λ (i : ℕ). IsFirst opens occ i s) e first, is)
+ends_behind opens occ (suc k) u v (w, s, e, first, is) =
+    let (t, here, rest) = ends_behind opens occ k u w e in
+    (t, here, (w, s, rest, first, is))
+
+-- frames that wait from a moment with the same first fit end the same
+pub ends_alike : (opens : ℕ → Bool) (occ k u w v : ℕ) → ((s : ℕ) → IsFirst opens occ u s → IsFirst opens occ w s) → EndsBy opens occ (suc k) u v → EndsBy opens occ (suc k) w v
+ends_alike opens occ zero u w v same (x, s, e, first, is) = (w, s, refl, same s (subst (λ (i : ℕ). IsFirst opens occ i s) e first), is)
+ends_alike opens occ (suc k) u w v same (x, s, e, first, is) = (x, s, ends_alike opens occ k u w x same e, first, is)
+
+-- one frame more takes at least its own time
+pub ends_more : (opens : ℕ → Bool) (occ k u v w : ℕ) → EndsBy opens occ k u v → EndsBy opens occ (suc k) u w → v + occ ≤ w
+ends_more opens occ k u v w e (x, s, f, first, is) =
+    let same = ends_once opens occ k u v x e f in
+    let after = first.after in
+    omega (arith, same, after, is)
+
+-- always open: one frame follows the other
+pub ends_open : (opens : ℕ → Bool) (occ k u : ℕ) → ((w : ℕ) → opens w ≡ true) → EndsBy opens occ k u (u + k * occ)
+ends_open opens occ zero u always = omega arith
+ends_open opens occ (suc k) u always = (u + k * occ, u + k * occ, ends_open opens occ k u always, record { after = omega arith; fits = λ w p q. always w; least = λ v p q. absurd (omega (arith, p, q)) }, omega arith)
