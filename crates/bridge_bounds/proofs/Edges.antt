@@ -6,7 +6,7 @@ use Rattle.bridge_cycle.specs.Moments.{Fits, IsFirst, Repeats}
 use Rattle.bridge_cycle.specs.Fitting.{all_open}
 use Rattle.bridge_cycle.proofs.Fitting.{all_open_gives, all_open_from}
 use Rattle.bridge_cycle.proofs.Repeats.{fits_near, turns}
-use Rattle.bridge_bounds.specs.Bounds.{EndsBy}
+use Rattle.bridge_bounds.specs.Bounds.{EndsBy, IsEdge}
 use Rattle.bridge_bounds.proofs.Steps.{ends_some, ends_once, ends_more, ends_alike, ends_behind, first_once}
 
 -- FITS
@@ -105,11 +105,6 @@ ends_up opens cycle occ n zero u v r e = ap (λ (i : ℕ). i + n * cycle) e
 ends_up opens cycle occ n (suc k) u v r (w, s, e, first, is) = (w + n * cycle, s + n * cycle, ends_up opens cycle occ n k u w r e, first_up opens cycle occ n w s r first, omega (arith, is))
 
 -- EDGES
-
--- a moment at which a frame fits, and not at the next one
-pub record IsEdge (opens : ℕ → Bool) (occ c : ℕ) : Type 0 where
-  pub fits : Fits opens occ c
-  pub last : ¬ Fits opens occ (c + 1)
 
 -- what is known of a class whose gate repeats: some moments serve, behind each edge of a cycle among them
 pub record IsCovered (opens : ℕ → Bool) (cycle occ : ℕ) (S : ℕ → Type 0) : Type 0 where

@@ -1,3 +1,5 @@
 pub mod Steps
 pub mod Queued
 pub mod Edges
+pub mod Changed
+pub mod Lists

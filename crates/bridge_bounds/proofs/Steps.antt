@@ -88,3 +88,11 @@ ends_more opens occ k u v w e (x, s, f, first, is) =
 pub ends_open : (opens : ℕ → Bool) (occ k u : ℕ) → ((w : ℕ) → opens w ≡ true) → EndsBy opens occ k u (u + k * occ)
 ends_open opens occ zero u always = omega arith
 ends_open opens occ (suc k) u always = (u + k * occ, u + k * occ, ends_open opens occ k u always, record { after = omega arith; fits = λ w p q. always w; least = λ v p q. absurd (omega (arith, p, q)) }, omega arith)
+
+-- frames that wait from a later moment on are done no earlier
+pub ends_rises : (opens : ℕ → Bool) (occ k u v y z : ℕ) → u ≤ v → EndsBy opens occ k u y → EndsBy opens occ k v z → y ≤ z
+ends_rises opens occ zero u v y z h a b = omega (arith, h, a, b)
+ends_rises opens occ (suc k) u v y z h (w, s, e, first, is) (x, t, f, other, was) =
+    let before = ends_rises opens occ k u v w x h e f in
+    let start = first_rises opens occ occ w x s t (omega arith) before first other in
+    omega (arith, start, is, was)

@@ -3,3 +3,6 @@
 //! talker does.
 
 pub mod laws;
+mod longest;
+
+pub use longest::longest_of;
