@@ -1,7 +1,11 @@
 -- The longest time of a list, and of lists that are exchanged.
 use Rattle.std.proofs.Common.{◌≡◌, ℕ, Bool, true, false, ◌<◌, ◌≤◌, ◌+◌, ◌-◌, ◌*◌, max, Some, arith, refl, sym, subst, ap, ◌∙◌, inl, inr}
 use Rattle.std.proofs.lemmas.Bool.{cases_lt}
-use Rattle.bridge_cycle.specs.Cyclic.{Cyclic, IsLawful}
+use Rattle.bridge_cycle.specs.Cyclic.{Cyclic, IsLawful, turn_at}
+use Rattle.bridge_cycle.specs.CyclicLaws.{turned}
+use Rattle.bridge_cycle.specs.Opens.{opens_in}
+use Rattle.bridge_cycle.specs.declared.timeline.Turn.{Turn}
+use Rattle.bridge_cycle.proofs.Turns.{same_to_end}
 use Rattle.bridge_cycle.specs.Joined.{Joined}
 use Rattle.bridge_cycle.specs.Moments.{Fits, IsFirst}
 use Rattle.bridge_cycle.specs.declared.cyclic.TheConstants.{LONGEST_CYCLE}
@@ -27,13 +31,13 @@ pub record IsTried (opens : ℕ → Bool) (occ room seen d : ℕ) : Type 0 where
   pub attained : IsAttained opens occ room d
   pub bounded : d ≤ room * (2 * LONGEST_CYCLE)
 
-pub tried_begin : (opens : ℕ → Bool) (occ room d : ℕ) → EndsBy opens occ room 0 d → d ≤ 0 + room * (2 * LONGEST_CYCLE) → IsTried opens occ room occ d
+pub tried_begin : (opens : ℕ → Bool) (occ room d : ℕ) → EndsBy opens occ room 0 (0 + d) → d ≤ room * (2 * LONGEST_CYCLE) → IsTried opens occ room occ d
 tried_begin opens occ room d e soon = record {
   begun = omega arith;
   near = omega arith;
-  start = λ z f. let same = ends_once opens occ room 0 z d f e in omega (arith, same);
+  start = λ z f. let same = ends_once opens occ room 0 z (0 + d) f e in omega (arith, same);
   edges = λ c p q. absurd (omega (arith, p, q));
-  attained = (0, let is : d ≡ 0 + d = omega arith in subst (EndsBy opens occ room 0) is e);
+  attained = (0, e);
   bounded = omega (arith, soon);
 }
 
@@ -148,3 +152,18 @@ fit_soon l class occ from s lawful can first =
     let near = list_soon l class occ from lawful can in
     let before = near.2 in
     elim (cases_lt near.0 s) [ inl m ↦ absurd (first.least near.0 near.1 m near.3) | inr m ↦ omega (arith, m, before) ]
+
+-- the turn of a list that has a moment: to its end it opens what it opens then
+pub record IsListTurn (l : Cyclic ℕ) (class seen end : ℕ) : Type 0 where
+  pub ends : seen < end
+  pub soon : end ≤ seen + l.cycle
+  pub same : (u : ℕ) → seen ≤ u → u < end → list_opens l class u ≡ list_opens l class seen
+
+pub list_turn : (l : Cyclic ℕ) (class seen : ℕ) (x : Turn ℕ) → IsLawful l → turn_at l seen ≡ Some x → IsListTurn l class seen x.end
+list_turn l class seen x lawful h =
+    let is = turned l seen x lawful h in
+    record {
+      ends = is.ends;
+      soon = is.soon;
+      same = λ u p q. ap (λ o. opens_in o class) (same_to_end (turn_at l) (λ t y k. (turned l t y lawful k).begins) (λ t v y k. (turned l t y lawful k).same v) seen x h u p q ∙ sym h);
+    }
