@@ -1,8 +1,8 @@
 //! How long a full queue takes at most, by the gates of its port.
-ghost use Rattle.std.specs.Prelude.{◌≡◌, ◌↔◌, ◌+◌, ◌-◌, ◌*◌, ◌<◌, ◌≤◌, true};
+ghost use Rattle.std.specs.Prelude.{◌≡◌, ◌↔◌, ◌+◌, ◌-◌, ◌*◌, ◌<◌, ◌≤◌, true, Some};
 ghost use Rattle.bridge_cycle.specs.Cyclic.{IsLawful};
 ghost use Rattle.bridge_cycle.specs.Moments.{IsFirst};
-ghost use Rattle.bridge_port.specs.Opening.{ever_of, IsMade, list_ever, list_opens, opening_of, opens_of};
+ghost use Rattle.bridge_port.specs.Opening.{ever, list_ever, list_opens, opening_of, opens};
 ghost use Rattle.bridge_bounds.specs.Bounds.{EndsBy, IsAttained, IsEdge, IsLeast, IsLongest};
 
 use bridge_cycle::{CyclicList, Egress, LONGEST_CYCLE, Timeline, first_fit};
@@ -87,10 +87,33 @@ fn longest_in<A: Allocator + Copy>(
     longest
 }
 
-/// The longest time, in ns, that so many frames take which wait from any moment on, by the lists of a port: of a class
-/// that is always open where it has none, and the sum of both lists' where they are exchanged.
+/// The longest time, in ns, that so many frames take which wait from any moment on, by gate control lists: of lists that
+/// are exchanged the sum of both lists'.
+fn longest_by<A: Allocator + Copy>(lists: &Egress<A>, class: u8, occ: u64, room: u16) -> u64
+    requires class { class < 8 }
+    requires some { 1 ≤ occ }
+    requires occ { occ ≤ LONGEST_CYCLE }
+    requires ever { ever (opening_of (Some lists.now)) class occ ≡ true }
+    ensures longest { IsLongest (opens (opening_of (Some lists.now)) class) occ room result }
+    ensures least { IsLeast (opening_of (Some lists.now)) class occ room result }
+    ensures bounded { result ≤ room * (4 * LONGEST_CYCLE) }
+{
+    match lists {
+        Egress::Cyclic(list) => {
+            let _ = list.cycle();
+            longest_in(list, class, occ, room)
+        }
+        Egress::Joined(joined) => {
+            let (old, new) = joined.lists();
+            longest_in(old, class, occ, room) + longest_in(new, class, occ, room)
+        }
+    }
+}
+
+/// The longest time, in ns, that so many frames take which wait from any moment on, one after the other, each on the link
+/// for `occ` ns, by the gate control lists of a port: it is attained where no lists are exchanged.
 pub fn longest_of<A: Allocator + Copy>(
-    list: &Option<Egress<A>>,
+    lists: &Option<Egress<A>>,
     class: u8,
     occ: u64,
     room: u16,
@@ -98,20 +121,13 @@ pub fn longest_of<A: Allocator + Copy>(
     requires class { class < 8 }
     requires some { 1 ≤ occ }
     requires occ { occ ≤ LONGEST_CYCLE }
-    requires ever { ever_of list.now class occ ≡ true }
-    ensures longest { IsLongest (opens_of list.now class) occ room result }
-    ensures least { IsLeast (opening_of list.now) class occ room result }
+    requires ever { ever (opening_of lists.now) class occ ≡ true }
+    ensures longest { IsLongest (opens (opening_of lists.now) class) occ room result }
+    ensures least { IsLeast (opening_of lists.now) class occ room result }
     ensures bounded { result ≤ room * (4 * LONGEST_CYCLE) }
 {
-    match list {
+    match lists {
         None => room as u64 * occ,
-        Some(Egress::Cyclic(list)) => {
-            let _ = list.cycle();
-            longest_in(list, class, occ, room)
-        }
-        Some(Egress::Joined(joined)) => {
-            let (old, new) = joined.lists();
-            longest_in(old, class, occ, room) + longest_in(new, class, occ, room)
-        }
+        Some(lists) => longest_by(lists, class, occ, room),
     }
 }
