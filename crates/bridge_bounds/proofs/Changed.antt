@@ -1,9 +1,9 @@
 -- Gates that change at a moment: what holds before it and what from it on, each by itself, bounds both together.
-use Rattle.std.proofs.Common.{◌≡◌, ℕ, zero, suc, Bool, ◌<◌, ◌≤◌, ◌+◌, arith, refl, sym, subst, ◌∙◌, inl, inr}
+use Rattle.std.proofs.Common.{◌≡◌, ℕ, zero, suc, Bool, ◌<◌, ◌≤◌, ◌+◌, arith, sym, ◌∙◌, inl, inr}
 use Rattle.std.proofs.lemmas.Bool.{cases_lt}
-use Rattle.bridge_cycle.specs.Moments.{Fits, IsFirst}
+use Rattle.bridge_cycle.specs.Moments.{IsFirst}
 use Rattle.bridge_bounds.specs.Bounds.{EndsBy, IsLongest}
-use Rattle.bridge_bounds.proofs.Steps.{ends_after, ends_once, ends_rises, ends_some}
+use Rattle.bridge_bounds.proofs.Steps.{ends_after, ends_rises, ends_some}
 
 -- what is open before a moment, and from it on
 pub record IsChange (old new both : ℕ → Bool) (at : ℕ) : Type 0 where

@@ -1,5 +1,5 @@
 -- Where the longest time is attained: behind the last moment of a run at which a frame fits.
-use Rattle.std.proofs.Common.{◌≡◌, ℕ, zero, suc, Bool, true, false, ◌<◌, ◌≤◌, ◌+◌, ◌-◌, ◌*◌, ◌/◌, ◌%◌, ◌⊎◌, arith, refl, sym, subst, ap, ◌∙◌, inl, inr}
+use Rattle.std.proofs.Common.{◌≡◌, ℕ, zero, suc, Bool, ◌<◌, ◌≤◌, ◌+◌, ◌-◌, ◌*◌, ◌/◌, ◌%◌, ◌⊎◌, arith, sym, subst, ap, ◌∙◌, inl, inr}
 use Rattle.std.proofs.Math.Nat.{mod-lt}
 use Rattle.std.proofs.lemmas.Bool.{cases_lt, cases_Bool, false≢true}
 use Rattle.bridge_cycle.specs.Moments.{Fits, IsFirst, Repeats}
@@ -26,15 +26,17 @@ first_before opens occ (suc n) from f = elim (fits_or opens occ from) [
   | inr none ↦
       let next : from + suc n ≡ (from + 1) + n = omega arith in
       let (s, first) = first_before opens occ n (from + 1) (subst (Fits opens occ) next f) in
-      let after = first.after in
-      (s, record {
-        after = omega (arith, after);
-        fits = first.fits;
-        least = λ v p q. elim (cases_lt from v) [
-          | inl l ↦ first.least v (omega (arith, l)) q
-          | inr l ↦ let same : v ≡ from = omega (arith, l, p) in λ g. none (subst (Fits opens occ) same g)
-        ];
-      })
+      let after = first.after in (
+        s,
+        record {
+          after = omega (arith, after);
+          fits = first.fits;
+          least = λ v p q. elim (cases_lt from v) [
+            | inl l ↦ first.least v (omega (arith, l)) q
+            | inr l ↦ let same : v ≡ from = omega (arith, l, p) in λ g. none (subst (Fits opens occ) same g)
+          ];
+        },
+      )
 ]
 
 -- where it fits at a later moment there is a first fit
@@ -50,23 +52,27 @@ record IsLastFit (opens : ℕ → Bool) (occ u c : ℕ) : Type 0 where
 last_from : (opens : ℕ → Bool) (occ n w : ℕ) → Fits opens occ w → (¬ Fits opens occ (w + n)) → (c : ℕ) × IsLastFit opens occ (w + n) c
 last_from opens occ zero w f none = let e : w ≡ w + zero = omega arith in absurd (none (subst (Fits opens occ) e f))
 last_from opens occ (suc n) w f none = elim (fits_or opens occ (w + n)) [
-  | inl here ↦
-      (w + n, record {
-        fits = here;
-        before = omega arith;
-        none = λ v p q. let same : w + suc n ≡ v = omega (arith, p, q) in subst (λ (i : ℕ). ¬ Fits opens occ i) same none;
-      })
+  | inl here ↦ (
+    w + n,
+    record {
+      fits = here;
+      before = omega arith;
+      none = λ v p q. let same : w + suc n ≡ v = omega (arith, p, q) in subst (λ (i : ℕ). ¬ Fits opens occ i) same none;
+    },
+  )
   | inr there ↦
       let (c, last) = last_from opens occ n w f there in
-      let before = last.before in
-      (c, record {
-        fits = last.fits;
-        before = omega (arith, before);
-        none = λ v p q. elim (cases_lt (w + n) v) [
-          | inl l ↦ let same : w + suc n ≡ v = omega (arith, l, q) in subst (λ (i : ℕ). ¬ Fits opens occ i) same none
-          | inr l ↦ last.none v p l
-        ];
-      })
+      let before = last.before in (
+        c,
+        record {
+          fits = last.fits;
+          before = omega (arith, before);
+          none = λ v p q. elim (cases_lt (w + n) v) [
+            | inl l ↦ let same : w + suc n ≡ v = omega (arith, l, q) in subst (λ (i : ℕ). ¬ Fits opens occ i) same none
+            | inr l ↦ last.none v p l
+          ];
+        },
+      )
 ]
 
 last_fit : (opens : ℕ → Bool) (occ w u : ℕ) → w ≤ u → Fits opens occ w → (¬ Fits opens occ u) → (c : ℕ) × IsLastFit opens occ u c
@@ -141,14 +147,19 @@ edge_of opens cycle occ t u some r f none =
     let edge : IsEdge opens occ (p + 1) = record {
       fits = fits_down opens cycle occ q (p + 1) r (subst (Fits opens occ) e (fits_up opens cycle occ 1 b r last.fits));
       last = λ g. last.none (b + 1) (omega arith) (omega (arith, before)) (fits_down opens cycle occ 1 (b + 1) r (subst (Fits opens occ) (sym next) (fits_up opens cycle occ q ((p + 1) + 1) r g)));
-    } in
-    (p + 1, omega arith, omega (arith, below), edge, λ k y z a d.
-    let moved : EndsBy opens occ (suc k) (u + 1 * cycle) (y + 1 * cycle) = ends_up opens cycle occ 1 (suc k) u y r a in
-    let same : EndsBy opens occ (suc k) (b + 1) (y + 1 * cycle) = ends_alike opens occ k (u + 1 * cycle) (b + 1) (y + 1 * cycle) (λ s first. back opens cycle occ u b s last first) moved in
-    let again : EndsBy opens occ (suc k) ((b + 1) + 1 * cycle) ((y + 1 * cycle) + 1 * cycle) = ends_up opens cycle occ 1 (suc k) (b + 1) (y + 1 * cycle) r same in
-    let there : EndsBy opens occ (suc k) (((p + 1) + 1) + q * cycle) (z + q * cycle) = ends_up opens cycle occ q (suc k) ((p + 1) + 1) z r d in
-    let one : (y + 1 * cycle) + 1 * cycle ≡ z + q * cycle = ends_once opens occ (suc k) (((p + 1) + 1) + q * cycle) ((y + 1 * cycle) + 1 * cycle) (z + q * cycle) (subst (λ (i : ℕ). EndsBy opens occ (suc k) i ((y + 1 * cycle) + 1 * cycle)) next again) there in
-    omega (arith, one, next, before))
+    } in (
+      p + 1,
+      omega arith,
+      omega (arith, below),
+      edge,
+      λ k y z a d.
+          let moved : EndsBy opens occ (suc k) (u + 1 * cycle) (y + 1 * cycle) = ends_up opens cycle occ 1 (suc k) u y r a in
+          let same : EndsBy opens occ (suc k) (b + 1) (y + 1 * cycle) = ends_alike opens occ k (u + 1 * cycle) (b + 1) (y + 1 * cycle) (λ s first. back opens cycle occ u b s last first) moved in
+          let again : EndsBy opens occ (suc k) ((b + 1) + 1 * cycle) ((y + 1 * cycle) + 1 * cycle) = ends_up opens cycle occ 1 (suc k) (b + 1) (y + 1 * cycle) r same in
+          let there : EndsBy opens occ (suc k) (((p + 1) + 1) + q * cycle) (z + q * cycle) = ends_up opens cycle occ q (suc k) ((p + 1) + 1) z r d in
+          let one : (y + 1 * cycle) + 1 * cycle ≡ z + q * cycle = ends_once opens occ (suc k) (((p + 1) + 1) + q * cycle) ((y + 1 * cycle) + 1 * cycle) (z + q * cycle) (subst (λ (i : ℕ). EndsBy opens occ (suc k) i ((y + 1 * cycle) + 1 * cycle)) next again) there in
+          omega (arith, one, next, before),
+    )
   where
     back : (opens : ℕ → Bool) (cycle occ u b s : ℕ) → IsLastFit opens occ (u + 1 * cycle) b → IsFirst opens occ (u + 1 * cycle) s → IsFirst opens occ (b + 1) s
     back opens cycle occ u b s last first =
@@ -168,16 +179,19 @@ pub no_longer : (opens : ℕ → Bool) (cycle occ : ℕ) (S : ℕ → Type 0) (k
 no_longer opens cycle occ S zero u h = (h.start, h.serves, λ y z a b. omega (arith, a, b))
 no_longer opens cycle occ S (suc k) u h = elim (fits_or opens occ u) [
   | inl here ↦
-      let (v, serves, shorter) = no_longer opens cycle occ S k (u + occ) h in
-      (v, serves, λ y z a b.
-      let (s, first, rest) = ends_behind opens occ k u y a in
-      let now : IsFirst opens occ u u = record { after = omega arith; fits = here; least = λ w p q. absurd (omega (arith, p, q)) } in
-      let same = first_once opens occ u s u first now in
-      let on : EndsBy opens occ k (u + occ) y = subst (λ (i : ℕ). EndsBy opens occ k (i + occ) y) same rest in
-      let (x, few) = ends_some opens occ k v (λ w. firsts opens cycle occ h.fit w h.cycle_some h.repeats h.fits) in
-      let less = shorter y x on few in
-      let more = ends_more opens occ k v x z few b in
-      omega (arith, less, more))
+      let (v, serves, shorter) = no_longer opens cycle occ S k (u + occ) h in (
+        v,
+        serves,
+        λ y z a b.
+            let (s, first, rest) = ends_behind opens occ k u y a in
+            let now : IsFirst opens occ u u = record { after = omega arith; fits = here; least = λ w p q. absurd (omega (arith, p, q)) } in
+            let same = first_once opens occ u s u first now in
+            let on : EndsBy opens occ k (u + occ) y = subst (λ (i : ℕ). EndsBy opens occ k (i + occ) y) same rest in
+            let (x, few) = ends_some opens occ k v (λ w. firsts opens cycle occ h.fit w h.cycle_some h.repeats h.fits) in
+            let less = shorter y x on few in
+            let more = ends_more opens occ k v x z few b in
+            omega (arith, less, more),
+      )
   | inr none ↦
       let (c, from, upto, edge, shorter) = edge_of opens cycle occ h.fit u h.cycle_some h.repeats h.fits none in
       (c + 1, h.edges c from upto edge, λ y z a b. shorter k y z a b)

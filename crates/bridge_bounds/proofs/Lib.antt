@@ -3,3 +3,5 @@ pub mod Queued
 pub mod Edges
 pub mod Changed
 pub mod Lists
+pub mod Sizes
+pub mod Whole

@@ -1,5 +1,5 @@
 -- The longest time of a list, and of lists that are exchanged.
-use Rattle.std.proofs.Common.{◌≡◌, ℕ, Bool, true, false, ◌<◌, ◌≤◌, ◌+◌, ◌-◌, ◌*◌, max, Some, arith, refl, sym, subst, ap, ◌∙◌, inl, inr}
+use Rattle.std.proofs.Common.{◌≡◌, ℕ, Bool, true, ◌<◌, ◌≤◌, ◌+◌, ◌-◌, ◌*◌, max, Some, arith, refl, sym, subst, ap, ◌∙◌, inl, inr}
 use Rattle.std.proofs.lemmas.Bool.{cases_lt}
 use Rattle.bridge_cycle.specs.Cyclic.{Cyclic, IsLawful, turn_at}
 use Rattle.bridge_cycle.specs.CyclicLaws.{turned}
@@ -7,16 +7,16 @@ use Rattle.bridge_cycle.specs.Opens.{opens_in}
 use Rattle.bridge_cycle.specs.declared.timeline.Turn.{Turn}
 use Rattle.bridge_cycle.proofs.Turns.{same_to_end}
 use Rattle.bridge_cycle.specs.Joined.{Joined}
-use Rattle.bridge_cycle.specs.Moments.{Fits, IsFirst}
+use Rattle.bridge_cycle.specs.Moments.{IsFirst}
 use Rattle.bridge_cycle.specs.declared.cyclic.TheConstants.{LONGEST_CYCLE}
 use Rattle.bridge_cycle.proofs.Changes.{opens_after, opens_before}
 use Rattle.bridge_cycle.proofs.Lists.{list_repeats}
-use Rattle.bridge_port.specs.Opening.{Always, ever, Exchanged, IsMade, list_ever, list_opens, One, Opening, opens}
+use Rattle.bridge_port.specs.Opening.{Always, ever, Exchanged, IsMade, list_ever, list_opens, opens}
 use Rattle.bridge_port.proofs.Opening.{ever_soon, list_ever_is, list_soon}
 use Rattle.bridge_bounds.specs.Bounds.{EndsBy, IsAttained, IsEdge, IsLongest}
 use Rattle.bridge_bounds.proofs.Steps.{ends_open, ends_once, ends_some}
 use Rattle.bridge_bounds.proofs.Edges.{first_some, IsCovered, no_longer}
-use Rattle.bridge_bounds.proofs.Changed.{IsChange, longest_over}
+use Rattle.bridge_bounds.proofs.Changed.{longest_over}
 
 -- so many frames that wait from the moment v on take at most d
 abbrev pub TakeAtMost : (ℕ → Bool) → ℕ → ℕ → ℕ → ℕ → Type 0
@@ -95,9 +95,9 @@ tried_edge opens occ room seen end d e t some on near same ends soon =
           | inr m ↦
               let here : end - occ + 1 ≡ c + 1 = omega (arith, m, q, begun, on) in
               λ z f.
-                  let own : EndsBy opens occ room (end - occ + 1) z = subst (λ (i : ℕ). EndsBy opens occ room i z) (sym here) f in
-                  let is = ends_once opens occ room (end - occ + 1) z (end - occ + 1 + e) own ends in
-                  omega (arith, is, here)
+              let own : EndsBy opens occ room (end - occ + 1) z = subst (λ (i : ℕ). EndsBy opens occ room i z) (sym here) f in
+              let is = ends_once opens occ room (end - occ + 1) z (end - occ + 1 + e) own ends in
+              omega (arith, is, here)
         ]
       ];
       attained = attained_by opens occ room d e (end - occ + 1) t.attained ends;

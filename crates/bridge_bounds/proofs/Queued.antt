@@ -1,9 +1,10 @@
 -- How long the copies of a queue take that has its link alone.
-use Rattle.std.proofs.Common.{◌≡◌, ◌<◌, ◌≤◌, ◌+◌, ◌-◌, ℕ, zero, suc, true, false, max, List, [], ◌∷◌, arith, refl, subst, inl, inr}
+use Rattle.std.proofs.Common.{◌≡◌, ◌<◌, ◌≤◌, ◌+◌, ◌-◌, ℕ, zero, suc, true, false, max, List, [], ◌∷◌, arith, refl, sym, subst, inl, inr}
 use Rattle.std.proofs.Math.Bool.{and-false}
 use Rattle.std.proofs.lemmas.Bool.{cases_lt, eq-eqb}
 use Rattle.std.proofs.lemmas.Bool.Decides.{nat_tests}
 use Rattle.std.specs.Prelude.{nat_lt, nat_eq, ◌&&◌, if◌then◌else◌}
+use Rattle.bridge_base.specs.Members.{In}
 use Rattle.bridge_cycle.specs.Moments.{IsFirst}
 use Rattle.bridge_port.specs.Schedule.{Copy, Fate, Never, Full, Queued, Started, Rules, OfferedUpTo, waiting, is_there}
 use Rattle.bridge_port.specs.Solo.{IsSolo, IsSoloFate, done_or, last_done}
@@ -11,7 +12,7 @@ use Rattle.bridge_bounds.specs.Bounds.{AreShort, EndsBy, IsLongest}
 use Rattle.bridge_bounds.proofs.Steps.{ends_after, ends_fewer, first_rises}
 
 -- offers up to a moment are offers up to a later one
-up_to : {X : Type 0} (h k : ℕ) (xs : List (Copy X)) → h ≤ k → OfferedUpTo h xs → OfferedUpTo k xs
+pub up_to : {X : Type 0} (h k : ℕ) (xs : List (Copy X)) → h ≤ k → OfferedUpTo h xs → OfferedUpTo k xs
 up_to h k [] l o = tt
 up_to h k (x ∷ xs) l o = (omega (arith, l, o.0), o.1)
 
@@ -69,3 +70,11 @@ in_time r c occ d s x xs some longest solo short order started =
     let (v, ends, early) = ends_fewer (r.opens c) occ (1 + waiting c x.at xs) (r.room c) u z (omega (arith, few)) all in
     let done = done_late r c occ x.at u s (1 + waiting c x.at xs) v x xs class own (omega arith) before fate.2 refl ends in
     omega (arith, done, early, upto)
+
+-- so is each copy of a queue that is alone
+pub each_in_time : {X : Type 0} (r : Rules X) (c occ d s h : ℕ) (x : Copy X) (xs : List (Copy X)) → 1 ≤ occ → IsLongest (r.opens c) occ (r.room c) d → IsSolo r xs → AreShort r c occ xs → OfferedUpTo h xs → In x xs → x.fate ≡ Started s → s + r.occ x.item ≤ x.at + (occ - 1) + d
+each_in_time r c occ d s h x [] some longest solo short order i started = absurd i
+each_in_time r c occ d s h x (y ∷ ys) some longest solo short order (inl same) started =
+    let own : y.fate ≡ Started s = subst (λ (z : Copy _). z.fate ≡ Started s) same started in
+    subst (λ (z : Copy _). s + r.occ z.item ≤ z.at + (occ - 1) + d) (sym same) (in_time r c occ d s y ys some longest solo short order.1 own)
+each_in_time r c occ d s h x (y ∷ ys) some longest solo short order (inr later) started = each_in_time r c occ d s y.at x ys some longest solo.1 (λ z j. short z (inr j)) order.1 later started

@@ -1,5 +1,5 @@
 -- Frames one after the other.
-use Rattle.std.proofs.Common.{◌≡◌, ℕ, zero, suc, Bool, true, ◌<◌, ◌≤◌, ◌+◌, ◌*◌, arith, refl, subst, inl, inr}
+use Rattle.std.proofs.Common.{◌≡◌, ℕ, zero, suc, Bool, true, ◌≤◌, ◌+◌, ◌*◌, arith, refl, subst, inl, inr}
 use Rattle.std.proofs.lemmas.Bool.{cases_lt}
 use Rattle.bridge_cycle.specs.Moments.{Fits, IsFirst}
 use Rattle.bridge_bounds.specs.Bounds.{EndsBy, IsLongest}

@@ -53,18 +53,12 @@ fn is_edge<A: Allocator + Copy>(list: &CyclicList<u8, A>, class: u8, occ: u64, m
     requires ever { list_ever list.now class occ ≡ true }
     ensures { (result ≡ true) ↔ IsEdge (list_opens list.now class) occ moment }
 {
-    fit_of(list, class, occ, moment) == moment
-        && fit_of(list, class, occ, moment + 1) != moment + 1
+    fit_of(list, class, occ, moment) == moment && fit_of(list, class, occ, moment + 1) != moment + 1
 }
 
 /// The longest time, in ns, that so many frames take under a list that wait from any moment on: it is attained behind the
 /// last moment of a run of the class at which a frame fits, or from any moment on where the class is always open.
-fn longest_in<A: Allocator + Copy>(
-    list: &CyclicList<u8, A>,
-    class: u8,
-    occ: u64,
-    room: u16,
-) -> u64
+fn longest_in<A: Allocator + Copy>(list: &CyclicList<u8, A>, class: u8, occ: u64, room: u16) -> u64
     requires class { class < 8 }
     requires some { 1 ≤ occ }
     requires occ { occ ≤ LONGEST_CYCLE }

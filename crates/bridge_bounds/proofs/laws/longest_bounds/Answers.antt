@@ -1,4 +1,3 @@
-use Rattle.bridge_bounds.proofs.Lists as lists
 use Rattle.bridge_bounds.proofs.Steps as steps
 use Rattle.bridge_bounds.proofs.laws.longest_bounds.Goals as goal
 

@@ -1,7 +1,4 @@
-use Rattle.std.proofs.Common.{◌≤◌, ◌+◌, ◌*◌, arith, inl, inr}
-use Rattle.std.proofs.lemmas.Bool.{cases_lt}
-use Rattle.bridge_cycle.specs.declared.cyclic.TheConstants.{LONGEST_CYCLE}
-use Rattle.bridge_port.specs.Opening.{list_opens}
+use Rattle.std.proofs.Common.{arith}
 use Rattle.bridge_port.proofs.Opening.{list_soon}
 use Rattle.bridge_bounds.proofs.Lists.{fit_soon}
 use Rattle.bridge_bounds.proofs.longest.fit_of.Goals as goal

@@ -1,7 +1,7 @@
-use Rattle.std.proofs.Common.{◌≡◌, ◌+◌, ◌*◌, true, ap, sym, subst, Some}
+use Rattle.std.proofs.Common.{◌≡◌, ◌+◌, true, ap, sym, subst, Some}
 use Rattle.bridge_cycle.specs.Cyclic.{Cyclic}
 use Rattle.bridge_port.specs.Opening.{Exchanged, One, Opening, ever, list_opens, opening_of, opens}
-use Rattle.bridge_bounds.specs.Bounds.{IsLeast, IsLongest}
+use Rattle.bridge_bounds.specs.Bounds.{IsLongest}
 use Rattle.bridge_bounds.proofs.Lists.{exchanged_longest}
 use Rattle.bridge_bounds.proofs.longest.longest_by.Goals as goal
 

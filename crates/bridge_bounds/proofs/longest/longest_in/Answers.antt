@@ -1,4 +1,4 @@
-use Rattle.std.proofs.Common.{◌≡◌, ◌<◌, ◌≤◌, ◌+◌, ◌-◌, ◌*◌, ℕ, Bool, arith, max, sym, subst}
+use Rattle.std.proofs.Common.{ℕ, Bool, arith, max, sym, subst}
 use Rattle.std.proofs.lemmas.Bool.{both_ways}
 use Rattle.bridge_port.specs.Opening.{list_opens}
 use Rattle.bridge_bounds.proofs.Lists.{IsListTurn, IsTried, list_turn, tried_all, tried_begin, tried_edge, tried_past}

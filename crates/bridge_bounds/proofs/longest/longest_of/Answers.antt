@@ -1,4 +1,4 @@
-use Rattle.std.proofs.Common.{◌≡◌, ◌*◌, ap, sym, subst}
+use Rattle.std.proofs.Common.{◌*◌, ap, sym, subst}
 use Rattle.bridge_port.specs.Opening.{Opening, opening_of, opens}
 use Rattle.bridge_bounds.specs.Bounds.{IsLeast, IsLongest}
 use Rattle.bridge_bounds.proofs.Lists.{always_attained, always_longest}
