@@ -1,0 +1,58 @@
+-- How long the frames of a protected filter take in a whole run.
+use Rattle.std.proofs.Common.{◌≡◌, ◌+◌, ◌-◌, ◌≤◌, ◌⊎◌, ℕ, true, List, [], ◌∷◌, refl, sym, subst, inl, inr, Some}
+use Rattle.std.specs.Prelude.{nat_eq}
+use Rattle.std.proofs.lemmas.Bool.{eqb-true}
+use Rattle.bridge_base.specs.Members.{In}
+use Rattle.bridge_cycle.proofs.Cases.{by_bool}
+use Rattle.bridge_frame.specs.Link.{occupied}
+use Rattle.bridge_frame.proofs.Times.{occupied_some}
+use Rattle.bridge_filter.specs.declared.FilterPlan.{FilterPlan}
+use Rattle.bridge_port.specs.Opening.{opens_of}
+use Rattle.bridge_port.specs.Schedule.{Copy, OfferedUpTo, Started}
+use Rattle.bridge_port.specs.Solo.{only}
+use Rattle.bridge_config.specs.declared.ports.PortPlan.{PortPlan}
+use Rattle.bridge_config.specs.Model.{Plan}
+use Rattle.bridge_config.specs.Rules.{IsPlan, port_at}
+use Rattle.bridge_check.specs.Acceptable.{IsAcceptable}
+use Rattle.bridge_check.specs.Reach.{reaches}
+use Rattle.bridge_check.specs.Windows.{longest_frame}
+use Rattle.bridge_run.specs.Events.{Event}
+use Rattle.bridge_run.specs.Offers.{Carried, egress, offers}
+use Rattle.bridge_run.specs.Runs.{AreWhole, IsRun}
+use Rattle.bridge_run.proofs.Facts.{own_queues, served_alone}
+use Rattle.bridge_run.proofs.Headline.{as_offer, in_offered, in_only, only_in}
+use Rattle.bridge_bounds.specs.Bounds.{AreShort, IsLongest}
+use Rattle.bridge_bounds.proofs.Queued.{each_in_time, up_to}
+use Rattle.bridge_bounds.proofs.Sizes.{occupied_rises, within_size}
+
+-- the copies of a class are of it
+of_class : {X : Type 0} (c : ℕ) (y : Copy X) (xs : List (Copy X)) → In y (only c xs) → y.class ≡ c
+of_class c y [] i = absurd i
+of_class c y (x ∷ xs) i = by_bool (nat_eq x.class c)
+    (λ k. let j : (y ≡ x) ⊎ In y (only c xs) = rw k at i in elim j [ inl same ↦ subst (λ (z : Copy _). z.class ≡ c) (sym same) (eqb-true x.class c k) | inr later ↦ of_class c y xs later ])
+    (λ k. let j : In y (only c xs) = rw k at i in of_class c y xs j)
+
+-- and come in order
+only_order : {X : Type 0} (c h : ℕ) (xs : List (Copy X)) → OfferedUpTo h xs → OfferedUpTo h (only c xs)
+only_order c h [] o = tt
+only_order c h (x ∷ xs) o = by_bool (nat_eq x.class c)
+    (λ k. rw k (o.0, only_order c x.at xs o.1))
+    (λ k. rw k (up_to x.at h (only c xs) o.0 (only_order c x.at xs o.1)))
+
+-- each frame of a filter in its queues is short
+short_in : {A : Type 0} (p : Plan A) (n m : ℕ) (f : FilterPlan) (es : List Event) (moments : ℕ → ℕ) (lists : ℕ → List (Copy Carried)) (q c : ℕ) (out : PortPlan A) → IsPlan p → IsAcceptable p → In (n, f) p.filters → f.protected ≡ true → f.max_sdu ≡ Some m → IsRun p es moments lists → port_at p.ports q ≡ Some out → reaches p f q c ≡ true → AreShort (egress out) c (occupied (longest_frame m) out.speed) (only c (lists q))
+short_in p n m f es moments lists q c out plan good listed is size run at reach y i =
+    let class = of_class c y (lists q) i in
+    let there = only_in c y (lists q) i in
+    let flow = (own_queues p n f es moments lists q out y plan good listed is run at there).1 (subst (λ (k : ℕ). reaches p f q k ≡ true) (sym class) reach) in
+    let among : In (as_offer y) (offers p out es) = subst (In (as_offer y)) (run.offers q out at) (in_offered y (lists q) there) in
+    (class, occupied_rises y.item.len (longest_frame m) out.speed (within_size p n m f out es (as_offer y) plan listed size flow among))
+
+-- each copy of the filter that a queue takes is done in time
+pub in_time : {A : Type 0} (p : Plan A) (n m d : ℕ) (f : FilterPlan) (es : List Event) (moments : ℕ → ℕ) (lists : ℕ → List (Copy Carried)) (q s : ℕ) (out : PortPlan A) (x : Copy Carried) → IsPlan p → IsAcceptable p → In (n, f) p.filters → f.protected ≡ true → f.max_sdu ≡ Some m → IsRun p es moments lists → AreWhole lists → port_at p.ports q ≡ Some out → In x (lists q) → x.item.flow ≡ Some n → x.fate ≡ Started s → IsLongest (opens_of out.list x.class) (occupied (longest_frame m) out.speed) ((egress out).room x.class) d → s + occupied x.item.len out.speed ≤ x.at + (occupied (longest_frame m) out.speed - 1) + d
+in_time p n m d f es moments lists q s out x plan good listed is size run whole at i flow started longest =
+    let reach = (own_queues p n f es moments lists q out x plan good listed is run at i).0 flow in
+    let solo = served_alone p n f q x.class (moments q) out (lists q) plan good listed is at reach (run.lawful q out at) (whole q) in
+    let short = short_in p n m f es moments lists q x.class out plan good listed is size run at reach in
+    let order = only_order x.class (moments q) (lists q) (run.lawful q out at).offers in
+    each_in_time (egress out) x.class (occupied (longest_frame m) out.speed) d s (moments q) x (only x.class (lists q)) (occupied_some (longest_frame m) out.speed) longest solo short order (in_only x.class x (lists q) i refl) started

@@ -1,0 +1,67 @@
+//! Laws of how long frames take in a queue, each the contract of a function that does nothing.
+ghost use Rattle.std.specs.Prelude.{◌≡◌, ◌≤◌, ◌+◌, ◌-◌, ◌∷◌, ℕ, Bool, List, Some, true};
+ghost use Rattle.bridge_base.specs.Members.{In};
+ghost use Rattle.bridge_frame.specs.Link.{occupied};
+ghost use Rattle.bridge_filter.specs.declared.FilterPlan.{FilterPlan};
+ghost use Rattle.bridge_port.specs.Opening.{opens_of};
+ghost use Rattle.bridge_port.specs.Schedule.{Copy, OfferedUpTo, Rules, Started};
+ghost use Rattle.bridge_port.specs.Solo.{IsSolo};
+ghost use Rattle.bridge_config.specs.declared.ports.PortPlan.{PortPlan};
+ghost use Rattle.bridge_config.specs.Model.{Plan};
+ghost use Rattle.bridge_config.specs.Rules.{IsPlan, port_at};
+ghost use Rattle.bridge_check.specs.Acceptable.{IsAcceptable};
+ghost use Rattle.bridge_check.specs.Windows.{longest_frame};
+ghost use Rattle.bridge_run.specs.Events.{Event};
+ghost use Rattle.bridge_run.specs.Offers.{Carried, egress};
+ghost use Rattle.bridge_run.specs.Runs.{AreWhole, IsRun};
+ghost use Rattle.bridge_bounds.specs.Bounds.{AreShort, EndsBy, IsLongest};
+
+use std::alloc::Allocator;
+
+/// The longest time is one that nothing exceeds: frames that wait from a moment on are done at one moment, and it lies at
+/// most so much later.
+pub fn longest_bounds()
+    ensures once { (opens : ℕ → Bool) (occ k u v w : ℕ)
+        → EndsBy opens occ k u v
+        → EndsBy opens occ k u w
+        → v ≡ w }
+    ensures bounds { (opens : ℕ → Bool) (occ k d u v : ℕ)
+        → IsLongest opens occ k d
+        → EndsBy opens occ k u v
+        → v ≤ u + d }
+{}
+
+/// Each copy that a queue takes is done in time, whatever was offered before it. Where copies of one class have the link
+/// alone, come in order, and are on the link for at most `occ` ns, one that started is done at most `occ - 1` ns and the
+/// longest time that a full queue of such frames takes after it was offered.
+pub fn solo_in_time<X: Drop>()
+    ensures { (r : Rules X) (c occ d s : ℕ) (x : Copy X) (older : List (Copy X))
+        → IsSolo r (x ∷ older)
+        → OfferedUpTo x.at older
+        → AreShort r c occ (x ∷ older)
+        → 1 ≤ occ
+        → IsLongest (r.opens c) occ (r.room c) d
+        → x.fate ≡ Started s
+        → s + r.occ x.item ≤ x.at + (occ - 1) + d }
+{}
+
+/// Each frame of a protected filter that a queue takes is done in time. In a whole run of an accepted plan a copy of the
+/// filter that started is done at most one ns less than its longest frame is on the link and the longest time that a full
+/// queue of such frames takes after the frame came, whatever its talker and all others sent.
+pub fn in_time<A: Allocator + Copy>()
+    ensures { (p : Plan A) (n m d : ℕ) (f : FilterPlan) (es : List Event) (moments : ℕ → ℕ)
+        (lists : ℕ → List (Copy Carried)) (q s : ℕ) (out : PortPlan A) (x : Copy Carried)
+        → IsPlan p
+        → IsAcceptable p
+        → In (n, f) p.filters
+        → f.protected ≡ true
+        → f.max_sdu ≡ Some m
+        → IsRun p es moments lists
+        → AreWhole lists
+        → port_at p.ports q ≡ Some out
+        → In x (lists q)
+        → x.item.flow ≡ Some n
+        → x.fate ≡ Started s
+        → IsLongest (opens_of out.list x.class) (occupied (longest_frame m) out.speed) ((egress out).room x.class) d
+        → s + occupied x.item.len out.speed ≤ x.at + (occupied (longest_frame m) out.speed - 1) + d }
+{}

@@ -1,0 +1,8 @@
+#![tactic(auto)]
+//! How long the frames of a protected filter take: a bound that each frame which its queue takes keeps, whatever the
+//! talker does.
+
+pub mod laws;
+mod longest;
+
+pub use longest::longest_of;
