@@ -1,0 +1,10 @@
+#![tactic(auto)]
+//! The text of a network: its bridges with their plans, the links between their ports, and the streams that go through
+//! them.
+
+mod bridges;
+mod fault;
+mod names;
+
+pub use bridges::BridgeRow;
+pub use fault::{NetFault, NetField, NetPlace, NetSection};
