@@ -1,3 +1,4 @@
 pub mod Faults
 pub mod Model
 pub mod Names
+pub mod Reading

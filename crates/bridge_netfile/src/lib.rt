@@ -5,6 +5,8 @@
 mod bridges;
 mod fault;
 mod names;
+mod reading;
+mod rows;
 
 pub use bridges::BridgeRow;
 pub use fault::{NetFault, NetField, NetPlace, NetSection};
