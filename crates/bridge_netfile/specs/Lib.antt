@@ -2,3 +2,5 @@ pub mod Faults
 pub mod Model
 pub mod Names
 pub mod Reading
+pub mod Rules
+pub mod Sections

@@ -4,9 +4,11 @@
 
 mod bridges;
 mod fault;
+mod links;
 mod names;
 mod reading;
 mod rows;
 
 pub use bridges::BridgeRow;
 pub use fault::{NetFault, NetField, NetPlace, NetSection};
+pub use links::LinkRow;
