@@ -1,5 +1,7 @@
 -- One instance more, that none before it equals.
-use Rattle.std.proofs.Common.{◌≡◌, ℕ, Bool, true, false, not, ◌&&◌, List, [], ◌∷◌, ◌++◌, refl, arith, All}
+use Rattle.std.proofs.Common.{◌≡◌, ℕ, Bool, true, false, not, ◌&&◌, List, [], ◌∷◌, ◌++◌, refl, arith, All, Result, Ok, Err}
+use Rattle.std.specs.Prelude.{IfOk}
+use Rattle.bridge_netfile.specs.declared.fault.NetFault.{NetFault}
 use Rattle.std.specs.List.{list_any}
 use Rattle.std.specs.Str.{bytes_eq}
 use Rattle.std.proofs.lemmas.Bool.{and_parts, or_parts}
@@ -32,3 +34,8 @@ streams_push count streams s are new is = record {
   each = each_push (IsStream count) streams s are.each is;
   own = are_own-push (λ s t. bytes_eq s.name t.name) streams s are.own new;
 }
+
+-- the same of a stream that is there only where nothing is wrong
+pub streams_more : (count : ℕ) (streams : List Stream) (r : Result Stream NetFault) → AreStreams count streams → IfOk r (λ s. has_stream streams s.name ≡ false) → IfOk r (IsStream count) → IfOk r (λ s. AreStreams count (streams ++ s ∷ []))
+streams_more count streams (Ok s) are own is = streams_push count streams s are own is
+streams_more count streams (Err e) are own is = tt

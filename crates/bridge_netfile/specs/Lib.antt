@@ -1,3 +1,5 @@
+pub mod Arrays
+pub mod Document
 pub mod Faults
 pub mod Model
 pub mod Names

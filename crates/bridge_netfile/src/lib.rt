@@ -6,9 +6,13 @@ mod bridges;
 mod fault;
 mod links;
 mod names;
+mod network;
 mod reading;
 mod rows;
+mod streams;
 
 pub use bridges::BridgeRow;
 pub use fault::{NetFault, NetField, NetPlace, NetSection};
 pub use links::LinkRow;
+pub use network::{NetworkFile, network_of};
+pub use streams::StreamRow;
