@@ -1,6 +1,7 @@
 pub mod Arrays
 pub mod Document
 pub mod Faults
+pub mod Lines
 pub mod Model
 pub mod Names
 pub mod Reading

@@ -4,6 +4,7 @@
 
 mod bridges;
 mod fault;
+mod lines;
 mod links;
 mod names;
 mod network;
@@ -13,6 +14,7 @@ mod streams;
 
 pub use bridges::BridgeRow;
 pub use fault::{NetFault, NetField, NetPlace, NetSection};
+pub use lines::fault_line;
 pub use links::LinkRow;
 pub use network::{NetworkFile, network_of};
 pub use streams::StreamRow;
