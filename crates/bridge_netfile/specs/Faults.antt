@@ -1,0 +1,39 @@
+-- The numbers of the faults of a network's text, and the spelling of its sections and keys.
+use Rattle.std.specs.Prelude.{ℕ, List, codes}
+use Rattle.bridge_netfile.specs.declared.fault.NetSection.{NetSection}
+use Rattle.bridge_netfile.specs.declared.fault.NetSection.TheVariants as section
+use Rattle.bridge_netfile.specs.declared.fault.NetField.{NetField}
+use Rattle.bridge_netfile.specs.declared.fault.NetField.TheVariants as field
+use Rattle.bridge_netfile.specs.declared.fault.NetFault.{NetFault}
+use Rattle.bridge_netfile.specs.declared.fault.NetFault.TheVariants as fault
+
+-- the name of a section
+abbrev pub name_of : NetSection → List ℕ
+name_of section.Top = codes "top"
+name_of section.Bridge = codes "bridge"
+name_of section.Link = codes "link"
+name_of section.Stream = codes "stream"
+
+-- the spelling of a key
+abbrev pub key_of : NetField → List ℕ
+key_of field.Bridge = codes "bridge"
+key_of field.Name = codes "name"
+key_of field.Plan = codes "plan"
+key_of field.One = codes "one"
+key_of field.Other = codes "other"
+key_of field.Delay = codes "delay"
+key_of field.Hops = codes "hops"
+
+-- the number of a fault, whatever it names
+abbrev pub number_of : NetFault → ℕ
+number_of fault.Syntax = 1
+number_of fault.TooLong = 2
+number_of (fault.UnknownKey section index) = 3
+number_of (fault.NotAList section) = 4
+number_of (fault.Missing place) = 5
+number_of (fault.WrongKind place) = 6
+number_of (fault.OutOfRange place) = 7
+number_of (fault.Duplicate section index) = 8
+number_of (fault.Unresolved place) = 9
+number_of (fault.TooMany section) = 10
+number_of fault.NoMemory = 11

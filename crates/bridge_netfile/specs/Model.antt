@@ -1,0 +1,19 @@
+-- What the text of a network holds.
+use Rattle.std.specs.Prelude.{ℕ, List}
+use Rattle.bridge_netfile.specs.declared.links.LinkRow.{LinkRow}
+
+-- a bridge: its name, and the file of its plan
+pub record Bridge : Type 0 where
+  pub name : List ℕ
+  pub plan : List ℕ
+
+-- a stream: its name, and its hops from talker to listener, each the place of a bridge and the number of a filter
+pub record Stream : Type 0 where
+  pub name : List ℕ
+  pub hops : List (ℕ × ℕ)
+
+-- the bridges, the links and the streams, each in the order of the text
+pub record Network : Type 0 where
+  pub bridges : List Bridge
+  pub links : List LinkRow
+  pub streams : List Stream

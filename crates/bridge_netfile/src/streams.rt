@@ -1,0 +1,256 @@
+//! The streams of a network.
+ghost use Rattle.std.specs.Prelude.{◌≡◌, ◌&&◌, [], ◌^◌, ◌<◌, ◌≤◌, All, IfErr, IfOk, length, nat_le, option_map, true, false};
+ghost use Rattle.toml.specs.View.{view, table_view, items_view};
+ghost use Rattle.bridge_netfile.specs.declared.fault.NetFault.TheVariants.{NoMemory};
+ghost use Rattle.bridge_netfile.specs.declared.fault.NetSection.TheVariants as the_section;
+ghost use Rattle.bridge_netfile.specs.Names.{is_name};
+ghost use Rattle.bridge_netfile.specs.Reading.{Gives, GivesAs, at_place, count_of};
+ghost use Rattle.bridge_netfile.specs.Rules as rules;
+ghost use Rattle.bridge_netfile.specs.Sections as sections;
+
+use crate::bridges::BridgeRow;
+use crate::fault::{NetFault, NetField, NetPlace, NetSection};
+use crate::names::{end_of, is_in_form};
+use crate::reading::{are_known, flawed, name_at};
+use crate::rows::RowReader;
+use bridge_keys::{Flaw, value_at};
+use std::alloc::Allocator;
+use std::marker::Model;
+use toml::{Table, Value};
+
+/// The largest number of a filter.
+const LARGEST_NUMBER: u32 = u32::MAX;
+
+/// The most hops of a stream.
+const MOST_HOPS: usize = 64;
+
+/// A stream of a network. Contracts see its name and its hops.
+#[derive(Drop)]
+pub struct StreamRow<A: Allocator + Copy> {
+    name: String<A>,
+    hops: Vec<(u16, u32), A>,
+}
+
+impl<A: Allocator + Copy> Model for StreamRow<A> {
+    ghost use Rattle.std.specs.Prelude.{string_bytes};
+    ghost use Rattle.bridge_netfile.specs.Model.{Stream};
+
+    ghost Value = { Stream };
+
+    ghost view = { λ s. record { name = string_bytes s.name; hops = s.hops.items } };
+}
+
+impl<A: Allocator + Copy> StreamRow<A> {
+    /// The name: 1 to 32 letters, digits, `-` and `_`.
+    pub fn name(&self) -> &str
+        ensures { result.now ≡ self.now.name }
+    {
+        self.name.as_str()
+    }
+
+    /// The hops from talker to listener: of each the place of its bridge, from 0, and the number of its filter.
+    pub fn hops(&self) -> &[(u16, u32)]
+        ensures { result.now ≡ self.now.hops }
+    {
+        self.hops.as_slice()
+    }
+}
+
+/// Whether one of these streams has a name.
+fn has_stream<A: Allocator + Copy>(streams: &[StreamRow<A>], name: &str) -> bool
+    ensures { result ≡ rules.has_stream streams.now name.now }
+{
+    for stream in streams {
+        if stream.name() == name {
+            return true;
+        }
+    }
+    false
+}
+
+/// Whether each item is a text.
+fn are_texts(items: &[Value]) -> bool
+    ensures { result ≡ sections.are_texts (items_view items.now) }
+{
+    'items: for item in items {
+        if !matches!(item, Value::String(_)) {
+            return false;
+        }
+    }
+    true
+}
+
+/// Whether each item is a text, a dot and the number of a filter.
+fn are_in_form(items: &[Value]) -> bool
+    ensures { result ≡ sections.are_in_form (items_view items.now) }
+{
+    'items: for item in items {
+        match item {
+            Value::String(text) => {
+                if !is_in_form(text.as_str(), 0, LARGEST_NUMBER) {
+                    return false;
+                }
+            }
+            _ => return false,
+        }
+    }
+    true
+}
+
+/// Whether there are as many items as a stream has hops.
+#[tactic(auto, using(crate::proofs::Counts::count_of_view))]
+fn are_counted(items: &[Value]) -> bool
+    ensures count { result ≡ (nat_le 1 (count_of (items_view items.now)) && nat_le (count_of (items_view items.now)) 64) }
+    ensures some { result ≡ true → 1 ≤ length items.now }
+    ensures few { result ≡ true → length items.now ≤ 64 }
+{
+    1 <= items.len() && items.len() <= MOST_HOPS
+}
+
+/// The filter that a value names: the place of its bridge and its number.
+fn filter_of<A: Allocator + Copy>(
+    bridges: &[BridgeRow<A>],
+    value: &Value,
+) -> Result<(u16, u32), Flaw>
+    requires { length bridges.now ≤ 64 }
+    ensures filter { result ≡ sections.filter_text bridges.now (view value.now) }
+    ensures there { IfOk result (λ h. h.0 < length bridges.now) }
+    ensures number { IfOk result (λ h. h.1 < 2 ^ 32) }
+{
+    match value {
+        Value::String(text) => end_of(bridges, 0, LARGEST_NUMBER, text.as_str()),
+        _ => Err(Flaw::WrongKind),
+    }
+}
+
+/// The same, or the fault of a place. Takes no memory.
+fn hop_of<A: Allocator + Copy>(
+    bridges: &[BridgeRow<A>],
+    place: NetPlace,
+    value: &Value,
+) -> Result<(u16, u32), NetFault>
+    requires { length bridges.now ≤ 64 }
+    ensures reads { Gives result (at_place place (sections.filter_text bridges.now (view value.now))) }
+    ensures there { IfOk result (λ h. h.0 < length bridges.now) }
+    ensures number { IfOk result (λ h. h.1 < 2 ^ 32) }
+    ensures takes_no_memory { IfErr result (λ e. ¬ (e ≡ NoMemory)) }
+{
+    match filter_of(bridges, value) {
+        Ok(hop) => Ok(hop),
+        Err(flaw) => Err(flawed(place, flaw)),
+    }
+}
+
+/// The filters that some items name, in their order.
+fn hops_of<A: Allocator + Copy>(
+    alloc: A,
+    bridges: &[BridgeRow<A>],
+    place: NetPlace,
+    items: &[Value],
+) -> Result<Vec<(u16, u32), A>, NetFault>
+    requires { length bridges.now ≤ 64 }
+    ensures reads { GivesAs (λ v. v.items) result (sections.hops_from place bridges.now [] (items_view items.now)) }
+    ensures count { IfOk result (λ v. length v.items ≡ length items.now) }
+    ensures there { IfOk result (λ v. All (λ h. h.0 < length bridges.now) v.items) }
+    ensures numbers { IfOk result (λ v. All (λ h. h.1 < 2 ^ 32) v.items) }
+{
+    let mut hops = Vec::new(alloc);
+    'items: for item in items {
+        let hop = hop_of(bridges, place, item)?;
+        hops.push(hop)?;
+    }
+    Ok(hops)
+}
+
+/// The hops of a place's value, which must be there.
+fn hops_in<A: Allocator + Copy>(
+    alloc: A,
+    bridges: &[BridgeRow<A>],
+    place: NetPlace,
+    value: Option<&Value>,
+) -> Result<Vec<(u16, u32), A>, NetFault>
+    requires { length bridges.now ≤ 64 }
+    ensures reads { GivesAs (λ v. v.items) result (sections.hops_in place bridges.now (option_map (λ v. view v.now) value.entry)) }
+    ensures some { IfOk result (λ v. 1 ≤ length v.items) }
+    ensures few { IfOk result (λ v. length v.items ≤ 64) }
+    ensures there { IfOk result (λ v. All (λ h. h.0 < length bridges.now) v.items) }
+    ensures numbers { IfOk result (λ v. All (λ h. h.1 < 2 ^ 32) v.items) }
+{
+    match value {
+        None => Err(NetFault::Missing(place)),
+        Some(Value::Array(items)) => {
+            if !are_texts(items) {
+                return Err(NetFault::WrongKind(place));
+            }
+            if !are_counted(items) {
+                return Err(NetFault::OutOfRange(place));
+            }
+            if !are_in_form(items) {
+                return Err(NetFault::OutOfRange(place));
+            }
+            hops_of(alloc, bridges, place, items)
+        }
+        Some(_) => Err(NetFault::WrongKind(place)),
+    }
+}
+
+/// The stream of a table, by those before it, where these are the bridges.
+#[tactic(auto, unfolding(crate::specs::Sections::stream_at))]
+fn stream_of<A: Allocator + Copy>(
+    alloc: A,
+    bridges: &[BridgeRow<A>],
+    earlier: &[StreamRow<A>],
+    index: u32,
+    table: &Table,
+) -> Result<StreamRow<A>, NetFault>
+    requires { length bridges.now ≤ 64 }
+    ensures reads { Gives result (sections.stream_at bridges.now earlier.now index (table_view table.now)) }
+    ensures own { IfOk result (λ s. rules.has_stream earlier.now s.name ≡ false) }
+    ensures stream { IfOk result (rules.IsStream (length bridges.now)) }
+{
+    let at = |field: NetField| -> NetPlace
+        ensures { result ≡ record { section = the_section.Stream; index = index; field = field } }
+    {
+        NetPlace {
+            section: NetSection::Stream,
+            index,
+            field,
+        }
+    };
+    if !are_known(table, &[NetField::Name, NetField::Hops]) {
+        return Err(NetFault::UnknownKey(NetSection::Stream, index));
+    }
+    let name = name_at(table, at(NetField::Name))?;
+    let value = value_at(table, NetField::Hops.key());
+    let hops = hops_in(alloc, bridges, at(NetField::Hops), value)?;
+    if has_stream(earlier, name) {
+        return Err(NetFault::Duplicate(NetSection::Stream, index));
+    }
+    let name = String::from_str(alloc, name)?;
+    Ok(StreamRow { name, hops })
+}
+
+/// The section of streams, where these are the bridges.
+#[derive(Drop)]
+pub(crate) struct Streams<'a, A: Allocator + Copy> {
+    pub bridges: &'a [BridgeRow<A>],
+    ghost few: { length bridges.now ≤ 64 },
+}
+
+impl<'a, A: Allocator + Copy> RowReader<A> for Streams<'a, A> {
+    type Row = StreamRow<A>;
+
+    ghost reading = { λ s. sections.stream_at s.bridges.now };
+
+    ghost Keeps = { λ s. rules.AreStreams (length s.bridges.now) };
+
+    fn read(
+        &self,
+        alloc: A,
+        earlier: &[StreamRow<A>],
+        index: u32,
+        table: &Table,
+    ) -> Result<StreamRow<A>, NetFault> {
+        stream_of(alloc, self.bridges, earlier, index, table)
+    }
+}
