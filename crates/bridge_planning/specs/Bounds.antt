@@ -1,0 +1,40 @@
+-- The bounds of the queues of a plan, in their order.
+use Rattle.std.specs.Prelude.{◌≡◌, ◌⊎◌, ℕ, true, ◌+◌, ◌-◌, ◌*◌, ◌<◌, ◌≤◌, Some, List, nat_eq, slice_get}
+use Rattle.std.specs.Map.{lookup}
+use Rattle.bridge_base.specs.Members.{In, Rising}
+use Rattle.bridge_filter.specs.declared.FilterPlan.{FilterPlan}
+use Rattle.bridge_config.specs.Model.{Plan}
+use Rattle.bridge_check.specs.Reach.{reaches}
+use Rattle.bridge_bounds.specs.Bounds.{IsBound}
+use Rattle.bridge_planning.specs.declared.bounds.QueueBound.{QueueBound}
+
+-- the bound of a queue
+abbrev pub queue_bound : ℕ → ℕ → ℕ → ℕ → QueueBound
+queue_bound n q c b = record { filter = n; port = q; class = c; bound = b }
+
+-- the place of a queue among those of a filter: by port, then by class
+abbrev pub place_of : ℕ → ℕ → ℕ
+place_of q c = (q - 1) * 8 + c
+
+-- by filter, then by port, then by class
+abbrev pub IsBefore : QueueBound → QueueBound → Type 0
+IsBefore a b = (a.filter < b.filter) ⊎ ((a.filter ≡ b.filter) × (place_of a.port a.class < place_of b.port b.class))
+
+-- the bounds of all queues of a plan that frames of a protected filter may come to, each once, in their order
+pub record AreBounds {A : Type 0} (p : Plan A) (rows : List QueueBound) : Type 0 where
+  pub rises : Rising IsBefore rows
+  pub each : (r : QueueBound) → In r rows → IsBound p r.filter r.port r.class r.bound
+  pub all : (n q c : ℕ) (f : FilterPlan) → lookup (nat_eq n) p.filters ≡ Some f → f.protected ≡ true → 1 ≤ q → q ≤ 16 → c < 8 → reaches p f q c ≡ true
+      → (b : ℕ) × In (queue_bound n q c b) rows
+
+-- a filter by its place in a list and a queue of it come before these
+abbrev pub IsDone : ℕ → ℕ → ℕ → ℕ → Type 0
+IsDone i j at place = (i < at) ⊎ ((i ≡ at) × (j < place))
+
+-- the bounds of the queues of the filters before one, and of its own before a place
+pub record AreUpTo {A : Type 0} (p : Plan A) (order : List (ℕ × FilterPlan)) (at place : ℕ) (rows : List QueueBound) : Type 0 where
+  pub rises : Rising IsBefore rows
+  pub each : (r : QueueBound) → In r rows → IsBound p r.filter r.port r.class r.bound
+  pub below : (r : QueueBound) → In r rows → (i : ℕ) × (f : FilterPlan) × (slice_get order i ≡ Some (r.filter, f)) × IsDone i (place_of r.port r.class) at place
+  pub all : (i q c n : ℕ) (f : FilterPlan) → slice_get order i ≡ Some (n, f) → f.protected ≡ true → 1 ≤ q → q ≤ 16 → c < 8 → reaches p f q c ≡ true
+      → IsDone i (place_of q c) at place → (b : ℕ) × In (queue_bound n q c b) rows
