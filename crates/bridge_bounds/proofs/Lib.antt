@@ -5,3 +5,4 @@ pub mod Changed
 pub mod Lists
 pub mod Sizes
 pub mod Whole
+pub mod Reached
