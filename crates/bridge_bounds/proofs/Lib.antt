@@ -4,5 +4,5 @@ pub mod Edges
 pub mod Changed
 pub mod Lists
 pub mod Sizes
-pub mod Whole
 pub mod Reached
+pub mod Whole

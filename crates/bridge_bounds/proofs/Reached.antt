@@ -1,5 +1,5 @@
 -- What an accepted plan says of a queue that frames of a protected filter may come to: its longest frame fits.
-use Rattle.std.proofs.Common.{◌≡◌, ◌<◌, ◌≤◌, ◌+◌, ◌-◌, ℕ, zero, suc, Bool, true, false, not, ◌&&◌, List, [], ◌∷◌, Option, Some, None, nat_eq, refl, sym, ap, ◌∙◌, arith, subst, inl, inr, ◌⊎◌}
+use Rattle.std.proofs.Common.{◌≡◌, ◌<◌, ◌≤◌, ◌+◌, ◌-◌, ℕ, zero, suc, Bool, true, false, not, ◌&&◌, List, [], ◌∷◌, Option, Some, None, nat_eq, refl, sym, arith, subst, inl, inr}
 use Rattle.std.specs.Prelude.{slice_index}
 use Rattle.std.specs.Bool.{if◌then◌else◌}
 use Rattle.std.specs.Map.{lookup}
@@ -19,7 +19,7 @@ use Rattle.bridge_check.specs.declared.fault.CheckFault.{CheckFault}
 use Rattle.bridge_check.specs.declared.fault.CheckFault.TheVariants as fault
 use Rattle.bridge_check.specs.Reach.{any_below, reaches, reaches_class, reaches_port, reaches_priority}
 use Rattle.bridge_check.specs.Windows.{ever_fits, longest_frame}
-use Rattle.bridge_check.specs.Faults.{fault_of, fault_unless, first_below, first_in_reach, first_of, never_fits, wildcard_fault, max_sdu_fault, gate_fault, meter_fault, catch_all_fault, queue_fault, window_fault, size_fault}
+use Rattle.bridge_check.specs.Faults.{fault_of, fault_unless, first_below, first_of, never_fits, wildcard_fault, max_sdu_fault, gate_fault, meter_fault, catch_all_fault, queue_fault, window_fault, size_fault}
 
 same_pair : {X : Type 0} (n m : ℕ) (x z : X) → n ≡ m → x ≡ z → ◌≡◌ {A = ℕ × X} (n, x) (m, z)
 same_pair n m x z e d = cc

@@ -1,5 +1,5 @@
 -- How long frames take that go one after the other through a class of a port.
-use Rattle.std.specs.Prelude.{◌≡◌, ℕ, zero, suc, Bool, true, false, ◌+◌, ◌-◌, ◌≤◌, nat_eq, List, Option, Some}
+use Rattle.std.specs.Prelude.{◌≡◌, ℕ, zero, suc, Bool, true, false, ◌+◌, ◌-◌, ◌≤◌, nat_eq, List, Some}
 use Rattle.std.specs.Map.{lookup}
 use Rattle.bridge_base.specs.Members.{In}
 use Rattle.bridge_cycle.specs.Moments.{Fits, IsFirst}

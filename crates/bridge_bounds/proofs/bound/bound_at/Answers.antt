@@ -1,9 +1,9 @@
-use Rattle.std.proofs.Common.{◌≡◌, ◌+◌, ◌-◌, ℕ, ap, subst, refl, sym, ◌∙◌}
+use Rattle.std.proofs.Common.{◌≡◌, ◌+◌, ◌-◌, ℕ, ap, subst, ◌∙◌}
 use Rattle.bridge_frame.specs.Link.{occupied}
 use Rattle.bridge_port.specs.Opening.{opening_of, opens_of}
 use Rattle.bridge_check.specs.Windows.{longest_frame}
 use Rattle.bridge_run.specs.Offers.{egress}
-use Rattle.bridge_bounds.specs.Bounds.{IsBoundAt, IsLeast, IsLongest}
+use Rattle.bridge_bounds.specs.Bounds.{IsLeast, IsLongest}
 use Rattle.bridge_bounds.proofs.bound.bound_at.Goals as goal
 
 pub returns : goal.returns

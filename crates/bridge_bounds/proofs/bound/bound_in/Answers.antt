@@ -1,5 +1,5 @@
-use Rattle.std.proofs.Common.{◌≡◌, sym}
-use Rattle.bridge_bounds.proofs.Reached.{found_in, longest_fits, not_reached, sdu_few}
+use Rattle.std.proofs.Common.{sym}
+use Rattle.bridge_bounds.proofs.Reached.{found_in, longest_fits, sdu_few}
 use Rattle.bridge_bounds.proofs.bound.bound_in.Goals as goal
 
 pub bound_at-requires-clause-sdu : goal.bound_at-requires-clause-sdu
