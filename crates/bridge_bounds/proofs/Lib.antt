@@ -4,4 +4,5 @@ pub mod Edges
 pub mod Changed
 pub mod Lists
 pub mod Sizes
+pub mod Reached
 pub mod Whole

@@ -1,12 +1,15 @@
 -- How long the frames of a protected filter take in a whole run.
-use Rattle.std.proofs.Common.{◌≡◌, ◌+◌, ◌-◌, ◌≤◌, ◌⊎◌, ℕ, true, List, [], ◌∷◌, refl, sym, subst, inl, inr, Some}
+use Rattle.std.proofs.Common.{arith, ◌≡◌, ◌+◌, ◌-◌, ◌≤◌, ◌⊎◌, ℕ, true, List, [], ◌∷◌, refl, sym, subst, inl, inr, Some, ◌∙◌}
 use Rattle.std.specs.Prelude.{nat_eq}
+use Rattle.std.specs.Map.{lookup}
 use Rattle.std.proofs.lemmas.Bool.{eqb-true}
+use Rattle.std.proofs.lemmas.Option.{same_Some}
 use Rattle.bridge_base.specs.Members.{In}
 use Rattle.bridge_cycle.proofs.Cases.{by_bool}
 use Rattle.bridge_frame.specs.Link.{occupied}
 use Rattle.bridge_frame.proofs.Times.{occupied_some}
 use Rattle.bridge_filter.specs.declared.FilterPlan.{FilterPlan}
+use Rattle.bridge_filter.proofs.Members.{member_found}
 use Rattle.bridge_port.specs.Opening.{opens_of}
 use Rattle.bridge_port.specs.Schedule.{Copy, OfferedUpTo, Started}
 use Rattle.bridge_port.specs.Solo.{only}
@@ -18,11 +21,14 @@ use Rattle.bridge_check.specs.Reach.{reaches}
 use Rattle.bridge_check.specs.Windows.{longest_frame}
 use Rattle.bridge_run.specs.Events.{Event}
 use Rattle.bridge_run.specs.Offers.{Carried, egress, offers}
-use Rattle.bridge_run.specs.Runs.{AreWhole, IsRun}
+use Rattle.bridge_run.specs.Runs.{AreWhole, AtPort, Delayed, IsGreatest, IsOutcome, IsRun}
+use Rattle.bridge_run.specs.declared.outcome.Outcome.{Outcome}
+use Rattle.bridge_run.specs.declared.outcome.View.{View}
 use Rattle.bridge_run.proofs.Facts.{own_queues, served_alone}
 use Rattle.bridge_run.proofs.Headline.{as_offer, in_offered, in_only, only_in}
-use Rattle.bridge_bounds.specs.Bounds.{AreShort, IsLongest}
+use Rattle.bridge_bounds.specs.Bounds.{AreShort, IsBound, IsLongest}
 use Rattle.bridge_bounds.proofs.Queued.{each_in_time, up_to}
+use Rattle.bridge_bounds.proofs.Reached.{found_in}
 use Rattle.bridge_bounds.proofs.Sizes.{occupied_rises, within_size}
 
 -- the copies of a class are of it
@@ -56,3 +62,24 @@ in_time p n m d f es moments lists q s out x plan good listed is size run whole 
     let short = short_in p n m f es moments lists q x.class out plan good listed is size run at reach in
     let order = only_order x.class (moments q) (lists q) (run.lawful q out at).offers in
     each_in_time (egress out) x.class (occupied (longest_frame m) out.speed) d s (moments q) x (only x.class (lists q)) (occupied_some (longest_frame m) out.speed) longest solo short order (in_only x.class x (lists q) i refl) started
+
+-- a copy is done within the bound of its queue
+pub in_bound : {A : Type 0} (p : Plan A) (n b : ℕ) (es : List Event) (moments : ℕ → ℕ) (lists : ℕ → List (Copy Carried)) (q s : ℕ) (out : PortPlan A) (x : Copy Carried) → IsPlan p → IsAcceptable p → IsRun p es moments lists → AreWhole lists → port_at p.ports q ≡ Some out → In x (lists q) → x.item.flow ≡ Some n → x.fate ≡ Started s → IsBound p n q x.class b → s + occupied x.item.len out.speed ≤ x.at + b
+in_bound {A} p n b es moments lists q s out x plan good run whole at i flow started bound =
+    let same : bound.out ≡ out = same_Some bound.out out (sym bound.at ∙ at) in
+    let done = in_time p n bound.max_sdu bound.is.longest bound.filter es moments lists q s bound.out x plan good (found_in p.filters n bound.filter bound.found) bound.protected bound.size run whole bound.at i flow started bound.is.is_longest in
+    let is = bound.is.bound in
+    let own : s + occupied x.item.len bound.out.speed ≤ x.at + b = omega (arith, done, is) in
+    subst (λ (o : PortPlan A). s + occupied x.item.len o.speed ≤ x.at + b) same own
+
+-- so the greatest delay that is told of a filter is at most the greatest bound of its queues
+pub delay_bound : {A : Type 0} (p : Plan A) (n b k : ℕ) (f : FilterPlan) (es : List Event) (lists : ℕ → List (Copy Carried)) (o : Outcome A) (v : View A) → IsPlan p → IsAcceptable p → In (n, f) p.filters → f.protected ≡ true → IsOutcome p es lists o → lookup (nat_eq n) o.filters.items ≡ Some v → ((q c : ℕ) → reaches p f q c ≡ true → (d : ℕ) × IsBound p n q c d × (d ≤ b)) → v.delay ≡ Some k → k ≤ b
+delay_bound {A} p n b k f es lists o v plan good listed is out found bounds delay =
+    let known : lookup (nat_eq n) p.filters ≡ Some f = member_found p.filters n f plan.filters.own listed in
+    let longest : IsGreatest (Delayed p n (AtPort lists)) (Some k) = subst (IsGreatest (Delayed p n (AtPort lists))) delay (out.views n f v known found).told.longest in
+    let late : Delayed p n (AtPort lists) k = longest.0 in
+    let reach = (own_queues p n f es out.moments lists late.port late.out late.copy plan good listed is out.run late.at late.lies).0 late.flow in
+    let (d, bound, upto) = bounds late.port late.copy.class reach in
+    let done = in_bound p n d es out.moments lists late.port late.start late.out late.copy plan good out.run out.whole late.at late.lies late.flow late.started bound in
+    let was = late.delay in
+    omega (arith, done, upto, was)

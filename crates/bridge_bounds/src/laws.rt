@@ -1,5 +1,6 @@
 //! Laws of how long frames take in a queue, each the contract of a function that does nothing.
-ghost use Rattle.std.specs.Prelude.{◌≡◌, ◌≤◌, ◌+◌, ◌-◌, ◌∷◌, ℕ, Bool, List, Some, true};
+ghost use Rattle.std.specs.Prelude.{◌≡◌, ◌≤◌, ◌+◌, ◌-◌, ◌*◌, ◌∷◌, ℕ, Bool, List, nat_eq, Some, true};
+ghost use Rattle.std.specs.Map.{lookup};
 ghost use Rattle.bridge_base.specs.Members.{In};
 ghost use Rattle.bridge_frame.specs.Link.{occupied};
 ghost use Rattle.bridge_filter.specs.declared.FilterPlan.{FilterPlan};
@@ -10,11 +11,14 @@ ghost use Rattle.bridge_config.specs.declared.ports.PortPlan.{PortPlan};
 ghost use Rattle.bridge_config.specs.Model.{Plan};
 ghost use Rattle.bridge_config.specs.Rules.{IsPlan, port_at};
 ghost use Rattle.bridge_check.specs.Acceptable.{IsAcceptable};
+ghost use Rattle.bridge_check.specs.Reach.{reaches};
 ghost use Rattle.bridge_check.specs.Windows.{longest_frame};
 ghost use Rattle.bridge_run.specs.Events.{Event};
 ghost use Rattle.bridge_run.specs.Offers.{Carried, egress};
-ghost use Rattle.bridge_run.specs.Runs.{AreWhole, IsRun};
-ghost use Rattle.bridge_bounds.specs.Bounds.{AreShort, EndsBy, IsLongest};
+ghost use Rattle.bridge_run.specs.Runs.{AreWhole, IsOutcome, IsRun};
+ghost use Rattle.bridge_run.specs.declared.outcome.Outcome.{Outcome};
+ghost use Rattle.bridge_run.specs.declared.outcome.View.{View};
+ghost use Rattle.bridge_bounds.specs.Bounds.{AreShort, EndsBy, IsAttained, IsBound, IsLongest};
 
 use std::alloc::Allocator;
 
@@ -29,6 +33,12 @@ pub fn longest_bounds()
         → IsLongest opens occ k d
         → EndsBy opens occ k u v
         → v ≤ u + d }
+{}
+
+/// Where a class is always open one frame follows the other: so many take so many times one's time.
+pub fn one_after_another()
+    ensures longest { (opens : ℕ → Bool) (occ k : ℕ) → ((u : ℕ) → opens u ≡ true) → IsLongest opens occ k (k * occ) }
+    ensures attained { (opens : ℕ → Bool) (occ k : ℕ) → ((u : ℕ) → opens u ≡ true) → IsAttained opens occ k (k * occ) }
 {}
 
 /// Each copy that a queue takes is done in time, whatever was offered before it. Where copies of one class have the link
@@ -47,9 +57,11 @@ pub fn solo_in_time<X: Drop>()
 
 /// Each frame of a protected filter that a queue takes is done in time. In a whole run of an accepted plan a copy of the
 /// filter that started is done at most one ns less than its longest frame is on the link and the longest time that a full
-/// queue of such frames takes after the frame came, whatever its talker and all others sent.
+/// queue of such frames takes after the frame came, whatever its talker and all others sent (`longest`): so at most the
+/// bound of its queue after it (`bound`), and the greatest delay that is told of the filter is at most the greatest bound
+/// of its queues (`delay`).
 pub fn in_time<A: Allocator + Copy>()
-    ensures { (p : Plan A) (n m d : ℕ) (f : FilterPlan) (es : List Event) (moments : ℕ → ℕ)
+    ensures longest { (p : Plan A) (n m d : ℕ) (f : FilterPlan) (es : List Event) (moments : ℕ → ℕ)
         (lists : ℕ → List (Copy Carried)) (q s : ℕ) (out : PortPlan A) (x : Copy Carried)
         → IsPlan p
         → IsAcceptable p
@@ -64,4 +76,27 @@ pub fn in_time<A: Allocator + Copy>()
         → x.fate ≡ Started s
         → IsLongest (opens_of out.list x.class) (occupied (longest_frame m) out.speed) ((egress out).room x.class) d
         → s + occupied x.item.len out.speed ≤ x.at + (occupied (longest_frame m) out.speed - 1) + d }
+    ensures bound { (p : Plan A) (n b : ℕ) (es : List Event) (moments : ℕ → ℕ) (lists : ℕ → List (Copy Carried)) (q s : ℕ)
+        (out : PortPlan A) (x : Copy Carried)
+        → IsPlan p
+        → IsAcceptable p
+        → IsRun p es moments lists
+        → AreWhole lists
+        → port_at p.ports q ≡ Some out
+        → In x (lists q)
+        → x.item.flow ≡ Some n
+        → x.fate ≡ Started s
+        → IsBound p n q x.class b
+        → s + occupied x.item.len out.speed ≤ x.at + b }
+    ensures delay { (p : Plan A) (n b k : ℕ) (f : FilterPlan) (es : List Event) (lists : ℕ → List (Copy Carried))
+        (o : Outcome A) (v : View A)
+        → IsPlan p
+        → IsAcceptable p
+        → In (n, f) p.filters
+        → f.protected ≡ true
+        → IsOutcome p es lists o
+        → lookup (nat_eq n) o.filters.items ≡ Some v
+        → ((q c : ℕ) → reaches p f q c ≡ true → (d : ℕ) × IsBound p n q c d × (d ≤ b))
+        → v.delay ≡ Some k
+        → k ≤ b }
 {}

@@ -2,7 +2,9 @@
 //! How long the frames of a protected filter take: a bound that each frame which its queue takes keeps, whatever the
 //! talker does.
 
+mod bound;
 pub mod laws;
 mod longest;
 
+pub use bound::bound_of;
 pub use longest::longest_of;

@@ -1,0 +1,109 @@
+-- What an accepted plan says of a queue that frames of a protected filter may come to: its longest frame fits.
+use Rattle.std.proofs.Common.{◌≡◌, ◌<◌, ◌≤◌, ◌+◌, ◌-◌, ℕ, zero, suc, Bool, true, false, not, ◌&&◌, List, [], ◌∷◌, Option, Some, None, nat_eq, refl, sym, arith, subst, inl, inr}
+use Rattle.std.specs.Prelude.{slice_index}
+use Rattle.std.specs.Bool.{if◌then◌else◌}
+use Rattle.std.specs.Map.{lookup}
+use Rattle.std.specs.Option.{ForSome}
+use Rattle.std.proofs.lemmas.Bool.{and_parts, eqb-true, not-true, not-false, false≢true, cases_lt}
+use Rattle.std.proofs.lemmas.Option.{same_Some}
+use Rattle.bridge_base.specs.Members.{In}
+use Rattle.bridge_cycle.proofs.Cases.{by_bool}
+use Rattle.bridge_frame.specs.Link.{occupied}
+use Rattle.bridge_filter.specs.declared.FilterPlan.{FilterPlan}
+use Rattle.bridge_port.specs.Opening.{ever_of}
+use Rattle.bridge_config.specs.declared.ports.PortPlan.{PortPlan}
+use Rattle.bridge_config.specs.Model.{Plan}
+use Rattle.bridge_config.specs.Rules.{IsFilter, IsPlan, port_at}
+use Rattle.bridge_config.proofs.PlanPorts.{class_below, each_in, port_is}
+use Rattle.bridge_check.specs.declared.fault.CheckFault.{CheckFault}
+use Rattle.bridge_check.specs.declared.fault.CheckFault.TheVariants as fault
+use Rattle.bridge_check.specs.Reach.{any_below, reaches, reaches_class, reaches_port, reaches_priority}
+use Rattle.bridge_check.specs.Windows.{ever_fits, longest_frame}
+use Rattle.bridge_check.specs.Faults.{fault_of, fault_unless, first_below, first_of, never_fits, wildcard_fault, max_sdu_fault, gate_fault, meter_fault, catch_all_fault, queue_fault, window_fault, size_fault}
+
+same_pair : {X : Type 0} (n m : ℕ) (x z : X) → n ≡ m → x ≡ z → ◌≡◌ {A = ℕ × X} (n, x) (m, z)
+same_pair n m x z e d = cc
+
+-- what a look-up finds is listed
+pub found_in : {X : Type 0} (xs : List (ℕ × X)) (n : ℕ) (x : X) → lookup (nat_eq n) xs ≡ Some x → In (n, x) xs
+found_in [] n x h = absurd (cc)
+found_in {X} (y ∷ ys) n x h = by_bool (nat_eq n y.0)
+    (λ k.
+    let here : Some y.1 ≡ Some x = rw k at h in
+    let same : y.1 ≡ x = same_Some y.1 x here in
+    inl (same_pair n y.0 x y.1 (eqb-true n y.0 k) (sym same)))
+    (λ k. let later : lookup (nat_eq n) ys ≡ Some x = rw k at h in inr (found_in ys n x later))
+
+both_none : {X : Type 0} (a b : Option X) → first_of a b ≡ None → (a ≡ None) × (b ≡ None)
+both_none None b h = (refl, h)
+both_none (Some x) b h = absurd (cc)
+
+holds : (b : Bool) (e : CheckFault) → fault_unless b e ≡ None → b ≡ true
+holds true e h = refl
+holds false e h = absurd (cc)
+
+-- what is told of no number below n is told of none of them
+none_told : {X : Type 0} (n k : ℕ) (tell : ℕ → Option X) → first_below n tell ≡ None → k < n → tell k ≡ None
+unfolding first_below
+none_told zero k tell h lt = absurd (omega (arith, lt))
+none_told (suc n) k tell h lt =
+    let (before, last) = both_none (first_below n tell) (tell n) h in
+    elim (cases_lt k n) [
+      | inl a ↦ none_told n k tell before a
+      | inr a ↦ let same : n ≡ k = omega (arith, lt, a) in subst (λ (i : ℕ). tell i ≡ None) same last
+    ]
+
+some_told : (n : ℕ) (t : ℕ → Bool) → any_below n t ≡ true → (k : ℕ) × (k < n) × (t k ≡ true)
+some_told zero t h = absurd (false≢true h)
+some_told (suc n) t h = by_bool (any_below n t)
+    (λ e. let (k, lt, passes) = some_told n t e in (k, (omega (arith, lt)), passes))
+    (λ e. let last : t n ≡ true = rw e at h in (n, (omega (arith)), last))
+
+-- a class of the reach is one of eight
+class_few : {A : Type 0} (p : Plan A) (f : FilterPlan) (q c : ℕ) (out : PortPlan A) → IsPlan p → port_at p.ports q ≡ Some out → reaches p f q c ≡ true → c < 8
+class_few p f q c out plan at reach =
+    let (port, class) = and_parts (reaches_port p f.handle q) (reaches_class p f (port_at p.ports q) c) reach in
+    let here : any_below 8 (λ k. reaches_priority p f k && nat_eq (slice_index out.classes k) c) ≡ true = subst (λ (o : Option (PortPlan _)). reaches_class p f o c ≡ true) at class in
+    let (k, lt, passes) = some_told 8 (λ k. reaches_priority p f k && nat_eq (slice_index out.classes k) c) here in
+    let (opened, same) = and_parts (reaches_priority p f k) (nat_eq (slice_index out.classes k) c) passes in
+    let (is, number) = port_is p.ports q out plan.ports at in
+    subst (λ (n : ℕ). n < 8) (eqb-true (slice_index out.classes k) c same) (class_below out k is (omega (arith, lt)))
+
+-- the last of eight tests is not failed where none is
+last_none : {X : Type 0} (a b c d e f g h : Option X) → first_of a (first_of b (first_of c (first_of d (first_of e (first_of f (first_of g (first_of h None))))))) ≡ None → h ≡ None
+last_none {X} a b c d e f g h none =
+    let h7 : first_of h None ≡ None = behind g (first_of h None) (behind f (first_of g (first_of h None)) (behind e (first_of f (first_of g (first_of h None))) (behind d (first_of e (first_of f (first_of g (first_of h None)))) (behind c (first_of d (first_of e (first_of f (first_of g (first_of h None))))) (behind b (first_of c (first_of d (first_of e (first_of f (first_of g (first_of h None)))))) (behind a (first_of b (first_of c (first_of d (first_of e (first_of f (first_of g (first_of h None))))))) none)))))) in
+    (both_none h None h7).0
+  where
+    behind : {X : Type 0} (x y : Option X) → first_of x y ≡ None → y ≡ None
+    behind x y z = (both_none x y z).1
+
+-- the longest frame of a filter that fails no test fits in each queue of its reach
+pub longest_fits : {A : Type 0} (p : Plan A) (n q c m : ℕ) (f : FilterPlan) (out : PortPlan A) → IsPlan p → fault_of p n f ≡ None → port_at p.ports q ≡ Some out → reaches p f q c ≡ true → f.max_sdu ≡ Some m → ever_of out.list c (occupied (longest_frame m) out.speed) ≡ true
+longest_fits p n q c m f out plan none at reach size =
+    let fits : size_fault p n f ≡ None = last_none (wildcard_fault n f) (max_sdu_fault n f) (gate_fault p n f) (meter_fault p n f) (catch_all_fault p n) (queue_fault p n f) (window_fault p n f) (size_fault p n f) none in
+    let (is, number) = port_is p.ports q out plan.ports at in
+    let from = is.number_from in
+    let to = is.number_to in
+    let class = class_few p f q c out plan at reach in
+    let before : q - 1 < 16 = omega (arith, number, from, to) in
+    let back : (q - 1) + 1 ≡ q = omega (arith, number, from) in
+    let tell : ℕ → ℕ → Option CheckFault = λ i d. fault_unless (not (never_fits (port_at p.ports i) d f.max_sdu)) (fault.MaxSduNeverFits n i d) in
+    let on : first_below 8 (λ d. if reaches p f ((q - 1) + 1) d then tell ((q - 1) + 1) d else None) ≡ None = none_told 16 (q - 1) (λ i. first_below 8 (λ d. if reaches p f (i + 1) d then tell (i + 1) d else None)) fits before in
+    let here : (if reaches p f ((q - 1) + 1) c then tell ((q - 1) + 1) c else None) ≡ None = none_told 8 c (λ d. if reaches p f ((q - 1) + 1) d then tell ((q - 1) + 1) d else None) on class in
+    let there : (if reaches p f q c then tell q c else None) ≡ None = subst (λ (i : ℕ). (if reaches p f i c then tell i c else None) ≡ None) back here in
+    let told : tell q c ≡ None = rw reach at there in
+    let fitting : never_fits (port_at p.ports q) c f.max_sdu ≡ false = not-true (never_fits (port_at p.ports q) c f.max_sdu) (holds (not (never_fits (port_at p.ports q) c f.max_sdu)) _ told) in
+    let ever : not (ever_fits out c m) ≡ false = subst (λ (o : Option (PortPlan _)). never_fits o c (Some m) ≡ false) at (subst (λ (s : Option ℕ). never_fits (port_at p.ports q) c s ≡ false) size fitting) in
+    not-false (ever_fits out c m) ever
+
+-- a port that is not there is in no reach
+pub not_reached : {A : Type 0} (p : Plan A) (f : FilterPlan) (q c : ℕ) → port_at p.ports q ≡ None → reaches p f q c ≡ true → ⊥
+not_reached p f q c at reach =
+    let (port, class) = and_parts (reaches_port p f.handle q) (reaches_class p f (port_at p.ports q) c) reach in
+    let none : false ≡ true = subst (λ (o : Option (PortPlan _)). reaches_class p f o c ≡ true) at class in
+    false≢true none
+
+-- the largest service data unit of a filter is within its range
+pub sdu_few : {A : Type 0} (p : Plan A) (n : ℕ) (f : FilterPlan) → IsPlan p → In (n, f) p.filters → ForSome f.max_sdu (λ m. m ≤ 65535)
+sdu_few p n f plan listed = (each_in IsFilter p.filters (n, f) plan.filters.each listed).max_sdu
