@@ -1,4 +1,4 @@
--- How the reach of a filter is kept while a plan is checked. No public clause speaks of it.
+-- How the reach of a filter is kept, while a plan is checked and for who asks of many queues.
 use Rattle.std.specs.Prelude.{◌≡◌, ◌≤◌, ℕ, zero, suc, Bool, false, ◌+◌, ◌-◌, ◌&&◌, List, [], ◌∷◌, ◌++◌, map, not, Option, Some, None, option_map, nat_eq, slice_index, slice_index_or, if◌then◌else◌}
 use Rattle.std.specs.Option.{ForSome}
 use Rattle.bridge_filter.specs.declared.FilterPlan.{FilterPlan}

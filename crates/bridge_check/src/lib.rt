@@ -12,4 +12,4 @@ mod windows;
 
 pub use accepted::{Accepted, Refused, check};
 pub use fault::CheckFault;
-pub use reach::may_wait;
+pub use reach::{Reach, may_wait, may_wait_at, reach_of};

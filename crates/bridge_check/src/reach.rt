@@ -126,9 +126,10 @@ fn gate_at<A: Allocator + Copy>(gates: &[(u32, GatePlan<A>)], number: u32) -> Op
     None
 }
 
-/// What the frames of a filter may come to.
+/// What the frames of a filter may come to: a queue of a port to which they may go, of the class that a priority of theirs
+/// has there.
 #[derive(Clone, Copy)]
-pub(crate) struct Reach {
+pub struct Reach {
     /// Whether they may go out of each port, from port 1.
     pub ports: [bool; 16],
     /// Whether they may have each priority.
@@ -155,8 +156,8 @@ fn priorities_of<A: Allocator + Copy>(plan: &Plan<A>, filter: &FilterPlan) -> [b
     }
 }
 
-/// What the frames of a filter may come to.
-pub(crate) fn reach_of<A: Allocator + Copy>(plan: &Plan<A>, filter: &FilterPlan) -> Reach
+/// What the frames of a filter may come to. It goes once through the streams of the plan.
+pub fn reach_of<A: Allocator + Copy>(plan: &Plan<A>, filter: &FilterPlan) -> Reach
     ensures { result ≡ reached.reach_of plan.now filter.now }
 {
     Reach {
@@ -167,7 +168,7 @@ pub(crate) fn reach_of<A: Allocator + Copy>(plan: &Plan<A>, filter: &FilterPlan)
 
 /// Whether frames of a filter may be queued in a class of a port, 1 to 16: where some priority that its gate may give
 /// them has the class there, and where the port is one to which their destination may lead.
-#[tactic(auto, using(crate::proofs::Told::unreached))]
+#[tactic(auto, using(crate::proofs::Told::unreached, crate::proofs::Told::in_reach))]
 pub fn may_wait<A: Allocator + Copy>(
     plan: &Plan<A>,
     filter: &FilterPlan,
@@ -179,26 +180,27 @@ pub fn may_wait<A: Allocator + Copy>(
     ensures { result ≡ spec.reaches plan.now filter.now port class }
 {
     match plan.port(port) {
-        Some(found) => may_wait_at(plan, filter, port, found, class),
+        Some(found) => reach_of(plan, filter).has(port, &found.classes, class),
         None => false,
     }
 }
 
-/// The same at a port that the plan has.
+/// The same at a port that the plan has, by the reach of the filter: to ask of many queues, it is made once.
 #[tactic(auto, using(crate::proofs::Told::in_reach))]
-fn may_wait_at<A: Allocator + Copy>(
+pub fn may_wait_at<A: Allocator + Copy>(
     plan: &Plan<A>,
     filter: &FilterPlan,
-    number: u8,
+    reach: &Reach,
     port: &PortPlan<A>,
     class: u8,
 ) -> bool
-    requires from { 1 ≤ number }
-    requires to { number ≤ 16 }
-    requires port { port_at plan.now.ports number ≡ Some port.now }
-    ensures { result ≡ spec.reaches plan.now filter.now number class }
+    requires reach { reach.now ≡ reached.reach_of plan.now filter.now }
+    requires from { 1 ≤ port.now.number }
+    requires to { port.now.number ≤ 16 }
+    requires port { port_at plan.now.ports port.now.number ≡ Some port.now }
+    ensures { result ≡ spec.reaches plan.now filter.now port.now.number class }
 {
-    reach_of(plan, filter).has(number, &port.classes, class)
+    reach.has(port.number, &port.classes, class)
 }
 
 impl Reach {
