@@ -6,7 +6,7 @@ use Rattle.std.proofs.lemmas.Option.{slice_get-get_or}
 use Rattle.bridge_base.specs.Members.{In}
 use Rattle.bridge_frame.specs.declared.Tag.{Tag}
 use Rattle.bridge_check.specs.Faults.{first_of, first_below}
-use Rattle.bridge_network.specs.Feeding.{tag_of, tags_with}
+use Rattle.bridge_network.specs.Feeding.{tag_of, tags_of, tags_with}
 use Rattle.bridge_network.specs.Finding.{first_in}
 
 -- THE FIRST OF TWO
@@ -54,6 +54,13 @@ eight (Some y) b c d e f g h = refl
 pub of_tags : {Y : Type 0} (tell : Option Tag → Option Y) (vid : ℕ) → first_below 8 (λ k. tell (Some (tag_of k vid))) ≡ first_in tell (tags_with vid)
 unfolding first_below
 of_tags tell vid = eight (tell (Some (tag_of 0 vid))) (tell (Some (tag_of 1 vid))) (tell (Some (tag_of 2 vid))) (tell (Some (tag_of 3 vid))) (tell (Some (tag_of 4 vid))) (tell (Some (tag_of 5 vid))) (tell (Some (tag_of 6 vid))) (tell (Some (tag_of 7 vid)))
+
+-- without a tag, with one that names no VLAN, and with one that names it
+pub of_all_tags : {Y : Type 0} (tell : Option Tag → Option Y) (vid : ℕ) (a b c : Option Y) → a ≡ tell None → b ≡ first_of a (first_in tell (tags_with 0)) → c ≡ first_of b (first_in tell (tags_with vid)) → c ≡ first_in tell (tags_of vid)
+of_all_tags tell vid a b c e f g =
+    g ∙ ap (λ z. first_of z (first_in tell (tags_with vid))) (f ∙ ap (λ z. first_of z (first_in tell (tags_with 0))) e)
+    ∙ first_assoc (tell None) (first_in tell (tags_with 0)) (first_in tell (tags_with vid))
+    ∙ ap (first_of (tell None)) (sym (first_append tell (tags_with 0) (tags_with vid)))
 
 -- the item at a place
 pub item_at : {X : Type 0} (xs : List X) (i : ℕ) (x : X) → i < length xs → x ≡ get_or xs i x → slice_get xs i ≡ Some x

@@ -10,6 +10,7 @@ pub mod Periods
 pub mod Hopping
 pub mod Firsts
 pub mod Flows
+pub mod Skipped
 pub mod Handles
 pub mod Straying
 pub mod Sound

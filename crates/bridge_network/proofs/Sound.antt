@@ -9,7 +9,6 @@ use Rattle.bridge_cycle.proofs.Cases.{by_bool}
 use Rattle.bridge_config.specs.declared.ports.PortPlan.{PortPlan}
 use Rattle.bridge_config.specs.Model.{Plan}
 use Rattle.bridge_config.specs.Rules.{IsPlan, port_at}
-use Rattle.bridge_check.specs.Acceptable.{IsAcceptable}
 use Rattle.bridge_check.specs.Faults.{first_of, first_below}
 use Rattle.bridge_network.specs.declared.fault.NetworkFault.{NetworkFault}
 use Rattle.bridge_network.specs.declared.fault.NetworkFault.TheVariants as fault
@@ -26,7 +25,7 @@ use Rattle.bridge_network.specs.Feeding.{takes_only}
 use Rattle.bridge_network.specs.Accepting.{is_listed, is_protected, takes_from, takes_at, hop_passes, stream_passes}
 use Rattle.bridge_network.specs.Wiring.{Parts, end_of, link_of, hop_of, stream_of, network_of, peer}
 use Rattle.bridge_network.specs.Finding.{taken, taken_from, taken_over, taken_link}
-use Rattle.bridge_network.specs.Checked.{IsChecked}
+use Rattle.bridge_network.specs.Checked.{IsAccepted, IsChecked}
 use Rattle.bridge_network.specs.Refusing as spec
 use Rattle.bridge_network.proofs.Members.{in_map}
 use Rattle.bridge_network.proofs.Firsts.{both_none, none_at}
@@ -127,13 +126,13 @@ port_there : {A : Type 0} (plans : List (Plan A)) (b q : ℕ) (p : Plan A) → I
 port_there plans b q p there at = (there.on, subst (λ z. port_at z.ports q ≡ Some there.on) (same_Some there.plan p (sym there.at ∙ at)) there.port)
 
 -- what each plan of a list of accepted ones keeps
-rules_at : {A : Type 0} (plans : List (Plan A)) → All (λ p. IsPlan p × IsAcceptable p) plans → (b : ℕ) (p : Plan A) → slice_get plans b ≡ Some p → IsPlan p × IsAcceptable p
-rules_at plans all b p h = subst (λ z. IsPlan z × IsAcceptable z) (get_or_from_slice_get plans b p p h) (all b p (slice_get_within plans b p h))
+rules_at : {A : Type 0} (plans : List (Plan A)) → All IsAccepted plans → (b : ℕ) (p : Plan A) → slice_get plans b ≡ Some p → IsAccepted p
+rules_at plans all b p h = subst IsAccepted (get_or_from_slice_get plans b p p h) (all b p (slice_get_within plans b p h))
 
-network_from : {A : Type 0} (n : Parts A) → All (λ p. IsPlan p × IsAcceptable p) n.plans → ((l : Link) → In l n.links → HasEnds n.plans l) → IsNetwork (network_of n)
+network_from : {A : Type 0} (n : Parts A) → All IsAccepted n.plans → ((l : Link) → In l n.links → HasEnds n.plans l) → IsNetwork (network_of n)
 network_from n all have = record {
-  plan = λ b p h. (rules_at n.plans all b p h).0;
-  acceptable = λ b p h. (rules_at n.plans all b p h).1;
+  plan = λ b p h. (rules_at n.plans all b p h).rules;
+  acceptable = λ b p h. (rules_at n.plans all b p h).acceptable;
   own = λ b q s p linked at. port_there n.plans b q p (ends_there n.plans n.links b q s have linked).here at;
   bridge = λ b q s linked. let t = (ends_there n.plans n.links b q s have linked).there in (t.plan, t.at);
   port = λ b q s p linked at. port_there n.plans s.from.bridge s.from.port p (ends_there n.plans n.links b q s have linked).there at;
@@ -163,14 +162,14 @@ hop_closed {A} n hops h next net plan none =
     let two : spec.taken_on Strays n hops h next (Some on) ≡ None = subst (λ o. spec.taken_on Strays n hops h next o ≡ None) own.at one in
     closed_at n (stream_of hops) next on h.filter h.bridge (sender (map link_of n.links) h.bridge on.number) net refl two)
 
-passes_by : {A : Type 0} (n : Parts A) (hops : List StreamHop) (h : StreamHop) (i k : ℕ) (o : Option (Plan A)) → All (λ p. IsPlan p × IsAcceptable p) n.plans → IsNetwork (network_of n) → slice_get n.plans h.bridge ≡ o → spec.has_protected o h.filter ≡ true → spec.told_by n hop_test.Closed i hops k h o ≡ None → hop_passes (network_of n) (stream_of hops) h.bridge h.filter o ≡ true
+passes_by : {A : Type 0} (n : Parts A) (hops : List StreamHop) (h : StreamHop) (i k : ℕ) (o : Option (Plan A)) → All IsAccepted n.plans → IsNetwork (network_of n) → slice_get n.plans h.bridge ≡ o → spec.has_protected o h.filter ≡ true → spec.told_by n hop_test.Closed i hops k h o ≡ None → hop_passes (network_of n) (stream_of hops) h.bridge h.filter o ≡ true
 passes_by n hops h i k None all net e protected none = absurd (false≢true protected)
 passes_by {A} n hops h i k (Some next) all net e protected none =
-    let (plan, good) = rules_at n.plans all h.bridge next e in
-    let (m, named) = protected_names next h.filter plan good protected in
+    let accepted = rules_at n.plans all h.bridge next e in
+    let (m, named) = protected_names next h.filter accepted.rules accepted.acceptable protected in
     let told : spec.told_at n hop_test.Closed i hops k h next m ≡ None = subst (λ o. spec.of_some (spec.told_at n hop_test.Closed i hops k h next) o ≡ None) named none in
     let taken : spec.taken_hop Strays n hops h next ≡ None = none_mapped (spec.not_closed i k h) (spec.taken_hop Strays n hops h next) told in
-    rw (protected, hop_closed n hops h next net plan taken) refl
+    rw (protected, hop_closed n hops h next net accepted.rules taken) refl
 
 hop_untold : {A : Type 0} (n : Parts A) (test : HopTest) (s : Vec StreamHop A) (h : StreamHop) → spec.hop_fault n test ≡ None → In s n.streams → In h s.items → (i : ℕ) × (k : ℕ) × (spec.told_hop n test i s.items k h ≡ None)
 hop_untold {A} n test s h none i j =
@@ -178,14 +177,14 @@ hop_untold {A} n test s h none i j =
     let v = untold (spec.told_hop n test u.place s.items) s.items h u.none j in
     (u.place, v.place, v.none)
 
-passes_at : {A : Type 0} (n : Parts A) (s : Vec StreamHop A) (h : StreamHop) → All (λ p. IsPlan p × IsAcceptable p) n.plans → IsNetwork (network_of n) → spec.hop_fault n hop_test.Protected ≡ None → spec.hop_fault n hop_test.Closed ≡ None → In s n.streams → In h s.items → hop_passes (network_of n) (stream_of s.items) h.bridge h.filter (slice_get n.plans h.bridge) ≡ true
+passes_at : {A : Type 0} (n : Parts A) (s : Vec StreamHop A) (h : StreamHop) → All IsAccepted n.plans → IsNetwork (network_of n) → spec.hop_fault n hop_test.Protected ≡ None → spec.hop_fault n hop_test.Closed ≡ None → In s n.streams → In h s.items → hop_passes (network_of n) (stream_of s.items) h.bridge h.filter (slice_get n.plans h.bridge) ≡ true
 passes_at n s h all net protected closed i j =
     let (a, b, one) = hop_untold n hop_test.Protected s h protected i j in
     let (c, d, two) = hop_untold n hop_test.Closed s h closed i j in
     passes_by n s.items h c d (slice_get n.plans h.bridge) all net refl
     (no_fault (spec.has_protected (slice_get n.plans h.bridge) h.filter) (fault.NotProtected (a + 1) (b + 1)) one) two
 
-stream_closed : {A : Type 0} (n : Parts A) (s : Vec StreamHop A) → All (λ p. IsPlan p × IsAcceptable p) n.plans → IsNetwork (network_of n) → spec.hop_fault n hop_test.Protected ≡ None → spec.hop_fault n hop_test.Closed ≡ None → In s n.streams → IsClosed (network_of n) (stream_of s.items)
+stream_closed : {A : Type 0} (n : Parts A) (s : Vec StreamHop A) → All IsAccepted n.plans → IsNetwork (network_of n) → spec.hop_fault n hop_test.Protected ≡ None → spec.hop_fault n hop_test.Closed ≡ None → In s n.streams → IsClosed (network_of n) (stream_of s.items)
 stream_closed {A} n s all net protected closed i =
     closed_by_test (network_of n) (stream_of s.items) net (all_pass (λ (x : ℕ × ℕ). hop_passes (network_of n) (stream_of s.items) x.0 x.1 (slice_get n.plans x.0)) (stream_of s.items) (λ x j.
     let (h, listed, same) = in_map hop_of x s.items j in
@@ -208,8 +207,15 @@ without_fault n h =
     record { there = there; protected = protected; closed = closed }
 
 -- a network of accepted plans without a fault
-pub checked : {A : Type 0} (n : Parts A) → All (λ p. IsPlan p × IsAcceptable p) n.plans → spec.first_fault n ≡ None → IsChecked n
+pub checked : {A : Type 0} (n : Parts A) → All IsAccepted n.plans → spec.first_fault n ≡ None → IsChecked n
 checked n all h =
     let w = without_fault n h in
     let net = network_from n all (ends_of n w.there) in
-    record { network = net; closed = λ s i. stream_closed n s all net w.protected w.closed i }
+    record { network = net; closed = record { each = λ s i. stream_closed n s all net w.protected w.closed i } }
+
+same_parts : {A : Type 0} (n : Parts A) (p : List (Plan A)) (l : List Link) (s : List (Vec StreamHop A)) → p ≡ n.plans → l ≡ n.links → s ≡ n.streams → ◌≡◌ {A = Parts A} (record { plans = p; links = l; streams = s }) n
+same_parts n p l s e f g = rw (e, f, g) refl
+
+-- what is told of the parts with these plans, links and streams is told of a network of them
+pub told_of : {A : Type 0} (n : Parts A) (p : List (Plan A)) (l : List Link) (s : List (Vec StreamHop A)) (o : Option NetworkFault) → p ≡ n.plans → l ≡ n.links → s ≡ n.streams → o ≡ spec.first_fault {A = A} (record { plans = p; links = l; streams = s }) → spec.first_fault n ≡ o
+told_of n p l s o e f g h = sym (h ∙ ap spec.first_fault (same_parts n p l s e f g))

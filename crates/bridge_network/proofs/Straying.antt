@@ -44,7 +44,7 @@ own_port {A} (x ∷ xs) on own (inr i) =
     absurd (false≢true no))
     (λ k. rw k (own_port xs on rest i))
 
-record IsOwnPort {A : Type 0} (ports : List (PortPlan A)) (on : PortPlan A) : Type 0 where
+pub record IsOwnPort {A : Type 0} (ports : List (PortPlan A)) (on : PortPlan A) : Type 0 where
   pub place : ℕ
   pub below : place < 16
   pub at : port_at ports (place + 1) ≡ Some on

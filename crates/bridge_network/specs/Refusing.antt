@@ -132,10 +132,13 @@ not_closed i k h x = fault.NotClosed (i + 1) (k + 1) h.bridge x.0 x.1.filter x.1
 abbrev pub has_entry : {A : Type 0} → Plan A → ℕ → ℕ → Bool
 has_entry p q m = list_any (λ (e : StreamEntry). nat_eq e.port q && nat_eq e.handle m) p.streams
 
+-- whether a port has no link, and an entry of it gives a handle
+abbrev pub enters : {A : Type 0} → List Link → ℕ → Plan A → ℕ → PortPlan A → Bool
+enters links b p m on = not (is_some (peer links b on.number)) && has_entry p on.number m
+
 -- whether an entry of a port without a link gives a handle
 abbrev pub is_entered : {A : Type 0} → List Link → ℕ → Plan A → ℕ → Bool
-is_entered {A} links b p m =
-    list_any (λ (on : PortPlan A). not (is_some (peer links b on.number)) && has_entry p on.number m) p.ports
+is_entered links b p m = list_any (enters links b p m) p.ports
 
 -- whether frames of the stream come to a hop, with its place: to the first one from outside, to any other one over a
 -- link

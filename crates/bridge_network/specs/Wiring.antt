@@ -36,9 +36,9 @@ parts plans links streams = record { plans = plans.items; links = links.items; s
 -- the parts that are handed back
 pub record AreHandedBack {A : Type 0} (plans : Vec (Plan A) A) (links : Vec Link A) (streams : Vec (Vec StreamHop A) A)
     (p : Vec (Plan A) A) (l : Vec Link A) (s : Vec (Vec StreamHop A) A) : Type 0 where
-  pub plans : p ≡ plans
-  pub links : l ≡ links
-  pub streams : s ≡ streams
+  pub same_plans : p ≡ plans
+  pub same_links : l ≡ links
+  pub same_streams : s ≡ streams
 
 -- the network of some parts
 abbrev pub network_of : {A : Type 0} → Parts A → networks.Network A

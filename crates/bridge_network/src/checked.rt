@@ -1,10 +1,8 @@
 //! Networks that are accepted, and the first reason why one isn't.
 ghost use Rattle.std.specs.Prelude.{◌≡◌, All, Some, None, IfOk, IfErr};
-ghost use Rattle.bridge_config.specs.Rules.{IsPlan};
-ghost use Rattle.bridge_check.specs.Acceptable.{IsAcceptable};
 ghost use Rattle.bridge_network.specs.Networks.{IsNetwork};
 ghost use Rattle.bridge_network.specs.Wiring.{AreHandedBack, network_of, parts};
-ghost use Rattle.bridge_network.specs.Checked.{AreClosed};
+ghost use Rattle.bridge_network.specs.Checked.{AreClosed, IsAccepted};
 ghost use Rattle.bridge_network.specs.Refusing.{first_fault};
 
 use crate::fault::NetworkFault;
@@ -72,13 +70,30 @@ pub struct RefusedNetwork<A: Allocator + Copy> {
 }
 
 /// Reads what accepted plans keep.
-#[tactic(auto, using(std::proofs::lemmas::Grind::common_steps))]
 fn keep_rules<A: Allocator + Copy>(plans: &[Accepted<A>])
-    ensures { All (λ p. IsPlan p × IsAcceptable p) plans.now }
+    ensures { All IsAccepted plans.now }
 {
     for accepted in plans {
         let _plan = accepted.plan();
     }
+}
+
+/// The first fault of a network.
+fn fault_in<A: Allocator + Copy>(
+    plans: &[Accepted<A>],
+    links: &[Link],
+    streams: &[Vec<StreamHop, A>],
+) -> Option<NetworkFault>
+    ensures rules { All IsAccepted plans.now }
+    ensures fault { result ≡ first_fault (record { plans = plans.now; links = links.now; streams = streams.now }) }
+{
+    keep_rules(plans);
+    let case = Case {
+        plans,
+        links,
+        streams,
+    };
+    case.fault()
 }
 
 /// Accepts a network whose links are of ports that are there, one for each port and of one speed at both ends, and whose
@@ -95,13 +110,7 @@ pub fn check_network<A: Allocator + Copy>(
     ensures closed { IfOk result AreClosed }
     ensures refused { IfErr result (λ r. AreHandedBack plans links streams r.plans r.links r.streams × (first_fault (parts plans links streams) ≡ Some r.fault)) }
 {
-    keep_rules(plans.as_slice());
-    let case = Case {
-        plans: plans.as_slice(),
-        links: links.as_slice(),
-        streams: streams.as_slice(),
-    };
-    match case.fault() {
+    match fault_in(plans.as_slice(), links.as_slice(), streams.as_slice()) {
         None => Ok(Network {
             plans,
             links,

@@ -80,21 +80,26 @@ impl<'a, A: Allocator + Copy> Taking<'a, A> {
         first
     }
 
+    /// What was found before, else the first of the frames that an entry names, with a tag of each priority and this VLAN
+    /// identifier.
+    fn or_tagged(&self, before: Option<Found>, entry: &StreamEntry, vid: u16) -> Option<Found>
+        requires { IsTaking self.now }
+        ensures { result ≡ first_of before (first_in (taken_by self.now entry.now) (tags_with vid)) }
+    {
+        if before.is_some() {
+            return before;
+        }
+        self.first_tagged(entry, vid)
+    }
+
     /// The first of the frames that an entry of the port with the filter's handle names.
-    #[tactic(auto, using(crate::proofs::Firsts::first_append))]
     fn first_named(&self, entry: &StreamEntry) -> Option<Found>
         requires { IsTaking self.now }
         ensures { result ≡ first_in (taken_by self.now entry.now) (tags_of entry.now.vid) }
     {
         let untagged = self.first_with(entry, None);
-        if untagged.is_some() {
-            return untagged;
-        }
-        let alone = self.first_tagged(entry, 0);
-        if alone.is_some() {
-            return alone;
-        }
-        self.first_tagged(entry, entry.vid)
+        let alone = self.or_tagged(untagged, entry, 0);
+        self.or_tagged(alone, entry, entry.vid)
     }
 
     /// The first of the frames that an entry names.
@@ -102,11 +107,13 @@ impl<'a, A: Allocator + Copy> Taking<'a, A> {
         requires { IsTaking self.now }
         ensures { result ≡ first_in (taken_by self.now entry.now) (tags_of entry.now.vid) }
     {
-        if entry.port == self.on.number && entry.handle == self.handle {
-            self.first_named(entry)
-        } else {
-            None
+        if entry.port != self.on.number {
+            return None;
         }
+        if entry.handle != self.handle {
+            return None;
+        }
+        self.first_named(entry)
     }
 
     /// The first of all frames that the filter takes there and that are asked for.

@@ -204,23 +204,25 @@ impl<'a, A: Allocator + Copy> HopCase<'a, A> {
         requires { IsHopCase self.now }
         ensures { result ≡ taken_over question (Some plan.now) (stream_of self.now.stream.now) (end_of end) self.now.next.now on.now self.now.hop.filter }
     {
-        if plan.port(end.port).is_none() {
-            return None;
+        match plan.port(end.port) {
+            Some(_) => {
+                let sending = Sending {
+                    plan,
+                    end,
+                    stream: self.stream,
+                    question,
+                };
+                let taking = Taking {
+                    sending,
+                    next: self.next,
+                    on,
+                    filter: self.hop.filter,
+                    handle: self.handle,
+                };
+                taking.first()
+            }
+            None => None,
         }
-        let sending = Sending {
-            plan,
-            end,
-            stream: self.stream,
-            question,
-        };
-        let taking = Taking {
-            sending,
-            next: self.next,
-            on,
-            filter: self.hop.filter,
-            handle: self.handle,
-        };
-        taking.first()
     }
 
     /// The first of those that come over a link from an end.
@@ -288,16 +290,24 @@ impl<'a, A: Allocator + Copy> HopCase<'a, A> {
         first
     }
 
+    /// Whether a port has no link, and an entry of it gives the handle.
+    fn enters(&self, on: &PortPlan<A>) -> bool
+        ensures { result ≡ spec.enters self.now.case.links.now self.now.hop.bridge self.now.next.now self.now.handle on.now }
+    {
+        let bridge = self.hop.bridge;
+        let port = on.number;
+        if is_linked(self.case.links, End { bridge, port }) {
+            return false;
+        }
+        has_entry(self.next, port, self.handle)
+    }
+
     /// Whether an entry of a port without a link gives the handle.
     fn is_entered(&self) -> bool
         ensures { result ≡ spec.is_entered self.now.case.links.now self.now.hop.bridge self.now.next.now self.now.handle }
     {
-        let bridge = self.hop.bridge;
         for on in self.next.ports() {
-            let port = on.number;
-            if !is_linked(self.case.links, End { bridge, port })
-                && has_entry(self.next, port, self.handle)
-            {
+            if self.enters(on) {
                 return true;
             }
         }
@@ -409,6 +419,36 @@ impl<'a, A: Allocator + Copy> Case<'a, A> {
 }
 
 impl<'a, A: Allocator + Copy> Case<'a, A> {
+    /// What a test that asks for its handle tells of a hop of a stream, of a bridge with this plan, with their places.
+    fn tell_at(
+        &self,
+        test: HopTest,
+        i: usize,
+        stream: &[StreamHop],
+        k: usize,
+        hop: StreamHop,
+        next: &Plan<A>,
+    ) -> Option<NetworkFault>
+        requires stream { i < 18446744073709551615 }
+        requires hop { k < 18446744073709551615 }
+        ensures { result ≡ spec.told_by (parts_of self.now) test i stream.now k hop (Some next.now) }
+    {
+        let filters = next.filters();
+        match handle_of(filters, hop.filter) {
+            Some(handle) => {
+                let case = HopCase {
+                    case: *self,
+                    stream,
+                    hop,
+                    next,
+                    handle,
+                };
+                case.tell(test, i, k)
+            }
+            None => None,
+        }
+    }
+
     /// What a test that asks for its handle tells of a hop of a stream, with their places.
     fn tell_by(
         &self,
@@ -423,17 +463,7 @@ impl<'a, A: Allocator + Copy> Case<'a, A> {
         ensures { result ≡ spec.told_by (parts_of self.now) test i stream.now k hop (slice_get self.now.plans.now hop.bridge) }
     {
         match plan_at(self.plans, hop.bridge) {
-            Some(next) => {
-                let handle = handle_of(next.filters(), hop.filter)?;
-                let case = HopCase {
-                    case: *self,
-                    stream,
-                    hop,
-                    next,
-                    handle,
-                };
-                case.tell(test, i, k)
-            }
+            Some(next) => self.tell_at(test, i, stream, k, hop, next),
             None => None,
         }
     }
