@@ -30,7 +30,7 @@ record HasProtected (fs : List (ℕ × FilterPlan)) (m : ℕ) : Type 0 where
   listed : In (m, filter) fs
   protected : filter.protected ≡ true
 
-numbered : (x : ℕ × FilterPlan) (m : ℕ) → x.0 ≡ m → (m, x.1) ≡ x
+pub numbered : (x : ℕ × FilterPlan) (m : ℕ) → x.0 ≡ m → (m, x.1) ≡ x
 numbered x m e = rw (sym e) refl
 
 protected_in : (fs : List (ℕ × FilterPlan)) (m : ℕ) → list_any (λ (f : ℕ × FilterPlan). nat_eq f.0 m && f.1.protected) fs ≡ true → HasProtected fs m

@@ -115,7 +115,7 @@ flow_same (f ∷ fs) c d h k =
     let same : verdicts.is_match f.1 c ≡ verdicts.is_match f.1 d = rw (h, k) refl in
     rw (same, flow_same fs c d h k) refl
 
-number_of : (n : ℕ) (o : Option (ℕ × FilterPlan)) → is_number n o ≡ true → (x : ℕ × FilterPlan) × (o ≡ Some x) × (x.0 ≡ n)
+pub number_of : (n : ℕ) (o : Option (ℕ × FilterPlan)) → is_number n o ≡ true → (x : ℕ × FilterPlan) × (o ≡ Some x) × (x.0 ≡ n)
 number_of n None h = absurd (false≢true h)
 number_of n (Some x) h = (x, refl, eqb-true x.0 n h)
 

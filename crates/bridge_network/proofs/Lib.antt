@@ -8,3 +8,9 @@ pub mod Settling
 pub mod Paced
 pub mod Periods
 pub mod Hopping
+pub mod Firsts
+pub mod Flows
+pub mod Skipped
+pub mod Handles
+pub mod Straying
+pub mod Sound

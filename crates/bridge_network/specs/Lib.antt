@@ -4,4 +4,11 @@ pub mod Feeding
 pub mod Accepting
 pub mod Settled
 pub mod Latency
+pub mod Wiring
+pub mod Finding
+pub mod Walking
+pub mod Numbers
+pub mod Refusing
+pub mod Testing
+pub mod Checked
 pub mod Examples

@@ -1,0 +1,38 @@
+-- How the frames that a hop may take are tried. No public clause speaks of it.
+use Rattle.std.specs.Prelude.{◌≡◌, ◌≤◌, ℕ, Bool, true, Option, Some, None}
+use Rattle.bridge_frame.specs.declared.Tag.{Tag}
+use Rattle.bridge_ident.specs.declared.StreamEntry.{StreamEntry}
+use Rattle.bridge_filter.specs.declared.FilterPlan.{FilterPlan}
+use Rattle.bridge_filter.specs.Own.{is_number}
+use Rattle.bridge_filter.specs.Verdicts.{lesser}
+use Rattle.bridge_network.specs.declared.sending.Found.{Found}
+use Rattle.bridge_network.specs.declared.sending.Sending.{Sending}
+use Rattle.bridge_network.specs.declared.taking.Taking.{Taking}
+use Rattle.bridge_network.specs.Accepting.{is_listed}
+use Rattle.bridge_network.specs.Feeding.{flow_for}
+use Rattle.bridge_network.specs.Finding as finding
+use Rattle.bridge_network.specs.Wiring.{stream_of}
+
+-- of a filter that may be none and one that may be none the one with the lesser number
+abbrev pub lesser_flow : Option (ℕ × FilterPlan) → Option (ℕ × FilterPlan) → Option (ℕ × FilterPlan)
+lesser_flow None o = o
+lesser_flow (Some f) o = lesser f o
+
+-- which filters of the sender are hops of the stream
+abbrev pub hops : {A : Type 0} → Sending A → ℕ → Bool
+hops s = is_listed (stream_of s.stream.now) s.end.bridge
+
+-- the number of a sender's port is that of a port
+pub record IsSending {A : Type 0} (s : Sending A) : Type 0 where
+  pub from : 1 ≤ s.end.port
+  pub to : s.end.port ≤ 16
+
+-- which filter takes at its port what comes from a sender
+pub record IsTaking {A : Type 0} (t : Taking A) : Type 0 where
+  pub sending : IsSending t.sending
+  pub names : (h k : ℕ) → is_number t.filter (flow_for t.next.now (Some h) k) ≡ true → h ≡ t.handle
+
+-- what an entry gives to the filter of a hop
+abbrev pub taken_by : {A : Type 0} → Taking A → StreamEntry → Option Tag → Option Found
+taken_by t e tag =
+    finding.taken_by t.sending.question t.sending.plan.now (hops t.sending) t.sending.end.port t.next.now t.on.now t.filter e tag
