@@ -11,6 +11,8 @@ mod network;
 mod reading;
 mod rows;
 mod streams;
+#[cfg(test)]
+mod tests;
 
 pub use bridges::BridgeRow;
 pub use fault::{NetFault, NetField, NetPlace, NetSection};
