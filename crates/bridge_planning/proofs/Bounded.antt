@@ -1,7 +1,11 @@
 -- Bounds that are gathered queue by queue.
-use Rattle.std.proofs.Common.{◌≡◌, ℕ, suc, zero, ◌+◌, ◌-◌, ◌*◌, ◌<◌, ◌≤◌, List, [], ◌∷◌, ◌++◌, Option, Some, None, length, slice_get, refl, sym, ap, subst, ◌∙◌, inl, inr, arith, true, false}
+use Rattle.std.proofs.Common.{◌≡◌, ℕ, suc, zero, ◌+◌, ◌-◌, ◌*◌, ◌<◌, ◌≤◌, List, [], ◌∷◌, ◌++◌, Option, Some, None, length, slice_get, get_or, refl, sym, ap, ap₂, subst, ◌∙◌, inl, inr, arith, true, false}
 use Rattle.std.specs.Prelude.{nat_eq, ◌⊎◌}
 use Rattle.std.specs.Map.{lookup}
+use Rattle.std.specs.Prelude.{◌/◌, ◌%◌}
+use Rattle.std.proofs.lemmas.Option.{slice_get-get_or}
+use Rattle.std.proofs.lemmas.Nat.{div-add-mod'}
+use Rattle.std.proofs.Math.Nat.{mod-lt}
 use Rattle.std.proofs.lemmas.Bool.{false≢true, eqb-true}
 use Rattle.std.proofs.lemmas.Cmp.{nat_eq_equiv}
 use Rattle.bridge_base.specs.Members.{In, AllAfter, Rising}
@@ -54,17 +58,23 @@ found_at (z ∷ xs) (suc i) n f rises is =
     (λ t. absurd (let same = eqb-true n z.0 t in omega (arith, same, less)))
     (λ t. rw t (found_at xs i n f rises.1 is))
 
+found_here : (z : ℕ × FilterPlan) (xs : Numbered) (n : ℕ) (f : FilterPlan) → nat_eq n z.0 ≡ true → lookup (nat_eq n) (z ∷ xs) ≡ Some f → Some z.1 ≡ Some f
+found_here z xs n f t is = rw t at is
+
+found_behind : (z : ℕ × FilterPlan) (xs : Numbered) (n : ℕ) (f : FilterPlan) → nat_eq n z.0 ≡ false → lookup (nat_eq n) (z ∷ xs) ≡ Some f → lookup (nat_eq n) xs ≡ Some f
+found_behind z xs n f t is = rw t at is
+
 -- a filter that is found by its number stands at a place
 pub place_found : (xs : Numbered) (n : ℕ) (f : FilterPlan) → lookup (nat_eq n) xs ≡ Some f → (i : ℕ) × (i < length xs) × (slice_get xs i ≡ Some (n, f))
 place_found [] n f is = absurd (none_is_some f is)
 place_found (z ∷ xs) n f is = by_bool (nat_eq n z.0)
     (λ t.
-    let same : Some z.1 ≡ Some f = (let h : lookup (nat_eq n) (z ∷ xs) ≡ Some f = is in rw t at h in h) in
+    let same : Some z.1 ≡ Some f = found_here z xs n f t is in
     let number : n ≡ z.0 = eqb-true n z.0 t in
-    let both : z ≡ (n, f) = let value = some_same z.1 f same in cc in
+    let both : z ≡ (n, f) = ap₂ (λ (a : ℕ) (b : FilterPlan). (a, b)) (sym number) (some_same z.1 f same) in
     (zero, omega arith, ap Some both))
     (λ t.
-    let h : lookup (nat_eq n) xs ≡ Some f = (let h : lookup (nat_eq n) (z ∷ xs) ≡ Some f = is in rw t at h in h) in
+    let h : lookup (nat_eq n) xs ≡ Some f = found_behind z xs n f t is in
     let rest = place_found xs n f h in
     (suc rest.0, (let less = rest.1 in omega (arith, less)), rest.2))
 
@@ -104,11 +114,11 @@ module _ {A : Type 0} (p : Plan A) (order : Numbered) (at place n q c : ℕ) (f 
   with_bound b rises bound =
       let row = queue_bound n q c b in
       let before : (x : QueueBound) → In x rows → IsBefore x row = λ x i.
-          let b = up.below x i in
-          elim b.3 [
-            | inl less ↦ inl (sooner order b.0 at (x.filter, b.1) (n, f) rises less b.2 here)
-            | inr (same, less) ↦ inr ((let both : Some (x.filter, b.1) ≡ Some (n, f) = sym b.2 ∙ (ap (slice_get order) same ∙ here) in ap (λ (w : ℕ × FilterPlan). w.0) (some_same (x.filter, b.1) (n, f) both)), (let e = is in omega (arith, e, less)))
-          ] in
+      let b = up.below x i in
+      elim b.3 [
+        | inl less ↦ inl (sooner order b.0 at (x.filter, b.1) (n, f) rises less b.2 here)
+        | inr (same, less) ↦ inr ((let both : Some (x.filter, b.1) ≡ Some (n, f) = sym b.2 ∙ (ap (slice_get order) same ∙ here) in ap (λ (w : ℕ × FilterPlan). w.0) (some_same (x.filter, b.1) (n, f) both)), (let e = is in omega (arith, e, less)))
+      ] in
       record {
         rises = rising_push IsBefore rows row up.rises before;
         each = λ r i. elim (in_push r row rows i) [
@@ -121,12 +131,15 @@ module _ {A : Type 0} (p : Plan A) (order : Numbered) (at place n q c : ℕ) (f 
         ];
         all = λ i r d m g there protected begins ends small reach done. elim (last_or_before i (place_of r d) at place done) [
           | inl old ↦ (let z = up.all i r d m g there protected begins ends small reach old in (z.0, in_left rows row (queue_bound m r d z.0) z.1))
-          | inr (same, last) ↦ (b, in_last rows row (queue_bound m r d b) (
-            let both : Some (m, g) ≡ Some (n, f) = sym there ∙ (ap (slice_get order) same ∙ here) in
-            let number : m ≡ n = ap (λ (w : ℕ × FilterPlan). w.0) (some_same (m, g) (n, f) both) in
-            let queue = same_class r d q c begins small from low (last ∙ sym is) in
-            let port = queue.0 in let class = queue.1 in
-            cc))
+          | inr (same, last) ↦ (
+            b,
+            in_last rows row (queue_bound m r d b) (
+                let both : Some (m, g) ≡ Some (n, f) = sym there ∙ (ap (slice_get order) same ∙ here) in
+                let number : m ≡ n = ap (λ (w : ℕ × FilterPlan). w.0) (some_same (m, g) (n, f) both) in
+                let queue = same_class r d q c begins small from low (last ∙ sym is) in
+                let port = queue.0 in let class = queue.1 in
+                cc),
+          )
         ];
       }
     where
@@ -134,6 +147,7 @@ module _ {A : Type 0} (p : Plan A) (order : Numbered) (at place n q c : ℕ) (f 
       in_left [] y z i = absurd i
       in_left (x ∷ xs) y z (inl e) = inl e
       in_left (x ∷ xs) y z (inr i) = inr (in_left xs y z i)
+
       in_last : (xs : List QueueBound) (y z : QueueBound) → z ≡ y → In z (xs ++ y ∷ [])
       in_last [] y z e = inl e
       in_last (x ∷ xs) y z e = inr (in_last xs y z e)
@@ -147,14 +161,14 @@ module _ {A : Type 0} (p : Plan A) (order : Numbered) (at place n q c : ℕ) (f 
     all = λ i r d m g there protected begins ends small reach done. elim (last_or_before i (place_of r d) at place done) [
       | inl old ↦ up.all i r d m g there protected begins ends small reach old
       | inr (same, last) ↦ absurd (
-        let both : Some (m, g) ≡ Some (n, f) = sym there ∙ (ap (slice_get order) same ∙ here) in
-        let pair : (m, g) ≡ (n, f) = some_same (m, g) (n, f) both in
-        let queue = same_class r d q c begins small from low (last ∙ sym is) in
-        let filter : g ≡ f = ap (λ (w : ℕ × FilterPlan). w.1) pair in
-        let own : lookup (nat_eq n) p.filters ≡ Some f = sym (found n) ∙ found_at order at n f rises here in
-        let shut : reaches p f q c ≡ false = none f own (subst (λ (w : FilterPlan). w.protected ≡ true) filter protected) in
-        let open : reaches p f q c ≡ true = (let port = queue.0 in let class = queue.1 in subst (λ (w : FilterPlan). reaches p w q c ≡ true) filter (rw (sym port, sym class) reach)) in
-        false≢true (sym shut ∙ open))
+          let both : Some (m, g) ≡ Some (n, f) = sym there ∙ (ap (slice_get order) same ∙ here) in
+          let pair : (m, g) ≡ (n, f) = some_same (m, g) (n, f) both in
+          let queue = same_class r d q c begins small from low (last ∙ sym is) in
+          let filter : g ≡ f = ap (λ (w : ℕ × FilterPlan). w.1) pair in
+          let own : lookup (nat_eq n) p.filters ≡ Some f = sym (found n) ∙ found_at order at n f rises here in
+          let shut : reaches p f q c ≡ false = none f own (subst (λ (w : FilterPlan). w.protected ≡ true) filter protected) in
+          let opened : reaches p f q c ≡ true = (let port = queue.0 in let class = queue.1 in subst (λ (w : FilterPlan). reaches p w q c ≡ true) filter (rw (sym port, sym class) reach)) in
+          false≢true (sym shut ∙ opened))
     ];
   }
 
@@ -180,3 +194,22 @@ all_bounds p order at rows end found up = record {
       let place = place_found order n f (found n ∙ is) in
       up.all place.0 q c n f place.2 protected from to low reach (inl (let less = place.1 in omega (arith, less, end)));
 }
+
+-- the queue of a place
+placed : (place : ℕ) → place_of (place / 8 + 1) (place % 8) ≡ place
+placed place = let back : place / 8 + 1 - 1 ≡ place / 8 = omega arith in rw back (div-add-mod' place 8)
+
+module _ {A : Type 0} (p : Plan A) (order : Numbered) (at place : ℕ) (d : ℕ × FilterPlan) (rows : List QueueBound)
+    (within : at < length order) (rises : Rising ByNumber order) (up : AreUpTo p order at place rows) where
+  -- the bound of the queue of a place is added
+  pub one_bound : (b : ℕ) (news : List QueueBound) → IsBound p (get_or order at d).0 (place / 8 + 1) (place % 8) b → news ≡ rows ++ queue_bound (get_or order at d).0 (place / 8 + 1) (place % 8) b ∷ [] → AreUpTo p order at (place + 1) news
+  one_bound b news bound is =
+      let x = get_or order at d in
+      subst (AreUpTo p order at (place + 1)) (sym is)
+      (with_bound p order at place x.0 (place / 8 + 1) (place % 8) x.1 rows up (slice_get-get_or order at d within) (omega arith) (mod-lt place (omega arith)) (placed place) b rises bound)
+
+  -- the queue of a place has none
+  pub no_bound : ((m : ℕ) → lookup (nat_eq m) order ≡ lookup (nat_eq m) p.filters) → HasNoBound p (get_or order at d).0 (place / 8 + 1) (place % 8) → AreUpTo p order at (place + 1) rows
+  no_bound found none =
+      let x = get_or order at d in
+      without_bound p order at place x.0 (place / 8 + 1) (place % 8) x.1 rows up (slice_get-get_or order at d within) (omega arith) (mod-lt place (omega arith)) (placed place) rises found none

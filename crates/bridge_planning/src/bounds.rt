@@ -1,5 +1,5 @@
 //! The bounds of all queues of a plan.
-ghost use Rattle.std.specs.Prelude.{◌≡◌, ◌+◌, ◌<◌, ◌≤◌, [], length, nat_eq, OnOk, IfOk};
+ghost use Rattle.std.specs.Prelude.{◌≡◌, ℕ, ◌+◌, ◌<◌, ◌≤◌, [], length, nat_eq, OnOk, IfOk};
 ghost use Rattle.std.specs.Map.{lookup};
 ghost use Rattle.bridge_base.specs.Members.{Rising};
 ghost use Rattle.bridge_planning.specs.Bounds.{AreBounds, AreUpTo};
@@ -75,6 +75,23 @@ fn put_filter<A: Allocator + Copy>(
     Ok(())
 }
 
+/// Adds the bounds of all queues of all filters.
+fn put_all<A: Allocator + Copy>(
+    accepted: &Accepted<A>,
+    order: &[(u32, FilterPlan)],
+    rows: &mut Vec<QueueBound, A>,
+) -> Result<(), NoMemory>
+    requires rises { Rising (λ x y. x.0 < y.0) order.now }
+    requires same { (n : ℕ) → lookup (nat_eq n) order.now ≡ lookup (nat_eq n) accepted.now.filters }
+    requires none { rows.old.items ≡ [] }
+    ensures all { OnOk result (AreBounds accepted.now rows.new.items) }
+{
+    for at in 0..order.len() {
+        put_filter(accepted, order, at, rows)?;
+    }
+    Ok(())
+}
+
 /// The bounds of all queues of a plan that frames of its protected filters may come to, by rising filter, port and class.
 pub fn bounds_of<A: Allocator + Copy>(
     alloc: A,
@@ -84,8 +101,6 @@ pub fn bounds_of<A: Allocator + Copy>(
 {
     let order = filters_in_order(alloc, accepted.plan())?;
     let mut rows = Vec::new(alloc);
-    for at in 0..order.len() {
-        put_filter(accepted, &order, at, &mut rows)?;
-    }
+    put_all(accepted, &order, &mut rows)?;
     Ok(rows)
 }

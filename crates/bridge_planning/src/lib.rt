@@ -1,8 +1,13 @@
 #![tactic(auto)]
-//! What a planner asks of plans beside a run: how long frames may take.
+//! What a planner asks of plans beside a run: how long frames may take, and whether a network of bridges isolates its
+//! streams.
 
 mod bounds;
+mod network;
 mod printing;
+mod refusing;
 
 pub use bounds::{QueueBound, bounds_of};
+pub use network::tested;
 pub use printing::{bounds_job, bounds_text};
+pub use refusing::said_of_network;

@@ -13,10 +13,7 @@ use std::io::Read;
 
 /// Adds the line of the bound of a queue.
 #[tactic(auto, unfolding(crate::specs::Printing::bound_line))]
-fn push_line<A: Allocator + Copy>(
-    text: &mut String<A>,
-    row: &QueueBound,
-) -> Result<(), AllocError>
+fn push_line<A: Allocator + Copy>(text: &mut String<A>, row: &QueueBound) -> Result<(), AllocError>
     ensures { OnOk result (string_bytes text.new ≡ string_bytes text.old ++ bound_line row.now) }
 {
     let QueueBound {
@@ -25,7 +22,10 @@ fn push_line<A: Allocator + Copy>(
         class,
         bound,
     } = *row;
-    write!(text, "filter {filter} port {port} class {class} bound {bound}\n")
+    write!(
+        text,
+        "filter {filter} port {port} class {class} bound {bound}\n"
+    )
 }
 
 /// The lines of some bounds, one for each.
@@ -67,7 +67,9 @@ pub fn bounds_job<R: Read + Drop, A: Allocator + Copy>(
         Ok(accepted) => accepted,
         Err(fault) => return Err(fault),
     };
-    match lines_of(alloc, &accepted) {
+    let told = lines_of(alloc, &accepted);
+    drop(accepted);
+    match told {
         Ok(lines) => Ok(lines),
         Err(_) => Err(Fault::Run(RunFault::NoMemory)),
     }

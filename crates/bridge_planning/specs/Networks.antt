@@ -1,0 +1,92 @@
+-- Networks of files: what is made of their text, and what is printed.
+use Rattle.std.specs.Prelude.{◌≡◌, ℕ, zero, suc, List, [], ◌∷◌, ◌++◌, map, length, sum_by, Option, Some, None, Vec, codes, decimal, string_bytes}
+use Rattle.bridge_lanes.specs.declared.fault.RunFault.TheVariants as run
+use Rattle.bridge_program.specs.declared.fault.Fault.{Fault}
+use Rattle.bridge_program.specs.declared.fault.Fault.TheVariants as fault
+use Rattle.bridge_netfile.specs.declared.links.LinkRow.{LinkRow}
+use Rattle.bridge_netfile.specs.Model.{Bridge, Stream}
+use Rattle.bridge_netfile.specs.Model as file
+use Rattle.bridge_network.specs.declared.fault.NetworkFault.{NetworkFault}
+use Rattle.bridge_network.specs.declared.fault.NetworkFault.TheVariants as network
+use Rattle.bridge_network.specs.declared.links.Link.{Link}
+use Rattle.bridge_network.specs.declared.links.StreamHop.{StreamHop}
+use Rattle.bridge_network.specs.Wiring.{Parts, stream_of}
+use Rattle.bridge_network.specs.Refusing.{first_fault}
+
+-- A NETWORK OF A TEXT
+
+-- a link
+abbrev pub link_in : LinkRow → Link
+link_in r = record { one = record { bridge = r.one.0; port = r.one.1 }; other = record { bridge = r.other.0; port = r.other.1 }; delay = r.delay }
+
+-- a hop
+abbrev pub hop_in : ℕ × ℕ → StreamHop
+hop_in h = record { bridge = h.0; filter = h.1 }
+
+-- a network has a plan for each bridge of a text, and its links and streams
+pub record IsMadeOf {A : Type 0} (f : file.Network) (n : Parts A) : Type 0 where
+  pub plans : length n.plans ≡ length f.bridges
+  pub links : n.links ≡ map link_in f.links
+  pub streams : map (λ (v : Vec StreamHop A). v.items) n.streams ≡ map (λ (s : Stream). map hop_in s.hops) f.streams
+
+-- WHAT IS PRINTED
+
+-- how many hops all streams have
+abbrev pub hops_in : List Stream → ℕ
+hops_in streams = sum_by (λ (s : Stream). length s.hops) streams
+
+-- the line of a network that is accepted, with its line feed
+unfoldable pub accepted_line : file.Network → List ℕ
+accepted_line f = codes "accepted: " ++ (decimal (length f.bridges) ++ (codes " bridges " ++ (decimal (length f.links) ++ (codes " links " ++ (decimal (length f.streams) ++ (codes " streams " ++ (decimal (hops_in f.streams) ++ codes " hops\n")))))))
+
+-- the name of the bridge at a place, nothing where there is none
+abbrev pub name_at : List Bridge → ℕ → List ℕ
+name_at [] b = []
+name_at (x ∷ xs) zero = x.name
+name_at (x ∷ xs) (suc b) = name_at xs b
+
+-- a port of a named bridge
+abbrev pub port_text : List Bridge → ℕ → ℕ → List ℕ
+port_text bridges b q = name_at bridges b ++ (codes "." ++ decimal q)
+
+-- the filter of frames, or that they have none
+abbrev pub filter_text : Option ℕ → List ℕ
+filter_text None = codes "none"
+filter_text (Some n) = decimal n
+
+-- what is refused about a link
+abbrev pub of_link : List ℕ → ℕ → List ℕ
+of_link name link = codes "network refused: " ++ (name ++ (codes " link " ++ decimal link))
+
+-- what is refused about a hop
+abbrev pub of_hop : List ℕ → ℕ → ℕ → List ℕ
+of_hop name stream hop = codes "network refused: " ++ (name ++ (codes " stream " ++ (decimal stream ++ (codes " hop " ++ decimal hop))))
+
+-- the line of a network that a test refuses, by the names of its bridges
+unfoldable pub line_of : List Bridge → NetworkFault → List ℕ
+line_of bridges (network.Unresolved link) = of_link (codes "Unresolved") link
+line_of bridges (network.LinkTwice link end) = of_link (codes "LinkTwice") link ++ (codes " " ++ port_text bridges end.bridge end.port)
+line_of bridges (network.SpeedsDiffer link) = of_link (codes "SpeedsDiffer") link
+line_of bridges (network.NotProtected stream hop) = of_hop (codes "NotProtected") stream hop
+line_of bridges (network.HopTwice stream hop) = of_hop (codes "HopTwice") stream hop
+line_of bridges (network.NotClosed stream hop bridge port filter from) =
+    of_hop (codes "NotClosed") stream hop
+    ++ (codes " " ++ (port_text bridges bridge port ++ (codes " sends " ++ (filter_text filter ++ (codes " from " ++ decimal from)))))
+line_of bridges (network.NotFed stream hop) = of_hop (codes "NotFed") stream hop
+
+-- why a network that was read is refused: its first fault, by its line, or want of memory
+abbrev pub RefusesNetwork : {A : Type 0} → file.Network → Parts A → Fault → Type 0
+RefusesNetwork f n (fault.Network line) = (e : NetworkFault) × (first_fault n ≡ Some e) × (string_bytes line ≡ line_of f.bridges e)
+RefusesNetwork f n (fault.Run e) = e ≡ run.NoMemory
+RefusesNetwork f n e = ⊥
+
+-- the line of a network whose streams are closed
+abbrev pub PrintsNetwork : (A : Type 0) → List ℕ → Type 0
+PrintsNetwork A line = (f : file.Network) × (n : Parts A) × IsMadeOf f n × (first_fault n ≡ None) × (line ≡ accepted_line f)
+
+-- a fault of the job over a network: of a file, of the network or of memory
+abbrev pub EndsNetwork : Fault → Type 0
+EndsNetwork (fault.File path) = Unit {0}
+EndsNetwork (fault.Network line) = Unit {0}
+EndsNetwork (fault.Run e) = e ≡ run.NoMemory
+EndsNetwork e = ⊥
