@@ -1,5 +1,6 @@
 pub mod Steps
 pub mod Queued
+pub mod Bursts
 pub mod Edges
 pub mod Changed
 pub mod Lists

@@ -18,7 +18,7 @@ ghost use Rattle.bridge_run.specs.Offers.{Carried, egress};
 ghost use Rattle.bridge_run.specs.Runs.{AreWhole, IsOutcome, IsRun};
 ghost use Rattle.bridge_run.specs.declared.outcome.Outcome.{Outcome};
 ghost use Rattle.bridge_run.specs.declared.outcome.View.{View};
-ghost use Rattle.bridge_bounds.specs.Bounds.{AreShort, EndsBy, IsAttained, IsBound, IsLongest};
+ghost use Rattle.bridge_bounds.specs.Bounds.{AreShort, EndsBy, IsAttained, IsBound, IsLongest, IsWorst};
 
 use std::alloc::Allocator;
 
@@ -53,6 +53,16 @@ pub fn solo_in_time<X: Drop>()
         → IsLongest (r.opens c) occ (r.room c) d
         → x.fate ≡ Started s
         → s + r.occ x.item ≤ x.at + (occ - 1) + d }
+{}
+
+/// The bound is no more than `occ - 1` ns above what some offers reach. Where the longest time is attained, copies that are
+/// offered together and fill a queue which has its link alone take that long: the last one is done just so much later.
+pub fn nearly_attained<X: Drop>()
+    ensures { (r : Rules X) (c d : ℕ) (item : X)
+        → r.ever c (r.occ item) ≡ true
+        → 1 ≤ r.room c
+        → IsAttained (r.opens c) (r.occ item) (r.room c) d
+        → IsWorst r c (r.occ item) d }
 {}
 
 /// Each frame of a protected filter that a queue takes is done in time. In a whole run of an accepted plan a copy of the
