@@ -4,6 +4,7 @@ pub mod Bursts
 pub mod Edges
 pub mod Changed
 pub mod Lists
+pub mod Rounds
 pub mod Sizes
 pub mod Reached
 pub mod Whole
