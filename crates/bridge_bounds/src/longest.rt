@@ -193,7 +193,7 @@ fn longest_by<A: Allocator + Copy>(lists: &Egress<A>, class: u8, occ: u64, room:
 
 /// The longest time, in ns, that so many frames take which wait from any moment on, one after the other, each on the link
 /// for `occ` ns, by the gate control lists of a port: it is attained where no lists are exchanged.
-pub fn longest_of<A: Allocator + Copy>(
+pub(crate) fn longest_of<A: Allocator + Copy>(
     lists: &Option<Egress<A>>,
     class: u8,
     occ: u64,
