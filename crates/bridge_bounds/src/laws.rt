@@ -22,8 +22,8 @@ ghost use Rattle.bridge_bounds.specs.Bounds.{AreShort, EndsBy, IsAttained, IsBou
 
 use std::alloc::Allocator;
 
-/// The longest time is one that nothing exceeds: frames that wait from a moment on are done at one moment, and it lies at
-/// most so much later.
+/// Frames that wait from a moment on are done at one moment (`once`), which lies at most the longest time after it
+/// (`bounds`); a time that is attained is at most each longest time, so where it is one itself it is the least (`least`).
 pub fn longest_bounds()
     ensures once { (opens : ℕ → Bool) (occ k u v w : ℕ)
         → EndsBy opens occ k u v
@@ -33,6 +33,10 @@ pub fn longest_bounds()
         → IsLongest opens occ k d
         → EndsBy opens occ k u v
         → v ≤ u + d }
+    ensures least { (opens : ℕ → Bool) (occ k d e : ℕ)
+        → IsLongest opens occ k d
+        → IsAttained opens occ k e
+        → e ≤ d }
 {}
 
 /// Where a class is always open one frame follows the other: so many take so many times one's time.
