@@ -93,7 +93,7 @@ pub fits_down : (opens : ℕ → Bool) (cycle occ n t : ℕ) → Repeats opens c
 fits_down opens cycle occ n t r f u a b = sym (turns opens cycle n u r) ∙ f (u + n * cycle) (omega (arith, a)) (omega (arith, b))
 
 -- a first fit comes again so many cycles later
-first_up : (opens : ℕ → Bool) (cycle occ n from s : ℕ) → Repeats opens cycle → IsFirst opens occ from s → IsFirst opens occ (from + n * cycle) (s + n * cycle)
+pub first_up : (opens : ℕ → Bool) (cycle occ n from s : ℕ) → Repeats opens cycle → IsFirst opens occ from s → IsFirst opens occ (from + n * cycle) (s + n * cycle)
 first_up opens cycle occ n from s r first =
     let after = first.after in
     record {

@@ -1,8 +1,10 @@
 pub mod Steps
 pub mod Queued
+pub mod Bursts
 pub mod Edges
 pub mod Changed
 pub mod Lists
+pub mod Rounds
 pub mod Sizes
 pub mod Reached
 pub mod Whole

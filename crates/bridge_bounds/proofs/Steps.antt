@@ -2,7 +2,7 @@
 use Rattle.std.proofs.Common.{◌≡◌, ℕ, zero, suc, Bool, true, ◌≤◌, ◌+◌, ◌*◌, arith, refl, subst, inl, inr}
 use Rattle.std.proofs.lemmas.Bool.{cases_lt}
 use Rattle.bridge_cycle.specs.Moments.{Fits, IsFirst}
-use Rattle.bridge_bounds.specs.Bounds.{EndsBy, IsLongest}
+use Rattle.bridge_bounds.specs.Bounds.{EndsBy, IsAttained, IsLongest}
 
 -- the first fit rises with the moment and with the length
 pub first_rises : (opens : ℕ → Bool) (own occ from later s t : ℕ) → own ≤ occ → from ≤ later → IsFirst opens own from s → IsFirst opens occ later t → s ≤ t
@@ -96,3 +96,9 @@ ends_rises opens occ (suc k) u v y z h (w, s, e, first, is) (x, t, f, other, was
     let before = ends_rises opens occ k u v w x h e f in
     let start = first_rises opens occ occ w x s t (omega arith) before first other in
     omega (arith, start, is, was)
+
+-- a time that is attained is at most each longest one
+pub attained_least : (opens : ℕ → Bool) (occ k d e : ℕ) → IsLongest opens occ k d → IsAttained opens occ k e → e ≤ d
+attained_least opens occ k d e longest (u, ends) =
+    let upto = longest_bounds opens occ k d u (u + e) longest ends in
+    omega (arith, upto)

@@ -1,12 +1,13 @@
 -- How long frames take that go one after the other through a class of a port.
-use Rattle.std.specs.Prelude.{◌≡◌, ℕ, zero, suc, Bool, true, false, ◌+◌, ◌-◌, ◌≤◌, nat_eq, List, Some}
+use Rattle.std.specs.Prelude.{◌∷◌, ◌≡◌, ℕ, zero, suc, Bool, true, false, ◌+◌, ◌-◌, ◌≤◌, nat_eq, List, Some}
 use Rattle.std.specs.Map.{lookup}
 use Rattle.bridge_base.specs.Members.{In}
 use Rattle.bridge_cycle.specs.Moments.{Fits, IsFirst}
 use Rattle.bridge_frame.specs.Link.{occupied}
 use Rattle.bridge_filter.specs.declared.FilterPlan.{FilterPlan}
 use Rattle.bridge_port.specs.Opening.{Always, Exchanged, One, Opening, opening_of, opens, opens_of}
-use Rattle.bridge_port.specs.Schedule.{Copy, Rules}
+use Rattle.bridge_port.specs.Schedule.{Copy, OfferedUpTo, Rules, Started}
+use Rattle.bridge_port.specs.Solo.{IsSolo}
 use Rattle.bridge_config.specs.declared.ports.PortPlan.{PortPlan}
 use Rattle.bridge_config.specs.Model.{Plan}
 use Rattle.bridge_config.specs.Rules.{port_at}
@@ -41,6 +42,17 @@ pub record IsEdge (opens : ℕ → Bool) (occ c : ℕ) : Type 0 where
 -- copies of one class, each of which is on the link for at most `occ`
 abbrev pub AreShort : {X : Type 0} → Rules X → ℕ → ℕ → List (Copy X) → Type 0
 AreShort r c occ xs = (y : Copy _) → In y xs → (y.class ≡ c) × (r.occ y.item ≤ occ)
+
+-- a copy of a queue that has its link alone, whose copies are on the link for at most `occ`, is done d after it was offered
+pub record IsWorst {X : Type 0} (r : Rules X) (c occ d : ℕ) : Type 0 where
+  pub copy : Copy X
+  pub older : List (Copy X)
+  pub start : ℕ
+  pub solo : IsSolo r (copy ∷ older)
+  pub order : OfferedUpTo copy.at older
+  pub short : AreShort r c occ (copy ∷ older)
+  pub started : copy.fate ≡ Started start
+  pub done : start + r.occ copy.item ≡ copy.at + d
 
 -- the bound of a class of a port for frames whose service data units have at most m octets: so long after they came they are done at the latest
 pub record IsBoundAt {A : Type 0} (out : PortPlan A) (c m b : ℕ) : Type 0 where

@@ -62,10 +62,11 @@ fn bound_in<A: Allocator + Copy>(
     Some(bound_at(out, class, sdu))
 }
 
-/// How long, in ns, a frame of the protected filter of a number takes at most in the queue of a class of a port: each copy
-/// that the queue takes is done at most so long after the frame came. It is what the filter's longest frame is on the link,
-/// less one, and the longest time that a full queue of such frames takes; `None` where no frame of a protected filter of
-/// the number comes to the queue. It takes no memory.
+/// How long, in ns, a frame of the protected filter of a number takes at most in the queue of a class of a port, 1 to 16:
+/// each copy that the queue takes is done at most so long after the frame came, whatever came before it. It is what the
+/// filter's longest frame is on the link, less one, and the longest time that a full queue of such frames takes, which is
+/// exact but where the lists of the port are exchanged: there it is the sum of both lists'. `None` where no frame of a
+/// protected filter of the number comes to the queue. It takes no memory.
 pub fn bound_of<A: Allocator + Copy>(
     accepted: &Accepted<A>,
     number: u32,

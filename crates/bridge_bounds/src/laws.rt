@@ -18,12 +18,12 @@ ghost use Rattle.bridge_run.specs.Offers.{Carried, egress};
 ghost use Rattle.bridge_run.specs.Runs.{AreWhole, IsOutcome, IsRun};
 ghost use Rattle.bridge_run.specs.declared.outcome.Outcome.{Outcome};
 ghost use Rattle.bridge_run.specs.declared.outcome.View.{View};
-ghost use Rattle.bridge_bounds.specs.Bounds.{AreShort, EndsBy, IsAttained, IsBound, IsLongest};
+ghost use Rattle.bridge_bounds.specs.Bounds.{AreShort, EndsBy, IsAttained, IsBound, IsLongest, IsWorst};
 
 use std::alloc::Allocator;
 
-/// The longest time is one that nothing exceeds: frames that wait from a moment on are done at one moment, and it lies at
-/// most so much later.
+/// Frames that wait from a moment on are done at one moment (`once`), which lies at most the longest time after it
+/// (`bounds`); a time that is attained is at most each longest time, so where it is one itself it is the least (`least`).
 pub fn longest_bounds()
     ensures once { (opens : ℕ → Bool) (occ k u v w : ℕ)
         → EndsBy opens occ k u v
@@ -33,6 +33,10 @@ pub fn longest_bounds()
         → IsLongest opens occ k d
         → EndsBy opens occ k u v
         → v ≤ u + d }
+    ensures least { (opens : ℕ → Bool) (occ k d e : ℕ)
+        → IsLongest opens occ k d
+        → IsAttained opens occ k e
+        → e ≤ d }
 {}
 
 /// Where a class is always open one frame follows the other: so many take so many times one's time.
@@ -53,6 +57,16 @@ pub fn solo_in_time<X: Drop>()
         → IsLongest (r.opens c) occ (r.room c) d
         → x.fate ≡ Started s
         → s + r.occ x.item ≤ x.at + (occ - 1) + d }
+{}
+
+/// The bound is no more than `occ - 1` ns above what some offers reach. Where the longest time is attained, copies that are
+/// offered together and fill a queue which has its link alone take that long: the last one is done just so much later.
+pub fn nearly_attained<X: Drop>()
+    ensures { (r : Rules X) (c d : ℕ) (item : X)
+        → r.ever c (r.occ item) ≡ true
+        → 1 ≤ r.room c
+        → IsAttained (r.opens c) (r.occ item) (r.room c) d
+        → IsWorst r c (r.occ item) d }
 {}
 
 /// Each frame of a protected filter that a queue takes is done in time. In a whole run of an accepted plan a copy of the

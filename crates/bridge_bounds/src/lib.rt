@@ -7,4 +7,3 @@ pub mod laws;
 mod longest;
 
 pub use bound::bound_of;
-pub use longest::longest_of;

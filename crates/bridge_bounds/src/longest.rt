@@ -21,6 +21,93 @@ fn fit_of<A: Allocator + Copy>(list: &CyclicList<u8, A>, class: u8, occ: u64, fr
     first_fit(list, class, occ, from)
 }
 
+/// The moment, in ns, at which so many frames are done that wait from a moment on, one after the other.
+fn end_of<A: Allocator + Copy>(
+    list: &CyclicList<u8, A>,
+    class: u8,
+    occ: u64,
+    count: u16,
+    from: u64,
+) -> u64
+    requires class { class < 8 }
+    requires occ { occ ≤ LONGEST_CYCLE }
+    requires from { from ≤ 8_000_000_000_000_000_000 }
+    requires lawful { IsLawful list.now }
+    requires ever { list_ever list.now class occ ≡ true }
+    ensures ends { EndsBy (list_opens list.now class) occ count from result }
+    ensures begun { from ≤ result }
+    ensures soon { result ≤ from + count * (2 * LONGEST_CYCLE) }
+{
+    let mut end = from;
+    for _done in 0..count {
+        end = fit_of(list, class, occ, end) + occ;
+    }
+    end
+}
+
+/// How many frames that wait from a moment on, one after the other, are through before one starts whole cycles after the
+/// first, and when, in ns; at most so many.
+fn round_from<A: Allocator + Copy>(
+    list: &CyclicList<u8, A>,
+    class: u8,
+    occ: u64,
+    room: u16,
+    from: u64,
+) -> (u16, u64)
+    requires class { class < 8 }
+    requires occ { occ ≤ LONGEST_CYCLE }
+    requires some_room { 1 ≤ room }
+    requires from { from ≤ 4 * LONGEST_CYCLE }
+    requires lawful { IsLawful list.now }
+    requires ever { list_ever list.now class occ ≡ true }
+    ensures some { 1 ≤ result.0 }
+    ensures within { result.0 ≤ room }
+    ensures ends { EndsBy (list_opens list.now class) occ result.0 from result.1 }
+{
+    let cycle = list.cycle();
+    let first = fit_of(list, class, occ, from);
+    let mut end = first + occ;
+    for done in 1..room {
+        let start = fit_of(list, class, occ, end);
+        if (start - first) % cycle == 0 {
+            return (done, end);
+        }
+        end = start + occ;
+    }
+    (room, end)
+}
+
+/// The moment, in ns, at which `room` frames are done that wait from a moment on, of which `done` are by the moment `end`:
+/// where the next one starts whole cycles after the first, what follows is the same again, and isn't looked for.
+fn end_behind<A: Allocator + Copy>(
+    list: &CyclicList<u8, A>,
+    class: u8,
+    occ: u64,
+    room: u16,
+    from: u64,
+    done: u16,
+    end: u64,
+) -> u64
+    requires class { class < 8 }
+    requires occ { occ ≤ LONGEST_CYCLE }
+    requires from { from ≤ 4 * LONGEST_CYCLE }
+    requires lawful { IsLawful list.now }
+    requires ever { list_ever list.now class occ ≡ true }
+    requires some { 1 ≤ done }
+    requires within { done ≤ room }
+    requires ends { EndsBy (list_opens list.now class) occ done from end }
+    ensures { EndsBy (list_opens list.now class) occ room from result }
+{
+    let cycle = list.cycle();
+    let left = room - done;
+    let round = fit_of(list, class, occ, end) - fit_of(list, class, occ, from);
+    if round % cycle != 0 {
+        return end_of(list, class, occ, left, end);
+    }
+    let rounds = left / done;
+    end_of(list, class, occ, left % done, end + rounds as u64 * round)
+}
+
 /// How long, in ns, so many frames take that wait from a moment on, one after the other.
 fn time_from<A: Allocator + Copy>(
     list: &CyclicList<u8, A>,
@@ -37,11 +124,11 @@ fn time_from<A: Allocator + Copy>(
     ensures ends { EndsBy (list_opens list.now class) occ room from (from + result) }
     ensures bounded { result ≤ room * (2 * LONGEST_CYCLE) }
 {
-    let mut end = from;
-    for _done in 0..room {
-        end = fit_of(list, class, occ, end) + occ;
+    if room == 0 {
+        return 0;
     }
-    end - from
+    let (done, end) = round_from(list, class, occ, room, from);
+    end_behind(list, class, occ, room, from, done, end) - from
 }
 
 /// Whether a frame fits at a moment, in ns, and doesn't fit at the next one.
@@ -106,7 +193,7 @@ fn longest_by<A: Allocator + Copy>(lists: &Egress<A>, class: u8, occ: u64, room:
 
 /// The longest time, in ns, that so many frames take which wait from any moment on, one after the other, each on the link
 /// for `occ` ns, by the gate control lists of a port: it is attained where no lists are exchanged.
-pub fn longest_of<A: Allocator + Copy>(
+pub(crate) fn longest_of<A: Allocator + Copy>(
     lists: &Option<Egress<A>>,
     class: u8,
     occ: u64,

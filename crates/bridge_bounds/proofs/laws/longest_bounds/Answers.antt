@@ -6,3 +6,6 @@ returns-clause-once c = steps.ends_once
 
 pub returns-clause-bounds : goal.returns-clause-bounds
 returns-clause-bounds c = steps.longest_bounds
+
+pub returns-clause-least : goal.returns-clause-least
+returns-clause-least c = steps.attained_least

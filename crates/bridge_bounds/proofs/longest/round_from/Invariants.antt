@@ -2,12 +2,13 @@ use Rattle.std.proofs.Common.{◌+◌, ◌*◌, ◌≤◌}
 use Rattle.bridge_cycle.specs.declared.cyclic.TheConstants.{LONGEST_CYCLE}
 use Rattle.bridge_port.specs.Opening.{list_opens}
 use Rattle.bridge_bounds.specs.Bounds.{EndsBy}
-use Rattle.bridge_bounds.proofs.longest.time_from.Given as goal
+use Rattle.bridge_bounds.proofs.longest.round_from.Given as goal
 
 abbrev pub invariant-loop-done : goal.invariant-loop-done
 invariant-loop-done g l = record {
-  ends : EndsBy (list_opens l.list l.class) l.occ l._done l.from l.end;
-  begun : l.from ≤ l.end;
-  few : l._done ≤ l.room;
-  soon : l.end ≤ l.from + l._done * (2 * LONGEST_CYCLE);
+  ends : EndsBy (list_opens l.list l.class) l.occ l.done l.from l.end;
+  begun : l.first ≤ l.end;
+  some : 1 ≤ l.done;
+  few : l.done ≤ l.room;
+  soon : l.end ≤ l.from + l.done * (2 * LONGEST_CYCLE);
 }
