@@ -1,7 +1,7 @@
 -- Where no stray frame is found, a hop takes only frames of the stream.
-use Rattle.std.proofs.Common.{◌≡◌, ◌<◌, ◌≤◌, ◌+◌, ◌-◌, ℕ, Bool, true, false, not, ◌&&◌, ◌||◌, cond, List, [], ◌∷◌, Option, Some, None, nat_eq, refl, sym, ap, ◌∙◌, subst, arith, inl, inr}
+use Rattle.std.proofs.Common.{◌≡◌, ◌<◌, ◌+◌, ◌-◌, ℕ, Bool, true, false, not, List, [], ◌∷◌, Option, Some, None, nat_eq, refl, sym, ap, subst, arith, inl, inr}
 use Rattle.std.specs.List.{list_all, list_any}
-use Rattle.std.proofs.lemmas.Bool.{and_parts, or_cases, eqb-true, eq-eqb, false≢true}
+use Rattle.std.proofs.lemmas.Bool.{and_parts, eq-eqb, false≢true}
 use Rattle.std.proofs.Math.Bool.{or-true}
 use Rattle.bridge_base.specs.Members.{In}
 use Rattle.bridge_cycle.proofs.Cases.{by_bool}
@@ -12,9 +12,7 @@ use Rattle.bridge_config.specs.declared.ports.PortPlan.{PortPlan}
 use Rattle.bridge_config.specs.Model.{Plan}
 use Rattle.bridge_config.specs.Rules.{ArePorts, IsPlan, IsPort, are_own, port_at}
 use Rattle.bridge_config.proofs.PlanPorts.{each_in}
-use Rattle.bridge_check.specs.Faults.{first_of, first_below}
 use Rattle.bridge_check.specs.Sending.{vid_of, priority_of}
-use Rattle.bridge_network.specs.declared.sending.Found.{Found}
 use Rattle.bridge_network.specs.declared.sending.Question.TheVariants.{Strays}
 use Rattle.bridge_network.specs.Feeding.{Sort, handles_of, flow_for, is_fed, may_go, sends_from, sends_only, tags_of, gives_to, sort_by, takes_by, takes_only}
 use Rattle.bridge_network.specs.Finding.{first_in, found_if, found_for, sent_from, sent_if, sent, taken_by, taken_of, taken}
