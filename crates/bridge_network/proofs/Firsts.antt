@@ -90,3 +90,12 @@ none_at (suc n) tell h k lt =
       | inl a ↦ none_at n tell before k a
       | inr a ↦ let same : n ≡ k = omega (arith, lt, a) in subst (λ (m : ℕ). tell m ≡ None) same last
     ]
+
+pub none_each : {X Y : Type 0} (tell : X → Option Y) (xs : List X) → ((x : X) → In x xs → tell x ≡ None) → first_in tell xs ≡ None
+none_each tell [] h = refl
+none_each tell (x ∷ xs) h = rw (h x (inl refl)) (none_each tell xs (λ y i. h y (inr i)))
+
+pub none_below : {Y : Type 0} (n : ℕ) (tell : ℕ → Option Y) → ((k : ℕ) → tell k ≡ None) → first_below n tell ≡ None
+unfolding first_below
+none_below zero tell h = refl
+none_below (suc n) tell h = rw (none_below n tell h) (h n)
