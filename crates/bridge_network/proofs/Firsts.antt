@@ -1,5 +1,5 @@
 -- The first of what is told of the items of a list.
-use Rattle.std.proofs.Common.{◌≡◌, ◌<◌, ◌≤◌, ◌+◌, ◌-◌, ℕ, zero, suc, Bool, true, false, ◌&&◌, List, [], ◌∷◌, ◌++◌, map, Option, Some, None, refl, sym, ap, ◌∙◌, subst, arith, inl, inr, length, get_or}
+use Rattle.std.proofs.Common.{◌≡◌, ◌<◌, ℕ, zero, suc, List, [], ◌∷◌, ◌++◌, Option, Some, None, refl, sym, ap, ◌∙◌, subst, arith, inl, inr, length, get_or}
 use Rattle.std.specs.Prelude.{slice_get}
 use Rattle.std.proofs.lemmas.Bool.{cases_lt}
 use Rattle.std.proofs.lemmas.Option.{slice_get-get_or}
@@ -90,3 +90,12 @@ none_at (suc n) tell h k lt =
       | inl a ↦ none_at n tell before k a
       | inr a ↦ let same : n ≡ k = omega (arith, lt, a) in subst (λ (m : ℕ). tell m ≡ None) same last
     ]
+
+pub none_each : {X Y : Type 0} (tell : X → Option Y) (xs : List X) → ((x : X) → In x xs → tell x ≡ None) → first_in tell xs ≡ None
+none_each tell [] h = refl
+none_each tell (x ∷ xs) h = rw (h x (inl refl)) (none_each tell xs (λ y i. h y (inr i)))
+
+pub none_below : {Y : Type 0} (n : ℕ) (tell : ℕ → Option Y) → ((k : ℕ) → tell k ≡ None) → first_below n tell ≡ None
+unfolding first_below
+none_below zero tell h = refl
+none_below (suc n) tell h = rw (none_below n tell h) (h n)

@@ -1,5 +1,5 @@
 -- Entries that give nothing to a hop.
-use Rattle.std.proofs.Common.{◌≡◌, ℕ, true, false, ◌&&◌, List, Option, Some, None, nat_eq, refl}
+use Rattle.std.proofs.Common.{◌≡◌, false, ◌&&◌, List, Option, Some, None, nat_eq, refl}
 use Rattle.std.proofs.lemmas.Bool.{and_parts}
 use Rattle.bridge_cycle.proofs.Cases.{by_bool}
 use Rattle.bridge_frame.specs.declared.Tag.{Tag}

@@ -1,5 +1,5 @@
 -- A network without a fault is a network of accepted plans, and each of its streams is closed.
-use Rattle.std.proofs.Common.{◌≡◌, ◌<◌, ◌+◌, ℕ, zero, suc, Bool, true, false, not, ◌&&◌, cond, List, [], ◌∷◌, map, Option, Some, None, nat_eq, refl, sym, ap, ◌∙◌, subst, arith, inl, inr, length, All, get_or}
+use Rattle.std.proofs.Common.{◌≡◌, ◌<◌, ◌+◌, ℕ, zero, suc, Bool, true, false, ◌&&◌, List, [], ◌∷◌, map, Option, Some, None, nat_eq, refl, sym, ap, ◌∙◌, subst, arith, inl, inr, length, All}
 use Rattle.std.specs.Prelude.{slice_get, option_map, is_some, Vec}
 use Rattle.std.specs.List.{list_all}
 use Rattle.std.proofs.lemmas.Bool.{and_parts, eqb-true, false≢true}
@@ -9,10 +9,8 @@ use Rattle.bridge_cycle.proofs.Cases.{by_bool}
 use Rattle.bridge_config.specs.declared.ports.PortPlan.{PortPlan}
 use Rattle.bridge_config.specs.Model.{Plan}
 use Rattle.bridge_config.specs.Rules.{IsPlan, port_at}
-use Rattle.bridge_check.specs.Faults.{first_of, first_below}
 use Rattle.bridge_network.specs.declared.fault.NetworkFault.{NetworkFault}
 use Rattle.bridge_network.specs.declared.fault.NetworkFault.TheVariants as fault
-use Rattle.bridge_network.specs.declared.links.End as declared
 use Rattle.bridge_network.specs.declared.links.Link.{Link}
 use Rattle.bridge_network.specs.declared.links.StreamHop.{StreamHop}
 use Rattle.bridge_network.specs.declared.sending.Found.{Found}
@@ -20,10 +18,9 @@ use Rattle.bridge_network.specs.declared.sending.Question.TheVariants.{Strays}
 use Rattle.bridge_network.specs.declared.tests.LinkTest.TheVariants as link_test
 use Rattle.bridge_network.specs.declared.tests.HopTest.{HopTest}
 use Rattle.bridge_network.specs.declared.tests.HopTest.TheVariants as hop_test
-use Rattle.bridge_network.specs.Networks.{Network, End, Sender, is_at, sender, IsNetwork, IsClosed}
-use Rattle.bridge_network.specs.Feeding.{takes_only}
-use Rattle.bridge_network.specs.Accepting.{is_listed, is_protected, takes_from, takes_at, hop_passes, stream_passes}
-use Rattle.bridge_network.specs.Wiring.{Parts, end_of, link_of, hop_of, stream_of, network_of, peer}
+use Rattle.bridge_network.specs.Networks.{End, Sender, is_at, sender, IsNetwork, IsClosed}
+use Rattle.bridge_network.specs.Accepting.{is_listed, takes_from, takes_at, hop_passes}
+use Rattle.bridge_network.specs.Wiring.{Parts, end_of, link_of, hop_of, stream_of, network_of}
 use Rattle.bridge_network.specs.Finding.{taken, taken_from, taken_over, taken_link}
 use Rattle.bridge_network.specs.Checked.{IsAccepted, IsChecked}
 use Rattle.bridge_network.specs.Refusing as spec

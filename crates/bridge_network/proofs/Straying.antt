@@ -1,9 +1,10 @@
 -- Where no stray frame is found, a hop takes only frames of the stream.
-use Rattle.std.proofs.Common.{◌≡◌, ◌<◌, ◌≤◌, ◌+◌, ◌-◌, ℕ, Bool, true, false, not, ◌&&◌, ◌||◌, cond, List, [], ◌∷◌, Option, Some, None, nat_eq, refl, sym, ap, ◌∙◌, subst, arith, inl, inr}
+use Rattle.std.proofs.Common.{◌≡◌, ◌↔◌, ◌<◌, ◌+◌, ◌-◌, ℕ, Bool, true, false, not, List, [], ◌∷◌, Option, Some, None, nat_eq, refl, sym, ap, subst, arith, inl, inr}
 use Rattle.std.specs.List.{list_all, list_any}
-use Rattle.std.proofs.lemmas.Bool.{and_parts, or_cases, eqb-true, eq-eqb, false≢true}
+use Rattle.std.proofs.lemmas.Bool.{and_parts, eq-eqb, false≢true}
 use Rattle.std.proofs.Math.Bool.{or-true}
 use Rattle.bridge_base.specs.Members.{In}
+use Rattle.bridge_check.proofs.Isolated.{each_passes}
 use Rattle.bridge_cycle.proofs.Cases.{by_bool}
 use Rattle.bridge_frame.specs.declared.Tag.{Tag}
 use Rattle.bridge_ident.specs.declared.StreamEntry.{StreamEntry}
@@ -11,14 +12,12 @@ use Rattle.bridge_filter.specs.declared.FilterPlan.{FilterPlan}
 use Rattle.bridge_config.specs.declared.ports.PortPlan.{PortPlan}
 use Rattle.bridge_config.specs.Model.{Plan}
 use Rattle.bridge_config.specs.Rules.{ArePorts, IsPlan, IsPort, are_own, port_at}
-use Rattle.bridge_config.proofs.PlanPorts.{each_in}
-use Rattle.bridge_check.specs.Faults.{first_of, first_below}
+use Rattle.bridge_config.proofs.PlanPorts.{at_port, each_in}
 use Rattle.bridge_check.specs.Sending.{vid_of, priority_of}
-use Rattle.bridge_network.specs.declared.sending.Found.{Found}
 use Rattle.bridge_network.specs.declared.sending.Question.TheVariants.{Strays}
 use Rattle.bridge_network.specs.Feeding.{Sort, handles_of, flow_for, is_fed, may_go, sends_from, sends_only, tags_of, gives_to, sort_by, takes_by, takes_only}
 use Rattle.bridge_network.specs.Finding.{first_in, found_if, found_for, sent_from, sent_if, sent, taken_by, taken_of, taken}
-use Rattle.bridge_network.proofs.Firsts.{none_of, none_at}
+use Rattle.bridge_network.proofs.Firsts.{none_below, none_each, none_of, none_at}
 
 pub all_pass : {X : Type 0} (t : X → Bool) (xs : List X) → ((x : X) → In x xs → t x ≡ true) → list_all t xs ≡ true
 all_pass t [] h = refl
@@ -91,3 +90,40 @@ none_strays p is_of_stream q next on n plan h =
     let named : taken_of Strays p is_of_stream q next on n e ≡ None = none_of (taken_of Strays p is_of_stream q next on n) next.streams e h i in
     all_pass (takes_by p is_of_stream q next on n e) (tags_of e.vid) (λ tag j.
     none_by p is_of_stream q next on n e tag plan (none_of (taken_by Strays p is_of_stream q next on n e) (tags_of e.vid) tag named j)))
+
+-- AND THE OTHER WAY
+
+no_stray_found : (b : Bool) (m : Option (ℕ × FilterPlan)) (from : ℕ) → b ≡ true → found_if (not b) m from ≡ None
+no_stray_found true m from h = refl
+no_stray_found false m from h = absurd (false≢true h)
+
+sends_none : {A : Type 0} (p : Plan A) (is_of_stream : ℕ → Bool) (q : ℕ) (s : Sort) (on : PortPlan A) → sends_from p is_of_stream q s on ≡ true → sent_from Strays p is_of_stream q s on ≡ None
+sends_none p is_of_stream q s on h = by_bool (may_go p.database on.number (vid_of on s.tag) s q)
+    (λ k.
+    let all : list_all (λ (z : Option ℕ). is_fed p is_of_stream q (flow_for p z (priority_of on s.tag))) (handles_of p.streams on.number (vid_of on s.tag) s) ≡ true = rw k at h in
+    rw k (none_each (found_for Strays p is_of_stream q on.number (priority_of on s.tag)) (handles_of p.streams on.number (vid_of on s.tag) s)
+    (λ z i. no_stray_found (is_fed p is_of_stream q (flow_for p z (priority_of on s.tag))) (flow_for p z (priority_of on s.tag)) on.number
+    (each_passes (λ (z : Option ℕ). is_fed p is_of_stream q (flow_for p z (priority_of on s.tag))) (handles_of p.streams on.number (vid_of on s.tag) s) z all i))))
+    (λ k. rw k refl)
+
+none_if : {A : Type 0} (p : Plan A) (is_of_stream : ℕ → Bool) (q : ℕ) (s : Sort) (k : ℕ) (o : Option (PortPlan A)) → sends_only p is_of_stream q s ≡ true → port_at p.ports k ≡ o → sent_if Strays p is_of_stream q s o ≡ None
+none_if p is_of_stream q s k None h e = refl
+none_if p is_of_stream q s k (Some on) h e = sends_none p is_of_stream q s on (each_passes (sends_from p is_of_stream q s) p.ports on h (at_port p.ports k on e).listed)
+
+by_none : {A : Type 0} (p : Plan A) (is_of_stream : ℕ → Bool) (q : ℕ) (next : Plan A) (on : PortPlan A) (n : ℕ) (e : StreamEntry) (tag : Option Tag) → takes_by p is_of_stream q next on n e tag ≡ true → taken_by Strays p is_of_stream q next on n e tag ≡ None
+by_none p is_of_stream q next on n e tag h = by_bool (gives_to next on n e tag)
+    (λ k.
+    let only : sends_only p is_of_stream q (sort_by e tag) ≡ true = rw k at h in
+    rw k (none_below 16 (λ i. sent_if Strays p is_of_stream q (sort_by e tag) (port_at p.ports (i + 1))) (λ i. none_if p is_of_stream q (sort_by e tag) (i + 1) (port_at p.ports (i + 1)) only refl)))
+    (λ k. rw k refl)
+
+-- where only frames of the stream are taken, no stray frame is found
+pub strays_none : {A : Type 0} (p : Plan A) (is_of_stream : ℕ → Bool) (q : ℕ) (next : Plan A) (on : PortPlan A) (n : ℕ) → takes_only p is_of_stream q next on n ≡ true → taken Strays p is_of_stream q next on n ≡ None
+strays_none p is_of_stream q next on n h =
+    none_each (taken_of Strays p is_of_stream q next on n) next.streams (λ e i.
+    let one : list_all (takes_by p is_of_stream q next on n e) (tags_of e.vid) ≡ true = each_passes (λ (e : StreamEntry). list_all (takes_by p is_of_stream q next on n e) (tags_of e.vid)) next.streams e h i in
+    none_each (taken_by Strays p is_of_stream q next on n e) (tags_of e.vid) (λ tag j.
+    by_none p is_of_stream q next on n e tag (each_passes (takes_by p is_of_stream q next on n e) (tags_of e.vid) tag one j)))
+
+pub found_exactly : {A : Type 0} (p next : Plan A) (is_of_stream : ℕ → Bool) (q n : ℕ) (on : PortPlan A) → IsPlan p → (taken Strays p is_of_stream q next on n ≡ None) ↔ (takes_only p is_of_stream q next on n ≡ true)
+found_exactly p next is_of_stream q n on plan = (none_strays p is_of_stream q next on n plan, strays_none p is_of_stream q next on n)

@@ -1,5 +1,5 @@
 -- What holds of a network that is accepted.
-use Rattle.std.specs.Prelude.{List, Vec}
+use Rattle.std.specs.Prelude.{Vec}
 use Rattle.bridge_base.specs.Members.{In}
 use Rattle.bridge_config.specs.Model.{Plan}
 use Rattle.bridge_config.specs.Rules.{IsPlan}

@@ -15,6 +15,13 @@ use Rattle.bridge_config.specs.Model.{Plan}
 use Rattle.bridge_run.specs.Merge.{Input, frame}
 use Rattle.bridge_network.specs.Networks.{Link, sender, comes}
 use Rattle.bridge_network.specs.Feeding.{takes_only}
+use Rattle.bridge_check.specs.Faults.{first_below}
+use Rattle.bridge_network.specs.declared.links.Link as wiring
+use Rattle.bridge_network.specs.declared.links.StreamHop.{StreamHop}
+use Rattle.bridge_network.specs.declared.fault.NetworkFault.TheVariants as fault
+use Rattle.bridge_network.specs.declared.tests.HopTest.TheVariants as hop_test
+use Rattle.bridge_network.specs.Wiring.{Parts}
+use Rattle.bridge_network.specs.Refusing.{told_stream}
 
 -- THE WAY OF A FRAME
 
@@ -62,6 +69,18 @@ from_outside = refl
 -- nothing left port 1 of the second bridge
 nothing_back : comes links no_commands captures left 0 3 ≡ []
 nothing_back = refl
+
+-- the same link as it is handed in
+abbrev wires : List wiring.Link
+wires = record { one = record { bridge = 0; port = 3 }; other = record { bridge = 1; port = 1 }; delay = 500 } ∷ []
+
+-- a hop as it is handed in
+abbrev a_hop : ℕ → ℕ → StreamHop
+a_hop b m = record { bridge = b; filter = m }
+
+-- the stream, from the first bridge to the second
+abbrev hops : List StreamHop
+hops = a_hop 0 1 ∷ a_hop 1 1 ∷ []
 
 -- THE TEST
 
@@ -135,3 +154,43 @@ module _ (A : Type 0) where
   -- but an entry that looks at the source may miss them
   named_by_source : is_safe (a_plan (an_entry 1 ∷ by_source 2 ∷ []) true) ≡ false
   named_by_source = refl
+
+  -- THE FAULTS
+
+  -- the network of a first bridge with this plan, and of the second bridge with these entries
+  abbrev of_two : Plan A → List StreamEntry → Parts A
+  of_two p entries = record { plans = p ∷ a_plan entries true ∷ []; links = wires; streams = [] }
+
+  -- the frames of filter 9 that come to the first bridge on port 2 are told, at port 1 of the second hop
+  forged_told : told_stream (of_two (a_plan (an_entry 1 ∷ []) true) (an_entry 1 ∷ [])) hop_test.Closed 0 hops
+      ≡ Some (fault.NotClosed 1 2 1 1 (Some 9) 2)
+  unfolding first_below
+  forged_told = refl
+
+  -- nothing is told where the gate of all other frames is closed
+  closed_untold : told_stream (of_two (a_plan (an_entry 1 ∷ []) false) (an_entry 1 ∷ [])) hop_test.Closed 0 hops ≡ None
+  unfolding first_below
+  closed_untold = refl
+
+  -- the first hop is fed from port 1, the second one over the link
+  both_fed : told_stream (of_two (a_plan (an_entry 1 ∷ []) true) (an_entry 1 ∷ [])) hop_test.Fed 0 hops ≡ None
+  unfolding first_below
+  both_fed = refl
+
+  -- the second one isn't where its entry stands on a port without a link
+  not_fed : told_stream (of_two (a_plan (an_entry 1 ∷ []) true) (an_entry 2 ∷ [])) hop_test.Fed 0 hops
+      ≡ Some (fault.NotFed 1 2)
+  unfolding first_below
+  not_fed = refl
+
+  -- filter 9 isn't protected
+  not_protected : told_stream (of_two (a_plan [] true) []) hop_test.Protected 0 (a_hop 0 1 ∷ a_hop 1 9 ∷ [])
+      ≡ Some (fault.NotProtected 1 2)
+  unfolding first_below
+  not_protected = refl
+
+  -- the first hop stands twice
+  hop_twice : told_stream (of_two (a_plan [] true) []) hop_test.Twice 0 (a_hop 0 1 ∷ a_hop 1 1 ∷ a_hop 0 1 ∷ [])
+      ≡ Some (fault.HopTwice 1 3)
+  unfolding first_below
+  hop_twice = refl

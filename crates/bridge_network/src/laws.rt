@@ -1,5 +1,5 @@
 //! Laws of whole runs of networks, each the contract of a function that does nothing.
-ghost use Rattle.std.specs.Prelude.{◌≡◌, ℕ, Bool, List, Option, Some, nat_eq, true};
+ghost use Rattle.std.specs.Prelude.{◌≡◌, ◌↔◌, ℕ, Bool, List, Option, Some, None, nat_eq, true};
 ghost use Rattle.std.specs.Map.{lookup};
 ghost use Rattle.bridge_capture.specs.Grammar.{Captured};
 ghost use Rattle.bridge_run.specs.declared.outcome.View.{View};
@@ -21,6 +21,8 @@ ghost use Rattle.bridge_filter.specs.Own.{is_number};
 ghost use Rattle.bridge_run.specs.Events.{Event, arrival, flow_of};
 ghost use Rattle.bridge_run.specs.Offers.{Offer, offers};
 ghost use Rattle.bridge_network.specs.Feeding.{takes_only};
+ghost use Rattle.bridge_network.specs.Finding.{taken};
+ghost use Rattle.bridge_network.specs.declared.sending.Question.TheVariants.{Strays};
 
 use std::alloc::Allocator;
 
@@ -102,4 +104,12 @@ pub fn settled_is_run<A: Allocator + Copy>()
     ensures { (n : Network A) (commands : ℕ → List Input) (captures : ℕ → ℕ → List Captured) (o : ℕ → Outcome A)
         → HasSettled n commands captures o
         → IsNetworkRun n commands captures o }
+{}
+
+/// A stray frame is told exactly where the test fails: the first of the frames that a hop takes over a link and that are of
+/// no hop of its stream is none where of all that the port at the other end may send only frames of the stream are taken.
+pub fn stray_where_test_fails<A: Allocator + Copy>()
+    ensures { (p next : Plan A) (is_of_stream : ℕ → Bool) (q n : ℕ) (on : PortPlan A)
+        → IsPlan p
+        → (taken Strays p is_of_stream q next on n ≡ None) ↔ (takes_only p is_of_stream q next on n ≡ true) }
 {}

@@ -1,7 +1,6 @@
-use Rattle.std.proofs.Common.{◌≡◌, ◌∙◌, All, None, Some, refl, subst}
-use Rattle.bridge_network.specs.Checked.{IsAccepted, IsChecked}
+use Rattle.std.proofs.Common.{◌∙◌, All, refl, subst}
+use Rattle.bridge_network.specs.Checked.{IsAccepted}
 use Rattle.bridge_network.specs.Wiring.{parts}
-use Rattle.bridge_network.specs.Refusing.{first_fault}
 use Rattle.bridge_network.proofs.Sound.{checked, told_of}
 use Rattle.bridge_network.proofs.checked.check_network.Goals as goal
 
