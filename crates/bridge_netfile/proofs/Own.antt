@@ -1,5 +1,5 @@
 -- One instance more, that none before it equals.
-use Rattle.std.proofs.Common.{◌≡◌, ℕ, Bool, true, false, not, ◌&&◌, List, [], ◌∷◌, ◌++◌, refl, arith, All, Result, Ok, Err}
+use Rattle.std.proofs.Common.{◌≡◌, ℕ, Bool, true, false, not, List, [], ◌∷◌, ◌++◌, refl, arith, All, Result, Ok, Err}
 use Rattle.std.specs.Prelude.{IfOk}
 use Rattle.bridge_netfile.specs.declared.fault.NetFault.{NetFault}
 use Rattle.std.specs.List.{list_any}
