@@ -1,16 +1,16 @@
 -- Names of bridges.
-use Rattle.std.proofs.Common.{◌≡◌, ℕ, zero, suc, List, [], ◌∷◌, Option, Some, None, slice_get, refl, ap, sym}
+use Rattle.std.proofs.Common.{◌≡◌, ◌<◌, ◌≤◌, ℕ, zero, suc, List, [], ◌∷◌, length, get_or, refl, arith}
 use Rattle.bridge_netfile.specs.Model.{Bridge}
 use Rattle.bridge_planning.specs.Networks.{name_at}
 
 -- the name of the bridge at a place that is there
-pub name_there : (bridges : List Bridge) (b : ℕ) (x : Bridge) → slice_get bridges b ≡ Some x → x.name ≡ name_at bridges b
-name_there [] b x is = absurd (cc)
-name_there (y ∷ ys) zero x is = let same : y ≡ x = cc in sym (ap (λ (z : Bridge). z.name) same)
-name_there (y ∷ ys) (suc b) x is = name_there ys b x is
+pub name_there : (bridges : List Bridge) (b : ℕ) (d : Bridge) → b < length bridges → (get_or bridges b d).name ≡ name_at bridges b
+name_there [] b d less = absurd (omega (arith, less))
+name_there (x ∷ xs) zero d less = refl
+name_there (x ∷ xs) (suc b) d less = name_there xs b d (omega (arith, less))
 
 -- none where it isn't
-pub name_absent : (bridges : List Bridge) (b : ℕ) → slice_get bridges b ≡ None → [] ≡ name_at bridges b
-name_absent [] b is = refl
-name_absent (y ∷ ys) zero is = absurd (cc)
-name_absent (y ∷ ys) (suc b) is = name_absent ys b is
+pub name_absent : (bridges : List Bridge) (b : ℕ) → length bridges ≤ b → [] ≡ name_at bridges b
+name_absent [] b most = refl
+name_absent (x ∷ xs) zero most = absurd (omega (arith, most))
+name_absent (x ∷ xs) (suc b) most = name_absent xs b (omega (arith, most))

@@ -1,5 +1,6 @@
 -- Networks of files: what is made of their text, and what is printed.
 use Rattle.std.specs.Prelude.{◌≡◌, ℕ, zero, suc, List, [], ◌∷◌, ◌++◌, map, length, sum_by, Option, Some, None, Vec, codes, decimal, string_bytes}
+use Rattle.bridge_config.specs.Model.{Plan}
 use Rattle.bridge_lanes.specs.declared.fault.RunFault.TheVariants as run
 use Rattle.bridge_program.specs.declared.fault.Fault.{Fault}
 use Rattle.bridge_program.specs.declared.fault.Fault.TheVariants as fault
@@ -23,9 +24,10 @@ link_in r = record { one = record { bridge = r.one.0; port = r.one.1 }; other = 
 abbrev pub hop_in : ℕ × ℕ → StreamHop
 hop_in h = record { bridge = h.0; filter = h.1 }
 
--- a network has a plan for each bridge of a text, and its links and streams
-pub record IsMadeOf {A : Type 0} (f : file.Network) (n : Parts A) : Type 0 where
-  pub plans : length n.plans ≡ length f.bridges
+-- a network has these plans, one for each bridge of a text, and its links and streams
+pub record IsMadeOf {A : Type 0} (f : file.Network) (plans : List (Plan A)) (n : Parts A) : Type 0 where
+  pub plans_are : n.plans ≡ plans
+  pub each : length plans ≡ length f.bridges
   pub links : n.links ≡ map link_in f.links
   pub streams : map (λ (v : Vec StreamHop A). v.items) n.streams ≡ map (λ (s : Stream). map hop_in s.hops) f.streams
 
@@ -54,6 +56,10 @@ abbrev pub filter_text : Option ℕ → List ℕ
 filter_text None = codes "none"
 filter_text (Some n) = decimal n
 
+-- what comes to a port: the frames of a filter, or of none, that came in on a port of the sender
+abbrev pub sends_text : List ℕ → Option ℕ → ℕ → List ℕ
+sends_text end filter from = end ++ (codes " sends " ++ (filter_text filter ++ (codes " from " ++ decimal from)))
+
 -- what is refused about a link
 abbrev pub of_link : List ℕ → ℕ → List ℕ
 of_link name link = codes "network refused: " ++ (name ++ (codes " link " ++ decimal link))
@@ -70,19 +76,19 @@ line_of bridges (network.SpeedsDiffer link) = of_link (codes "SpeedsDiffer") lin
 line_of bridges (network.NotProtected stream hop) = of_hop (codes "NotProtected") stream hop
 line_of bridges (network.HopTwice stream hop) = of_hop (codes "HopTwice") stream hop
 line_of bridges (network.NotClosed stream hop bridge port filter from) =
-    of_hop (codes "NotClosed") stream hop
-    ++ (codes " " ++ (port_text bridges bridge port ++ (codes " sends " ++ (filter_text filter ++ (codes " from " ++ decimal from)))))
+    of_hop (codes "NotClosed") stream hop ++ (codes " " ++ sends_text (port_text bridges bridge port) filter from)
 line_of bridges (network.NotFed stream hop) = of_hop (codes "NotFed") stream hop
 
--- why a network that was read is refused: its first fault, by its line, or want of memory
-abbrev pub RefusesNetwork : {A : Type 0} → file.Network → Parts A → Fault → Type 0
-RefusesNetwork f n (fault.Network line) = (e : NetworkFault) × (first_fault n ≡ Some e) × (string_bytes line ≡ line_of f.bridges e)
-RefusesNetwork f n (fault.Run e) = e ≡ run.NoMemory
-RefusesNetwork f n e = ⊥
+-- why a network of these plans is refused: its first fault, by its line, or want of memory
+abbrev pub RefusesNetwork : {A : Type 0} → file.Network → List (Plan A) → Fault → Type 0
+RefusesNetwork {A} f plans (fault.Network line) =
+    (n : Parts A) × IsMadeOf f plans n × (e : NetworkFault) × (first_fault n ≡ Some e) × (string_bytes line ≡ line_of f.bridges e)
+RefusesNetwork f plans (fault.Run e) = e ≡ run.NoMemory
+RefusesNetwork f plans e = ⊥
 
 -- the line of a network whose streams are closed
 abbrev pub PrintsNetwork : (A : Type 0) → List ℕ → Type 0
-PrintsNetwork A line = (f : file.Network) × (n : Parts A) × IsMadeOf f n × (first_fault n ≡ None) × (line ≡ accepted_line f)
+PrintsNetwork A line = (f : file.Network) × (plans : List (Plan A)) × (n : Parts A) × IsMadeOf f plans n × (first_fault n ≡ None) × (line ≡ accepted_line f)
 
 -- a fault of the job over a network: of a file, of the network or of memory
 abbrev pub EndsNetwork : Fault → Type 0

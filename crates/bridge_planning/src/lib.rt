@@ -8,6 +8,6 @@ mod printing;
 mod refusing;
 
 pub use bounds::{QueueBound, bounds_of};
-pub use network::tested;
+pub use network::{network_job, tested};
 pub use printing::{bounds_job, bounds_text};
 pub use refusing::said_of_network;

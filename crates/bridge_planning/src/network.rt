@@ -1,10 +1,11 @@
 //! Networks of files, from their text to their line.
-ghost use Rattle.std.specs.Prelude.{◌≡◌, ◌*◌, ◌≤◌, None, Vec, length, map, IfOk, IfErr, string_bytes};
+ghost use Rattle.std.specs.Prelude.{◌≡◌, ◌≤◌, All, None, Vec, length, map, IfOk, IfErr, string_bytes};
 ghost use Rattle.bridge_netfile.specs.Model.{Stream};
 ghost use Rattle.bridge_netfile.specs.Rules.{IsNetwork};
 ghost use Rattle.bridge_network.specs.declared.links.StreamHop.{StreamHop as Hop};
 ghost use Rattle.bridge_network.specs.Refusing.{first_fault};
-ghost use Rattle.bridge_network.specs.Wiring.{Parts};
+ghost use Rattle.bridge_lanes.specs.declared.fault.RunFault.{RunFault};
+ghost use Rattle.bridge_program.specs.declared.fault.Fault.{Fault};
 ghost use Rattle.bridge_planning.specs.Networks.{EndsNetwork, IsMadeOf, PrintsNetwork, RefusesNetwork, accepted_line, hop_in, hops_in, link_in};
 
 use crate::refusing::said_of_network;
@@ -15,10 +16,13 @@ use bridge_netfile::{
     BridgeRow, LinkRow, NetFault, NetworkFile, StreamRow, fault_line, network_of,
 };
 use bridge_network::{End, Link, Network, StreamHop, check_network};
-use bridge_program::{Fault, fault_of_file, planned, read_at_most};
+use bridge_program::{Fault, fault_line as plan_line, fault_of_file, planned, read_at_most};
 use std::alloc::{AllocError, Allocator, Global};
 use std::fs;
 use std::rt::Files;
+
+/// The status of a plan that is refused, and not for want of memory.
+const REFUSED: u8 = 1;
 
 /// The most octets of a network's text that are read: one more than it may have.
 const MOST_TEXT: u64 = 1_048_577;
@@ -78,7 +82,7 @@ fn streams_of<A: Allocator + Copy>(
 
 /// The fault of a growth that was refused.
 fn memory_fault() -> Fault
-    ensures { EndsNetwork result }
+    ensures { result ≡ Fault.Run RunFault.NoMemory }
 {
     Fault::Run(RunFault::NoMemory)
 }
@@ -93,8 +97,8 @@ pub fn tested<A: Allocator + Copy>(
     plans: Vec<Accepted<A>, A>,
 ) -> Result<Network<A>, Fault>
     requires plans { length plans.items ≡ length file.now.bridges }
-    ensures accepted { IfOk result (λ n. IsMadeOf file.now n × (first_fault n ≡ None)) }
-    ensures refused { IfErr result (λ fault. (n : Parts A) × RefusesNetwork file.now n fault) }
+    ensures accepted { IfOk result (λ n. IsMadeOf file.now plans.items n × (first_fault n ≡ None)) }
+    ensures refused { IfErr result (RefusesNetwork file.now plans.items) }
 {
     let Ok(links) = links_of(alloc, file.links()) else {
         drop(plans);
@@ -115,5 +119,163 @@ pub fn tested<A: Allocator + Copy>(
                 Err(_) => Err(memory_fault()),
             }
         }
+    }
+}
+
+/// How many hops all streams have.
+fn hops_in<A: Allocator + Copy>(streams: &[StreamRow<A>]) -> u64
+    requires few { length streams.now ≤ 1024 }
+    requires each { All (λ s. length s.hops ≤ 64) streams.now }
+    ensures { result ≡ hops_in streams.now }
+{
+    let mut count = 0u64;
+    for stream in streams {
+        count += stream.hops().len() as u64;
+    }
+    count
+}
+
+/// The line of a network that is accepted, with its line feed: how many bridges, links, streams and hops it has.
+#[tactic(auto, unfolding(crate::specs::Networks::accepted_line))]
+fn accepted_line<A: Allocator + Copy>(
+    heap: Global,
+    file: &NetworkFile<A>,
+) -> Result<String, NoMemory>
+    ensures { IfOk result (λ line. string_bytes line ≡ accepted_line file.now) }
+{
+    let bridges = file.bridges().len();
+    let links = file.links().len();
+    let streams = file.streams().len();
+    let hops = hops_in(file.streams());
+    Ok(format!(in heap;
+        "accepted: {bridges} bridges {links} links {streams} streams {hops} hops\n"
+    )?)
+}
+
+/// The text of a network by the path of its file, read.
+fn read_network<H: AllocGlobal + Files>(rt: &H, path: String) -> Result<NetworkFile<Global>, Fault>
+    ensures { IfErr result EndsNetwork }
+{
+    let alloc = rt.alloc();
+    let Ok(reader) = fs::open(rt, path.as_str()) else {
+        return Err(Fault::File(path));
+    };
+    let text = match read_at_most(alloc, reader, MOST_TEXT) {
+        Ok(text) => text,
+        Err(fault) => return Err(fault_of_file(path, fault)),
+    };
+    match network_of(alloc, alloc, &text) {
+        Ok(file) => Ok(file),
+        Err(fault) => Err(refused_text(alloc, &fault)),
+    }
+}
+
+/// The fault of a network whose text is refused.
+fn refused_text(alloc: Global, fault: &NetFault) -> Fault
+    ensures { EndsNetwork result }
+{
+    if let NetFault::NoMemory = fault {
+        return memory_fault();
+    }
+    match fault_line(alloc, fault) {
+        Ok(line) => Fault::Network(line),
+        Err(_) => memory_fault(),
+    }
+}
+
+/// The path of a file that lies in the folder of another one.
+fn beside(alloc: Global, path: &str, file: &str) -> Result<String, AllocError> {
+    match path.rsplit_once('/') {
+        Some((folder, _)) => format!(in alloc; "{folder}/{file}"),
+        None => String::from_str(alloc, file),
+    }
+}
+
+/// The fault of a network for a plan of it that is refused: its line has the name of the bridge, and the plan's own line
+/// behind it. Want of memory for the plan is want of memory.
+fn said_of_plan(alloc: Global, name: &str, fault: &Fault) -> Fault
+    ensures { EndsNetwork result }
+{
+    let Ok((line, status)) = plan_line(alloc, fault) else {
+        return memory_fault();
+    };
+    if status != REFUSED {
+        return memory_fault();
+    }
+    match format!(in alloc; "network refused: Plan {name}\n{line}") {
+        Ok(line) => Fault::Network(line),
+        Err(_) => memory_fault(),
+    }
+}
+
+/// The plan of a bridge, in the folder of the network's file, where it is accepted.
+fn read_plan<H: AllocGlobal + Files>(
+    rt: &H,
+    path: &str,
+    bridge: &BridgeRow<Global>,
+) -> Result<Accepted<Global>, Fault>
+    ensures { IfErr result EndsNetwork }
+{
+    let alloc = rt.alloc();
+    let Ok(place) = beside(alloc, path, bridge.plan()) else {
+        return Err(memory_fault());
+    };
+    let Ok(reader) = fs::open(rt, place.as_str()) else {
+        return Err(Fault::File(place));
+    };
+    match planned(alloc, alloc, place, reader) {
+        Ok(accepted) => Ok(accepted),
+        Err(Fault::File(place)) => Err(Fault::File(place)),
+        Err(fault) => {
+            let said = said_of_plan(alloc, bridge.name(), &fault);
+            drop(fault);
+            Err(said)
+        }
+    }
+}
+
+/// The plans of the bridges, in their order.
+fn read_plans<H: AllocGlobal + Files>(
+    rt: &H,
+    path: &str,
+    bridges: &[BridgeRow<Global>],
+) -> Result<Vec<Accepted<Global>>, Fault>
+    ensures each { IfOk result (λ plans. length plans.items ≡ length bridges.now) }
+    ensures ends { IfErr result EndsNetwork }
+{
+    let mut plans = Vec::new(rt.alloc());
+    for bridge in bridges {
+        let accepted = read_plan(rt, path, bridge)?;
+        if plans.push(accepted).is_err() {
+            return Err(memory_fault());
+        }
+    }
+    Ok(plans)
+}
+
+/// What is printed for the network of a file whose plans lie beside it, where its streams are closed: one line that counts
+/// its bridges, links, streams and hops.
+///
+/// Faults in this order: NET opened and read, its text; then by the order of the bridges the plan opened and read, its
+/// text, its check; then the tests on the network. `File` of a file, `Network` with the line of a refusal, and `Run` with
+/// `NoMemory`.
+pub fn network_job<H: AllocGlobal + Files>(rt: &H, path: String) -> Result<String, Fault>
+    ensures ok { IfOk result (λ line. PrintsNetwork Global (string_bytes line)) }
+    ensures err { IfErr result EndsNetwork }
+{
+    let alloc = rt.alloc();
+    let copy = String::from_str(alloc, path.as_str())?;
+    let file = read_network(rt, copy)?;
+    let plans = read_plans(rt, path.as_str(), file.bridges())?;
+    match tested(alloc, alloc, &file, plans) {
+        Ok(network) => {
+            let said = accepted_line(alloc, &file);
+            drop(network);
+            match said {
+                Ok(line) => Ok(line),
+                Err(_) => Err(memory_fault()),
+            }
+        }
+        Err(fault) => Err(fault),
     }
 }

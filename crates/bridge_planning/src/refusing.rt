@@ -1,6 +1,6 @@
 //! The line of a network that is refused.
 ghost use Rattle.std.specs.Prelude.{◌≡◌, ◌++◌, codes, decimal, IfOk, string_bytes};
-ghost use Rattle.bridge_planning.specs.Networks.{filter_text, line_of, name_at, of_hop, of_link, port_text};
+ghost use Rattle.bridge_planning.specs.Networks.{filter_text, line_of, name_at, of_hop, of_link, port_text, sends_text};
 
 use bridge_base::NoMemory;
 use bridge_netfile::BridgeRow;
@@ -37,8 +37,8 @@ pub fn said_of_network<A: Allocator + Copy, B: Allocator + Copy>(
         } => {
             let front = of_hop(alloc, "NotClosed", *stream, *hop)?;
             let end = port_words(alloc, bridges, *bridge, *port)?;
-            let number = filter_words(alloc, filter)?;
-            Ok(format!(in alloc; "{front} {end} sends {number} from {from}")?)
+            let rest = sends_words(alloc, end.as_str(), filter, *from)?;
+            Ok(format!(in alloc; "{front} {rest}")?)
         }
         NetworkFault::NotFed { stream, hop } => of_hop(alloc, "NotFed", *stream, *hop),
     }
@@ -76,14 +76,28 @@ fn port_words<A: Allocator + Copy, B: Allocator + Copy>(
     Ok(format!(in alloc; "{name}.{port}")?)
 }
 
+/// What comes to a port: the frames of a filter, or of none, that came in on a port of the sender.
+fn sends_words<A: Allocator + Copy>(
+    alloc: A,
+    end: &str,
+    filter: &Option<u32>,
+    from: u8,
+) -> Result<String<A>, NoMemory>
+    ensures { IfOk result (λ words. string_bytes words ≡ sends_text end.now filter.now from) }
+{
+    let number = filter_words(alloc, filter)?;
+    Ok(format!(in alloc; "{end} sends {number} from {from}")?)
+}
+
 /// The name of the bridge at a place.
-#[tactic(auto, using(crate::proofs::Named::name_there, crate::proofs::Named::name_absent))]
 fn name_of<'a, A: Allocator + Copy>(bridges: &'a [BridgeRow<A>], bridge: u16) -> &'a str
     ensures { result.now ≡ name_at bridges.now bridge }
 {
-    match bridges.get(bridge as usize) {
-        Some(row) => row.name(),
-        None => "",
+    let place = bridge as usize;
+    if place < bridges.len() {
+        bridges[place].name()
+    } else {
+        ""
     }
 }
 
