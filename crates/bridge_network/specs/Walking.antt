@@ -9,7 +9,8 @@ use Rattle.bridge_network.specs.declared.sending.Found.{Found}
 use Rattle.bridge_network.specs.declared.sending.Sending.{Sending}
 use Rattle.bridge_network.specs.declared.taking.Taking.{Taking}
 use Rattle.bridge_network.specs.Accepting.{is_listed}
-use Rattle.bridge_network.specs.Feeding.{flow_for}
+use Rattle.bridge_config.specs.Rules.{port_at}
+use Rattle.bridge_network.specs.Feeding.{Sort, flow_for}
 use Rattle.bridge_network.specs.Finding as finding
 use Rattle.bridge_network.specs.Wiring.{stream_of}
 
@@ -21,6 +22,14 @@ lesser_flow (Some f) o = lesser f o
 -- which filters of the sender are hops of the stream
 abbrev pub hops : {A : Type 0} → Sending A → ℕ → Bool
 hops s = is_listed (stream_of s.stream.now) s.end.bridge
+
+-- frames with a handle and a priority that came on a port of a sender, where they are asked for
+abbrev pub found_at : {A : Type 0} → Sending A → ℕ → ℕ → Option ℕ → Option Found
+found_at s from priority handle = finding.found_for s.question s.plan.now (hops s) s.end.port from priority handle
+
+-- the first of the frames of a sort that come on the port of a number
+abbrev pub found_on : {A : Type 0} → Sending A → Sort → ℕ → Option Found
+found_on s sort port = finding.sent_if s.question s.plan.now (hops s) s.end.port sort (port_at s.plan.now.ports port)
 
 -- the number of a sender's port is that of a port
 pub record IsSending {A : Type 0} (s : Sending A) : Type 0 where
@@ -36,3 +45,8 @@ pub record IsTaking {A : Type 0} (t : Taking A) : Type 0 where
 abbrev pub taken_by : {A : Type 0} → Taking A → StreamEntry → Option Tag → Option Found
 taken_by t e tag =
     finding.taken_by t.sending.question t.sending.plan.now (hops t.sending) t.sending.end.port t.next.now t.on.now t.filter e tag
+
+-- the first of all that it takes
+abbrev pub all_taken : {A : Type 0} → Taking A → Option Found
+all_taken t =
+    finding.taken t.sending.question t.sending.plan.now (hops t.sending) t.sending.end.port t.next.now t.on.now t.filter

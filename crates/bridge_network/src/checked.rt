@@ -108,7 +108,8 @@ pub fn check_network<A: Allocator + Copy>(
     ensures accepted { IfOk result (λ n. (n ≡ parts plans links streams) × (first_fault n ≡ None)) }
     ensures network { IfOk result (λ n. IsNetwork (network_of n)) }
     ensures closed { IfOk result AreClosed }
-    ensures refused { IfErr result (λ r. AreHandedBack plans links streams r.plans r.links r.streams × (first_fault (parts plans links streams) ≡ Some r.fault)) }
+    ensures refused { IfErr result (λ r. first_fault (parts plans links streams) ≡ Some r.fault) }
+    ensures handed_back { IfErr result (λ r. AreHandedBack plans links streams r.plans r.links r.streams) }
 {
     match fault_in(plans.as_slice(), links.as_slice(), streams.as_slice()) {
         None => Ok(Network {

@@ -3,13 +3,12 @@ ghost use Rattle.std.specs.Prelude.{◌≡◌, ◌≤◌, Some, false};
 ghost use Rattle.bridge_ident.specs.Identification as ident;
 ghost use Rattle.bridge_filter.specs.Verdicts as verdicts;
 ghost use Rattle.bridge_filter.specs.Verdicts.{call, flow};
-ghost use Rattle.bridge_config.specs.Rules.{port_at};
 ghost use Rattle.bridge_check.specs.Faults.{first_of};
 ghost use Rattle.bridge_check.specs.Sending as classified;
 ghost use Rattle.bridge_network.specs.Feeding as feeding;
 ghost use Rattle.bridge_network.specs.Feeding.{handles_of, sort_by};
-ghost use Rattle.bridge_network.specs.Finding.{first_in, found_for, is_asked, is_own, sent, sent_from, sent_if};
-ghost use Rattle.bridge_network.specs.Walking.{IsSending, hops, lesser_flow};
+ghost use Rattle.bridge_network.specs.Finding.{first_in, is_asked, is_own, sent, sent_from};
+ghost use Rattle.bridge_network.specs.Walking.{IsSending, found_at, found_on, hops, lesser_flow};
 
 use crate::links::{End, StreamHop, is_listed};
 use bridge_check::may_wait;
@@ -140,8 +139,8 @@ fn lesser(a: Option<(u32, FilterPlan)>, b: (u32, FilterPlan)) -> Option<(u32, Fi
     }
 }
 
-#[tactic(auto, using(crate::proofs::Flows::lesser_none, crate::proofs::Flows::lesser_more))]
 /// The filter of frames with a handle and a priority: the one with the least number that takes them.
+#[tactic(auto, using(crate::proofs::Flows::lesser_none, crate::proofs::Flows::lesser_more))]
 pub(crate) fn flow_for(
     filters: &[(u32, FilterPlan)],
     handle: Option<u32>,
@@ -214,7 +213,7 @@ impl<'a, A: Allocator + Copy> Sending<'a, A> {
     /// The frames with a handle and a priority that came on a port, where they are asked for.
     fn found(&self, from: u8, priority: u8, handle: Option<u32>) -> Option<Found>
         requires { IsSending self.now }
-        ensures { result ≡ found_for self.now.question self.now.plan.now (hops self.now) self.now.end.port from priority handle }
+        ensures { result ≡ found_at self.now from priority handle }
     {
         let flow = flow_for(self.plan.filters(), handle, priority);
         if !self.asks(flow) {
@@ -239,7 +238,7 @@ impl<'a, A: Allocator + Copy> Sending<'a, A> {
         priority: u8,
     ) -> Option<Found>
         requires { IsSending self.now }
-        ensures { result ≡ first_in (found_for self.now.question self.now.plan.now (hops self.now) self.now.end.port port priority) (handles_of self.now.plan.now.streams port vid (sort_by named.now tag)) }
+        ensures { result ≡ first_in (found_at self.now port priority) (handles_of self.now.plan.now.streams port vid (sort_by named.now tag)) }
     {
         for entry in self.plan.streams() {
             if may_match(entry, port, vid, named, tag) {
@@ -286,7 +285,7 @@ impl<'a, A: Allocator + Copy> Sending<'a, A> {
     /// The first of the frames of a sort that come on the port of a number, where there is one.
     fn first_on(&self, named: &StreamEntry, tag: Option<Tag>, port: u8) -> Option<Found>
         requires { IsSending self.now }
-        ensures { result ≡ sent_if self.now.question self.now.plan.now (hops self.now) self.now.end.port (sort_by named.now tag) (port_at self.now.plan.now.ports port) }
+        ensures { result ≡ found_on self.now (sort_by named.now tag) port }
     {
         match self.plan.port(port) {
             Some(on) => self.first_from(named, tag, on),
@@ -303,7 +302,7 @@ impl<'a, A: Allocator + Copy> Sending<'a, A> {
         port: u8,
     ) -> Option<Found>
         requires { IsSending self.now }
-        ensures { result ≡ first_of before (sent_if self.now.question self.now.plan.now (hops self.now) self.now.end.port (sort_by named.now tag) (port_at self.now.plan.now.ports port)) }
+        ensures { result ≡ first_of before (found_on self.now (sort_by named.now tag) port) }
     {
         if before.is_some() {
             return before;

@@ -3,8 +3,8 @@ ghost use Rattle.std.specs.Prelude.{◌≡◌, ◌≢◌, ℕ};
 ghost use Rattle.bridge_check.specs.Faults.{first_of};
 ghost use Rattle.bridge_network.specs.Feeding as feeding;
 ghost use Rattle.bridge_network.specs.Feeding.{tags_of, tags_with};
-ghost use Rattle.bridge_network.specs.Finding.{first_in, taken};
-ghost use Rattle.bridge_network.specs.Walking.{IsTaking, hops, taken_by};
+ghost use Rattle.bridge_network.specs.Finding.{first_in};
+ghost use Rattle.bridge_network.specs.Walking.{IsTaking, all_taken, taken_by};
 
 use crate::sending::{Found, Sending, flow_for, priority_of, takes_tag, vid_of};
 use bridge_config::{Plan, PortPlan};
@@ -67,7 +67,7 @@ impl<'a, A: Allocator + Copy> Taking<'a, A> {
     }
 
     /// The first of the frames that an entry names, with a tag of each priority and this VLAN identifier.
-    #[tactic(auto, using(bridge_check::proofs::Told::first_none, bridge_check::proofs::Told::first_more, crate::proofs::Firsts::of_tags))]
+    #[tactic(auto, using(bridge_check::proofs::Told::first_none, bridge_check::proofs::Told::first_more))]
     fn first_tagged(&self, entry: &StreamEntry, vid: u16) -> Option<Found>
         requires { IsTaking self.now }
         ensures { result ≡ first_in (taken_by self.now entry.now) (tags_with vid) }
@@ -119,7 +119,7 @@ impl<'a, A: Allocator + Copy> Taking<'a, A> {
     /// The first of all frames that the filter takes there and that are asked for.
     pub(crate) fn first(&self) -> Option<Found>
         requires { IsTaking self.now }
-        ensures { result ≡ taken self.now.sending.question self.now.sending.plan.now (hops self.now.sending) self.now.sending.end.port self.now.next.now self.now.on.now self.now.filter }
+        ensures { result ≡ all_taken self.now }
     {
         for entry in self.next.streams() {
             let found = self.first_of(entry);

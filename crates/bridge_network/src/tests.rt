@@ -3,10 +3,10 @@ ghost use Rattle.std.specs.Prelude.{◌≡◌, ◌<◌, Some, IfSome, length, op
 ghost use Rattle.bridge_config.specs.Rules.{IsPlan};
 ghost use Rattle.bridge_check.specs.Faults.{first_of};
 ghost use Rattle.bridge_network.specs.Accepting.{is_protected};
-ghost use Rattle.bridge_network.specs.Finding.{taken_over, taken_link};
+ghost use Rattle.bridge_network.specs.Finding.{taken_over};
 ghost use Rattle.bridge_network.specs.Wiring.{end_of, stream_of};
 ghost use Rattle.bridge_network.specs.Refusing as spec;
-ghost use Rattle.bridge_network.specs.Testing.{IsHopCase, parts_of};
+ghost use Rattle.bridge_network.specs.Testing.{IsHopCase, parts_of, taken_end};
 
 use crate::fault::NetworkFault;
 use crate::links::{End, Link, StreamHop, is_listed, peer_of};
@@ -228,7 +228,7 @@ impl<'a, A: Allocator + Copy> HopCase<'a, A> {
     /// The first of those that come over a link from an end.
     fn first_over(&self, question: Question, on: &PortPlan<A>, end: End) -> Option<Found>
         requires { IsHopCase self.now }
-        ensures { result ≡ taken_link question self.now.case.plans.now (stream_of self.now.stream.now) (Some (end_of end)) self.now.next.now on.now self.now.hop.filter }
+        ensures { result ≡ taken_end self.now question on.now (end_of end) }
     {
         match plan_at(self.case.plans, end.bridge) {
             Some(plan) => self.first_from(question, on, end, plan),

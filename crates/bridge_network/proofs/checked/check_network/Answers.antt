@@ -23,4 +23,4 @@ returns-in-None-clause-closed g c = (invariant_of-result g c).closed
 pub returns-in-Some-clause-refused : goal.returns-in-Some-clause-refused
 returns-in-Some-clause-refused g c =
     let told = told_of (parts c.args.plans c.args.links c.args.streams) c.as_slice.result.now c.as_slice-2.result.now c.as_slice-3.result.now c.fault_in.result c.as_slice.ensures.value c.as_slice-2.ensures.value c.as_slice-3.ensures.value c.fault_in.ensures.fault in
-    (record { same_plans = refl; same_links = refl; same_streams = refl }, told ∙ c.in-Some.is)
+    told ∙ c.in-Some.is
