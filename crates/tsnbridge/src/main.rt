@@ -4,6 +4,7 @@ ghost use Rattle.bridge_words.specs.CommandLine.{HasRoom};
 
 use bridge_files::{Said, say, wire_files};
 use bridge_folder::{drawn_job, explain, explain_accepted, picture_job};
+use bridge_planning::{bounds_job, network_job};
 use bridge_program::{Fault, check_job, end, print, text_job, words_of};
 use bridge_words::{Job, Sketch, help_of, job_of, sketch_of, wants_explanation};
 use std::fs;
@@ -77,8 +78,18 @@ fn said_of(
             picture_job(rt, plan, file)?;
             return Ok(None);
         }
+        Job::Bounds { plan } => bounds(rt, plan)?,
+        Job::Network { network } => network_job(rt, network)?,
     };
     Ok(Some(Said::Printed(line)))
+}
+
+/// What is printed of the bounds of the plan of a file.
+fn bounds(rt: &(impl AllocGlobal + Files), plan: String) -> Result<String, Fault> {
+    let Ok(reader) = fs::open(rt, plan.as_str()) else {
+        return Err(Fault::File(plan));
+    };
+    bounds_job(rt.alloc(), rt.alloc(), plan, reader)
 }
 
 /// What is printed for the plan of a file.

@@ -11,4 +11,4 @@ returns-in-Ok-said-clause-refused g c =
       links = search rules;
       streams = search rules;
     } in
-    (parts c.args.plans c.in-Ok.links c.in-Ok-streams_of.streams, made, c.in-Err.refused.fault, c.in-Err.ensures.refused.1, search rules)
+    (parts c.args.plans c.in-Ok.links c.in-Ok-streams_of.streams, made, c.in-Err.refused.fault, c.in-Err.ensures.refused, search rules)

@@ -1,0 +1,71 @@
+#![tactic(auto)]
+//! Networks of files, with what is printed for each or the line and the status of its refusal; then the bounds of plans.
+//!
+//! The words name the files of both, with `bounds` between them.
+
+use bridge_lanes::RunFault;
+use bridge_planning::{bounds_job, network_job};
+use bridge_program::{Fault, end, fault_line, print, words_of};
+use std::fs;
+use std::process::ExitCode;
+use std::rt::{Env, Files};
+
+fn main(rt: HostRuntime) -> ExitCode {
+    match run(&rt) {
+        Ok(()) => ExitCode::from(0),
+        Err(fault) => end(&rt, &fault),
+    }
+}
+
+/// Tells of the networks before the word `bounds`, and of the plans behind it.
+fn run(rt: &(impl AllocGlobal + Print + Env + Files)) -> Result<(), Fault> {
+    let words = words_of(rt)?;
+    let Some(place) = words.iter().position(|word| word.as_str() == "bounds") else {
+        return Err(Fault::Words);
+    };
+    let (networks, plans) = words.split_at(place);
+    for path in networks {
+        tell_network(rt, path.as_str())?;
+    }
+    for path in plans.get(1..).unwrap_or(&[]) {
+        tell_bounds(rt, path.as_str())?;
+    }
+    Ok(())
+}
+
+/// Prints what the program prints for a network, or the status and the line of its fault.
+fn tell_network(rt: &(impl AllocGlobal + Print + Files), path: &str) -> Result<(), Fault> {
+    let file = String::from_str(rt.alloc(), path)?;
+    let told = network_job(rt, file);
+    tell(rt, path, told)
+}
+
+/// Prints the bounds of the plan of a file, or the status and the line of its fault.
+fn tell_bounds(rt: &(impl AllocGlobal + Print + Files), path: &str) -> Result<(), Fault> {
+    let file = String::from_str(rt.alloc(), path)?;
+    let Ok(reader) = fs::open(rt, path) else {
+        return Err(Fault::File(file));
+    };
+    let told = bounds_job(rt.alloc(), rt.alloc(), file, reader);
+    tell(rt, path, told)
+}
+
+/// Prints what was told behind the path of its file.
+fn tell(
+    rt: &(impl AllocGlobal + Print),
+    path: &str,
+    told: Result<String, Fault>,
+) -> Result<(), Fault> {
+    let said = match told {
+        Ok(lines) => format!(in rt.alloc(); "{path}\n{lines}")?,
+        Err(fault) => {
+            let refused = fault_line(rt.alloc(), &fault);
+            drop(fault);
+            let Ok((line, status)) = refused else {
+                return Err(Fault::Run(RunFault::NoMemory));
+            };
+            format!(in rt.alloc(); "{path}\n{status} {line}\n")?
+        }
+    };
+    print(rt, said.as_str())
+}
