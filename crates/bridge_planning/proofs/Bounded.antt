@@ -11,7 +11,9 @@ use Rattle.std.proofs.lemmas.Cmp.{nat_eq_equiv}
 use Rattle.bridge_base.specs.Members.{In, AllAfter, Rising}
 use Rattle.bridge_cycle.proofs.Cases.{by_bool}
 use Rattle.bridge_filter.specs.declared.FilterPlan.{FilterPlan}
+use Rattle.bridge_config.specs.declared.ports.PortPlan.{PortPlan}
 use Rattle.bridge_config.specs.Model.{Plan}
+use Rattle.bridge_config.specs.Rules.{port_at}
 use Rattle.bridge_check.specs.Reach.{reaches}
 use Rattle.bridge_bounds.specs.Bounds.{HasNoBound, IsBound}
 use Rattle.bridge_relay.proofs.Sound.{in_push, rising_push}
@@ -213,3 +215,27 @@ module _ {A : Type 0} (p : Plan A) (order : Numbered) (at place : ℕ) (d : ℕ 
   no_bound found none =
       let x = get_or order at d in
       without_bound p order at place x.0 (place / 8 + 1) (place % 8) x.1 rows up (slice_get-get_or order at d within) (omega arith) (mod-lt place (omega arith)) (placed place) rises found none
+
+-- the port of a number has it
+pub number_at : {A : Type 0} (ports : List (PortPlan A)) (q : ℕ) (out : PortPlan A) → port_at ports q ≡ Some out → out.number ≡ q
+number_at [] q out is = absurd (none_is_some out is)
+number_at (x ∷ xs) q out is = by_bool (nat_eq x.number q)
+    (λ t. let here : Some x ≡ Some out = rw t at is in subst (λ (z : PortPlan _). z.number ≡ q) (some_same x out here) (eqb-true x.number q t))
+    (λ t. let there : port_at xs q ≡ Some out = rw t at is in number_at xs q out there)
+
+-- a filter that is found is the one of its number
+found_same : (xs : Numbered) (n : ℕ) (f g : FilterPlan) → lookup (nat_eq n) xs ≡ Some f → lookup (nat_eq n) xs ≡ Some g → g ≡ f
+found_same xs n f g here there = some_same g f (sym there ∙ here)
+
+-- a filter that isn't protected, or doesn't reach a queue, has no bound there
+pub unprotected : {A : Type 0} (p : Plan A) (n q c : ℕ) (f : FilterPlan) → lookup (nat_eq n) p.filters ≡ Some f → f.protected ≡ false → HasNoBound p n q c
+unprotected p n q c f found none = λ g there protected. absurd (false≢true (sym none ∙ subst (λ (w : FilterPlan). w.protected ≡ true) (found_same p.filters n f g found there) protected))
+
+pub unreached_by : {A : Type 0} (p : Plan A) (n q c : ℕ) (f : FilterPlan) → lookup (nat_eq n) p.filters ≡ Some f → reaches p f q c ≡ false → HasNoBound p n q c
+unreached_by p n q c f found shut = λ g there protected. subst (λ (w : FilterPlan). reaches p w q c ≡ false) (sym (found_same p.filters n f g found there)) shut
+
+-- the filter at a place is found by its number
+pub found_own : {A : Type 0} (p : Plan A) (order : Numbered) (at : ℕ) (d : ℕ × FilterPlan) → at < length order → Rising ByNumber order → ((m : ℕ) → lookup (nat_eq m) order ≡ lookup (nat_eq m) p.filters) → lookup (nat_eq (get_or order at d).0) p.filters ≡ Some (get_or order at d).1
+found_own p order at d within rises found =
+    let x = get_or order at d in
+    sym (found x.0) ∙ found_at order at x.0 x.1 rises (slice_get-get_or order at d within)

@@ -4,7 +4,9 @@ use Rattle.std.specs.Map.{lookup}
 use Rattle.bridge_base.specs.Members.{In, Rising}
 use Rattle.bridge_filter.specs.declared.FilterPlan.{FilterPlan}
 use Rattle.bridge_config.specs.Model.{Plan}
+use Rattle.bridge_check.specs.declared.reach.Reach.{Reach}
 use Rattle.bridge_check.specs.Reach.{reaches}
+use Rattle.bridge_check.specs.Reached.{reach_of}
 use Rattle.bridge_bounds.specs.Bounds.{IsBound}
 use Rattle.bridge_planning.specs.declared.bounds.QueueBound.{QueueBound}
 
@@ -38,3 +40,7 @@ pub record AreUpTo {A : Type 0} (p : Plan A) (order : List (ℕ × FilterPlan)) 
   pub below : (r : QueueBound) → In r rows → (i : ℕ) × (f : FilterPlan) × (slice_get order i ≡ Some (r.filter, f)) × IsDone i (place_of r.port r.class) at place
   pub all : (i q c n : ℕ) (f : FilterPlan) → slice_get order i ≡ Some (n, f) → f.protected ≡ true → 1 ≤ q → q ≤ 16 → c < 8 → reaches p f q c ≡ true
       → IsDone i (place_of q c) at place → (b : ℕ) × In (queue_bound n q c b) rows
+
+-- this is the reach of the filter at a place
+abbrev pub IsReachAt : {A : Type 0} → Plan A → List (ℕ × FilterPlan) → ℕ → Reach → Type 0
+IsReachAt p order at reach = (x : ℕ × FilterPlan) → slice_get order at ≡ Some x → reach ≡ reach_of p x.1

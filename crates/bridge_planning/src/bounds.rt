@@ -1,12 +1,16 @@
 //! The bounds of all queues of a plan.
-ghost use Rattle.std.specs.Prelude.{◌≡◌, ℕ, ◌+◌, ◌<◌, ◌≤◌, [], length, nat_eq, OnOk, IfOk};
+ghost use Rattle.std.specs.Prelude.{◌≡◌, ℕ, ◌+◌, ◌<◌, ◌≤◌, [], Some, length, nat_eq, OnOk, IfOk, MatchOption};
 ghost use Rattle.std.specs.Map.{lookup};
 ghost use Rattle.bridge_base.specs.Members.{Rising};
-ghost use Rattle.bridge_planning.specs.Bounds.{AreBounds, AreUpTo};
+ghost use Rattle.bridge_check.specs.Reach.{reaches};
+ghost use Rattle.bridge_check.specs.Reached.{reach_of};
+ghost use Rattle.bridge_bounds.specs.Bounds.{HasNoBound, IsBound};
+ghost use Rattle.bridge_planning.specs.Bounds.{AreBounds, AreUpTo, IsReachAt};
 
 use bridge_base::NoMemory;
 use bridge_bounds::bound_of;
-use bridge_check::Accepted;
+use bridge_check::{Accepted, Reach, may_wait_at, reach_of};
+use bridge_config::Plan;
 use bridge_core::filters_in_order;
 use bridge_filter::FilterPlan;
 use std::alloc::Allocator;
@@ -27,11 +31,56 @@ pub struct QueueBound {
 /// How many queues there are at 16 ports.
 const QUEUES: u8 = 128;
 
+/// Whether frames of a filter with this reach may be queued in a class of a port.
+fn is_reached<A: Allocator + Copy>(
+    plan: &Plan<A>,
+    filter: &FilterPlan,
+    reach: &Reach,
+    port: u8,
+    class: u8,
+) -> bool
+    requires reach { reach.now ≡ reach_of plan.now filter.now }
+    requires from { 1 ≤ port }
+    requires to { port ≤ 16 }
+    ensures { result ≡ reaches plan.now filter.now port class }
+{
+    match plan.port(port) {
+        Some(found) => may_wait_at(plan, filter, reach, found, class),
+        None => false,
+    }
+}
+
+/// The bound of a queue, by the reach of the filter, which is made once for all of its queues.
+#[tactic(auto, using(crate::proofs::Bounded::unprotected, crate::proofs::Bounded::unreached_by))]
+fn bound_by<A: Allocator + Copy>(
+    accepted: &Accepted<A>,
+    filter: (u32, FilterPlan),
+    reach: &Reach,
+    port: u8,
+    class: u8,
+) -> Option<u64>
+    requires found { lookup (nat_eq filter.0) accepted.now.filters ≡ Some filter.1 }
+    requires reach { reach.now ≡ reach_of accepted.now filter.1 }
+    requires from { 1 ≤ port }
+    requires to { port ≤ 16 }
+    requires class { class < 8 }
+    ensures { MatchOption result (HasNoBound accepted.now filter.0 port class) (IsBound accepted.now filter.0 port class) }
+{
+    if !filter.1.protected {
+        return None;
+    }
+    if !is_reached(accepted.plan(), &filter.1, reach, port, class) {
+        return None;
+    }
+    bound_of(accepted, filter.0, port, class)
+}
+
 /// Adds the bound of the queue of a place, by port and class, where frames of the filter at a place may come to it.
 fn put_bound<A: Allocator + Copy>(
     accepted: &Accepted<A>,
     order: &[(u32, FilterPlan)],
     at: usize,
+    reach: &Reach,
     place: u8,
     rows: &mut Vec<QueueBound, A>,
 ) -> Result<(), NoMemory>
@@ -39,15 +88,16 @@ fn put_bound<A: Allocator + Copy>(
     requires place { place < 128 }
     requires rises { Rising (λ x y. x.0 < y.0) order.now }
     requires same { (n : ℕ) → lookup (nat_eq n) order.now ≡ lookup (nat_eq n) accepted.now.filters }
+    requires reach { IsReachAt accepted.now order.now at reach.now }
     requires so_far { AreUpTo accepted.now order.now at place rows.old.items }
     ensures one_more { OnOk result (AreUpTo accepted.now order.now at (place + 1) rows.new.items) }
 {
-    let number = order[at].0;
+    let filter = order[at];
     let port = place / 8 + 1;
     let class = place % 8;
-    if let Some(bound) = bound_of(accepted, number, port, class) {
+    if let Some(bound) = bound_by(accepted, filter, reach, port, class) {
         rows.push(QueueBound {
-            filter: number,
+            filter: filter.0,
             port,
             class,
             bound,
@@ -69,8 +119,9 @@ fn put_filter<A: Allocator + Copy>(
     requires so_far { AreUpTo accepted.now order.now at 0 rows.old.items }
     ensures one_more { OnOk result (AreUpTo accepted.now order.now (at + 1) 0 rows.new.items) }
 {
+    let reach = reach_of(accepted.plan(), &order[at].1);
     for place in 0..QUEUES {
-        put_bound(accepted, order, at, place, rows)?;
+        put_bound(accepted, order, at, &reach, place, rows)?;
     }
     Ok(())
 }

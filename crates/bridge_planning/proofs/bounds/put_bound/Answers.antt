@@ -1,7 +1,12 @@
-use Rattle.std.proofs.Common.{◌≡◌, Some, subst, sym, rules}
-use Rattle.std.specs.Option.{MatchOption}
-use Rattle.bridge_planning.proofs.Bounded.{no_bound, one_bound}
+use Rattle.std.proofs.lemmas.Option.{slice_get-get_or}
+use Rattle.bridge_planning.proofs.Bounded.{found_own, no_bound, one_bound}
 use Rattle.bridge_planning.proofs.bounds.put_bound.Goals as goal
+
+pub bound_by-requires-clause-found : goal.bound_by-requires-clause-found
+bound_by-requires-clause-found g c = found_own c.args.accepted.now c.args.order.now c.args.at _ c.requires.at c.requires.rises c.requires.same
+
+pub bound_by-requires-clause-reach : goal.bound_by-requires-clause-reach
+bound_by-requires-clause-reach g c = c.requires.reach _ (slice_get-get_or c.args.order.now c.args.at _ c.requires.at)
 
 pub returns-in_ok-push : goal.returns-in_ok-push
 returns-in_ok-push g c = record {
