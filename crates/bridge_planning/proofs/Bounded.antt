@@ -1,6 +1,6 @@
 -- Bounds that are gathered queue by queue.
 use Rattle.std.proofs.Common.{◌≡◌, ℕ, suc, zero, ◌+◌, ◌-◌, ◌*◌, ◌<◌, ◌≤◌, List, [], ◌∷◌, ◌++◌, Option, Some, None, length, slice_get, get_or, refl, sym, ap, ap₂, subst, ◌∙◌, inl, inr, arith, true, false}
-use Rattle.std.specs.Prelude.{nat_eq, ◌⊎◌}
+use Rattle.std.specs.Prelude.{nat_eq, ◌⊎◌, Vec}
 use Rattle.std.specs.Map.{lookup}
 use Rattle.std.specs.Prelude.{◌/◌, ◌%◌}
 use Rattle.std.proofs.lemmas.Option.{slice_get-get_or}
@@ -18,6 +18,7 @@ use Rattle.bridge_check.specs.Reach.{reaches}
 use Rattle.bridge_bounds.specs.Bounds.{HasNoBound, IsBound}
 use Rattle.bridge_relay.proofs.Sound.{in_push, rising_push}
 use Rattle.bridge_planning.specs.declared.bounds.QueueBound.{QueueBound}
+use Rattle.bridge_planning.specs.Streams.{AreBoundsOf}
 use Rattle.bridge_planning.specs.Bounds.{AreBounds, AreUpTo, IsBefore, IsDone, place_of, queue_bound}
 
 some_same : {X : Type 0} (a b : X) → Some a ≡ Some b → a ≡ b
@@ -239,3 +240,10 @@ pub found_own : {A : Type 0} (p : Plan A) (order : Numbered) (at : ℕ) (d : ℕ
 found_own p order at d within rises found =
     let x = get_or order at d in
     sym (found x.0) ∙ found_at order at x.0 x.1 rises (slice_get-get_or order at d within)
+
+-- the bounds of one plan more
+pub more_bounds : {A : Type 0} (ps : List (Plan A)) (vs : List (Vec QueueBound A)) (p : Plan A) (v : Vec QueueBound A) → AreBoundsOf ps vs → AreBounds p v.items → AreBoundsOf (ps ++ p ∷ []) (vs ++ v ∷ [])
+more_bounds [] [] p v are is = (is, tt)
+more_bounds [] (y ∷ ys) p v are is = absurd are
+more_bounds (x ∷ xs) [] p v are is = absurd are
+more_bounds (x ∷ xs) (y ∷ ys) p v are is = (are.0, more_bounds xs ys p v are.1 is)

@@ -1,2 +1,3 @@
 pub mod Bounded
 pub mod Named
+pub mod Timed

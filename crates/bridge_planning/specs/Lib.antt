@@ -1,3 +1,5 @@
 pub mod Bounds
 pub mod Networks
 pub mod Printing
+pub mod Streams
+pub mod Ways

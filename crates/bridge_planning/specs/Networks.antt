@@ -13,6 +13,8 @@ use Rattle.bridge_network.specs.declared.links.Link.{Link}
 use Rattle.bridge_network.specs.declared.links.StreamHop.{StreamHop}
 use Rattle.bridge_network.specs.Wiring.{Parts, stream_of}
 use Rattle.bridge_network.specs.Refusing.{first_fault}
+use Rattle.bridge_planning.specs.declared.bounds.QueueBound.{QueueBound}
+use Rattle.bridge_planning.specs.Streams.{AreBoundsOf, stream_lines}
 
 -- A NETWORK OF A TEXT
 
@@ -86,9 +88,13 @@ RefusesNetwork {A} f plans (fault.Network line) =
 RefusesNetwork f plans (fault.Run e) = e ≡ run.NoMemory
 RefusesNetwork f plans e = ⊥
 
--- the line of a network whose streams are closed
+-- the lines of a network whose plans are these: that it is accepted, and how long frames of each stream take at most
+abbrev pub AreLinesOfNetwork : {A : Type 0} → file.Network → List (Plan A) → List ℕ → Type 0
+AreLinesOfNetwork {A} f plans lines = (bounds : List (Vec QueueBound A)) × AreBoundsOf plans bounds × (lines ≡ accepted_line f ++ stream_lines bounds f.links f.streams)
+
+-- the lines of a network whose streams are closed
 abbrev pub PrintsNetwork : (A : Type 0) → List ℕ → Type 0
-PrintsNetwork A line = (f : file.Network) × (plans : List (Plan A)) × (n : Parts A) × IsMadeOf f plans n × (first_fault n ≡ None) × (line ≡ accepted_line f)
+PrintsNetwork A lines = (f : file.Network) × (plans : List (Plan A)) × (n : Parts A) × IsMadeOf f plans n × (first_fault n ≡ None) × AreLinesOfNetwork f n.plans lines
 
 -- a fault of the job over a network: of a file, of the network or of memory
 abbrev pub EndsNetwork : Fault → Type 0

@@ -6,9 +6,10 @@ ghost use Rattle.bridge_network.specs.declared.links.StreamHop.{StreamHop as Hop
 ghost use Rattle.bridge_network.specs.Refusing.{first_fault};
 ghost use Rattle.bridge_lanes.specs.declared.fault.RunFault.{RunFault};
 ghost use Rattle.bridge_program.specs.declared.fault.Fault.{Fault};
-ghost use Rattle.bridge_planning.specs.Networks.{EndsNetwork, IsMadeOf, PrintsNetwork, RefusesNetwork, accepted_line, hop_in, hops_in, link_in};
+ghost use Rattle.bridge_planning.specs.Networks.{AreLinesOfNetwork, EndsNetwork, IsMadeOf, PrintsNetwork, RefusesNetwork, accepted_line, hop_in, hops_in, link_in};
 
 use crate::refusing::said_of_network;
+use crate::streams::{bounds_of_all, stream_lines};
 use bridge_base::NoMemory;
 use bridge_check::Accepted;
 use bridge_lanes::RunFault;
@@ -152,6 +153,22 @@ fn accepted_line<A: Allocator + Copy>(
     )?)
 }
 
+/// The lines of a network that is accepted: how many bridges, links, streams and hops it has, and for each stream, in the
+/// order of the text, how long a frame takes at most that goes once through each of its hops.
+fn lines_of<A: Allocator + Copy>(
+    alloc: A,
+    heap: Global,
+    file: &NetworkFile<A>,
+    plans: &[Accepted<A>],
+) -> Result<String, NoMemory>
+    ensures { IfOk result (λ lines. AreLinesOfNetwork file.now plans.now (string_bytes lines)) }
+{
+    let line = accepted_line(heap, file)?;
+    let bounds = bounds_of_all(alloc, plans)?;
+    let streams = stream_lines(heap, &bounds, file.links(), file.streams())?;
+    Ok(format!(in heap; "{line}{streams}")?)
+}
+
 /// The text of a network by the path of its file, read.
 fn read_network<H: AllocGlobal + Files>(rt: &H, path: String) -> Result<NetworkFile<Global>, Fault>
     ensures { IfErr result EndsNetwork }
@@ -254,7 +271,8 @@ fn read_plans<H: AllocGlobal + Files>(
 }
 
 /// What is printed for the network of a file whose plans lie beside it, where its streams are closed: one line that counts
-/// its bridges, links, streams and hops.
+/// its bridges, links, streams and hops, and one for each stream with how long in ns a frame takes at most that goes once
+/// through each of its hops, from when it came to the first until it is out of the last.
 ///
 /// Faults in this order: NET opened and read, its text; then by the order of the bridges the plan opened and read, its
 /// text, its check; then the tests on the network. `File` of a file, `Network` with the line of a refusal, and `Run` with
@@ -269,7 +287,7 @@ pub fn network_job<H: AllocGlobal + Files>(rt: &H, path: String) -> Result<Strin
     let plans = read_plans(rt, path.as_str(), file.bridges())?;
     match tested(alloc, alloc, &file, plans) {
         Ok(network) => {
-            let said = accepted_line(alloc, &file);
+            let said = lines_of(alloc, alloc, &file, network.plans());
             drop(network);
             match said {
                 Ok(line) => Ok(line),

@@ -1,0 +1,16 @@
+use Rattle.std.proofs.Common.{◌+◌, ◌++◌, ◌∷◌, [], subst, sym, take}
+use Rattle.std.proofs.lemmas.List.{take_more}
+use Rattle.bridge_planning.specs.Bounds.{AreBounds}
+use Rattle.bridge_planning.specs.Streams.{AreBoundsOf}
+use Rattle.bridge_planning.proofs.Bounded.{more_bounds}
+use Rattle.bridge_planning.proofs.streams.bounds_of_all.Goals as goal
+
+pub loop-accepted-preserved : goal.loop-accepted-preserved
+loop-accepted-preserved g c =
+    let plans = c.args.plans.now in
+    let i = c.loop-accepted.accepted-index in
+    let olds = c.loop-accepted.bounds.items in
+    let rows = c.in_ok-rows.rows in
+    let more = more_bounds (take i plans) olds _ rows c.loop-accepted.invariant (subst (λ p. AreBounds p rows.items) c.accepted-item.is c.in_ok-rows.ensures) in
+    subst (λ vs. AreBoundsOf (take (i + 1) plans) vs) (sym c.in_ok-push.ensures.items)
+    (subst (λ ps. AreBoundsOf ps (olds ++ rows ∷ [])) (sym (take_more plans i _ c.loop-accepted-test.true)) more)

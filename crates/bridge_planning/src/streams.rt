@@ -1,0 +1,179 @@
+//! How long frames of the streams of a network take, from talker to listener.
+ghost use Rattle.std.specs.Prelude.{All, ◌≡◌, ◌++◌, ◌≤◌, ◌*◌, ◌^◌, length, nat_eq, sum_by, IfOk, OnOk, string_bytes};
+ghost use Rattle.bridge_planning.specs.Streams.{AreBoundsOf, filter_bound, greater_bound, greater_delay, hop_bound, hop_delay, is_at, joins, link_delay, stream_bound, stream_line, stream_lines};
+
+use crate::bounds::{QueueBound, bounds_of};
+use bridge_base::NoMemory;
+use bridge_check::Accepted;
+use bridge_netfile::{LinkRow, StreamRow};
+use std::alloc::{AllocError, Allocator};
+
+/// The bounds of the queues of each plan.
+pub fn bounds_of_all<A: Allocator + Copy>(
+    alloc: A,
+    plans: &[Accepted<A>],
+) -> Result<Vec<Vec<QueueBound, A>, A>, NoMemory>
+    ensures { IfOk result (λ bounds. AreBoundsOf plans.now bounds.items) }
+{
+    let mut bounds = Vec::new(alloc);
+    for accepted in plans {
+        let rows = bounds_of(alloc, accepted)?;
+        bounds.push(rows)?;
+    }
+    Ok(bounds)
+}
+
+/// The greater of a number and the bound of a queue, where that is one of a filter.
+fn greater_bound(filter: u32, most: u64, row: &QueueBound) -> u64
+    ensures { result ≡ greater_bound filter most row.now }
+{
+    if row.filter == filter {
+        most.max(row.bound)
+    } else {
+        most
+    }
+}
+
+/// The greatest bound of the queues of a filter, 0 where it has none.
+fn filter_bound(filter: u32, rows: &[QueueBound]) -> u64
+    ensures { result ≡ filter_bound filter rows.now }
+{
+    let mut greatest = 0u64;
+    for row in rows {
+        greatest = greater_bound(filter, greatest, row);
+    }
+    greatest
+}
+
+/// The greatest bound of the queues of a hop.
+fn hop_bound<A: Allocator + Copy>(bounds: &[Vec<QueueBound, A>], hop: (u16, u32)) -> u64
+    ensures { result ≡ hop_bound bounds.now hop }
+{
+    let place = hop.0 as usize;
+    if place < bounds.len() {
+        filter_bound(hop.1, &bounds[place])
+    } else {
+        filter_bound(hop.1, &[])
+    }
+}
+
+/// Whether one of some hops is at a bridge.
+fn is_at(hops: &[(u16, u32)], bridge: u16) -> bool
+    ensures { result ≡ is_at hops.now bridge }
+{
+    hops.iter().any(|hop| hop.0 == bridge)
+}
+
+/// Whether a link joins a bridge with one of the bridges of some hops.
+fn joins(hops: &[(u16, u32)], bridge: u16, link: &LinkRow) -> bool
+    ensures { result ≡ joins hops.now bridge link.now }
+{
+    let to_one = link.one.0 == bridge && is_at(hops, link.other.0);
+    let to_other = link.other.0 == bridge && is_at(hops, link.one.0);
+    to_one || to_other
+}
+
+/// The greater of a number and the delay of a link, where that joins a bridge with those of some hops.
+fn greater_delay(hops: &[(u16, u32)], bridge: u16, most: u64, link: &LinkRow) -> u64
+    ensures { result ≡ greater_delay hops.now bridge most link.now }
+{
+    if joins(hops, bridge, link) {
+        most.max(link.delay)
+    } else {
+        most
+    }
+}
+
+/// The greatest delay in ns of the links that join a bridge with those of some hops.
+fn link_delay(links: &[LinkRow], hops: &[(u16, u32)], bridge: u16) -> u64
+    ensures { result ≡ link_delay links.now hops.now bridge }
+{
+    let mut greatest = 0u64;
+    for link in links {
+        greatest = greater_delay(hops, bridge, greatest, link);
+    }
+    greatest
+}
+
+/// The greatest delay in ns of a link to a hop from the bridges of some hops.
+fn hop_delay(links: &[LinkRow], hops: &[(u16, u32)], hop: (u16, u32)) -> u64
+    ensures { result ≡ hop_delay links.now hops.now hop }
+{
+    link_delay(links, hops, hop.0)
+}
+
+/// The bounds of all hops together.
+fn sum_of_bounds<A: Allocator + Copy>(bounds: &[Vec<QueueBound, A>], hops: &[(u16, u32)]) -> u128
+    requires few { length hops.now ≤ 64 }
+    ensures sum { result ≡ sum_by (hop_bound bounds.now) hops.now }
+    ensures low { result ≤ 64 * 2 ^ 64 }
+{
+    let mut sum = 0u128;
+    for hop in hops {
+        sum += hop_bound(bounds, *hop) as u128;
+    }
+    sum
+}
+
+/// The delays of the links to some of the hops together.
+fn sum_of_delays(links: &[LinkRow], hops: &[(u16, u32)], later: &[(u16, u32)]) -> u128
+    requires few { length later.now ≤ 64 }
+    ensures sum { result ≡ sum_by (hop_delay links.now hops.now) later.now }
+    ensures low { result ≤ 64 * 2 ^ 64 }
+{
+    let mut sum = 0u128;
+    for hop in later {
+        sum += hop_delay(links, hops, *hop) as u128;
+    }
+    sum
+}
+
+/// How long in ns a frame of a stream takes at most, from when it came to its first hop until it is out of the last one,
+/// where it goes once through each: the greatest bound of each hop, and of each but the first the greatest delay of a link to it.
+fn stream_bound<A: Allocator + Copy>(
+    bounds: &[Vec<QueueBound, A>],
+    links: &[LinkRow],
+    hops: &[(u16, u32)],
+) -> u128
+    requires some { 1 ≤ length hops.now }
+    requires few { length hops.now ≤ 64 }
+    ensures { result ≡ stream_bound bounds.now links.now hops.now }
+{
+    let later = &hops[1..];
+    sum_of_bounds(bounds, hops) + sum_of_delays(links, hops, later)
+}
+
+/// Adds the line of a stream.
+#[tactic(auto, unfolding(crate::specs::Streams::stream_line))]
+fn push_stream<A: Allocator + Copy, B: Allocator>(
+    text: &mut String<B>,
+    bounds: &[Vec<QueueBound, A>],
+    links: &[LinkRow],
+    stream: &StreamRow<A>,
+) -> Result<(), AllocError>
+    requires some { 1 ≤ length stream.now.hops }
+    requires few { length stream.now.hops ≤ 64 }
+    ensures { OnOk result (string_bytes text.new ≡ string_bytes text.old ++ stream_line bounds.now links.now stream.now) }
+{
+    let name = stream.name();
+    let bound = stream_bound(bounds, links, stream.hops());
+    write!(text, "stream {name} bound {bound}\n")
+}
+
+/// The lines of all streams of a network, by the bounds of the plans of its bridges.
+pub fn stream_lines<A: Allocator + Copy, B: Allocator>(
+    alloc: B,
+    bounds: &[Vec<QueueBound, A>],
+    links: &[LinkRow],
+    streams: &[StreamRow<A>],
+) -> Result<String<B>, NoMemory>
+    requires some { All (λ s. 1 ≤ length s.hops) streams.now }
+    requires few { All (λ s. length s.hops ≤ 64) streams.now }
+    ensures { IfOk result (λ text. string_bytes text ≡ stream_lines bounds.now links.now streams.now) }
+{
+    let mut text = String::new(alloc);
+    for stream in streams {
+        push_stream(&mut text, bounds, links, stream)?;
+    }
+    Ok(text)
+}
