@@ -60,7 +60,7 @@ some_told (suc n) t h = by_bool (any_below n t)
     (λ e. let last : t n ≡ true = rw e at h in (n, (omega (arith)), last))
 
 -- a class of the reach is one of eight
-class_few : {A : Type 0} (p : Plan A) (f : FilterPlan) (q c : ℕ) (out : PortPlan A) → IsPlan p → port_at p.ports q ≡ Some out → reaches p f q c ≡ true → c < 8
+pub class_few : {A : Type 0} (p : Plan A) (f : FilterPlan) (q c : ℕ) (out : PortPlan A) → IsPlan p → port_at p.ports q ≡ Some out → reaches p f q c ≡ true → c < 8
 class_few p f q c out plan at reach =
     let (port, class) = and_parts (reaches_port p f.handle q) (reaches_class p f (port_at p.ports q) c) reach in
     let here : any_below 8 (λ k. reaches_priority p f k && nat_eq (slice_index out.classes k) c) ≡ true = subst (λ (o : Option (PortPlan _)). reaches_class p f o c ≡ true) at class in

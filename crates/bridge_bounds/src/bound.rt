@@ -17,8 +17,8 @@ use bridge_filter::FilterPlan;
 use bridge_frame::occupation;
 use std::alloc::Allocator;
 
-/// The filter of a number.
-fn filter_at(filters: &[(u32, FilterPlan)], number: u32) -> Option<FilterPlan>
+/// The filter of a number, where there is one.
+pub fn filter_at(filters: &[(u32, FilterPlan)], number: u32) -> Option<FilterPlan>
     ensures { result ≡ lookup (nat_eq number) filters.now }
 {
     for filter in filters {

@@ -6,4 +6,4 @@ mod bound;
 pub mod laws;
 mod longest;
 
-pub use bound::bound_of;
+pub use bound::{bound_of, filter_at};

@@ -1,4 +1,4 @@
--- The numbers of the faults of a network's text, and the spelling of its sections and keys.
+-- The numbers of the faults of a text of a network or of traffic, and the spelling of its sections and keys.
 use Rattle.std.specs.Prelude.{ℕ, List, codes}
 use Rattle.bridge_netfile.specs.declared.fault.NetSection.{NetSection}
 use Rattle.bridge_netfile.specs.declared.fault.NetSection.TheVariants as section
@@ -13,6 +13,7 @@ name_of section.Top = codes "top"
 name_of section.Bridge = codes "bridge"
 name_of section.Link = codes "link"
 name_of section.Stream = codes "stream"
+name_of section.Traffic = codes "traffic"
 
 -- the spelling of a key
 abbrev pub key_of : NetField → List ℕ
@@ -23,6 +24,13 @@ key_of field.One = codes "one"
 key_of field.Other = codes "other"
 key_of field.Delay = codes "delay"
 key_of field.Hops = codes "hops"
+key_of field.Filter = codes "filter"
+key_of field.Period = codes "period"
+key_of field.From = codes "from"
+key_of field.To = codes "to"
+key_of field.Least = codes "least"
+key_of field.Longest = codes "longest"
+key_of field.Deadline = codes "deadline"
 
 -- the number of a fault, whatever it names
 abbrev pub number_of : NetFault → ℕ

@@ -64,6 +64,11 @@ abbrev pub required_in : {A : Type 0} → NetPlace → (Data → Result A Flaw) 
 required_in place kind None = Err (fault.Missing place)
 required_in place kind (Some d) = at_place place (kind d)
 
+-- a value that may be absent
+abbrev pub optional_in : {A : Type 0} → NetPlace → (Data → Result A Flaw) → Option Data → Result (Option A) NetFault
+optional_in place kind None = Ok None
+optional_in place kind (Some d) = at_place place (kind d) >>= λ x. Ok (Some x)
+
 -- a value that is the default where it is absent
 abbrev pub default_in : {A : Type 0} → A → NetPlace → (Data → Result A Flaw) → Option Data → Result A NetFault
 default_in default place kind None = Ok default
@@ -72,6 +77,10 @@ default_in default place kind (Some d) = at_place place (kind d)
 -- a key that must be there
 unfoldable pub required : {A : Type 0} → NetPlace → (Data → Result A Flaw) → Members → Result A NetFault
 required place kind members = required_in place kind (get_member (key_of place.field) members)
+
+-- a key that may be absent
+unfoldable pub optional : {A : Type 0} → NetPlace → (Data → Result A Flaw) → Members → Result (Option A) NetFault
+optional place kind members = optional_in place kind (get_member (key_of place.field) members)
 
 -- a key whose value is the default where it is absent
 unfoldable pub default_to : {A : Type 0} → A → NetPlace → (Data → Result A Flaw) → Members → Result A NetFault
@@ -96,6 +105,7 @@ limit_of section.Top = 0
 limit_of section.Bridge = 64
 limit_of section.Link = 512
 limit_of section.Stream = 1024
+limit_of section.Traffic = 1024
 
 -- how many items there are
 abbrev pub count_of : Items → ℕ

@@ -1,4 +1,4 @@
-//! What is wrong with the text of a network, and where.
+//! What is wrong with the text of a network or of traffic, and where.
 ghost use Rattle.std.specs.Prelude.{◌≡◌};
 ghost use Rattle.bridge_netfile.specs.declared.fault.NetFault.TheVariants.{NoMemory};
 ghost use Rattle.bridge_netfile.specs.Faults.{key_of, name_of, number_of};
@@ -6,7 +6,7 @@ ghost use Rattle.bridge_netfile.specs.Faults.{key_of, name_of, number_of};
 use std::alloc::{AllocError, AllocFailed};
 use thiserror::Error;
 
-/// The top of the text of a network, and its sections in the order in which they are read.
+/// The top of a text, the sections of a network in the order in which they are read, and the section of traffic.
 #[derive(Clone, Copy, Debug, PartialEq, Eq)]
 pub enum NetSection {
     /// The top of the text.
@@ -17,6 +17,8 @@ pub enum NetSection {
     Link,
     /// Streams, at most 1,024.
     Stream,
+    /// Traffic, at most 1,024.
+    Traffic,
 }
 
 impl NetSection {
@@ -29,11 +31,12 @@ impl NetSection {
             NetSection::Bridge => "bridge",
             NetSection::Link => "link",
             NetSection::Stream => "stream",
+            NetSection::Traffic => "traffic",
         }
     }
 }
 
-/// The keys of the tables of a network, and the one key that has to stand at its top.
+/// The keys of the tables of a network and of traffic, and the one key that has to stand at a network's top.
 #[derive(Clone, Copy, Debug, PartialEq, Eq)]
 pub enum NetField {
     /// The section of bridges, at the top.
@@ -50,6 +53,20 @@ pub enum NetField {
     Delay,
     /// The filters of a stream, from talker to listener.
     Hops,
+    /// The filter of frames that come once in each period.
+    Filter,
+    /// Their period, in ns.
+    Period,
+    /// The first phase at which one may come, in ns.
+    From,
+    /// The last one.
+    To,
+    /// The octets of the shortest, as it is captured.
+    Least,
+    /// The octets of the longest.
+    Longest,
+    /// How long one may take at most, in ns.
+    Deadline,
 }
 
 impl NetField {
@@ -65,6 +82,13 @@ impl NetField {
             NetField::Other => "other",
             NetField::Delay => "delay",
             NetField::Hops => "hops",
+            NetField::Filter => "filter",
+            NetField::Period => "period",
+            NetField::From => "from",
+            NetField::To => "to",
+            NetField::Least => "least",
+            NetField::Longest => "longest",
+            NetField::Deadline => "deadline",
         }
     }
 }
@@ -80,7 +104,7 @@ pub struct NetPlace {
     pub field: NetField,
 }
 
-/// Why a text is no network. An index is the place of an instance in its section, from 1, and 0 at the top.
+/// Why a text is no network, or no traffic. An index is the place of an instance in its section, from 1, and 0 at the top.
 #[derive(Clone, Copy, Debug, PartialEq, Eq, Error)]
 pub enum NetFault {
     /// The text is no TOML document in UTF-8.

@@ -1,6 +1,6 @@
 #![tactic(auto)]
 //! The text of a network: its bridges with their plans, the links between their ports, and the streams that go through
-//! them.
+//! them; and the words in which it is read, for other texts of the same kind.
 
 mod bridges;
 mod fault;
@@ -16,7 +16,9 @@ mod tests;
 
 pub use bridges::BridgeRow;
 pub use fault::{NetFault, NetField, NetPlace, NetSection};
-pub use lines::fault_line;
+pub use lines::{fault_line, refusal_line};
 pub use links::LinkRow;
-pub use network::{NetworkFile, network_of};
+pub use network::{NetworkFile, are_sections, document_of, network_of};
+pub use reading::{are_known, optional, required};
+pub use rows::{RowReader, items_of, read_rows};
 pub use streams::StreamRow;

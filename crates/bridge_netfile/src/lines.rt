@@ -1,73 +1,92 @@
-//! The line of a network's text that is refused.
-ghost use Rattle.std.specs.Prelude.{◌≡◌, IfOk, string_bytes};
-ghost use Rattle.bridge_netfile.specs.Lines.{instance, key_at, line_of, refused, refused_at};
+//! The line of a text that is refused.
+ghost use Rattle.std.specs.Prelude.{◌≡◌, IfOk, codes, string_bytes};
+ghost use Rattle.bridge_netfile.specs.Lines.{instance, key_at, line_for, line_of, refused, refused_at};
 
 use crate::fault::{NetFault, NetPlace, NetSection};
 use bridge_base::NoMemory;
 use std::alloc::Allocator;
 
-/// The line of a fault, without a line feed: `network refused: OutOfRange link 2 delay`, or `no memory`.
+/// The line of a network's fault, without a line feed: `network refused: OutOfRange link 2 delay`, or `no memory`.
 pub fn fault_line<A: Allocator + Copy>(alloc: A, fault: &NetFault) -> Result<String<A>, NoMemory>
     ensures { IfOk result (λ line. string_bytes line ≡ line_of fault.now) }
 {
+    refusal_line(alloc, "network", fault)
+}
+
+/// The line of a fault of a text of some kind, without a line feed: `traffic refused: OutOfRange traffic 2 period`, or
+/// `no memory`.
+pub fn refusal_line<A: Allocator + Copy>(
+    alloc: A,
+    kind: &str,
+    fault: &NetFault,
+) -> Result<String<A>, NoMemory>
+    ensures { IfOk result (λ line. string_bytes line ≡ line_for kind.now fault.now) }
+{
     match fault {
-        NetFault::Syntax => refusal(alloc, "Syntax"),
-        NetFault::TooLong => refusal(alloc, "TooLong"),
+        NetFault::Syntax => refusal(alloc, kind, "Syntax"),
+        NetFault::TooLong => refusal(alloc, kind, "TooLong"),
         NetFault::UnknownKey(section, index) => {
-            refusal_of_instance(alloc, "UnknownKey", *section, *index)
+            refusal_of_instance(alloc, kind, "UnknownKey", *section, *index)
         }
-        NetFault::NotAList(section) => refusal_at(alloc, "NotAList", section.name()),
-        NetFault::Missing(place) => refusal_of_key(alloc, "Missing", place),
-        NetFault::WrongKind(place) => refusal_of_key(alloc, "WrongKind", place),
-        NetFault::OutOfRange(place) => refusal_of_key(alloc, "OutOfRange", place),
+        NetFault::NotAList(section) => refusal_at(alloc, kind, "NotAList", section.name()),
+        NetFault::Missing(place) => refusal_of_key(alloc, kind, "Missing", place),
+        NetFault::WrongKind(place) => refusal_of_key(alloc, kind, "WrongKind", place),
+        NetFault::OutOfRange(place) => refusal_of_key(alloc, kind, "OutOfRange", place),
         NetFault::Duplicate(section, index) => {
-            refusal_of_instance(alloc, "Duplicate", *section, *index)
+            refusal_of_instance(alloc, kind, "Duplicate", *section, *index)
         }
-        NetFault::Unresolved(place) => refusal_of_key(alloc, "Unresolved", place),
-        NetFault::TooMany(section) => refusal_at(alloc, "TooMany", section.name()),
+        NetFault::Unresolved(place) => refusal_of_key(alloc, kind, "Unresolved", place),
+        NetFault::TooMany(section) => refusal_at(alloc, kind, "TooMany", section.name()),
         NetFault::NoMemory => Ok(String::from_str(alloc, "no memory")?),
     }
 }
 
-/// The network is refused, by the name of its fault.
-fn refusal<A: Allocator + Copy>(alloc: A, name: &str) -> Result<String<A>, NoMemory>
-    ensures { IfOk result (λ line. string_bytes line ≡ refused name.now) }
+/// A text is refused, by its kind and the name of its fault.
+fn refusal<A: Allocator + Copy>(alloc: A, kind: &str, name: &str) -> Result<String<A>, NoMemory>
+    ensures { IfOk result (λ line. string_bytes line ≡ refused kind.now name.now) }
 {
-    Ok(format!(in alloc; "network refused: {name}")?)
+    Ok(format!(in alloc; "{kind} refused: {name}")?)
 }
 
-/// The network is refused, by the name of its fault and what is wrong.
-fn refusal_at<A: Allocator + Copy>(alloc: A, name: &str, place: &str) -> Result<String<A>, NoMemory>
-    ensures { IfOk result (λ line. string_bytes line ≡ refused_at name.now place.now) }
+/// The same with what is wrong.
+fn refusal_at<A: Allocator + Copy>(
+    alloc: A,
+    kind: &str,
+    name: &str,
+    place: &str,
+) -> Result<String<A>, NoMemory>
+    ensures { IfOk result (λ line. string_bytes line ≡ refused_at kind.now name.now place.now) }
 {
-    Ok(format!(in alloc; "network refused: {name} {place}")?)
+    Ok(format!(in alloc; "{kind} refused: {name} {place}")?)
 }
 
-/// The network is refused for an instance of a section, by the name of its fault.
+/// A text is refused for an instance of a section.
 fn refusal_of_instance<A: Allocator + Copy>(
     alloc: A,
+    kind: &str,
     name: &str,
     section: NetSection,
     index: u32,
 ) -> Result<String<A>, NoMemory>
-    ensures { IfOk result (λ line. string_bytes line ≡ refused_at name.now (instance section index)) }
+    ensures { IfOk result (λ line. string_bytes line ≡ refused_at kind.now name.now (instance section index)) }
 {
     let words = instance_words(alloc, section, index)?;
-    refusal_at(alloc, name, words.as_str())
+    refusal_at(alloc, kind, name, words.as_str())
 }
 
-/// The network is refused for a key of an instance, by the name of its fault.
+/// A text is refused for a key of an instance.
 fn refusal_of_key<A: Allocator + Copy>(
     alloc: A,
+    kind: &str,
     name: &str,
     place: &NetPlace,
 ) -> Result<String<A>, NoMemory>
-    ensures { IfOk result (λ line. string_bytes line ≡ refused_at name.now (key_at place.now)) }
+    ensures { IfOk result (λ line. string_bytes line ≡ refused_at kind.now name.now (key_at place.now)) }
 {
     let words = instance_words(alloc, place.section, place.index)?;
     let key = place.field.key();
     let key_words = format!(in alloc; "{words} {key}")?;
-    refusal_at(alloc, name, key_words.as_str())
+    refusal_at(alloc, kind, name, key_words.as_str())
 }
 
 /// An instance of a section by its place from 1; the section alone where there is no place, which is 0.

@@ -89,7 +89,7 @@ fn is_section(sections: &[NetSection], key: &str) -> bool
 }
 
 /// Whether a document has no key but these sections.
-fn are_sections(sections: &[NetSection], table: &Table) -> bool
+pub fn are_sections(sections: &[NetSection], table: &Table) -> bool
     ensures { result ≡ doc.are_sections sections.now (table_view table.now) }
 {
     'members: for (key, _) in table.iter() {
@@ -147,9 +147,9 @@ fn second_pass<A: Allocator + Copy>(
     })
 }
 
-/// The document of a text.
+/// The document of a text, in `heap`: `TooLong` above 1,048,576 octets, `Syntax` where it is no TOML document in UTF-8.
 #[tactic(auto, unfolding(crate::specs::Document::document_of), using(crate::proofs::Counts::utf8_whole))]
-fn document_of(heap: Global, text: &[u8]) -> Result<Table, NetFault>
+pub fn document_of(heap: Global, text: &[u8]) -> Result<Table, NetFault>
     ensures { GivesAs table_view result (doc.document_of text.now) }
 {
     if text.len() > MOST_OCTETS {

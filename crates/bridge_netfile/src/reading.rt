@@ -1,5 +1,6 @@
 //! The keys of a table: whether they must be there, what stands there, and which keys a table may have.
 ghost use Rattle.std.specs.Prelude.{◌≡◌, IfErr, IfOk, option_map, true};
+ghost use Rattle.std.specs.Option.{ForSome};
 ghost use Rattle.toml.specs.View.{view, table_view};
 ghost use Rattle.bridge_netfile.specs.declared.fault.NetFault.TheVariants.{NoMemory};
 ghost use Rattle.bridge_netfile.specs.Names.{is_name};
@@ -43,16 +44,44 @@ fn required_in<K: Kind>(
 
 /// The value of a place's key, which must be there. Takes no memory.
 #[tactic(auto, unfolding(crate::specs::Reading::required))]
-pub(crate) fn required<K: Kind>(
-    table: &Table,
-    place: NetPlace,
-    kind: &K,
-) -> Result<K::Out, NetFault>
+pub fn required<K: Kind>(table: &Table, place: NetPlace, kind: &K) -> Result<K::Out, NetFault>
     ensures reads { Gives result (spec.required place (K.reading kind.now) (table_view table.now)) }
     ensures fits { IfOk result (K.Fits kind.now) }
     ensures takes_no_memory { IfErr result (λ e. ¬ (e ≡ NoMemory)) }
 {
     required_in(place, kind, value_at(table, place.field.key()))
+}
+
+fn optional_in<K: Kind>(
+    place: NetPlace,
+    kind: &K,
+    value: Option<&Value>,
+) -> Result<Option<K::Out>, NetFault>
+    ensures reads { Gives result (spec.optional_in place (K.reading kind.now) (option_map (λ v. view v.now) value.entry)) }
+    ensures fits { IfOk result (λ x. ForSome x (K.Fits kind.now)) }
+    ensures takes_no_memory { IfErr result (λ e. ¬ (e ≡ NoMemory)) }
+{
+    match value {
+        None => Ok(None),
+        Some(value) => match kind.read(value) {
+            Ok(out) => Ok(Some(out)),
+            Err(flaw) => Err(flawed(place, flaw)),
+        },
+    }
+}
+
+/// The value of a place's key, which may be absent. Takes no memory.
+#[tactic(auto, unfolding(crate::specs::Reading::optional))]
+pub fn optional<K: Kind>(
+    table: &Table,
+    place: NetPlace,
+    kind: &K,
+) -> Result<Option<K::Out>, NetFault>
+    ensures reads { Gives result (spec.optional place (K.reading kind.now) (table_view table.now)) }
+    ensures fits { IfOk result (λ x. ForSome x (K.Fits kind.now)) }
+    ensures takes_no_memory { IfErr result (λ e. ¬ (e ≡ NoMemory)) }
+{
+    optional_in(place, kind, value_at(table, place.field.key()))
 }
 
 fn default_in<K: Kind>(
@@ -153,7 +182,7 @@ fn is_among(keys: &[NetField], key: &str) -> bool
 }
 
 /// Whether a table has no key but these.
-pub(crate) fn are_known(table: &Table, keys: &[NetField]) -> bool
+pub fn are_known(table: &Table, keys: &[NetField]) -> bool
     ensures known { result ≡ spec.are_known keys.now (table_view table.now) }
 {
     'members: for (key, _) in table.iter() {

@@ -23,6 +23,7 @@ fn limit_of(section: NetSection) -> usize
         NetSection::Bridge => 64,
         NetSection::Link => 512,
         NetSection::Stream => 1024,
+        NetSection::Traffic => 1024,
     }
 }
 
@@ -58,7 +59,7 @@ fn items_in<'a>(section: NetSection, value: Option<&'a Value>) -> Result<&'a [Va
 }
 
 /// The items of a section of a document. Takes no memory.
-pub(crate) fn items_of<'a>(section: NetSection, table: &'a Table) -> Result<&'a [Value], NetFault>
+pub fn items_of<'a>(section: NetSection, table: &'a Table) -> Result<&'a [Value], NetFault>
     ensures reads { GivesAs (λ x. items_view x.now) result (spec.items_of section (table_view table.now)) }
     ensures few { IfOk result (λ x. length x.now ≤ spec.limit_of section) }
     ensures tables { IfOk result (λ x. all_tables (items_view x.now) ≡ true) }
@@ -68,7 +69,7 @@ pub(crate) fn items_of<'a>(section: NetSection, table: &'a Table) -> Result<&'a 
 }
 
 /// Reads the instances of a section.
-pub(crate) trait RowReader<A: Allocator + Copy> {
+pub trait RowReader<A: Allocator + Copy> {
     /// An instance of the section.
     type Row;
 
@@ -93,7 +94,7 @@ pub(crate) trait RowReader<A: Allocator + Copy> {
 
 /// The instances of a section in their order, or the first fault. `NoMemory` comes only where a growth was refused. What
 /// holds of the instances together must hold of none.
-pub(crate) fn read_rows<A: Allocator + Copy, S: RowReader<A>>(
+pub fn read_rows<A: Allocator + Copy, S: RowReader<A>>(
     alloc: A,
     section: &S,
     items: &[Value],

@@ -24,13 +24,13 @@ use Rattle.bridge_network.specs.Latency.{IsMultiple, ComesInPeriods, StartsInPer
 
 -- COPIES AND THEIR PERIODS
 
-record HasPeriod (base : ℕ) (opens : ℕ → Bool) (occ : Carried → ℕ) (period first last next : ℕ) (y : Copy Carried) : Type 0 where
-  p : ℕ
-  multiple : IsMultiple base p
-  before : p + period ≤ next
-  start : StartsInPeriod opens (occ y.item) y.at first last p y.fate
+pub record HasPeriod (base : ℕ) (opens : ℕ → Bool) (occ : Carried → ℕ) (period first last next : ℕ) (y : Copy Carried) : Type 0 where
+  pub p : ℕ
+  pub multiple : IsMultiple base p
+  pub before : p + period ≤ next
+  pub start : StartsInPeriod opens (occ y.item) y.at first last p y.fate
 
-period_of : (base : ℕ) (opens : ℕ → Bool) (occ : Carried → ℕ) (period first last next : ℕ) (y : Copy Carried) (ys : List (Copy Carried)) → StartInPeriods base opens occ period first last next ys → In y ys → HasPeriod base opens occ period first last next y
+pub period_of : (base : ℕ) (opens : ℕ → Bool) (occ : Carried → ℕ) (period first last next : ℕ) (y : Copy Carried) (ys : List (Copy Carried)) → StartInPeriods base opens occ period first last next ys → In y ys → HasPeriod base opens occ period first last next y
 period_of base opens occ period first last next y [] h i = absurd i
 period_of base opens occ period first last next y (z ∷ zs) h (inl e) =
     let (p, multiple, before, start, rest) = h in
@@ -161,7 +161,7 @@ one_more base speed_occ period from upto least most p next t len os rest (one o 
     let size : speed_occ o.item.len ≡ speed_occ len = ap speed_occ f in
     (p, multiple, before, omega (arith, e, low), omega (arith, e, high), omega (arith, size, short), omega (arith, size, long), more)
 
-offers_of : {A : Type 0} (p : Plan A) (out : PortPlan A) (base c period from upto least most m next t : ℕ) (e : Event) (es : List Event) → IsTimed t e → ((a : Arrival) → e ≡ Arrived a → (least ≤ occupied a.len out.speed) × (occupied a.len out.speed ≤ most)) → IsMultiple base m → m + period ≤ next → from + m ≤ t → t ≤ upto + m → ComesInPeriods base (λ (o : Offer). occupied o.item.len out.speed) period from upto least most m (in_class c (offers p out es)) → ComesInPeriods base (λ (o : Offer). occupied o.item.len out.speed) period from upto least most next (in_class c (offers p out (e ∷ es)))
+pub offers_of : {A : Type 0} (p : Plan A) (out : PortPlan A) (base c period from upto least most m next t : ℕ) (e : Event) (es : List Event) → IsTimed t e → ((a : Arrival) → e ≡ Arrived a → (least ≤ occupied a.len out.speed) × (occupied a.len out.speed ≤ most)) → IsMultiple base m → m + period ≤ next → from + m ≤ t → t ≤ upto + m → ComesInPeriods base (λ (o : Offer). occupied o.item.len out.speed) period from upto least most m (in_class c (offers p out es)) → ComesInPeriods base (λ (o : Offer). occupied o.item.len out.speed) period from upto least most next (in_class c (offers p out (e ∷ es)))
 offers_of p out base c period from upto least most m next t (Cleared v k) es timed size multiple before low high more = weaker base (λ (o : Offer). occupied o.item.len out.speed) period from upto least most m next (in_class c (offers p out es)) (omega (arith, before)) more
 offers_of p out base c period from upto least most m next t (Arrived a) es timed size multiple before low high more =
     let at : a.at ≡ t = timed in

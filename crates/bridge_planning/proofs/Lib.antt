@@ -1,3 +1,4 @@
 pub mod Bounded
+pub mod Gathered
 pub mod Named
 pub mod Timed

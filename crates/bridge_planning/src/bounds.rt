@@ -32,7 +32,7 @@ pub struct QueueBound {
 const QUEUES: u8 = 128;
 
 /// Whether frames of a filter with this reach may be queued in a class of a port.
-fn is_reached<A: Allocator + Copy>(
+pub(crate) fn is_reached<A: Allocator + Copy>(
     plan: &Plan<A>,
     filter: &FilterPlan,
     reach: &Reach,

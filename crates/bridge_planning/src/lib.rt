@@ -1,6 +1,6 @@
 #![tactic(auto)]
-//! What a planner asks of plans beside a run: how long frames may take, and whether a network of bridges isolates its
-//! streams.
+//! What a planner asks of plans beside a run: how long frames may take, whatever their talker sends or where it keeps a
+//! period, and whether a network of bridges isolates its streams.
 
 mod bounds;
 pub mod laws;
@@ -8,9 +8,13 @@ mod network;
 mod printing;
 mod refusing;
 mod streams;
+mod timings;
+mod traffic;
 
 pub use bounds::{QueueBound, bounds_of};
 pub use network::{network_job, tested};
 pub use printing::{bounds_job, bounds_text};
 pub use refusing::said_of_network;
 pub use streams::{bounds_of_all, stream_lines};
+pub use timings::{QueueTiming, are_kept, timings_of, timings_text};
+pub use traffic::traffic_fault;

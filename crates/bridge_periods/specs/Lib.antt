@@ -1,0 +1,4 @@
+pub mod Traffic
+pub mod Waits
+pub mod Timings
+pub mod Passing

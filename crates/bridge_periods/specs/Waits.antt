@@ -1,0 +1,30 @@
+-- How long a frame waits that comes between two moments.
+use Rattle.std.specs.Prelude.{◌≡◌, ℕ, Bool, true, false, ◌+◌, ◌≤◌, ◌%◌, nat_eq}
+use Rattle.bridge_cycle.specs.Moments.{IsFirst}
+use Rattle.bridge_port.specs.Opening.{Always, Exchanged, One, Opening, opens}
+use Rattle.bridge_periods.specs.declared.traffic.Traffic.{Traffic}
+use Rattle.bridge_periods.specs.declared.wait.Waits.{Waits}
+
+-- the longest wait for a fit from a moment between two
+pub record IsLongestWait (opens : ℕ → Bool) (occ from to wait : ℕ) : Type 0 where
+  pub longest : (u s : ℕ) → from ≤ u → u ≤ to → IsFirst opens occ u s → s ≤ u + wait
+  pub attained : (u : ℕ) × (from ≤ u) × (u ≤ to) × IsFirst opens occ u (u + wait)
+
+-- the shortest one
+pub record IsShortestWait (opens : ℕ → Bool) (occ from to wait : ℕ) : Type 0 where
+  pub shortest : (u s : ℕ) → from ≤ u → u ≤ to → IsFirst opens occ u s → u + wait ≤ s
+  pub attained : (u : ℕ) × (from ≤ u) × (u ≤ to) × IsFirst opens occ u (u + wait)
+
+-- whether the lists of a port open at a period's phases what they open in every other period: they aren't exchanged, and
+-- the period is a multiple of their cycle
+abbrev pub repeats_with : ℕ → Opening → Bool
+repeats_with period Always = true
+repeats_with period (One l) = nat_eq (period % l.cycle) 0
+repeats_with period (Exchanged j) = false
+
+-- the moments that are looked up for a class: the first fit of the shortest frame from the first phase on, that of the
+-- longest from the last one on, and the longest wait of the longest between them
+pub record AreWaits (o : Opening) (c short long : ℕ) (t : Traffic) (w : Waits) : Type 0 where
+  pub first : IsFirst (opens o c) short t.from w.first
+  pub last : IsFirst (opens o c) long t.to w.last
+  pub longest : IsLongestWait (opens o c) long t.from t.to w.longest

@@ -1,0 +1,46 @@
+-- The rows of a text of traffic, key by key.
+use Rattle.std.specs.Prelude.{ℕ, ◌-◌, ◌^◌, ◌≤◌, ◌<◌, Bool, List, [], ◌∷◌, Option, Result, Ok}
+use Rattle.std.specs.Option.{ForSome}
+use Rattle.toml.specs.Data.{Members}
+use Rattle.bridge_base.specs.declared.TheConstants.{END_OF_TIME, LONGEST_FRAME}
+use Rattle.bridge_keys.specs.Readers.{◌>>=◌, between}
+use Rattle.bridge_netfile.specs.declared.fault.NetSection.TheVariants as section
+use Rattle.bridge_netfile.specs.declared.fault.NetField.{NetField}
+use Rattle.bridge_netfile.specs.declared.fault.NetField.TheVariants as field
+use Rattle.bridge_netfile.specs.declared.fault.NetPlace.{NetPlace}
+use Rattle.bridge_netfile.specs.declared.fault.NetFault.{NetFault}
+use Rattle.bridge_netfile.specs.declared.fault.NetFault.TheVariants as fault
+use Rattle.bridge_netfile.specs.Reading.{are_known, optional, provided, required}
+use Rattle.bridge_periods.specs.Traffic.{IsTraffic}
+use Rattle.bridge_traffic.specs.declared.rows.TrafficRow.{TrafficRow}
+
+-- the keys of a row
+abbrev pub row_keys : List NetField
+row_keys = field.Filter ∷ field.Period ∷ field.From ∷ field.To ∷ field.Least ∷ field.Longest ∷ field.Deadline ∷ []
+
+-- a row, by its place
+unfoldable pub row_of : ℕ → Members → Result TrafficRow NetFault
+row_of index members =
+    let at : NetField → NetPlace = λ key. record { section = section.Traffic; index = index; field = key } in do
+      keys ← provided (are_known row_keys members) (fault.UnknownKey section.Traffic index)
+      filter ← required (at field.Filter) (between 0 (2 ^ 32 - 1)) members
+      period ← required (at field.Period) (between 1 END_OF_TIME) members
+      from ← required (at field.From) (between 0 (period - 1)) members
+      to ← required (at field.To) (between from (period - 1)) members
+      least ← required (at field.Least) (between 1 LONGEST_FRAME) members
+      longest ← required (at field.Longest) (between least LONGEST_FRAME) members
+      deadline ← optional (at field.Deadline) (between 0 END_OF_TIME) members
+      Ok (record {
+        filter = filter;
+        traffic = record { period = period; from = from; to = to; least = least; longest = longest };
+        deadline = deadline;
+      })
+
+-- the same, by the rows before it, which play no part
+abbrev pub row_at : List TrafficRow → ℕ → Members → Result TrafficRow NetFault
+row_at earlier index members = row_of index members
+
+-- what a row keeps
+pub record IsRow (r : TrafficRow) : Type 0 where
+  pub traffic : IsTraffic r.traffic
+  pub deadline : ForSome r.deadline (λ d. d ≤ END_OF_TIME)

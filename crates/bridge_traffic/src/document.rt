@@ -1,0 +1,45 @@
+//! The rows of a text.
+ghost use Rattle.std.specs.Prelude.{◌≡◌, ◌≤◌, All, IfErr, IfOk, length};
+ghost use Rattle.toml.specs.View.{items_view, table_view};
+ghost use Rattle.bridge_netfile.specs.declared.fault.NetFault.TheVariants.{NoMemory};
+ghost use Rattle.bridge_netfile.specs.Reading.{GivesAs};
+ghost use Rattle.bridge_traffic.specs.Document as doc;
+ghost use Rattle.bridge_traffic.specs.Rows.{IsRow};
+
+use crate::rows::{Rows, TrafficRow};
+use bridge_netfile::{NetFault, NetSection, are_sections, document_of, items_of, read_rows};
+use std::alloc::{Allocator, Global};
+use toml::{Table, Value};
+
+/// The items of the one section of a document. Takes no memory.
+#[tactic(auto, unfolding(crate::specs::Document::row_items))]
+fn row_items<'a>(table: &'a Table) -> Result<&'a [Value], NetFault>
+    ensures reads { GivesAs (λ x. items_view x.now) result (doc.row_items (table_view table.now)) }
+    ensures few { IfOk result (λ x. length x.now ≤ 1024) }
+    ensures takes_no_memory { IfErr result (λ e. ¬ (e ≡ NoMemory)) }
+{
+    if !are_sections(&[NetSection::Traffic], table) {
+        return Err(NetFault::UnknownKey(NetSection::Top, 0));
+    }
+    items_of(NetSection::Traffic, table)
+}
+
+/// The rows of a TOML text, or its first fault: `TooLong`, `Syntax`, an unknown key at the top, then the array as such
+/// (`NotAList`, `TooMany`), then row by row and key by key, in the order filter, period, from, to, least, longest, deadline.
+/// A phase that doesn't lie in the period, or a last one before the first, is `OutOfRange`, and so are lengths. A text
+/// without rows has none. It knows no plan. `NoMemory` comes only where a growth was refused.
+///
+/// The document is read in `heap`, the rows are made in `alloc`.
+pub fn traffic_of<A: Allocator + Copy>(
+    alloc: A,
+    heap: Global,
+    text: &[u8],
+) -> Result<Vec<TrafficRow, A>, NetFault>
+    ensures reads { GivesAs (λ v. v.items) result (doc.rows_of_text text.now) }
+    ensures rows { IfOk result (λ v. All IsRow v.items) }
+    ensures few { IfOk result (λ v. length v.items ≤ 1024) }
+{
+    let document = document_of(heap, text)?;
+    let items = row_items(&document)?;
+    read_rows(alloc, &Rows, items)
+}

@@ -1,0 +1,129 @@
+//! The rows of a text of traffic.
+ghost use Rattle.std.specs.Prelude.{◌≡◌, All, IfErr, IfOk};
+ghost use Rattle.toml.specs.View.{table_view};
+ghost use Rattle.bridge_netfile.specs.declared.fault.NetFault.TheVariants.{NoMemory};
+ghost use Rattle.bridge_netfile.specs.declared.fault.NetSection.TheVariants as the_section;
+ghost use Rattle.bridge_netfile.specs.Reading.{Gives};
+ghost use Rattle.bridge_traffic.specs.Rows as spec;
+ghost use Rattle.bridge_traffic.specs.Rows.{IsRow};
+
+use bridge_base::{END_OF_TIME, LONGEST_FRAME};
+use bridge_keys::Between;
+use bridge_netfile::{
+    NetFault, NetField, NetPlace, NetSection, RowReader, are_known, optional, required,
+};
+use bridge_periods::Traffic;
+use std::alloc::Allocator;
+use toml::Table;
+
+/// The frames of a filter that come once in each period.
+#[derive(Clone, Copy, Debug, PartialEq, Eq)]
+pub struct TrafficRow {
+    /// The number of the filter.
+    pub filter: u32,
+    /// When its frames come, and how long they are.
+    pub traffic: Traffic,
+    /// How long one may take at most in each queue, in ns from when it came until it is done.
+    pub deadline: Option<u64>,
+}
+
+/// The keys of a row.
+const KEYS: [NetField; 7] = [
+    NetField::Filter,
+    NetField::Period,
+    NetField::From,
+    NetField::To,
+    NetField::Least,
+    NetField::Longest,
+    NetField::Deadline,
+];
+
+/// The row of a table, by its place.
+#[tactic(auto, unfolding(crate::specs::Rows::row_of))]
+fn row_of(index: u32, table: &Table) -> Result<TrafficRow, NetFault>
+    ensures reads { Gives result (spec.row_of index (table_view table.now)) }
+    ensures row { IfOk result IsRow }
+    ensures takes_no_memory { IfErr result (λ e. ¬ (e ≡ NoMemory)) }
+{
+    let at = |field: NetField| -> NetPlace
+        ensures { result ≡ record { section = the_section.Traffic; index = index; field = field } }
+    {
+        NetPlace {
+            section: NetSection::Traffic,
+            index,
+            field,
+        }
+    };
+    if !are_known(table, &KEYS) {
+        return Err(NetFault::UnknownKey(NetSection::Traffic, index));
+    }
+    let numbers = Between {
+        low: 0,
+        high: 4_294_967_295,
+    };
+    let filter = required(table, at(NetField::Filter), &numbers)?;
+    let periods = Between {
+        low: 1,
+        high: END_OF_TIME,
+    };
+    let period = required(table, at(NetField::Period), &periods)?;
+    let last = period - 1;
+    let from = required(table, at(NetField::From), &Between { low: 0, high: last })?;
+    let to = required(
+        table,
+        at(NetField::To),
+        &Between {
+            low: from,
+            high: last,
+        },
+    )?;
+    let lengths = Between {
+        low: 1,
+        high: LONGEST_FRAME as u64,
+    };
+    let least = required(table, at(NetField::Least), &lengths)?;
+    let longer = Between {
+        low: least,
+        high: LONGEST_FRAME as u64,
+    };
+    let longest = required(table, at(NetField::Longest), &longer)?;
+    let times = Between {
+        low: 0,
+        high: END_OF_TIME,
+    };
+    let deadline = optional(table, at(NetField::Deadline), &times)?;
+    Ok(TrafficRow {
+        filter: filter as u32,
+        traffic: Traffic {
+            period,
+            from,
+            to,
+            least: least as u32,
+            longest: longest as u32,
+        },
+        deadline,
+    })
+}
+
+/// The section of traffic.
+#[derive(Clone, Copy)]
+pub(crate) struct Rows;
+
+impl<A: Allocator + Copy> RowReader<A> for Rows {
+    type Row = TrafficRow;
+
+    ghost reading = { λ _. spec.row_at };
+
+    ghost Keeps = { λ _. All IsRow };
+
+    #[tactic(auto, using(crate::proofs::Own::each_push))]
+    fn read(
+        &self,
+        _alloc: A,
+        _earlier: &[TrafficRow],
+        index: u32,
+        table: &Table,
+    ) -> Result<TrafficRow, NetFault> {
+        row_of(index, table)
+    }
+}
