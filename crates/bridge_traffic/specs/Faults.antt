@@ -1,11 +1,10 @@
 -- What is wrong with a text of traffic, by itself and by the plan for which it is, and the line that says so.
-use Rattle.std.specs.Prelude.{ℕ, List, codes}
-use Rattle.bridge_netfile.specs.declared.fault.NetSection.TheVariants as section
-use Rattle.bridge_netfile.specs.Lines.{instance, line_for, refused_at}
+use Rattle.std.specs.Prelude.{ℕ, List, ◌++◌, codes, decimal}
+use Rattle.bridge_netfile.specs.Lines.{line_for}
 use Rattle.bridge_traffic.specs.declared.fault.TrafficFault.{TrafficFault}
 use Rattle.bridge_traffic.specs.declared.fault.TrafficFault.TheVariants as fault
 
 -- the line of a fault, without a line feed
 abbrev pub traffic_line : TrafficFault → List ℕ
 traffic_line (fault.Text e) = line_for (codes "traffic") e
-traffic_line (fault.NotProtected index) = refused_at (codes "traffic") (codes "NotProtected") (instance section.Traffic index)
+traffic_line (fault.NotProtected index) = codes "traffic refused: NotProtected traffic " ++ decimal index
