@@ -77,7 +77,7 @@ fn said_of_job<H: AllocGlobal + Files>(
 fn plan_path(job: &Job) -> Option<&str> {
     match job {
         Job::Check { plan } => Some(plan.as_str()),
-        Job::Bounds { plan } => Some(plan.as_str()),
+        Job::Bounds { plan, .. } => Some(plan.as_str()),
         Job::Run { plan, .. } => Some(plan.as_str()),
         Job::Picture { plan, .. } => Some(plan.as_str()),
         _ => None,

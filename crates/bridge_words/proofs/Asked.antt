@@ -5,7 +5,7 @@ use Rattle.clap.specs.Words.{Row, Text, fault_of, subcommand_of}
 use Rattle.clap.proofs.OnLiterals.{clap_on_literals}
 use Rattle.bridge_words.specs.declared.job.Job.{Job}
 use Rattle.bridge_words.specs.declared.job.Job.TheVariants as job
-use Rattle.bridge_words.specs.CommandLine.{AsksFor, AsksForCheck, AsksForNetwork, AsksForPicture, AsksForRun, AsksForWire, commands}
+use Rattle.bridge_words.specs.CommandLine.{AsksFor, AsksForBounds, AsksForCheck, AsksForNetwork, AsksForNetworkRun, AsksForPicture, AsksForRun, AsksForWire, commands}
 use Rattle.bridge_words.specs.Helping.{IsHelp}
 
 -- the name of what was found stands before its values
@@ -30,28 +30,32 @@ pub asks_for_none : (words : List Text) (name : Text) (values : List Row) (found
     → (name ≡ codes "check" → (plan : Text) → ¬ AsksForCheck values plan)
     → (name ≡ codes "run" → (plan input output : Text) (commands : Option Text) → ¬ AsksForRun values plan input output commands)
     → (name ≡ codes "picture" → (plan file : Text) → ¬ AsksForPicture values plan file)
-    → (name ≡ codes "bounds" → (plan : Text) → ¬ AsksForCheck values plan)
+    → (name ≡ codes "bounds" → (plan : Text) (traffic : Option Text) → ¬ AsksForBounds values plan traffic)
     → (name ≡ codes "net" → (network : Text) → ¬ AsksForNetwork values network)
+    → (name ≡ codes "net" → (network input output : Text) (picture : Option Text) → ¬ AsksForNetworkRun values network input output picture)
     → (asked : Job) → ¬ AsksFor words asked
-asks_for_none words name values found some same named rows wire check run picture bounds net job.Text asks = some asks
-asks_for_none words name values found some same named rows wire check run picture bounds net (job.Wire speed room input output) (own, names, asks) =
+asks_for_none words name values found some same named rows wire check run picture bounds net nets job.Text asks = some asks
+asks_for_none words name values found some same named rows wire check run picture bounds net nets (job.Wire speed room input output) (own, names, asks) =
     wire (named_so name found _ own named (same ∙ names.named)) speed room (string_bytes input) (string_bytes output)
     (subst (λ v. AsksForWire v speed room (string_bytes input) (string_bytes output)) (values_so values found _ own rows (same ∙ names.named)) asks)
-asks_for_none words name values found some same named rows wire check run picture bounds net (job.Check plan) (own, names, asks) =
+asks_for_none words name values found some same named rows wire check run picture bounds net nets (job.Check plan) (own, names, asks) =
     check (named_so name found _ own named (same ∙ names.named)) (string_bytes plan)
     (subst (λ v. AsksForCheck v (string_bytes plan)) (values_so values found _ own rows (same ∙ names.named)) asks)
-asks_for_none words name values found some same named rows wire check run picture bounds net (job.Run plan input output file) (own, names, asks) =
+asks_for_none words name values found some same named rows wire check run picture bounds net nets (job.Run plan input output file) (own, names, asks) =
     run (named_so name found _ own named (same ∙ names.named)) (string_bytes plan) (string_bytes input) (string_bytes output) (option_map string_bytes file)
     (subst (λ v. AsksForRun v (string_bytes plan) (string_bytes input) (string_bytes output) (option_map string_bytes file)) (values_so values found _ own rows (same ∙ names.named)) asks)
-asks_for_none words name values found some same named rows wire check run picture bounds net (job.Picture plan file) (own, names, asks) =
+asks_for_none words name values found some same named rows wire check run picture bounds net nets (job.Picture plan file) (own, names, asks) =
     picture (named_so name found _ own named (same ∙ names.named)) (string_bytes plan) (string_bytes file)
     (subst (λ v. AsksForPicture v (string_bytes plan) (string_bytes file)) (values_so values found _ own rows (same ∙ names.named)) asks)
-asks_for_none words name values found some same named rows wire check run picture bounds net (job.Bounds plan) (own, names, asks) =
-    bounds (named_so name found _ own named (same ∙ names.named)) (string_bytes plan)
-    (subst (λ v. AsksForCheck v (string_bytes plan)) (values_so values found _ own rows (same ∙ names.named)) asks)
-asks_for_none words name values found some same named rows wire check run picture bounds net (job.Network network) (own, names, asks) =
+asks_for_none words name values found some same named rows wire check run picture bounds net nets (job.Bounds plan traffic) (own, names, asks) =
+    bounds (named_so name found _ own named (same ∙ names.named)) (string_bytes plan) (option_map string_bytes traffic)
+    (subst (λ v. AsksForBounds v (string_bytes plan) (option_map string_bytes traffic)) (values_so values found _ own rows (same ∙ names.named)) asks)
+asks_for_none words name values found some same named rows wire check run picture bounds net nets (job.Network network) (own, names, asks) =
     net (named_so name found _ own named (same ∙ names.named)) (string_bytes network)
     (subst (λ v. AsksForNetwork v (string_bytes network)) (values_so values found _ own rows (same ∙ names.named)) asks)
+asks_for_none words name values found some same named rows wire check run picture bounds net nets (job.RunNetwork network input output file) (own, names, asks) =
+    nets (named_so name found _ own named (same ∙ names.named)) (string_bytes network) (string_bytes input) (string_bytes output) (option_map string_bytes file)
+    (subst (λ v. AsksForNetworkRun v (string_bytes network) (string_bytes input) (string_bytes output) (option_map string_bytes file)) (values_so values found _ own rows (same ∙ names.named)) asks)
 
 -- nothing is wrong with no words
 no_words : fault_of commands [] ≡ []
@@ -68,6 +72,7 @@ no_job words job.Text help asks = no_help (subst IsHelp (ap (fault_of commands) 
 no_job words (job.Wire speed room input output) help (own, names, asks) = no_help (subst IsHelp names.faultless help)
 no_job words (job.Check plan) help (own, names, asks) = no_help (subst IsHelp names.faultless help)
 no_job words (job.Run plan input output file) help (own, names, asks) = no_help (subst IsHelp names.faultless help)
-no_job words (job.Bounds plan) help (own, names, asks) = no_help (subst IsHelp names.faultless help)
+no_job words (job.Bounds plan traffic) help (own, names, asks) = no_help (subst IsHelp names.faultless help)
+no_job words (job.RunNetwork network input output file) help (own, names, asks) = no_help (subst IsHelp names.faultless help)
 no_job words (job.Network network) help (own, names, asks) = no_help (subst IsHelp names.faultless help)
 no_job words (job.Picture plan file) help (own, names, asks) = no_help (subst IsHelp names.faultless help)

@@ -1,5 +1,5 @@
 -- The command line: its words, as `clap` reads them, and the job that they ask for.
-use Rattle.std.specs.Prelude.{◌≡◌, ◌≤◌, ℕ, List, [], Option, Some, true, codes, fold, option_map, string_bytes}
+use Rattle.std.specs.Prelude.{◌≡◌, ◌≤◌, ℕ, List, [], Option, None, Some, true, codes, fold, option_map, string_bytes}
 use Rattle.std.specs.Str.Parse.{digits_value}
 use Rattle.bridge_frame.specs.declared.Speed.{Speed}
 use Rattle.bridge_port.specs.declared.queues.TheConstants.{LARGEST_ROOM}
@@ -22,6 +22,10 @@ use Rattle.bridge_words.specs.Numbers.{IsRoom, IsSpeed}
 -- a word that has to be there
 abbrev pub word_named : Text → Rule
 word_named name = record (new_rule name) { required = true; value_names = 1 }
+
+-- a word that need not be there, behind those that have to be
+abbrev pub extra_named : Text → Rule
+extra_named name = record (new_rule name) { value_names = 1 }
 
 -- an option of this name with a value, which need not be there
 abbrev pub option_named : Text → Rule
@@ -51,13 +55,15 @@ run_command = with_rule (with_rule (with_rule (with_rule (with_rule (with_rule (
 abbrev pub picture_command : App
 picture_command = with_rule (with_rule (with_rule (new_app (codes "picture")) (word_named (codes "plan"))) (word_named (codes "file"))) (flag_named (codes "explain"))
 
--- `bounds PLAN`
+-- `bounds PLAN`, with `--traffic FILE` if traffic is told
 abbrev pub bounds_command : App
-bounds_command = with_rule (with_rule (new_app (codes "bounds")) (word_named (codes "plan"))) (flag_named (codes "explain"))
+bounds_command = with_rule (with_rule (with_rule (new_app (codes "bounds")) (word_named (codes "plan"))) (option_named (codes "traffic"))) (flag_named (codes "explain"))
 
--- `net check NET`
+-- `net check NET`, which has two words, and `net NET IN OUT`, which has three
 abbrev pub net_command : App
-net_command = with_rule (with_rule (with_rule (new_app (codes "net")) (word_named (codes "task"))) (word_named (codes "network"))) (flag_named (codes "explain"))
+net_command = with_rule (with_rule (with_rule (with_rule (with_rule (with_rule (new_app (codes "net"))
+    (word_named (codes "first"))) (word_named (codes "second"))) (extra_named (codes "output"))) (option_named (codes "picture")))
+    (flag_named (codes "strict"))) (flag_named (codes "explain"))
 
 -- the program, whose words don't begin with its name, with a version for itself and each command
 abbrev pub program : App
@@ -90,6 +96,7 @@ commands = with_subcommand bridge_jobs net_command.top
 -- what `clap` reads of a word of a command's description
 abbrev pub rule_in : Form → Text → Rule
 rule_in form.Place name = word_named name
+rule_in form.Extra name = extra_named name
 rule_in form.Choice name = option_named name
 rule_in form.Flag name = flag_named name
 
@@ -138,15 +145,31 @@ pub record AsksForRun (values : List Row) (plan input output : Text) (commands :
 abbrev pub AsksForPicture : List Row → Text → Text → Type 0
 AsksForPicture values plan file = (first_of (codes "plan") values ≡ Some plan) × (first_of (codes "file") values ≡ Some file)
 
--- the values of `net` are the word `check` and the path of a network
-abbrev pub AsksForNetwork : List Row → Text → Type 0
-AsksForNetwork values network = (first_of (codes "task") values ≡ Some (codes "check")) × (first_of (codes "network") values ≡ Some network)
+-- the values of `bounds` are the path of a plan, and that of the traffic that its talkers send where it is told
+pub record AsksForBounds (values : List Row) (plan : Text) (traffic : Option Text) : Type 0 where
+  pub plan_is : first_of (codes "plan") values ≡ Some plan
+  pub traffic_is : first_of (codes "traffic") values ≡ traffic
+
+-- the values of `net` are the word `check` and the path of a network, without a third word and without a picture
+pub record AsksForNetwork (values : List Row) (network : Text) : Type 0 where
+  pub task_is : first_of (codes "first") values ≡ Some (codes "check")
+  pub network_is : first_of (codes "second") values ≡ Some network
+  pub ends : first_of (codes "output") values ≡ None
+  pub undrawn : first_of (codes "picture") values ≡ None
+
+-- the values of `net` are the path of a network, those of two folders, and that of a picture where one is wanted
+pub record AsksForNetworkRun (values : List Row) (network input output : Text) (picture : Option Text) : Type 0 where
+  pub network_is : first_of (codes "first") values ≡ Some network
+  pub input_is : first_of (codes "second") values ≡ Some input
+  pub output_is : first_of (codes "output") values ≡ Some output
+  pub picture_is : first_of (codes "picture") values ≡ picture
 
 -- a job of `wire`, by the values of the command
 abbrev pub IsWireJob : List Row → Job → Type 0
 IsWireJob values job.Text = ⊥
-IsWireJob values (job.Bounds plan) = ⊥
+IsWireJob values (job.Bounds plan traffic) = ⊥
 IsWireJob values (job.Network network) = ⊥
+IsWireJob values (job.RunNetwork network input output picture) = ⊥
 IsWireJob values (job.Picture plan file) = ⊥
 IsWireJob values (job.Check plan) = ⊥
 IsWireJob values (job.Run plan input output file) = ⊥
@@ -155,8 +178,9 @@ IsWireJob values (job.Wire speed room input output) = AsksForWire values speed r
 -- a job of `check`, by the values of the command
 abbrev pub IsCheckJob : List Row → Job → Type 0
 IsCheckJob values job.Text = ⊥
-IsCheckJob values (job.Bounds plan) = ⊥
+IsCheckJob values (job.Bounds plan traffic) = ⊥
 IsCheckJob values (job.Network network) = ⊥
+IsCheckJob values (job.RunNetwork network input output picture) = ⊥
 IsCheckJob values (job.Picture plan file) = ⊥
 IsCheckJob values (job.Wire speed room input output) = ⊥
 IsCheckJob values (job.Run plan input output file) = ⊥
@@ -165,8 +189,9 @@ IsCheckJob values (job.Check plan) = AsksForCheck values (string_bytes plan)
 -- a job of `run`, by the values of the command
 abbrev pub IsRunJob : List Row → Job → Type 0
 IsRunJob values job.Text = ⊥
-IsRunJob values (job.Bounds plan) = ⊥
+IsRunJob values (job.Bounds plan traffic) = ⊥
 IsRunJob values (job.Network network) = ⊥
+IsRunJob values (job.RunNetwork network input output picture) = ⊥
 IsRunJob values (job.Picture plan file) = ⊥
 IsRunJob values (job.Wire speed room input output) = ⊥
 IsRunJob values (job.Check plan) = ⊥
@@ -175,8 +200,9 @@ IsRunJob values (job.Run plan input output file) = AsksForRun values (string_byt
 -- a job of `picture`, by the values of the command
 abbrev pub IsPictureJob : List Row → Job → Type 0
 IsPictureJob values job.Text = ⊥
-IsPictureJob values (job.Bounds plan) = ⊥
+IsPictureJob values (job.Bounds plan traffic) = ⊥
 IsPictureJob values (job.Network network) = ⊥
+IsPictureJob values (job.RunNetwork network input output picture) = ⊥
 IsPictureJob values (job.Wire speed room input output) = ⊥
 IsPictureJob values (job.Check plan) = ⊥
 IsPictureJob values (job.Run plan input output file) = ⊥
@@ -190,7 +216,8 @@ IsBoundsJob values (job.Check plan) = ⊥
 IsBoundsJob values (job.Run plan input output file) = ⊥
 IsBoundsJob values (job.Picture plan file) = ⊥
 IsBoundsJob values (job.Network network) = ⊥
-IsBoundsJob values (job.Bounds plan) = AsksForCheck values (string_bytes plan)
+IsBoundsJob values (job.RunNetwork network input output picture) = ⊥
+IsBoundsJob values (job.Bounds plan traffic) = AsksForBounds values (string_bytes plan) (option_map string_bytes traffic)
 
 -- a job of `net`, by the values of the command
 abbrev pub IsNetworkJob : List Row → Job → Type 0
@@ -199,8 +226,9 @@ IsNetworkJob values (job.Wire speed room input output) = ⊥
 IsNetworkJob values (job.Check plan) = ⊥
 IsNetworkJob values (job.Run plan input output file) = ⊥
 IsNetworkJob values (job.Picture plan file) = ⊥
-IsNetworkJob values (job.Bounds plan) = ⊥
+IsNetworkJob values (job.Bounds plan traffic) = ⊥
 IsNetworkJob values (job.Network network) = AsksForNetwork values (string_bytes network)
+IsNetworkJob values (job.RunNetwork network input output picture) = AsksForNetworkRun values (string_bytes network) (string_bytes input) (string_bytes output) (option_map string_bytes picture)
 
 -- the words ask for this job
 abbrev pub AsksFor : List Text → Job → Type 0
@@ -211,10 +239,12 @@ AsksFor words (job.Check plan) =
     (values : List Row) × Names words (codes "check") values × AsksForCheck values (string_bytes plan)
 AsksFor words (job.Run plan input output file) =
     (values : List Row) × Names words (codes "run") values × AsksForRun values (string_bytes plan) (string_bytes input) (string_bytes output) (option_map string_bytes file)
-AsksFor words (job.Bounds plan) =
-    (values : List Row) × Names words (codes "bounds") values × AsksForCheck values (string_bytes plan)
+AsksFor words (job.Bounds plan traffic) =
+    (values : List Row) × Names words (codes "bounds") values × AsksForBounds values (string_bytes plan) (option_map string_bytes traffic)
 AsksFor words (job.Network network) =
     (values : List Row) × Names words (codes "net") values × AsksForNetwork values (string_bytes network)
+AsksFor words (job.RunNetwork network input output picture) =
+    (values : List Row) × Names words (codes "net") values × AsksForNetworkRun values (string_bytes network) (string_bytes input) (string_bytes output) (option_map string_bytes picture)
 AsksFor words (job.Picture plan file) =
     (values : List Row) × Names words (codes "picture") values × AsksForPicture values (string_bytes plan) (string_bytes file)
 
@@ -223,7 +253,8 @@ abbrev pub HasRoom : Job → Type 0
 HasRoom job.Text = Unit {0}
 HasRoom (job.Check plan) = Unit {0}
 HasRoom (job.Picture plan file) = Unit {0}
-HasRoom (job.Bounds plan) = Unit {0}
+HasRoom (job.Bounds plan traffic) = Unit {0}
 HasRoom (job.Network network) = Unit {0}
+HasRoom (job.RunNetwork network input output picture) = Unit {0}
 HasRoom (job.Run plan input output file) = Unit {0}
 HasRoom (job.Wire speed room input output) = (1 ≤ room) × (room ≤ LARGEST_ROOM)

@@ -4,7 +4,7 @@ use Rattle.clap.specs.Words.{Text, fault_of, first_of, subcommand_of}
 use Rattle.clap.specs.declared.error.kind.ErrorKind.TheVariants.{ArgumentConflict, DisplayHelp, DisplayVersion, MissingRequiredArgument, UnknownArgument}
 use Rattle.clap.proofs.OnLiterals.{clap_on_literals}
 use Rattle.bridge_words.specs.CommandLine.{commands}
-use Rattle.bridge_words.specs.Helping.{explains}
+use Rattle.bridge_words.specs.Helping.{explains, is_strict}
 
 -- `wire 1000 4 a.pcap b.pcap`
 abbrev wire_words : List Text
@@ -147,6 +147,74 @@ path_flag = refl
 
 pub path_explains : explains path_words ≡ false
 path_explains = refl
+
+-- `bounds plan.toml --traffic talkers.toml`
+abbrev traffic_words : List Text
+traffic_words = codes "bounds" ∷ codes "plan.toml" ∷ codes "--traffic" ∷ codes "talkers.toml" ∷ []
+
+-- nothing is wrong with these words
+pub traffic_faultless : fault_of commands traffic_words ≡ []
+unfolding clap_on_literals
+traffic_faultless = refl
+
+-- the option has its value
+pub traffic_file : option_map (λ p. first_of (codes "traffic") p.1) (subcommand_of commands traffic_words) ≡ Some (Some (codes "talkers.toml"))
+unfolding clap_on_literals
+traffic_file = refl
+
+-- `net check net.toml --strict`
+abbrev net_check_words : List Text
+net_check_words = codes "net" ∷ codes "check" ∷ codes "net.toml" ∷ codes "--strict" ∷ []
+
+-- nothing is wrong with these words, though the third place is empty
+pub net_check_faultless : fault_of commands net_check_words ≡ []
+unfolding clap_on_literals
+net_check_faultless = refl
+
+pub net_check_network : option_map (λ p. first_of (codes "second") p.1) (subcommand_of commands net_check_words) ≡ Some (Some (codes "net.toml"))
+unfolding clap_on_literals
+net_check_network = refl
+
+pub net_check_output : option_map (λ p. first_of (codes "output") p.1) (subcommand_of commands net_check_words) ≡ Some None
+unfolding clap_on_literals
+net_check_output = refl
+
+pub net_check_strict : is_strict net_check_words ≡ true
+net_check_strict = refl
+
+-- `net net.toml in --picture run.svg out`
+abbrev net_words : List Text
+net_words = codes "net" ∷ codes "net.toml" ∷ codes "in" ∷ codes "--picture" ∷ codes "run.svg" ∷ codes "out" ∷ []
+
+-- nothing is wrong with these words
+pub net_faultless : fault_of commands net_words ≡ []
+unfolding clap_on_literals
+net_faultless = refl
+
+-- each value goes by its name
+pub net_input : option_map (λ p. first_of (codes "second") p.1) (subcommand_of commands net_words) ≡ Some (Some (codes "in"))
+unfolding clap_on_literals
+net_input = refl
+
+pub net_output : option_map (λ p. first_of (codes "output") p.1) (subcommand_of commands net_words) ≡ Some (Some (codes "out"))
+unfolding clap_on_literals
+net_output = refl
+
+pub net_picture : option_map (λ p. first_of (codes "picture") p.1) (subcommand_of commands net_words) ≡ Some (Some (codes "run.svg"))
+unfolding clap_on_literals
+net_picture = refl
+
+pub net_strict : is_strict net_words ≡ false
+net_strict = refl
+
+-- a network alone, and four words
+pub net_missing : fault_of commands (codes "net" ∷ codes "net.toml" ∷ []) ≡ MissingRequiredArgument ∷ []
+unfolding clap_on_literals
+net_missing = refl
+
+pub net_too_many : fault_of commands (codes "net" ∷ codes "a" ∷ codes "b" ∷ codes "c" ∷ codes "d" ∷ []) ≡ UnknownArgument ∷ []
+unfolding clap_on_literals
+net_too_many = refl
 
 -- a missing word, a word too many, a request for help or for a version
 pub one_missing : fault_of commands (codes "wire" ∷ codes "1000" ∷ codes "4" ∷ codes "a.pcap" ∷ []) ≡ MissingRequiredArgument ∷ []

@@ -1,4 +1,4 @@
--- What the words ask of the program beside a job: its help, its version, an explanation.
+-- What the words ask of the program beside a job: its help, its version, an explanation, strictness.
 use Rattle.std.specs.Prelude.{◌≡◌, ◌⊎◌, ◌&&◌, ◌||◌, Bool, List, [], ◌∷◌, true, false, not, codes}
 use Rattle.std.specs.Str.{bytes_eq}
 use Rattle.clap.specs.Words.{IsAmong, Kinds, Text}
@@ -23,7 +23,15 @@ IsHelp kinds = IsAmong kind.DisplayHelp kinds ⊎ IsAmong kind.DisplayVersion ki
 abbrev pub AsksForHelp : Kinds → Type 0
 AsksForHelp kinds = (kinds ≡ kind.DisplayHelp ∷ []) ⊎ (kinds ≡ kind.DisplayVersion ∷ [])
 
+-- a flag is among the words before the first `--`
+abbrev pub has_flag : Text → List Text → Bool
+has_flag flag [] = false
+has_flag flag (word ∷ rest) = not (bytes_eq word (codes "--")) && (bytes_eq word flag || has_flag flag rest)
+
 -- `--explain` is among the words before the first `--`
 abbrev pub explains : List Text → Bool
-explains [] = false
-explains (word ∷ rest) = not (bytes_eq word (codes "--")) && (bytes_eq word (codes "--explain") || explains rest)
+explains words = has_flag (codes "--explain") words
+
+-- `--strict` is among the words before the first `--`
+abbrev pub is_strict : List Text → Bool
+is_strict words = has_flag (codes "--strict") words

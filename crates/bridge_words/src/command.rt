@@ -13,6 +13,8 @@ use std::alloc::{AllocError, Global};
 pub(crate) enum Form {
     /// In its place, where it has to be.
     Place,
+    /// In its place behind those that have to be there, which need not be there.
+    Extra,
     /// Behind its name as an option, which need not be there.
     Choice,
     /// As the name of an option alone, which need not be there.
@@ -200,46 +202,76 @@ Statuses:
 const BOUNDS: Description = Description {
     name: "bounds",
     about: "Say how long the frames of protected streams may take",
-    words: &[PLAN, EXPLAIN],
+    words: &[
+        PLAN,
+        Word {
+            id: "traffic",
+            value: "FILE",
+            form: Form::Choice,
+            help: "file of the traffic of the streams' talkers (TOML, at most 1,048,576 octets)",
+        },
+        EXPLAIN,
+    ],
     after: "\
 For each queue of each protected filter one line: the most ns from a frame's arrival until it is out,
-whatever its talker and all others do.
+whatever its talker and all others do. With traffic, for each stream that has a period what its frames
+take while its talker keeps to it.
 
 Example:
   tsnbridge bounds examples/base.toml
 
 Statuses:
-  0  the plan is accepted; a line for each queue has its bound
-  1  the plan is refused
+  0  the plan is accepted, and traffic is in time; a line for each queue has its bound
+  1  the plan or the traffic is refused, or a frame may be refused or late
   3  a file, a read, a write or memory failed
   4  the words are refused",
 };
 
 const NET: Description = Description {
     name: "net",
-    about: "Say whether a network of bridges protects its streams",
+    about: "Say whether a network of bridges protects its streams, or send captures through it",
     words: &[
         Word {
-            id: "task",
-            value: "check",
+            id: "first",
+            value: "check|NET",
             form: Form::Place,
-            help: "what to do with the network: check",
+            help: "check; or file of a network that runs (TOML, at most 1,048,576 octets), its plans beside it",
         },
         Word {
-            id: "network",
-            value: "NET",
+            id: "second",
+            value: "NET|IN",
             form: Form::Place,
-            help: "file of the network (TOML, at most 1,048,576 octets); its plans lie beside it",
+            help: "behind check the file of the network; else folder of what is read, <bridge>/<port>.pcap",
+        },
+        Word {
+            id: "output",
+            value: "OUT",
+            form: Form::Extra,
+            help: "folder of what is written, <bridge>/<port>.pcap and more; it isn't IN",
+        },
+        Word {
+            id: "picture",
+            value: "FILE",
+            form: Form::Choice,
+            help: "file of a picture of a run, which is made too (SVG)",
+        },
+        Word {
+            id: "strict",
+            value: "",
+            form: Form::Flag,
+            help: "end with status 1 where something is told of a network that is accepted",
         },
         EXPLAIN,
     ],
     after: "\
-Example:
+Examples:
   tsnbridge net check examples/line/network.toml
+  tsnbridge net examples/line/network.toml in out
 
 Statuses:
-  0  the network is accepted; one line counts what it has
-  1  the network or a plan of it is refused
+  0  the network is accepted, and its run made; one line counts what it has
+  1  the network, a plan of it or commands are refused; with --strict also where something is told
+  2  a capture is refused, or the run doesn't settle
   3  a file, a read, a write or memory failed
   4  the words are refused",
 };
@@ -389,6 +421,7 @@ fn word_of<'a>(alloc: Global, word: Word) -> Arg<'a>
     let arg = Arg::new(alloc, word.id).help(word.help);
     match word.form {
         Form::Place => arg.value_name(word.value).required(true),
+        Form::Extra => arg.value_name(word.value),
         Form::Choice => arg.value_name(word.value).long(word.id),
         Form::Flag => arg.long(word.id).action(ArgAction::SetTrue),
     }

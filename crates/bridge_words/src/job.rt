@@ -1,10 +1,10 @@
 //! The job that the words of the command line ask for.
-ghost use Rattle.std.specs.Prelude.{◌≡◌, ◌⊎◌, Err, IfOk, IfErr, Option, ℕ, map, option_map, string_bytes};
+ghost use Rattle.std.specs.Prelude.{◌≡◌, ◌⊎◌, Err, IfOk, IfErr, None, Option, Some, ℕ, codes, map, option_map, string_bytes};
 ghost use Rattle.bridge_frame.specs.declared.Speed.{Speed};
 ghost use Rattle.bridge_lanes.specs.declared.fault.RunFault.{RunFault};
 ghost use Rattle.clap.specs.Words.{Text, first_of, found_of, kind_of, rows_of};
 ghost use Rattle.bridge_words.specs.declared.job.Job.{Job};
-ghost use Rattle.bridge_words.specs.CommandLine.{AsksFor, AsksForCheck, AsksForNetwork, AsksForPicture, AsksForRun, AsksForWire, HasRoom, IsBoundsJob, IsCheckJob, IsNetworkJob, IsPictureJob, IsRunJob, IsWireJob, fault_of_kind};
+ghost use Rattle.bridge_words.specs.CommandLine.{AsksFor, AsksForBounds, AsksForCheck, AsksForNetwork, AsksForNetworkRun, AsksForPicture, AsksForRun, AsksForWire, HasRoom, IsBoundsJob, IsCheckJob, IsNetworkJob, IsPictureJob, IsRunJob, IsWireJob, fault_of_kind};
 
 use crate::command::matches_of;
 use crate::number::{room_of, speed_of};
@@ -51,11 +51,24 @@ pub enum Job {
     Bounds {
         /// The path of the plan.
         plan: String,
+        /// The path of the traffic that their talkers send, if it is told.
+        traffic: Option<String>,
     },
     /// Whether a network of bridges isolates its streams.
     Network {
         /// The path of the network.
         network: String,
+    },
+    /// Folders of captures through a network of bridges into other folders.
+    RunNetwork {
+        /// The path of the network.
+        network: String,
+        /// The path of the folder in which each bridge has that of its captures that are read.
+        input: String,
+        /// The path of the folder in which each bridge gets that of its captures that are written.
+        output: String,
+        /// The path of a picture of the run, if one is made.
+        picture: Option<String>,
     },
     /// A picture of a plan.
     Picture {
@@ -68,7 +81,8 @@ pub enum Job {
 
 /// The job that the words after the program's name ask for: `Text` without words, `Wire` for `wire MBPS ROOM IN OUT`,
 /// `Check` for `check PLAN`, `Run` for `run PLAN IN OUT`, also with `--commands FILE` (once, wherever `clap` takes options),
-/// `Picture` for `picture PLAN FILE`, `Bounds` for `bounds PLAN`, `Network` for `net check NET`.
+/// `Picture` for `picture PLAN FILE`, `Bounds` for `bounds PLAN`, also with `--traffic FILE`, `Network` for `net check NET`, and
+/// `RunNetwork` for `net NET IN OUT`, also with `--picture FILE`, whatever the name of NET is.
 ///
 /// MBPS is 10, 100, 1000, 2500 or 10000 and ROOM is 1 to 4096, both as decimal digits alone. `Words` for all other words,
 /// also for a request for help or for a version, and `Run` with `NoMemory` where a growth was refused.
@@ -208,34 +222,85 @@ fn picture_job(alloc: Global, values: &ArgMatches) -> Result<Job, Fault>
 fn bounds_job(alloc: Global, values: &ArgMatches) -> Result<Job, Fault>
     ensures ok { IfOk result (IsBoundsJob (rows_of (found_of values.now))) }
     ensures room { IfOk result HasRoom }
-    ensures words { result ≡ Err Fault.Words → (plan : Text) → ¬ AsksForCheck (rows_of (found_of values.now)) plan }
+    ensures words { result ≡ Err Fault.Words → (plan : Text) (traffic : Option Text) → ¬ AsksForBounds (rows_of (found_of values.now)) plan traffic }
     ensures only { IfErr result (λ fault. (fault ≡ Fault.Words) ⊎ (fault ≡ Fault.Run RunFault.NoMemory)) }
 {
     let Some(path) = value_of(values, "plan") else {
         return Err(Fault::Words);
     };
     let plan = String::from_str(alloc, path)?;
-    Ok(Job::Bounds { plan })
+    let traffic = match value_of(values, "traffic") {
+        Some(file) => Some(String::from_str(alloc, file)?),
+        None => None,
+    };
+    Ok(Job::Bounds { plan, traffic })
 }
 
-/// The job of a `net` command with these values.
+/// The job of a `net` command with these values: the check of a network, or with a third word its run.
 fn network_job(alloc: Global, values: &ArgMatches) -> Result<Job, Fault>
+    ensures ok { IfOk result (IsNetworkJob (rows_of (found_of values.now))) }
+    ensures room { IfOk result HasRoom }
+    ensures checks { result ≡ Err Fault.Words → (network : Text) → ¬ AsksForNetwork (rows_of (found_of values.now)) network }
+    ensures runs { result ≡ Err Fault.Words → (network input output : Text) (picture : Option Text) → ¬ AsksForNetworkRun (rows_of (found_of values.now)) network input output picture }
+    ensures only { IfErr result (λ fault. (fault ≡ Fault.Words) ⊎ (fault ≡ Fault.Run RunFault.NoMemory)) }
+{
+    match value_of(values, "output") {
+        Some(to_folder) => network_run_job(alloc, values, to_folder),
+        None => network_check_job(alloc, values),
+    }
+}
+
+/// The job of a `net` command with these values, which have no third word.
+fn network_check_job(alloc: Global, values: &ArgMatches) -> Result<Job, Fault>
+    requires { first_of (codes "output") (rows_of (found_of values.now)) ≡ None }
     ensures ok { IfOk result (IsNetworkJob (rows_of (found_of values.now))) }
     ensures room { IfOk result HasRoom }
     ensures words { result ≡ Err Fault.Words → (network : Text) → ¬ AsksForNetwork (rows_of (found_of values.now)) network }
     ensures only { IfErr result (λ fault. (fault ≡ Fault.Words) ⊎ (fault ≡ Fault.Run RunFault.NoMemory)) }
 {
-    let Some(task) = value_of(values, "task") else {
+    let Some(task) = value_of(values, "first") else {
         return Err(Fault::Words);
     };
     if task != "check" {
         return Err(Fault::Words);
     }
-    let Some(path) = value_of(values, "network") else {
+    if value_of(values, "picture").is_some() {
+        return Err(Fault::Words);
+    }
+    let Some(path) = value_of(values, "second") else {
         return Err(Fault::Words);
     };
     let network = String::from_str(alloc, path)?;
     Ok(Job::Network { network })
+}
+
+/// The job of a `net` command with these values, the third of which is the folder that is written.
+fn network_run_job(alloc: Global, values: &ArgMatches, to_folder: &str) -> Result<Job, Fault>
+    requires { first_of (codes "output") (rows_of (found_of values.now)) ≡ Some to_folder.now }
+    ensures ok { IfOk result (IsNetworkJob (rows_of (found_of values.now))) }
+    ensures room { IfOk result HasRoom }
+    ensures words { result ≡ Err Fault.Words → (network input output : Text) (picture : Option Text) → ¬ AsksForNetworkRun (rows_of (found_of values.now)) network input output picture }
+    ensures only { IfErr result (λ fault. (fault ≡ Fault.Words) ⊎ (fault ≡ Fault.Run RunFault.NoMemory)) }
+{
+    let Some(path) = value_of(values, "first") else {
+        return Err(Fault::Words);
+    };
+    let Some(from_folder) = value_of(values, "second") else {
+        return Err(Fault::Words);
+    };
+    let network = String::from_str(alloc, path)?;
+    let input = String::from_str(alloc, from_folder)?;
+    let output = String::from_str(alloc, to_folder)?;
+    let picture = match value_of(values, "picture") {
+        Some(file) => Some(String::from_str(alloc, file)?),
+        None => None,
+    };
+    Ok(Job::RunNetwork {
+        network,
+        input,
+        output,
+        picture,
+    })
 }
 
 /// The value of a command by its name.

@@ -8,7 +8,7 @@ mod job;
 mod number;
 mod sketch;
 
-pub use explaining::wants_explanation;
+pub use explaining::{wants_explanation, wants_strictness};
 pub use helping::{help_of, manual_of};
 pub use job::{Job, job_of};
 pub use sketch::{Sketch, sketch_of};

@@ -107,10 +107,10 @@ fn words_ask_for_a_check(rt: HostRuntime) -> Result<(), Fail> {
     Ok(())
 }
 
-/// Whether a job is that of the bounds of this plan.
-fn is_bounds(job: &Job, path: &str) -> bool {
+/// Whether a job is that of the bounds of this plan, with this traffic, if there is some.
+fn is_bounds(job: &Job, path: &str, talkers: Option<&str>) -> bool {
     match job {
-        Job::Bounds { plan } => plan.as_str() == path,
+        Job::Bounds { plan, traffic } => plan.as_str() == path && is_path(traffic, talkers),
         _ => false,
     }
 }
@@ -126,8 +126,11 @@ fn is_network(job: &Job, path: &str) -> bool {
 #[test]
 fn words_ask_for_bounds(rt: HostRuntime) -> Result<(), Fail> {
     let job = job_from(rt.alloc(), &["bounds", "a b/PLAN"])?;
-    assert!(rt; is_bounds(&job, "a b/PLAN"));
+    assert!(rt; is_bounds(&job, "a b/PLAN", None));
     drop(job);
+    let told = job_from(rt.alloc(), &["bounds", "PLAN", "--traffic", "a b/FILE"])?;
+    assert!(rt; is_bounds(&told, "PLAN", Some("a b/FILE")));
+    drop(told);
     Ok(())
 }
 
@@ -136,6 +139,38 @@ fn words_ask_for_the_check_of_a_network(rt: HostRuntime) -> Result<(), Fail> {
     let job = job_from(rt.alloc(), &["net", "check", "a b/NET"])?;
     assert!(rt; is_network(&job, "a b/NET"));
     drop(job);
+    Ok(())
+}
+
+/// Whether a job is a run of the network `NET` from the folder `IN` into the folder `OUT`, with this picture, if one is wanted.
+fn is_network_run(job: &Job, drawn: Option<&str>) -> bool {
+    match job {
+        Job::RunNetwork {
+            network,
+            input,
+            output,
+            picture,
+        } => {
+            network.as_str() == "NET"
+                && input.as_str() == "IN"
+                && output.as_str() == "OUT"
+                && is_path(picture, drawn)
+        }
+        _ => false,
+    }
+}
+
+#[test]
+fn words_ask_for_the_run_of_a_network(rt: HostRuntime) -> Result<(), Fail> {
+    let job = job_from(rt.alloc(), &["net", "NET", "IN", "OUT", "--strict"])?;
+    assert!(rt; is_network_run(&job, None));
+    drop(job);
+    let drawn = job_from(
+        rt.alloc(),
+        &["net", "NET", "IN", "--picture", "FILE", "OUT"],
+    )?;
+    assert!(rt; is_network_run(&drawn, Some("FILE")));
+    drop(drawn);
     Ok(())
 }
 
@@ -199,7 +234,7 @@ fn words_ask_for_a_run_with_commands(rt: HostRuntime) -> Result<(), Fail> {
     Ok(())
 }
 
-const REFUSED: [&[&str]; 46] = [
+const REFUSED: [&[&str]; 51] = [
     &["wire", "999", "1", "IN", "OUT"],
     &["wire", "1000", "0", "IN", "OUT"],
     &["wire", "1000", "+1", "IN", "OUT"],
@@ -254,7 +289,12 @@ const REFUSED: [&[&str]; 46] = [
     &["net", "NET"],
     &["net", "check"],
     &["net", "run", "NET"],
-    &["net", "check", "NET", "MORE"],
+    &["net", "NET", "IN"],
+    &["net", "NET", "IN", "OUT", "MORE"],
+    &["net", "check", "NET", "--picture", "FILE"],
+    &["net", "NET", "IN", "OUT", "--traffic", "FILE"],
+    &["bounds", "PLAN", "--traffic"],
+    &["check", "PLAN", "--strict"],
 ];
 
 /// Tests the line and the status of words that are refused.

@@ -1,6 +1,6 @@
-//! The flag `--explain`: which words have it, and that it changes no job.
+//! The flags `--explain` and `--strict`: which words have them, and that they change no job.
 use bridge_program::Fault;
-use bridge_words::{job_of, wants_explanation};
+use bridge_words::{job_of, wants_explanation, wants_strictness};
 use fixture_text::must::must;
 use std::alloc::{AllocError, Global};
 use std::test::Fail;
@@ -56,6 +56,15 @@ const REFUSED: &[&[&str]] = &[
     &["check", "PLAN", "--explained"],
     &["check", "PLAN", "-e"],
     &["run", "PLAN", "IN", "OUT", "--commands", "--explain"],
+];
+
+/// Words of `net`, and whether they want strictness.
+const STRICT: &[(&[&str], bool)] = &[
+    (&["net", "check", "NET", "--strict"], true),
+    (&["net", "--strict", "NET", "IN", "OUT"], true),
+    (&["net", "check", "--explain", "--strict", "NET"], true),
+    (&["net", "check", "NET", "--explain"], false),
+    (&["net", "check", "--", "--strict"], false),
 ];
 
 /// The words of a command line.
@@ -143,4 +152,26 @@ fn each_is_refused(alloc: Global) -> Result<(), Fail> {
 #[test]
 fn the_flag_stands_behind_a_command_once(rt: HostRuntime) -> Result<(), Fail> {
     each_is_refused(rt.alloc())
+}
+
+/// Whether the words ask for a job, and want strictness or don't.
+fn is_strict(alloc: Global, row: &(&'static [&'static str], bool)) -> Result<bool, Fail> {
+    let words = owned_of(alloc, row.0)?;
+    Ok(job_of(alloc, &words).is_ok() && wants_strictness(&words) == row.1)
+}
+
+/// Tests each row of words that may want strictness.
+fn each_is_strict(alloc: Global) -> Result<(), Fail> {
+    let mut number = 0;
+    for row in STRICT {
+        let holds = is_strict(alloc, row)?;
+        must(holds, "words", number)?;
+        number = number.saturating_add(1);
+    }
+    Ok(())
+}
+
+#[test]
+fn strictness_is_of_networks(rt: HostRuntime) -> Result<(), Fail> {
+    each_is_strict(rt.alloc())
 }

@@ -15,7 +15,7 @@ Commands:
   run      Send the captures of all ports through the bridge of a plan
   picture  Draw the windows and the stream gates of a plan
   bounds   Say how long the frames of protected streams may take
-  net      Say whether a network of bridges protects its streams
+  net      Say whether a network of bridges protects its streams, or send captures through it
   help     Print this message or the help of the given subcommand(s)
 
 Options:
@@ -149,43 +149,50 @@ Arguments:
   <PLAN>  file of the plan (TOML, at most 1,048,576 octets)
 
 Options:
-      --explain  say more on standard error: of a fault, or of a plan that is accepted
-  -h, --help     Print help
-  -V, --version  Print version
+      --traffic <FILE>  file of the traffic of the streams' talkers (TOML, at most 1,048,576 octets)
+      --explain         say more on standard error: of a fault, or of a plan that is accepted
+  -h, --help            Print help
+  -V, --version         Print version
 
 For each queue of each protected filter one line: the most ns from a frame's arrival until it is out,
-whatever its talker and all others do.
+whatever its talker and all others do. With traffic, for each stream that has a period what its frames
+take while its talker keeps to it.
 
 Example:
   tsnbridge bounds examples/base.toml
 
 Statuses:
-  0  the plan is accepted; a line for each queue has its bound
-  1  the plan is refused
+  0  the plan is accepted, and traffic is in time; a line for each queue has its bound
+  1  the plan or the traffic is refused, or a frame may be refused or late
   3  a file, a read, a write or memory failed
   4  the words are refused
 ";
 
 const NET: &str = "\
-Say whether a network of bridges protects its streams
+Say whether a network of bridges protects its streams, or send captures through it
 
-Usage: tsnbridge net [OPTIONS] <check> <NET>
+Usage: tsnbridge net [OPTIONS] <check|NET> <NET|IN> [OUT]
 
 Arguments:
-  <check>  what to do with the network: check
-  <NET>    file of the network (TOML, at most 1,048,576 octets); its plans lie beside it
+  <check|NET>  check; or file of a network that runs (TOML, at most 1,048,576 octets), its plans beside it
+  <NET|IN>     behind check the file of the network; else folder of what is read, <bridge>/<port>.pcap
+  [OUT]        folder of what is written, <bridge>/<port>.pcap and more; it isn't IN
 
 Options:
-      --explain  say more on standard error: of a fault, or of a plan that is accepted
-  -h, --help     Print help
-  -V, --version  Print version
+      --picture <FILE>  file of a picture of a run, which is made too (SVG)
+      --strict          end with status 1 where something is told of a network that is accepted
+      --explain         say more on standard error: of a fault, or of a plan that is accepted
+  -h, --help            Print help
+  -V, --version         Print version
 
-Example:
+Examples:
   tsnbridge net check examples/line/network.toml
+  tsnbridge net examples/line/network.toml in out
 
 Statuses:
-  0  the network is accepted; one line counts what it has
-  1  the network or a plan of it is refused
+  0  the network is accepted, and its run made; one line counts what it has
+  1  the network, a plan of it or commands are refused; with --strict also where something is told
+  2  a capture is refused, or the run doesn't settle
   3  a file, a read, a write or memory failed
   4  the words are refused
 ";

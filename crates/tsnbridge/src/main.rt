@@ -78,8 +78,16 @@ fn said_of(
             picture_job(rt, plan, file)?;
             return Ok(None);
         }
-        Job::Bounds { plan } => bounds(rt, plan)?,
+        Job::Bounds {
+            plan,
+            traffic: None,
+        } => bounds(rt, plan)?,
+        Job::Bounds {
+            traffic: Some(_),
+            ..
+        } => return Err(Fault::Words),
         Job::Network { network } => network_job(rt, network)?,
+        Job::RunNetwork { .. } => return Err(Fault::Words),
     };
     Ok(Some(Said::Printed(line)))
 }
