@@ -1,9 +1,16 @@
 -- Figures that are gathered queue by queue, and row by row.
-use Rattle.std.proofs.Common.{◌≡◌, ◌+◌, ℕ, true, false, List, [], ◌∷◌, ◌++◌, length, refl, ap, sym, subst, ◌∙◌, arith}
-use Rattle.std.proofs.lemmas.List.{append-nil, append_assoc}
-use Rattle.std.specs.Prelude.{nat_eq}
+use Rattle.std.proofs.Common.{◌≡◌, ◌<◌, ◌≤◌, ◌+◌, ℕ, Bool, zero, suc, get_or, take, inl, inr, true, false, Result, Ok, Err, List, [], ◌∷◌, ◌++◌, length, refl, ap, sym, subst, ◌∙◌, arith}
+use Rattle.std.proofs.lemmas.List.{append-nil, append_assoc, length-take-le, take_more}
+use Rattle.std.specs.Prelude.{nat_eq, ◌||◌, IfErr, IfOk}
+use Rattle.std.proofs.lemmas.Bool.{false≢true}
+use Rattle.bridge_base.specs.Members.{In}
 use Rattle.bridge_cycle.proofs.Cases.{by_bool}
 use Rattle.bridge_config.specs.Model.{Plan}
+use Rattle.bridge_config.specs.Rules.{IsPlan}
+use Rattle.bridge_config.proofs.PlanPorts.{number_is}
+use Rattle.bridge_check.specs.Reach.{any_below}
+use Rattle.bridge_bounds.specs.Bounds.{HasNoBound, IsBound}
+use Rattle.bridge_bounds.proofs.Reached.{class_few}
 use Rattle.bridge_traffic.specs.declared.rows.TrafficRow.{TrafficRow}
 use Rattle.bridge_planning.specs.declared.bounds.QueueBound.{QueueBound}
 use Rattle.bridge_planning.specs.declared.timings.QueueTiming.{QueueTiming}
@@ -44,3 +51,60 @@ rows_more p bounds index r (a ∷ rs) xs ys h more =
     let (us, vs, e, here, rest) = h in
     let same : index + length (a ∷ rs) ≡ index + 1 + length rs = omega arith in
     (us, vs ++ ys, ap (λ zs. zs ++ ys) e ∙ append_assoc us vs ys, here, rows_more p bounds (index + 1) r rs vs ys rest (subst (λ (i : ℕ). AreRowTimings p i r bounds ys) same more))
+
+-- so of the row at a place
+pub next_row : {A : Type 0} (p : Plan A) (bounds bs : List QueueBound) (rows : List TrafficRow) (k index : ℕ) (d : TrafficRow) (made more slice new : List QueueTiming) → k < length rows → index ≡ k + 1 → bs ≡ bounds → AreTimingsFrom p bounds 1 (take k rows) made → AreRowTimings p index (get_or rows k d) bs more → slice ≡ more → new ≡ made ++ slice → AreTimingsFrom p bounds 1 (take (k + 1) rows) new
+next_row p bounds bs rows k index d made more slice new before at same timings row is grown =
+    let counted : length (take k rows) ≡ k = length-take-le k rows (omega (arith, before)) in
+    let place : index ≡ 1 + length (take k rows) = omega (arith, at, counted) in
+    let r : TrafficRow = get_or rows k d in
+    let here : AreRowTimings p index r bounds more = subst (λ (xs : List QueueBound). AreRowTimings p index r xs more) same row in
+    let there : AreRowTimings p (1 + length (take k rows)) r bounds more = subst (λ (i : ℕ). AreRowTimings p i r bounds more) place here in
+    let all = rows_more p bounds 1 r (take k rows) made more timings there in
+    let longer : made ++ more ≡ new = ap (λ (xs : List QueueTiming). made ++ xs) (sym is) ∙ sym grown in
+    subst (λ (xs : List QueueTiming). AreTimingsFrom p bounds 1 (take (k + 1) rows) xs) longer
+    (subst (λ (rs : List TrafficRow). AreTimingsFrom p bounds 1 rs (made ++ more)) (sym (take_more rows k d before)) all)
+
+-- A QUEUE THAT HAS A BOUND
+
+-- it is one of eight at one of 16 ports
+pub record IsPlaced (q c : ℕ) : Type 0 where
+  pub from : 1 ≤ q
+  pub to : q ≤ 16
+  pub class : c < 8
+
+pub placed : {A : Type 0} (p : Plan A) (n q c b : ℕ) → IsPlan p → IsBound p n q c b → IsPlaced q c
+placed p n q c b plan bound =
+    let (from, to) = number_is p.ports q bound.out plan.ports bound.at in
+    record { from = from; to = to; class = class_few p bound.filter q c bound.out plan bound.at bound.reach }
+
+-- so the queue isn't without one
+pub not_without : {A : Type 0} (p : Plan A) (n q c b : ℕ) → HasNoBound p n q c → IsBound p n q c b → ⊥
+not_without p n q c b none bound = false≢true (sym (none bound.filter bound.found bound.protected) ∙ bound.reach)
+
+-- MEMBERS
+
+-- what stands at a place is a member
+pub in_at : {X : Type 0} (xs : List X) (i : ℕ) (d : X) → i < length xs → In (get_or xs i d) xs
+in_at [] i d h = absurd (omega (arith, h))
+in_at (x ∷ xs) zero d h = inl refl
+in_at (x ∷ xs) (suc i) d h = inr (in_at xs i d (omega (arith, h)))
+
+-- TESTS OF NUMBERS
+
+-- one number more was tested
+pub below_more : (n : ℕ) (t : ℕ → Bool) (a b r : Bool) → r ≡ (a || b) → a ≡ any_below n t → b ≡ t n → r ≡ any_below (n + 1) t
+below_more n t a b r is before here =
+    let next : suc n ≡ n + 1 = omega arith in
+    is ∙ (ap (λ x. x || b) before ∙ (ap (λ x. any_below n t || x) here ∙ ap (λ k. any_below k t) next))
+
+-- ANSWERS
+
+-- what is said of an answer, said with less
+pub ok_as : {X F : Type 0} (r : Result X F) (P Q : X → Type 0) → ((x : X) → P x → Q x) → IfOk r P → IfOk r Q
+ok_as (Ok x) P Q go h = go x h
+ok_as (Err e) P Q go h = tt
+
+pub err_as : {X F : Type 0} (r : Result X F) (P Q : F → Type 0) → ((f : F) → P f → Q f) → IfErr r P → IfErr r Q
+err_as (Ok x) P Q go h = tt
+err_as (Err e) P Q go h = go e h

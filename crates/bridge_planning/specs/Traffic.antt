@@ -54,12 +54,16 @@ abbrev pub suits_port : {A : Type 0} → ℕ → Option (PortPlan A) → Bool
 suits_port period None = true
 suits_port period (Some out) = suits_lists period out.list
 
+-- whether frames of a filter may be queued at a port whose cycles a period doesn't suit
+abbrev pub misfits_at : {A : Type 0} → Plan A → FilterPlan → ℕ → ℕ → Bool
+misfits_at p f period q = any_below 8 (λ c. reaches p f q c) && not (suits_port period (port_at p.ports q))
+
 -- whether it is one of each cycle on the way of a filter's frames: of its gate, and of each port at which they may be
 -- queued
 abbrev pub suits : {A : Type 0} → Plan A → FilterPlan → ℕ → Bool
 suits p f period =
     suits_gate period (lookup (nat_eq f.gate) p.gates)
-    && not (any_below 16 (λ i. any_below 8 (λ c. reaches p f (i + 1) c) && not (suits_port period (port_at p.ports (i + 1)))))
+    && not (any_below 16 (λ i. misfits_at p f period (i + 1)))
 
 -- FAULTS
 
@@ -104,11 +108,16 @@ abbrev pub Begins : {X : Type 0} → (X → Type 0) → (List X → Type 0) → 
 Begins P Q [] = ⊥
 Begins P Q (x ∷ xs) = P x × Q xs
 
+-- one of two, by a test
+abbrev pub Whether : Bool → Type 0 → Type 0 → Type 0
+Whether true A B = A
+Whether false A B = B
+
 -- the figures of a row, one for each queue of its filter among some, in their order
 abbrev pub AreRowTimings : {A : Type 0} → Plan A → ℕ → TrafficRow → List QueueBound → List QueueTiming → Type 0
 AreRowTimings p index r [] xs = xs ≡ []
 AreRowTimings p index r (b ∷ bs) xs =
-    if nat_eq b.filter r.filter then Begins (IsRowTiming p index r b) (AreRowTimings p index r bs) xs else AreRowTimings p index r bs xs
+    Whether (nat_eq b.filter r.filter) (Begins (IsRowTiming p index r b) (AreRowTimings p index r bs) xs) (AreRowTimings p index r bs xs)
 
 -- those of some rows, row by row, the first of which has this index
 abbrev pub AreTimingsFrom : {A : Type 0} → Plan A → List QueueBound → ℕ → List TrafficRow → List QueueTiming → Type 0

@@ -1,9 +1,20 @@
 -- What is printed of traffic.
-use Rattle.std.specs.Prelude.{◌≡◌, ℕ, Bool, true, false, ◌++◌, List, Option, None, Some, flat_map, codes, decimal, if◌then◌else◌}
+use Rattle.std.specs.Prelude.{◌≡◌, ◌⊎◌, ℕ, Bool, true, false, ◌++◌, List, Option, None, Some, Ok, Err, flat_map, codes, decimal, string_bytes, take}
 use Rattle.bridge_config.specs.Model.{Plan}
+use Rattle.bridge_lanes.specs.declared.fault.RunFault.TheVariants as run
+use Rattle.bridge_netfile.specs.declared.fault.NetFault.{NetFault}
+use Rattle.bridge_program.specs.declared.fault.Fault.{Fault}
+use Rattle.bridge_program.specs.declared.fault.Fault.TheVariants as fault
+use Rattle.bridge_program.specs.Jobs.{Accepts, EndsCheck}
+use Rattle.bridge_program.specs.Reading.{IsOfFile}
+use Rattle.bridge_traffic.specs.declared.fault.TrafficFault.{TrafficFault}
+use Rattle.bridge_traffic.specs.declared.fault.TrafficFault.TheVariants as text
 use Rattle.bridge_traffic.specs.declared.rows.TrafficRow.{TrafficRow}
+use Rattle.bridge_traffic.specs.Document.{rows_of_text}
+use Rattle.bridge_traffic.specs.Faults.{traffic_line}
 use Rattle.bridge_planning.specs.declared.timings.QueueTiming.{QueueTiming}
-use Rattle.bridge_planning.specs.Traffic.{AreTimings, are_kept, is_met}
+use Rattle.bridge_planning.specs.Printing.{AreLinesOf}
+use Rattle.bridge_planning.specs.Traffic.{AreTimings, are_kept, first_fault_from, is_met}
 
 -- whether each frame passes, in a word
 abbrev pub passing_word : Bool → List ℕ
@@ -35,3 +46,50 @@ timing_line x = queue_words x ++ (codes " " ++ (passing_word x.passes ++ (figure
 -- a line for each
 abbrev pub timings_text : List QueueTiming → List ℕ
 timings_text xs = flat_map timing_line xs
+
+-- THE JOB
+
+-- the rows of a text, of which no more is read than is needed to see that it is too long
+abbrev pub ReadsRows : List ℕ → List TrafficRow → Type 0
+ReadsRows words rows = rows_of_text (take 1048577 words) ≡ Ok rows
+
+-- what is printed for an accepted plan and rows that suit it: the lines of its bounds, then those of the rows' figures; and
+-- whether each frame passes and meets its deadline
+pub record AreLinesOfTraffic {A : Type 0} (p : Plan A) (rows : List TrafficRow) (lines : List ℕ) (kept : Bool) : Type 0 where
+  pub suit : first_fault_from p 1 rows ≡ None
+  pub bounds : List ℕ
+  pub are_bounds : AreLinesOf p bounds
+  pub timings : List QueueTiming
+  pub are_timings : AreTimings p rows timings
+  pub lines_are : lines ≡ bounds ++ timings_text timings
+  pub kept_is : kept ≡ are_kept timings
+
+-- the same of the texts of both
+pub record PrintsTraffic (A : Type 0) (input words lines : List ℕ) (kept : Bool) : Type 0 where
+  pub plan : Plan A
+  pub accepts : Accepts input plan
+  pub rows : List TrafficRow
+  pub reads : ReadsRows words rows
+  pub are_lines : AreLinesOfTraffic plan rows lines kept
+
+-- a fault of the program says this one of traffic, or that there was no memory for its line
+abbrev pub IsSaid : TrafficFault → Fault → Type 0
+IsSaid e (fault.Network line) = string_bytes line ≡ traffic_line e
+IsSaid e (fault.Run f) = f ≡ run.NoMemory
+IsSaid e f = ⊥
+
+-- why a text gives no rows: it has a fault, or memory was refused
+abbrev pub RefusesRows : List ℕ → Fault → Type 0
+RefusesRows words f = (f ≡ fault.Run run.NoMemory) ⊎ ((e : NetFault) × (rows_of_text (take 1048577 words) ≡ Err e) × IsSaid (text.Text e) f)
+
+-- why rows give no figures: they don't suit the plan, or memory was refused
+abbrev pub RefusesTimings : {A : Type 0} → Plan A → List TrafficRow → Fault → Type 0
+RefusesTimings p rows f = (f ≡ fault.Run run.NoMemory) ⊎ ((e : TrafficFault) × (first_fault_from p 1 rows ≡ Some e) × IsSaid e f)
+
+-- which fault ends the job: of the plan, of the file of traffic, of its text, or of its rows by the plan
+abbrev pub EndsTraffic : (A : Type 0) → List ℕ → List ℕ → List ℕ → List ℕ → Fault → Type 0
+EndsTraffic A path input file words f =
+    EndsCheck A path input f
+    ⊎ (IsOfFile file f
+    ⊎ (RefusesRows words f
+    ⊎ ((plan : Plan A) × (rows : List TrafficRow) × Accepts input plan × ReadsRows words rows × RefusesTimings plan rows f)))

@@ -43,7 +43,10 @@ pub fn bounds_text<A: Allocator + Copy>(
 }
 
 /// The lines of all bounds of an accepted plan.
-fn lines_of<A: Allocator + Copy>(alloc: A, accepted: &Accepted<A>) -> Result<String<A>, NoMemory>
+pub(crate) fn lines_of<A: Allocator + Copy>(
+    alloc: A,
+    accepted: &Accepted<A>,
+) -> Result<String<A>, NoMemory>
     ensures { IfOk result (λ lines. AreLinesOf accepted.now (string_bytes lines)) }
 {
     let rows = bounds_of(alloc, accepted)?;

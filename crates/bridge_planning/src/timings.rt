@@ -60,6 +60,7 @@ fn put_timing<A: Allocator + Copy>(
     requires passes { (passes ≡ true) ↔ RowPasses accepted.now row.now }
     ensures one_more { OnOk result ((bounds : List QueueBound) → AreRowTimings accepted.now index row.now bounds made.old.items → AreRowTimings accepted.now index row.now (bounds ++ bound.now ∷ []) made.new.items) }
 {
+    let _ = accepted.plan();
     if bound.filter != row.filter {
         return Ok(());
     }

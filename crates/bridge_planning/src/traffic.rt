@@ -1,5 +1,5 @@
 //! What is wrong with traffic by the plan for which it is.
-ghost use Rattle.std.specs.Prelude.{◌≡◌, ◌+◌, ◌<◌, ◌≤◌, length, nat_eq, option_map};
+ghost use Rattle.std.specs.Prelude.{◌≡◌, ◌||◌, ◌+◌, ◌<◌, ◌≤◌, length, nat_eq, option_map};
 ghost use Rattle.std.specs.Map.{lookup};
 ghost use Rattle.bridge_config.specs.Rules.{port_at};
 ghost use Rattle.bridge_check.specs.Reach.{any_below, reaches};
@@ -56,6 +56,13 @@ fn suits_gate<A: Allocator + Copy>(plan: &Plan<A>, gate: u32, period: u64) -> bo
     }
 }
 
+/// Whether one of two holds.
+fn either(a: bool, b: bool) -> bool
+    ensures { result ≡ (a || b) }
+{
+    a || b
+}
+
 /// Whether frames with this reach may be queued at a port.
 fn comes_to<A: Allocator + Copy>(
     plan: &Plan<A>,
@@ -70,19 +77,56 @@ fn comes_to<A: Allocator + Copy>(
 {
     let mut found = false;
     for class in 0..8u8 {
-        found = found || is_reached(plan, filter, reach, port, class);
+        let here = is_reached(plan, filter, reach, port, class);
+        found = either(found, here);
     }
     found
 }
 
 /// Whether a period is a multiple of the cycles of a port, where the plan has it.
 fn suits_port<A: Allocator + Copy>(period: u64, port: Option<&PortPlan<A>>) -> bool
-    ensures { result ≡ spec.suits_port period (option_map (λ p. p.now) port) }
+    ensures { result ≡ spec.suits_port period (option_map (λ p. p.now) port.entry) }
 {
     match port {
         None => true,
         Some(port) => suits_lists(period, &port.list),
     }
+}
+
+/// Whether frames with this reach may be queued at a port whose cycles a period doesn't suit.
+fn misfits_at<A: Allocator + Copy>(
+    plan: &Plan<A>,
+    filter: &FilterPlan,
+    reach: &Reach,
+    period: u64,
+    port: u8,
+) -> bool
+    requires reach { reach.now ≡ reach_of plan.now filter.now }
+    requires from { 1 ≤ port }
+    requires to { port ≤ 16 }
+    ensures { result ≡ spec.misfits_at plan.now filter.now period port }
+{
+    let comes = comes_to(plan, filter, reach, port);
+    let suits = suits_port(period, plan.port(port));
+    comes && !suits
+}
+
+/// Whether they may be queued at some such port.
+fn misfits<A: Allocator + Copy>(
+    plan: &Plan<A>,
+    filter: &FilterPlan,
+    reach: &Reach,
+    period: u64,
+) -> bool
+    requires reach { reach.now ≡ reach_of plan.now filter.now }
+    ensures { result ≡ any_below 16 (λ i. spec.misfits_at plan.now filter.now period (i + 1)) }
+{
+    let mut found = false;
+    for place in 0..16u8 {
+        let here = misfits_at(plan, filter, reach, period, place + 1);
+        found = either(found, here);
+    }
+    found
 }
 
 /// Whether a period is a multiple of each cycle on the way of a filter's frames.
@@ -93,13 +137,7 @@ fn suits<A: Allocator + Copy>(plan: &Plan<A>, filter: &FilterPlan, period: u64) 
         return false;
     }
     let reach = reach_of(plan, filter);
-    let mut misfit = false;
-    for place in 0..16u8 {
-        misfit = misfit
-            || (comes_to(plan, filter, &reach, place + 1)
-                && !suits_port(period, plan.port(place + 1)));
-    }
-    !misfit
+    !misfits(plan, filter, &reach, period)
 }
 
 /// What is wrong with the row at an index by the plan.

@@ -1,10 +1,12 @@
 #![tactic(auto)]
-//! Networks of files, with what is printed for each or the line and the status of its refusal; then the bounds of plans.
+//! Networks of files, with what is printed for each or the line and the status of its refusal; then the bounds of plans,
+//! and those of plans with the traffic of other files.
 //!
-//! The words name the files of both, with `bounds` between them.
+//! The words name the files of all three, with `bounds` and `traffic` between them; of the last ones the plan stands before its
+//! traffic.
 
 use bridge_lanes::RunFault;
-use bridge_planning::{bounds_job, network_job};
+use bridge_planning::{bounds_job, network_job, traffic_job};
 use bridge_program::{Fault, end, fault_line, print, words_of};
 use std::fs;
 use std::process::ExitCode;
@@ -17,18 +19,27 @@ fn main(rt: HostRuntime) -> ExitCode {
     }
 }
 
-/// Tells of the networks before the word `bounds`, and of the plans behind it.
+/// Tells of the networks before the word `bounds`, of the plans behind it, and of the pairs behind the word `traffic`.
 fn run(rt: &(impl AllocGlobal + Print + Env + Files)) -> Result<(), Fault> {
     let words = words_of(rt)?;
     let Some(place) = words.iter().position(|word| word.as_str() == "bounds") else {
         return Err(Fault::Words);
     };
-    let (networks, plans) = words.split_at(place);
+    let (networks, others) = words.split_at(place);
+    let Some(place) = others.iter().position(|word| word.as_str() == "traffic") else {
+        return Err(Fault::Words);
+    };
+    let (plans, pairs) = others.split_at(place);
     for path in networks {
         tell_network(rt, path.as_str())?;
     }
     for path in plans.get(1..).unwrap_or(&[]) {
         tell_bounds(rt, path.as_str())?;
+    }
+    for pair in pairs.get(1..).unwrap_or(&[]).chunks(2) {
+        if let [plan, traffic] = pair {
+            tell_traffic(rt, plan.as_str(), traffic.as_str())?;
+        }
     }
     Ok(())
 }
@@ -48,6 +59,31 @@ fn tell_bounds(rt: &(impl AllocGlobal + Print + Files), path: &str) -> Result<()
     };
     let told = bounds_job(rt.alloc(), rt.alloc(), file, reader);
     tell(rt, path, told)
+}
+
+/// Prints the bounds of the plan of a file with the traffic of another one, and `kept` or `not kept` behind them; or the
+/// status and the line of their fault.
+fn tell_traffic(
+    rt: &(impl AllocGlobal + Print + Files),
+    plan: &str,
+    traffic: &str,
+) -> Result<(), Fault> {
+    let file = String::from_str(rt.alloc(), plan)?;
+    let Ok(reader) = fs::open(rt, plan) else {
+        return Err(Fault::File(file));
+    };
+    let path = String::from_str(rt.alloc(), traffic)?;
+    let Ok(rows) = fs::open(rt, traffic) else {
+        return Err(Fault::File(path));
+    };
+    match traffic_job(rt.alloc(), rt.alloc(), file, reader, path, rows) {
+        Ok(report) => {
+            let word = if report.kept { "kept" } else { "not kept" };
+            let text = report.text;
+            tell(rt, traffic, Ok(format!(in rt.alloc(); "{text}{word}\n")?))
+        }
+        Err(fault) => tell(rt, traffic, Err(fault)),
+    }
 }
 
 /// Prints what was told behind the path of its file.

@@ -1,0 +1,23 @@
+use Rattle.std.proofs.Common.{List, inr, string_bytes, subst}
+use Rattle.bridge_traffic.specs.declared.rows.TrafficRow.{TrafficRow}
+use Rattle.bridge_planning.specs.TrafficText.{AreLinesOfTraffic, RefusesTimings}
+use Rattle.bridge_planning.proofs.Gathered.{err_as, ok_as}
+use Rattle.bridge_planning.proofs.reporting.traffic_job.Goals as goal
+
+pub returns-clause-ok : goal.returns-clause-ok
+returns-clause-ok g c = λ input words told heard.
+    ok_as c.report_of-told.result (λ r. AreLinesOfTraffic c.in-Ok.accepted c.deref.result.now (string_bytes r.text) r.kept) _
+    (λ r h. record {
+      plan = c.in-Ok.accepted;
+      accepts = c.in-Ok.ensures.ok input told;
+      rows = c.in-Ok-rows_from.rows.items;
+      reads = c.in-Ok-rows_from.ensures.ok words heard;
+      are_lines = subst (λ (rows : List TrafficRow). AreLinesOfTraffic c.in-Ok.accepted rows (string_bytes r.text) r.kept) c.deref.ensures.value h;
+    })
+    c.report_of-told.ensures.ok
+
+pub returns-clause-err : goal.returns-clause-err
+returns-clause-err g c = λ input words told heard.
+    err_as c.report_of-told.result (RefusesTimings c.in-Ok.accepted c.deref.result.now) _
+    (λ f h. inr (inr (inr (c.in-Ok.accepted, c.in-Ok-rows_from.rows.items, c.in-Ok.ensures.ok input told, c.in-Ok-rows_from.ensures.ok words heard, subst (λ (rows : List TrafficRow). RefusesTimings c.in-Ok.accepted rows f) c.deref.ensures.value h))))
+    c.report_of-told.ensures.err

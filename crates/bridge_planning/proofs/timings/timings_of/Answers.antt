@@ -1,0 +1,11 @@
+use Rattle.std.proofs.Common.{arith}
+use Rattle.bridge_planning.proofs.Gathered.{next_row}
+use Rattle.bridge_planning.proofs.timings.timings_of.Goals as goal
+
+pub loop-row-preserved : goal.loop-row-preserved
+loop-row-preserved g c =
+    let at = c.loop-row.invariant.index in
+    record {
+      index = omega (arith, at);
+      timings = next_row c.args.accepted.now c.in_ok-bounds.bounds.items c.deref.result.now c.args.rows.now c.loop-row.row-index c.loop-row.index _ c.loop-row.made.items c.in_ok-more.more.items c.deref-in-loop-row.result.now c.extend_from_slice.new.self.items c.loop-row-test.true at c.deref.ensures.value c.loop-row.invariant.timings c.in_ok-more.ensures c.deref-in-loop-row.ensures.value c.in_ok-extend_from_slice.ensures.items;
+    }
