@@ -2,3 +2,4 @@ pub mod Traffic
 pub mod Waits
 pub mod Timings
 pub mod Passing
+pub mod Examples
