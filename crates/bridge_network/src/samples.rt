@@ -37,7 +37,7 @@ fn tag_at(i: u8, vid: u16) -> Option<Tag> {
             vid: 0,
         }),
         _ => Some(Tag {
-            pcp: i % 8,
+            pcp: (i % 8 + 7) % 8,
             dei,
             vid,
         }),
