@@ -1,3 +1,4 @@
 pub mod Bounded
 pub mod Named
 pub mod Timed
+pub mod Told
