@@ -3,17 +3,18 @@
 ghost use Rattle.bridge_words.specs.CommandLine.{HasRoom};
 
 use bridge_files::{Said, say, wire_files};
-use bridge_folder::{drawn_job, explain, explain_accepted, picture_job};
-use bridge_planning::{bounds_job, network_job};
+use bridge_folder::{drawn_job, explain, explain_accepted, picture_job, write_picture};
+use bridge_planning::{bounds_job, explain_network, is_network, network_job, network_picture};
 use bridge_program::{Fault, check_job, end, print, text_job, words_of};
-use bridge_words::{Job, Sketch, help_of, job_of, sketch_of, wants_explanation};
+use bridge_words::{Job, Sketch, help_of, job_of, sketch_of, wants_explanation, wants_strictness};
 use std::fs;
 use std::process::ExitCode;
 use std::rt::{Env, Files};
 
 fn main(rt: HostRuntime) -> ExitCode {
     match run(&rt) {
-        Ok(()) => ExitCode::from(0),
+        Ok(true) => ExitCode::from(0),
+        Ok(false) => ExitCode::from(1),
         Err(fault) => {
             let code = end(&rt, &fault);
             explain_if_asked(&rt, &fault);
@@ -26,14 +27,42 @@ fn main(rt: HostRuntime) -> ExitCode {
 fn explain_if_asked(rt: &(impl AllocGlobal + Eprint + Env + Files), fault: &Fault) {
     if let Ok(words) = words_of(rt) {
         if wants_explanation(&words) {
-            explain(rt, &words, fault);
+            explain_fault(rt, &words, fault);
         }
     }
 }
 
+/// Tells more of a fault of the job of these words.
+fn explain_fault(rt: &(impl AllocGlobal + Eprint + Files), words: &[String], fault: &Fault) {
+    match (fault, job_of(rt.alloc(), words)) {
+        (Fault::Network(_), Ok(Job::Network { network })) => {
+            if let Some(said) = explain_network(rt, network.as_str()) {
+                let _ = eprint!(rt; "{said}");
+            }
+        }
+        _ => explain(rt, words, fault),
+    }
+}
+
+/// What a job says.
+#[derive(Drop)]
+struct Answer {
+    said: Option<Said>,
+    /// Whether something is told of it beside that it is done, which strictness takes for a fault.
+    is_told: bool,
+}
+
+/// The answer of a job that prints a line.
+fn printed(line: String) -> Answer {
+    Answer {
+        said: Some(Said::Printed(line)),
+        is_told: false,
+    }
+}
+
 /// Does the job of the words and says what it says; where they ask for help or for the version, prints that, and ends as for
-/// words that are refused.
-fn run(rt: &(impl Input + AllocGlobal + Print + Eprint + Env + Files)) -> Result<(), Fault> {
+/// words that are refused. Whether nothing is told that the words, where they want strictness, take for a fault.
+fn run(rt: &(impl Input + AllocGlobal + Print + Eprint + Env + Files)) -> Result<bool, Fault> {
     let words = words_of(rt)?;
     if let Some(text) = help_of(rt.alloc(), &words)? {
         print(rt, text.as_str())?;
@@ -41,22 +70,23 @@ fn run(rt: &(impl Input + AllocGlobal + Print + Eprint + Env + Files)) -> Result
     }
     let job = job_of(rt.alloc(), &words)?;
     let sketch = sketch_of(rt.alloc(), &words)?;
-    if let Some(said) = said_of(rt, job, sketch)? {
-        say(rt, &said)?;
+    let answer = answer_of(rt, job, sketch)?;
+    if let Some(said) = &answer.said {
+        say(rt, said)?;
     }
     if wants_explanation(&words) {
         explain_accepted(rt, &words);
     }
-    Ok(())
+    Ok(!(answer.is_told && wants_strictness(&words)))
 }
 
 /// What a job says, over standard input and output or the files that it names, where it says something; a run with the
 /// picture that is asked for beside it.
-fn said_of(
+fn answer_of(
     rt: &(impl Input + AllocGlobal + Print + Files),
     job: Job,
     sketch: Option<Sketch>,
-) -> Result<Option<Said>, Fault>
+) -> Result<Answer, Fault>
     requires { HasRoom job }
 {
     let line = match job {
@@ -66,7 +96,13 @@ fn said_of(
             room,
             input,
             output,
-        } => return Ok(Some(wire_files(rt, speed, room, input, output)?)),
+        } => {
+            let said = wire_files(rt, speed, room, input, output)?;
+            return Ok(Answer {
+                said: Some(said),
+                is_told: false,
+            });
+        }
         Job::Check { plan } => check(rt, plan)?,
         Job::Run {
             plan,
@@ -75,8 +111,11 @@ fn said_of(
             commands,
         } => drawn_job(rt, plan, input, output, commands, sketch)?,
         Job::Picture { plan, file } => {
-            picture_job(rt, plan, file)?;
-            return Ok(None);
+            draw(rt, plan, file)?;
+            return Ok(Answer {
+                said: None,
+                is_told: false,
+            });
         }
         Job::Bounds {
             plan,
@@ -86,10 +125,32 @@ fn said_of(
             traffic: Some(_),
             ..
         } => return Err(Fault::Words),
-        Job::Network { network } => network_job(rt, network)?,
+        Job::Network { network } => return check_network(rt, network),
         Job::RunNetwork { .. } => return Err(Fault::Words),
     };
-    Ok(Some(Said::Printed(line)))
+    Ok(printed(line))
+}
+
+/// Draws the network or the plan of a file into another file.
+fn draw(rt: &(impl AllocGlobal + Files), path: String, file: String) -> Result<(), Fault> {
+    if !is_network(rt, path.as_str()) {
+        return picture_job(rt, path, file);
+    }
+    let picture = network_picture(rt, path.as_str())?;
+    write_picture(rt, file, &picture.read, picture.text.as_str())
+}
+
+/// What is said of the network of a file.
+fn check_network(rt: &(impl AllocGlobal + Files), path: String) -> Result<Answer, Fault> {
+    let said = network_job(rt, path)?;
+    let is_told = !said.told.is_empty();
+    let lines = said.lines.as_str();
+    let told = said.told.as_str();
+    let text = format!(in rt.alloc(); "{lines}{told}")?;
+    Ok(Answer {
+        said: Some(Said::Printed(text)),
+        is_told,
+    })
 }
 
 /// What is printed of the bounds of the plan of a file.
