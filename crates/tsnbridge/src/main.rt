@@ -117,16 +117,19 @@ fn answer_of(
                 is_told: false,
             });
         }
-        Job::Bounds {
-            plan,
-            traffic: None,
-        } => bounds(rt, plan)?,
-        Job::Bounds {
-            traffic: Some(_),
-            ..
-        } => return Err(Fault::Words),
+        Job::Bounds { plan, traffic } => {
+            if traffic.is_some() {
+                return Err(Fault::Words);
+            }
+            bounds(rt, plan)?
+        }
         Job::Network { network } => return check_network(rt, network),
-        Job::RunNetwork { .. } => return Err(Fault::Words),
+        Job::RunNetwork {
+            network: _network,
+            input: _input,
+            output: _output,
+            picture: _picture,
+        } => return Err(Fault::Words),
     };
     Ok(printed(line))
 }
