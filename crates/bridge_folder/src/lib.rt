@@ -7,4 +7,4 @@ mod picturing;
 
 pub use explaining::{explain, explain_accepted};
 pub use job::{drawn_job, run_job};
-pub use picturing::picture_job;
+pub use picturing::{picture_job, write_picture};

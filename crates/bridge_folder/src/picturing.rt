@@ -4,7 +4,9 @@ ghost use Rattle.bridge_folder.specs.Files.{EndsPicture, IsOfPicture};
 
 use bridge_capture::ReadAhead;
 use bridge_config::{Plan, PortPlan};
-use bridge_files::{FileId, Output, capture_path, is_one_of, open_taken, output_at};
+use bridge_files::{
+    FileId, Output, add_file, capture_path, file_at, is_one_of, open_taken, output_at,
+};
 use bridge_lanes::RunFault;
 use bridge_picture::{Arrivals, Mark, draw_plan, draw_run, has_marks};
 use bridge_program::{Fault, NoMemory, fault_of_file, plan_from};
@@ -38,6 +40,26 @@ pub fn picture_job<H: AllocGlobal + Files>(rt: &H, plan: String, file: String) -
         Ok(text) => put_picture(rt, file, &taken, text.as_str()),
         Err(_) => Err(Fault::Run(RunFault::NoMemory)),
     }
+}
+
+/// Writes a picture that was made of some files into the file of a path, which is written anew and is none of them.
+///
+/// `File` of the path where it can't be opened, made or written, or is one of them.
+pub fn write_picture<H: AllocGlobal + Files>(
+    rt: &H,
+    path: String,
+    read: &[String],
+    text: &str,
+) -> Result<(), Fault>
+    ensures { IfErr result (IsOfPicture (string_bytes path)) }
+{
+    let mut taken = Vec::new(rt.alloc());
+    for file in read {
+        if add_file(&mut taken, file_at(rt, file.as_str())).is_err() {
+            return Err(Fault::Run(RunFault::NoMemory));
+        }
+    }
+    put_picture(rt, path, &taken, text)
 }
 
 /// Draws what a run told into the file of a sketch, which is none of those taken. The captures that came are read once more

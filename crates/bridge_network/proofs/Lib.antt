@@ -14,3 +14,5 @@ pub mod Skipped
 pub mod Handles
 pub mod Straying
 pub mod Sound
+pub mod Reaching
+pub mod Sampled

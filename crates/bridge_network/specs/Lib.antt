@@ -12,3 +12,4 @@ pub mod Refusing
 pub mod Testing
 pub mod Checked
 pub mod Examples
+pub mod Straying

@@ -35,8 +35,8 @@ fn is_at(end: End, bridge: u16, port: u8) -> bool
     end.bridge == bridge && end.port == port
 }
 
-/// The port at the other end of the first link that a port has.
-pub(crate) fn peer_of(links: &[Link], bridge: u16, port: u8) -> Option<End>
+/// The port at the other end of the first link that a port of a bridge has, if it has one: without a link it is open.
+pub fn peer_of(links: &[Link], bridge: u16, port: u8) -> Option<End>
     ensures { option_map end_of result ≡ peer links.now bridge port }
 {
     for link in links {

@@ -1,9 +1,12 @@
 //! What a bridge may send over a link, of the frames of a sort.
-ghost use Rattle.std.specs.Prelude.{◌≡◌, ◌≤◌, Some, false};
+ghost use Rattle.std.specs.Prelude.{◌≡◌, ◌≤◌, ◌||◌, Some, false};
 ghost use Rattle.bridge_ident.specs.Identification as ident;
 ghost use Rattle.bridge_filter.specs.Verdicts as verdicts;
 ghost use Rattle.bridge_filter.specs.Verdicts.{call, flow};
+ghost use Rattle.bridge_config.specs.Rules.{port_at};
 ghost use Rattle.bridge_check.specs.Faults.{first_of};
+ghost use Rattle.bridge_check.specs.Reach.{reaches};
+ghost use Rattle.bridge_check.specs.Reached.{reach_of};
 ghost use Rattle.bridge_check.specs.Sending as classified;
 ghost use Rattle.bridge_network.specs.Feeding as feeding;
 ghost use Rattle.bridge_network.specs.Feeding.{handles_of, sort_by};
@@ -11,7 +14,7 @@ ghost use Rattle.bridge_network.specs.Finding.{first_in, is_asked, is_own, sent,
 ghost use Rattle.bridge_network.specs.Walking.{IsSending, found_at, found_on, hops, lesser_flow};
 
 use crate::links::{End, StreamHop, is_listed};
-use bridge_check::may_wait;
+use bridge_check::{Reach, may_wait_at, reach_of};
 use bridge_config::{Plan, PortPlan};
 use bridge_filter::FilterPlan;
 use bridge_frame::Tag;
@@ -157,17 +160,50 @@ pub(crate) fn flow_for(
     least
 }
 
+/// What was said before, or whether frames of a filter with this reach may be queued in a class of a port that the plan has.
+fn or_waits<A: Allocator + Copy>(
+    before: bool,
+    plan: &Plan<A>,
+    filter: &FilterPlan,
+    reach: &Reach,
+    port: &PortPlan<A>,
+    class: u8,
+) -> bool
+    requires reach { reach.now ≡ reach_of plan.now filter.now }
+    requires from { 1 ≤ port.now.number }
+    requires to { port.now.number ≤ 16 }
+    requires at { port_at plan.now.ports port.now.number ≡ Some port.now }
+    ensures { result ≡ (before || reaches plan.now filter.now port.now.number class) }
+{
+    before || may_wait_at(plan, filter, reach, port, class)
+}
+
+/// Whether frames of a filter may be queued at a port that the plan has. The reach of the filter is made once for its classes.
+fn reaches_at<A: Allocator + Copy>(plan: &Plan<A>, filter: &FilterPlan, port: &PortPlan<A>) -> bool
+    requires from { 1 ≤ port.now.number }
+    requires to { port.now.number ≤ 16 }
+    requires at { port_at plan.now.ports port.now.number ≡ Some port.now }
+    ensures { result ≡ feeding.reaches_any plan.now filter.now port.now.number }
+{
+    let reach = reach_of(plan, filter);
+    let mut found = false;
+    for class in 0..8u8 {
+        found = or_waits(found, plan, filter, &reach, port, class);
+    }
+    found
+}
+
 /// Whether frames of a filter may be queued at a port, 1 to 16.
+#[tactic(auto, using(crate::proofs::Reaching::unreached))]
 fn reaches_any<A: Allocator + Copy>(plan: &Plan<A>, filter: &FilterPlan, port: u8) -> bool
     requires from { 1 ≤ port }
     requires to { port ≤ 16 }
     ensures { result ≡ feeding.reaches_any plan.now filter.now port }
 {
-    let mut found = false;
-    for class in 0..8u8 {
-        found = found || may_wait(plan, filter, port, class);
+    match plan.port(port) {
+        Some(found) => reaches_at(plan, filter, found),
+        None => false,
     }
-    found
 }
 
 impl<'a, A: Allocator + Copy> Sending<'a, A> {

@@ -44,7 +44,7 @@ impl<'a, A: Allocator + Copy> Taking<'a, A> {
     }
 
     /// The first of the frames that an entry names, with a tag.
-    fn first_with(&self, entry: &StreamEntry, tag: Option<Tag>) -> Option<Found>
+    pub(crate) fn first_with(&self, entry: &StreamEntry, tag: Option<Tag>) -> Option<Found>
         requires { IsTaking self.now }
         ensures { result ≡ taken_by self.now entry.now tag }
     {

@@ -51,7 +51,10 @@ pub(crate) struct Case<'a, A: Allocator + Copy> {
 }
 
 /// The plan of a bridge, where it is there.
-fn plan_at<'a, A: Allocator + Copy>(plans: &'a [Accepted<A>], place: u16) -> Option<&'a Plan<A>>
+pub(crate) fn plan_at<'a, A: Allocator + Copy>(
+    plans: &'a [Accepted<A>],
+    place: u16,
+) -> Option<&'a Plan<A>>
     ensures plan { option_map (λ p. p.now) result ≡ slice_get plans.now place }
     ensures rules { IfSome result (λ p. IsPlan p.now) }
 {
@@ -159,7 +162,7 @@ fn stands_in<A: Allocator + Copy>(
 }
 
 /// The handle that the protected filter with a number names.
-fn handle_of(filters: &[(u32, FilterPlan)], number: u32) -> Option<u32>
+pub(crate) fn handle_of(filters: &[(u32, FilterPlan)], number: u32) -> Option<u32>
     ensures { result ≡ spec.handle_of filters.now number }
 {
     for filter in filters {

@@ -1,7 +1,7 @@
 -- Names of bridges.
 use Rattle.std.proofs.Common.{◌≡◌, ◌<◌, ◌≤◌, ℕ, zero, suc, List, [], ◌∷◌, length, get_or, refl, arith}
 use Rattle.bridge_netfile.specs.Model.{Bridge}
-use Rattle.bridge_planning.specs.Networks.{name_at}
+use Rattle.bridge_planning.specs.Naming.{name_at}
 
 -- the name of the bridge at a place that is there
 pub name_there : (bridges : List Bridge) (b : ℕ) (d : Bridge) → b < length bridges → (get_or bridges b d).name ≡ name_at bridges b

@@ -1,7 +1,9 @@
 pub mod Bounds
+pub mod Naming
 pub mod Networks
 pub mod Printing
 pub mod Streams
+pub mod Telling
 pub mod Traffic
 pub mod TrafficText
 pub mod Ways

@@ -1,5 +1,5 @@
 -- Networks of files: what is made of their text, and what is printed.
-use Rattle.std.specs.Prelude.{◌≡◌, ℕ, zero, suc, List, [], ◌∷◌, ◌++◌, map, length, sum_by, Option, Some, None, Vec, codes, decimal, string_bytes}
+use Rattle.std.specs.Prelude.{◌≡◌, ℕ, List, [], ◌∷◌, ◌++◌, map, length, sum_by, Option, Some, None, Vec, codes, decimal, string_bytes}
 use Rattle.bridge_config.specs.Model.{Plan}
 use Rattle.bridge_lanes.specs.declared.fault.RunFault.TheVariants as run
 use Rattle.bridge_program.specs.declared.fault.Fault.{Fault}
@@ -14,7 +14,9 @@ use Rattle.bridge_network.specs.declared.links.StreamHop.{StreamHop}
 use Rattle.bridge_network.specs.Wiring.{Parts, stream_of}
 use Rattle.bridge_network.specs.Refusing.{first_fault}
 use Rattle.bridge_planning.specs.declared.bounds.QueueBound.{QueueBound}
+use Rattle.bridge_planning.specs.Naming.{name_at}
 use Rattle.bridge_planning.specs.Streams.{AreBoundsOf, stream_lines}
+use Rattle.bridge_planning.specs.Telling.{AreTold}
 
 -- A NETWORK OF A TEXT
 
@@ -42,12 +44,6 @@ hops_in streams = sum_by (λ (s : Stream). length s.hops) streams
 -- the line of a network that is accepted, with its line feed
 unfoldable pub accepted_line : file.Network → List ℕ
 accepted_line f = codes "accepted: " ++ (decimal (length f.bridges) ++ (codes " bridges " ++ (decimal (length f.links) ++ (codes " links " ++ (decimal (length f.streams) ++ (codes " streams " ++ (decimal (hops_in f.streams) ++ codes " hops\n")))))))
-
--- the name of the bridge at a place, nothing where there is none
-abbrev pub name_at : List Bridge → ℕ → List ℕ
-name_at [] b = []
-name_at (x ∷ xs) zero = x.name
-name_at (x ∷ xs) (suc b) = name_at xs b
 
 -- a port of a named bridge
 abbrev pub port_text : List Bridge → ℕ → ℕ → List ℕ
@@ -92,9 +88,10 @@ RefusesNetwork f plans e = ⊥
 abbrev pub AreLinesOfNetwork : {A : Type 0} → file.Network → List (Plan A) → List ℕ → Type 0
 AreLinesOfNetwork {A} f plans lines = (bounds : List (Vec QueueBound A)) × AreBoundsOf plans bounds × (lines ≡ accepted_line f ++ stream_lines bounds f.links f.streams)
 
--- the lines of a network whose streams are closed
-abbrev pub PrintsNetwork : (A : Type 0) → List ℕ → Type 0
-PrintsNetwork A lines = (f : file.Network) × (plans : List (Plan A)) × (n : Parts A) × IsMadeOf f plans n × (first_fault n ≡ None) × AreLinesOfNetwork f n.plans lines
+-- what is said of a network whose streams are closed: its lines, and what is told behind them
+abbrev pub PrintsNetwork : (A : Type 0) → List ℕ → List ℕ → Type 0
+PrintsNetwork A lines told =
+    (f : file.Network) × (plans : List (Plan A)) × (n : Parts A) × IsMadeOf f plans n × (first_fault n ≡ None) × AreLinesOfNetwork f n.plans lines × AreTold f n told
 
 -- a fault of the job over a network: of a file, of the network or of memory
 abbrev pub EndsNetwork : Fault → Type 0

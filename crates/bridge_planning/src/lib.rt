@@ -3,20 +3,26 @@
 //! period, and whether a network of bridges isolates its streams.
 
 mod bounds;
+mod drawing;
+mod explaining;
 pub mod laws;
 mod network;
 mod printing;
 mod refusing;
 mod reporting;
 mod streams;
+mod telling;
 mod timings;
 mod traffic;
 
 pub use bounds::{QueueBound, bounds_of};
-pub use network::{network_job, tested};
+pub use drawing::{NetworkPicture, is_network, network_picture};
+pub use explaining::explain_network;
+pub use network::{NetworkSaid, network_job, tested};
 pub use printing::{bounds_job, bounds_text};
 pub use refusing::said_of_network;
 pub use reporting::{TrafficReport, traffic_job};
-pub use streams::{bounds_of_all, stream_lines};
+pub use streams::{bounds_of_all, bounds_of_streams, stream_lines};
+pub use telling::told_of;
 pub use timings::{QueueTiming, are_kept, timings_of, timings_text};
 pub use traffic::traffic_fault;

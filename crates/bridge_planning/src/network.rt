@@ -6,10 +6,12 @@ ghost use Rattle.bridge_network.specs.declared.links.StreamHop.{StreamHop as Hop
 ghost use Rattle.bridge_network.specs.Refusing.{first_fault};
 ghost use Rattle.bridge_lanes.specs.declared.fault.RunFault.{RunFault};
 ghost use Rattle.bridge_program.specs.declared.fault.Fault.{Fault};
+ghost use Rattle.bridge_planning.specs.Telling.{AreTold};
 ghost use Rattle.bridge_planning.specs.Networks.{AreLinesOfNetwork, EndsNetwork, IsMadeOf, PrintsNetwork, RefusesNetwork, accepted_line, hop_in, hops_in, link_in};
 
 use crate::refusing::said_of_network;
 use crate::streams::{bounds_of_all, stream_lines};
+use crate::telling::told_of;
 use bridge_base::NoMemory;
 use bridge_check::Accepted;
 use bridge_lanes::RunFault;
@@ -29,7 +31,10 @@ const REFUSED: u8 = 1;
 const MOST_TEXT: u64 = 1_048_577;
 
 /// The links of a network, by the places of their bridges.
-fn links_of<A: Allocator + Copy>(alloc: A, rows: &[LinkRow]) -> Result<Vec<Link, A>, NoMemory>
+pub(crate) fn links_of<A: Allocator + Copy>(
+    alloc: A,
+    rows: &[LinkRow],
+) -> Result<Vec<Link, A>, NoMemory>
     ensures { IfOk result (λ links. links.items ≡ map link_in rows.now) }
 {
     let mut links = Vec::new(alloc);
@@ -67,7 +72,7 @@ fn hops_of<A: Allocator + Copy>(
 }
 
 /// The streams of a network.
-fn streams_of<A: Allocator + Copy>(
+pub(crate) fn streams_of<A: Allocator + Copy>(
     alloc: A,
     rows: &[StreamRow<A>],
 ) -> Result<Vec<Vec<StreamHop, A>, A>, NoMemory>
@@ -82,7 +87,7 @@ fn streams_of<A: Allocator + Copy>(
 }
 
 /// The fault of a growth that was refused.
-fn memory_fault() -> Fault
+pub(crate) fn memory_fault() -> Fault
     ensures { result ≡ Fault.Run RunFault.NoMemory }
 {
     Fault::Run(RunFault::NoMemory)
@@ -170,7 +175,10 @@ fn lines_of<A: Allocator + Copy>(
 }
 
 /// The text of a network by the path of its file, read.
-fn read_network<H: AllocGlobal + Files>(rt: &H, path: String) -> Result<NetworkFile<Global>, Fault>
+pub(crate) fn read_network<H: AllocGlobal + Files>(
+    rt: &H,
+    path: String,
+) -> Result<NetworkFile<Global>, Fault>
     ensures { IfErr result EndsNetwork }
 {
     let alloc = rt.alloc();
@@ -201,7 +209,7 @@ fn refused_text(alloc: Global, fault: &NetFault) -> Fault
 }
 
 /// The path of a file that lies in the folder of another one.
-fn beside(alloc: Global, path: &str, file: &str) -> Result<String, AllocError> {
+pub(crate) fn beside(alloc: Global, path: &str, file: &str) -> Result<String, AllocError> {
     match path.rsplit_once('/') {
         Some((folder, _)) => format!(in alloc; "{folder}/{file}"),
         None => String::from_str(alloc, file),
@@ -252,7 +260,7 @@ fn read_plan<H: AllocGlobal + Files>(
 }
 
 /// The plans of the bridges, in their order.
-fn read_plans<H: AllocGlobal + Files>(
+pub(crate) fn read_plans<H: AllocGlobal + Files>(
     rt: &H,
     path: &str,
     bridges: &[BridgeRow<Global>],
@@ -270,15 +278,41 @@ fn read_plans<H: AllocGlobal + Files>(
     Ok(plans)
 }
 
+/// What is said of a network that is accepted.
+#[derive(Debug, Drop)]
+pub struct NetworkSaid {
+    /// The lines that are printed: how many bridges, links, streams and hops it has, and how long each stream takes.
+    pub lines: String,
+    /// The lines behind them, of what is told and not refused; none where nothing is.
+    pub told: String,
+}
+
+/// What is said of a network of these plans that is accepted.
+fn said_of<A: Allocator + Copy>(
+    alloc: A,
+    heap: Global,
+    file: &NetworkFile<A>,
+    network: &Network<A>,
+) -> Result<NetworkSaid, NoMemory>
+    requires few { length network.now.plans ≤ 64 }
+    ensures lines { IfOk result (λ said. AreLinesOfNetwork file.now network.now.plans (string_bytes said.lines)) }
+    ensures told { IfOk result (λ said. AreTold file.now network.now (string_bytes said.told)) }
+{
+    let lines = lines_of(alloc, heap, file, network.plans())?;
+    let told = told_of(alloc, heap, file, network)?;
+    Ok(NetworkSaid { lines, told })
+}
+
 /// What is printed for the network of a file whose plans lie beside it, where its streams are closed: one line that counts
 /// its bridges, links, streams and hops, and one for each stream with how long in ns a frame takes at most that goes once
-/// through each of its hops, from when it came to the first until it is out of the last.
+/// through each of its hops, from when it came to the first until it is out of the last; and behind these what is told and
+/// not refused.
 ///
 /// Faults in this order: NET opened and read, its text; then by the order of the bridges the plan opened and read, its
 /// text, its check; then the tests on the network. `File` of a file, `Network` with the line of a refusal, and `Run` with
 /// `NoMemory`.
-pub fn network_job<H: AllocGlobal + Files>(rt: &H, path: String) -> Result<String, Fault>
-    ensures ok { IfOk result (λ line. PrintsNetwork Global (string_bytes line)) }
+pub fn network_job<H: AllocGlobal + Files>(rt: &H, path: String) -> Result<NetworkSaid, Fault>
+    ensures ok { IfOk result (λ said. PrintsNetwork Global (string_bytes said.lines) (string_bytes said.told)) }
     ensures err { IfErr result EndsNetwork }
 {
     let alloc = rt.alloc();
@@ -287,10 +321,10 @@ pub fn network_job<H: AllocGlobal + Files>(rt: &H, path: String) -> Result<Strin
     let plans = read_plans(rt, path.as_str(), file.bridges())?;
     match tested(alloc, alloc, &file, plans) {
         Ok(network) => {
-            let said = lines_of(alloc, alloc, &file, network.plans());
+            let said = said_of(alloc, alloc, &file, &network);
             drop(network);
             match said {
-                Ok(line) => Ok(line),
+                Ok(said) => Ok(said),
                 Err(_) => Err(memory_fault()),
             }
         }

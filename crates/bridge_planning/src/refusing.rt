@@ -1,6 +1,7 @@
 //! The line of a network that is refused.
 ghost use Rattle.std.specs.Prelude.{◌≡◌, ◌++◌, codes, decimal, IfOk, string_bytes};
-ghost use Rattle.bridge_planning.specs.Networks.{filter_text, line_of, name_at, of_hop, of_link, port_text, sends_text};
+ghost use Rattle.bridge_planning.specs.Networks.{filter_text, line_of, of_hop, of_link, port_text, sends_text};
+ghost use Rattle.bridge_planning.specs.Naming.{name_at};
 
 use bridge_base::NoMemory;
 use bridge_netfile::BridgeRow;
@@ -90,7 +91,7 @@ fn sends_words<A: Allocator + Copy>(
 }
 
 /// The name of the bridge at a place.
-fn name_of<'a, A: Allocator + Copy>(bridges: &'a [BridgeRow<A>], bridge: u16) -> &'a str
+pub(crate) fn name_of<'a, A: Allocator + Copy>(bridges: &'a [BridgeRow<A>], bridge: u16) -> &'a str
     ensures { result.now ≡ name_at bridges.now bridge }
 {
     let place = bridge as usize;

@@ -1,5 +1,6 @@
 //! How long frames of the streams of a network take, from talker to listener.
-ghost use Rattle.std.specs.Prelude.{All, ◌≡◌, ◌++◌, ◌≤◌, ◌*◌, ◌^◌, length, nat_eq, sum_by, IfOk, OnOk, string_bytes};
+ghost use Rattle.std.specs.Prelude.{All, ◌≡◌, ◌++◌, ◌≤◌, ◌*◌, ◌^◌, length, map, nat_eq, sum_by, IfOk, OnOk, string_bytes};
+ghost use Rattle.bridge_netfile.specs.Model.{Stream};
 ghost use Rattle.bridge_planning.specs.Streams.{AreBoundsOf, filter_bound, greater_bound, greater_delay, hop_bound, hop_delay, is_at, joins, link_delay, stream_bound, stream_line, stream_lines};
 
 use crate::bounds::{QueueBound, bounds_of};
@@ -141,6 +142,24 @@ fn stream_bound<A: Allocator + Copy>(
 {
     let later = &hops[1..];
     sum_of_bounds(bounds, hops) + sum_of_delays(links, hops, later)
+}
+
+/// How long each stream takes at most, in ns, in their order.
+pub fn bounds_of_streams<A: Allocator + Copy>(
+    alloc: A,
+    bounds: &[Vec<QueueBound, A>],
+    links: &[LinkRow],
+    streams: &[StreamRow<A>],
+) -> Result<Vec<u128, A>, NoMemory>
+    requires some { All (λ s. 1 ≤ length s.hops) streams.now }
+    requires few { All (λ s. length s.hops ≤ 64) streams.now }
+    ensures { IfOk result (λ rows. rows.items ≡ map (λ (s : Stream). stream_bound bounds.now links.now s.hops) streams.now) }
+{
+    let mut rows = Vec::new(alloc);
+    for stream in streams {
+        rows.push(stream_bound(bounds, links, stream.hops()))?;
+    }
+    Ok(rows)
 }
 
 /// Adds the line of a stream.

@@ -177,9 +177,14 @@ Statuses:
 
 const PICTURE: Description = Description {
     name: "picture",
-    about: "Draw the windows and the stream gates of a plan",
+    about: "Draw the windows and the stream gates of a plan, or the streams of a network",
     words: &[
-        PLAN,
+        Word {
+            id: "plan",
+            value: "PLAN",
+            form: Form::Place,
+            help: "file of the plan, or of a network (TOML, at most 1,048,576 octets)",
+        },
         Word {
             id: "file",
             value: "FILE",
@@ -194,7 +199,7 @@ Example:
 
 Statuses:
   0  the picture is made
-  1  the plan's text is refused
+  1  the plan's text is refused, or the network
   3  a file, a read, a write or memory failed
   4  the words are refused",
 };

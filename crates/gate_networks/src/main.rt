@@ -6,7 +6,7 @@
 //! traffic.
 
 use bridge_lanes::RunFault;
-use bridge_planning::{bounds_job, network_job, traffic_job};
+use bridge_planning::{bounds_job, explain_network, network_job, traffic_job};
 use bridge_program::{Fault, end, fault_line, print, words_of};
 use std::fs;
 use std::process::ExitCode;
@@ -47,8 +47,26 @@ fn run(rt: &(impl AllocGlobal + Print + Env + Files)) -> Result<(), Fault> {
 /// Prints what the program prints for a network, or the status and the line of its fault.
 fn tell_network(rt: &(impl AllocGlobal + Print + Files), path: &str) -> Result<(), Fault> {
     let file = String::from_str(rt.alloc(), path)?;
-    let told = network_job(rt, file);
-    tell(rt, path, told)
+    match network_job(rt, file) {
+        Ok(said) => {
+            let lines = said.lines.as_str();
+            let told = said.told.as_str();
+            let text = format!(in rt.alloc(); "{lines}{told}")?;
+            tell(rt, path, Ok(text))
+        }
+        Err(fault) => {
+            tell(rt, path, Err(fault))?;
+            tell_more(rt, path)
+        }
+    }
+}
+
+/// Prints what is told beside the line of a network that is refused.
+fn tell_more(rt: &(impl AllocGlobal + Print + Files), path: &str) -> Result<(), Fault> {
+    match explain_network(rt, path) {
+        Some(said) => print(rt, said.as_str()),
+        None => Ok(()),
+    }
 }
 
 /// Prints the bounds of the plan of a file, or the status and the line of its fault.

@@ -13,7 +13,7 @@ Commands:
   wire     Send a capture through one queue
   check    Say whether a plan protects its streams
   run      Send the captures of all ports through the bridge of a plan
-  picture  Draw the windows and the stream gates of a plan
+  picture  Draw the windows and the stream gates of a plan, or the streams of a network
   bounds   Say how long the frames of protected streams may take
   net      Say whether a network of bridges protects its streams, or send captures through it
   help     Print this message or the help of the given subcommand(s)
@@ -117,12 +117,12 @@ Statuses:
 ";
 
 const PICTURE: &str = "\
-Draw the windows and the stream gates of a plan
+Draw the windows and the stream gates of a plan, or the streams of a network
 
 Usage: tsnbridge picture [OPTIONS] <PLAN> <FILE>
 
 Arguments:
-  <PLAN>  file of the plan (TOML, at most 1,048,576 octets)
+  <PLAN>  file of the plan, or of a network (TOML, at most 1,048,576 octets)
   <FILE>  file of the picture that is made (SVG)
 
 Options:
@@ -135,7 +135,7 @@ Example:
 
 Statuses:
   0  the picture is made
-  1  the plan's text is refused
+  1  the plan's text is refused, or the network
   3  a file, a read, a write or memory failed
   4  the words are refused
 ";

@@ -3,10 +3,13 @@
 ghost use Rattle.bridge_words.specs.CommandLine.{HasRoom};
 
 use bridge_files::{Said, say, wire_files};
-use bridge_folder::{drawn_job, explain, explain_accepted, picture_job};
-use bridge_planning::{TrafficReport, bounds_job, network_job, traffic_job};
+use bridge_folder::{drawn_job, explain, explain_accepted, picture_job, write_picture};
+use bridge_planning::{
+    TrafficReport, bounds_job, explain_network, is_network, network_job, network_picture,
+    traffic_job,
+};
 use bridge_program::{Fault, check_job, end, print, text_job, words_of};
-use bridge_words::{Job, Sketch, help_of, job_of, sketch_of, wants_explanation};
+use bridge_words::{Job, Sketch, help_of, job_of, sketch_of, wants_explanation, wants_strictness};
 use std::alloc::Global;
 use std::fs;
 use std::process::ExitCode;
@@ -28,13 +31,45 @@ fn main(rt: HostRuntime) -> ExitCode {
 fn explain_if_asked(rt: &(impl AllocGlobal + Eprint + Env + Files), fault: &Fault) {
     if let Ok(words) = words_of(rt) {
         if wants_explanation(&words) {
-            explain(rt, &words, fault);
+            explain_fault(rt, &words, fault);
         }
     }
 }
 
+/// Tells more of a fault of the job of these words.
+fn explain_fault(rt: &(impl AllocGlobal + Eprint + Files), words: &[String], fault: &Fault) {
+    match (fault, job_of(rt.alloc(), words)) {
+        (Fault::Network(_), Ok(Job::Network { network })) => {
+            if let Some(said) = explain_network(rt, network.as_str()) {
+                let _ = eprint!(rt; "{said}");
+            }
+        }
+        _ => explain(rt, words, fault),
+    }
+}
+
+/// What a job says.
+#[derive(Drop)]
+struct Answer {
+    said: Option<Said>,
+    /// Whether something is told of it beside that it is done, which strictness takes for a fault.
+    is_told: bool,
+    /// Whether all traffic that it is asked about passes and is in time.
+    is_kept: bool,
+}
+
+/// The answer of a job that prints a line.
+fn printed(line: String) -> Answer {
+    Answer {
+        said: Some(Said::Printed(line)),
+        is_told: false,
+        is_kept: true,
+    }
+}
+
 /// Does the job of the words and says what it says; where they ask for help or for the version, prints that, and ends as for
-/// words that are refused. `false` where a frame of the traffic that is asked about may be refused or late.
+/// words that are refused. `false` where a frame of the traffic that is asked about may be refused or late, or where
+/// something is told that the words, as they want strictness, take for a fault.
 fn run(rt: &(impl Input + AllocGlobal + Print + Eprint + Env + Files)) -> Result<bool, Fault> {
     let words = words_of(rt)?;
     if let Some(text) = help_of(rt.alloc(), &words)? {
@@ -43,23 +78,23 @@ fn run(rt: &(impl Input + AllocGlobal + Print + Eprint + Env + Files)) -> Result
     }
     let job = job_of(rt.alloc(), &words)?;
     let sketch = sketch_of(rt.alloc(), &words)?;
-    let (said, kept) = said_of(rt, job, sketch)?;
-    if let Some(said) = said {
-        say(rt, &said)?;
+    let answer = answer_of(rt, job, sketch)?;
+    if let Some(said) = &answer.said {
+        say(rt, said)?;
     }
     if wants_explanation(&words) {
         explain_accepted(rt, &words);
     }
-    Ok(kept)
+    Ok(answer.is_kept && !(answer.is_told && wants_strictness(&words)))
 }
 
 /// What a job says, over standard input and output or the files that it names, where it says something; a run with the
-/// picture that is asked for beside it. And whether all traffic that it is asked about passes and is in time.
-fn said_of(
+/// picture that is asked for beside it.
+fn answer_of(
     rt: &(impl Input + AllocGlobal + Print + Files),
     job: Job,
     sketch: Option<Sketch>,
-) -> Result<(Option<Said>, bool), Fault>
+) -> Result<Answer, Fault>
     requires { HasRoom job }
 {
     let line = match job {
@@ -69,7 +104,14 @@ fn said_of(
             room,
             input,
             output,
-        } => return Ok((Some(wire_files(rt, speed, room, input, output)?), true)),
+        } => {
+            let said = wire_files(rt, speed, room, input, output)?;
+            return Ok(Answer {
+                said: Some(said),
+                is_told: false,
+                is_kept: true,
+            });
+        }
         Job::Check { plan } => check(rt, plan)?,
         Job::Run {
             plan,
@@ -78,24 +120,56 @@ fn said_of(
             commands,
         } => drawn_job(rt, plan, input, output, commands, sketch)?,
         Job::Picture { plan, file } => {
-            picture_job(rt, plan, file)?;
-            return Ok((None, true));
+            draw(rt, plan, file)?;
+            return Ok(Answer {
+                said: None,
+                is_told: false,
+                is_kept: true,
+            });
         }
-        Job::Bounds {
-            plan,
-            traffic: None,
-        } => bounds(rt, plan)?,
-        Job::Bounds {
-            plan,
-            traffic: Some(file),
-        } => {
-            let report = traffic(rt, plan, file)?;
-            return Ok((Some(Said::Printed(report.text)), report.kept));
-        }
-        Job::Network { network } => network_job(rt, network)?,
-        Job::RunNetwork { .. } => return Err(Fault::Words),
+        Job::Bounds { plan, traffic } => match traffic {
+            None => bounds(rt, plan)?,
+            Some(file) => {
+                let report = traffic_of(rt, plan, file)?;
+                return Ok(Answer {
+                    said: Some(Said::Printed(report.text)),
+                    is_told: false,
+                    is_kept: report.kept,
+                });
+            }
+        },
+        Job::Network { network } => return check_network(rt, network),
+        Job::RunNetwork {
+            network: _network,
+            input: _input,
+            output: _output,
+            picture: _picture,
+        } => return Err(Fault::Words),
     };
-    Ok((Some(Said::Printed(line)), true))
+    Ok(printed(line))
+}
+
+/// Draws the network or the plan of a file into another file.
+fn draw(rt: &(impl AllocGlobal + Files), path: String, file: String) -> Result<(), Fault> {
+    if !is_network(rt, path.as_str()) {
+        return picture_job(rt, path, file);
+    }
+    let picture = network_picture(rt, path.as_str())?;
+    write_picture(rt, file, &picture.read, picture.text.as_str())
+}
+
+/// What is said of the network of a file.
+fn check_network(rt: &(impl AllocGlobal + Files), path: String) -> Result<Answer, Fault> {
+    let said = network_job(rt, path)?;
+    let is_told = !said.told.is_empty();
+    let lines = said.lines.as_str();
+    let told = said.told.as_str();
+    let text = format!(in rt.alloc(); "{lines}{told}")?;
+    Ok(Answer {
+        said: Some(Said::Printed(text)),
+        is_told,
+        is_kept: true,
+    })
 }
 
 /// What is printed of the bounds of the plan of a file.
@@ -107,7 +181,7 @@ fn bounds(rt: &(impl AllocGlobal + Files), plan: String) -> Result<String, Fault
 }
 
 /// What is printed of the plan of a file and of the traffic of another one.
-fn traffic(
+fn traffic_of(
     rt: &(impl AllocGlobal + Files),
     plan: String,
     file: String,

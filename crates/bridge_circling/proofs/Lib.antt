@@ -1,0 +1,4 @@
+pub mod Named
+pub mod Others
+pub mod Stepping
+pub mod Told

@@ -1,0 +1,8 @@
+use Rattle.std.proofs.Common.{sym}
+use Rattle.bridge_config.proofs.PlanPorts.{number_is}
+use Rattle.bridge_network.proofs.samples.stray_from.Goals as goal
+
+pub sample-requires : goal.sample-requires
+sample-requires g c =
+    let (low, high) = number_is c.args.plan.now.ports c.args.end.port c.in-Some.field-0.now c.in-Some.ensures.rules.ports (sym c.in-Some.ensures.port) in
+    record { sending = record { from = low; to = high }; names = c.requires }

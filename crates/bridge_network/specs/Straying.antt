@@ -1,0 +1,45 @@
+-- Frames by which a stream isn't closed.
+use Rattle.std.specs.Prelude.{◌≡◌, ℕ, List, Option, None, Some, slice_get}
+use Rattle.bridge_config.specs.declared.ports.PortPlan.{PortPlan}
+use Rattle.bridge_config.specs.Model.{Plan}
+use Rattle.bridge_config.specs.Rules.{port_at}
+use Rattle.bridge_network.specs.declared.links.Link.{Link}
+use Rattle.bridge_network.specs.declared.links.StreamHop.{StreamHop}
+use Rattle.bridge_network.specs.declared.sending.Found.{Found}
+use Rattle.bridge_network.specs.declared.sending.Question.TheVariants.{Strays}
+use Rattle.bridge_network.specs.declared.samples.Stray.{Stray}
+use Rattle.bridge_network.specs.declared.taking.Taking.{Taking}
+use Rattle.bridge_network.specs.Networks.{End}
+use Rattle.bridge_network.specs.Accepting.{is_listed}
+use Rattle.bridge_network.specs.Finding as finding
+use Rattle.bridge_network.specs.Walking as walking
+use Rattle.bridge_network.specs.Wiring.{peer, stream_of}
+
+-- frames that the filter of a hop takes at its port and that are asked for
+abbrev pub IsSample : {A : Type 0} → Taking A → Stray → Type 0
+IsSample t s = (f : Found) × (walking.taken_by t s.entry s.tag ≡ Some f)
+
+-- frames that a bridge may send from an end, where it is there, and that the filter of a hop takes at its port though they are of no hop
+-- of the stream
+abbrev pub IsStrayOver : {A : Type 0} → List StreamHop → End → Plan A → PortPlan A → ℕ → Option (Plan A) → Stray → Type 0
+IsStrayOver hops e next on n None s = ⊥
+IsStrayOver hops e next on n (Some p) s = (f : Found) × (finding.taken_by Strays p (is_listed (stream_of hops) e.bridge) e.port next on n s.entry s.tag ≡ Some f)
+
+-- the same over a link, where there is one
+abbrev pub IsStrayLink : {A : Type 0} → List (Plan A) → List StreamHop → Plan A → PortPlan A → ℕ → Option End → Stray → Type 0
+IsStrayLink plans hops next on n None s = ⊥
+IsStrayLink plans hops next on n (Some e) s = IsStrayOver hops e next on n (slice_get plans e.bridge) s
+
+-- the same at a port of the hop's bridge, where it is there
+abbrev pub IsStrayOn : {A : Type 0} → List (Plan A) → List Link → List StreamHop → StreamHop → Plan A → Option (PortPlan A) → Stray → Type 0
+IsStrayOn plans links hops h next None s = ⊥
+IsStrayOn plans links hops h next (Some on) s = IsStrayLink plans hops next on h.filter (peer links h.bridge on.number) s
+
+-- the same at the port of a number, where the hop's bridge is there
+abbrev pub IsStrayAt : {A : Type 0} → List (Plan A) → List Link → List StreamHop → StreamHop → ℕ → Option (Plan A) → Stray → Type 0
+IsStrayAt plans links hops h port None s = ⊥
+IsStrayAt plans links hops h port (Some next) s = IsStrayOn plans links hops h next (port_at next.ports port) s
+
+-- frames that a hop takes at a port over its link, though they are of no hop of the stream
+abbrev pub IsStray : {A : Type 0} → List (Plan A) → List Link → List StreamHop → StreamHop → ℕ → Stray → Type 0
+IsStray plans links hops h port s = IsStrayAt plans links hops h port (slice_get plans h.bridge) s
