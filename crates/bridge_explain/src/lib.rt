@@ -1,6 +1,6 @@
 #![tactic(auto)]
 //! What a planner is told beside the line of a fault: where it is, what was found there, what may stand there and what to
-//! change; and of a plan that is accepted where its protected frames wait, and what of it is of no use.
+//! change; and of a plan that is accepted where its protected frames wait and for how long, and what of it is of no use.
 
 mod allowed;
 mod capture;

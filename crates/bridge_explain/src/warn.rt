@@ -3,21 +3,24 @@ ghost use Rattle.std.specs.Prelude.{◌<◌, ◌≤◌};
 
 use crate::useless::put_warnings;
 use crate::windows::{longest_at, put_open};
-use bridge_base::NoMemory;
-use bridge_check::may_wait;
-use bridge_config::{Plan, PortPlan};
+use bridge_base::{LONGEST_FRAME, NoMemory};
+use bridge_bounds::bound_of;
+use bridge_check::{Accepted, may_wait};
+use bridge_config::PortPlan;
 use bridge_filter::FilterPlan;
+use bridge_frame::occupation;
 use std::alloc::{AllocError, Allocator, Global};
 
 /// What is said of a plan that is accepted: for each protected filter where its frames may wait, when each of these queues
-/// is open and the longest frame that fits; then a warning for each thing that is of no use.
+/// is open, the longest frame that fits, and how long a frame takes there at most; then a warning for each thing that is of
+/// no use.
 pub fn warn_of_plan<A: Allocator + Copy>(
     alloc: Global,
-    plan: &Plan<A>,
+    accepted: &Accepted<A>,
 ) -> Result<String, NoMemory> {
     let mut said = String::new(alloc);
-    put_filters(alloc, &mut said, plan)?;
-    put_warnings(&mut said, plan)?;
+    put_filters(alloc, &mut said, accepted)?;
+    put_warnings(&mut said, accepted.plan())?;
     Ok(said)
 }
 
@@ -25,12 +28,12 @@ pub fn warn_of_plan<A: Allocator + Copy>(
 fn put_filters<A: Allocator + Copy>(
     alloc: Global,
     said: &mut String,
-    plan: &Plan<A>,
+    accepted: &Accepted<A>,
 ) -> Result<(), AllocError> {
-    for (number, filter) in plan.filters() {
+    for (number, filter) in accepted.plan().filters() {
         if filter.protected {
             write!(said, "Filter {number} is protected.\n")?;
-            put_ports(alloc, said, plan, filter)?;
+            put_ports(alloc, said, accepted, *number, filter)?;
         }
     }
     Ok(())
@@ -40,12 +43,13 @@ fn put_filters<A: Allocator + Copy>(
 fn put_ports<A: Allocator + Copy>(
     alloc: Global,
     said: &mut String,
-    plan: &Plan<A>,
+    accepted: &Accepted<A>,
+    number: u32,
     filter: &FilterPlan,
 ) -> Result<(), AllocError> {
-    for number in 1..17u8 {
-        if let Some(port) = plan.port(number) {
-            put_classes(alloc, said, plan, filter, number, port)?;
+    for port in 1..17u8 {
+        if let Some(found) = accepted.plan().port(port) {
+            put_classes(alloc, said, accepted, number, filter, port, found)?;
         }
     }
     Ok(())
@@ -55,17 +59,21 @@ fn put_ports<A: Allocator + Copy>(
 fn put_classes<A: Allocator + Copy>(
     alloc: Global,
     said: &mut String,
-    plan: &Plan<A>,
+    accepted: &Accepted<A>,
+    number: u32,
     filter: &FilterPlan,
-    number: u8,
-    port: &PortPlan<A>,
+    port: u8,
+    found: &PortPlan<A>,
 ) -> Result<(), AllocError>
-    requires from { 1 ≤ number }
-    requires to { number ≤ 16 }
+    requires from { 1 ≤ port }
+    requires to { port ≤ 16 }
 {
     for class in 0..8u8 {
-        if may_wait(plan, filter, number, class) {
-            put_queue(alloc, said, number, port, class)?;
+        if may_wait(accepted.plan(), filter, port, class) {
+            put_queue(alloc, said, port, found, class)?;
+            if let Some(bound) = bound_of(accepted, number, port, class) {
+                put_bound(said, filter, found, class, bound)?;
+            }
         }
     }
     Ok(())
@@ -93,4 +101,26 @@ fn put_queue<A: Allocator + Copy>(
         ),
         None => said.push_str("; no frame fits.\n"),
     }
+}
+
+/// Adds how long a frame takes at most that a queue takes, and what this rests on.
+fn put_bound<A: Allocator + Copy>(
+    said: &mut String,
+    filter: &FilterPlan,
+    port: &PortPlan<A>,
+    class: u8,
+    bound: u64,
+) -> Result<(), AllocError>
+    requires { class < 8 }
+{
+    let Some(sdu) = filter.max_sdu else {
+        return Ok(());
+    };
+    let room = port.rooms[class as usize];
+    let length = sdu.saturating_add(16).min(LONGEST_FRAME);
+    let occupied = occupation(length, port.speed);
+    write!(
+        said,
+        "A frame that this queue takes is done at most {bound} ns after it came: there is room for {room}, each of at most {length} octets, which occupy the link for {occupied} ns, and they leave while the class is open.\n"
+    )
 }

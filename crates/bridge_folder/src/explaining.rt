@@ -2,7 +2,7 @@
 //!
 //! Nothing here can fail: what can't be read again is left out.
 
-use bridge_check::CheckFault;
+use bridge_check::{CheckFault, check};
 use bridge_config::plan_of;
 use bridge_explain::{
     Cause, explain_check, explain_commands, explain_file, explain_plan, explain_run, explain_text,
@@ -32,7 +32,7 @@ pub fn explain<H: AllocGlobal + Eprint + Files>(rt: &H, words: &[String], fault:
 }
 
 /// Tells on standard error what is to be said of the plan of these words where it is accepted: where the frames of its
-/// protected filters may wait, and what of it is of no use.
+/// protected filters may wait and how long they take there at most, and what of it is of no use.
 pub fn explain_accepted<H: AllocGlobal + Eprint + Files>(rt: &H, words: &[String]) {
     if let Some(said) = said_of_accepted(rt, words) {
         let _ = eprint!(rt; "{said}");
@@ -148,9 +148,10 @@ fn said_of_warnings<H: AllocGlobal + Files>(rt: &H, path: &str) -> Option<String
     let Ok(plan) = plan_of(rt.alloc(), rt.alloc(), &text) else {
         return None;
     };
-    let said = warn_of_plan(rt.alloc(), &plan);
-    drop(plan);
-    said.ok()
+    match check(rt.alloc(), plan) {
+        Ok(accepted) => warn_of_plan(rt.alloc(), &accepted).ok(),
+        Err(_) => None,
+    }
 }
 
 /// What is told of a run that stopped.

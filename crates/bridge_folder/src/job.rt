@@ -5,7 +5,7 @@ ghost use Rattle.bridge_folder.specs.Files.{EndsDrawn, EndsReading, EndsRun, End
 
 use crate::picturing::put_sketch;
 use bridge_check::Accepted;
-use bridge_config::{Command, Plan};
+use bridge_config::Command;
 use bridge_files::{
     FileId, Output, add_file, add_files, create_all, file_at, is_one_of, is_same_folder, open_all,
     open_taken, output_at, report_path, run_over,
@@ -84,14 +84,7 @@ fn send_drawn<H: AllocGlobal + Files>(
         Ok(outcome) => outcome,
         Err(fault) => return Err(fault),
     };
-    let told = show(
-        rt,
-        accepted.plan(),
-        &outcome,
-        input.as_str(),
-        sketch,
-        &taken,
-    );
+    let told = show(rt, accepted, &outcome, input.as_str(), sketch, &taken);
     drop(outcome);
     told
 }
@@ -99,7 +92,7 @@ fn send_drawn<H: AllocGlobal + Files>(
 /// What is printed of what a run told, once its picture is made where one is asked for.
 fn show<H: AllocGlobal + Files>(
     rt: &H,
-    plan: &Plan<Global>,
+    accepted: &Accepted<Global>,
     outcome: &Outcome<Global>,
     input: &str,
     sketch: Option<Sketch>,
@@ -109,7 +102,7 @@ fn show<H: AllocGlobal + Files>(
     ensures err { IfErr result (IsOfShowing (option_map (λ s. string_bytes s.file) sketch)) }
 {
     if let Some(sketch) = sketch {
-        if let Err(fault) = put_sketch(rt, plan, outcome, input, sketch, taken) {
+        if let Err(fault) = put_sketch(rt, accepted, outcome, input, sketch, taken) {
             return Err(fault);
         }
     }

@@ -3,6 +3,7 @@ ghost use Rattle.std.specs.Prelude.{◌≤◌, IfErr, string_bytes};
 ghost use Rattle.bridge_folder.specs.Files.{EndsPicture, IsOfPicture};
 
 use bridge_capture::ReadAhead;
+use bridge_check::Accepted;
 use bridge_config::{Plan, PortPlan};
 use bridge_files::{
     FileId, Output, add_file, capture_path, file_at, is_one_of, open_taken, output_at,
@@ -66,7 +67,7 @@ pub fn write_picture<H: AllocGlobal + Files>(
 /// where frames were not let on, for the moments at which these came.
 pub(crate) fn put_sketch<H: AllocGlobal + Files>(
     rt: &H,
-    plan: &Plan<Global>,
+    accepted: &Accepted<Global>,
     outcome: &Outcome<Global>,
     input: &str,
     sketch: Sketch,
@@ -74,10 +75,17 @@ pub(crate) fn put_sketch<H: AllocGlobal + Files>(
 ) -> Result<(), Fault>
     ensures { IfErr result (IsOfPicture (string_bytes sketch.file)) }
 {
-    let Ok(marks) = marks_of(rt, plan, outcome, input) else {
+    let Ok(marks) = marks_of(rt, accepted.plan(), outcome, input) else {
         return Err(Fault::Run(RunFault::NoMemory));
     };
-    let Ok(text) = draw_run(rt.alloc(), plan, outcome, &marks, sketch.from, sketch.to) else {
+    let Ok(text) = draw_run(
+        rt.alloc(),
+        accepted,
+        outcome,
+        &marks,
+        sketch.from,
+        sketch.to,
+    ) else {
         return Err(Fault::Run(RunFault::NoMemory));
     };
     put_picture(rt, sketch.file, taken, text.as_str())

@@ -22,9 +22,9 @@ const FRAME: usize = 20_000;
 const STYLES: &str = ":root{color-scheme:light dark}\
 text{font:110px system-ui,sans-serif;fill:#222}.h{font-weight:700;font-size:150px}.b{font-weight:700}.s{font-size:90px;fill:#666}.r{text-anchor:end}.m{text-anchor:middle}\
 .page{fill:#fff}.lane{fill:#f3f4f6}.open{fill:#c3cbd6}.own{fill:#7fb069}.gate{fill:#9db8d9}.grid{stroke:#d5d9df;stroke-width:6}.change{stroke:#c0392b;stroke-width:14;stroke-dasharray:60 40}\
-.p{stroke:#111;stroke-width:10}.n{opacity:.7}.drop{fill:#c0392b}.stop{fill:#e08e0b}\
+.p{stroke:#111;stroke-width:10}.n{opacity:.7}.due{fill:#111;opacity:.6}.drop{fill:#c0392b}.stop{fill:#e08e0b}\
 .c0{fill:#2a7de1}.c1{fill:#e4572e}.c2{fill:#29a37a}.c3{fill:#a14fc4}.c4{fill:#d9a400}.c5{fill:#16a3b8}.c6{fill:#c2447a}.c7{fill:#7a7f3c}\
-@media(prefers-color-scheme:dark){text{fill:#e6e6e6}.s{fill:#a0a0a0}.page{fill:#16181c}.lane{fill:#22262c}.open{fill:#4a525e}.own{fill:#5c8a49}.gate{fill:#4b6a91}.grid{stroke:#343a42}.p{stroke:#fff}}";
+@media(prefers-color-scheme:dark){text{fill:#e6e6e6}.s{fill:#a0a0a0}.page{fill:#16181c}.lane{fill:#22262c}.open{fill:#4a525e}.own{fill:#5c8a49}.gate{fill:#4b6a91}.grid{stroke:#343a42}.p{stroke:#fff}.due{fill:#fff}}";
 
 /// A picture: the shapes that it has so far, and how far down they go, in tenths of a pixel.
 #[derive(Drop)]

@@ -11,7 +11,9 @@ use crate::plan::{most_of, put_note, put_parts};
 use crate::span::{Span, change_of};
 use crate::windows::extent;
 use bridge_base::NoMemory;
-use bridge_config::{Plan, PortPlan};
+use bridge_bounds::bound_of;
+use bridge_check::Accepted;
+use bridge_config::PortPlan;
 use bridge_filter::Verdict;
 use bridge_port::Refusal;
 use bridge_run::{Departure, Outcome, View};
@@ -135,7 +137,7 @@ fn look_of(kind: MarkKind) -> (&'static str, &'static str) {
     }
 }
 
-/// Draws a frame that left, where the stretch has some of it.
+/// Draws a frame that left, where the stretch has some of it, and below it when it came and is to be done, where that is known.
 fn put_frame(
     alloc: Global,
     drawing: &mut Drawing,
@@ -143,10 +145,14 @@ fn put_frame(
     style: &str,
     filter: u32,
     departure: Departure,
+    due: Option<Span>,
     frames: &mut Count,
 ) -> Result<(), AllocError> {
     if departure.done <= span.from || span.to <= departure.start || !frames.takes_one() {
         return Ok(());
+    }
+    if let Some(due) = due {
+        put_due(alloc, drawing, span, filter, departure.own, due)?;
     }
     let (own, start, done) = (departure.own, departure.start, departure.done);
     let told = format!(in alloc; "filter {filter} frame {own}, {start} to {done} ns")?;
@@ -163,6 +169,62 @@ fn put_frame(
     )
 }
 
+/// Draws a line from when a frame came to when it is to be done.
+fn put_due(
+    alloc: Global,
+    drawing: &mut Drawing,
+    span: Span,
+    filter: u32,
+    own: u64,
+    due: Span,
+) -> Result<(), AllocError> {
+    let (from, to) = (due.from, due.to);
+    let told = format!(in alloc;
+        "filter {filter} frame {own}, came at {from} ns, is done by {to} ns"
+    )?;
+    let (x, width) = extent(span, from, to);
+    let line = drawing.down().saturating_add(LINK - 22);
+    drawing.told_bar("due", x, line, width, 12, told.as_str())
+}
+
+/// How long a frame of a protected filter takes at most from when it came until it is out of a port, whichever of the port's
+/// queues takes it.
+fn longest_at<A: Allocator + Copy>(accepted: &Accepted<A>, filter: u32, port: u8) -> Option<u64>
+    requires from { 1 ≤ port }
+    requires to { port ≤ 16 }
+{
+    let mut longest = None;
+    for class in 0..8u8 {
+        if let Some(bound) = bound_of(accepted, filter, port, class) {
+            longest = Some(bound.max(longest.unwrap_or(0)));
+        }
+    }
+    longest
+}
+
+/// When a frame that left came, and when it is to be done, by how long it takes at most.
+fn due_of<B: Allocator>(
+    view: &View<B>,
+    departure: Departure,
+    longest: Option<u64>,
+) -> Option<Span> {
+    let place = departure.own.saturating_sub(1) as usize;
+    match (view.origins.get(place), longest) {
+        (Some(origin), Some(longest)) => Some(Span {
+            from: origin.at,
+            to: origin.at.saturating_add(longest),
+        }),
+        _ => None,
+    }
+}
+
+/// Whether a frame left a port.
+fn has_left<B: Allocator>(view: &View<B>, port: u8) -> bool {
+    view.departures
+        .iter()
+        .any(|departure| departure.port == port)
+}
+
 /// The width of a frame's bar: wide enough to be seen, and with a gap behind it where that leaves it so.
 fn seen(width: u64) -> u64 {
     if width > GAP + LEAST {
@@ -173,17 +235,29 @@ fn seen(width: u64) -> u64 {
 }
 
 /// Draws what left a port of one filter.
-fn put_filter<A: Allocator>(
+fn put_filter<A: Allocator + Copy, B: Allocator>(
     alloc: Global,
     drawing: &mut Drawing,
+    accepted: &Accepted<A>,
     span: Span,
     port: u8,
     place: usize,
     filter: u32,
-    view: &View<A>,
+    view: &View<B>,
     frames: &mut Count,
-) -> Result<(), AllocError> {
+) -> Result<(), AllocError>
+    requires from { 1 ≤ port }
+    requires to { port ≤ 16 }
+{
+    if !has_left(view, port) {
+        return Ok(());
+    }
     let style = style_of(alloc, place, view.protected)?;
+    let longest = if view.protected {
+        longest_at(accepted, filter, port)
+    } else {
+        None
+    };
     for departure in &view.departures {
         if departure.port == port {
             put_frame(
@@ -193,6 +267,7 @@ fn put_filter<A: Allocator>(
                 style.as_str(),
                 filter,
                 *departure,
+                due_of(view, *departure, longest),
                 frames,
             )?;
         }
@@ -201,19 +276,25 @@ fn put_filter<A: Allocator>(
 }
 
 /// Draws what left a port: of the protected filters, or of the others.
-fn put_filters<A: Allocator>(
+fn put_filters<A: Allocator + Copy, B: Allocator>(
     alloc: Global,
     drawing: &mut Drawing,
+    accepted: &Accepted<A>,
     span: Span,
     port: u8,
-    outcome: &Outcome<A>,
+    outcome: &Outcome<B>,
     is_protected: bool,
     frames: &mut Count,
-) -> Result<(), AllocError> {
+) -> Result<(), AllocError>
+    requires from { 1 ≤ port }
+    requires to { port ≤ 16 }
+{
     let mut place = 0usize;
     for (filter, view) in &outcome.filters {
         if view.protected == is_protected {
-            put_filter(alloc, drawing, span, port, place, *filter, view, frames)?;
+            put_filter(
+                alloc, drawing, accepted, span, port, place, *filter, view, frames,
+            )?;
         }
         place = place.saturating_add(1);
     }
@@ -263,7 +344,7 @@ struct Drawn<'a, B: Allocator> {
 fn put_lanes<A: Allocator + Copy, B: Allocator>(
     alloc: Global,
     drawing: &mut Drawing,
-    plan: &Plan<A>,
+    accepted: &Accepted<A>,
     drawn: &Drawn<B>,
     port: &PortPlan<A>,
     counts: &mut Counts,
@@ -271,6 +352,7 @@ fn put_lanes<A: Allocator + Copy, B: Allocator>(
     requires from { 1 ≤ port.now.number }
     requires to { port.now.number ≤ 16 }
 {
+    let plan = accepted.plan();
     let (span, number) = (drawn.span, port.number);
     let parts = put_port(alloc, drawing, span, plan, port, most_of(plan))?;
     let top = drawing.down();
@@ -279,6 +361,7 @@ fn put_lanes<A: Allocator + Copy, B: Allocator>(
     put_filters(
         alloc,
         drawing,
+        accepted,
         span,
         number,
         drawn.outcome,
@@ -288,6 +371,7 @@ fn put_lanes<A: Allocator + Copy, B: Allocator>(
     put_filters(
         alloc,
         drawing,
+        accepted,
         span,
         number,
         drawn.outcome,
@@ -339,13 +423,14 @@ fn put_title(alloc: Global, drawing: &mut Drawing, span: Span) -> Result<(), All
 /// The picture of a run under a plan as an SVG text of at most 2,000,000 octets: for each port the windows of its classes,
 /// below them its link, on which each frame that left is a bar from its start to its end in the colour of its filter, and
 /// below that a mark for each frame that was not let on, at the moment at which it came. Frames of protected filters stand
-/// out, and are drawn before others. Frames without a filter aren't drawn.
+/// out, and are drawn before others, each over a line from when it came to when it is done at the latest, as the bound of
+/// its queue has it. Frames without a filter aren't drawn.
 ///
 /// It shows the time from `from` up to `to`, in ns; without one of them as far as there is something to draw. What has no
 /// room is left out, and the picture says so.
 pub fn draw_run<A: Allocator + Copy, B: Allocator>(
     alloc: Global,
-    plan: &Plan<A>,
+    accepted: &Accepted<A>,
     outcome: &Outcome<B>,
     marks: &[Mark],
     from: Option<u64>,
@@ -363,10 +448,10 @@ pub fn draw_run<A: Allocator + Copy, B: Allocator>(
     put_title(alloc, &mut drawing, span)?;
     put_legend(alloc, &mut drawing, &outcome.filters)?;
     let top = drawing.down();
-    put_all(alloc, &mut drawing, plan, &drawn, top)?;
+    put_all(alloc, &mut drawing, accepted, &drawn, top)?;
     put_note(
         &mut drawing,
-        "green: a class in which frames of protected filters wait; red: refused by a queue; orange: stopped by the filter",
+        "green: a class in which frames of protected filters wait; red: refused by a queue; orange: stopped by the filter; line below a protected frame: from when it came to when it is done at the latest",
     )?;
     Ok(drawing.end()?)
 }
@@ -375,7 +460,7 @@ pub fn draw_run<A: Allocator + Copy, B: Allocator>(
 fn put_all<A: Allocator + Copy, B: Allocator>(
     alloc: Global,
     drawing: &mut Drawing,
-    plan: &Plan<A>,
+    accepted: &Accepted<A>,
     drawn: &Drawn<B>,
     top: u64,
 ) -> Result<(), AllocError> {
@@ -384,8 +469,8 @@ fn put_all<A: Allocator + Copy, B: Allocator>(
         marks: Count::new(MOST_MARKS),
         parts: 0,
     };
-    put_each(alloc, drawing, plan, drawn, &mut counts)?;
-    put_change(drawing, drawn.span, change_of(plan), top)?;
+    put_each(alloc, drawing, accepted, drawn, &mut counts)?;
+    put_change(drawing, drawn.span, change_of(accepted.plan()), top)?;
     put_axis(alloc, drawing, drawn.span, top)?;
     put_parts(alloc, drawing, counts.parts)?;
     put_left_out(alloc, drawing, counts.frames, counts.marks)
@@ -395,12 +480,12 @@ fn put_all<A: Allocator + Copy, B: Allocator>(
 fn put_each<A: Allocator + Copy, B: Allocator>(
     alloc: Global,
     drawing: &mut Drawing,
-    plan: &Plan<A>,
+    accepted: &Accepted<A>,
     drawn: &Drawn<B>,
     counts: &mut Counts,
 ) -> Result<(), AllocError> {
-    for port in plan.ports() {
-        put_lanes(alloc, drawing, plan, drawn, port, counts)?;
+    for port in accepted.plan().ports() {
+        put_lanes(alloc, drawing, accepted, drawn, port, counts)?;
     }
     Ok(())
 }

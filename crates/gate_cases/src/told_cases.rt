@@ -1,6 +1,6 @@
 //! A case of a file, and what is told of it.
 
-use bridge_check::{CheckFault, check};
+use bridge_check::{Accepted, CheckFault, check};
 use bridge_config::{Plan, commands_of, plan_of};
 use bridge_explain::{
     explain_check, explain_commands, explain_plan, explain_run, explain_text, explain_words,
@@ -74,14 +74,14 @@ fn told_of_plan(alloc: Global, text: &str) -> Result<String, AllocError> {
 /// What is told of a plan.
 fn told_of_check(alloc: Global, plan: Plan<Global>) -> Result<String, AllocError> {
     match check(alloc, plan) {
-        Ok(accepted) => told_of_accepted(alloc, accepted.plan()),
+        Ok(accepted) => told_of_accepted(alloc, &accepted),
         Err(refused) => told_of_refused(alloc, &refused.plan, refused.fault),
     }
 }
 
 /// What is told of a plan that is accepted.
-fn told_of_accepted(alloc: Global, plan: &Plan<Global>) -> Result<String, AllocError> {
-    let said = plain(warn_of_plan(alloc, plan))?;
+fn told_of_accepted(alloc: Global, accepted: &Accepted<Global>) -> Result<String, AllocError> {
+    let said = plain(warn_of_plan(alloc, accepted))?;
     format!(in alloc; "accepted\n{said}")
 }
 
