@@ -234,31 +234,31 @@ Statuses:
 
 const NET: Description = Description {
     name: "net",
-    about: "Say whether a network of bridges protects its streams, or send captures through it",
+    about: "Say whether a network of bridges protects its streams",
     words: &[
         Word {
             id: "first",
-            value: "check|NET",
+            value: "check",
             form: Form::Place,
-            help: "check; or file of a network that runs (TOML, at most 1,048,576 octets), its plans beside it",
+            help: "the word check",
         },
         Word {
             id: "second",
-            value: "NET|IN",
+            value: "NET",
             form: Form::Place,
-            help: "behind check the file of the network; else folder of what is read, <bridge>/<port>.pcap",
+            help: "file of the network (TOML, at most 1,048,576 octets), its plans beside it",
         },
         Word {
             id: "output",
             value: "OUT",
             form: Form::Extra,
-            help: "folder of what is written, <bridge>/<port>.pcap and more; it isn't IN",
+            help: "not used yet: no network is run, and three words are refused",
         },
         Word {
             id: "picture",
             value: "FILE",
             form: Form::Choice,
-            help: "file of a picture of a run, which is made too (SVG)",
+            help: "not used yet: refused",
         },
         Word {
             id: "strict",
@@ -269,15 +269,13 @@ const NET: Description = Description {
         EXPLAIN,
     ],
     after: "\
-Examples:
+Example:
   tsnbridge net check examples/line/network.toml
-  tsnbridge net examples/line/network.toml in out
 
 Statuses:
-  0  the network is accepted, and its run made; one line counts what it has
-  1  the network, a plan of it or commands are refused; with --strict also where something is told
-  2  a capture is refused, or the run doesn't settle
-  3  a file, a read, a write or memory failed
+  0  the network is accepted; one line counts what it has, and each stream has its bound
+  1  the network or a plan of it is refused; with --strict also where something is told
+  3  a file, a read or memory failed
   4  the words are refused",
 };
 

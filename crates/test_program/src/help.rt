@@ -15,7 +15,7 @@ Commands:
   run      Send the captures of all ports through the bridge of a plan
   picture  Draw the windows and the stream gates of a plan, or the streams of a network
   bounds   Say how long the frames of protected streams may take
-  net      Say whether a network of bridges protects its streams, or send captures through it
+  net      Say whether a network of bridges protects its streams
   help     Print this message or the help of the given subcommand(s)
 
 Options:
@@ -169,31 +169,29 @@ Statuses:
 ";
 
 const NET: &str = "\
-Say whether a network of bridges protects its streams, or send captures through it
+Say whether a network of bridges protects its streams
 
-Usage: tsnbridge net [OPTIONS] <check|NET> <NET|IN> [OUT]
+Usage: tsnbridge net [OPTIONS] <check> <NET> [OUT]
 
 Arguments:
-  <check|NET>  check; or file of a network that runs (TOML, at most 1,048,576 octets), its plans beside it
-  <NET|IN>     behind check the file of the network; else folder of what is read, <bridge>/<port>.pcap
-  [OUT]        folder of what is written, <bridge>/<port>.pcap and more; it isn't IN
+  <check>  the word check
+  <NET>    file of the network (TOML, at most 1,048,576 octets), its plans beside it
+  [OUT]    not used yet: no network is run, and three words are refused
 
 Options:
-      --picture <FILE>  file of a picture of a run, which is made too (SVG)
+      --picture <FILE>  not used yet: refused
       --strict          end with status 1 where something is told of a network that is accepted
       --explain         say more on standard error: of a fault, or of a plan that is accepted
   -h, --help            Print help
   -V, --version         Print version
 
-Examples:
+Example:
   tsnbridge net check examples/line/network.toml
-  tsnbridge net examples/line/network.toml in out
 
 Statuses:
-  0  the network is accepted, and its run made; one line counts what it has
-  1  the network, a plan of it or commands are refused; with --strict also where something is told
-  2  a capture is refused, or the run doesn't settle
-  3  a file, a read, a write or memory failed
+  0  the network is accepted; one line counts what it has, and each stream has its bound
+  1  the network or a plan of it is refused; with --strict also where something is told
+  3  a file, a read or memory failed
   4  the words are refused
 ";
 
