@@ -1,13 +1,15 @@
 -- Sinks of which one more was written.
-use Rattle.std.proofs.Common.{◌≡◌, ◌≢◌, ℕ, zero, suc, Bool, true, ◌+◌, ◌<◌, ◌≤◌, nat_eq, List, [], ◌∷◌, ◌++◌, length, refl, ap, ◌∙◌, sym, subst, arith, Option, Some, append-nil, slice_index_or, slice_set, take}
-use Rattle.std.specs.Prelude.{slice_get, if◌then◌else◌}
+use Rattle.std.proofs.Common.{◌≡◌, ◌≢◌, ℕ, zero, suc, Bool, true, ◌+◌, ◌*◌, ◌^◌, ◌<◌, ◌≤◌, nat_eq, List, [], ◌∷◌, ◌++◌, length, refl, ap, ◌∙◌, sym, subst, arith, Option, Some, append-nil, slice_index_or, slice_set, take}
+use Rattle.std.specs.Prelude.{All, slice_get, if◌then◌else◌}
 use Rattle.std.specs.List.{flat_map}
 use Rattle.std.specs.Io.KnownBytes.{Appends}
 use Rattle.std.proofs.KnownBytes.{Appends-trans}
 use Rattle.std.proofs.lemmas.Bool.{eqb-true, eqb-false, eq-eqb}
 use Rattle.std.proofs.lemmas.Option.{same_Some, none-some, slice_get_within}
 use Rattle.std.proofs.lemmas.List.{length-set, take_more}
+use Rattle.std.proofs.lemmas.List.Elements.{All-nil, All-push}
 use Rattle.bridge_base.specs.Members.{AllAfter, Rising}
+use Rattle.bridge_base.specs.declared.TheConstants.{LONGEST_FRAME}
 use Rattle.bridge_capture.specs.Grammar.{Captured}
 use Rattle.bridge_capture.specs.Written.{written_header, written_item, written_text}
 use Rattle.bridge_capture.specs.Sinks.{AppendsFront}
@@ -17,7 +19,7 @@ use Rattle.bridge_core.specs.declared.line.Line.{Line}
 use Rattle.bridge_relay.specs.declared.relay.Sent.{Sent}
 use Rattle.bridge_relay.specs.Relays.{captured, one_more}
 use Rattle.bridge_lanes.specs.Devices.{HasFailed}
-use Rattle.bridge_core.specs.Lines.{AreWritten, AreWrittenBut, numbers, StopsAtHeader}
+use Rattle.bridge_core.specs.Lines.{AreWritten, AreWrittenBut, FitsRecord, HasWritten, numbers, StopsAtHeader}
 
 -- The places of numbers that rise.
 
@@ -92,6 +94,15 @@ one_here left sent q e = ap (λ b. if b then left q ++ captured sent ∷ [] else
 pub one_there : {A : Type 0} (left : ℕ → List Captured) (sent : Sent A) (q : ℕ) → q ≢ sent.port → one_more left sent q ≡ left q
 one_there left sent q n = by_bool (nat_eq q sent.port) (λ e. absurd (n (eqb-true q sent.port e))) (λ e. ap (λ b. if b then left q ++ captured sent ∷ [] else left q) e)
 
+-- it fits its record
+pub fits_record : {A : Type 0} (sent : Sent A) → sent.done < 2 ^ 32 * 10 ^ 9 → length sent.octets.items ≤ sent.len → sent.len ≤ LONGEST_FRAME → FitsRecord (captured sent)
+fits_record sent early within short = record {
+  seconds = early;
+  captured = omega (arith, within, short);
+  within = within;
+  original = omega (arith, short);
+}
+
 one_item : (x : Captured) → flat_map written_item (x ∷ []) ≡ written_item x
 one_item x = append-nil (written_item x)
 
@@ -100,8 +111,8 @@ pub text_more : {A : Type 0} (left : ℕ → List Captured) (sent : Sent A) (q :
 text_more left sent q e = ap written_text (one_here left sent q e) ∙ (written_more (left q) (captured sent ∷ []) ∙ ap (λ l. written_text (left q) ++ l) (one_item (captured sent)))
 
 -- the frame was written into the sink of its port
-pub writes_one : {A W : Type 0} (contents : W → Option (List ℕ)) (ports : List ℕ) (olds mids : List W) (left : ℕ → List Captured) (sent : Sent A) (place : ℕ) (mid new : W) → Rising (λ a b. a < b) ports → slice_get ports place ≡ Some sent.port → slice_get mids place ≡ Some mid → Appends (contents mid) (contents new) (written_item (captured sent)) → AreWritten contents ports olds mids left → AreWritten contents ports olds (slice_set mids place new) (one_more left sent)
-writes_one {A} {W} contents ports olds mids left sent place mid new r at was more h i q old w port old_is new_is =
+pub writes_one : {A W : Type 0} (contents : W → Option (List ℕ)) (ports : List ℕ) (olds mids : List W) (left : ℕ → List Captured) (sent : Sent A) (place : ℕ) (mid new : W) → Rising (λ a b. a < b) ports → slice_get ports place ≡ Some sent.port → slice_get mids place ≡ Some mid → Appends (contents mid) (contents new) (written_item (captured sent)) → FitsRecord (captured sent) → AreWritten contents ports olds mids left → AreWritten contents ports olds (slice_set mids place new) (one_more left sent)
+writes_one {A} {W} contents ports olds mids left sent place mid new r at was more fits h i q old w port old_is new_is =
     by_bool (nat_eq i place)
     (λ e.
     let same : i ≡ place = eqb-true i place e in
@@ -109,13 +120,16 @@ writes_one {A} {W} contents ports olds mids left sent place mid new r at was mor
     let is : q ≡ sent.port = sym (same_Some sent.port q (sym at ∙ here)) in
     let now : new ≡ w = set_here mids place new w (subst (λ j. slice_get (slice_set mids place new) j ≡ Some w) same new_is) in
     let mid_is : slice_get mids i ≡ Some mid = subst (λ j. slice_get mids j ≡ Some mid) (sym same) was in
-    subst (λ z. Appends (contents old) (contents z) (written_text (one_more left sent q))) now
-    (subst (Appends (contents old) (contents new)) (sym (text_more left sent q is))
-    (Appends-trans (contents old) (contents mid) (contents new) (written_text (left q)) (written_item (captured sent)) (h i q old mid port old_is mid_is) more)))
+    let so_far = h i q old mid port old_is mid_is in (
+      subst (λ z. Appends (contents old) (contents z) (written_text (one_more left sent q))) now
+          (subst (Appends (contents old) (contents new)) (sym (text_more left sent q is))
+          (Appends-trans (contents old) (contents mid) (contents new) (written_text (left q)) (written_item (captured sent)) so_far.0 more)),
+      subst (All FitsRecord) (sym (one_here left sent q is)) (All-push FitsRecord (left q) (captured sent) so_far.1 fits),
+    ))
     (λ e.
     let other : i ≢ place = eqb-false i place e in
     let is : q ≢ sent.port = λ z. other (place_unique ports i place q r port (at ∙ ap Some (sym z))) in
-    subst (λ l. Appends (contents old) (contents w) (written_text l)) (sym (one_there left sent q is))
+    subst (HasWritten (contents old) (contents w)) (sym (one_there left sent q is))
     (h i q old w port old_is (sym (set_there mids place i new other) ∙ new_is)))
 
 -- the sink of its port failed
@@ -126,20 +140,20 @@ breaks_one {A} {W} contents ports olds mids left sent place mid new r at was fro
   others = λ i q old w port is old_is new_is.
       let other : i ≢ place = λ same. is (sym (same_Some sent.port q (sym at ∙ subst (λ j. slice_get ports j ≡ Some q) same port))) in
       subst (λ l. Appends (contents old) (contents w) (written_text l)) (sym (one_there left sent q is))
-      (h i q old w port old_is (sym (set_there mids place i new other) ∙ new_is));
+      (h i q old w port old_is (sym (set_there mids place i new other) ∙ new_is)).0;
   broken = λ i old w port old_is new_is.
       let same : i ≡ place = place_unique ports i place sent.port r port at in
       let now : new ≡ w = set_here mids place new w (subst (λ j. slice_get (slice_set mids place new) j ≡ Some w) same new_is) in
       let mid_is : slice_get mids i ≡ Some mid = subst (λ j. slice_get mids j ≡ Some mid) (sym same) was in
       subst (λ z. AppendsFront (contents old) (contents z) (written_text (one_more left sent sent.port))) now
       (subst (AppendsFront (contents old) (contents new)) (sym (text_more left sent sent.port refl))
-      (front_of_second (contents old) (contents mid) (contents new) (written_text (left sent.port)) (written_item (captured sent)) (h i sent.port old mid port old_is mid_is) front));
+      (front_of_second (contents old) (contents mid) (contents new) (written_text (left sent.port)) (written_item (captured sent)) (h i sent.port old mid port old_is mid_is).0 front));
 }
 
 -- no sink is that of its port
 pub writes_none : {A W : Type 0} (contents : W → Option (List ℕ)) (ports : List ℕ) (olds mids : List W) (left : ℕ → List Captured) (sent : Sent A) → ((i q : ℕ) → slice_get ports i ≡ Some q → q ≢ sent.port) → AreWritten contents ports olds mids left → AreWritten contents ports olds mids (one_more left sent)
 writes_none contents ports olds mids left sent none h i q old w port old_is new_is =
-    subst (λ l. Appends (contents old) (contents w) (written_text l)) (sym (one_there left sent q (none i q port))) (h i q old w port old_is new_is)
+    subst (HasWritten (contents old) (contents w)) (sym (one_there left sent q (none i q port))) (h i q old w port old_is new_is)
 
 -- Headers, one sink after the other.
 
@@ -187,7 +201,7 @@ headers_stop {W} contents has_failed ports olds mids place port mid new at was f
 pub headers_all : {W : Type 0} (contents : W → Option (List ℕ)) (ports : List ℕ) (olds news : List W) (place : ℕ) → length ports ≤ place → HaveHeaders contents olds news place → AreWritten contents ports olds news (λ q. [])
 headers_all contents ports olds news place all h i q old new port old_is new_is =
     let inside = slice_get_within ports i q port in
-    h.before i old new (omega arith) old_is new_is
+    (h.before i old new (omega arith) old_is new_is, All-nil FitsRecord)
 
 -- where the ports rise, the sink that stopped a run is the only one of its port
 pub stop_failed : {W : Type 0} (contents : W → Option (List ℕ)) (has_failed : W → Bool) (ports : List ℕ) (port : ℕ) (olds news : List W) → Rising (λ a b. a < b) ports → StopsAtHeader contents has_failed ports port olds news → HasFailed has_failed ports port news

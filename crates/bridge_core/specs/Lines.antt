@@ -1,7 +1,8 @@
 -- Captures that are written, one of each port.
-use Rattle.std.specs.Prelude.{◌≡◌, ◌≢◌, ℕ, Bool, true, ◌+◌, ◌<◌, ◌≤◌, nat_eq, Option, Some, IfSome, List, [], ◌∷◌, ◌++◌, slice_get, Result, Ok, Err, if◌then◌else◌}
+use Rattle.std.specs.Prelude.{◌≡◌, ◌≢◌, ℕ, Bool, true, ◌+◌, ◌*◌, ◌^◌, ◌<◌, ◌≤◌, nat_eq, All, Option, Some, IfSome, List, [], ◌∷◌, ◌++◌, length, slice_get, Result, Ok, Err, if◌then◌else◌}
 use Rattle.std.specs.Io.KnownBytes.{Appends}
 use Rattle.bridge_capture.specs.Grammar.{Captured}
+use Rattle.bridge_capture.specs.declared.record.TheConstants.{SNAP_LENGTH}
 use Rattle.bridge_capture.specs.Written.{written_header, written_text}
 use Rattle.bridge_capture.specs.Sinks.{AppendsFront}
 use Rattle.bridge_config.specs.Model.{Plan}
@@ -22,9 +23,20 @@ abbrev pub numbers : List Line → List ℕ
 numbers [] = []
 numbers (line ∷ more) = line.number ∷ numbers more
 
+-- a frame fits the words of a record
+pub record FitsRecord (c : Captured) : Type 0 where
+  pub seconds : c.time < 2 ^ 32 * 10 ^ 9
+  pub captured : length c.octets ≤ SNAP_LENGTH
+  pub within : length c.octets ≤ c.len
+  pub original : c.len < 2 ^ 32
+
+-- a sink has the capture of these frames behind what it had, and each of them fits its record
+abbrev pub HasWritten : Option (List ℕ) → Option (List ℕ) → List Captured → Type 0
+HasWritten old new frames = Appends old new (written_text frames) × All FitsRecord frames
+
 -- each sink has the capture of what left its port
 abbrev pub AreWritten : {W : Type 0} → (W → Option (List ℕ)) → List ℕ → List W → List W → (ℕ → List Captured) → Type 0
-AreWritten {W} contents ports olds news left = (i q : ℕ) (old new : W) → slice_get ports i ≡ Some q → slice_get olds i ≡ Some old → slice_get news i ≡ Some new → Appends (contents old) (contents new) (written_text (left q))
+AreWritten {W} contents ports olds news left = (i q : ℕ) (old new : W) → slice_get ports i ≡ Some q → slice_get olds i ≡ Some old → slice_get news i ≡ Some new → HasWritten (contents old) (contents new) (left q)
 
 -- each sink has it but that of one port, which is there and has a front of it
 pub record AreWrittenBut {W : Type 0} (contents : W → Option (List ℕ)) (port : ℕ) (ports : List ℕ) (olds news : List W) (left : ℕ → List Captured) : Type 0 where

@@ -40,9 +40,12 @@ written_over contents sunk ports writers news olds mids left before after same w
     let within = slice_get_within writers i old held in
     let o = there olds i (omega (arith, many, within)) in
     let m = there mids i (omega (arith, many, within, same)) in
-    Appends-kept (contents old) (sunk m.0) (contents new) (written_text (left q))
-    (kept_appends (contents old) (sunk o.0) (sunk m.0) (written_text (left q)) (kept_at contents sunk writers olds i old o.0 before held o.1) (written i q o.0 m.0 at o.1 m.1))
-    (kept_at sunk contents mids news i m.0 new after m.1 holds)
+    let all = written i q o.0 m.0 at o.1 m.1 in (
+      Appends-kept (contents old) (sunk m.0) (contents new) (written_text (left q))
+          (kept_appends (contents old) (sunk o.0) (sunk m.0) (written_text (left q)) (kept_at contents sunk writers olds i old o.0 before held o.1) all.0)
+          (kept_at sunk contents mids news i m.0 new after m.1 holds),
+      all.1,
+    )
 
 -- a whole run
 pub runs_over : {A W S : Type 0} (p : Plan A) (contents : W → Option (List ℕ)) (sunk : S → Option (List ℕ)) (ports : List ℕ) (commands : List Command) (texts : ℕ → List ℕ) (writers news : List W) (olds mids : List S) (o : Outcome A) → AllKept contents sunk writers olds → AllKept sunk contents mids news → length mids ≡ length olds → Runs p ports commands texts sunk olds mids o → Runs p ports commands texts contents writers news o

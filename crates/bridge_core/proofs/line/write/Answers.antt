@@ -6,7 +6,7 @@ use Rattle.bridge_capture.specs.Written.{written_record}
 use Rattle.bridge_capture.specs.Sinks.{AppendsFront}
 use Rattle.bridge_lanes.proofs.Looks.{lasts_set, sure_next}
 use Rattle.bridge_core.specs.Lines.{numbers}
-use Rattle.bridge_core.proofs.Written.{numbers_set, place_unique, set_here, writes_one, breaks_one, writes_none}
+use Rattle.bridge_core.proofs.Written.{numbers_set, place_unique, set_here, writes_one, breaks_one, writes_none, fits_record}
 use Rattle.bridge_core.proofs.line.write.Goals as goal
 
 pub returns-in_default-clause-writes : goal.returns-in_default-clause-writes
@@ -21,7 +21,7 @@ returns-in-Ok-clause-writes g c = λ olds left h.
     let mid = slice_index_or c.args.sinks.now place c.index-sinks-place.result in
     let was : slice_get c.args.sinks.now place ≡ Some mid = slice_get-get_or c.args.sinks.now place c.index-sinks-place.result inside in
     let more = subst (λ l. Appends (contents mid) (contents c.put.new.sink) (written_record sent.done sent.len l)) c.deref.ensures.value c.in-Ok.ensures.ok in
-    writes_one contents (numbers c.args.lines.now) olds c.args.sinks.now left sent place mid c.put.new.sink c.requires.rises c.in-Some.ensures.there was more h
+    writes_one contents (numbers c.args.lines.now) olds c.args.sinks.now left sent place mid c.put.new.sink c.requires.rises c.in-Some.ensures.there was more (fits_record sent c.requires.writable.0 c.requires.writable.1 c.requires.writable.2) h
 
 pub returns-in-Ok-clause-numbers : goal.returns-in-Ok-clause-numbers
 returns-in-Ok-clause-numbers g c = numbers_set c.args.lines.now c.in-Some.place _ _ refl

@@ -1,0 +1,69 @@
+-- The bridges of a network before the first round.
+use Rattle.std.proofs.Common.{◌≡◌, ℕ, zero, suc, ◌+◌, ◌≤◌, ◌<◌, ◌⊎◌, inl, inr, List, [], ◌∷◌, ◌++◌, length, map, drop, Option, Some, None, refl, sym, ap, ◌∙◌, subst, arith}
+use Rattle.std.specs.Prelude.{slice_get}
+use Rattle.std.proofs.lemmas.List.{length-append, length-drop}
+use Rattle.std.proofs.lemmas.Option.{slice_get_within}
+use Rattle.bridge_config.specs.Model.{Plan}
+use Rattle.bridge_network.specs.Wiring.{Parts}
+use Rattle.bridge_rounds.specs.declared.station.Incoming.{Incoming}
+use Rattle.bridge_rounds.specs.Stations.{IsBegun, IsIncoming, StationState}
+use Rattle.bridge_rounds.specs.Rounds.{AreBegun, AreIncoming}
+
+some_is : {X : Type 0} (a b : X) → Some a ≡ Some b → a ≡ b
+some_is a b h = cc
+
+-- what is left behind a place
+pub left_at : {X : Type 0} (xs : List X) (n : ℕ) (x : X) (rest : List X) → drop n xs ≡ x ∷ rest → (slice_get xs n ≡ Some x) × (drop (suc n) xs ≡ rest)
+left_at [] zero x rest e = absurd (cc)
+left_at [] (suc n) x rest e = absurd (cc)
+left_at (y ∷ xs) zero x rest e = (cc, cc)
+left_at (y ∷ xs) (suc n) x rest e = left_at xs n x rest e
+
+-- one more
+pushed : {X : Type 0} (xs : List X) (x y : X) (b : ℕ) → slice_get (xs ++ x ∷ []) b ≡ Some y → (slice_get xs b ≡ Some y) ⊎ ((b ≡ length xs) × (x ≡ y))
+pushed [] x y zero e = inr (refl, some_is x y e)
+pushed [] x y (suc b) e = absurd (cc)
+pushed (z ∷ xs) x y zero e = inl e
+pushed (z ∷ xs) x y (suc b) e = elim (pushed xs x y b e) [ inl there ↦ inl there | inr here ↦ inr (ap suc here.0, here.1) ]
+
+-- the bridges so far are begun
+abbrev pub AreBegunSoFar : {A : Type 0} → Parts A → List (Incoming A) → List (StationState A) → Type 0
+AreBegunSoFar {A} n came xs = (b : ℕ) (p : Plan A) (c : Incoming A) (x : StationState A) → slice_get n.plans b ≡ Some p → slice_get came b ≡ Some c → slice_get xs b ≡ Some x → IsBegun p n.links b c x
+
+pub begun_more : {A : Type 0} (n : Parts A) (came : List (Incoming A)) (xs : List (StationState A)) (p : Plan A) (c : Incoming A) (x : StationState A) (b : ℕ) → b ≡ length xs → slice_get n.plans b ≡ Some p → slice_get came b ≡ Some c → IsBegun p n.links b c x → AreBegunSoFar n came xs → AreBegunSoFar n came (xs ++ x ∷ [])
+begun_more {A} n came xs p c x b last plan own begun before i q d y is_q is_d is_y = elim (pushed xs x y i is_y) [
+  | inl there ↦ before i q d y is_q is_d there
+  | inr here ↦
+      let at : b ≡ i = last ∙ sym here.0 in
+      let same_plan : p ≡ q = some_is p q (sym plan ∙ (ap (slice_get n.plans) at ∙ is_q)) in
+      let same_came : c ≡ d = some_is c d (sym own ∙ (ap (slice_get came) at ∙ is_d)) in
+      subst (λ (z : StationState A). IsBegun q n.links i d z) here.1
+      (subst (λ (z : ℕ). IsBegun q n.links z d x) at
+      (subst (λ (z : Incoming A). IsBegun q n.links b z x) same_came
+      (subst (λ (z : Plan A). IsBegun z n.links b c x) same_plan begun)))
+]
+
+-- what is needed for the next bridge
+pub record Next {A : Type 0} (n : Parts A) (came : List (Incoming A)) (xs : List (StationState A)) (c : Incoming A) (rest : List (Incoming A)) : Type 0 where
+  pub own : slice_get came (length xs) ≡ Some c
+  pub behind : drop (length xs + 1) came ≡ rest
+  pub within : length xs < length n.plans
+
+pub next_is : {A : Type 0} (n : Parts A) (came : List (Incoming A)) (xs : List (StationState A)) (c : Incoming A) (rest left : List (Incoming A)) → AreIncoming n.plans came → left ≡ c ∷ rest → left ≡ drop (length xs) came → Next n came xs c rest
+next_is {A} n came xs c rest left are step at =
+    let l = left_at came (length xs) c rest (sym at ∙ step) in
+    let inside = slice_get_within came (length xs) c l.0 in
+    let many = are.many in
+    record {
+      own = l.0;
+      behind = ap (λ (k : ℕ). drop k came) {x = length xs + 1} {y = suc (length xs)} (omega arith) ∙ l.1;
+      within = omega (arith, inside, many);
+    }
+
+-- where none is left, all are begun
+pub begun_all : {A : Type 0} (n : Parts A) (came : List (Incoming A)) (xs : List (StationState A)) (rest : List (Incoming A)) → AreIncoming n.plans came → length rest ≡ 0 → rest ≡ drop (length xs) came → length xs ≤ length came → AreBegunSoFar n came xs → AreBegun n came xs
+begun_all n came xs rest are none left few begun =
+    let gone = ap length (sym left) in
+    let size = length-drop (length xs) came in
+    let many = are.many in
+    record { many = omega (arith, none, gone, size, many, few); each = begun }

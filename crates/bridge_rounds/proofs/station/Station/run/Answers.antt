@@ -1,0 +1,31 @@
+use Rattle.std.proofs.Common.{◌≡◌, ℕ, List, Some, length, refl, sym, ap, subst, ◌∙◌}
+use Rattle.bridge_config.specs.declared.command.Command.{Command}
+use Rattle.bridge_rounds.specs.Stations.{RunsBridge, StationState, StopsBridge, senders_in, taps_in, texts_in}
+use Rattle.bridge_rounds.proofs.Over.{kept_ran, some_there}
+use Rattle.bridge_rounds.proofs.station.Station.run.Goals as goal
+
+pub returns-then-is_some-clause-runs : goal.returns-then-is_some-clause-runs
+returns-then-is_some-clause-runs g c =
+    let there = some_there c.self.inside.outcome (sym c.if-is_some.true ∙ c.is_some.ensures) in
+    (there.0, sym (ap (λ (s : StationState g.row.A.Denot). s.outcome) c.self.view_is) ∙ there.1)
+
+pub returns-in-Err-clause-stops : goal.returns-in-Err-clause-stops
+returns-in-Err-clause-stops g c =
+    subst (λ (s : StationState g.row.A.Denot). StopsBridge s.plan s.ports s.commands s.texts c.in-Err.fault) c.self.view_is
+    (subst (λ (t : List _). StopsBridge c.self.inside.accepted.now c.self.inside.ports.items c.self.inside.commands.items (texts_in t) c.in-Err.fault) c.deref-3.ensures.value
+    (subst (λ (t : List Command). StopsBridge c.self.inside.accepted.now c.self.inside.ports.items t (texts_in c.deref-3.result.now) c.in-Err.fault) c.deref-2.ensures.value
+    (subst (λ (t : List ℕ). StopsBridge c.self.inside.accepted.now t c.deref-2.result.now (texts_in c.deref-3.result.now) c.in-Err.fault) c.deref.ensures.value c.in-Err.ensures.stops)))
+
+pub invariant_of-self : goal.invariant_of-self
+invariant_of-self g c =
+    let run = c.in-Ok.ran in
+    let all = c.self.invariant in
+    let runs =
+    subst (λ (t : List _). RunsBridge c.self.inside.accepted.now c.self.inside.ports.items c.self.inside.commands.items (texts_in t) (taps_in run.taps.items) run.outcome) c.deref-3.ensures.value
+    (subst (λ (t : List Command). RunsBridge c.self.inside.accepted.now c.self.inside.ports.items t (texts_in c.deref-3.result.now) (taps_in run.taps.items) run.outcome) c.deref-2.ensures.value
+    (subst (λ (t : List ℕ). RunsBridge c.self.inside.accepted.now t c.deref-2.result.now (texts_in c.deref-3.result.now) (taps_in run.taps.items) run.outcome) c.deref.ensures.value c.in-Ok.ensures.runs)) in
+    kept_ran c.self.inside.accepted.now c.self.inside.commands.items c.self.inside.ports.items (senders_in c.self.inside.senders.items) (texts_in c.self.inside.texts.items) run.taps.items run.outcome
+    all.numbers all.commands all.sent all.texts (c.in-Ok.ensures.many ∙ ap length c.deref.ensures.value) runs
+
+pub returns-clause-runs : goal.returns-clause-runs
+returns-clause-runs g c = (c.in-Ok.ran.outcome, refl)

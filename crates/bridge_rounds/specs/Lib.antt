@@ -1,0 +1,3 @@
+pub mod Delaying
+pub mod Stations
+pub mod Rounds

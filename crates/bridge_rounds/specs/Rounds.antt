@@ -1,0 +1,93 @@
+-- Whole runs of networks by rounds.
+use Rattle.std.specs.Prelude.{◌≡◌, ◌≢◌, ◌<◌, ◌≤◌, ◌⊎◌, ℕ, zero, suc, Option, Some, None, List, [], ◌∷◌, length, map, slice_get, Vec, nat_eq}
+use Rattle.std.specs.Map.{lookup}
+use Rattle.bridge_base.specs.Members.{In}
+use Rattle.bridge_capture.specs.Grammar.{Captured, Records, AtEnd}
+use Rattle.bridge_capture.specs.Memory.{MemoryDevice}
+use Rattle.bridge_capture.specs.Written.{written_text}
+use Rattle.bridge_config.specs.Model.{Plan}
+use Rattle.bridge_config.specs.Rules.{port_at}
+use Rattle.bridge_lanes.specs.declared.fault.RunFault.TheVariants as run
+use Rattle.bridge_run.specs.declared.outcome.Outcome.{Outcome}
+use Rattle.bridge_run.specs.declared.outcome.View.{View}
+use Rattle.bridge_run.specs.Merge.{Input, commands_of}
+use Rattle.bridge_run.specs.Runs.{TellTheSame}
+use Rattle.bridge_core.specs.Simulated.{AreNumbers}
+use Rattle.bridge_network.specs.declared.links.StreamHop.{StreamHop}
+use Rattle.bridge_network.specs.Alone.{HaveSameFirst, IsAlone}
+use Rattle.bridge_network.specs.Networks.{Hop, IsHop, IsNetworkRun, sender}
+use Rattle.bridge_network.specs.Wiring.{Parts, link_of, network_of, stream_of}
+use Rattle.bridge_rounds.specs.declared.settling.RoundsFault.{RoundsFault}
+use Rattle.bridge_rounds.specs.declared.settling.RoundsFault.TheVariants as fault
+use Rattle.bridge_rounds.specs.declared.settling.Settled.{Settled}
+use Rattle.bridge_rounds.specs.declared.station.Incoming.{Incoming}
+use Rattle.bridge_rounds.specs.Stations.{IsBegun, IsIncoming, StationState, StopsBridge, taps_in}
+
+-- what comes from outside can come to each bridge of these plans
+pub record AreIncoming {A : Type 0} (plans : List (Plan A)) (came : List (Incoming A)) : Type 0 where
+  pub many : length came ≡ length plans
+  pub each : (b : ℕ) (p : Plan A) (c : Incoming A) → slice_get plans b ≡ Some p → slice_get came b ≡ Some c → IsIncoming p c
+
+-- the bridges of a network before the first round
+pub record AreBegun {A : Type 0} (n : Parts A) (came : List (Incoming A)) (xs : List (StationState A)) : Type 0 where
+  pub many : length xs ≡ length n.plans
+  pub each : (b : ℕ) (p : Plan A) (c : Incoming A) (x : StationState A) → slice_get n.plans b ≡ Some p → slice_get came b ≡ Some c → slice_get xs b ≡ Some x → IsBegun p n.links b c x
+
+-- the commands of a bridge as inputs
+abbrev pub commands_in : {A : Type 0} → List (Incoming A) → ℕ → List Input
+commands_in [] b = []
+commands_in (c ∷ came) zero = commands_of c.commands.items
+commands_in (c ∷ came) (suc b) = commands_in came b
+
+-- these are the outcomes that were told, by the place of the bridge
+abbrev pub AreOutcomes : {A : Type 0} → List (Settled A) → (ℕ → Outcome A) → Type 0
+AreOutcomes {A} settled o = (b : ℕ) (s : Settled A) → slice_get settled b ≡ Some s → o b ≡ s.outcome
+
+-- a whole run of a network: the capture of each open port is one to its end, what was told is what a run of the network over their frames and the
+-- commands tells, and the capture of each port is that of what left it
+pub record RunsNetwork {A : Type 0} (n : Parts A) (came : List (Incoming A)) (settled : List (Settled A)) : Type 0 where
+  pub many : length settled ≡ length n.plans
+  pub frames : ℕ → ℕ → List Captured
+  pub reads : (b i q : ℕ) (p : Plan A) (ports : List ℕ) (c : Incoming A) (text : Vec ℕ A) → slice_get n.plans b ≡ Some p → AreNumbers p ports → slice_get ports i ≡ Some q
+      → sender (map link_of n.links) b q ≡ None → slice_get came b ≡ Some c → slice_get c.captures.items i ≡ Some text → Records text.items (frames b q) AtEnd
+  pub others : (b q : ℕ) (p : Plan A) → slice_get n.plans b ≡ Some p → port_at p.ports q ≡ None → frames b q ≡ []
+  pub run : (o : ℕ → Outcome A) → AreOutcomes settled o → IsNetworkRun (network_of n) (commands_in came) frames o
+  pub taps : (o : ℕ → Outcome A) (are : AreOutcomes settled o) (b i q : ℕ) (p : Plan A) (ports : List ℕ) (s : Settled A) (tap : MemoryDevice) → slice_get n.plans b ≡ Some p → AreNumbers p ports → slice_get ports i ≡ Some q
+      → slice_get settled b ≡ Some s → slice_get s.taps.items i ≡ Some tap → tap.octets ≡ written_text ((run o are).left b q)
+
+-- what was told of each stream is what it tells alone on an idle network
+abbrev pub IsolatesStreams : {A : Type 0} → Parts A → List (Incoming A) → List (Settled A) → Type 0
+IsolatesStreams {A} n came settled =
+    (ran : RunsNetwork n came settled) (o : ℕ → Outcome A) (stream : Vec StreamHop A) → AreOutcomes settled o → In stream n.streams
+    → IsAlone (network_of n) (commands_in came) ran.frames (stream_of stream.items) (λ (h : Hop A). lookup (nat_eq h.number) (o h.bridge).filters.items)
+
+-- each other run of the network to which the same came of a stream from outside tells the same of each of its hops, whatever else came
+abbrev pub OthersChangeNothing : {A : Type 0} → Parts A → List (Incoming A) → List (Settled A) → Type 0
+OthersChangeNothing {A} n came settled =
+    (ran : RunsNetwork n came settled) (o : ℕ → Outcome A) → AreOutcomes settled o
+    → (other_came : List (Incoming A)) (other : List (Settled A)) (also : RunsNetwork n other_came other) (r : ℕ → Outcome A) → AreOutcomes other r
+    → (stream : Vec StreamHop A) (h : Hop A) (u v : View A) → In stream n.streams
+    → HaveSameFirst (network_of n) (stream_of stream.items) (commands_in came) ran.frames (commands_in other_came) also.frames
+    → IsHop (network_of n) (stream_of stream.items) h
+    → lookup (nat_eq h.number) (o h.bridge).filters.items ≡ Some u → lookup (nat_eq h.number) (r h.bridge).filters.items ≡ Some v
+    → TellTheSame u v
+
+-- what bridges told that have run, and what left their ports
+pub record AreSettled {A : Type 0} (xs : List (StationState A)) (settled : List (Settled A)) : Type 0 where
+  pub outcomes : map (λ (s : Settled A). Some s.outcome) settled ≡ map (λ x. x.outcome) xs
+  pub taps : map (λ (s : Settled A). taps_in s.taps.items) settled ≡ map (λ x. x.taps) xs
+
+-- a round stopped: the bridge at a place over the texts that came to it in that round, or for want of memory
+abbrev pub StopsRound : {A : Type 0} → List (StationState A) → RoundsFault → Type 0
+StopsRound {A} xs (fault.Bridge b e) = (x : StationState A) × (slice_get xs b ≡ Some x) × StopsBridge x.plan x.ports x.commands x.texts e
+StopsRound xs (fault.NotSettled b q) = ⊥
+StopsRound xs fault.NoMemory = Unit {0}
+
+-- a run of a network stopped: a bridge over the captures of its open ports and what came over its links, something else still came to a linked port, or
+-- memory ran out
+abbrev pub StopsSettling : {A : Type 0} → Parts A → List (Incoming A) → RoundsFault → Type 0
+StopsSettling {A} n came (fault.Bridge b e) =
+    (p : Plan A) × (c : Incoming A) × (x : StationState A) × (slice_get n.plans b ≡ Some p) × (slice_get came b ≡ Some c) × IsBegun p n.links b c x
+    × StopsBridge x.plan x.ports x.commands x.texts e
+StopsSettling n came (fault.NotSettled b q) = Unit {0}
+StopsSettling n came fault.NoMemory = Unit {0}

@@ -1,0 +1,151 @@
+-- Bridges of a network between two rounds: what came to each, and what left it.
+use Rattle.std.specs.Prelude.{◌≡◌, ◌<◌, ℕ, Bool, true, false, All, Option, Some, None, is_some, option_map, nat_eq, List, [], ◌∷◌, length, map, slice_get, Vec, if◌then◌else◌}
+use Rattle.bridge_base.specs.Members.{In}
+use Rattle.bridge_capture.specs.Grammar.{Captured, Records, AtEnd}
+use Rattle.bridge_capture.specs.Memory.{MemoryDevice}
+use Rattle.bridge_capture.specs.Written.{written_text}
+use Rattle.bridge_config.specs.declared.command.Command.{Command}
+use Rattle.bridge_config.specs.Commands.{AreCommands}
+use Rattle.bridge_config.specs.Model.{Plan}
+use Rattle.bridge_config.specs.Rules.{port_at}
+use Rattle.bridge_lanes.specs.declared.fault.RunFault.{RunFault}
+use Rattle.bridge_lanes.specs.declared.fault.RunFault.TheVariants as run
+use Rattle.bridge_run.specs.declared.outcome.Outcome.{Outcome}
+use Rattle.bridge_run.specs.Merge.{Input, IsMerged, events, commands_of, streams}
+use Rattle.bridge_run.specs.Outputs.{Ends}
+use Rattle.bridge_core.specs.Lines.{FitsRecord}
+use Rattle.bridge_core.specs.Simulated.{AreNumbers, Stops}
+use Rattle.bridge_network.specs.Networks as networks
+use Rattle.bridge_network.specs.Wiring.{end_of, link_of}
+use Rattle.bridge_network.specs.declared.links.Link.{Link}
+use Rattle.bridge_rounds.specs.declared.station.Incoming.{Incoming}
+use Rattle.bridge_rounds.specs.declared.station.Sender.{Sender}
+use Rattle.bridge_rounds.specs.Delaying.{delayed}
+
+-- a text is the capture of these frames, each of which fits its record
+pub record IsTapOf (frames : List Captured) (tap : List ℕ) : Type 0 where
+  pub is : tap ≡ written_text frames
+  pub fits : All FitsRecord frames
+
+-- a whole run of a bridge over texts, one for each port by rising number, and the captures of what left these ports
+pub record RunsBridge {A : Type 0} (p : Plan A) (ports : List ℕ) (commands : List Command) (texts taps : List (List ℕ)) (o : Outcome A) : Type 0 where
+  pub frames : ℕ → List Captured
+  pub inputs : List Input
+  pub left : ℕ → List Captured
+  pub reads : (i q : ℕ) (text : List ℕ) → slice_get ports i ≡ Some q → slice_get texts i ≡ Some text → Records text (frames q) AtEnd
+  pub others : (q : ℕ) → port_at p.ports q ≡ None → frames q ≡ []
+  pub merged : IsMerged (streams (commands_of commands) frames) inputs
+  pub ends : Ends p (events inputs) left o
+  pub written : (i q : ℕ) (tap : List ℕ) → slice_get ports i ≡ Some q → slice_get taps i ≡ Some tap → IsTapOf (left q) tap
+
+-- the text that stands beside a port, nothing where the port isn't there
+abbrev pub text_by : List ℕ → List (List ℕ) → ℕ → List ℕ
+text_by [] texts q = []
+text_by (p ∷ ports) [] q = []
+text_by (p ∷ ports) (t ∷ texts) q = if nat_eq p q then t else text_by ports texts q
+
+-- why a run of a bridge over these texts stopped, over sources and sinks in memory that never fail: at a capture, or for want of memory
+abbrev pub StopsBridge : {A : Type 0} → Plan A → List ℕ → List Command → List (List ℕ) → RunFault → Type 0
+StopsBridge p ports commands texts (run.Capture port fault) =
+    (rests : ℕ → Option (List ℕ)) × (olds : List MemoryDevice) × (news : List MemoryDevice)
+    × Stops p ports commands (text_by ports texts) rests (λ d. Some d.octets) (λ d. d.is_broken) olds news (run.Capture port fault)
+StopsBridge p ports commands texts (run.Write port) = ⊥
+StopsBridge p ports commands texts run.NoMemory = Unit {0}
+
+-- the fault of a run into memory: a sink there fails only where a growth is refused
+abbrev pub of_memory : RunFault → RunFault
+of_memory (run.Write port) = run.NoMemory
+of_memory (run.Capture port fault) = run.Capture port fault
+of_memory run.NoMemory = run.NoMemory
+
+-- the octets of texts
+abbrev pub texts_in : {A : Type 0} → List (Vec ℕ A) → List (List ℕ)
+texts_in {A} texts = map (λ (v : Vec ℕ A). v.items) texts
+
+-- what sinks in memory hold
+abbrev pub taps_in : List MemoryDevice → List (List ℕ)
+taps_in taps = map (λ (d : MemoryDevice). d.octets) taps
+
+-- what sends to a port
+abbrev pub sender_value : Sender → networks.Sender
+sender_value s = record { from = end_of s.from; delay = s.delay }
+
+abbrev pub senders_in : List (Option Sender) → List (Option networks.Sender)
+senders_in senders = map (option_map sender_value) senders
+
+-- a bridge of a network: its plan, its commands, the numbers of its ports, and for each port what sends to it, the text that came to it and the capture of
+-- what left it; and what the run over these texts tells, where there was one
+pub record StationState (A : Type 0) : Type 0 where
+  pub plan : Plan A
+  pub commands : List Command
+  pub ports : List ℕ
+  pub senders : List (Option networks.Sender)
+  pub texts : List (List ℕ)
+  pub taps : List (List ℕ)
+  pub outcome : Option (Outcome A)
+
+-- what is kept of a bridge: there is a text of each port, and what it tells is of a run over its texts
+pub record IsStation {A : Type 0} (s : StationState A) : Type 0 where
+  pub numbers : AreNumbers s.plan s.ports
+  pub commands : AreCommands s.plan s.commands
+  pub sent : length s.senders ≡ length s.ports
+  pub texts : length s.texts ≡ length s.ports
+  pub tapped : (o : Outcome A) → s.outcome ≡ Some o → length s.taps ≡ length s.ports
+  pub runs : (o : Outcome A) → s.outcome ≡ Some o → RunsBridge s.plan s.ports s.commands s.texts s.taps o
+
+-- the texts of open ports, and nothing for each linked one
+abbrev pub open_texts : List (Option networks.Sender) → List (List ℕ) → List (List ℕ)
+open_texts [] texts = []
+open_texts (s ∷ senders) [] = []
+open_texts (s ∷ senders) (t ∷ texts) = (if is_some s then [] else t) ∷ open_texts senders texts
+
+-- what doesn't change of a bridge from round to round
+pub record Ground (A : Type 0) : Type 0 where
+  pub plan : Plan A
+  pub commands : List Command
+  pub ports : List ℕ
+  pub senders : List (Option networks.Sender)
+  pub outside : List (List ℕ)
+
+abbrev pub ground : {A : Type 0} → StationState A → Ground A
+ground s = record { plan = s.plan; commands = s.commands; ports = s.ports; senders = s.senders; outside = open_texts s.senders s.texts }
+
+-- what comes from outside can come to a bridge of this plan: commands in their order, and a capture for each port
+pub record IsIncoming {A : Type 0} (p : Plan A) (c : Incoming A) : Type 0 where
+  pub commands : AreCommands p c.commands.items
+  pub captures : length c.captures.items ≡ length p.ports
+
+-- a bridge of a network before the first round: its commands, the texts of its open ports, and what sends to the others
+pub record IsBegun {A : Type 0} (p : Plan A) (links : List Link) (b : ℕ) (c : Incoming A) (x : StationState A) : Type 0 where
+  pub plan : x.plan ≡ p
+  pub commands : x.commands ≡ c.commands.items
+  pub senders : x.senders ≡ map (networks.sender (map link_of links) b) x.ports
+  pub from_outside : open_texts x.senders x.texts ≡ open_texts x.senders (texts_in c.captures.items)
+
+-- WHAT COMES OVER LINKS
+
+-- a text is what comes over a link of the capture of what left its other end
+abbrev pub IsLaterText : ℕ → List ℕ → List ℕ → Type 0
+IsLaterText delay tap text = (frames : List Captured) → IsTapOf frames tap → text ≡ written_text (map (delayed delay) frames)
+
+-- the capture of what left a port of a bridge, nothing where there is none
+abbrev pub tap_of : {A : Type 0} → Option (StationState A) → ℕ → List ℕ
+tap_of None q = []
+tap_of (Some s) q = text_by s.ports s.taps q
+
+-- the text at a place of a bridge is what comes over the link of its port, if that has one
+abbrev pub IsFedAt : {A : Type 0} → List (StationState A) → StationState A → ℕ → Type 0
+IsFedAt {A} xs x i = (s : networks.Sender) (text : List ℕ) → slice_get x.senders i ≡ Some (Some s) → slice_get x.texts i ≡ Some text
+    → IsLaterText s.delay (tap_of (slice_get xs s.from.bridge) s.from.port) text
+
+-- so of all ports of the bridge at a place
+abbrev pub AreFedAt : {A : Type 0} → List (StationState A) → ℕ → Type 0
+AreFedAt {A} xs b = (i : ℕ) (x : StationState A) → slice_get xs b ≡ Some x → i < length x.ports → IsFedAt xs x i
+
+-- so of all bridges
+abbrev pub AreFed : {A : Type 0} → List (StationState A) → Type 0
+AreFed {A} xs = (b : ℕ) → AreFedAt xs b
+
+-- a bridge has run over its texts
+abbrev pub HasRun : {A : Type 0} → StationState A → Type 0
+HasRun {A} x = (o : Outcome A) × (x.outcome ≡ Some o)
