@@ -1,7 +1,6 @@
 -- A capture that was written and that reads to its end is of the frames that it was written of.
-use Rattle.std.proofs.Common.{◌≡◌, ℕ, Bool, ◌+◌, ◌*◌, ◌/◌, ◌%◌, ◌^◌, ◌≤◌, ◌<◌, ◌⊎◌, inl, inr, List, [], ◌∷◌, ◌++◌, length, nat_lt, Option, Some, None, Result, Ok, refl, sym, ap, ◌∙◌, subst, append_assoc, arith}
+use Rattle.std.proofs.Common.{◌≡◌, ℕ, ◌*◌, ◌/◌, ◌%◌, ◌^◌, ◌≤◌, ◌<◌, ◌⊎◌, inl, inr, List, [], ◌∷◌, ◌++◌, length, nat_lt, Some, Result, Ok, refl, sym, ap, ◌∙◌, subst, append_assoc, arith}
 use Rattle.std.specs.Prelude.{All}
-use Rattle.std.specs.Int.{w32, from_le_bytes, to_le_bytes}
 use Rattle.std.specs.List.{flat_map}
 use Rattle.std.proofs.lemmas.Nat.{from_le_bytes-to_le_bytes_4}
 use Rattle.std.proofs.lemmas.Bool.{le-ltb}
@@ -13,7 +12,7 @@ use Rattle.bridge_cycle.proofs.Cases.{by_bool}
 use Rattle.bridge_capture.specs.declared.form.Form.{Form}
 use Rattle.bridge_capture.specs.declared.fault.CaptureFault.{CaptureFault}
 use Rattle.bridge_capture.specs.declared.fault.CaptureFault.TheVariants.{TooManyRecords, TimeTooLate, TimeBack}
-use Rattle.bridge_capture.specs.Grammar.{Captured, Place, Front, Nothing, Fault, Record, Reads, ReadsAfter, Records, EndsWith, AtEnd, after, first_place, front_of, header_of, time_of, captured_of, original_of}
+use Rattle.bridge_capture.specs.Grammar.{Captured, Place, Front, Fault, Record, Reads, ReadsAfter, Records, EndsWith, AtEnd, after, first_place, front_of, header_of, time_of, captured_of, original_of}
 use Rattle.bridge_capture.specs.Written.{written_form, written_header, written_words, written_item, written_text}
 use Rattle.bridge_capture.proofs.Fronts.{fault_back, fault_late, fault_none, refused_words, too_many, whole_record}
 use Rattle.bridge_core.specs.Lines.{FitsRecord}

@@ -1,12 +1,12 @@
 -- The bridges of a network before the first round.
-use Rattle.std.proofs.Common.{◌≡◌, ℕ, zero, suc, ◌+◌, ◌≤◌, ◌<◌, ◌⊎◌, inl, inr, List, [], ◌∷◌, ◌++◌, length, map, drop, Option, Some, None, refl, sym, ap, ◌∙◌, subst, arith}
+use Rattle.std.proofs.Common.{◌≡◌, ℕ, zero, suc, ◌+◌, ◌≤◌, ◌<◌, ◌⊎◌, inl, inr, List, [], ◌∷◌, ◌++◌, length, drop, Some, refl, sym, ap, ◌∙◌, subst, arith}
 use Rattle.std.specs.Prelude.{slice_get}
-use Rattle.std.proofs.lemmas.List.{length-append, length-drop}
+use Rattle.std.proofs.lemmas.List.{length-drop}
 use Rattle.std.proofs.lemmas.Option.{slice_get_within}
 use Rattle.bridge_config.specs.Model.{Plan}
 use Rattle.bridge_network.specs.Wiring.{Parts}
 use Rattle.bridge_rounds.specs.declared.station.Incoming.{Incoming}
-use Rattle.bridge_rounds.specs.Stations.{IsBegun, IsIncoming, StationState}
+use Rattle.bridge_rounds.specs.Stations.{IsBegun, StationState}
 use Rattle.bridge_rounds.specs.Rounds.{AreBegun, AreIncoming}
 
 some_is : {X : Type 0} (a b : X) → Some a ≡ Some b → a ≡ b

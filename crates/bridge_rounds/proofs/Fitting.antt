@@ -1,7 +1,6 @@
 -- Runs of bridges whose texts are what was sent to them are a run of the network.
-use Rattle.std.proofs.Common.{◌≡◌, ℕ, zero, suc, Bool, true, false, ◌+◌, ◌≤◌, ◌<◌, List, [], ◌∷◌, ◌++◌, length, map, nat_eq, option_map, Option, Some, None, refl, sym, ap, ◌∙◌, subst, arith}
+use Rattle.std.proofs.Common.{◌≡◌, ℕ, zero, suc, Bool, false, ◌+◌, ◌<◌, List, [], ◌∷◌, map, nat_eq, option_map, Option, Some, None, refl, sym, ap, ◌∙◌, subst, arith}
 use Rattle.std.specs.Prelude.{All, slice_get, if◌then◌else◌}
-use Rattle.std.proofs.lemmas.Bool.{eq-eqb}
 use Rattle.std.proofs.lemmas.Bool.Decides.{nat_tests}
 use Rattle.std.proofs.lemmas.List.Elements.{All-cons, All-head, All-nil, All-tail}
 use Rattle.std.proofs.lemmas.Option.{slice_get-map, slice_get_within}
@@ -14,7 +13,7 @@ use Rattle.bridge_config.specs.Model.{Plan}
 use Rattle.bridge_config.specs.Rules.{IsPlan, port_at}
 use Rattle.bridge_config.proofs.PlanPorts.{number_is}
 use Rattle.bridge_run.specs.declared.outcome.Outcome.{Outcome}
-use Rattle.bridge_run.specs.Merge.{Input, IsMerged, NotBefore, commands_of, events, inputs_of, of_rank, streams}
+use Rattle.bridge_run.specs.Merge.{Input, NotBefore, commands_of, events, inputs_of, of_rank, streams}
 use Rattle.bridge_port.specs.Schedule.{Copy}
 use Rattle.bridge_run.specs.Offers.{Carried}
 use Rattle.bridge_run.specs.Outputs.{IsOutput}
@@ -24,7 +23,7 @@ use Rattle.bridge_core.proofs.Beginning.{covered}
 use Rattle.bridge_core.proofs.Sorted.{rising_numbers}
 use Rattle.bridge_network.specs.Networks.{IsNetwork, IsNetworkRun, Network, Sender, coming, comes, later, outside, sender}
 use Rattle.bridge_rounds.specs.Delaying.{delayed}
-use Rattle.bridge_rounds.specs.Stations.{AreFed, IsStation, IsTapOf, RunsBridge, StationState, tap_of, text_by}
+use Rattle.bridge_rounds.specs.Stations.{AreFed, IsStation, IsTapOf, RunsBridge, StationState, tap_of}
 use Rattle.bridge_rounds.proofs.Back.{IsEarly, read_back}
 use Rattle.bridge_rounds.proofs.Over.{text_at, there}
 

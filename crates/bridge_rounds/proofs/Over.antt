@@ -1,5 +1,5 @@
 -- A run of a bridge over texts in memory.
-use Rattle.std.proofs.Common.{◌≡◌, ℕ, zero, suc, Bool, true, false, ◌≤◌, ◌<◌, List, [], ◌∷◌, ◌++◌, length, map, take, drop, take_all, drop_of_length-le, append-nil, nat_eq, option_map, Option, Some, None, refl, sym, ap, ◌∙◌, subst, arith}
+use Rattle.std.proofs.Common.{◌≡◌, ℕ, zero, suc, true, false, ◌<◌, List, [], ◌∷◌, ◌++◌, length, take, drop, take_all, drop_of_length-le, append-nil, nat_eq, option_map, Option, Some, None, refl, sym, ap, ◌∙◌, subst, arith}
 use Rattle.std.specs.Prelude.{All, is_some, slice_get, if◌then◌else◌, Vec}
 use Rattle.std.proofs.lemmas.Bool.{eq-eqb}
 use Rattle.std.proofs.lemmas.Bool.Decides.{nat_tests}
@@ -7,14 +7,12 @@ use Rattle.std.proofs.lemmas.List.{length-map}
 use Rattle.std.proofs.lemmas.List.Elements.{All-head, All-tail}
 use Rattle.std.proofs.lemmas.Option.{slice_get-map, slice_get_within}
 use Rattle.bridge_base.specs.Members.{AllAfter, Rising}
-use Rattle.bridge_capture.specs.Grammar.{Captured, Records, AtEnd}
-use Rattle.bridge_capture.specs.Memory.{MemoryDevice, is_sure}
+use Rattle.bridge_capture.specs.Grammar.{Records, AtEnd}
+use Rattle.bridge_capture.specs.Memory.{MemoryDevice}
 use Rattle.bridge_capture.specs.Written.{written_text}
-use Rattle.bridge_capture.specs.declared.fault.CaptureFault.TheVariants as faults
 use Rattle.bridge_config.specs.declared.command.Command.{Command}
 use Rattle.bridge_config.specs.Commands.{AreCommands}
 use Rattle.bridge_config.specs.Model.{Plan}
-use Rattle.bridge_lanes.specs.Devices.{NeverFail}
 use Rattle.bridge_lanes.specs.Lanes.{AreRests, AreTexts}
 use Rattle.bridge_lanes.specs.declared.fault.RunFault.{RunFault}
 use Rattle.bridge_lanes.specs.declared.fault.RunFault.TheVariants as run
@@ -24,7 +22,7 @@ use Rattle.bridge_core.proofs.Beginning.{known}
 use Rattle.bridge_core.proofs.Simulating.{ports_many}
 use Rattle.bridge_core.proofs.Sorted.{rising_numbers}
 use Rattle.bridge_network.specs.Networks.{Sender}
-use Rattle.bridge_rounds.specs.Stations.{IsStation, IsTapOf, RunsBridge, StopsBridge, of_memory, taps_in, text_by, texts_in}
+use Rattle.bridge_rounds.specs.Stations.{IsStation, RunsBridge, StopsBridge, of_memory, taps_in, text_by, texts_in}
 
 some_is : {X : Type 0} (a b : X) → Some a ≡ Some b → a ≡ b
 some_is a b h = cc

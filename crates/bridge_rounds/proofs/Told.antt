@@ -1,26 +1,23 @@
 -- What is told of bridges that have run over what was sent to them is told of a run of the network.
-use Rattle.std.proofs.Common.{◌≡◌, ℕ, zero, suc, Bool, true, false, ◌+◌, ◌≤◌, ◌<◌, ◌⊎◌, inl, inr, List, [], ◌∷◌, ◌++◌, length, map, option_map, Option, Some, None, refl, sym, ap, ◌∙◌, subst, arith}
+use Rattle.std.proofs.Common.{◌≡◌, ℕ, zero, suc, ◌⊎◌, inl, inr, List, [], ◌∷◌, ◌++◌, length, map, option_map, Option, Some, None, refl, sym, ap, ◌∙◌, subst, arith}
 use Rattle.std.specs.Prelude.{All, IfErr, IfOk, OnErr, Result, Ok, Err, slice_get, nat_eq, is_some, Vec, if◌then◌else◌}
 use Rattle.std.specs.Map.{lookup}
 use Rattle.std.proofs.lemmas.List.{length-map}
 use Rattle.std.proofs.lemmas.List.Elements.{All-head, All-tail}
 use Rattle.std.proofs.lemmas.Option.{slice_get-map, slice_get_within}
 use Rattle.bridge_base.specs.Members.{In}
-use Rattle.bridge_capture.specs.Grammar.{Captured, Records, AtEnd}
 use Rattle.bridge_capture.specs.Memory.{MemoryDevice}
 use Rattle.bridge_capture.specs.Written.{written_text}
 use Rattle.bridge_config.specs.declared.command.Command.{Command}
 use Rattle.bridge_config.specs.Model.{Plan}
-use Rattle.bridge_config.specs.Rules.{port_at}
 use Rattle.bridge_run.specs.declared.outcome.Outcome.{Outcome}
-use Rattle.bridge_run.specs.declared.outcome.View.{View}
 use Rattle.bridge_run.specs.Merge.{Input, asked, commands_of}
 use Rattle.bridge_network.specs.Checked.{AreClosed}
 use Rattle.bridge_network.proofs.Chain.{alone_in}
 use Rattle.bridge_network.proofs.Once.{one_course}
 use Rattle.bridge_core.specs.Simulated.{AreNumbers}
 use Rattle.bridge_core.proofs.Beginning.{one_order}
-use Rattle.bridge_network.specs.Networks.{AreTimed, Hop, IsTimed, IsNetwork, IsNetworkRun, Sender, sender}
+use Rattle.bridge_network.specs.Networks.{AreTimed, Hop, IsTimed, IsNetwork, Sender, sender}
 use Rattle.bridge_network.specs.Wiring.{Parts, link_of, network_of, stream_of}
 use Rattle.bridge_network.specs.declared.links.Link.{Link}
 use Rattle.bridge_rounds.specs.declared.settling.RoundsFault.{RoundsFault}
@@ -29,7 +26,7 @@ use Rattle.bridge_rounds.specs.declared.settling.Settled.{Settled}
 use Rattle.bridge_rounds.specs.declared.station.Incoming.{Incoming}
 use Rattle.bridge_rounds.specs.Stations.{AreFed, Ground, HasRun, IsBegun, IsStation, StationState, ground, open_texts, taps_in, texts_in}
 use Rattle.bridge_rounds.specs.Rounds.{AreBegun, AreIncoming, AreOutcomes, AreSettled, IsolatesStreams, OthersChangeNothing, RunsNetwork, StopsRound, StopsSettling, commands_in}
-use Rattle.bridge_rounds.proofs.Fitting.{AllRan, AreOf, Ran, frames_in, left_in, left_there, network_run, none_read, open_read, tap_read}
+use Rattle.bridge_rounds.proofs.Fitting.{AllRan, AreOf, frames_in, left_there, network_run, none_read, open_read, tap_read}
 use Rattle.bridge_rounds.proofs.Over.{there}
 use Rattle.bridge_rounds.proofs.Turns.{ground_kept}
 

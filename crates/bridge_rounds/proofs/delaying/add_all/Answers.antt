@@ -1,4 +1,4 @@
-use Rattle.std.proofs.Common.{ℕ, List, Option, Some, None, Bor, option_map, ap, subst}
+use Rattle.std.proofs.Common.{ℕ, List, Bor, option_map, ap, subst}
 use Rattle.bridge_rounds.specs.Delaying.{AddsLater}
 use Rattle.bridge_rounds.proofs.Later.{adding_more, adding_all}
 use Rattle.bridge_rounds.proofs.delaying.add_all.Goals as goal

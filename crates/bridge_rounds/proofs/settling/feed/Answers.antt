@@ -1,4 +1,4 @@
-use Rattle.std.proofs.Common.{◌≡◌, Option, Some, slice_index_or, sym, ap, ◌∙◌}
+use Rattle.std.proofs.Common.{Option, Some, slice_index_or, sym, ap, ◌∙◌}
 use Rattle.std.specs.Prelude.{slice_get, option_map}
 use Rattle.std.proofs.lemmas.Option.{slice_get-get_or}
 use Rattle.bridge_rounds.specs.Stations.{StationState, ground, sender_value}

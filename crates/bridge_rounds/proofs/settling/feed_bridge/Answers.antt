@@ -1,6 +1,5 @@
-use Rattle.std.proofs.Common.{◌≡◌, ◌<◌, ℕ, List, length, slice_index_or, ap, arith, ◌∙◌}
+use Rattle.std.proofs.Common.{length, slice_index_or, ap, arith}
 use Rattle.std.proofs.lemmas.Option.{slice_get-get_or}
-use Rattle.bridge_rounds.specs.Stations.{StationState}
 use Rattle.bridge_rounds.proofs.Turns.{ports_kept}
 use Rattle.bridge_rounds.proofs.settling.feed_bridge.Goals as goal
 

@@ -1,7 +1,7 @@
-use Rattle.std.proofs.Common.{◌≡◌, ◌<◌, ◌≤◌, ℕ, List, Some, length, map, take, take_all, slice_index_or, ap, subst, ◌∙◌, arith}
+use Rattle.std.proofs.Common.{take_all, slice_index_or, subst, ◌∙◌, arith}
 use Rattle.std.specs.Prelude.{All}
 use Rattle.std.proofs.lemmas.Option.{slice_get-get_or}
-use Rattle.bridge_rounds.specs.Stations.{HasRun, StationState, ground}
+use Rattle.bridge_rounds.specs.Stations.{HasRun, ground}
 use Rattle.bridge_rounds.proofs.Turns.{map_set, ran_more, stops_kept, texts_of}
 use Rattle.bridge_rounds.proofs.settling.run_all.Goals as goal
 

@@ -1,6 +1,6 @@
-use Rattle.std.proofs.Common.{◌≡◌, ℕ, List, Option, Some, refl, sym, ap, subst, ◌∙◌}
+use Rattle.std.proofs.Common.{◌≡◌, ℕ, List, subst, ◌∙◌}
 use Rattle.std.specs.Prelude.{IfOk, slice_get}
-use Rattle.bridge_rounds.specs.Stations.{IsLaterText, StationState, tap_of}
+use Rattle.bridge_rounds.specs.Stations.{IsLaterText, tap_of}
 use Rattle.bridge_rounds.proofs.Turns.{later_if, looked_up, tap_there}
 use Rattle.bridge_rounds.proofs.settling.sent_over.Goals as goal
 

@@ -1,9 +1,7 @@
-use Rattle.std.proofs.Common.{◌≡◌, ℕ, List, Option, Some, None, Ok, Err, Result, length, map, refl, sym, ap, subst, ◌∙◌}
-use Rattle.std.specs.Prelude.{All, IfOk, IfErr}
-use Rattle.bridge_rounds.specs.declared.settling.RoundsFault.{RoundsFault}
-use Rattle.bridge_rounds.specs.declared.settling.Settled.{Settled}
-use Rattle.bridge_rounds.specs.Stations.{AreFed, HasRun, IsStation, StationState, ground}
-use Rattle.bridge_rounds.specs.Rounds.{AreSettled, IsolatesStreams, OthersChangeNothing, RunsNetwork, StopsRound}
+use Rattle.std.proofs.Common.{◌≡◌, ℕ, List, Option, None, Ok, length, map, sym, ap, subst, ◌∙◌}
+use Rattle.std.specs.Prelude.{All}
+use Rattle.bridge_rounds.specs.Stations.{HasRun, IsStation, StationState, ground}
+use Rattle.bridge_rounds.specs.Rounds.{AreSettled, StopsRound}
 use Rattle.bridge_rounds.proofs.Over.{lent}
 use Rattle.bridge_rounds.proofs.Told.{always_if, at_each, changes_nothing, if_ok, isolates, memory_stops, runs_network, stops_settling}
 use Rattle.bridge_rounds.proofs.settling.settle.Goals as goal

@@ -1,5 +1,4 @@
 use Rattle.std.proofs.Common.{◌≡◌, map}
-use Rattle.bridge_rounds.specs.Rounds.{AreBegun}
 use Rattle.bridge_rounds.specs.Stations.{ground}
 use Rattle.bridge_rounds.proofs.settling.settle.Given as goal
 

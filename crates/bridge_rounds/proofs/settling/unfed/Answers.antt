@@ -1,4 +1,4 @@
-use Rattle.std.proofs.Common.{◌≡◌, ◌<◌, ◌≤◌, ℕ, List, Option, None, Ok, Result, length, ap, arith, ◌∙◌}
+use Rattle.std.proofs.Common.{ℕ, Option, Ok, ap, arith, ◌∙◌}
 use Rattle.std.proofs.lemmas.Option.{slice_get_within}
 use Rattle.bridge_rounds.proofs.Turns.{all_more}
 use Rattle.bridge_rounds.proofs.settling.unfed.Goals as goal

@@ -1,4 +1,4 @@
-use Rattle.std.proofs.Common.{◌≡◌, ℕ, List, Option, Some, slice_index_or, sym, ap, ◌∙◌}
+use Rattle.std.proofs.Common.{ℕ, List, Option, Some, sym, ap, ◌∙◌}
 use Rattle.std.specs.Prelude.{slice_get, option_map}
 use Rattle.bridge_rounds.specs.Stations.{StationState, sender_value}
 use Rattle.bridge_rounds.specs.declared.station.Sender.{Sender}

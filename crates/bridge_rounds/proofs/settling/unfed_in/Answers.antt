@@ -1,6 +1,4 @@
-use Rattle.std.proofs.Common.{◌≡◌, ◌<◌, ◌≤◌, ℕ, List, Option, None, Ok, Result, length, slice_index_or, ap, sym, arith, ◌∙◌}
-use Rattle.std.proofs.lemmas.Option.{slice_get-get_or}
-use Rattle.bridge_base.specs.declared.NoMemory.{NoMemory}
+use Rattle.std.proofs.Common.{ℕ, Option, Ok, length, ap, arith, ◌∙◌}
 use Rattle.bridge_rounds.specs.Stations.{StationState}
 use Rattle.bridge_rounds.proofs.Turns.{at_place, fed_more}
 use Rattle.bridge_rounds.proofs.settling.unfed_in.Goals as goal

@@ -1,4 +1,4 @@
-use Rattle.std.proofs.Common.{◌≡◌, ℕ, List, suc, ◌+◌, ◌≤◌, ◌<◌, ◌∙◌, sym, ap, drop, length, slice_index_or, arith}
+use Rattle.std.proofs.Common.{◌≡◌, ℕ, suc, ◌+◌, ◌∙◌, sym, ap, drop, arith}
 use Rattle.std.proofs.lemmas.List.{length-map}
 use Rattle.bridge_capture.specs.Memory.{MemoryDevice}
 use Rattle.bridge_rounds.specs.Stations.{taps_in, text_by}

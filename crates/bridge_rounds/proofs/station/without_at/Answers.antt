@@ -1,7 +1,6 @@
-use Rattle.std.proofs.Common.{◌≡◌, ℕ, List, Option, Some, None, option_map, refl, sym, ap, subst, ◌∙◌}
+use Rattle.std.proofs.Common.{◌≡◌, ℕ, Option, Some, None, option_map, ap, ◌∙◌}
 use Rattle.std.specs.Prelude.{Vec, slice_get}
 use Rattle.std.proofs.lemmas.Option.{slice_get-get_or, slice_get-map}
-use Rattle.bridge_network.specs.Networks as networks
 use Rattle.bridge_rounds.specs.declared.station.Sender.{Sender}
 use Rattle.bridge_rounds.specs.Stations.{open_texts, sender_value, senders_in, texts_in}
 use Rattle.bridge_rounds.proofs.Turns.{map_of_set, open_set}

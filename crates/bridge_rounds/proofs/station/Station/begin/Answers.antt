@@ -1,4 +1,4 @@
-use Rattle.std.proofs.Common.{◌≡◌, ℕ, List, None, Option, length, map, refl, sym, ap, subst, ◌∙◌, arith}
+use Rattle.std.proofs.Common.{ℕ, length, map, ap, subst, arith}
 use Rattle.std.specs.Prelude.{Vec, option_map}
 use Rattle.std.proofs.lemmas.List.{length-map}
 use Rattle.bridge_config.specs.Model.{Plan}
@@ -6,7 +6,6 @@ use Rattle.bridge_core.specs.Simulated.{AreNumbers}
 use Rattle.bridge_core.proofs.Simulating.{ports_many}
 use Rattle.bridge_network.specs.Networks as networks
 use Rattle.bridge_network.specs.Wiring.{link_of}
-use Rattle.bridge_rounds.specs.declared.station.Sender.{Sender}
 use Rattle.bridge_rounds.specs.Stations.{sender_value, senders_in, taps_in, texts_in}
 use Rattle.bridge_rounds.proofs.Over.{kept_begun}
 use Rattle.bridge_rounds.proofs.station.Station.begin.Goals as goal

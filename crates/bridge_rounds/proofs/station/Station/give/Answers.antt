@@ -1,4 +1,4 @@
-use Rattle.std.proofs.Common.{◌≡◌, ℕ, List, None, map, slice_set, refl, sym, ap, ◌∙◌}
+use Rattle.std.proofs.Common.{ℕ, List, None, slice_set, ap, ◌∙◌}
 use Rattle.std.specs.Prelude.{Vec}
 use Rattle.bridge_rounds.specs.Stations.{StationState, senders_in, taps_in}
 use Rattle.bridge_rounds.proofs.Turns.{ground_given, map_of_set}

@@ -1,4 +1,4 @@
-use Rattle.std.proofs.Common.{◌≡◌, ℕ, List, Some, length, refl, sym, ap, subst, ◌∙◌}
+use Rattle.std.proofs.Common.{ℕ, List, length, refl, sym, ap, subst, ◌∙◌}
 use Rattle.bridge_config.specs.declared.command.Command.{Command}
 use Rattle.bridge_rounds.specs.Stations.{RunsBridge, StationState, StopsBridge, senders_in, taps_in, texts_in}
 use Rattle.bridge_rounds.proofs.Over.{kept_ran, some_there}
