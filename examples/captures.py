@@ -10,6 +10,9 @@ that the first one feeds. The seed is fixed, so the same files come out each tim
 
 The files are little-endian and count nanoseconds. A record's moment is that at which the whole frame has come, and only the
 first octets of each frame are captured: its addresses, its tag and its EtherType.
+
+`network` gets what comes to the open ports of its three bridges. `crates/gate_net/data` gets both networks with their
+captures, and for each open port of `network` a capture in which a talker babbles there beside what comes on it anyway.
 """
 import os
 import random
@@ -18,6 +21,7 @@ import struct
 
 TOP = os.path.dirname(os.path.abspath(__file__))
 GATE = os.path.join(os.path.dirname(TOP), "crates", "gate_run", "data")
+NETWORKS = os.path.join(os.path.dirname(TOP), "crates", "gate_net", "data")
 SEED = 20260801
 GAP = 12
 
@@ -205,6 +209,50 @@ def line():
     return first, second
 
 
+def zones(babbling):
+    """Eight cycles of what comes to the open ports of three zones in a ring; one of them may be a port that babbles."""
+    chance = random.Random(SEED)
+    cycles, cycle = 8, 500_000
+    all_ports = {(zone, number): Port(1000 if number == 1 else 100) for zone in "abc" for number in (1, 4)}
+    talkers = {(zone, number): f"02-00-00-00-04-{'abc'.index(zone) + 1}{number}" for zone, number in all_ports}
+    own = {("a", 1): (10, 7, 120, 10_000), ("b", 1): (11, 6, 240, 110_000), ("c", 4): (12, 5, 380, 20_000)}
+    for place, (number, priority, length, moment) in own.items():
+        front = tagged(f"91-E0-F0-00-FE-{number}", talkers[place], number, priority)
+        cyclic(chance, all_ports[place], cycles, cycle, moment, moment + 20_000, front, length)
+    for place in (("a", 4), ("b", 4), ("c", 1)):
+        fronts = [plain(to, talkers[place]) for other, to in talkers.items() if other != place]
+        now_and_then(chance, all_ports[place], cycles * cycle, 200_000, fronts, [60, 500, 1514])
+    if babbling is not None:
+        streams = [n for n in (10, 11, 12) if own.get(babbling, (0,))[0] != n]
+
+        def forged():
+            number = chance.choice(streams)
+            to = f"91-E0-F0-00-FE-{number}"
+            front = tagged(to, talkers[babbling], chance.choice([1, number]), chance.randint(0, 7), chance.randint(0, 1))
+            return chance.choice([front, plain(to, talkers[babbling])])
+
+        babble(chance, all_ports[babbling], cycles * cycle, forged, [60, 500, 1514])
+    return all_ports
+
+
+def networks():
+    """Makes the captures of the two networks, and gives them and their plans to the merge gate."""
+    first, second = line()
+    all_ports = zones(None)
+    for top in (TOP, NETWORKS):
+        write(os.path.join(top, "line", "first"), first)
+        write(os.path.join(top, "line", "second"), second)
+        for zone in "abc":
+            ports = {number: port for (place, number), port in all_ports.items() if place == zone}
+            write(os.path.join(top, "network", zone), ports)
+    for name, files in (("line", ("first", "second", "network")), ("network", ("zone_a", "zone_b", "zone_c", "network"))):
+        for file in files:
+            shutil.copyfile(os.path.join(TOP, name, f"{file}.toml"), os.path.join(NETWORKS, name, f"{file}.toml"))
+    os.makedirs(os.path.join(NETWORKS, "babbling"), exist_ok=True)
+    for zone, number in all_ports:
+        zones((zone, number))[(zone, number)].write(os.path.join(NETWORKS, "babbling", f"{zone}.{number}.pcap"))
+
+
 def change(babbling):
     """Three frames of a stream on port 1, and on port 2 one frame, or a talker that babbles, as lists are exchanged."""
     ports = {number: Port(1000) for number in (1, 2, 3)}
@@ -234,9 +282,7 @@ def main():
             write(os.path.join(top, name, "normal"), example(False))
             write(os.path.join(top, name, "babbling"), example(True))
         shutil.copyfile(os.path.join(TOP, name, "plan.toml"), os.path.join(GATE, name, "plan.toml"))
-    first, second = line()
-    write(os.path.join(TOP, "line", "first"), first)
-    write(os.path.join(TOP, "line", "second"), second)
+    networks()
 
 
 main()

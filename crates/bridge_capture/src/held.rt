@@ -1,38 +1,57 @@
 //! Octets that are held back.
-ghost use Rattle.std.specs.Prelude.{◌≡◌, ◌≤◌, ◌+◌, vec_len};
+ghost use Rattle.std.specs.Prelude.{◌≡◌, ◌≤◌, ◌<◌, ◌+◌, vec_len};
 ghost use Rattle.bridge_capture.specs.declared.held.TheConstants.{BLOCK, MOST_MORE};
 
 use bridge_base::NoMemory;
 use std::alloc::Allocator;
 
-/// As many octets as are handed on at once: whole pages of a file whose start they are.
+/// The most octets that are handed on at once: whole pages of a file whose start they are.
 pub const BLOCK: usize = 131_072;
 
 /// The most octets that are taken at once, for which there is room behind all but a whole block: those of the longest record.
 const MOST_MORE: usize = 65_552;
 
-/// Octets that are held back: the first `count` of a buffer.
+/// Octets that are held back until there is a block of them: the first `count` of a buffer.
 #[derive(Drop)]
 pub struct Held<A: Allocator> {
     octets: Vec<u8, A>,
     count: usize,
-    ghost wide: { vec_len octets ≡ BLOCK + MOST_MORE },
+    block: usize,
+    ghost wide: { vec_len octets ≡ block + MOST_MORE },
     ghost within: { count ≤ vec_len octets },
+    ghost some: { 0 < block },
+    ghost most: { block ≤ BLOCK },
 }
 
 impl<A: Allocator> Held<A> {
-    ghost use Rattle.std.specs.Prelude.{◌<◌, ◌-◌, ◌++◌, [], true, length, drop, IfOk};
+    ghost use Rattle.std.specs.Prelude.{◌-◌, ◌++◌, [], true, length, drop, IfOk};
     ghost use Rattle.std.specs.Int.{w64, to_le_bytes};
     ghost use Rattle.bridge_capture.specs.Buffered.{held_back};
 
-    /// None at first. One growth of memory.
-    pub fn new(alloc: A) -> Result<Held<A>, NoMemory>
+    /// None at first, of which so many make a block. One growth of memory.
+    pub fn new(alloc: A, block: usize) -> Result<Held<A>, NoMemory>
+        requires some { 0 < block }
+        requires most { block ≤ BLOCK }
         ensures none { IfOk result (λ held. held_back held ≡ []) }
+        ensures block { IfOk result (λ held. held.block ≡ block) }
     {
-        match Vec::from_elem(alloc, 0u8, BLOCK + MOST_MORE) {
-            Ok(octets) => Ok(Held { octets, count: 0 }),
+        match Vec::from_elem(alloc, 0u8, block + MOST_MORE) {
+            Ok(octets) => Ok(Held {
+                octets,
+                count: 0,
+                block,
+            }),
             Err(_) => Err(NoMemory),
         }
+    }
+
+    /// How many of them make a block.
+    pub fn block(&self) -> usize
+        ensures block { result ≡ self.now.block }
+        ensures rest { self.now.count - result ≤ MOST_MORE }
+    {
+        let _octets = &self.octets;
+        self.block
     }
 
     /// How many there are.
@@ -57,7 +76,7 @@ impl<A: Allocator> Held<A> {
     pub fn takes(&self, more: usize) -> bool
         ensures { result ≡ true → more ≤ vec_len self.now.octets - self.now.count }
     {
-        self.count < BLOCK && more <= MOST_MORE
+        self.count < self.block && more <= MOST_MORE
     }
 
     /// They.

@@ -1,5 +1,5 @@
 //! std's readers as sources that read ahead.
-ghost use Rattle.std.specs.Prelude.{◌≡◌, ◌≤◌, length, true, false, IfOk, OnOk, OnErr, IsErr};
+ghost use Rattle.std.specs.Prelude.{◌≡◌, ◌≤◌, ◌<◌, length, true, false, IfOk, OnOk, OnErr, IsErr};
 ghost use Rattle.std.specs.Io.KnownBytes.{ReadConsumes};
 ghost use Rattle.bridge_capture.specs.Buffered.{ahead_remaining, ahead_at_hand};
 
@@ -13,8 +13,8 @@ use std::io::Read;
 /// The octets that are asked of a reader at once.
 const MOST_AT_ONCE: usize = 131_072;
 
-/// A reader as a source that asks it for 131,072 octets at once. Any error of the reader is for
-/// good, an interrupted call too.
+/// A reader as a source that asks it for 131,072 octets at once, or for as many as it is made for. Any error of the reader
+/// is for good, an interrupted call too.
 #[derive(Drop)]
 pub struct ReadAhead<R: Read, A: Allocator> {
     source: FromRead<R>,
@@ -27,7 +27,16 @@ impl<R: Read + Drop, A: Allocator> ReadAhead<R, A> {
         ensures remaining { IfOk result (λ source. ⟦<ReadAhead<R, A> as ByteSource>⟧.remaining source ≡ R.remaining reader) }
         ensures sound { IfOk result (λ source. ⟦<ReadAhead<R, A> as ByteSource>⟧.has_failed source ≡ false) }
     {
-        match Window::new(alloc, MOST_AT_ONCE) {
+        ReadAhead::with_width(alloc, reader, MOST_AT_ONCE)
+    }
+
+    /// The same, asking for so many octets at once, 1 at least: many sources that are read in turn are faster with less.
+    pub fn with_width(alloc: A, reader: R, width: usize) -> Result<ReadAhead<R, A>, NoMemory>
+        requires { 0 < width }
+        ensures remaining { IfOk result (λ source. ⟦<ReadAhead<R, A> as ByteSource>⟧.remaining source ≡ R.remaining reader) }
+        ensures sound { IfOk result (λ source. ⟦<ReadAhead<R, A> as ByteSource>⟧.has_failed source ≡ false) }
+    {
+        match Window::new(alloc, width) {
             Ok(window) => Ok(ReadAhead {
                 source: FromRead::new(reader),
                 window,

@@ -7,6 +7,10 @@ use bridge_program::NoMemory;
 use std::alloc::Allocator;
 use std::io::{Read, Write};
 
+/// The octets that are asked of each reader and given to each writer of a run at once: whole pages of a file. Sixteen of each
+/// with twice as many would not stay in the caches that are at hand.
+const BLOCK: usize = 65_536;
+
 /// Sources of what readers give, in their order.
 pub fn sources_of<R: Read + Drop, A: Allocator + Copy>(
     alloc: A,
@@ -16,7 +20,7 @@ pub fn sources_of<R: Read + Drop, A: Allocator + Copy>(
 {
     let mut sources = Vec::with_capacity(alloc, readers.len())?;
     for reader in readers {
-        let source = ReadAhead::new(alloc, reader)?;
+        let source = ReadAhead::with_width(alloc, reader, BLOCK)?;
         if sources.push(source).is_err() {
             return Err(NoMemory);
         }
@@ -33,7 +37,7 @@ pub fn sinks_of<W: Write + Drop, A: Allocator + Copy>(
 {
     let mut sinks = Vec::with_capacity(alloc, writers.len())?;
     for writer in writers {
-        let sink = WriteBehind::new(alloc, writer)?;
+        let sink = WriteBehind::with_block(alloc, writer, BLOCK)?;
         if sinks.push(sink).is_err() {
             return Err(NoMemory);
         }

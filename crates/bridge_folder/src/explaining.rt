@@ -68,7 +68,7 @@ fn said_of_job<H: AllocGlobal + Files>(
             let cause = cause_of(rt, words, job, path.as_str());
             explain_file(rt.alloc(), path.as_str(), cause).ok()
         }
-        Fault::Network(_) => None,
+        Fault::Network(_) | Fault::Rounds(_) => None,
         Fault::Words => explain_words(rt.alloc(), words).ok(),
     }
 }

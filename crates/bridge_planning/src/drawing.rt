@@ -57,7 +57,7 @@ fn drawn(
 }
 
 /// The paths of the files that a network is made of.
-fn paths_of(
+pub fn paths_of(
     alloc: Global,
     path: &str,
     file: &NetworkFile<Global>,

@@ -16,9 +16,9 @@ mod timings;
 mod traffic;
 
 pub use bounds::{QueueBound, bounds_of};
-pub use drawing::{NetworkPicture, is_network, network_picture};
+pub use drawing::{NetworkPicture, is_network, network_picture, paths_of};
 pub use explaining::explain_network;
-pub use network::{NetworkSaid, network_job, tested};
+pub use network::{NetworkSaid, memory_fault, network_job, read_network, read_plans, tested};
 pub use printing::{bounds_job, bounds_text};
 pub use refusing::said_of_network;
 pub use reporting::{TrafficReport, traffic_job};

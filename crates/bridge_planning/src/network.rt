@@ -87,7 +87,7 @@ pub(crate) fn streams_of<A: Allocator + Copy>(
 }
 
 /// The fault of a growth that was refused.
-pub(crate) fn memory_fault() -> Fault
+pub fn memory_fault() -> Fault
     ensures { result ≡ Fault.Run RunFault.NoMemory }
 {
     Fault::Run(RunFault::NoMemory)
@@ -175,7 +175,7 @@ fn lines_of<A: Allocator + Copy>(
 }
 
 /// The text of a network by the path of its file, read.
-pub(crate) fn read_network<H: AllocGlobal + Files>(
+pub fn read_network<H: AllocGlobal + Files>(
     rt: &H,
     path: String,
 ) -> Result<NetworkFile<Global>, Fault>
@@ -260,7 +260,7 @@ fn read_plan<H: AllocGlobal + Files>(
 }
 
 /// The plans of the bridges, in their order.
-pub(crate) fn read_plans<H: AllocGlobal + Files>(
+pub fn read_plans<H: AllocGlobal + Files>(
     rt: &H,
     path: &str,
     bridges: &[BridgeRow<Global>],

@@ -43,6 +43,7 @@ commands_end p path input (fault.Text f) h = absurd h
 commands_end p path input (fault.Plan f) h = absurd h
 commands_end p path input (fault.Check f) h = absurd h
 commands_end p path input (fault.Network line) h = absurd h
+commands_end p path input (fault.Rounds line) h = absurd h
 commands_end p path input fault.Words h = absurd h
 
 -- a fault of the check, behind commands that were read

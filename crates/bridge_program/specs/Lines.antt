@@ -64,5 +64,6 @@ line_of (fault.Plan f) = line_of_plan f
 line_of (fault.Check f) = line_of_check f
 line_of (fault.Commands f) = line_of_commands f
 line_of (fault.Network line) = string_bytes line
+line_of (fault.Rounds line) = string_bytes line
 line_of fault.Words = codes "command line refused"
 line_of (fault.File path) = codes "file " ++ string_bytes path

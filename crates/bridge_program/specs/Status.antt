@@ -48,7 +48,7 @@ abbrev pub status_of_check : CheckFault → ℕ
 status_of_check check.NoMemory = 3
 status_of_check f = 1
 
--- the status of a fault: 1 for a plan, commands or a network, 2 for a text or a capture, 3 for a file, a device or memory, 4 for the command line
+-- the status of a fault: 1 for a plan, commands or a network, 2 for a text, a capture or a run of a network, 3 for a file, a device or memory, 4 for the command line
 abbrev pub status_of : Fault → ℕ
 status_of (fault.Text f) = status_of_text f
 status_of (fault.Run f) = status_of_run f
@@ -56,5 +56,6 @@ status_of (fault.Plan f) = status_of_plan f
 status_of (fault.Check f) = status_of_check f
 status_of (fault.Commands f) = status_of_plan f
 status_of (fault.Network line) = 1
+status_of (fault.Rounds line) = 2
 status_of fault.Words = 4
 status_of (fault.File path) = 3

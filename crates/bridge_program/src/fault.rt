@@ -63,8 +63,11 @@ pub enum Fault {
     Check(CheckFault),
     /// Commands that are refused, or want of memory for them.
     Commands(PlanFault),
-    /// A network of bridges that is refused, by the line that says so; who reads and tests networks writes it.
+    /// A network of bridges that is refused, or traffic, by the line that says so; who reads and tests them writes it.
     Network(String),
+    /// A run of a network that a capture stopped, or that doesn't settle, by the line that says so; who runs networks
+    /// writes it.
+    Rounds(String),
     /// The words of the command line.
     Words,
     /// A file that can't be opened, made, read or written, by its path as given.

@@ -14,7 +14,8 @@ use bridge_wire::RunFault;
 use std::alloc::Allocator;
 
 /// The line that the program prints for a fault on standard error, without its line feed, and the status with which it
-/// ends: 1 for a plan, commands or a network that are refused, 2 for a text or a capture that is refused, 3 for a file, a device or memory, 4 for the command line.
+/// ends: 1 for a plan, commands or a network that are refused, 2 for a text or a capture that is refused and for a network
+/// whose run doesn't settle, 3 for a file, a device or memory, 4 for the command line.
 pub fn fault_line<A: Allocator + Copy>(alloc: A, fault: &Fault) -> Result<(String<A>, u8), NoMemory>
     ensures line { IfOk result (λ said. string_bytes said.0 ≡ line_of fault.now) }
     ensures status { IfOk result (λ said. said.1 ≡ status_of fault.now) }
@@ -34,6 +35,7 @@ fn said<A: Allocator + Copy>(alloc: A, fault: &Fault) -> Result<String<A>, NoMem
         Fault::Check(fault) => said_of_check(alloc, fault),
         Fault::Commands(fault) => said_of_commands(alloc, fault),
         Fault::Network(line) => Ok(String::from_str(alloc, line.as_str())?),
+        Fault::Rounds(line) => Ok(String::from_str(alloc, line.as_str())?),
         Fault::Words => Ok(String::from_str(alloc, "command line refused")?),
         Fault::File(path) => file_fault(alloc, path.as_str()),
     }

@@ -12,7 +12,7 @@ use bridge_wire::RunFault;
 /// A plan, commands or a network that are refused.
 const REFUSED_PLAN: u8 = 1;
 
-/// A text or a capture that is refused.
+/// A text or a capture that is refused, or a run of a network that doesn't settle.
 const REFUSED: u8 = 2;
 
 /// A file, a device or memory.
@@ -32,6 +32,7 @@ pub fn ending(fault: &Fault) -> u8
         Fault::Check(fault) => ending_of_check(fault),
         Fault::Commands(fault) => ending_of_plan(fault),
         Fault::Network(_) => REFUSED_PLAN,
+        Fault::Rounds(_) => REFUSED,
         Fault::Words => WORDS,
         Fault::File(_) => FAILED,
     }

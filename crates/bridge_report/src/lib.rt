@@ -16,5 +16,6 @@ mod word;
 pub use bridge_base::NoMemory;
 pub use fault::ReportFault;
 pub use laws::same_section;
-pub use sections::{has_section, report, section, write_report};
+pub use sections::{has_section, report, section, view_of, write_report};
 pub use totals::summary;
+pub use word::{refusal_word, verdict_word};

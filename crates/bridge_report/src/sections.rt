@@ -17,7 +17,7 @@ use std::io::Write;
 const MOST_AT_ONCE: usize = 262_144;
 
 /// What the run tells of a filter, by its number.
-fn view_of<A: Allocator>(outcome: &Outcome<A>, filter: u32) -> Option<&View<A>>
+pub fn view_of<A: Allocator>(outcome: &Outcome<A>, filter: u32) -> Option<&View<A>>
     ensures { option_map (λ view. view.now) result ≡ lookup (nat_eq filter) outcome.now.filters.items }
 {
     for f in &outcome.filters {

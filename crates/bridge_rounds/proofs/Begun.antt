@@ -1,13 +1,18 @@
 -- The bridges of a network before the first round.
-use Rattle.std.proofs.Common.{◌≡◌, ℕ, zero, suc, ◌+◌, ◌≤◌, ◌<◌, ◌⊎◌, inl, inr, List, [], ◌∷◌, ◌++◌, length, drop, Some, refl, sym, ap, ◌∙◌, subst, arith}
+use Rattle.std.proofs.Common.{◌≡◌, ℕ, zero, suc, ◌+◌, ◌≤◌, ◌<◌, ◌⊎◌, inl, inr, List, [], ◌∷◌, ◌++◌, length, drop, nat_eq, slice_set, Option, Some, None, refl, sym, ap, ◌∙◌, subst, arith}
 use Rattle.std.specs.Prelude.{slice_get}
+use Rattle.std.proofs.lemmas.Bool.{eqb-false, eqb-true}
 use Rattle.std.proofs.lemmas.List.{length-drop}
 use Rattle.std.proofs.lemmas.Option.{slice_get_within}
 use Rattle.bridge_config.specs.Model.{Plan}
+use Rattle.bridge_capture.specs.Written.{written_text}
+use Rattle.bridge_cycle.proofs.Cases.{by_bool}
+use Rattle.bridge_network.specs.Networks.{Sender}
 use Rattle.bridge_network.specs.Wiring.{Parts}
 use Rattle.bridge_rounds.specs.declared.station.Incoming.{Incoming}
-use Rattle.bridge_rounds.specs.Stations.{IsBegun, StationState}
+use Rattle.bridge_rounds.specs.Stations.{IsBegun, NoneCame, NoneCameBefore, StationState}
 use Rattle.bridge_rounds.specs.Rounds.{AreBegun, AreIncoming}
+use Rattle.bridge_rounds.proofs.Feeding.{set_else, set_is}
 
 some_is : {X : Type 0} (a b : X) → Some a ≡ Some b → a ≡ b
 some_is a b h = cc
@@ -67,3 +72,23 @@ begun_all n came xs rest are none left few begun =
     let size = length-drop (length xs) came in
     let many = are.many in
     record { many = omega (arith, none, gone, size, many, few); each = begun }
+
+-- the text of one linked port more is the capture of no frame
+pub none_more : (senders : List (Option Sender)) (texts : List (List ℕ)) (i : ℕ) (t : List ℕ) → t ≡ written_text [] → NoneCameBefore i senders texts → NoneCameBefore (i + 1) senders (slice_set texts i t)
+none_more senders texts i t empty before j s u less has came =
+    by_bool (nat_eq j i)
+    (λ e. sym (set_is texts i t u (ap (slice_get (slice_set texts i t)) (sym (eqb-true j i e)) ∙ came)) ∙ empty)
+    (λ e.
+    let apart = eqb-false j i e in
+    before j s u (omega (arith, less, apart)) has (sym (set_else texts i j t (λ same. apart (sym same))) ∙ came))
+
+-- an open port has none
+pub none_open : (senders : List (Option Sender)) (texts : List (List ℕ)) (i : ℕ) → slice_get senders i ≡ Some None → NoneCameBefore i senders texts → NoneCameBefore (i + 1) senders texts
+none_open senders texts i none before j s u less has came =
+    by_bool (nat_eq j i)
+    (λ e. let wrong : Some None ≡ Some (Some s) = sym none ∙ (ap (slice_get senders) (sym (eqb-true j i e)) ∙ has) in absurd (cc))
+    (λ e. let apart = eqb-false j i e in before j s u (omega (arith, less, apart)) has came)
+
+-- all have
+pub none_all : (senders : List (Option Sender)) (texts : List (List ℕ)) (n : ℕ) → length senders ≤ n → NoneCameBefore n senders texts → NoneCame senders texts
+none_all senders texts n all before i s u has came = before i s u (let within = slice_get_within senders i (Some s) has in omega (arith, within, all)) has came

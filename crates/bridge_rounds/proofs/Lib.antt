@@ -5,3 +5,5 @@ pub mod Fitting
 pub mod Turns
 pub mod Begun
 pub mod Told
+pub mod Feeding
+pub mod Stopped

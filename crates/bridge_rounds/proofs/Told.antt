@@ -1,6 +1,6 @@
 -- What is told of bridges that have run over what was sent to them is told of a run of the network.
 use Rattle.std.proofs.Common.{◌≡◌, ℕ, zero, suc, ◌⊎◌, inl, inr, List, [], ◌∷◌, ◌++◌, length, map, option_map, Option, Some, None, refl, sym, ap, ◌∙◌, subst, arith}
-use Rattle.std.specs.Prelude.{All, IfErr, IfOk, OnErr, Result, Ok, Err, slice_get, nat_eq, is_some, Vec, if◌then◌else◌}
+use Rattle.std.specs.Prelude.{All, IfOk, Result, Ok, Err, slice_get, nat_eq, is_some, Vec, if◌then◌else◌}
 use Rattle.std.specs.Map.{lookup}
 use Rattle.std.proofs.lemmas.List.{length-map}
 use Rattle.std.proofs.lemmas.List.Elements.{All-head, All-tail}
@@ -19,13 +19,10 @@ use Rattle.bridge_core.specs.Simulated.{AreNumbers}
 use Rattle.bridge_core.proofs.Beginning.{one_order}
 use Rattle.bridge_network.specs.Networks.{AreTimed, Hop, IsTimed, IsNetwork, Sender, sender}
 use Rattle.bridge_network.specs.Wiring.{Parts, link_of, network_of, stream_of}
-use Rattle.bridge_network.specs.declared.links.Link.{Link}
-use Rattle.bridge_rounds.specs.declared.settling.RoundsFault.{RoundsFault}
-use Rattle.bridge_rounds.specs.declared.settling.RoundsFault.TheVariants as fault
 use Rattle.bridge_rounds.specs.declared.settling.Settled.{Settled}
 use Rattle.bridge_rounds.specs.declared.station.Incoming.{Incoming}
 use Rattle.bridge_rounds.specs.Stations.{AreFed, Ground, HasRun, IsBegun, IsStation, StationState, ground, open_texts, taps_in, texts_in}
-use Rattle.bridge_rounds.specs.Rounds.{AreBegun, AreIncoming, AreOutcomes, AreSettled, IsolatesStreams, OthersChangeNothing, RunsNetwork, StopsRound, StopsSettling, commands_in}
+use Rattle.bridge_rounds.specs.Rounds.{AreBegun, AreIncoming, AreOutcomes, AreSettled, IsolatesStreams, OthersChangeNothing, RunsNetwork, commands_in}
 use Rattle.bridge_rounds.proofs.Fitting.{AllRan, AreOf, frames_in, left_there, network_run, none_read, open_read, tap_read}
 use Rattle.bridge_rounds.proofs.Over.{there}
 use Rattle.bridge_rounds.proofs.Turns.{ground_kept}
@@ -210,39 +207,7 @@ changes_nothing {A} n came settled network closed ran o outcomes other_came othe
     (alone_in (network_of n) (stream_of stream.items) (commands_in other_came) also.frames r network (also.run r others) (came_timed other_came) (closed.each stream listed))
     first h u v is told_is says_is
 
--- a bridge of the same ground began so too
-begun_kept : {A : Type 0} (p : Plan A) (links : List Link) (b : ℕ) (c : Incoming A) (x y : StationState A) → ground x ≡ ground y → IsBegun p links b c y → IsBegun p links b c x
-begun_kept {A} p links b c x y same is = record {
-  plan = ap (λ (g : Ground A). g.plan) same ∙ is.plan;
-  commands = ap (λ (g : Ground A). g.commands) same ∙ is.commands;
-  senders = ap (λ (g : Ground A). g.senders) same ∙ (is.senders ∙ ap (map (sender (map link_of links) b)) (sym (ap (λ (g : Ground A). g.ports) same)));
-  from_outside = ap (λ (g : Ground A). g.outside) same ∙ (is.from_outside ∙ ap (λ (l : List (Option Sender)). open_texts l (texts_in c.captures.items)) (sym (ap (λ (g : Ground A). g.senders) same)));
-}
-
--- a round that stopped stopped the run of the network
-pub stops_settling : {A : Type 0} (n : Parts A) (came : List (Incoming A)) (begun xs : List (StationState A)) (f : RoundsFault) → AreIncoming n.plans came → AreBegun n came begun → map ground xs ≡ map ground begun → StopsRound xs f → StopsSettling n came f
-stops_settling {A} n came begun xs (fault.Bridge b e) coming began same stops =
-    let x = stops.0 in
-    let is = stops.1 in
-    let within = slice_get_within xs b x is in
-    let one = length-map xs (ground {A = A}) in
-    let other = length-map begun (ground {A = A}) in
-    let both = ap length same in
-    let begun_many = began.many in
-    let came_many = coming.many in
-    let p = there n.plans b (omega (arith, within, one, other, both, begun_many)) in
-    let c = there came b (omega (arith, within, one, other, both, begun_many, came_many)) in
-    let y = there begun b (omega (arith, within, one, other, both)) in
-    (p.0, c.0, x, p.1, c.1, begun_kept p.0 n.links b c.0 x y.0 (ground_kept xs begun b x y.0 same is y.1) (began.each b p.0 c.0 y.0 p.1 c.1 y.1), stops.2)
-stops_settling n came begun xs (fault.NotSettled b q) coming began same stops = absurd stops
-stops_settling n came begun xs fault.NoMemory coming began same stops = tt
-
 -- what always holds
 pub always_if : {E X : Type 0} (Q : X → Type 0) (r : Result X E) → ((x : X) → Q x) → IfOk r Q
 always_if Q (Ok x) h = h x
 always_if Q (Err e) h = tt
-
--- want of memory stops the run of a network
-pub memory_stops : {A X : Type 0} (n : Parts A) (came : List (Incoming A)) (r : Result X RoundsFault) → OnErr r (r ≡ Err fault.NoMemory) → IfErr r (StopsSettling n came)
-memory_stops n came (Ok x) h = tt
-memory_stops n came (Err e) h = let same : e ≡ fault.NoMemory = cc in subst (StopsSettling n came) (sym same) tt

@@ -12,7 +12,7 @@ use Rattle.bridge_core.specs.Lines.{FitsRecord}
 use Rattle.std.proofs.lemmas.List.Elements.{All-cons, All-head, All-nil, All-tail}
 use Rattle.bridge_lanes.specs.declared.fault.RunFault.{RunFault}
 use Rattle.bridge_rounds.specs.Delaying.{delayed}
-use Rattle.bridge_rounds.specs.Stations.{AreFedAt, Ground, HasRun, IsFedAt, IsLaterText, StationState, StopsBridge, ground, open_texts, tap_of, text_by}
+use Rattle.bridge_rounds.specs.Stations.{AreFedAt, Ground, HasRun, IsFedAt, IsLaterText, StationState, StopsBridge, ground, open_texts, tap_of, text_by, texts_of}
 
 some_is : {X : Type 0} (a b : X) → Some a ≡ Some b → a ≡ b
 some_is a b h = cc
@@ -84,9 +84,6 @@ pub later_if : {E X : Type 0} (delay : ℕ) (tap : List ℕ) (r : Result (Vec �
 later_if delay tap (Ok v) h = λ frames t. h frames t.is t.fits
 later_if delay tap (Err e) h = tt
 
-abbrev pub texts_of : {A : Type 0} → StationState A → List (List ℕ)
-texts_of s = s.texts
-
 -- the bridge at a place
 pub at_place : {X : Type 0} (xs : List X) (i : ℕ) (d x : X) → i < length xs → slice_get xs i ≡ Some x → slice_index_or xs i d ≡ x
 at_place [] i d x l is = absurd (cc)
@@ -134,6 +131,10 @@ fed_more {A} xs b place before here i x is lt =
     by_bool (nat_eq i place)
     (λ e. subst (IsFedAt xs x) (sym (eqb-true i place e)) (here x is))
     (λ e. before i x is (let other = eqb-false i place e in omega (arith, lt, other)))
+
+-- what was found is one thing
+pub same_found : {E X : Type 0} (x y : X) (r : Result (Option X) E) → r ≡ Ok (Some x) → r ≡ Ok (Some y) → x ≡ y
+same_found x y r one other = cc
 
 -- one bridge more
 pub all_more : {A : Type 0} (xs : List (StationState A)) (place : ℕ) → AllFedBefore xs place → AreFedAt xs place → AllFedBefore xs (place + 1)

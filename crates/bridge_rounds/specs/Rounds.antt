@@ -1,5 +1,5 @@
 -- Whole runs of networks by rounds.
-use Rattle.std.specs.Prelude.{◌≡◌, ℕ, zero, suc, Some, None, List, [], ◌∷◌, length, map, slice_get, Vec, nat_eq}
+use Rattle.std.specs.Prelude.{◌≡◌, ◌<◌, ℕ, zero, suc, Some, None, List, [], ◌∷◌, length, map, slice_get, Vec, nat_eq}
 use Rattle.std.specs.Map.{lookup}
 use Rattle.bridge_base.specs.Members.{In}
 use Rattle.bridge_capture.specs.Grammar.{Captured, Records, AtEnd}
@@ -20,7 +20,7 @@ use Rattle.bridge_rounds.specs.declared.settling.RoundsFault.{RoundsFault}
 use Rattle.bridge_rounds.specs.declared.settling.RoundsFault.TheVariants as fault
 use Rattle.bridge_rounds.specs.declared.settling.Settled.{Settled}
 use Rattle.bridge_rounds.specs.declared.station.Incoming.{Incoming}
-use Rattle.bridge_rounds.specs.Stations.{IsBegun, IsIncoming, StationState, StopsBridge, taps_in}
+use Rattle.bridge_rounds.specs.Stations.{AreGiven, HaveRun, IsBegun, IsFirstUnfed, IsIncoming, StationState, StopsBridge, taps_in}
 
 -- what comes from outside can come to each bridge of these plans
 pub record AreIncoming {A : Type 0} (plans : List (Plan A)) (came : List (Incoming A)) : Type 0 where
@@ -82,11 +82,20 @@ StopsRound {A} xs (fault.Bridge b e) = (x : StationState A) × (slice_get xs b �
 StopsRound xs (fault.NotSettled b q) = ⊥
 StopsRound xs fault.NoMemory = Unit {0}
 
--- a run of a network stopped: a bridge over the captures of its open ports and what came over its links, something else still came to a linked port, or
--- memory ran out
-abbrev pub StopsSettling : {A : Type 0} → Parts A → List (Incoming A) → RoundsFault → Type 0
-StopsSettling {A} n came (fault.Bridge b e) =
-    (p : Plan A) × (c : Incoming A) × (x : StationState A) × (slice_get n.plans b ≡ Some p) × (slice_get came b ≡ Some c) × IsBegun p n.links b c x
-    × StopsBridge x.plan x.ports x.commands x.texts e
-StopsSettling n came (fault.NotSettled b q) = Unit {0}
-StopsSettling n came fault.NoMemory = Unit {0}
+-- the bridges of a network before a round, by its number from 0: before the first nothing has come over a link; before each other one the text of each linked
+-- port is what was sent to it in the round before, in which each bridge ran over what had come to it
+abbrev pub AreBefore : {A : Type 0} → Parts A → List (Incoming A) → ℕ → List (StationState A) → Type 0
+AreBefore n came zero xs = AreBegun n came xs
+AreBefore {A} n came (suc k) xs = (before : List (StationState A)) × (ran : List (StationState A)) × AreBefore n came k before × HaveRun before ran × AreGiven ran xs
+
+-- after a round, by its number from 0, something else still comes to a port of the bridge at a place, and to no port before it
+abbrev pub IsUnsettled : {A : Type 0} → Parts A → List (Incoming A) → ℕ → ℕ → ℕ → Type 0
+IsUnsettled {A} n came k b q = (before : List (StationState A)) × (ran : List (StationState A)) × AreBefore n came k before × HaveRun before ran × IsFirstUnfed ran b q
+
+-- a run of a network of so many rounds at most stopped: in one of them a bridge did over what came to it in that round; or after the last of them something
+-- else still came to a linked port (the first port of the first bridge is named where there was no round); or memory ran out
+abbrev pub StopsSettling : {A : Type 0} → Parts A → List (Incoming A) → ℕ → RoundsFault → Type 0
+StopsSettling {A} n came rounds (fault.Bridge b e) = (k : ℕ) × (xs : List (StationState A)) × (k < rounds) × AreBefore n came k xs × StopsRound xs (fault.Bridge b e)
+StopsSettling n came zero (fault.NotSettled b q) = (b ≡ 0) × (q ≡ 0)
+StopsSettling n came (suc k) (fault.NotSettled b q) = IsUnsettled n came k b q
+StopsSettling n came rounds fault.NoMemory = Unit {0}

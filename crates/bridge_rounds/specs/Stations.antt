@@ -1,5 +1,5 @@
 -- Bridges of a network between two rounds: what came to each, and what left it.
-use Rattle.std.specs.Prelude.{◌≡◌, ◌<◌, ℕ, All, Option, Some, None, is_some, option_map, nat_eq, List, [], ◌∷◌, length, map, slice_get, Vec, if◌then◌else◌}
+use Rattle.std.specs.Prelude.{◌≡◌, ◌≢◌, ◌<◌, ℕ, All, Option, Some, None, is_some, option_map, nat_eq, List, [], ◌∷◌, length, map, slice_get, Vec, if◌then◌else◌}
 use Rattle.bridge_capture.specs.Grammar.{Captured, Records, AtEnd}
 use Rattle.bridge_capture.specs.Memory.{MemoryDevice}
 use Rattle.bridge_capture.specs.Written.{written_text}
@@ -114,12 +114,24 @@ pub record IsIncoming {A : Type 0} (p : Plan A) (c : Incoming A) : Type 0 where
   pub commands : AreCommands p c.commands.items
   pub captures : length c.captures.items ≡ length p.ports
 
--- a bridge of a network before the first round: its commands, the texts of its open ports, and what sends to the others
+-- the text of each linked port before a place is the capture of no frame
+abbrev pub NoneCameBefore : ℕ → List (Option networks.Sender) → List (List ℕ) → Type 0
+NoneCameBefore n senders texts = (i : ℕ) (s : networks.Sender) (text : List ℕ) → i < n → slice_get senders i ≡ Some (Some s) → slice_get texts i ≡ Some text → text ≡ written_text []
+
+-- the text of each linked port is the capture of no frame
+abbrev pub NoneCame : List (Option networks.Sender) → List (List ℕ) → Type 0
+NoneCame senders texts = (i : ℕ) (s : networks.Sender) (text : List ℕ) → slice_get senders i ≡ Some (Some s) → slice_get texts i ≡ Some text → text ≡ written_text []
+
+-- a bridge of a network before the first round: its commands, its ports by rising number, the texts of the open ones, what sends to the others, and the
+-- capture of no frame for each of these
 pub record IsBegun {A : Type 0} (p : Plan A) (links : List Link) (b : ℕ) (c : Incoming A) (x : StationState A) : Type 0 where
   pub plan : x.plan ≡ p
   pub commands : x.commands ≡ c.commands.items
+  pub numbers : AreNumbers p x.ports
   pub senders : x.senders ≡ map (networks.sender (map link_of links) b) x.ports
+  pub many : length x.texts ≡ length x.ports
   pub from_outside : open_texts x.senders x.texts ≡ open_texts x.senders (texts_in c.captures.items)
+  pub over_links : NoneCame x.senders x.texts
 
 -- WHAT COMES OVER LINKS
 
@@ -148,3 +160,63 @@ AreFed {A} xs = (b : ℕ) → AreFedAt xs b
 -- a bridge has run over its texts
 abbrev pub HasRun : {A : Type 0} → StationState A → Type 0
 HasRun {A} x = (o : Outcome A) × (x.outcome ≡ Some o)
+
+-- ROUNDS
+
+-- what came to a bridge, and what left it
+abbrev pub texts_of : {A : Type 0} → StationState A → List (List ℕ)
+texts_of x = x.texts
+
+abbrev pub taps_of : {A : Type 0} → StationState A → List (List ℕ)
+taps_of x = x.taps
+
+-- each bridge has run over what came to it in a round: over its own texts, by its own plan, ports and commands
+pub record HaveRun {A : Type 0} (before after : List (StationState A)) : Type 0 where
+  pub same : map ground after ≡ map ground before
+  pub texts : map texts_of after ≡ map texts_of before
+  pub kept : All IsStation after
+  pub runs : All HasRun after
+
+-- each linked port has been given what was sent to it, by bridges that have run
+pub record AreGiven {A : Type 0} (ran given : List (StationState A)) : Type 0 where
+  pub same : map ground given ≡ map ground ran
+  pub each : (b i : ℕ) (x : StationState A) → slice_get given b ≡ Some x → i < length x.ports → IsFedAt ran x i
+
+-- so of all bridges before a place, and of the ports of the bridge there before a place of theirs
+pub record AreGivenBefore {A : Type 0} (ran given : List (StationState A)) (b i : ℕ) : Type 0 where
+  pub same : map ground given ≡ map ground ran
+  pub taps : map taps_of given ≡ map taps_of ran
+  pub bridges : (c j : ℕ) (x : StationState A) → c < b → slice_get given c ≡ Some x → j < length x.ports → IsFedAt ran x j
+  pub ports : (j : ℕ) (x : StationState A) → j < i → slice_get given b ≡ Some x → IsFedAt ran x j
+
+-- something else was sent to the port at a place of a bridge than has come to it
+pub record IsUnfedAt {A : Type 0} (xs : List (StationState A)) (x : StationState A) (i : ℕ) : Type 0 where
+  pub sender : networks.Sender
+  pub linked : slice_get x.senders i ≡ Some (Some sender)
+  pub text : List ℕ
+  pub came : slice_get x.texts i ≡ Some text
+  pub sent : List ℕ
+  pub later : IsLaterText sender.delay (tap_of (slice_get xs sender.from.bridge) sender.from.port) sent
+  pub other : text ≢ sent
+
+-- so of the port of this number of the bridge at a place, and of no port before it
+pub record IsFirstOf {A : Type 0} (xs : List (StationState A)) (b q : ℕ) : Type 0 where
+  pub bridge : StationState A
+  pub there : slice_get xs b ≡ Some bridge
+  pub place : ℕ
+  pub port : slice_get bridge.ports place ≡ Some q
+  pub unfed : IsUnfedAt xs bridge place
+  pub before : (i : ℕ) → i < place → IsFedAt xs bridge i
+
+-- and of no bridge before it
+pub record IsFirstUnfed {A : Type 0} (xs : List (StationState A)) (b q : ℕ) : Type 0 where
+  pub port : IsFirstOf xs b q
+  pub before : (c : ℕ) → c < b → AreFedAt xs c
+
+-- one round in which something else still came: each bridge has run over what came to it, the port of this number of the bridge at a place is the first to which
+-- something else was sent then, and each linked port was given what was sent to it
+pub record GoesOn {A : Type 0} (before after : List (StationState A)) (b q : ℕ) : Type 0 where
+  pub between : List (StationState A)
+  pub ran : HaveRun before between
+  pub first : IsFirstUnfed between b q
+  pub given : AreGiven between after

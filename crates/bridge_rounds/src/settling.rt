@@ -1,9 +1,9 @@
 //! Whole runs of networks by rounds.
-ghost use Rattle.std.specs.Prelude.{◌≡◌, ◌≤◌, ◌<◌, All, Some, None, length, map, slice_get, IfOk, IfErr, OnErr, OnOk, Ok, Err};
+ghost use Rattle.std.specs.Prelude.{◌≡◌, ◌+◌, ◌≤◌, ◌<◌, ℕ, All, List, Some, None, length, map, slice_get, IfOk, IfErr, OnErr, OnOk, Ok, Err};
 ghost use Rattle.bridge_network.specs.Checked.{AreClosed};
 ghost use Rattle.bridge_network.specs.Networks.{IsNetwork};
 ghost use Rattle.bridge_network.specs.Wiring.{network_of};
-ghost use Rattle.bridge_rounds.specs.Stations.{AreFed, AreFedAt, HasRun, IsFedAt, IsLaterText, IsStation, StationState, ground, tap_of};
+ghost use Rattle.bridge_rounds.specs.Stations.{AreFed, AreFedAt, AreGiven, AreGivenBefore, GoesOn, HasRun, IsFedAt, IsFirstOf, IsFirstUnfed, IsLaterText, IsStation, IsUnfedAt, StationState, ground, tap_of, texts_of};
 ghost use Rattle.bridge_rounds.specs.Rounds.{AreBegun, AreIncoming, AreSettled, IsolatesStreams, OthersChangeNothing, RunsNetwork, StopsRound, StopsSettling};
 
 use crate::delaying::later_text;
@@ -58,7 +58,9 @@ fn unfed_at<A: Allocator + Copy>(
 ) -> Result<Option<u8>, NoMemory>
     requires bridge { bridge < length stations.now }
     requires place { (x : StationState A) → slice_get stations.now bridge ≡ Some x → place < length x.ports }
-    ensures { result ≡ Ok None → (x : StationState A) → slice_get stations.now bridge ≡ Some x → IsFedAt stations.now x place }
+    ensures fed { result ≡ Ok None → (x : StationState A) → slice_get stations.now bridge ≡ Some x → IsFedAt stations.now x place }
+    ensures port { (q : ℕ) (x : StationState A) → result ≡ Ok (Some q) → slice_get stations.now bridge ≡ Some x → slice_get x.ports place ≡ Some q }
+    ensures unfed { (q : ℕ) (x : StationState A) → result ≡ Ok (Some q) → slice_get stations.now bridge ≡ Some x → IsUnfedAt stations.now x place }
 {
     let port = stations[bridge].port(place);
     let Some(sender) = stations[bridge].sender(place) else {
@@ -78,7 +80,8 @@ fn unfed_in<A: Allocator + Copy>(
     bridge: usize,
 ) -> Result<Option<u8>, NoMemory>
     requires { bridge < length stations.now }
-    ensures { result ≡ Ok None → AreFedAt stations.now bridge }
+    ensures fed { result ≡ Ok None → AreFedAt stations.now bridge }
+    ensures first { (q : ℕ) → result ≡ Ok (Some q) → IsFirstOf stations.now bridge q }
 {
     for place in 0..stations[bridge].size() {
         if let Some(port) = unfed_at(alloc, stations, bridge, place)? {
@@ -93,7 +96,8 @@ fn unfed<A: Allocator + Copy>(
     alloc: A,
     stations: &[Station<'_, A>],
 ) -> Result<Option<(usize, u8)>, NoMemory>
-    ensures { result ≡ Ok None → AreFed stations.now }
+    ensures fed { result ≡ Ok None → AreFed stations.now }
+    ensures first { (b q : ℕ) → result ≡ Ok (Some (b, q)) → IsFirstUnfed stations.now b q }
 {
     for bridge in 0..stations.len() {
         if let Some(port) = unfed_in(alloc, stations, bridge)? {
@@ -112,7 +116,8 @@ fn feed<A: Allocator + Copy>(
 ) -> Result<(), NoMemory>
     requires bridge { bridge < length stations.old }
     requires place { (x : StationState A) → slice_get stations.old bridge ≡ Some x → place < length x.ports }
-    ensures { OnOk result (map ground stations.new ≡ map ground stations.old) }
+    ensures ground { OnOk result (map ground stations.new ≡ map ground stations.old) }
+    ensures gives { OnOk result ((ran : List (StationState A)) → AreGivenBefore ran stations.old bridge place → AreGivenBefore ran stations.new bridge (place + 1)) }
 {
     let Some(sender) = stations[bridge].sender(place) else {
         return Ok(());
@@ -129,7 +134,8 @@ fn feed_bridge<A: Allocator + Copy>(
     bridge: usize,
 ) -> Result<(), NoMemory>
     requires { bridge < length stations.old }
-    ensures { OnOk result (map ground stations.new ≡ map ground stations.old) }
+    ensures ground { OnOk result (map ground stations.new ≡ map ground stations.old) }
+    ensures gives { OnOk result ((ran : List (StationState A)) → AreGivenBefore ran stations.old bridge 0 → AreGivenBefore ran stations.new (bridge + 1) 0) }
 {
     for place in 0..stations[bridge].size() {
         feed(alloc, stations, bridge, place)?;
@@ -139,7 +145,7 @@ fn feed_bridge<A: Allocator + Copy>(
 
 /// Gives each port of each bridge what was sent to it.
 fn feed_all<A: Allocator + Copy>(alloc: A, stations: &mut [Station<'_, A>]) -> Result<(), NoMemory>
-    ensures { OnOk result (map ground stations.new ≡ map ground stations.old) }
+    ensures { OnOk result (AreGiven stations.old stations.new) }
 {
     for bridge in 0..stations.len() {
         feed_bridge(alloc, stations, bridge)?;
@@ -153,6 +159,7 @@ fn run_all<A: Allocator + Copy>(
     stations: &mut [Station<'_, A>],
 ) -> Result<(), RoundsFault>
     ensures ground { OnOk result (map ground stations.new ≡ map ground stations.old) }
+    ensures texts { OnOk result (map texts_of stations.new ≡ map texts_of stations.old) }
     ensures runs { OnOk result (All HasRun stations.new) }
     ensures stops { IfErr result (StopsRound stations.old) }
 {
@@ -226,14 +233,13 @@ fn round<A: Allocator + Copy>(
     ensures runs { result ≡ Ok None → All HasRun stations.new }
     ensures fed { result ≡ Ok None → AreFed stations.new }
     ensures kept { result ≡ Ok None → All IsStation stations.new }
+    ensures goes_on { (b q : ℕ) → result ≡ Ok (Some (b, q)) → GoesOn stations.old stations.new b q }
     ensures stops { IfErr result (StopsRound stations.old) }
 {
     run_all(alloc, stations)?;
+    keep_all(stations);
     match unfed(alloc, stations) {
-        Ok(None) => {
-            keep_all(stations);
-            Ok(None)
-        }
+        Ok(None) => Ok(None),
         Ok(Some(port)) => match feed_all(alloc, stations) {
             Ok(()) => Ok(Some(port)),
             Err(_) => Err(RoundsFault::NoMemory),
@@ -266,14 +272,15 @@ pub fn settle<A: Allocator + Copy>(
     ensures ok { IfOk result (λ settled. RunsNetwork network.now incoming.items settled.items) }
     ensures alone { IfOk result (λ settled. IsolatesStreams network.now incoming.items settled.items) }
     ensures others_change_nothing { IfOk result (λ settled. OthersChangeNothing network.now incoming.items settled.items) }
-    ensures stops { IfErr result (StopsSettling network.now incoming.items) }
+    ensures stops { IfErr result (StopsSettling network.now incoming.items rounds) }
 {
     keep_network(network);
     let Ok(mut stations) = stations_of(alloc, network, incoming) else {
         return Err(RoundsFault::NoMemory);
     };
     let mut last = (0usize, 0u8);
-    for _ in 0..rounds {
+    for turn in 0..rounds {
+        let _turn = turn;
         match round(alloc, &mut stations) {
             Ok(None) => return told(alloc, stations),
             Ok(Some(port)) => last = port,

@@ -1,10 +1,10 @@
 //! A bridge of a network: what came to it, and what left it.
-ghost use Rattle.std.specs.Prelude.{◌≡◌, ◌<◌, All, [], Some, is_some, length, map, option_map, slice_get, slice_set, IfOk, IfErr, OnOk, true};
+ghost use Rattle.std.specs.Prelude.{◌≡◌, ◌≢◌, ◌+◌, ◌<◌, ℕ, All, List, [], Some, is_some, length, map, option_map, slice_get, slice_set, IfOk, IfErr, OnOk, true, false};
 ghost use Rattle.bridge_capture.specs.Memory.{is_sure};
 ghost use Rattle.bridge_config.specs.Commands.{AreCommands};
 ghost use Rattle.bridge_core.specs.Simulated.{AreNumbers};
 ghost use Rattle.bridge_network.specs.Networks as networks;
-ghost use Rattle.bridge_rounds.specs.Stations.{HasRun, IsBegun, IsIncoming, IsStation, RunsBridge, StopsBridge, ground, of_memory, open_texts, sender_value, senders_in, taps_in, text_by, texts_in};
+ghost use Rattle.bridge_rounds.specs.Stations.{HasRun, IsBegun, IsIncoming, IsStation, NoneCame, NoneCameBefore, RunsBridge, StopsBridge, ground, of_memory, open_texts, sender_value, senders_in, taps_in, text_by, texts_in};
 ghost use Rattle.bridge_network.specs.Wiring.{end_of, link_of};
 
 use bridge_base::NoMemory;
@@ -125,13 +125,14 @@ pub struct Incoming<A: Allocator> {
 
 /// What sends to a port: the port at the other end of its link, and for how long a frame is under way, in ns.
 #[derive(Clone, Copy, Debug, PartialEq, Eq)]
-pub(crate) struct Sender {
-    pub(crate) from: End,
-    pub(crate) delay: u64,
+pub struct Sender {
+    pub from: End,
+    pub delay: u64,
 }
 
-/// What sends to a port of a bridge: the other end of the first link that has this port.
-fn sender_of(links: &[Link], bridge: usize, port: u8) -> Option<Sender>
+/// What sends to a port of a bridge: the other end of the first link that has this port. A bridge is named by its place,
+/// from 0.
+pub fn sender_of(links: &[Link], bridge: usize, port: u8) -> Option<Sender>
     ensures { option_map sender_value result ≡ networks.sender (map link_of links.now) bridge port }
 {
     for link in links {
@@ -197,6 +198,7 @@ fn without_at<A: Allocator + Copy>(
     requires many { length texts.items ≡ length senders.now }
     ensures many { IfOk result (λ new. length new.items ≡ length senders.now) }
     ensures from_outside { IfOk result (λ new. open_texts (senders_in senders.now) (texts_in new.items) ≡ open_texts (senders_in senders.now) (texts_in texts.items)) }
+    ensures empty { IfOk result (λ new. NoneCameBefore place (senders_in senders.now) (texts_in texts.items) → NoneCameBefore (place + 1) (senders_in senders.now) (texts_in new.items)) }
 {
     let Some(_) = senders[place] else {
         return Ok(texts);
@@ -215,6 +217,7 @@ fn without_linked<A: Allocator + Copy>(
     requires { length texts.items ≡ length senders.now }
     ensures many { IfOk result (λ new. length new.items ≡ length senders.now) }
     ensures from_outside { IfOk result (λ new. open_texts (senders_in senders.now) (texts_in new.items) ≡ open_texts (senders_in senders.now) (texts_in texts.items)) }
+    ensures empty { IfOk result (λ new. NoneCame (senders_in senders.now) (texts_in new.items)) }
 {
     let mut texts = texts;
     for place in 0..senders.len() {
@@ -338,7 +341,8 @@ impl<'a, A: Allocator + Copy> Station<'a, A> {
     /// Whether a text is what comes to the port at a place.
     pub(crate) fn has(&self, place: usize, text: &[u8]) -> bool
         requires { place < length self.now.ports }
-        ensures { result ≡ true → slice_get self.now.texts place ≡ Some text.now }
+        ensures same { result ≡ true → slice_get self.now.texts place ≡ Some text.now }
+        ensures other { result ≡ false → (here : List ℕ) × (slice_get self.now.texts place ≡ Some here) × (here ≢ text.now) }
     {
         self.text(place) == text
     }
@@ -347,7 +351,9 @@ impl<'a, A: Allocator + Copy> Station<'a, A> {
     pub(crate) fn take(&mut self, place: usize, text: Vec<u8, A>)
         requires place { place < length self.old.ports }
         requires linked { (s : networks.Sender) × (slice_get self.old.senders place ≡ Some (Some s)) }
-        ensures { ground self.new ≡ ground self.old }
+        ensures ground { ground self.new ≡ ground self.old }
+        ensures texts { self.new.texts ≡ slice_set self.old.texts place text.items }
+        ensures taps { self.new.taps ≡ self.old.taps }
     {
         if !self.has(place, &text) {
             self.give(place, text);

@@ -234,31 +234,31 @@ Statuses:
 
 const NET: Description = Description {
     name: "net",
-    about: "Say whether a network of bridges protects its streams",
+    about: "Say whether a network of bridges protects its streams, or run it",
     words: &[
         Word {
             id: "first",
-            value: "check",
+            value: "check|NET",
             form: Form::Place,
-            help: "the word check",
+            help: "the word check, or to run a network its file (TOML, at most 1,048,576 octets)",
         },
         Word {
             id: "second",
-            value: "NET",
+            value: "NET|IN",
             form: Form::Place,
-            help: "file of the network (TOML, at most 1,048,576 octets), its plans beside it",
+            help: "behind check the file of the network, else the folder of the captures that are read",
         },
         Word {
             id: "output",
             value: "OUT",
             form: Form::Extra,
-            help: "not used yet: no network is run, and three words are refused",
+            help: "folder of the captures, reports and tables that are written: the network is run",
         },
         Word {
             id: "picture",
             value: "FILE",
             form: Form::Choice,
-            help: "not used yet: refused",
+            help: "picture of the run that is made too (SVG)",
         },
         Word {
             id: "strict",
@@ -269,13 +269,19 @@ const NET: Description = Description {
         EXPLAIN,
     ],
     after: "\
-Example:
+Examples:
   tsnbridge net check examples/line/network.toml
+  tsnbridge net examples/network/network.toml examples/network out
+
+Plans lie beside the network's file. The folder that is read has one for each bridge, with the
+captures of its open ports (1.pcap ..) and commands.toml where commands come to it.
 
 Statuses:
-  0  the network is accepted; one line counts what it has, and each stream has its bound
-  1  the network or a plan of it is refused; with --strict also where something is told
-  3  a file, a read or memory failed
+  0  the network is accepted; one line counts what it has, and each stream has its bound; a run
+     has one line
+  1  the network, a plan or commands are refused; with --strict also where something is told
+  2  a capture is refused, or frames go round and the run doesn't settle
+  3  a file, a read, a write or memory failed
   4  the words are refused",
 };
 
@@ -293,7 +299,7 @@ Example:
 Statuses:
   0  the job is done
   1  a plan, its commands or a network are refused
-  2  a text or a capture is refused
+  2  a text or a capture is refused, or a network doesn't settle
   3  a file, a read, a write or memory failed
   4  the words are refused",
 };

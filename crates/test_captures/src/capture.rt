@@ -601,16 +601,17 @@ fn a_writer_that_failed_is_not_asked_again(rt: HostRuntime) -> Result<(), Fail> 
     Ok(())
 }
 
-/// A writer that takes all, and counts the calls that give it 131,072 octets and the others.
+/// A writer that takes all, and counts the calls that give it a whole block and the others.
 #[derive(Drop)]
 struct Blocks<'a> {
+    block: usize,
     whole: &'a Cell<u32>,
     other: &'a Cell<u32>,
 }
 
 impl Write for Blocks<'_> {
     fn write(&mut self, octets: &[u8]) -> io::Result<usize> {
-        let counted = if octets.len() == 131_072 {
+        let counted = if octets.len() == self.block {
             self.whole
         } else {
             self.other
@@ -640,17 +641,34 @@ fn each_write_but_the_last_is_a_whole_block(rt: HostRuntime) -> Result<(), Fail>
     let whole = Cell::new(0);
     let other = Cell::new(0);
     let octets = Vec::from_elem(rt.alloc(), 7, 1500)?;
-    let mut sink = WriteBehind::new(
-        rt.alloc(),
-        Blocks {
-            whole: &whole,
-            other: &other,
-        },
-    )?;
+    let blocks = Blocks {
+        block: 131_072,
+        whole: &whole,
+        other: &other,
+    };
+    let mut sink = WriteBehind::new(rt.alloc(), blocks)?;
     writes_records(&mut sink, &octets)?;
     drop(sink);
     // 24 octets of header and 1000 records of 1516 each.
     assert!(rt; (whole.get(), other.get()) == (11, 1));
+    Ok(())
+}
+
+#[test]
+fn blocks_are_as_long_as_was_asked(rt: HostRuntime) -> Result<(), Fail> {
+    let whole = Cell::new(0);
+    let other = Cell::new(0);
+    let octets = Vec::from_elem(rt.alloc(), 7, 1500)?;
+    let blocks = Blocks {
+        block: 4096,
+        whole: &whole,
+        other: &other,
+    };
+    let mut sink = WriteBehind::with_block(rt.alloc(), blocks, 4096)?;
+    writes_records(&mut sink, &octets)?;
+    drop(sink);
+    // The block that is filled last is in the last record, so the last write has it and the 504 octets behind it.
+    assert!(rt; (whole.get(), other.get()) == (369, 1));
     Ok(())
 }
 

@@ -15,7 +15,7 @@ Commands:
   run      Send the captures of all ports through the bridge of a plan
   picture  Draw the windows and the stream gates of a plan, or the streams of a network
   bounds   Say how long the frames of protected streams may take
-  net      Say whether a network of bridges protects its streams
+  net      Say whether a network of bridges protects its streams, or run it
   help     Print this message or the help of the given subcommand(s)
 
 Options:
@@ -31,7 +31,7 @@ Example:
 Statuses:
   0  the job is done
   1  a plan, its commands or a network are refused
-  2  a text or a capture is refused
+  2  a text or a capture is refused, or a network doesn't settle
   3  a file, a read, a write or memory failed
   4  the words are refused
 ";
@@ -169,29 +169,35 @@ Statuses:
 ";
 
 const NET: &str = "\
-Say whether a network of bridges protects its streams
+Say whether a network of bridges protects its streams, or run it
 
-Usage: tsnbridge net [OPTIONS] <check> <NET> [OUT]
+Usage: tsnbridge net [OPTIONS] <check|NET> <NET|IN> [OUT]
 
 Arguments:
-  <check>  the word check
-  <NET>    file of the network (TOML, at most 1,048,576 octets), its plans beside it
-  [OUT]    not used yet: no network is run, and three words are refused
+  <check|NET>  the word check, or to run a network its file (TOML, at most 1,048,576 octets)
+  <NET|IN>     behind check the file of the network, else the folder of the captures that are read
+  [OUT]        folder of the captures, reports and tables that are written: the network is run
 
 Options:
-      --picture <FILE>  not used yet: refused
+      --picture <FILE>  picture of the run that is made too (SVG)
       --strict          end with status 1 where something is told of a network that is accepted
       --explain         say more on standard error: of a fault, or of a plan that is accepted
   -h, --help            Print help
   -V, --version         Print version
 
-Example:
+Examples:
   tsnbridge net check examples/line/network.toml
+  tsnbridge net examples/network/network.toml examples/network out
+
+Plans lie beside the network's file. The folder that is read has one for each bridge, with the
+captures of its open ports (1.pcap ..) and commands.toml where commands come to it.
 
 Statuses:
-  0  the network is accepted; one line counts what it has, and each stream has its bound
-  1  the network or a plan of it is refused; with --strict also where something is told
-  3  a file, a read or memory failed
+  0  the network is accepted; one line counts what it has, and each stream has its bound; a run
+     has one line
+  1  the network, a plan or commands are refused; with --strict also where something is told
+  2  a capture is refused, or frames go round and the run doesn't settle
+  3  a file, a read, a write or memory failed
   4  the words are refused
 ";
 

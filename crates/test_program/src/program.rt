@@ -395,7 +395,9 @@ fn file_says(alloc: Global) -> Result<(), Fail> {
 
 fn network_says(alloc: Global) -> Result<(), Fail> {
     let fault = Fault::Network(String::from_str(alloc, "network refused: LinkTwice link 2 a.1")?);
-    says(alloc, &fault, "network refused: LinkTwice link 2 a.1", 1)
+    says(alloc, &fault, "network refused: LinkTwice link 2 a.1", 1)?;
+    let stopped = Fault::Rounds(String::from_str(alloc, "network not settled a.3")?);
+    says(alloc, &stopped, "network not settled a.3", 2)
 }
 
 const NEVER_FITS: CheckFault = CheckFault::MaxSduNeverFits {

@@ -4,6 +4,7 @@ ghost use Rattle.bridge_words.specs.CommandLine.{HasRoom};
 
 use bridge_files::{Said, say, wire_files};
 use bridge_folder::{drawn_job, explain, explain_accepted, picture_job, write_picture};
+use bridge_net_folder::{RoundsJob, explain_stopped, rounds_job};
 use bridge_planning::{
     TrafficReport, bounds_job, explain_network, is_network, network_job, network_picture,
     traffic_job,
@@ -38,13 +39,34 @@ fn explain_if_asked(rt: &(impl AllocGlobal + Eprint + Env + Files), fault: &Faul
 
 /// Tells more of a fault of the job of these words.
 fn explain_fault(rt: &(impl AllocGlobal + Eprint + Files), words: &[String], fault: &Fault) {
-    match (fault, job_of(rt.alloc(), words)) {
-        (Fault::Network(_), Ok(Job::Network { network })) => {
-            if let Some(said) = explain_network(rt, network.as_str()) {
-                let _ = eprint!(rt; "{said}");
+    match fault {
+        Fault::Rounds(line) => explain_stop(rt, line.as_str()),
+        Fault::Network(_) => {
+            if let Ok(job) = job_of(rt.alloc(), words) {
+                explain_refusal(rt, &job);
+                drop(job);
             }
         }
         _ => explain(rt, words, fault),
+    }
+}
+
+/// Tells more of a run of a network that stopped, by its line.
+fn explain_stop(rt: &(impl AllocGlobal + Eprint), line: &str) {
+    if let Some(said) = explain_stopped(rt.alloc(), line) {
+        let _ = eprint!(rt; "{said}");
+    }
+}
+
+/// Tells more of the network of a job that is refused.
+fn explain_refusal(rt: &(impl AllocGlobal + Eprint + Files), job: &Job) {
+    let path = match job {
+        Job::Network { network } => network.as_str(),
+        Job::RunNetwork { network, .. } => network.as_str(),
+        _ => return,
+    };
+    if let Some(said) = explain_network(rt, path) {
+        let _ = eprint!(rt; "{said}");
     }
 }
 
@@ -78,22 +100,24 @@ fn run(rt: &(impl Input + AllocGlobal + Print + Eprint + Env + Files)) -> Result
     }
     let job = job_of(rt.alloc(), &words)?;
     let sketch = sketch_of(rt.alloc(), &words)?;
-    let answer = answer_of(rt, job, sketch)?;
+    let is_strict = wants_strictness(&words);
+    let answer = answer_of(rt, job, sketch, is_strict)?;
     if let Some(said) = &answer.said {
         say(rt, said)?;
     }
     if wants_explanation(&words) {
         explain_accepted(rt, &words);
     }
-    Ok(answer.is_kept && !(answer.is_told && wants_strictness(&words)))
+    Ok(answer.is_kept && !(answer.is_told && is_strict))
 }
 
 /// What a job says, over standard input and output or the files that it names, where it says something; a run with the
-/// picture that is asked for beside it.
+/// picture that is asked for beside it. Whether strictness is wanted, a run of a network is asked.
 fn answer_of(
     rt: &(impl Input + AllocGlobal + Print + Files),
     job: Job,
     sketch: Option<Sketch>,
+    is_strict: bool,
 ) -> Result<Answer, Fault>
     requires { HasRoom job }
 {
@@ -140,11 +164,25 @@ fn answer_of(
         },
         Job::Network { network } => return check_network(rt, network),
         Job::RunNetwork {
-            network: _network,
-            input: _input,
-            output: _output,
-            picture: _picture,
-        } => return Err(Fault::Words),
+            network,
+            input,
+            output,
+            picture,
+        } => {
+            let job = RoundsJob {
+                network,
+                input,
+                output,
+                picture,
+                is_strict,
+            };
+            let said = rounds_job(rt, job)?;
+            return Ok(Answer {
+                said: Some(Said::Printed(said.line)),
+                is_told: said.is_told,
+                is_kept: true,
+            });
+        }
     };
     Ok(printed(line))
 }

@@ -1,6 +1,5 @@
-use Rattle.std.proofs.Common.{◌≡◌, map}
-use Rattle.bridge_rounds.specs.Stations.{ground}
+use Rattle.bridge_rounds.specs.Stations.{AreGivenBefore}
 use Rattle.bridge_rounds.proofs.settling.feed_all.Given as goal
 
 abbrev pub invariant-loop-bridge : goal.invariant-loop-bridge
-invariant-loop-bridge g l = map ground l.stations ≡ map ground l.initial.stations
+invariant-loop-bridge g l = AreGivenBefore l.initial.stations l.stations l.bridge 0

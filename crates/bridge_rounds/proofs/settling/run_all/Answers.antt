@@ -1,8 +1,8 @@
 use Rattle.std.proofs.Common.{take_all, slice_index_or, subst, ◌∙◌, arith}
 use Rattle.std.specs.Prelude.{All}
 use Rattle.std.proofs.lemmas.Option.{slice_get-get_or}
-use Rattle.bridge_rounds.specs.Stations.{HasRun, ground}
-use Rattle.bridge_rounds.proofs.Turns.{map_set, ran_more, stops_kept, texts_of}
+use Rattle.bridge_rounds.specs.Stations.{HasRun, ground, texts_of}
+use Rattle.bridge_rounds.proofs.Turns.{map_set, ran_more, stops_kept}
 use Rattle.bridge_rounds.proofs.settling.run_all.Goals as goal
 
 pub returns-in-Err : goal.returns-in-Err
@@ -14,6 +14,7 @@ returns-in-Err g c =
     let here = slice_get-get_or c.loop-bridge.stations c.loop-bridge.bridge c.index-stations-bridge.result (omega (arith, within, same)) in
     record {
       ground = tt;
+      texts = tt;
       runs = tt;
       stops = (y, there, stops_kept c.loop-bridge.stations c.args.stations.now c.loop-bridge.bridge _ y c.in-Err.fault c.loop-bridge.invariant.ground c.loop-bridge.invariant.texts here there c.in-Err.ensures.stops);
     }

@@ -1,7 +1,6 @@
 use Rattle.std.proofs.Common.{◌≡◌, map, take}
 use Rattle.std.specs.Prelude.{All}
-use Rattle.bridge_rounds.specs.Stations.{HasRun, ground}
-use Rattle.bridge_rounds.proofs.Turns.{texts_of}
+use Rattle.bridge_rounds.specs.Stations.{HasRun, ground, texts_of}
 use Rattle.bridge_rounds.proofs.settling.run_all.Given as goal
 
 abbrev pub invariant-loop-bridge : goal.invariant-loop-bridge

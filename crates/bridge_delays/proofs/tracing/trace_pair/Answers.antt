@@ -1,0 +1,39 @@
+use Rattle.std.proofs.Common.{◌≡◌, List, Option, Some, sym, ap, subst, ◌∙◌, arith}
+use Rattle.std.specs.Prelude.{Vec, slice_get}
+use Rattle.std.proofs.lemmas.Option.{get_or_from_slice_get, slice_get-get_or}
+use Rattle.bridge_run.specs.declared.outcome.Departure.{Departure}
+use Rattle.bridge_run.specs.declared.outcome.Origin.{Origin}
+use Rattle.bridge_rounds.specs.Stations.{sender_value}
+use Rattle.bridge_delays.specs.declared.hops.HopRun.{HopRun}
+use Rattle.bridge_delays.specs.declared.tracing.Root.{Root}
+use Rattle.bridge_delays.specs.Tracing.{AreTraced}
+use Rattle.bridge_delays.proofs.Traced.{one_traced}
+use Rattle.bridge_delays.proofs.tracing.trace_pair.Goals as goal
+
+pub returns-clause-traced : goal.returns-clause-traced
+returns-clause-traced g c = λ links sends are.
+    let hops = c.args.hops.now in
+    let all = c.args.all.now.items in
+    let place = c.args.place in
+    let other = c.args.other in
+    let h = c.index-hops-place.result in
+    let o = c.index-hops-other-2.result in
+    let mine = c.index-2.result.now in
+    let others = c.index.result.now in
+    let s = sender_value c.args.sender in
+    let many = c.requires.many in
+    let place_in = c.requires.place in
+    let other_in = c.requires.other in
+    let is_h : slice_get hops place ≡ Some h = slice_get-get_or hops place h place_in ∙ ap (λ (x : HopRun g.row.A.Denot). Some x) (sym c.index-hops-place.is) in
+    let is_o : slice_get hops other ≡ Some o = slice_get-get_or hops other o other_in ∙ ap (λ (x : HopRun g.row.A.Denot). Some x) (sym c.index-hops-other-2.is) in
+    let is_mine : slice_get all place ≡ Some mine = slice_get-get_or all place mine (omega (arith, many, place_in)) ∙ ap (λ (x : Vec (Option Root) g.row.A.Denot). Some x) (sym c.index-2.ensures) in
+    let is_others : slice_get all other ≡ Some others = slice_get-get_or all other others (omega (arith, many, other_in)) ∙ ap (λ (x : Vec (Option Root) g.row.A.Denot). Some x) (sym c.index.ensures) in
+    let sent = c.deref.ensures.value ∙ ap (λ (x : HopRun g.row.A.Denot). x.view.now.departures.items) (sym c.index-hops-other-2.is) in
+    let came = c.deref-3.ensures.value ∙ ap (λ (x : HopRun g.row.A.Denot). x.view.now.origins.items) (sym c.index-hops-place.is) in
+    let from = subst (λ (x : HopRun g.row.A.Denot). x.bridge ≡ c.args.sender.from.bridge) (get_or_from_slice_get hops other o c.index-hops-other.result is_o) c.if-hops-other.false in
+    let traced : AreTraced s o.view.now.departures.items others.items c.args.port h.view.now.origins.items mine.items c.in_ok-made.made.items =
+    subst (λ (l : List (Option Root)). AreTraced s o.view.now.departures.items others.items c.args.port h.view.now.origins.items l c.in_ok-made.made.items) c.deref-4.ensures.value
+    (subst (λ (l : List Origin). AreTraced s o.view.now.departures.items others.items c.args.port l c.deref-4.result.now c.in_ok-made.made.items) came
+    (subst (λ (l : List (Option Root)). AreTraced s o.view.now.departures.items l c.args.port c.deref-3.result.now c.deref-4.result.now c.in_ok-made.made.items) c.deref-2.ensures.value
+    (subst (λ (l : List Departure). AreTraced s l c.deref-2.result.now c.args.port c.deref-3.result.now c.deref-4.result.now c.in_ok-made.made.items) sent c.in_ok-made.ensures))) in
+    one_traced links hops all h o mine others c.in_ok-made.made place other c.args.port s is_h is_o is_mine is_others from sends traced are

@@ -1,0 +1,6 @@
+pub mod Hops
+pub mod Tracing
+pub mod Tallies
+pub mod Figures
+pub mod Frames
+pub mod Streams

@@ -1,0 +1,42 @@
+-- The lines of the table of streams, each with its line feed.
+use Rattle.std.specs.Prelude.{ℕ, ◌+◌, ◌-◌, Option, Some, None, List, ◌++◌, count_by, length, sum_by, codes, decimal}
+use Rattle.bridge_delays.specs.declared.figures.Figures.{Figures}
+use Rattle.bridge_delays.specs.declared.tallies.HopCounts.{HopCounts}
+use Rattle.bridge_delays.specs.declared.tallies.Tally.{Tally}
+use Rattle.bridge_delays.specs.Tallies.{astray, is_delivered}
+
+-- figures, or empty fields
+abbrev pub figure_words : Option Figures → List ℕ
+figure_words None = codes ",,,,"
+figure_words (Some f) = decimal f.least ++ (codes "," ++ (decimal f.mean ++ (codes "," ++ (decimal f.greatest ++ (codes "," ++ (decimal f.jitter ++ codes ","))))))
+
+-- the copies that a hop lost
+abbrev pub lost_at : HopCounts → ℕ
+lost_at c = c.blocked + c.oversize + c.gate_closed + (c.shut_rx + c.shut_octets) + (c.octets_exceeded + c.red) + (c.yellow_dropped + c.full + c.never)
+
+-- how many it lost by each reason
+unfoldable pub reason_words : HopCounts → List ℕ
+reason_words c = decimal c.blocked ++ (codes "," ++ (decimal c.oversize ++ (codes "," ++ (decimal c.gate_closed ++ (codes "," ++ (decimal c.shut_rx
+    ++ (codes "," ++ (decimal c.shut_octets ++ (codes "," ++ (decimal c.octets_exceeded ++ (codes "," ++ (decimal c.red ++ (codes ","
+    ++ (decimal c.yellow_dropped ++ (codes "," ++ (decimal c.full ++ (codes "," ++ (decimal c.never ++ codes ","))))))))))))))))))
+
+-- the beginning of the line of a hop
+unfoldable pub hop_start : List ℕ → List ℕ → HopCounts → List ℕ
+hop_start stream hop c = stream ++ (codes "," ++ (hop ++ (codes "," ++ (decimal c.frames ++ (codes "," ++ (decimal c.delivered ++ (codes "," ++ (decimal (lost_at c) ++ codes ","))))))))
+
+-- the line of a hop
+unfoldable pub hop_line : List ℕ → List ℕ → HopCounts → Option Figures → List ℕ
+hop_line stream hop c figures = hop_start stream hop c ++ (reason_words c ++ (codes "," ++ (figure_words figures ++ codes "\n")))
+
+-- how many frames were delivered
+abbrev pub delivered_of : List Tally → ℕ
+delivered_of tallies = count_by is_delivered tallies
+
+-- the beginning of the line of a stream
+unfoldable pub stream_start : List ℕ → List Tally → List ℕ
+stream_start stream tallies = stream ++ (codes ",all," ++ (decimal (length tallies) ++ (codes "," ++ (decimal (delivered_of tallies) ++ (codes ","
+    ++ (decimal (length tallies - delivered_of tallies) ++ (codes ",,,,,,,,,,," ++ (decimal (sum_by astray tallies) ++ codes ","))))))))
+
+-- the line of a stream as a whole
+unfoldable pub stream_line : List ℕ → List Tally → Option Figures → ℕ → List ℕ
+stream_line stream tallies figures bound = stream_start stream tallies ++ (figure_words figures ++ (decimal bound ++ codes "\n"))

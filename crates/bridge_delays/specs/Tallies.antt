@@ -1,0 +1,110 @@
+-- How often copies of frames were delivered and lost.
+use Rattle.std.specs.Prelude.{◌≡◌, ℕ, ◌-◌, Bool, true, false, not, ◌&&◌, nat_eq, nat_le, nat_lt, Option, Some, None, List, [], ◌∷◌, ◌++◌, length, count_by, flat_map}
+use Rattle.bridge_filter.specs.declared.Verdict.{Verdict}
+use Rattle.bridge_filter.specs.declared.Verdict.TheVariants as verdict
+use Rattle.bridge_port.specs.declared.item.Refusal.{Refusal}
+use Rattle.bridge_port.specs.declared.item.Refusal.TheVariants as refusal
+use Rattle.bridge_run.specs.declared.outcome.Departure.{Departure}
+use Rattle.bridge_run.specs.declared.outcome.Dropped.{Dropped}
+use Rattle.bridge_run.specs.declared.outcome.View.{View}
+use Rattle.bridge_delays.specs.declared.tallies.Tally.{Tally}
+use Rattle.bridge_delays.specs.declared.tallies.HopCounts.{HopCounts}
+use Rattle.bridge_delays.specs.declared.tracing.Root.{Root}
+use Rattle.bridge_delays.specs.Hops.{is_on}
+use Rattle.bridge_delays.specs.Tracing.{root_at}
+
+-- whether a frame passes
+abbrev pub passes : Verdict → Bool
+passes (verdict.Pass ipv eligible) = true
+passes v = false
+
+-- whether a frame of the first hop was delivered: some copy was, none was refused or dropped, and none went to a bridge with a hop without being
+-- a frame of one
+abbrev pub is_delivered : Tally → Bool
+is_delivered t = nat_lt 0 t.delivered && (nat_eq t.refused 0 && nat_le t.sent_on t.taken)
+
+-- how many copies went to a bridge with a hop without being a frame of one
+abbrev pub astray : Tally → ℕ
+astray t = t.sent_on - t.taken
+
+-- the reasons for which a frame is refused
+abbrev pub is_blocked : Verdict → Bool
+is_blocked verdict.Blocked = true
+is_blocked v = false
+
+abbrev pub is_oversize : Verdict → Bool
+is_oversize verdict.Oversize = true
+is_oversize v = false
+
+abbrev pub is_gate_closed : Verdict → Bool
+is_gate_closed verdict.GateClosed = true
+is_gate_closed v = false
+
+abbrev pub is_shut_rx : Verdict → Bool
+is_shut_rx verdict.ShutByRx = true
+is_shut_rx v = false
+
+abbrev pub is_shut_octets : Verdict → Bool
+is_shut_octets verdict.ShutByOctets = true
+is_shut_octets v = false
+
+abbrev pub is_octets_exceeded : Verdict → Bool
+is_octets_exceeded verdict.OctetsExceeded = true
+is_octets_exceeded v = false
+
+abbrev pub is_red : Verdict → Bool
+is_red verdict.Red = true
+is_red v = false
+
+abbrev pub is_yellow_dropped : Verdict → Bool
+is_yellow_dropped verdict.YellowDropped = true
+is_yellow_dropped v = false
+
+-- and those for which a copy is dropped
+abbrev pub is_full_queue : Refusal → Bool
+is_full_queue refusal.Full = true
+is_full_queue refusal.NeverFits = false
+
+abbrev pub is_full : Dropped → Bool
+is_full d = is_full_queue d.refusal
+
+abbrev pub never_fits : Dropped → Bool
+never_fits d = not (is_full_queue d.refusal)
+
+-- whether a copy left by a port that leads on to no hop
+abbrev pub is_out : List Bool → Departure → Bool
+is_out ways d = not (is_on ways d.port)
+
+-- what a hop counts, of what is told of it and of where its ports lead
+abbrev pub counts_of : {A : Type 0} → List Bool → View A → HopCounts
+counts_of ways v = record {
+  frames = length v.origins.items;
+  delivered = count_by (is_out ways) v.departures.items;
+  blocked = count_by is_blocked v.verdicts.items;
+  oversize = count_by is_oversize v.verdicts.items;
+  gate_closed = count_by is_gate_closed v.verdicts.items;
+  shut_rx = count_by is_shut_rx v.verdicts.items;
+  shut_octets = count_by is_shut_octets v.verdicts.items;
+  octets_exceeded = count_by is_octets_exceeded v.verdicts.items;
+  red = count_by is_red v.verdicts.items;
+  yellow_dropped = count_by is_yellow_dropped v.verdicts.items;
+  full = count_by is_full v.drops.items;
+  never = count_by never_fits v.drops.items;
+}
+
+-- how long a copy took that was delivered, where it is known from when on; a list of one figure, or of none
+abbrev pub delay_from : Departure → Option Root → List ℕ
+delay_from d None = []
+delay_from d (Some r) = (d.done - r.came) ∷ []
+
+-- nothing of one that goes on
+abbrev pub if_delivered : Bool → List ℕ → List ℕ
+if_delivered true delays = []
+if_delivered false delays = delays
+
+abbrev pub delay_of : List Bool → List (Option Root) → Departure → List ℕ
+delay_of ways roots d = if_delivered (is_on ways d.port) (delay_from d (root_at roots d.own))
+
+-- how long the copies took that a hop delivered, in the order in which they left
+abbrev pub delays_of : List Bool → List (Option Root) → List Departure → List ℕ
+delays_of ways roots departures = flat_map (delay_of ways roots) departures

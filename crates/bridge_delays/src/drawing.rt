@@ -1,0 +1,289 @@
+//! A picture of how the frames of streams went through a run of a network.
+ghost use Rattle.std.specs.Prelude.{◌≤◌, IfOk, length, string_bytes};
+
+use crate::hops::HopRun;
+use crate::tallies::passes;
+use bridge_base::NoMemory;
+use bridge_network::Link;
+use bridge_rounds::sender_of;
+use bridge_run::{Departure, Origin, View};
+use std::alloc::{AllocError, Allocator, Global};
+
+/// The most octets of a picture.
+const MOST_OCTETS: usize = 2_000_000;
+
+/// The octets that are kept free for one shape and for what stands around the shapes.
+const FREE: usize = 20_000;
+
+/// Where moments begin, in pixels from the left.
+const LEFT: u64 = 220;
+
+/// How many pixels all moments of a picture take together.
+const WIDTH: u64 = 1000;
+
+/// The pixels from one row to the next one.
+const ROW: u64 = 26;
+
+/// Where the first row is, in pixels from the top.
+const TOP: u64 = 60;
+
+/// The styles of all shapes.
+const STYLES: &str = ":root{color-scheme:light dark}\
+text{font:13px system-ui,sans-serif;fill:#222}.s{font-size:11px;fill:#666}.page{fill:#fff}\
+.row{stroke:#d5dae1}.wait{fill:#f0b429}.out{fill:#2a7de1}.lost{fill:#d64545}.link{stroke:#8a94a3}\
+@media(prefers-color-scheme:dark){text{fill:#e6e6e6}.s{fill:#a0a0a0}.page{fill:#16181c}.row{stroke:#3a4048}}";
+
+/// A picture under way: the first and the last moment that it shows, in ns, and the shapes so far.
+#[derive(Drop)]
+pub struct RunPicture {
+    from: u64,
+    to: u64,
+    rows: u64,
+    shapes: String,
+    /// The shapes that had no room any more.
+    left_out: u64,
+}
+
+/// The first and the last moment of some hops, together with two moments.
+fn span_of<A: Allocator>(hops: &[HopRun<'_, A>], span: (u64, u64)) -> (u64, u64) {
+    let mut span = span;
+    for hop in hops {
+        span = span_of_view(hop.view, span);
+    }
+    span
+}
+
+/// The same of what is told of a hop.
+fn span_of_view<A: Allocator>(view: &View<A>, span: (u64, u64)) -> (u64, u64) {
+    let (mut from, mut to) = span;
+    for origin in &view.origins {
+        from = from.min(origin.at);
+        to = to.max(origin.at);
+    }
+    for departure in &view.departures {
+        to = to.max(departure.done);
+    }
+    (from, to)
+}
+
+/// Where a moment is, in pixels from the left.
+fn place_of(picture: &RunPicture, moment: u64) -> u64 {
+    let behind = moment.saturating_sub(picture.from) as u128;
+    let all = picture.to.saturating_sub(picture.from).max(1) as u128;
+    let pixels = (behind * WIDTH as u128 / all).min(WIDTH as u128);
+    LEFT + pixels as u64
+}
+
+/// Adds a shape, where there is room for it.
+fn put(picture: &mut RunPicture, shape: &str) -> Result<(), AllocError> {
+    if picture.shapes.len() > MOST_OCTETS - FREE || shape.len() > FREE / 2 {
+        picture.left_out = picture.left_out.saturating_add(1);
+        return Ok(());
+    }
+    picture.shapes.push_str(shape)
+}
+
+/// Where a row is, in pixels from the top.
+fn height_of(row: u64) -> u64 {
+    row.saturating_mul(ROW).saturating_add(TOP)
+}
+
+/// The moment at which a frame of a hop came, by its number there, from 1.
+fn came_at(origins: &[Origin], own: u64, other: u64) -> u64 {
+    if own == 0 {
+        return other;
+    }
+    match origins.get((own - 1) as usize) {
+        Some(origin) => origin.at,
+        None => other,
+    }
+}
+
+/// Adds a bar between two moments.
+fn put_bar(
+    alloc: Global,
+    picture: &mut RunPicture,
+    style: &str,
+    y: u64,
+    from: u64,
+    to: u64,
+    said: &str,
+) -> Result<(), AllocError> {
+    let x = place_of(picture, from);
+    let width = place_of(picture, to).saturating_sub(x).max(1);
+    let top = y.saturating_sub(6);
+    let shape = format!(in alloc;
+        "<rect class=\"{style}\" x=\"{x}\" y=\"{top}\" width=\"{width}\" height=\"12\"><title>{said}</title></rect>\n"
+    )?;
+    put(picture, shape.as_str())
+}
+
+/// The place of the first of some hops at a bridge.
+fn hop_at<A: Allocator>(hops: &[HopRun<'_, A>], bridge: usize) -> Option<usize> {
+    for place in 0..hops.len() {
+        if hops[place].bridge == bridge {
+            return Some(place);
+        }
+    }
+    None
+}
+
+/// Adds the way of a copy over a link to the row of the hop at its other end.
+fn put_link<A: Allocator>(
+    alloc: Global,
+    picture: &mut RunPicture,
+    links: &[Link],
+    hops: &[HopRun<'_, A>],
+    bridge: usize,
+    y: u64,
+    departure: &Departure,
+) -> Result<(), AllocError> {
+    let Some(other) = sender_of(links, bridge, departure.port) else {
+        return Ok(());
+    };
+    let Some(place) = hop_at(hops, other.from.bridge as usize) else {
+        return Ok(());
+    };
+    let from = place_of(picture, departure.done);
+    let to = place_of(picture, departure.done.saturating_add(other.delay));
+    let below = height_of(picture.rows.saturating_add(place as u64));
+    let shape = format!(in alloc; "<path class=\"link\" d=\"M{from} {y}L{to} {below}\"/>\n")?;
+    put(picture, shape.as_str())
+}
+
+/// Adds a copy that left a hop: how long it waited, and how long it was on the link.
+fn put_departure<A: Allocator>(
+    alloc: Global,
+    picture: &mut RunPicture,
+    links: &[Link],
+    hops: &[HopRun<'_, A>],
+    hop: &HopRun<'_, A>,
+    y: u64,
+    departure: &Departure,
+) -> Result<(), AllocError> {
+    let Departure {
+        own,
+        port,
+        start,
+        done,
+    } = *departure;
+    let at = came_at(&hop.view.origins, own, start);
+    let said = format!(in alloc;
+        "frame {own} came {at} started {start} done {done} ns, port {port}"
+    )?;
+    put_bar(alloc, picture, "wait", y, at, start, said.as_str())?;
+    put_bar(alloc, picture, "out", y, start, done, said.as_str())?;
+    put_link(alloc, picture, links, hops, hop.bridge, y, departure)
+}
+
+/// Adds the frames that a hop refused.
+fn put_refused<A: Allocator>(
+    alloc: Global,
+    picture: &mut RunPicture,
+    view: &View<A>,
+    y: u64,
+) -> Result<(), AllocError> {
+    for place in 0..view.verdicts.len() {
+        if place >= view.origins.len() {
+            return Ok(());
+        }
+        if !passes(view.verdicts[place]) {
+            let at = view.origins[place].at;
+            put_bar(alloc, picture, "lost", y, at, at, "refused")?;
+        }
+    }
+    Ok(())
+}
+
+/// Adds the row of a hop.
+fn put_hop<A: Allocator>(
+    alloc: Global,
+    picture: &mut RunPicture,
+    links: &[Link],
+    hops: &[HopRun<'_, A>],
+    hop: &HopRun<'_, A>,
+    y: u64,
+    name: &str,
+) -> Result<(), AllocError> {
+    let below = y.saturating_add(4);
+    let end = LEFT + WIDTH;
+    let shape = format!(in alloc;
+        "<text x=\"12\" y=\"{below}\">{name}</text><path class=\"row\" d=\"M{LEFT} {y}H{end}\"/>\n"
+    )?;
+    put(picture, shape.as_str())?;
+    for departure in &hop.view.departures {
+        put_departure(alloc, picture, links, hops, hop, y, departure)?;
+    }
+    put_refused(alloc, picture, hop.view, y)
+}
+
+impl RunPicture {
+    /// A picture of nothing.
+    pub fn new(alloc: Global) -> RunPicture {
+        RunPicture {
+            from: u64::MAX,
+            to: 0,
+            rows: 0,
+            shapes: String::new(alloc),
+            left_out: 0,
+        }
+    }
+
+    /// Makes room for the moments of the hops of a stream. All streams that are to be drawn are looked at before the first
+    /// is.
+    pub fn look_at<A: Allocator>(&mut self, hops: &[HopRun<'_, A>]) {
+        let (from, to) = span_of(hops, (self.from, self.to));
+        self.from = from;
+        self.to = to;
+    }
+
+    /// Adds the rows of a stream, one for each hop, by the names of its hops.
+    pub fn add<A: Allocator>(
+        &mut self,
+        alloc: Global,
+        links: &[Link],
+        hops: &[HopRun<'_, A>],
+        names: &[String],
+    ) -> Result<(), NoMemory> {
+        for place in 0..hops.len() {
+            if place >= names.len() {
+                return Ok(());
+            }
+            let y = height_of(self.rows.saturating_add(place as u64));
+            put_hop(
+                alloc,
+                self,
+                links,
+                hops,
+                &hops[place],
+                y,
+                names[place].as_str(),
+            )?;
+        }
+        self.rows = self.rows.saturating_add(hops.len() as u64);
+        Ok(())
+    }
+
+    /// The picture as an SVG text: a row for each hop, in which each copy that left waited (yellow) from when its frame came, and was
+    /// then on the link (blue); red where a frame was refused.
+    pub fn finish(self, alloc: Global) -> Result<String, NoMemory> {
+        let RunPicture {
+            from,
+            to,
+            rows,
+            shapes,
+            left_out,
+        } = self;
+        let height = height_of(rows).saturating_add(30);
+        let width = LEFT + WIDTH + 30;
+        let from = from.min(to);
+        let note = if left_out == 0 {
+            String::new(alloc)
+        } else {
+            format!(in alloc; "; {left_out} shapes are left out")?
+        };
+        Ok(format!(in alloc;
+            "<svg xmlns=\"http://www.w3.org/2000/svg\" viewBox=\"0 0 {width} {height}\">\n<style>{STYLES}</style>\n<rect class=\"page\" width=\"100%\" height=\"100%\"/>\n<text class=\"s\" x=\"12\" y=\"24\">from {from} to {to} ns: yellow from a frame's coming to its start, blue on the link, red where it was refused{note}</text>\n{shapes}</svg>\n"
+        )?)
+    }
+}

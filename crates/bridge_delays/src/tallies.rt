@@ -1,0 +1,403 @@
+//! How often copies of frames of a stream were delivered and lost.
+ghost use Rattle.std.specs.Prelude.{◌≡◌, ◌++◌, count_by, IfOk, OnOk};
+ghost use Rattle.bridge_delays.specs.Tallies as spec;
+
+use crate::hops::{HopRun, is_on, ways_of};
+use crate::tracing::{Root, root_at};
+use bridge_base::NoMemory;
+use bridge_filter::Verdict;
+use bridge_network::Link;
+use bridge_port::Refusal;
+use bridge_run::{Departure, Dropped, View};
+use std::alloc::Allocator;
+
+/// What became of the copies of a frame of the first hop: how many were delivered, how many were refused or dropped at some
+/// hop, how many left to a bridge with a hop, and how many of these came to one.
+#[derive(Clone, Copy, Debug, PartialEq, Eq)]
+pub struct Tally {
+    pub delivered: u64,
+    pub refused: u64,
+    pub sent_on: u64,
+    pub taken: u64,
+}
+
+impl Tally {
+    ghost use Rattle.std.specs.Prelude.{◌≡◌};
+    ghost use Rattle.bridge_delays.specs.Tallies as spec;
+
+    /// How many copies went to a bridge with a hop, and were none of its frames.
+    pub fn astray(&self) -> u64
+        ensures { result ≡ spec.astray self.now }
+    {
+        self.sent_on.saturating_sub(self.taken)
+    }
+
+    /// Whether it was delivered, and no copy of it was lost.
+    pub fn is_delivered(&self) -> bool
+        ensures { result ≡ spec.is_delivered self.now }
+    {
+        0 < self.delivered && self.refused == 0 && self.sent_on <= self.taken
+    }
+}
+
+/// Something that becomes of a copy of a frame.
+#[derive(Clone, Copy, Debug, PartialEq, Eq)]
+enum Fate {
+    Delivered,
+    Refused,
+    SentOn,
+    Taken,
+}
+
+/// A tally with one more of something.
+fn counted(tally: Tally, fate: Fate) -> Tally {
+    let mut tally = tally;
+    match fate {
+        Fate::Delivered => tally.delivered = tally.delivered.saturating_add(1),
+        Fate::Refused => tally.refused = tally.refused.saturating_add(1),
+        Fate::SentOn => tally.sent_on = tally.sent_on.saturating_add(1),
+        Fate::Taken => tally.taken = tally.taken.saturating_add(1),
+    }
+    tally
+}
+
+/// Counts what became of a copy of the frame of a root, where that is known.
+fn count(tallies: &mut [Tally], root: Option<Root>, fate: Fate) {
+    let Some(root) = root else {
+        return;
+    };
+    if root.number == 0 {
+        return;
+    }
+    let place = (root.number - 1) as usize;
+    if place < tallies.len() {
+        tallies[place] = counted(tallies[place], fate);
+    }
+}
+
+/// Counts the copies that left a hop.
+fn count_departures(
+    tallies: &mut [Tally],
+    roots: &[Option<Root>],
+    ways: &[bool],
+    departures: &[Departure],
+) {
+    for departure in departures {
+        let fate = if is_on(ways, departure.port) {
+            Fate::SentOn
+        } else {
+            Fate::Delivered
+        };
+        count(tallies, root_at(roots, departure.own), fate);
+    }
+}
+
+/// Counts the copies that a hop dropped.
+fn count_drops(tallies: &mut [Tally], roots: &[Option<Root>], drops: &[Dropped]) {
+    for dropped in drops {
+        count(tallies, root_at(roots, dropped.own), Fate::Refused);
+    }
+}
+
+/// Counts the frames that a hop refused.
+fn count_verdicts(tallies: &mut [Tally], roots: &[Option<Root>], verdicts: &[Verdict]) {
+    for place in 0..verdicts.len() {
+        if place >= roots.len() {
+            return;
+        }
+        if !passes(verdicts[place]) {
+            count(tallies, roots[place], Fate::Refused);
+        }
+    }
+}
+
+/// Counts the frames that came to a hop.
+fn count_taken(tallies: &mut [Tally], roots: &[Option<Root>]) {
+    for root in roots {
+        count(tallies, *root, Fate::Taken);
+    }
+}
+
+/// Whether a frame passes.
+pub(crate) fn passes(verdict: Verdict) -> bool
+    ensures { result ≡ spec.passes verdict }
+{
+    matches!(verdict, Verdict::Pass { .. })
+}
+
+/// So many tallies of nothing.
+fn no_tallies<A: Allocator + Copy>(alloc: A, count: usize) -> Result<Vec<Tally, A>, NoMemory> {
+    let none = Tally {
+        delivered: 0,
+        refused: 0,
+        sent_on: 0,
+        taken: 0,
+    };
+    Ok(Vec::from_elem(alloc, none, count)?)
+}
+
+/// What became of the copies of each frame of the first hop, by where the frames of all hops are from.
+pub fn tallies_of<A: Allocator + Copy>(
+    alloc: A,
+    links: &[Link],
+    hops: &[HopRun<'_, A>],
+    all: &[Vec<Option<Root>, A>],
+) -> Result<Vec<Tally, A>, NoMemory> {
+    let frames = match hops.first() {
+        Some(hop) => hop.view.origins.len(),
+        None => 0,
+    };
+    let mut tallies = no_tallies(alloc, frames)?;
+    for place in 0..hops.len() {
+        if place >= all.len() {
+            return Ok(tallies);
+        }
+        let ways = ways_of(alloc, links, hops, hops[place].bridge)?;
+        let view = hops[place].view;
+        let roots = &all[place];
+        count_departures(&mut tallies, roots, &ways, &view.departures);
+        count_drops(&mut tallies, roots, &view.drops);
+        count_verdicts(&mut tallies, roots, &view.verdicts);
+        if place > 0 {
+            count_taken(&mut tallies, roots);
+        }
+    }
+    Ok(tallies)
+}
+
+/// What a hop counts: its frames, the copies that it delivered, and those that it refused or dropped, by the reason.
+#[derive(Clone, Copy, Debug, PartialEq, Eq)]
+pub struct HopCounts {
+    pub frames: u64,
+    pub delivered: u64,
+    pub blocked: u64,
+    pub oversize: u64,
+    pub gate_closed: u64,
+    pub shut_rx: u64,
+    pub shut_octets: u64,
+    pub octets_exceeded: u64,
+    pub red: u64,
+    pub yellow_dropped: u64,
+    pub full: u64,
+    pub never: u64,
+}
+
+/// Why a frame is refused.
+fn is_blocked(verdict: &Verdict) -> bool
+    ensures { result ≡ spec.is_blocked verdict.now }
+{
+    matches!(*verdict, Verdict::Blocked)
+}
+
+fn is_oversize(verdict: &Verdict) -> bool
+    ensures { result ≡ spec.is_oversize verdict.now }
+{
+    matches!(*verdict, Verdict::Oversize)
+}
+
+fn is_gate_closed(verdict: &Verdict) -> bool
+    ensures { result ≡ spec.is_gate_closed verdict.now }
+{
+    matches!(*verdict, Verdict::GateClosed)
+}
+
+fn is_shut_rx(verdict: &Verdict) -> bool
+    ensures { result ≡ spec.is_shut_rx verdict.now }
+{
+    matches!(*verdict, Verdict::ShutByRx)
+}
+
+fn is_shut_octets(verdict: &Verdict) -> bool
+    ensures { result ≡ spec.is_shut_octets verdict.now }
+{
+    matches!(*verdict, Verdict::ShutByOctets)
+}
+
+fn is_octets_exceeded(verdict: &Verdict) -> bool
+    ensures { result ≡ spec.is_octets_exceeded verdict.now }
+{
+    matches!(*verdict, Verdict::OctetsExceeded)
+}
+
+fn is_red(verdict: &Verdict) -> bool
+    ensures { result ≡ spec.is_red verdict.now }
+{
+    matches!(*verdict, Verdict::Red)
+}
+
+fn is_yellow_dropped(verdict: &Verdict) -> bool
+    ensures { result ≡ spec.is_yellow_dropped verdict.now }
+{
+    matches!(*verdict, Verdict::YellowDropped)
+}
+
+/// Why a copy is dropped.
+fn is_full(dropped: &Dropped) -> bool
+    ensures { result ≡ spec.is_full dropped.now }
+{
+    matches!(dropped.refusal, Refusal::Full)
+}
+
+fn never_fits(dropped: &Dropped) -> bool
+    ensures { result ≡ spec.never_fits dropped.now }
+{
+    !is_full(dropped)
+}
+
+/// How many frames there are that were blocked.
+fn blocked_in(verdicts: &[Verdict]) -> usize
+    ensures { result ≡ count_by spec.is_blocked verdicts.now }
+{
+    verdicts.iter().filter(|v| is_blocked(*v)).count()
+}
+
+/// How many frames there are above the maximum.
+fn oversize_in(verdicts: &[Verdict]) -> usize
+    ensures { result ≡ count_by spec.is_oversize verdicts.now }
+{
+    verdicts.iter().filter(|v| is_oversize(*v)).count()
+}
+
+/// How many frames there are that came while the gate was closed.
+fn gate_closed_in(verdicts: &[Verdict]) -> usize
+    ensures { result ≡ count_by spec.is_gate_closed verdicts.now }
+{
+    verdicts.iter().filter(|v| is_gate_closed(*v)).count()
+}
+
+/// How many frames there are behind one that shut the gate so.
+fn shut_rx_in(verdicts: &[Verdict]) -> usize
+    ensures { result ≡ count_by spec.is_shut_rx verdicts.now }
+{
+    verdicts.iter().filter(|v| is_shut_rx(*v)).count()
+}
+
+/// How many frames there are behind one that shut the gate by its octets.
+fn shut_octets_in(verdicts: &[Verdict]) -> usize
+    ensures { result ≡ count_by spec.is_shut_octets verdicts.now }
+{
+    verdicts.iter().filter(|v| is_shut_octets(*v)).count()
+}
+
+/// How many frames there are over the octets of a turn.
+fn octets_exceeded_in(verdicts: &[Verdict]) -> usize
+    ensures { result ≡ count_by spec.is_octets_exceeded verdicts.now }
+{
+    verdicts.iter().filter(|v| is_octets_exceeded(*v)).count()
+}
+
+/// How many frames there are that were red.
+fn red_in(verdicts: &[Verdict]) -> usize
+    ensures { result ≡ count_by spec.is_red verdicts.now }
+{
+    verdicts.iter().filter(|v| is_red(*v)).count()
+}
+
+/// How many frames there are that were yellow and dropped.
+fn yellow_dropped_in(verdicts: &[Verdict]) -> usize
+    ensures { result ≡ count_by spec.is_yellow_dropped verdicts.now }
+{
+    verdicts.iter().filter(|v| is_yellow_dropped(*v)).count()
+}
+
+/// How many copies found their queue full.
+fn full_in(drops: &[Dropped]) -> usize
+    ensures { result ≡ count_by spec.is_full drops.now }
+{
+    drops.iter().filter(|d| is_full(*d)).count()
+}
+
+/// How many copies no moment fits.
+fn never_in(drops: &[Dropped]) -> usize
+    ensures { result ≡ count_by spec.never_fits drops.now }
+{
+    drops.iter().filter(|d| never_fits(*d)).count()
+}
+
+/// How many copies left by ports that lead on to no hop.
+fn delivered_in(ways: &[bool], departures: &[Departure]) -> usize
+    ensures { result ≡ count_by (spec.is_out ways.now) departures.now }
+{
+    departures.iter().filter(|d| !is_on(ways, d.port)).count()
+}
+
+/// What a hop counts, by where its ports lead.
+fn counted_of<A: Allocator>(ways: &[bool], view: &View<A>) -> HopCounts
+    ensures { result ≡ spec.counts_of ways.now view.now }
+{
+    let verdicts = &view.verdicts;
+    let drops = &view.drops;
+    let departures = &view.departures;
+    HopCounts {
+        frames: view.origins.len() as u64,
+        delivered: delivered_in(ways, departures) as u64,
+        blocked: blocked_in(verdicts) as u64,
+        oversize: oversize_in(verdicts) as u64,
+        gate_closed: gate_closed_in(verdicts) as u64,
+        shut_rx: shut_rx_in(verdicts) as u64,
+        shut_octets: shut_octets_in(verdicts) as u64,
+        octets_exceeded: octets_exceeded_in(verdicts) as u64,
+        red: red_in(verdicts) as u64,
+        yellow_dropped: yellow_dropped_in(verdicts) as u64,
+        full: full_in(drops) as u64,
+        never: never_in(drops) as u64,
+    }
+}
+
+/// What the hop at a place counts.
+pub fn counts_of<A: Allocator + Copy>(
+    alloc: A,
+    links: &[Link],
+    hops: &[HopRun<'_, A>],
+    hop: &HopRun<'_, A>,
+) -> Result<HopCounts, NoMemory> {
+    let ways = ways_of(alloc, links, hops, hop.bridge)?;
+    Ok(counted_of(&ways, hop.view))
+}
+
+/// Adds how long a copy took that was delivered, where it is known from when on.
+fn push_delay<A: Allocator>(
+    delays: &mut Vec<u64, A>,
+    ways: &[bool],
+    roots: &[Option<Root>],
+    departure: &Departure,
+) -> Result<(), NoMemory>
+    ensures { OnOk result (delays.new.items ≡ delays.old.items ++ spec.delay_of ways.now roots.now departure.now) }
+{
+    if is_on(ways, departure.port) {
+        return Ok(());
+    }
+    if let Some(root) = root_at(roots, departure.own) {
+        delays.push(departure.done.saturating_sub(root.came))?;
+    }
+    Ok(())
+}
+
+/// How long the copies took that left by ports that lead on to no hop, in the order in which they left.
+fn delays_in<A: Allocator + Copy>(
+    alloc: A,
+    ways: &[bool],
+    roots: &[Option<Root>],
+    departures: &[Departure],
+) -> Result<Vec<u64, A>, NoMemory>
+    ensures { IfOk result (λ delays. delays.items ≡ spec.delays_of ways.now roots.now departures.now) }
+{
+    let mut delays = Vec::new(alloc);
+    for departure in departures {
+        push_delay(&mut delays, ways, roots, departure)?;
+    }
+    Ok(delays)
+}
+
+/// How long the copies took that a hop delivered, from when their frames came to the first hop until they were out, in the
+/// order in which they left.
+pub fn delays_of<A: Allocator + Copy>(
+    alloc: A,
+    links: &[Link],
+    hops: &[HopRun<'_, A>],
+    hop: &HopRun<'_, A>,
+    roots: &[Option<Root>],
+) -> Result<Vec<u64, A>, NoMemory> {
+    let ways = ways_of(alloc, links, hops, hop.bridge)?;
+    delays_in(alloc, &ways, roots, &hop.view.departures)
+}

@@ -1,0 +1,14 @@
+#![tactic(auto)]
+//! Runs of networks over folders: the captures of the open ports of each bridge in, the captures and the report of each bridge
+//! and the tables of the streams out.
+
+mod incoming;
+mod job;
+mod outputs;
+mod picture;
+mod refusing;
+mod tables;
+mod writing;
+
+pub use job::{RoundsJob, RoundsSaid, rounds_job};
+pub use refusing::explain_stopped;

@@ -1,0 +1,136 @@
+//! The picture of a run of a network.
+ghost use Rattle.std.specs.Prelude.{IfErr};
+ghost use Rattle.bridge_net_folder.specs.Folders.{EndsFiles};
+
+use crate::outputs::open_output;
+use crate::tables::{hop_name, runs_of};
+use crate::writing::write_whole;
+use bridge_base::NoMemory;
+use bridge_delays::RunPicture;
+use bridge_files::{FileId, Output};
+use bridge_netfile::{BridgeRow, NetworkFile, StreamRow};
+use bridge_network::Link;
+use bridge_planning::memory_fault;
+use bridge_program::Fault;
+use bridge_rounds::Settled;
+use std::alloc::Global;
+use std::fs::OpenFile;
+use std::io::Write;
+use std::rt::Files;
+
+/// Opens the file of a picture to be written anew, where one is asked for.
+pub(crate) fn open_picture<H: AllocGlobal + Files>(
+    rt: &H,
+    path: &Option<String>,
+    taken: &mut Vec<FileId>,
+) -> Result<Option<Output<H::File>>, Fault>
+    ensures { IfErr result EndsFiles }
+{
+    let Some(path) = path else {
+        return Ok(None);
+    };
+    let Ok(copy) = String::from_str(rt.alloc(), path.as_str()) else {
+        return Err(memory_fault());
+    };
+    match open_output(rt, copy, taken) {
+        Ok(output) => Ok(Some(output)),
+        Err(fault) => Err(fault),
+    }
+}
+
+/// How the rows of a stream are called.
+fn names_of(
+    alloc: Global,
+    bridges: &[BridgeRow<Global>],
+    stream: &StreamRow<Global>,
+) -> Result<Vec<String>, NoMemory> {
+    let mut names = Vec::new(alloc);
+    for hop in stream.hops() {
+        let name = hop_name(alloc, bridges, *hop)?;
+        let stream = stream.name();
+        names.push(format!(in alloc; "{stream} {name}")?)?;
+    }
+    Ok(names)
+}
+
+/// Makes room for the moments of all streams.
+fn look_at_all(
+    alloc: Global,
+    picture: &mut RunPicture,
+    settled: &[Settled<Global>],
+    streams: &[StreamRow<Global>],
+) -> Result<(), NoMemory> {
+    for stream in streams {
+        let runs = runs_of(alloc, settled, stream.hops())?;
+        picture.look_at(&runs);
+    }
+    Ok(())
+}
+
+/// Adds the rows of all streams.
+fn add_all(
+    alloc: Global,
+    picture: &mut RunPicture,
+    links: &[Link],
+    bridges: &[BridgeRow<Global>],
+    settled: &[Settled<Global>],
+    streams: &[StreamRow<Global>],
+) -> Result<(), NoMemory> {
+    for stream in streams {
+        let runs = runs_of(alloc, settled, stream.hops())?;
+        let names = names_of(alloc, bridges, stream)?;
+        picture.add(alloc, links, &runs, &names)?;
+    }
+    Ok(())
+}
+
+/// The picture of a run.
+fn drawn(
+    alloc: Global,
+    file: &NetworkFile<Global>,
+    links: &[Link],
+    settled: &[Settled<Global>],
+) -> Result<String, NoMemory> {
+    let mut picture = RunPicture::new(alloc);
+    look_at_all(alloc, &mut picture, settled, file.streams())?;
+    add_all(
+        alloc,
+        &mut picture,
+        links,
+        file.bridges(),
+        settled,
+        file.streams(),
+    )?;
+    picture.finish(alloc)
+}
+
+/// Writes the picture of a run, where one is asked for. `File` of its path where it can't be written.
+pub(crate) fn put_picture<F: Write + OpenFile + Drop>(
+    alloc: Global,
+    file: &NetworkFile<Global>,
+    links: &[Link],
+    settled: &[Settled<Global>],
+    path: Option<String>,
+    output: Option<Output<F>>,
+) -> Result<(), Fault>
+    ensures { IfErr result EndsFiles }
+{
+    let Some(output) = output else {
+        return Ok(());
+    };
+    let Some(path) = path else {
+        drop(output);
+        return Ok(());
+    };
+    let text = match drawn(alloc, file, links, settled) {
+        Ok(text) => text,
+        Err(_) => {
+            drop(output);
+            return Err(memory_fault());
+        }
+    };
+    match write_whole(output, text.as_bytes()) {
+        Ok(()) => Ok(()),
+        Err(_) => Err(Fault::File(path)),
+    }
+}

@@ -1,0 +1,12 @@
+use Rattle.std.proofs.Common.{arith}
+use Rattle.std.specs.Prelude.{option_map}
+use Rattle.std.proofs.lemmas.List.{length-map}
+use Rattle.bridge_rounds.specs.Stations.{sender_value, senders_in, texts_in}
+use Rattle.bridge_rounds.proofs.Begun.{none_all}
+use Rattle.bridge_rounds.proofs.station.without_linked.Goals as goal
+
+pub returns-clause-empty : goal.returns-clause-empty
+returns-clause-empty g c =
+    let many = length-map c.args.senders.now (option_map sender_value) in
+    let end = c.loop-place-test.false in
+    none_all (senders_in c.args.senders.now) (texts_in c.loop-place.texts.items) c.loop-place.place (omega (arith, many, end)) c.loop-place.invariant.empty
