@@ -86,8 +86,7 @@ fn are_same<H: AllocGlobal + Files>(rt: &H) -> Result<bool, Fault> {
     Ok(streams && frames)
 }
 
-/// Runs the network once more with a babbling talker at a port, and prints whether all streams tell the same, and whether the
-/// captures of the port with a listener that shares its class differ.
+/// Runs the network once more with a babbling talker at a port, and prints whether all streams tell the same, and its line.
 fn print_talker<H: AllocGlobal + Files + Print>(
     rt: &H,
     port: &str,

@@ -27,7 +27,7 @@ const ROWS: [(&str, &str, &str, &str); 8] = [
         "ring",
     ),
     (
-        "commands of no gate",
+        "commands of no filter",
         "network/network.toml",
         "commanded",
         "ring",
