@@ -13,6 +13,7 @@ use Rattle.bridge_run.specs.declared.outcome.Departure.{Departure}
 use Rattle.bridge_run.specs.declared.outcome.Origin.{Origin}
 use Rattle.bridge_delays.specs.declared.hops.HopRun.{HopRun}
 use Rattle.bridge_delays.specs.declared.tracing.Root.{Root}
+use Rattle.bridge_delays.specs.Hops.{AreAnswers, leads_on}
 use Rattle.bridge_delays.specs.Tracing.{AreBegun, AreBegunAt, AreFirst, AreFrom, AreTraced, AreUnknown, IsFirst, IsFrom, IsOver, SenderIs, due_from, is_due, joined, root_at, root_over}
 
 head_is : {X : Type 0} (x y : X) (xs ys : List X) → x ∷ xs ≡ y ∷ ys → x ≡ y
@@ -185,4 +186,12 @@ traced_more s sent left sent_roots q origins old new o root made was came more o
     | inl same ↦ inl (ap (slice_get old) here.0 ∙ (was ∙ ap (λ (z : Option Root). Some z) same))
     | inr is ↦ inr (o, ap (slice_get origins) here.0 ∙ came, over_more s left sent sent_roots q o r more is)
   ]
+]
+
+-- one port more
+pub answers_more : {A : Type 0} (links : List Link) (hops : List (HopRun A)) (b : ℕ) (ways : List Bool) (on : Bool) (q : ℕ) → length ways + 1 ≡ q → on ≡ leads_on links hops b q → AreAnswers links hops b ways
+    → AreAnswers links hops b (ways ++ on ∷ [])
+answers_more links hops b ways on q at is are i x there = elim (pushed ways on x i there) [
+  | inl before ↦ are i x before
+  | inr here ↦ sym here.1 ∙ (is ∙ ap (leads_on links hops b) (let last = here.0 in omega (arith, at, last)))
 ]

@@ -44,7 +44,9 @@ pub fn ways_of<A: Allocator + Copy>(
     links: &[Link],
     hops: &[HopRun<'_, A>],
     bridge: usize,
-) -> Result<Vec<bool, A>, NoMemory> {
+) -> Result<Vec<bool, A>, NoMemory>
+    ensures { IfOk result (λ ways. spec.AreWays links.now hops.now bridge ways.items) }
+{
     let mut ways = Vec::with_capacity(alloc, 16)?;
     for port in 1..17u8 {
         ways.push(leads_on(links, hops, bridge, port))?;

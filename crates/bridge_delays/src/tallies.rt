@@ -1,5 +1,6 @@
 //! How often copies of frames of a stream were delivered and lost.
-ghost use Rattle.std.specs.Prelude.{◌≡◌, ◌++◌, count_by, IfOk, OnOk};
+ghost use Rattle.std.specs.Prelude.{◌≡◌, ◌++◌, Bool, List, count_by, IfOk, OnOk};
+ghost use Rattle.bridge_delays.specs.Hops.{AreWays};
 ghost use Rattle.bridge_delays.specs.Tallies as spec;
 
 use crate::hops::{HopRun, is_on, ways_of};
@@ -350,7 +351,9 @@ pub fn counts_of<A: Allocator + Copy>(
     links: &[Link],
     hops: &[HopRun<'_, A>],
     hop: &HopRun<'_, A>,
-) -> Result<HopCounts, NoMemory> {
+) -> Result<HopCounts, NoMemory>
+    ensures { IfOk result (λ counts. (ways : List Bool) × AreWays links.now hops.now hop.now.bridge ways × (counts ≡ spec.counts_of ways hop.now.view.now)) }
+{
     let ways = ways_of(alloc, links, hops, hop.bridge)?;
     Ok(counted_of(&ways, hop.view))
 }
@@ -397,7 +400,10 @@ pub fn delays_of<A: Allocator + Copy>(
     hops: &[HopRun<'_, A>],
     hop: &HopRun<'_, A>,
     roots: &[Option<Root>],
-) -> Result<Vec<u64, A>, NoMemory> {
+) -> Result<Vec<u64, A>, NoMemory>
+    ensures { IfOk result (λ delays. (ways : List Bool) × AreWays links.now hops.now hop.now.bridge ways × (delays.items ≡ spec.delays_of ways roots.now hop.now.view.now.departures.items)) }
+{
     let ways = ways_of(alloc, links, hops, hop.bridge)?;
-    delays_in(alloc, &ways, roots, &hop.view.departures)
+    let delays = delays_in(alloc, &ways, roots, &hop.view.departures)?;
+    Ok(delays)
 }
