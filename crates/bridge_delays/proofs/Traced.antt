@@ -1,6 +1,6 @@
 -- What is known of frames that came over links.
-use Rattle.std.proofs.Common.{◌≡◌, ◌≢◌, ◌⊎◌, inl, inr, ℕ, zero, suc, ◌+◌, ◌-◌, ◌≤◌, ◌<◌, Bool, true, false, List, [], ◌∷◌, ◌++◌, Option, Some, None, map, length, refl, sym, ap, subst, ◌∙◌, arith}
-use Rattle.std.specs.Prelude.{nat_eq, slice_get, slice_set, Vec, ◌&&◌}
+use Rattle.std.proofs.Common.{◌≡◌, ◌≢◌, ◌⊎◌, inl, inr, ℕ, zero, suc, ◌+◌, ◌-◌, ◌≤◌, Bool, true, List, [], ◌∷◌, ◌++◌, Option, Some, None, map, length, refl, sym, ap, subst, ◌∙◌, arith}
+use Rattle.std.specs.Prelude.{nat_eq, slice_get, slice_set, Vec}
 use Rattle.std.proofs.lemmas.Bool.{and_parts, eqb-true, eqb-false}
 use Rattle.std.proofs.lemmas.Option.{slice_get_within}
 use Rattle.bridge_base.specs.Members.{In}
@@ -14,7 +14,7 @@ use Rattle.bridge_run.specs.declared.outcome.Origin.{Origin}
 use Rattle.bridge_delays.specs.declared.hops.HopRun.{HopRun}
 use Rattle.bridge_delays.specs.declared.tracing.Root.{Root}
 use Rattle.bridge_delays.specs.Hops.{AreAnswers, leads_on}
-use Rattle.bridge_delays.specs.Tracing.{AreBegun, AreBegunAt, AreFirst, AreFrom, AreTraced, AreUnknown, IsFirst, IsFrom, IsOver, SenderIs, due_from, is_due, joined, root_at, root_over}
+use Rattle.bridge_delays.specs.Tracing.{AreBegun, AreBegunAt, AreFirst, AreFrom, AreTraced, AreUnknown, IsFrom, IsOver, SenderIs, due_from, is_due, joined, root_at, root_over}
 
 head_is : {X : Type 0} (x y : X) (xs ys : List X) → x ∷ xs ≡ y ∷ ys → x ≡ y
 head_is x y xs ys h = cc

@@ -1,15 +1,11 @@
 -- The lines of the table of frames, each with its line feed.
-use Rattle.std.specs.Prelude.{ℕ, ◌-◌, Bool, true, false, nat_eq, Option, Some, None, List, [], ◌∷◌, ◌++◌, flat_map, slice_get, codes, decimal, if◌then◌else◌}
+use Rattle.std.specs.Prelude.{ℕ, ◌-◌, Bool, true, false, nat_eq, Option, Some, None, List, [], ◌++◌, slice_get, codes, decimal, if◌then◌else◌}
 use Rattle.bridge_filter.specs.declared.Verdict.{Verdict}
 use Rattle.bridge_run.specs.declared.outcome.Departure.{Departure}
 use Rattle.bridge_run.specs.declared.outcome.Dropped.{Dropped}
 use Rattle.bridge_run.specs.declared.outcome.Origin.{Origin}
-use Rattle.bridge_run.specs.declared.outcome.View.{View}
 use Rattle.bridge_report.specs.Words.{verdict_word, refusal_word}
 use Rattle.bridge_delays.specs.declared.tracing.Root.{Root}
-use Rattle.bridge_delays.specs.Hops.{is_on}
-use Rattle.bridge_delays.specs.Tallies.{passes}
-use Rattle.bridge_delays.specs.Tracing.{root_at}
 
 -- the moment at which a frame of a hop came, by its number there, from 1; 0 of one that isn't there
 abbrev pub at_if : Option Origin → ℕ

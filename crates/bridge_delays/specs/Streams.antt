@@ -1,5 +1,5 @@
 -- The lines of the table of streams, each with its line feed.
-use Rattle.std.specs.Prelude.{ℕ, ◌+◌, ◌-◌, Option, Some, None, List, ◌++◌, count_by, length, sum_by, codes, decimal}
+use Rattle.std.specs.Prelude.{ℕ, ◌+◌, ◌-◌, Bool, true, false, ◌&&◌, nat_eq, nat_le, Option, Some, None, List, ◌++◌, count_by, length, sum_by, codes, decimal}
 use Rattle.bridge_delays.specs.declared.figures.Figures.{Figures}
 use Rattle.bridge_delays.specs.declared.tallies.HopCounts.{HopCounts}
 use Rattle.bridge_delays.specs.declared.tallies.Tally.{Tally}
@@ -26,7 +26,7 @@ hop_start stream hop c = stream ++ (codes "," ++ (hop ++ (codes "," ++ (decimal 
 
 -- the line of a hop
 unfoldable pub hop_line : List ℕ → List ℕ → HopCounts → Option Figures → List ℕ
-hop_line stream hop c figures = hop_start stream hop c ++ (reason_words c ++ (codes "," ++ (figure_words figures ++ codes "\n")))
+hop_line stream hop c figures = hop_start stream hop c ++ (reason_words c ++ (codes "," ++ (figure_words figures ++ codes ",,\n")))
 
 -- how many frames were delivered
 abbrev pub delivered_of : List Tally → ℕ
@@ -37,6 +37,25 @@ unfoldable pub stream_start : List ℕ → List Tally → List ℕ
 stream_start stream tallies = stream ++ (codes ",all," ++ (decimal (length tallies) ++ (codes "," ++ (decimal (delivered_of tallies) ++ (codes ","
     ++ (decimal (length tallies - delivered_of tallies) ++ (codes ",,,,,,,,,,," ++ (decimal (sum_by astray tallies) ++ codes ","))))))))
 
+-- whether no copy took longer than a deadline
+abbrev pub is_within : Option Figures → ℕ → Bool
+is_within None deadline = true
+is_within (Some f) deadline = nat_le f.greatest deadline
+
+-- whether all frames of a stream were delivered, and no copy took longer than a deadline
+abbrev pub is_met : List Tally → Option Figures → ℕ → Bool
+is_met tallies figures deadline = nat_eq (delivered_of tallies) (length tallies) && is_within figures deadline
+
+abbrev pub met_word : Bool → List ℕ
+met_word true = codes ",met"
+met_word false = codes ",missed"
+
+-- a deadline and whether it was met, or empty fields
+abbrev pub deadline_words : List Tally → Option Figures → Option ℕ → List ℕ
+deadline_words tallies figures None = codes ","
+deadline_words tallies figures (Some d) = decimal d ++ met_word (is_met tallies figures d)
+
 -- the line of a stream as a whole
-unfoldable pub stream_line : List ℕ → List Tally → Option Figures → ℕ → List ℕ
-stream_line stream tallies figures bound = stream_start stream tallies ++ (figure_words figures ++ (decimal bound ++ codes "\n"))
+unfoldable pub stream_line : List ℕ → List Tally → Option Figures → ℕ → Option ℕ → List ℕ
+stream_line stream tallies figures bound deadline = stream_start stream tallies ++ (figure_words figures ++ (decimal bound ++ (codes ","
+    ++ (deadline_words tallies figures deadline ++ codes "\n"))))

@@ -1,9 +1,10 @@
 //! A picture of how the frames of streams went through a run of a network.
-ghost use Rattle.std.specs.Prelude.{◌≤◌, IfOk, length, string_bytes};
+ghost use Rattle.std.specs.Prelude.{◌<◌};
 
 use crate::hops::HopRun;
 use crate::tallies::passes;
 use bridge_base::NoMemory;
+use bridge_cycle::{END_OF_TURNS, Egress, Timeline, is_open};
 use bridge_network::Link;
 use bridge_rounds::sender_of;
 use bridge_run::{Departure, Origin, View};
@@ -27,11 +28,16 @@ const ROW: u64 = 26;
 /// Where the first row is, in pixels from the top.
 const TOP: u64 = 60;
 
+/// The turns of a list that are looked at for one queue, and the windows that are drawn of it at most.
+const MOST_TURNS: usize = 20_000;
+
+const MOST_WINDOWS: u32 = 500;
+
 /// The styles of all shapes.
 const STYLES: &str = ":root{color-scheme:light dark}\
 text{font:13px system-ui,sans-serif;fill:#222}.s{font-size:11px;fill:#666}.page{fill:#fff}\
-.row{stroke:#d5dae1}.wait{fill:#f0b429}.out{fill:#2a7de1}.lost{fill:#d64545}.link{stroke:#8a94a3}\
-@media(prefers-color-scheme:dark){text{fill:#e6e6e6}.s{fill:#a0a0a0}.page{fill:#16181c}.row{stroke:#3a4048}}";
+.row{stroke:#d5dae1}.open{fill:#cdeccf}.wait{fill:#f0b429}.out{fill:#2a7de1}.lost{fill:#d64545}.link{stroke:#8a94a3}\
+@media(prefers-color-scheme:dark){text{fill:#e6e6e6}.s{fill:#a0a0a0}.page{fill:#16181c}.row{stroke:#3a4048}.open{fill:#254d2b}}";
 
 /// A picture under way: the first and the last moment that it shows, in ns, and the shapes so far.
 #[derive(Drop)]
@@ -217,6 +223,62 @@ fn put_hop<A: Allocator>(
     put_refused(alloc, picture, hop.view, y)
 }
 
+/// Adds a window of a queue, behind what else stands in a row.
+fn put_window(
+    alloc: Global,
+    picture: &mut RunPicture,
+    y: u64,
+    queue: (u8, u8),
+    from: u64,
+    to: u64,
+) -> Result<(), AllocError> {
+    let (port, class) = queue;
+    let x = place_of(picture, from);
+    let width = place_of(picture, to).saturating_sub(x).max(1);
+    let top = y.saturating_sub(10);
+    let shape = format!(in alloc;
+        "<rect class=\"open\" x=\"{x}\" y=\"{top}\" width=\"{width}\" height=\"20\"><title>port {port} opens class {class}</title></rect>\n"
+    )?;
+    put(picture, shape.as_str())
+}
+
+/// Adds the windows in which lists open a class, over the moments of a picture.
+fn put_turns<L: Timeline<State = u8>>(
+    alloc: Global,
+    picture: &mut RunPicture,
+    y: u64,
+    queue: (u8, u8),
+    list: &L,
+) -> Result<(), AllocError>
+    requires { queue.1 < 8 }
+{
+    let end = picture.to.min(END_OF_TURNS);
+    let mut at = picture.from;
+    let mut opened = None;
+    let mut drawn: u32 = 0;
+    for _ in 0..MOST_TURNS {
+        if at >= end || drawn >= MOST_WINDOWS {
+            break;
+        }
+        let turn = list.turn(at);
+        if is_open(turn.state, queue.1) {
+            opened = opened.or(Some(at));
+        } else if let Some(from) = opened {
+            put_window(alloc, picture, y, queue, from, at)?;
+            drawn += 1;
+            opened = None;
+        }
+        at = turn.end;
+    }
+    if let Some(from) = opened {
+        put_window(alloc, picture, y, queue, from, at.min(end))?;
+    }
+    if at < end {
+        picture.left_out = picture.left_out.saturating_add(1);
+    }
+    Ok(())
+}
+
 impl RunPicture {
     /// A picture of nothing.
     pub fn new(alloc: Global) -> RunPicture {
@@ -235,6 +297,28 @@ impl RunPicture {
         let (from, to) = span_of(hops, (self.from, self.to));
         self.from = from;
         self.to = to;
+    }
+
+    /// Adds when the port of a number opens a class, all the time where it has no list, to the row of the hop at a place of the
+    /// stream whose rows are added next. They stand behind its frames.
+    pub fn open<A: Allocator + Copy>(
+        &mut self,
+        alloc: Global,
+        place: usize,
+        port: u8,
+        class: u8,
+        list: &Option<Egress<A>>,
+    ) -> Result<(), NoMemory> {
+        let y = height_of(self.rows.saturating_add(place as u64));
+        if class >= 8 {
+            return Ok(());
+        }
+        let (from, to) = (self.from, self.to);
+        match list {
+            Some(list) => put_turns(alloc, self, y, (port, class), list)?,
+            None => put_window(alloc, self, y, (port, class), from, to)?,
+        }
+        Ok(())
     }
 
     /// Adds the rows of a stream, one for each hop, by the names of its hops.
@@ -265,7 +349,7 @@ impl RunPicture {
     }
 
     /// The picture as an SVG text: a row for each hop, in which each copy that left waited (yellow) from when its frame came, and was
-    /// then on the link (blue); red where a frame was refused.
+    /// then on the link (blue); red where a frame was refused; behind them (green) when its queues are open.
     pub fn finish(self, alloc: Global) -> Result<String, NoMemory> {
         let RunPicture {
             from,
@@ -283,7 +367,7 @@ impl RunPicture {
             format!(in alloc; "; {left_out} shapes are left out")?
         };
         Ok(format!(in alloc;
-            "<svg xmlns=\"http://www.w3.org/2000/svg\" viewBox=\"0 0 {width} {height}\">\n<style>{STYLES}</style>\n<rect class=\"page\" width=\"100%\" height=\"100%\"/>\n<text class=\"s\" x=\"12\" y=\"24\">from {from} to {to} ns: yellow from a frame's coming to its start, blue on the link, red where it was refused{note}</text>\n{shapes}</svg>\n"
+            "<svg xmlns=\"http://www.w3.org/2000/svg\" viewBox=\"0 0 {width} {height}\">\n<style>{STYLES}</style>\n<rect class=\"page\" width=\"100%\" height=\"100%\"/>\n<text class=\"s\" x=\"12\" y=\"24\">from {from} to {to} ns: yellow from a frame's coming to its start, blue on the link, red where it was refused; green while a queue is open{note}</text>\n{shapes}</svg>\n"
         )?)
     }
 }

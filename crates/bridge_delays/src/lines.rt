@@ -11,9 +11,10 @@ use std::alloc::{AllocError, Allocator};
 /// The first line of the table. Of a stream as a whole, whose hop is `all`: the frames of its first hop, how many of them
 /// were delivered and lost, and how many copies went astray; of a hop: its frames, the copies that it delivered and lost,
 /// and by each reason how many. Of both how long the delivered copies took from the first hop on, in ns: the least, the mean,
-/// the greatest, and how far these differ. Of a stream the bound of `net check`.
+/// the greatest, and how far these differ. Of a stream the bound of `net check`, and its deadline, where it has one, in ns, with
+/// whether it was met: whether each frame was delivered, and none of its copies took longer.
 pub const STREAMS_HEADER: &str =
-    "stream,hop,frames,delivered,lost,blocked,oversize,gate-closed,shut-rx,shut-octets,octets-exceeded,red,yellow-dropped,full,never,astray,least,mean,greatest,jitter,bound\n";
+    "stream,hop,frames,delivered,lost,blocked,oversize,gate-closed,shut-rx,shut-octets,octets-exceeded,red,yellow-dropped,full,never,astray,least,mean,greatest,jitter,bound,deadline,met\n";
 
 /// Figures, or empty fields where there are none.
 fn figure_words<A: Allocator>(alloc: A, figures: Option<Figures>) -> Result<String<A>, AllocError>
@@ -110,7 +111,7 @@ pub fn hop_line<A: Allocator + Copy>(
     let reasons = reason_words(alloc, counts)?;
     let times = figure_words(alloc, figures)?;
     let mut text = String::new(alloc);
-    write!(text, "{start}{reasons},{times}\n")?;
+    write!(text, "{start}{reasons},{times},,\n")?;
     Ok(text)
 }
 
@@ -149,6 +150,42 @@ fn stream_start<A: Allocator>(
     Ok(text)
 }
 
+/// Whether no copy took longer than a deadline.
+fn is_within(figures: Option<Figures>, deadline: u64) -> bool
+    ensures { result ≡ spec.is_within figures deadline }
+{
+    match figures {
+        Some(figures) => figures.greatest <= deadline,
+        None => true,
+    }
+}
+
+/// Whether all frames of a stream were delivered, and no copy took longer than a deadline.
+fn is_met(tallies: &[Tally], figures: Option<Figures>, deadline: u64) -> bool
+    ensures { result ≡ spec.is_met tallies.now figures deadline }
+{
+    delivered_of(tallies) == tallies.len() && is_within(figures, deadline)
+}
+
+/// A deadline and whether it was met, or empty fields where there is none.
+fn deadline_words<A: Allocator>(
+    alloc: A,
+    tallies: &[Tally],
+    figures: Option<Figures>,
+    deadline: Option<u64>,
+) -> Result<String<A>, AllocError>
+    ensures { IfOk result (λ words. string_bytes words ≡ spec.deadline_words tallies.now figures deadline) }
+{
+    let Some(deadline) = deadline else {
+        return String::from_str(alloc, ",");
+    };
+    if is_met(tallies, figures, deadline) {
+        format!(in alloc; "{deadline},met")
+    } else {
+        format!(in alloc; "{deadline},missed")
+    }
+}
+
 /// The line of a stream as a whole.
 #[tactic(auto, unfolding(crate::specs::Streams::stream_line))]
 pub fn stream_line<A: Allocator + Copy>(
@@ -157,12 +194,14 @@ pub fn stream_line<A: Allocator + Copy>(
     tallies: &[Tally],
     figures: Option<Figures>,
     bound: u128,
+    deadline: Option<u64>,
 ) -> Result<String<A>, NoMemory>
-    ensures { IfOk result (λ text. string_bytes text ≡ spec.stream_line stream.now tallies.now figures bound) }
+    ensures { IfOk result (λ text. string_bytes text ≡ spec.stream_line stream.now tallies.now figures bound deadline) }
 {
     let start = stream_start(alloc, stream, tallies)?;
     let times = figure_words(alloc, figures)?;
+    let kept = deadline_words(alloc, tallies, figures, deadline)?;
     let mut text = String::new(alloc);
-    write!(text, "{start}{times}{bound}\n")?;
+    write!(text, "{start}{times}{bound},{kept}\n")?;
     Ok(text)
 }

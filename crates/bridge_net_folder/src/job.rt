@@ -9,14 +9,15 @@ use crate::outputs::{Outputs, open_outputs};
 use crate::picture::{open_picture, put_picture};
 use crate::refusing::said_of_run;
 use crate::tables::put_tables;
+use crate::watching::{Teller, is_long};
 use crate::writing::put_bridges;
 use bridge_base::NoMemory;
 use bridge_files::{FileId, Output, add_file, file_at};
 use bridge_netfile::NetworkFile;
 use bridge_network::Network;
 use bridge_planning::{
-    bounds_of_all, bounds_of_streams, memory_fault, paths_of, read_network, read_plans, tested,
-    told_of,
+    QueueBound, bounds_of_all, bounds_of_streams, memory_fault, paths_of, read_network, read_plans,
+    tested, told_of,
 };
 use bridge_program::Fault;
 use bridge_rounds::{Settled, settle};
@@ -71,21 +72,12 @@ fn line_of(
     Ok(text)
 }
 
-/// How long the streams of a network take at most, in ns, in their order.
-fn bounds_in(
-    alloc: Global,
-    file: &NetworkFile<Global>,
-    network: &Network<Global>,
-) -> Result<Vec<u128>, NoMemory> {
-    let bounds = bounds_of_all(alloc, network.plans())?;
-    bounds_of_streams(alloc, &bounds, file.links(), file.streams())
-}
-
 /// Writes what a run of a network told.
 fn put_all<H: AllocGlobal + Files>(
     rt: &H,
     file: &NetworkFile<Global>,
     network: &Network<Global>,
+    queues: &[Vec<QueueBound>],
     output: &str,
     settled: &[Settled<Global>],
     outputs: Outputs<H::File>,
@@ -99,7 +91,7 @@ fn put_all<H: AllocGlobal + Files>(
         streams,
         frames,
     } = outputs;
-    let Ok(bounds) = bounds_in(alloc, file, network) else {
+    let Ok(bounds) = bounds_of_streams(alloc, queues, file.links(), file.streams()) else {
         drop(bridges);
         drop(streams);
         drop(frames);
@@ -140,27 +132,42 @@ fn put_drawn<H: AllocGlobal + Files>(
     ensures ok { IfOk result (λ line. IsLine file.now (string_bytes line)) }
     ensures err { IfErr result EndsFiles }
 {
-    let line = match put_all(rt, file, network, output, settled, outputs) {
+    let Ok(queues) = bounds_of_all(rt.alloc(), network.plans()) else {
+        drop(outputs);
+        drop(drawing);
+        return Err(memory_fault());
+    };
+    let line = match put_all(rt, file, network, &queues, output, settled, outputs) {
         Ok(line) => line,
         Err(fault) => {
             drop(drawing);
             return Err(fault);
         }
     };
-    match put_picture(rt.alloc(), file, network.links(), settled, picture, drawing) {
+    match put_picture(
+        rt.alloc(),
+        file,
+        network,
+        &queues,
+        settled,
+        picture,
+        drawing,
+    ) {
         Ok(()) => Ok(line),
         Err(fault) => Err(fault),
     }
 }
 
 /// Runs a network from one folder into another.
-fn run_network<H: AllocGlobal + Files>(
+fn run_network<H: AllocGlobal + Eprint + Files>(
     rt: &H,
     file: &NetworkFile<Global>,
     network: &Network<Global>,
     input: &str,
     output: &str,
     picture: Option<String>,
+    is_watched: bool,
+    teller: &mut Teller<'_, H>,
     taken: Vec<FileId>,
 ) -> Result<String, Fault>
     ensures ran { IfOk result (λ _. (came : List (Incoming Global)) × (settled : List (Told Global)) × IsSettled network.now came settled) }
@@ -191,7 +198,8 @@ fn run_network<H: AllocGlobal + Files>(
             return Err(fault);
         }
     };
-    match settle(rt.alloc(), network, incoming, MOST_ROUNDS) {
+    teller.is_wanted = is_watched && is_long(&incoming);
+    match settle(rt.alloc(), network, incoming, MOST_ROUNDS, teller) {
         Ok(settled) => {
             let told = put_drawn(
                 rt, file, network, output, &settled, outputs, picture, drawing,
@@ -214,6 +222,8 @@ pub struct RoundsSaid {
     pub line: String,
     /// Whether `net check` tells something of the network; looked at where that is asked for alone.
     pub is_told: bool,
+    /// In how many rounds it was found: in the last of them nothing else was sent over any link than before.
+    pub rounds: u32,
 }
 
 /// Whether `net check` tells something of a network.
@@ -229,7 +239,7 @@ fn is_told(
 }
 
 /// Runs an accepted network, and looks at what is told of it, where that is asked for.
-fn run_accepted<H: AllocGlobal + Files>(
+fn run_accepted<H: AllocGlobal + Eprint + Files>(
     rt: &H,
     file: &NetworkFile<Global>,
     network: &Network<Global>,
@@ -247,6 +257,7 @@ fn run_accepted<H: AllocGlobal + Files>(
         output,
         picture,
         is_strict,
+        is_watched,
     } = job;
     let told = if is_strict {
         is_told(rt.alloc(), file, network)
@@ -256,6 +267,12 @@ fn run_accepted<H: AllocGlobal + Files>(
     let Ok(is_told) = told else {
         return Err(memory_fault());
     };
+    let mut teller = Teller {
+        rt,
+        bridges: file.bridges(),
+        is_wanted: false,
+        rounds: 0,
+    };
     match run_network(
         rt,
         file,
@@ -263,9 +280,15 @@ fn run_accepted<H: AllocGlobal + Files>(
         input.as_str(),
         output.as_str(),
         picture,
+        is_watched,
+        &mut teller,
         taken,
     ) {
-        Ok(line) => Ok(RoundsSaid { line, is_told }),
+        Ok(line) => Ok(RoundsSaid {
+            line,
+            is_told,
+            rounds: teller.rounds,
+        }),
         Err(fault) => Err(fault),
     }
 }
@@ -283,6 +306,8 @@ pub struct RoundsJob {
     pub picture: Option<String>,
     /// Whether what `net check` tells of the network is looked at.
     pub is_strict: bool,
+    /// Whether a long run says on standard error how far it is: in which round which bridge runs.
+    pub is_watched: bool,
 }
 
 /// What is printed for a run of the network of a file whose plans lie beside it, where it is accepted: the captures of the open
@@ -296,7 +321,10 @@ pub struct RoundsJob {
 /// Faults in this order: those of `network_job`; what comes to each bridge; the folders and files that are written; the run,
 /// `Rounds` of a capture or where something still changes after 64 rounds; then the writing. What the outputs hold stays until
 /// the run is done.
-pub fn rounds_job<H: AllocGlobal + Files>(rt: &H, job: RoundsJob) -> Result<RoundsSaid, Fault>
+pub fn rounds_job<H: AllocGlobal + Eprint + Files>(
+    rt: &H,
+    job: RoundsJob,
+) -> Result<RoundsSaid, Fault>
     ensures ok { IfOk result (λ said. PrintsRounds Global (string_bytes said.line)) }
     ensures err { IfErr result EndsRounds }
 {

@@ -4,10 +4,12 @@
 
 mod incoming;
 mod job;
+pub mod laws;
 mod outputs;
 mod picture;
 mod refusing;
 mod tables;
+mod watching;
 mod writing;
 
 pub use job::{RoundsJob, RoundsSaid, rounds_job};

@@ -9,8 +9,8 @@ use bridge_base::NoMemory;
 use bridge_delays::RunPicture;
 use bridge_files::{FileId, Output};
 use bridge_netfile::{BridgeRow, NetworkFile, StreamRow};
-use bridge_network::Link;
-use bridge_planning::memory_fault;
+use bridge_network::Network;
+use bridge_planning::{QueueBound, memory_fault};
 use bridge_program::Fault;
 use bridge_rounds::Settled;
 use std::alloc::Global;
@@ -67,11 +67,65 @@ fn look_at_all(
     Ok(())
 }
 
+/// Adds when a queue is open to the row of a hop.
+fn open_queue(
+    alloc: Global,
+    picture: &mut RunPicture,
+    network: &Network<Global>,
+    bridge: usize,
+    place: usize,
+    queue: &QueueBound,
+) -> Result<(), NoMemory> {
+    let Some(accepted) = network.plans().get(bridge) else {
+        return Ok(());
+    };
+    let Some(port) = accepted.plan().port(queue.port) else {
+        return Ok(());
+    };
+    picture.open(alloc, place, queue.port, queue.class, &port.list)
+}
+
+/// Adds when the queues of a hop are open to its row.
+fn open_hop(
+    alloc: Global,
+    picture: &mut RunPicture,
+    network: &Network<Global>,
+    queues: &[Vec<QueueBound>],
+    place: usize,
+    hop: (u16, u32),
+) -> Result<(), NoMemory> {
+    let (bridge, filter) = hop;
+    let Some(rows) = queues.get(bridge as usize) else {
+        return Ok(());
+    };
+    for row in rows {
+        if row.filter == filter {
+            open_queue(alloc, picture, network, bridge as usize, place, row)?;
+        }
+    }
+    Ok(())
+}
+
+/// Adds when the queues of all hops of a stream are open.
+fn open_hops(
+    alloc: Global,
+    picture: &mut RunPicture,
+    network: &Network<Global>,
+    queues: &[Vec<QueueBound>],
+    hops: &[(u16, u32)],
+) -> Result<(), NoMemory> {
+    for place in 0..hops.len() {
+        open_hop(alloc, picture, network, queues, place, hops[place])?;
+    }
+    Ok(())
+}
+
 /// Adds the rows of all streams.
 fn add_all(
     alloc: Global,
     picture: &mut RunPicture,
-    links: &[Link],
+    network: &Network<Global>,
+    queues: &[Vec<QueueBound>],
     bridges: &[BridgeRow<Global>],
     settled: &[Settled<Global>],
     streams: &[StreamRow<Global>],
@@ -79,7 +133,8 @@ fn add_all(
     for stream in streams {
         let runs = runs_of(alloc, settled, stream.hops())?;
         let names = names_of(alloc, bridges, stream)?;
-        picture.add(alloc, links, &runs, &names)?;
+        open_hops(alloc, picture, network, queues, stream.hops())?;
+        picture.add(alloc, network.links(), &runs, &names)?;
     }
     Ok(())
 }
@@ -88,7 +143,8 @@ fn add_all(
 fn drawn(
     alloc: Global,
     file: &NetworkFile<Global>,
-    links: &[Link],
+    network: &Network<Global>,
+    queues: &[Vec<QueueBound>],
     settled: &[Settled<Global>],
 ) -> Result<String, NoMemory> {
     let mut picture = RunPicture::new(alloc);
@@ -96,7 +152,8 @@ fn drawn(
     add_all(
         alloc,
         &mut picture,
-        links,
+        network,
+        queues,
         file.bridges(),
         settled,
         file.streams(),
@@ -108,7 +165,8 @@ fn drawn(
 pub(crate) fn put_picture<F: Write + OpenFile + Drop>(
     alloc: Global,
     file: &NetworkFile<Global>,
-    links: &[Link],
+    network: &Network<Global>,
+    queues: &[Vec<QueueBound>],
     settled: &[Settled<Global>],
     path: Option<String>,
     output: Option<Output<F>>,
@@ -122,7 +180,7 @@ pub(crate) fn put_picture<F: Write + OpenFile + Drop>(
         drop(output);
         return Ok(());
     };
-    let text = match drawn(alloc, file, links, settled) {
+    let text = match drawn(alloc, file, network, queues, settled) {
         Ok(text) => text,
         Err(_) => {
             drop(output);

@@ -1,6 +1,9 @@
 //! The tables of streams and of their frames.
-ghost use Rattle.std.specs.Prelude.{IfErr};
+ghost use Rattle.std.specs.Prelude.{◌≡◌, ℕ, IfErr, IfOk, length};
+ghost use Rattle.bridge_run.specs.declared.outcome.Outcome.{Outcome};
+ghost use Rattle.bridge_rounds.specs.Rounds.{AreOutcomes};
 ghost use Rattle.bridge_net_folder.specs.Folders.{EndsFiles};
+ghost use Rattle.bridge_net_folder.specs.InTime.{AreRunsOf, IsRunOf};
 
 use bridge_base::NoMemory;
 use bridge_delays::{
@@ -26,22 +29,39 @@ pub(crate) struct Totals {
     pub(crate) delivered: u64,
 }
 
+/// What was told of a hop; want of memory where nothing was.
+fn run_of<'a>(
+    settled: &'a [Settled<Global>],
+    hop: (u16, u32),
+) -> Result<HopRun<'a, Global>, NoMemory>
+    ensures { IfOk result (λ run. (o : ℕ → Outcome Global) → AreOutcomes settled.now o → IsRunOf o hop run) }
+{
+    let (bridge, filter) = hop;
+    let Some(told) = settled.get(bridge as usize) else {
+        return Err(NoMemory);
+    };
+    match view_of(&told.outcome, filter) {
+        Some(view) => Ok(HopRun {
+            bridge: bridge as usize,
+            view,
+        }),
+        None => Err(NoMemory),
+    }
+}
+
 /// The hops of a stream in the order of the text, with what was told of each.
 pub(crate) fn runs_of<'a>(
     alloc: Global,
     settled: &'a [Settled<Global>],
     hops: &[(u16, u32)],
-) -> Result<Vec<HopRun<'a, Global>>, NoMemory> {
+) -> Result<Vec<HopRun<'a, Global>>, NoMemory>
+    ensures many { IfOk result (λ runs. length runs.items ≡ length hops.now) }
+    ensures told { IfOk result (λ runs. (o : ℕ → Outcome Global) → AreOutcomes settled.now o → AreRunsOf o hops.now runs.items) }
+{
     let mut runs = Vec::with_capacity(alloc, hops.len())?;
-    for (bridge, filter) in hops {
-        if let Some(told) = settled.get(*bridge as usize) {
-            if let Some(view) = view_of(&told.outcome, *filter) {
-                runs.push(HopRun {
-                    bridge: *bridge as usize,
-                    view,
-                })?;
-            }
-        }
+    for hop in hops {
+        let run = run_of(settled, *hop)?;
+        runs.push(run)?;
     }
     Ok(runs)
 }
@@ -114,7 +134,14 @@ fn put_stream<F: Write + OpenFile + Drop>(
     let all = roots_of(alloc, links, &runs)?;
     let tallies = tallies_of(alloc, links, &runs, &all)?;
     let delays = delays_of_all(alloc, links, &runs, &all)?;
-    let line = stream_line(alloc, stream.name(), &tallies, figures_of(&delays), bound)?;
+    let line = stream_line(
+        alloc,
+        stream.name(),
+        &tallies,
+        figures_of(&delays),
+        bound,
+        stream.deadline(),
+    )?;
     put_text(streams, line.as_str(), Table::Streams)?;
     for (place, hop) in stream.hops().iter().enumerate() {
         if place >= runs.len() || place >= all.len() {

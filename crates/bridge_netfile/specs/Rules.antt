@@ -1,8 +1,11 @@
 -- What the instances of each section of a network keep.
 use Rattle.std.specs.Prelude.{◌≡◌, ◌≤◌, ◌<◌, ◌^◌, ℕ, Bool, true, not, ◌&&◌, List, [], ◌∷◌, length, All}
+use Rattle.std.specs.Option.{ForSome}
 use Rattle.std.specs.List.{list_any}
 use Rattle.std.specs.Str.{bytes_eq}
+use Rattle.bridge_base.specs.declared.TheConstants.{END_OF_TIME, LONGEST_FRAME}
 use Rattle.bridge_netfile.specs.declared.links.LinkRow.{LinkRow}
+use Rattle.bridge_netfile.specs.declared.talkers.Talker.{Talker}
 use Rattle.bridge_netfile.specs.Model.{Bridge, Stream, Network}
 use Rattle.bridge_netfile.specs.Names.{is_name}
 
@@ -36,6 +39,16 @@ pub record IsLink (count : ℕ) (link : LinkRow) : Type 0 where
   pub other : IsEnd count link.other
   pub delay : link.delay ≤ 10 ^ 9
 
+-- frames that come once in each period: the phases lie in the period, the last not before the first, and so do the lengths
+-- in their range
+pub record IsTalker (t : Talker) : Type 0 where
+  pub phases : t.from ≤ t.to
+  pub within : t.to < t.period
+  pub period : t.period ≤ END_OF_TIME
+  pub some : 1 ≤ t.least
+  pub lengths : t.least ≤ t.longest
+  pub longest : t.longest ≤ LONGEST_FRAME
+
 -- a stream with a name, through filters of so many bridges
 pub record IsStream (count : ℕ) (stream : Stream) : Type 0 where
   pub name : is_name stream.name ≡ true
@@ -43,6 +56,8 @@ pub record IsStream (count : ℕ) (stream : Stream) : Type 0 where
   pub few_hops : length stream.hops ≤ 64
   pub bridges : All (λ h. h.0 < count) stream.hops
   pub filters : All (λ h. h.1 < 2 ^ 32) stream.hops
+  pub talker : ForSome stream.talker IsTalker
+  pub deadline : ForSome stream.deadline (λ d. d ≤ END_OF_TIME)
 
 -- streams whose names differ
 pub record AreStreams (count : ℕ) (streams : List Stream) : Type 0 where

@@ -1,8 +1,10 @@
 -- The sections of a network, key by key.
 use Rattle.std.specs.Prelude.{ℕ, ◌-◌, ◌^◌, Bool, true, false, not, ◌&&◌, List, [], ◌∷◌, ◌++◌, Option, Some, None, Result, Ok, Err, nat_le, if◌then◌else◌}
+use Rattle.std.specs.List.{list_any}
 use Rattle.toml.specs.Data.{Data, string, array, Items, no_items, item, Members, get_member}
 use Rattle.bridge_keys.specs.declared.fault.Flaw.{Flaw}
 use Rattle.bridge_keys.specs.declared.fault.Flaw.TheVariants as flaw
+use Rattle.bridge_base.specs.declared.TheConstants.{END_OF_TIME, LONGEST_FRAME}
 use Rattle.bridge_keys.specs.Readers.{◌>>=◌, between}
 use Rattle.bridge_netfile.specs.declared.fault.NetSection.TheVariants as section
 use Rattle.bridge_netfile.specs.declared.fault.NetField.{NetField}
@@ -11,10 +13,11 @@ use Rattle.bridge_netfile.specs.declared.fault.NetPlace.{NetPlace}
 use Rattle.bridge_netfile.specs.declared.fault.NetFault.{NetFault}
 use Rattle.bridge_netfile.specs.declared.fault.NetFault.TheVariants as fault
 use Rattle.bridge_netfile.specs.declared.links.LinkRow.{LinkRow}
+use Rattle.bridge_netfile.specs.declared.talkers.Talker.{Talker}
 use Rattle.bridge_netfile.specs.Faults.{key_of}
 use Rattle.bridge_netfile.specs.Model.{Bridge, Stream}
 use Rattle.bridge_netfile.specs.Names.{end_of, is_in_form}
-use Rattle.bridge_netfile.specs.Reading.{provided, any_text, name_text, at_place, required, default_to, are_known, count_of}
+use Rattle.bridge_netfile.specs.Reading.{provided, any_text, name_text, at_place, required, optional, default_to, are_known, count_of}
 use Rattle.bridge_netfile.specs.Rules.{has_bridge, has_stream}
 
 -- goes on where no earlier instance is alike
@@ -87,12 +90,46 @@ hops_in place bridges (Some (array items)) =
     else hops_from place bridges [] items
 hops_in place bridges (Some _) = Err (fault.WrongKind place)
 
+-- the keys of a talker that keeps a period
+abbrev pub talker_keys : List NetField
+talker_keys = field.Period ∷ field.From ∷ field.To ∷ field.Least ∷ field.Longest ∷ []
+
+-- the keys of a stream
+abbrev pub stream_keys : List NetField
+stream_keys = field.Name ∷ field.Hops ∷ field.Period ∷ field.From ∷ field.To ∷ field.Least ∷ field.Longest ∷ field.Deadline ∷ []
+
+-- whether there is a value
+abbrev pub is_there : Option Data → Bool
+is_there None = false
+is_there (Some d) = true
+
+-- whether a table has one of some keys
+abbrev pub has_any : List NetField → Members → Bool
+has_any keys members = list_any (λ f. is_there (get_member (key_of f) members)) keys
+
+-- what the talker of a stream keeps to, by the stream's place
+unfoldable pub talker_of : ℕ → Members → Result Talker NetFault
+talker_of index members =
+    let at : NetField → NetPlace = λ key. record { section = section.Stream; index = index; field = key } in do
+      period ← required (at field.Period) (between 1 END_OF_TIME) members
+      from ← required (at field.From) (between 0 (period - 1)) members
+      to ← required (at field.To) (between from (period - 1)) members
+      least ← required (at field.Least) (between 1 LONGEST_FRAME) members
+      longest ← required (at field.Longest) (between least LONGEST_FRAME) members
+      Ok (record { period = period; from = from; to = to; least = least; longest = longest })
+
+-- the same where one of its keys is there, which asks for all of them; without them the talker keeps no period
+abbrev pub talker_in : ℕ → Members → Result (Option Talker) NetFault
+talker_in index members = if has_any talker_keys members then (talker_of index members >>= λ t. Ok (Some t)) else Ok None
+
 -- a stream, by the bridges, the streams before it and its place
 unfoldable pub stream_at : List Bridge → List Stream → ℕ → Members → Result Stream NetFault
 stream_at bridges earlier index members =
     let at : NetField → NetPlace = λ key. record { section = section.Stream; index = index; field = key } in do
-      keys ← provided (are_known (field.Name ∷ field.Hops ∷ []) members) (fault.UnknownKey section.Stream index)
+      keys ← provided (are_known stream_keys members) (fault.UnknownKey section.Stream index)
       name ← required (at field.Name) name_text members
       hops ← hops_in (at field.Hops) bridges (get_member (key_of field.Hops) members)
+      talker ← talker_in index members
+      deadline ← optional (at field.Deadline) (between 0 END_OF_TIME) members
       own ← no_duplicate (has_stream earlier name) (fault.Duplicate section.Stream index)
-      Ok (record { name = name; hops = hops })
+      Ok (record { name = name; hops = hops; talker = talker; deadline = deadline })

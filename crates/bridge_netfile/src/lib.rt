@@ -11,6 +11,7 @@ mod network;
 mod reading;
 mod rows;
 mod streams;
+mod talkers;
 #[cfg(test)]
 mod tests;
 
@@ -22,3 +23,4 @@ pub use network::{NetworkFile, are_sections, document_of, network_of};
 pub use reading::{are_known, optional, required};
 pub use rows::{RowReader, items_of, read_rows};
 pub use streams::StreamRow;
+pub use talkers::Talker;

@@ -11,9 +11,11 @@ ghost use Rattle.bridge_netfile.specs.Sections as sections;
 use crate::bridges::BridgeRow;
 use crate::fault::{NetFault, NetField, NetPlace, NetSection};
 use crate::names::{end_of, is_in_form};
-use crate::reading::{are_known, flawed, name_at};
+use crate::reading::{are_known, flawed, name_at, optional};
 use crate::rows::RowReader;
-use bridge_keys::{Flaw, value_at};
+use crate::talkers::{Talker, talker_in};
+use bridge_base::END_OF_TIME;
+use bridge_keys::{Between, Flaw, value_at};
 use std::alloc::Allocator;
 use std::marker::Model;
 use toml::{Table, Value};
@@ -21,14 +23,28 @@ use toml::{Table, Value};
 /// The largest number of a filter.
 const LARGEST_NUMBER: u32 = u32::MAX;
 
+/// The keys of a stream.
+const KEYS: [NetField; 8] = [
+    NetField::Name,
+    NetField::Hops,
+    NetField::Period,
+    NetField::From,
+    NetField::To,
+    NetField::Least,
+    NetField::Longest,
+    NetField::Deadline,
+];
+
 /// The most hops of a stream.
 const MOST_HOPS: usize = 64;
 
-/// A stream of a network. Contracts see its name and its hops.
+/// A stream of a network. Contracts see all of it.
 #[derive(Drop)]
 pub struct StreamRow<A: Allocator + Copy> {
     name: String<A>,
     hops: Vec<(u16, u32), A>,
+    talker: Option<Talker>,
+    deadline: Option<u64>,
 }
 
 impl<A: Allocator + Copy> Model for StreamRow<A> {
@@ -37,7 +53,7 @@ impl<A: Allocator + Copy> Model for StreamRow<A> {
 
     ghost Value = { Stream };
 
-    ghost view = { λ s. record { name = string_bytes s.name; hops = s.hops.items } };
+    ghost view = { λ s. record { name = string_bytes s.name; hops = s.hops.items; talker = s.talker; deadline = s.deadline } };
 }
 
 impl<A: Allocator + Copy> StreamRow<A> {
@@ -53,6 +69,20 @@ impl<A: Allocator + Copy> StreamRow<A> {
         ensures { result.now ≡ self.now.hops }
     {
         self.hops.as_slice()
+    }
+
+    /// What its talker keeps to, where it keeps a period.
+    pub fn talker(&self) -> Option<Talker>
+        ensures { result ≡ self.now.talker }
+    {
+        self.talker
+    }
+
+    /// How long a frame may take at most, from its first hop until it is out of the last, in ns.
+    pub fn deadline(&self) -> Option<u64>
+        ensures { result ≡ self.now.deadline }
+    {
+        self.deadline
     }
 }
 
@@ -217,17 +247,28 @@ fn stream_of<A: Allocator + Copy>(
             field,
         }
     };
-    if !are_known(table, &[NetField::Name, NetField::Hops]) {
+    if !are_known(table, &KEYS) {
         return Err(NetFault::UnknownKey(NetSection::Stream, index));
     }
     let name = name_at(table, at(NetField::Name))?;
     let value = value_at(table, NetField::Hops.key());
     let hops = hops_in(alloc, bridges, at(NetField::Hops), value)?;
+    let talker = talker_in(index, table)?;
+    let times = Between {
+        low: 0,
+        high: END_OF_TIME,
+    };
+    let deadline = optional(table, at(NetField::Deadline), &times)?;
     if has_stream(earlier, name) {
         return Err(NetFault::Duplicate(NetSection::Stream, index));
     }
     let name = String::from_str(alloc, name)?;
-    Ok(StreamRow { name, hops })
+    Ok(StreamRow {
+        name,
+        hops,
+        talker,
+        deadline,
+    })
 }
 
 /// The section of streams, where these are the bridges.

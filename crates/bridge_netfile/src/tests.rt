@@ -1,5 +1,5 @@
 //! Texts of networks: what becomes of each, the limits at and beyond, and the rows that are read.
-use crate::{LinkRow, NetFault, fault_line, network_of};
+use crate::{LinkRow, NetFault, Talker, fault_line, network_of};
 use bridge_base::NoMemory;
 use std::alloc::{AllocError, Global};
 use std::process::Abort;
@@ -175,7 +175,7 @@ const BEHIND: [(&str, &str); 36] = [
         "2 bridges 0 links 2 streams",
     ),
     (
-        "stream = [{ name = 'position', hops = ['a.10'], from = 'a' }]",
+        "stream = [{ name = 'position', hops = ['a.10'], start = 'a' }]",
         "network refused: UnknownKey stream 1",
     ),
     (
@@ -236,6 +236,147 @@ const BEHIND: [(&str, &str); 36] = [
     ),
     ("link = 1", "network refused: NotAList link"),
 ];
+
+/// The values of the keys of what a talker keeps to and of a deadline, in their order, `_` for a key that isn't there, and
+/// what is said of them.
+const TALKERS: [(&str, &str); 32] = [
+    ("_ _ _ _ _ _", "2 bridges 0 links 2 streams"),
+    ("_ _ _ _ _ 0", "2 bridges 0 links 2 streams"),
+    (
+        "_ _ _ _ _ 4000000000000000000",
+        "2 bridges 0 links 2 streams",
+    ),
+    (
+        "_ _ _ _ _ 4000000000000000001",
+        "network refused: OutOfRange stream 2 deadline",
+    ),
+    (
+        "_ _ _ _ _ true",
+        "network refused: WrongKind stream 2 deadline",
+    ),
+    ("1000 5 6 60 80 _", "2 bridges 0 links 2 streams"),
+    ("1 0 0 1 9216 90", "2 bridges 0 links 2 streams"),
+    (
+        "4000000000000000000 0 3999999999999999999 9216 9216 90",
+        "2 bridges 0 links 2 streams",
+    ),
+    ("_ 5 6 60 80 _", "network refused: Missing stream 2 period"),
+    ("_ _ _ _ 80 _", "network refused: Missing stream 2 period"),
+    ("1000 _ 6 60 80 _", "network refused: Missing stream 2 from"),
+    ("1000 5 _ 60 80 _", "network refused: Missing stream 2 to"),
+    ("1000 5 6 _ 80 _", "network refused: Missing stream 2 least"),
+    (
+        "1000 5 6 60 _ _",
+        "network refused: Missing stream 2 longest",
+    ),
+    ("1000 _ _ _ _ 90", "network refused: Missing stream 2 from"),
+    ("0 _ _ _ _ _", "network refused: OutOfRange stream 2 period"),
+    (
+        "4000000000000000001 5 6 60 80 _",
+        "network refused: OutOfRange stream 2 period",
+    ),
+    (
+        "'1000' 5 6 60 80 _",
+        "network refused: WrongKind stream 2 period",
+    ),
+    (
+        "1000 1000 6 60 80 _",
+        "network refused: OutOfRange stream 2 from",
+    ),
+    (
+        "1000 -1 6 60 80 _",
+        "network refused: OutOfRange stream 2 from",
+    ),
+    (
+        "1000 5 4 60 80 _",
+        "network refused: OutOfRange stream 2 to",
+    ),
+    (
+        "1000 5 1000 60 80 _",
+        "network refused: OutOfRange stream 2 to",
+    ),
+    ("1000 5 5 60 60 _", "2 bridges 0 links 2 streams"),
+    ("1000 5 999 60 60 _", "2 bridges 0 links 2 streams"),
+    (
+        "1000 5 [] 60 80 _",
+        "network refused: WrongKind stream 2 to",
+    ),
+    (
+        "1000 5 6 0 80 _",
+        "network refused: OutOfRange stream 2 least",
+    ),
+    (
+        "1000 5 6 9217 9217 _",
+        "network refused: OutOfRange stream 2 least",
+    ),
+    (
+        "1000 5 6 1.5 80 _",
+        "network refused: WrongKind stream 2 least",
+    ),
+    (
+        "1000 5 6 60 59 _",
+        "network refused: OutOfRange stream 2 longest",
+    ),
+    (
+        "1000 5 6 60 9217 _",
+        "network refused: OutOfRange stream 2 longest",
+    ),
+    (
+        "1000 5 6 60 'x' -1",
+        "network refused: WrongKind stream 2 longest",
+    ),
+    (
+        "1000 5 6 60 80 -1",
+        "network refused: OutOfRange stream 2 deadline",
+    ),
+];
+
+/// The keys of these values.
+const KEYS: [&str; 6] = ["period", "from", "to", "least", "longest", "deadline"];
+
+/// Two bridges, a stream, and behind it one with these values.
+fn with_talker(alloc: Global, values: &str) -> Result<String, AllocError> {
+    let mut text = format!(in alloc;
+        "{TWO}[[stream]]\nname = 's'\nhops = ['a.1']\n[[stream]]\nname = 't'\nhops = ['b.1']\n"
+    )?;
+    for (key, value) in KEYS.iter().zip(values.split(' ')) {
+        if value != "_" {
+            text.push_str(format!(in alloc; "{key} = {value}\n")?.as_str())?;
+        }
+    }
+    Ok(text)
+}
+
+#[test]
+fn talkers_keep_all_keys_or_none(rt: HostRuntime) -> Result<(), Fail> {
+    let alloc = rt.alloc();
+    for (values, wanted) in &TALKERS {
+        let text = with_talker(alloc, values)?;
+        let line = said(alloc, text.as_bytes())?;
+        assert_eq!(rt; line.as_str(), *wanted, "of {values}");
+    }
+    Ok(())
+}
+
+#[test]
+fn a_talker_is_that_of_the_text(rt: HostRuntime) -> Result<(), Fail> {
+    let alloc = rt.alloc();
+    let text = with_talker(alloc, "1000 5 6 70 80 90")?;
+    let network = network_of(alloc, alloc, text.as_bytes())?;
+    let wanted = Talker {
+        period: 1000,
+        from: 5,
+        to: 6,
+        least: 70,
+        longest: 80,
+    };
+    let streams = network.streams();
+    assert_eq!(rt; streams.first().map(|s| s.talker()), Some(None));
+    assert_eq!(rt; streams.last().map(|s| s.talker()), Some(Some(wanted)));
+    assert_eq!(rt; streams.first().map(|s| s.deadline()), Some(None));
+    assert_eq!(rt; streams.last().map(|s| s.deadline()), Some(Some(90)));
+    Ok(())
+}
 
 /// What is said of a text: the counts of its rows, or the line of its fault.
 fn said(alloc: Global, text: &[u8]) -> Result<String, NoMemory> {

@@ -1,5 +1,5 @@
 -- Bounds that are gathered queue by queue.
-use Rattle.std.proofs.Common.{◌≡◌, ℕ, suc, zero, ◌+◌, ◌-◌, ◌*◌, ◌<◌, ◌≤◌, List, [], ◌∷◌, ◌++◌, Option, Some, None, length, slice_get, get_or, refl, sym, ap, ap₂, subst, ◌∙◌, inl, inr, arith, true, false}
+use Rattle.std.proofs.Common.{◌≡◌, ℕ, suc, zero, ◌+◌, ◌-◌, ◌<◌, ◌≤◌, List, [], ◌∷◌, ◌++◌, Some, None, length, slice_get, get_or, refl, sym, ap, ap₂, subst, ◌∙◌, inl, inr, arith, true, false}
 use Rattle.std.specs.Prelude.{nat_eq, ◌⊎◌, Vec}
 use Rattle.std.specs.Map.{lookup}
 use Rattle.std.specs.Prelude.{◌/◌, ◌%◌}

@@ -1,5 +1,5 @@
 -- Bounds of hops add up.
-use Rattle.std.proofs.Common.{◌≡◌, ◌≤◌, ◌+◌, ℕ, List, [], ◌∷◌, arith}
+use Rattle.std.proofs.Common.{◌≤◌, ◌+◌, ℕ, List, [], ◌∷◌, arith}
 use Rattle.bridge_capture.specs.Grammar.{Captured}
 use Rattle.bridge_run.specs.Merge.{Input, events}
 use Rattle.bridge_run.specs.declared.outcome.Outcome.{Outcome}

@@ -29,6 +29,12 @@ pub record AreBounds {A : Type 0} (p : Plan A) (rows : List QueueBound) : Type 0
   pub all : (n q c : ℕ) (f : FilterPlan) → lookup (nat_eq n) p.filters ≡ Some f → f.protected ≡ true → 1 ≤ q → q ≤ 16 → c < 8 → reaches p f q c ≡ true
       → (b : ℕ) × In (queue_bound n q c b) rows
 
+-- a queue is one of 16 ports
+pub record IsPlaced (r : QueueBound) : Type 0 where
+  pub from : 1 ≤ r.port
+  pub to : r.port ≤ 16
+  pub class : r.class < 8
+
 -- a filter by its place in a list and a queue of it come before these
 abbrev pub IsDone : ℕ → ℕ → ℕ → ℕ → Type 0
 IsDone i j at place = (i < at) ⊎ ((i ≡ at) × (j < place))

@@ -3,6 +3,7 @@ pub mod Naming
 pub mod Networks
 pub mod Printing
 pub mod Streams
+pub mod Talkers
 pub mod Telling
 pub mod Traffic
 pub mod TrafficText

@@ -1,21 +1,24 @@
 -- Networks of files: what is made of their text, and what is printed.
-use Rattle.std.specs.Prelude.{◌≡◌, ℕ, List, [], ◌∷◌, ◌++◌, map, length, sum_by, Option, Some, None, Vec, codes, decimal, string_bytes}
+use Rattle.std.specs.Prelude.{◌≡◌, ◌⊎◌, ℕ, Bool, List, ◌++◌, map, length, sum_by, Option, Some, None, Vec, codes, decimal, string_bytes}
 use Rattle.bridge_config.specs.Model.{Plan}
 use Rattle.bridge_lanes.specs.declared.fault.RunFault.TheVariants as run
 use Rattle.bridge_program.specs.declared.fault.Fault.{Fault}
 use Rattle.bridge_program.specs.declared.fault.Fault.TheVariants as fault
+use Rattle.bridge_netfile.specs.declared.fault.NetFault.{NetFault}
 use Rattle.bridge_netfile.specs.declared.links.LinkRow.{LinkRow}
+use Rattle.bridge_netfile.specs.Lines.{line_of as text_line}
 use Rattle.bridge_netfile.specs.Model.{Bridge, Stream}
 use Rattle.bridge_netfile.specs.Model as file
 use Rattle.bridge_network.specs.declared.fault.NetworkFault.{NetworkFault}
 use Rattle.bridge_network.specs.declared.fault.NetworkFault.TheVariants as network
 use Rattle.bridge_network.specs.declared.links.Link.{Link}
 use Rattle.bridge_network.specs.declared.links.StreamHop.{StreamHop}
-use Rattle.bridge_network.specs.Wiring.{Parts, stream_of}
+use Rattle.bridge_network.specs.Wiring.{Parts}
 use Rattle.bridge_network.specs.Refusing.{first_fault}
 use Rattle.bridge_planning.specs.declared.bounds.QueueBound.{QueueBound}
 use Rattle.bridge_planning.specs.Naming.{name_at}
-use Rattle.bridge_planning.specs.Streams.{AreBoundsOf, stream_lines}
+use Rattle.bridge_planning.specs.Streams.{AreBoundsOf, hop_in}
+use Rattle.bridge_planning.specs.Talkers.{AreStreamLines, first_misfit}
 use Rattle.bridge_planning.specs.Telling.{AreTold}
 
 -- A NETWORK OF A TEXT
@@ -23,10 +26,6 @@ use Rattle.bridge_planning.specs.Telling.{AreTold}
 -- a link
 abbrev pub link_in : LinkRow → Link
 link_in r = record { one = record { bridge = r.one.0; port = r.one.1 }; other = record { bridge = r.other.0; port = r.other.1 }; delay = r.delay }
-
--- a hop
-abbrev pub hop_in : ℕ × ℕ → StreamHop
-hop_in h = record { bridge = h.0; filter = h.1 }
 
 -- a network has these plans, one for each bridge of a text, and its links and streams
 pub record IsMadeOf {A : Type 0} (f : file.Network) (plans : List (Plan A)) (n : Parts A) : Type 0 where
@@ -77,21 +76,41 @@ line_of bridges (network.NotClosed stream hop bridge port filter from) =
     of_hop (codes "NotClosed") stream hop ++ (codes " " ++ sends_text (port_text bridges bridge port) filter from)
 line_of bridges (network.NotFed stream hop) = of_hop (codes "NotFed") stream hop
 
--- why a network of these plans is refused: its first fault, by its line, or want of memory
+-- the fault of a network of these plans whose talkers' periods don't suit them: the first that doesn't, by its line, or want of
+-- memory
+abbrev pub RefusesPeriods : {A : Type 0} → file.Network → List (Plan A) → Fault → Type 0
+RefusesPeriods f plans (fault.Network line) = (e : NetFault) × (first_misfit plans 1 f.streams ≡ Some e) × (string_bytes line ≡ text_line e)
+RefusesPeriods f plans (fault.Run e) = e ≡ run.NoMemory
+RefusesPeriods f plans e = ⊥
+
+-- why a network of these plans is refused: its first fault, by its line, or where it has none its periods; or want of memory
 abbrev pub RefusesNetwork : {A : Type 0} → file.Network → List (Plan A) → Fault → Type 0
-RefusesNetwork {A} f plans (fault.Network line) =
-    (n : Parts A) × IsMadeOf f plans n × (e : NetworkFault) × (first_fault n ≡ Some e) × (string_bytes line ≡ line_of f.bridges e)
+RefusesNetwork {A} f plans (fault.Network line) = (n : Parts A) × IsMadeOf f plans n
+    × (((e : NetworkFault) × (first_fault n ≡ Some e) × (string_bytes line ≡ line_of f.bridges e))
+    ⊎ ((first_fault n ≡ None) × RefusesPeriods f n.plans (fault.Network line)))
 RefusesNetwork f plans (fault.Run e) = e ≡ run.NoMemory
 RefusesNetwork f plans e = ⊥
 
--- the lines of a network whose plans are these: that it is accepted, and how long frames of each stream take at most
-abbrev pub AreLinesOfNetwork : {A : Type 0} → file.Network → List (Plan A) → List ℕ → Type 0
-AreLinesOfNetwork {A} f plans lines = (bounds : List (Vec QueueBound A)) × AreBoundsOf plans bounds × (lines ≡ accepted_line f ++ stream_lines bounds f.links f.streams)
+-- the lines of a network: that it is accepted, and how long frames of each stream take; and whether each stream that keeps a
+-- period passes, and each meets its deadline
+pub record AreLinesOfNetwork {A : Type 0} (f : file.Network) (n : Parts A) (lines : List ℕ) (kept : Bool) : Type 0 where
+  pub bounds : List (Vec QueueBound A)
+  pub are_bounds : AreBoundsOf n.plans bounds
+  pub streams : List ℕ
+  pub are_lines : AreStreamLines n.plans n.links bounds f.links f.streams streams kept
+  pub lines_are : lines ≡ accepted_line f ++ streams
 
--- what is said of a network whose streams are closed: its lines, and what is told behind them
-abbrev pub PrintsNetwork : (A : Type 0) → List ℕ → List ℕ → Type 0
-PrintsNetwork A lines told =
-    (f : file.Network) × (plans : List (Plan A)) × (n : Parts A) × IsMadeOf f plans n × (first_fault n ≡ None) × AreLinesOfNetwork f n.plans lines × AreTold f n told
+-- what is said of a network whose streams are closed and whose talkers' periods suit its plans: its lines, what is told behind
+-- them, and whether its streams pass and are in time
+pub record PrintsNetwork (A : Type 0) (lines told : List ℕ) (kept : Bool) : Type 0 where
+  pub file : file.Network
+  pub plans : List (Plan A)
+  pub network : Parts A
+  pub is_made : IsMadeOf file plans network
+  pub accepted : first_fault network ≡ None
+  pub suit : first_misfit network.plans 1 file.streams ≡ None
+  pub are_lines : AreLinesOfNetwork file network lines kept
+  pub are_told : AreTold file network told
 
 -- a fault of the job over a network: of a file, of the network or of memory
 abbrev pub EndsNetwork : Fault → Type 0

@@ -1,12 +1,15 @@
 -- How long frames of a stream take through its hops.
-use Rattle.std.specs.Prelude.{◌≡◌, ℕ, Bool, ◌+◌, ◌&&◌, ◌||◌, nat_eq, max, List, [], ◌∷◌, ◌++◌, Option, Some, None, length, map, drop, fold, sum_by, flat_map, slice_get, Vec, codes, decimal, if◌then◌else◌}
-use Rattle.std.specs.List.{list_any}
+use Rattle.std.specs.Prelude.{ℕ, Bool, true, false, ◌+◌, ◌&&◌, ◌||◌, nat_eq, max, List, [], ◌∷◌, ◌++◌, Option, Some, None, drop, fold, sum_by, flat_map, slice_get, Vec, codes, decimal, if◌then◌else◌}
+use Rattle.std.specs.List.{list_all, list_any}
 use Rattle.bridge_config.specs.Model.{Plan}
+use Rattle.bridge_courses.specs.declared.courses.Course.{Course}
 use Rattle.bridge_netfile.specs.declared.links.LinkRow.{LinkRow}
 use Rattle.bridge_netfile.specs.Model.{Stream}
-use Rattle.bridge_netfile.specs.Model as file
+use Rattle.bridge_network.specs.declared.links.StreamHop.{StreamHop}
 use Rattle.bridge_planning.specs.declared.bounds.QueueBound.{QueueBound}
 use Rattle.bridge_planning.specs.Bounds.{AreBounds}
+use Rattle.bridge_planning.specs.Traffic.{is_met}
+use Rattle.bridge_planning.specs.TrafficText.{deadline_words}
 
 -- the greater of a number and the bound of a queue, where that is one of a filter
 abbrev pub greater_bound : ℕ → ℕ → QueueBound → ℕ
@@ -49,13 +52,48 @@ hop_delay links hops h = link_delay links hops h.0
 abbrev pub stream_bound : {A : Type 0} → List (Vec QueueBound A) → List LinkRow → List (ℕ × ℕ) → ℕ
 stream_bound bounds links hops = sum_by (hop_bound bounds) hops + sum_by (hop_delay links hops) (drop 1 hops)
 
--- the line of a stream
-unfoldable pub stream_line : {A : Type 0} → List (Vec QueueBound A) → List LinkRow → Stream → List ℕ
-stream_line bounds links s = codes "stream " ++ (s.name ++ (codes " bound " ++ (decimal (stream_bound bounds links s.hops) ++ codes "\n")))
+-- a hop
+abbrev pub hop_in : ℕ × ℕ → StreamHop
+hop_in h = record { bridge = h.0; filter = h.1 }
+
+-- what a stream of these hops takes at worst: by the figures of its talker's period, where there are some, else its bound
+abbrev pub worst_of : Option Course → ℕ → ℕ
+worst_of None bound = bound
+worst_of (Some x) bound = x.worst
+
+-- whether a frame of it may be refused, in a word
+abbrev pub refusal_word : Bool → List ℕ
+refusal_word true = codes ""
+refusal_word false = codes " refusable"
+
+-- its figures
+abbrev pub course_words : Option Course → ℕ → List ℕ
+course_words None bound = codes " bound " ++ decimal bound
+course_words (Some x) bound =
+    refusal_word x.passes ++ (codes " worst " ++ (decimal x.worst ++ (codes " best " ++ (decimal x.best ++ (codes " jitter " ++ decimal x.jitter)))))
+
+-- the line of a stream with its figures
+unfoldable pub stream_line : {A : Type 0} → List (Vec QueueBound A) → List LinkRow → Stream × Option Course → List ℕ
+stream_line bounds links r =
+    codes "stream " ++ (r.0.name ++ (course_words r.1 (stream_bound bounds links r.0.hops)
+    ++ (deadline_words r.0.deadline (worst_of r.1 (stream_bound bounds links r.0.hops)) ++ codes "\n")))
 
 -- the lines of all streams
-abbrev pub stream_lines : {A : Type 0} → List (Vec QueueBound A) → List LinkRow → List Stream → List ℕ
-stream_lines bounds links streams = flat_map (stream_line bounds links) streams
+abbrev pub stream_lines : {A : Type 0} → List (Vec QueueBound A) → List LinkRow → List (Stream × Option Course) → List ℕ
+stream_lines bounds links rows = flat_map (stream_line bounds links) rows
+
+-- whether each frame passes, where that is asked
+abbrev pub is_passing : Option Course → Bool
+is_passing None = true
+is_passing (Some x) = x.passes
+
+-- whether a stream passes and meets its deadline
+abbrev pub is_kept : {A : Type 0} → List (Vec QueueBound A) → List LinkRow → Stream × Option Course → Bool
+is_kept bounds links r = is_passing r.1 && is_met r.0.deadline (worst_of r.1 (stream_bound bounds links r.0.hops))
+
+-- whether all do
+abbrev pub are_kept : {A : Type 0} → List (Vec QueueBound A) → List LinkRow → List (Stream × Option Course) → Bool
+are_kept bounds links rows = list_all (is_kept bounds links) rows
 
 -- the bounds of each plan
 abbrev pub AreBoundsOf : {A : Type 0} → List (Plan A) → List (Vec QueueBound A) → Type 0

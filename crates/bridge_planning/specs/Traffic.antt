@@ -1,6 +1,6 @@
 -- Traffic of the protected filters of a plan: what is wrong with its rows by the plan, and the figures of each of its
 -- queues.
-use Rattle.std.specs.Prelude.{◌≡◌, ◌↔◌, ℕ, Bool, true, false, not, ◌+◌, ◌%◌, ◌&&◌, ◌||◌, ◌++◌, List, [], ◌∷◌, Option, None, Some, nat_eq, nat_le, if◌then◌else◌}
+use Rattle.std.specs.Prelude.{◌≡◌, ◌↔◌, ℕ, Bool, true, false, not, ◌+◌, ◌%◌, ◌&&◌, ◌++◌, List, [], ◌∷◌, Option, None, Some, nat_eq, nat_le, if◌then◌else◌}
 use Rattle.std.specs.List.{list_all}
 use Rattle.std.specs.Map.{lookup}
 use Rattle.bridge_cycle.specs.declared.egress.Egress.{Egress}

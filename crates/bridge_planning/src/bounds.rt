@@ -1,11 +1,11 @@
 //! The bounds of all queues of a plan.
-ghost use Rattle.std.specs.Prelude.{◌≡◌, ℕ, ◌+◌, ◌<◌, ◌≤◌, [], Some, length, nat_eq, OnOk, IfOk, MatchOption};
+ghost use Rattle.std.specs.Prelude.{All, ◌≡◌, ℕ, ◌+◌, ◌<◌, ◌≤◌, [], Some, length, nat_eq, OnOk, IfOk, MatchOption};
 ghost use Rattle.std.specs.Map.{lookup};
 ghost use Rattle.bridge_base.specs.Members.{Rising};
 ghost use Rattle.bridge_check.specs.Reach.{reaches};
 ghost use Rattle.bridge_check.specs.Reached.{reach_of};
 ghost use Rattle.bridge_bounds.specs.Bounds.{HasNoBound, IsBound};
-ghost use Rattle.bridge_planning.specs.Bounds.{AreBounds, AreUpTo, IsReachAt};
+ghost use Rattle.bridge_planning.specs.Bounds.{AreBounds, AreUpTo, IsPlaced, IsReachAt};
 
 use bridge_base::NoMemory;
 use bridge_bounds::bound_of;
@@ -144,11 +144,13 @@ fn put_all<A: Allocator + Copy>(
 }
 
 /// The bounds of all queues of a plan that frames of its protected filters may come to, by rising filter, port and class.
+#[tactic(auto, using(crate::proofs::Placed::all_placed))]
 pub fn bounds_of<A: Allocator + Copy>(
     alloc: A,
     accepted: &Accepted<A>,
 ) -> Result<Vec<QueueBound, A>, NoMemory>
-    ensures { IfOk result (λ rows. AreBounds accepted.now rows.items) }
+    ensures bounds { IfOk result (λ rows. AreBounds accepted.now rows.items) }
+    ensures placed { IfOk result (λ rows. All IsPlaced rows.items) }
 {
     let order = filters_in_order(alloc, accepted.plan())?;
     let mut rows = Vec::new(alloc);

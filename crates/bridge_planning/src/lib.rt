@@ -3,6 +3,7 @@
 //! period, and whether a network of bridges isolates its streams.
 
 mod bounds;
+mod cycles;
 mod drawing;
 mod explaining;
 pub mod laws;
@@ -11,18 +12,20 @@ mod printing;
 mod refusing;
 mod reporting;
 mod streams;
+mod talkers;
 mod telling;
 mod timings;
 mod traffic;
 
 pub use bounds::{QueueBound, bounds_of};
+pub use cycles::explain_traffic;
 pub use drawing::{NetworkPicture, is_network, network_picture, paths_of};
 pub use explaining::explain_network;
 pub use network::{NetworkSaid, memory_fault, network_job, read_network, read_plans, tested};
 pub use printing::{bounds_job, bounds_text};
 pub use refusing::said_of_network;
 pub use reporting::{TrafficReport, traffic_job};
-pub use streams::{bounds_of_all, bounds_of_streams, stream_lines};
+pub use streams::{StreamLines, bounds_of_all, bounds_of_streams, stream_lines};
 pub use telling::told_of;
 pub use timings::{QueueTiming, are_kept, timings_of, timings_text};
 pub use traffic::traffic_fault;

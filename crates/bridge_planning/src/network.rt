@@ -7,10 +7,13 @@ ghost use Rattle.bridge_network.specs.Refusing.{first_fault};
 ghost use Rattle.bridge_lanes.specs.declared.fault.RunFault.{RunFault};
 ghost use Rattle.bridge_program.specs.declared.fault.Fault.{Fault};
 ghost use Rattle.bridge_planning.specs.Telling.{AreTold};
-ghost use Rattle.bridge_planning.specs.Networks.{AreLinesOfNetwork, EndsNetwork, IsMadeOf, PrintsNetwork, RefusesNetwork, accepted_line, hop_in, hops_in, link_in};
+ghost use Rattle.bridge_planning.specs.Networks.{AreLinesOfNetwork, EndsNetwork, IsMadeOf, PrintsNetwork, RefusesNetwork, RefusesPeriods, accepted_line, hops_in, link_in};
+ghost use Rattle.bridge_planning.specs.Streams.{hop_in};
+ghost use Rattle.bridge_planning.specs.Talkers.{first_misfit};
 
 use crate::refusing::said_of_network;
-use crate::streams::{bounds_of_all, stream_lines};
+use crate::streams::{StreamLines, bounds_of_all, stream_lines};
+use crate::talkers::first_misfit as misfit_in;
 use crate::telling::told_of;
 use bridge_base::NoMemory;
 use bridge_check::Accepted;
@@ -55,7 +58,7 @@ pub(crate) fn links_of<A: Allocator + Copy>(
 }
 
 /// The hops of a stream.
-fn hops_of<A: Allocator + Copy>(
+pub(crate) fn hops_of<A: Allocator + Copy>(
     alloc: A,
     rows: &[(u16, u32)],
 ) -> Result<Vec<StreamHop, A>, NoMemory>
@@ -93,7 +96,28 @@ pub fn memory_fault() -> Fault
     Fault::Run(RunFault::NoMemory)
 }
 
-/// The network of a text and of the plans of its bridges, where its streams are closed.
+/// The network, where the periods of its talkers suit its plans.
+fn suited<A: Allocator + Copy>(
+    heap: Global,
+    file: &NetworkFile<A>,
+    network: Network<A>,
+) -> Result<Network<A>, Fault>
+    ensures same { IfOk result (λ n. n ≡ network) }
+    ensures suit { IfOk result (λ n. first_misfit n.plans 1 file.now.streams ≡ None) }
+    ensures refused { IfErr result (RefusesPeriods file.now network.plans) }
+{
+    let Some(fault) = misfit_in(network.plans(), file.streams()) else {
+        return Ok(network);
+    };
+    drop(network);
+    match fault_line(heap, &fault) {
+        Ok(line) => Err(Fault::Network(line)),
+        Err(_) => Err(memory_fault()),
+    }
+}
+
+/// The network of a text and of the plans of its bridges, where its streams are closed and the periods of its talkers suit the
+/// plans.
 ///
 /// `Network` with the line of the first fault, or `Run` with `NoMemory`.
 pub fn tested<A: Allocator + Copy>(
@@ -104,6 +128,7 @@ pub fn tested<A: Allocator + Copy>(
 ) -> Result<Network<A>, Fault>
     requires plans { length plans.items ≡ length file.now.bridges }
     ensures accepted { IfOk result (λ n. IsMadeOf file.now plans.items n × (first_fault n ≡ None)) }
+    ensures suit { IfOk result (λ n. first_misfit n.plans 1 file.now.streams ≡ None) }
     ensures refused { IfErr result (RefusesNetwork file.now plans.items) }
 {
     let Ok(links) = links_of(alloc, file.links()) else {
@@ -116,7 +141,7 @@ pub fn tested<A: Allocator + Copy>(
         return Err(memory_fault());
     };
     match check_network(plans, links, streams) {
-        Ok(network) => Ok(network),
+        Ok(network) => suited(heap, file, network),
         Err(refused) => {
             let said = said_of_network(heap, file.bridges(), &refused.fault);
             drop(refused);
@@ -159,19 +184,28 @@ fn accepted_line<A: Allocator + Copy>(
 }
 
 /// The lines of a network that is accepted: how many bridges, links, streams and hops it has, and for each stream, in the
-/// order of the text, how long a frame takes at most that goes once through each of its hops.
+/// order of the text, how long a frame takes, by what its talker keeps to or at most, where it goes once through each of its
+/// hops.
 fn lines_of<A: Allocator + Copy>(
     alloc: A,
     heap: Global,
     file: &NetworkFile<A>,
-    plans: &[Accepted<A>],
-) -> Result<String, NoMemory>
-    ensures { IfOk result (λ lines. AreLinesOfNetwork file.now plans.now (string_bytes lines)) }
+    network: &Network<A>,
+) -> Result<StreamLines<Global>, NoMemory>
+    ensures { IfOk result (λ x. AreLinesOfNetwork file.now network.now (string_bytes x.text) x.kept) }
 {
     let line = accepted_line(heap, file)?;
-    let bounds = bounds_of_all(alloc, plans)?;
-    let streams = stream_lines(heap, &bounds, file.links(), file.streams())?;
-    Ok(format!(in heap; "{line}{streams}")?)
+    let bounds = bounds_of_all(alloc, network.plans())?;
+    let StreamLines { text, kept } = stream_lines(
+        alloc,
+        heap,
+        network,
+        &bounds,
+        file.links(),
+        file.streams(),
+    )?;
+    let text = format!(in heap; "{line}{text}")?;
+    Ok(StreamLines { text, kept })
 }
 
 /// The text of a network by the path of its file, read.
@@ -285,6 +319,8 @@ pub struct NetworkSaid {
     pub lines: String,
     /// The lines behind them, of what is told and not refused; none where nothing is.
     pub told: String,
+    /// Whether each stream whose talker keeps a period passes, and each meets its deadline.
+    pub kept: bool,
 }
 
 /// What is said of a network of these plans that is accepted.
@@ -295,24 +331,28 @@ fn said_of<A: Allocator + Copy>(
     network: &Network<A>,
 ) -> Result<NetworkSaid, NoMemory>
     requires few { length network.now.plans ≤ 64 }
-    ensures lines { IfOk result (λ said. AreLinesOfNetwork file.now network.now.plans (string_bytes said.lines)) }
+    ensures lines { IfOk result (λ said. AreLinesOfNetwork file.now network.now (string_bytes said.lines) said.kept) }
     ensures told { IfOk result (λ said. AreTold file.now network.now (string_bytes said.told)) }
 {
-    let lines = lines_of(alloc, heap, file, network.plans())?;
+    let StreamLines { text, kept } = lines_of(alloc, heap, file, network)?;
     let told = told_of(alloc, heap, file, network)?;
-    Ok(NetworkSaid { lines, told })
+    Ok(NetworkSaid {
+        lines: text,
+        told,
+        kept,
+    })
 }
 
 /// What is printed for the network of a file whose plans lie beside it, where its streams are closed: one line that counts
 /// its bridges, links, streams and hops, and one for each stream with how long in ns a frame takes at most that goes once
-/// through each of its hops, from when it came to the first until it is out of the last; and behind these what is told and
-/// not refused.
+/// through each of its hops, from when it came to the first until it is out of the last, or, where its talker keeps a period,
+/// at worst and at best, and its jitter; and behind these what is told and not refused.
 ///
 /// Faults in this order: NET opened and read, its text; then by the order of the bridges the plan opened and read, its
-/// text, its check; then the tests on the network. `File` of a file, `Network` with the line of a refusal, and `Run` with
-/// `NoMemory`.
+/// text, its check; then the tests on the network, and the periods of its talkers by its plans. `File` of a file, `Network`
+/// with the line of a refusal, and `Run` with `NoMemory`.
 pub fn network_job<H: AllocGlobal + Files>(rt: &H, path: String) -> Result<NetworkSaid, Fault>
-    ensures ok { IfOk result (λ said. PrintsNetwork Global (string_bytes said.lines) (string_bytes said.told)) }
+    ensures ok { IfOk result (λ said. PrintsNetwork Global (string_bytes said.lines) (string_bytes said.told) said.kept) }
     ensures err { IfErr result EndsNetwork }
 {
     let alloc = rt.alloc();

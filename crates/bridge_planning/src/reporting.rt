@@ -59,7 +59,7 @@ fn rows_in<A: Allocator + Copy>(
 }
 
 /// The rows of a reader, by the path of its file.
-fn rows_from<R: Read + Drop, A: Allocator + Copy>(
+pub(crate) fn rows_from<R: Read + Drop, A: Allocator + Copy>(
     alloc: A,
     heap: Global,
     path: String,

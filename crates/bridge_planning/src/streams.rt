@@ -1,12 +1,23 @@
 //! How long frames of the streams of a network take, from talker to listener.
-ghost use Rattle.std.specs.Prelude.{All, ◌≡◌, ◌++◌, ◌≤◌, ◌*◌, ◌^◌, length, map, nat_eq, sum_by, IfOk, OnOk, string_bytes};
+ghost use Rattle.std.specs.Prelude.{All, ◌≡◌, ◌&&◌, ◌++◌, ◌≤◌, ◌*◌, ◌^◌, length, map, nat_eq, sum_by, IfOk, OnOk, string_bytes};
+ghost use Rattle.std.specs.Option.{ForSome};
 ghost use Rattle.bridge_netfile.specs.Model.{Stream};
-ghost use Rattle.bridge_planning.specs.Streams.{AreBoundsOf, filter_bound, greater_bound, greater_delay, hop_bound, hop_delay, is_at, joins, link_delay, stream_bound, stream_line, stream_lines};
+ghost use Rattle.bridge_netfile.specs.Rules.{IsTalker};
+ghost use Rattle.bridge_planning.specs.Bounds.{IsPlaced};
+ghost use Rattle.bridge_planning.specs.Streams as spec;
+ghost use Rattle.bridge_planning.specs.Streams.{AreBoundsOf, filter_bound, greater_bound, greater_delay, hop_bound, hop_delay, is_at, joins, link_delay, stream_bound};
+ghost use Rattle.bridge_planning.specs.Talkers.{AreStreamLines};
+ghost use Rattle.bridge_planning.specs.Traffic.{is_met};
 
 use crate::bounds::{QueueBound, bounds_of};
+use crate::talkers::course_for;
+use crate::timings;
+use crate::timings::deadline_words;
 use bridge_base::NoMemory;
 use bridge_check::Accepted;
+use bridge_courses::Course;
 use bridge_netfile::{LinkRow, StreamRow};
+use bridge_network::Network;
 use std::alloc::{AllocError, Allocator};
 
 /// The bounds of the queues of each plan.
@@ -14,7 +25,8 @@ pub fn bounds_of_all<A: Allocator + Copy>(
     alloc: A,
     plans: &[Accepted<A>],
 ) -> Result<Vec<Vec<QueueBound, A>, A>, NoMemory>
-    ensures { IfOk result (λ bounds. AreBoundsOf plans.now bounds.items) }
+    ensures bounds { IfOk result (λ bounds. AreBoundsOf plans.now bounds.items) }
+    ensures placed { IfOk result (λ bounds. All (λ v. All IsPlaced v.items) bounds.items) }
 {
     let mut bounds = Vec::new(alloc);
     for accepted in plans {
@@ -162,37 +174,110 @@ pub fn bounds_of_streams<A: Allocator + Copy>(
     Ok(rows)
 }
 
-/// Adds the line of a stream.
+/// What a stream takes at worst, by its figures, or by its bound where there are none.
+fn worst_of(course: Option<Course>, bound: u128) -> u128
+    ensures { result ≡ spec.worst_of course bound }
+{
+    match course {
+        None => bound,
+        Some(course) => course.worst,
+    }
+}
+
+/// The words of its figures.
+fn course_words<B: Allocator + Copy>(
+    alloc: B,
+    course: Option<Course>,
+    bound: u128,
+) -> Result<String<B>, AllocError>
+    ensures { IfOk result (λ words. string_bytes words ≡ spec.course_words course bound) }
+{
+    let Some(course) = course else {
+        return format!(in alloc; " bound {bound}");
+    };
+    let Course {
+        passes,
+        worst,
+        best,
+        jitter,
+    } = course;
+    let word = if passes { "" } else { " refusable" };
+    format!(in alloc; "{word} worst {worst} best {best} jitter {jitter}")
+}
+
+/// Whether each frame of a stream passes, where that is asked, and meets its deadline.
+fn is_kept(course: Option<Course>, deadline: Option<u64>, bound: u128) -> bool
+    ensures { result ≡ (spec.is_passing course && is_met deadline (spec.worst_of course bound)) }
+{
+    let passes = match course {
+        None => true,
+        Some(course) => course.passes,
+    };
+    passes && timings::is_met(deadline, worst_of(course, bound))
+}
+
+/// The lines of streams.
+#[derive(Drop)]
+pub struct StreamLines<B: Allocator> {
+    /// One for each.
+    pub text: String<B>,
+    /// Whether each passes, where its talker keeps a period, and meets its deadline.
+    pub kept: bool,
+}
+
+/// Adds the line of a stream with its figures; answers whether it is kept.
 #[tactic(auto, unfolding(crate::specs::Streams::stream_line))]
-fn push_stream<A: Allocator + Copy, B: Allocator>(
+fn push_stream<A: Allocator + Copy, B: Allocator + Copy>(
+    alloc: B,
     text: &mut String<B>,
     bounds: &[Vec<QueueBound, A>],
     links: &[LinkRow],
     stream: &StreamRow<A>,
-) -> Result<(), AllocError>
+    course: Option<Course>,
+) -> Result<bool, AllocError>
     requires some { 1 ≤ length stream.now.hops }
     requires few { length stream.now.hops ≤ 64 }
-    ensures { OnOk result (string_bytes text.new ≡ string_bytes text.old ++ stream_line bounds.now links.now stream.now) }
+    ensures text { OnOk result (string_bytes text.new ≡ string_bytes text.old ++ spec.stream_line bounds.now links.now (stream.now, course)) }
+    ensures kept { IfOk result (λ kept. kept ≡ spec.is_kept bounds.now links.now (stream.now, course)) }
 {
     let name = stream.name();
     let bound = stream_bound(bounds, links, stream.hops());
-    write!(text, "stream {name} bound {bound}\n")
+    let deadline = stream.deadline();
+    let words = course_words(alloc, course, bound)?;
+    let end = deadline_words(alloc, deadline, worst_of(course, bound))?;
+    write!(text, "stream {name}{words}{end}\n")?;
+    Ok(is_kept(course, deadline, bound))
 }
 
-/// The lines of all streams of a network, by the bounds of the plans of its bridges.
-pub fn stream_lines<A: Allocator + Copy, B: Allocator>(
-    alloc: B,
+/// Whether both hold.
+fn both(a: bool, b: bool) -> bool
+    ensures { result ≡ (a && b) }
+{
+    a && b
+}
+
+/// The lines of all streams of a network, by the bounds of the plans of its bridges, and whether each is kept.
+#[tactic(auto, using(crate::proofs::Queued::next_line, crate::proofs::Queued::no_lines))]
+pub fn stream_lines<A: Allocator + Copy, B: Allocator + Copy>(
+    alloc: A,
+    heap: B,
+    network: &Network<A>,
     bounds: &[Vec<QueueBound, A>],
     links: &[LinkRow],
     streams: &[StreamRow<A>],
-) -> Result<String<B>, NoMemory>
+) -> Result<StreamLines<B>, NoMemory>
+    requires placed { All (λ v. All IsPlaced v.items) bounds.now }
     requires some { All (λ s. 1 ≤ length s.hops) streams.now }
     requires few { All (λ s. length s.hops ≤ 64) streams.now }
-    ensures { IfOk result (λ text. string_bytes text ≡ stream_lines bounds.now links.now streams.now) }
+    requires talkers { All (λ s. ForSome s.talker IsTalker) streams.now }
+    ensures { IfOk result (λ x. AreStreamLines network.now.plans network.now.links bounds.now links.now streams.now (string_bytes x.text) x.kept) }
 {
-    let mut text = String::new(alloc);
+    let mut text = String::new(heap);
+    let mut kept = true;
     for stream in streams {
-        push_stream(&mut text, bounds, links, stream)?;
+        let course = course_for(alloc, network.plans(), network.links(), bounds, stream)?;
+        let here = push_stream(heap, &mut text, bounds, links, stream, course)?;
+        kept = both(kept, here);
     }
-    Ok(text)
+    Ok(StreamLines { text, kept })
 }

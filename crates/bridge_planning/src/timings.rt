@@ -126,12 +126,12 @@ pub fn timings_of<A: Allocator + Copy>(
 }
 
 /// Whether a deadline, where there is one, is met.
-fn is_met(deadline: Option<u64>, worst: u64) -> bool
+pub(crate) fn is_met(deadline: Option<u64>, worst: u128) -> bool
     ensures { result ≡ spec.is_met deadline worst }
 {
     match deadline {
         None => true,
-        Some(deadline) => worst <= deadline,
+        Some(deadline) => worst <= deadline as u128,
     }
 }
 
@@ -141,21 +141,25 @@ pub fn are_kept(timings: &[QueueTiming]) -> bool
 {
     timings
         .iter()
-        .all(|x| x.passes && is_met(x.deadline, x.timing.worst))
+        .all(|x| x.passes && is_met(x.deadline, x.timing.worst as u128))
 }
 
 /// What is said of a deadline, where there is one.
-fn deadline_words<A: Allocator + Copy>(
+pub(crate) fn deadline_words<A: Allocator + Copy>(
     alloc: A,
     deadline: Option<u64>,
-    worst: u64,
+    worst: u128,
 ) -> Result<String<A>, AllocError>
     ensures { IfOk result (λ words. string_bytes words ≡ printing.deadline_words deadline worst) }
 {
     let Some(limit) = deadline else {
         return String::from_str(alloc, "");
     };
-    let word = if worst <= limit { "met" } else { "missed" };
+    let word = if worst <= limit as u128 {
+        "met"
+    } else {
+        "missed"
+    };
     format!(in alloc; " deadline {limit} {word}")
 }
 
@@ -168,7 +172,7 @@ fn push_timing<A: Allocator + Copy>(
 ) -> Result<(), AllocError>
     ensures { OnOk result (string_bytes text.new ≡ string_bytes text.old ++ printing.timing_line x.now) }
 {
-    let end = deadline_words(alloc, x.deadline, x.timing.worst)?;
+    let end = deadline_words(alloc, x.deadline, x.timing.worst as u128)?;
     let QueueTiming {
         row,
         filter,

@@ -64,7 +64,7 @@ fn either(a: bool, b: bool) -> bool
 }
 
 /// Whether frames with this reach may be queued at a port.
-fn comes_to<A: Allocator + Copy>(
+pub(crate) fn comes_to<A: Allocator + Copy>(
     plan: &Plan<A>,
     filter: &FilterPlan,
     reach: &Reach,
@@ -130,7 +130,7 @@ fn misfits<A: Allocator + Copy>(
 }
 
 /// Whether a period is a multiple of each cycle on the way of a filter's frames.
-fn suits<A: Allocator + Copy>(plan: &Plan<A>, filter: &FilterPlan, period: u64) -> bool
+pub(crate) fn suits<A: Allocator + Copy>(plan: &Plan<A>, filter: &FilterPlan, period: u64) -> bool
     ensures { result ≡ spec.suits plan.now filter.now period }
 {
     if !suits_gate(plan, filter.gate, period) {
@@ -141,7 +141,7 @@ fn suits<A: Allocator + Copy>(plan: &Plan<A>, filter: &FilterPlan, period: u64) 
 }
 
 /// What is wrong with the row at an index by the plan.
-fn row_fault<A: Allocator + Copy>(
+pub(crate) fn row_fault<A: Allocator + Copy>(
     plan: &Plan<A>,
     index: u32,
     row: &TrafficRow,

@@ -15,6 +15,20 @@ use bridge_network::Network;
 use bridge_run::Outcome;
 use std::alloc::Allocator;
 
+/// Who is told how far a run of a network is.
+pub trait Watch {
+    /// A bridge begins to run, in a round. Both are numbered from 0.
+    fn begins(&mut self, round: u32, bridge: usize);
+}
+
+/// Nobody, who is told nothing.
+#[derive(Clone, Copy, Debug, PartialEq, Eq)]
+pub struct Nobody;
+
+impl Watch for Nobody {
+    fn begins(&mut self, _round: u32, _bridge: usize) {}
+}
+
 /// Why a run of a network ends.
 #[derive(Clone, Copy, Debug, PartialEq, Eq)]
 pub enum RoundsFault {
@@ -153,10 +167,26 @@ fn feed_all<A: Allocator + Copy>(alloc: A, stations: &mut [Station<'_, A>]) -> R
     Ok(())
 }
 
+/// Tells that a bridge begins to run, if it hasn't run.
+fn tell_begin<A: Allocator + Copy, W: Watch>(
+    stations: &[Station<'_, A>],
+    bridge: usize,
+    turn: u32,
+    watch: &mut W,
+) {
+    if let Some(station) = stations.get(bridge) {
+        if !station.is_run() {
+            watch.begins(turn, bridge);
+        }
+    }
+}
+
 /// Runs each bridge over what came to it, if it hasn't.
-fn run_all<A: Allocator + Copy>(
+fn run_all<A: Allocator + Copy, W: Watch>(
     alloc: A,
     stations: &mut [Station<'_, A>],
+    turn: u32,
+    watch: &mut W,
 ) -> Result<(), RoundsFault>
     ensures ground { OnOk result (map ground stations.new ≡ map ground stations.old) }
     ensures texts { OnOk result (map texts_of stations.new ≡ map texts_of stations.old) }
@@ -164,6 +194,7 @@ fn run_all<A: Allocator + Copy>(
     ensures stops { IfErr result (StopsRound stations.old) }
 {
     for bridge in 0..stations.len() {
+        tell_begin(stations, bridge, turn, watch);
         match stations[bridge].run(alloc) {
             Ok(()) => {}
             Err(RunFault::NoMemory) => return Err(RoundsFault::NoMemory),
@@ -225,9 +256,11 @@ fn keep_all<A: Allocator + Copy>(stations: &[Station<'_, A>])
 
 /// One round: runs each bridge over what came to it, and gives each linked port what was sent to it then, where that is
 /// something else for some port; the first such bridge, by its place, and port.
-fn round<A: Allocator + Copy>(
+fn round<A: Allocator + Copy, W: Watch>(
     alloc: A,
     stations: &mut [Station<'_, A>],
+    turn: u32,
+    watch: &mut W,
 ) -> Result<Option<(usize, u8)>, RoundsFault>
     ensures ground { OnOk result (map ground stations.new ≡ map ground stations.old) }
     ensures runs { result ≡ Ok None → All HasRun stations.new }
@@ -236,7 +269,7 @@ fn round<A: Allocator + Copy>(
     ensures goes_on { (b q : ℕ) → result ≡ Ok (Some (b, q)) → GoesOn stations.old stations.new b q }
     ensures stops { IfErr result (StopsRound stations.old) }
 {
-    run_all(alloc, stations)?;
+    run_all(alloc, stations, turn, watch)?;
     keep_all(stations);
     match unfed(alloc, stations) {
         Ok(None) => Ok(None),
@@ -258,15 +291,17 @@ fn keep_network<A: Allocator + Copy>(network: &Network<A>)
 }
 
 /// Runs a network until what comes over each link is what was sent, for so many rounds at most: each bridge over the captures
-/// of its open ports and what came over its links in the round before, where that is something else than before.
+/// of its open ports and what came over its links in the round before, where that is something else than before. The watch is told
+/// of each bridge before it runs.
 ///
 /// What it tells of a stream is what the stream tells alone on an idle network; so captures and commands in which the same
 /// comes of the stream from outside tell the same of it, whatever else came.
-pub fn settle<A: Allocator + Copy>(
+pub fn settle<A: Allocator + Copy, W: Watch>(
     alloc: A,
     network: &Network<A>,
     incoming: Vec<Incoming<A>, A>,
     rounds: u32,
+    watch: &mut W,
 ) -> Result<Vec<Settled<A>, A>, RoundsFault>
     requires { AreIncoming network.now.plans incoming.items }
     ensures ok { IfOk result (λ settled. RunsNetwork network.now incoming.items settled.items) }
@@ -280,8 +315,7 @@ pub fn settle<A: Allocator + Copy>(
     };
     let mut last = (0usize, 0u8);
     for turn in 0..rounds {
-        let _turn = turn;
-        match round(alloc, &mut stations) {
+        match round(alloc, &mut stations, turn, watch) {
             Ok(None) => return told(alloc, stations),
             Ok(Some(port)) => last = port,
             Err(fault) => {

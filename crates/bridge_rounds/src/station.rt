@@ -287,6 +287,11 @@ impl<'a, A: Allocator + Copy> Station<'a, A> {
         }
     }
 
+    /// Whether it has run over what came to it.
+    pub(crate) fn is_run(&self) -> bool {
+        self.outcome.is_some()
+    }
+
     /// How many ports it has.
     pub(crate) fn size(&self) -> usize
         ensures size { result ≡ length self.now.ports }

@@ -18,6 +18,9 @@ const OTHER: [u8; 18] = [
 /// The octets of the longest frame that the filter lets through: 500 of service data unit, 16 of addresses and tag.
 const LONGEST: u32 = 516;
 
+/// The latest moment of a frame, in ns.
+const LATEST: u64 = 1_000_000_000_000;
+
 /// The frames of a capture that is drawn.
 const DRAWN: u32 = 40;
 
@@ -28,6 +31,15 @@ pub struct Near {
     pub before: Option<u32>,
     pub at: u32,
     pub count: u32,
+}
+
+/// The shortest frame of a talker and its longest one: when they come, in ns, and their octets.
+#[derive(Clone, Copy)]
+pub struct Ends {
+    pub first: u64,
+    pub last: u64,
+    pub least: u32,
+    pub longest: u32,
 }
 
 /// Numbers one after another, the same ones for the same seed.
@@ -57,11 +69,11 @@ impl Numbers {
 fn put<A: Allocator + Copy>(
     writer: &mut Writer,
     sink: &mut VecSink<A>,
-    at: u32,
+    at: u64,
     len: u32,
     octets: &[u8; 18],
 ) -> Result<(), RunFault> {
-    match writer.put(sink, at as u64, len.max(18), octets) {
+    match writer.put(sink, at.min(LATEST), len.max(18), octets) {
         Ok(()) => Ok(()),
         Err(_) => Err(RunFault::NoMemory),
     }
@@ -87,11 +99,24 @@ pub fn near_capture<A: Allocator + Copy>(alloc: A, near: Near) -> Result<VecSink
     let mut sink = VecSink::new(alloc);
     let mut writer = begun(&mut sink)?;
     if let Some(before) = near.before {
-        put(&mut writer, &mut sink, before, LONGEST, &STREAM)?;
+        put(&mut writer, &mut sink, before as u64, LONGEST, &STREAM)?;
     }
     for _ in 0..near.count {
-        put(&mut writer, &mut sink, near.at, LONGEST, &STREAM)?;
+        put(&mut writer, &mut sink, near.at as u64, LONGEST, &STREAM)?;
     }
+    Ok(sink)
+}
+
+/// The capture of a shortest frame and then a longest one of a talker, by how its frames begin.
+pub fn ends_capture<A: Allocator + Copy>(
+    alloc: A,
+    head: &[u8; 18],
+    ends: Ends,
+) -> Result<VecSink<A>, RunFault> {
+    let mut sink = VecSink::new(alloc);
+    let mut writer = begun(&mut sink)?;
+    put(&mut writer, &mut sink, ends.first, ends.least, head)?;
+    put(&mut writer, &mut sink, ends.last, ends.longest, head)?;
     Ok(sink)
 }
 
@@ -118,7 +143,7 @@ pub fn drawn<A: Allocator + Copy>(alloc: A, numbers: &mut Numbers) -> Result<Vec
         } else {
             &STREAM
         };
-        put(&mut writer, &mut sink, at, len, octets)?;
+        put(&mut writer, &mut sink, at as u64, len, octets)?;
     }
     Ok(sink)
 }

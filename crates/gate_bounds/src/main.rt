@@ -1,8 +1,10 @@
 #![tactic(auto)]
 //! The bound of each queue of a protected filter beside the greatest delays that runs reach: of a run that is made to come
-//! near it, and of 200 runs of captures that a generator draws from a fixed seed.
+//! near it, and of 200 runs of captures that a generator draws from a fixed seed; and the phases at which the frames of talkers
+//! that keep a period are done, beside runs that reach both ends.
 
 mod captures;
+mod periods;
 mod running;
 
 use bridge_check::Accepted;
@@ -10,6 +12,7 @@ use bridge_lanes::RunFault;
 use bridge_planning::{QueueBound, bounds_of};
 use bridge_program::{Fault, end, planned, print};
 use captures::Near;
+use periods::tell_talkers;
 use running::{drawn_delay, made_delay};
 use std::alloc::Global;
 use std::fs;
@@ -100,12 +103,13 @@ fn main(rt: HostRuntime) -> ExitCode {
     }
 }
 
-/// Tells of all plans; whether the delays of each are as they are to be.
+/// Tells of all plans and of all talkers; whether all is as it is to be.
 fn run(rt: &(impl AllocGlobal + Print + Files)) -> Result<bool, Fault> {
     let mut are_so = true;
     for row in &ROWS {
         are_so = tell_plan(rt, row)? && are_so;
     }
+    are_so = tell_talkers(rt)? && are_so;
     Ok(are_so)
 }
 

@@ -1,5 +1,6 @@
 //! Runs, and how long the frames of a filter took in them.
 use crate::captures::{Near, Numbers, drawn, near_capture, none};
+use bridge_base::NoMemory;
 use bridge_capture::{SliceSource, VecSink};
 use bridge_check::Accepted;
 use bridge_core::{Departure, Outcome, View, simulate};
@@ -103,4 +104,81 @@ pub fn drawn_delay(
         longest = longest.max(delay_in(alloc, accepted, &mut numbers, filter, port)?);
     }
     Ok(longest)
+}
+
+/// Sources of captures, one for each port of a plan, all of them empty but that of one port.
+fn sources_at<'a>(
+    alloc: Global,
+    ports: &[u8],
+    port: u8,
+    capture: &'a VecSink<Global>,
+    empty: &'a VecSink<Global>,
+) -> Result<Vec<SliceSource<'a>>, NoMemory> {
+    let mut sources = Vec::new(alloc);
+    for other in ports {
+        let octets = if *other == port {
+            capture.octets()
+        } else {
+            empty.octets()
+        };
+        sources.push(SliceSource::new(octets))?;
+    }
+    Ok(sources)
+}
+
+/// So many empty sinks.
+fn sinks_of(alloc: Global, count: usize) -> Result<Vec<VecSink<Global>>, NoMemory> {
+    let mut sinks = Vec::new(alloc);
+    for _ in 0..count {
+        sinks.push(VecSink::new(alloc))?;
+    }
+    Ok(sinks)
+}
+
+/// What a run tells in which one port has a capture, and all others have none.
+#[tactic(auto, using(crate::proofs::NoCommands::none))]
+pub fn outcome_at(
+    alloc: Global,
+    accepted: &Accepted<Global>,
+    port: u8,
+    capture: &VecSink<Global>,
+) -> Result<Outcome<Global>, RunFault> {
+    let empty = none(alloc)?;
+    let Ok(ports) = accepted.plan().port_numbers(alloc) else {
+        return Err(RunFault::NoMemory);
+    };
+    let Ok(mut sources) = sources_at(alloc, &ports, port, capture, &empty) else {
+        return Err(RunFault::NoMemory);
+    };
+    let Ok(mut sinks) = sinks_of(alloc, ports.len()) else {
+        return Err(RunFault::NoMemory);
+    };
+    let count = accepted.plan().ports().len();
+    if sources.len() != count || sinks.len() != count {
+        return Err(RunFault::NoMemory);
+    }
+    simulate(alloc, accepted, &[], &mut sources, &mut sinks)
+}
+
+/// When the copies of a filter that left out of a port are done, the first one and the last one; 0 without any.
+fn done_in<A: Allocator + Copy>(view: &View<A>, port: u8) -> (u64, u64) {
+    let mut first = None;
+    let mut last = 0;
+    for departure in &view.departures {
+        if departure.port == port {
+            first = first.or(Some(departure.done));
+            last = departure.done;
+        }
+    }
+    (first.unwrap_or(0), last)
+}
+
+/// The same of the filter of a number.
+pub fn done_of<A: Allocator + Copy>(outcome: &Outcome<A>, filter: u32, port: u8) -> (u64, u64) {
+    for (number, view) in &outcome.filters {
+        if *number == filter {
+            return done_in(view, port);
+        }
+    }
+    (0, 0)
 }

@@ -34,7 +34,7 @@ const SECTIONS: [(&str, &str); 8] = [
 ];
 
 /// What comes to the open ports, in a folder of its own.
-fn copy_zones<H: AllocGlobal + Files>(rt: &H) -> Result<(), Fault> {
+fn copy_zones<H: AllocGlobal + Eprint + Files>(rt: &H) -> Result<(), Fault> {
     for zone in ZONES {
         let from = format!(in rt.alloc(); "network/{zone}")?;
         let to = format!(in rt.alloc(); "arriving/{zone}")?;
@@ -56,7 +56,7 @@ fn section_in<'a>(report: &'a str, start: &str) -> &'a str {
 }
 
 /// Whether the section of a stream at a bridge is the same in two runs, and there.
-fn is_same_section<H: AllocGlobal + Files>(
+fn is_same_section<H: AllocGlobal + Eprint + Files>(
     rt: &H,
     bridge: &str,
     start: &str,
@@ -75,7 +75,7 @@ fn is_same_section<H: AllocGlobal + Files>(
 }
 
 /// Whether the streams tell the same in both runs.
-fn are_same<H: AllocGlobal + Files>(rt: &H) -> Result<bool, Fault> {
+fn are_same<H: AllocGlobal + Eprint + Files>(rt: &H) -> Result<bool, Fault> {
     for (bridge, start) in SECTIONS {
         if !is_same_section(rt, bridge, start)? {
             return Ok(false);
@@ -87,7 +87,7 @@ fn are_same<H: AllocGlobal + Files>(rt: &H) -> Result<bool, Fault> {
 }
 
 /// Runs the network once more with a babbling talker at a port, and prints whether all streams tell the same, and its line.
-fn print_talker<H: AllocGlobal + Files + Print>(
+fn print_talker<H: AllocGlobal + Eprint + Files + Print>(
     rt: &H,
     port: &str,
     place: &str,
@@ -108,7 +108,7 @@ fn print_talker<H: AllocGlobal + Files + Print>(
 }
 
 /// Runs the ring, prints its table of streams, and what a babbling talker changes at each open port.
-pub fn print_babbling<H: AllocGlobal + Files + Print>(rt: &H) -> Result<(), Fault> {
+pub fn print_babbling<H: AllocGlobal + Eprint + Files + Print>(rt: &H) -> Result<(), Fault> {
     let line = run_network(rt, "network/network.toml", "network", "ring", None)?;
     print(rt, line.as_str())?;
     print_file(rt, "ring/streams.csv")?;

@@ -24,14 +24,14 @@ fn main(rt: HostRuntime) -> ExitCode {
 }
 
 /// Does the jobs, and prints what was written.
-fn run(rt: &(impl AllocGlobal + Print + Files)) -> Result<(), Fault> {
+fn run(rt: &(impl AllocGlobal + Print + Eprint + Files)) -> Result<(), Fault> {
     print_row(rt)?;
     print_babbling(rt)?;
     print_refused(rt)
 }
 
 /// Runs a network from one folder into another, with a picture where one is asked for.
-pub(crate) fn run_network<H: AllocGlobal + Files>(
+pub(crate) fn run_network<H: AllocGlobal + Eprint + Files>(
     rt: &H,
     network: &str,
     input: &str,
@@ -51,9 +51,11 @@ pub(crate) fn run_network<H: AllocGlobal + Files>(
         output,
         picture,
         is_strict: false,
+        is_watched: false,
     };
     let said = rounds_job(rt, job)?;
-    Ok(said.line)
+    let (line, rounds) = (said.line, said.rounds);
+    Ok(format!(in rt.alloc(); "{line}rounds {rounds}\n")?)
 }
 
 /// Prints some text behind a heading.

@@ -54,7 +54,7 @@ const ROWS: [(&str, &str, &str, &str); 8] = [
 ];
 
 /// Prints the fault of a row and its status.
-fn print_fault<H: AllocGlobal + Files + Print>(
+fn print_fault<H: AllocGlobal + Eprint + Files + Print>(
     rt: &H,
     name: &str,
     network: &str,
@@ -74,7 +74,7 @@ fn print_fault<H: AllocGlobal + Files + Print>(
 }
 
 /// Prints the faults of all rows, and whether what was written before is still there.
-pub fn print_refused<H: AllocGlobal + Files + Print>(rt: &H) -> Result<(), Fault> {
+pub fn print_refused<H: AllocGlobal + Eprint + Files + Print>(rt: &H) -> Result<(), Fault> {
     let before = octets_of(rt, "ring/frames.csv")?;
     make_folder(rt, "linked/a")?;
     if fs::hard_link(rt, "network/b/4.pcap", "linked/a/1.pcap").is_err() {

@@ -10,7 +10,7 @@ use std::rt::Files;
 const WRITTEN: [&str; 5] = ["1.pcap", "2.pcap", "3.pcap", "4.pcap", "report.txt"];
 
 /// Runs one bridge.
-fn run_bridge<H: AllocGlobal + Files>(
+fn run_bridge<H: AllocGlobal + Eprint + Files>(
     rt: &H,
     plan: &str,
     input: &str,
@@ -23,7 +23,7 @@ fn run_bridge<H: AllocGlobal + Files>(
 }
 
 /// Runs both bridges one after the other: what the first has written of its port 4 comes to port 1 of the second.
-fn run_by_files<H: AllocGlobal + Files>(rt: &H) -> Result<(), Fault> {
+fn run_by_files<H: AllocGlobal + Eprint + Files>(rt: &H) -> Result<(), Fault> {
     make_folder(rt, "files/first")?;
     make_folder(rt, "files/second")?;
     make_folder(rt, "files/arriving")?;
@@ -40,7 +40,10 @@ fn run_by_files<H: AllocGlobal + Files>(rt: &H) -> Result<(), Fault> {
 }
 
 /// Prints whether a bridge wrote the same in the network as file by file.
-fn print_compared<H: AllocGlobal + Files + Print>(rt: &H, bridge: &str) -> Result<(), Fault> {
+fn print_compared<H: AllocGlobal + Eprint + Files + Print>(
+    rt: &H,
+    bridge: &str,
+) -> Result<(), Fault> {
     let one = format!(in rt.alloc(); "row/{bridge}")?;
     let other = format!(in rt.alloc(); "files/{bridge}")?;
     for name in WRITTEN {
@@ -56,7 +59,7 @@ fn print_compared<H: AllocGlobal + Files + Print>(rt: &H, bridge: &str) -> Resul
 }
 
 /// Runs the row as a network, prints its tables, and whether each bridge wrote what it writes file by file.
-pub fn print_row<H: AllocGlobal + Files + Print>(rt: &H) -> Result<(), Fault> {
+pub fn print_row<H: AllocGlobal + Eprint + Files + Print>(rt: &H) -> Result<(), Fault> {
     let line = run_network(rt, "line/network.toml", "line", "row", Some("row.svg"))?;
     print(rt, line.as_str())?;
     print_file(rt, "row/streams.csv")?;

@@ -1,6 +1,6 @@
 #![tactic(auto)]
-//! Networks of files, with what is printed for each or the line and the status of its refusal; then the bounds of plans,
-//! and those of plans with the traffic of other files.
+//! Networks of files, with what is printed for each, and `not kept` behind it where a stream of it is refusable or late, or the
+//! line and the status of its refusal; then the bounds of plans, and those of plans with the traffic of other files.
 //!
 //! The words name the files of all three, with `bounds` and `traffic` between them; of the last ones the plan stands before its
 //! traffic.
@@ -51,7 +51,8 @@ fn tell_network(rt: &(impl AllocGlobal + Print + Files), path: &str) -> Result<(
         Ok(said) => {
             let lines = said.lines.as_str();
             let told = said.told.as_str();
-            let text = format!(in rt.alloc(); "{lines}{told}")?;
+            let word = if said.kept { "" } else { "not kept\n" };
+            let text = format!(in rt.alloc(); "{lines}{told}{word}")?;
             tell(rt, path, Ok(text))
         }
         Err(fault) => {

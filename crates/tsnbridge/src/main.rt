@@ -6,18 +6,20 @@ use bridge_files::{Said, say, wire_files};
 use bridge_folder::{drawn_job, explain, explain_accepted, picture_job, write_picture};
 use bridge_net_folder::{RoundsJob, explain_stopped, rounds_job};
 use bridge_planning::{
-    TrafficReport, bounds_job, explain_network, is_network, network_job, network_picture,
-    traffic_job,
+    TrafficReport, bounds_job, explain_network, explain_traffic, is_network, network_job,
+    network_picture, traffic_job,
 };
 use bridge_program::{Fault, check_job, end, print, text_job, words_of};
 use bridge_words::{Job, Sketch, help_of, job_of, sketch_of, wants_explanation, wants_strictness};
 use std::alloc::Global;
 use std::fs;
+use std::io::IsTerminal;
 use std::process::ExitCode;
 use std::rt::{Env, Files};
 
 fn main(rt: HostRuntime) -> ExitCode {
-    match run(&rt) {
+    let is_watched = rt.stderr().is_terminal();
+    match run(&rt, is_watched) {
         Ok(true) => ExitCode::from(0),
         Ok(false) => ExitCode::from(1),
         Err(fault) => {
@@ -58,14 +60,18 @@ fn explain_stop(rt: &(impl AllocGlobal + Eprint), line: &str) {
     }
 }
 
-/// Tells more of the network of a job that is refused.
+/// Tells more of the network or of the traffic of a job that is refused.
 fn explain_refusal(rt: &(impl AllocGlobal + Eprint + Files), job: &Job) {
-    let path = match job {
-        Job::Network { network } => network.as_str(),
-        Job::RunNetwork { network, .. } => network.as_str(),
-        _ => return,
+    let said = match job {
+        Job::Network { network } => explain_network(rt, network.as_str()),
+        Job::RunNetwork { network, .. } => explain_network(rt, network.as_str()),
+        Job::Bounds {
+            plan,
+            traffic: Some(traffic),
+        } => explain_traffic(rt, plan.as_str(), traffic.as_str()),
+        _ => None,
     };
-    if let Some(said) = explain_network(rt, path) {
+    if let Some(said) = said {
         let _ = eprint!(rt; "{said}");
     }
 }
@@ -78,6 +84,8 @@ struct Answer {
     is_told: bool,
     /// Whether all traffic that it is asked about passes and is in time.
     is_kept: bool,
+    /// In how many rounds a run of a network was found.
+    rounds: Option<u32>,
 }
 
 /// The answer of a job that prints a line.
@@ -86,13 +94,18 @@ fn printed(line: String) -> Answer {
         said: Some(Said::Printed(line)),
         is_told: false,
         is_kept: true,
+        rounds: None,
     }
 }
 
 /// Does the job of the words and says what it says; where they ask for help or for the version, prints that, and ends as for
 /// words that are refused. `false` where a frame of the traffic that is asked about may be refused or late, or where
-/// something is told that the words, as they want strictness, take for a fault.
-fn run(rt: &(impl Input + AllocGlobal + Print + Eprint + Env + Files)) -> Result<bool, Fault> {
+/// something is told that the words, as they want strictness, take for a fault. Where it is watched, a long job says on standard
+/// error how far it is.
+fn run(
+    rt: &(impl Input + AllocGlobal + Print + Eprint + Env + Files),
+    is_watched: bool,
+) -> Result<bool, Fault> {
     let words = words_of(rt)?;
     if let Some(text) = help_of(rt.alloc(), &words)? {
         print(rt, text.as_str())?;
@@ -101,23 +114,34 @@ fn run(rt: &(impl Input + AllocGlobal + Print + Eprint + Env + Files)) -> Result
     let job = job_of(rt.alloc(), &words)?;
     let sketch = sketch_of(rt.alloc(), &words)?;
     let is_strict = wants_strictness(&words);
-    let answer = answer_of(rt, job, sketch, is_strict)?;
+    let answer = answer_of(rt, job, sketch, is_strict, is_watched)?;
     if let Some(said) = &answer.said {
         say(rt, said)?;
     }
     if wants_explanation(&words) {
+        tell_rounds(rt, answer.rounds);
         explain_accepted(rt, &words);
     }
     Ok(answer.is_kept && !(answer.is_told && is_strict))
 }
 
+/// Tells in how many rounds a run of a network was found.
+fn tell_rounds(rt: &(impl AllocGlobal + Eprint), rounds: Option<u32>) {
+    if let Some(rounds) = rounds {
+        let _ = eprint!(rt;
+            "rounds {rounds}: in the last one nothing else was sent over any link than before.\n"
+        );
+    }
+}
+
 /// What a job says, over standard input and output or the files that it names, where it says something; a run with the
-/// picture that is asked for beside it. Whether strictness is wanted, a run of a network is asked.
+/// picture that is asked for beside it. Whether strictness is wanted, a run of a network is asked, and whether it is watched.
 fn answer_of(
-    rt: &(impl Input + AllocGlobal + Print + Files),
+    rt: &(impl Input + AllocGlobal + Print + Eprint + Files),
     job: Job,
     sketch: Option<Sketch>,
     is_strict: bool,
+    is_watched: bool,
 ) -> Result<Answer, Fault>
     requires { HasRoom job }
 {
@@ -134,6 +158,7 @@ fn answer_of(
                 said: Some(said),
                 is_told: false,
                 is_kept: true,
+                rounds: None,
             });
         }
         Job::Check { plan } => check(rt, plan)?,
@@ -149,6 +174,7 @@ fn answer_of(
                 said: None,
                 is_told: false,
                 is_kept: true,
+                rounds: None,
             });
         }
         Job::Bounds { plan, traffic } => match traffic {
@@ -159,6 +185,7 @@ fn answer_of(
                     said: Some(Said::Printed(report.text)),
                     is_told: false,
                     is_kept: report.kept,
+                    rounds: None,
                 });
             }
         },
@@ -175,12 +202,14 @@ fn answer_of(
                 output,
                 picture,
                 is_strict,
+                is_watched,
             };
             let said = rounds_job(rt, job)?;
             return Ok(Answer {
                 said: Some(Said::Printed(said.line)),
                 is_told: said.is_told,
                 is_kept: true,
+                rounds: Some(said.rounds),
             });
         }
     };
@@ -206,7 +235,8 @@ fn check_network(rt: &(impl AllocGlobal + Files), path: String) -> Result<Answer
     Ok(Answer {
         said: Some(Said::Printed(text)),
         is_told,
-        is_kept: true,
+        is_kept: said.kept,
+        rounds: None,
     })
 }
 

@@ -1,4 +1,4 @@
-use Rattle.std.proofs.Common.{◌≡◌, ◌+◌, ◌∷◌, ◌∙◌, [], Bool, List, ap, arith, length, subst, sym}
+use Rattle.std.proofs.Common.{◌∷◌, ◌∙◌, [], ap, arith, length, subst, sym}
 use Rattle.std.proofs.lemmas.List.{length-append}
 use Rattle.bridge_delays.specs.Hops.{AreAnswers}
 use Rattle.bridge_delays.proofs.Traced.{answers_more}

@@ -1,4 +1,4 @@
-use Rattle.std.proofs.Common.{◌≡◌, List, Some, inr, sym, subst, ◌∙◌}
+use Rattle.std.proofs.Common.{List, inr, sym, subst, ◌∙◌}
 use Rattle.bridge_base.specs.Members.{In}
 use Rattle.bridge_run.specs.declared.outcome.Departure.{Departure}
 use Rattle.bridge_rounds.specs.Stations.{sender_value}

@@ -1,5 +1,4 @@
 use Rattle.std.proofs.Common.{◌∙◌, ap}
-use Rattle.bridge_netfile.specs.Model.{Bridge}
 use Rattle.bridge_planning.proofs.Named.{name_absent, name_there}
 use Rattle.bridge_net_folder.proofs.refusing.name_at.Goals as goal
 

@@ -1,4 +1,4 @@
-use Rattle.std.proofs.Common.{◌≡◌, ◌≤◌, arith, subst}
+use Rattle.std.proofs.Common.{◌≡◌, arith, subst}
 use Rattle.bridge_planning.specs.Bounds.{AreUpTo}
 use Rattle.bridge_planning.proofs.Bounded.{next_filter}
 use Rattle.bridge_planning.proofs.bounds.put_filter.Goals as goal

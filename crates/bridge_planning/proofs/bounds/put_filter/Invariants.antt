@@ -1,4 +1,3 @@
-use Rattle.std.proofs.Common.{◌≤◌}
 use Rattle.bridge_planning.specs.Bounds.{AreUpTo}
 use Rattle.bridge_planning.proofs.bounds.put_filter.Given as goal
 

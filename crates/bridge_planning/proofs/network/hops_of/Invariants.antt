@@ -1,5 +1,5 @@
 use Rattle.std.proofs.Common.{◌≡◌, map, take}
-use Rattle.bridge_planning.specs.Networks.{hop_in}
+use Rattle.bridge_planning.specs.Streams.{hop_in}
 use Rattle.bridge_planning.proofs.network.hops_of.Given as goal
 
 abbrev pub invariant-loop-row : goal.invariant-loop-row

@@ -1,6 +1,6 @@
 use Rattle.std.proofs.Common.{◌≡◌, map, take}
 use Rattle.bridge_netfile.specs.Model.{Stream}
-use Rattle.bridge_planning.specs.Networks.{hop_in}
+use Rattle.bridge_planning.specs.Streams.{hop_in}
 use Rattle.bridge_planning.proofs.network.streams_of.Given as goal
 
 abbrev pub invariant-loop-row : goal.invariant-loop-row

@@ -1,6 +1,7 @@
-use Rattle.std.proofs.Common.{◌+◌, ◌++◌, ◌∷◌, [], subst, sym, take}
+use Rattle.std.proofs.Common.{◌+◌, ◌++◌, ◌∷◌, [], All, subst, sym, take}
 use Rattle.std.proofs.lemmas.List.{take_more}
-use Rattle.bridge_planning.specs.Bounds.{AreBounds}
+use Rattle.std.proofs.lemmas.List.Elements.{All-push}
+use Rattle.bridge_planning.specs.Bounds.{AreBounds, IsPlaced}
 use Rattle.bridge_planning.specs.Streams.{AreBoundsOf}
 use Rattle.bridge_planning.proofs.Bounded.{more_bounds}
 use Rattle.bridge_planning.proofs.streams.bounds_of_all.Goals as goal
@@ -11,6 +12,10 @@ loop-accepted-preserved g c =
     let i = c.loop-accepted.accepted-index in
     let olds = c.loop-accepted.bounds.items in
     let rows = c.in_ok-rows.rows in
-    let more = more_bounds (take i plans) olds _ rows c.loop-accepted.invariant (subst (λ p. AreBounds p rows.items) c.accepted-item.is c.in_ok-rows.ensures) in
-    subst (λ vs. AreBoundsOf (take (i + 1) plans) vs) (sym c.in_ok-push.ensures.items)
-    (subst (λ ps. AreBoundsOf ps (olds ++ rows ∷ [])) (sym (take_more plans i _ c.loop-accepted-test.true)) more)
+    let more = more_bounds (take i plans) olds _ rows c.loop-accepted.invariant.are_bounds (subst (λ p. AreBounds p rows.items) c.accepted-item.is c.in_ok-rows.ensures.bounds) in
+    record {
+      are_bounds = subst (λ vs. AreBoundsOf (take (i + 1) plans) vs) (sym c.in_ok-push.ensures.items)
+          (subst (λ ps. AreBoundsOf ps (olds ++ rows ∷ [])) (sym (take_more plans i _ c.loop-accepted-test.true)) more);
+      placed = subst (λ vs. All (λ v. All IsPlaced v.items) vs) (sym c.in_ok-push.ensures.items)
+          (All-push (λ v. All IsPlaced v.items) olds rows c.loop-accepted.invariant.placed c.in_ok-rows.ensures.placed);
+    }

@@ -1,4 +1,4 @@
-use Rattle.std.proofs.Common.{◌≡◌, ◌≤◌, ◌∙◌, ◌++◌, ap, arith, length, string_bytes}
+use Rattle.std.proofs.Common.{◌≡◌, ◌∙◌, ◌++◌, ap, arith, length, string_bytes}
 use Rattle.bridge_circling.specs.Steps.{all_below}
 use Rattle.bridge_circling.proofs.Stepping.{next_below}
 use Rattle.bridge_planning.specs.Telling.{fall_text}

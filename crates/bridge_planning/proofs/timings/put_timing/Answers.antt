@@ -1,4 +1,4 @@
-use Rattle.std.proofs.Common.{◌≡◌, ℕ, ◌++◌, ◌∷◌, [], List, refl, sym, subst, eq-eqb}
+use Rattle.std.proofs.Common.{ℕ, ◌++◌, ◌∷◌, [], List, refl, sym, subst, eq-eqb}
 use Rattle.bridge_filter.proofs.Owned.{differs}
 use Rattle.bridge_periods.specs.Timings.{IsTiming}
 use Rattle.bridge_planning.specs.declared.timings.QueueTiming.{QueueTiming}

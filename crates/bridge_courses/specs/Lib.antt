@@ -1,0 +1,4 @@
+pub mod Leading
+pub mod Trees
+pub mod Courses
+pub mod Examples

@@ -1,0 +1,9 @@
+use Rattle.std.proofs.Common.{All, List, subst, sym}
+use Rattle.std.specs.Option.{ForSome}
+use Rattle.bridge_netfile.specs.Model.{Stream}
+use Rattle.bridge_netfile.specs.Rules.{IsTalker}
+use Rattle.bridge_planning.proofs.network.lines_of.Goals as goal
+
+pub stream_lines-requires-clause-talkers : goal.stream_lines-requires-clause-talkers
+stream_lines-requires-clause-talkers g c =
+    subst (λ (ss : List Stream). All (λ (s : Stream). ForSome s.talker IsTalker) ss) (sym c.streams.ensures.streams) (λ k d less. (c.streams.ensures.rules.streams.each k d less).talker)

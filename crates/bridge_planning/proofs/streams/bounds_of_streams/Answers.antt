@@ -1,0 +1,14 @@
+use Rattle.std.proofs.Common.{◌≤◌, ◌∙◌, List, ap, length, map, subst, sym, take_all, ℕ}
+use Rattle.bridge_netfile.specs.Model.{Stream}
+use Rattle.bridge_planning.specs.Streams.{stream_bound}
+use Rattle.bridge_planning.proofs.streams.bounds_of_streams.Goals as goal
+
+pub stream_bound-requires-clause-few : goal.stream_bound-requires-clause-few
+stream_bound-requires-clause-few g c =
+    let few = subst (λ (s : Stream). length s.hops ≤ 64) (sym c.stream-item.is) (c.requires.few c.loop-stream.stream-index _ c.loop-stream-test.true) in
+    subst (λ (hs : List (ℕ × ℕ)). length hs ≤ 64) (sym c.hops.ensures) few
+
+pub returns : goal.returns
+returns g c =
+    let end : length c.args.streams.now ≤ c.loop-stream.stream-index = c.loop-stream-test.false in
+    c.loop-stream.invariant ∙ ap (map (λ (s : Stream). stream_bound c.args.bounds.now c.args.links.now s.hops)) (take_all c.loop-stream.stream-index c.args.streams.now end)

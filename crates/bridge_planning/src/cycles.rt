@@ -1,0 +1,158 @@
+//! What is told beside the line of traffic whose period isn't a multiple of each cycle on the way of its frames: which cycles
+//! there are, and which of them it doesn't suit. Nothing here can fail: what can't be read again is left out.
+
+use crate::reporting::rows_from;
+use crate::traffic::{comes_to, row_fault};
+use bridge_bounds::filter_at;
+use bridge_check::reach_of;
+use bridge_config::Plan;
+use bridge_cycle::{Egress, Timeline};
+use bridge_gate::Schedule;
+use bridge_netfile::{NetFault, NetField};
+use bridge_periods::gate_at;
+use bridge_program::planned;
+use bridge_traffic::{TrafficFault, TrafficRow};
+use std::alloc::{AllocError, Global};
+use std::fs;
+use std::rt::Files;
+
+/// What is told of the traffic of a file that is refused, by the plan of another one, made anew of both.
+pub fn explain_traffic<H: AllocGlobal + Files>(
+    rt: &H,
+    plan: &str,
+    traffic: &str,
+) -> Option<String> {
+    let alloc = rt.alloc();
+    let path = String::from_str(alloc, plan).ok()?;
+    let file = String::from_str(alloc, traffic).ok()?;
+    let reader = fs::open(rt, plan).ok()?;
+    let texts = fs::open(rt, traffic).ok()?;
+    let accepted = match planned(alloc, alloc, path, reader) {
+        Ok(accepted) => accepted,
+        Err(_) => return None,
+    };
+    let said = match rows_from(alloc, alloc, file, texts) {
+        Ok(rows) => said_of_rows(alloc, traffic, accepted.plan(), &rows),
+        Err(_) => None,
+    };
+    drop(accepted);
+    said
+}
+
+/// Whether the fault of a row is its period, which doesn't suit some cycle.
+fn is_of_period(fault: Option<TrafficFault>) -> bool {
+    match fault {
+        Some(TrafficFault::Text(NetFault::OutOfRange(place))) => place.field == NetField::Period,
+        _ => false,
+    }
+}
+
+/// What is told of the first row whose period doesn't suit.
+fn said_of_rows(
+    alloc: Global,
+    file: &str,
+    plan: &Plan<Global>,
+    rows: &[TrafficRow],
+) -> Option<String> {
+    let mut index: u32 = 0;
+    for row in rows {
+        index = index.saturating_add(1);
+        let fault = row_fault(plan, index, row);
+        if is_of_period(fault) {
+            return said_of_row(alloc, file, plan, index, row).ok();
+        }
+        if fault.is_some() {
+            return None;
+        }
+    }
+    None
+}
+
+/// Adds a cycle, and whether the period suits it.
+fn put_cycle(
+    said: &mut String,
+    what: &str,
+    number: u32,
+    cycle: u64,
+    period: u64,
+) -> Result<(), AllocError> {
+    if cycle > 0 && period % cycle == 0 {
+        write!(said, "{what} {number} begins again each {cycle} ns.\n")
+    } else {
+        write!(
+            said,
+            "{what} {number} begins again each {cycle} ns, of which it is no multiple.\n"
+        )
+    }
+}
+
+/// Adds the cycles of a gate.
+fn put_gate(
+    said: &mut String,
+    plan: &Plan<Global>,
+    number: u32,
+    period: u64,
+) -> Result<(), AllocError> {
+    let Some(gate) = gate_at(plan.gates(), number) else {
+        return Ok(());
+    };
+    match &gate.schedule {
+        Schedule::Fixed { lets: _, ipv: _ } => Ok(()),
+        Schedule::Cyclic(list) => put_cycle(said, "Gate", number, list.cycle(), period),
+        Schedule::Joined(joined) => {
+            let (old, new) = joined.lists();
+            put_cycle(said, "Gate", number, old.cycle(), period)?;
+            put_cycle(said, "Behind its change gate", number, new.cycle(), period)
+        }
+    }
+}
+
+/// Adds the cycles of a port.
+fn put_port(
+    said: &mut String,
+    plan: &Plan<Global>,
+    number: u8,
+    period: u64,
+) -> Result<(), AllocError> {
+    let Some(port) = plan.port(number) else {
+        return Ok(());
+    };
+    let number = number as u32;
+    match &port.list {
+        None => Ok(()),
+        Some(Egress::Cyclic(list)) => put_cycle(said, "Port", number, list.cycle(), period),
+        Some(Egress::Joined(joined)) => {
+            let (old, new) = joined.lists();
+            put_cycle(said, "Port", number, old.cycle(), period)?;
+            put_cycle(said, "Behind its change port", number, new.cycle(), period)
+        }
+    }
+}
+
+/// What is told of a row.
+fn said_of_row(
+    alloc: Global,
+    file: &str,
+    plan: &Plan<Global>,
+    index: u32,
+    row: &TrafficRow,
+) -> Result<String, AllocError> {
+    let mut said = String::new(alloc);
+    let period = row.traffic.period;
+    let number = row.filter;
+    write!(
+        said,
+        "{file}: the period of traffic {index}, {period} ns, has to be a multiple of each cycle on the way of the frames of filter {number}.\n"
+    )?;
+    let Some(filter) = filter_at(plan.filters(), number) else {
+        return Ok(said);
+    };
+    put_gate(&mut said, plan, filter.gate, period)?;
+    let reach = reach_of(plan, &filter);
+    for place in 0..16u8 {
+        if comes_to(plan, &filter, &reach, place + 1) {
+            put_port(&mut said, plan, place + 1, period)?;
+        }
+    }
+    Ok(said)
+}
