@@ -1,5 +1,5 @@
 //! The table of frames: what became of each frame of a stream at each hop.
-ghost use Rattle.std.specs.Prelude.{◌≡◌, ◌++◌, OnOk, string_bytes};
+ghost use Rattle.std.specs.Prelude.{◌≡◌, ◌++◌, IfOk, OnOk, codes, decimal, string_bytes};
 ghost use Rattle.bridge_delays.specs.Frames as spec;
 
 use crate::hops::{HopRun, is_on, ways_of};
@@ -9,7 +9,8 @@ use bridge_base::NoMemory;
 use bridge_filter::Verdict;
 use bridge_network::Link;
 use bridge_report::{refusal_word, verdict_word};
-use bridge_run::{Departure, Dropped, Origin};
+use bridge_run::{Departure, Dropped, Origin, View};
+use itoa::Buffer;
 use std::alloc::{AllocError, Allocator};
 
 /// The first line of the table: stream, hop, the number of the frame at the first hop and the moment at which it came there,
@@ -30,6 +31,40 @@ fn at_of(origins: &[Origin], own: u64) -> u64
     }
 }
 
+/// Adds a number, and a piece behind it.
+fn push_number<A: Allocator>(
+    text: &mut String<A>,
+    number: u64,
+    end: &str,
+) -> Result<(), AllocError>
+    ensures { OnOk result (string_bytes text.new ≡ string_bytes text.old ++ (decimal number ++ end.now)) }
+{
+    let mut buffer = Buffer::new();
+    text.push_str(buffer.format(number))?;
+    text.push_str(end)
+}
+
+/// Adds the number of a frame at the first hop and the moment at which it came there, where they are known.
+fn push_root<A: Allocator>(text: &mut String<A>, root: Option<Root>) -> Result<(), AllocError>
+    ensures { OnOk result (string_bytes text.new ≡ string_bytes text.old ++ spec.root_words root) }
+{
+    match root {
+        Some(Root { number, came }) => {
+            push_number(text, number, ",")?;
+            push_number(text, came, ",")
+        }
+        None => text.push_str(",,"),
+    }
+}
+
+/// Adds a name, and a comma behind it.
+fn push_name<A: Allocator>(text: &mut String<A>, name: &str) -> Result<(), AllocError>
+    ensures { OnOk result (string_bytes text.new ≡ string_bytes text.old ++ (name.now ++ codes ",")) }
+{
+    text.push_str(name)?;
+    text.push_str(",")
+}
+
 /// Adds the beginning of a line: up to what became of a frame.
 #[tactic(auto, unfolding(crate::specs::Frames::line_start))]
 fn push_start<A: Allocator>(
@@ -41,10 +76,10 @@ fn push_start<A: Allocator>(
 ) -> Result<(), AllocError>
     ensures { OnOk result (string_bytes text.new ≡ string_bytes text.old ++ spec.line_start stream.now hop.now root at) }
 {
-    match root {
-        Some(Root { number, came }) => write!(text, "{stream},{hop},{number},{came},{at},"),
-        None => write!(text, "{stream},{hop},,,{at},"),
-    }
+    push_name(text, stream)?;
+    push_name(text, hop)?;
+    push_root(text, root)?;
+    push_number(text, at, ",")
 }
 
 /// Adds the line of a frame that was refused.
@@ -60,8 +95,8 @@ fn push_refused<A: Allocator>(
     ensures { OnOk result (string_bytes text.new ≡ string_bytes text.old ++ spec.refused_line stream.now hop.now root at verdict) }
 {
     push_start(text, stream, hop, root, at)?;
-    let word = verdict_word(verdict);
-    write!(text, "{word},,,,\n")
+    text.push_str(verdict_word(verdict))?;
+    text.push_str(",,,,\n")
 }
 
 /// Adds the line of a copy that was dropped.
@@ -77,9 +112,29 @@ fn push_drop<A: Allocator>(
     ensures { OnOk result (string_bytes text.new ≡ string_bytes text.old ++ spec.drop_line stream.now hop.now root at dropped.now) }
 {
     push_start(text, stream, hop, root, at)?;
-    let word = refusal_word(dropped.refusal);
-    let port = dropped.port;
-    write!(text, "{word},{port},,,\n")
+    push_name(text, refusal_word(dropped.refusal))?;
+    push_number(text, u64::from(dropped.port), ",,,\n")
+}
+
+/// Adds how long a copy took that was done at a moment, where it is known from when on, and the end of its line.
+fn push_delay<A: Allocator>(
+    text: &mut String<A>,
+    done: u64,
+    root: Option<Root>,
+) -> Result<(), AllocError>
+    ensures { OnOk result (string_bytes text.new ≡ string_bytes text.old ++ (spec.delay_word done root ++ codes "\n")) }
+{
+    match root {
+        Some(root) => push_number(text, done.saturating_sub(root.came), "\n"),
+        None => text.push_str("\n"),
+    }
+}
+
+/// Where a copy goes that left.
+fn way_word(on: bool) -> &'static str
+    ensures { result.now ≡ spec.way_word on }
+{
+    if on { "sent" } else { "delivered" }
 }
 
 /// Adds the line of a copy that left.
@@ -95,59 +150,76 @@ fn push_departure<A: Allocator>(
 ) -> Result<(), AllocError>
     ensures { OnOk result (string_bytes text.new ≡ string_bytes text.old ++ spec.departure_line stream.now hop.now root at departure.now on) }
 {
-    push_start(text, stream, hop, root, at)?;
-    let word = if on { "sent" } else { "delivered" };
     let Departure {
         own: _,
         port,
         start,
         done,
     } = *departure;
-    match root {
-        Some(root) => {
-            let delay = done.saturating_sub(root.came);
-            write!(text, "{word},{port},{start},{done},{delay}\n")
-        }
-        None => write!(text, "{word},{port},{start},{done},\n"),
-    }
+    push_start(text, stream, hop, root, at)?;
+    push_name(text, way_word(on))?;
+    push_number(text, u64::from(port), ",")?;
+    push_number(text, start, ",")?;
+    push_number(text, done, ",")?;
+    push_delay(text, done, root)
 }
 
-/// Adds the lines of the frames that a hop refused.
-fn push_all_refused<A: Allocator>(
+/// Adds the line of a frame of a hop, if it was refused.
+fn push_verdict<A: Allocator>(
+    text: &mut String<A>,
+    stream: &str,
+    hop: &str,
+    root: Option<Root>,
+    at: u64,
+    verdict: Verdict,
+) -> Result<(), AllocError>
+    ensures { OnOk result (string_bytes text.new ≡ string_bytes text.old ++ spec.verdict_line stream.now hop.now root at verdict) }
+{
+    if passes(verdict) {
+        return Ok(());
+    }
+    push_refused(text, stream, hop, root, at, verdict)
+}
+
+/// Adds the lines of the frames that a hop refused, which are numbered from 1.
+fn push_verdicts<A: Allocator>(
     text: &mut String<A>,
     stream: &str,
     hop: &str,
     roots: &[Option<Root>],
     origins: &[Origin],
     verdicts: &[Verdict],
-) -> Result<(), AllocError> {
-    for place in 0..verdicts.len() {
-        if place >= roots.len() || place >= origins.len() {
-            return Ok(());
-        }
-        if !passes(verdicts[place]) {
-            push_refused(
-                text,
-                stream,
-                hop,
-                roots[place],
-                origins[place].at,
-                verdicts[place],
-            )?;
-        }
+) -> Result<(), AllocError>
+    ensures { OnOk result (string_bytes text.new ≡ string_bytes text.old ++ spec.verdict_lines stream.now hop.now roots.now origins.now 1 verdicts.now) }
+{
+    let mut left = verdicts;
+    let mut own = 1u64;
+    while let Some((first, rest)) = left.split_first() {
+        push_verdict(
+            text,
+            stream,
+            hop,
+            root_at(roots, own),
+            at_of(origins, own),
+            *first,
+        )?;
+        own += 1;
+        left = rest;
     }
     Ok(())
 }
 
 /// Adds the lines of the copies that a hop dropped.
-fn push_all_drops<A: Allocator>(
+fn push_drops<A: Allocator>(
     text: &mut String<A>,
     stream: &str,
     hop: &str,
     roots: &[Option<Root>],
     origins: &[Origin],
     drops: &[Dropped],
-) -> Result<(), AllocError> {
+) -> Result<(), AllocError>
+    ensures { OnOk result (string_bytes text.new ≡ string_bytes text.old ++ spec.drop_lines stream.now hop.now roots.now origins.now drops.now) }
+{
     for dropped in drops {
         push_drop(
             text,
@@ -162,7 +234,7 @@ fn push_all_drops<A: Allocator>(
 }
 
 /// Adds the lines of the copies that left a hop.
-fn push_all_departures<A: Allocator>(
+fn push_departures<A: Allocator>(
     text: &mut String<A>,
     stream: &str,
     hop: &str,
@@ -170,7 +242,9 @@ fn push_all_departures<A: Allocator>(
     origins: &[Origin],
     departures: &[Departure],
     ways: &[bool],
-) -> Result<(), AllocError> {
+) -> Result<(), AllocError>
+    ensures { OnOk result (string_bytes text.new ≡ string_bytes text.old ++ spec.departure_lines stream.now hop.now roots.now origins.now ways.now departures.now) }
+{
     for departure in departures {
         push_departure(
             text,
@@ -185,6 +259,30 @@ fn push_all_departures<A: Allocator>(
     Ok(())
 }
 
+/// Adds the lines of what a run tells of a hop.
+fn push_view<A: Allocator + Copy>(
+    text: &mut String<A>,
+    stream: &str,
+    hop: &str,
+    roots: &[Option<Root>],
+    ways: &[bool],
+    view: &View<A>,
+) -> Result<(), AllocError>
+    ensures { OnOk result (string_bytes text.new ≡ string_bytes text.old ++ spec.view_lines stream.now hop.now roots.now ways.now view.now) }
+{
+    push_verdicts(text, stream, hop, roots, &view.origins, &view.verdicts)?;
+    push_drops(text, stream, hop, roots, &view.origins, &view.drops)?;
+    push_departures(
+        text,
+        stream,
+        hop,
+        roots,
+        &view.origins,
+        &view.departures,
+        ways,
+    )
+}
+
 /// The lines of a hop: frames that it refused, copies that it dropped, then copies that left it, each in the order of the run.
 pub fn frame_lines<A: Allocator + Copy>(
     alloc: A,
@@ -194,20 +292,11 @@ pub fn frame_lines<A: Allocator + Copy>(
     roots: &[Option<Root>],
     stream: &str,
     hop: &str,
-) -> Result<String<A>, NoMemory> {
+) -> Result<String<A>, NoMemory>
+    ensures { IfOk result (λ text. spec.AreFrameLines links.now hops.now run.now.bridge roots.now stream.now hop.now run.now.view.now (string_bytes text)) }
+{
     let ways = ways_of(alloc, links, hops, run.bridge)?;
-    let view = run.view;
     let mut text = String::new(alloc);
-    push_all_refused(&mut text, stream, hop, roots, &view.origins, &view.verdicts)?;
-    push_all_drops(&mut text, stream, hop, roots, &view.origins, &view.drops)?;
-    push_all_departures(
-        &mut text,
-        stream,
-        hop,
-        roots,
-        &view.origins,
-        &view.departures,
-        &ways,
-    )?;
+    push_view(&mut text, stream, hop, roots, &ways, run.view)?;
     Ok(text)
 }

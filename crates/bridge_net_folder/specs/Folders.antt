@@ -9,6 +9,7 @@ use Rattle.bridge_network.specs.Refusing.{first_fault}
 use Rattle.bridge_network.specs.Wiring.{Parts}
 use Rattle.bridge_planning.specs.Naming.{name_at}
 use Rattle.bridge_planning.specs.Networks.{IsMadeOf}
+use Rattle.bridge_planning.specs.Talkers.{first_misfit}
 use Rattle.bridge_program.specs.declared.fault.Fault.{Fault}
 use Rattle.bridge_program.specs.declared.fault.Fault.TheVariants as fault
 use Rattle.bridge_program.specs.Lines.{line_of_run}
@@ -86,8 +87,8 @@ pub record IsSettled {A : Type 0} (n : Parts A) (came : List (Incoming A)) (sett
   pub alone : IsolatesStreams n came settled
   pub others : OthersChangeNothing n came settled
 
--- what is printed for a run: the network of a file is accepted, and was run
+-- what is printed for a run: the network of a file is accepted, the periods of its talkers suit its plans, and it was run
 abbrev pub PrintsRounds : (A : Type 0) → List ℕ → Type 0
 PrintsRounds A line =
-    (f : file.Network) × (plans : List (Plan A)) × (n : Parts A) × IsMadeOf f plans n × (first_fault n ≡ None)
+    (f : file.Network) × (plans : List (Plan A)) × (n : Parts A) × IsMadeOf f plans n × (first_fault n ≡ None) × (first_misfit n.plans 1 f.streams ≡ None)
     × ((came : List (Incoming A)) × (settled : List (Settled A)) × IsSettled n came settled) × IsLine f line

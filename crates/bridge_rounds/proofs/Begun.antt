@@ -13,6 +13,7 @@ use Rattle.bridge_rounds.specs.declared.station.Incoming.{Incoming}
 use Rattle.bridge_rounds.specs.Stations.{IsBegun, NoneCame, NoneCameBefore, StationState}
 use Rattle.bridge_rounds.specs.Rounds.{AreBegun, AreIncoming}
 use Rattle.bridge_rounds.proofs.Feeding.{set_else, set_is}
+use Rattle.bridge_rounds.proofs.Over.{there}
 
 some_is : {X : Type 0} (a b : X) → Some a ≡ Some b → a ≡ b
 some_is a b h = cc
@@ -25,7 +26,7 @@ left_at (y ∷ xs) zero x rest e = (cc, cc)
 left_at (y ∷ xs) (suc n) x rest e = left_at xs n x rest e
 
 -- one more
-pushed : {X : Type 0} (xs : List X) (x y : X) (b : ℕ) → slice_get (xs ++ x ∷ []) b ≡ Some y → (slice_get xs b ≡ Some y) ⊎ ((b ≡ length xs) × (x ≡ y))
+pub pushed : {X : Type 0} (xs : List X) (x y : X) (b : ℕ) → slice_get (xs ++ x ∷ []) b ≡ Some y → (slice_get xs b ≡ Some y) ⊎ ((b ≡ length xs) × (x ≡ y))
 pushed [] x y zero e = inr (refl, some_is x y e)
 pushed [] x y (suc b) e = absurd (cc)
 pushed (z ∷ xs) x y zero e = inl e
@@ -72,6 +73,16 @@ begun_all n came xs rest are none left few begun =
     let size = length-drop (length xs) came in
     let many = are.many in
     record { many = omega (arith, none, gone, size, many, few); each = begun }
+
+-- none of them has run
+pub begun_idle : {A : Type 0} (n : Parts A) (came : List (Incoming A)) (xs : List (StationState A)) → AreIncoming n.plans came → AreBegun n came xs → (b : ℕ) (x : StationState A) → slice_get xs b ≡ Some x → x.outcome ≡ None
+begun_idle n came xs are begun b x at =
+    let within = slice_get_within xs b x at in
+    let as_many = begun.many in
+    let many = are.many in
+    let p = there n.plans b (omega (arith, within, as_many)) in
+    let c = there came b (omega (arith, within, as_many, many)) in
+    (begun.each b p.0 c.0 x p.1 c.1 at).idle
 
 -- the text of one linked port more is the capture of no frame
 pub none_more : (senders : List (Option Sender)) (texts : List (List ℕ)) (i : ℕ) (t : List ℕ) → t ≡ written_text [] → NoneCameBefore i senders texts → NoneCameBefore (i + 1) senders (slice_set texts i t)

@@ -11,7 +11,7 @@ some_is : {X : Type 0} (a b : X) → Some a ≡ Some b → a ≡ b
 some_is a b h = cc
 
 -- what is set is there
-set_here : {X : Type 0} (xs : List X) (i : ℕ) (x y : X) → slice_get xs i ≡ Some y → slice_get (slice_set xs i x) i ≡ Some x
+pub set_here : {X : Type 0} (xs : List X) (i : ℕ) (x y : X) → slice_get xs i ≡ Some y → slice_get (slice_set xs i x) i ≡ Some x
 set_here [] i x y is = absurd (cc)
 set_here (z ∷ xs) zero x y is = refl
 set_here (z ∷ xs) (suc i) x y is = set_here xs i x y is
@@ -36,7 +36,7 @@ set_there (z ∷ xs) zero x is = ap (λ y. y ∷ xs) (some_is z x is)
 set_there (z ∷ xs) (suc i) x is = ap (λ l. z ∷ l) (set_there xs i x is)
 
 -- where one is set that has the same of something, all have the same of it
-same_of : {X Y : Type 0} (f : X → Y) (xs : List X) (i : ℕ) (x y : X) → slice_get xs i ≡ Some y → f x ≡ f y → map f (slice_set xs i x) ≡ map f xs
+pub same_of : {X Y : Type 0} (f : X → Y) (xs : List X) (i : ℕ) (x y : X) → slice_get xs i ≡ Some y → f x ≡ f y → map f (slice_set xs i x) ≡ map f xs
 same_of f [] i x y is e = refl
 same_of {X} {Y} f (z ∷ xs) zero x y is e = ap (λ (u : Y). u ∷ map f xs) (e ∙ ap f (sym (some_is z y is)))
 same_of {X} {Y} f (z ∷ xs) (suc i) x y is e = ap (λ (l : List Y). f z ∷ l) (same_of f xs i x y is e)
@@ -51,7 +51,7 @@ tap_parts : {A : Type 0} (o : Option (StationState A)) (q : ℕ) → tap_of o q 
 tap_parts None q = refl
 tap_parts (Some x) q = refl
 
-tap_kept : {A : Type 0} (ran given : List (StationState A)) (b q : ℕ) → map ground given ≡ map ground ran → map taps_of given ≡ map taps_of ran → tap_of (slice_get given b) q ≡ tap_of (slice_get ran b) q
+pub tap_kept : {A : Type 0} (ran given : List (StationState A)) (b q : ℕ) → map ground given ≡ map ground ran → map taps_of given ≡ map taps_of ran → tap_of (slice_get given b) q ≡ tap_of (slice_get ran b) q
 tap_kept {A} ran given b q same taps =
     let grounds = sym (slice_get-map ground given b) ∙ (ap (λ (l : List (Ground A)). slice_get l b) same ∙ slice_get-map ground ran b) in
     let tapped = sym (slice_get-map taps_of given b) ∙ (ap (λ (l : List (List (List ℕ))). slice_get l b) taps ∙ slice_get-map taps_of ran b) in

@@ -7,3 +7,4 @@ pub mod Begun
 pub mod Told
 pub mod Feeding
 pub mod Stopped
+pub mod Handing

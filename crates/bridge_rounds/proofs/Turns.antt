@@ -148,11 +148,14 @@ texts_at [] b x is = absurd (cc)
 texts_at (y ∷ xs) zero x is = ap (λ z. Some (texts_of z)) (some_is y x is)
 texts_at (y ∷ xs) (suc b) x is = texts_at xs b x is
 
+pub texts_kept : {A : Type 0} (xs ys : List (StationState A)) (b : ℕ) (x y : StationState A) → map texts_of xs ≡ map texts_of ys → slice_get xs b ≡ Some x → slice_get ys b ≡ Some y → x.texts ≡ y.texts
+texts_kept xs ys b x y same is at = some_is x.texts y.texts (sym (texts_at xs b x is) ∙ (ap (λ (l : List (List (List ℕ))). slice_get l b) same ∙ texts_at ys b y at))
+
 -- a bridge that stopped over its texts stopped over those that came to it
 pub stops_kept : {A : Type 0} (xs ys : List (StationState A)) (b : ℕ) (x y : StationState A) (f : RunFault) → map ground xs ≡ map ground ys → map texts_of xs ≡ map texts_of ys → slice_get xs b ≡ Some x → slice_get ys b ≡ Some y
     → StopsBridge x.plan x.ports x.commands x.texts f → StopsBridge y.plan y.ports y.commands y.texts f
 stops_kept {A} xs ys b x y f grounds texts is at stops =
-    let own : x.texts ≡ y.texts = some_is x.texts y.texts (sym (texts_at xs b x is) ∙ (ap (λ (l : List (List (List ℕ))). slice_get l b) texts ∙ texts_at ys b y at)) in
+    let own = texts_kept xs ys b x y texts is at in
     subst (λ (t : List (List ℕ)). StopsBridge y.plan y.ports y.commands t f) own
     (subst (λ (g : Ground A). StopsBridge g.plan g.ports g.commands x.texts f) (ground_kept xs ys b x y grounds is at) stops)
 

@@ -1,3 +1,4 @@
 pub mod Delaying
 pub mod Stations
 pub mod Rounds
+pub mod Feeding

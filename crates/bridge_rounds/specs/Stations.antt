@@ -123,7 +123,7 @@ abbrev pub NoneCame : List (Option networks.Sender) → List (List ℕ) → Type
 NoneCame senders texts = (i : ℕ) (s : networks.Sender) (text : List ℕ) → slice_get senders i ≡ Some (Some s) → slice_get texts i ≡ Some text → text ≡ written_text []
 
 -- a bridge of a network before the first round: its commands, its ports by rising number, the texts of the open ones, what sends to the others, and the
--- capture of no frame for each of these
+-- capture of no frame for each of these; it hasn't run
 pub record IsBegun {A : Type 0} (p : Plan A) (links : List Link) (b : ℕ) (c : Incoming A) (x : StationState A) : Type 0 where
   pub plan : x.plan ≡ p
   pub commands : x.commands ≡ c.commands.items
@@ -132,6 +132,7 @@ pub record IsBegun {A : Type 0} (p : Plan A) (links : List Link) (b : ℕ) (c : 
   pub many : length x.texts ≡ length x.ports
   pub from_outside : open_texts x.senders x.texts ≡ open_texts x.senders (texts_in c.captures.items)
   pub over_links : NoneCame x.senders x.texts
+  pub idle : x.outcome ≡ None
 
 -- WHAT COMES OVER LINKS
 

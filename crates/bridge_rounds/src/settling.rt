@@ -3,7 +3,8 @@ ghost use Rattle.std.specs.Prelude.{◌≡◌, ◌+◌, ◌≤◌, ◌<◌, ℕ,
 ghost use Rattle.bridge_network.specs.Checked.{AreClosed};
 ghost use Rattle.bridge_network.specs.Networks.{IsNetwork};
 ghost use Rattle.bridge_network.specs.Wiring.{network_of};
-ghost use Rattle.bridge_rounds.specs.Stations.{AreFed, AreFedAt, AreGiven, AreGivenBefore, GoesOn, HasRun, IsFedAt, IsFirstOf, IsFirstUnfed, IsLaterText, IsStation, IsUnfedAt, StationState, ground, tap_of, texts_of};
+ghost use Rattle.bridge_rounds.specs.Stations.{AreFed, GoesOn, HasRun, IsLaterText, IsStation, StationState, ground, sender_value, tap_of, texts_of};
+ghost use Rattle.bridge_rounds.specs.Feeding.{AreAllHanded, AreFedBut, AreFedByRun, AreHanded, AreKept, IsHanded};
 ghost use Rattle.bridge_rounds.specs.Rounds.{AreBegun, AreIncoming, AreSettled, IsolatesStreams, OthersChangeNothing, RunsNetwork, StopsRound, StopsSettling};
 
 use crate::delaying::later_text;
@@ -63,108 +64,107 @@ fn sent_over<A: Allocator + Copy>(
     later_text(alloc, station.tap(sender.from.port), sender.delay)
 }
 
-/// The number of the port at a place of a bridge where something else was sent to it than has come.
-fn unfed_at<A: Allocator + Copy>(
+/// Whether a bridge didn't run in a round, where it is said of each whether it did.
+fn stood(ran: &[bool], bridge: u16) -> bool
+    ensures { result ≡ true → slice_get ran.now bridge ≡ Some false }
+{
+    match ran.get(bridge as usize) {
+        Some(ran) => !*ran,
+        None => false,
+    }
+}
+
+/// Gives the linked port at a place of a bridge what was sent to it. Its number, if that is something else than had come.
+fn hand<A: Allocator + Copy>(
     alloc: A,
-    stations: &[Station<'_, A>],
+    stations: &mut [Station<'_, A>],
     bridge: usize,
     place: usize,
+    sender: Sender,
 ) -> Result<Option<u8>, NoMemory>
-    requires bridge { bridge < length stations.now }
-    requires place { (x : StationState A) → slice_get stations.now bridge ≡ Some x → place < length x.ports }
-    ensures fed { result ≡ Ok None → (x : StationState A) → slice_get stations.now bridge ≡ Some x → IsFedAt stations.now x place }
-    ensures port { (q : ℕ) (x : StationState A) → result ≡ Ok (Some q) → slice_get stations.now bridge ≡ Some x → slice_get x.ports place ≡ Some q }
-    ensures unfed { (q : ℕ) (x : StationState A) → result ≡ Ok (Some q) → slice_get stations.now bridge ≡ Some x → IsUnfedAt stations.now x place }
+    requires bridge { bridge < length stations.old }
+    requires place { (x : StationState A) → slice_get stations.old bridge ≡ Some x → place < length x.ports }
+    requires linked { (x : StationState A) → slice_get stations.old bridge ≡ Some x → slice_get x.senders place ≡ Some (Some (sender_value sender)) }
+    ensures { IfOk result (λ found. IsHanded stations.old stations.new bridge place found) }
 {
-    let port = stations[bridge].port(place);
-    let Some(sender) = stations[bridge].sender(place) else {
-        return Ok(None);
-    };
     let text = sent_over(alloc, stations, sender)?;
     if stations[bridge].has(place, &text) {
         return Ok(None);
     }
+    let port = stations[bridge].port(place);
+    stations[bridge].give(place, text);
     Ok(Some(port))
 }
 
-/// The first port of a bridge to which something else was sent than has come.
-fn unfed_in<A: Allocator + Copy>(
-    alloc: A,
-    stations: &[Station<'_, A>],
-    bridge: usize,
-) -> Result<Option<u8>, NoMemory>
-    requires { bridge < length stations.now }
-    ensures fed { result ≡ Ok None → AreFedAt stations.now bridge }
-    ensures first { (q : ℕ) → result ≡ Ok (Some q) → IsFirstOf stations.now bridge q }
-{
-    for place in 0..stations[bridge].size() {
-        if let Some(port) = unfed_at(alloc, stations, bridge, place)? {
-            return Ok(Some(port));
-        }
-    }
-    Ok(None)
-}
-
-/// The first bridge, by its place, and its first port to which something else was sent than has come.
-fn unfed<A: Allocator + Copy>(
-    alloc: A,
-    stations: &[Station<'_, A>],
-) -> Result<Option<(usize, u8)>, NoMemory>
-    ensures fed { result ≡ Ok None → AreFed stations.now }
-    ensures first { (b q : ℕ) → result ≡ Ok (Some (b, q)) → IsFirstUnfed stations.now b q }
-{
-    for bridge in 0..stations.len() {
-        if let Some(port) = unfed_in(alloc, stations, bridge)? {
-            return Ok(Some((bridge, port)));
-        }
-    }
-    Ok(None)
-}
-
-/// Gives the port at a place of a bridge what was sent to it.
+/// Gives the port at a place of a bridge what was sent to it, where what sends to it ran in the round. Its number, if that
+/// is something else than had come.
 fn feed<A: Allocator + Copy>(
     alloc: A,
     stations: &mut [Station<'_, A>],
+    ran: &[bool],
     bridge: usize,
     place: usize,
-) -> Result<(), NoMemory>
+) -> Result<Option<u8>, NoMemory>
     requires bridge { bridge < length stations.old }
     requires place { (x : StationState A) → slice_get stations.old bridge ≡ Some x → place < length x.ports }
-    ensures ground { OnOk result (map ground stations.new ≡ map ground stations.old) }
-    ensures gives { OnOk result ((ran : List (StationState A)) → AreGivenBefore ran stations.old bridge place → AreGivenBefore ran stations.new bridge (place + 1)) }
+    requires fed { AreFedBut ran.now stations.old }
+    ensures { IfOk result (λ found. IsHanded stations.old stations.new bridge place found) }
 {
     let Some(sender) = stations[bridge].sender(place) else {
-        return Ok(());
+        return Ok(None);
     };
-    let text = sent_over(alloc, stations, sender)?;
-    stations[bridge].take(place, text);
-    Ok(())
+    if stood(ran, sender.from.bridge) {
+        return Ok(None);
+    }
+    hand(alloc, stations, bridge, place, sender)
 }
 
-/// Gives each port of a bridge what was sent to it.
+/// Gives each port of a bridge what was sent to it. The number of the first one for which that is something else than had
+/// come.
 fn feed_bridge<A: Allocator + Copy>(
     alloc: A,
     stations: &mut [Station<'_, A>],
+    ran: &[bool],
     bridge: usize,
-) -> Result<(), NoMemory>
-    requires { bridge < length stations.old }
-    ensures ground { OnOk result (map ground stations.new ≡ map ground stations.old) }
-    ensures gives { OnOk result ((ran : List (StationState A)) → AreGivenBefore ran stations.old bridge 0 → AreGivenBefore ran stations.new (bridge + 1) 0) }
+) -> Result<Option<u8>, NoMemory>
+    requires bridge { bridge < length stations.old }
+    requires fed { AreFedBut ran.now stations.old }
+    ensures { IfOk result (λ found. AreHanded stations.old stations.new bridge found) }
 {
+    let mut first = None;
     for place in 0..stations[bridge].size() {
-        feed(alloc, stations, bridge, place)?;
+        let found = feed(alloc, stations, ran, bridge, place)?;
+        first = first.or(found);
     }
-    Ok(())
+    Ok(first)
 }
 
-/// Gives each port of each bridge what was sent to it.
-fn feed_all<A: Allocator + Copy>(alloc: A, stations: &mut [Station<'_, A>]) -> Result<(), NoMemory>
-    ensures { OnOk result (AreGiven stations.old stations.new) }
+/// A port of a bridge, where there is one.
+fn port_of(bridge: usize, port: Option<u8>) -> Option<(usize, u8)>
+    ensures { result ≡ option_map (λ q. (bridge, q)) port }
 {
-    for bridge in 0..stations.len() {
-        feed_bridge(alloc, stations, bridge)?;
+    match port {
+        Some(port) => Some((bridge, port)),
+        None => None,
     }
-    Ok(())
+}
+
+/// Gives each port of each bridge what was sent to it. The first bridge, by its place, and its first port for which that is
+/// something else than had come.
+fn feed_all<A: Allocator + Copy>(
+    alloc: A,
+    stations: &mut [Station<'_, A>],
+    ran: &[bool],
+) -> Result<Option<(usize, u8)>, NoMemory>
+    requires { AreFedBut ran.now stations.old }
+    ensures { IfOk result (λ found. AreAllHanded stations.old stations.new found) }
+{
+    let mut first = None;
+    for bridge in 0..stations.len() {
+        let found = feed_bridge(alloc, stations, ran, bridge)?;
+        first = first.or(port_of(bridge, found));
+    }
+    Ok(first)
 }
 
 /// Tells that a bridge begins to run, if it hasn't run.
@@ -181,27 +181,34 @@ fn tell_begin<A: Allocator + Copy, W: Watch>(
     }
 }
 
-/// Runs each bridge over what came to it, if it hasn't.
+/// Runs each bridge over what came to it, if it hasn't. Of each whether it ran.
 fn run_all<A: Allocator + Copy, W: Watch>(
     alloc: A,
     stations: &mut [Station<'_, A>],
     turn: u32,
     watch: &mut W,
-) -> Result<(), RoundsFault>
+) -> Result<Vec<bool, A>, RoundsFault>
     ensures ground { OnOk result (map ground stations.new ≡ map ground stations.old) }
     ensures texts { OnOk result (map texts_of stations.new ≡ map texts_of stations.old) }
     ensures runs { OnOk result (All HasRun stations.new) }
+    ensures kept { IfOk result (λ ran. AreKept ran.items stations.old stations.new) }
     ensures stops { IfErr result (StopsRound stations.old) }
 {
+    let Ok(mut all) = Vec::with_capacity(alloc, stations.len()) else {
+        return Err(RoundsFault::NoMemory);
+    };
     for bridge in 0..stations.len() {
         tell_begin(stations, bridge, turn, watch);
-        match stations[bridge].run(alloc) {
-            Ok(()) => {}
+        let ran = match stations[bridge].run(alloc) {
+            Ok(ran) => ran,
             Err(RunFault::NoMemory) => return Err(RoundsFault::NoMemory),
             Err(fault) => return Err(RoundsFault::Bridge { bridge, fault }),
-        }
+        };
+        let Ok(()) = all.push(ran) else {
+            return Err(RoundsFault::NoMemory);
+        };
     }
-    Ok(())
+    Ok(all)
 }
 
 /// What bridges tell that have run.
@@ -254,29 +261,26 @@ fn keep_all<A: Allocator + Copy>(stations: &[Station<'_, A>])
     }
 }
 
-/// One round: runs each bridge over what came to it, and gives each linked port what was sent to it then, where that is
-/// something else for some port; the first such bridge, by its place, and port.
+/// One round: runs each bridge over what came to it, and gives each linked port what was sent to it then. The first bridge,
+/// by its place, and its first port for which that is something else than had come.
 fn round<A: Allocator + Copy, W: Watch>(
     alloc: A,
     stations: &mut [Station<'_, A>],
     turn: u32,
     watch: &mut W,
 ) -> Result<Option<(usize, u8)>, RoundsFault>
+    requires { AreFedByRun stations.old }
     ensures ground { OnOk result (map ground stations.new ≡ map ground stations.old) }
+    ensures fed { OnOk result (AreFed stations.new) }
     ensures runs { result ≡ Ok None → All HasRun stations.new }
-    ensures fed { result ≡ Ok None → AreFed stations.new }
     ensures kept { result ≡ Ok None → All IsStation stations.new }
     ensures goes_on { (b q : ℕ) → result ≡ Ok (Some (b, q)) → GoesOn stations.old stations.new b q }
     ensures stops { IfErr result (StopsRound stations.old) }
 {
-    run_all(alloc, stations, turn, watch)?;
+    let ran = run_all(alloc, stations, turn, watch)?;
     keep_all(stations);
-    match unfed(alloc, stations) {
-        Ok(None) => Ok(None),
-        Ok(Some(port)) => match feed_all(alloc, stations) {
-            Ok(()) => Ok(Some(port)),
-            Err(_) => Err(RoundsFault::NoMemory),
-        },
+    match feed_all(alloc, stations, &ran) {
+        Ok(first) => Ok(first),
         Err(_) => Err(RoundsFault::NoMemory),
     }
 }

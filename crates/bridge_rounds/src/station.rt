@@ -1,5 +1,5 @@
 //! A bridge of a network: what came to it, and what left it.
-ghost use Rattle.std.specs.Prelude.{◌≡◌, ◌≢◌, ◌+◌, ◌<◌, ℕ, All, List, [], Some, is_some, length, map, option_map, slice_get, slice_set, IfOk, IfErr, OnOk, true, false};
+ghost use Rattle.std.specs.Prelude.{◌≡◌, ◌≢◌, ◌+◌, ◌<◌, ℕ, All, List, [], Some, is_some, length, map, option_map, slice_get, slice_set, IfOk, IfErr, OnOk, Ok, true, false};
 ghost use Rattle.bridge_capture.specs.Memory.{is_sure};
 ghost use Rattle.bridge_config.specs.Commands.{AreCommands};
 ghost use Rattle.bridge_core.specs.Simulated.{AreNumbers};
@@ -352,27 +352,15 @@ impl<'a, A: Allocator + Copy> Station<'a, A> {
         self.text(place) == text
     }
 
-    /// Gives the linked port at a place a text, if that is another one.
-    pub(crate) fn take(&mut self, place: usize, text: Vec<u8, A>)
-        requires place { place < length self.old.ports }
-        requires linked { (s : networks.Sender) × (slice_get self.old.senders place ≡ Some (Some s)) }
-        ensures ground { ground self.new ≡ ground self.old }
-        ensures texts { self.new.texts ≡ slice_set self.old.texts place text.items }
-        ensures taps { self.new.taps ≡ self.old.taps }
-    {
-        if !self.has(place, &text) {
-            self.give(place, text);
-        }
-    }
-
-    /// Runs over its texts, if it hasn't.
-    pub(crate) fn run(&mut self, alloc: A) -> Result<(), RunFault>
+    /// Runs over its texts, if it hasn't. Whether it ran.
+    pub(crate) fn run(&mut self, alloc: A) -> Result<bool, RunFault>
         ensures same { OnOk result ((ground self.new ≡ ground self.old) × (self.new.texts ≡ self.old.texts)) }
         ensures runs { OnOk result (HasRun self.new) }
+        ensures kept { result ≡ Ok false → self.new ≡ self.old }
         ensures stops { IfErr result (StopsBridge self.old.plan self.old.ports self.old.commands self.old.texts) }
     {
         if self.outcome.is_some() {
-            return Ok(());
+            return Ok(false);
         }
         let ran = match ran_over(
             alloc,
@@ -387,6 +375,6 @@ impl<'a, A: Allocator + Copy> Station<'a, A> {
         let Ran { outcome, taps } = ran;
         self.taps = taps;
         self.outcome = Some(outcome);
-        Ok(())
+        Ok(true)
     }
 }

@@ -107,7 +107,8 @@ fn print_talker<H: AllocGlobal + Eprint + Files + Print>(
     print(rt, line.as_str())
 }
 
-/// Runs the ring, prints its table of streams, and what a babbling talker changes at each open port.
+/// Runs the ring, prints its table of streams, and what a babbling talker changes at each open port; then runs one in which
+/// frames of zone A go over all three links, and back at zone A nowhere.
 pub fn print_babbling<H: AllocGlobal + Eprint + Files + Print>(rt: &H) -> Result<(), Fault> {
     let line = run_network(rt, "network/network.toml", "network", "ring", None)?;
     print(rt, line.as_str())?;
@@ -115,5 +116,7 @@ pub fn print_babbling<H: AllocGlobal + Eprint + Files + Print>(rt: &H) -> Result
     for (port, place) in TALKERS {
         print_talker(rt, port, place)?;
     }
-    Ok(())
+    let line = run_network(rt, "around/network.toml", "network", "third", None)?;
+    print(rt, "frames that go over all three links: ")?;
+    print(rt, line.as_str())
 }

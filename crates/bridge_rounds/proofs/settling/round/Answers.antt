@@ -1,16 +1,33 @@
-use Rattle.std.proofs.Common.{ℕ, Option, Some, Ok, refl, ap, ◌∙◌}
+use Rattle.std.proofs.Common.{◌≡◌, ℕ, Bool, List, Option, Some, None, Ok, refl, sym, ap, subst, ◌∙◌, map}
+use Rattle.std.specs.Prelude.{All}
+use Rattle.bridge_rounds.specs.Feeding.{AreFedBut}
+use Rattle.bridge_rounds.specs.Stations.{HasRun, IsStation, StationState, ground}
+use Rattle.bridge_rounds.proofs.Handing.{fed_but}
 use Rattle.bridge_rounds.proofs.Turns.{same_found}
 use Rattle.bridge_rounds.proofs.settling.round.Goals as goal
 
+pub feed_all-requires : goal.feed_all-requires
+feed_all-requires g c =
+    subst (λ (l : List Bool). AreFedBut l c.run_all.new.stations) (sym c.deref.ensures.value)
+    (fed_but c.in_ok-ran.ran.items c.args.stations.now c.run_all.new.stations c.in_ok-ran.ensures.ground c.in_ok-ran.ensures.texts c.in_ok-ran.ensures.kept c.requires)
+
+pub returns-in-Ok-clause-ground : goal.returns-in-Ok-clause-ground
+returns-in-Ok-clause-ground g c = c.in-Ok.ensures.given.same ∙ c.in_ok-ran.ensures.ground
+
+pub returns-in-Ok-clause-runs : goal.returns-in-Ok-clause-runs
+returns-in-Ok-clause-runs g c = λ e. subst (All HasRun) (sym (c.in-Ok.ensures.unchanged (found_none e))) c.in_ok-ran.ensures.runs
+  where
+    found_none : {X E : Type 0} {o : Option X} → Ok o ≡ Ok None → o ≡ None
+    found_none h = cc
+
+pub returns-in-Ok-clause-kept : goal.returns-in-Ok-clause-kept
+returns-in-Ok-clause-kept g c = λ e. subst (All IsStation) (sym (c.in-Ok.ensures.unchanged (let h = e in cc))) c.keep_all.ensures
+
 pub returns-in-Ok-clause-goes_on : goal.returns-in-Ok-clause-goes_on
 returns-in-Ok-clause-goes_on g c = λ b q e.
-    let some = c.in-Ok-Some.is ∙ ap (λ (o : Option (ℕ × ℕ)). Ok o) (c.in-Ok-Some.field-0-is ∙ ap (λ (p : ℕ × ℕ). Some p) (same_found c.in-Ok-Some.port (b, q) _ refl e)) in
     record {
       between = c.run_all.new.stations;
-      ran = record { same = c.in_ok-run_all.ensures.ground; texts = c.in_ok-run_all.ensures.texts; kept = c.keep_all.ensures; runs = c.in_ok-run_all.ensures.runs };
-      first = c.unfed.ensures.first b q some;
-      given = c.in-Ok.ensures;
+      ran = record { same = c.in_ok-ran.ensures.ground; texts = c.in_ok-ran.ensures.texts; kept = c.keep_all.ensures; runs = c.in_ok-ran.ensures.runs };
+      first = c.in-Ok.ensures.first b q (let h = e in cc);
+      given = c.in-Ok.ensures.given;
     }
-
-pub returns-in-Ok-None-clause-fed : goal.returns-in-Ok-None-clause-fed
-returns-in-Ok-None-clause-fed g c = λ e. c.unfed.ensures.fed (c.in-Ok-None.is ∙ ap (λ (o : Option (ℕ × ℕ)). Ok o) c.in-Ok-None.field-0-is)

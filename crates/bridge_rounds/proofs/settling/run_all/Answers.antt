@@ -1,7 +1,11 @@
-use Rattle.std.proofs.Common.{take_all, slice_index_or, subst, ◌∙◌, arith}
-use Rattle.std.specs.Prelude.{All}
+use Rattle.std.proofs.Common.{◌≡◌, ℕ, Bool, List, [], ◌∷◌, Ok, length, slice_set, take_all, slice_index_or, refl, sym, ap, subst, ◌∙◌, arith}
+use Rattle.std.specs.Prelude.{All, slice_get}
+use Rattle.std.proofs.lemmas.List.{length-append}
+use Rattle.std.proofs.lemmas.List.Elements.{All-nil}
 use Rattle.std.proofs.lemmas.Option.{slice_get-get_or}
+use Rattle.bridge_rounds.specs.Feeding.{AreKept}
 use Rattle.bridge_rounds.specs.Stations.{HasRun, ground, texts_of}
+use Rattle.bridge_rounds.proofs.Handing.{kept_more, rest_more}
 use Rattle.bridge_rounds.proofs.Turns.{map_set, ran_more, stops_kept}
 use Rattle.bridge_rounds.proofs.settling.run_all.Goals as goal
 
@@ -16,17 +20,36 @@ returns-in-Err g c =
       ground = tt;
       texts = tt;
       runs = tt;
+      kept = tt;
       stops = (y, there, stops_kept c.loop-bridge.stations c.args.stations.now c.loop-bridge.bridge _ y c.in-Err.fault c.loop-bridge.invariant.ground c.loop-bridge.invariant.texts here there c.in-Err.ensures.stops);
     }
+
+pub loop-bridge-init : goal.loop-bridge-init
+loop-bridge-init g c = record {
+  ground = refl;
+  texts = refl;
+  runs = All-nil HasRun;
+  noted = ap length c.in-Ok.ensures.items;
+  kept = λ b flag. let none = sym (ap (λ (l : List Bool). slice_get l b) c.in-Ok.ensures.items) ∙ flag in absurd (cc);
+  rest = λ b from. refl;
+}
 
 pub loop-bridge-preserved : goal.loop-bridge-preserved
 loop-bridge-preserved g c =
     let within = c.loop-bridge-test.true in
     let same = c.loop-bridge.auto.stations in
+    let here = slice_get-get_or c.loop-bridge.stations c.loop-bridge.bridge c.index-stations-bridge.result (omega (arith, within, same)) in
+    let more = ap length c.in-Ok-3.ensures.items ∙ length-append c.loop-bridge.all.items (c.in-Ok-2.ran ∷ []) in
+    let noted = c.loop-bridge.invariant.noted in
     record {
-      ground = map_set ground c.loop-bridge.stations c.loop-bridge.bridge c.index-stations-bridge.result c.run.new.self c.in-Ok.ensures.same.0 ∙ c.loop-bridge.invariant.ground;
-      texts = map_set texts_of c.loop-bridge.stations c.loop-bridge.bridge c.index-stations-bridge.result c.run.new.self c.in-Ok.ensures.same.1 ∙ c.loop-bridge.invariant.texts;
-      runs = ran_more c.loop-bridge.stations c.loop-bridge.bridge c.run.new.self (omega (arith, within, same)) c.loop-bridge.invariant.runs c.in-Ok.ensures.runs;
+      ground = map_set ground c.loop-bridge.stations c.loop-bridge.bridge c.index-stations-bridge.result c.run.new.self c.in-Ok-2.ensures.same.0 ∙ c.loop-bridge.invariant.ground;
+      texts = map_set texts_of c.loop-bridge.stations c.loop-bridge.bridge c.index-stations-bridge.result c.run.new.self c.in-Ok-2.ensures.same.1 ∙ c.loop-bridge.invariant.texts;
+      runs = ran_more c.loop-bridge.stations c.loop-bridge.bridge c.run.new.self (omega (arith, within, same)) c.loop-bridge.invariant.runs c.in-Ok-2.ensures.runs;
+      noted = omega (arith, more, noted);
+      kept = subst (λ (l : List Bool). AreKept l c.args.stations.now (slice_set c.loop-bridge.stations c.loop-bridge.bridge c.run.new.self)) (sym c.in-Ok-3.ensures.items)
+          (kept_more c.loop-bridge.all.items c.args.stations.now c.loop-bridge.stations c.loop-bridge.bridge c.in-Ok-2.ran _ c.run.new.self noted c.loop-bridge.invariant.kept c.loop-bridge.invariant.rest here c.in-Ok-2.ensures.runs
+          (λ e. c.run.ensures.kept (c.in-Ok-2.is ∙ ap (λ (r : Bool). Ok r) e)));
+      rest = rest_more c.args.stations.now c.loop-bridge.stations c.loop-bridge.bridge c.run.new.self c.loop-bridge.invariant.rest;
     }
 
 pub returns-clause-runs : goal.returns-clause-runs

@@ -1,5 +1,6 @@
-use Rattle.std.proofs.Common.{◌≡◌, map, take}
-use Rattle.std.specs.Prelude.{All}
+use Rattle.std.proofs.Common.{◌≡◌, ◌≤◌, ℕ, length, map, take}
+use Rattle.std.specs.Prelude.{All, slice_get}
+use Rattle.bridge_rounds.specs.Feeding.{AreKept}
 use Rattle.bridge_rounds.specs.Stations.{HasRun, ground, texts_of}
 use Rattle.bridge_rounds.proofs.settling.run_all.Given as goal
 
@@ -8,4 +9,7 @@ invariant-loop-bridge g l = record {
   ground : map ground l.stations ≡ map ground l.initial.stations;
   texts : map texts_of l.stations ≡ map texts_of l.initial.stations;
   runs : All HasRun (take l.bridge l.stations);
+  noted : length l.all.items ≡ l.bridge;
+  kept : AreKept l.all.items l.initial.stations l.stations;
+  rest : (c : ℕ) → l.bridge ≤ c → slice_get l.stations c ≡ slice_get l.initial.stations c;
 }

@@ -1,12 +1,18 @@
 use Rattle.std.proofs.Common.{◌≡◌, ◌+◌, ℕ, List, Option, Some, None, Ok, length, map, refl, sym, ap, subst, arith, ◌∙◌}
 use Rattle.std.specs.Prelude.{All}
 use Rattle.bridge_rounds.specs.declared.settling.RoundsFault.TheVariants as fault
+use Rattle.bridge_rounds.specs.Feeding.{AreFedByRun}
 use Rattle.bridge_rounds.specs.Stations.{GoesOn, HasRun, IsStation, StationState, ground}
 use Rattle.bridge_rounds.specs.Rounds.{AreBefore, AreSettled, StopsRound, StopsSettling}
+use Rattle.bridge_rounds.proofs.Begun.{begun_idle}
+use Rattle.bridge_rounds.proofs.Handing.{fed_by_run, none_ran}
 use Rattle.bridge_rounds.proofs.Over.{lent}
 use Rattle.bridge_rounds.proofs.Told.{always_if, at_each, changes_nothing, if_ok, isolates, runs_network}
 use Rattle.bridge_rounds.proofs.Stopped.{before_more, memory_stops, stops_settling, unsettled_more}
 use Rattle.bridge_rounds.proofs.settling.settle.Goals as goal
+
+pub round-requires : goal.round-requires
+round-requires g c = subst AreFedByRun (sym c.deref_mut.ensures.value) c.loop-turn.invariant.fed
 
 pub told-requires : goal.told-requires
 told-requires g c =
@@ -22,7 +28,7 @@ returns-in-Ok-None-clause-ok g c =
     let none : c.round.result ≡ Ok None = c.in-Ok-None.is ∙ ap (λ (o : Option (ℕ × ℕ)). Ok o) c.in-Ok-None.field-0-is in
     if_ok _ _ c.told.result c.told.ensures.settled
     (λ settled told. runs_network c.args.network.now c.args.incoming.items c.in-Ok.stations.items c.round.new.stations settled.items c.keep_network.ensures.network c.requires c.in-Ok.ensures
-    (c.in-Ok-None.ensures.ground ∙ (ap (map ground) c.deref_mut.ensures.value ∙ c.loop-turn.invariant.ground)) (c.round.ensures.runs none) (c.round.ensures.fed none) (subst (λ (l : List (StationState g.row.A.Denot)). AreSettled l settled.items) back told) (at_each IsStation c.round.new.stations (c.round.ensures.kept none)))
+    (c.in-Ok-None.ensures.ground ∙ (ap (map ground) c.deref_mut.ensures.value ∙ c.loop-turn.invariant.ground)) (c.round.ensures.runs none) c.in-Ok-None.ensures.fed (subst (λ (l : List (StationState g.row.A.Denot)). AreSettled l settled.items) back told) (at_each IsStation c.round.new.stations (c.round.ensures.kept none)))
 
 pub returns-in-Ok-None-clause-alone : goal.returns-in-Ok-None-clause-alone
 returns-in-Ok-None-clause-alone g c = always_if _ c.told.result (λ settled. isolates c.args.network.now c.args.incoming.items settled.items c.keep_network.ensures.network c.keep_network.ensures.closed)
@@ -38,7 +44,7 @@ returns-in-Err-clause-stops g c = stops_settling c.args.network.now c.args.incom
     (subst (λ (l : List (StationState g.row.A.Denot)). StopsRound l c.in-Err.fault) c.deref_mut.ensures.value c.in-Err.ensures.stops)
 
 pub loop-turn-init : goal.loop-turn-init
-loop-turn-init g c = record { ground = refl; before = c.in-Ok.ensures; last = (refl, refl); few = omega arith }
+loop-turn-init g c = record { ground = refl; fed = none_ran c.in-Ok.stations.items (begun_idle c.args.network.now c.args.incoming.items c.in-Ok.stations.items c.requires c.in-Ok.ensures); before = c.in-Ok.ensures; last = (refl, refl); few = omega arith }
 
 pub loop-turn-preserved : goal.loop-turn-preserved
 loop-turn-preserved g c =
@@ -51,6 +57,7 @@ loop-turn-preserved g c =
     let within = c.loop-turn-test.true in
     record {
       ground = ap (map ground) back ∙ (c.in-Ok-Some.ensures.ground ∙ (ap (map ground) c.deref_mut.ensures.value ∙ c.loop-turn.invariant.ground));
+      fed = subst AreFedByRun (sym back) (fed_by_run c.round.new.stations c.in-Ok-Some.ensures.fed);
       before = subst (AreBefore c.args.network.now c.args.incoming.items (c.loop-turn.turn + 1)) (sym back)
           (before_more c.args.network.now c.args.incoming.items c.loop-turn.turn port.0 port.1 c.loop-turn.stations.items c.round.new.stations before on);
       last = unsettled_more c.args.network.now c.args.incoming.items c.loop-turn.turn port.0 port.1 c.loop-turn.stations.items c.round.new.stations before on;

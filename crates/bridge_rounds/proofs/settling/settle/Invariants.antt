@@ -1,5 +1,6 @@
 use Rattle.std.proofs.Common.{◌≡◌, ◌≤◌, map}
 use Rattle.bridge_rounds.specs.declared.settling.RoundsFault.TheVariants as fault
+use Rattle.bridge_rounds.specs.Feeding.{AreFedByRun}
 use Rattle.bridge_rounds.specs.Rounds.{AreBefore, StopsSettling}
 use Rattle.bridge_rounds.specs.Stations.{ground}
 use Rattle.bridge_rounds.proofs.settling.settle.Given as goal
@@ -7,6 +8,7 @@ use Rattle.bridge_rounds.proofs.settling.settle.Given as goal
 abbrev pub invariant-loop-turn : goal.invariant-loop-turn
 invariant-loop-turn g l = record {
   ground : map ground l.stations.items ≡ map ground l.initial.stations.items;
+  fed : AreFedByRun l.stations.items;
   before : AreBefore l.fn.network l.fn.incoming.items l.turn l.stations.items;
   last : StopsSettling l.fn.network l.fn.incoming.items l.turn (fault.NotSettled l.last.0 l.last.1);
   few : l.turn ≤ l.fn.rounds;

@@ -53,4 +53,5 @@ returns g c =
       many = omega (arith, texts, many, lent, senders, each, made, own);
       from_outside = subst (λ (l : List (Option Sender)). open_texts (senders_in l) (texts_in c.in_ok-texts.texts.items) ≡ open_texts (senders_in l) (texts_in c.args.came.captures.items)) c.deref-2.ensures.value c.in_ok-texts.ensures.from_outside;
       over_links = subst (λ (l : List (Option Sender)). NoneCame (senders_in l) (texts_in c.in_ok-texts.texts.items)) c.deref-2.ensures.value c.in_ok-texts.ensures.empty;
+      idle = refl;
     }
