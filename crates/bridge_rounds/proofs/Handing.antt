@@ -1,5 +1,5 @@
 -- Bridges that are given what was sent to them by those that ran, port by port, and which of these is found.
-use Rattle.std.proofs.Common.{◌≡◌, ◌≢◌, ℕ, Bool, true, false, ◌+◌, ◌≤◌, ◌<◌, zero, suc, inl, inr, List, [], ◌∷◌, ◌++◌, length, map, nat_eq, option_map, slice_set, Option, Some, None, refl, sym, ap, ◌∙◌, subst, arith}
+use Rattle.std.proofs.Common.{◌≡◌, ℕ, Bool, false, ◌+◌, ◌≤◌, zero, suc, inl, inr, List, [], ◌∷◌, ◌++◌, length, map, nat_eq, option_map, slice_set, Option, Some, None, refl, sym, ap, ◌∙◌, subst, arith}
 use Rattle.std.specs.Prelude.{slice_get}
 use Rattle.std.specs.Option.{option_or}
 use Rattle.std.proofs.lemmas.Bool.{eqb-false, eqb-true}
@@ -47,15 +47,15 @@ kept_more {A} ran old mid b r x w many kept rest is run same c flag = elim (push
   | inl there ↦
       let k = kept c there in
       let less = slice_get_within ran c false there in
-      (k.0, k.1, k.2.0, set_else mid b c w (λ e. omega (arith, less, many, e)) ∙ k.2.1)
+      (k.0, k.1, k.2, set_else mid b c w (λ e. omega (arith, less, many, e)) ∙ k.3)
   | inr here ↦
       let at : c ≡ b = here.0 ∙ many in
-      let as : w ≡ x = same here.1 in
+      let same_list : w ≡ x = same here.1 in
       (
         x,
         sym (rest c (omega (arith, at))) ∙ (ap (slice_get mid) at ∙ is),
-        subst HasRun as run,
-        ap (slice_get (slice_set mid b w)) at ∙ (set_here mid b w x is ∙ ap (λ (z : StationState A). Some z) as),
+        subst HasRun same_list run,
+        ap (slice_get (slice_set mid b w)) at ∙ (set_here mid b w x is ∙ ap (λ (z : StationState A). Some z) same_list),
       )
 ]
 
@@ -71,13 +71,13 @@ fed_but {A} ran old new same texts kept fed b i x s at within linked stood =
     let senders : x.senders ≡ y.0.senders = ap (λ (g : Ground A). g.senders) grounds in
     let many = ap (λ (g : Ground A). length g.ports) grounds in
     let own : slice_get y.0.senders i ≡ Some (Some s) = ap (λ (l : List (Option Sender)). slice_get l i) (sym senders) ∙ linked in
-    let moved : slice_get old s.from.bridge ≡ slice_get new s.from.bridge = k.2.0 ∙ sym k.2.2.1 in
+    let moved : slice_get old s.from.bridge ≡ slice_get new s.from.bridge = k.1 ∙ sym k.3 in
     fed_moved old new y.0 x i (ap (λ (l : List (Option Sender)). slice_get l i) senders) (ap (λ (l : List (List ℕ)). slice_get l i) (texts_kept new old b x y.0 texts at y.1))
     (λ r has.
     let sender : s ≡ r = some_is s r (some_is (Some s) (Some r) (sym own ∙ has)) in
     subst (λ (z : Sender). tap_of (slice_get old z.from.bridge) z.from.port ≡ tap_of (slice_get new z.from.bridge) z.from.port) sender
     (ap (λ (o : Option (StationState A)). tap_of o s.from.port) moved))
-    (fed b i y.0 k.0 s y.1 (omega (arith, within, many)) own k.1 k.2.1)
+    (fed b i y.0 k.0 s y.1 (omega (arith, within, many)) own k.1 k.2)
   where
     old_at : map ground new ≡ map ground old → (c : ℕ) (x : StationState A) → slice_get new c ≡ Some x → (y : StationState A) × (slice_get old c ≡ Some y)
     old_at e c x at = go new old c x e at
@@ -178,17 +178,17 @@ handed_none old b = record {
 
 pub handed_more : {A : Type 0} (old mid new : List (StationState A)) (b i : ℕ) (x : StationState A) (found more : Option ℕ) → slice_get old b ≡ Some x → HandedBefore old mid b i found → IsHanded mid new b i more → HandedBefore old new b (i + 1) (option_or found more)
 handed_more {A} old mid new b i x None None is before one =
-    let as : mid ≡ old = before.unchanged refl in
+    let same_list : mid ≡ old = before.unchanged refl in
     record {
       same = one.same ∙ before.same;
       gives = λ ran all. one.gives ran (before.gives ran all);
       still = λ ran but. one.still ran (before.still ran but);
-      unchanged = λ e. one.unchanged refl ∙ as;
-      fed = λ e. fed_more old b i (before.fed refl) (λ y at. subst (λ (l : List (StationState A)). IsFedAt l y i) as (one.fed y refl (ap (λ (l : List (StationState A)). slice_get l b) as ∙ at)));
+      unchanged = λ e. one.unchanged refl ∙ same_list;
+      fed = λ e. fed_more old b i (before.fed refl) (λ y at. subst (λ (l : List (StationState A)). IsFedAt l y i) same_list (one.fed y refl (ap (λ (l : List (StationState A)). slice_get l b) same_list ∙ at)));
       first = λ q e. absurd (cc);
     }
 handed_more {A} old mid new b i x None (Some r) is before one =
-    let as : mid ≡ old = before.unchanged refl in
+    let same_list : mid ≡ old = before.unchanged refl in
     record {
       same = one.same ∙ before.same;
       gives = λ ran all. one.gives ran (before.gives ran all);
@@ -199,8 +199,8 @@ handed_more {A} old mid new b i x None (Some r) is before one =
           bridge = x;
           there = is;
           place = i;
-          port = one.port q x e (ap (λ (l : List (StationState A)). slice_get l b) as ∙ is);
-          unfed = subst (λ (l : List (StationState A)). IsUnfedAt l x i) as (one.unfed q x e (ap (λ (l : List (StationState A)). slice_get l b) as ∙ is));
+          port = one.port q x e (ap (λ (l : List (StationState A)). slice_get l b) same_list ∙ is);
+          unfed = subst (λ (l : List (StationState A)). IsUnfedAt l x i) same_list (one.unfed q x e (ap (λ (l : List (StationState A)). slice_get l b) same_list ∙ is));
           before = λ j less. before.fed refl j x is less;
         };
     }
@@ -242,16 +242,16 @@ to_none old = record { gives = given_none old; still = λ ran but. but; unchange
 
 pub to_more : {A : Type 0} (old mid new : List (StationState A)) (b : ℕ) (found : Option (ℕ × ℕ)) (more : Option ℕ) → HandedTo old mid b found → AreHanded mid new b more → HandedTo old new (b + 1) (option_or found (option_map (λ q. (b, q)) more))
 to_more {A} old mid new b None None before one =
-    let as : mid ≡ old = before.unchanged refl in
+    let same_list : mid ≡ old = before.unchanged refl in
     record {
       gives = one.gives old before.gives;
       still = λ ran but. one.still ran (before.still ran but);
-      unchanged = λ e. one.unchanged refl ∙ as;
-      fed = λ e. all_more old b (before.fed refl) (subst (λ (l : List (StationState A)). AreFedAt l b) as (one.fed refl));
+      unchanged = λ e. one.unchanged refl ∙ same_list;
+      fed = λ e. all_more old b (before.fed refl) (subst (λ (l : List (StationState A)). AreFedAt l b) same_list (one.fed refl));
       first = λ c q e. absurd (cc);
     }
 to_more {A} old mid new b None (Some r) before one =
-    let as : mid ≡ old = before.unchanged refl in
+    let same_list : mid ≡ old = before.unchanged refl in
     record {
       gives = one.gives old before.gives;
       still = λ ran but. one.still ran (before.still ran but);
@@ -263,7 +263,7 @@ to_more {A} old mid new b None (Some r) before one =
           let port : r ≡ q = ap (λ (p : ℕ × ℕ). p.1) pair in
           subst (λ (z : ℕ). IsFirstUnfed old z q) place
           (subst (λ (z : ℕ). IsFirstUnfed old b z) port
-          (record { port = subst (λ (l : List (StationState A)). IsFirstOf l b r) as (one.first r refl); before = before.fed refl }));
+          (record { port = subst (λ (l : List (StationState A)). IsFirstOf l b r) same_list (one.first r refl); before = before.fed refl }));
     }
 to_more {A} old mid new b (Some p) more before one = record {
   gives = one.gives old before.gives;

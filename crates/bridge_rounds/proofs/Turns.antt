@@ -136,6 +136,9 @@ fed_more {A} xs b place before here i x is lt =
 pub same_found : {E X : Type 0} (x y : X) (r : Result (Option X) E) → r ≡ Ok (Some x) → r ≡ Ok (Some y) → x ≡ y
 same_found x y r one other = cc
 
+pub same_ok : {E X : Type 0} (x y : X) (r : Result X E) → r ≡ Ok x → r ≡ Ok y → x ≡ y
+same_ok x y r one other = cc
+
 -- one bridge more
 pub all_more : {A : Type 0} (xs : List (StationState A)) (place : ℕ) → AllFedBefore xs place → AreFedAt xs place → AllFedBefore xs (place + 1)
 all_more xs place before here b lt =

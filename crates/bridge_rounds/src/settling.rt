@@ -1,5 +1,5 @@
 //! Whole runs of networks by rounds.
-ghost use Rattle.std.specs.Prelude.{◌≡◌, ◌+◌, ◌≤◌, ◌<◌, ℕ, All, List, Some, None, length, map, slice_get, IfOk, IfErr, OnErr, OnOk, Ok, Err};
+ghost use Rattle.std.specs.Prelude.{◌≡◌, ◌<◌, ℕ, All, List, Some, None, false, true, length, map, option_map, slice_get, IfOk, IfErr, OnErr, OnOk, Ok, Err};
 ghost use Rattle.bridge_network.specs.Checked.{AreClosed};
 ghost use Rattle.bridge_network.specs.Networks.{IsNetwork};
 ghost use Rattle.bridge_network.specs.Wiring.{network_of};

@@ -1,4 +1,4 @@
-use Rattle.std.proofs.Common.{ℕ, Option, sym, ap, arith, subst, ◌+◌, ◌∙◌}
+use Rattle.std.proofs.Common.{sym, ap, arith, subst, ◌+◌, ◌∙◌}
 use Rattle.std.specs.Option.{option_or}
 use Rattle.bridge_rounds.proofs.Handing.{HandedTo, handed_all, to_more, to_none}
 use Rattle.bridge_rounds.proofs.settling.feed_all.Goals as goal
@@ -11,7 +11,7 @@ loop-bridge-init g c = to_none c.args.stations.now
 
 pub loop-bridge-preserved : goal.loop-bridge-preserved
 loop-bridge-preserved g c =
-    subst (HandedTo c.args.stations.now c.feed_bridge.new.stations (c.loop-bridge.bridge + 1)) (sym (c.or.ensures ∙ ap (option_or c.loop-bridge.first) c.port_of.ensures))
+    subst (HandedTo c.args.stations.now c.feed_bridge.new.stations (c.loop-bridge.bridge + 1)) (sym (c.or-first.ensures ∙ ap (option_or c.loop-bridge.first) c.port_of.ensures))
     (to_more c.args.stations.now c.loop-bridge.stations c.feed_bridge.new.stations c.loop-bridge.bridge c.loop-bridge.first c.in_ok-found.found c.loop-bridge.invariant c.in_ok-found.ensures)
 
 pub returns : goal.returns

@@ -1,4 +1,4 @@
-use Rattle.std.proofs.Common.{◌≡◌, ℕ, Option, length, slice_index_or, sym, ap, arith, subst, ◌∙◌}
+use Rattle.std.proofs.Common.{◌+◌, length, slice_index_or, sym, ap, arith, subst}
 use Rattle.std.proofs.lemmas.Option.{slice_get-get_or}
 use Rattle.bridge_rounds.proofs.Handing.{HandedBefore, handed_bridge, handed_more, handed_none}
 use Rattle.bridge_rounds.proofs.Over.{there as there_is}
@@ -24,7 +24,7 @@ pub loop-place-preserved : goal.loop-place-preserved
 loop-place-preserved g c =
     let x = slice_index_or c.args.stations.now c.args.bridge c.index-stations-bridge.result in
     let there = slice_get-get_or c.args.stations.now c.args.bridge c.index-stations-bridge.result c.requires.bridge in
-    subst (HandedBefore c.args.stations.now c.feed.new.stations c.args.bridge (c.loop-place.place + 1)) (sym c.or.ensures)
+    subst (HandedBefore c.args.stations.now c.feed.new.stations c.args.bridge (c.loop-place.place + 1)) (sym c.or-first.ensures)
     (handed_more c.args.stations.now c.loop-place.stations c.feed.new.stations c.args.bridge c.loop-place.place x c.loop-place.first c.in_ok-found.found there c.loop-place.invariant c.in_ok-found.ensures)
 
 pub returns : goal.returns

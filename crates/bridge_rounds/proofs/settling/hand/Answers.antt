@@ -7,10 +7,10 @@ use Rattle.bridge_rounds.proofs.Turns.{at_place, fed_one}
 use Rattle.bridge_rounds.proofs.settling.hand.Goals as goal
 
 pub has-requires : goal.has-requires
-has-requires g c = c.requires.place c.index-stations-bridge.result (slice_get-get_or c.args.stations.now c.args.bridge c.index-stations-bridge.result c.requires.bridge ∙ ap (λ (z : StationState g.row.A.Denot). Some z) (sym c.index-stations-bridge.is))
+has-requires g c = c.requires.place (slice_index_or c.args.stations.now c.args.bridge c.index-stations-bridge.result) (slice_get-get_or c.args.stations.now c.args.bridge c.index-stations-bridge.result c.requires.bridge)
 
 pub port-port-requires : goal.port-port-requires
-port-port-requires g c = c.requires.place c.index-stations-bridge-2.result (slice_get-get_or c.args.stations.now c.args.bridge c.index-stations-bridge-2.result c.requires.bridge ∙ ap (λ (z : StationState g.row.A.Denot). Some z) (sym c.index-stations-bridge-2.is))
+port-port-requires g c = c.requires.place (slice_index_or c.args.stations.now c.args.bridge c.index-stations-bridge-2.result) (slice_get-get_or c.args.stations.now c.args.bridge c.index-stations-bridge-2.result c.requires.bridge)
 
 pub give-requires-clause-place : goal.give-requires-clause-place
 give-requires-clause-place g c =
@@ -24,8 +24,8 @@ give-requires-clause-linked g c = (
 
 pub returns-then-has : goal.returns-then-has
 returns-then-has g c =
-    let x = c.index-stations-bridge.result in
-    let there = slice_get-get_or c.args.stations.now c.args.bridge c.index-stations-bridge.result c.requires.bridge ∙ ap (λ (z : StationState g.row.A.Denot). Some z) (sym c.index-stations-bridge.is) in
+    let x = slice_index_or c.args.stations.now c.args.bridge c.index-stations-bridge.result in
+    let there = slice_get-get_or c.args.stations.now c.args.bridge c.index-stations-bridge.result c.requires.bridge in
     let came = c.has.ensures.same c.if-has.true ∙ ap (λ (t : List ℕ). Some t) c.deref.ensures.value in
     handed_same c.args.stations.now c.args.bridge c.args.place x there
     (fed_one c.args.stations.now c.args.bridge c.args.place x x (sender_value c.args.sender) c.in_ok-text.text.items refl (c.requires.linked x there) came c.in_ok-text.ensures)
@@ -34,8 +34,8 @@ pub returns : goal.returns
 returns g c =
     let x = slice_index_or c.args.stations.now c.args.bridge c.index-stations-bridge-3.result in
     let there = slice_get-get_or c.args.stations.now c.args.bridge c.index-stations-bridge-3.result c.requires.bridge in
-    let one = c.index-stations-bridge.is ∙ at_place c.args.stations.now c.args.bridge c.index-stations-bridge.result x c.requires.bridge there in
-    let two = c.index-stations-bridge-2.is ∙ at_place c.args.stations.now c.args.bridge c.index-stations-bridge-2.result x c.requires.bridge there in
+    let one = at_place c.args.stations.now c.args.bridge c.index-stations-bridge.result x c.requires.bridge there in
+    let two = at_place c.args.stations.now c.args.bridge c.index-stations-bridge-2.result x c.requires.bridge there in
     let here = c.has.ensures.other c.if-has.false in
     let linked = c.requires.linked x there in
     handed_other c.args.stations.now c.args.bridge c.args.place c.port-port.result x c.give.new.self (sender_value c.args.sender) c.in_ok-text.text.items there c.give.ensures.ground c.give.ensures.taps c.give.ensures.texts linked c.in_ok-text.ensures

@@ -1,9 +1,9 @@
-use Rattle.std.proofs.Common.{◌≡◌, ℕ, Bool, List, Option, Some, None, Ok, refl, sym, ap, subst, ◌∙◌, map}
+use Rattle.std.proofs.Common.{Bool, List, Some, None, refl, sym, subst, ◌∙◌}
 use Rattle.std.specs.Prelude.{All}
 use Rattle.bridge_rounds.specs.Feeding.{AreFedBut}
-use Rattle.bridge_rounds.specs.Stations.{HasRun, IsStation, StationState, ground}
+use Rattle.bridge_rounds.specs.Stations.{HasRun, IsStation}
 use Rattle.bridge_rounds.proofs.Handing.{fed_but}
-use Rattle.bridge_rounds.proofs.Turns.{same_found}
+use Rattle.bridge_rounds.proofs.Turns.{same_ok}
 use Rattle.bridge_rounds.proofs.settling.round.Goals as goal
 
 pub feed_all-requires : goal.feed_all-requires
@@ -15,19 +15,16 @@ pub returns-in-Ok-clause-ground : goal.returns-in-Ok-clause-ground
 returns-in-Ok-clause-ground g c = c.in-Ok.ensures.given.same ∙ c.in_ok-ran.ensures.ground
 
 pub returns-in-Ok-clause-runs : goal.returns-in-Ok-clause-runs
-returns-in-Ok-clause-runs g c = λ e. subst (All HasRun) (sym (c.in-Ok.ensures.unchanged (found_none e))) c.in_ok-ran.ensures.runs
-  where
-    found_none : {X E : Type 0} {o : Option X} → Ok o ≡ Ok None → o ≡ None
-    found_none h = cc
+returns-in-Ok-clause-runs g c = λ e. subst (All HasRun) (sym (c.in-Ok.ensures.unchanged (same_ok c.in-Ok.first None _ refl e))) c.in_ok-ran.ensures.runs
 
 pub returns-in-Ok-clause-kept : goal.returns-in-Ok-clause-kept
-returns-in-Ok-clause-kept g c = λ e. subst (All IsStation) (sym (c.in-Ok.ensures.unchanged (let h = e in cc))) c.keep_all.ensures
+returns-in-Ok-clause-kept g c = λ e. subst (All IsStation) (sym (c.in-Ok.ensures.unchanged (same_ok c.in-Ok.first None _ refl e))) c.keep_all.ensures
 
 pub returns-in-Ok-clause-goes_on : goal.returns-in-Ok-clause-goes_on
 returns-in-Ok-clause-goes_on g c = λ b q e.
     record {
       between = c.run_all.new.stations;
       ran = record { same = c.in_ok-ran.ensures.ground; texts = c.in_ok-ran.ensures.texts; kept = c.keep_all.ensures; runs = c.in_ok-ran.ensures.runs };
-      first = c.in-Ok.ensures.first b q (let h = e in cc);
+      first = c.in-Ok.ensures.first b q (same_ok c.in-Ok.first (Some (b, q)) _ refl e);
       given = c.in-Ok.ensures.given;
     }

@@ -1,4 +1,4 @@
-use Rattle.std.proofs.Common.{◌≡◌, ℕ, Bool, List, [], ◌∷◌, Ok, length, slice_set, take_all, slice_index_or, refl, sym, ap, subst, ◌∙◌, arith}
+use Rattle.std.proofs.Common.{Bool, List, [], ◌∷◌, Ok, length, slice_set, take_all, slice_index_or, refl, sym, ap, subst, ◌∙◌, arith}
 use Rattle.std.specs.Prelude.{All, slice_get}
 use Rattle.std.proofs.lemmas.List.{length-append}
 use Rattle.std.proofs.lemmas.List.Elements.{All-nil}
@@ -39,16 +39,16 @@ loop-bridge-preserved g c =
     let within = c.loop-bridge-test.true in
     let same = c.loop-bridge.auto.stations in
     let here = slice_get-get_or c.loop-bridge.stations c.loop-bridge.bridge c.index-stations-bridge.result (omega (arith, within, same)) in
-    let more = ap length c.in-Ok-3.ensures.items ∙ length-append c.loop-bridge.all.items (c.in-Ok-2.ran ∷ []) in
+    let more = ap length c.in-Ok-push.ensures.items ∙ length-append c.loop-bridge.all.items (c.in-Ok-run.ran ∷ []) in
     let noted = c.loop-bridge.invariant.noted in
     record {
-      ground = map_set ground c.loop-bridge.stations c.loop-bridge.bridge c.index-stations-bridge.result c.run.new.self c.in-Ok-2.ensures.same.0 ∙ c.loop-bridge.invariant.ground;
-      texts = map_set texts_of c.loop-bridge.stations c.loop-bridge.bridge c.index-stations-bridge.result c.run.new.self c.in-Ok-2.ensures.same.1 ∙ c.loop-bridge.invariant.texts;
-      runs = ran_more c.loop-bridge.stations c.loop-bridge.bridge c.run.new.self (omega (arith, within, same)) c.loop-bridge.invariant.runs c.in-Ok-2.ensures.runs;
+      ground = map_set ground c.loop-bridge.stations c.loop-bridge.bridge c.index-stations-bridge.result c.run.new.self c.in-Ok-run.ensures.same.0 ∙ c.loop-bridge.invariant.ground;
+      texts = map_set texts_of c.loop-bridge.stations c.loop-bridge.bridge c.index-stations-bridge.result c.run.new.self c.in-Ok-run.ensures.same.1 ∙ c.loop-bridge.invariant.texts;
+      runs = ran_more c.loop-bridge.stations c.loop-bridge.bridge c.run.new.self (omega (arith, within, same)) c.loop-bridge.invariant.runs c.in-Ok-run.ensures.runs;
       noted = omega (arith, more, noted);
-      kept = subst (λ (l : List Bool). AreKept l c.args.stations.now (slice_set c.loop-bridge.stations c.loop-bridge.bridge c.run.new.self)) (sym c.in-Ok-3.ensures.items)
-          (kept_more c.loop-bridge.all.items c.args.stations.now c.loop-bridge.stations c.loop-bridge.bridge c.in-Ok-2.ran _ c.run.new.self noted c.loop-bridge.invariant.kept c.loop-bridge.invariant.rest here c.in-Ok-2.ensures.runs
-          (λ e. c.run.ensures.kept (c.in-Ok-2.is ∙ ap (λ (r : Bool). Ok r) e)));
+      kept = subst (λ (l : List Bool). AreKept l c.args.stations.now (slice_set c.loop-bridge.stations c.loop-bridge.bridge c.run.new.self)) (sym c.in-Ok-push.ensures.items)
+          (kept_more c.loop-bridge.all.items c.args.stations.now c.loop-bridge.stations c.loop-bridge.bridge c.in-Ok-run.ran _ c.run.new.self noted c.loop-bridge.invariant.kept c.loop-bridge.invariant.rest here c.in-Ok-run.ensures.runs
+          (λ e. c.run.ensures.kept (c.in-Ok-run.is ∙ ap (λ (r : Bool). Ok r) e)));
       rest = rest_more c.args.stations.now c.loop-bridge.stations c.loop-bridge.bridge c.run.new.self c.loop-bridge.invariant.rest;
     }
 
