@@ -138,7 +138,13 @@ both a b = record {
   jitter = max a.jitter b.jitter;
 }
 
--- where each has some
+-- figures lie within others
+pub record IsWithin (x y : Course) : Type 0 where
+  pub worst : x.worst ≤ y.worst
+  pub best : y.best ≤ x.best
+  pub jitter : x.jitter ≤ y.jitter
+
+-- the figures of two ways together, where each has some
 abbrev pub both_of : Option Course → Option Course → Option Course
 both_of None b = None
 both_of (Some a) None = None

@@ -8,4 +8,5 @@ mod stops;
 mod trees;
 
 pub use courses::{Course, course_of};
+pub use stops::Coming;
 pub use trees::HopQueue;

@@ -26,7 +26,7 @@ pub(crate) struct Case<'a, A: Allocator + Copy> {
 
 /// When the frames of a talker come to a hop, and how long they took until then.
 #[derive(Clone, Copy)]
-pub(crate) struct Coming {
+pub struct Coming {
     /// The frames, by the phases at which they come to the hop.
     pub traffic: Traffic,
     /// How much later the period of these phases begins than that in which the talker sent them, in ns.

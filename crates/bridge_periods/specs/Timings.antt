@@ -83,12 +83,14 @@ pub record TakesBetween {A : Type 0} (out : PortPlan A) (x : Timing) (y : Copy C
   pub best : y.at + x.best ≤ start + time_on out y.item
   pub worst : start + time_on out y.item ≤ y.at + x.worst
 
--- a copy started, and was done between two phases of a period
-pub record IsDoneBetween {A : Type 0} (out : PortPlan A) (period : ℕ) (done : Phases) (y : Copy Carried) : Type 0 where
+-- a copy that was offered in a period between the phases of traffic started, and was done between two phases of that period
+pub record IsDoneBetween {A : Type 0} (out : PortPlan A) (t : Traffic) (done : Phases) (y : Copy Carried) : Type 0 where
   pub start : ℕ
   pub period_start : ℕ
   pub started : y.fate ≡ Started start
-  pub multiple : IsMultiple period period_start
+  pub multiple : IsMultiple t.period period_start
+  pub first : t.from + period_start ≤ y.at
+  pub last : y.at ≤ t.to + period_start
   pub from : done.from + period_start ≤ start + time_on out y.item
   pub to : start + time_on out y.item ≤ done.to + period_start
 

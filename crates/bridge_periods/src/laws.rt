@@ -26,8 +26,8 @@ use std::alloc::Allocator;
 
 /// A stream that keeps its period is done in time. In a whole run of an accepted plan, where the own frames of a protected
 /// filter come as its traffic says, whatever all others send: each copy of the filter in a queue of which phases are told is
-/// taken, and is done between these phases of a period (`phases`); and each copy that a queue takes is done no sooner than
-/// the best time after its frame came, and no later than the worst (`times`).
+/// taken, and is done between these phases of the period in which its frame came (`phases`); and each copy that a queue takes
+/// is done no sooner than the best time after its frame came, and no later than the worst (`times`).
 pub fn in_periods<A: Allocator + Copy>()
     ensures phases { (p : Plan A) (n : ℕ) (f : FilterPlan) (es : List Event) (moments : ℕ → ℕ) (lists : ℕ → List (Copy Carried))
         (q : ℕ) (out : PortPlan A) (y : Copy Carried) (t : Traffic) (x : Timing) (done : Phases)
@@ -44,7 +44,7 @@ pub fn in_periods<A: Allocator + Copy>()
         → KeepsTraffic t (own p n f es)
         → IsTiming p n q y.class t x
         → x.phases ≡ Some done
-        → IsDoneBetween out t.period done y }
+        → IsDoneBetween out t done y }
     ensures times { (p : Plan A) (n : ℕ) (f : FilterPlan) (es : List Event) (moments : ℕ → ℕ) (lists : ℕ → List (Copy Carried))
         (q start : ℕ) (out : PortPlan A) (y : Copy Carried) (t : Traffic) (x : Timing)
         → IsPlan p

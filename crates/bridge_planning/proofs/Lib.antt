@@ -1,8 +1,10 @@
 pub mod Bounded
 pub mod Gathered
 pub mod Named
+pub mod Phased
 pub mod Placed
 pub mod Queued
 pub mod Refused
 pub mod Timed
 pub mod Told
+pub mod WaysOf

@@ -1,6 +1,7 @@
 pub mod Bounds
 pub mod Naming
 pub mod Networks
+pub mod Phased
 pub mod Printing
 pub mod Streams
 pub mod Talkers
