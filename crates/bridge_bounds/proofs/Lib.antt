@@ -1,5 +1,8 @@
 pub mod Steps
 pub mod Queued
+pub mod Seldom
+pub mod Let
+pub mod Among
 pub mod Bursts
 pub mod Edges
 pub mod Changed

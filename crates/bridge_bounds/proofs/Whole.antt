@@ -19,7 +19,7 @@ use Rattle.bridge_config.specs.Rules.{IsPlan, port_at}
 use Rattle.bridge_check.specs.Acceptable.{IsAcceptable}
 use Rattle.bridge_check.specs.Reach.{reaches}
 use Rattle.bridge_check.specs.Windows.{longest_frame}
-use Rattle.bridge_run.specs.Events.{Event}
+use Rattle.bridge_run.specs.Events.{Event, police_of}
 use Rattle.bridge_run.specs.Offers.{Carried, egress, offers}
 use Rattle.bridge_run.specs.Runs.{AreWhole, AtPort, Delayed, IsGreatest, IsOutcome, IsRun}
 use Rattle.bridge_run.specs.declared.outcome.Outcome.{Outcome}
@@ -27,8 +27,11 @@ use Rattle.bridge_run.specs.declared.outcome.View.{View}
 use Rattle.bridge_run.proofs.Facts.{own_queues, served_alone}
 use Rattle.bridge_run.proofs.Headline.{as_offer, in_offered, in_only, only_in}
 use Rattle.bridge_bounds.specs.Bounds.{AreShort, IsBound, IsLongest}
+use Rattle.bridge_bounds.specs.Passing.{AreWithinLengths, LetsFew}
+use Rattle.bridge_bounds.proofs.Among.{started_seldom}
 use Rattle.bridge_bounds.proofs.Queued.{each_in_time, up_to}
 use Rattle.bridge_bounds.proofs.Reached.{found_in}
+use Rattle.bridge_bounds.proofs.Seldom.{each_seldom_in_time}
 use Rattle.bridge_bounds.proofs.Sizes.{occupied_rises, within_size}
 
 -- the copies of a class are of it
@@ -62,6 +65,16 @@ in_time p n m d f es moments lists q s out x plan good listed is size run whole 
     let short = short_in p n m f es moments lists q x.class out plan good listed is size run at reach in
     let order = only_order x.class (moments q) (lists q) (run.lawful q out at).offers in
     each_in_time (egress out) x.class (occupied (longest_frame m) out.speed) d s (moments q) x (only x.class (lists q)) (occupied_some (longest_frame m) out.speed) longest solo short order (in_only x.class x (lists q) i refl) started
+
+-- where its gate lets few frames through in the longest time of so many, this is the time of a copy that a queue takes
+pub few_in_time : {A : Type 0} (p : Plan A) (n m k d : ℕ) (f : FilterPlan) (es : List Event) (moments : ℕ → ℕ) (lists : ℕ → List (Copy Carried)) (q s : ℕ) (out : PortPlan A) (x : Copy Carried) → IsPlan p → IsAcceptable p → In (n, f) p.filters → f.protected ≡ true → f.max_sdu ≡ Some m → IsRun p es moments lists → AreWhole lists → AreWithinLengths es → port_at p.ports q ≡ Some out → In x (lists q) → x.item.flow ≡ Some n → x.fate ≡ Started s → LetsFew ((police_of p).gates f.gate).turn_at k d → IsLongest (opens_of out.list x.class) (occupied (longest_frame m) out.speed) k d → s + occupied x.item.len out.speed ≤ x.at + (occupied (longest_frame m) out.speed - 1) + d
+few_in_time p n m k d f es moments lists q s out x plan good listed is size run whole within at i flow started few longest =
+    let reach = (own_queues p n f es moments lists q out x plan good listed is run at i).0 flow in
+    let solo = served_alone p n f q x.class (moments q) out (lists q) plan good listed is at reach (run.lawful q out at) (whole q) in
+    let short = short_in p n m f es moments lists q x.class out plan good listed is size run at reach in
+    let order = only_order x.class (moments q) (lists q) (run.lawful q out at).offers in
+    let seldom = started_seldom p n f plan listed q x.class k d out es moments lists good is run within at reach few in
+    each_seldom_in_time (egress out) x.class (occupied (longest_frame m) out.speed) k d s (moments q) x (only x.class (lists q)) (occupied_some (longest_frame m) out.speed) longest seldom solo short order (in_only x.class x (lists q) i refl) started
 
 -- a copy is done within the bound of its queue
 pub in_bound : {A : Type 0} (p : Plan A) (n b : ℕ) (es : List Event) (moments : ℕ → ℕ) (lists : ℕ → List (Copy Carried)) (q s : ℕ) (out : PortPlan A) (x : Copy Carried) → IsPlan p → IsAcceptable p → IsRun p es moments lists → AreWhole lists → port_at p.ports q ≡ Some out → In x (lists q) → x.item.flow ≡ Some n → x.fate ≡ Started s → IsBound p n q x.class b → s + occupied x.item.len out.speed ≤ x.at + b
