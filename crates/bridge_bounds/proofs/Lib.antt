@@ -3,6 +3,8 @@ pub mod Queued
 pub mod Seldom
 pub mod Let
 pub mod Among
+pub mod Cycles
+pub mod Apart
 pub mod Bursts
 pub mod Edges
 pub mod Changed

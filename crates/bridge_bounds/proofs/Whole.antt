@@ -1,6 +1,6 @@
 -- How long the frames of a protected filter take in a whole run.
-use Rattle.std.proofs.Common.{arith, ◌≡◌, ◌+◌, ◌-◌, ◌≤◌, ◌⊎◌, ℕ, true, List, [], ◌∷◌, refl, sym, subst, inl, inr, Some, ◌∙◌}
-use Rattle.std.specs.Prelude.{nat_eq}
+use Rattle.std.proofs.Common.{arith, ◌≡◌, ◌+◌, ◌-◌, ◌≤◌, ◌⊎◌, ℕ, true, List, [], ◌∷◌, refl, ap, sym, subst, inl, inr, Option, None, Some, ◌∙◌}
+use Rattle.std.specs.Prelude.{MatchOption, nat_eq}
 use Rattle.std.specs.Map.{lookup}
 use Rattle.std.proofs.lemmas.Bool.{eqb-true}
 use Rattle.std.proofs.lemmas.Option.{same_Some}
@@ -8,7 +8,12 @@ use Rattle.bridge_base.specs.Members.{In}
 use Rattle.bridge_cycle.proofs.Cases.{by_bool}
 use Rattle.bridge_frame.specs.Link.{occupied}
 use Rattle.bridge_frame.proofs.Times.{occupied_some}
+use Rattle.bridge_gate.specs.declared.schedule.Schedule.{Schedule}
+use Rattle.bridge_gate.specs.declared.schedule.Schedule.TheVariants.{Cyclic, Fixed, Joined}
+use Rattle.bridge_gate.specs.Gates.{GateRules}
+use Rattle.bridge_gate.specs.Schedules.{rules_of, turn_at}
 use Rattle.bridge_filter.specs.declared.FilterPlan.{FilterPlan}
+use Rattle.bridge_filter.specs.Plans.{gate_or_closed}
 use Rattle.bridge_filter.proofs.Members.{member_found}
 use Rattle.bridge_port.specs.Opening.{opens_of}
 use Rattle.bridge_port.specs.Schedule.{Copy, OfferedUpTo, Started}
@@ -26,9 +31,10 @@ use Rattle.bridge_run.specs.declared.outcome.Outcome.{Outcome}
 use Rattle.bridge_run.specs.declared.outcome.View.{View}
 use Rattle.bridge_run.proofs.Facts.{own_queues, served_alone}
 use Rattle.bridge_run.proofs.Headline.{as_offer, in_offered, in_only, only_in}
-use Rattle.bridge_bounds.specs.Bounds.{AreShort, IsBound, IsLongest}
-use Rattle.bridge_bounds.specs.Passing.{AreWithinLengths, LetsFew}
+use Rattle.bridge_bounds.specs.Bounds.{AreShort, IsBound, IsLesser, IsLongest, IsTightBound, IsTightened}
+use Rattle.bridge_bounds.specs.Passing.{AreWithinLengths, LetsFew, fewer, most_in}
 use Rattle.bridge_bounds.proofs.Among.{started_seldom}
+use Rattle.bridge_bounds.proofs.Apart.{fewer_is, turn_few}
 use Rattle.bridge_bounds.proofs.Queued.{each_in_time, up_to}
 use Rattle.bridge_bounds.proofs.Reached.{found_in}
 use Rattle.bridge_bounds.proofs.Seldom.{each_seldom_in_time}
@@ -96,3 +102,36 @@ delay_bound {A} p n b k f es lists o v plan good listed is out found bounds dela
     let done = in_bound p n d es out.moments lists late.port late.start late.out late.copy plan good out.run out.whole late.at late.lies late.flow late.started bound in
     let was = late.delay in
     omega (arith, done, upto, was)
+
+-- a copy that is done within a bound, and within that of few frames where a gate lets no more through, is done within the
+-- tightened one
+within_tightened : {A : Type 0} (s : Schedule A) (out : PortPlan A) (c m a b done at : ℕ) → IsTightened s out c m a b → done ≤ at + a
+    → ((k d : ℕ) → LetsFew (turn_at s) k d → IsLongest (opens_of out.list c) (occupied (longest_frame m) out.speed) k d → done ≤ at + (occupied (longest_frame m) out.speed - 1) + d)
+    → done ≤ at + b
+within_tightened (Fixed lets ipv) out c m a b done at is before few = omega (arith, is, before)
+within_tightened (Joined j) out c m a b done at is before few = omega (arith, is, before)
+within_tightened (Cyclic l) out c m a b done at is before few = by_most (fewer ((egress out).room c) (most_in l.entries)) refl is
+  where
+    by_most : (o : Option ℕ) → fewer ((egress out).room c) (most_in l.entries) ≡ o → MatchOption o (b ≡ a) (λ k. IsLesser l out c m k a b) → done ≤ at + b
+    by_most None same is = omega (arith, is, before)
+    by_most (Some k) same is = elim is.lesser [
+      | inr other ↦ let own = other.1 in omega (arith, own, before)
+      | inl lesser ↦
+          let most : most_in l.entries ≡ Some k = fewer_is ((egress out).room c) k (most_in l.entries) same in
+          let within = few k is.is.longest (record { few = λ t x there lets. turn_few l k t x most there lets; apart = lesser.0 }) is.is.is_longest in
+          let bound = is.is.bound in
+          let own = lesser.1 in
+          omega (arith, within, before, bound, own)
+    ]
+
+-- a copy is done within the tight bound of its queue
+pub in_tight_bound : {A : Type 0} (p : Plan A) (n b : ℕ) (es : List Event) (moments : ℕ → ℕ) (lists : ℕ → List (Copy Carried)) (q s : ℕ) (out : PortPlan A) (x : Copy Carried) → IsPlan p → IsAcceptable p → IsRun p es moments lists → AreWhole lists → AreWithinLengths es → port_at p.ports q ≡ Some out → In x (lists q) → x.item.flow ≡ Some n → x.fate ≡ Started s → IsTightBound p n q x.class b → s + occupied x.item.len out.speed ≤ x.at + b
+in_tight_bound {A} p n b es moments lists q s out x plan good run whole within at i flow started tight =
+    let bound : IsBound p n q x.class tight.by_room = tight.is_bound in
+    let same : bound.out ≡ out = same_Some bound.out out (sym bound.at ∙ at) in
+    let listed = found_in p.filters n bound.filter bound.found in
+    let before = in_bound p n tight.by_room es moments lists q s bound.out x plan good run whole bound.at i flow started bound in
+    let rules : (police_of p).gates bound.filter.gate ≡ rules_of tight.gate = ap gate_or_closed tight.gated in
+    let own : s + occupied x.item.len bound.out.speed ≤ x.at + b = within_tightened tight.gate.schedule bound.out x.class bound.max_sdu tight.by_room b (s + occupied x.item.len bound.out.speed) x.at tight.tightened before
+    (λ k d few longest. few_in_time p n bound.max_sdu k d bound.filter es moments lists q s bound.out x plan good listed bound.protected bound.size run whole within bound.at i flow started (subst (λ (r : GateRules). LetsFew r.turn_at k d) (sym rules) few) longest) in
+    subst (λ (o : PortPlan A). s + occupied x.item.len o.speed ≤ x.at + b) same own

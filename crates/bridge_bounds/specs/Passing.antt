@@ -1,5 +1,5 @@
 -- How many frames come to a queue in a stretch of time, and how many a gate lets through.
-use Rattle.std.specs.Prelude.{◌≡◌, ℕ, true, ◌+◌, ◌/◌, ◌<◌, ◌≤◌, ◌&&◌, nat_le, nat_lt, Option, None, Some, List, [], ◌∷◌, length, if◌then◌else◌}
+use Rattle.std.specs.Prelude.{◌≡◌, ℕ, true, false, ◌+◌, ◌/◌, ◌<◌, ◌≤◌, ◌&&◌, max, nat_le, nat_lt, Option, None, Some, option_map, List, [], ◌∷◌, length, if◌then◌else◌}
 use Rattle.bridge_cycle.specs.declared.timeline.Turn.{Turn}
 use Rattle.bridge_gate.specs.declared.gate.GateAnswer.TheVariants.{Through}
 use Rattle.bridge_gate.specs.declared.schedule.GateEntry.{GateEntry}
@@ -48,6 +48,30 @@ AreApart turn_at w =
 pub record LetsFew (turn_at : ℕ → Option (Turn GateEntry)) (k w : ℕ) : Type 0 where
   pub few : (t : ℕ) (x : Turn GateEntry) → turn_at t ≡ Some x → x.state.lets ≡ true → IsFew x.state.octets k
   pub apart : AreApart turn_at w
+
+-- nothing passes from a moment on, before another one
+abbrev pub IsShut : (ℕ → Option (Turn GateEntry)) → ℕ → ℕ → Type 0
+IsShut turn_at from until = (u : ℕ) (x : Turn GateEntry) → from ≤ u → u < until → turn_at u ≡ Some x → x.state.lets ≡ false
+
+-- how many frames of at least two octets an entry lets through in one turn, where it lets none through or has a limit of octets
+abbrev pub most_frames : GateEntry → Option ℕ
+most_frames e = if e.lets then option_map (λ limit. limit / 2) e.octets else Some 0
+
+-- the greater of two numbers, where there are both
+abbrev pub greater : Option ℕ → Option ℕ → Option ℕ
+greater None b = None
+greater (Some a) None = None
+greater (Some a) (Some b) = Some (max a b)
+
+-- how many frames the entries let through in one turn at most, where each that lets any through has a limit of octets
+abbrev pub most_in : List (GateEntry × ℕ) → Option ℕ
+most_in [] = Some 0
+most_in (e ∷ es) = greater (most_frames e.0) (most_in es)
+
+-- so many frames, where they are fewer than a room holds
+abbrev pub fewer : ℕ → Option ℕ → Option ℕ
+fewer room None = None
+fewer room (Some k) = if nat_lt k room then Some k else None
 
 -- of each frame that came no more octets were captured than it has
 abbrev pub AreWithinLengths : List Event → Type 0

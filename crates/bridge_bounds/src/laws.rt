@@ -19,7 +19,7 @@ ghost use Rattle.bridge_run.specs.Offers.{Carried, egress};
 ghost use Rattle.bridge_run.specs.Runs.{AreWhole, IsOutcome, IsRun};
 ghost use Rattle.bridge_run.specs.declared.outcome.Outcome.{Outcome};
 ghost use Rattle.bridge_run.specs.declared.outcome.View.{View};
-ghost use Rattle.bridge_bounds.specs.Bounds.{AreShort, EndsBy, IsAttained, IsBound, IsLongest, IsWorst};
+ghost use Rattle.bridge_bounds.specs.Bounds.{AreShort, EndsBy, IsAttained, IsBound, IsLongest, IsTightBound, IsWorst};
 ghost use Rattle.bridge_bounds.specs.Passing.{AreSeldom, AreWithinLengths, HaveTypes, LetsFew, started_at, through_at};
 
 use std::alloc::Allocator;
@@ -163,4 +163,22 @@ pub fn few_in_time<A: Allocator + Copy>()
         → LetsFew ((police_of p).gates f.gate).turn_at k d
         → IsLongest (opens_of out.list x.class) (occupied (longest_frame m) out.speed) k d
         → s + occupied x.item.len out.speed ≤ x.at + (occupied (longest_frame m) out.speed - 1) + d }
+{}
+
+/// So each frame of a protected filter that a queue takes is done within the tight bound of its queue too, in a whole run of
+/// an accepted plan whose frames have at least the octets that were captured of them.
+pub fn in_time_by_octets<A: Allocator + Copy>()
+    ensures { (p : Plan A) (n b : ℕ) (es : List Event) (moments : ℕ → ℕ) (lists : ℕ → List (Copy Carried)) (q s : ℕ)
+        (out : PortPlan A) (x : Copy Carried)
+        → IsPlan p
+        → IsAcceptable p
+        → IsRun p es moments lists
+        → AreWhole lists
+        → AreWithinLengths es
+        → port_at p.ports q ≡ Some out
+        → In x (lists q)
+        → x.item.flow ≡ Some n
+        → x.fate ≡ Started s
+        → IsTightBound p n q x.class b
+        → s + occupied x.item.len out.speed ≤ x.at + b }
 {}
