@@ -1,5 +1,10 @@
 pub mod Steps
 pub mod Queued
+pub mod Seldom
+pub mod Let
+pub mod Among
+pub mod Cycles
+pub mod Apart
 pub mod Bursts
 pub mod Edges
 pub mod Changed

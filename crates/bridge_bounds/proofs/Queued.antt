@@ -20,15 +20,15 @@ up_to h k (x ∷ xs) l o = (omega (arith, l, o.0), o.1)
 abbrev AreDone : {X : Type 0} → Rules X → ℕ → ℕ → ℕ → ℕ → List (Copy X) → Type 0
 AreDone r c occ t u xs = (k v : ℕ) → k ≡ waiting c t xs → EndsBy (r.opens c) occ k u v → last_done r xs ≤ v
 
--- a copy that starts no earlier than one more comes is done no later than one more frame of the greatest length
-done_late : {X : Type 0} (r : Rules X) (c occ t u s k v : ℕ) (x : Copy X) (xs : List (Copy X)) → x.class ≡ c → r.occ x.item ≤ occ → x.at ≤ u → AreDone r c occ t u xs → IsFirst (r.opens x.class) (r.occ x.item) (max x.at (last_done r xs)) s → k ≡ 1 + waiting c t xs → EndsBy (r.opens c) occ k u v → s + r.occ x.item ≤ v
+-- a copy that starts no earlier than one more comes does so no later than one more frame of the greatest length
+done_late : {X : Type 0} (r : Rules X) (c occ t u s k v : ℕ) (x : Copy X) (xs : List (Copy X)) → x.class ≡ c → r.occ x.item ≤ occ → x.at ≤ u → AreDone r c occ t u xs → IsFirst (r.opens x.class) (r.occ x.item) (max x.at (last_done r xs)) s → k ≡ 1 + waiting c t xs → EndsBy (r.opens c) occ k u v → s + occ ≤ v
 done_late r c occ t u s zero v x xs class short at before is count e = absurd (omega (arith, count))
 done_late r c occ t u s (suc k) v x xs class short at before is count (w, last, e, first, end) =
     let done = before k w (omega (arith, count)) e in
     let later = ends_after (r.opens c) occ k u w e in
     let own : IsFirst (r.opens c) (r.occ x.item) (max x.at (last_done r xs)) s = subst (λ (i : ℕ). IsFirst (r.opens i) (r.occ x.item) (max x.at (last_done r xs)) s) class is in
     let start = first_rises (r.opens c) (r.occ x.item) occ (max x.at (last_done r xs)) w s last short (omega (arith, done, later, at)) own first in
-    omega (arith, start, short, end)
+    omega (arith, start, end)
 
 -- when the newest copy is done, by its fate
 done_by : {X : Type 0} (r : Rules X) (c occ t u k v : ℕ) (x : Copy X) (xs : List (Copy X)) (f : Fate) → x.class ≡ c → r.occ x.item ≤ occ → x.at ≤ t → t ≤ u → t + occ ≤ u + 1 → AreDone r c occ t u xs → IsSoloFate r x xs f → k ≡ (if nat_eq x.class c && is_there t f then 1 else 0) + waiting c t xs → EndsBy (r.opens c) occ k u v → done_or f (r.occ x.item) (last_done r xs) ≤ v
@@ -47,7 +47,8 @@ done_by r c occ t u k v x xs (Started s) class short at base far before fate cou
       let own : nat_eq x.class c ≡ true = eq-eqb x.class c class in
       let late : nat_lt s t ≡ false = grind (arith, nat_tests) in
       let more : k ≡ 1 + waiting c t xs = rw (own, late) at count in
-      done_late r c occ t u s k v x xs class short (omega (arith, at, base)) before fate.2 more e
+      let start = done_late r c occ t u s k v x xs class short (omega (arith, at, base)) before fate.2 more e in
+      omega (arith, start, short)
 ]
 
 -- the copies of a queue that is alone, offered up to t, are done no later than so many frames of the greatest length that
@@ -58,23 +59,42 @@ all_done r c occ t u (x ∷ xs) base far solo short order k v count e =
     let (class, own) = short x (inl refl) in
     done_by r c occ t u k v x xs x.fate class own order.0 base far (all_done r c occ t u xs base far solo.1 (λ y i. short y (inr i)) (up_to x.at t xs order.0 order.1)) solo.0 count e
 
+-- a copy that started, where fewer than n wait, did so before the last of n frames that wait from its offer on would be done
+pub starts_early : {X : Type 0} (r : Rules X) (c occ n d s : ℕ) (x : Copy X) (xs : List (Copy X)) → 1 ≤ occ → IsLongest (r.opens c) occ n d → waiting c x.at xs < n → IsSolo r (x ∷ xs) → AreShort r c occ (x ∷ xs) → OfferedUpTo x.at xs → x.fate ≡ Started s → s + occ ≤ x.at + (occ - 1) + d
+starts_early r c occ n d s x xs some longest few solo short order started =
+    let (class, own) = short x (inl refl) in
+    let fate : IsSoloFate r x xs (Started s) = subst (IsSoloFate r x xs) started solo.0 in
+    let u : ℕ = x.at + (occ - 1) in
+    let before = all_done r c occ x.at u xs (omega arith) (omega (arith, some)) solo.1 (λ y i. short y (inr i)) order in
+    let (z, all, upto) = longest u in
+    let (v, ends, early) = ends_fewer (r.opens c) occ (1 + waiting c x.at xs) n u z (omega (arith, few)) all in
+    let start = done_late r c occ x.at u s (1 + waiting c x.at xs) v x xs class own (omega arith) before fate.2 refl ends in
+    omega (arith, start, early, upto)
+
 -- a copy that started is done in time
 pub in_time : {X : Type 0} (r : Rules X) (c occ d s : ℕ) (x : Copy X) (xs : List (Copy X)) → 1 ≤ occ → IsLongest (r.opens c) occ (r.room c) d → IsSolo r (x ∷ xs) → AreShort r c occ (x ∷ xs) → OfferedUpTo x.at xs → x.fate ≡ Started s → s + r.occ x.item ≤ x.at + (occ - 1) + d
 in_time r c occ d s x xs some longest solo short order started =
     let (class, own) = short x (inl refl) in
     let fate : IsSoloFate r x xs (Started s) = subst (IsSoloFate r x xs) started solo.0 in
-    let u : ℕ = x.at + (occ - 1) in
-    let before = all_done r c occ x.at u xs (omega arith) (omega (arith, some)) solo.1 (λ y i. short y (inr i)) order in
     let few : waiting c x.at xs < r.room c = subst (λ (i : ℕ). waiting i x.at xs < r.room i) class fate.1 in
-    let (z, all, upto) = longest u in
-    let (v, ends, early) = ends_fewer (r.opens c) occ (1 + waiting c x.at xs) (r.room c) u z (omega (arith, few)) all in
-    let done = done_late r c occ x.at u s (1 + waiting c x.at xs) v x xs class own (omega arith) before fate.2 refl ends in
-    omega (arith, done, early, upto)
+    let early = starts_early r c occ (r.room c) d s x xs some longest few solo short order started in
+    omega (arith, early, own)
+
+-- where a queue that is alone does so for its newest copy, whatever it is, each of its copies is done at most d after it was offered
+pub each_of_newest : {X : Type 0} (r : Rules X) (c occ d s h : ℕ) (P : List (Copy X) → Type 0) (x : Copy X) (xs : List (Copy X))
+    → ((y : Copy X) (ys : List (Copy X)) → P (y ∷ ys) → P ys)
+    → ((y : Copy X) (ys : List (Copy X)) → P (y ∷ ys) → IsSolo r (y ∷ ys) → AreShort r c occ (y ∷ ys) → OfferedUpTo y.at ys → y.fate ≡ Started s → s + r.occ y.item ≤ y.at + d)
+    → P xs → IsSolo r xs → AreShort r c occ xs → OfferedUpTo h xs → In x xs → x.fate ≡ Started s → s + r.occ x.item ≤ x.at + d
+each_of_newest r c occ d s h P x [] rest newest p solo short order i started = absurd i
+each_of_newest r c occ d s h P x (y ∷ ys) rest newest p solo short order (inl same) started =
+    let own : y.fate ≡ Started s = subst (λ (z : Copy _). z.fate ≡ Started s) same started in
+    subst (λ (z : Copy _). s + r.occ z.item ≤ z.at + d) (sym same) (newest y ys p solo short order.1 own)
+each_of_newest r c occ d s h P x (y ∷ ys) rest newest p solo short order (inr later) started = each_of_newest r c occ d s y.at P x ys rest newest (rest y ys p) solo.1 (λ z j. short z (inr j)) order.1 later started
 
 -- so is each copy of a queue that is alone
 pub each_in_time : {X : Type 0} (r : Rules X) (c occ d s h : ℕ) (x : Copy X) (xs : List (Copy X)) → 1 ≤ occ → IsLongest (r.opens c) occ (r.room c) d → IsSolo r xs → AreShort r c occ xs → OfferedUpTo h xs → In x xs → x.fate ≡ Started s → s + r.occ x.item ≤ x.at + (occ - 1) + d
-each_in_time r c occ d s h x [] some longest solo short order i started = absurd i
-each_in_time r c occ d s h x (y ∷ ys) some longest solo short order (inl same) started =
-    let own : y.fate ≡ Started s = subst (λ (z : Copy _). z.fate ≡ Started s) same started in
-    subst (λ (z : Copy _). s + r.occ z.item ≤ z.at + (occ - 1) + d) (sym same) (in_time r c occ d s y ys some longest solo short order.1 own)
-each_in_time r c occ d s h x (y ∷ ys) some longest solo short order (inr later) started = each_in_time r c occ d s y.at x ys some longest solo.1 (λ z j. short z (inr j)) order.1 later started
+each_in_time {X} r c occ d s h x xs some longest solo short order i started =
+    let done = each_of_newest r c occ ((occ - 1) + d) s h (λ (ys : List (Copy X)). Unit {0}) x xs (λ y ys p. tt)
+    (λ y ys p own few upto begun. let done = in_time r c occ d s y ys some longest own few upto begun in omega (arith, done))
+    tt solo short order i started in
+    omega (arith, done)

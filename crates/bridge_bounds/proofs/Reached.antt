@@ -1,6 +1,7 @@
 -- What an accepted plan says of a queue that frames of a protected filter may come to: its longest frame fits.
 use Rattle.std.proofs.Common.{◌≡◌, ◌<◌, ◌≤◌, ◌+◌, ◌-◌, ℕ, zero, suc, Bool, true, false, not, ◌&&◌, List, [], ◌∷◌, Option, Some, None, nat_eq, refl, sym, arith, subst, inl, inr}
-use Rattle.std.specs.Prelude.{slice_index}
+use Rattle.std.specs.Prelude.{is_some, slice_index}
+use Rattle.std.specs.List.{list_all}
 use Rattle.std.specs.Bool.{if◌then◌else◌}
 use Rattle.std.specs.Map.{lookup}
 use Rattle.std.specs.Option.{ForSome}
@@ -9,7 +10,9 @@ use Rattle.std.proofs.lemmas.Option.{same_Some}
 use Rattle.bridge_base.specs.Members.{In}
 use Rattle.bridge_cycle.proofs.Cases.{by_bool}
 use Rattle.bridge_frame.specs.Link.{occupied}
+use Rattle.bridge_gate.specs.declared.schedule.GatePlan.{GatePlan}
 use Rattle.bridge_filter.specs.declared.FilterPlan.{FilterPlan}
+use Rattle.bridge_filter.specs.Plans.{has_instances, is_there, is_there_if_any}
 use Rattle.bridge_port.specs.Opening.{ever_of}
 use Rattle.bridge_config.specs.declared.ports.PortPlan.{PortPlan}
 use Rattle.bridge_config.specs.Model.{Plan}
@@ -19,6 +22,7 @@ use Rattle.bridge_check.specs.declared.fault.CheckFault.{CheckFault}
 use Rattle.bridge_check.specs.declared.fault.CheckFault.TheVariants as fault
 use Rattle.bridge_check.specs.Reach.{any_below, reaches, reaches_class, reaches_port, reaches_priority}
 use Rattle.bridge_check.specs.Windows.{ever_fits, longest_frame}
+use Rattle.bridge_check.proofs.Isolated.{each_passes}
 use Rattle.bridge_check.specs.Faults.{fault_of, fault_unless, first_below, first_of, never_fits, wildcard_fault, max_sdu_fault, gate_fault, meter_fault, catch_all_fault, queue_fault, window_fault, size_fault}
 
 same_pair : {X : Type 0} (n m : ℕ) (x z : X) → n ≡ m → x ≡ z → ◌≡◌ {A = ℕ × X} (n, x) (m, z)
@@ -107,3 +111,14 @@ not_reached p f q c at reach =
 -- the largest service data unit of a filter is within its range
 pub sdu_few : {A : Type 0} (p : Plan A) (n : ℕ) (f : FilterPlan) → IsPlan p → In (n, f) p.filters → ForSome f.max_sdu (λ m. m ≤ 65535)
 sdu_few p n f plan listed = (each_in IsFilter p.filters (n, f) plan.filters.each listed).max_sdu
+
+some_of : {X : Type 0} (o : Option X) → is_some o ≡ true → (x : X) × (o ≡ Some x)
+some_of None h = absurd (false≢true h)
+some_of (Some x) h = (x, refl)
+
+-- the gate of a filter is there
+pub gate_there : {A : Type 0} (p : Plan A) (n : ℕ) (f : FilterPlan) → IsPlan p → In (n, f) p.filters → (g : GatePlan A) × (lookup (nat_eq f.gate) p.gates ≡ Some g)
+gate_there {A} p n f plan listed =
+    let all : list_all (λ (x : ℕ × FilterPlan). has_instances p.gates p.meters x.1) p.filters ≡ true = plan.filters.instances in
+    let own : has_instances p.gates p.meters f ≡ true = each_passes (λ (x : ℕ × FilterPlan). has_instances p.gates p.meters x.1) p.filters (n, f) all listed in
+    some_of (lookup (nat_eq f.gate) p.gates) (and_parts (is_there f.gate p.gates) (is_there_if_any f.meter p.meters) own).0

@@ -1,6 +1,6 @@
 -- How long the frames of a protected filter take in a whole run.
-use Rattle.std.proofs.Common.{arith, ◌≡◌, ◌+◌, ◌-◌, ◌≤◌, ◌⊎◌, ℕ, true, List, [], ◌∷◌, refl, sym, subst, inl, inr, Some, ◌∙◌}
-use Rattle.std.specs.Prelude.{nat_eq}
+use Rattle.std.proofs.Common.{arith, ◌≡◌, ◌+◌, ◌-◌, ◌≤◌, ◌⊎◌, ℕ, true, List, [], ◌∷◌, refl, ap, sym, subst, inl, inr, Option, None, Some, ◌∙◌}
+use Rattle.std.specs.Prelude.{MatchOption, nat_eq}
 use Rattle.std.specs.Map.{lookup}
 use Rattle.std.proofs.lemmas.Bool.{eqb-true}
 use Rattle.std.proofs.lemmas.Option.{same_Some}
@@ -8,7 +8,12 @@ use Rattle.bridge_base.specs.Members.{In}
 use Rattle.bridge_cycle.proofs.Cases.{by_bool}
 use Rattle.bridge_frame.specs.Link.{occupied}
 use Rattle.bridge_frame.proofs.Times.{occupied_some}
+use Rattle.bridge_gate.specs.declared.schedule.Schedule.{Schedule}
+use Rattle.bridge_gate.specs.declared.schedule.Schedule.TheVariants.{Cyclic, Fixed, Joined}
+use Rattle.bridge_gate.specs.Gates.{GateRules}
+use Rattle.bridge_gate.specs.Schedules.{rules_of, turn_at}
 use Rattle.bridge_filter.specs.declared.FilterPlan.{FilterPlan}
+use Rattle.bridge_filter.specs.Plans.{gate_or_closed}
 use Rattle.bridge_filter.proofs.Members.{member_found}
 use Rattle.bridge_port.specs.Opening.{opens_of}
 use Rattle.bridge_port.specs.Schedule.{Copy, OfferedUpTo, Started}
@@ -19,16 +24,20 @@ use Rattle.bridge_config.specs.Rules.{IsPlan, port_at}
 use Rattle.bridge_check.specs.Acceptable.{IsAcceptable}
 use Rattle.bridge_check.specs.Reach.{reaches}
 use Rattle.bridge_check.specs.Windows.{longest_frame}
-use Rattle.bridge_run.specs.Events.{Event}
+use Rattle.bridge_run.specs.Events.{Event, police_of}
 use Rattle.bridge_run.specs.Offers.{Carried, egress, offers}
 use Rattle.bridge_run.specs.Runs.{AreWhole, AtPort, Delayed, IsGreatest, IsOutcome, IsRun}
 use Rattle.bridge_run.specs.declared.outcome.Outcome.{Outcome}
 use Rattle.bridge_run.specs.declared.outcome.View.{View}
 use Rattle.bridge_run.proofs.Facts.{own_queues, served_alone}
 use Rattle.bridge_run.proofs.Headline.{as_offer, in_offered, in_only, only_in}
-use Rattle.bridge_bounds.specs.Bounds.{AreShort, IsBound, IsLongest}
+use Rattle.bridge_bounds.specs.Bounds.{AreShort, IsBound, IsLesser, IsLongest, IsTightBound, IsTightened}
+use Rattle.bridge_bounds.specs.Passing.{AreWithinLengths, LetsFew, fewer, most_in}
+use Rattle.bridge_bounds.proofs.Among.{started_seldom}
+use Rattle.bridge_bounds.proofs.Apart.{fewer_is, turn_few}
 use Rattle.bridge_bounds.proofs.Queued.{each_in_time, up_to}
 use Rattle.bridge_bounds.proofs.Reached.{found_in}
+use Rattle.bridge_bounds.proofs.Seldom.{each_seldom_in_time}
 use Rattle.bridge_bounds.proofs.Sizes.{occupied_rises, within_size}
 
 -- the copies of a class are of it
@@ -63,6 +72,16 @@ in_time p n m d f es moments lists q s out x plan good listed is size run whole 
     let order = only_order x.class (moments q) (lists q) (run.lawful q out at).offers in
     each_in_time (egress out) x.class (occupied (longest_frame m) out.speed) d s (moments q) x (only x.class (lists q)) (occupied_some (longest_frame m) out.speed) longest solo short order (in_only x.class x (lists q) i refl) started
 
+-- where its gate lets few frames through in the longest time of so many, this is the time of a copy that a queue takes
+pub few_in_time : {A : Type 0} (p : Plan A) (n m k d : ℕ) (f : FilterPlan) (es : List Event) (moments : ℕ → ℕ) (lists : ℕ → List (Copy Carried)) (q s : ℕ) (out : PortPlan A) (x : Copy Carried) → IsPlan p → IsAcceptable p → In (n, f) p.filters → f.protected ≡ true → f.max_sdu ≡ Some m → IsRun p es moments lists → AreWhole lists → AreWithinLengths es → port_at p.ports q ≡ Some out → In x (lists q) → x.item.flow ≡ Some n → x.fate ≡ Started s → LetsFew ((police_of p).gates f.gate).turn_at k d → IsLongest (opens_of out.list x.class) (occupied (longest_frame m) out.speed) k d → s + occupied x.item.len out.speed ≤ x.at + (occupied (longest_frame m) out.speed - 1) + d
+few_in_time p n m k d f es moments lists q s out x plan good listed is size run whole within at i flow started few longest =
+    let reach = (own_queues p n f es moments lists q out x plan good listed is run at i).0 flow in
+    let solo = served_alone p n f q x.class (moments q) out (lists q) plan good listed is at reach (run.lawful q out at) (whole q) in
+    let short = short_in p n m f es moments lists q x.class out plan good listed is size run at reach in
+    let order = only_order x.class (moments q) (lists q) (run.lawful q out at).offers in
+    let seldom = started_seldom p n f plan listed q x.class k d out es moments lists good is run within at reach few in
+    each_seldom_in_time (egress out) x.class (occupied (longest_frame m) out.speed) k d s (moments q) x (only x.class (lists q)) (occupied_some (longest_frame m) out.speed) longest seldom solo short order (in_only x.class x (lists q) i refl) started
+
 -- a copy is done within the bound of its queue
 pub in_bound : {A : Type 0} (p : Plan A) (n b : ℕ) (es : List Event) (moments : ℕ → ℕ) (lists : ℕ → List (Copy Carried)) (q s : ℕ) (out : PortPlan A) (x : Copy Carried) → IsPlan p → IsAcceptable p → IsRun p es moments lists → AreWhole lists → port_at p.ports q ≡ Some out → In x (lists q) → x.item.flow ≡ Some n → x.fate ≡ Started s → IsBound p n q x.class b → s + occupied x.item.len out.speed ≤ x.at + b
 in_bound {A} p n b es moments lists q s out x plan good run whole at i flow started bound =
@@ -83,3 +102,36 @@ delay_bound {A} p n b k f es lists o v plan good listed is out found bounds dela
     let done = in_bound p n d es out.moments lists late.port late.start late.out late.copy plan good out.run out.whole late.at late.lies late.flow late.started bound in
     let was = late.delay in
     omega (arith, done, upto, was)
+
+-- a copy that is done within a bound, and within that of few frames where a gate lets no more through, is done within the
+-- tightened one
+within_tightened : {A : Type 0} (s : Schedule A) (out : PortPlan A) (c m a b done at : ℕ) → IsTightened s out c m a b → done ≤ at + a
+    → ((k d : ℕ) → LetsFew (turn_at s) k d → IsLongest (opens_of out.list c) (occupied (longest_frame m) out.speed) k d → done ≤ at + (occupied (longest_frame m) out.speed - 1) + d)
+    → done ≤ at + b
+within_tightened (Fixed lets ipv) out c m a b done at is before few = omega (arith, is, before)
+within_tightened (Joined j) out c m a b done at is before few = omega (arith, is, before)
+within_tightened (Cyclic l) out c m a b done at is before few = by_most (fewer ((egress out).room c) (most_in l.entries)) refl is
+  where
+    by_most : (o : Option ℕ) → fewer ((egress out).room c) (most_in l.entries) ≡ o → MatchOption o (b ≡ a) (λ k. IsLesser l out c m k a b) → done ≤ at + b
+    by_most None same is = omega (arith, is, before)
+    by_most (Some k) same is = elim is.lesser [
+      | inr other ↦ let own = other.1 in omega (arith, own, before)
+      | inl lesser ↦
+          let most : most_in l.entries ≡ Some k = fewer_is ((egress out).room c) k (most_in l.entries) same in
+          let within = few k is.is.longest (record { few = λ t x there lets. turn_few l k t x most there lets; apart = lesser.0 }) is.is.is_longest in
+          let bound = is.is.bound in
+          let own = lesser.1 in
+          omega (arith, within, before, bound, own)
+    ]
+
+-- a copy is done within the tight bound of its queue
+pub in_tight_bound : {A : Type 0} (p : Plan A) (n b : ℕ) (es : List Event) (moments : ℕ → ℕ) (lists : ℕ → List (Copy Carried)) (q s : ℕ) (out : PortPlan A) (x : Copy Carried) → IsPlan p → IsAcceptable p → IsRun p es moments lists → AreWhole lists → AreWithinLengths es → port_at p.ports q ≡ Some out → In x (lists q) → x.item.flow ≡ Some n → x.fate ≡ Started s → IsTightBound p n q x.class b → s + occupied x.item.len out.speed ≤ x.at + b
+in_tight_bound {A} p n b es moments lists q s out x plan good run whole within at i flow started tight =
+    let bound : IsBound p n q x.class tight.by_room = tight.is_bound in
+    let same : bound.out ≡ out = same_Some bound.out out (sym bound.at ∙ at) in
+    let listed = found_in p.filters n bound.filter bound.found in
+    let before = in_bound p n tight.by_room es moments lists q s bound.out x plan good run whole bound.at i flow started bound in
+    let rules : (police_of p).gates bound.filter.gate ≡ rules_of tight.gate = ap gate_or_closed tight.gated in
+    let own : s + occupied x.item.len bound.out.speed ≤ x.at + b = within_tightened tight.gate.schedule bound.out x.class bound.max_sdu tight.by_room b (s + occupied x.item.len bound.out.speed) x.at tight.tightened before
+    (λ k d few longest. few_in_time p n bound.max_sdu k d bound.filter es moments lists q s bound.out x plan good listed bound.protected bound.size run whole within bound.at i flow started (subst (λ (r : GateRules). LetsFew r.turn_at k d) (sym rules) few) longest) in
+    subst (λ (o : PortPlan A). s + occupied x.item.len o.speed ≤ x.at + b) same own

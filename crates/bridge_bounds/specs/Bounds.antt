@@ -1,9 +1,14 @@
 -- How long frames take that go one after the other through a class of a port.
-use Rattle.std.specs.Prelude.{◌∷◌, ◌≡◌, ℕ, zero, suc, Bool, true, false, ◌+◌, ◌-◌, ◌≤◌, nat_eq, List, Some}
+use Rattle.std.specs.Prelude.{◌∷◌, ◌≡◌, ℕ, zero, suc, Bool, true, false, ◌+◌, ◌-◌, ◌≤◌, ◌⊎◌, min, nat_eq, List, MatchOption, Some}
 use Rattle.std.specs.Map.{lookup}
 use Rattle.bridge_base.specs.Members.{In}
+use Rattle.bridge_cycle.specs.Cyclic as cyclic
 use Rattle.bridge_cycle.specs.Moments.{Fits, IsFirst}
 use Rattle.bridge_frame.specs.Link.{occupied}
+use Rattle.bridge_gate.specs.declared.schedule.GateEntry.{GateEntry}
+use Rattle.bridge_gate.specs.declared.schedule.GatePlan.{GatePlan}
+use Rattle.bridge_gate.specs.declared.schedule.Schedule.{Schedule}
+use Rattle.bridge_gate.specs.declared.schedule.Schedule.TheVariants.{Cyclic, Fixed, Joined}
 use Rattle.bridge_filter.specs.declared.FilterPlan.{FilterPlan}
 use Rattle.bridge_port.specs.Opening.{Always, Exchanged, One, Opening, opening_of, opens, opens_of}
 use Rattle.bridge_port.specs.Schedule.{Copy, OfferedUpTo, Rules, Started}
@@ -14,6 +19,7 @@ use Rattle.bridge_config.specs.Rules.{port_at}
 use Rattle.bridge_check.specs.Reach.{reaches}
 use Rattle.bridge_check.specs.Windows.{longest_frame}
 use Rattle.bridge_run.specs.Offers.{egress}
+use Rattle.bridge_bounds.specs.Passing.{AreApart, fewer, most_in}
 
 -- k frames that wait from the moment u on, each on the link for `occ`, are done at v: each starts at its first fit from the end of the one before it on
 abbrev pub EndsBy : (ℕ → Bool) → ℕ → ℕ → ℕ → ℕ → Type 0
@@ -54,12 +60,16 @@ pub record IsWorst {X : Type 0} (r : Rules X) (c occ d : ℕ) : Type 0 where
   pub started : copy.fate ≡ Started start
   pub done : start + r.occ copy.item ≡ copy.at + d
 
--- the bound of a class of a port for frames whose service data units have at most m octets: so long after they came they are done at the latest
-pub record IsBoundAt {A : Type 0} (out : PortPlan A) (c m b : ℕ) : Type 0 where
+-- the bound of a class of a port for frames whose service data units have at most m octets, of which at most k wait: so long after they came they are done at the latest
+pub record IsBoundOf {A : Type 0} (out : PortPlan A) (c m k b : ℕ) : Type 0 where
   pub longest : ℕ
-  pub is_longest : IsLongest (opens_of out.list c) (occupied (longest_frame m) out.speed) ((egress out).room c) longest
-  pub is_least : IsLeast (opening_of out.list) c (occupied (longest_frame m) out.speed) ((egress out).room c) longest
+  pub is_longest : IsLongest (opens_of out.list c) (occupied (longest_frame m) out.speed) k longest
+  pub is_least : IsLeast (opening_of out.list) c (occupied (longest_frame m) out.speed) k longest
   pub bound : b ≡ (occupied (longest_frame m) out.speed - 1) + longest
+
+-- the bound by the room of the queue
+abbrev pub IsBoundAt : {A : Type 0} → PortPlan A → ℕ → ℕ → ℕ → Type 0
+IsBoundAt out c m b = IsBoundOf out c m ((egress out).room c) b
 
 -- the bound of a queue that frames of the protected filter of a number may come to
 pub record IsBound {A : Type 0} (p : Plan A) (n q c b : ℕ) : Type 0 where
@@ -76,3 +86,23 @@ pub record IsBound {A : Type 0} (p : Plan A) (n q c b : ℕ) : Type 0 where
 -- no frame of a protected filter of the number comes to the queue
 abbrev pub HasNoBound : {A : Type 0} → Plan A → ℕ → ℕ → ℕ → Type 0
 HasNoBound p n q c = (f : FilterPlan) → lookup (nat_eq n) p.filters ≡ Some f → f.protected ≡ true → reaches p f q c ≡ false
+
+-- the lesser of a bound a and that of k frames, which counts where what passed in one turn of a list is out before anything may pass in the next one
+pub record IsLesser {A : Type 0} (l : cyclic.Cyclic GateEntry) (out : PortPlan A) (c m k a b : ℕ) : Type 0 where
+  pub few : ℕ
+  pub is : IsBoundOf out c m k few
+  pub lesser : (AreApart (cyclic.turn_at l) is.longest × (b ≡ min a few)) ⊎ ((¬ AreApart (cyclic.turn_at l) is.longest) × (b ≡ a))
+
+-- a bound a, or a lesser one where a list of a gate lets fewer frames through in one turn than the queue has room for; nothing is gained of a gate in one state, nor of lists that are exchanged
+abbrev pub IsTightened : {A : Type 0} → Schedule A → PortPlan A → ℕ → ℕ → ℕ → ℕ → Type 0
+IsTightened (Fixed lets ipv) out c m a b = b ≡ a
+IsTightened (Cyclic l) out c m a b = MatchOption (fewer ((egress out).room c) (most_in l.entries)) (b ≡ a) (λ k. IsLesser l out c m k a b)
+IsTightened (Joined j) out c m a b = b ≡ a
+
+-- the least bound of a queue that is told: the one by its room, or one by the octets that the filter's gate lets through in one turn
+pub record IsTightBound {A : Type 0} (p : Plan A) (n q c b : ℕ) : Type 0 where
+  pub by_room : ℕ
+  pub is_bound : IsBound p n q c by_room
+  pub gate : GatePlan A
+  pub gated : lookup (nat_eq is_bound.filter.gate) p.gates ≡ Some gate
+  pub tightened : IsTightened gate.schedule is_bound.out c is_bound.max_sdu by_room b

@@ -30,7 +30,7 @@ pub fn filter_at(filters: &[(u32, FilterPlan)], number: u32) -> Option<FilterPla
 }
 
 /// The bound in ns of a class of a port for frames whose service data units have at most so many octets.
-fn bound_at<A: Allocator + Copy>(port: &PortPlan<A>, class: u8, sdu: u32) -> u64
+pub(crate) fn bound_at<A: Allocator + Copy>(port: &PortPlan<A>, class: u8, sdu: u32) -> u64
     requires class { class < 8 }
     requires sdu { sdu ≤ 65535 }
     requires ever { ever_of port.now.list class (occupied (longest_frame sdu) port.now.speed) ≡ true }

@@ -4,6 +4,7 @@ ghost use Rattle.std.specs.Map.{lookup};
 ghost use Rattle.bridge_base.specs.Members.{In};
 ghost use Rattle.bridge_frame.specs.Link.{occupied};
 ghost use Rattle.bridge_filter.specs.declared.FilterPlan.{FilterPlan};
+ghost use Rattle.bridge_gate.specs.Gates.{GateEvent, GateRules, steps};
 ghost use Rattle.bridge_port.specs.Opening.{opens_of};
 ghost use Rattle.bridge_port.specs.Schedule.{Copy, OfferedUpTo, Rules, Started};
 ghost use Rattle.bridge_port.specs.Solo.{IsSolo};
@@ -13,12 +14,13 @@ ghost use Rattle.bridge_config.specs.Rules.{IsPlan, port_at};
 ghost use Rattle.bridge_check.specs.Acceptable.{IsAcceptable};
 ghost use Rattle.bridge_check.specs.Reach.{reaches};
 ghost use Rattle.bridge_check.specs.Windows.{longest_frame};
-ghost use Rattle.bridge_run.specs.Events.{Event};
+ghost use Rattle.bridge_run.specs.Events.{Event, police_of};
 ghost use Rattle.bridge_run.specs.Offers.{Carried, egress};
 ghost use Rattle.bridge_run.specs.Runs.{AreWhole, IsOutcome, IsRun};
 ghost use Rattle.bridge_run.specs.declared.outcome.Outcome.{Outcome};
 ghost use Rattle.bridge_run.specs.declared.outcome.View.{View};
-ghost use Rattle.bridge_bounds.specs.Bounds.{AreShort, EndsBy, IsAttained, IsBound, IsLongest, IsWorst};
+ghost use Rattle.bridge_bounds.specs.Bounds.{AreShort, EndsBy, IsAttained, IsBound, IsLongest, IsTightBound, IsWorst};
+ghost use Rattle.bridge_bounds.specs.Passing.{AreSeldom, AreWithinLengths, HaveTypes, LetsFew, started_at, through_at};
 
 use std::alloc::Allocator;
 
@@ -57,6 +59,29 @@ pub fn solo_in_time<X: Drop>()
         → IsLongest (r.opens c) occ (r.room c) d
         → x.fate ≡ Started s
         → s + r.occ x.item ≤ x.at + (occ - 1) + d }
+{}
+
+/// The same where few copies come: of those that started at most n were offered in any d ns, which so many frames take at
+/// most, one after the other. Then one that started is done at most `occ - 1 + d` ns after it was offered.
+pub fn seldom_in_time<X: Drop>()
+    ensures { (r : Rules X) (c occ n d s : ℕ) (x : Copy X) (older : List (Copy X))
+        → IsSolo r (x ∷ older)
+        → OfferedUpTo x.at older
+        → AreShort r c occ (x ∷ older)
+        → 1 ≤ occ
+        → IsLongest (r.opens c) occ n d
+        → AreSeldom d n (started_at (x ∷ older))
+        → x.fate ≡ Started s
+        → s + r.occ x.item ≤ x.at + (occ - 1) + d }
+{}
+
+/// A gate whose turns lie apart, each with a limit of octets, lets few frames through: of those that do, each of at least
+/// two octets, at most as many came in any w ns as the greatest limit lets through in one turn.
+pub fn lets_seldom()
+    ensures { (r : GateRules) (k w : ℕ) (es : List GateEvent)
+        → LetsFew r.turn_at k w
+        → HaveTypes es
+        → AreSeldom w k (through_at (steps r es)) }
 {}
 
 /// The bound is no more than `occ - 1` ns above what some offers reach. Where the longest time is attained, copies that are
@@ -113,4 +138,47 @@ pub fn in_time<A: Allocator + Copy>()
         → ((q c : ℕ) → reaches p f q c ≡ true → (d : ℕ) × IsBound p n q c d × (d ≤ b))
         → v.delay ≡ Some k
         → k ≤ b }
+{}
+
+/// Where the gate of a protected filter lets few frames through, its queues aren't full. In a whole run of an accepted plan
+/// whose frames have at least the octets that were captured of them: where each turn of the gate that lets frames through
+/// has a limit of octets that lets at most k through, each of at least two octets, and such turns lie as far apart as k of
+/// its longest frames take at most, a copy of the filter that started is done at most one ns less than its longest frame is
+/// on the link and that time after the frame came.
+pub fn few_in_time<A: Allocator + Copy>()
+    ensures { (p : Plan A) (n m k d : ℕ) (f : FilterPlan) (es : List Event) (moments : ℕ → ℕ)
+        (lists : ℕ → List (Copy Carried)) (q s : ℕ) (out : PortPlan A) (x : Copy Carried)
+        → IsPlan p
+        → IsAcceptable p
+        → In (n, f) p.filters
+        → f.protected ≡ true
+        → f.max_sdu ≡ Some m
+        → IsRun p es moments lists
+        → AreWhole lists
+        → AreWithinLengths es
+        → port_at p.ports q ≡ Some out
+        → In x (lists q)
+        → x.item.flow ≡ Some n
+        → x.fate ≡ Started s
+        → LetsFew ((police_of p).gates f.gate).turn_at k d
+        → IsLongest (opens_of out.list x.class) (occupied (longest_frame m) out.speed) k d
+        → s + occupied x.item.len out.speed ≤ x.at + (occupied (longest_frame m) out.speed - 1) + d }
+{}
+
+/// So each frame of a protected filter that a queue takes is done within the tight bound of its queue too, in a whole run of
+/// an accepted plan whose frames have at least the octets that were captured of them.
+pub fn in_time_by_octets<A: Allocator + Copy>()
+    ensures { (p : Plan A) (n b : ℕ) (es : List Event) (moments : ℕ → ℕ) (lists : ℕ → List (Copy Carried)) (q s : ℕ)
+        (out : PortPlan A) (x : Copy Carried)
+        → IsPlan p
+        → IsAcceptable p
+        → IsRun p es moments lists
+        → AreWhole lists
+        → AreWithinLengths es
+        → port_at p.ports q ≡ Some out
+        → In x (lists q)
+        → x.item.flow ≡ Some n
+        → x.fate ≡ Started s
+        → IsTightBound p n q x.class b
+        → s + occupied x.item.len out.speed ≤ x.at + b }
 {}

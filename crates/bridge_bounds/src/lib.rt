@@ -5,5 +5,8 @@
 mod bound;
 pub mod laws;
 mod longest;
+mod passing;
+mod tight;
 
 pub use bound::{bound_of, filter_at};
+pub use tight::tight_bound_of;

@@ -1,0 +1,315 @@
+-- The copies of a filter come to its queues no more often than its gate lets frames through.
+use Rattle.std.proofs.Common.{◌≡◌, ◌<◌, ◌≤◌, ◌-◌, ℕ, Bool, true, false, ◌&&◌, ◌⊎◌, cond, Option, None, Some, List, [], ◌∷◌, ◌++◌, Result, Ok, Err, length, arith, ap, refl, sym, subst, ◌∙◌, inl, inr}
+use Rattle.std.specs.Prelude.{map, nat_eq, nat_lt, if◌then◌else◌}
+use Rattle.std.proofs.lemmas.Bool.{eqb-true}
+use Rattle.std.proofs.lemmas.Bool.Decides.{nat_tests}
+use Rattle.std.proofs.lemmas.Option.{same_Some}
+use Rattle.bridge_base.specs.Members.{In}
+use Rattle.bridge_cycle.proofs.Cases.{by_bool}
+use Rattle.bridge_base.specs.declared.TheConstants.{LONGEST_FRAME}
+use Rattle.bridge_frame.specs.declared.FrameFault.{FrameFault}
+use Rattle.bridge_frame.specs.declared.FrameFault.TheVariants.{TooLong, TooShort}
+use Rattle.bridge_frame.specs.declared.Head.{Head}
+use Rattle.bridge_frame.specs.Frames.{head, head_octets, is_tagged, sdu_octets}
+use Rattle.bridge_forward.specs.Ports.{has}
+use Rattle.bridge_gate.specs.declared.gate.GateAnswer.{GateAnswer}
+use Rattle.bridge_gate.specs.declared.gate.GateAnswer.TheVariants as gate
+use Rattle.bridge_gate.specs.Gates as gates
+use Rattle.bridge_gate.specs.Gates.{GateStep, Told, answer}
+use Rattle.bridge_filter.specs.declared.Clear.{Clear}
+use Rattle.bridge_filter.specs.declared.Clear.TheVariants as clear
+use Rattle.bridge_filter.specs.declared.FilterPlan.{FilterPlan}
+use Rattle.bridge_filter.specs.declared.Verdict.{Verdict}
+use Rattle.bridge_filter.specs.declared.Verdict.TheVariants as verdict
+use Rattle.bridge_filter.specs.Verdicts as verdicts
+use Rattle.bridge_filter.specs.Verdicts.{Call, Commanded, Judged, Plans, Step, by_answer, gate_answer, gate_share, is_above, is_blocked, judged, reached_gate, told, verdict_of}
+use Rattle.bridge_filter.proofs.Members.{one_number}
+use Rattle.bridge_filter.proofs.Numbered.{same_eq}
+use Rattle.bridge_filter.proofs.Owned.{flow_listed}
+use Rattle.bridge_port.specs.Schedule.{Copy, is_started}
+use Rattle.bridge_port.specs.Solo.{only}
+use Rattle.bridge_config.specs.declared.ports.PortPlan.{PortPlan}
+use Rattle.bridge_config.specs.Model.{Plan}
+use Rattle.bridge_config.specs.Rules.{IsPlan, port_at}
+use Rattle.bridge_check.specs.Acceptable.{IsAcceptable}
+use Rattle.bridge_check.specs.Reach.{reaches}
+use Rattle.bridge_run.specs.declared.way.Way.{Way}
+use Rattle.bridge_run.specs.declared.way.Way.TheVariants as way
+use Rattle.bridge_run.specs.Events.{Arrival, Arrived, Cleared, Event, and_call, call_by, call_of, calls, metered, police_of, steps, way_of}
+use Rattle.bridge_run.specs.Offers.{Carried, Offer, in_class, offer, offer_by, offer_of_step, offer_on, offered, offers}
+use Rattle.bridge_run.specs.Runs.{IsRun}
+use Rattle.bridge_run.proofs.Facts.{own_queues}
+use Rattle.bridge_run.proofs.Headline.{as_offer}
+use Rattle.bridge_run.proofs.Offering.{going_if}
+use Rattle.bridge_bounds.specs.Passing.{AreSeldom, AreWithinLengths, HaveTypes, LetsFew, recent, started_at, through_at}
+use Rattle.bridge_bounds.proofs.Let.{seldom}
+
+-- MOMENTS AMONG OTHERS
+
+-- moments that are among others, in their order
+abbrev IsAmong : List ℕ → List ℕ → Type 0
+IsAmong [] us = Unit {0}
+IsAmong (t ∷ ts) [] = ⊥
+IsAmong (t ∷ ts) (u ∷ us) = ((t ≡ u) × IsAmong ts us) ⊎ IsAmong (t ∷ ts) us
+
+skips : (u : ℕ) (ts us : List ℕ) → IsAmong ts us → IsAmong ts (u ∷ us)
+skips u [] us a = tt
+skips u (t ∷ ts) us a = inr a
+
+-- fewer of them are recent
+recent_among : (w t : ℕ) (ts us : List ℕ) → IsAmong ts us → recent w t ts ≤ recent w t us
+recent_among w t [] us a = omega arith
+recent_among w t (v ∷ ts) [] a = absurd a
+recent_among w t (v ∷ ts) (u ∷ us) (inl (same, a)) =
+    let rest = recent_among w t ts us a in
+    subst (λ (x : ℕ). recent w t (v ∷ ts) ≤ recent w t (x ∷ us)) same (omega (arith, rest))
+recent_among w t (v ∷ ts) (u ∷ us) (inr a) = let rest = recent_among w t (v ∷ ts) us a in omega (arith, rest)
+
+-- so they are as seldom
+seldom_among : (w n : ℕ) (ts us : List ℕ) → IsAmong ts us → AreSeldom w n us → AreSeldom w n ts
+seldom_among w n [] us a h = tt
+seldom_among w n (t ∷ ts) [] a h = absurd a
+seldom_among w n (t ∷ ts) (u ∷ us) (inl (same, a)) h =
+    let fewer = recent_among w t ts us a in
+    let few : recent w t us < n = subst (λ (x : ℕ). recent w x us < n) (sym same) h.0 in
+    (omega (arith, fewer, few), seldom_among w n ts us a h.1)
+seldom_among w n (t ∷ ts) (u ∷ us) (inr a) h = seldom_among w n (t ∷ ts) us a h.1
+
+among_all : (ts us vs : List ℕ) → IsAmong ts us → IsAmong us vs → IsAmong ts vs
+among_all [] us vs a b = tt
+among_all (t ∷ ts) [] vs a b = absurd a
+among_all (t ∷ ts) (u ∷ us) [] a b = absurd b
+among_all (t ∷ ts) (u ∷ us) (v ∷ vs) (inl (same, a)) (inl (is, b)) = inl (same ∙ is, among_all ts us vs a b)
+among_all (t ∷ ts) (u ∷ us) (v ∷ vs) (inr a) (inl (is, b)) = inr (among_all (t ∷ ts) us vs a b)
+among_all (t ∷ ts) (u ∷ us) (v ∷ vs) a (inr b) = inr (among_all (t ∷ ts) (u ∷ us) vs a b)
+
+-- when the offers of a class were made
+abbrev offered_at : ℕ → List Offer → List ℕ
+offered_at c os = map (λ o. o.at) (in_class c os)
+
+in_left : {X : Type 0} (x : X) (xs ys : List X) → In x xs → In x (xs ++ ys)
+in_left x [] ys i = absurd i
+in_left x (z ∷ xs) ys (inl e) = inl e
+in_left x (z ∷ xs) ys (inr i) = inr (in_left x xs ys i)
+
+in_right : {X : Type 0} (x : X) (xs ys : List X) → In x ys → In x (xs ++ ys)
+in_right x [] ys i = i
+in_right x (z ∷ xs) ys i = inr (in_right x xs ys i)
+
+-- the copies of a class that started were offered at moments of offers of the class
+started_among : (c : ℕ) (xs : List (Copy Carried)) → IsAmong (started_at (only c xs)) (offered_at c (offered xs))
+started_among c [] = tt
+started_among c (x ∷ xs) = by_bool (nat_eq x.class c)
+    (λ k. by_bool (is_started x.fate)
+    (λ m. rw (k, m) (inl (refl, started_among c xs)))
+    (λ m. rw (k, m) (skips x.at (started_at (only c xs)) (offered_at c (offered xs)) (started_among c xs))))
+    (λ k. rw k (started_among c xs))
+
+-- an offer of copies is that of one of them
+offered_in : (o : Offer) (xs : List (Copy Carried)) → In o (offered xs) → (x : Copy Carried) × In x xs × (as_offer x ≡ o)
+offered_in o [] i = absurd i
+offered_in o (x ∷ xs) (inl same) = (x, inl refl, sym same)
+offered_in o (x ∷ xs) (inr later) = let (y, i, same) = offered_in o xs later in (y, inr i, same)
+
+-- ONE FRAME
+
+sdu_by : (b : Bool) (n len : ℕ) → (if b then 18 else 14) ≤ n → n ≤ len → 2 ≤ (if b then len - 16 else len - 12)
+sdu_by true n len h k = omega (arith, h, k)
+sdu_by false n len h k = omega (arith, h, k)
+
+not_less : (a b : ℕ) → nat_lt a b ≡ false → b ≤ a
+not_less a b h = grind (arith, nat_tests)
+
+-- the service data unit of a frame that was read has at least two octets, where no more octets were captured than it has
+head_some : (octets : List ℕ) (len : ℕ) (h : Head) → length octets ≤ len → head octets len ≡ Ok h → 2 ≤ h.sdu
+head_some octets len h within e = by_bool (nat_lt (length octets) 14)
+    (λ k. let z : Err TooShort ≡ Ok h = rw k at e in absurd (cc))
+    (λ k. by_bool (nat_lt (length octets) (head_octets octets))
+    (λ m. let z : Err TooShort ≡ Ok h = rw (k, m) at e in absurd (cc))
+    (λ m. by_bool (nat_lt LONGEST_FRAME len)
+    (λ n. let z : Err TooLong ≡ Ok h = rw (k, m, n) at e in absurd (cc))
+    (λ n.
+    let is : sdu_octets octets len ≡ h.sdu = ap sdu_of (rw (k, m, n) at e) in
+    let whole = not_less (length octets) (head_octets octets) m in
+    let some = sdu_by (is_tagged octets) (length octets) len whole within in
+    subst (λ (i : ℕ). 2 ≤ i) is some)))
+  where
+    sdu_of : Result Head FrameFault → ℕ
+    sdu_of (Ok h) = h.sdu
+    sdu_of (Err e) = 0
+
+unrefused : (a b : Bool) (v : Verdict) (ipv : Option ℕ) (eligible : Bool) → cond a verdict.Blocked (cond b verdict.Oversize v) ≡ verdict.Pass ipv eligible → v ≡ verdict.Pass ipv eligible
+unrefused true b v ipv eligible h = absurd (cc)
+unrefused false true v ipv eligible h = absurd (cc)
+unrefused false false v ipv eligible h = h
+
+answered : (p : Plans) (ss : List Step) (c : Call) (f : FilterPlan) (a : GateAnswer) (ipv : Option ℕ) (eligible : Bool) → by_answer p ss c f a ≡ verdict.Pass ipv eligible → (i : Option ℕ) × (a ≡ gate.Through i)
+answered p ss c f (gate.Through i) ipv eligible h = (i, refl)
+answered p ss c f gate.Closed ipv eligible h = absurd (cc)
+answered p ss c f gate.ShutByRx ipv eligible h = absurd (cc)
+answered p ss c f gate.ShutByOctets ipv eligible h = absurd (cc)
+answered p ss c f gate.OctetsExceeded ipv eligible h = absurd (cc)
+
+-- a frame that passes was let through by its gate
+passed_through : (p : Plans) (ss : List Step) (c : Call) (n : ℕ) (f : FilterPlan) (ipv : Option ℕ) (eligible : Bool) → verdict_of p ss c n f ≡ verdict.Pass ipv eligible → (i : Option ℕ) × (gate_answer p ss c f.gate ≡ gate.Through i)
+passed_through p ss c n f ipv eligible h =
+    let v = unrefused (f.block_oversize && is_blocked n ss) (is_above f.max_sdu c.sdu) (by_answer p ss c f (gate_answer p ss c f.gate)) ipv eligible h in
+    answered p ss c f (gate_answer p ss c f.gate) ipv eligible v
+
+-- THE FRAMES OF A FILTER
+
+some_number : (m n : ℕ) → ◌≡◌ {A = Option ℕ} (Some m) (Some n) → m ≡ n
+some_number m n h = same_Some m n h
+
+no_number : (n : ℕ) → ◌≡◌ {A = Option ℕ} None (Some n) → ⊥
+no_number n h = cc
+
+told_skips : (ts : List ℕ) (t n : ℕ) (a : GateAnswer) (ss : List GateStep) → IsAmong ts (through_at ss) → IsAmong ts (through_at (Told t n a ∷ ss))
+told_skips ts t n (gate.Through ipv) ss a = skips t ts (through_at ss) a
+told_skips ts t n gate.Closed ss a = a
+told_skips ts t n gate.ShutByRx ss a = a
+told_skips ts t n gate.ShutByOctets ss a = a
+told_skips ts t n gate.OctetsExceeded ss a = a
+
+module _ {A : Type 0} (p : Plan A) (n : ℕ) (f : FilterPlan) (plan : IsPlan p) (listed : In (n, f) p.filters) where
+  -- when the frames came that the filter's gate let through
+  abbrev let_at : List Step → List ℕ
+  let_at ss = through_at (gates.steps ((police_of p).gates f.gate) (gate_share f.gate ss))
+
+  -- a frame more lets the moments before be among
+  judged_skips : (ts : List ℕ) (ss : List Step) (c : Call) (m : ℕ) (g : FilterPlan) (v : Verdict) → IsAmong ts (let_at ss) → IsAmong ts (let_at (Judged c m g v ∷ ss))
+  judged_skips ts ss c m g v a =
+      let r = (police_of p).gates f.gate in
+      let share = gate_share f.gate ss in
+      by_bool (nat_eq g.gate f.gate && reached_gate v)
+      (λ k. rw k (told_skips ts c.at c.sdu (answer r (gates.steps r share) c.at c.sdu) (gates.steps r share) a))
+      (λ k. rw k a)
+
+  frame_skips : (ts : List ℕ) (ss : List Step) (c : Call) (x : Option (ℕ × FilterPlan)) → IsAmong ts (let_at ss) → IsAmong ts (let_at (judged (police_of p) ss c x ∷ ss))
+  frame_skips ts ss c None a = a
+  frame_skips ts ss c (Some x) a = judged_skips ts ss c x.0 x.1 (verdict_of (police_of p) ss c x.0 x.1) a
+
+  -- a command changes nothing of this
+  commanded_same : (ts : List ℕ) (ss : List Step) (c : Clear) (m : ℕ) → IsAmong ts (let_at ss) → IsAmong ts (let_at (Commanded c m ∷ ss))
+  commanded_same ts ss clear.Blocked m a = a
+  commanded_same ts ss clear.Red m a = a
+  commanded_same ts ss clear.Rx m a = by_bool (nat_eq m f.gate) (λ k. rw k a) (λ k. rw k a)
+  commanded_same ts ss clear.Octets m a = by_bool (nat_eq m f.gate) (λ k. rw k a) (λ k. rw k a)
+
+  module _ (out : PortPlan A) (c : ℕ) where
+    -- a frame of the filter that passes was let through
+    passed_among : (a : Arrival) (es : List Event) (priority own m : ℕ) (g : FilterPlan) (ipv : Option ℕ) (eligible : Bool) (cl : Call) → cl.at ≡ a.at → In (m, g) p.filters
+        → verdict_of (police_of p) (steps p es) cl m g ≡ verdict.Pass ipv eligible
+        → ((offer out a priority (Some m) own ipv eligible).class ≡ c → ◌≡◌ {A = Option ℕ} (Some m) (Some n))
+        → IsAmong (offered_at c (offers p out es)) (let_at (steps p es))
+        → IsAmong (offered_at c (offer out a priority (Some m) own ipv eligible ∷ offers p out es)) (let_at (Judged cl m g (verdict.Pass ipv eligible) ∷ steps p es))
+    passed_among a es priority own m g ipv eligible cl at there passes flows before =
+        let o : Offer = offer out a priority (Some m) own ipv eligible in
+        let ss = steps p es in
+        by_bool (nat_eq o.class c)
+        (λ k.
+        let number : m ≡ n = some_number m n (flows (eqb-true o.class c k)) in
+        let same : g ≡ f = one_number p.filters n g f plan.filters.own (subst (λ (i : ℕ). In (i, g) p.filters) number there) listed in
+        let r = (police_of p).gates f.gate in
+        let (i, passed) = passed_through (police_of p) ss cl m g ipv eligible passes in
+        let through : answer r (gates.steps r (gate_share f.gate ss)) cl.at cl.sdu ≡ gate.Through i = subst (λ (h : FilterPlan). gate_answer (police_of p) ss cl h.gate ≡ gate.Through i) same passed in
+        let own_gate : nat_eq g.gate f.gate ≡ true = subst (λ (h : FilterPlan). nat_eq h.gate f.gate ≡ true) (sym same) (same_eq f.gate) in
+        rw (k, own_gate, through) (inl (sym at, before)))
+        (λ k. rw k (judged_skips (offered_at c (offers p out es)) ss cl m g (verdict.Pass ipv eligible) before))
+
+    -- what is known of the offers of the class: they are the filter's
+    abbrev AreOwn : List Offer → Type 0
+    AreOwn os = (o : Offer) → In o os → o.class ≡ c → o.item.flow ≡ Some n
+
+    verdict_among : (a : Arrival) (es : List Event) (priority own m : ℕ) (g : FilterPlan) (v : Verdict) (cl : Call) → cl.at ≡ a.at → In (m, g) p.filters
+        → verdict_of (police_of p) (steps p es) cl m g ≡ v
+        → AreOwn (offer_by out a priority m own v)
+        → IsAmong (offered_at c (offers p out es)) (let_at (steps p es))
+        → IsAmong (offered_at c (offer_by out a priority m own v ++ offers p out es)) (let_at (Judged cl m g v ∷ steps p es))
+    verdict_among a es priority own m g (verdict.Pass ipv e) cl at there is flows before = passed_among a es priority own m g ipv e cl at there is (λ k. flows (offer out a priority (Some m) own ipv e) (inl refl) k) before
+    verdict_among a es priority own m g verdict.Blocked cl at there is flows before = judged_skips (offered_at c (offers p out es)) (steps p es) cl m g verdict.Blocked before
+    verdict_among a es priority own m g verdict.Oversize cl at there is flows before = judged_skips (offered_at c (offers p out es)) (steps p es) cl m g verdict.Oversize before
+    verdict_among a es priority own m g verdict.GateClosed cl at there is flows before = judged_skips (offered_at c (offers p out es)) (steps p es) cl m g verdict.GateClosed before
+    verdict_among a es priority own m g verdict.ShutByRx cl at there is flows before = judged_skips (offered_at c (offers p out es)) (steps p es) cl m g verdict.ShutByRx before
+    verdict_among a es priority own m g verdict.ShutByOctets cl at there is flows before = judged_skips (offered_at c (offers p out es)) (steps p es) cl m g verdict.ShutByOctets before
+    verdict_among a es priority own m g verdict.OctetsExceeded cl at there is flows before = judged_skips (offered_at c (offers p out es)) (steps p es) cl m g verdict.OctetsExceeded before
+    verdict_among a es priority own m g verdict.Red cl at there is flows before = judged_skips (offered_at c (offers p out es)) (steps p es) cl m g verdict.Red before
+    verdict_among a es priority own m g verdict.YellowDropped cl at there is flows before = judged_skips (offered_at c (offers p out es)) (steps p es) cl m g verdict.YellowDropped before
+
+    -- so was each frame that is offered in the class
+    step_among : (a : Arrival) (es : List Event) (priority : ℕ) (cl : Call) (x : Option (ℕ × FilterPlan)) → cl.at ≡ a.at → verdicts.flow p.filters cl ≡ x
+        → AreOwn (offer_of_step p out a es priority (judged (police_of p) (steps p es) cl x))
+        → IsAmong (offered_at c (offers p out es)) (let_at (steps p es))
+        → IsAmong (offered_at c (offer_of_step p out a es priority (judged (police_of p) (steps p es) cl x) ++ offers p out es)) (let_at (judged (police_of p) (steps p es) cl x ∷ steps p es))
+    step_among a es priority cl None at is flows before =
+        let o : Offer = offer out a priority None 0 None false in
+        by_bool (nat_eq o.class c)
+        (λ k. absurd (no_number n (flows o (inl refl) (eqb-true o.class c k))))
+        (λ k. rw k before)
+    step_among a es priority cl (Some x) at is flows before = verdict_among a es priority _ x.0 x.1 (verdict_of (police_of p) (steps p es) cl x.0 x.1) cl at (flow_listed p.filters cl x is) refl flows before
+
+    way_among : (a : Arrival) (es : List Event) (w : Way) → AreOwn (offer_on p out a es w) → IsAmong (offered_at c (offers p out es)) (let_at (steps p es))
+        → IsAmong (offered_at c (offer_on p out a es w ++ offers p out es)) (let_at (told (police_of p) (and_call (call_by a w) (calls p es))))
+    way_among a es way.Malformed flows before = before
+    way_among a es way.Nowhere flows before = before
+    way_among a es (way.Goes set handle priority dei sdu) flows before =
+        let cl : Call = verdicts.call a.at handle priority dei sdu (metered a.len) in
+        by_bool (has set out.number)
+        (λ k.
+        let own : AreOwn (offer_of_step p out a es priority (judged (police_of p) (steps p es) cl (verdicts.flow p.filters cl))) = rw k at flows in
+        rw k (step_among a es priority cl (verdicts.flow p.filters cl) refl refl own before))
+        (λ k. rw k (frame_skips (offered_at c (offers p out es)) (steps p es) cl (verdicts.flow p.filters cl) before))
+
+    -- the offers of the class were made when the gate let a frame through
+    offers_among : (es : List Event) → AreOwn (offers p out es) → IsAmong (offered_at c (offers p out es)) (let_at (steps p es))
+    offers_among [] flows = tt
+    offers_among (Cleared d m ∷ es) flows = commanded_same (offered_at c (offers p out es)) (steps p es) d m (offers_among es flows)
+    offers_among (Arrived a ∷ es) flows =
+        way_among a es (way_of p a)
+        (λ o i. flows o (in_left o (offer_on p out a es (way_of p a)) (offers p out es) i))
+        (offers_among es (λ o i. flows o (in_right o (offer_on p out a es (way_of p a)) (offers p out es) i)))
+
+  -- each frame that reaches a gate has an EtherType
+  call_types : (a : Arrival) (cl : Call) (w : Way) → length a.octets ≤ a.len → way_of p a ≡ w → call_by a w ≡ Some cl → 2 ≤ cl.sdu
+  call_types a cl way.Malformed within w h = absurd (cc)
+  call_types a cl way.Nowhere within w h = absurd (cc)
+  call_types a cl (way.Goes set handle priority dei sdu) within w h =
+      let made : Call = verdicts.call a.at handle priority dei sdu (metered a.len) in
+      let same : made ≡ cl = same_Some made cl h in
+      let going = going_if p a.at a.port set handle priority dei sdu (port_at p.ports a.port) (head a.octets a.len) refl w in
+      let some : 2 ≤ sdu = subst (λ (k : ℕ). 2 ≤ k) going.sdu_is (head_some a.octets a.len going.parsed within going.is) in
+      subst (λ (z : Call). 2 ≤ z.sdu) same some
+
+  judged_types : (ss : List Step) (cl : Call) (x : Option (ℕ × FilterPlan)) → 2 ≤ cl.sdu → HaveTypes (gate_share f.gate ss) → HaveTypes (gate_share f.gate (judged (police_of p) ss cl x ∷ ss))
+  judged_types ss cl None some before = before
+  judged_types ss cl (Some x) some before = by_bool (nat_eq x.1.gate f.gate && reached_gate (verdict_of (police_of p) ss cl x.0 x.1)) (λ k. rw k (some, before)) (λ k. rw k before)
+
+  commanded_types : (ss : List Step) (c : Clear) (m : ℕ) → HaveTypes (gate_share f.gate ss) → HaveTypes (gate_share f.gate (Commanded c m ∷ ss))
+  commanded_types ss clear.Blocked m before = before
+  commanded_types ss clear.Red m before = before
+  commanded_types ss clear.Rx m before = by_bool (nat_eq m f.gate) (λ k. rw k before) (λ k. rw k before)
+  commanded_types ss clear.Octets m before = by_bool (nat_eq m f.gate) (λ k. rw k before) (λ k. rw k before)
+
+  called_types : (a : Arrival) (es : List Event) (o : Option Call) → length a.octets ≤ a.len → call_of p a ≡ o → HaveTypes (gate_share f.gate (steps p es)) → HaveTypes (gate_share f.gate (told (police_of p) (and_call o (calls p es))))
+  called_types a es None within is before = before
+  called_types a es (Some cl) within is before = judged_types (steps p es) cl (verdicts.flow p.filters cl) (call_types a cl (way_of p a) within refl is) before
+
+  share_types : (es : List Event) → AreWithinLengths es → HaveTypes (gate_share f.gate (steps p es))
+  share_types [] within = tt
+  share_types (Cleared c m ∷ es) within = commanded_types (steps p es) c m (share_types es within)
+  share_types (Arrived a ∷ es) within = called_types a es (call_of p a) within.0 refl (share_types es within.1)
+
+  -- so of the copies of a queue of the filter's few start in a stretch of time
+  pub started_seldom : (q c k w : ℕ) (out : PortPlan A) (es : List Event) (moments : ℕ → ℕ) (lists : ℕ → List (Copy Carried)) → IsAcceptable p → f.protected ≡ true → IsRun p es moments lists → AreWithinLengths es → port_at p.ports q ≡ Some out → reaches p f q c ≡ true
+      → LetsFew ((police_of p).gates f.gate).turn_at k w → AreSeldom w k (started_at (only c (lists q)))
+  started_seldom q c k w out es moments lists good is run within at reach few =
+      let same : offered (lists q) ≡ offers p out es = run.offers q out at in
+      let own : (o : Offer) → In o (offers p out es) → o.class ≡ c → o.item.flow ≡ Some n = λ o i class.
+      let (x, there, same_offer) = offered_in o (lists q) (subst (In o) (sym same) i) in
+      let here : reaches p f q x.class ≡ true = subst (λ (d : ℕ). reaches p f q d ≡ true) (sym (ap (λ (z : Offer). z.class) same_offer ∙ class)) reach in
+      sym (ap (λ (z : Offer). z.item.flow) same_offer) ∙ (own_queues p n f es moments lists q out x plan good listed is run at there).1 here in
+      let among : IsAmong (started_at (only c (lists q))) (offered_at c (offers p out es)) = subst (λ (os : List Offer). IsAmong (started_at (only c (lists q))) (offered_at c os)) same (started_among c (lists q)) in
+      let moments_let = let_at (steps p es) in
+      seldom_among w k (started_at (only c (lists q))) moments_let
+      (among_all (started_at (only c (lists q))) (offered_at c (offers p out es)) moments_let among (offers_among out c es own))
+      (seldom ((police_of p).gates f.gate) k w few (gate_share f.gate (steps p es)) (share_types es within))

@@ -1,0 +1,166 @@
+-- How many frames a list lets through in one turn, and how far its turns lie apart.
+use Rattle.std.proofs.Common.{◌≡◌, ℕ, Bool, ◌<◌, ◌≤◌, ◌+◌, ◌-◌, ◌*◌, ◌/◌, ◌%◌, true, false, max, Option, None, Some, List, [], ◌∷◌, arith, ap, refl, sym, subst, ◌∙◌, inl, inr}
+use Rattle.std.specs.Prelude.{nat_lt, option_map}
+use Rattle.std.proofs.Math.Nat.{mod-lt}
+use Rattle.std.proofs.lemmas.Bool.{cases_lt, false≢true}
+use Rattle.std.proofs.lemmas.Option.{same_Some}
+use lib.IntN.{pos}
+use lib.Signed.{◌≤ℤ◌}
+use Rattle.bridge_base.specs.Members.{In}
+use Rattle.bridge_cycle.proofs.Cases.{by_bool}
+use Rattle.bridge_cycle.proofs.Lists.{among}
+use Rattle.bridge_cycle.proofs.Turns.{same_to_end}
+use Rattle.bridge_cycle.specs.Cyclic.{Cyclic, IsLawful, turn_at}
+use Rattle.bridge_cycle.specs.CyclicLaws.{placed_somewhere, turned}
+use Rattle.bridge_cycle.specs.declared.timeline.Turn.{Turn}
+use Rattle.bridge_gate.specs.declared.schedule.GateEntry.{GateEntry}
+use Rattle.bridge_bounds.specs.Passing.{AreApart, IsFew, IsShut, fewer, greater, most_frames, most_in}
+use Rattle.bridge_bounds.proofs.Cycles.{turn_later}
+
+-- HOW MANY FRAMES
+
+none_some : (k : ℕ) → ◌≡◌ {A = Option ℕ} None (Some k) → ⊥
+none_some k h = cc
+
+-- both of two numbers are there where the greater one is
+record AreBelow (a b : Option ℕ) (k : ℕ) : Type 0 where
+  one : ℕ
+  other : ℕ
+  one_is : a ≡ Some one
+  other_is : b ≡ Some other
+  one_most : one ≤ k
+  other_most : other ≤ k
+
+below : (a b : Option ℕ) (k : ℕ) → greater a b ≡ Some k → AreBelow a b k
+below None b k h = absurd (none_some k h)
+below (Some i) None k h = absurd (none_some k h)
+below (Some i) (Some j) k h =
+    let is : max i j ≡ k = same_Some (max i j) k h in
+    record { one = i; other = j; one_is = refl; other_is = refl; one_most = omega (arith, is); other_most = omega (arith, is) }
+
+few_of : (o : Option ℕ) (i k : ℕ) → option_map (λ limit. limit / 2) o ≡ Some i → i ≤ k → IsFew o k
+few_of None i k h most = absurd (none_some i h)
+few_of (Some limit) i k h most = let is : limit / 2 ≡ i = same_Some (limit / 2) i h in omega (arith, is, most)
+
+-- the limit of each entry that lets frames through lets at most so many through
+entry_few : (es : List (GateEntry × ℕ)) (k j : ℕ) (e : GateEntry × ℕ) → most_in es ≡ Some k → k ≤ j → In e es → e.0.lets ≡ true → IsFew e.0.octets j
+entry_few [] k j e h most i lets = absurd i
+entry_few (y ∷ ys) k j e h most (inl same) lets =
+    let both = below (most_frames y.0) (most_in ys) k h in
+    let here : most_frames e.0 ≡ Some both.one = ap (λ (z : GateEntry × ℕ). most_frames z.0) same ∙ both.one_is in
+    let own : option_map (λ limit. limit / 2) e.0.octets ≡ Some both.one = rw lets at here in
+    let upto = both.one_most in
+    few_of e.0.octets both.one j own (omega (arith, upto, most))
+entry_few (y ∷ ys) k j e h most (inr later) lets =
+    let both = below (most_frames y.0) (most_in ys) k h in
+    let upto = both.other_most in
+    entry_few ys both.other j e both.other_is (omega (arith, upto, most)) later lets
+
+-- so does that of each turn
+pub turn_few : (l : Cyclic GateEntry) (k t : ℕ) (x : Turn GateEntry) → most_in l.entries ≡ Some k → turn_at l t ≡ Some x → x.state.lets ≡ true → IsFew x.state.octets k
+turn_few l k t x h at lets =
+    let (e, i, same) = among l t x at in
+    let own : e.0.lets ≡ true = subst (λ (s : GateEntry). s.lets ≡ true) (sym same) lets in
+    subst (λ (s : GateEntry). IsFew s.octets k) same (entry_few l.entries k k e h (omega arith) i own)
+
+-- what is fewer than a room holds is the most
+pub fewer_is : (room k : ℕ) (o : Option ℕ) → fewer room o ≡ Some k → o ≡ Some k
+fewer_is room k None h = absurd (none_some k h)
+fewer_is room k (Some j) h = by_bool (nat_lt j room)
+    (λ e. let own : Some j ≡ Some k = rw e at h in own)
+    (λ e. let own : None ≡ Some k = rw e at h in absurd (none_some k own))
+
+-- the entries that are left, with what was found so far
+pub most_more : (es : List (GateEntry × ℕ)) (e : GateEntry × ℕ) (k m : ℕ) (all : Option ℕ) → greater (Some k) (most_in (e ∷ es)) ≡ all → most_frames e.0 ≡ Some m → greater (Some (max m k)) (most_in es) ≡ all
+most_more es e k m all h is = by_rest (most_in es) (rw is at h)
+  where
+    by_rest : (o : Option ℕ) → greater (Some k) (greater (Some m) o) ≡ all → greater (Some (max m k)) o ≡ all
+    by_rest None h = h
+    by_rest (Some j) h = let same : max (max m k) j ≡ max k (max m j) = omega arith in ap (λ (n : ℕ). Some n) same ∙ h
+
+pub most_none : (es : List (GateEntry × ℕ)) (e : GateEntry × ℕ) (k : ℕ) (all : Option ℕ) → greater (Some k) (most_in (e ∷ es)) ≡ all → most_frames e.0 ≡ None → None ≡ all
+most_none es e k all h is = let own : None ≡ all = rw is at h in own
+
+-- HOW FAR APART
+
+none_let : (b : Bool) → (b ≡ true → ⊥) → b ≡ false
+none_let true h = absurd (h refl)
+none_let false h = refl
+
+-- from its own moment to its end a turn is the same
+to_end : (l : Cyclic GateEntry) (t u : ℕ) (x : Turn GateEntry) → IsLawful l → turn_at l t ≡ Some x → t ≤ u → u < x.end → turn_at l u ≡ Some x
+to_end l t u x lawful at p q = same_to_end (turn_at l) (λ t z k. (turned l t z lawful k).begins) (λ t v z k. (turned l t z lawful k).same v) t x at u p q
+
+-- one turn more
+pub shut_more : (l : Cyclic GateEntry) (from seen : ℕ) (x : Turn GateEntry) → IsLawful l → turn_at l seen ≡ Some x → x.state.lets ≡ false → IsShut (turn_at l) from seen → IsShut (turn_at l) from x.end
+shut_more l from seen x lawful at shut below u y p q i = elim (cases_lt u seen) [
+  | inl m ↦ below u y p m i
+  | inr m ↦
+      let is : x ≡ y = same_Some x y (sym (to_end l seen u x lawful at m q) ∙ i) in
+      subst (λ (z : Turn GateEntry). z.state.lets ≡ false) is shut
+]
+
+-- where something passes it isn't shut
+pub not_shut : (l : Cyclic GateEntry) (from until seen : ℕ) (x : Turn GateEntry) → from ≤ seen → seen < until → turn_at l seen ≡ Some x → x.state.lets ≡ true → IsShut (turn_at l) from until → ⊥
+not_shut l from until seen x p q at lets shut = false≢true (sym (shut seen x p q at) ∙ lets)
+
+-- behind each turn that begins before a moment and lets frames through nothing passes for so long
+abbrev pub AreShutBehind : (ℕ → Option (Turn GateEntry)) → ℕ → ℕ → Type 0
+AreShutBehind turn_at w seen = (t : ℕ) (x : Turn GateEntry) → t < seen → turn_at t ≡ Some x → x.state.lets ≡ true → IsShut turn_at x.end (x.end + w - 1)
+
+-- one turn more
+pub behind_more : (l : Cyclic GateEntry) (w seen : ℕ) (x : Turn GateEntry) → IsLawful l → turn_at l seen ≡ Some x → (x.state.lets ≡ true → IsShut (turn_at l) x.end (x.end + w - 1)) → AreShutBehind (turn_at l) w seen → AreShutBehind (turn_at l) w x.end
+behind_more l w seen x lawful at shut below t y q i = elim (cases_lt t seen) [
+  | inl m ↦ below t y m i
+  | inr m ↦
+      let is : x ≡ y = same_Some x y (sym (to_end l seen t x lawful at m q) ∙ i) in
+      subst (λ (z : Turn GateEntry). z.state.lets ≡ true → IsShut (turn_at l) z.end (z.end + w - 1)) is shut
+]
+
+-- where turns are apart nothing passes behind one for so long
+pub apart_shut : (l : Cyclic GateEntry) (w t : ℕ) (x : Turn GateEntry) → IsLawful l → AreApart (turn_at l) w → turn_at l t ≡ Some x → x.state.lets ≡ true → IsShut (turn_at l) x.end (x.end + w - 1)
+apart_shut l w t x lawful apart at lets u y p q there = none_let y.state.lets (λ passes.
+    let own = turned l t x lawful at in
+    let other = turned l u y lawful there in
+    let ends = own.ends in
+    let last : turn_at l (x.end - 1) ≡ Some x = to_end l t (x.end - 1) x lawful at (omega (arith, ends)) (omega (arith, ends)) in
+    let far = apart (x.end - 1) u x y (omega (arith, p, ends)) last there lets passes (λ same.
+    let before = (turned l (x.end - 1) x lawful last).begins in
+    let goes = other.ends in
+    let begun : y.start ≤ℤ pos (x.end - 1) = subst (λ z. z ≤ℤ pos (x.end - 1)) same before in
+    let is : x ≡ y = same_Some x y (sym last ∙ other.same (x.end - 1) begun (omega (arith, p, goes, ends))) in
+    let end : x.end ≡ y.end = ap (λ z. z.end) is in
+    omega (arith, end, p, goes)) in
+    omega (arith, far, q, ends))
+
+-- a cycle was looked at
+pub all_apart : (l : Cyclic GateEntry) (w seen : ℕ) → IsLawful l → AreShutBehind (turn_at l) w seen → l.cycle ≤ seen → AreApart (turn_at l) w
+all_apart l w seen lawful below all t u x y before at there lets passes differ = elim (cases_lt u (t + w)) [
+  | inr far ↦ far
+  | inl near ↦
+      let own = turned l t x lawful at in
+      let ends = own.ends in
+      elim (cases_lt u x.end) [
+        | inl inside ↦
+            let is : x ≡ y = same_Some x y (sym (to_end l t u x lawful at (omega (arith, before)) inside) ∙ there) in
+            absurd (differ (ap (λ z. z.start) is))
+        | inr behind ↦
+            let k = t / l.cycle in
+            let v = t % l.cycle in
+            let some = lawful.cycle_some in
+            let low : v < l.cycle = mod-lt t some in
+            let back : v + k * l.cycle ≡ t = grind arith in
+            let (z, first) = placed_somewhere l v lawful in
+            let again : turn_at l (v + k * l.cycle) ≡ Some x = subst (λ (i : ℕ). turn_at l i ≡ Some x) (sym back) at in
+            let later = turn_later l v k z x lawful first again in
+            let end = later.end in
+            let shut = below v z (omega (arith, low, all)) first (subst (λ (s : GateEntry). s.lets ≡ true) later.state lets) in
+            let earlier = u - k * l.cycle in
+            let forth : earlier + k * l.cycle ≡ u = omega (arith, before, back) in
+            let (e, sooner) = placed_somewhere l earlier lawful in
+            let there_too : turn_at l (earlier + k * l.cycle) ≡ Some y = subst (λ (i : ℕ). turn_at l i ≡ Some y) (sym forth) there in
+            let other = turn_later l earlier k e y lawful sooner there_too in
+            let closed = shut earlier e (omega (arith, end, behind, forth)) (omega (arith, end, near, ends, forth)) sooner in
+            absurd (false≢true (sym (subst (λ (s : GateEntry). s.lets ≡ false) (sym other.state) closed) ∙ passes))
+      ]
+]

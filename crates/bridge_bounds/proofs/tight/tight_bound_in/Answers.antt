@@ -1,0 +1,52 @@
+use Rattle.std.proofs.Common.{◌≡◌, ℕ, List, Option, None, Some, ap, refl, sym, ◌∙◌}
+use Rattle.std.specs.Prelude.{nat_eq}
+use Rattle.std.specs.Map.{lookup}
+use Rattle.bridge_gate.specs.declared.schedule.GatePlan.{GatePlan}
+use Rattle.bridge_bounds.proofs.Reached.{found_in, gate_there, longest_fits, sdu_few}
+use Rattle.bridge_bounds.proofs.tight.tight_bound_in.Goals as goal
+
+pub bound_at-bound-requires-clause-sdu : goal.bound_at-bound-requires-clause-sdu
+bound_at-bound-requires-clause-sdu g c = sdu_few c.args.plan.now c.args.number c.args.filter.now c.requires.rules (found_in c.args.plan.now.filters c.args.number c.args.filter.now c.requires.found) c.in_ok-sdu.sdu c.in_ok-sdu.was
+
+pub bound_at-bound-requires-clause-ever : goal.bound_at-bound-requires-clause-ever
+bound_at-bound-requires-clause-ever g c = longest_fits c.args.plan.now c.args.number c.args.port c.args.class c.in_ok-sdu.sdu c.args.filter.now c.in_ok-out.out.now c.requires.rules c.requires.passes (sym c.in_ok-out.ensures.port) c.requires.reach c.in_ok-sdu.was
+
+pub tightened-requires-clause-sdu : goal.tightened-requires-clause-sdu
+tightened-requires-clause-sdu g c = sdu_few c.args.plan.now c.args.number c.args.filter.now c.requires.rules (found_in c.args.plan.now.filters c.args.number c.args.filter.now c.requires.found) c.in_ok-sdu.sdu c.in_ok-sdu.was
+
+pub tightened-requires-clause-ever : goal.tightened-requires-clause-ever
+tightened-requires-clause-ever g c = longest_fits c.args.plan.now c.args.number c.args.port c.args.class c.in_ok-sdu.sdu c.args.filter.now c.in_ok-out.out.now c.requires.rules c.requires.passes (sym c.in_ok-out.ensures.port) c.requires.reach c.in_ok-sdu.was
+
+none_some : {X : Type 0} (x : X) → ◌≡◌ {A = Option X} None (Some x) → ⊥
+none_some x h = cc
+
+pub returns-in_err-gate : goal.returns-in_err-gate
+returns-in_err-gate g c =
+    let (gate, found) = gate_there c.args.plan.now c.args.number c.args.filter.now c.requires.rules (found_in c.args.plan.now.filters c.args.number c.args.filter.now c.requires.found) in
+    let none : None ≡ lookup (nat_eq c.args.filter.now.gate) c.gates.result.now = c.in_err-gate.ensures in
+    absurd (none_some gate (none ∙ (ap (λ (xs : List (ℕ × GatePlan _)). lookup (nat_eq c.args.filter.now.gate) xs) c.gates.ensures.gates ∙ found)))
+
+pub returns : goal.returns
+returns g c =
+    let listed : c.gates.result.now ≡ c.args.plan.now.gates = c.gates.ensures.gates in
+    let found : Some c.in_ok-gate.gate.now ≡ lookup (nat_eq c.args.filter.now.gate) c.gates.result.now = c.in_ok-gate.ensures in (
+      c.tightened.result,
+      refl,
+      record {
+        by_room = c.bound_at-bound.result;
+        is_bound = record {
+          filter = c.args.filter.now;
+          max_sdu = c.in_ok-sdu.sdu;
+          out = c.in_ok-out.out.now;
+          found = c.requires.found;
+          protected = c.requires.protected;
+          size = c.in_ok-sdu.was;
+          at = sym c.in_ok-out.ensures.port;
+          reach = c.requires.reach;
+          is = c.bound_at-bound.ensures;
+        };
+        gate = c.in_ok-gate.gate.now;
+        gated = sym (found ∙ ap (λ (xs : List (ℕ × GatePlan _)). lookup (nat_eq c.args.filter.now.gate) xs) listed);
+        tightened = c.tightened.ensures;
+      },
+    )
