@@ -60,7 +60,8 @@ pub record IsWorst {X : Type 0} (r : Rules X) (c occ d : ℕ) : Type 0 where
   pub started : copy.fate ≡ Started start
   pub done : start + r.occ copy.item ≡ copy.at + d
 
--- the bound of a class of a port for frames whose service data units have at most m octets, of which at most k wait: so long after they came they are done at the latest
+-- the bound of a class of a port for frames whose service data units have at most m octets, of which at most k wait: so long after they came
+-- they are done at the latest
 pub record IsBoundOf {A : Type 0} (out : PortPlan A) (c m k b : ℕ) : Type 0 where
   pub longest : ℕ
   pub is_longest : IsLongest (opens_of out.list c) (occupied (longest_frame m) out.speed) k longest
@@ -87,13 +88,15 @@ pub record IsBound {A : Type 0} (p : Plan A) (n q c b : ℕ) : Type 0 where
 abbrev pub HasNoBound : {A : Type 0} → Plan A → ℕ → ℕ → ℕ → Type 0
 HasNoBound p n q c = (f : FilterPlan) → lookup (nat_eq n) p.filters ≡ Some f → f.protected ≡ true → reaches p f q c ≡ false
 
--- the lesser of a bound a and that of k frames, which counts where what passed in one turn of a list is out before anything may pass in the next one
+-- the lesser of a bound a and that of k frames, which counts where what passed in one turn of a list is out before anything may pass in the
+-- next one
 pub record IsLesser {A : Type 0} (l : cyclic.Cyclic GateEntry) (out : PortPlan A) (c m k a b : ℕ) : Type 0 where
   pub few : ℕ
   pub is : IsBoundOf out c m k few
   pub lesser : (AreApart (cyclic.turn_at l) is.longest × (b ≡ min a few)) ⊎ ((¬ AreApart (cyclic.turn_at l) is.longest) × (b ≡ a))
 
--- a bound a, or a lesser one where a list of a gate lets fewer frames through in one turn than the queue has room for; nothing is gained of a gate in one state, nor of lists that are exchanged
+-- a bound a, or a lesser one where a list of a gate lets fewer frames through in one turn than the queue has room for; nothing is gained of
+-- a gate in one state, nor of lists that are exchanged
 abbrev pub IsTightened : {A : Type 0} → Schedule A → PortPlan A → ℕ → ℕ → ℕ → ℕ → Type 0
 IsTightened (Fixed lets ipv) out c m a b = b ≡ a
 IsTightened (Cyclic l) out c m a b = MatchOption (fewer ((egress out).room c) (most_in l.entries)) (b ≡ a) (λ k. IsLesser l out c m k a b)

@@ -32,11 +32,7 @@ fn at_of(origins: &[Origin], own: u64) -> u64
 }
 
 /// Adds a number, and a piece behind it.
-fn push_number<A: Allocator>(
-    text: &mut String<A>,
-    number: u64,
-    end: &str,
-) -> Result<(), AllocError>
+fn push_number<A: Allocator>(text: &mut String<A>, number: u64, end: &str) -> Result<(), AllocError>
     ensures { OnOk result (string_bytes text.new ≡ string_bytes text.old ++ (decimal number ++ end.now)) }
 {
     let mut buffer = Buffer::new();

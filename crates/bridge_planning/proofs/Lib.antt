@@ -5,6 +5,7 @@ pub mod Phased
 pub mod Placed
 pub mod Queued
 pub mod Refused
+pub mod Tightened
 pub mod Timed
 pub mod Told
 pub mod WaysOf

@@ -1,5 +1,5 @@
 -- The bounds of the queues of a plan, in their order.
-use Rattle.std.specs.Prelude.{◌≡◌, ◌⊎◌, ℕ, true, ◌+◌, ◌-◌, ◌*◌, ◌<◌, ◌≤◌, Some, List, nat_eq, slice_get}
+use Rattle.std.specs.Prelude.{◌≡◌, ◌⊎◌, ℕ, true, ◌+◌, ◌-◌, ◌*◌, ◌<◌, ◌≤◌, Some, List, [], ◌∷◌, nat_eq, slice_get}
 use Rattle.std.specs.Map.{lookup}
 use Rattle.bridge_base.specs.Members.{In, Rising}
 use Rattle.bridge_filter.specs.declared.FilterPlan.{FilterPlan}
@@ -7,7 +7,7 @@ use Rattle.bridge_config.specs.Model.{Plan}
 use Rattle.bridge_check.specs.declared.reach.Reach.{Reach}
 use Rattle.bridge_check.specs.Reach.{reaches}
 use Rattle.bridge_check.specs.Reached.{reach_of}
-use Rattle.bridge_bounds.specs.Bounds.{IsBound}
+use Rattle.bridge_bounds.specs.Bounds.{IsBound, IsTightBound}
 use Rattle.bridge_planning.specs.declared.bounds.QueueBound.{QueueBound}
 
 -- the bound of a queue
@@ -28,6 +28,23 @@ pub record AreBounds {A : Type 0} (p : Plan A) (rows : List QueueBound) : Type 0
   pub each : (r : QueueBound) → In r rows → IsBound p r.filter r.port r.class r.bound
   pub all : (n q c : ℕ) (f : FilterPlan) → lookup (nat_eq n) p.filters ≡ Some f → f.protected ≡ true → 1 ≤ q → q ≤ 16 → c < 8 → reaches p f q c ≡ true
       → (b : ℕ) × In (queue_bound n q c b) rows
+
+-- a row of the same queue with its tight bound
+pub record IsTighter {A : Type 0} (p : Plan A) (r t : QueueBound) : Type 0 where
+  pub filter : t.filter ≡ r.filter
+  pub port : t.port ≡ r.port
+  pub class : t.class ≡ r.class
+  pub bound : IsTightBound p r.filter r.port r.class t.bound
+
+-- row by row the same queues with their tight bounds
+abbrev pub AreTightened : {A : Type 0} → Plan A → List QueueBound → List QueueBound → Type 0
+AreTightened p [] [] = Unit {0}
+AreTightened p (r ∷ rs) (t ∷ ts) = IsTighter p r t × AreTightened p rs ts
+AreTightened p rs ts = ⊥
+
+-- the tight bounds of all queues of a plan that have a bound, in the order of these
+abbrev pub AreTightBounds : {A : Type 0} → Plan A → List QueueBound → Type 0
+AreTightBounds p tight = (rows : List QueueBound) × AreBounds p rows × AreTightened p rows tight
 
 -- a queue is one of 16 ports
 pub record IsPlaced (r : QueueBound) : Type 0 where

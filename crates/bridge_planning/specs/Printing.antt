@@ -3,7 +3,7 @@ use Rattle.std.specs.Prelude.{◌≡◌, ℕ, List, ◌++◌, flat_map, codes, d
 use Rattle.bridge_config.specs.Model.{Plan}
 use Rattle.bridge_program.specs.Jobs.{Accepts}
 use Rattle.bridge_planning.specs.declared.bounds.QueueBound.{QueueBound}
-use Rattle.bridge_planning.specs.Bounds.{AreBounds}
+use Rattle.bridge_planning.specs.Bounds.{AreTightBounds}
 
 -- the line of the bound of a queue
 unfoldable pub bound_line : QueueBound → List ℕ
@@ -13,10 +13,10 @@ bound_line r = codes "filter " ++ (decimal r.filter ++ (codes " port " ++ (decim
 abbrev pub bounds_text : List QueueBound → List ℕ
 bounds_text rows = flat_map bound_line rows
 
--- the lines are those of all bounds of a plan
+-- the lines are those of all tight bounds of a plan
 abbrev pub AreLinesOf : {A : Type 0} → Plan A → List ℕ → Type 0
-AreLinesOf p lines = (rows : List QueueBound) × AreBounds p rows × (lines ≡ bounds_text rows)
+AreLinesOf p lines = (rows : List QueueBound) × AreTightBounds p rows × (lines ≡ bounds_text rows)
 
--- the text is that of a plan that is accepted, and the lines are those of its bounds
+-- the text is that of a plan that is accepted, and the lines are those of its tight bounds
 abbrev pub PrintsBounds : (A : Type 0) → List ℕ → List ℕ → Type 0
 PrintsBounds A input lines = (plan : Plan A) × Accepts input plan × AreLinesOf plan lines

@@ -14,6 +14,7 @@ mod reporting;
 mod streams;
 mod talkers;
 mod telling;
+mod tight;
 mod timings;
 mod traffic;
 
@@ -27,5 +28,6 @@ pub use refusing::said_of_network;
 pub use reporting::{TrafficReport, traffic_job};
 pub use streams::{StreamLines, bounds_of_all, bounds_of_streams, stream_lines};
 pub use telling::told_of;
+pub use tight::tight_bounds_of;
 pub use timings::{QueueTiming, are_kept, timings_of, timings_text};
 pub use traffic::traffic_fault;

@@ -3,7 +3,8 @@ ghost use Rattle.std.specs.Prelude.{◌≡◌, ◌++◌, ℕ, List, Some, IfOk, 
 ghost use Rattle.bridge_program.specs.Jobs.{EndsCheck};
 ghost use Rattle.bridge_planning.specs.Printing.{AreLinesOf, PrintsBounds, bound_line, bounds_text};
 
-use crate::bounds::{QueueBound, bounds_of};
+use crate::bounds::QueueBound;
+use crate::tight::tight_bounds_of;
 use bridge_base::NoMemory;
 use bridge_check::Accepted;
 use bridge_lanes::RunFault;
@@ -42,14 +43,14 @@ pub fn bounds_text<A: Allocator + Copy>(
     Ok(text)
 }
 
-/// The lines of all bounds of an accepted plan.
+/// The lines of all tight bounds of an accepted plan.
 pub(crate) fn lines_of<A: Allocator + Copy>(
     alloc: A,
     accepted: &Accepted<A>,
 ) -> Result<String<A>, NoMemory>
     ensures { IfOk result (λ lines. AreLinesOf accepted.now (string_bytes lines)) }
 {
-    let rows = bounds_of(alloc, accepted)?;
+    let rows = tight_bounds_of(alloc, accepted)?;
     bounds_text(alloc, &rows)
 }
 

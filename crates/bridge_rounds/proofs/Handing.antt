@@ -50,8 +50,7 @@ kept_more {A} ran old mid b r x w many kept rest is run same c flag = elim (push
       (k.0, k.1, k.2, set_else mid b c w (λ e. omega (arith, less, many, e)) ∙ k.3)
   | inr here ↦
       let at : c ≡ b = here.0 ∙ many in
-      let same_list : w ≡ x = same here.1 in
-      (
+      let same_list : w ≡ x = same here.1 in (
         x,
         sym (rest c (omega (arith, at))) ∙ (ap (slice_get mid) at ∙ is),
         subst HasRun same_list run,
@@ -196,13 +195,13 @@ handed_more {A} old mid new b i x None (Some r) is before one =
       unchanged = λ e. absurd (cc);
       fed = λ e. absurd (cc);
       first = λ q e. record {
-          bridge = x;
-          there = is;
-          place = i;
-          port = one.port q x e (ap (λ (l : List (StationState A)). slice_get l b) same_list ∙ is);
-          unfed = subst (λ (l : List (StationState A)). IsUnfedAt l x i) same_list (one.unfed q x e (ap (λ (l : List (StationState A)). slice_get l b) same_list ∙ is));
-          before = λ j less. before.fed refl j x is less;
-        };
+        bridge = x;
+        there = is;
+        place = i;
+        port = one.port q x e (ap (λ (l : List (StationState A)). slice_get l b) same_list ∙ is);
+        unfed = subst (λ (l : List (StationState A)). IsUnfedAt l x i) same_list (one.unfed q x e (ap (λ (l : List (StationState A)). slice_get l b) same_list ∙ is));
+        before = λ j less. before.fed refl j x is less;
+      };
     }
 handed_more {A} old mid new b i x (Some r) more is before one = record {
   same = one.same ∙ before.same;
