@@ -43,6 +43,7 @@ use Rattle.bridge_run.proofs.Headline.{as_offer}
 use Rattle.bridge_run.proofs.Offering.{going_if}
 use Rattle.bridge_bounds.specs.Passing.{AreSeldom, AreWithinLengths, HaveTypes, LetsFew, recent, started_at, through_at}
 use Rattle.bridge_bounds.proofs.Let.{seldom}
+use Rattle.bridge_bounds.proofs.Sizes.{head_read}
 
 -- MOMENTS AMONG OTHERS
 
@@ -117,26 +118,12 @@ sdu_by : (b : Bool) (n len : ℕ) → (if b then 18 else 14) ≤ n → n ≤ len
 sdu_by true n len h k = omega (arith, h, k)
 sdu_by false n len h k = omega (arith, h, k)
 
-not_less : (a b : ℕ) → nat_lt a b ≡ false → b ≤ a
-not_less a b h = grind (arith, nat_tests)
-
 -- the service data unit of a frame that was read has at least two octets, where no more octets were captured than it has
 head_some : (octets : List ℕ) (len : ℕ) (h : Head) → length octets ≤ len → head octets len ≡ Ok h → 2 ≤ h.sdu
-head_some octets len h within e = by_bool (nat_lt (length octets) 14)
-    (λ k. let z : Err TooShort ≡ Ok h = rw k at e in absurd (cc))
-    (λ k. by_bool (nat_lt (length octets) (head_octets octets))
-    (λ m. let z : Err TooShort ≡ Ok h = rw (k, m) at e in absurd (cc))
-    (λ m. by_bool (nat_lt LONGEST_FRAME len)
-    (λ n. let z : Err TooLong ≡ Ok h = rw (k, m, n) at e in absurd (cc))
-    (λ n.
-    let is : sdu_octets octets len ≡ h.sdu = ap sdu_of (rw (k, m, n) at e) in
-    let whole = not_less (length octets) (head_octets octets) m in
-    let some = sdu_by (is_tagged octets) (length octets) len whole within in
-    subst (λ (i : ℕ). 2 ≤ i) is some)))
-  where
-    sdu_of : Result Head FrameFault → ℕ
-    sdu_of (Ok h) = h.sdu
-    sdu_of (Err e) = 0
+head_some octets len h within e =
+    let read = head_read octets len h e in
+    let some = sdu_by (is_tagged octets) (length octets) len read.whole within in
+    subst (λ (i : ℕ). 2 ≤ i) read.sdu some
 
 unrefused : (a b : Bool) (v : Verdict) (ipv : Option ℕ) (eligible : Bool) → cond a verdict.Blocked (cond b verdict.Oversize v) ≡ verdict.Pass ipv eligible → v ≡ verdict.Pass ipv eligible
 unrefused true b v ipv eligible h = absurd (cc)

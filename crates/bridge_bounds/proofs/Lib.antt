@@ -2,6 +2,7 @@ pub mod Steps
 pub mod Queued
 pub mod Seldom
 pub mod Let
+pub mod Sizes
 pub mod Among
 pub mod Cycles
 pub mod Apart
@@ -10,6 +11,5 @@ pub mod Edges
 pub mod Changed
 pub mod Lists
 pub mod Rounds
-pub mod Sizes
 pub mod Reached
 pub mod Whole

@@ -11,9 +11,12 @@ use Rattle.bridge_cycle.specs.Moments.{IsFirst}
 use Rattle.bridge_cycle.specs.declared.cyclic.TheConstants.{LONGEST_CYCLE}
 use Rattle.bridge_cycle.proofs.Changes.{opens_after, opens_before}
 use Rattle.bridge_cycle.proofs.Lists.{list_repeats}
-use Rattle.bridge_port.specs.Opening.{Always, ever, Exchanged, IsMade, list_ever, list_opens, opens}
+use Rattle.bridge_frame.specs.Link.{occupied}
+use Rattle.bridge_port.specs.Opening.{Always, ever, Exchanged, IsMade, list_ever, list_opens, opening_of, opens, opens_of}
 use Rattle.bridge_port.proofs.Opening.{ever_soon, list_ever_is, list_soon}
-use Rattle.bridge_bounds.specs.Bounds.{EndsBy, IsAttained, IsEdge, IsLongest}
+use Rattle.bridge_config.specs.declared.ports.PortPlan.{PortPlan}
+use Rattle.bridge_check.specs.Windows.{longest_frame}
+use Rattle.bridge_bounds.specs.Bounds.{EndsBy, IsAttained, IsBoundOf, IsEdge, IsLeast, IsLongest}
 use Rattle.bridge_bounds.proofs.Steps.{ends_open, ends_once, ends_some}
 use Rattle.bridge_bounds.proofs.Edges.{first_some, IsCovered, no_longer}
 use Rattle.bridge_bounds.proofs.Changed.{longest_over}
@@ -167,3 +170,12 @@ list_turn l class seen x lawful h =
       soon = is.soon;
       same = λ u p q. ap (λ o. opens_in o class) (same_to_end (turn_at l) (λ t y k. (turned l t y lawful k).begins) (λ t v y k. (turned l t y lawful k).same v) seen x h u p q ∙ sym h);
     }
+
+-- what is found of a class is the bound of its frames, where the time of the longest of them on the link is its own
+abbrev pub bound_is : {A : Type 0} (out : PortPlan A) (c m k o l : ℕ) → o ≡ occupied (longest_frame m) out.speed → IsLongest (opens_of out.list c) o k l → IsLeast (opening_of out.list) c o k l → IsBoundOf out c m k (o - 1 + l)
+bound_is out c m k o l occ is_longest is_least = record {
+  longest = l;
+  is_longest = subst (λ (n : ℕ). IsLongest (opens_of out.list c) n k l) occ is_longest;
+  is_least = subst (λ (n : ℕ). IsLeast (opening_of out.list) c n k l) occ is_least;
+  bound = ap (λ (n : ℕ). n - 1 + l) occ;
+}

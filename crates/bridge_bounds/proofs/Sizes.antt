@@ -55,19 +55,33 @@ by_tag : (b : Bool) (len : ℕ) → len ≤ cond b (len - 16) (len - 12) + 16
 by_tag true len = omega arith
 by_tag false len = omega arith
 
--- a frame that was read is no longer than its service data unit with addresses and a tag
-head_len : (octets : List ℕ) (len : ℕ) (h : Head) → head octets len ≡ Ok h → len ≤ longest_frame h.sdu
-head_len octets len h e = by_bool (nat_lt (length octets) 14)
+-- what is known of a frame whose head was read
+pub record IsRead (octets : List ℕ) (len : ℕ) (h : Head) : Type 0 where
+  pub whole : head_octets octets ≤ length octets
+  pub short : len ≤ LONGEST_FRAME
+  pub sdu : sdu_octets octets len ≡ h.sdu
+
+pub head_read : (octets : List ℕ) (len : ℕ) (h : Head) → head octets len ≡ Ok h → IsRead octets len h
+head_read octets len h e = by_bool (nat_lt (length octets) 14)
     (λ k. let z : Err TooShort ≡ Ok h = rw k at e in absurd (cc))
     (λ k. by_bool (nat_lt (length octets) (head_octets octets))
     (λ m. let z : Err TooShort ≡ Ok h = rw (k, m) at e in absurd (cc))
     (λ m. by_bool (nat_lt LONGEST_FRAME len)
     (λ n. let z : Err TooLong ≡ Ok h = rw (k, m, n) at e in absurd (cc))
-    (λ n.
-    let is : sdu_octets octets len ≡ h.sdu = ap sdu_of (rw (k, m, n) at e) in
-    let short = not_less LONGEST_FRAME len n in
+    (λ n. record {
+      whole = not_less (length octets) (head_octets octets) m;
+      short = not_less LONGEST_FRAME len n;
+      sdu = ap sdu_of (rw (k, m, n) at e);
+    })))
+
+-- a frame that was read is no longer than its service data unit with addresses and a tag
+head_len : (octets : List ℕ) (len : ℕ) (h : Head) → head octets len ≡ Ok h → len ≤ longest_frame h.sdu
+head_len octets len h e =
+    let read = head_read octets len h e in
+    let is = read.sdu in
+    let short = read.short in
     let tag = by_tag (is_tagged octets) len in
-    omega (arith, is, short, tag))))
+    omega (arith, is, short, tag)
 
 longest_rises : (a b : ℕ) → a ≤ b → longest_frame a ≤ longest_frame b
 longest_rises a b h = omega (arith, h)

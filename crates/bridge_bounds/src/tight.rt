@@ -1,5 +1,5 @@
 //! The bounds of the queues of a plan where the gate of a filter limits octets.
-ghost use Rattle.std.specs.Prelude.{◌≡◌, ◌+◌, ◌≤◌, ◌<◌, ℕ, MatchOption, nat_eq, None, option_map, Some, true};
+ghost use Rattle.std.specs.Prelude.{◌≡◌, ◌+◌, ◌≤◌, ◌<◌, ℕ, MatchOption, nat_eq, None, Some, true};
 ghost use Rattle.std.specs.Map.{lookup};
 ghost use Rattle.bridge_cycle.specs.Cyclic.{IsLawful};
 ghost use Rattle.bridge_frame.specs.Link.{occupied};
@@ -10,7 +10,7 @@ ghost use Rattle.bridge_check.specs.Reach.{reaches};
 ghost use Rattle.bridge_check.specs.Windows.{longest_frame};
 ghost use Rattle.bridge_bounds.specs.Bounds.{HasNoBound, IsLesser, IsTightBound, IsTightened};
 
-use crate::bound::{bound_at, filter_at};
+use crate::bound::{bound_at, filter_at, gate_at};
 use crate::longest::longest_of;
 use crate::passing::{are_apart, fewer};
 use bridge_base::LONGEST_FRAME;
@@ -19,20 +19,8 @@ use bridge_config::{Plan, PortPlan};
 use bridge_cycle::CyclicList;
 use bridge_filter::FilterPlan;
 use bridge_frame::occupation;
-use bridge_gate::{GateEntry, GatePlan, Schedule};
+use bridge_gate::{GateEntry, Schedule};
 use std::alloc::Allocator;
-
-/// The gate of a number, where there is one.
-fn gate_at<A: Allocator + Copy>(gates: &[(u32, GatePlan<A>)], number: u32) -> Option<&GatePlan<A>>
-    ensures { option_map (λ g. g.now) result ≡ lookup (nat_eq number) gates.now }
-{
-    for gate in gates {
-        if gate.0 == number {
-            return Some(&gate.1);
-        }
-    }
-    None
-}
 
 /// The lesser of a bound in ns of a class and that of so few frames, where what passed in one turn of a list is out before
 /// anything may pass in the next one.

@@ -1,6 +1,6 @@
 #![tactic(auto)]
 //! What a planner is told beside the line of a fault: where it is, what was found there, what may stand there and what to
-//! change; and of a plan that is accepted where its protected frames wait and for how long, and what of it is of no use.
+//! change; and of a plan that is accepted where its protected frames wait and for how long, and what of it is likely a mistake.
 
 mod allowed;
 mod capture;
@@ -18,7 +18,6 @@ mod position;
 mod run;
 mod strays;
 mod text;
-mod useless;
 mod value;
 mod warn;
 mod windows;
@@ -30,5 +29,5 @@ pub use check::explain_check;
 pub use file::{Cause, explain_file};
 pub use plan::{explain_commands, explain_plan};
 pub use run::{explain_run, explain_text};
-pub use warn::warn_of_plan;
+pub use warn::{warn_of_plan, warnings_of};
 pub use words::explain_words;

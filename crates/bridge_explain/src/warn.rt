@@ -1,10 +1,10 @@
 //! What is said of a plan that is accepted.
 ghost use Rattle.std.specs.Prelude.{◌<◌, ◌≤◌};
 
-use crate::useless::put_warnings;
 use crate::windows::{longest_at, put_open};
+use bridge_advice::{Advice, advice_of, put_advice};
 use bridge_base::{LONGEST_FRAME, NoMemory};
-use bridge_bounds::bound_of;
+use bridge_bounds::{bound_of, tight_bound_of};
 use bridge_check::{Accepted, may_wait};
 use bridge_config::PortPlan;
 use bridge_filter::FilterPlan;
@@ -12,16 +12,45 @@ use bridge_frame::occupation;
 use std::alloc::{AllocError, Allocator, Global};
 
 /// What is said of a plan that is accepted: for each protected filter where its frames may wait, when each of these queues
-/// is open, the longest frame that fits, and how long a frame takes there at most; then a warning for each thing that is of
-/// no use.
+/// is open, the longest frame that fits, and how long a frame takes there at most; then a warning for each thing that is
+/// likely a mistake.
 pub fn warn_of_plan<A: Allocator + Copy>(
     alloc: Global,
     accepted: &Accepted<A>,
 ) -> Result<String, NoMemory> {
     let mut said = String::new(alloc);
     put_filters(alloc, &mut said, accepted)?;
-    put_warnings(&mut said, accepted.plan())?;
+    put_warnings(alloc, &mut said, accepted)?;
     Ok(said)
+}
+
+/// The warnings of a plan that is accepted, a line each; nothing where there is none.
+pub fn warnings_of<A: Allocator + Copy>(
+    alloc: Global,
+    accepted: &Accepted<A>,
+) -> Result<String, NoMemory> {
+    let mut said = String::new(alloc);
+    put_warnings(alloc, &mut said, accepted)?;
+    Ok(said)
+}
+
+/// Adds a warning for each thing of a plan that is likely a mistake.
+fn put_warnings<A: Allocator + Copy>(
+    alloc: Global,
+    said: &mut String,
+    accepted: &Accepted<A>,
+) -> Result<(), NoMemory> {
+    let found = advice_of(alloc, accepted)?;
+    put_all(said, &found)?;
+    Ok(())
+}
+
+/// Adds the sentence of each of some findings.
+fn put_all(said: &mut String, found: &[Advice]) -> Result<(), AllocError> {
+    for advice in found {
+        put_advice(said, advice)?;
+    }
+    Ok(())
 }
 
 /// Adds where the frames of each protected filter may wait.
@@ -73,6 +102,7 @@ fn put_classes<A: Allocator + Copy>(
             put_queue(alloc, said, port, found, class)?;
             if let Some(bound) = bound_of(accepted, number, port, class) {
                 put_bound(said, filter, found, class, bound)?;
+                put_tight(said, accepted, number, port, class, bound)?;
             }
         }
     }
@@ -123,4 +153,26 @@ fn put_bound<A: Allocator + Copy>(
         said,
         "A frame that this queue takes is done at most {bound} ns after it came: there is room for {room}, each of at most {length} octets, which occupy the link for {occupied} ns, and they leave while the class is open.\n"
     )
+}
+
+/// Adds how long a frame takes at most by what its gate lets through, where that is less.
+fn put_tight<A: Allocator + Copy>(
+    said: &mut String,
+    accepted: &Accepted<A>,
+    number: u32,
+    port: u8,
+    class: u8,
+    bound: u64,
+) -> Result<(), AllocError>
+    requires from { 1 ≤ port }
+    requires to { port ≤ 16 }
+    requires class { class < 8 }
+{
+    match tight_bound_of(accepted, number, port, class) {
+        Some(tight) if tight < bound => write!(
+            said,
+            "Its gate lets so few octets through in one turn that it is done at most {tight} ns after it came.\n"
+        ),
+        _ => Ok(()),
+    }
 }

@@ -49,16 +49,20 @@ enum Switch {
     Explain,
     From,
     Picture,
+    Strict,
     To,
+    Traffic,
 }
 
 /// The options of the program.
-const SWITCHES: [Switch; 5] = [
+const SWITCHES: [Switch; 7] = [
     Switch::Commands,
     Switch::Explain,
     Switch::From,
     Switch::Picture,
+    Switch::Strict,
     Switch::To,
+    Switch::Traffic,
 ];
 
 impl Named for Switch {
@@ -68,7 +72,9 @@ impl Named for Switch {
             Switch::Explain => "--explain",
             Switch::From => "--from",
             Switch::Picture => "--picture",
+            Switch::Strict => "--strict",
             Switch::To => "--to",
+            Switch::Traffic => "--traffic",
         }
     }
 }
@@ -76,11 +82,13 @@ impl Named for Switch {
 /// How a command is called.
 fn usage_of(verb: Verb) -> &'static str {
     match verb {
-        Verb::Bounds => "bounds PLAN",
-        Verb::Check => "check PLAN",
-        Verb::Net => "net check NET",
+        Verb::Bounds => "bounds PLAN [--traffic FILE]",
+        Verb::Check => "check PLAN [--strict]",
+        Verb::Net => "net check NET [--strict]",
         Verb::Picture => "picture PLAN FILE",
-        Verb::Run => { "run PLAN IN OUT [--commands FILE] [--picture FILE [--from NS] [--to NS]]" }
+        Verb::Run => {
+            "run PLAN IN OUT [--commands FILE] [--picture FILE [--from NS] [--to NS]] [--strict]"
+        }
         Verb::Wire => "wire MBPS ROOM IN OUT",
     }
 }
@@ -182,7 +190,7 @@ fn put_switch(alloc: Global, said: &mut String, name: &str) -> Result<(), AllocE
             write!(said, "The nearest option is {name}.\n")
         }
         None => said.push_str(
-            "The options are --commands FILE, --picture FILE, --from NS and --to NS (of run), and --explain.\n",
+            "The options are --commands FILE, --picture FILE, --from NS and --to NS (of run), --traffic FILE (of bounds), --strict (of check, run and net), and --explain.\n",
         ),
     }
 }
@@ -213,7 +221,11 @@ fn put_usages(said: &mut String) -> Result<(), AllocError> {
 
 /// Whether a word is an option whose value is the next word.
 fn takes_value(word: &str) -> bool {
-    word == "--commands" || word == "--picture" || word == "--from" || word == "--to"
+    word == "--commands"
+        || word == "--picture"
+        || word == "--from"
+        || word == "--to"
+        || word == "--traffic"
 }
 
 /// How many words behind the command are no options.

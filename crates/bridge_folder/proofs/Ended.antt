@@ -61,6 +61,10 @@ pub sent_shown : {A : Type 0} (p : Plan A) (input output : List ℕ) (file : Opt
 sent_shown p input output None f h = h
 sent_shown p input output (Some path) f h = inl h
 
+-- want of memory may end a run under a plan
+pub memory_ends : {A : Type 0} (p : Plan A) (input output : List ℕ) (file : Option (List ℕ)) → EndsShown p input output file (fault.Run run.NoMemory)
+memory_ends p input output file = sent_shown p input output file (fault.Run run.NoMemory) tt
+
 pub memory_shown : (file : Option (List ℕ)) → IsOfShowing file (fault.Run run.NoMemory)
 memory_shown None = refl
 memory_shown (Some path) = refl

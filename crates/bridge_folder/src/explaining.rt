@@ -31,8 +31,8 @@ pub fn explain<H: AllocGlobal + Eprint + Files>(rt: &H, words: &[String], fault:
     }
 }
 
-/// Tells on standard error what is to be said of the plan of these words where it is accepted: where the frames of its
-/// protected filters may wait and how long they take there at most, and what of it is of no use.
+/// Tells on standard error what is to be said of the plan that these words check or run, where it is accepted: where the
+/// frames of its protected filters may wait and how long they take there at most, and what of it is likely a mistake.
 pub fn explain_accepted<H: AllocGlobal + Eprint + Files>(rt: &H, words: &[String]) {
     if let Some(said) = said_of_accepted(rt, words) {
         let _ = eprint!(rt; "{said}");
@@ -137,7 +137,16 @@ fn said_of_check<H: AllocGlobal + Files>(rt: &H, path: &str, fault: &CheckFault)
 /// What is told of the plan of the words where it is accepted.
 fn said_of_accepted<H: AllocGlobal + Files>(rt: &H, words: &[String]) -> Option<String> {
     match job_of(rt.alloc(), words) {
-        Ok(Job::Check { plan }) => said_of_warnings(rt, plan.as_str()),
+        Ok(job) => said_of_warnings(rt, accepted_path(&job)?),
+        Err(_) => None,
+    }
+}
+
+/// The path of the plan that a job checks or runs.
+fn accepted_path(job: &Job) -> Option<&str> {
+    match job {
+        Job::Check { plan } => Some(plan.as_str()),
+        Job::Run { plan, .. } => Some(plan.as_str()),
         _ => None,
     }
 }

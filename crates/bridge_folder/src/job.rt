@@ -66,7 +66,7 @@ pub fn drawn_job<H: AllocGlobal + Files>(
 
 /// What is printed for a run under an accepted plan from one folder into another, with a picture where one is asked for. No
 /// output is one of the files that are taken.
-fn send_drawn<H: AllocGlobal + Files>(
+pub(crate) fn send_drawn<H: AllocGlobal + Files>(
     rt: &H,
     accepted: &Accepted<Global>,
     orders: &[Command],
@@ -206,7 +206,7 @@ fn add_outputs<F: Write + OpenFile + Drop>(
 
 /// The plan of a file, where it is accepted, with the commands of another file, if there is one. Both files are added to
 /// those that are taken.
-fn read_job<H: AllocGlobal + Files>(
+pub(crate) fn read_job<H: AllocGlobal + Files>(
     rt: &H,
     plan: String,
     commands: Option<String>,

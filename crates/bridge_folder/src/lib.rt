@@ -4,7 +4,9 @@
 mod explaining;
 mod job;
 mod picturing;
+mod strict;
 
 pub use explaining::{explain, explain_accepted};
 pub use job::{drawn_job, run_job};
 pub use picturing::{picture_job, write_picture};
+pub use strict::{Strict, strict_check_job, strict_run_job};

@@ -5,6 +5,7 @@ use Rattle.bridge_lanes.specs.declared.fault.RunFault.{RunFault}
 use Rattle.bridge_lanes.specs.declared.fault.RunFault.TheVariants as run
 use Rattle.bridge_netfile.specs.Model.{Bridge}
 use Rattle.bridge_netfile.specs.Model as file
+use Rattle.bridge_network.specs.declared.links.Link.{Link}
 use Rattle.bridge_network.specs.Refusing.{first_fault}
 use Rattle.bridge_network.specs.Wiring.{Parts}
 use Rattle.bridge_planning.specs.Naming.{name_at}
@@ -19,6 +20,7 @@ use Rattle.bridge_rounds.specs.declared.settling.Settled.{Settled}
 use Rattle.bridge_rounds.specs.declared.station.Incoming.{Incoming}
 use Rattle.bridge_rounds.specs.Rounds.{IsolatesStreams, OthersChangeNothing, RunsNetwork}
 use Rattle.bridge_rounds.specs.Stations.{IsIncoming}
+use Rattle.bridge_net_folder.specs.Counted.{CountsTo}
 
 -- to each bridge of these plans can come what comes to it
 abbrev pub AllIncoming : {A : Type 0} → List (Plan A) → List (Incoming A) → Type 0
@@ -77,9 +79,9 @@ unfoldable pub rounds_line : file.Network → ℕ → ℕ → List ℕ
 rounds_line f frames delivered = network_words f ++ (codes "frames " ++ (decimal frames ++ (codes " delivered " ++ (decimal delivered
     ++ (codes " lost " ++ (decimal (frames - delivered) ++ codes "\n"))))))
 
--- a line counts the frames of streams
-abbrev pub IsLine : file.Network → List ℕ → Type 0
-IsLine f line = (frames : ℕ) × (delivered : ℕ) × (line ≡ rounds_line f frames delivered)
+-- a line counts the frames of all streams, and those that were delivered
+abbrev pub IsLine : {A : Type 0} → List Link → List (Settled A) → file.Network → List ℕ → Type 0
+IsLine links settled f line = (frames : ℕ) × (delivered : ℕ) × CountsTo links settled f.streams 0 0 frames delivered × (line ≡ rounds_line f frames delivered)
 
 -- a whole run of a network, in which each stream tells what it tells alone on an idle network, whatever else came
 pub record IsSettled {A : Type 0} (n : Parts A) (came : List (Incoming A)) (settled : List (Settled A)) : Type 0 where
@@ -87,8 +89,12 @@ pub record IsSettled {A : Type 0} (n : Parts A) (came : List (Incoming A)) (sett
   pub alone : IsolatesStreams n came settled
   pub others : OthersChangeNothing n came settled
 
+-- a line is that of a whole run of a network
+abbrev pub TellsRun : {A : Type 0} → Parts A → file.Network → List ℕ → Type 0
+TellsRun {A} n f line = (came : List (Incoming A)) × (settled : List (Settled A)) × IsSettled n came settled × IsLine n.links settled f line
+
 -- what is printed for a run: the network of a file is accepted, the periods of its talkers suit its plans, and it was run
 abbrev pub PrintsRounds : (A : Type 0) → List ℕ → Type 0
 PrintsRounds A line =
     (f : file.Network) × (plans : List (Plan A)) × (n : Parts A) × IsMadeOf f plans n × (first_fault n ≡ None) × (first_misfit n.plans 1 f.streams ≡ None)
-    × ((came : List (Incoming A)) × (settled : List (Settled A)) × IsSettled n came settled) × IsLine f line
+    × TellsRun n f line

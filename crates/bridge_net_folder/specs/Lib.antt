@@ -1,2 +1,3 @@
-pub mod Folders
 pub mod InTime
+pub mod Counted
+pub mod Folders

@@ -1,8 +1,6 @@
 //! The job of a run of a network over folders.
-ghost use Rattle.std.specs.Prelude.{◌≡◌, ◌≤◌, IfOk, IfErr, List, length, string_bytes};
-ghost use Rattle.bridge_rounds.specs.declared.station.Incoming.{Incoming};
-ghost use Rattle.bridge_rounds.specs.declared.settling.Settled.{Settled as Told};
-ghost use Rattle.bridge_net_folder.specs.Folders.{EndsFiles, EndsRounds, IsLine, IsSettled, PrintsRounds, network_words, rounds_line};
+ghost use Rattle.std.specs.Prelude.{◌≡◌, ◌≤◌, IfOk, IfErr, length, string_bytes};
+ghost use Rattle.bridge_net_folder.specs.Folders.{EndsFiles, EndsRounds, IsLine, PrintsRounds, TellsRun, network_words, rounds_line};
 
 use crate::incoming::read_all;
 use crate::outputs::{Outputs, open_outputs};
@@ -82,7 +80,7 @@ fn put_all<H: AllocGlobal + Files>(
     settled: &[Settled<Global>],
     outputs: Outputs<H::File>,
 ) -> Result<String, Fault>
-    ensures ok { IfOk result (λ line. IsLine file.now (string_bytes line)) }
+    ensures ok { IfOk result (λ line. IsLine network.now.links settled.now file.now (string_bytes line)) }
     ensures err { IfErr result EndsFiles }
 {
     let alloc = rt.alloc();
@@ -129,7 +127,7 @@ fn put_drawn<H: AllocGlobal + Files>(
     picture: Option<String>,
     drawing: Option<Output<H::File>>,
 ) -> Result<String, Fault>
-    ensures ok { IfOk result (λ line. IsLine file.now (string_bytes line)) }
+    ensures ok { IfOk result (λ line. IsLine network.now.links settled.now file.now (string_bytes line)) }
     ensures err { IfErr result EndsFiles }
 {
     let Ok(queues) = bounds_of_all(rt.alloc(), network.plans()) else {
@@ -170,8 +168,7 @@ fn run_network<H: AllocGlobal + Eprint + Files>(
     teller: &mut Teller<'_, H>,
     taken: Vec<FileId>,
 ) -> Result<String, Fault>
-    ensures ran { IfOk result (λ _. (came : List (Incoming Global)) × (settled : List (Told Global)) × IsSettled network.now came settled) }
-    ensures ok { IfOk result (λ line. IsLine file.now (string_bytes line)) }
+    ensures ok { IfOk result (λ line. TellsRun network.now file.now (string_bytes line)) }
     ensures err { IfErr result EndsRounds }
 {
     let mut taken = taken;
@@ -247,8 +244,7 @@ fn run_accepted<H: AllocGlobal + Eprint + Files>(
     taken: Vec<FileId>,
 ) -> Result<RoundsSaid, Fault>
     requires few { length network.now.plans ≤ 64 }
-    ensures ran { IfOk result (λ _. (came : List (Incoming Global)) × (settled : List (Told Global)) × IsSettled network.now came settled) }
-    ensures ok { IfOk result (λ said. IsLine file.now (string_bytes said.line)) }
+    ensures ok { IfOk result (λ said. TellsRun network.now file.now (string_bytes said.line)) }
     ensures err { IfErr result EndsRounds }
 {
     let RoundsJob {

@@ -2,6 +2,7 @@
 ghost use Rattle.std.specs.Prelude.{◌≡◌, ℕ, IfErr, IfOk, length};
 ghost use Rattle.bridge_run.specs.declared.outcome.Outcome.{Outcome};
 ghost use Rattle.bridge_rounds.specs.Rounds.{AreOutcomes};
+ghost use Rattle.bridge_net_folder.specs.Counted.{CountsTo, IsCountOf};
 ghost use Rattle.bridge_net_folder.specs.Folders.{EndsFiles};
 ghost use Rattle.bridge_net_folder.specs.InTime.{AreRunsOf, IsRunOf};
 
@@ -129,7 +130,9 @@ fn put_stream<F: Write + OpenFile + Drop>(
     bound: u128,
     streams: &mut Output<F>,
     frames: &mut Output<F>,
-) -> Result<Totals, TableFault> {
+) -> Result<Totals, TableFault>
+    ensures { IfOk result (λ more. IsCountOf links.now settled.now stream.now.hops more.frames more.delivered) }
+{
     let runs = runs_of(alloc, settled, stream.hops())?;
     let all = roots_of(alloc, links, &runs)?;
     let tallies = tallies_of(alloc, links, &runs, &all)?;
@@ -229,7 +232,9 @@ fn put_streams<F: Write + OpenFile + Drop>(
     bounds: &[u128],
     streams: Output<F>,
     frames: Output<F>,
-) -> Result<Totals, TableFault> {
+) -> Result<Totals, TableFault>
+    ensures { IfOk result (λ all. CountsTo links.now settled.now file.now.streams 0 0 all.frames all.delivered) }
+{
     let mut streams = streams;
     let mut frames = frames;
     let mut totals = Totals {
@@ -238,7 +243,10 @@ fn put_streams<F: Write + OpenFile + Drop>(
     };
     put_text(&mut streams, STREAMS_HEADER, Table::Streams)?;
     put_text(&mut frames, FRAMES_HEADER, Table::Frames)?;
-    for (stream, bound) in file.streams().iter().zip(bounds) {
+    for (place, stream) in file.streams().iter().enumerate() {
+        let Some(bound) = bounds.get(place) else {
+            return Err(TableFault::NoMemory);
+        };
         let more = put_stream(
             alloc,
             file,
@@ -274,7 +282,8 @@ pub(crate) fn put_tables<F: Write + OpenFile + Drop>(
     streams: Output<F>,
     frames: Output<F>,
 ) -> Result<Totals, Fault>
-    ensures { IfErr result EndsFiles }
+    ensures ok { IfOk result (λ all. CountsTo links.now settled.now file.now.streams 0 0 all.frames all.delivered) }
+    ensures err { IfErr result EndsFiles }
 {
     match put_streams(alloc, file, links, settled, bounds, streams, frames) {
         Ok(totals) => Ok(totals),

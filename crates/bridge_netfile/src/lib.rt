@@ -12,8 +12,6 @@ mod reading;
 mod rows;
 mod streams;
 mod talkers;
-#[cfg(test)]
-mod tests;
 
 pub use bridges::BridgeRow;
 pub use fault::{NetFault, NetField, NetPlace, NetSection};

@@ -15,11 +15,11 @@ use Rattle.bridge_gate.specs.declared.schedule.Schedule.{Schedule}
 use Rattle.bridge_gate.specs.declared.schedule.Schedule.TheVariants.{Cyclic, Fixed, Joined}
 use Rattle.bridge_gate.specs.Schedules.{IsLawful, turn_at}
 use Rattle.bridge_gate.proofs.ScheduleLaws.{IsOrdered, ordered}
+use Rattle.bridge_bounds.proofs.Cycles.{turn_later}
 use Rattle.bridge_network.specs.Latency.{IsMultiple}
 use Rattle.bridge_periods.specs.declared.traffic.Traffic.{Traffic}
 use Rattle.bridge_periods.specs.Passing.{LetsEach, LetsInTurn, allows, ends_by, lets_one}
 use Rattle.bridge_periods.specs.Traffic.{IsTraffic}
-use Rattle.bridge_periods.proofs.Shifted.{turn_later}
 
 -- a turn that lets one frame through, and whose limit, where it has one, holds until a moment at most
 pub record IsFairTurn (x : Turn GateEntry) (sdu until : ℕ) : Type 0 where

@@ -8,6 +8,6 @@ mod timing;
 mod traffic;
 mod wait;
 
-pub use passing::{gate_at, passes};
+pub use passing::passes;
 pub use timing::{Phases, Timing, timing_of};
 pub use traffic::Traffic;

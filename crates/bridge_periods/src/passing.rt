@@ -1,6 +1,5 @@
 //! Whether each frame of traffic passes its filter.
-ghost use Rattle.std.specs.Prelude.{◌≡◌, ◌↔◌, ◌≤◌, nat_eq, true, option_map};
-ghost use Rattle.std.specs.Map.{lookup};
+ghost use Rattle.std.specs.Prelude.{◌≡◌, ◌↔◌, ◌≤◌, true};
 ghost use Rattle.bridge_base.specs.declared.TheConstants.{END_OF_TIME};
 ghost use Rattle.bridge_cycle.specs.Cyclic.{IsLawful, turn_at};
 ghost use Rattle.bridge_filter.specs.Verdicts.{is_above};
@@ -9,10 +8,11 @@ ghost use Rattle.bridge_periods.specs.Passing.{AreLet, LetsEach, LetsInTurn, Pas
 ghost use Rattle.bridge_periods.specs.Traffic.{IsTraffic};
 
 use crate::traffic::Traffic;
+use bridge_bounds::gate_at;
 use bridge_config::Plan;
 use bridge_cycle::{CyclicList, Timeline};
 use bridge_filter::FilterPlan;
-use bridge_gate::{GateEntry, GatePlan, Schedule};
+use bridge_gate::{GateEntry, Schedule};
 use bridge_ident::{StreamEntry, TagKind};
 use std::alloc::Allocator;
 
@@ -140,21 +140,6 @@ fn lets_each<A: Allocator + Copy>(schedule: &Schedule<A>, traffic: &Traffic, sdu
             lets_in_turn(old, traffic, sdu) && lets_in_turn(new, traffic, sdu)
         }
     }
-}
-
-/// The gate of a number, where there is one.
-pub fn gate_at<A: Allocator + Copy>(
-    gates: &[(u32, GatePlan<A>)],
-    number: u32,
-) -> Option<&GatePlan<A>>
-    ensures { option_map (λ g. g.now) result ≡ lookup (nat_eq number) gates.now }
-{
-    for gate in gates {
-        if gate.0 == number {
-            return Some(&gate.1);
-        }
-    }
-    None
 }
 
 /// Whether each frame of the traffic passes the filter, where the filter's own frames are such: none has more octets than

@@ -1,16 +1,35 @@
-//! The lanes of a port, one for each class.
+//! The lanes of ports and of stream gates.
 ghost use Rattle.std.specs.Prelude.{◌≤◌, ◌<◌};
 
-use crate::drawing::{ACROSS, Drawing, LEFT};
-use crate::span::Span;
-use crate::windows::{Lane, put_windows};
+use crate::shapes::{LEFT, Picture, Put, Style};
+use crate::windows::{Lists, put_open, put_windows};
 use bridge_check::may_wait;
 use bridge_config::{Plan, PortPlan};
+use bridge_cycle::Egress;
+use bridge_filter::FilterPlan;
 use bridge_frame::Speed;
 use std::alloc::{AllocError, Allocator, Global};
 
-/// The height of a lane, in tenths of a pixel.
-pub(crate) const LANE: u64 = 150;
+/// The windows of a picture, shared among its lanes.
+const MOST_WINDOWS: usize = 8_000;
+
+/// The least number of windows that a lane may have.
+const FEWEST: usize = 24;
+
+/// The most windows of a lane: more can't be told apart.
+const MOST: usize = 250;
+
+/// The gates that are drawn.
+const MOST_GATES: usize = 128;
+
+/// How many windows each lane of a picture may have, with so many gates.
+pub(crate) fn most_of<A: Allocator + Copy>(plan: &Plan<A>, gates: usize) -> usize {
+    let mut lanes = gates.min(MOST_GATES);
+    for port in plan.ports() {
+        lanes = lanes.saturating_add(if port.list.is_some() { 8 } else { 1 });
+    }
+    (MOST_WINDOWS / lanes.max(1)).max(FEWEST).min(MOST)
+}
 
 /// The speed of a link in Mb/s.
 fn megabits(speed: Speed) -> u32 {
@@ -23,106 +42,142 @@ fn megabits(speed: Speed) -> u32 {
     }
 }
 
-/// The numbers of the protected filters whose frames may wait in a class of a port.
+/// Whether frames of a filter may wait in some class of a port.
+fn may_wait_there<A: Allocator + Copy>(plan: &Plan<A>, filter: &FilterPlan, port: u8) -> bool
+    requires from { 1 ≤ port }
+    requires to { port ≤ 16 }
+{
+    for class in 0..8u8 {
+        if may_wait(plan, filter, port, class) {
+            return true;
+        }
+    }
+    false
+}
+
+/// The numbers of the protected filters whose frames may wait in a class of a port, or in any.
 fn owners_of<A: Allocator + Copy>(
     alloc: Global,
     plan: &Plan<A>,
     port: u8,
-    class: u8,
+    class: Option<u8>,
 ) -> Result<Vec<u32>, AllocError>
     requires from { 1 ≤ port }
     requires to { port ≤ 16 }
 {
     let mut owners = Vec::new(alloc);
     for (number, filter) in plan.filters() {
-        if filter.protected && may_wait(plan, filter, port, class) {
+        let may = match class {
+            Some(class) => may_wait(plan, filter, port, class % 8),
+            None => may_wait_there(plan, filter, port),
+        };
+        if filter.protected && may {
             owners.push(*number)?;
         }
     }
     Ok(owners)
 }
 
-/// Draws the lane of a class of a port, and answers whether all of it is drawn.
-fn put_class<A: Allocator + Copy>(
-    alloc: Global,
-    drawing: &mut Drawing,
-    span: Span,
-    plan: &Plan<A>,
-    port: &PortPlan<A>,
-    class: u8,
-    most: u32,
-) -> Result<bool, AllocError>
-    requires from { 1 ≤ port.now.number }
-    requires to { port.now.number ≤ 16 }
-    requires class { class < 8 }
-{
-    let is_own = put_owners(alloc, drawing, plan, port.number, class)?;
-    let lane = Lane {
-        top: drawing.down(),
-        height: LANE - 20,
-        most,
-    };
-    let style = if is_own { "own" } else { "open" };
-    drawing.bar("lane", LEFT, lane.top, ACROSS, lane.height)?;
-    let is_whole = put_windows(drawing, span, lane, style, &port.list, class)?;
-    drawing.go_down(LANE);
-    Ok(is_whole)
-}
-
-/// Draws the number of a class beside its lane, and those of the protected filters whose frames may wait there; answers
-/// whether there are some.
+/// Names the lane of a class of a port, or of all, with the protected filters whose frames may wait there, and answers the
+/// style of its windows.
 fn put_owners<A: Allocator + Copy>(
-    alloc: Global,
-    drawing: &mut Drawing,
+    picture: &mut Picture,
     plan: &Plan<A>,
     port: u8,
-    class: u8,
-) -> Result<bool, AllocError>
+    class: Option<u8>,
+) -> Result<Style, AllocError>
     requires from { 1 ≤ port }
     requires to { port ≤ 16 }
 {
-    let owners = owners_of(alloc, plan, port, class)?;
-    let line = drawing.down().saturating_add(115);
-    let style = if owners.is_empty() { "" } else { "b" };
-    drawing.named(style, 200, line, "class", class as u32)?;
-    drawing.listed("s r", 1_450, line, &owners)?;
-    Ok(!owners.is_empty())
+    let owners = owners_of(picture.alloc, plan, port, class)?;
+    let name = match class {
+        Some(class) => format!(in picture.alloc; "class {class}")?,
+        None => String::from_str(picture.alloc, "always open")?,
+    };
+    if owners.is_empty() {
+        picture.name(Style::Plain, name, &owners)?;
+        Ok(Style::Open)
+    } else {
+        picture.name(Style::Bold, name, &owners)?;
+        Ok(Style::Own)
+    }
 }
 
-/// Draws the head and the lanes of a port, class 7 on top, and answers how many are drawn in part.
+/// Draws the head and the lanes of a port, class 7 on top, or one lane where it is always open.
 pub(crate) fn put_port<A: Allocator + Copy>(
-    alloc: Global,
-    drawing: &mut Drawing,
-    span: Span,
+    picture: &mut Picture,
     plan: &Plan<A>,
     port: &PortPlan<A>,
-    most: u32,
-) -> Result<usize, AllocError>
+) -> Put
     requires from { 1 ≤ port.now.number }
     requires to { port.now.number ≤ 16 }
 {
-    put_head(alloc, drawing, port.number, port.speed)?;
-    let mut parts = 0usize;
-    for below in 0..8u8 {
-        let is_whole = put_class(alloc, drawing, span, plan, port, 7 - below, most)?;
-        parts = parts.saturating_add(usize::from(!is_whole));
+    let (number, speed) = (port.number, megabits(port.speed));
+    picture.go_down(250);
+    let name = format!(in picture.alloc; "port {number}")?;
+    picture.text(Style::Head, 100, 0, name)?;
+    let link = format!(in picture.alloc; "{speed} Mb/s")?;
+    picture.text(Style::Small, LEFT, 0, link)?;
+    picture.go_down(60);
+    match &port.list {
+        Some(list) => put_classes(picture, plan, number, list),
+        None => {
+            let style = put_owners(picture, plan, number, None)?;
+            put_open(picture, style)
+        }
     }
-    Ok(parts)
 }
 
-/// Draws the head of a port.
-fn put_head(
+/// Draws the lanes of the classes of a port.
+fn put_classes<A: Allocator + Copy>(
+    picture: &mut Picture,
+    plan: &Plan<A>,
+    port: u8,
+    list: &Egress<A>,
+) -> Put
+    requires from { 1 ≤ port }
+    requires to { port ≤ 16 }
+{
+    for below in 0..8u8 {
+        let class = 7 - below;
+        let style = put_owners(picture, plan, port, Some(class))?;
+        put_windows(picture, style, &Lists::Class(list, class))?;
+    }
+    Ok(())
+}
+
+/// The numbers of the filters that use a gate.
+fn users_of(
     alloc: Global,
-    drawing: &mut Drawing,
-    number: u8,
-    speed: Speed,
-) -> Result<(), AllocError> {
-    let speed = megabits(speed);
-    drawing.go_down(250);
-    let line = drawing.down();
-    drawing.named("h", 100, line, "port", number as u32)?;
-    let link = format!(in alloc; "{speed} Mb/s")?;
-    drawing.text("s", LEFT, line, link.as_str())?;
-    drawing.go_down(60);
+    filters: &[(u32, FilterPlan)],
+    gate: u32,
+) -> Result<Vec<u32>, AllocError> {
+    let mut numbers = Vec::new(alloc);
+    for (number, filter) in filters {
+        if filter.gate == gate {
+            numbers.push(*number)?;
+        }
+    }
+    Ok(numbers)
+}
+
+/// Draws the stream gates of a plan below one another, with the filters that use them, and says how many have no room.
+pub(crate) fn put_gates<A: Allocator + Copy>(picture: &mut Picture, plan: &Plan<A>) -> Put {
+    picture.go_down(250);
+    picture.word(Style::Head, 100, 0, "stream gates")?;
+    picture.go_down(60);
+    for (number, gate) in plan.gates().iter().take(MOST_GATES) {
+        let users = users_of(picture.alloc, plan.filters(), *number)?;
+        let name = format!(in picture.alloc; "gate {number}")?;
+        picture.name(Style::Plain, name, &users)?;
+        put_windows(picture, Style::Gate, &Lists::Gate(&gate.schedule))?;
+    }
+    let more = plan.gates().len().saturating_sub(MOST_GATES);
+    if more > 0 {
+        let words = format!(in picture.alloc; "left out: {more} further stream gates")?;
+        picture.text(Style::Bold, LEFT, 115, words)?;
+        picture.go_down(150);
+    }
+    picture.go_down(60);
     Ok(())
 }

@@ -1,19 +1,20 @@
 #![tactic(auto)]
 //! Pictures: a plan's windows and gates by time, and what left each port in a run, as SVG texts.
 //!
-//! A picture holds numbers and words of its own alone, so that nothing in it has to be escaped, and no script. Its
-//! colours follow the reader's light or dark scheme. Nothing here changes what it draws.
+//! Layout gives shapes (`shapes`), and one writer prints them (`svg`), which escapes each text. A picture has no script, and
+//! its colours follow the reader's light or dark scheme. Nothing here changes what it draws.
 
 mod axis;
-mod drawing;
-mod gates;
 mod lanes;
 mod legend;
 mod marks;
 mod numbers;
 mod plan;
 mod run;
+mod shapes;
+mod shares;
 mod span;
+mod svg;
 mod windows;
 
 pub use bridge_base::NoMemory;

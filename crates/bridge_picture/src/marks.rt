@@ -20,6 +20,35 @@ pub enum MarkKind {
     Refused(Refusal),
 }
 
+impl MarkKind {
+    /// Whether it was stopped by its filter, and why.
+    pub(crate) fn look(self) -> (bool, &'static str) {
+        match self {
+            MarkKind::Policed(verdict) => (true, verdict_word(verdict)),
+            MarkKind::Refused(Refusal::Full) => (false, "queue full"),
+            MarkKind::Refused(Refusal::NeverFits) => (false, "fits in no window"),
+        }
+    }
+}
+
+/// A word for a verdict.
+fn verdict_word(verdict: Verdict) -> &'static str {
+    match verdict {
+        Verdict::Blocked => "blocked",
+        Verdict::Oversize => "too long for the filter",
+        Verdict::GateClosed => "gate closed",
+        Verdict::ShutByRx => "gate shut by a frame that came while it was closed",
+        Verdict::ShutByOctets => "gate shut by a frame over its octets",
+        Verdict::OctetsExceeded => "over the octets of the gate's entry",
+        Verdict::Red => "red",
+        Verdict::YellowDropped => "yellow, which the meter drops",
+        Verdict::Pass {
+            ipv: _,
+            eligible: _,
+        } => "passed",
+    }
+}
+
 /// A frame of a filter that was not let on: when it came, the port where that shows, and why.
 #[derive(Clone, Copy, Debug, PartialEq, Eq)]
 pub struct Mark {

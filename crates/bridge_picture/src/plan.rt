@@ -1,117 +1,98 @@
 //! The picture of a plan.
 ghost use Rattle.std.specs.Prelude.{◌≤◌, IfOk, length, string_bytes};
 
-use crate::axis::{put_axis, put_change};
-use crate::drawing::{Drawing, LEFT};
-use crate::gates::put_gates;
-use crate::lanes::put_port;
-use crate::numbers::{moment, unit_of};
-use crate::span::{Span, change_of, span_of};
+use crate::axis::put_axis;
+use crate::lanes::{most_of, put_gates, put_port};
+use crate::legend::{PLAN, put_legend};
+use crate::numbers::{clock_of, length_text, moment, stretch};
+use crate::shapes::{LEFT, Picture, Put, Style};
+use crate::span::{Times, times_of};
+use crate::svg::svg_of;
 use bridge_base::NoMemory;
 use bridge_config::Plan;
 use std::alloc::{AllocError, Allocator, Global};
 
-/// The bars of windows in a picture, shared among its lanes.
-const MOST_WINDOWS: u32 = 6_000;
-
-/// The least number of bars that a lane may have.
-const FEWEST: u32 = 24;
-
-/// How many bars each lane of a plan may have.
-pub(crate) fn most_of<A: Allocator + Copy>(plan: &Plan<A>) -> u32 {
-    let lanes = plan
-        .ports()
-        .len()
-        .saturating_mul(8)
-        .saturating_add(plan.gates().len().min(128));
-    (MOST_WINDOWS / (lanes.min(1_000) as u32).max(1)).max(FEWEST)
+/// Puts the head of a picture: what it is of, and what it shows.
+pub(crate) fn put_head(picture: &mut Picture, name: &str, shows: String) -> Put {
+    picture.go_down(220);
+    picture.word(Style::Head, 100, 0, name)?;
+    picture.text(Style::Plain, LEFT, 0, shows)
 }
 
-/// Draws the lanes of all ports, and answers how many are drawn in part.
-pub(crate) fn put_ports<A: Allocator + Copy>(
-    alloc: Global,
-    drawing: &mut Drawing,
-    span: Span,
-    plan: &Plan<A>,
-) -> Result<usize, AllocError> {
-    let most = most_of(plan);
-    let mut parts = 0usize;
-    for port in plan.ports() {
-        let some = put_port(alloc, drawing, span, plan, port, most)?;
-        parts = parts.saturating_add(some);
+/// Says how many lanes are bands, where some are, at a line that was kept free.
+pub(crate) fn put_bands(picture: &mut Picture, line: u64) -> Put {
+    let (bands, down) = (picture.bands, picture.down);
+    if bands > 0 {
+        let words = format!(in picture.alloc; "lanes hatched for their many windows: {bands}")?;
+        picture.down = line;
+        picture.text(Style::Small, LEFT, 0, words)?;
+        picture.down = down;
     }
-    Ok(parts)
+    Ok(())
 }
 
-/// Says how many lanes are drawn in part, where some are.
-pub(crate) fn put_parts(
-    alloc: Global,
-    drawing: &mut Drawing,
-    parts: usize,
-) -> Result<(), AllocError> {
-    if parts == 0 {
-        return Ok(());
-    }
-    let words = format!(in alloc;
-        "left out: {parts} lanes are drawn in part or not at all, for their many windows"
-    )?;
-    put_note(drawing, words.as_str())
-}
-
-/// Draws a line of text.
-pub(crate) fn put_note(drawing: &mut Drawing, words: &str) -> Result<(), AllocError> {
-    drawing.go_down(170);
-    let line = drawing.down();
-    drawing.text("s", LEFT, line, words)
-}
-
-/// Says which stretch a picture shows.
-fn put_title(
-    alloc: Global,
-    drawing: &mut Drawing,
-    span: Span,
-    change: Option<u64>,
-) -> Result<(), AllocError> {
-    let unit = unit_of(span);
-    let from = moment(alloc, unit, span.from)?;
-    let to = moment(alloc, unit, span.to)?;
-    let words = match change {
-        None => format!(in alloc; "one hypercycle, from {from} to {to}")?,
-        Some(at) => {
-            let at = moment(alloc, unit, at)?;
-            format!(in alloc;
-                "a hypercycle at each side of the change at {at}, from {from} to {to}"
-            )?
+/// How much of the hypercycle is shown.
+fn hypercycle_text(alloc: Global, times: Times) -> Result<String, AllocError> {
+    let shown = length_text(alloc, times.shown())?;
+    match times.cycle {
+        None => String::from_str(alloc, "no list"),
+        Some(cycle) if cycle <= times.shown() => format!(in alloc; "one hypercycle of {shown}"),
+        Some(cycle) => {
+            let whole = length_text(alloc, cycle)?;
+            let more = if cycle == u64::MAX { "more than " } else { "" };
+            format!(in alloc; "{shown} of a hypercycle of {more}{whole}")
         }
-    };
-    drawing.go_down(220);
-    let line = drawing.down();
-    drawing.text("h", 100, line, "plan")?;
-    drawing.text("", LEFT, line, words.as_str())
+    }
+}
+
+/// Says what the picture of a plan shows.
+fn title_of(picture: &Picture, times: Times) -> Result<String, AllocError> {
+    let alloc = picture.alloc;
+    let whole = hypercycle_text(alloc, times)?;
+    let shown = stretch(alloc, picture.span)?;
+    match times.change {
+        None => format!(in alloc; "{whole}, {shown}"),
+        Some(at) => {
+            let at = moment(alloc, clock_of(picture.span), at)?;
+            format!(in alloc; "{whole}, at each side of the change at {at}, {shown}")
+        }
+    }
+}
+
+/// Lays out the picture of a plan.
+fn put_plan<A: Allocator + Copy>(picture: &mut Picture, plan: &Plan<A>, times: Times) -> Put {
+    let title = title_of(picture, times)?;
+    put_head(picture, "plan", title)?;
+    put_legend(picture, PLAN, times.change.is_some())?;
+    let line = picture.below(150);
+    picture.go_down(350);
+    let top = picture.down;
+    put_ports(picture, plan)?;
+    put_gates(picture, plan)?;
+    put_axis(picture, times.change, top)?;
+    put_bands(picture, line)
+}
+
+/// Draws the lanes of all ports.
+fn put_ports<A: Allocator + Copy>(picture: &mut Picture, plan: &Plan<A>) -> Put {
+    for port in plan.ports() {
+        put_port(picture, plan, port)?;
+    }
+    Ok(())
 }
 
 /// The picture of a plan as an SVG text of at most 2,000,000 octets: for each port a lane a class with its windows over
-/// one hypercycle, or over one at each side of the change of schedules, but at most `LONGEST_HYPERCYCLE` each; the classes
-/// in which frames of protected filters may wait stand out, with the numbers of these; below the ports the open entries of
-/// the stream gates, with their internal priority values and the filters that use them; and the axis of time.
+/// one hypercycle, or over one at each side of the change of schedules, but at most `LONGEST_HYPERCYCLE` each, and one lane
+/// where it is always open; the classes in which frames of protected filters may wait stand out, with the numbers of these;
+/// below the ports the open entries of the stream gates, with their internal priority values and the filters that use them;
+/// and the axis of time.
 ///
-/// What has no room is left out, and the picture says so.
+/// A lane with more windows than have room is a hatched band, and the head says how many there are.
 pub fn draw_plan<A: Allocator + Copy>(alloc: Global, plan: &Plan<A>) -> Result<String, NoMemory>
     ensures { IfOk result (λ text. length (string_bytes text) ≤ 2000000) }
 {
-    let span = span_of(plan);
-    let change = change_of(plan);
-    let mut drawing = Drawing::new(alloc);
-    put_title(alloc, &mut drawing, span, change)?;
-    let top = drawing.down();
-    let ports = put_ports(alloc, &mut drawing, span, plan)?;
-    let gates = put_gates(alloc, &mut drawing, span, plan, most_of(plan))?;
-    put_change(&mut drawing, span, change, top)?;
-    put_axis(alloc, &mut drawing, span, top)?;
-    put_note(
-        &mut drawing,
-        "green: a class in which frames of protected filters wait; grey: other windows; blue: open entries of a stream gate, with the internal priority value that they give",
-    )?;
-    put_parts(alloc, &mut drawing, ports.saturating_add(gates))?;
-    Ok(drawing.end()?)
+    let times = times_of(plan);
+    let mut picture = Picture::new(alloc, times.span(), most_of(plan, plan.gates().len()));
+    put_plan(&mut picture, plan, times)?;
+    Ok(svg_of(alloc, &picture.shapes, picture.below(150))?)
 }

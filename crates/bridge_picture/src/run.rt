@@ -1,89 +1,66 @@
 //! The picture of a run.
 ghost use Rattle.std.specs.Prelude.{◌≤◌, IfOk, length, string_bytes};
 
-use crate::axis::{put_axis, put_change};
-use crate::drawing::{ACROSS, Drawing, LEFT};
-use crate::lanes::put_port;
-use crate::legend::{put_legend, style_of};
-use crate::marks::{Mark, MarkKind};
-use crate::numbers::{moment, unit_of};
-use crate::plan::{most_of, put_note, put_parts};
-use crate::span::{Span, change_of};
+use crate::axis::put_axis;
+use crate::lanes::{most_of, put_port};
+use crate::legend::{Legend, RUN, Sample, put_legend, put_wait};
+use crate::marks::Mark;
+use crate::numbers::stretch;
+use crate::plan::{put_bands, put_head};
+use crate::shapes::{LEFT, Picture, Put, Rect, Shape, Style, Tip, Title};
+use crate::shares::Shares;
+use crate::span::{Span, times_of};
+use crate::svg::svg_of;
 use crate::windows::extent;
 use bridge_base::NoMemory;
 use bridge_bounds::bound_of;
 use bridge_check::Accepted;
 use bridge_config::PortPlan;
-use bridge_filter::Verdict;
-use bridge_port::Refusal;
-use bridge_run::{Departure, Outcome, View};
+use bridge_run::{Departure, Origin, Outcome, View};
 use std::alloc::{AllocError, Allocator, Global};
 
-/// The height of the lane of a link, in tenths of a pixel.
-const LINK: u64 = 260;
+/// The height of the lane of a link.
+const LINK: u64 = 300;
 
-/// The least width of a frame's bar, in tenths of a pixel.
+/// The least width of a frame's bar.
 const LEAST: u64 = 30;
 
-/// The gap behind a frame's bar, in tenths of a pixel.
+/// The width from which on a frame's bar has an edge.
+const WIDE: u64 = 70;
+
+/// The gap behind a frame's bar.
 const GAP: u64 = 12;
 
 /// The most frames that are drawn.
-const MOST_FRAMES: u64 = 3_000;
+const MOST_FRAMES: u64 = 2_400;
 
 /// The most marks that are drawn.
-const MOST_MARKS: u64 = 1_500;
+const MOST_MARKS: u64 = 1_600;
 
-/// How many shapes of a kind are drawn, and how many had no room.
+/// What a picture of a run draws.
+#[derive(Drop)]
+struct Drawn<'a, A: Allocator + Copy, B: Allocator> {
+    accepted: &'a Accepted<A>,
+    outcome: &'a Outcome<B>,
+    marks: &'a [Mark],
+}
+
+/// Which frames and which marks are drawn.
+#[derive(Drop)]
+struct Chosen {
+    frames: Shares,
+    marks: Shares,
+}
+
+/// A frame that left: the colour of its filter, when it came, and when it is done at the latest, where it is protected.
 #[derive(Clone, Copy)]
-struct Count {
-    most: u64,
-    drawn: u64,
-    left_out: u64,
-}
-
-impl Count {
-    /// None yet.
-    fn new(most: u64) -> Count {
-        Count {
-            most,
-            drawn: 0,
-            left_out: 0,
-        }
-    }
-
-    /// Counts one more, and answers whether it has room.
-    fn takes_one(&mut self) -> bool {
-        if self.drawn < self.most {
-            self.drawn += 1;
-            true
-        } else {
-            self.left_out = self.left_out.saturating_add(1);
-            false
-        }
-    }
-}
-
-/// What of a run is drawn, and how many lanes are drawn in part.
-#[derive(Clone, Copy)]
-struct Counts {
-    frames: Count,
-    marks: Count,
-    parts: usize,
-}
-
-/// The first and the last moment of what is to be drawn.
-fn ends_of<A: Allocator>(outcome: &Outcome<A>, marks: &[Mark]) -> Option<(u64, u64)> {
-    let mut ends = None;
-    for (_, view) in &outcome.filters {
-        for departure in &view.departures {
-            ends = with_stretch(ends, departure.start, departure.done);
-        }
-    }
-    for mark in marks {
-        ends = with_stretch(ends, mark.at, mark.at);
-    }
-    ends
+struct Sent {
+    filter: u32,
+    colour: u8,
+    departure: Departure,
+    came: Option<u64>,
+    by: Option<u64>,
+    is_protected: bool,
 }
 
 /// The ends of a stretch and another one together.
@@ -94,10 +71,45 @@ fn with_stretch(ends: Option<(u64, u64)>, from: u64, to: u64) -> Option<(u64, u6
     }
 }
 
+/// When a frame of a filter came.
+fn came_at<B: Allocator>(view: &View<B>, own: u64) -> Option<u64> {
+    match view.origins.get(own.saturating_sub(1) as usize) {
+        Some(origin) => Some(origin.at),
+        None => None,
+    }
+}
+
+/// The ends of some time together with those of what left of a filter, and the coming of what is protected.
+fn with_view<B: Allocator>(ends: Option<(u64, u64)>, view: &View<B>) -> Option<(u64, u64)> {
+    let mut ends = ends;
+    for departure in &view.departures {
+        let start = departure.start;
+        let from = if view.protected {
+            came_at(view, departure.own).map_or(start, |at| at.min(start))
+        } else {
+            start
+        };
+        ends = with_stretch(ends, from, departure.done);
+    }
+    ends
+}
+
+/// The first moment of what is to be drawn, and the one behind the last.
+fn ends_of<B: Allocator>(outcome: &Outcome<B>, marks: &[Mark]) -> Option<(u64, u64)> {
+    let mut ends = None;
+    for (_, view) in &outcome.filters {
+        ends = with_view(ends, view);
+    }
+    for mark in marks {
+        ends = with_stretch(ends, mark.at, mark.at.saturating_add(1));
+    }
+    ends
+}
+
 /// The stretch that a picture shows: the one that is asked for, and where an end of it isn't, as far as there is something
 /// to draw.
-fn shown<A: Allocator>(
-    outcome: &Outcome<A>,
+fn shown<B: Allocator>(
+    outcome: &Outcome<B>,
     marks: &[Mark],
     from: Option<u64>,
     to: Option<u64>,
@@ -110,81 +122,44 @@ fn shown<A: Allocator>(
     }
 }
 
-/// A word for a verdict.
-fn verdict_word(verdict: Verdict) -> &'static str {
-    match verdict {
-        Verdict::Blocked => "blocked",
-        Verdict::Oversize => "too long for the filter",
-        Verdict::GateClosed => "gate closed",
-        Verdict::ShutByRx => "gate shut by a frame that came while it was closed",
-        Verdict::ShutByOctets => "gate shut by a frame over its octets",
-        Verdict::OctetsExceeded => "over the octets of the gate's entry",
-        Verdict::Red => "red",
-        Verdict::YellowDropped => "yellow, which the meter drops",
-        Verdict::Pass {
-            ipv: _,
-            eligible: _,
-        } => "passed",
+/// Whether some of a frame is in a stretch.
+fn is_shown(span: Span, departure: &Departure) -> bool {
+    span.from < departure.done && departure.start < span.to
+}
+
+/// Counts the frames of a filter that left.
+fn count_view<B: Allocator>(frames: &mut Shares, span: Span, view: &View<B>) {
+    for departure in &view.departures {
+        if is_shown(span, departure) {
+            frames.count(departure.port, span.place(departure.start));
+        }
     }
 }
 
-/// The style and the word of a mark.
-fn look_of(kind: MarkKind) -> (&'static str, &'static str) {
-    match kind {
-        MarkKind::Policed(verdict) => ("stop", verdict_word(verdict)),
-        MarkKind::Refused(Refusal::Full) => ("drop", "queue full"),
-        MarkKind::Refused(Refusal::NeverFits) => ("drop", "fits in no window"),
+/// Counts the marks.
+fn count_marks(shares: &mut Shares, span: Span, marks: &[Mark]) {
+    for mark in marks {
+        if span.has(mark.at) {
+            shares.count(mark.port, span.place(mark.at));
+        }
     }
 }
 
-/// Draws a frame that left, where the stretch has some of it, and below it when it came and is to be done, where that is known.
-fn put_frame(
-    alloc: Global,
-    drawing: &mut Drawing,
-    span: Span,
-    style: &str,
-    filter: u32,
-    departure: Departure,
-    due: Option<Span>,
-    frames: &mut Count,
-) -> Result<(), AllocError> {
-    if departure.done <= span.from || span.to <= departure.start || !frames.takes_one() {
-        return Ok(());
+/// Chooses which frames and marks are drawn.
+fn choose<A: Allocator + Copy, B: Allocator>(
+    picture: &Picture,
+    drawn: &Drawn<A, B>,
+) -> Result<Chosen, AllocError> {
+    let span = picture.span;
+    let mut frames = Shares::new(picture.alloc)?;
+    let mut marks = Shares::new(picture.alloc)?;
+    for (_, view) in &drawn.outcome.filters {
+        count_view(&mut frames, span, view);
     }
-    if let Some(due) = due {
-        put_due(alloc, drawing, span, filter, departure.own, due)?;
-    }
-    let (own, start, done) = (departure.own, departure.start, departure.done);
-    let told = format!(in alloc; "filter {filter} frame {own}, {start} to {done} ns")?;
-    let (x, width) = extent(span, start, done);
-    let width = seen(width);
-    let top = drawing.down();
-    drawing.told_bar(
-        style,
-        x,
-        top.saturating_add(30),
-        width,
-        LINK - 60,
-        told.as_str(),
-    )
-}
-
-/// Draws a line from when a frame came to when it is to be done.
-fn put_due(
-    alloc: Global,
-    drawing: &mut Drawing,
-    span: Span,
-    filter: u32,
-    own: u64,
-    due: Span,
-) -> Result<(), AllocError> {
-    let (from, to) = (due.from, due.to);
-    let told = format!(in alloc;
-        "filter {filter} frame {own}, came at {from} ns, is done by {to} ns"
-    )?;
-    let (x, width) = extent(span, from, to);
-    let line = drawing.down().saturating_add(LINK - 22);
-    drawing.told_bar("due", x, line, width, 12, told.as_str())
+    count_marks(&mut marks, span, drawn.marks);
+    frames.share(MOST_FRAMES);
+    marks.share(MOST_MARKS);
+    Ok(Chosen { frames, marks })
 }
 
 /// How long a frame of a protected filter takes at most from when it came until it is out of a port, whichever of the port's
@@ -202,27 +177,9 @@ fn longest_at<A: Allocator + Copy>(accepted: &Accepted<A>, filter: u32, port: u8
     longest
 }
 
-/// When a frame that left came, and when it is to be done, by how long it takes at most.
-fn due_of<B: Allocator>(
-    view: &View<B>,
-    departure: Departure,
-    longest: Option<u64>,
-) -> Option<Span> {
-    let place = departure.own.saturating_sub(1) as usize;
-    match (view.origins.get(place), longest) {
-        (Some(origin), Some(longest)) => Some(Span {
-            from: origin.at,
-            to: origin.at.saturating_add(longest),
-        }),
-        _ => None,
-    }
-}
-
-/// Whether a frame left a port.
-fn has_left<B: Allocator>(view: &View<B>, port: u8) -> bool {
-    view.departures
-        .iter()
-        .any(|departure| departure.port == port)
+/// The number of the colour of the filter at a place.
+fn colour_at(place: usize) -> u8 {
+    (place % 8) as u8
 }
 
 /// The width of a frame's bar: wide enough to be seen, and with a gap behind it where that leaves it so.
@@ -234,200 +191,308 @@ fn seen(width: u64) -> u64 {
     }
 }
 
-/// Draws what left a port of one filter.
-fn put_filter<A: Allocator + Copy, B: Allocator>(
-    alloc: Global,
-    drawing: &mut Drawing,
-    accepted: &Accepted<A>,
-    span: Span,
-    port: u8,
-    place: usize,
-    filter: u32,
-    view: &View<B>,
-    frames: &mut Count,
-) -> Result<(), AllocError>
-    requires from { 1 ≤ port }
-    requires to { port ≤ 16 }
-{
-    if !has_left(view, port) {
-        return Ok(());
-    }
-    let style = style_of(alloc, place, view.protected)?;
-    let longest = if view.protected {
-        longest_at(accepted, filter, port)
+/// Draws a frame that left, higher where it is protected.
+fn put_frame(picture: &mut Picture, sent: &Sent) -> Put {
+    let (start, done) = (sent.departure.start, sent.departure.done);
+    let (x, width) = extent(picture.span, start, done);
+    let width = seen(width);
+    let (by, high) = if sent.is_protected {
+        (15, 190)
     } else {
-        None
+        (55, 130)
     };
+    let style = if sent.is_protected && width >= WIDE {
+        Style::Edged(sent.colour)
+    } else {
+        Style::Filter(sent.colour)
+    };
+    let title = Title {
+        filter: sent.filter,
+        own: sent.departure.own,
+        came: sent.came,
+        left: Some((start, done)),
+        by: sent.by,
+        why: "",
+    };
+    let at = Rect::new(x, picture.below(by), width, high);
+    picture.put(Shape::Bar(style, at, Some(title)))
+}
+
+/// Draws when a protected frame came and how long it waited, and below that until when it is done at the latest.
+fn put_waiting(picture: &mut Picture, sent: &Sent) -> Put {
+    let (Some(came), Some(by)) = (sent.came, sent.by) else {
+        return Ok(());
+    };
+    let (x, due) = extent(picture.span, came, by);
+    let (_, waited) = extent(picture.span, came, sent.departure.start);
+    picture.bar(Style::Grey, Rect::new(x, picture.below(245), due, 10))?;
+    let style = Style::Filter(sent.colour);
+    if picture.span.has(came) {
+        put_wait(picture, style, x, picture.below(165), waited)
+    } else {
+        picture.bar(style, Rect::new(x, picture.below(225), waited, 14))
+    }
+}
+
+/// Whether a frame left a port.
+fn has_left<B: Allocator>(view: &View<B>, port: u8) -> bool {
     for departure in &view.departures {
         if departure.port == port {
-            put_frame(
-                alloc,
-                drawing,
-                span,
-                style.as_str(),
-                filter,
-                *departure,
-                due_of(view, *departure, longest),
-                frames,
-            )?;
+            return true;
+        }
+    }
+    false
+}
+
+/// When a frame is done at the latest.
+fn due_at(came: Option<u64>, longest: Option<u64>) -> Option<u64> {
+    match (came, longest) {
+        (Some(came), Some(longest)) => Some(came.saturating_add(longest)),
+        _ => None,
+    }
+}
+
+/// Draws what left a port of one filter.
+fn put_view<B: Allocator>(
+    picture: &mut Picture,
+    frames: &mut Shares,
+    port: u8,
+    (filter, view): &(u32, View<B>),
+    colour: u8,
+    longest: Option<u64>,
+) -> Put {
+    for departure in &view.departures {
+        let x = picture.span.place(departure.start);
+        if departure.port == port && is_shown(picture.span, departure) && frames.takes(port, x) {
+            let came = came_at(view, departure.own);
+            let sent = Sent {
+                filter: *filter,
+                colour,
+                departure: *departure,
+                came,
+                by: due_at(came, longest),
+                is_protected: view.protected,
+            };
+            put_waiting(picture, &sent)?;
+            put_frame(picture, &sent)?;
         }
     }
     Ok(())
 }
 
 /// Draws what left a port: of the protected filters, or of the others.
-fn put_filters<A: Allocator + Copy, B: Allocator>(
-    alloc: Global,
-    drawing: &mut Drawing,
-    accepted: &Accepted<A>,
-    span: Span,
+fn put_views<A: Allocator + Copy, B: Allocator>(
+    picture: &mut Picture,
+    drawn: &Drawn<A, B>,
+    frames: &mut Shares,
     port: u8,
-    outcome: &Outcome<B>,
     is_protected: bool,
-    frames: &mut Count,
-) -> Result<(), AllocError>
+) -> Put
     requires from { 1 ≤ port }
     requires to { port ≤ 16 }
 {
     let mut place = 0usize;
-    for (filter, view) in &outcome.filters {
-        if view.protected == is_protected {
-            put_filter(
-                alloc, drawing, accepted, span, port, place, *filter, view, frames,
-            )?;
+    for filter in &drawn.outcome.filters {
+        if filter.1.protected == is_protected && has_left(&filter.1, port) {
+            let longest = if is_protected {
+                longest_at(drawn.accepted, filter.0, port)
+            } else {
+                None
+            };
+            put_view(picture, frames, port, filter, colour_at(place), longest)?;
         }
         place = place.saturating_add(1);
     }
     Ok(())
 }
 
-/// Draws the marks at a port.
-fn put_marks(
-    alloc: Global,
-    drawing: &mut Drawing,
-    span: Span,
-    port: u8,
+/// Draws a mark, a greater one with an edge where its filter is protected.
+fn put_mark(picture: &mut Picture, mark: &Mark, colour: u8, is_protected: bool) -> Put {
+    let (is_up, why) = mark.kind.look();
+    let (style, half) = if is_protected {
+        (Style::Edged(colour), 60)
+    } else {
+        (Style::Filter(colour), 40)
+    };
+    let tip = Tip {
+        x: picture.span.place(mark.at),
+        y: picture.below(if is_up { 10 } else { 130 }),
+        half,
+        is_up,
+    };
+    let title = Title {
+        filter: mark.filter,
+        own: mark.own,
+        came: Some(mark.at),
+        left: None,
+        by: None,
+        why,
+    };
+    picture.put(Shape::Mark(style, tip, Some(title)))
+}
+
+/// Draws the marks at a port: of the protected filters, or of the others.
+fn put_marks<B: Allocator>(
+    picture: &mut Picture,
+    filters: &[(u32, View<B>)],
     marks: &[Mark],
-    count: &mut Count,
-) -> Result<(), AllocError> {
+    shares: &mut Shares,
+    port: u8,
+    is_protected: bool,
+) -> Put {
     for mark in marks {
-        if mark.port == port && span.has(mark.at) && count.takes_one() {
-            put_mark(alloc, drawing, span, *mark)?;
+        if mark.port == port && picture.span.has(mark.at) {
+            let place = filters.partition_point(|it| it.0 < mark.filter);
+            let found = filters.get(place).map_or(false, |it| it.1.protected);
+            if found == is_protected && shares.takes(port, picture.span.place(mark.at)) {
+                put_mark(picture, mark, colour_at(place), found)?;
+            }
         }
     }
     Ok(())
 }
 
-/// Draws a mark.
-fn put_mark(
-    alloc: Global,
-    drawing: &mut Drawing,
-    span: Span,
-    mark: Mark,
-) -> Result<(), AllocError> {
-    let (style, word) = look_of(mark.kind);
-    let (filter, own, at) = (mark.filter, mark.own, mark.at);
-    let told = format!(in alloc; "filter {filter} frame {own}, came at {at} ns: {word}")?;
-    let tip = drawing.down().saturating_add(120);
-    drawing.mark(style, span.place(at), tip, told.as_str())
+/// Draws the link of a port, with what left it, and what of that is left out.
+fn put_link<A: Allocator + Copy, B: Allocator>(
+    picture: &mut Picture,
+    drawn: &Drawn<A, B>,
+    frames: &mut Shares,
+    port: u8,
+) -> Put
+    requires from { 1 ≤ port }
+    requires to { port ≤ 16 }
+{
+    picture.wide(Style::Lane, LINK - 20)?;
+    picture.word(Style::Bold, 200, 160, "link")?;
+    put_views(picture, drawn, frames, port, true)?;
+    put_views(picture, drawn, frames, port, false)?;
+    frames.put_hatches(picture, port, 55, 130)?;
+    picture.go_down(LINK);
+    Ok(())
 }
 
-/// What a picture of a run draws.
-#[derive(Clone, Copy)]
-struct Drawn<'a, B: Allocator> {
-    outcome: &'a Outcome<B>,
-    marks: &'a [Mark],
-    span: Span,
+/// Draws the marks at a port, and what of them is left out.
+fn put_stops<A: Allocator + Copy, B: Allocator>(
+    picture: &mut Picture,
+    drawn: &Drawn<A, B>,
+    shares: &mut Shares,
+    port: u8,
+) -> Put {
+    picture.word(Style::Small, 200, 110, "not let on")?;
+    let (filters, marks) = (&drawn.outcome.filters, drawn.marks);
+    put_marks(picture, filters, marks, shares, port, true)?;
+    put_marks(picture, filters, marks, shares, port, false)?;
+    shares.put_hatches(picture, port, 10, 120)?;
+    picture.go_down(170);
+    Ok(())
 }
 
 /// Draws a port: its windows, what left its link, and the marks.
 fn put_lanes<A: Allocator + Copy, B: Allocator>(
-    alloc: Global,
-    drawing: &mut Drawing,
-    accepted: &Accepted<A>,
-    drawn: &Drawn<B>,
+    picture: &mut Picture,
+    drawn: &Drawn<A, B>,
+    chosen: &mut Chosen,
     port: &PortPlan<A>,
-    counts: &mut Counts,
-) -> Result<(), AllocError>
+) -> Put
     requires from { 1 ≤ port.now.number }
     requires to { port.now.number ≤ 16 }
 {
-    let plan = accepted.plan();
-    let (span, number) = (drawn.span, port.number);
-    let parts = put_port(alloc, drawing, span, plan, port, most_of(plan))?;
-    let top = drawing.down();
-    drawing.bar("lane", LEFT, top, ACROSS, LINK - 20)?;
-    drawing.text("b", 200, top.saturating_add(160), "link")?;
-    put_filters(
-        alloc,
-        drawing,
-        accepted,
-        span,
-        number,
-        drawn.outcome,
-        true,
-        &mut counts.frames,
-    )?;
-    put_filters(
-        alloc,
-        drawing,
-        accepted,
-        span,
-        number,
-        drawn.outcome,
-        false,
-        &mut counts.frames,
-    )?;
-    drawing.go_down(LINK);
-    drawing.text("s", 200, drawing.down().saturating_add(110), "not let on")?;
-    put_marks(alloc, drawing, span, number, drawn.marks, &mut counts.marks)?;
-    drawing.go_down(170);
-    counts.parts = counts.parts.saturating_add(parts);
-    Ok(())
+    put_port(picture, drawn.accepted.plan(), port)?;
+    put_link(picture, drawn, &mut chosen.frames, port.number)?;
+    put_stops(picture, drawn, &mut chosen.marks, port.number)
 }
 
-/// Says what had no room.
-fn put_left_out(
-    alloc: Global,
-    drawing: &mut Drawing,
-    frames: Count,
-    marks: Count,
-) -> Result<(), AllocError> {
-    if frames.left_out > 0 {
-        let (most, more) = (frames.most, frames.left_out);
-        let words = format!(in alloc;
-            "left out: {more} frames that left, beyond the first {most}; show less time by --from and --to"
-        )?;
-        put_note(drawing, words.as_str())?;
-    }
-    if marks.left_out > 0 {
-        let (most, more) = (marks.most, marks.left_out);
-        let words = format!(in alloc; "left out: {more} marks, beyond the first {most}")?;
-        put_note(drawing, words.as_str())?;
+/// Draws all ports.
+fn put_each<A: Allocator + Copy, B: Allocator>(
+    picture: &mut Picture,
+    drawn: &Drawn<A, B>,
+    chosen: &mut Chosen,
+) -> Put {
+    for port in drawn.accepted.plan().ports() {
+        put_lanes(picture, drawn, chosen, port)?;
     }
     Ok(())
 }
 
-/// Says which stretch a picture shows.
-fn put_title(alloc: Global, drawing: &mut Drawing, span: Span) -> Result<(), AllocError> {
-    let unit = unit_of(span);
-    let from = moment(alloc, unit, span.from)?;
-    let to = moment(alloc, unit, span.to)?;
-    let words = format!(in alloc; "from {from} to {to}")?;
-    drawing.go_down(220);
-    let line = drawing.down();
-    drawing.text("h", 100, line, "run")?;
-    drawing.text("", LEFT, line, words.as_str())
+/// Whether some frame that came did so in a stretch.
+fn has_come(span: Span, origins: &[Origin]) -> bool {
+    for origin in origins {
+        if span.has(origin.at) {
+            return true;
+        }
+    }
+    false
+}
+
+/// Whether something of a filter is drawn: a frame that came, or one that left.
+fn is_drawn<B: Allocator>(span: Span, view: &View<B>) -> bool {
+    for departure in &view.departures {
+        if is_shown(span, departure) {
+            return true;
+        }
+    }
+    has_come(span, &view.origins)
+}
+
+/// Names the filters of which something is drawn.
+fn put_filters<B: Allocator>(picture: &mut Picture, filters: &[(u32, View<B>)]) -> Put {
+    let mut legend = Legend::new(picture);
+    let mut place = 0usize;
+    for (number, view) in filters {
+        if is_drawn(picture.span, view) {
+            let (style, manner) = if view.protected {
+                (Style::Edged(colour_at(place)), "protected")
+            } else {
+                (Style::Filter(colour_at(place)), "plain")
+            };
+            let words = format!(in picture.alloc; "{number} {manner}")?;
+            legend.put(picture, Sample::Bar(style), words.as_str())?;
+        }
+        place = place.saturating_add(1);
+    }
+    Ok(())
+}
+
+/// Says how many frames and marks aren't drawn, where some aren't.
+fn put_left_out(picture: &mut Picture, chosen: &Chosen) -> Put {
+    let (frames, no_frames) = chosen.frames.left_out();
+    let (marks, no_marks) = chosen.marks.left_out();
+    if no_frames == 0 && no_marks == 0 {
+        return Ok(());
+    }
+    let words = format!(in picture.alloc;
+        "left out where it is hatched: {no_frames} of {frames} frames, {no_marks} of {marks} marks; show less time by --from and --to"
+    )?;
+    picture.go_down(190);
+    picture.text(Style::Bold, LEFT, 0, words)
+}
+
+/// Lays out the picture of a run.
+fn put_run<A: Allocator + Copy, B: Allocator>(picture: &mut Picture, drawn: &Drawn<A, B>) -> Put {
+    let change = times_of(drawn.accepted.plan()).change;
+    let mut chosen = choose(picture, drawn)?;
+    let shows = stretch(picture.alloc, picture.span)?;
+    put_head(picture, "run", shows)?;
+    put_left_out(picture, &chosen)?;
+    put_filters(picture, &drawn.outcome.filters)?;
+    put_legend(picture, RUN, change.is_some())?;
+    let line = picture.below(150);
+    picture.go_down(350);
+    let top = picture.down;
+    put_each(picture, drawn, &mut chosen)?;
+    put_axis(picture, change, top)?;
+    put_bands(picture, line)
 }
 
 /// The picture of a run under a plan as an SVG text of at most 2,000,000 octets: for each port the windows of its classes,
 /// below them its link, on which each frame that left is a bar from its start to its end in the colour of its filter, and
 /// below that a mark for each frame that was not let on, at the moment at which it came. Frames of protected filters stand
-/// out, and are drawn before others, each over a line from when it came to when it is done at the latest, as the bound of
-/// its queue has it. Frames without a filter aren't drawn.
+/// out, and are drawn before others, each over a line from when it came to its start and one to when it is done at the
+/// latest, as the bound of its queue has it. Frames without a filter aren't drawn.
 ///
-/// It shows the time from `from` up to `to`, in ns; without one of them as far as there is something to draw. What has no
-/// room is left out, and the picture says so.
+/// It shows the time from `from` up to `to`, in ns; without one of them as far as there is something to draw. Where there is
+/// more than has room, each port and each part of the time has its share, what is left out is hatched, and the head says
+/// how much it is.
 pub fn draw_run<A: Allocator + Copy, B: Allocator>(
     alloc: Global,
     accepted: &Accepted<A>,
@@ -439,53 +504,12 @@ pub fn draw_run<A: Allocator + Copy, B: Allocator>(
     ensures { IfOk result (λ text. length (string_bytes text) ≤ 2000000) }
 {
     let span = shown(outcome, marks, from, to);
+    let mut picture = Picture::new(alloc, span, most_of(accepted.plan(), 0));
     let drawn = Drawn {
+        accepted,
         outcome,
         marks,
-        span,
     };
-    let mut drawing = Drawing::new(alloc);
-    put_title(alloc, &mut drawing, span)?;
-    put_legend(alloc, &mut drawing, &outcome.filters)?;
-    let top = drawing.down();
-    put_all(alloc, &mut drawing, accepted, &drawn, top)?;
-    put_note(
-        &mut drawing,
-        "green: a class in which frames of protected filters wait; red: refused by a queue; orange: stopped by the filter; line below a protected frame: from when it came to when it is done at the latest",
-    )?;
-    Ok(drawing.end()?)
-}
-
-/// Draws all ports, the axis, and what is left out.
-fn put_all<A: Allocator + Copy, B: Allocator>(
-    alloc: Global,
-    drawing: &mut Drawing,
-    accepted: &Accepted<A>,
-    drawn: &Drawn<B>,
-    top: u64,
-) -> Result<(), AllocError> {
-    let mut counts = Counts {
-        frames: Count::new(MOST_FRAMES),
-        marks: Count::new(MOST_MARKS),
-        parts: 0,
-    };
-    put_each(alloc, drawing, accepted, drawn, &mut counts)?;
-    put_change(drawing, drawn.span, change_of(accepted.plan()), top)?;
-    put_axis(alloc, drawing, drawn.span, top)?;
-    put_parts(alloc, drawing, counts.parts)?;
-    put_left_out(alloc, drawing, counts.frames, counts.marks)
-}
-
-/// Draws all ports.
-fn put_each<A: Allocator + Copy, B: Allocator>(
-    alloc: Global,
-    drawing: &mut Drawing,
-    accepted: &Accepted<A>,
-    drawn: &Drawn<B>,
-    counts: &mut Counts,
-) -> Result<(), AllocError> {
-    for port in accepted.plan().ports() {
-        put_lanes(alloc, drawing, accepted, drawn, port, counts)?;
-    }
-    Ok(())
+    put_run(&mut picture, &drawn)?;
+    Ok(svg_of(alloc, &picture.shapes, picture.below(150))?)
 }

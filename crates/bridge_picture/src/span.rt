@@ -1,7 +1,7 @@
 //! The stretch of time that a picture shows.
 ghost use Rattle.std.specs.Prelude.{◌≤◌, ◌<◌, ◌+◌};
 
-use crate::drawing::{ACROSS, LEFT};
+use crate::shapes::{ACROSS, LEFT};
 use bridge_config::Plan;
 use bridge_cycle::{Egress, Timeline};
 use bridge_gate::Schedule;
@@ -63,96 +63,93 @@ fn common_divisor(one: u64, other: u64) -> u64 {
     kept
 }
 
-/// The least number that two cycles divide, but at most `LONGEST_HYPERCYCLE`.
-fn both(one: u64, other: u64) -> u64
-    ensures { result ≤ LONGEST_HYPERCYCLE }
-{
-    let divisor = common_divisor(one, other).max(1);
-    (one / divisor)
-        .saturating_mul(other)
-        .min(LONGEST_HYPERCYCLE)
+/// The least number that two cycles divide, or the greatest of 64 bits where that is smaller.
+fn both(one: u64, other: u64) -> u64 {
+    if one == u64::MAX {
+        return one;
+    }
+    (one / common_divisor(one, other).max(1)).saturating_mul(other)
 }
 
-/// A cycle with that of another list, where there is one.
-fn with_cycle(cycle: Option<u64>, other: u64) -> Option<u64> {
-    match cycle {
-        Some(cycle) => Some(both(cycle, other)),
-        None => Some(other.min(LONGEST_HYPERCYCLE)),
+/// After how many ns the lists of a plan are together where they were, which is the greatest number of 64 bits where it is
+/// more, and none without a list; and when lists are exchanged, where some are.
+#[derive(Clone, Copy)]
+pub(crate) struct Times {
+    pub cycle: Option<u64>,
+    pub change: Option<u64>,
+}
+
+impl Times {
+    /// The same with another list, of a cycle.
+    fn with(self, cycle: u64) -> Times {
+        let whole = self.cycle.map_or(cycle, |own| both(own, cycle));
+        Times {
+            cycle: Some(whole),
+            change: self.change,
+        }
+    }
+
+    /// The same with two lists that are exchanged at a moment.
+    fn with_both(self, old: u64, new: u64, at: u64) -> Times {
+        Times {
+            cycle: self.with(old).with(new).cycle,
+            change: self.change.or(Some(at)),
+        }
+    }
+
+    /// How much of a hypercycle is shown, in ns.
+    pub(crate) fn shown(self) -> u64 {
+        self.cycle.unwrap_or(NO_CYCLE).min(LONGEST_HYPERCYCLE)
+    }
+
+    /// What the picture of a plan shows: one hypercycle from 0 on, or one at each side of the change of schedules.
+    pub(crate) fn span(self) -> Span {
+        let shown = self.shown();
+        match self.change {
+            None => Span { from: 0, to: shown },
+            Some(at) => Span {
+                from: at.saturating_sub(shown),
+                to: at.saturating_add(shown),
+            },
+        }
     }
 }
 
-/// A cycle with those of a port's lists.
-fn with_egress<A: Allocator + Copy>(cycle: Option<u64>, list: &Option<Egress<A>>) -> Option<u64> {
+/// The times of some lists with those of a port.
+fn with_egress<A: Allocator + Copy>(times: Times, list: &Option<Egress<A>>) -> Times {
     match list {
-        None => cycle,
-        Some(Egress::Cyclic(list)) => with_cycle(cycle, list.cycle()),
+        None => times,
+        Some(Egress::Cyclic(list)) => times.with(list.cycle()),
         Some(Egress::Joined(joined)) => {
             let (old, new) = joined.lists();
-            with_cycle(with_cycle(cycle, old.cycle()), new.cycle())
+            times.with_both(old.cycle(), new.cycle(), joined.at())
         }
     }
 }
 
-/// A cycle with those of a gate's lists.
-fn with_schedule<A: Allocator + Copy>(cycle: Option<u64>, schedule: &Schedule<A>) -> Option<u64> {
+/// The times of some lists with those of a gate.
+fn with_schedule<A: Allocator + Copy>(times: Times, schedule: &Schedule<A>) -> Times {
     match schedule {
-        Schedule::Fixed { lets: _, ipv: _ } => cycle,
-        Schedule::Cyclic(list) => with_cycle(cycle, list.cycle()),
+        Schedule::Fixed { lets: _, ipv: _ } => times,
+        Schedule::Cyclic(list) => times.with(list.cycle()),
         Schedule::Joined(joined) => {
             let (old, new) = joined.lists();
-            with_cycle(with_cycle(cycle, old.cycle()), new.cycle())
+            times.with_both(old.cycle(), new.cycle(), joined.at())
         }
     }
 }
 
-/// The time after which the lists of a plan are together where they were, but at most `LONGEST_HYPERCYCLE`.
-fn hypercycle<A: Allocator + Copy>(plan: &Plan<A>) -> u64 {
-    let mut cycle = None;
+/// The times of the lists of a plan.
+pub(crate) fn times_of<A: Allocator + Copy>(plan: &Plan<A>) -> Times {
+    let mut times = Times {
+        cycle: None,
+        change: None,
+    };
     for port in plan.ports() {
-        cycle = with_egress(cycle, &port.list);
+        times = with_egress(times, &port.list);
     }
     for gate in plan.gates() {
-        cycle = with_schedule(cycle, &gate.1.schedule);
+        times = with_schedule(times, &gate.1.schedule);
     }
-    cycle.unwrap_or(NO_CYCLE)
-}
-
-/// The moment at which a port's lists are exchanged.
-fn change_of_egress<A: Allocator + Copy>(list: &Option<Egress<A>>) -> Option<u64> {
-    match list {
-        Some(Egress::Joined(joined)) => Some(joined.at()),
-        _ => None,
-    }
-}
-
-/// The moment at which a gate's lists are exchanged.
-fn change_of_schedule<A: Allocator + Copy>(schedule: &Schedule<A>) -> Option<u64> {
-    match schedule {
-        Schedule::Joined(joined) => Some(joined.at()),
-        _ => None,
-    }
-}
-
-/// The moment at which lists of a plan are exchanged, where some are.
-pub(crate) fn change_of<A: Allocator + Copy>(plan: &Plan<A>) -> Option<u64> {
-    let mut change = None;
-    for port in plan.ports() {
-        change = change.or(change_of_egress(&port.list));
-    }
-    for gate in plan.gates() {
-        change = change.or(change_of_schedule(&gate.1.schedule));
-    }
-    change
-}
-
-/// What the picture of a plan shows: one hypercycle from 0 on, or one at each side of the change of schedules.
-pub(crate) fn span_of<A: Allocator + Copy>(plan: &Plan<A>) -> Span {
-    let cycle = hypercycle(plan);
-    match change_of(plan) {
-        None => Span { from: 0, to: cycle },
-        Some(at) => Span {
-            from: at.saturating_sub(cycle),
-            to: at.saturating_add(cycle),
-        },
-    }
+    times
 }

@@ -3,13 +3,12 @@
 
 use crate::reporting::rows_from;
 use crate::traffic::{comes_to, row_fault};
-use bridge_bounds::filter_at;
+use bridge_bounds::{filter_at, gate_at};
 use bridge_check::reach_of;
 use bridge_config::Plan;
 use bridge_cycle::{Egress, Timeline};
 use bridge_gate::Schedule;
 use bridge_netfile::{NetFault, NetField};
-use bridge_periods::gate_at;
 use bridge_program::planned;
 use bridge_traffic::{TrafficFault, TrafficRow};
 use std::alloc::{AllocError, Global};

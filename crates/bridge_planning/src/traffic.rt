@@ -7,14 +7,13 @@ ghost use Rattle.bridge_check.specs.Reached.{reach_of};
 ghost use Rattle.bridge_planning.specs.Traffic as spec;
 
 use crate::bounds::is_reached;
-use bridge_bounds::filter_at;
+use bridge_bounds::{filter_at, gate_at};
 use bridge_check::{Reach, reach_of};
 use bridge_config::{Plan, PortPlan};
 use bridge_cycle::{Egress, Timeline};
 use bridge_filter::FilterPlan;
 use bridge_gate::Schedule;
 use bridge_netfile::{NetFault, NetField, NetPlace, NetSection};
-use bridge_periods::gate_at;
 use bridge_traffic::{TrafficFault, TrafficRow};
 use std::alloc::Allocator;
 

@@ -4,8 +4,6 @@
 mod document;
 mod fault;
 mod rows;
-#[cfg(test)]
-mod tests;
 
 pub use document::traffic_of;
 pub use fault::{TrafficFault, fault_line};

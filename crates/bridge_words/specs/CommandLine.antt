@@ -43,13 +43,14 @@ wire_command = with_rule (with_rule (with_rule (with_rule (with_rule (new_app (c
 
 -- `check PLAN`
 abbrev pub check_command : App
-check_command = with_rule (with_rule (new_app (codes "check")) (word_named (codes "plan"))) (flag_named (codes "explain"))
+check_command = with_rule (with_rule (with_rule (new_app (codes "check")) (word_named (codes "plan"))) (flag_named (codes "strict"))) (flag_named (codes "explain"))
 
 -- `run PLAN IN OUT`, with `--commands FILE` if commands are wanted
 abbrev pub run_command : App
-run_command = with_rule (with_rule (with_rule (with_rule (with_rule (with_rule (with_rule (with_rule (new_app (codes "run"))
+run_command = with_rule (with_rule (with_rule (with_rule (with_rule (with_rule (with_rule (with_rule (with_rule (new_app (codes "run"))
     (word_named (codes "plan"))) (word_named (codes "input"))) (word_named (codes "output"))) (option_named (codes "commands")))
-    (option_named (codes "picture"))) (option_named (codes "from"))) (option_named (codes "to"))) (flag_named (codes "explain"))
+    (option_named (codes "picture"))) (option_named (codes "from"))) (option_named (codes "to"))) (flag_named (codes "strict")))
+    (flag_named (codes "explain"))
 
 -- `picture PLAN FILE`
 abbrev pub picture_command : App

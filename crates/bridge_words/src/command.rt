@@ -63,6 +63,14 @@ const EXPLAIN: Word = Word {
     help: "say more on standard error: of a fault, or of a plan that is accepted",
 };
 
+/// Whether a plan is refused too where something is told of it that is accepted.
+const STRICT: Word = Word {
+    id: "strict",
+    value: "",
+    form: Form::Flag,
+    help: "end with status 1 where there is a warning of a plan that is accepted",
+};
+
 const WIRE: Description = Description {
     name: "wire",
     about: "Send a capture through one queue",
@@ -107,14 +115,14 @@ Statuses:
 const CHECK: Description = Description {
     name: "check",
     about: "Say whether a plan protects its streams",
-    words: &[PLAN, EXPLAIN],
+    words: &[PLAN, STRICT, EXPLAIN],
     after: "\
 Example:
   tsnbridge check examples/base.toml
 
 Statuses:
   0  the plan is accepted; one line has its protected filters
-  1  the plan is refused
+  1  the plan is refused; with --strict also where there is a warning
   3  a file, a read, a write or memory failed
   4  the words are refused",
 };
@@ -160,6 +168,12 @@ const RUN: Description = Description {
             form: Form::Choice,
             help: "up to when it does, in ns below 4 * 10^18, behind that; else up to its end",
         },
+        Word {
+            id: "strict",
+            value: "",
+            form: Form::Flag,
+            help: "run nothing and end with status 1 where there is a warning of the plan",
+        },
         EXPLAIN,
     ],
     after: "\
@@ -169,7 +183,7 @@ Example:
 
 Statuses:
   0  the captures went through; one line has their counts
-  1  the plan or its commands are refused
+  1  the plan or its commands are refused; with --strict also where there is a warning
   2  a capture is refused
   3  a file, a read, a write or memory failed
   4  the words are refused",

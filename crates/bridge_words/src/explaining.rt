@@ -9,7 +9,8 @@ pub fn wants_explanation(words: &[String]) -> bool
     has_flag(words, "--explain")
 }
 
-/// Whether the flag `--strict` is among the words, likewise: what is told of a network that is accepted is then a fault.
+/// Whether the flag `--strict` is among the words, likewise: what is told of a network that is accepted, or a warning of a plan
+/// that is, is then a fault.
 pub fn wants_strictness(words: &[String]) -> bool
     ensures { result ≡ is_strict (map string_bytes words.now) }
 {

@@ -6,6 +6,13 @@ use Rattle.bridge_keys.specs.Readers.{Gives, GivesAs}
 use Rattle.bridge_config.specs.Model.{Plan}
 use Rattle.bridge_config.specs.declared.command.Command.{Command}
 use Rattle.bridge_config.specs.Document.{plan_of_text, commands_of_text}
+use Rattle.bridge_netfile.specs.declared.fault.NetFault.{NetFault}
+use Rattle.bridge_netfile.specs.Document.{network_of_text}
+use Rattle.bridge_netfile.specs.Lines.{line_for, line_of}
+use Rattle.bridge_netfile.specs.Model.{Network}
+use Rattle.bridge_netfile.specs.Reading as reading
+use Rattle.bridge_traffic.specs.declared.rows.TrafficRow.{TrafficRow}
+use Rattle.bridge_traffic.specs.Document.{rows_of_text}
 use Rattle.bridge_program.specs.PlanLines.{line_of_plan}
 use Rattle.bridge_program.specs.RefusedCommands.{line_of_commands}
 
@@ -26,3 +33,25 @@ IsPlanLine A text line = (read : Result (Plan A) PlanFault) × Gives read (plan_
 -- the line of what the text of commands to the bridge of a plan gives, unless memory ran out
 abbrev pub IsCommandsLine : {A : Type 0} → Plan A → List ℕ → List ℕ → Type 0
 IsCommandsLine plan text line = (read : Result (Vec Command) PlanFault) × GivesAs (λ v. v.items) read (commands_of_text plan text) × (line ≡ commands_line read)
+
+-- so many bridges, links and streams
+unfoldable pub counts_words : ℕ → ℕ → ℕ → List ℕ
+counts_words bridges links streams = decimal bridges ++ (codes " bridges " ++ (decimal links ++ (codes " links " ++ (decimal streams ++ codes " streams"))))
+
+-- the rows of a network are counted, or it is refused by its line
+abbrev pub network_line : Result Network NetFault → List ℕ
+network_line (Ok n) = counts_words (length n.bridges) (length n.links) (length n.streams)
+network_line (Err fault) = line_of fault
+
+-- rows of traffic are counted, or they are refused by their line
+abbrev pub traffic_line : Result (Vec TrafficRow) NetFault → List ℕ
+traffic_line (Ok rows) = decimal (length rows.items) ++ codes " rows"
+traffic_line (Err fault) = line_for (codes "traffic") fault
+
+-- the line of what the text of a network gives, unless memory ran out
+abbrev pub IsNetworkLine : List ℕ → List ℕ → Type 0
+IsNetworkLine text line = (read : Result Network NetFault) × reading.Gives read (network_of_text text) × (line ≡ network_line read)
+
+-- the line of what the text of traffic gives, unless memory ran out
+abbrev pub IsTrafficLine : List ℕ → List ℕ → Type 0
+IsTrafficLine text line = (read : Result (Vec TrafficRow) NetFault) × reading.GivesAs (λ v. v.items) read (rows_of_text text) × (line ≡ traffic_line read)

@@ -1,5 +1,5 @@
 #![tactic(auto)]
-//! Files of cases: texts of plans and of commands, and what is to become of each; then the help of the program and of each
+//! Files of cases: texts of plans, of commands, of networks and of traffic, and what is to become of each; then the help of the program and of each
 //! of its commands, as docs/COMMANDS.md has it, what is told beside the line of each kind of fault, and of plans that are
 //! accepted.
 //!
@@ -8,6 +8,7 @@
 mod bases;
 mod case;
 mod judging;
+mod networks;
 mod outcome;
 mod reading;
 mod telling;

@@ -5,6 +5,7 @@ ghost use Rattle.gate_cases.specs.Outcomes.{IsCommandsLine, IsPlanLine};
 
 use crate::bases::Bases;
 use crate::case::{Case, case_of, written_out};
+use crate::networks::line_at;
 use bridge_config::{Plan, commands_of, plan_of};
 use bridge_program::{Fault, fault_line};
 use std::alloc::{AllocError, Allocator, Global};
@@ -61,6 +62,9 @@ fn outcome(alloc: Global, bases: &Bases, case: &Case<'_>) -> Result<Option<Strin
     }
     if case.place == "alone" {
         return Ok(Some(planned(alloc, alloc, lines.as_str())?));
+    }
+    if let Some(line) = line_at(alloc, case.place, lines.as_str())? {
+        return Ok(Some(line));
     }
     match bases.with(alloc, case.place, lines.as_str())? {
         Some(text) => Ok(Some(planned(alloc, alloc, text.as_str())?)),

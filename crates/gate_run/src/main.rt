@@ -2,7 +2,7 @@
 //! The jobs over files: `run` over a folder of captures, then what it wrote: the octets of each capture, and the report;
 //! runs that are refused, over files that are to keep what they hold; pictures; `wire` over two files, then the octets of
 //! the one that it wrote, from standard input and to standard output, and over files that are to keep what they hold;
-//! `check`; and the examples, each with a babbling talker and without.
+//! `check`; both where a warning is a fault; and the examples, each with a babbling talker and without.
 
 mod checking;
 mod examples;
@@ -10,6 +10,7 @@ mod kept;
 mod pictures;
 mod refused;
 mod section;
+mod strict;
 mod wiring;
 mod wording;
 
@@ -25,6 +26,7 @@ use pictures::print_pictures;
 use refused::print_refused;
 use std::process::ExitCode;
 use std::rt::{Env, Files};
+use strict::print_strict;
 use wiring::print_wired;
 
 /// The ports of the plan.
@@ -46,6 +48,7 @@ fn run(rt: &(impl Input + AllocGlobal + Print + Eprint + Env + Files)) -> Result
     print_wired(rt)?;
     print_refused(rt)?;
     print_checked(rt)?;
+    print_strict(rt)?;
     print_compared(rt)
 }
 

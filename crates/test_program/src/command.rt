@@ -234,7 +234,7 @@ fn words_ask_for_a_run_with_commands(rt: HostRuntime) -> Result<(), Fail> {
     Ok(())
 }
 
-const REFUSED: [&[&str]; 51] = [
+const REFUSED: [&[&str]; 54] = [
     &["wire", "999", "1", "IN", "OUT"],
     &["wire", "1000", "0", "IN", "OUT"],
     &["wire", "1000", "+1", "IN", "OUT"],
@@ -294,7 +294,10 @@ const REFUSED: [&[&str]; 51] = [
     &["net", "check", "NET", "--picture", "FILE"],
     &["net", "NET", "IN", "OUT", "--traffic", "FILE"],
     &["bounds", "PLAN", "--traffic"],
-    &["check", "PLAN", "--strict"],
+    &["check", "PLAN", "--strict", "--strict"],
+    &["bounds", "PLAN", "--strict"],
+    &["picture", "PLAN", "FILE", "--strict"],
+    &["wire", "10", "1", "IN", "OUT", "--strict"],
 ];
 
 /// Tests the line and the status of words that are refused.

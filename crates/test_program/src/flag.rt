@@ -24,6 +24,10 @@ const FLAGGED: &[Pair] = &[
         &["run", "PLAN", "IN", "OUT"],
     ),
     (
+        &["check", "PLAN", "--explain", "--strict"],
+        &["check", "PLAN", "--strict"],
+    ),
+    (
         &[
             "run",
             "--explain",
@@ -58,8 +62,14 @@ const REFUSED: &[&[&str]] = &[
     &["run", "PLAN", "IN", "OUT", "--commands", "--explain"],
 ];
 
-/// Words of `net`, and whether they want strictness.
+/// Words of a plan or of a network, and whether they want strictness.
 const STRICT: &[(&[&str], bool)] = &[
+    (&["check", "PLAN", "--strict"], true),
+    (&["check", "--strict", "--explain", "PLAN"], true),
+    (&["check", "PLAN"], false),
+    (&["check", "--", "--strict"], false),
+    (&["run", "--strict", "PLAN", "IN", "OUT"], true),
+    (&["run", "PLAN", "IN", "OUT"], false),
     (&["net", "check", "NET", "--strict"], true),
     (&["net", "--strict", "NET", "IN", "OUT"], true),
     (&["net", "check", "--explain", "--strict", "NET"], true),
@@ -172,6 +182,6 @@ fn each_is_strict(alloc: Global) -> Result<(), Fail> {
 }
 
 #[test]
-fn strictness_is_of_networks(rt: HostRuntime) -> Result<(), Fail> {
+fn strictness_is_of_plans_and_networks(rt: HostRuntime) -> Result<(), Fail> {
     each_is_strict(rt.alloc())
 }

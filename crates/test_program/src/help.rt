@@ -71,6 +71,7 @@ Arguments:
   <PLAN>  file of the plan (TOML, at most 1,048,576 octets)
 
 Options:
+      --strict   end with status 1 where there is a warning of a plan that is accepted
       --explain  say more on standard error: of a fault, or of a plan that is accepted
   -h, --help     Print help
   -V, --version  Print version
@@ -80,7 +81,7 @@ Example:
 
 Statuses:
   0  the plan is accepted; one line has its protected filters
-  1  the plan is refused
+  1  the plan is refused; with --strict also where there is a warning
   3  a file, a read, a write or memory failed
   4  the words are refused
 ";
@@ -100,6 +101,7 @@ Options:
       --picture <FILE>   file of a picture of the run, which is made too (SVG)
       --from <NS>        from when on the picture shows the run, in ns below 4 * 10^18; else from its start
       --to <NS>          up to when it does, in ns below 4 * 10^18, behind that; else up to its end
+      --strict           run nothing and end with status 1 where there is a warning of the plan
       --explain          say more on standard error: of a fault, or of a plan that is accepted
   -h, --help             Print help
   -V, --version          Print version
@@ -110,7 +112,7 @@ Example:
 
 Statuses:
   0  the captures went through; one line has their counts
-  1  the plan or its commands are refused
+  1  the plan or its commands are refused; with --strict also where there is a warning
   2  a capture is refused
   3  a file, a read, a write or memory failed
   4  the words are refused

@@ -3,7 +3,10 @@
 ghost use Rattle.bridge_words.specs.CommandLine.{HasRoom};
 
 use bridge_files::{Said, say, wire_files};
-use bridge_folder::{drawn_job, explain, explain_accepted, picture_job, write_picture};
+use bridge_folder::{
+    Strict, drawn_job, explain, explain_accepted, picture_job, strict_check_job, strict_run_job,
+    write_picture,
+};
 use bridge_net_folder::{RoundsJob, explain_stopped, rounds_job};
 use bridge_planning::{
     TrafficReport, bounds_job, explain_network, explain_traffic, is_network, network_job,
@@ -86,16 +89,55 @@ struct Answer {
     is_kept: bool,
     /// In how many rounds a run of a network was found.
     rounds: Option<u32>,
+    /// What is told on standard error, where it is known already.
+    told: Option<String>,
+}
+
+/// The answer of a job that says something.
+fn answered(said: Option<Said>) -> Answer {
+    Answer {
+        said,
+        is_told: false,
+        is_kept: true,
+        rounds: None,
+        told: None,
+    }
 }
 
 /// The answer of a job that prints a line.
 fn printed(line: String) -> Answer {
+    answered(Some(Said::Printed(line)))
+}
+
+/// The answer of a job over a plan for which a warning is a fault.
+fn strictly(strict: Strict) -> Answer {
+    let Strict {
+        line,
+        told,
+        is_warned,
+    } = strict;
+    let said = match line {
+        Some(line) => Some(Said::Printed(line)),
+        None => None,
+    };
     Answer {
-        said: Some(Said::Printed(line)),
-        is_told: false,
+        said,
+        is_told: is_warned,
         is_kept: true,
         rounds: None,
+        told: Some(told),
     }
+}
+
+/// What is wanted of a job beside it.
+#[derive(Clone, Copy)]
+struct Wishes {
+    /// Whether what is told is a fault.
+    is_strict: bool,
+    /// Whether more is to be told.
+    is_explained: bool,
+    /// Whether a long job says how far it is.
+    is_watched: bool,
 }
 
 /// Does the job of the words and says what it says; where they ask for help or for the version, prints that, and ends as for
@@ -113,16 +155,32 @@ fn run(
     }
     let job = job_of(rt.alloc(), &words)?;
     let sketch = sketch_of(rt.alloc(), &words)?;
-    let is_strict = wants_strictness(&words);
-    let answer = answer_of(rt, job, sketch, is_strict, is_watched)?;
+    let wishes = Wishes {
+        is_strict: wants_strictness(&words),
+        is_explained: wants_explanation(&words),
+        is_watched,
+    };
+    let answer = answer_of(rt, job, sketch, wishes)?;
     if let Some(said) = &answer.said {
         say(rt, said)?;
     }
-    if wants_explanation(&words) {
+    tell(rt, &words, &answer, wishes.is_explained);
+    Ok(answer.is_kept && !(answer.is_told && wishes.is_strict))
+}
+
+/// Tells on standard error what is to be told of a job that is done.
+fn tell(
+    rt: &(impl AllocGlobal + Eprint + Files),
+    words: &[String],
+    answer: &Answer,
+    is_explained: bool,
+) {
+    if let Some(told) = &answer.told {
+        let _ = eprint!(rt; "{told}");
+    } else if is_explained {
         tell_rounds(rt, answer.rounds);
-        explain_accepted(rt, &words);
+        explain_accepted(rt, words);
     }
-    Ok(answer.is_kept && !(answer.is_told && is_strict))
 }
 
 /// Tells in how many rounds a run of a network was found.
@@ -135,61 +193,36 @@ fn tell_rounds(rt: &(impl AllocGlobal + Eprint), rounds: Option<u32>) {
 }
 
 /// What a job says, over standard input and output or the files that it names, where it says something; a run with the
-/// picture that is asked for beside it. Whether strictness is wanted, a run of a network is asked, and whether it is watched.
+/// picture that is asked for beside it.
 fn answer_of(
     rt: &(impl Input + AllocGlobal + Print + Eprint + Files),
     job: Job,
     sketch: Option<Sketch>,
-    is_strict: bool,
-    is_watched: bool,
+    wishes: Wishes,
 ) -> Result<Answer, Fault>
     requires { HasRoom job }
 {
-    let line = match job {
-        Job::Text => text_job(rt.alloc(), rt.reader())?,
+    match job {
+        Job::Text => Ok(printed(text_job(rt.alloc(), rt.reader())?)),
         Job::Wire {
             speed,
             room,
             input,
             output,
-        } => {
-            let said = wire_files(rt, speed, room, input, output)?;
-            return Ok(Answer {
-                said: Some(said),
-                is_told: false,
-                is_kept: true,
-                rounds: None,
-            });
-        }
-        Job::Check { plan } => check(rt, plan)?,
+        } => Ok(answered(Some(wire_files(rt, speed, room, input, output)?))),
+        Job::Check { plan } => check(rt, plan, wishes),
         Job::Run {
             plan,
             input,
             output,
             commands,
-        } => drawn_job(rt, plan, input, output, commands, sketch)?,
+        } => run_bridge(rt, plan, input, output, commands, sketch, wishes),
         Job::Picture { plan, file } => {
             draw(rt, plan, file)?;
-            return Ok(Answer {
-                said: None,
-                is_told: false,
-                is_kept: true,
-                rounds: None,
-            });
+            Ok(answered(None))
         }
-        Job::Bounds { plan, traffic } => match traffic {
-            None => bounds(rt, plan)?,
-            Some(file) => {
-                let report = traffic_of(rt, plan, file)?;
-                return Ok(Answer {
-                    said: Some(Said::Printed(report.text)),
-                    is_told: false,
-                    is_kept: report.kept,
-                    rounds: None,
-                });
-            }
-        },
-        Job::Network { network } => return check_network(rt, network),
+        Job::Bounds { plan, traffic } => bounds(rt, plan, traffic),
+        Job::Network { network } => check_network(rt, network),
         Job::RunNetwork {
             network,
             input,
@@ -201,19 +234,42 @@ fn answer_of(
                 input,
                 output,
                 picture,
-                is_strict,
-                is_watched,
+                is_strict: wishes.is_strict,
+                is_watched: wishes.is_watched,
             };
-            let said = rounds_job(rt, job)?;
-            return Ok(Answer {
-                said: Some(Said::Printed(said.line)),
-                is_told: said.is_told,
-                is_kept: true,
-                rounds: Some(said.rounds),
-            });
+            run_network(rt, job)
         }
-    };
-    Ok(printed(line))
+    }
+}
+
+/// What a run under the plan of a file says, with the picture that is asked for beside it.
+fn run_bridge(
+    rt: &(impl AllocGlobal + Files),
+    plan: String,
+    input: String,
+    output: String,
+    commands: Option<String>,
+    sketch: Option<Sketch>,
+    wishes: Wishes,
+) -> Result<Answer, Fault> {
+    if !wishes.is_strict {
+        return Ok(printed(drawn_job(rt, plan, input, output, commands, sketch)?));
+    }
+    let explained = wishes.is_explained;
+    let strict = strict_run_job(rt, plan, input, output, commands, sketch, explained)?;
+    Ok(strictly(strict))
+}
+
+/// What a run of a network says.
+fn run_network(rt: &(impl AllocGlobal + Eprint + Files), job: RoundsJob) -> Result<Answer, Fault> {
+    let said = rounds_job(rt, job)?;
+    Ok(Answer {
+        said: Some(Said::Printed(said.line)),
+        is_told: said.is_told,
+        is_kept: true,
+        rounds: Some(said.rounds),
+        told: None,
+    })
 }
 
 /// Draws the network or the plan of a file into another file.
@@ -237,11 +293,31 @@ fn check_network(rt: &(impl AllocGlobal + Files), path: String) -> Result<Answer
         is_told,
         is_kept: said.kept,
         rounds: None,
+        told: None,
+    })
+}
+
+/// What is printed of the bounds of the plan of a file, or of the traffic of another one.
+fn bounds(
+    rt: &(impl AllocGlobal + Files),
+    plan: String,
+    traffic: Option<String>,
+) -> Result<Answer, Fault> {
+    let Some(file) = traffic else {
+        return Ok(printed(bounds_of(rt, plan)?));
+    };
+    let report = traffic_of(rt, plan, file)?;
+    Ok(Answer {
+        said: Some(Said::Printed(report.text)),
+        is_told: false,
+        is_kept: report.kept,
+        rounds: None,
+        told: None,
     })
 }
 
 /// What is printed of the bounds of the plan of a file.
-fn bounds(rt: &(impl AllocGlobal + Files), plan: String) -> Result<String, Fault> {
+fn bounds_of(rt: &(impl AllocGlobal + Files), plan: String) -> Result<String, Fault> {
     let Ok(reader) = fs::open(rt, plan.as_str()) else {
         return Err(Fault::File(plan));
     };
@@ -263,10 +339,13 @@ fn traffic_of(
     traffic_job(rt.alloc(), rt.alloc(), plan, reader, file, rows)
 }
 
-/// What is printed for the plan of a file.
-fn check(rt: &(impl AllocGlobal + Files), plan: String) -> Result<String, Fault> {
+/// What is printed for the plan of a file, and with strictness what is told of it.
+fn check(rt: &(impl AllocGlobal + Files), plan: String, wishes: Wishes) -> Result<Answer, Fault> {
+    if wishes.is_strict {
+        return Ok(strictly(strict_check_job(rt, plan, wishes.is_explained)?));
+    }
     let Ok(reader) = fs::open(rt, plan.as_str()) else {
         return Err(Fault::File(plan));
     };
-    check_job(rt.alloc(), rt.alloc(), plan, reader)
+    Ok(printed(check_job(rt.alloc(), rt.alloc(), plan, reader)?))
 }

@@ -1,7 +1,9 @@
 //! What of an accepted plan is of no use.
 ghost use Rattle.std.specs.Prelude.{◌≡◌, ◌<◌, IfSome};
-ghost use Rattle.bridge_explain.specs.Others as spec;
+ghost use Rattle.bridge_advice.specs.Others as spec;
 
+use crate::advice::{Advice, AllTaken, LimitBelow, OwnPort};
+use crate::finding::add;
 use bridge_config::Plan;
 use bridge_filter::FilterPlan;
 use bridge_forward::StaticEntry;
@@ -11,17 +13,17 @@ use bridge_meter::MeterPlan;
 use std::alloc::{AllocError, Allocator};
 
 /// The octets of the shortest frame to a meter: 60, and 4 of the frame check sequence.
-const SHORTEST: u64 = 64;
+pub(crate) const SHORTEST: u64 = 64;
 
-/// Adds a warning for each thing of a plan that is of no use.
-pub(crate) fn put_warnings<A: Allocator + Copy>(
-    said: &mut String,
+/// Adds each thing of a plan that is of no use.
+pub(crate) fn find_useless<A: Allocator + Copy>(
+    found: &mut Vec<Advice>,
     plan: &Plan<A>,
 ) -> Result<(), AllocError> {
-    put_streams(said, plan.streams(), plan.statics())?;
-    put_gates(said, plan.gates())?;
-    put_meters(said, plan.meters())?;
-    put_filters(said, plan)
+    find_streams(found, plan.streams(), plan.statics())?;
+    find_gates(found, plan.gates())?;
+    find_meters(found, plan.meters())?;
+    find_filters(found, plan)
 }
 
 /// Whether the static entry of the address of a stream names the port where the stream comes in.
@@ -40,9 +42,9 @@ fn is_own(stream: &StreamEntry, statics: &[StaticEntry]) -> bool {
     }
 }
 
-/// Adds a warning for each stream whose own port is among those to which its frames go.
-fn put_streams(
-    said: &mut String,
+/// Adds each stream whose own port is among those to which its frames go.
+fn find_streams(
+    found: &mut Vec<Advice>,
     streams: &[StreamEntry],
     statics: &[StaticEntry],
 ) -> Result<(), AllocError> {
@@ -51,10 +53,12 @@ fn put_streams(
         place = place.saturating_add(1);
         if is_own(stream, statics) {
             let StreamEntry { handle, port, .. } = *stream;
-            write!(
-                said,
-                "Warning: `stream` {place} of the file, handle {handle}, comes in at port {port}, to which its `static` entry sends it: no frame leaves where it came in.\n"
-            )?;
+            let own = OwnPort {
+                place,
+                handle,
+                port,
+            };
+            add(found, Advice::OwnPort(own))?;
         }
     }
     Ok(())
@@ -77,53 +81,47 @@ fn is_closed<A: Allocator + Copy>(gate: &GatePlan<A>) -> bool {
     }
 }
 
-/// Adds a warning for each gate that is closed at all moments.
-fn put_gates<A: Allocator + Copy>(
-    said: &mut String,
+/// Adds each gate that is closed at all moments.
+fn find_gates<A: Allocator + Copy>(
+    found: &mut Vec<Advice>,
     gates: &[(u32, GatePlan<A>)],
 ) -> Result<(), AllocError> {
     for (number, gate) in gates {
         if is_closed(gate) {
-            write!(
-                said,
-                "Warning: gate {number} is closed at all moments: no frame goes through it.\n"
-            )?;
+            add(found, Advice::ClosedGate { gate: *number })?;
         }
     }
     Ok(())
 }
 
-/// Adds a warning for each meter that gives no token, or none again.
-fn put_meters(said: &mut String, meters: &[(u32, MeterPlan)]) -> Result<(), AllocError> {
+/// Adds each meter that gives no token, or none again.
+fn find_meters(found: &mut Vec<Advice>, meters: &[(u32, MeterPlan)]) -> Result<(), AllocError> {
     for (number, meter) in meters {
         if meter.cbs < SHORTEST && meter.ebs < SHORTEST {
-            write!(
-                said,
-                "Warning: meter {number} gives no token: `cbs` and `ebs` are below {SHORTEST} octets, the least of a frame, so every frame is red.\n"
-            )?;
+            add(found, Advice::NoToken { meter: *number })?;
         } else if meter.cir == 0 && meter.eir == 0 {
-            write!(
-                said,
-                "Warning: meter {number} gives no token again: `cir` and `eir` are 0, so every frame is red once its buckets are empty.\n"
-            )?;
+            add(found, Advice::NoTokenAgain { meter: *number })?;
         }
     }
     Ok(())
 }
 
-/// Adds the warnings of each filter.
-fn put_filters<A: Allocator + Copy>(said: &mut String, plan: &Plan<A>) -> Result<(), AllocError> {
+/// Adds what of each filter is of no use.
+fn find_filters<A: Allocator + Copy>(
+    found: &mut Vec<Advice>,
+    plan: &Plan<A>,
+) -> Result<(), AllocError> {
     for (number, filter) in plan.filters() {
-        put_handle(said, plan.streams(), *number, filter)?;
-        put_taken(said, plan.filters(), *number, filter)?;
-        put_octets(said, plan.gates(), *number, filter)?;
+        find_handle(found, plan.streams(), *number, filter)?;
+        find_taken(found, plan.filters(), *number, filter)?;
+        find_octets(found, plan.gates(), *number, filter)?;
     }
     Ok(())
 }
 
-/// Adds a warning where no stream gives the handle of a filter.
-fn put_handle(
-    said: &mut String,
+/// Adds a filter where no stream gives its handle.
+fn find_handle(
+    found: &mut Vec<Advice>,
     streams: &[StreamEntry],
     number: u32,
     filter: &FilterPlan,
@@ -134,10 +132,8 @@ fn put_handle(
     if streams.iter().any(|stream| stream.handle == handle) {
         return Ok(());
     }
-    write!(
-        said,
-        "Warning: filter {number} names handle {handle}, which no `stream` gives: it gets no frame.\n"
-    )
+    let filter = number;
+    add(found, Advice::NoStream { filter, handle })
 }
 
 /// Whether a handle that is asked for, if one is, takes each frame that another one takes.
@@ -181,9 +177,9 @@ fn taker_of(filters: &[(u32, FilterPlan)], number: u32, filter: &FilterPlan) -> 
     None
 }
 
-/// Adds a warning where a filter of a lower number takes each frame that a filter does.
-fn put_taken(
-    said: &mut String,
+/// Adds a filter where one of a lower number takes each frame that it does.
+fn find_taken(
+    found: &mut Vec<Advice>,
     filters: &[(u32, FilterPlan)],
     number: u32,
     filter: &FilterPlan,
@@ -191,10 +187,11 @@ fn put_taken(
     let Some(lower) = taker_of(filters, number, filter) else {
         return Ok(());
     };
-    write!(
-        said,
-        "Warning: filter {number} gets no frame: filter {lower}, which has a lower number, takes all of them.\n"
-    )
+    let taken = AllTaken {
+        filter: number,
+        lower,
+    };
+    add(found, Advice::AllTaken(taken))
 }
 
 /// The first limit of an open entry that is below so many octets.
@@ -239,9 +236,9 @@ fn limit_at<A: Allocator + Copy>(gates: &[(u32, GatePlan<A>)], number: u32, sdu:
     None
 }
 
-/// Adds a warning where the gate of a filter lets fewer octets through than one of its frames may have.
-fn put_octets<A: Allocator + Copy>(
-    said: &mut String,
+/// Adds a filter where its gate lets fewer octets through than one of its frames may have.
+fn find_octets<A: Allocator + Copy>(
+    found: &mut Vec<Advice>,
     gates: &[(u32, GatePlan<A>)],
     number: u32,
     filter: &FilterPlan,
@@ -249,12 +246,14 @@ fn put_octets<A: Allocator + Copy>(
     let Some(sdu) = filter.max_sdu else {
         return Ok(());
     };
-    let gate = filter.gate;
-    let Some(octets) = limit_at(gates, gate, sdu) else {
+    let Some(octets) = limit_at(gates, filter.gate, sdu) else {
         return Ok(());
     };
-    write!(
-        said,
-        "Warning: gate {gate} has an entry of `octets` {octets}, below the `max_sdu` {sdu} of filter {number}: its longest frames don't go through there.\n"
-    )
+    let below = LimitBelow {
+        gate: filter.gate,
+        octets,
+        sdu,
+        filter: number,
+    };
+    add(found, Advice::LimitBelow(below))
 }

@@ -1,0 +1,18 @@
+-- Filters beside others.
+use Rattle.std.specs.Prelude.{ℕ, Bool, true, false, ◌&&◌, List, [], ◌∷◌, Option, Some, None, nat_eq, nat_lt, if◌then◌else◌}
+use Rattle.bridge_filter.specs.declared.FilterPlan.{FilterPlan}
+
+-- whether what is asked for, if anything is, takes each frame that another takes
+abbrev pub takes : Option ℕ → Option ℕ → Bool
+takes None other = true
+takes (Some one) None = false
+takes (Some one) (Some other) = nat_eq one other
+
+-- whether a filter takes each frame that another one takes
+abbrev pub takes_all : FilterPlan → FilterPlan → Bool
+takes_all one other = takes one.handle other.handle && takes one.priority other.priority
+
+-- the number of the first filter with a number below n that takes each frame that a filter takes
+abbrev pub taker_of : FilterPlan → ℕ → List (ℕ × FilterPlan) → Option ℕ
+taker_of filter n [] = None
+taker_of filter n (f ∷ fs) = if nat_lt f.0 n && takes_all f.1 filter then Some f.0 else taker_of filter n fs
