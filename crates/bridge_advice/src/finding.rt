@@ -6,9 +6,9 @@ use crate::meters::find_meters;
 use crate::nowhere::find_nowhere;
 use crate::queues::find_queues;
 use crate::useless::find_useless;
-use bridge_base::NoMemory;
 use bridge_check::Accepted;
 use bridge_config::Plan;
+use bridge_limits::NoMemory;
 use std::alloc::{AllocError, Allocator, Global};
 
 /// What of a plan that is accepted is likely a mistake: what is of no use, of streams, gates, meters and filters, each

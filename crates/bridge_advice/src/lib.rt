@@ -20,7 +20,7 @@ pub use advice::{
     Advice, AllTaken, Burst, Cycles, Flood, Hidden, LimitBelow, Nowhere, Outside, OwnPort, Pause,
     Rate, Rooms, Spot, Stage, Stuck,
 };
-pub use bridge_base::NoMemory;
+pub use bridge_limits::NoMemory;
 pub use finding::advice_of;
 pub use hidden::hides;
 pub use nowhere::leads_nowhere;

@@ -3,11 +3,11 @@ ghost use Rattle.std.specs.Prelude.{◌≡◌, option_map, nat_eq};
 ghost use Rattle.std.specs.Map.{lookup};
 
 use crate::advice::Stage;
-use bridge_base::LONGEST_FRAME;
 use bridge_config::{Plan, PortPlan};
 use bridge_cycle::{CyclicList, Egress, Timeline};
 use bridge_frame::occupation;
 use bridge_gate::{GateEntry, GatePlan, Schedule};
+use bridge_limits::LONGEST_FRAME;
 use std::alloc::{AllocError, Allocator, Global};
 
 /// The gate of a number.

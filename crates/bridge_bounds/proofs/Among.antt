@@ -4,9 +4,9 @@ use Rattle.std.specs.Prelude.{map, nat_eq, nat_lt, if◌then◌else◌}
 use Rattle.std.proofs.lemmas.Bool.{eqb-true}
 use Rattle.std.proofs.lemmas.Bool.Decides.{nat_tests}
 use Rattle.std.proofs.lemmas.Option.{same_Some}
-use Rattle.bridge_base.specs.Members.{In}
+use Rattle.bridge_limits.specs.Members.{In}
 use Rattle.bridge_cycle.proofs.Cases.{by_bool}
-use Rattle.bridge_base.specs.declared.TheConstants.{LONGEST_FRAME}
+use Rattle.bridge_limits.specs.declared.TheConstants.{LONGEST_FRAME}
 use Rattle.bridge_frame.specs.declared.FrameFault.{FrameFault}
 use Rattle.bridge_frame.specs.declared.FrameFault.TheVariants.{TooLong, TooShort}
 use Rattle.bridge_frame.specs.declared.Head.{Head}
@@ -33,14 +33,14 @@ use Rattle.bridge_config.specs.Model.{Plan}
 use Rattle.bridge_config.specs.Rules.{IsPlan, port_at}
 use Rattle.bridge_check.specs.Acceptable.{IsAcceptable}
 use Rattle.bridge_check.specs.Reach.{reaches}
-use Rattle.bridge_run.specs.declared.way.Way.{Way}
-use Rattle.bridge_run.specs.declared.way.Way.TheVariants as way
-use Rattle.bridge_run.specs.Events.{Arrival, Arrived, Cleared, Event, and_call, call_by, call_of, calls, metered, police_of, steps, way_of}
-use Rattle.bridge_run.specs.Offers.{Carried, Offer, in_class, offer, offer_by, offer_of_step, offer_on, offered, offers}
-use Rattle.bridge_run.specs.Runs.{IsRun}
-use Rattle.bridge_run.proofs.Facts.{own_queues}
-use Rattle.bridge_run.proofs.Headline.{as_offer}
-use Rattle.bridge_run.proofs.Offering.{going_if}
+use Rattle.bridge_semantics.specs.declared.way.Way.{Way}
+use Rattle.bridge_semantics.specs.declared.way.Way.TheVariants as way
+use Rattle.bridge_semantics.specs.Events.{Arrival, Arrived, Cleared, Event, and_call, call_by, call_of, calls, metered, police_of, steps, way_of}
+use Rattle.bridge_semantics.specs.Offers.{Carried, Offer, in_class, offer, offer_by, offer_of_step, offer_on, offered, offers}
+use Rattle.bridge_semantics.specs.Runs.{IsRun}
+use Rattle.bridge_semantics.proofs.Facts.{own_queues}
+use Rattle.bridge_semantics.proofs.Headline.{as_offer}
+use Rattle.bridge_semantics.proofs.Offering.{going_if}
 use Rattle.bridge_bounds.specs.Passing.{AreSeldom, AreWithinLengths, HaveTypes, LetsFew, recent, started_at, through_at}
 use Rattle.bridge_bounds.proofs.Let.{seldom}
 use Rattle.bridge_bounds.proofs.Sizes.{head_read}

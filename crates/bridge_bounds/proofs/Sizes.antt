@@ -3,8 +3,8 @@ use Rattle.std.proofs.Common.{◌≡◌, ◌+◌, ◌-◌, ◌≤◌, ℕ, Bool,
 use Rattle.std.specs.Prelude.{nat_lt}
 use Rattle.std.proofs.lemmas.Option.{same_Some}
 use Rattle.std.proofs.lemmas.Bool.Decides.{nat_tests}
-use Rattle.bridge_base.specs.Members.{In}
-use Rattle.bridge_base.specs.declared.TheConstants.{LONGEST_FRAME}
+use Rattle.bridge_limits.specs.Members.{In}
+use Rattle.bridge_limits.specs.declared.TheConstants.{LONGEST_FRAME}
 use Rattle.bridge_cycle.proofs.Cases.{by_bool}
 use Rattle.bridge_frame.specs.declared.Head.{Head}
 use Rattle.bridge_frame.specs.declared.FrameFault.{FrameFault}
@@ -25,11 +25,11 @@ use Rattle.bridge_config.specs.declared.ports.PortPlan.{PortPlan}
 use Rattle.bridge_config.specs.Model.{Plan}
 use Rattle.bridge_config.specs.Rules.{IsPlan, port_at}
 use Rattle.bridge_check.specs.Windows.{longest_frame}
-use Rattle.bridge_run.specs.declared.way.Way.{Way}
-use Rattle.bridge_run.specs.declared.way.Way.TheVariants.{Malformed, Nowhere, Goes}
-use Rattle.bridge_run.specs.Events.{Arrival, Event, Arrived, Cleared, way_of, metered, police_of, steps, count}
-use Rattle.bridge_run.specs.Offers.{Offer, offer_by, offer_of_step, offer_on, offer_of, offers}
-use Rattle.bridge_run.proofs.Offering.{going_if, in_split}
+use Rattle.bridge_semantics.specs.declared.way.Way.{Way}
+use Rattle.bridge_semantics.specs.declared.way.Way.TheVariants.{Malformed, Nowhere, Goes}
+use Rattle.bridge_semantics.specs.Events.{Arrival, Event, Arrived, Cleared, way_of, metered, police_of, steps, count}
+use Rattle.bridge_semantics.specs.Offers.{Offer, offer_by, offer_of_step, offer_on, offer_of, offers}
+use Rattle.bridge_semantics.proofs.Offering.{going_if, in_split}
 
 -- THE TIME OF A LENGTH
 

@@ -4,7 +4,7 @@ use Rattle.std.specs.Prelude.{MatchOption, nat_eq}
 use Rattle.std.specs.Map.{lookup}
 use Rattle.std.proofs.lemmas.Bool.{eqb-true}
 use Rattle.std.proofs.lemmas.Option.{same_Some}
-use Rattle.bridge_base.specs.Members.{In}
+use Rattle.bridge_limits.specs.Members.{In}
 use Rattle.bridge_cycle.proofs.Cases.{by_bool}
 use Rattle.bridge_frame.specs.Link.{occupied}
 use Rattle.bridge_frame.proofs.Times.{occupied_some}
@@ -24,13 +24,13 @@ use Rattle.bridge_config.specs.Rules.{IsPlan, port_at}
 use Rattle.bridge_check.specs.Acceptable.{IsAcceptable}
 use Rattle.bridge_check.specs.Reach.{reaches}
 use Rattle.bridge_check.specs.Windows.{longest_frame}
-use Rattle.bridge_run.specs.Events.{Event, police_of}
-use Rattle.bridge_run.specs.Offers.{Carried, egress, offers}
-use Rattle.bridge_run.specs.Runs.{AreWhole, AtPort, Delayed, IsGreatest, IsOutcome, IsRun}
-use Rattle.bridge_run.specs.declared.outcome.Outcome.{Outcome}
-use Rattle.bridge_run.specs.declared.outcome.View.{View}
-use Rattle.bridge_run.proofs.Facts.{own_queues, served_alone}
-use Rattle.bridge_run.proofs.Headline.{as_offer, in_offered, in_only, only_in}
+use Rattle.bridge_semantics.specs.Events.{Event, police_of}
+use Rattle.bridge_semantics.specs.Offers.{Carried, egress, offers}
+use Rattle.bridge_semantics.specs.Runs.{AreWhole, AtPort, Delayed, IsGreatest, IsOutcome, IsRun}
+use Rattle.bridge_semantics.specs.declared.outcome.Outcome.{Outcome}
+use Rattle.bridge_semantics.specs.declared.outcome.View.{View}
+use Rattle.bridge_semantics.proofs.Facts.{own_queues, served_alone}
+use Rattle.bridge_semantics.proofs.Headline.{as_offer, in_offered, in_only, only_in}
 use Rattle.bridge_bounds.specs.Bounds.{AreShort, IsBound, IsLesser, IsLongest, IsTightBound, IsTightened}
 use Rattle.bridge_bounds.specs.Passing.{AreWithinLengths, LetsFew, fewer, most_in}
 use Rattle.bridge_bounds.proofs.Among.{started_seldom}

@@ -1,7 +1,7 @@
 -- How long frames take that go one after the other through a class of a port.
 use Rattle.std.specs.Prelude.{◌∷◌, ◌≡◌, ℕ, zero, suc, Bool, true, false, ◌+◌, ◌-◌, ◌≤◌, ◌⊎◌, min, nat_eq, List, MatchOption, Some}
 use Rattle.std.specs.Map.{lookup}
-use Rattle.bridge_base.specs.Members.{In}
+use Rattle.bridge_limits.specs.Members.{In}
 use Rattle.bridge_cycle.specs.Cyclic as cyclic
 use Rattle.bridge_cycle.specs.Moments.{Fits, IsFirst}
 use Rattle.bridge_frame.specs.Link.{occupied}
@@ -18,7 +18,7 @@ use Rattle.bridge_config.specs.Model.{Plan}
 use Rattle.bridge_config.specs.Rules.{port_at}
 use Rattle.bridge_check.specs.Reach.{reaches}
 use Rattle.bridge_check.specs.Windows.{longest_frame}
-use Rattle.bridge_run.specs.Offers.{egress}
+use Rattle.bridge_semantics.specs.Offers.{egress}
 use Rattle.bridge_bounds.specs.Passing.{AreApart, fewer, most_in}
 
 -- k frames that wait from the moment u on, each on the link for `occ`, are done at v: each starts at its first fit from the end of the one before it on

@@ -5,7 +5,7 @@ use Rattle.bridge_gate.specs.declared.gate.GateAnswer.TheVariants.{Through}
 use Rattle.bridge_gate.specs.declared.schedule.GateEntry.{GateEntry}
 use Rattle.bridge_gate.specs.Gates.{Asked, GateEvent, GateStep, Told}
 use Rattle.bridge_port.specs.Schedule.{Copy, is_started}
-use Rattle.bridge_run.specs.Events.{Arrived, Cleared, Event}
+use Rattle.bridge_semantics.specs.Events.{Arrived, Cleared, Event}
 
 -- how many of these moments are t, or lie less than w before it
 abbrev pub recent : ℕ → ℕ → List ℕ → ℕ

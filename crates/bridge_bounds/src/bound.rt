@@ -10,12 +10,12 @@ ghost use Rattle.bridge_check.specs.Windows.{longest_frame};
 ghost use Rattle.bridge_bounds.specs.Bounds.{HasNoBound, IsBound, IsBoundAt};
 
 use crate::longest::longest_of;
-use bridge_base::LONGEST_FRAME;
 use bridge_check::{Accepted, may_wait};
 use bridge_config::{Plan, PortPlan};
 use bridge_filter::FilterPlan;
 use bridge_frame::occupation;
 use bridge_gate::GatePlan;
+use bridge_limits::LONGEST_FRAME;
 use std::alloc::Allocator;
 
 /// The filter of a number, where there is one.

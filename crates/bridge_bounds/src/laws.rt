@@ -1,7 +1,7 @@
 //! Laws of how long frames take in a queue, each the contract of a function that does nothing.
 ghost use Rattle.std.specs.Prelude.{◌≡◌, ◌≤◌, ◌+◌, ◌-◌, ◌*◌, ◌∷◌, ℕ, Bool, List, nat_eq, Some, true};
 ghost use Rattle.std.specs.Map.{lookup};
-ghost use Rattle.bridge_base.specs.Members.{In};
+ghost use Rattle.bridge_limits.specs.Members.{In};
 ghost use Rattle.bridge_frame.specs.Link.{occupied};
 ghost use Rattle.bridge_filter.specs.declared.FilterPlan.{FilterPlan};
 ghost use Rattle.bridge_gate.specs.Gates.{GateEvent, GateRules, steps};
@@ -14,11 +14,11 @@ ghost use Rattle.bridge_config.specs.Rules.{IsPlan, port_at};
 ghost use Rattle.bridge_check.specs.Acceptable.{IsAcceptable};
 ghost use Rattle.bridge_check.specs.Reach.{reaches};
 ghost use Rattle.bridge_check.specs.Windows.{longest_frame};
-ghost use Rattle.bridge_run.specs.Events.{Event, police_of};
-ghost use Rattle.bridge_run.specs.Offers.{Carried, egress};
-ghost use Rattle.bridge_run.specs.Runs.{AreWhole, IsOutcome, IsRun};
-ghost use Rattle.bridge_run.specs.declared.outcome.Outcome.{Outcome};
-ghost use Rattle.bridge_run.specs.declared.outcome.View.{View};
+ghost use Rattle.bridge_semantics.specs.Events.{Event, police_of};
+ghost use Rattle.bridge_semantics.specs.Offers.{Carried, egress};
+ghost use Rattle.bridge_semantics.specs.Runs.{AreWhole, IsOutcome, IsRun};
+ghost use Rattle.bridge_semantics.specs.declared.outcome.Outcome.{Outcome};
+ghost use Rattle.bridge_semantics.specs.declared.outcome.View.{View};
 ghost use Rattle.bridge_bounds.specs.Bounds.{AreShort, EndsBy, IsAttained, IsBound, IsLongest, IsTightBound, IsWorst};
 ghost use Rattle.bridge_bounds.specs.Passing.{AreSeldom, AreWithinLengths, HaveTypes, LetsFew, started_at, through_at};
 

@@ -1,6 +1,6 @@
 //! How many frames a gate lets through in one turn, and how far its turns lie apart.
 ghost use Rattle.std.specs.Prelude.{◌≡◌, ◌↔◌, ◌+◌, ◌-◌, ◌≤◌, true};
-ghost use Rattle.bridge_base.specs.declared.TheConstants.{END_OF_TIME};
+ghost use Rattle.bridge_limits.specs.declared.TheConstants.{END_OF_TIME};
 ghost use Rattle.bridge_cycle.specs.Cyclic.{IsLawful, turn_at};
 ghost use Rattle.bridge_bounds.specs.Passing as spec;
 ghost use Rattle.bridge_bounds.specs.Passing.{AreApart, IsShut};

@@ -13,13 +13,13 @@ ghost use Rattle.bridge_bounds.specs.Bounds.{HasNoBound, IsLesser, IsTightBound,
 use crate::bound::{bound_at, filter_at, gate_at};
 use crate::longest::longest_of;
 use crate::passing::{are_apart, fewer};
-use bridge_base::LONGEST_FRAME;
 use bridge_check::{Accepted, may_wait};
 use bridge_config::{Plan, PortPlan};
 use bridge_cycle::CyclicList;
 use bridge_filter::FilterPlan;
 use bridge_frame::occupation;
 use bridge_gate::{GateEntry, Schedule};
+use bridge_limits::LONGEST_FRAME;
 use std::alloc::Allocator;
 
 /// The lesser of a bound in ns of a class and that of so few frames, where what passed in one turn of a list is out before

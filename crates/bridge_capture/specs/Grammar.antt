@@ -1,7 +1,7 @@
 -- The classic capture file, by cases on its octets.
 use Rattle.std.specs.Prelude.{◌≡◌, ℕ, ◌+◌, ◌*◌, ◌^◌, List, [], ◌∷◌, length, take, drop, Option, Some, None, Result, Ok, Err, nat_lt, nat_le, ◌==◌, if◌then◌else◌}
 use Rattle.std.specs.Int.{w16, w32, from_be_bytes, from_le_bytes}
-use Rattle.bridge_base.specs.declared.TheConstants.{END_OF_TIME, MOST_CAPTURED}
+use Rattle.bridge_limits.specs.declared.TheConstants.{END_OF_TIME, MOST_CAPTURED}
 use Rattle.bridge_capture.specs.declared.record.TheConstants.{MAX_RECORDS}
 use Rattle.bridge_capture.specs.declared.form.Order.{Order}
 use Rattle.bridge_capture.specs.declared.form.Order.TheVariants.{Little, Big}

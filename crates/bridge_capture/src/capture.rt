@@ -7,7 +7,7 @@ use crate::progress::Progress;
 use crate::record::{MAX_RECORDS, front_record};
 use crate::source::ByteSource;
 use crate::transfer::fill;
-use bridge_base::{END_OF_TIME, MOST_CAPTURED};
+use bridge_limits::{END_OF_TIME, MOST_CAPTURED};
 use std::alloc::Allocator;
 use std::marker::Model;
 

@@ -2,7 +2,7 @@
 ghost use Rattle.std.specs.Prelude.{◌≡◌, ◌≤◌, ◌<◌, ◌+◌, vec_len};
 ghost use Rattle.bridge_capture.specs.declared.held.TheConstants.{BLOCK, MOST_MORE};
 
-use bridge_base::NoMemory;
+use bridge_limits::NoMemory;
 use std::alloc::Allocator;
 
 /// The most octets that are handed on at once: whole pages of a file whose start they are.

@@ -26,7 +26,7 @@ mod window;
 mod write_behind;
 mod writer;
 
-pub use bridge_base::NoMemory;
+pub use bridge_limits::NoMemory;
 pub use capture::Capture;
 pub use fault::CaptureFault;
 pub use form::{Form, Order, Unit};

@@ -6,7 +6,7 @@ ghost use Rattle.bridge_capture.specs.Buffered.{ahead_remaining, ahead_at_hand};
 use crate::from_read::FromRead;
 use crate::source::{Broken, ByteSource};
 use crate::window::Window;
-use bridge_base::NoMemory;
+use bridge_limits::NoMemory;
 use std::alloc::Allocator;
 use std::io::Read;
 

@@ -10,7 +10,7 @@ use crate::header::word;
 use crate::packet::Stamp;
 use crate::source::ByteSource;
 use crate::transfer::fill;
-use bridge_base::{END_OF_TIME, MOST_CAPTURED};
+use bridge_limits::{END_OF_TIME, MOST_CAPTURED};
 use std::alloc::Allocator;
 
 /// The most octets of a frame that a written capture holds: its snap length.

@@ -8,7 +8,7 @@ use crate::held::{BLOCK, Held};
 use crate::sink::ByteSink;
 use crate::source::Broken;
 use crate::transfer::write_front;
-use bridge_base::NoMemory;
+use bridge_limits::NoMemory;
 use std::alloc::Allocator;
 use std::io::Write;
 

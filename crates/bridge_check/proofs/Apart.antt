@@ -1,6 +1,6 @@
 -- A filter that fails no test has one plan, and its gate and its meter for itself.
 use Rattle.std.proofs.Common.{◌≡◌, ℕ, None}
-use Rattle.bridge_base.specs.Members.{In}
+use Rattle.bridge_limits.specs.Members.{In}
 use Rattle.bridge_filter.specs.declared.FilterPlan.{FilterPlan}
 use Rattle.bridge_filter.specs.Own.{IsApart}
 use Rattle.bridge_filter.specs.Plans.{plans_of}

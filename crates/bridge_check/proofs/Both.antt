@@ -1,7 +1,7 @@
 -- What two lists let through that are exchanged.
 use Rattle.std.proofs.Common.{◌≡◌, ℕ, ◌||◌, List, [], ◌∷◌, ◌++◌, Option, inl, inr}
 use Rattle.std.proofs.lemmas.List.Folds.{list_any-append}
-use Rattle.bridge_base.specs.Members.{In}
+use Rattle.bridge_limits.specs.Members.{In}
 use Rattle.bridge_gate.specs.declared.schedule.GateEntry.{GateEntry}
 use Rattle.bridge_check.specs.Reach.{gives, lets}
 

@@ -8,7 +8,7 @@ use Rattle.std.specs.Bool.{if◌then◌else◌}
 use Rattle.std.proofs.lemmas.Bool.Decides.{nat_tests}
 use Rattle.std.proofs.Math.Nat.{div-eq_of_lt, pow-le-pow_right, zero-lt-suc}
 use Rattle.bridge_cycle.specs.Cyclic.{Cyclic, turn_at}
-use Rattle.bridge_base.specs.Members.{In}
+use Rattle.bridge_limits.specs.Members.{In}
 use Rattle.bridge_cycle.specs.Moments.{is_open}
 use Rattle.bridge_cycle.specs.Opens.{opens_in}
 use Rattle.bridge_cycle.specs.declared.timeline.Turn.{Turn}
@@ -31,7 +31,7 @@ use Rattle.bridge_check.specs.declared.fault.CheckFault.TheVariants as fault
 use Rattle.bridge_check.specs.Reach.{any_below, reaches, reaches_class, reaches_port, reaches_priority}
 use Rattle.bridge_check.specs.Windows.{is_shared, shared_from, shared_in, shared_at, longest_frame, ever_fits}
 use Rattle.bridge_check.specs.Faults.{first_of, first_below, fault_unless, is_gate_shared, is_meter_shared, is_one_meter, is_greatest, has_catch_all, other_at, shared_on, never_fits, fault_of, first_in_reach}
-use Rattle.bridge_check.specs.Acceptable.{IsIsolated}
+use Rattle.bridge_check.specs.Acceptable.{KeepsApart}
 
 -- TESTS
 
@@ -258,7 +258,7 @@ made None is = tt
 made (Some (egress.Cyclic l)) is = (is (egress.Cyclic l) refl).lawful
 made (Some (egress.Joined j)) is = let (old, new) = is (egress.Joined j) refl in record { old = old.lawful; new = new.lawful }
 
-pub isolated : {A : Type 0} (p : Plan A) (n : ℕ) (f : FilterPlan) → IsPlan p → In (n, f) p.filters → fault_of p n f ≡ None → IsIsolated p n f
+pub isolated : {A : Type 0} (p : Plan A) (n : ℕ) (f : FilterPlan) → IsPlan p → In (n, f) p.filters → fault_of p n f ≡ None → KeepsApart p n f
 isolated p n f plan listed h =
     let (handle, h1) = both_none _ _ h in
     let (sdu, h2) = both_none _ _ h1 in

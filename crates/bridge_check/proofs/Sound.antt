@@ -11,7 +11,7 @@ use Rattle.std.proofs.Math.Bool.{or-true}
 use Rattle.std.proofs.lemmas.Slice.Eq.{bytes_eq-Decides}
 use Rattle.bridge_frame.specs.declared.Head.{Head}
 use Rattle.bridge_frame.specs.Frames as frames
-use Rattle.bridge_base.specs.Members.{In}
+use Rattle.bridge_limits.specs.Members.{In}
 use Rattle.bridge_cycle.specs.declared.timeline.Turn.{Turn}
 use Rattle.bridge_cycle.proofs.Cases.{by_bool}
 use Rattle.bridge_cycle.proofs.Lists.{among}

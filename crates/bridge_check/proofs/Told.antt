@@ -12,7 +12,7 @@ use Rattle.bridge_config.specs.Rules.{port_at}
 use Rattle.bridge_check.specs.Reach.{reaches_port, reaches}
 use Rattle.bridge_check.specs.Faults.{other_at, first_of, first_below}
 use Rattle.bridge_check.specs.Reached.{told_below, reach_of, is_in, reaches_of, least_other, told_in_reach}
-use Rattle.bridge_check.specs.declared.tests.QueueTest.{QueueTest}
+use Rattle.bridge_check.specs.declared.rules.QueueTest.{QueueTest}
 
 told_length : (n : ℕ) (test : ℕ → Bool) → length (told_below n test) ≡ n
 told_length zero test = refl

@@ -1,6 +1,6 @@
 -- Which plans isolate their protected filters.
 use Rattle.std.specs.Prelude.{◌≡◌, ◌≤◌, ℕ, true, Some, None}
-use Rattle.bridge_base.specs.Members.{In}
+use Rattle.bridge_limits.specs.Members.{In}
 use Rattle.bridge_cycle.specs.Moments.{Fits}
 use Rattle.bridge_frame.specs.Link.{occupied}
 use Rattle.bridge_filter.specs.declared.FilterPlan.{FilterPlan}
@@ -17,7 +17,7 @@ abbrev pub IsAcceptable : {A : Type 0} → Plan A → Type 0
 IsAcceptable p = (n : ℕ) (f : FilterPlan) → In (n, f) p.filters → f.protected ≡ true → fault_of p n f ≡ None
 
 -- what that says of a filter, in terms of frames: it has its gate, its meter, its queues and the windows of its queues for itself
-pub record IsIsolated {A : Type 0} (p : Plan A) (n : ℕ) (f : FilterPlan) : Type 0 where
+pub record KeepsApart {A : Type 0} (p : Plan A) (n : ℕ) (f : FilterPlan) : Type 0 where
   pub handle : (h : ℕ) × (f.handle ≡ Some h)
   pub max_sdu : (m : ℕ) × (f.max_sdu ≡ Some m)
   pub gate : (k : ℕ) (g : FilterPlan) → In (k, g) p.filters → g.gate ≡ f.gate → k ≡ n

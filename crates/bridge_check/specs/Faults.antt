@@ -68,27 +68,35 @@ never_fits _ c _ = false
 
 -- THE EIGHT TESTS
 
+-- the first test: a protected filter names a stream handle
 abbrev pub wildcard_fault : ℕ → FilterPlan → Option CheckFault
 wildcard_fault n f = fault_unless (is_some f.handle) (fault.ProtectedWildcard n)
 
+-- the second: it bounds the service data unit
 abbrev pub max_sdu_fault : ℕ → FilterPlan → Option CheckFault
 max_sdu_fault n f = fault_unless (is_some f.max_sdu) (fault.NoMaxSdu n)
 
+-- the third: no other filter has its gate
 abbrev pub gate_fault : {A : Type 0} → Plan A → ℕ → FilterPlan → Option CheckFault
 gate_fault p n f = fault_unless (not (is_gate_shared p.filters n f)) (fault.GateShared n)
 
+-- the fourth: no other filter has its meter
 abbrev pub meter_fault : {A : Type 0} → Plan A → ℕ → FilterPlan → Option CheckFault
 meter_fault p n f = fault_unless (not (is_meter_shared p.filters n f)) (fault.MeterShared n)
 
+-- the fifth: the filter with the greatest number takes every frame
 abbrev pub catch_all_fault : {A : Type 0} → Plan A → ℕ → Option CheckFault
 catch_all_fault p n = fault_unless (has_catch_all p.filters) (fault.NoCatchAll n)
 
+-- the sixth: in no queue of its reach may frames of another filter wait
 abbrev pub queue_fault : {A : Type 0} → Plan A → ℕ → FilterPlan → Option CheckFault
 queue_fault p n f = first_in_reach p f (λ q c. option_map (fault.QueueShared n q c) (other_at p p.filters n q c))
 
+-- the seventh: where a class of its reach is open, no other one is
 abbrev pub window_fault : {A : Type 0} → Plan A → ℕ → FilterPlan → Option CheckFault
 window_fault p n f = first_in_reach p f (λ q c. option_map (fault.WindowShared n q c) (shared_on (port_at p.ports q) c))
 
+-- the eighth: its longest frame fits at some moment in each queue of its reach
 abbrev pub size_fault : {A : Type 0} → Plan A → ℕ → FilterPlan → Option CheckFault
 size_fault p n f = first_in_reach p f (λ q c. fault_unless (not (never_fits (port_at p.ports q) c f.max_sdu)) (fault.MaxSduNeverFits n q c))
 

@@ -8,9 +8,9 @@ use Rattle.bridge_config.specs.Rules.{port_at}
 use Rattle.bridge_check.specs.declared.fault.CheckFault.{CheckFault}
 use Rattle.bridge_check.specs.declared.fault.CheckFault.TheVariants as fault
 use Rattle.bridge_check.specs.declared.reach.Reach.{Reach}
-use Rattle.bridge_check.specs.declared.tests.QueueTest.{QueueTest}
-use Rattle.bridge_check.specs.declared.tests.QueueTest.TheVariants as test
-use Rattle.bridge_check.specs.declared.tests.Case.{Case}
+use Rattle.bridge_check.specs.declared.rules.QueueTest.{QueueTest}
+use Rattle.bridge_check.specs.declared.rules.QueueTest.TheVariants as test
+use Rattle.bridge_check.specs.declared.rules.Case.{Case}
 use Rattle.bridge_check.specs.Reach.{reaches_port, reaches_priority, reaches, any_below}
 use Rattle.bridge_check.specs.Faults.{has_catch_all, other_at, shared_on, never_fits, fault_unless}
 

@@ -1,6 +1,6 @@
 -- When a class of a port is open alone, and which frames fit.
 use Rattle.std.specs.Prelude.{ℕ, Bool, not, ◌+◌, ◌&&◌, min, List, [], ◌∷◌, Option, Some, None, nat_eq, if◌then◌else◌}
-use Rattle.bridge_base.specs.declared.TheConstants.{LONGEST_FRAME}
+use Rattle.bridge_limits.specs.declared.TheConstants.{LONGEST_FRAME}
 use Rattle.bridge_frame.specs.Link.{occupied}
 use Rattle.std.specs.Option.{option_or}
 use Rattle.bridge_cycle.specs.Cyclic as cyclic

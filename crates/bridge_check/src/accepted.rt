@@ -11,7 +11,7 @@ ghost use Rattle.bridge_check.specs.Acceptable.{IsAcceptable};
 use crate::fault::CheckFault;
 use crate::queues::reaches_in;
 use crate::reach::{Reach, reach_of};
-use crate::tests::{Case, has_catch_all};
+use crate::rules::{Case, has_catch_all};
 use bridge_config::Plan;
 use bridge_filter::FilterPlan;
 use std::alloc::{AllocError, Allocator};

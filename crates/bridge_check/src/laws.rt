@@ -1,6 +1,6 @@
 //! Laws of accepted plans, each the contract of a function that does nothing.
 ghost use Rattle.std.specs.Prelude.{◌≡◌, ℕ, Bool, List, Ok, Option, None, Some, true};
-ghost use Rattle.bridge_base.specs.Members.{In};
+ghost use Rattle.bridge_limits.specs.Members.{In};
 ghost use Rattle.bridge_frame.specs.declared.Head.{Head};
 ghost use Rattle.bridge_frame.specs.Frames as frames;
 ghost use Rattle.bridge_filter.specs.declared.FilterPlan.{FilterPlan};
@@ -15,7 +15,7 @@ ghost use Rattle.bridge_config.specs.Model.{Plan};
 ghost use Rattle.bridge_config.specs.Rules.{IsPlan, port_at};
 ghost use Rattle.bridge_check.specs.Reach.{reaches};
 ghost use Rattle.bridge_check.specs.Sending.{vid_of, priority_of, call_of, class_of};
-ghost use Rattle.bridge_check.specs.Acceptable.{IsIsolated};
+ghost use Rattle.bridge_check.specs.Acceptable.{KeepsApart};
 ghost use Rattle.bridge_check.specs.Faults.{fault_of};
 
 use std::alloc::Allocator;
@@ -27,7 +27,7 @@ pub fn without_fault_is_isolated<A: Allocator + Copy>()
         → IsPlan p
         → In (n, f) p.filters
         → fault_of p n f ≡ None
-        → IsIsolated p n f }
+        → KeepsApart p n f }
 {}
 
 /// A frame on a port of the plan that a filter passes, at any moment and after whatever came before, is queued in the filter's reach: on each

@@ -7,7 +7,7 @@ mod fault;
 pub mod laws;
 mod queues;
 mod reach;
-mod tests;
+mod rules;
 mod windows;
 
 pub use accepted::{Accepted, Refused, check};

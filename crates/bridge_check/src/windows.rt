@@ -5,10 +5,10 @@ ghost use Rattle.bridge_port.specs.Opening.{list_ever};
 ghost use Rattle.bridge_check.specs.Reach.{any_below};
 ghost use Rattle.bridge_check.specs.Windows as spec;
 
-use bridge_base::LONGEST_FRAME;
 use bridge_config::PortPlan;
 use bridge_cycle::{CyclicList, Egress, Timeline, is_open, longest_run};
 use bridge_frame::occupation;
+use bridge_limits::LONGEST_FRAME;
 use std::alloc::Allocator;
 
 /// Whether a state opens a class and another one beside it.

@@ -1,6 +1,6 @@
 -- Frames to destinations that no static entry names go alike.
 use Rattle.std.proofs.Common.{◌≡◌, ◌+◌, ℕ, zero, suc, false, List, [], ◌∷◌, ◌++◌, Option, None, Some, refl, ap, ap₂, inl, inr}
-use Rattle.bridge_base.specs.Members.{In}
+use Rattle.bridge_limits.specs.Members.{In}
 use Rattle.bridge_forward.specs.Database.{entry_at}
 use Rattle.bridge_forward.specs.Forward.{is_reserved}
 use Rattle.bridge_config.specs.declared.ports.PortPlan.{PortPlan}

@@ -1,6 +1,6 @@
 -- The groups of which rows tell.
 use Rattle.std.proofs.Common.{◌≡◌, ◌<◌, ◌+◌, ℕ, List, [], ◌∷◌, ◌++◌, take, length, get_or, refl, sym, subst, inl, inr, Result, Ok, Err, IfOk, Vec}
-use Rattle.bridge_base.specs.Members.{In}
+use Rattle.bridge_limits.specs.Members.{In}
 use Rattle.bridge_config.specs.Model.{Plan}
 use Rattle.bridge_network.specs.declared.links.Link.{Link}
 use Rattle.bridge_walks.specs.declared.places.Place.{Place}

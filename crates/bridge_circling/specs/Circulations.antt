@@ -1,6 +1,6 @@
 -- Which frames may go round in a network.
 use Rattle.std.specs.Prelude.{◌≡◌, ◌⊎◌, ℕ, List, [], ◌∷◌, ◌++◌, Option, None, Some}
-use Rattle.bridge_base.specs.Members.{In}
+use Rattle.bridge_limits.specs.Members.{In}
 use Rattle.bridge_forward.specs.declared.StaticEntry.{StaticEntry}
 use Rattle.bridge_forward.specs.declared.Vlan.{Vlan}
 use Rattle.bridge_config.specs.Model.{Plan}
@@ -25,6 +25,7 @@ pub record NamesEntry {A : Type 0} (plans : List (Plan A)) (vid : ℕ) (address 
   pub vid_is : entry.vid ≡ vid
   pub address_is : entry.address ≡ address
 
+-- some plan has a VLAN
 pub record NamesVlan {A : Type 0} (plans : List (Plan A)) (vid : ℕ) : Type 0 where
   pub plan : Plan A
   pub listed : In plan plans
@@ -40,6 +41,7 @@ IsNamedBy plans None (Some address) = (vid : ℕ) × NamesEntry plans vid addres
 IsNamedBy plans (Some vid) None = NamesVlan plans vid
 IsNamedBy plans None None = Unit {0}
 
+-- the plans name the VLAN and the destination of a group, where it has them
 abbrev pub IsNamed : {A : Type 0} → List (Plan A) → Group → Type 0
 IsNamed plans g = IsNamedBy plans g.vlan g.destination
 

@@ -1,6 +1,6 @@
 -- From which port to which frames go in a network, over one link each time.
 use Rattle.std.specs.Prelude.{◌≡◌, ℕ, zero, suc, ◌+◌, Bool, List, [], ◌∷◌, ◌++◌, Option, None, Some, if◌then◌else◌}
-use Rattle.bridge_base.specs.Members.{In}
+use Rattle.bridge_limits.specs.Members.{In}
 use Rattle.bridge_forward.specs.Ports.{has}
 use Rattle.bridge_forward.specs.Database.{Database, entry_at, members_at}
 use Rattle.bridge_forward.specs.Forward.{forward, goes_to}
@@ -25,6 +25,7 @@ abbrev pub vlan_in : {A : Type 0} → Option ℕ → PortPlan A → ℕ
 vlan_in None on = on.vid
 vlan_in (Some vid) on = vid
 
+-- the VLAN in which the frames of a group go at a port
 abbrev pub vlan_on : {A : Type 0} → Group → PortPlan A → ℕ
 vlan_on g on = vlan_in g.vlan on
 

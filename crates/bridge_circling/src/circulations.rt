@@ -7,8 +7,8 @@ ghost use Rattle.bridge_circling.specs.Circulations.{AreCirculations, AreOfGroup
 
 use crate::groups::{Group, groups_of};
 use crate::steps::steps_of;
-use bridge_base::NoMemory;
 use bridge_check::Accepted;
+use bridge_limits::NoMemory;
 use bridge_network::Link;
 use bridge_walks::{Place, round_in};
 use std::alloc::Allocator;

@@ -3,10 +3,10 @@ ghost use Rattle.std.specs.Prelude.{◌≡◌, IfOk, OnOk, fold};
 ghost use Rattle.bridge_circling.specs.Groups as spec;
 ghost use Rattle.bridge_circling.specs.Groups.{all_groups, with_group, with_known, with_plan, with_vlan};
 
-use bridge_base::NoMemory;
 use bridge_check::Accepted;
 use bridge_config::Plan;
 use bridge_forward::{StaticEntry, Vlan};
+use bridge_limits::NoMemory;
 use std::alloc::Allocator;
 
 /// Frames that go one way: a bridge changes neither the VLAN that their tag names nor where they are to go.

@@ -8,10 +8,10 @@ ghost use Rattle.bridge_circling.specs.Steps as spec;
 ghost use Rattle.bridge_circling.specs.Steps.{steps_at, steps_from, steps_if, steps_on, steps_to};
 
 use crate::groups::Group;
-use bridge_base::NoMemory;
 use bridge_check::Accepted;
 use bridge_config::{Plan, PortPlan};
 use bridge_forward::{PortSet, Vlan};
+use bridge_limits::NoMemory;
 use bridge_network::{Link, peer_of};
 use bridge_walks::{Place, Step};
 use std::alloc::Allocator;

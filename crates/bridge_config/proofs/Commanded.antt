@@ -1,8 +1,8 @@
 -- One command more, that comes no earlier than the last one.
 use Rattle.std.proofs.Common.{◌≡◌, ℕ, ◌-◌, ◌<◌, ◌≤◌, true, List, [], ◌∷◌, ◌++◌, length, Some, None, refl, sym, subst, inl, inr, arith, All, slice_get}
 use Rattle.std.specs.Prelude.{◌⊎◌}
-use Rattle.bridge_base.specs.Members.{In, AllAfter, Rising}
-use Rattle.bridge_base.specs.declared.TheConstants.{END_OF_TIME}
+use Rattle.bridge_limits.specs.Members.{In, AllAfter, Rising}
+use Rattle.bridge_limits.specs.declared.TheConstants.{END_OF_TIME}
 use Rattle.bridge_config.specs.declared.command.Command.{Command}
 use Rattle.bridge_config.specs.Model.{Plan}
 use Rattle.bridge_config.specs.Commands.{has_instance, AreCommands, last_moment}

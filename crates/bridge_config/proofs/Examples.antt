@@ -8,12 +8,12 @@ use Rattle.bridge_cycle.specs.declared.cyclic.ListFault.TheVariants.{CycleOutOfR
 use Rattle.bridge_cycle.specs.declared.egress.Egress.{Egress}
 use Rattle.bridge_cycle.specs.declared.egress.Egress.TheVariants as egress
 use Rattle.bridge_filter.specs.declared.FilterPlan.{FilterPlan}
-use Rattle.bridge_keys.specs.declared.fault.PlanFault.{PlanFault}
-use Rattle.bridge_keys.specs.declared.fault.PlanFault.TheVariants as fault
-use Rattle.bridge_keys.specs.declared.fault.Section.TheVariants as section
-use Rattle.bridge_keys.specs.declared.fault.Field.TheVariants as field
-use Rattle.bridge_keys.specs.Readers.{◌>>=◌, required, optional, default_to, between, switch, known, speed, text, numbers, set_of, eight, ports_of, list_of}
-use Rattle.bridge_keys.specs.Texts.{address_of}
+use Rattle.bridge_schema.specs.declared.fault.PlanFault.{PlanFault}
+use Rattle.bridge_schema.specs.declared.fault.PlanFault.TheVariants as fault
+use Rattle.bridge_schema.specs.declared.fault.Section.TheVariants as section
+use Rattle.bridge_schema.specs.declared.fault.Field.TheVariants as field
+use Rattle.bridge_schema.specs.Readers.{◌>>=◌, required, optional, default_to, between, switch, known, speed, text, numbers, set_of, eight, ports_of, list_of}
+use Rattle.bridge_schema.specs.Texts.{address_of}
 use Rattle.bridge_filter.specs.declared.Clear.TheVariants as clear
 use Rattle.bridge_config.specs.declared.command.Command.{Command}
 use Rattle.bridge_config.specs.Model.{Plan}

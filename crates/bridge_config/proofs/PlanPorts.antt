@@ -8,14 +8,14 @@ use Rattle.std.proofs.lemmas.Bool.Decides.{nat_tests}
 use Rattle.std.proofs.lemmas.List.Sums.{AllPass-from_list_all}
 use Rattle.std.proofs.lemmas.Nat.Bits.{bit_at_or, bit_at-lt, bit_at-pow_other}
 use Rattle.std.proofs.lemmas.Option.{same_Some}
-use Rattle.bridge_base.specs.Members.{In}
+use Rattle.bridge_limits.specs.Members.{In}
 use Rattle.bridge_forward.specs.declared.Vlan.{Vlan}
 use Rattle.bridge_forward.specs.Database.{members_at, entry_at}
 use Rattle.bridge_forward.specs.Forward.{forward, is_reserved}
 use Rattle.bridge_forward.specs.Outs.{has_or}
 use Rattle.bridge_forward.specs.Ports.{has, IsEmpty}
 use Rattle.bridge_forward.proofs.Memberships.{has_both, has_none, members_only}
-use Rattle.bridge_keys.specs.Readers.{are_within, is_subset, set_with}
+use Rattle.bridge_schema.specs.Readers.{are_within, is_subset, set_with}
 use Rattle.bridge_config.specs.declared.ports.PortPlan.{PortPlan}
 use Rattle.bridge_config.specs.Model.{Plan}
 use Rattle.bridge_config.specs.Rules.{ArePorts, AreVlans, IsPlan, IsPort, IsVlan, port_at, port_set}

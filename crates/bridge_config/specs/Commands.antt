@@ -1,18 +1,18 @@
 -- Commands to the bridge of a plan: what one names, what a text's commands keep, and a command of a table.
 use Rattle.std.specs.Prelude.{◌≤◌, ℕ, ◌-◌, Bool, IsTrue, List, [], ◌∷◌, Result, Ok}
 use Rattle.toml.specs.Data.{Members}
-use Rattle.bridge_base.specs.Members.{In, Rising}
-use Rattle.bridge_base.specs.declared.TheConstants.{END_OF_TIME}
+use Rattle.bridge_limits.specs.Members.{In, Rising}
+use Rattle.bridge_limits.specs.declared.TheConstants.{END_OF_TIME}
 use Rattle.bridge_filter.specs.declared.Clear.{Clear}
 use Rattle.bridge_filter.specs.declared.Clear.TheVariants as clear
 use Rattle.bridge_filter.specs.Plans.{is_there}
-use Rattle.bridge_keys.specs.declared.fault.Section.TheVariants as section
-use Rattle.bridge_keys.specs.declared.fault.Field.{Field}
-use Rattle.bridge_keys.specs.declared.fault.Field.TheVariants as field
-use Rattle.bridge_keys.specs.declared.fault.Place.{Place}
-use Rattle.bridge_keys.specs.declared.fault.PlanFault.{PlanFault}
-use Rattle.bridge_keys.specs.declared.fault.PlanFault.TheVariants as fault
-use Rattle.bridge_keys.specs.Readers.{◌>>=◌, required, between, known, text, are_known}
+use Rattle.bridge_schema.specs.declared.fault.Section.TheVariants as section
+use Rattle.bridge_schema.specs.declared.fault.Field.{Field}
+use Rattle.bridge_schema.specs.declared.fault.Field.TheVariants as field
+use Rattle.bridge_schema.specs.declared.fault.Place.{Place}
+use Rattle.bridge_schema.specs.declared.fault.PlanFault.{PlanFault}
+use Rattle.bridge_schema.specs.declared.fault.PlanFault.TheVariants as fault
+use Rattle.bridge_schema.specs.Readers.{◌>>=◌, required, between, known, text, are_known}
 use Rattle.bridge_config.specs.declared.command.Command.{Command}
 use Rattle.bridge_config.specs.declared.lists.TheConstants.{LARGEST_NUMBER}
 use Rattle.bridge_config.specs.Model.{Plan}

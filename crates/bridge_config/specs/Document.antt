@@ -5,12 +5,12 @@ use Rattle.std.specs.Cmp.Lexicographic.{pointwise}
 use Rattle.std.specs.Str.Lossy.{utf8_valid_len}
 use Rattle.toml.specs.Data.{Data, array, table, Items, no_items, item, Members, no_members, member, get_member}
 use Rattle.toml.specs.Parse.{parse_document}
-use Rattle.bridge_keys.specs.declared.fault.Section.{Section}
-use Rattle.bridge_keys.specs.declared.fault.Section.TheVariants as section
-use Rattle.bridge_keys.specs.declared.fault.PlanFault.{PlanFault}
-use Rattle.bridge_keys.specs.declared.fault.PlanFault.TheVariants as fault
-use Rattle.bridge_keys.specs.Keys.{name_of}
-use Rattle.bridge_keys.specs.Readers.{◌>>=◌, are_tables, instances}
+use Rattle.bridge_schema.specs.declared.fault.Section.{Section}
+use Rattle.bridge_schema.specs.declared.fault.Section.TheVariants as section
+use Rattle.bridge_schema.specs.declared.fault.PlanFault.{PlanFault}
+use Rattle.bridge_schema.specs.declared.fault.PlanFault.TheVariants as fault
+use Rattle.bridge_schema.specs.Keys.{name_of}
+use Rattle.bridge_schema.specs.Readers.{◌>>=◌, are_tables, instances}
 use Rattle.bridge_config.specs.declared.command.Command.{Command}
 use Rattle.bridge_config.specs.Model.{Policing, Plan}
 use Rattle.bridge_config.specs.Rules.{port_set}

@@ -3,7 +3,7 @@ use Rattle.std.specs.Prelude.{◌≡◌, ◌≤◌, ◌<◌, ℕ, Bool, true, no
 use Rattle.std.specs.List.{list_any}
 use Rattle.std.specs.List.Sorted.{IsPermutation, IsStrictlyIncreasing}
 use Rattle.std.specs.Option.{ForSome}
-use Rattle.bridge_base.specs.declared.TheConstants.{END_OF_TIME}
+use Rattle.bridge_limits.specs.declared.TheConstants.{END_OF_TIME}
 use Rattle.bridge_cycle.specs.Cyclic.{Cyclic, IsLawful}
 use Rattle.bridge_cycle.specs.declared.egress.Egress.{Egress}
 use Rattle.bridge_cycle.specs.declared.egress.Egress.TheVariants as egress
@@ -17,7 +17,7 @@ use Rattle.bridge_filter.specs.Plans.{are_distinct, have_instances, all_have_pri
 use Rattle.std.specs.Str.{bytes_eq}
 use Rattle.bridge_forward.specs.declared.Vlan.{Vlan}
 use Rattle.bridge_forward.specs.declared.StaticEntry.{StaticEntry}
-use Rattle.bridge_keys.specs.Readers.{are_within, is_subset, set_with}
+use Rattle.bridge_schema.specs.Readers.{are_within, is_subset, set_with}
 use Rattle.bridge_config.specs.declared.ports.PortPlan.{PortPlan}
 use Rattle.bridge_config.specs.Model.{Policing, Plan}
 

@@ -1,7 +1,7 @@
 -- The sections of a plan, key by key in the order of the table of keys.
 use Rattle.std.specs.Prelude.{ℕ, ◌-◌, ◌^◌, Bool, true, false, not, ◌&&◌, List, [], ◌∷◌, ◌++◌, Option, Some, None, Result, Ok, Err, replicate}
 use Rattle.toml.specs.Data.{Members, get_member}
-use Rattle.bridge_base.specs.declared.TheConstants.{END_OF_TIME}
+use Rattle.bridge_limits.specs.declared.TheConstants.{END_OF_TIME}
 use Rattle.bridge_cycle.specs.Cyclic.{Cyclic, fault_of}
 use Rattle.bridge_cycle.specs.declared.egress.Egress.{Egress}
 use Rattle.bridge_cycle.specs.declared.egress.Egress.TheVariants as egress
@@ -16,16 +16,16 @@ use Rattle.bridge_filter.specs.declared.FilterPlan.{FilterPlan}
 use Rattle.bridge_filter.specs.Plans.{is_there}
 use Rattle.bridge_forward.specs.declared.Vlan.{Vlan}
 use Rattle.bridge_forward.specs.declared.StaticEntry.{StaticEntry}
-use Rattle.bridge_keys.specs.declared.fault.Section.{Section}
-use Rattle.bridge_keys.specs.declared.fault.Section.TheVariants as section
-use Rattle.bridge_keys.specs.declared.fault.Field.{Field}
-use Rattle.bridge_keys.specs.declared.fault.Field.TheVariants as field
-use Rattle.bridge_keys.specs.declared.fault.Place.{Place}
-use Rattle.bridge_keys.specs.declared.fault.PlanFault.{PlanFault}
-use Rattle.bridge_keys.specs.declared.fault.PlanFault.TheVariants as fault
-use Rattle.bridge_keys.specs.Keys.{key_of}
-use Rattle.bridge_keys.specs.Readers.{◌>>=◌, required, optional, default_to, only_with, only_without, between, switch, speed, known, text, set_of, ports_of, eight, list_at, are_known, are_known_at, with_key, without_key}
-use Rattle.bridge_keys.specs.Texts.{address_of, openness_of}
+use Rattle.bridge_schema.specs.declared.fault.Section.{Section}
+use Rattle.bridge_schema.specs.declared.fault.Section.TheVariants as section
+use Rattle.bridge_schema.specs.declared.fault.Field.{Field}
+use Rattle.bridge_schema.specs.declared.fault.Field.TheVariants as field
+use Rattle.bridge_schema.specs.declared.fault.Place.{Place}
+use Rattle.bridge_schema.specs.declared.fault.PlanFault.{PlanFault}
+use Rattle.bridge_schema.specs.declared.fault.PlanFault.TheVariants as fault
+use Rattle.bridge_schema.specs.Keys.{key_of}
+use Rattle.bridge_schema.specs.Readers.{◌>>=◌, required, optional, default_to, only_with, only_without, between, switch, speed, known, text, set_of, ports_of, eight, list_at, are_known, are_known_at, with_key, without_key}
+use Rattle.bridge_schema.specs.Texts.{address_of, openness_of}
 use Rattle.bridge_config.specs.declared.lists.TheConstants.{LARGEST_NUMBER}
 use Rattle.bridge_config.specs.Texts.{kind_of, tag_of, awareness_of}
 use Rattle.bridge_config.specs.Rules.{has_port, has_vlan, has_static}

@@ -1,13 +1,13 @@
 //! The sections of a document, as arrays of tables.
 ghost use Rattle.std.specs.Prelude.{◌≡◌, ◌<◌, ◌≤◌, ◌^◌, IfErr, IfOk, length, nat_le, option_map, true, false};
 ghost use Rattle.toml.specs.View.{view, table_view, items_view};
-ghost use Rattle.bridge_keys.specs.declared.fault.PlanFault.TheVariants.{NoMemory};
-ghost use Rattle.bridge_keys.specs.Readers as spec;
-ghost use Rattle.bridge_keys.specs.Readers.{GivesAs};
+ghost use Rattle.bridge_schema.specs.declared.fault.PlanFault.TheVariants.{NoMemory};
+ghost use Rattle.bridge_schema.specs.Readers as spec;
+ghost use Rattle.bridge_schema.specs.Readers.{GivesAs};
 ghost use Rattle.bridge_config.specs.Document as doc;
 ghost use Rattle.bridge_config.specs.Arrays.{items_of_arrays, AreFew};
 
-use bridge_keys::{PlanFault, Section, are_tables, value_at};
+use bridge_schema::{PlanFault, Section, are_tables, value_at};
 use toml::{Table, Value};
 
 /// The items of all sections of a plan.

@@ -1,15 +1,15 @@
 //! The change of schedules of a plan.
 ghost use Rattle.std.specs.Prelude.{◌≡◌, ◌<◌, IfErr, IfOk, option_map};
 ghost use Rattle.toml.specs.View.{items_view, table_view, view};
-ghost use Rattle.bridge_keys.specs.declared.fault.PlanFault.TheVariants.{NoMemory};
-ghost use Rattle.bridge_keys.specs.Readers.{Gives};
+ghost use Rattle.bridge_schema.specs.declared.fault.PlanFault.TheVariants.{NoMemory};
+ghost use Rattle.bridge_schema.specs.Readers.{Gives};
 ghost use Rattle.bridge_config.specs.Document as doc;
 ghost use Rattle.bridge_config.specs.Rules as rules;
 ghost use Rattle.bridge_config.specs.Sections as sections;
 
 use crate::lists::LAST_MOMENT;
-use bridge_base::END_OF_TIME;
-use bridge_keys::{Between, Field, Place, PlanFault, Section, are_known, required};
+use bridge_limits::END_OF_TIME;
+use bridge_schema::{Between, Field, Place, PlanFault, Section, are_known, required};
 use toml::{Table, Value};
 
 /// Whether a table has the keys of a change of schedules alone.

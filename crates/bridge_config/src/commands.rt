@@ -1,10 +1,10 @@
 //! Commands to the bridge of a plan, and how they are made of a text.
 ghost use Rattle.std.specs.Prelude.{◌≡◌, ◌<◌, ◌≤◌, IfErr, IfOk, All, true, length};
 ghost use Rattle.toml.specs.View.{table_view, items_view};
-ghost use Rattle.bridge_base.specs.declared.TheConstants.{END_OF_TIME};
-ghost use Rattle.bridge_keys.specs.declared.fault.PlanFault.TheVariants.{NoMemory};
-ghost use Rattle.bridge_keys.specs.declared.fault.Section.TheVariants as the_section;
-ghost use Rattle.bridge_keys.specs.Readers.{Gives, GivesAs};
+ghost use Rattle.bridge_limits.specs.declared.TheConstants.{END_OF_TIME};
+ghost use Rattle.bridge_schema.specs.declared.fault.PlanFault.TheVariants.{NoMemory};
+ghost use Rattle.bridge_schema.specs.declared.fault.Section.TheVariants as the_section;
+ghost use Rattle.bridge_schema.specs.Readers.{Gives, GivesAs};
 ghost use Rattle.bridge_config.specs.Commands as spec;
 ghost use Rattle.bridge_config.specs.Commands.{AreCommands};
 ghost use Rattle.bridge_config.specs.Document as doc;
@@ -16,7 +16,7 @@ use crate::lists::{LARGEST_NUMBER, LAST_MOMENT};
 use crate::numbers::has_number;
 use crate::plan::{Plan, document_of};
 use bridge_filter::Clear;
-use bridge_keys::{
+use bridge_schema::{
     Between, Field, Finds, Known, Meaning, Place, PlanFault, Section, SectionReader, Text,
     are_known, read_instances, required,
 };

@@ -3,9 +3,9 @@ ghost use Rattle.std.specs.Prelude.{◌≡◌, ◌≤◌, IfErr, IfOk, false, tr
 ghost use Rattle.std.specs.Option.{ForSome};
 ghost use Rattle.toml.specs.View.{table_view, items_view};
 ghost use Rattle.bridge_filter.specs.Plans.{has_instances};
-ghost use Rattle.bridge_keys.specs.declared.fault.PlanFault.TheVariants.{NoMemory};
-ghost use Rattle.bridge_keys.specs.declared.fault.Section.TheVariants as the_section;
-ghost use Rattle.bridge_keys.specs.Readers.{Gives, GivesAs, instances};
+ghost use Rattle.bridge_schema.specs.declared.fault.PlanFault.TheVariants.{NoMemory};
+ghost use Rattle.bridge_schema.specs.declared.fault.Section.TheVariants as the_section;
+ghost use Rattle.bridge_schema.specs.Readers.{Gives, GivesAs, instances};
 ghost use Rattle.bridge_config.specs.Sections as sections;
 ghost use Rattle.bridge_config.specs.Rules as rules;
 
@@ -13,11 +13,11 @@ use crate::lists::LARGEST_NUMBER;
 use crate::numbers::{NumbersOf, in_8_bits, in_32_bits};
 use bridge_filter::FilterPlan;
 use bridge_gate::GatePlan;
-use bridge_keys::{
+use bridge_meter::MeterPlan;
+use bridge_schema::{
     Between, Field, Finds, Known, Place, PlanFault, Section, SectionReader, Switch, are_known,
     default_to, optional, read_instances, required,
 };
-use bridge_meter::MeterPlan;
 use std::alloc::Allocator;
 use toml::{Table, Value};
 

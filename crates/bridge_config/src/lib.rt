@@ -17,7 +17,7 @@ mod streams;
 mod vlans;
 
 pub use bridge_forward::PortSet;
-pub use bridge_keys::PlanFault;
+pub use bridge_schema::PlanFault;
 pub use command::Command;
 pub use commands::commands_of;
 pub use lists::the_limit;

@@ -3,13 +3,13 @@ ghost use Rattle.std.specs.Prelude.{◌≡◌, ◌<◌, ◌-◌, ◌^◌, All, I
 ghost use Rattle.std.specs.Option.{ForSome};
 ghost use Rattle.toml.specs.View.{table_view};
 ghost use Rattle.bridge_cycle.specs.Cyclic.{IsLawful};
-ghost use Rattle.bridge_keys.specs.Readers.{Gives, GivesAs};
+ghost use Rattle.bridge_schema.specs.Readers.{Gives, GivesAs};
 ghost use Rattle.bridge_config.specs.Lists.{parts_in};
 ghost use Rattle.bridge_config.specs.Sections as sections;
 
-use bridge_base::END_OF_TIME;
 use bridge_cycle::{CyclicList, ListFault};
-use bridge_keys::{
+use bridge_limits::END_OF_TIME;
+use bridge_schema::{
     Between, Entry, Field, Place, PlanFault, Section, default_to, list_at, required_with, value_at,
 };
 use std::alloc::Allocator;

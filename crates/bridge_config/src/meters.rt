@@ -2,20 +2,20 @@
 ghost use Rattle.std.specs.Prelude.{◌≡◌, IfErr, IfOk, false, true};
 ghost use Rattle.toml.specs.View.{table_view};
 ghost use Rattle.bridge_meter.specs.Colours.{is_within_limits};
-ghost use Rattle.bridge_keys.specs.declared.fault.PlanFault.TheVariants.{NoMemory};
-ghost use Rattle.bridge_keys.specs.declared.fault.Section.TheVariants as the_section;
-ghost use Rattle.bridge_keys.specs.Readers.{Gives};
+ghost use Rattle.bridge_schema.specs.declared.fault.PlanFault.TheVariants.{NoMemory};
+ghost use Rattle.bridge_schema.specs.declared.fault.Section.TheVariants as the_section;
+ghost use Rattle.bridge_schema.specs.Readers.{Gives};
 ghost use Rattle.bridge_config.specs.Sections as sections;
 ghost use Rattle.bridge_config.specs.Texts as texts;
 ghost use Rattle.bridge_config.specs.Rules as rules;
 
 use crate::lists::LARGEST_NUMBER;
 use crate::numbers::has_number;
-use bridge_keys::{
+use bridge_meter::{HIGHEST_RATE, LARGEST_BURST, MeterPlan};
+use bridge_schema::{
     Between, Field, Meaning, Place, PlanFault, Section, SectionReader, Switch, Text, are_known,
     default_to, required,
 };
-use bridge_meter::{HIGHEST_RATE, LARGEST_BURST, MeterPlan};
 use std::alloc::Allocator;
 use toml::Table;
 

@@ -3,7 +3,7 @@ ghost use Rattle.std.specs.Prelude.{◌≡◌, ◌≤◌, ◌<◌};
 ghost use Rattle.std.specs.Option.{ForSome};
 ghost use Rattle.bridge_config.specs.Sections as sections;
 
-use bridge_keys::Finds;
+use bridge_schema::Finds;
 
 /// Whether an instance has a number.
 pub(crate) fn has_number<X>(instances: &[(u32, X)], number: u64) -> bool

@@ -3,18 +3,18 @@ ghost use Rattle.std.specs.Prelude.{◌≡◌, ◌<◌, IfOk, All, false};
 ghost use Rattle.std.specs.Option.{ForSome};
 ghost use Rattle.toml.specs.Data.{get_member};
 ghost use Rattle.toml.specs.View.{table_view};
-ghost use Rattle.bridge_keys.specs.declared.fault.Section.TheVariants as the_section;
-ghost use Rattle.bridge_keys.specs.Keys.{key_of};
-ghost use Rattle.bridge_keys.specs.Readers.{Gives, GivesAs, are_known, are_known_at};
+ghost use Rattle.bridge_schema.specs.declared.fault.Section.TheVariants as the_section;
+ghost use Rattle.bridge_schema.specs.Keys.{key_of};
+ghost use Rattle.bridge_schema.specs.Readers.{Gives, GivesAs, are_known, are_known_at};
 ghost use Rattle.bridge_config.specs.Lists.{parts_in};
 ghost use Rattle.bridge_config.specs.Sections as sections;
 ghost use Rattle.bridge_config.specs.Rules as rules;
 
 use crate::lists::{LARGEST, ListKeys, Parts, list_if, parts_of};
-use bridge_base::END_OF_TIME;
 use bridge_cycle::{CyclicList, Egress, Joined};
 use bridge_frame::Speed;
-use bridge_keys::{
+use bridge_limits::END_OF_TIME;
+use bridge_schema::{
     Between, Classes, Entry, Field, Finds, Mbps, Place, PlanFault, Rooms, Section, SectionReader,
     SetOf, are_known, are_known_at, default_to, has_key, required, value_at,
 };

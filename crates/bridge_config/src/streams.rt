@@ -1,9 +1,9 @@
 //! Stream identifications of a plan.
 ghost use Rattle.std.specs.Prelude.{◌≡◌, ◌≤◌, true, IfErr, IfOk, All, ◌++◌, ◌∷◌, []};
 ghost use Rattle.toml.specs.View.{table_view};
-ghost use Rattle.bridge_keys.specs.declared.fault.PlanFault.TheVariants.{NoMemory};
-ghost use Rattle.bridge_keys.specs.declared.fault.Section.TheVariants as the_section;
-ghost use Rattle.bridge_keys.specs.Readers.{Gives};
+ghost use Rattle.bridge_schema.specs.declared.fault.PlanFault.TheVariants.{NoMemory};
+ghost use Rattle.bridge_schema.specs.declared.fault.Section.TheVariants as the_section;
+ghost use Rattle.bridge_schema.specs.Readers.{Gives};
 ghost use Rattle.bridge_config.specs.Sections as sections;
 ghost use Rattle.bridge_config.specs.Texts as texts;
 ghost use Rattle.bridge_config.specs.Rules as rules;
@@ -11,7 +11,7 @@ ghost use Rattle.bridge_config.specs.Rules as rules;
 use crate::lists::LARGEST_NUMBER;
 use crate::ports::{PortNumbers, PortPlan};
 use bridge_ident::{Kind, StreamEntry, TagKind};
-use bridge_keys::{
+use bridge_schema::{
     Address, Between, Field, Finds, Known, Meaning, Place, PlanFault, Section, SectionReader, Text,
     are_known, required,
 };

@@ -1,14 +1,14 @@
 //! VLANs of a plan.
 ghost use Rattle.std.specs.Prelude.{◌≡◌, IfErr, IfOk, false, true};
 ghost use Rattle.toml.specs.View.{table_view};
-ghost use Rattle.bridge_keys.specs.declared.fault.PlanFault.TheVariants.{NoMemory};
-ghost use Rattle.bridge_keys.specs.declared.fault.Section.TheVariants as the_section;
-ghost use Rattle.bridge_keys.specs.Readers.{Gives};
+ghost use Rattle.bridge_schema.specs.declared.fault.PlanFault.TheVariants.{NoMemory};
+ghost use Rattle.bridge_schema.specs.declared.fault.Section.TheVariants as the_section;
+ghost use Rattle.bridge_schema.specs.Readers.{Gives};
 ghost use Rattle.bridge_config.specs.Sections as sections;
 ghost use Rattle.bridge_config.specs.Rules as rules;
 
 use bridge_forward::{PortSet, Vlan};
-use bridge_keys::{
+use bridge_schema::{
     Between, Field, Finds, Place, PlanFault, PortsOf, Section, SectionReader, are_known, required,
 };
 use std::alloc::Allocator;

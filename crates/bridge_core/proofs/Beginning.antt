@@ -3,7 +3,7 @@ use Rattle.std.proofs.Common.{◌≡◌, ℕ, zero, suc, ◌+◌, ◌<◌, ◌�
 use Rattle.std.specs.List.Sorted.{IsPermutation}
 use Rattle.std.proofs.lemmas.List.Sorted.{Contains-permutation, IsPermutation-sym}
 use Rattle.std.proofs.lemmas.Bool.Decides.{nat_tests}
-use Rattle.bridge_base.specs.Members.{In, Rising}
+use Rattle.bridge_limits.specs.Members.{In, Rising}
 use Rattle.bridge_capture.specs.declared.fault.CaptureFault.{CaptureFault}
 use Rattle.bridge_capture.specs.declared.form.Form.{Form}
 use Rattle.bridge_capture.specs.declared.packet.Packet.{Packet}
@@ -14,8 +14,8 @@ use Rattle.bridge_config.specs.declared.ports.PortPlan.{PortPlan}
 use Rattle.bridge_config.specs.Model.{Plan}
 use Rattle.bridge_config.specs.Rules.{port_at}
 use Rattle.bridge_cycle.proofs.Cases.{by_bool}
-use Rattle.bridge_run.proofs.Views.{rising_one}
-use Rattle.bridge_lanes.specs.Lanes.{Finds}
+use Rattle.bridge_semantics.proofs.Views.{rising_one}
+use Rattle.bridge_inputs.specs.Lanes.{Finds}
 use Rattle.bridge_core.specs.Simulated.{AreNumbers}
 use Rattle.bridge_core.proofs.Sorted.{rising_numbers}
 

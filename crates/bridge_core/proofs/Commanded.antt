@@ -9,11 +9,11 @@ use Rattle.bridge_config.specs.declared.command.Command.{Command}
 use Rattle.bridge_config.specs.declared.ports.PortPlan.{PortPlan}
 use Rattle.bridge_config.specs.Model.{Plan}
 use Rattle.bridge_config.specs.Rules.{port_at}
-use Rattle.bridge_run.specs.Events.{Cleared}
-use Rattle.bridge_run.specs.Merge.{Input, frame, NotBefore, of_rank, IsMerged, events, inputs_of, asked, commands_of, streams}
+use Rattle.bridge_semantics.specs.Events.{Cleared}
+use Rattle.bridge_semantics.specs.Merge.{Input, frame, NotBefore, of_rank, IsMerged, events, inputs_of, asked, commands_of, streams}
 use Rattle.bridge_relay.specs.Relays.{RelayState, Stands}
-use Rattle.bridge_lanes.specs.declared.lane.Lane.{Lane}
-use Rattle.bridge_lanes.specs.Lanes.{numbers}
+use Rattle.bridge_inputs.specs.declared.lane.CaptureReader.{CaptureReader}
+use Rattle.bridge_inputs.specs.Lanes.{numbers}
 use Rattle.bridge_core.specs.Lines.{AreWritten}
 use Rattle.bridge_core.specs.Taking.{AreLater, Follows, HasTaken, IsUnderWay, MayTake}
 use Rattle.bridge_core.proofs.Order.{in_order_next}
@@ -41,7 +41,7 @@ behind_next : (c : Command) (next : Option Input) (xs : List Input) → IfSome n
 behind_next c None xs h = tt
 behind_next c (Some y) xs h = behind c y h
 
-pub command_next : {R W G A : Type 0} (remaining : R → Option (List ℕ)) (contents : W → Option (List ℕ)) (p : Plan A) (texts : ℕ → List ℕ) (commanded : List Input) (c : Command) (next : Option Input) (olds : List W) (b d : RelayState G A) (lanes : List (Lane A)) (sources : List R) (sinks news : List W) (left : ℕ → List Captured) → (u : IsUnderWay remaining contents p texts commanded (Some (asked c)) olds b lanes sources sinks) → IfSome next (λ y. c.at ≤ y.at) → AreLater (Some c.at) lanes → Stands p d (Cleared c.clear c.number ∷ events u.inputs) left → c.at ≤ d.earliest → AreWritten contents (numbers lanes) olds news left → IsUnderWay remaining contents p texts (asked c ∷ commanded) next olds d lanes sources news
+pub command_next : {R W G A : Type 0} (remaining : R → Option (List ℕ)) (contents : W → Option (List ℕ)) (p : Plan A) (texts : ℕ → List ℕ) (commanded : List Input) (c : Command) (next : Option Input) (olds : List W) (b d : RelayState G A) (lanes : List (CaptureReader A)) (sources : List R) (sinks news : List W) (left : ℕ → List Captured) → (u : IsUnderWay remaining contents p texts commanded (Some (asked c)) olds b lanes sources sinks) → IfSome next (λ y. c.at ≤ y.at) → AreLater (Some c.at) lanes → Stands p d (Cleared c.clear c.number ∷ events u.inputs) left → c.at ≤ d.earliest → AreWritten contents (numbers lanes) olds news left → IsUnderWay remaining contents p texts (asked c ∷ commanded) next olds d lanes sources news
 command_next remaining contents p texts commanded c next olds b d lanes sources sinks news left u after later stands late written = record {
   frames = u.frames;
   inputs = asked c ∷ u.inputs;
@@ -61,7 +61,7 @@ command_next remaining contents p texts commanded c next olds b d lanes sources 
 }
 
 -- after a command frames may be taken
-pub may_still : {G A : Type 0} (b c : RelayState G A) (lanes : List (Lane A)) (t : ℕ) → MayTake b lanes → c.plan ≡ b.plan → c.arrived ≡ b.arrived → c.earliest ≡ t → AreLater (Some t) lanes → MayTake c lanes
+pub may_still : {G A : Type 0} (b c : RelayState G A) (lanes : List (CaptureReader A)) (t : ℕ) → MayTake b lanes → c.plan ≡ b.plan → c.arrived ≡ b.arrived → c.earliest ≡ t → AreLater (Some t) lanes → MayTake c lanes
 may_still {G} {A} b c lanes t may plan arrived earliest later = record {
   each = may.each;
   from = may.from;

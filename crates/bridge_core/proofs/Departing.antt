@@ -2,12 +2,12 @@
 use Rattle.std.proofs.Common.{◌≡◌, ℕ, ◌+◌, ◌<◌, ◌≤◌, max, List, Option, Some, None, Err, inl, inr, refl, sym, ◌∙◌, subst, arith, IfSome}
 use Rattle.std.proofs.lemmas.Option.{same_Some, none-some}
 use Rattle.bridge_capture.specs.Grammar.{Captured}
-use Rattle.bridge_lanes.specs.declared.fault.RunFault.{RunFault}
-use Rattle.bridge_lanes.specs.declared.fault.RunFault.TheVariants as run
+use Rattle.bridge_inputs.specs.declared.fault.RunFault.{RunFault}
+use Rattle.bridge_inputs.specs.declared.fault.RunFault.TheVariants as run
 use Rattle.bridge_events.specs.Least.{IsLeast}
 use Rattle.bridge_config.specs.Model.{Plan}
-use Rattle.bridge_run.specs.Events.{Event}
-use Rattle.bridge_parts.specs.Ports.{IsAfter, NotBefore}
+use Rattle.bridge_semantics.specs.Events.{Event}
+use Rattle.bridge_state.specs.Ports.{IsAfter, NotBefore}
 use Rattle.bridge_relay.specs.Relays.{RelayState}
 use Rattle.bridge_core.specs.Lines.{AreWrittenBut, Departs, MakesStart, Writes}
 

@@ -2,8 +2,8 @@
 use Rattle.std.proofs.Common.{◌≡◌, ℕ, ◌<◌, List, length, slice_get, slice_index_or, slice_set, refl, ap, sym, subst, ◌∙◌, Option, Some, None}
 use Rattle.std.proofs.lemmas.Option.{slice_get_read}
 use Rattle.bridge_capture.specs.declared.packet.Packet.{Packet}
-use Rattle.bridge_lanes.specs.declared.lane.Lane.{Lane}
-use Rattle.bridge_lanes.specs.Lanes.{IsFirstAt}
+use Rattle.bridge_inputs.specs.declared.lane.CaptureReader.{CaptureReader}
+use Rattle.bridge_inputs.specs.Lanes.{IsFirstAt}
 use Rattle.bridge_core.specs.Taking.{HasGiven}
 
 some_is : {X : Type 0} (a b : X) → Some a ≡ Some b → a ≡ b
@@ -12,20 +12,20 @@ some_is a b h = cc
 none_some : {X : Type 0} (o : Option X) (a : X) → o ≡ None → o ≡ Some a → ⊥
 none_some o a h k = cc
 
-pub lane_is : {A : Type 0} (lanes : List (Lane A)) (place : ℕ) (first : IsFirstAt lanes place) (l : Lane A) → place < length lanes → l ≡ slice_index_or lanes place l → l ≡ first.lane
+pub lane_is : {A : Type 0} (lanes : List (CaptureReader A)) (place : ℕ) (first : IsFirstAt lanes place) (l : CaptureReader A) → place < length lanes → l ≡ slice_index_or lanes place l → l ≡ first.lane
 lane_is lanes place first l within is = some_is l first.lane (sym (slice_get_read lanes (length lanes) place l refl within is) ∙ first.there)
 
 -- there is one
-pub is_ahead : {A : Type 0} (lanes : List (Lane A)) (place : ℕ) (first : IsFirstAt lanes place) (l : Lane A) (o : Option (Packet A)) → place < length lanes → l ≡ slice_index_or lanes place l → o ≡ (slice_index_or lanes place l).ahead → o ≡ None → ⊥
+pub is_ahead : {A : Type 0} (lanes : List (CaptureReader A)) (place : ℕ) (first : IsFirstAt lanes place) (l : CaptureReader A) (o : Option (Packet A)) → place < length lanes → l ≡ slice_index_or lanes place l → o ≡ (slice_index_or lanes place l).ahead → o ≡ None → ⊥
 is_ahead {A} lanes place first l o within is found none =
-    let here : o ≡ l.ahead = found ∙ ap (λ (w : Lane A). w.ahead) (sym is) in
-    none_some o first.packet none (here ∙ ap (λ (w : Lane A). w.ahead) (lane_is lanes place first l within is) ∙ first.ahead)
+    let here : o ≡ l.ahead = found ∙ ap (λ (w : CaptureReader A). w.ahead) (sym is) in
+    none_some o first.packet none (here ∙ ap (λ (w : CaptureReader A). w.ahead) (lane_is lanes place first l within is) ∙ first.ahead)
 
-pub given_of : {A : Type 0} (lanes : List (Lane A)) (place : ℕ) (first : IsFirstAt lanes place) (l : Lane A) (o after : Option (Packet A)) (p : Packet A) → place < length lanes → l ≡ slice_index_or lanes place l → o ≡ (slice_index_or lanes place l).ahead → o ≡ Some p → after ≡ None → HasGiven lanes (slice_set lanes place (record { number = (slice_index_or lanes place l).number; capture = (slice_index_or lanes place l).capture; ahead = after })) place ((slice_index_or lanes place l).number, p)
+pub given_of : {A : Type 0} (lanes : List (CaptureReader A)) (place : ℕ) (first : IsFirstAt lanes place) (l : CaptureReader A) (o after : Option (Packet A)) (p : Packet A) → place < length lanes → l ≡ slice_index_or lanes place l → o ≡ (slice_index_or lanes place l).ahead → o ≡ Some p → after ≡ None → HasGiven lanes (slice_set lanes place (record { number = (slice_index_or lanes place l).number; capture = (slice_index_or lanes place l).capture; ahead = after })) place ((slice_index_or lanes place l).number, p)
 given_of {A} lanes place first l o after p within is found some none = record {
   lane = l;
   there = slice_get_read lanes (length lanes) place l refl within is;
-  number = ap (λ (w : Lane A). w.number) is;
-  ahead = ap (λ (w : Lane A). w.ahead) is ∙ sym found ∙ some;
-  now = ap (λ (w : Lane A). slice_set lanes place (record { number = w.number; capture = w.capture; ahead = after })) (sym is) ∙ ap (λ (z : Option (Packet A)). slice_set lanes place (record { number = l.number; capture = l.capture; ahead = z })) none;
+  number = ap (λ (w : CaptureReader A). w.number) is;
+  ahead = ap (λ (w : CaptureReader A). w.ahead) is ∙ sym found ∙ some;
+  now = ap (λ (w : CaptureReader A). slice_set lanes place (record { number = w.number; capture = w.capture; ahead = after })) (sym is) ∙ ap (λ (z : Option (Packet A)). slice_set lanes place (record { number = l.number; capture = l.capture; ahead = z })) none;
 }

@@ -4,16 +4,16 @@ use Rattle.std.specs.Prelude.{IfSome, IsTrue, OnOk, ◌⊎◌}
 use Rattle.std.proofs.Math.Numerals.{add-one}
 use Rattle.std.proofs.Math.Seq.{drop-cons, take-suc}
 use Rattle.std.proofs.lemmas.List.{drop_all, take-append-drop, take_all}
-use Rattle.bridge_base.specs.Members.{AllAfter, In, Rising}
+use Rattle.bridge_limits.specs.Members.{AllAfter, In, Rising}
 use Rattle.bridge_capture.specs.declared.packet.Packet.{Packet}
 use Rattle.bridge_config.specs.declared.command.Command.{Command}
 use Rattle.bridge_config.specs.Model.{Plan}
 use Rattle.bridge_config.specs.Commands.{has_instance, AreCommands}
-use Rattle.bridge_lanes.specs.declared.fault.RunFault.{RunFault}
-use Rattle.bridge_run.specs.Merge.{Input, events, asked, commands_of}
+use Rattle.bridge_inputs.specs.declared.fault.RunFault.{RunFault}
+use Rattle.bridge_semantics.specs.Merge.{Input, events, asked, commands_of}
 use Rattle.bridge_relay.specs.Relays.{RelayState}
-use Rattle.bridge_lanes.specs.declared.lane.Lane.{Lane}
-use Rattle.bridge_lanes.specs.Lanes.{numbers}
+use Rattle.bridge_inputs.specs.declared.lane.CaptureReader.{CaptureReader}
+use Rattle.bridge_inputs.specs.Lanes.{numbers}
 use Rattle.bridge_core.specs.Lines.{AreWritten, Departs}
 use Rattle.bridge_core.specs.Taking.{AreLater, first_of_commands, HasGone, IsThrough, IsUnderWay, StopsAmong, StopsSo}
 use Rattle.bridge_core.proofs.Commanded.{commands_push}
@@ -73,7 +73,7 @@ pub stops_behind : {A W : Type 0} (p : Plan A) (texts : ℕ → List ℕ) (rests
 stops_behind p texts rests cs contents ports olds news fault stops = record { done = cs; later = []; all = no_more cs; stops = stops }
 
 -- all commands are done
-pub all_done : {R W G A : Type 0} (remaining : R → Option (List ℕ)) (contents : W → Option (List ℕ)) (p : Plan A) (texts : ℕ → List ℕ) (cs : List Command) (i : ℕ) (olds : List W) (b : RelayState G A) (lanes : List (Lane A)) (sources : List R) (sinks : List W) → length cs ≤ i → IsUnderWay remaining contents p texts (commands_of (take i cs)) (first_of_commands (drop i cs)) olds b lanes sources sinks → IsUnderWay remaining contents p texts (commands_of cs) None olds b lanes sources sinks
+pub all_done : {R W G A : Type 0} (remaining : R → Option (List ℕ)) (contents : W → Option (List ℕ)) (p : Plan A) (texts : ℕ → List ℕ) (cs : List Command) (i : ℕ) (olds : List W) (b : RelayState G A) (lanes : List (CaptureReader A)) (sources : List R) (sinks : List W) → length cs ≤ i → IsUnderWay remaining contents p texts (commands_of (take i cs)) (first_of_commands (drop i cs)) olds b lanes sources sinks → IsUnderWay remaining contents p texts (commands_of cs) None olds b lanes sources sinks
 all_done remaining contents p texts cs i olds b lanes sources sinks l u =
     subst (λ (o : Option Input). IsUnderWay remaining contents p texts (commands_of cs) o olds b lanes sources sinks) (ap first_of_commands (drop_all i cs l))
     (subst (λ (z : List Command). IsUnderWay remaining contents p texts (commands_of z) (first_of_commands (drop i cs)) olds b lanes sources sinks) (take_all i cs l) u)
@@ -83,7 +83,7 @@ none_ahead None h = refl
 none_ahead (Some p) h = absurd (let z = (h p refl).1 in cc)
 
 -- the last starts were made, or a sink failed
-pub gone : {R W G A : Type 0} (remaining : R → Option (List ℕ)) (contents : W → Option (List ℕ)) (p : Plan A) (texts : ℕ → List ℕ) (cs : List Command) (olds : List W) (b c : RelayState G A) (lanes : List (Lane A)) (sources : List R) (sinks news : List W) (ports : List ℕ) (r : Result (Unit {0}) RunFault) → (u : IsUnderWay remaining contents p texts (commands_of cs) None olds b lanes sources sinks) → length sources ≡ length lanes → ports ≡ numbers lanes → AreLater None lanes → b.earliest ≤ c.earliest → Departs contents p (events u.inputs) b.earliest None c ports olds news r → HasGone remaining contents p texts cs olds c lanes sources news r
+pub gone : {R W G A : Type 0} (remaining : R → Option (List ℕ)) (contents : W → Option (List ℕ)) (p : Plan A) (texts : ℕ → List ℕ) (cs : List Command) (olds : List W) (b c : RelayState G A) (lanes : List (CaptureReader A)) (sources : List R) (sinks news : List W) (ports : List ℕ) (r : Result (Unit {0}) RunFault) → (u : IsUnderWay remaining contents p texts (commands_of cs) None olds b lanes sources sinks) → length sources ≡ length lanes → ports ≡ numbers lanes → AreLater None lanes → b.earliest ≤ c.earliest → Departs contents p (events u.inputs) b.earliest None c ports olds news r → HasGone remaining contents p texts cs olds c lanes sources news r
 gone remaining contents p texts cs olds b c lanes sources sinks news ports (Ok x) u size same later onward d = record {
   under = record {
     frames = u.frames;

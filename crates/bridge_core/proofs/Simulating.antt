@@ -3,7 +3,7 @@ use Rattle.std.proofs.Common.{◌≡◌, ℕ, suc, Bool, true, false, ◌+◌, �
 use Rattle.std.specs.Prelude.{IfSome}
 use Rattle.std.proofs.lemmas.List.{length-map}
 use Rattle.std.proofs.lemmas.List.Sorted.{length_permutation}
-use Rattle.bridge_base.specs.declared.TheConstants.{MOST_ARRIVALS}
+use Rattle.bridge_limits.specs.declared.TheConstants.{MOST_ARRIVALS}
 use Rattle.bridge_capture.specs.Grammar.{Captured}
 use Rattle.bridge_capture.specs.declared.packet.Packet.{Packet}
 use Rattle.bridge_capture.specs.Reading.{view}
@@ -12,23 +12,23 @@ use Rattle.bridge_config.specs.declared.command.Command.{Command}
 use Rattle.bridge_config.specs.declared.ports.PortPlan.{PortPlan}
 use Rattle.bridge_config.specs.Model.{Plan}
 use Rattle.bridge_config.specs.Rules.{IsPlan, port_at}
-use Rattle.bridge_lanes.specs.declared.fault.RunFault.{RunFault}
-use Rattle.bridge_lanes.specs.declared.fault.RunFault.TheVariants as run
+use Rattle.bridge_inputs.specs.declared.fault.RunFault.{RunFault}
+use Rattle.bridge_inputs.specs.declared.fault.RunFault.TheVariants as run
 use Rattle.bridge_check.specs.Acceptable.{IsAcceptable}
 use Rattle.bridge_cycle.proofs.Cases.{by_bool}
 use Rattle.bridge_relay.specs.Relays.{RelayState, Stands}
-use Rattle.bridge_run.specs.declared.outcome.Outcome.{Outcome}
-use Rattle.bridge_run.specs.Events.{Event}
-use Rattle.bridge_run.specs.Merge.{Input, of_rank, commands_of, streams}
-use Rattle.bridge_run.specs.Outputs.{Ends}
-use Rattle.bridge_run.proofs.Headline.{protected_alone, two_runs}
-use Rattle.bridge_run.proofs.Merging.{own_ports}
+use Rattle.bridge_semantics.specs.declared.outcome.Outcome.{Outcome}
+use Rattle.bridge_semantics.specs.Events.{Event}
+use Rattle.bridge_semantics.specs.Merge.{Input, of_rank, commands_of, streams}
+use Rattle.bridge_semantics.specs.Outputs.{Ends}
+use Rattle.bridge_semantics.proofs.Headline.{protected_alone, two_runs}
+use Rattle.bridge_semantics.proofs.Merging.{own_ports}
 use Rattle.bridge_core.proofs.Beginning.{covered, gave_none, known}
 use Rattle.bridge_core.proofs.Sorted.{rising_numbers}
 use Rattle.bridge_core.proofs.Steps.{lane_at, number_at, source_of}
-use Rattle.bridge_lanes.specs.declared.lane.Lane.{Lane}
-use Rattle.bridge_lanes.specs.Lanes.{AreAheadOf, AreLanes, AreRests, AreTexts, BeginsWell, FailsLook, Finds, numbers, room_of}
-use Rattle.bridge_lanes.proofs.Looks.{untaken}
+use Rattle.bridge_inputs.specs.declared.lane.CaptureReader.{CaptureReader}
+use Rattle.bridge_inputs.specs.Lanes.{AreAheadOf, AreLanes, AreRests, AreTexts, BeginsWell, FailsLook, Finds, numbers, room_of}
+use Rattle.bridge_inputs.proofs.Looks.{untaken}
 use Rattle.bridge_core.specs.Lines.{AreWritten, HeadersStop}
 use Rattle.bridge_core.specs.Simulated.{AreNumbers, BeginWell, Isolates, OthersChangeNothing, Runs, Stops, WantsMemory}
 use Rattle.bridge_capture.specs.declared.fault.CaptureFault.{CaptureFault}
@@ -40,22 +40,22 @@ ports_many {A} p ports a =
     let number : PortPlan A → ℕ = λ q. q.number in
     length_permutation (map number p.ports) ports a.same ∙ length-map p.ports number
 
-lanes_long : {A : Type 0} (lanes : List (Lane A)) → length (numbers lanes) ≡ length lanes
+lanes_long : {A : Type 0} (lanes : List (CaptureReader A)) → length (numbers lanes) ≡ length lanes
 lanes_long [] = refl
 lanes_long (lane ∷ more) = ap suc (lanes_long more)
 
 -- there are as many lanes as ports
-pub lanes_many : {A : Type 0} (p : Plan A) (ports : List ℕ) (lanes : List (Lane A)) (n : ℕ) → AreNumbers p ports → numbers lanes ≡ ports → n ≡ length p.ports → n ≡ length lanes
+pub lanes_many : {A : Type 0} (p : Plan A) (ports : List ℕ) (lanes : List (CaptureReader A)) (n : ℕ) → AreNumbers p ports → numbers lanes ≡ ports → n ≡ length p.ports → n ≡ length lanes
 lanes_many p ports lanes n a same many = let x = ports_many p ports a in let y = lanes_long lanes in let z = ap length same in omega (arith, x, y, z, many)
 
 -- what comes behind the frames that were taken of a text
-record FindsAt {A : Type 0} (lanes : List (Lane A)) (text : List ℕ) (taken : List Captured) : Type 0 where
+record FindsAt {A : Type 0} (lanes : List (CaptureReader A)) (text : List ℕ) (taken : List Captured) : Type 0 where
   place : ℕ
-  lane : Lane A
+  lane : CaptureReader A
   there : slice_get lanes place ≡ Some lane
   finds : Finds text taken lane.ahead
 
-finds_at : {R A : Type 0} (remaining : R → Option (List ℕ)) (p : Plan A) (ports : List ℕ) (texts : ℕ → List ℕ) (frames : ℕ → List Captured) (lanes : List (Lane A)) (sources : List R) (q : ℕ) (out : PortPlan A) → AreNumbers p ports → numbers lanes ≡ ports → length sources ≡ length lanes → AreAheadOf remaining texts frames lanes sources → port_at p.ports q ≡ Some out → FindsAt lanes (texts q) (frames q)
+finds_at : {R A : Type 0} (remaining : R → Option (List ℕ)) (p : Plan A) (ports : List ℕ) (texts : ℕ → List ℕ) (frames : ℕ → List Captured) (lanes : List (CaptureReader A)) (sources : List R) (q : ℕ) (out : PortPlan A) → AreNumbers p ports → numbers lanes ≡ ports → length sources ≡ length lanes → AreAheadOf remaining texts frames lanes sources → port_at p.ports q ≡ Some out → FindsAt lanes (texts q) (frames q)
 finds_at remaining p ports texts frames lanes sources q out are same size ahead e =
     let at = covered p ports q out are e in
     let l = lane_at lanes at.0 q (subst (λ ns. slice_get ns at.0 ≡ Some q) (sym same) at.1) in
@@ -68,7 +68,7 @@ finds_at remaining p ports texts frames lanes sources q out are same size ahead 
     }
 
 -- a bridge to which nothing has come may take the frames of all lanes
-pub may_take : {G A : Type 0} (p : Plan A) (b : RelayState G A) (ports : List ℕ) (lanes : List (Lane A)) → IsPlan p → AreNumbers p ports → numbers lanes ≡ ports → b.plan ≡ p → b.arrived ≡ 0 → b.earliest ≡ 0 → AreLanes lanes → room_of lanes ≤ MOST_ARRIVALS → MayTake b lanes
+pub may_take : {G A : Type 0} (p : Plan A) (b : RelayState G A) (ports : List ℕ) (lanes : List (CaptureReader A)) → IsPlan p → AreNumbers p ports → numbers lanes ≡ ports → b.plan ≡ p → b.arrived ≡ 0 → b.earliest ≡ 0 → AreLanes lanes → room_of lanes ≤ MOST_ARRIVALS → MayTake b lanes
 may_take {G} {A} p b ports lanes rules are same plan none early each few = record {
   each = each;
   from = λ i lane e. (let k = there i lane e in (number_is p.ports lane.number k.0 rules.ports k.1).0);
@@ -77,7 +77,7 @@ may_take {G} {A} p b ports lanes rules are same plan none early each few = recor
   few = omega (arith, none, few);
   rises = rising_numbers (numbers lanes) (subst (λ ns. AreNumbers p ns) (sym same) are).rises;
 } where
-  there : (i : ℕ) (lane : Lane A) → slice_get lanes i ≡ Some lane → (out : PortPlan A) × (port_at p.ports lane.number ≡ Some out)
+  there : (i : ℕ) (lane : CaptureReader A) → slice_get lanes i ≡ Some lane → (out : PortPlan A) × (port_at p.ports lane.number ≡ Some out)
   there i lane e = known p ports i lane.number are (subst (λ ns. slice_get ns i ≡ Some lane.number) same (number_at lanes i lane e))
 
 none_yet : (q : ℕ) → of_rank q [] ≡ streams [] (λ n. []) q
@@ -88,7 +88,7 @@ follows_none None = tt
 follows_none (Some c) = tt
 
 -- a run begins: nothing was taken, and each first frame is ahead
-pub under_first : {R W G A : Type 0} (remaining : R → Option (List ℕ)) (contents : W → Option (List ℕ)) (p : Plan A) (ports : List ℕ) (texts : ℕ → List ℕ) (next : Option Input) (olds : List W) (b : RelayState G A) (lanes : List (Lane A)) (sources : List R) (sinks : List W) → AreNumbers p ports → numbers lanes ≡ ports → length sources ≡ length lanes → AreAheadOf remaining texts (λ q. []) lanes sources → Stands p b [] (λ q. []) → AreWritten contents ports olds sinks (λ q. []) → IsUnderWay remaining contents p texts [] next olds b lanes sources sinks
+pub under_first : {R W G A : Type 0} (remaining : R → Option (List ℕ)) (contents : W → Option (List ℕ)) (p : Plan A) (ports : List ℕ) (texts : ℕ → List ℕ) (next : Option Input) (olds : List W) (b : RelayState G A) (lanes : List (CaptureReader A)) (sources : List R) (sinks : List W) → AreNumbers p ports → numbers lanes ≡ ports → length sources ≡ length lanes → AreAheadOf remaining texts (λ q. []) lanes sources → Stands p b [] (λ q. []) → AreWritten contents ports olds sinks (λ q. []) → IsUnderWay remaining contents p texts [] next olds b lanes sources sinks
 under_first {R} {W} {G} {A} remaining contents p ports texts next olds b lanes sources sinks are same size ahead stands written = record {
   frames = λ q. [];
   inputs = [];
@@ -112,11 +112,11 @@ well_begun text None f = inl f
 well_begun text (Some c) f = inr (view c, f)
 
 -- where each first frame is ahead, each text begins well
-pub begin_well : {R A : Type 0} (remaining : R → Option (List ℕ)) (p : Plan A) (ports : List ℕ) (texts : ℕ → List ℕ) (lanes : List (Lane A)) (sources : List R) → AreNumbers p ports → numbers lanes ≡ ports → length sources ≡ length lanes → AreAheadOf remaining texts (λ q. []) lanes sources → BeginWell p texts
+pub begin_well : {R A : Type 0} (remaining : R → Option (List ℕ)) (p : Plan A) (ports : List ℕ) (texts : ℕ → List ℕ) (lanes : List (CaptureReader A)) (sources : List R) → AreNumbers p ports → numbers lanes ≡ ports → length sources ≡ length lanes → AreAheadOf remaining texts (λ q. []) lanes sources → BeginWell p texts
 begin_well remaining p ports texts lanes sources are same size ahead q out e = let f = finds_at remaining p ports texts (λ n. []) lanes sources q out are same size ahead e in well_begun (texts q) f.lane.ahead f.finds
 
 -- a run that is through has run all
-pub has_run : {R W G A : Type 0} (remaining : R → Option (List ℕ)) (contents : W → Option (List ℕ)) (p : Plan A) (ports : List ℕ) (commands : List Command) (texts : ℕ → List ℕ) (olds : List W) (b : RelayState G A) (lanes : List (Lane A)) (sources : List R) (sinks : List W) (o : Outcome A) → AreNumbers p ports → numbers lanes ≡ ports → length sources ≡ length lanes → IsThrough remaining contents p texts commands olds b lanes sources sinks → ((es : List Event) (left : ℕ → List Captured) → Stands p b es left → Ends p es left o) → Runs p ports commands texts contents olds sinks o
+pub has_run : {R W G A : Type 0} (remaining : R → Option (List ℕ)) (contents : W → Option (List ℕ)) (p : Plan A) (ports : List ℕ) (commands : List Command) (texts : ℕ → List ℕ) (olds : List W) (b : RelayState G A) (lanes : List (CaptureReader A)) (sources : List R) (sinks : List W) (o : Outcome A) → AreNumbers p ports → numbers lanes ≡ ports → length sources ≡ length lanes → IsThrough remaining contents p texts commands olds b lanes sources sinks → ((es : List Event) (left : ℕ → List Captured) → Stands p b es left → Ends p es left o) → Runs p ports commands texts contents olds sinks o
 has_run {R} {W} {G} {A} remaining contents p ports commands texts olds b lanes sources sinks o are same size through ends =
     let u = through.under in
     record {

@@ -8,7 +8,7 @@ use Rattle.std.proofs.lemmas.List.Kept.{AllPairs-from_increasing}
 use Rattle.std.proofs.lemmas.List.Sorted.{Contains-permutation, IsPermutation-map, IsPermutation-sym}
 use Rattle.std.proofs.lemmas.Map.Keys.{IsDistinct-IsPermutation, IsStrictlyIncreasing-from_distinct}
 use Rattle.std.proofs.lemmas.Map.Views.{Contains-from_lookup, lookup-from_Contains}
-use Rattle.bridge_base.specs.Members.{AllAfter, Rising}
+use Rattle.bridge_limits.specs.Members.{AllAfter, Rising}
 use Rattle.bridge_config.proofs.InOrder.{numbers_differ}
 use Rattle.bridge_filter.specs.Plans.{are_distinct}
 use Rattle.std.proofs.Common.{zero, suc, ◌+◌, ◌≤◌, length, slice_index_or, get_or}

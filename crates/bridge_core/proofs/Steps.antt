@@ -3,7 +3,7 @@ use Rattle.std.proofs.Common.{◌≡◌, ◌≢◌, ℕ, zero, suc, ◌+◌, ◌
 use Rattle.std.specs.Prelude.{nat_eq, ◌⊎◌, IfSome}
 use Rattle.std.proofs.lemmas.Option.{slice_get_within}
 use Rattle.std.proofs.lemmas.Bool.Decides.{nat_tests}
-use Rattle.bridge_base.specs.Members.{Rising}
+use Rattle.bridge_limits.specs.Members.{Rising}
 use Rattle.bridge_capture.specs.declared.fault.CaptureFault.{CaptureFault}
 use Rattle.bridge_capture.specs.declared.fault.CaptureFault.TheVariants as faults
 use Rattle.bridge_capture.specs.declared.packet.Packet.{Packet}
@@ -14,13 +14,13 @@ use Rattle.bridge_config.specs.declared.ports.PortPlan.{PortPlan}
 use Rattle.bridge_config.specs.Model.{Plan}
 use Rattle.bridge_config.specs.Rules.{port_at}
 use Rattle.bridge_cycle.proofs.Cases.{by_bool}
-use Rattle.bridge_lanes.specs.declared.fault.RunFault.{RunFault}
-use Rattle.bridge_lanes.specs.declared.fault.RunFault.TheVariants as run
-use Rattle.bridge_run.specs.Merge.{Input, frame, NotBefore, events, newest}
-use Rattle.bridge_run.specs.Outputs.{Reaches}
+use Rattle.bridge_inputs.specs.declared.fault.RunFault.{RunFault}
+use Rattle.bridge_inputs.specs.declared.fault.RunFault.TheVariants as run
+use Rattle.bridge_semantics.specs.Merge.{Input, frame, NotBefore, events, newest}
+use Rattle.bridge_semantics.specs.Outputs.{Reaches}
 use Rattle.bridge_relay.specs.Relays.{RelayState, Stands}
-use Rattle.bridge_lanes.specs.declared.lane.Lane.{Lane}
-use Rattle.bridge_lanes.specs.Lanes.{AreAheadOf, fault_at, IsAhead, Finds, IsFirstAt, numbers, one_ahead}
+use Rattle.bridge_inputs.specs.declared.lane.CaptureReader.{CaptureReader}
+use Rattle.bridge_inputs.specs.Lanes.{AreAheadOf, fault_at, IsAhead, Finds, IsFirstAt, numbers, one_ahead}
 use Rattle.bridge_core.specs.Lines.{AreWritten, AreWrittenBut, Departs, MakesStart}
 use Rattle.bridge_core.specs.Taking.{AreLater, Follows, HasTaken, IsBefore, IsOfCapture, IsUnderWay, LooksFrom, LooksOn, MayTake, StopsForMemory, StopsReading, StopsSo, StopsWriting, TakesBefore}
 use Rattle.bridge_core.proofs.Order.{back, frames_here, frames_there, is_same, taken_frame, with_frame}
@@ -37,19 +37,19 @@ is_apart a b e same = grind (arith, nat_tests)
 
 -- lanes and their numbers
 
-pub number_at : {A : Type 0} (lanes : List (Lane A)) (i : ℕ) (l : Lane A) → slice_get lanes i ≡ Some l → slice_get (numbers lanes) i ≡ Some l.number
+pub number_at : {A : Type 0} (lanes : List (CaptureReader A)) (i : ℕ) (l : CaptureReader A) → slice_get lanes i ≡ Some l → slice_get (numbers lanes) i ≡ Some l.number
 number_at [] i l e = absurd (cc)
-number_at (m ∷ lanes) zero l e = ap (λ (z : Lane _). Some z.number) (some_is m l e)
+number_at (m ∷ lanes) zero l e = ap (λ (z : CaptureReader _). Some z.number) (some_is m l e)
 number_at (m ∷ lanes) (suc i) l e = number_at lanes i l e
 
-pub lane_at : {A : Type 0} (lanes : List (Lane A)) (i q : ℕ) → slice_get (numbers lanes) i ≡ Some q → (l : Lane A) × (slice_get lanes i ≡ Some l) × (l.number ≡ q)
+pub lane_at : {A : Type 0} (lanes : List (CaptureReader A)) (i q : ℕ) → slice_get (numbers lanes) i ≡ Some q → (l : CaptureReader A) × (slice_get lanes i ≡ Some l) × (l.number ≡ q)
 lane_at [] i q e = absurd (cc)
 lane_at (m ∷ lanes) zero q e = (m, refl, some_is m.number q e)
 lane_at (m ∷ lanes) (suc i) q e = lane_at lanes i q e
 
-pub numbers_set : {A : Type 0} (lanes : List (Lane A)) (i : ℕ) (l m : Lane A) → slice_get lanes i ≡ Some l → m.number ≡ l.number → numbers (slice_set lanes i m) ≡ numbers lanes
+pub numbers_set : {A : Type 0} (lanes : List (CaptureReader A)) (i : ℕ) (l m : CaptureReader A) → slice_get lanes i ≡ Some l → m.number ≡ l.number → numbers (slice_set lanes i m) ≡ numbers lanes
 numbers_set [] i l m e n = absurd (cc)
-numbers_set (k ∷ lanes) zero l m e n = ap (λ (z : ℕ). z ∷ numbers lanes) (n ∙ ap (λ (z : Lane _). z.number) (sym (some_is k l e)))
+numbers_set (k ∷ lanes) zero l m e n = ap (λ (z : ℕ). z ∷ numbers lanes) (n ∙ ap (λ (z : CaptureReader _). z.number) (sym (some_is k l e)))
 numbers_set (k ∷ lanes) (suc i) l m e n = ap (λ z. k.number ∷ z) (numbers_set lanes i l m e n)
 
 pub by_order : (P : Type 0) (i j : ℕ) → (i < j → P) → (j < i → P) → (i ≡ j → P) → P
@@ -62,7 +62,7 @@ apart : (a b : ℕ) → a < b → nat_eq a b ≡ false
 apart a b l = grind (arith, nat_tests)
 
 -- other places have other numbers
-pub other_number : {A : Type 0} (lanes : List (Lane A)) (i j : ℕ) (l m : Lane A) → Rising (λ a b. a < b) (numbers lanes) → slice_get lanes i ≡ Some l → slice_get lanes j ≡ Some m → i ≢ j → nat_eq l.number m.number ≡ false
+pub other_number : {A : Type 0} (lanes : List (CaptureReader A)) (i j : ℕ) (l m : CaptureReader A) → Rising (λ a b. a < b) (numbers lanes) → slice_get lanes i ≡ Some l → slice_get lanes j ≡ Some m → i ≢ j → nat_eq l.number m.number ≡ false
 other_number lanes i j l m r e f n = by_order (nat_eq l.number m.number ≡ false) i j
     (λ h. apart l.number m.number (rising_at (λ a b. a < b) (numbers lanes) i j l.number m.number r (number_at lanes i l e) (number_at lanes j m f) h))
     (λ h. back m.number l.number (apart m.number l.number (rising_at (λ a b. a < b) (numbers lanes) j i m.number l.number r (number_at lanes j m f) (number_at lanes i l e) h)))
@@ -75,7 +75,7 @@ by_place P place i here there = by_bool (nat_eq i place)
 
 -- what comes next of each lane
 
-pub is_next : {A : Type 0} (lanes : List (Lane A)) (place : ℕ) (first : IsFirstAt lanes place) → Rising (λ a b. a < b) (numbers lanes) → (i : ℕ) (l : Lane A) (d : Packet A) → slice_get lanes i ≡ Some l → l.ahead ≡ Some d → i ≢ place → NotBefore (frame l.number (view d)) (frame first.lane.number (view first.packet))
+pub is_next : {A : Type 0} (lanes : List (CaptureReader A)) (place : ℕ) (first : IsFirstAt lanes place) → Rising (λ a b. a < b) (numbers lanes) → (i : ℕ) (l : CaptureReader A) (d : Packet A) → slice_get lanes i ≡ Some l → l.ahead ≡ Some d → i ≢ place → NotBefore (frame l.number (view d)) (frame first.lane.number (view first.packet))
 is_next lanes place first rises i l d e h n = elim (first.least i l d e h) [
   | inl m ↦ inl m
   | inr m ↦ inr (
@@ -87,7 +87,7 @@ is_next lanes place first rises i l d e h n = elim (first.least i l d e h) [
 
 -- the lanes after a look
 
-ahead_of : {R A : Type 0} (remaining : R → Option (List ℕ)) (texts : ℕ → List ℕ) (frames : ℕ → List Captured) (lanes : List (Lane A)) (sources : List R) (place : ℕ) (l m : Lane A) (r : R) (c : Captured) → AreAheadOf remaining texts frames lanes sources → Rising (λ a b. a < b) (numbers lanes) → slice_get lanes place ≡ Some l → place < length sources → m.number ≡ l.number → IsAhead m (remaining r) (texts l.number) (frames l.number ++ c ∷ []) → AreAheadOf remaining texts (with_frame frames l.number c) (slice_set lanes place m) (slice_set sources place r)
+ahead_of : {R A : Type 0} (remaining : R → Option (List ℕ)) (texts : ℕ → List ℕ) (frames : ℕ → List Captured) (lanes : List (CaptureReader A)) (sources : List R) (place : ℕ) (l m : CaptureReader A) (r : R) (c : Captured) → AreAheadOf remaining texts frames lanes sources → Rising (λ a b. a < b) (numbers lanes) → slice_get lanes place ≡ Some l → place < length sources → m.number ≡ l.number → IsAhead m (remaining r) (texts l.number) (frames l.number ++ c ∷ []) → AreAheadOf remaining texts (with_frame frames l.number c) (slice_set lanes place m) (slice_set sources place r)
 ahead_of {R} {A} remaining texts frames lanes sources place l m r c ahead rises there within number looks i k s e f =
     by_place (λ j. slice_get (slice_set lanes place m) j ≡ Some k → slice_get (slice_set sources place r) j ≡ Some s → IsAhead k (remaining s) (texts k.number) (with_frame frames l.number c k.number)) place i
     (λ g h.
@@ -95,7 +95,7 @@ ahead_of {R} {A} remaining texts frames lanes sources place l m r c ahead rises 
     let rest : r ≡ s = some_is r s (sym (set_here sources place r within) ∙ h) in
     let z : IsAhead m (remaining r) (texts l.number) (with_frame frames l.number c l.number) = subst (IsAhead m (remaining r) (texts l.number)) (sym (frames_here frames l.number c)) looks in
     let y : IsAhead m (remaining r) (texts m.number) (with_frame frames l.number c m.number) = subst (λ (n : ℕ). IsAhead m (remaining r) (texts n) (with_frame frames l.number c n)) (sym number) z in
-    subst (λ (w : Lane A). IsAhead w (remaining s) (texts w.number) (with_frame frames l.number c w.number)) is (subst (λ (w : R). IsAhead m (remaining w) (texts m.number) (with_frame frames l.number c m.number)) rest y))
+    subst (λ (w : CaptureReader A). IsAhead w (remaining s) (texts w.number) (with_frame frames l.number c w.number)) is (subst (λ (w : R). IsAhead m (remaining w) (texts m.number) (with_frame frames l.number c m.number)) rest y))
     (λ n g h.
     let old : slice_get lanes i ≡ Some k = sym (set_there lanes place i m n) ∙ g in
     let was : slice_get sources i ≡ Some s = sym (set_there sources place i r n) ∙ h in
@@ -108,13 +108,13 @@ no_sooner q r c d same late = by_order (NotBefore (frame r d) (frame q c)) c.tim
     (λ h. absurd (omega (arith, h, late)))
     (λ h. inr (h, omega (arith, same)))
 
-follow_next : {A : Type 0} (lanes : List (Lane A)) (place : ℕ) (first : IsFirstAt lanes place) (m : Lane A) (inputs : List Input) → Rising (λ a b. a < b) (numbers lanes) → m.number ≡ first.lane.number → ((d : Packet A) → m.ahead ≡ Some d → first.packet.time ≤ d.time) → (i : ℕ) (k : Lane A) (d : Packet A) → slice_get (slice_set lanes place m) i ≡ Some k → k.ahead ≡ Some d → Follows (frame k.number (view d)) (frame first.lane.number (view first.packet) ∷ inputs)
+follow_next : {A : Type 0} (lanes : List (CaptureReader A)) (place : ℕ) (first : IsFirstAt lanes place) (m : CaptureReader A) (inputs : List Input) → Rising (λ a b. a < b) (numbers lanes) → m.number ≡ first.lane.number → ((d : Packet A) → m.ahead ≡ Some d → first.packet.time ≤ d.time) → (i : ℕ) (k : CaptureReader A) (d : Packet A) → slice_get (slice_set lanes place m) i ≡ Some k → k.ahead ≡ Some d → Follows (frame k.number (view d)) (frame first.lane.number (view first.packet) ∷ inputs)
 follow_next {A} lanes place first m inputs rises number onward i k d e h =
     by_place (λ j. slice_get (slice_set lanes place m) j ≡ Some k → NotBefore (frame k.number (view d)) (frame first.lane.number (view first.packet))) place i
     (λ g.
     let is : m ≡ k = some_is m k (sym (set_here lanes place m (slice_get_within lanes place first.lane first.there)) ∙ g) in
-    let late = onward d (ap (λ (w : Lane A). w.ahead) is ∙ h) in
-    let same : k.number ≡ first.lane.number = ap (λ (w : Lane A). w.number) (sym is) ∙ number in
+    let late = onward d (ap (λ (w : CaptureReader A). w.ahead) is ∙ h) in
+    let same : k.number ≡ first.lane.number = ap (λ (w : CaptureReader A). w.number) (sym is) ∙ number in
     no_sooner first.lane.number k.number (view first.packet) (view d) same late)
     (λ n g. is_next lanes place first rises i k d (sym (set_there lanes place i m n) ∙ g) h n)
     e
@@ -124,7 +124,7 @@ there_is [] i l = absurd (omega arith)
 there_is (x ∷ xs) zero l = (x, refl)
 there_is (x ∷ xs) (suc i) l = there_is xs i (omega arith)
 
-pub source_of : {R A : Type 0} (lanes : List (Lane A)) (sources : List R) (i : ℕ) (l : Lane A) → length sources ≡ length lanes → slice_get lanes i ≡ Some l → (s : R) × (slice_get sources i ≡ Some s)
+pub source_of : {R A : Type 0} (lanes : List (CaptureReader A)) (sources : List R) (i : ℕ) (l : CaptureReader A) → length sources ≡ length lanes → slice_get lanes i ≡ Some l → (s : R) × (slice_get sources i ≡ Some s)
 source_of lanes sources i l size e = let z = slice_get_within lanes i l e in there_is sources i (omega (arith, z, size))
 
 looks_of : {A : Type 0} (text : List ℕ) (q : ℕ) (taken : List Captured) (inputs : List Input) (o : Option (Packet A)) → Finds text taken o → ((d : Packet A) → o ≡ Some d → Follows (frame q (view d)) inputs) → LooksOn text q taken inputs
@@ -151,7 +151,7 @@ waits_at n None h = tt
 waits_at n (Some y) h = omega (arith, h)
 
 -- a number stands at one place
-pub one_place : {A : Type 0} (lanes : List (Lane A)) (i j q : ℕ) → Rising (λ a b. a < b) (numbers lanes) → slice_get (numbers lanes) i ≡ Some q → slice_get (numbers lanes) j ≡ Some q → i ≡ j
+pub one_place : {A : Type 0} (lanes : List (CaptureReader A)) (i j q : ℕ) → Rising (λ a b. a < b) (numbers lanes) → slice_get (numbers lanes) i ≡ Some q → slice_get (numbers lanes) j ≡ Some q → i ≡ j
 one_place lanes i j q r e f = by_order (i ≡ j) i j
     (λ h. absurd (let z = rising_at (λ a b. a < b) (numbers lanes) i j q q r e f h in omega (arith, z)))
     (λ h. absurd (let z = rising_at (λ a b. a < b) (numbers lanes) j i q q r f e h in omega (arith, z)))
@@ -164,10 +164,10 @@ newest_late y (x ∷ xs) (inl l) = omega (arith, l)
 newest_late y (x ∷ xs) (inr e) = let z = e.0 in omega (arith, z)
 
 -- what is known of the frame that is taken
-module _ {R W G A : Type 0} (remaining : R → Option (List ℕ)) (contents : W → Option (List ℕ)) (p : Plan A) (texts : ℕ → List ℕ) (commanded : List Input) (next : Option Input) (olds : List W) (b : RelayState G A) (lanes : List (Lane A)) (sources : List R) (sinks : List W)
+module _ {R W G A : Type 0} (remaining : R → Option (List ℕ)) (contents : W → Option (List ℕ)) (p : Plan A) (texts : ℕ → List ℕ) (commanded : List Input) (next : Option Input) (olds : List W) (b : RelayState G A) (lanes : List (CaptureReader A)) (sources : List R) (sinks : List W)
     (u : IsUnderWay remaining contents p texts commanded next olds b lanes sources sinks) (size : length sources ≡ length lanes) where
   -- each port looks on
-  port_looks : (q : ℕ) (out : PortPlan A) → port_at p.ports q ≡ Some out → (i : ℕ) × (l : Lane A) × (slice_get lanes i ≡ Some l) × (l.number ≡ q) × Finds (texts q) (u.frames q) l.ahead
+  port_looks : (q : ℕ) (out : PortPlan A) → port_at p.ports q ≡ Some out → (i : ℕ) × (l : CaptureReader A) × (slice_get lanes i ≡ Some l) × (l.number ≡ q) × Finds (texts q) (u.frames q) l.ahead
   port_looks q out e =
       let place = u.covered q out e in
       let lane = lane_at lanes place.0 q place.1 in
@@ -236,7 +236,7 @@ module _ {R W G A : Type 0} (remaining : R → Option (List ℕ)) (contents : W 
         let at : port_at p.ports first.lane.number ≡ Some known.0 = subst (λ (v : Plan A). port_at v.ports first.lane.number ≡ Some known.0) u.stands.plan known.1 in
         taken_frame p texts commanded next u.frames u.inputs first.lane.number (view first.packet) known.0 u.taken (may.from place first.lane first.there) at gave_next (u.follow place first.lane first.packet first.there first.ahead) before
 
-    pub went_on : (m : Lane A) (r : R) (c : RelayState G A) (news : List W) (left : ℕ → List Captured) → m.number ≡ first.lane.number → ((d : Packet A) → m.ahead ≡ Some d → first.packet.time ≤ d.time) → IsAhead m (remaining r) (texts first.lane.number) (u.frames first.lane.number ++ view first.packet ∷ []) → Stands p c (events (frame first.lane.number (view first.packet) ∷ u.inputs)) left → first.packet.time ≤ c.earliest → AreWritten contents (numbers lanes) olds news left → IsUnderWay remaining contents p texts commanded next olds c (slice_set lanes place m) (slice_set sources place r) news
+    pub went_on : (m : CaptureReader A) (r : R) (c : RelayState G A) (news : List W) (left : ℕ → List Captured) → m.number ≡ first.lane.number → ((d : Packet A) → m.ahead ≡ Some d → first.packet.time ≤ d.time) → IsAhead m (remaining r) (texts first.lane.number) (u.frames first.lane.number ++ view first.packet ∷ []) → Stands p c (events (frame first.lane.number (view first.packet) ∷ u.inputs)) left → first.packet.time ≤ c.earliest → AreWritten contents (numbers lanes) olds news left → IsUnderWay remaining contents p texts commanded next olds c (slice_set lanes place m) (slice_set sources place r) news
     went_on m r c news left number onward looks stands late written =
         let within = slice_get_within lanes place first.lane first.there in
         let same : numbers (slice_set lanes place m) ≡ numbers lanes = numbers_set lanes place first.lane m first.there number in record {
@@ -265,7 +265,7 @@ module _ {R W G A : Type 0} (remaining : R → Option (List ℕ)) (contents : W 
       others = λ q out e n.
           let z = port_looks q out e in
           let apart : nat_eq q first.lane.number ≡ false = by_bool (nat_eq q first.lane.number) (λ h. absurd (n (is_same q first.lane.number h))) (λ h. h) in
-          let elsewhere : z.0 ≢ place = λ h. n (sym z.3 ∙ ap (λ (w : Lane A). w.number) (some_is z.1 first.lane (sym (subst (λ (k : ℕ). slice_get lanes k ≡ Some z.1) h z.2) ∙ first.there))) in
+          let elsewhere : z.0 ≢ place = λ h. n (sym z.3 ∙ ap (λ (w : CaptureReader A). w.number) (some_is z.1 first.lane (sym (subst (λ (k : ℕ). slice_get lanes k ≡ Some z.1) h z.2) ∙ first.there))) in
           subst (λ taken. LooksOn (texts q) q taken (frame first.lane.number (view first.packet) ∷ u.inputs)) (sym (frames_there u.frames first.lane.number (view first.packet) q apart))
           (looks_of (texts q) q (u.frames q) (frame first.lane.number (view first.packet) ∷ u.inputs) z.1.ahead z.4 (λ d h. subst (λ (k : ℕ). NotBefore (frame k (view d)) (frame first.lane.number (view first.packet))) z.3 (is_next lanes place first may.rises z.0 z.1 d z.2 h elsewhere)));
       reaches = reaches;
@@ -287,7 +287,7 @@ module _ {R W G A : Type 0} (remaining : R → Option (List ℕ)) (contents : W 
           inr (sym same, subst (λ (n : ℕ). RefusedSo faults.NoMemory (rests n) (texts n) (with_frame u.frames first.lane.number (view first.packet) n)) (sym same) here))
           (λ apart.
           let z = port_looks q out e in
-          let elsewhere : z.0 ≢ place = λ h. absurd (let w : q ≡ first.lane.number = sym z.3 ∙ ap (λ (w : Lane A). w.number) (some_is z.1 first.lane (sym (subst (λ (k : ℕ). slice_get lanes k ≡ Some z.1) h z.2) ∙ first.there)) in is_apart q first.lane.number apart w) in
+          let elsewhere : z.0 ≢ place = λ h. absurd (let w : q ≡ first.lane.number = sym z.3 ∙ ap (λ (w : CaptureReader A). w.number) (some_is z.1 first.lane (sym (subst (λ (k : ℕ). slice_get lanes k ≡ Some z.1) h z.2) ∙ first.there)) in is_apart q first.lane.number apart w) in
           inl (subst (λ taken. LooksFrom (Some first.packet.time) (texts q) q taken (frame first.lane.number (view first.packet) ∷ u.inputs)) (sym (frames_there u.frames first.lane.number (view first.packet) q apart))
           (looks_from (Some first.packet.time) (texts q) q (u.frames q) (frame first.lane.number (view first.packet) ∷ u.inputs) z.1.ahead z.4 (λ d h. subst (λ (k : ℕ). NotBefore (frame k (view d)) (frame first.lane.number (view first.packet))) z.3 (is_next lanes place first may.rises z.0 z.1 d z.2 h elsewhere))
           (λ d h. all_later z.0 z.1 d z.2 h))));
@@ -318,18 +318,18 @@ module _ {R W G A : Type 0} (remaining : R → Option (List ℕ)) (contents : W 
     look_stops rests faults.NoMemory news left o f r w = memory_next rests news left f r w
 
 -- where the first does not come before a moment none does
-pub later_all : {A : Type 0} (until : Option ℕ) (lanes : List (Lane A)) (place : ℕ) → (first : IsFirstAt lanes place) → ((c : Packet A) → first.lane.ahead ≡ Some c → (t : ℕ) × (until ≡ Some t) × (t ≤ c.time)) → AreLater until lanes
+pub later_all : {A : Type 0} (until : Option ℕ) (lanes : List (CaptureReader A)) (place : ℕ) → (first : IsFirstAt lanes place) → ((c : Packet A) → first.lane.ahead ≡ Some c → (t : ℕ) × (until ≡ Some t) × (t ≤ c.time)) → AreLater until lanes
 later_all until lanes place first h i l d e a =
     let z = h first.packet first.ahead in
     let low = z.2 in
     (z.0, z.1, elim (first.least i l d e a) [ inl m ↦ omega (arith, m, low) | inr m ↦ (let y = m.0 in omega (arith, y, low)) ])
 
 -- a frame before a moment comes before the command of that moment
-pub before_next : {A : Type 0} (until : Option ℕ) (next : Option Input) (lanes : List (Lane A)) (place : ℕ) → IfSome next (λ y. until ≡ Some y.at) → IsBefore until lanes place → TakesBefore lanes place next
+pub before_next : {A : Type 0} (until : Option ℕ) (next : Option Input) (lanes : List (CaptureReader A)) (place : ℕ) → IfSome next (λ y. until ≡ Some y.at) → IsBefore until lanes place → TakesBefore lanes place next
 before_next until None lanes place h b l c e a = tt
 before_next until (Some y) lanes place h b l c e a = subst (λ (o : Option ℕ). IfSome o (λ t. c.time < t)) h (b l c e a)
 
 -- a bridge at which a frame before a moment was taken is not past that moment
-pub early_next : {A : Type 0} (until : Option ℕ) (lanes : List (Lane A)) (place earliest : ℕ) → IsFirstAt lanes place → IsBefore until lanes place → ((l : Lane A) (c : Packet A) → slice_get lanes place ≡ Some l → l.ahead ≡ Some c → earliest ≡ c.time) → IfSome until (λ t. earliest ≤ t)
+pub early_next : {A : Type 0} (until : Option ℕ) (lanes : List (CaptureReader A)) (place earliest : ℕ) → IsFirstAt lanes place → IsBefore until lanes place → ((l : CaptureReader A) (c : Packet A) → slice_get lanes place ≡ Some l → l.ahead ≡ Some c → earliest ≡ c.time) → IfSome until (λ t. earliest ≤ t)
 early_next None lanes place earliest first b h = tt
 early_next (Some t) lanes place earliest first b h = let z = b first.lane first.packet first.there first.ahead in let y = h first.lane first.packet first.there first.ahead in omega (arith, z, y)

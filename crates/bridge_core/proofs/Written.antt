@@ -8,8 +8,8 @@ use Rattle.std.proofs.lemmas.Bool.{eqb-true, eqb-false, eq-eqb}
 use Rattle.std.proofs.lemmas.Option.{same_Some, none-some, slice_get_within}
 use Rattle.std.proofs.lemmas.List.{length-set, take_more}
 use Rattle.std.proofs.lemmas.List.Elements.{All-nil, All-push}
-use Rattle.bridge_base.specs.Members.{AllAfter, Rising}
-use Rattle.bridge_base.specs.declared.TheConstants.{LONGEST_FRAME}
+use Rattle.bridge_limits.specs.Members.{AllAfter, Rising}
+use Rattle.bridge_limits.specs.declared.TheConstants.{LONGEST_FRAME}
 use Rattle.bridge_capture.specs.Grammar.{Captured}
 use Rattle.bridge_capture.specs.Written.{written_header, written_item, written_text}
 use Rattle.bridge_capture.specs.Sinks.{AppendsFront}
@@ -18,7 +18,7 @@ use Rattle.bridge_cycle.proofs.Cases.{by_bool}
 use Rattle.bridge_core.specs.declared.line.Line.{Line}
 use Rattle.bridge_relay.specs.declared.relay.Sent.{Sent}
 use Rattle.bridge_relay.specs.Relays.{captured, one_more}
-use Rattle.bridge_lanes.specs.Devices.{HasFailed}
+use Rattle.bridge_inputs.specs.Devices.{HasFailed}
 use Rattle.bridge_core.specs.Lines.{AreWritten, AreWrittenBut, FitsRecord, HasWritten, numbers, StopsAtHeader}
 
 -- The places of numbers that rise.

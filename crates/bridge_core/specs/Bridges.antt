@@ -1,13 +1,13 @@
 -- A bridge to which frames and commands come, and what it stands for.
 use Rattle.std.specs.Prelude.{◌≡◌, ℕ, ◌<◌, ◌≤◌, nat_eq, Option, List, [], length, Vec, vec_capacity}
 use Rattle.std.specs.Map.{lookup}
-use Rattle.bridge_base.specs.Members.{Rising}
+use Rattle.bridge_limits.specs.Members.{Rising}
 use Rattle.bridge_capture.specs.Grammar.{Captured}
 use Rattle.bridge_config.specs.Model.{Plan}
 use Rattle.bridge_filter.specs.declared.FilterPlan.{FilterPlan}
-use Rattle.bridge_run.specs.declared.outcome.PortCount.{PortCount}
-use Rattle.bridge_run.specs.declared.outcome.View.{View}
-use Rattle.bridge_run.specs.Events.{Event}
+use Rattle.bridge_semantics.specs.declared.outcome.PortCount.{PortCount}
+use Rattle.bridge_semantics.specs.declared.outcome.View.{View}
+use Rattle.bridge_semantics.specs.Events.{Event}
 use Rattle.bridge_relay.specs.Relays.{RelayState, Stands, waiting}
 
 -- what a bridge keeps of what came and left, and the least moment of the next command

@@ -6,11 +6,11 @@ use Rattle.bridge_capture.specs.declared.record.TheConstants.{SNAP_LENGTH}
 use Rattle.bridge_capture.specs.Written.{written_header, written_text}
 use Rattle.bridge_capture.specs.Sinks.{AppendsFront}
 use Rattle.bridge_config.specs.Model.{Plan}
-use Rattle.bridge_lanes.specs.Devices.{HasFailed}
-use Rattle.bridge_lanes.specs.declared.fault.RunFault.{RunFault}
-use Rattle.bridge_lanes.specs.declared.fault.RunFault.TheVariants as run
-use Rattle.bridge_run.specs.Events.{Event}
-use Rattle.bridge_run.specs.Next.{ReachesStart, SendsHead}
+use Rattle.bridge_inputs.specs.Devices.{HasFailed}
+use Rattle.bridge_inputs.specs.declared.fault.RunFault.{RunFault}
+use Rattle.bridge_inputs.specs.declared.fault.RunFault.TheVariants as run
+use Rattle.bridge_semantics.specs.Events.{Event}
+use Rattle.bridge_semantics.specs.Next.{ReachesStart, SendsHead}
 use Rattle.bridge_relay.specs.Relays.{RelayState, Stands}
 use Rattle.bridge_core.specs.declared.line.Line.{Line}
 

@@ -1,7 +1,7 @@
 -- Whole runs over texts.
 use Rattle.std.specs.Prelude.{◌≡◌, ℕ, Bool, true, ◌<◌, ◌≤◌, ◌⊎◌, length, nat_eq, Option, Some, None, List, [], map, vec_capacity}
 use Rattle.std.specs.Map.{lookup}
-use Rattle.bridge_base.specs.Members.{In, Rising}
+use Rattle.bridge_limits.specs.Members.{In, Rising}
 use Rattle.bridge_capture.specs.declared.fault.CaptureFault.{CaptureFault}
 use Rattle.bridge_capture.specs.Grammar.{Captured, Records, AtEnd}
 use Rattle.bridge_config.specs.declared.command.Command.{Command}
@@ -9,16 +9,16 @@ use Rattle.bridge_config.specs.declared.ports.PortPlan.{PortPlan}
 use Rattle.bridge_config.specs.Model.{Plan}
 use Rattle.bridge_config.specs.Rules.{port_at, IsInOrder}
 use Rattle.bridge_filter.specs.declared.FilterPlan.{FilterPlan}
-use Rattle.bridge_lanes.specs.declared.fault.RunFault.{RunFault}
-use Rattle.bridge_lanes.specs.declared.fault.RunFault.TheVariants as run
-use Rattle.bridge_run.specs.declared.outcome.Outcome.{Outcome}
-use Rattle.bridge_run.specs.declared.outcome.View.{View}
-use Rattle.bridge_run.specs.Events.{arrivals, own}
-use Rattle.bridge_run.specs.Merge.{Input, IsMerged, events, own_inputs, commands_of, streams}
-use Rattle.bridge_run.specs.Outputs.{Ends}
-use Rattle.bridge_run.specs.Runs.{IsSoloView, TellTheSame}
+use Rattle.bridge_inputs.specs.declared.fault.RunFault.{RunFault}
+use Rattle.bridge_inputs.specs.declared.fault.RunFault.TheVariants as run
+use Rattle.bridge_semantics.specs.declared.outcome.Outcome.{Outcome}
+use Rattle.bridge_semantics.specs.declared.outcome.View.{View}
+use Rattle.bridge_semantics.specs.Events.{arrivals, own}
+use Rattle.bridge_semantics.specs.Merge.{Input, IsMerged, events, own_inputs, commands_of, streams}
+use Rattle.bridge_semantics.specs.Outputs.{Ends}
+use Rattle.bridge_semantics.specs.Runs.{IsSoloView, TellTheSame}
 use Rattle.bridge_core.specs.declared.simulation.Lists.{Lists}
-use Rattle.bridge_lanes.specs.Lanes.{BeginsWell, FailsLook, LooksFail}
+use Rattle.bridge_inputs.specs.Lanes.{BeginsWell, FailsLook, LooksFail}
 use Rattle.bridge_core.specs.Lines.{AreWritten, StopsAtHeader}
 use Rattle.bridge_core.specs.Taking.{IsOfCapture, StopsAmong}
 

@@ -1,7 +1,7 @@
 -- Frames and commands that are taken one by one.
 use Rattle.std.specs.Prelude.{◌≡◌, ◌≢◌, ℕ, ◌+◌, ◌<◌, ◌≤◌, ◌⊎◌, nat_eq, Option, Some, None, IfSome, OnOk, List, [], ◌∷◌, ◌++◌, slice_get, slice_set, Result, Ok, Err, if◌then◌else◌}
-use Rattle.bridge_base.specs.Members.{Rising}
-use Rattle.bridge_base.specs.declared.TheConstants.{MOST_ARRIVALS}
+use Rattle.bridge_limits.specs.Members.{Rising}
+use Rattle.bridge_limits.specs.declared.TheConstants.{MOST_ARRIVALS}
 use Rattle.bridge_capture.specs.declared.fault.CaptureFault.{CaptureFault}
 use Rattle.bridge_capture.specs.declared.fault.CaptureFault.TheVariants as faults
 use Rattle.bridge_capture.specs.declared.packet.Packet.{Packet}
@@ -12,13 +12,13 @@ use Rattle.bridge_config.specs.declared.command.Command.{Command}
 use Rattle.bridge_config.specs.declared.ports.PortPlan.{PortPlan}
 use Rattle.bridge_config.specs.Model.{Plan}
 use Rattle.bridge_config.specs.Rules.{port_at}
-use Rattle.bridge_lanes.specs.declared.fault.RunFault.{RunFault}
-use Rattle.bridge_lanes.specs.declared.fault.RunFault.TheVariants as run
-use Rattle.bridge_run.specs.Merge.{Input, frame, command, NotBefore, IsMerged, events, newest, inputs_of, asked, commands_of, streams}
-use Rattle.bridge_run.specs.Outputs.{Reaches}
+use Rattle.bridge_inputs.specs.declared.fault.RunFault.{RunFault}
+use Rattle.bridge_inputs.specs.declared.fault.RunFault.TheVariants as run
+use Rattle.bridge_semantics.specs.Merge.{Input, frame, command, NotBefore, IsMerged, events, newest, inputs_of, asked, commands_of, streams}
+use Rattle.bridge_semantics.specs.Outputs.{Reaches}
 use Rattle.bridge_relay.specs.Relays.{RelayState, Stands}
-use Rattle.bridge_lanes.specs.declared.lane.Lane.{Lane}
-use Rattle.bridge_lanes.specs.Lanes.{AreAheadOf, AreRests, IsLane, Looks, numbers, room, room_of}
+use Rattle.bridge_inputs.specs.declared.lane.CaptureReader.{CaptureReader}
+use Rattle.bridge_inputs.specs.Lanes.{AreAheadOf, AreRests, IsLane, Looks, numbers, room, room_of}
 use Rattle.bridge_core.specs.Lines.{AreWritten, AreWrittenBut, MakesStart}
 
 -- an input does not come before the newest of these
@@ -100,48 +100,48 @@ StopsSo p texts rests commanded next contents ports olds news (run.Write port) =
 StopsSo p texts rests commanded next contents ports olds news run.NoMemory = StopsForMemory p texts rests commanded next contents ports olds news
 
 -- a bridge may take the frames of these lanes
-pub record MayTake {G A : Type 0} (b : RelayState G A) (lanes : List (Lane A)) : Type 0 where
-  pub each : (i : ℕ) (lane : Lane A) → slice_get lanes i ≡ Some lane → IsLane lane
-  pub from : (i : ℕ) (lane : Lane A) → slice_get lanes i ≡ Some lane → 1 ≤ lane.number
-  pub known : (i : ℕ) (lane : Lane A) → slice_get lanes i ≡ Some lane → (out : PortPlan A) × (port_at b.plan.ports lane.number ≡ Some out)
-  pub onward : (i : ℕ) (lane : Lane A) (p : Packet A) → slice_get lanes i ≡ Some lane → lane.ahead ≡ Some p → b.earliest ≤ p.time
+pub record MayTake {G A : Type 0} (b : RelayState G A) (lanes : List (CaptureReader A)) : Type 0 where
+  pub each : (i : ℕ) (lane : CaptureReader A) → slice_get lanes i ≡ Some lane → IsLane lane
+  pub from : (i : ℕ) (lane : CaptureReader A) → slice_get lanes i ≡ Some lane → 1 ≤ lane.number
+  pub known : (i : ℕ) (lane : CaptureReader A) → slice_get lanes i ≡ Some lane → (out : PortPlan A) × (port_at b.plan.ports lane.number ≡ Some out)
+  pub onward : (i : ℕ) (lane : CaptureReader A) (p : Packet A) → slice_get lanes i ≡ Some lane → lane.ahead ≡ Some p → b.earliest ≤ p.time
   pub few : b.arrived + room_of lanes ≤ MOST_ARRIVALS
   pub rises : Rising (λ a b. a < b) (numbers lanes)
 
 -- a bridge stands for what was taken, what comes next is ahead, and what left is written
-pub record IsUnderWay {R W G A : Type 0} (remaining : R → Option (List ℕ)) (contents : W → Option (List ℕ)) (p : Plan A) (texts : ℕ → List ℕ) (commanded : List Input) (next : Option Input) (olds : List W) (b : RelayState G A) (lanes : List (Lane A)) (sources : List R) (sinks : List W) : Type 0 where
+pub record IsUnderWay {R W G A : Type 0} (remaining : R → Option (List ℕ)) (contents : W → Option (List ℕ)) (p : Plan A) (texts : ℕ → List ℕ) (commanded : List Input) (next : Option Input) (olds : List W) (b : RelayState G A) (lanes : List (CaptureReader A)) (sources : List R) (sinks : List W) : Type 0 where
   pub frames : ℕ → List Captured
   pub inputs : List Input
   pub left : ℕ → List Captured
   pub taken : HasTaken p texts commanded next frames inputs
   pub ahead : AreAheadOf remaining texts frames lanes sources
-  pub follow : (i : ℕ) (lane : Lane A) (c : Packet A) → slice_get lanes i ≡ Some lane → lane.ahead ≡ Some c → Follows (frame lane.number (view c)) inputs
+  pub follow : (i : ℕ) (lane : CaptureReader A) (c : Packet A) → slice_get lanes i ≡ Some lane → lane.ahead ≡ Some c → Follows (frame lane.number (view c)) inputs
   pub covered : (q : ℕ) (out : PortPlan A) → port_at p.ports q ≡ Some out → (i : ℕ) × (slice_get (numbers lanes) i ≡ Some q)
   pub stands : Stands p b (events inputs) left
   pub late : newest inputs ≤ b.earliest
   pub written : AreWritten contents (numbers lanes) olds sinks left
 
 -- the frame that comes first comes before the next command
-abbrev pub TakesBefore : {A : Type 0} → List (Lane A) → ℕ → Option Input → Type 0
-TakesBefore {A} lanes place next = (l : Lane A) (c : Packet A) → slice_get lanes place ≡ Some l → l.ahead ≡ Some c → IfSome next (λ y. c.time < y.at)
+abbrev pub TakesBefore : {A : Type 0} → List (CaptureReader A) → ℕ → Option Input → Type 0
+TakesBefore {A} lanes place next = (l : CaptureReader A) (c : Packet A) → slice_get lanes place ≡ Some l → l.ahead ≡ Some c → IfSome next (λ y. c.time < y.at)
 
 -- the frame at a place comes before this moment, where there is one
-abbrev pub IsBefore : {A : Type 0} → Option ℕ → List (Lane A) → ℕ → Type 0
-IsBefore {A} until lanes place = (l : Lane A) (c : Packet A) → slice_get lanes place ≡ Some l → l.ahead ≡ Some c → IfSome until (λ t. c.time < t)
+abbrev pub IsBefore : {A : Type 0} → Option ℕ → List (CaptureReader A) → ℕ → Type 0
+IsBefore {A} until lanes place = (l : CaptureReader A) (c : Packet A) → slice_get lanes place ≡ Some l → l.ahead ≡ Some c → IfSome until (λ t. c.time < t)
 
 -- a frame was taken from the lane of a port
-pub record HasGiven {A : Type 0} (old new : List (Lane A)) (place : ℕ) (given : ℕ × Packet A) : Type 0 where
-  pub lane : Lane A
+pub record HasGiven {A : Type 0} (old new : List (CaptureReader A)) (place : ℕ) (given : ℕ × Packet A) : Type 0 where
+  pub lane : CaptureReader A
   pub there : slice_get old place ≡ Some lane
   pub number : lane.number ≡ given.0
   pub ahead : lane.ahead ≡ Some given.1
   pub now : new ≡ slice_set old place (record lane { ahead = None })
 
 -- a lane whose frame was taken looked at what comes next, and no other lane or source changed
-pub record HasLooked {R A : Type 0} (remaining : R → Option (List ℕ)) (old new : List (Lane A)) (before after : List R) (place : ℕ) (result : Result (Unit {0}) CaptureFault) : Type 0 where
-  pub was : Lane A
+pub record HasLooked {R A : Type 0} (remaining : R → Option (List ℕ)) (old new : List (CaptureReader A)) (before after : List R) (place : ℕ) (result : Result (Unit {0}) CaptureFault) : Type 0 where
+  pub was : CaptureReader A
   pub source : R
-  pub lane : Lane A
+  pub lane : CaptureReader A
   pub rest : R
   pub there : slice_get old place ≡ Some was
   pub lent : slice_get before place ≡ Some source
@@ -154,17 +154,17 @@ pub record HasLooked {R A : Type 0} (remaining : R → Option (List ℕ)) (old n
   pub fewer : OnOk result (room lane ≤ records_left was.capture)
 
 -- a run went on, or stopped
-abbrev pub GoesOn : {R W G A : Type 0} → (R → Option (List ℕ)) → (W → Option (List ℕ)) → Plan A → (ℕ → List ℕ) → List Input → Option Input → List W → RelayState G A → List (Lane A) → List R → List W → Result (Unit {0}) RunFault → Type 0
+abbrev pub GoesOn : {R W G A : Type 0} → (R → Option (List ℕ)) → (W → Option (List ℕ)) → Plan A → (ℕ → List ℕ) → List Input → Option Input → List W → RelayState G A → List (CaptureReader A) → List R → List W → Result (Unit {0}) RunFault → Type 0
 GoesOn remaining contents p texts commanded next olds b lanes sources sinks (Ok u) = IsUnderWay remaining contents p texts commanded next olds b lanes sources sinks
 GoesOn remaining contents p texts commanded next olds b lanes sources sinks (Err fault) =
     (rests : ℕ → Option (List ℕ)) → AreRests remaining (numbers lanes) rests sources → StopsSo p texts rests commanded next contents (numbers lanes) olds sinks fault
 
 -- no frame ahead comes before this moment, or none at all
-abbrev pub AreLater : {A : Type 0} → Option ℕ → List (Lane A) → Type 0
-AreLater {A} until lanes = (i : ℕ) (lane : Lane A) (p : Packet A) → slice_get lanes i ≡ Some lane → lane.ahead ≡ Some p → (t : ℕ) × (until ≡ Some t) × (t ≤ p.time)
+abbrev pub AreLater : {A : Type 0} → Option ℕ → List (CaptureReader A) → Type 0
+AreLater {A} until lanes = (i : ℕ) (lane : CaptureReader A) (p : Packet A) → slice_get lanes i ≡ Some lane → lane.ahead ≡ Some p → (t : ℕ) × (until ≡ Some t) × (t ≤ p.time)
 
 -- a command was done behind what was taken, or a run stopped before it
-abbrev pub Obeys : {R W G A : Type 0} → (R → Option (List ℕ)) → (W → Option (List ℕ)) → Plan A → (ℕ → List ℕ) → List Input → Command → Option Input → List W → RelayState G A → List (Lane A) → List R → List W → Result (Unit {0}) RunFault → Type 0
+abbrev pub Obeys : {R W G A : Type 0} → (R → Option (List ℕ)) → (W → Option (List ℕ)) → Plan A → (ℕ → List ℕ) → List Input → Command → Option Input → List W → RelayState G A → List (CaptureReader A) → List R → List W → Result (Unit {0}) RunFault → Type 0
 Obeys remaining contents p texts commanded c next olds b lanes sources sinks (Ok u) = IsUnderWay remaining contents p texts (asked c ∷ commanded) next olds b lanes sources sinks
 Obeys remaining contents p texts commanded c next olds b lanes sources sinks (Err fault) =
     (rests : ℕ → Option (List ℕ)) → AreRests remaining (numbers lanes) rests sources → StopsSo p texts rests commanded (Some (asked c)) contents (numbers lanes) olds sinks fault
@@ -182,12 +182,12 @@ pub record StopsAmong {A W : Type 0} (p : Plan A) (texts : ℕ → List ℕ) (re
   pub stops : StopsSo p texts rests (commands_of done) (first_of_commands later) contents ports olds news fault
 
 -- all frames and commands were taken, and no frame is ahead
-pub record IsThrough {R W G A : Type 0} (remaining : R → Option (List ℕ)) (contents : W → Option (List ℕ)) (p : Plan A) (texts : ℕ → List ℕ) (commands : List Command) (olds : List W) (b : RelayState G A) (lanes : List (Lane A)) (sources : List R) (sinks : List W) : Type 0 where
+pub record IsThrough {R W G A : Type 0} (remaining : R → Option (List ℕ)) (contents : W → Option (List ℕ)) (p : Plan A) (texts : ℕ → List ℕ) (commands : List Command) (olds : List W) (b : RelayState G A) (lanes : List (CaptureReader A)) (sources : List R) (sinks : List W) : Type 0 where
   pub under : IsUnderWay remaining contents p texts (commands_of commands) None olds b lanes sources sinks
-  pub none : (i : ℕ) (lane : Lane A) → slice_get lanes i ≡ Some lane → lane.ahead ≡ None
+  pub none : (i : ℕ) (lane : CaptureReader A) → slice_get lanes i ≡ Some lane → lane.ahead ≡ None
 
 -- a run came to its end, or stopped
-abbrev pub HasGone : {R W G A : Type 0} → (R → Option (List ℕ)) → (W → Option (List ℕ)) → Plan A → (ℕ → List ℕ) → List Command → List W → RelayState G A → List (Lane A) → List R → List W → Result (Unit {0}) RunFault → Type 0
+abbrev pub HasGone : {R W G A : Type 0} → (R → Option (List ℕ)) → (W → Option (List ℕ)) → Plan A → (ℕ → List ℕ) → List Command → List W → RelayState G A → List (CaptureReader A) → List R → List W → Result (Unit {0}) RunFault → Type 0
 HasGone remaining contents p texts commands olds b lanes sources sinks (Ok u) = IsThrough remaining contents p texts commands olds b lanes sources sinks
 HasGone remaining contents p texts commands olds b lanes sources sinks (Err fault) =
     (rests : ℕ → Option (List ℕ)) → AreRests remaining (numbers lanes) rests sources → StopsAmong p texts rests commands contents (numbers lanes) olds sinks fault

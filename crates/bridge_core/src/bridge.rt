@@ -1,7 +1,7 @@
 //! A bridge to which frames and commands come one by one.
 ghost use Rattle.std.specs.Prelude.{◌≡◌, ℕ, true, ◌<◌, ◌≤◌, ◌+◌, ◌*◌, ◌^◌, List, [], ◌∷◌, Some, None, Option, length, max, nat_eq, IfOk, IfErr, OnOk, IsTrue};
 ghost use Rattle.std.specs.Map.{lookup};
-ghost use Rattle.bridge_base.specs.Members.{In};
+ghost use Rattle.bridge_limits.specs.Members.{In};
 ghost use Rattle.bridge_capture.specs.Grammar.{Captured};
 ghost use Rattle.bridge_config.specs.Model as config;
 ghost use Rattle.bridge_config.specs.declared.ports.PortPlan.{PortPlan};
@@ -11,25 +11,25 @@ ghost use Rattle.bridge_events.specs.Least.{IsLeast};
 ghost use Rattle.bridge_filter.specs.declared.FilterPlan.{FilterPlan};
 ghost use Rattle.bridge_port.specs.Schedule.{Copy};
 ghost use Rattle.bridge_port.specs.Standing.{limit};
-ghost use Rattle.bridge_run.specs.Events.{Arrived, arrival, Cleared, Event, own};
-ghost use Rattle.bridge_run.specs.Offers.{Carried};
-ghost use Rattle.bridge_run.specs.Next.{AreNext, IsNextAfter, ReachesStart, SendsHead};
-ghost use Rattle.bridge_run.specs.Outputs.{Ends, HasRun, Reaches};
-ghost use Rattle.bridge_run.specs.Runs.{IsOutcome, IsSoloView, TellTheSame};
-ghost use Rattle.bridge_parts.specs.Ports.{NotBefore, IsAfter};
+ghost use Rattle.bridge_semantics.specs.Events.{Arrived, arrival, Cleared, Event, own};
+ghost use Rattle.bridge_semantics.specs.Offers.{Carried};
+ghost use Rattle.bridge_semantics.specs.Next.{AreNext, IsNextAfter, ReachesStart, SendsHead};
+ghost use Rattle.bridge_semantics.specs.Outputs.{Ends, HasRun, Reaches};
+ghost use Rattle.bridge_semantics.specs.Runs.{IsOutcome, IsSoloView, TellTheSame};
+ghost use Rattle.bridge_state.specs.Ports.{NotBefore, IsAfter};
 ghost use Rattle.bridge_relay.specs.Relays.{captured, one_more};
 ghost use Rattle.bridge_core.specs.Bridges.{arrived_in, earliest_in, IsReady, next_start, plan_in, queued_in, StandsAfter};
 
 use crate::simulation::filters_in_order;
-use bridge_base::{END_OF_TIME, LONGEST_FRAME, MOST_ARRIVALS, MOST_CAPTURED};
 use bridge_capture::Packet;
 use bridge_check::Accepted;
 use bridge_config::Command;
 use bridge_events::Agenda;
 use bridge_filter::FilterPlan;
-use bridge_lanes::Spares;
+use bridge_inputs::Spares;
+use bridge_limits::{END_OF_TIME, LONGEST_FRAME, MOST_ARRIVALS, MOST_CAPTURED};
 use bridge_relay::{NoMemory, Relay, Sent};
-use bridge_run::{Outcome, PortCount, View};
+use bridge_semantics::{Outcome, PortCount, View};
 use std::alloc::Allocator;
 use std::marker::Model;
 

@@ -9,8 +9,8 @@ mod taking;
 
 pub use bridge::Bridge;
 pub use bridge_events::{Agenda, RowAgenda, TreeAgenda};
-pub use bridge_lanes::RunFault;
+pub use bridge_inputs::RunFault;
 pub use bridge_relay::{NoMemory, Sent};
-pub use bridge_run::{Departure, Dropped, Outcome, PortCount, View};
+pub use bridge_semantics::{Departure, Dropped, Outcome, PortCount, View};
 pub use bridge_wire::{WireCount, wire};
 pub use simulation::{filters_in_order, simulate, simulate_over};

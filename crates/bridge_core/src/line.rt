@@ -1,18 +1,18 @@
 //! Captures that are written, one of each port.
 ghost use Rattle.std.specs.Prelude.{◌≡◌, ◌≢◌, ℕ, ◌<◌, ◌≤◌, ◌*◌, ◌^◌, List, [], Some, None, Option, length, slice_get, Err, true, IfOk, IfErr, IfSome, OnOk, OnErr, vec_capacity};
-ghost use Rattle.bridge_base.specs.Members.{Rising};
+ghost use Rattle.bridge_limits.specs.Members.{Rising};
 ghost use Rattle.bridge_capture.specs.Grammar.{Captured};
 ghost use Rattle.bridge_config.specs.Model as config;
-ghost use Rattle.bridge_parts.specs.Ports.{NotBefore};
+ghost use Rattle.bridge_state.specs.Ports.{NotBefore};
 ghost use Rattle.bridge_relay.specs.Relays.{one_more, Stands};
-ghost use Rattle.bridge_run.specs.Events.{Event};
-ghost use Rattle.bridge_lanes.specs.Devices.{HasFailed, NeverFail};
+ghost use Rattle.bridge_semantics.specs.Events.{Event};
+ghost use Rattle.bridge_inputs.specs.Devices.{HasFailed, NeverFail};
 ghost use Rattle.bridge_core.specs.Lines.{AreWritten, Departs, HasRunOut, HeadersStop, numbers, Writes};
 
-use bridge_base::LONGEST_FRAME;
 use bridge_capture::{ByteSink, Writer};
 use bridge_events::Agenda;
-use bridge_lanes::{RunFault, Spares};
+use bridge_inputs::{RunFault, Spares};
+use bridge_limits::LONGEST_FRAME;
 use bridge_relay::{Relay, Sent};
 use std::alloc::Allocator;
 

@@ -1,10 +1,10 @@
 //! Captures through a bridge, from their texts to what is written.
 ghost use Rattle.std.specs.Prelude.{◌≡◌, ◌≢◌, ℕ, ◌<◌, List, [], Some, None, Option, length, nat_eq, map, true, Err, IfOk, IfErr};
 ghost use Rattle.std.specs.Map.{lookup};
-ghost use Rattle.bridge_base.specs.Members.{Rising};
+ghost use Rattle.bridge_limits.specs.Members.{Rising};
 ghost use Rattle.bridge_config.specs.Commands.{AreCommands};
-ghost use Rattle.bridge_lanes.specs.Devices.{HasFailed, NeverFail};
-ghost use Rattle.bridge_lanes.specs.Lanes.{AreRests, AreTexts};
+ghost use Rattle.bridge_inputs.specs.Devices.{HasFailed, NeverFail};
+ghost use Rattle.bridge_inputs.specs.Lanes.{AreRests, AreTexts};
 ghost use Rattle.bridge_core.specs.Lines.{HasRunOut};
 ghost use Rattle.bridge_core.specs.Simulated.{AreListsOf, AreNumbers, Isolates, OthersChangeNothing, Runs, Stops, WritesFew};
 
@@ -16,9 +16,9 @@ use bridge_config::{Command, Plan};
 use bridge_cycle::NoMemory;
 use bridge_events::{Agenda, TreeAgenda};
 use bridge_filter::FilterPlan;
-use bridge_lanes::{RunFault, Spares, look_at_all};
+use bridge_inputs::{RunFault, Spares, look_at_all};
 use bridge_relay::Relay;
-use bridge_run::{Outcome, PortCount, View};
+use bridge_semantics::{Outcome, PortCount, View};
 use std::alloc::Allocator;
 
 /// The filters of a plan by rising number.

@@ -3,10 +3,10 @@ ghost use Rattle.std.specs.Prelude.{◌≡◌, ◌≢◌, ℕ, ◌<◌, ◌≤�
 ghost use Rattle.bridge_config.specs.Model as config;
 ghost use Rattle.bridge_config.specs.Commands.{has_instance, AreCommands};
 ghost use Rattle.bridge_capture.specs.Standing.{IsReading};
-ghost use Rattle.bridge_parts.specs.Ports.{NotBefore};
-ghost use Rattle.bridge_run.specs.Merge.{Input, asked};
-ghost use Rattle.bridge_lanes.specs.Devices.{HasFailed, NeverFail};
-ghost use Rattle.bridge_lanes.specs.Lanes.{IsFirstAt, numbers, room_of};
+ghost use Rattle.bridge_state.specs.Ports.{NotBefore};
+ghost use Rattle.bridge_semantics.specs.Merge.{Input, asked};
+ghost use Rattle.bridge_inputs.specs.Devices.{HasFailed, NeverFail};
+ghost use Rattle.bridge_inputs.specs.Lanes.{IsFirstAt, numbers, room_of};
 ghost use Rattle.bridge_core.specs.Lines.{HasRunOut, numbers as written_numbers};
 ghost use Rattle.bridge_core.specs.Taking.{AreLater, first_of_commands, GoesOn, HasGone, Obeys, HasGiven, HasLooked, IsBefore, IsUnderWay, MayTake, TakesBefore};
 
@@ -14,12 +14,12 @@ use crate::line::{Line, depart_before};
 use bridge_capture::{ByteSink, ByteSource, CaptureFault, Packet};
 use bridge_config::Command;
 use bridge_events::Agenda;
-use bridge_lanes::{Lane, RunFault, Spares, fault_of, first_of};
+use bridge_inputs::{CaptureReader, RunFault, Spares, fault_of, first_of};
 use bridge_relay::Relay;
 use std::alloc::Allocator;
 
 /// Takes the frame that comes first from its lane, and says of which port it is.
-fn give<A: Allocator + Copy>(lanes: &mut [Lane<A>], place: usize) -> (u8, Packet<A>)
+fn give<A: Allocator + Copy>(lanes: &mut [CaptureReader<A>], place: usize) -> (u8, Packet<A>)
     requires place { place < length lanes.old }
     requires first { IsFirstAt lanes.old place }
     ensures given { HasGiven lanes.old lanes.new place result }
@@ -35,12 +35,12 @@ fn give<A: Allocator + Copy>(lanes: &mut [Lane<A>], place: usize) -> (u8, Packet
 fn look_at<R: ByteSource, A: Allocator + Copy>(
     spare: Vec<u8, A>,
     place: usize,
-    lanes: &mut [Lane<A>],
+    lanes: &mut [CaptureReader<A>],
     sources: &mut [R],
 ) -> Result<(), CaptureFault>
     requires place { place < length lanes.old }
     requires size { length sources.old ≡ length lanes.old }
-    requires reading { (lane : Lane A) → slice_get lanes.old place ≡ Some lane → IsReading lane.capture }
+    requires reading { (lane : CaptureReader A) → slice_get lanes.old place ≡ Some lane → IsReading lane.capture }
     ensures looked { HasLooked R.remaining lanes.old lanes.new sources.old sources.new place result }
     ensures read { result ≡ Err CaptureFault.Read → (source : R) → slice_get sources.new place ≡ Some source → R.has_failed source ≡ true }
     ensures sure { NeverFail R.never_fails sources.old → result ≢ Err CaptureFault.Read }
@@ -55,7 +55,7 @@ fn look_at<R: ByteSource, A: Allocator + Copy>(
 fn take<R: ByteSource, W: ByteSink, G: Agenda + Drop, A: Allocator + Copy>(
     place: usize,
     relay: &mut Relay<'_, G, A>,
-    lanes: &mut [Lane<A>],
+    lanes: &mut [CaptureReader<A>],
     lines: &mut [Line],
     sources: &mut [R],
     sinks: &mut [W],
@@ -72,7 +72,7 @@ fn take<R: ByteSource, W: ByteSink, G: Agenda + Drop, A: Allocator + Copy>(
     ensures may { OnOk result (MayTake relay.new lanes.new) }
     ensures waits { OnOk result (NotBefore (G.held relay.new.ports.agenda) relay.new.earliest) }
     ensures fewer { OnOk result (room_of lanes.new < room_of lanes.old) }
-    ensures moved { OnOk result ((l : Lane A) (c : Packet A) → slice_get lanes.old place ≡ Some l → l.ahead ≡ Some c → relay.new.earliest ≡ c.time) }
+    ensures moved { OnOk result ((l : CaptureReader A) (c : Packet A) → slice_get lanes.old place ≡ Some l → l.ahead ≡ Some c → relay.new.earliest ≡ c.time) }
     ensures same { (relay.new.plan ≡ relay.old.plan) × (numbers lanes.new ≡ numbers lanes.old) × (written_numbers lines.new ≡ written_numbers lines.old) }
     ensures read { (port : ℕ) → result ≡ Err (RunFault.Capture port CaptureFault.Read) → HasFailed R.has_failed (numbers lanes.old) port sources.new }
     ensures sure { NeverFail R.never_fails sources.old → (port : ℕ) → result ≢ Err (RunFault.Capture port CaptureFault.Read) }
@@ -102,7 +102,7 @@ fn take<R: ByteSource, W: ByteSink, G: Agenda + Drop, A: Allocator + Copy>(
 }
 
 /// Whether the frame ahead comes before a moment, where there is one.
-fn is_before<A: Allocator + Copy>(lane: &Lane<A>, until: Option<u64>) -> bool
+fn is_before<A: Allocator + Copy>(lane: &CaptureReader<A>, until: Option<u64>) -> bool
     ensures before { result ≡ true → (p : Packet A) → lane.now.ahead ≡ Some p → IfSome until (λ t. p.time < t) }
     ensures later { result ≡ false → (p : Packet A) → lane.now.ahead ≡ Some p → (t : ℕ) × (until ≡ Some t) × (t ≤ p.time) }
 {
@@ -113,7 +113,7 @@ fn is_before<A: Allocator + Copy>(lane: &Lane<A>, until: Option<u64>) -> bool
 }
 
 /// The place of the frame that comes first, where it comes before a moment.
-fn next_before<A: Allocator + Copy>(lanes: &[Lane<A>], until: Option<u64>) -> Option<usize>
+fn next_before<A: Allocator + Copy>(lanes: &[CaptureReader<A>], until: Option<u64>) -> Option<usize>
     ensures place { IfSome result (λ place. place < length lanes.now) }
     ensures first { IfSome result (IsFirstAt lanes.now) }
     ensures before { IfSome result (IsBefore until lanes.now) }
@@ -132,7 +132,7 @@ fn next_before<A: Allocator + Copy>(lanes: &[Lane<A>], until: Option<u64>) -> Op
 fn take_before<R: ByteSource, W: ByteSink, G: Agenda + Drop, A: Allocator + Copy>(
     until: Option<u64>,
     relay: &mut Relay<'_, G, A>,
-    lanes: &mut [Lane<A>],
+    lanes: &mut [CaptureReader<A>],
     lines: &mut [Line],
     sources: &mut [R],
     sinks: &mut [W],
@@ -169,7 +169,7 @@ fn take_before<R: ByteSource, W: ByteSink, G: Agenda + Drop, A: Allocator + Copy
 fn obey<R: ByteSource, W: ByteSink, G: Agenda + Drop, A: Allocator + Copy>(
     command: Command,
     relay: &mut Relay<'_, G, A>,
-    lanes: &mut [Lane<A>],
+    lanes: &mut [CaptureReader<A>],
     lines: &mut [Line],
     sources: &mut [R],
     sinks: &mut [W],
@@ -209,7 +209,7 @@ fn obey<R: ByteSource, W: ByteSink, G: Agenda + Drop, A: Allocator + Copy>(
 pub fn run<R: ByteSource, W: ByteSink, G: Agenda + Drop, A: Allocator + Copy>(
     commands: &[Command],
     relay: &mut Relay<'_, G, A>,
-    lanes: &mut [Lane<A>],
+    lanes: &mut [CaptureReader<A>],
     lines: &mut [Line],
     sources: &mut [R],
     sinks: &mut [W],

@@ -34,6 +34,7 @@ pub record Parts (A : Type 0) : Type 0 where
   pub queues : List HopQueue
   pub from : ℕ
 
+-- what the code is handed, as the definitions have it
 abbrev pub parts_of : {A : Type 0} → Case A → Parts A
 parts_of c = record { plans = c.plans.now; links = c.links.now; hops = c.hops.now; queues = c.queues.now; from = c.from }
 
@@ -155,6 +156,7 @@ abbrev pub with_one : Gathered → Option Course → Gathered
 with_one gathered.Nothing r = gathered.Figures r
 with_one (gathered.Figures x) r = gathered.Figures (both_of x r)
 
+-- the figures of a stream's ways, where there are any
 abbrev pub figures_of : Gathered → Option Course
 figures_of gathered.Nothing = None
 figures_of (gathered.Figures x) = x

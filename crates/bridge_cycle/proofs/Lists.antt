@@ -2,7 +2,7 @@ use Rattle.std.proofs.Common.{◌≡◌, ℕ, Bool, false, ◌+◌, ◌-◌, ◌
 use Rattle.std.proofs.lemmas.Bool.{cases_lt}
 use Rattle.std.proofs.Math.Nat.{add-mod_right}
 use Rattle.std.specs.Prelude.{◌↔◌}
-use Rattle.bridge_base.specs.Members.{In}
+use Rattle.bridge_limits.specs.Members.{In}
 use Rattle.bridge_cycle.specs.declared.run.Run.{Run}
 use Rattle.bridge_cycle.specs.declared.run.Run.TheVariants.{Never, For, Always}
 use Rattle.bridge_cycle.specs.declared.timeline.Turn.{Turn}

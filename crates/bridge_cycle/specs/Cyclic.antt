@@ -1,7 +1,8 @@
+-- Cyclic lists: the turn of a moment.
 use Rattle.std.specs.Prelude.{◌≡◌, ℕ, Bool, false, ◌<◌, ◌≤◌, ◌+◌, ◌-◌, ◌%◌, Option, Some, None, List, [], ◌∷◌, length, nat_lt, if◌then◌else◌, pos, ◌-ℤ◌}
 use Rattle.std.specs.Prelude.{nat_eq, ◌||◌}
 use Rattle.std.specs.List.{list_any}
-use Rattle.bridge_base.specs.declared.TheConstants.{END_OF_TIME}
+use Rattle.bridge_limits.specs.declared.TheConstants.{END_OF_TIME}
 use Rattle.bridge_cycle.specs.declared.cyclic.TheConstants.{LONGEST_CYCLE, MOST_ENTRIES}
 use Rattle.bridge_cycle.specs.declared.cyclic.ListFault.{ListFault}
 use Rattle.bridge_cycle.specs.declared.cyclic.ListFault.TheVariants.{Empty, ZeroInterval, OverCycle, CycleOutOfRange, TooManyEntries, NoMemory}

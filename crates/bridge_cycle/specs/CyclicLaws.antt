@@ -1,3 +1,4 @@
+-- Laws of cyclic lists.
 use Rattle.std.proofs.Common.{◌≡◌, ℕ, ◌<◌, ◌≤◌, ◌+◌, ◌-◌, ◌*◌, ◌/◌, ◌%◌, Option, Some, None, List, [], ◌∷◌, length, arith, subst, sym, ◌∙◌, ap, inl, inr, refl}
 use Rattle.std.proofs.lemmas.Int.{ints}
 use Rattle.std.proofs.lemmas.Bool.{cases_lt}
@@ -50,6 +51,7 @@ phase_moves base cycle t u q c l h =
     let e : u + k ≡ (t + k) / cycle * cycle + q = grind arith in
     ap (λ n. n % cycle) e ∙ mod-mul-add ((t + k) / cycle) cycle q l
 
+-- a turn has a moment, ends within a cycle of it, and is the turn of each of its moments
 pub record IsTurn {S : Type 0} (l : Cyclic S) (t : ℕ) (x : Turn S) : Type 0 where
   pub begins : x.start ≤ℤ pos t
   pub ends : t < x.end

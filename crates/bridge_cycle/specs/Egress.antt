@@ -1,3 +1,4 @@
+-- The list of a port, or two of which one takes over.
 use Rattle.std.specs.Prelude.{ℕ, Option}
 use Rattle.bridge_cycle.specs.declared.timeline.Turn.{Turn}
 use Rattle.bridge_cycle.specs.declared.egress.Egress.{Egress}

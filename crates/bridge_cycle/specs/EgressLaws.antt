@@ -1,3 +1,4 @@
+-- Laws of the lists of a port.
 use Rattle.std.specs.Prelude.{◌≡◌, ℕ, Some}
 use Rattle.bridge_cycle.specs.declared.timeline.Turn.{Turn}
 use Rattle.bridge_cycle.specs.declared.egress.Egress.{Egress}

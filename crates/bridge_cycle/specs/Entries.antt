@@ -1,2 +1,2 @@
 -- Members of a list: the words that all crates share.
-pub use Rattle.bridge_base.specs.Members.{In}
+pub use Rattle.bridge_limits.specs.Members.{In}

@@ -1,3 +1,4 @@
+-- The first moment at which a time fits.
 use Rattle.std.specs.Prelude.{ℕ, zero, suc, Bool, true, false, ◌+◌, ◌&&◌, ◌||◌}
 
 -- open at t and at the moments after it, n in all

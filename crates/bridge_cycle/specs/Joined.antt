@@ -1,3 +1,4 @@
+-- Two lists of which the second takes over from the first at a moment.
 use Rattle.std.specs.Prelude.{ℕ, nat_lt, if◌then◌else◌, Option, Some, None, min, max, pos}
 use Rattle.std.specs.Int.{int_max}
 use Rattle.bridge_cycle.specs.declared.timeline.Turn.{Turn}

@@ -1,3 +1,4 @@
+-- What fits at a moment.
 use Rattle.std.specs.Prelude.{◌≡◌, ℕ, Bool, true, ◌<◌, ◌≤◌, ◌+◌, ◌/◌, ◌%◌, ◌^◌, eqb}
 
 -- whether a class is open, where bit c of the number says that class c is

@@ -1,3 +1,4 @@
+-- How long a class is open at a stretch.
 use Rattle.std.specs.Prelude.{◌≡◌, ℕ, Bool, true, false, ◌<◌, ◌≤◌, ◌+◌, ◌↔◌}
 use Rattle.bridge_cycle.specs.declared.cyclic.TheConstants.{LONGEST_CYCLE}
 use Rattle.bridge_cycle.specs.declared.run.Run.{Run}

@@ -4,7 +4,7 @@ ghost use Rattle.bridge_cycle.specs.Cyclic as cyclic;
 ghost use Rattle.bridge_cycle.specs.Ends as running;
 
 use crate::timeline::{Timeline, Turn};
-use bridge_base::{END_OF_TIME, NoMemory};
+use bridge_limits::{END_OF_TIME, NoMemory};
 use std::alloc::{AllocError, Allocator};
 use std::marker::Model;
 use thiserror::Error;

@@ -4,7 +4,7 @@ ghost use Rattle.bridge_cycle.specs.Egress as egress;
 use crate::cyclic::CyclicList;
 use crate::joined::Joined;
 use crate::timeline::{Timeline, Turn};
-use bridge_base::NoMemory;
+use bridge_limits::NoMemory;
 use std::alloc::Allocator;
 
 /// The gate control lists of a port: bit c of a state says that class c is open (IEEE 802.1Q-2018

@@ -1,10 +1,10 @@
 ghost use Rattle.std.specs.Prelude.{◌≡◌, ◌<◌, IfOk};
-ghost use Rattle.bridge_base.specs.declared.TheConstants.{END_OF_TIME};
+ghost use Rattle.bridge_limits.specs.declared.TheConstants.{END_OF_TIME};
 ghost use Rattle.bridge_cycle.specs.Joined as joined;
 
 use crate::cyclic::CyclicList;
 use crate::timeline::{Timeline, Turn};
-use bridge_base::NoMemory;
+use bridge_limits::NoMemory;
 use std::alloc::Allocator;
 use std::marker::Model;
 

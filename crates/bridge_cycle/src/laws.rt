@@ -1,6 +1,6 @@
 //! Laws of the definitions alone, each the contract of a function that does nothing.
 ghost use Rattle.std.specs.Prelude.{◌≡◌, ℕ, Bool, true, ◌+◌, ◌*◌, ◌^◌, ◌<◌, ◌≤◌, ◌↔◌, Some};
-ghost use Rattle.bridge_base.specs.Members.{In};
+ghost use Rattle.bridge_limits.specs.Members.{In};
 ghost use Rattle.bridge_cycle.specs.declared.run.Run.{Run};
 ghost use Rattle.bridge_cycle.specs.declared.timeline.Turn.{Turn};
 ghost use Rattle.bridge_cycle.specs.Cyclic.{Cyclic, IsLawful, turn_at};

@@ -13,7 +13,7 @@ pub mod laws;
 pub mod run;
 pub mod timeline;
 
-pub use bridge_base::NoMemory;
+pub use bridge_limits::NoMemory;
 pub use cyclic::{CyclicList, LONGEST_CYCLE, ListFault, MOST_ENTRIES};
 pub use egress::Egress;
 pub use fit::{END_OF_SEARCHES, first_fit, is_open};

@@ -2,9 +2,9 @@
 use Rattle.std.specs.Prelude.{◌≡◌, ℕ, ◌+◌, ◌-◌, ◌^◌, Bool, true, false, nat_eq, nat_lt, Option, Some, None, List, [], ◌∷◌, fold, length, replicate, slice_get, slice_set, Vec, if◌then◌else◌}
 use Rattle.bridge_filter.specs.declared.Verdict.{Verdict}
 use Rattle.bridge_network.specs.declared.links.Link.{Link}
-use Rattle.bridge_run.specs.declared.outcome.Departure.{Departure}
-use Rattle.bridge_run.specs.declared.outcome.Dropped.{Dropped}
-use Rattle.bridge_run.specs.declared.outcome.View.{View}
+use Rattle.bridge_semantics.specs.declared.outcome.Departure.{Departure}
+use Rattle.bridge_semantics.specs.declared.outcome.Dropped.{Dropped}
+use Rattle.bridge_semantics.specs.declared.outcome.View.{View}
 use Rattle.bridge_delays.specs.declared.counting.Fate.{Fate}
 use Rattle.bridge_delays.specs.declared.counting.Fate.TheVariants as fate
 use Rattle.bridge_delays.specs.declared.hops.HopRun.{HopRun}
@@ -30,6 +30,7 @@ abbrev pub set_if : List Tally → ℕ → Fate → Option Tally → List Tally
 set_if ts k f None = ts
 set_if ts k f (Some t) = slice_set ts k (with_fate t f)
 
+-- tallies with one more of a fate at a place
 abbrev pub with_one_at : List Tally → ℕ → Fate → List Tally
 with_one_at ts k f = set_if ts k f (slice_get ts k)
 
@@ -46,6 +47,7 @@ fate_of ways d = if is_on ways d.port then fate.SentOn else fate.Delivered
 abbrev pub with_departure : List Bool → List (Option Root) → List Tally → Departure → List Tally
 with_departure ways roots ts d = with_one (fate_of ways d) ts (root_at roots d.own)
 
+-- with copies that left, one after the other
 abbrev pub with_departures : List Bool → List (Option Root) → List Tally → List Departure → List Tally
 with_departures ways roots ts ds = fold (with_departure ways roots) ts ds
 
@@ -53,6 +55,7 @@ with_departures ways roots ts ds = fold (with_departure ways roots) ts ds
 abbrev pub with_drop : List (Option Root) → List Tally → Dropped → List Tally
 with_drop roots ts d = with_one fate.Refused ts (root_at roots d.own)
 
+-- with copies that were dropped, one after the other
 abbrev pub with_drops : List (Option Root) → List Tally → List Dropped → List Tally
 with_drops roots ts ds = fold (with_drop roots) ts ds
 
@@ -60,6 +63,7 @@ with_drops roots ts ds = fold (with_drop roots) ts ds
 abbrev pub with_verdict : List Tally → Option Root → Verdict → List Tally
 with_verdict ts root v = if passes v then ts else with_one fate.Refused ts root
 
+-- with frames that passed or were refused, by their numbers from one on
 abbrev pub with_verdicts : List (Option Root) → ℕ → List Tally → List Verdict → List Tally
 with_verdicts roots n ts [] = ts
 with_verdicts roots n ts (v ∷ vs) = with_verdicts roots (n + 1) (with_verdict ts (root_at roots n) v) vs

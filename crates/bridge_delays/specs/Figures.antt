@@ -2,9 +2,11 @@
 use Rattle.std.specs.Prelude.{ℕ, ◌-◌, ◌/◌, ◌^◌, max, min, Option, Some, None, List, [], ◌∷◌, fold, length, sum}
 use Rattle.bridge_delays.specs.declared.figures.Figures.{Figures}
 
+-- the least of some times
 abbrev pub least_of : List ℕ → ℕ
 least_of delays = fold min (2 ^ 64 - 1) delays
 
+-- the greatest of them
 abbrev pub greatest_of : List ℕ → ℕ
 greatest_of delays = fold max 0 delays
 

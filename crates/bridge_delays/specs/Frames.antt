@@ -1,11 +1,11 @@
 -- The lines of the table of frames, each with its line feed.
 use Rattle.std.specs.Prelude.{◌≡◌, ℕ, ◌+◌, ◌-◌, Bool, true, false, nat_eq, Option, Some, None, List, [], ◌∷◌, ◌++◌, flat_map, slice_get, codes, decimal, if◌then◌else◌}
 use Rattle.bridge_filter.specs.declared.Verdict.{Verdict}
-use Rattle.bridge_run.specs.declared.outcome.Departure.{Departure}
-use Rattle.bridge_run.specs.declared.outcome.Dropped.{Dropped}
-use Rattle.bridge_run.specs.declared.outcome.Origin.{Origin}
+use Rattle.bridge_semantics.specs.declared.outcome.Departure.{Departure}
+use Rattle.bridge_semantics.specs.declared.outcome.Dropped.{Dropped}
+use Rattle.bridge_semantics.specs.declared.outcome.Origin.{Origin}
 use Rattle.bridge_report.specs.Words.{verdict_word, refusal_word}
-use Rattle.bridge_run.specs.declared.outcome.View.{View}
+use Rattle.bridge_semantics.specs.declared.outcome.View.{View}
 use Rattle.bridge_network.specs.declared.links.Link.{Link}
 use Rattle.bridge_delays.specs.declared.hops.HopRun.{HopRun}
 use Rattle.bridge_delays.specs.declared.tracing.Root.{Root}
@@ -18,6 +18,7 @@ abbrev pub at_if : Option Origin → ℕ
 at_if None = 0
 at_if (Some o) = o.at
 
+-- when a frame of a hop came, by its number there, from 1
 abbrev pub at_of : List Origin → ℕ → ℕ
 at_of origins own = if nat_eq own 0 then 0 else at_if (slice_get origins (own - 1))
 
@@ -59,6 +60,7 @@ departure_line stream hop root at d on = line_start stream hop root at ++ (way_w
 abbrev pub verdict_line : List ℕ → List ℕ → Option Root → ℕ → Verdict → List ℕ
 verdict_line stream hop root at v = if passes v then [] else refused_line stream hop root at v
 
+-- the lines of the frames that a hop refused, by their numbers from one on
 abbrev pub verdict_lines : List ℕ → List ℕ → List (Option Root) → List Origin → ℕ → List Verdict → List ℕ
 verdict_lines stream hop roots origins n [] = []
 verdict_lines stream hop roots origins n (v ∷ vs) = verdict_line stream hop (root_at roots n) (at_of origins n) v ++ verdict_lines stream hop roots origins (n + 1) vs

@@ -33,5 +33,6 @@ abbrev pub or_false : Option Bool → Bool
 or_false None = false
 or_false (Some b) = b
 
+-- what leaves by a port goes on to a hop, by what is known of the ports from 1 on
 abbrev pub is_on : List Bool → ℕ → Bool
 is_on ways q = if nat_eq q 0 then false else or_false (slice_get ways (q - 1))

@@ -46,6 +46,7 @@ is_within (Some f) deadline = nat_le f.greatest deadline
 abbrev pub is_met : List Tally → Option Figures → ℕ → Bool
 is_met tallies figures deadline = nat_eq (delivered_of tallies) (length tallies) && is_within figures deadline
 
+-- whether a deadline was met, behind a comma
 abbrev pub met_word : Bool → List ℕ
 met_word true = codes ",met"
 met_word false = codes ",missed"

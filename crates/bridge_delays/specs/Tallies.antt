@@ -4,9 +4,9 @@ use Rattle.bridge_filter.specs.declared.Verdict.{Verdict}
 use Rattle.bridge_filter.specs.declared.Verdict.TheVariants as verdict
 use Rattle.bridge_port.specs.declared.item.Refusal.{Refusal}
 use Rattle.bridge_port.specs.declared.item.Refusal.TheVariants as refusal
-use Rattle.bridge_run.specs.declared.outcome.Departure.{Departure}
-use Rattle.bridge_run.specs.declared.outcome.Dropped.{Dropped}
-use Rattle.bridge_run.specs.declared.outcome.View.{View}
+use Rattle.bridge_semantics.specs.declared.outcome.Departure.{Departure}
+use Rattle.bridge_semantics.specs.declared.outcome.Dropped.{Dropped}
+use Rattle.bridge_semantics.specs.declared.outcome.View.{View}
 use Rattle.bridge_delays.specs.declared.tallies.Tally.{Tally}
 use Rattle.bridge_delays.specs.declared.tallies.HopCounts.{HopCounts}
 use Rattle.bridge_delays.specs.declared.tracing.Root.{Root}
@@ -32,30 +32,37 @@ abbrev pub is_blocked : Verdict → Bool
 is_blocked verdict.Blocked = true
 is_blocked v = false
 
+-- its service data unit is above the filter's maximum
 abbrev pub is_oversize : Verdict → Bool
 is_oversize verdict.Oversize = true
 is_oversize v = false
 
+-- its gate is closed
 abbrev pub is_gate_closed : Verdict → Bool
 is_gate_closed verdict.GateClosed = true
 is_gate_closed v = false
 
+-- its gate was shut by a frame that came while it was closed
 abbrev pub is_shut_rx : Verdict → Bool
 is_shut_rx verdict.ShutByRx = true
 is_shut_rx v = false
 
+-- its gate was shut by a frame with too many octets
 abbrev pub is_shut_octets : Verdict → Bool
 is_shut_octets verdict.ShutByOctets = true
 is_shut_octets v = false
 
+-- it has more octets than are left of the turn
 abbrev pub is_octets_exceeded : Verdict → Bool
 is_octets_exceeded verdict.OctetsExceeded = true
 is_octets_exceeded v = false
 
+-- its meter made it red
 abbrev pub is_red : Verdict → Bool
 is_red verdict.Red = true
 is_red v = false
 
+-- its meter made it yellow, and drops such frames
 abbrev pub is_yellow_dropped : Verdict → Bool
 is_yellow_dropped verdict.YellowDropped = true
 is_yellow_dropped v = false
@@ -65,9 +72,11 @@ abbrev pub is_full_queue : Refusal → Bool
 is_full_queue refusal.Full = true
 is_full_queue refusal.NeverFits = false
 
+-- a copy found its queue full
 abbrev pub is_full : Dropped → Bool
 is_full d = is_full_queue d.refusal
 
+-- a copy fits at no moment
 abbrev pub never_fits : Dropped → Bool
 never_fits d = not (is_full_queue d.refusal)
 
@@ -102,6 +111,7 @@ abbrev pub if_delivered : Bool → List ℕ → List ℕ
 if_delivered true delays = []
 if_delivered false delays = delays
 
+-- how long a copy took, where it was delivered and its frame at the first hop is known
 abbrev pub delay_of : List Bool → List (Option Root) → Departure → List ℕ
 delay_of ways roots d = if_delivered (is_on ways d.port) (delay_from d (root_at roots d.own))
 

@@ -1,12 +1,12 @@
 -- From which frame of the first hop a frame of a hop is.
 use Rattle.std.specs.Prelude.{◌≡◌, ◌⊎◌, ℕ, zero, suc, ◌+◌, ◌-◌, ◌≤◌, Bool, true, false, ◌&&◌, nat_eq, nat_le, Option, Some, None, List, [], ◌∷◌, map, slice_get, Vec, if◌then◌else◌}
-use Rattle.bridge_base.specs.Members.{In}
+use Rattle.bridge_limits.specs.Members.{In}
 use Rattle.bridge_network.specs.Networks.{Sender, sender}
 use Rattle.bridge_network.specs.Wiring.{link_of}
 use Rattle.bridge_network.specs.declared.links.Link.{Link}
-use Rattle.bridge_run.specs.declared.outcome.Origin.{Origin}
+use Rattle.bridge_semantics.specs.declared.outcome.Origin.{Origin}
 use Rattle.bridge_delays.specs.declared.hops.HopRun.{HopRun}
-use Rattle.bridge_run.specs.declared.outcome.Departure.{Departure}
+use Rattle.bridge_semantics.specs.declared.outcome.Departure.{Departure}
 use Rattle.bridge_delays.specs.declared.tracing.Root.{Root}
 
 -- whether a copy left by a port and comes over its link at a moment or later
@@ -83,6 +83,7 @@ pub record IsOver (s : Sender) (sent : List Departure) (sent_roots : List (Optio
   pub moment : copy.done + s.delay ≡ o.at
   pub known : root_at sent_roots copy.own ≡ Some r
 
+-- what is known of each frame of a hop is what was, or that of a copy that came over the link
 abbrev pub AreTraced : Sender → List Departure → List (Option Root) → ℕ → List Origin → List (Option Root) → List (Option Root) → Type 0
 AreTraced s sent sent_roots q origins old new = (k : ℕ) (r : Root) → slice_get new k ≡ Some (Some r)
     → (slice_get old k ≡ Some (Some r)) ⊎ ((o : Origin) × (slice_get origins k ≡ Some o) × IsOver s sent sent_roots q o r)

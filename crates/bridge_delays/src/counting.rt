@@ -6,10 +6,10 @@ ghost use Rattle.bridge_delays.specs.Hops.{AreWays};
 use crate::hops::{HopRun, is_on, ways_of};
 use crate::tallies::{Tally, passes};
 use crate::tracing::{Root, root_at};
-use bridge_base::NoMemory;
 use bridge_filter::Verdict;
+use bridge_limits::NoMemory;
 use bridge_network::Link;
-use bridge_run::{Departure, Dropped, View};
+use bridge_semantics::{Departure, Dropped, View};
 use std::alloc::Allocator;
 
 /// What becomes of a copy of a frame, or of a frame at a hop.

@@ -3,11 +3,11 @@ ghost use Rattle.std.specs.Prelude.{◌<◌};
 
 use crate::hops::HopRun;
 use crate::tallies::passes;
-use bridge_base::NoMemory;
 use bridge_cycle::{END_OF_TURNS, Egress, Timeline, is_open};
+use bridge_limits::NoMemory;
 use bridge_network::Link;
 use bridge_rounds::sender_of;
-use bridge_run::{Departure, Origin, View};
+use bridge_semantics::{Departure, Origin, View};
 use std::alloc::{AllocError, Allocator, Global};
 
 /// The most octets of a picture.

@@ -5,11 +5,11 @@ ghost use Rattle.bridge_delays.specs.Frames as spec;
 use crate::hops::{HopRun, is_on, ways_of};
 use crate::tallies::passes;
 use crate::tracing::{Root, root_at};
-use bridge_base::NoMemory;
 use bridge_filter::Verdict;
+use bridge_limits::NoMemory;
 use bridge_network::Link;
 use bridge_report::{refusal_word, verdict_word};
-use bridge_run::{Departure, Dropped, Origin, View};
+use bridge_semantics::{Departure, Dropped, Origin, View};
 use itoa::Buffer;
 use std::alloc::{AllocError, Allocator};
 

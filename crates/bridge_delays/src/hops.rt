@@ -2,10 +2,10 @@
 ghost use Rattle.std.specs.Prelude.{◌≡◌, IfOk, slice_get, Some, ◌+◌, ◌<◌};
 ghost use Rattle.bridge_delays.specs.Hops as spec;
 
-use bridge_base::NoMemory;
+use bridge_limits::NoMemory;
 use bridge_network::Link;
 use bridge_rounds::sender_of;
-use bridge_run::View;
+use bridge_semantics::View;
 use std::alloc::Allocator;
 
 /// A hop of a stream: the place of its bridge in the network, from 0, and what the run tells of its filter.

@@ -5,7 +5,7 @@ ghost use Rattle.bridge_delays.specs.Tallies.{astray};
 
 use crate::figures::Figures;
 use crate::tallies::{HopCounts, Tally};
-use bridge_base::NoMemory;
+use bridge_limits::NoMemory;
 use std::alloc::{AllocError, Allocator};
 
 /// The first line of the table. Of a stream as a whole, whose hop is `all`: the frames of its first hop, how many of them

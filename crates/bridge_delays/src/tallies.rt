@@ -5,11 +5,11 @@ ghost use Rattle.bridge_delays.specs.Tallies as spec;
 
 use crate::hops::{HopRun, is_on, ways_of};
 use crate::tracing::{Root, root_at};
-use bridge_base::NoMemory;
 use bridge_filter::Verdict;
+use bridge_limits::NoMemory;
 use bridge_network::Link;
 use bridge_port::Refusal;
-use bridge_run::{Departure, Dropped, View};
+use bridge_semantics::{Departure, Dropped, View};
 use std::alloc::Allocator;
 
 /// What became of the copies of a frame of the first hop: how many were delivered, how many were refused or dropped at some

@@ -1,17 +1,17 @@
 //! From which frame of the first hop each frame of each hop is.
 ghost use Rattle.std.specs.Prelude.{◌≡◌, ◌⊎◌, ◌<◌, List, Some, length, IfOk, OnOk};
-ghost use Rattle.bridge_base.specs.Members.{In};
+ghost use Rattle.bridge_limits.specs.Members.{In};
 ghost use Rattle.bridge_network.specs.declared.links.Link.{Link};
-ghost use Rattle.bridge_run.specs.declared.outcome.Departure.{Departure as Left};
+ghost use Rattle.bridge_semantics.specs.declared.outcome.Departure.{Departure as Left};
 ghost use Rattle.bridge_rounds.specs.Stations.{sender_value};
 ghost use Rattle.bridge_delays.specs.declared.tracing.Root.{Root as Known};
 ghost use Rattle.bridge_delays.specs.Tracing as spec;
 
 use crate::hops::HopRun;
-use bridge_base::NoMemory;
+use bridge_limits::NoMemory;
 use bridge_network::Link;
 use bridge_rounds::{Sender, sender_of};
-use bridge_run::{Departure, Origin};
+use bridge_semantics::{Departure, Origin};
 use std::alloc::Allocator;
 
 /// A frame of the first hop of a stream: its number among the hop's, from 1, and the moment in ns at which it came.

@@ -1,7 +1,7 @@
 //! What may stand at each key.
 
-use bridge_base::END_OF_TIME;
-use bridge_keys::{Field, Section};
+use bridge_limits::END_OF_TIME;
+use bridge_schema::{Field, Section};
 use std::alloc::AllocError;
 
 /// The largest number of a document.

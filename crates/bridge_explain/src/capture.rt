@@ -3,8 +3,8 @@ ghost use Rattle.std.specs.Prelude.{IfOk, string_bytes};
 ghost use Rattle.bridge_explain.specs.Said.{BeginsWith};
 
 use crate::text::of_file;
-use bridge_base::NoMemory;
 use bridge_capture::CaptureFault;
+use bridge_limits::NoMemory;
 use std::alloc::{AllocError, Global};
 
 /// The octets of the header of a capture.

@@ -5,12 +5,12 @@ ghost use Rattle.bridge_explain.specs.Said.{BeginsWith};
 
 use crate::text::of_file;
 use crate::windows::{longest_at, put_open, run_of};
-use bridge_base::{LONGEST_FRAME, NoMemory};
 use bridge_check::CheckFault;
 use bridge_config::{Plan, PortPlan};
 use bridge_cycle::{Egress, Run, is_open};
 use bridge_filter::FilterPlan;
 use bridge_frame::occupation;
+use bridge_limits::{LONGEST_FRAME, NoMemory};
 use std::alloc::{AllocError, Allocator, Global};
 
 /// Why the plan of a file doesn't isolate a protected filter, by the fault of its check, and what to change. It begins

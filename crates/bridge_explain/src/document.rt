@@ -3,7 +3,7 @@
 use crate::allowed::own_key;
 use crate::position::{Position, headers_in, key_position, table_position};
 use crate::value::put_value;
-use bridge_keys::{Field, Section};
+use bridge_schema::{Field, Section};
 use std::alloc::AllocError;
 use toml::{Table, Value};
 

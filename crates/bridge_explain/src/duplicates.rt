@@ -2,7 +2,7 @@
 
 use crate::allowed::own_key;
 use crate::document::{Source, instance_position, items_of, put_instance, put_position, value_of};
-use bridge_keys::{Field, Section};
+use bridge_schema::{Field, Section};
 use std::alloc::AllocError;
 use toml::{Table, Value};
 

@@ -6,7 +6,7 @@ use crate::found::value_at_place;
 use crate::keys::{ListKeys, entry_keys, lists_of};
 use crate::value::put_value;
 use bridge_cycle::ListFault;
-use bridge_keys::{Field, Place, Section};
+use bridge_schema::{Field, Place, Section};
 use std::alloc::AllocError;
 use toml::{Table, Value};
 

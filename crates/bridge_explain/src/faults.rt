@@ -10,7 +10,7 @@ use crate::keys::lists_of;
 use crate::position::top_position;
 use crate::strays::{put_stray, put_top_key};
 use crate::value::put_value;
-use bridge_keys::{Field, Place, PlanFault, Section};
+use bridge_schema::{Field, Place, PlanFault, Section};
 use std::alloc::{AllocError, Global};
 
 /// Adds the sentences on a fault of a text.

@@ -3,7 +3,7 @@ ghost use Rattle.std.specs.Prelude.{IfOk, string_bytes};
 ghost use Rattle.bridge_explain.specs.Said.{BeginsWith};
 
 use crate::text::of_file;
-use bridge_base::NoMemory;
+use bridge_limits::NoMemory;
 use std::alloc::{AllocError, Global};
 
 /// What is found of a file that can't be opened, made, read or written.

@@ -4,7 +4,7 @@ use crate::allowed::{Allowed, allowed_at, own_key, put_allowed, section_of};
 use crate::document::{Source, items_of, table_of, value_of};
 use crate::text::put_listed;
 use crate::value::put_value;
-use bridge_keys::{Field, Place, Section};
+use bridge_schema::{Field, Place, Section};
 use std::alloc::AllocError;
 use toml::{Table, Value};
 

@@ -1,6 +1,6 @@
 //! Which keys a table may have, and why one isn't among them.
 
-use bridge_keys::{Field, Section, has_key};
+use bridge_schema::{Field, Section, has_key};
 use toml::{Table, Value};
 
 /// Why a known key may not stand in a table.

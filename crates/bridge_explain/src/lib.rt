@@ -23,7 +23,7 @@ mod warn;
 mod windows;
 mod words;
 
-pub use bridge_base::NoMemory;
+pub use bridge_limits::NoMemory;
 pub use capture::explain_capture;
 pub use check::explain_check;
 pub use file::{Cause, explain_file};

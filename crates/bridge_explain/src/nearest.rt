@@ -2,7 +2,7 @@
 ghost use Rattle.std.specs.Prelude.{IfOk, Contains};
 ghost use Rattle.std.specs.Option.{ForSome};
 
-use bridge_keys::{Field, Section};
+use bridge_schema::{Field, Section};
 use std::alloc::{AllocError, Global};
 use strsim::levenshtein;
 

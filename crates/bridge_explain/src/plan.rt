@@ -6,8 +6,8 @@ use crate::document::{Source, put_position};
 use crate::faults::put_fault;
 use crate::position::position_behind;
 use crate::text::of_file;
-use bridge_base::NoMemory;
-use bridge_keys::PlanFault;
+use bridge_limits::NoMemory;
+use bridge_schema::PlanFault;
 use std::alloc::{AllocError, Global};
 use toml::de::Error;
 

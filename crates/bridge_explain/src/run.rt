@@ -4,10 +4,10 @@ ghost use Rattle.bridge_explain.specs.Said.{BeginsWith};
 
 use crate::capture::explain_capture;
 use crate::text::of_file;
-use bridge_base::NoMemory;
 use bridge_capture::CaptureFault;
-use bridge_lanes::RunFault;
-use bridge_program::TextFault;
+use bridge_inputs::RunFault;
+use bridge_jobs::TextFault;
+use bridge_limits::NoMemory;
 use std::alloc::{AllocError, Global};
 
 /// Why a run stopped, by the path of the capture and its first octets. It begins with the path.

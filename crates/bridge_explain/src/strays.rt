@@ -10,7 +10,7 @@ use crate::keys::{
 use crate::nearest::{Named, nearest_name};
 use crate::position::top_position;
 use crate::value::put_key;
-use bridge_keys::{Field, Section};
+use bridge_schema::{Field, Section};
 use std::alloc::{AllocError, Global};
 use toml::Table;
 

@@ -3,12 +3,12 @@ ghost use Rattle.std.specs.Prelude.{◌<◌, ◌≤◌};
 
 use crate::windows::{longest_at, put_open};
 use bridge_advice::{Advice, advice_of, put_advice};
-use bridge_base::{LONGEST_FRAME, NoMemory};
 use bridge_bounds::{bound_of, tight_bound_of};
 use bridge_check::{Accepted, may_wait};
 use bridge_config::PortPlan;
 use bridge_filter::FilterPlan;
 use bridge_frame::occupation;
+use bridge_limits::{LONGEST_FRAME, NoMemory};
 use std::alloc::{AllocError, Allocator, Global};
 
 /// What is said of a plan that is accepted: for each protected filter where its frames may wait, when each of these queues

@@ -3,10 +3,10 @@ ghost use Rattle.std.specs.Prelude.{◌↔◌, ◌<◌, ◌≡◌, true, IfSome}
 ghost use Rattle.bridge_cycle.specs.Runs.{Allows};
 ghost use Rattle.bridge_frame.specs.Link.{occupied};
 
-use bridge_base::LONGEST_FRAME;
 use bridge_config::PortPlan;
 use bridge_cycle::{CyclicList, Egress, Run, Timeline, is_open, longest_run};
 use bridge_frame::{Speed, occupation};
+use bridge_limits::LONGEST_FRAME;
 use std::alloc::{AllocError, Allocator, Global};
 
 /// The most windows that are listed.

@@ -5,7 +5,7 @@ ghost use Rattle.bridge_explain.specs.Said.{BeginsWith};
 use crate::nearest::{Named, nearest_name};
 use crate::text::of_file;
 use crate::value::put_text;
-use bridge_base::NoMemory;
+use bridge_limits::NoMemory;
 use std::alloc::{AllocError, Global};
 
 /// A command of the program.

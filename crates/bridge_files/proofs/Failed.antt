@@ -1,8 +1,8 @@
 -- Which file failed.
 use Rattle.std.proofs.Common.{◌≡◌, ℕ, List, ◌∙◌}
-use Rattle.bridge_base.specs.Members.{In}
-use Rattle.bridge_program.specs.declared.fault.Fault.{Fault}
-use Rattle.bridge_program.specs.declared.fault.Fault.TheVariants as fault
+use Rattle.bridge_limits.specs.Members.{In}
+use Rattle.bridge_jobs.specs.declared.fault.Fault.{Fault}
+use Rattle.bridge_jobs.specs.declared.fault.Fault.TheVariants as fault
 use Rattle.bridge_files.specs.Files.{IsFile, IsOfCaptures}
 use Rattle.bridge_files.specs.Paths.{capture_path}
 

@@ -7,17 +7,17 @@ use Rattle.bridge_capture.specs.Grammar.{Captured}
 use Rattle.bridge_capture.specs.Written.{written_text}
 use Rattle.bridge_config.specs.declared.command.Command.{Command}
 use Rattle.bridge_config.specs.Model.{Plan}
-use Rattle.bridge_lanes.specs.declared.fault.RunFault.{RunFault}
-use Rattle.bridge_lanes.specs.declared.fault.RunFault.TheVariants as run
-use Rattle.bridge_run.specs.Merge.{Input}
-use Rattle.bridge_run.specs.declared.outcome.Outcome.{Outcome}
-use Rattle.bridge_program.proofs.Runs.{kept_appends}
-use Rattle.bridge_lanes.specs.Devices.{HasFailed}
+use Rattle.bridge_inputs.specs.declared.fault.RunFault.{RunFault}
+use Rattle.bridge_inputs.specs.declared.fault.RunFault.TheVariants as run
+use Rattle.bridge_semantics.specs.Merge.{Input}
+use Rattle.bridge_semantics.specs.declared.outcome.Outcome.{Outcome}
+use Rattle.bridge_jobs.proofs.Runs.{kept_appends}
+use Rattle.bridge_inputs.specs.Devices.{HasFailed}
 use Rattle.std.specs.Prelude.{nat_eq, if◌then◌else◌, ◌<◌}
 use Rattle.std.proofs.lemmas.Bool.{eq-eqb}
 use Rattle.std.proofs.lemmas.Bool.Decides.{nat_tests}
-use Rattle.bridge_base.specs.Members.{AllAfter, Rising}
-use Rattle.bridge_lanes.specs.Lanes.{AreRests, AreTexts}
+use Rattle.bridge_limits.specs.Members.{AllAfter, Rising}
+use Rattle.bridge_inputs.specs.Lanes.{AreRests, AreTexts}
 use Rattle.bridge_core.specs.Lines.{AreWritten}
 use Rattle.bridge_core.specs.Simulated.{AreNumbers, Runs, Stops}
 use Rattle.bridge_core.specs.Taking.{StopsAmong, StopsSo}

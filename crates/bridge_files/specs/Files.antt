@@ -1,9 +1,9 @@
 -- The files of captures that fail.
 use Rattle.std.specs.Prelude.{◌≡◌, ℕ, List, string_bytes}
-use Rattle.bridge_base.specs.Members.{In}
-use Rattle.bridge_lanes.specs.declared.fault.RunFault.TheVariants as run
-use Rattle.bridge_program.specs.declared.fault.Fault.{Fault}
-use Rattle.bridge_program.specs.declared.fault.Fault.TheVariants as fault
+use Rattle.bridge_limits.specs.Members.{In}
+use Rattle.bridge_inputs.specs.declared.fault.RunFault.TheVariants as run
+use Rattle.bridge_jobs.specs.declared.fault.Fault.{Fault}
+use Rattle.bridge_jobs.specs.declared.fault.Fault.TheVariants as fault
 use Rattle.bridge_files.specs.Paths.{capture_path}
 
 -- the path of the capture of one of these ports in a folder

@@ -3,9 +3,9 @@ use Rattle.std.specs.Prelude.{◌≡◌, ℕ, Bool, false, ◌⊎◌, Option, Li
 use Rattle.std.specs.Io.KnownBytes.{Keeps}
 use Rattle.bridge_config.specs.declared.command.Command.{Command}
 use Rattle.bridge_config.specs.Model.{Plan}
-use Rattle.bridge_lanes.specs.declared.fault.RunFault.{RunFault}
-use Rattle.bridge_lanes.specs.declared.fault.RunFault.TheVariants as run
-use Rattle.bridge_lanes.specs.Lanes.{FailsLook, LooksFail}
+use Rattle.bridge_inputs.specs.declared.fault.RunFault.{RunFault}
+use Rattle.bridge_inputs.specs.declared.fault.RunFault.TheVariants as run
+use Rattle.bridge_inputs.specs.Lanes.{FailsLook, LooksFail}
 use Rattle.bridge_core.specs.Simulated.{BeginWell}
 use Rattle.bridge_core.specs.Taking.{IsOfCapture, StopsAmong}
 

@@ -1,11 +1,11 @@
 -- What is said of a capture that went through one queue, and which fault ends it, by the words of the command line.
 use Rattle.std.specs.Prelude.{◌≡◌, ◌⊎◌, ℕ, Bool, true, false, List, codes, string_bytes}
-use Rattle.bridge_lanes.specs.declared.fault.RunFault.TheVariants as run
+use Rattle.bridge_inputs.specs.declared.fault.RunFault.TheVariants as run
 use Rattle.bridge_wire.specs.Wire.{IsOfPortOne}
-use Rattle.bridge_program.specs.declared.fault.Fault.{Fault}
-use Rattle.bridge_program.specs.declared.fault.Fault.TheVariants as fault
-use Rattle.bridge_program.specs.Jobs.{IsCountsLine}
-use Rattle.bridge_program.specs.Text.{StopsText}
+use Rattle.bridge_jobs.specs.declared.fault.Fault.{Fault}
+use Rattle.bridge_jobs.specs.declared.fault.Fault.TheVariants as fault
+use Rattle.bridge_jobs.specs.Jobs.{IsCountsLine}
+use Rattle.bridge_jobs.specs.Text.{StopsText}
 use Rattle.bridge_files.specs.declared.wiring.Said.{Said}
 use Rattle.bridge_files.specs.declared.wiring.Said.TheVariants as said
 

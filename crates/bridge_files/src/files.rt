@@ -5,8 +5,8 @@ ghost use Rattle.bridge_files.specs.Taken.{BeginWith};
 
 use crate::output::{FileId, Output, add_file, are_same, file_at, file_of, is_one_of, output_at};
 use crate::paths::capture_path;
-use bridge_lanes::RunFault;
-use bridge_program::{Fault, NoMemory};
+use bridge_inputs::RunFault;
+use bridge_jobs::{Fault, NoMemory};
 use std::fs;
 use std::fs::OpenFile;
 use std::rt::Files;

@@ -2,7 +2,7 @@
 ghost use Rattle.std.specs.Prelude.{◌≡◌, ◌↔◌, IsTrue, OnErr, OnOk, true};
 ghost use Rattle.bridge_files.specs.Taken.{AreSame, IsAmong, with_known};
 
-use bridge_program::NoMemory;
+use bridge_jobs::NoMemory;
 use std::fs::{Metadata, OpenFile, OpenOptions};
 use std::io::Write;
 use std::os::unix::fs::MetadataExt;

@@ -1,7 +1,7 @@
 //! A run over readers and writers, one of each for each port.
 ghost use Rattle.std.specs.Prelude.{◌≡◌, ℕ, List, Option, Some, length, slice_get, IfOk, IfErr};
 ghost use Rattle.bridge_config.specs.Commands.{AreCommands};
-ghost use Rattle.bridge_lanes.specs.Lanes.{AreTexts};
+ghost use Rattle.bridge_inputs.specs.Lanes.{AreTexts};
 ghost use Rattle.bridge_core.specs.Simulated.{AreNumbers, Isolates, OthersChangeNothing, Runs};
 ghost use Rattle.bridge_files.specs.Flushed.{LosesOutput, StopsFlushed};
 
@@ -9,8 +9,8 @@ use crate::transfer::{finish_all, sinks_of, sources_of};
 use bridge_check::Accepted;
 use bridge_config::Command;
 use bridge_core::simulate;
-use bridge_lanes::RunFault;
-use bridge_run::Outcome;
+use bridge_inputs::RunFault;
+use bridge_semantics::Outcome;
 use std::alloc::Allocator;
 use std::io::{Read, Write};
 

@@ -2,7 +2,7 @@
 ghost use Rattle.bridge_files.specs.Taken.{BeginWith};
 
 use crate::output::{FileId, add_file, file_of};
-use bridge_program::ReadFault;
+use bridge_jobs::ReadFault;
 use std::fs;
 use std::rt::Files;
 

@@ -3,7 +3,7 @@ ghost use Rattle.std.specs.Prelude.{◌≡◌, ◌≤◌, [], length, map, take,
 ghost use Rattle.bridge_files.specs.Flushed.{AllKept, NoneFailed};
 
 use bridge_capture::{ByteSink, ByteSource, ReadAhead, WriteBehind};
-use bridge_program::NoMemory;
+use bridge_jobs::NoMemory;
 use std::alloc::Allocator;
 use std::io::{Read, Write};
 

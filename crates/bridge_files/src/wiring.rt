@@ -1,13 +1,13 @@
 //! The job of `wire` over files, or over standard input and output.
 ghost use Rattle.std.specs.Prelude.{◌≡◌, ◌≤◌, ◌↔◌, ℕ, List, Some, IfOk, IfErr, IsTrue, string_bytes};
-ghost use Rattle.bridge_program.specs.Jobs.{EndsWire, IsOfRun, PrintsCounts};
-ghost use Rattle.bridge_program.specs.Reading.{IsOfStandardFile};
+ghost use Rattle.bridge_jobs.specs.Jobs.{EndsWire, IsOfRun, PrintsCounts};
+ghost use Rattle.bridge_jobs.specs.Reading.{IsOfStandardFile};
 ghost use Rattle.bridge_files.specs.Wiring.{EndsInto, EndsOver, EndsWiring, IsStandard, SaysCounts, is_noted, line_of};
 
 use crate::output::{FileId, are_same, file_at, file_of, output_at};
 use bridge_frame::Speed;
+use bridge_jobs::{Fault, print, wire_job};
 use bridge_port::LARGEST_ROOM;
-use bridge_program::{Fault, print, wire_job};
 use bridge_wire::RunFault;
 use std::alloc::Global;
 use std::io::{Read, Write};

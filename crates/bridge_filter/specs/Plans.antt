@@ -53,10 +53,12 @@ closed_gate = record { turn_at = λ t. None; shut_on_rx = false; shut_on_octets 
 abbrev pub empty_meter : MeterPlan
 empty_meter = record { cir = 0; cbs = 0; eir = 0; ebs = 0; coupling = false; aware = false; drop_yellow = false; mark_all_red = false }
 
+-- the rules of a gate, of a closed one where there is none
 abbrev pub gate_or_closed : {A : Type 0} → Option (GatePlan A) → GateRules
 gate_or_closed None = closed_gate
 gate_or_closed (Some g) = rules_of g
 
+-- a meter, one without tokens where there is none
 abbrev pub meter_or_empty : Option MeterPlan → MeterPlan
 meter_or_empty None = empty_meter
 meter_or_empty (Some m) = m

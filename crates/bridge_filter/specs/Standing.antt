@@ -1,3 +1,4 @@
+-- What the tables of a police stand for.
 use Rattle.std.specs.Prelude.{◌≡◌, ℕ, Bool, false, ◌&&◌, nat_eq, Option, Some, None, option_and_then, List}
 use Rattle.std.specs.Option.{option_map}
 use Rattle.std.specs.Map.{lookup}
@@ -38,6 +39,7 @@ abbrev pub shown_rx : {A : Type 0} → Option (gate.Gate A) → Bool
 shown_rx None = false
 shown_rx (Some g) = g.rx
 
+-- whether a gate was shut by octets
 abbrev pub shown_octets : {A : Type 0} → Option (gate.Gate A) → Bool
 shown_octets None = false
 shown_octets (Some g) = g.octets
@@ -47,6 +49,7 @@ abbrev pub shown_meter : Option ℕ → List (ℕ × meter.MeterState) → Optio
 shown_meter None meters = None
 shown_meter (Some n) meters = option_map (λ m. m.buckets) (lookup (nat_eq n) meters)
 
+-- whether a meter marks all frames red
 abbrev pub shown_red : Option Buckets → Bool
 shown_red None = false
 shown_red (Some b) = b.all_red
@@ -55,6 +58,7 @@ shown_red (Some b) = b.all_red
 abbrev pub shown_counters : {A : Type 0} → ℕ → PoliceState A → Option Counters
 shown_counters n s = option_map (λ f. f.counters) (lookup (nat_eq n) s.kept)
 
+-- the flags of a filter, with those of its gate and of its meter
 abbrev pub flags_by : {A : Type 0} → PoliceState A → Filter → Flags
 flags_by s f = record {
   blocked = f.blocked;
@@ -63,9 +67,11 @@ flags_by s f = record {
   red = shown_red (shown_meter f.plan.meter s.meters);
 }
 
+-- the flags of the filter of a number
 abbrev pub shown_flags : {A : Type 0} → ℕ → PoliceState A → Option Flags
 shown_flags n s = option_map (flags_by s) (lookup (nat_eq n) s.kept)
 
+-- the buckets of its meter
 abbrev pub shown_buckets : {A : Type 0} → ℕ → PoliceState A → Option Buckets
 shown_buckets n s = option_and_then (λ f. shown_meter f.plan.meter s.meters) (lookup (nat_eq n) s.kept)
 

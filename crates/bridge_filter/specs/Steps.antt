@@ -25,6 +25,7 @@ refusal f sdu =
     else if is_above f.plan.max_sdu sdu then Some verdict.Oversize
     else None
 
+-- one where something holds, else nothing
 abbrev pub one_if : Bool → ℕ
 one_if b = if b then 1 else 0
 
@@ -136,5 +137,6 @@ pub record IsNewMeter (plan : MeterPlan) (m : meter.MeterState) : Type 0 where
 abbrev pub new_filter : FilterPlan → Filter
 new_filter plan = record { plan = plan; counters = record { matching = 0; sdu_passed = 0; sdu_refused = 0; gate_passed = 0; gate_refused = 0; red = 0 }; blocked = false }
 
+-- filters that have counted nothing
 abbrev pub new_filters : List (ℕ × FilterPlan) → List (ℕ × Filter)
 new_filters fs = map (λ f. (f.0, new_filter f.1)) fs

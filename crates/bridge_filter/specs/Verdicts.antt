@@ -23,6 +23,7 @@ pub record Call : Type 0 where
   pub sdu : ℕ
   pub octets : ℕ
 
+-- a frame as a filter sees it
 abbrev pub call : ℕ → Option ℕ → ℕ → Bool → ℕ → ℕ → Call
 call at handle priority dei sdu octets = record { at = at; handle = handle; priority = priority; dei = dei; sdu = sdu; octets = octets }
 
@@ -108,6 +109,7 @@ meter_share m (Judged c n f v ∷ ss) = if is_meter f.meter m && passed_gate v t
 meter_share m (Commanded clear.Red n ∷ ss) = if nat_eq n m then meter.Cleared ∷ meter_share m ss else meter_share m ss
 meter_share m (Commanded c n ∷ ss) = meter_share m ss
 
+-- a frame's service data unit is above the maximum
 abbrev pub is_oversize : Verdict → Bool
 is_oversize verdict.Oversize = true
 is_oversize v = false

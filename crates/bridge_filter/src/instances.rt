@@ -15,8 +15,8 @@ ghost use Rattle.bridge_filter.specs.Steps.{GatesBefore, MetersBefore, ArePolice
 
 use crate::Verdict;
 use crate::find::Route;
-use bridge_base::END_OF_TIME;
 use bridge_gate::{GateAnswer, StreamGate};
+use bridge_limits::END_OF_TIME;
 use bridge_meter::{Buckets, Colour, Meter};
 use indexmap::IndexMap;
 use std::alloc::Allocator;

@@ -12,8 +12,8 @@ use crate::Verdict;
 use crate::filter::Filter;
 use crate::find::Route;
 use crate::instances::{Frame, Numbered, policed};
-use bridge_base::END_OF_TIME;
 use bridge_gate::StreamGate;
+use bridge_limits::END_OF_TIME;
 use bridge_meter::Meter;
 use std::alloc::Allocator;
 

@@ -1,7 +1,7 @@
 //! Laws over the definitions alone.
 
 ghost use Rattle.std.specs.Prelude.{◌≡◌, ℕ, List, Some, true};
-ghost use Rattle.bridge_base.specs.Members.{In};
+ghost use Rattle.bridge_limits.specs.Members.{In};
 ghost use Rattle.bridge_filter.specs.declared.FilterPlan.{FilterPlan};
 ghost use Rattle.bridge_filter.specs.Verdicts.{Call, Plans, Event, flow, is_match, told};
 ghost use Rattle.bridge_filter.specs.Own.{IsApart, own_events, own_steps};

@@ -7,7 +7,7 @@ mod index;
 pub mod laws;
 mod port_set;
 
-pub use bridge_base::NoMemory;
+pub use bridge_limits::NoMemory;
 pub use forwarding::Forwarding;
 pub use port_set::PortSet;
 

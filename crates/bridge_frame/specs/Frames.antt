@@ -1,6 +1,6 @@
 -- The head of an Ethernet frame with an optional C-VLAN tag (IEEE 802.1Q-2018, clause 9).
 use Rattle.std.specs.Prelude.{ℕ, Bool, true, ◌+◌, ◌-◌, ◌*◌, ◌/◌, ◌%◌, ◌&&◌, nat_lt, nat_le, nat_eq, List, length, take, drop, slice_index, slice_set, Some, None, option_map, Result, Ok, Err, if◌then◌else◌}
-use Rattle.bridge_base.specs.declared.TheConstants.{LONGEST_FRAME}
+use Rattle.bridge_limits.specs.declared.TheConstants.{LONGEST_FRAME}
 use Rattle.bridge_frame.specs.declared.Head.{Head}
 use Rattle.bridge_frame.specs.declared.Tag.{Tag}
 use Rattle.bridge_frame.specs.declared.FrameFault.{FrameFault}

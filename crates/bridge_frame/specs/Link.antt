@@ -3,6 +3,7 @@ use Rattle.std.specs.Prelude.{◌≡◌, ℕ, ◌+◌, ◌-◌, ◌*◌, ◌/◌
 use Rattle.bridge_frame.specs.declared.Speed.{Speed}
 use Rattle.bridge_frame.specs.declared.Speed.TheVariants.{Mbps10, Mbps100, Mbps1000, Mbps2500, Mbps10000}
 
+-- the bits that a link carries in a second
 abbrev pub bits_per_second : Speed → ℕ
 bits_per_second Mbps10 = 10 * 10 ^ 6
 bits_per_second Mbps100 = 100 * 10 ^ 6

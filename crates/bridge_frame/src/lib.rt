@@ -9,7 +9,7 @@ ghost use Rattle.bridge_frame.specs.declared.Head.{Head};
 ghost use Rattle.bridge_frame.specs.Frames.{drop_eligible, has_tag, head, is_tagged, marked, number_of, tag_in};
 ghost use Rattle.bridge_frame.specs.Link.{occupied, speed_of};
 
-use bridge_base::{LONGEST_FRAME, MOST_CAPTURED};
+use bridge_limits::{LONGEST_FRAME, MOST_CAPTURED};
 use thiserror::Error;
 
 /// A C-VLAN tag: priority code point (0 to 7), drop eligible indication, VLAN identifier (0 to 4095; 0 is a priority tag).

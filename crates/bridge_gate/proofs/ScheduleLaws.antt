@@ -8,7 +8,7 @@ use lib.Signed.{◌≤ℤ◌, ◌<ℤ◌, le_z}
 use Rattle.bridge_cycle.specs.Cyclic as cyclic
 use Rattle.bridge_cycle.specs.Joined as joined
 use Rattle.bridge_cycle.specs.JoinedLaws.{IsTurnOf, list_turned, joined_turned}
-use Rattle.bridge_base.specs.Members.{In}
+use Rattle.bridge_limits.specs.Members.{In}
 use Rattle.bridge_cycle.proofs.Lists.{among}
 use Rattle.bridge_cycle.proofs.Changes.{among_both}
 use Rattle.bridge_cycle.specs.declared.timeline.Turn.{Turn}

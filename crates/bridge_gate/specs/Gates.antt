@@ -1,3 +1,4 @@
+-- The answers of a stream gate (IEEE 802.1Q-2018, 8.6.5.1.2).
 use Rattle.std.specs.Prelude.{ℕ, ℤ, Bool, true, false, ◌+◌, ◌&&◌, not, nat_lt, Option, Some, None, List, [], ◌∷◌, if◌then◌else◌}
 use Rattle.std.specs.Ordering.{int_eq}
 use Rattle.bridge_cycle.specs.declared.timeline.Turn.{Turn}

@@ -1,3 +1,4 @@
+-- What a stream gate stands for.
 use Rattle.std.specs.Prelude.{◌≡◌, ℕ, ℤ, Bool, ◌<◌, ◌≤◌, ◌+◌, ◌&&◌, not, ◌≤ℤ◌, Option, Some, None, List, if◌then◌else◌}
 use Rattle.std.specs.Ordering.{int_eq}
 use Rattle.bridge_cycle.specs.declared.timeline.Turn.{Turn}

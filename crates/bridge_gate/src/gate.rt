@@ -5,8 +5,8 @@ ghost use Rattle.bridge_gate.specs.Schedules.{rules_of, has_priorities, turn_at,
 ghost use Rattle.bridge_gate.specs.Standing.{StandsFor, reply, after, count_in};
 
 use crate::schedule::{GateEntry, GatePlan};
-use bridge_base::END_OF_TIME;
 use bridge_cycle::Turn;
+use bridge_limits::END_OF_TIME;
 use std::alloc::Allocator;
 use std::marker::Model;
 

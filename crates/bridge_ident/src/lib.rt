@@ -9,8 +9,8 @@ ghost use Rattle.bridge_ident.specs.Identification.{handle_in, is_match, names_v
 
 mod index;
 
-pub use bridge_base::NoMemory;
 use bridge_frame::{Head, Tag};
+pub use bridge_limits::NoMemory;
 use index::Index;
 use std::alloc::Allocator;
 use std::marker::Model;

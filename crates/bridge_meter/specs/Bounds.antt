@@ -1,3 +1,4 @@
+-- Bounds of what a meter lets through.
 use Rattle.std.specs.Prelude.{ℕ, Bool, ◌+◌, ◌-◌, ◌*◌, min, List, [], ◌∷◌, if◌then◌else◌}
 
 -- The rates of both buckets, in units a nanosecond, their sizes, in units, and whether what the committed one can't hold goes to the excess one.

@@ -1,3 +1,4 @@
+-- The colours that a meter gives to frames.
 use Rattle.std.specs.Prelude.{ℕ, Bool, true, false, ◌-◌, ◌*◌, not, ◌&&◌, ◌||◌, nat_le, List, [], ◌∷◌, if◌then◌else◌}
 use Rattle.bridge_meter.specs.declared.TheConstants.{HIGHEST_RATE, LARGEST_BURST, UNITS_PER_OCTET}
 use Rattle.bridge_meter.specs.declared.Colour.{Colour}
@@ -45,6 +46,7 @@ judged_as at octets Green = record { at = at; green = octets * unit; yellow = 0 
 judged_as at octets Yellow = record { at = at; green = 0; yellow = octets * unit }
 judged_as at octets Red = record { at = at; green = 0; yellow = 0 }
 
+-- whether a colour is red
 abbrev pub is_red : Colour → Bool
 is_red Green = false
 is_red Yellow = false

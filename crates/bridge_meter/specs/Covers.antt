@@ -1,3 +1,4 @@
+-- Which tokens a frame takes.
 use Rattle.std.specs.Prelude.{ℕ, ◌+◌, ◌-◌, ◌*◌, ◌≤◌, List, [], ◌∷◌}
 use Rattle.bridge_meter.specs.Bounds.{Judged, Limits, committed, overflow, coupled, excess}
 

@@ -9,7 +9,7 @@ use Rattle.std.proofs.lemmas.Str.{utf8_valid_len-IsUtf8}
 use Rattle.toml.specs.View.{items_view}
 use Rattle.toml.specs.declared.value.Value.{Value}
 use Rattle.toml.specs.Data.{string, integer, float, boolean, datetime, array, table, Items, no_items, item, Members}
-use Rattle.bridge_keys.specs.Readers.{◌>>=◌, are_tables}
+use Rattle.bridge_schema.specs.Readers.{◌>>=◌, are_tables}
 use Rattle.bridge_netfile.specs.declared.fault.NetFault.{NetFault}
 use Rattle.bridge_netfile.specs.Model.{Bridge}
 use Rattle.bridge_netfile.specs.Reading.{count_of, rows, rows_from}

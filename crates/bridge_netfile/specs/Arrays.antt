@@ -1,7 +1,7 @@
 -- What the arrays of a document's sections keep. No public clause speaks of it.
 use Rattle.std.specs.Prelude.{◌≡◌, ◌<◌, ◌≤◌, true, length}
 use Rattle.toml.specs.View.{items_view}
-use Rattle.bridge_keys.specs.Readers.{are_tables}
+use Rattle.bridge_schema.specs.Readers.{are_tables}
 use Rattle.bridge_netfile.specs.declared.network.Arrays.{Arrays}
 use Rattle.bridge_netfile.specs.Document as doc
 

@@ -5,7 +5,7 @@ use Rattle.std.specs.Cmp.Lexicographic.{pointwise}
 use Rattle.std.specs.Str.Lossy.{utf8_valid_len}
 use Rattle.toml.specs.Data.{Items, no_items, Members, no_members, member}
 use Rattle.toml.specs.Parse.{parse_document}
-use Rattle.bridge_keys.specs.Readers.{◌>>=◌}
+use Rattle.bridge_schema.specs.Readers.{◌>>=◌}
 use Rattle.bridge_netfile.specs.declared.fault.NetSection.{NetSection}
 use Rattle.bridge_netfile.specs.declared.fault.NetSection.TheVariants as section
 use Rattle.bridge_netfile.specs.declared.fault.NetField.TheVariants as field

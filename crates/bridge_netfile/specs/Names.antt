@@ -5,8 +5,8 @@ use Rattle.std.specs.Option.{option_map, ForSome}
 use Rattle.std.specs.Char.{is_ascii_alphanumeric}
 use Rattle.std.specs.Str.{all_ascii_digits, bytes_eq}
 use Rattle.std.specs.Str.Parse.{digits_value}
-use Rattle.bridge_keys.specs.declared.fault.Flaw.{Flaw}
-use Rattle.bridge_keys.specs.declared.fault.Flaw.TheVariants as flaw
+use Rattle.bridge_schema.specs.declared.fault.Flaw.{Flaw}
+use Rattle.bridge_schema.specs.declared.fault.Flaw.TheVariants as flaw
 use Rattle.bridge_netfile.specs.Model.{Bridge}
 
 -- whether a character may stand in a name: a letter, a digit, a hyphen or an underscore

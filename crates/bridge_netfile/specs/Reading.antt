@@ -3,9 +3,9 @@ use Rattle.std.specs.Prelude.{ℕ, suc, ◌+◌, ◌≡◌, Bool, true, false, �
 use Rattle.std.specs.List.{list_any}
 use Rattle.std.specs.Cmp.Lexicographic.{pointwise}
 use Rattle.toml.specs.Data.{Data, string, array, table, Items, no_items, item, Members, no_members, member, get_member}
-use Rattle.bridge_keys.specs.declared.fault.Flaw.{Flaw}
-use Rattle.bridge_keys.specs.declared.fault.Flaw.TheVariants as flaw
-use Rattle.bridge_keys.specs.Readers.{◌>>=◌, are_tables}
+use Rattle.bridge_schema.specs.declared.fault.Flaw.{Flaw}
+use Rattle.bridge_schema.specs.declared.fault.Flaw.TheVariants as flaw
+use Rattle.bridge_schema.specs.Readers.{◌>>=◌, are_tables}
 use Rattle.bridge_netfile.specs.declared.fault.NetSection.{NetSection}
 use Rattle.bridge_netfile.specs.declared.fault.NetSection.TheVariants as section
 use Rattle.bridge_netfile.specs.declared.fault.NetField.{NetField}

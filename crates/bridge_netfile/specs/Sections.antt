@@ -2,10 +2,10 @@
 use Rattle.std.specs.Prelude.{ℕ, ◌-◌, ◌^◌, Bool, true, false, not, ◌&&◌, List, [], ◌∷◌, ◌++◌, Option, Some, None, Result, Ok, Err, nat_le, if◌then◌else◌}
 use Rattle.std.specs.List.{list_any}
 use Rattle.toml.specs.Data.{Data, string, array, Items, no_items, item, Members, get_member}
-use Rattle.bridge_keys.specs.declared.fault.Flaw.{Flaw}
-use Rattle.bridge_keys.specs.declared.fault.Flaw.TheVariants as flaw
-use Rattle.bridge_base.specs.declared.TheConstants.{END_OF_TIME, LONGEST_FRAME}
-use Rattle.bridge_keys.specs.Readers.{◌>>=◌, between}
+use Rattle.bridge_schema.specs.declared.fault.Flaw.{Flaw}
+use Rattle.bridge_schema.specs.declared.fault.Flaw.TheVariants as flaw
+use Rattle.bridge_limits.specs.declared.TheConstants.{END_OF_TIME, LONGEST_FRAME}
+use Rattle.bridge_schema.specs.Readers.{◌>>=◌, between}
 use Rattle.bridge_netfile.specs.declared.fault.NetSection.TheVariants as section
 use Rattle.bridge_netfile.specs.declared.fault.NetField.{NetField}
 use Rattle.bridge_netfile.specs.declared.fault.NetField.TheVariants as field

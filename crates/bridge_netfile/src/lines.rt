@@ -3,7 +3,7 @@ ghost use Rattle.std.specs.Prelude.{◌≡◌, IfOk, codes, string_bytes};
 ghost use Rattle.bridge_netfile.specs.Lines.{instance, key_at, line_for, line_of, refused, refused_at};
 
 use crate::fault::{NetFault, NetPlace, NetSection};
-use bridge_base::NoMemory;
+use bridge_limits::NoMemory;
 use std::alloc::Allocator;
 
 /// The line of a network's fault, without a line feed: `network refused: OutOfRange link 2 delay`, or `no memory`.

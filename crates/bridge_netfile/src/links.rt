@@ -12,7 +12,7 @@ use crate::fault::{NetFault, NetField, NetPlace, NetSection};
 use crate::names::end_of;
 use crate::reading::{are_known, default_to, required};
 use crate::rows::RowReader;
-use bridge_keys::{Between, Flaw, Kind};
+use bridge_schema::{Between, Flaw, Kind};
 use std::alloc::Allocator;
 use toml::{Table, Value};
 

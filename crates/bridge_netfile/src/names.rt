@@ -4,7 +4,7 @@ ghost use Rattle.std.specs.List.{list_all};
 ghost use Rattle.bridge_netfile.specs.Names as spec;
 
 use crate::bridges::BridgeRow;
-use bridge_keys::Flaw;
+use bridge_schema::Flaw;
 use std::alloc::Allocator;
 
 /// The most octets of a name.

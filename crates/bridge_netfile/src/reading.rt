@@ -9,7 +9,7 @@ ghost use Rattle.bridge_netfile.specs.Reading.{Gives, GivesAs};
 
 use crate::fault::{NetFault, NetField, NetPlace};
 use crate::names::is_name;
-use bridge_keys::{Flaw, Kind, value_at};
+use bridge_schema::{Flaw, Kind, value_at};
 use toml::{Table, Value};
 
 /// The fault of a place whose value has a flaw.

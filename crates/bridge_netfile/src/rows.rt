@@ -3,14 +3,14 @@ ghost use Rattle.std.specs.Prelude.{◌≡◌, ◌<◌, ◌≤◌, ◌^◌, ◌�
 ghost use Rattle.std.specs.Prelude.{IfErr, IfOk, length, nat_le, option_map};
 ghost use Rattle.toml.specs.Data.{Members};
 ghost use Rattle.toml.specs.View.{view, table_view, items_view};
-ghost use Rattle.bridge_keys.specs.Readers.{are_tables as all_tables};
+ghost use Rattle.bridge_schema.specs.Readers.{are_tables as all_tables};
 ghost use Rattle.bridge_netfile.specs.declared.fault.NetFault.{NetFault as Fault};
 ghost use Rattle.bridge_netfile.specs.declared.fault.NetFault.TheVariants.{NoMemory};
 ghost use Rattle.bridge_netfile.specs.Reading as spec;
 ghost use Rattle.bridge_netfile.specs.Reading.{Gives, GivesAs};
 
 use crate::fault::{NetFault, NetSection};
-use bridge_keys::{are_tables, value_at};
+use bridge_schema::{are_tables, value_at};
 use std::alloc::Allocator;
 use toml::{Table, Value};
 

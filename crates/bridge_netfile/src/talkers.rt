@@ -10,8 +10,8 @@ ghost use Rattle.bridge_netfile.specs.Sections as sections;
 
 use crate::fault::{NetFault, NetField, NetPlace, NetSection};
 use crate::reading::required;
-use bridge_base::{END_OF_TIME, LONGEST_FRAME};
-use bridge_keys::{Between, value_at};
+use bridge_limits::{END_OF_TIME, LONGEST_FRAME};
+use bridge_schema::{Between, value_at};
 use toml::{Table, Value};
 
 /// What a talker keeps to: its frames come once in each period, between two phases of it, each between two lengths. Periods

@@ -1,7 +1,7 @@
 //! The picture of a network.
 ghost use Rattle.std.specs.Prelude.{◌≤◌, IfOk, length, string_bytes};
 
-use bridge_base::NoMemory;
+use bridge_limits::NoMemory;
 use bridge_netfile::{BridgeRow, LinkRow, StreamRow};
 use std::alloc::{AllocError, Allocator, Global};
 

@@ -2,7 +2,7 @@
 use Rattle.std.proofs.Common.{◌≡◌, ◌+◌, ℕ, true, List, map, refl, ap, sym, ◌∙◌, subst, Option, Some, None}
 use Rattle.std.specs.Prelude.{nat_eq, slice_get}
 use Rattle.std.specs.Map.{lookup}
-use Rattle.bridge_base.specs.Members.{In, Rising}
+use Rattle.bridge_limits.specs.Members.{In, Rising}
 use Rattle.bridge_cycle.proofs.Cases.{by_bool}
 use Rattle.bridge_capture.specs.Grammar.{Captured}
 use Rattle.bridge_frame.specs.Link.{occupied}
@@ -15,17 +15,17 @@ use Rattle.bridge_port.specs.Solo.{only}
 use Rattle.bridge_config.specs.declared.ports.PortPlan.{PortPlan}
 use Rattle.bridge_config.specs.Model.{Plan}
 use Rattle.bridge_config.specs.Rules.{port_at}
-use Rattle.bridge_run.specs.declared.outcome.View.{View}
-use Rattle.bridge_run.specs.declared.outcome.Outcome.{Outcome}
-use Rattle.bridge_run.specs.Events.{Event, arrival, flow_of, is_own, own, calls, police_of}
-use Rattle.bridge_run.specs.Offers.{Carried, offers, in_class}
-use Rattle.bridge_run.specs.Merge.{Input, NotBefore, of_rank, events, inputs_of, own_inputs, frame}
-use Rattle.bridge_run.specs.Outputs.{IsOutput, Leaves, departure}
-use Rattle.bridge_run.specs.Runs.{AreSolo, AtPort, IsView}
-use Rattle.bridge_run.proofs.Safe.{IsSafe, apart}
-use Rattle.bridge_run.proofs.Steps.{steps_own}
-use Rattle.bridge_run.proofs.Headline.{origins_own, as_offer, in_offered, only_in, picked_in, offers_if, queues, solo_queues, lies_by, view_as}
-use Rattle.bridge_run.proofs.Merging.{rising_own, own_of_rank, events_own}
+use Rattle.bridge_semantics.specs.declared.outcome.View.{View}
+use Rattle.bridge_semantics.specs.declared.outcome.Outcome.{Outcome}
+use Rattle.bridge_semantics.specs.Events.{Event, arrival, flow_of, is_own, own, calls, police_of}
+use Rattle.bridge_semantics.specs.Offers.{Carried, offers, in_class}
+use Rattle.bridge_semantics.specs.Merge.{Input, NotBefore, of_rank, events, inputs_of, own_inputs, frame}
+use Rattle.bridge_semantics.specs.Outputs.{IsOutput, Leaves, departure}
+use Rattle.bridge_semantics.specs.Runs.{AreSolo, AtPort, IsView}
+use Rattle.bridge_semantics.proofs.Safe.{IsSafe, apart}
+use Rattle.bridge_semantics.proofs.Steps.{steps_own}
+use Rattle.bridge_semantics.proofs.Headline.{origins_own, as_offer, in_offered, only_in, picked_in, offers_if, queues, solo_queues, lies_by, view_as}
+use Rattle.bridge_semantics.proofs.Merging.{rising_own, own_of_rank, events_own}
 use Rattle.bridge_network.specs.Networks.{Network, Sender, sender, later, outside, coming, comes, IsNetworkRun, IsTimed, AreTimed, IsNetwork, Hop, hop, IsHop, IsOfStream, IsClosed}
 use Rattle.bridge_network.specs.Alone.{Reaches, IsLater, IsAlone}
 use Rattle.bridge_network.proofs.Members.{in_map, map_in, in_own, own_in, rank_in, in_inputs, inputs_in, frames_apart}

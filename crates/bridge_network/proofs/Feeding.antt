@@ -6,7 +6,7 @@ use Rattle.std.specs.Str.{bytes_eq}
 use Rattle.std.proofs.lemmas.Bool.{and_parts, cases_lt, or_cases, eqb-true, eqb-false, eq-eqb, false≢true}
 use Rattle.std.proofs.lemmas.Option.{same_Some}
 use Rattle.std.proofs.lemmas.Slice.Eq.{bytes_eq-Decides}
-use Rattle.bridge_base.specs.Members.{In}
+use Rattle.bridge_limits.specs.Members.{In}
 use Rattle.bridge_cycle.proofs.Cases.{by_bool}
 use Rattle.bridge_frame.specs.declared.Head.{Head}
 use Rattle.bridge_frame.specs.declared.FrameFault.{FrameFault}
@@ -38,13 +38,13 @@ use Rattle.bridge_check.specs.Acceptable.{IsAcceptable}
 use Rattle.bridge_check.specs.Reach.{any_below, is_null, reaches, reaches_port, reaches_class, reaches_priority}
 use Rattle.bridge_check.specs.Sending.{vid_of, priority_of}
 use Rattle.bridge_check.proofs.Isolated.{each_passes}
-use Rattle.bridge_run.specs.declared.way.Way.{Way}
-use Rattle.bridge_run.specs.declared.way.Way.TheVariants as way
-use Rattle.bridge_run.specs.declared.way.Way.TheVariants.{Goes}
-use Rattle.bridge_run.specs.Events.{Arrival, arrival, Event, Arrived, Cleared, way_of, call_by, call_of, flow_of, flow_by, metered}
-use Rattle.bridge_run.specs.Offers.{Offer, leaving, offer_by, offer_of_step, step_of, offer_on, offer_of, offers}
-use Rattle.bridge_run.proofs.Safe.{IsSafe, alone}
-use Rattle.bridge_run.proofs.Offering.{IsGoing, going_if, in_split, offered_by}
+use Rattle.bridge_semantics.specs.declared.way.Way.{Way}
+use Rattle.bridge_semantics.specs.declared.way.Way.TheVariants as way
+use Rattle.bridge_semantics.specs.declared.way.Way.TheVariants.{Goes}
+use Rattle.bridge_semantics.specs.Events.{Arrival, arrival, Event, Arrived, Cleared, way_of, call_by, call_of, flow_of, flow_by, metered}
+use Rattle.bridge_semantics.specs.Offers.{Offer, leaving, offer_by, offer_of_step, step_of, offer_on, offer_of, offers}
+use Rattle.bridge_semantics.proofs.Safe.{IsSafe, alone}
+use Rattle.bridge_semantics.proofs.Offering.{IsGoing, going_if, in_split, offered_by}
 use Rattle.bridge_network.specs.Feeding.{Sort, tag_of, is_kind, may_match, handles_of, flow_for, reaches_any, is_fed, may_go, sends_from, sends_only, tags_of, gives_to, sort_by, takes_by, takes_only}
 use Rattle.bridge_network.proofs.Members.{in_left, in_right, map_in}
 use Rattle.bridge_network.proofs.Marking.{plain, SameHead, leaving_head}

@@ -3,7 +3,7 @@ use Rattle.std.proofs.Common.{◌≡◌, ℕ, true, false, ◌&&◌, List, [], �
 use Rattle.std.specs.List.{list_any}
 use Rattle.std.proofs.lemmas.Bool.{and_parts, eqb-true, false≢true}
 use Rattle.std.proofs.lemmas.Option.{same_Some}
-use Rattle.bridge_base.specs.Members.{In}
+use Rattle.bridge_limits.specs.Members.{In}
 use Rattle.bridge_cycle.proofs.Cases.{by_bool}
 use Rattle.bridge_filter.specs.declared.FilterPlan.{FilterPlan}
 use Rattle.bridge_filter.specs.Own.{is_number}
@@ -14,7 +14,7 @@ use Rattle.bridge_filter.proofs.Taken.{flow_handle}
 use Rattle.bridge_config.specs.Model.{Plan}
 use Rattle.bridge_config.specs.Rules.{IsPlan}
 use Rattle.bridge_check.specs.Acceptable.{IsAcceptable}
-use Rattle.bridge_run.proofs.Safe.{alone}
+use Rattle.bridge_semantics.proofs.Safe.{alone}
 use Rattle.bridge_network.specs.Accepting.{is_protected}
 use Rattle.bridge_network.specs.Feeding.{flow_for}
 use Rattle.bridge_network.specs.Refusing.{handle_of}

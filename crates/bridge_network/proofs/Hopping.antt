@@ -1,7 +1,7 @@
 -- From the starts of one hop in periods to what comes to the next hop, and to what that offers.
 use Rattle.std.proofs.Common.{◌≡◌, ◌<◌, ◌≤◌, ◌+◌, ℕ, Bool, true, false, List, [], ◌∷◌, ◌++◌, arith, refl, ap, sym, ◌∙◌, subst, ◌⊎◌, inl, inr}
 use Rattle.std.specs.Prelude.{nat_eq, if◌then◌else◌}
-use Rattle.bridge_base.specs.Members.{In, Rising}
+use Rattle.bridge_limits.specs.Members.{In, Rising}
 use Rattle.bridge_cycle.proofs.Cases.{by_bool}
 use Rattle.bridge_frame.specs.Link.{occupied}
 use Rattle.bridge_filter.specs.declared.Verdict.{Verdict}
@@ -11,13 +11,13 @@ use Rattle.bridge_forward.specs.Ports.{has}
 use Rattle.bridge_port.specs.Schedule.{Copy, Started}
 use Rattle.bridge_config.specs.declared.ports.PortPlan.{PortPlan}
 use Rattle.bridge_config.specs.Model.{Plan}
-use Rattle.bridge_run.specs.declared.way.Way.{Way}
-use Rattle.bridge_run.specs.declared.way.Way.TheVariants as way
-use Rattle.bridge_run.specs.Events.{Arrival, Event, Arrived, Cleared, way_of, metered}
-use Rattle.bridge_run.specs.Offers.{Carried, Offer, offer_by, offer_of_step, step_of, offer_on, offer_of, offers, in_class}
-use Rattle.bridge_run.specs.Merge.{Input, events}
-use Rattle.bridge_run.proofs.Offering.{in_class_join}
-use Rattle.bridge_run.proofs.Views.{after_all}
+use Rattle.bridge_semantics.specs.declared.way.Way.{Way}
+use Rattle.bridge_semantics.specs.declared.way.Way.TheVariants as way
+use Rattle.bridge_semantics.specs.Events.{Arrival, Event, Arrived, Cleared, way_of, metered}
+use Rattle.bridge_semantics.specs.Offers.{Carried, Offer, offer_by, offer_of_step, step_of, offer_on, offer_of, offers, in_class}
+use Rattle.bridge_semantics.specs.Merge.{Input, events}
+use Rattle.bridge_semantics.proofs.Offering.{in_class_join}
+use Rattle.bridge_semantics.proofs.Views.{after_all}
 use Rattle.bridge_network.specs.Networks.{IsTimed, AreTimed}
 use Rattle.bridge_network.specs.Alone.{IsLater}
 use Rattle.bridge_network.specs.Latency.{IsMultiple, ComesInPeriods, StartsInPeriod, StartInPeriods, InputsInPeriods, ComesOf}

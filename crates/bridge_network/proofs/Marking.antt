@@ -4,7 +4,7 @@ use Rattle.bridge_frame.specs.declared.Head.{Head}
 use Rattle.bridge_frame.specs.declared.Tag.{Tag}
 use Rattle.bridge_frame.specs.Frames.{head, marked}
 use Rattle.bridge_frame.proofs.Marking.{marked_head}
-use Rattle.bridge_run.specs.Offers.{leaving}
+use Rattle.bridge_semantics.specs.Offers.{leaving}
 use Rattle.bridge_network.specs.Feeding.{tag_of}
 
 -- a tag without its drop eligible bit

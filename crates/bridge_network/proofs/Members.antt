@@ -2,16 +2,16 @@
 use Rattle.std.proofs.Common.{◌≡◌, ◌<◌, ◌+◌, ℕ, true, List, [], ◌∷◌, ◌++◌, map, arith, refl, ap, sym, ◌∙◌, subst, ◌⊎◌, inl, inr}
 use Rattle.std.proofs.lemmas.Bool.{eq-eqb}
 use Rattle.std.specs.Prelude.{nat_eq}
-use Rattle.bridge_base.specs.Members.{In, AllAfter, Rising}
+use Rattle.bridge_limits.specs.Members.{In, AllAfter, Rising}
 use Rattle.bridge_cycle.proofs.Cases.{by_bool}
 use Rattle.bridge_capture.specs.Grammar.{Captured}
 use Rattle.bridge_filter.specs.declared.FilterPlan.{FilterPlan}
 use Rattle.bridge_config.specs.Model.{Plan}
-use Rattle.bridge_run.specs.Events.{is_own}
-use Rattle.bridge_run.specs.Merge.{Input, frame, of_rank, inputs_of, own_inputs}
-use Rattle.bridge_run.specs.Outputs.{LeavesBefore}
-use Rattle.bridge_run.proofs.Offering.{in_split}
-use Rattle.bridge_run.proofs.Views.{after_all}
+use Rattle.bridge_semantics.specs.Events.{is_own}
+use Rattle.bridge_semantics.specs.Merge.{Input, frame, of_rank, inputs_of, own_inputs}
+use Rattle.bridge_semantics.specs.Outputs.{LeavesBefore}
+use Rattle.bridge_semantics.proofs.Offering.{in_split}
+use Rattle.bridge_semantics.proofs.Views.{after_all}
 use Rattle.bridge_network.specs.Networks.{later}
 use Rattle.bridge_network.specs.Alone.{IsLater}
 

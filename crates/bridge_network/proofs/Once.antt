@@ -2,7 +2,7 @@
 use Rattle.std.proofs.Common.{◌≡◌, ◌<◌, ◌≤◌, ◌+◌, ℕ, zero, suc, true, false, List, [], ◌∷◌, ◌++◌, arith, refl, ap, sym, ◌∙◌, subst, ◌⊎◌, inl, inr, Option, Some, None}
 use Rattle.std.proofs.lemmas.Bool.Decides.{nat_tests}
 use Rattle.std.specs.Prelude.{nat_eq, nat_lt, if◌then◌else◌}
-use Rattle.bridge_base.specs.Members.{In, Rising}
+use Rattle.bridge_limits.specs.Members.{In, Rising}
 use Rattle.bridge_cycle.proofs.Cases.{by_bool}
 use Rattle.bridge_capture.specs.Grammar.{Captured}
 use Rattle.bridge_frame.specs.Link.{occupied}
@@ -17,17 +17,17 @@ use Rattle.bridge_port.proofs.Alone.{one_outcome}
 use Rattle.bridge_config.specs.declared.ports.PortPlan.{PortPlan}
 use Rattle.bridge_config.specs.Model.{Plan}
 use Rattle.bridge_config.specs.Rules.{port_at}
-use Rattle.bridge_run.specs.declared.way.Way.{Way}
-use Rattle.bridge_run.specs.declared.way.Way.TheVariants as way
-use Rattle.bridge_run.specs.declared.outcome.View.{View}
-use Rattle.bridge_run.specs.Events.{Arrival, Event, Arrived, Cleared, way_of, metered}
-use Rattle.bridge_run.specs.Offers.{Carried, Offer, egress, offer_by, offer_of_step, step_of, offer_on, offer_of, offers, offered, in_class}
-use Rattle.bridge_run.specs.Merge.{Input, NotBefore, of_rank, events, newest}
-use Rattle.bridge_run.specs.Runs.{AreSolo, IsSoloView, TellTheSame}
-use Rattle.bridge_run.proofs.Headline.{in_class_in}
-use Rattle.bridge_run.proofs.Offering.{in_split, in_class_join}
-use Rattle.bridge_run.proofs.Views.{after_all, rising_one, same_offers, told_once}
-use Rattle.bridge_run.proofs.Merging.{in_at, one_list}
+use Rattle.bridge_semantics.specs.declared.way.Way.{Way}
+use Rattle.bridge_semantics.specs.declared.way.Way.TheVariants as way
+use Rattle.bridge_semantics.specs.declared.outcome.View.{View}
+use Rattle.bridge_semantics.specs.Events.{Arrival, Event, Arrived, Cleared, way_of, metered}
+use Rattle.bridge_semantics.specs.Offers.{Carried, Offer, egress, offer_by, offer_of_step, step_of, offer_on, offer_of, offers, offered, in_class}
+use Rattle.bridge_semantics.specs.Merge.{Input, NotBefore, of_rank, events, newest}
+use Rattle.bridge_semantics.specs.Runs.{AreSolo, IsSoloView, TellTheSame}
+use Rattle.bridge_semantics.proofs.Headline.{in_class_in}
+use Rattle.bridge_semantics.proofs.Offering.{in_split, in_class_join}
+use Rattle.bridge_semantics.proofs.Views.{after_all, rising_one, same_offers, told_once}
+use Rattle.bridge_semantics.proofs.Merging.{in_at, one_list}
 use Rattle.bridge_network.specs.Networks.{Network, Sender, sender, IsTimed, AreTimed, Hop, hop, IsHop}
 use Rattle.bridge_network.specs.Alone.{Reaches, IsLater, IsAlone, HaveSameFirst}
 

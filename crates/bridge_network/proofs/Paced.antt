@@ -4,7 +4,7 @@ use Rattle.std.proofs.Math.Bool.{and-false}
 use Rattle.std.proofs.lemmas.Bool.{cases_lt, both_ways}
 use Rattle.std.proofs.lemmas.Bool.Decides.{nat_tests}
 use Rattle.std.specs.Prelude.{nat_lt}
-use Rattle.bridge_base.specs.Members.{In, AllAfter, Rising}
+use Rattle.bridge_limits.specs.Members.{In, AllAfter, Rising}
 use Rattle.bridge_cycle.specs.Moments.{Fits, IsFirst}
 use Rattle.bridge_frame.specs.Link.{occupied}
 use Rattle.bridge_frame.proofs.Times.{occupied_some}
@@ -13,9 +13,9 @@ use Rattle.bridge_port.specs.Schedule.{Copy, Fate, Never, Full, Queued, Started,
 use Rattle.bridge_port.specs.Solo.{IsSolo, IsSoloFate, last_done}
 use Rattle.bridge_config.specs.declared.ports.PortPlan.{PortPlan}
 use Rattle.bridge_config.specs.Model.{Plan}
-use Rattle.bridge_run.specs.Events.{Event}
-use Rattle.bridge_run.specs.Offers.{Carried, egress, offers, offered, in_class}
-use Rattle.bridge_run.proofs.Headline.{as_offer, in_offered, in_class_in}
+use Rattle.bridge_semantics.specs.Events.{Event}
+use Rattle.bridge_semantics.specs.Offers.{Carried, egress, offers, offered, in_class}
+use Rattle.bridge_semantics.proofs.Headline.{as_offer, in_offered, in_class_in}
 use Rattle.bridge_network.specs.Latency.{FitsWithin, IsPaced, Conforms, StartsWithin}
 
 -- what is asked of a copy of class c: it is on the link for some time, at most for so long, and fits at some moment

@@ -7,11 +7,11 @@ use Rattle.bridge_port.specs.Schedule.{Copy}
 use Rattle.bridge_config.specs.declared.ports.PortPlan.{PortPlan}
 use Rattle.bridge_config.specs.Model.{Plan}
 use Rattle.bridge_config.specs.Rules.{port_at}
-use Rattle.bridge_run.specs.declared.outcome.Outcome.{Outcome}
-use Rattle.bridge_run.specs.Offers.{Carried}
-use Rattle.bridge_run.specs.Merge.{Input, events}
-use Rattle.bridge_run.specs.Outputs.{IsOutput}
-use Rattle.bridge_run.specs.Runs.{IsOutcome}
+use Rattle.bridge_semantics.specs.declared.outcome.Outcome.{Outcome}
+use Rattle.bridge_semantics.specs.Offers.{Carried}
+use Rattle.bridge_semantics.specs.Merge.{Input, events}
+use Rattle.bridge_semantics.specs.Outputs.{IsOutput}
+use Rattle.bridge_semantics.specs.Runs.{IsOutcome}
 use Rattle.bridge_network.specs.Networks.{Network, IsNetworkRun}
 use Rattle.bridge_network.specs.Settled.{AllEnd, HasSettled}
 

@@ -4,7 +4,7 @@ use Rattle.std.specs.Prelude.{slice_get, option_map, is_some, Vec}
 use Rattle.std.specs.List.{list_all}
 use Rattle.std.proofs.lemmas.Bool.{and_parts, eqb-true, false≢true}
 use Rattle.std.proofs.lemmas.Option.{same_Some, slice_get_within, get_or_from_slice_get}
-use Rattle.bridge_base.specs.Members.{In}
+use Rattle.bridge_limits.specs.Members.{In}
 use Rattle.bridge_cycle.proofs.Cases.{by_bool}
 use Rattle.bridge_config.specs.declared.ports.PortPlan.{PortPlan}
 use Rattle.bridge_config.specs.Model.{Plan}
@@ -15,9 +15,9 @@ use Rattle.bridge_network.specs.declared.links.Link.{Link}
 use Rattle.bridge_network.specs.declared.links.StreamHop.{StreamHop}
 use Rattle.bridge_network.specs.declared.sending.Found.{Found}
 use Rattle.bridge_network.specs.declared.sending.Question.TheVariants.{Strays}
-use Rattle.bridge_network.specs.declared.tests.LinkTest.TheVariants as link_test
-use Rattle.bridge_network.specs.declared.tests.HopTest.{HopTest}
-use Rattle.bridge_network.specs.declared.tests.HopTest.TheVariants as hop_test
+use Rattle.bridge_network.specs.declared.rules.LinkTest.TheVariants as link_test
+use Rattle.bridge_network.specs.declared.rules.HopTest.{HopTest}
+use Rattle.bridge_network.specs.declared.rules.HopTest.TheVariants as hop_test
 use Rattle.bridge_network.specs.Networks.{End, Sender, is_at, sender, IsNetwork, IsClosed}
 use Rattle.bridge_network.specs.Accepting.{is_listed, takes_from, takes_at, hop_passes}
 use Rattle.bridge_network.specs.Wiring.{Parts, end_of, link_of, hop_of, stream_of, network_of}

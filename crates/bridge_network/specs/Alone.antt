@@ -1,18 +1,18 @@
 -- A stream alone on an idle network.
 use Rattle.std.specs.Prelude.{◌≡◌, ℕ, true, ◌<◌, Option, Some, None, List, ◌↔◌}
-use Rattle.bridge_base.specs.Members.{In, Rising}
+use Rattle.bridge_limits.specs.Members.{In, Rising}
 use Rattle.bridge_capture.specs.Grammar.{Captured}
 use Rattle.bridge_filter.specs.declared.FilterPlan.{FilterPlan}
 use Rattle.bridge_port.specs.Schedule.{Copy, Started}
 use Rattle.bridge_config.specs.declared.ports.PortPlan.{PortPlan}
 use Rattle.bridge_config.specs.Model.{Plan}
 use Rattle.bridge_config.specs.Rules.{port_at}
-use Rattle.bridge_run.specs.declared.outcome.View.{View}
-use Rattle.bridge_run.specs.Events.{is_own}
-use Rattle.bridge_run.specs.Offers.{Carried}
-use Rattle.bridge_run.specs.Merge.{Input, NotBefore, of_rank, events, own_inputs, frame}
-use Rattle.bridge_run.specs.Outputs.{departure}
-use Rattle.bridge_run.specs.Runs.{AreSolo, IsView}
+use Rattle.bridge_semantics.specs.declared.outcome.View.{View}
+use Rattle.bridge_semantics.specs.Events.{is_own}
+use Rattle.bridge_semantics.specs.Offers.{Carried}
+use Rattle.bridge_semantics.specs.Merge.{Input, NotBefore, of_rank, events, own_inputs, frame}
+use Rattle.bridge_semantics.specs.Outputs.{departure}
+use Rattle.bridge_semantics.specs.Runs.{AreSolo, IsView}
 use Rattle.bridge_network.specs.Networks.{Network, Sender, sender, later, outside, Hop, hop, IsHop, AreTimed}
 
 -- a copy of a queue of a hop left its bridge, and comes over the link to port q of a hop, whose filter takes it

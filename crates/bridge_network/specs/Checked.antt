@@ -1,6 +1,6 @@
 -- What holds of a network that is accepted.
 use Rattle.std.specs.Prelude.{Vec}
-use Rattle.bridge_base.specs.Members.{In}
+use Rattle.bridge_limits.specs.Members.{In}
 use Rattle.bridge_config.specs.Model.{Plan}
 use Rattle.bridge_config.specs.Rules.{IsPlan}
 use Rattle.bridge_check.specs.Acceptable.{IsAcceptable}

@@ -12,14 +12,14 @@ use Rattle.bridge_ident.specs.declared.StreamEntry.{StreamEntry}
 use Rattle.bridge_filter.specs.declared.FilterPlan.{FilterPlan}
 use Rattle.bridge_config.specs.declared.ports.PortPlan.{PortPlan}
 use Rattle.bridge_config.specs.Model.{Plan}
-use Rattle.bridge_run.specs.Merge.{Input, frame}
+use Rattle.bridge_semantics.specs.Merge.{Input, frame}
 use Rattle.bridge_network.specs.Networks.{Link, sender, comes}
 use Rattle.bridge_network.specs.Feeding.{takes_only}
 use Rattle.bridge_check.specs.Faults.{first_below}
 use Rattle.bridge_network.specs.declared.links.Link as wiring
 use Rattle.bridge_network.specs.declared.links.StreamHop.{StreamHop}
 use Rattle.bridge_network.specs.declared.fault.NetworkFault.TheVariants as fault
-use Rattle.bridge_network.specs.declared.tests.HopTest.TheVariants as hop_test
+use Rattle.bridge_network.specs.declared.rules.HopTest.TheVariants as hop_test
 use Rattle.bridge_network.specs.Wiring.{Parts}
 use Rattle.bridge_network.specs.Refusing.{told_stream}
 

@@ -87,6 +87,7 @@ tags_with vid = map (λ (k : ℕ). Some (tag_of k vid)) priorities
 
 -- the tags of frames that a port may classify in a VLAN: none, one of each priority alone, and one of each with the
 -- VLAN
+-- no tag, one without a VLAN, and one of the VLAN, each with every priority
 abbrev pub tags_of : ℕ → List (Option Tag)
 tags_of vid = None ∷ (tags_with 0 ++ tags_with vid)
 

@@ -1,15 +1,15 @@
 -- How long the frames of a protected filter wait.
 use Rattle.std.specs.Prelude.{◌≡◌, ℕ, Bool, true, ◌+◌, ◌*◌, ◌≤◌, List, [], ◌∷◌}
-use Rattle.bridge_base.specs.Members.{In, Rising}
+use Rattle.bridge_limits.specs.Members.{In, Rising}
 use Rattle.bridge_cycle.specs.Moments.{Fits, IsFirst}
 use Rattle.bridge_frame.specs.Link.{occupied}
 use Rattle.bridge_port.specs.Opening.{ever_of}
 use Rattle.bridge_port.specs.Schedule.{Copy, Fate, Started}
 use Rattle.bridge_config.specs.declared.ports.PortPlan.{PortPlan}
 use Rattle.bridge_config.specs.Model.{Plan}
-use Rattle.bridge_run.specs.Events.{Event}
-use Rattle.bridge_run.specs.Merge.{Input}
-use Rattle.bridge_run.specs.Offers.{Carried, Offer, offers, in_class}
+use Rattle.bridge_semantics.specs.Events.{Event}
+use Rattle.bridge_semantics.specs.Merge.{Input}
+use Rattle.bridge_semantics.specs.Offers.{Carried, Offer, offers, in_class}
 
 -- how long a frame is on the link of a port, from the first bit to the end of the gap behind it
 abbrev pub time_on : {A : Type 0} → PortPlan A → Carried → ℕ

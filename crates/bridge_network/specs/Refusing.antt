@@ -18,10 +18,10 @@ use Rattle.bridge_network.specs.declared.sending.Question.{Question}
 use Rattle.bridge_network.specs.declared.sending.Question.TheVariants as question
 use Rattle.bridge_network.specs.declared.fault.NetworkFault.{NetworkFault}
 use Rattle.bridge_network.specs.declared.fault.NetworkFault.TheVariants as fault
-use Rattle.bridge_network.specs.declared.tests.LinkTest.{LinkTest}
-use Rattle.bridge_network.specs.declared.tests.LinkTest.TheVariants as link_test
-use Rattle.bridge_network.specs.declared.tests.HopTest.{HopTest}
-use Rattle.bridge_network.specs.declared.tests.HopTest.TheVariants as hop_test
+use Rattle.bridge_network.specs.declared.rules.LinkTest.{LinkTest}
+use Rattle.bridge_network.specs.declared.rules.LinkTest.TheVariants as link_test
+use Rattle.bridge_network.specs.declared.rules.HopTest.{HopTest}
+use Rattle.bridge_network.specs.declared.rules.HopTest.TheVariants as hop_test
 use Rattle.bridge_network.specs.Accepting.{is_listed, is_protected}
 use Rattle.bridge_network.specs.Wiring.{Parts, peer, stream_of}
 use Rattle.bridge_network.specs.Finding.{first_in, taken_link}

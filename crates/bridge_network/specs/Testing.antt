@@ -1,8 +1,8 @@
 -- How a network is kept while it is tested. No public clause speaks of it.
 use Rattle.std.specs.Prelude.{◌≡◌, ℕ, true, Option, Some}
 use Rattle.bridge_filter.specs.Own.{is_number}
-use Rattle.bridge_network.specs.declared.tests.Case.{Case}
-use Rattle.bridge_network.specs.declared.tests.HopCase.{HopCase}
+use Rattle.bridge_network.specs.declared.rules.Case.{Case}
+use Rattle.bridge_network.specs.declared.rules.HopCase.{HopCase}
 use Rattle.bridge_network.specs.Feeding.{flow_for}
 use Rattle.bridge_config.specs.declared.ports.PortPlan.{PortPlan}
 use Rattle.bridge_network.specs.declared.sending.Found.{Found}

@@ -7,7 +7,7 @@ ghost use Rattle.bridge_network.specs.Refusing.{first_fault};
 
 use crate::fault::NetworkFault;
 use crate::links::{Link, StreamHop};
-use crate::tests::Case;
+use crate::rules::Case;
 use bridge_check::Accepted;
 use std::alloc::Allocator;
 use std::marker::Model;

@@ -1,6 +1,6 @@
 //! Laws of how long the frames of a protected filter wait, at one bridge and from bridge to bridge.
 ghost use Rattle.std.specs.Prelude.{◌≡◌, ◌<◌, ◌≤◌, ◌+◌, ℕ, List, Option, Some, true};
-ghost use Rattle.bridge_base.specs.Members.{In};
+ghost use Rattle.bridge_limits.specs.Members.{In};
 ghost use Rattle.bridge_capture.specs.Grammar.{Captured};
 ghost use Rattle.bridge_cycle.specs.Moments.{IsFirst, Repeats};
 ghost use Rattle.bridge_frame.specs.Link.{occupied};
@@ -10,11 +10,11 @@ ghost use Rattle.bridge_port.specs.Schedule.{Copy};
 ghost use Rattle.bridge_config.specs.Model.{Plan};
 ghost use Rattle.bridge_config.specs.Rules.{port_at};
 ghost use Rattle.bridge_config.specs.declared.ports.PortPlan.{PortPlan};
-ghost use Rattle.bridge_run.specs.declared.outcome.View.{View};
-ghost use Rattle.bridge_run.specs.Events.{Arrival, Arrived, Event};
-ghost use Rattle.bridge_run.specs.Offers.{Carried, egress, in_class, Offer, offers};
-ghost use Rattle.bridge_run.specs.Merge.{Input, events, of_rank};
-ghost use Rattle.bridge_run.specs.Runs.{IsSoloView};
+ghost use Rattle.bridge_semantics.specs.declared.outcome.View.{View};
+ghost use Rattle.bridge_semantics.specs.Events.{Arrival, Arrived, Event};
+ghost use Rattle.bridge_semantics.specs.Offers.{Carried, egress, in_class, Offer, offers};
+ghost use Rattle.bridge_semantics.specs.Merge.{Input, events, of_rank};
+ghost use Rattle.bridge_semantics.specs.Runs.{IsSoloView};
 ghost use Rattle.bridge_network.specs.Networks.{AreTimed, Hop, IsHop, Network, Sender, sender};
 ghost use Rattle.bridge_network.specs.Alone.{IsAlone, Reaches};
 ghost use Rattle.bridge_network.specs.Latency.{ComesInPeriods, ComesOf, Conforms, FitsWithin, InputsInPeriods};

@@ -7,9 +7,9 @@ ghost use Rattle.bridge_network.specs.Wiring.{end_of};
 ghost use Rattle.bridge_network.specs.Straying.{IsSample, IsStray, IsStrayAt, IsStrayOn, IsStrayOver};
 
 use crate::links::{End, Link, StreamHop, peer_of};
+use crate::rules::{handle_of, plan_at};
 use crate::sending::{Question, Sending};
 use crate::taking::Taking;
-use crate::tests::{handle_of, plan_at};
 use bridge_check::Accepted;
 use bridge_config::{Plan, PortPlan};
 use bridge_frame::Tag;

@@ -3,7 +3,7 @@ use Rattle.std.proofs.Common.{◌≡◌, ℕ, true, ◌≤◌, ◌+◌, min, Opt
 use Rattle.std.specs.Prelude.{nat_eq, MatchOption}
 use Rattle.std.specs.Map.{lookup}
 use Rattle.std.proofs.lemmas.Option.{same_Some}
-use Rattle.bridge_base.specs.Members.{In, Rising}
+use Rattle.bridge_limits.specs.Members.{In, Rising}
 use Rattle.bridge_cycle.specs.Moments.{IsFirst, Repeats}
 use Rattle.bridge_cycle.proofs.Cases.{by_bool}
 use Rattle.bridge_frame.specs.Link.{occupied}
@@ -24,14 +24,14 @@ use Rattle.bridge_config.proofs.PlanPorts.{at_own, port_is, room_within}
 use Rattle.bridge_check.specs.Acceptable.{IsAcceptable}
 use Rattle.bridge_check.specs.Reach.{reaches}
 use Rattle.bridge_check.specs.Windows.{longest_frame}
-use Rattle.bridge_run.specs.declared.way.Way.{Way}
-use Rattle.bridge_run.specs.declared.way.Way.TheVariants as way
-use Rattle.bridge_run.specs.Events.{Arrival, Arrived, Cleared, Event, metered, own, way_of}
-use Rattle.bridge_run.specs.Merge.{Input}
-use Rattle.bridge_run.specs.Offers.{Carried, Offer, egress, in_class, offer_by, offer_of, offer_of_step, offer_on, offers, step_of}
-use Rattle.bridge_run.specs.Runs.{AreOwnQueues, AreWhole, IsRun}
-use Rattle.bridge_run.proofs.Headline.{as_offer, in_class_in, in_offered, own_alone, own_flow}
-use Rattle.bridge_run.proofs.Offering.{in_split}
+use Rattle.bridge_semantics.specs.declared.way.Way.{Way}
+use Rattle.bridge_semantics.specs.declared.way.Way.TheVariants as way
+use Rattle.bridge_semantics.specs.Events.{Arrival, Arrived, Cleared, Event, metered, own, way_of}
+use Rattle.bridge_semantics.specs.Merge.{Input}
+use Rattle.bridge_semantics.specs.Offers.{Carried, Offer, egress, in_class, offer_by, offer_of, offer_of_step, offer_on, offers, step_of}
+use Rattle.bridge_semantics.specs.Runs.{AreOwnQueues, AreWhole, IsRun}
+use Rattle.bridge_semantics.proofs.Headline.{as_offer, in_class_in, in_offered, own_alone, own_flow}
+use Rattle.bridge_semantics.proofs.Offering.{in_split}
 use Rattle.bridge_bounds.specs.Bounds.{IsBound}
 use Rattle.bridge_bounds.proofs.Reached.{class_few, longest_fits}
 use Rattle.bridge_bounds.proofs.Sizes.{occupied_rises, within_size}

@@ -9,8 +9,8 @@ use Rattle.std.proofs.lemmas.Bool.{and_parts, cases_lt, eqb-true, false≢true}
 use Rattle.std.proofs.lemmas.Bool.Decides.{nat_tests}
 use Rattle.std.proofs.lemmas.List.Folds.{list_all-append}
 use Rattle.std.proofs.lemmas.Option.{same_Some}
-use Rattle.bridge_base.specs.Members.{In}
-use Rattle.bridge_base.specs.declared.TheConstants.{LONGEST_FRAME}
+use Rattle.bridge_limits.specs.Members.{In}
+use Rattle.bridge_limits.specs.declared.TheConstants.{LONGEST_FRAME}
 use Rattle.bridge_cycle.proofs.Cases.{by_bool}
 use Rattle.bridge_cycle.specs.declared.timeline.Turn.{Turn}
 use Rattle.bridge_frame.specs.declared.Head.{Head}
@@ -52,15 +52,15 @@ use Rattle.bridge_config.specs.Rules.{IsPlan, port_at}
 use Rattle.bridge_config.proofs.PlanPorts.{each_in}
 use Rattle.bridge_check.specs.Acceptable.{IsAcceptable}
 use Rattle.bridge_check.proofs.Isolated.{each_passes as one_of_all}
-use Rattle.bridge_run.specs.declared.outcome.Outcome.{Outcome}
-use Rattle.bridge_run.specs.declared.outcome.View.{View}
-use Rattle.bridge_run.specs.declared.way.Way.{Way}
-use Rattle.bridge_run.specs.declared.way.Way.TheVariants as way
-use Rattle.bridge_run.specs.Events.{Arrival, Arrived, Cleared, Event, call_by, call_of, flow_by, flow_of, metered, own, police_of, steps, way_of}
-use Rattle.bridge_run.specs.Offers.{Carried}
-use Rattle.bridge_run.specs.Runs.{IsOutcome}
-use Rattle.bridge_run.proofs.Headline.{protected_alone}
-use Rattle.bridge_run.proofs.Offering.{going_if}
+use Rattle.bridge_semantics.specs.declared.outcome.Outcome.{Outcome}
+use Rattle.bridge_semantics.specs.declared.outcome.View.{View}
+use Rattle.bridge_semantics.specs.declared.way.Way.{Way}
+use Rattle.bridge_semantics.specs.declared.way.Way.TheVariants as way
+use Rattle.bridge_semantics.specs.Events.{Arrival, Arrived, Cleared, Event, call_by, call_of, flow_by, flow_of, metered, own, police_of, steps, way_of}
+use Rattle.bridge_semantics.specs.Offers.{Carried}
+use Rattle.bridge_semantics.specs.Runs.{IsOutcome}
+use Rattle.bridge_semantics.proofs.Headline.{protected_alone}
+use Rattle.bridge_semantics.proofs.Offering.{going_if}
 use Rattle.bridge_bounds.proofs.Reached.{found_in}
 use Rattle.bridge_network.specs.Latency.{IsMultiple}
 use Rattle.bridge_periods.specs.declared.traffic.Traffic.{Traffic}

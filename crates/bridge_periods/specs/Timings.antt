@@ -9,7 +9,7 @@ use Rattle.std.specs.Prelude.{List, [], ◌∷◌}
 use Rattle.bridge_config.specs.Model.{Plan}
 use Rattle.bridge_config.specs.declared.ports.PortPlan.{PortPlan}
 use Rattle.bridge_check.specs.Windows.{longest_frame}
-use Rattle.bridge_run.specs.Offers.{Carried}
+use Rattle.bridge_semantics.specs.Offers.{Carried}
 use Rattle.bridge_bounds.specs.Bounds.{IsBound}
 use Rattle.bridge_network.specs.Latency.{IsMultiple, time_on}
 use Rattle.bridge_periods.specs.declared.traffic.Traffic.{Traffic}

@@ -1,6 +1,6 @@
 //! Whether each frame of traffic passes its filter.
 ghost use Rattle.std.specs.Prelude.{◌≡◌, ◌↔◌, ◌≤◌, true};
-ghost use Rattle.bridge_base.specs.declared.TheConstants.{END_OF_TIME};
+ghost use Rattle.bridge_limits.specs.declared.TheConstants.{END_OF_TIME};
 ghost use Rattle.bridge_cycle.specs.Cyclic.{IsLawful, turn_at};
 ghost use Rattle.bridge_filter.specs.Verdicts.{is_above};
 ghost use Rattle.bridge_periods.specs.Passing as spec;

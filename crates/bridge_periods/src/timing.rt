@@ -6,19 +6,19 @@ ghost use Rattle.bridge_port.specs.Opening.{IsMade, ever, ever_of, opening_of};
 ghost use Rattle.bridge_config.specs.Rules.{IsPlan};
 ghost use Rattle.bridge_check.specs.Acceptable.{IsAcceptable};
 ghost use Rattle.bridge_check.specs.Windows.{longest_frame};
-ghost use Rattle.bridge_run.specs.Offers.{egress};
+ghost use Rattle.bridge_semantics.specs.Offers.{egress};
 ghost use Rattle.bridge_bounds.specs.Bounds.{HasNoBound, IsBound, IsBoundAt};
 ghost use Rattle.bridge_periods.specs.Timings.{IsTimed, IsTiming, IsTimingAt, IsUntimed};
 ghost use Rattle.bridge_periods.specs.Traffic.{IsTraffic};
 
 use crate::traffic::Traffic;
 use crate::wait::waits_of;
-use bridge_base::LONGEST_FRAME;
 use bridge_bounds::{bound_of, filter_at};
 use bridge_check::Accepted;
 use bridge_config::{Plan, PortPlan};
 use bridge_cycle::Egress;
 use bridge_frame::occupation;
+use bridge_limits::LONGEST_FRAME;
 use std::alloc::Allocator;
 
 /// Two phases of a period, in ns from its start; the last may lie in the period behind it.

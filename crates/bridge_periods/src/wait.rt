@@ -1,6 +1,6 @@
 //! How long frames wait that come between two phases, by the gates of their port.
 ghost use Rattle.std.specs.Prelude.{◌≡◌, ◌+◌, ◌<◌, ◌≤◌, MatchOption, true, false};
-ghost use Rattle.bridge_base.specs.declared.TheConstants.{END_OF_TIME};
+ghost use Rattle.bridge_limits.specs.declared.TheConstants.{END_OF_TIME};
 ghost use Rattle.bridge_cycle.specs.Cyclic.{IsLawful};
 ghost use Rattle.bridge_cycle.specs.Moments.{IsFirst};
 ghost use Rattle.bridge_port.specs.Opening.{Always, One, ever, list_ever, list_opens, opening_of};

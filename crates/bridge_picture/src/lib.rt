@@ -17,7 +17,7 @@ mod span;
 mod svg;
 mod windows;
 
-pub use bridge_base::NoMemory;
+pub use bridge_limits::NoMemory;
 pub use marks::{Arrivals, Mark, MarkKind, has_marks};
 pub use plan::draw_plan;
 pub use run::draw_run;

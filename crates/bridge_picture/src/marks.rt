@@ -1,14 +1,14 @@
 //! Marks for the frames of a run that were not let on: a second reading of the captures tells when each came.
 ghost use Rattle.std.specs.Prelude.{◌≤◌, length};
 
-use bridge_base::{MOST_CAPTURED, NoMemory};
 use bridge_capture::{ByteSource, Capture, MAX_RECORDS, Packet};
 use bridge_config::{Plan, PortPlan};
 use bridge_filter::{FilterPlan, Verdict};
 use bridge_frame::{Tag, parse};
 use bridge_ident::Ident;
+use bridge_limits::{MOST_CAPTURED, NoMemory};
 use bridge_port::Refusal;
-use bridge_run::{Dropped, Outcome, View};
+use bridge_semantics::{Dropped, Outcome, View};
 use std::alloc::{AllocError, Allocator, Global};
 
 /// Why a frame, or a copy of one, was not let on.

@@ -8,8 +8,8 @@ use crate::numbers::{clock_of, length_text, moment, stretch};
 use crate::shapes::{LEFT, Picture, Put, Style};
 use crate::span::{Times, times_of};
 use crate::svg::svg_of;
-use bridge_base::NoMemory;
 use bridge_config::Plan;
+use bridge_limits::NoMemory;
 use std::alloc::{AllocError, Allocator, Global};
 
 /// Puts the head of a picture: what it is of, and what it shows.

@@ -12,11 +12,11 @@ use crate::shares::Shares;
 use crate::span::{Span, times_of};
 use crate::svg::svg_of;
 use crate::windows::extent;
-use bridge_base::NoMemory;
 use bridge_bounds::bound_of;
 use bridge_check::Accepted;
 use bridge_config::PortPlan;
-use bridge_run::{Departure, Origin, Outcome, View};
+use bridge_limits::NoMemory;
+use bridge_semantics::{Departure, Origin, Outcome, View};
 use std::alloc::{AllocError, Allocator, Global};
 
 /// The height of the lane of a link.

@@ -8,7 +8,7 @@ use Rattle.std.proofs.lemmas.Nat.{div-add-mod'}
 use Rattle.std.proofs.Math.Nat.{mod-lt}
 use Rattle.std.proofs.lemmas.Bool.{false≢true, eqb-true}
 use Rattle.std.proofs.lemmas.Cmp.{nat_eq_equiv}
-use Rattle.bridge_base.specs.Members.{In, AllAfter, Rising}
+use Rattle.bridge_limits.specs.Members.{In, AllAfter, Rising}
 use Rattle.bridge_cycle.proofs.Cases.{by_bool}
 use Rattle.bridge_filter.specs.declared.FilterPlan.{FilterPlan}
 use Rattle.bridge_config.specs.declared.ports.PortPlan.{PortPlan}

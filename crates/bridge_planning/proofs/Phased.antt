@@ -6,7 +6,7 @@ use Rattle.std.proofs.lemmas.Cmp.{nat_eq_equiv}
 use Rattle.std.proofs.lemmas.Nat.{div-add-mod'}
 use Rattle.std.proofs.Math.Nat.{mod-le, mul-le-mul_right}
 use Rattle.std.specs.Prelude.{MatchOption, nat_eq, nat_le, nat_lt, ◌&&◌, slice_get}
-use Rattle.bridge_base.specs.Members.{In, Rising}
+use Rattle.bridge_limits.specs.Members.{In, Rising}
 use Rattle.bridge_cycle.proofs.Cases.{by_bool}
 use Rattle.bridge_capture.specs.Grammar.{Captured}
 use Rattle.bridge_frame.specs.Link.{occupied}
@@ -15,11 +15,11 @@ use Rattle.bridge_filter.specs.declared.FilterPlan.{FilterPlan}
 use Rattle.bridge_port.specs.Opening.{opening_of}
 use Rattle.bridge_port.specs.Schedule.{Copy, Started}
 use Rattle.bridge_config.specs.Model.{Plan}
-use Rattle.bridge_run.specs.declared.outcome.Outcome.{Outcome}
-use Rattle.bridge_run.specs.Events.{Arrival, Arrived, Cleared, Event}
-use Rattle.bridge_run.specs.Merge.{Input, events, inputs_of, of_rank, own_inputs}
-use Rattle.bridge_run.specs.Offers.{Carried}
-use Rattle.bridge_run.proofs.Merging.{events_own, in_at, own_of_rank, rising_own}
+use Rattle.bridge_semantics.specs.declared.outcome.Outcome.{Outcome}
+use Rattle.bridge_semantics.specs.Events.{Arrival, Arrived, Cleared, Event}
+use Rattle.bridge_semantics.specs.Merge.{Input, events, inputs_of, of_rank, own_inputs}
+use Rattle.bridge_semantics.specs.Offers.{Carried}
+use Rattle.bridge_semantics.proofs.Merging.{events_own, in_at, own_of_rank, rising_own}
 use Rattle.bridge_bounds.proofs.Reached.{found_in}
 use Rattle.bridge_network.specs.Networks.{IsNetwork, IsNetworkRun, Network, Sender, coming, comes, later, outside, sender}
 use Rattle.bridge_network.specs.Alone.{IsLater}

@@ -7,7 +7,7 @@ use Rattle.std.proofs.lemmas.Grind.{flat_map-append}
 use Rattle.std.proofs.Math.Bool.{and-true}
 use Rattle.std.specs.Prelude.{filter, nat_eq, ◌&&◌}
 use Rattle.std.specs.List.{list_all}
-use Rattle.bridge_base.specs.Members.{In}
+use Rattle.bridge_limits.specs.Members.{In}
 use Rattle.bridge_config.specs.Model.{Plan}
 use Rattle.bridge_courses.specs.declared.courses.Course.{Course}
 use Rattle.bridge_courses.specs.declared.trees.HopQueue.{HopQueue}

@@ -4,8 +4,8 @@ use Rattle.bridge_config.specs.Model.{Plan}
 use Rattle.bridge_network.specs.Refusing.{first_fault}
 use Rattle.bridge_network.specs.Wiring.{Parts}
 use Rattle.bridge_netfile.specs.Model as file
-use Rattle.bridge_program.specs.declared.fault.Fault.{Fault}
-use Rattle.bridge_program.specs.declared.fault.Fault.TheVariants as fault
+use Rattle.bridge_jobs.specs.declared.fault.Fault.{Fault}
+use Rattle.bridge_jobs.specs.declared.fault.Fault.TheVariants as fault
 use Rattle.bridge_planning.specs.Networks.{IsMadeOf, RefusesNetwork, RefusesPeriods}
 
 pub refused_for : {A : Type 0} (f : file.Network) (plans : List (Plan A)) (n : Parts A) (e : Fault) → IsMadeOf f plans n → first_fault n ≡ None → RefusesPeriods f n.plans e → RefusesNetwork f plans e

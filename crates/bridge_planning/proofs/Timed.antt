@@ -1,8 +1,8 @@
 -- Bounds of hops add up.
 use Rattle.std.proofs.Common.{◌≤◌, ◌+◌, ℕ, List, [], ◌∷◌, arith}
 use Rattle.bridge_capture.specs.Grammar.{Captured}
-use Rattle.bridge_run.specs.Merge.{Input, events}
-use Rattle.bridge_run.specs.declared.outcome.Outcome.{Outcome}
+use Rattle.bridge_semantics.specs.Merge.{Input, events}
+use Rattle.bridge_semantics.specs.declared.outcome.Outcome.{Outcome}
 use Rattle.bridge_network.specs.Networks.{IsNetwork, IsNetworkRun, Network}
 use Rattle.bridge_bounds.proofs.Whole.{in_bound}
 use Rattle.bridge_planning.specs.Ways.{IsLeg, IsWay, Leg, bound_of_way, done_of, last_of}

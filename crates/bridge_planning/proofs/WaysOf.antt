@@ -4,7 +4,7 @@ use Rattle.std.specs.Prelude.{length, slice_get}
 use Rattle.bridge_cycle.proofs.Cases.{by_bool}
 use Rattle.bridge_port.specs.Schedule.{Copy}
 use Rattle.bridge_config.specs.Model.{Plan}
-use Rattle.bridge_run.specs.Offers.{Carried}
+use Rattle.bridge_semantics.specs.Offers.{Carried}
 use Rattle.bridge_network.specs.declared.links.Link.{Link}
 use Rattle.bridge_network.specs.declared.links.StreamHop.{StreamHop}
 use Rattle.bridge_network.specs.Networks.{Network}

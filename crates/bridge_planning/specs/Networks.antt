@@ -1,9 +1,9 @@
 -- Networks of files: what is made of their text, and what is printed.
 use Rattle.std.specs.Prelude.{◌≡◌, ◌⊎◌, ℕ, Bool, List, ◌++◌, map, length, sum_by, Option, Some, None, Vec, codes, decimal, string_bytes}
 use Rattle.bridge_config.specs.Model.{Plan}
-use Rattle.bridge_lanes.specs.declared.fault.RunFault.TheVariants as run
-use Rattle.bridge_program.specs.declared.fault.Fault.{Fault}
-use Rattle.bridge_program.specs.declared.fault.Fault.TheVariants as fault
+use Rattle.bridge_inputs.specs.declared.fault.RunFault.TheVariants as run
+use Rattle.bridge_jobs.specs.declared.fault.Fault.{Fault}
+use Rattle.bridge_jobs.specs.declared.fault.Fault.TheVariants as fault
 use Rattle.bridge_netfile.specs.declared.fault.NetFault.{NetFault}
 use Rattle.bridge_netfile.specs.declared.links.LinkRow.{LinkRow}
 use Rattle.bridge_netfile.specs.Lines.{line_of as text_line}

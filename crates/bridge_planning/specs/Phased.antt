@@ -1,14 +1,14 @@
 -- The way of a frame whose talker keeps a period: when it is done there, and how long it takes.
 use Rattle.std.specs.Prelude.{◌≡◌, ◌⊎◌, ℕ, Bool, true, ◌+◌, ◌-◌, ◌≤◌, nat_eq, List, [], ◌∷◌, None, Some}
 use Rattle.std.specs.Map.{lookup}
-use Rattle.bridge_base.specs.Members.{In}
+use Rattle.bridge_limits.specs.Members.{In}
 use Rattle.bridge_filter.specs.declared.Clear.{Clear}
 use Rattle.bridge_filter.specs.declared.FilterPlan.{FilterPlan}
 use Rattle.bridge_port.specs.Schedule.{Copy, Started}
-use Rattle.bridge_run.specs.Events.{Cleared, own}
-use Rattle.bridge_run.specs.Merge.{Input, events, frame, own_inputs}
-use Rattle.bridge_run.specs.Offers.{Carried}
-use Rattle.bridge_run.specs.Outputs.{departure}
+use Rattle.bridge_semantics.specs.Events.{Cleared, own}
+use Rattle.bridge_semantics.specs.Merge.{Input, events, frame, own_inputs}
+use Rattle.bridge_semantics.specs.Offers.{Carried}
+use Rattle.bridge_semantics.specs.Outputs.{departure}
 use Rattle.bridge_network.specs.declared.links.Link.{Link}
 use Rattle.bridge_network.specs.declared.links.StreamHop.{StreamHop}
 use Rattle.bridge_network.specs.Networks.{Network, later, sender}

@@ -1,7 +1,7 @@
 -- What is printed of bounds.
 use Rattle.std.specs.Prelude.{◌≡◌, ℕ, List, ◌++◌, flat_map, codes, decimal}
 use Rattle.bridge_config.specs.Model.{Plan}
-use Rattle.bridge_program.specs.Jobs.{Accepts}
+use Rattle.bridge_jobs.specs.Jobs.{Accepts}
 use Rattle.bridge_planning.specs.declared.bounds.QueueBound.{QueueBound}
 use Rattle.bridge_planning.specs.Bounds.{AreTightBounds}
 

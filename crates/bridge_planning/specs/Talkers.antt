@@ -63,6 +63,7 @@ is_of h r = nat_eq r.filter h.filter
 abbrev pub queues_among : List QueueBound → StreamHop → List HopQueue
 queues_among rows h = map (queue_of h) (filter (is_of h) rows)
 
+-- the bounds of the queues of a hop
 abbrev pub queues_at : {A : Type 0} → List (Vec QueueBound A) → StreamHop → List HopQueue
 queues_at bounds h = queues_among (rows_if (slice_get bounds h.bridge)) h
 

@@ -40,6 +40,7 @@ suits_schedule period (schedule.Fixed lets ipv) = true
 suits_schedule period (schedule.Cyclic l) = is_multiple period l.cycle
 suits_schedule period (schedule.Joined j) = is_multiple period j.old.cycle && is_multiple period j.new.cycle
 
+-- a period is a multiple of the cycles of a gate
 abbrev pub suits_gate : {A : Type 0} → ℕ → Option (GatePlan A) → Bool
 suits_gate period None = true
 suits_gate period (Some g) = suits_schedule period g.schedule
@@ -50,6 +51,7 @@ suits_lists period None = true
 suits_lists period (Some (egress.Cyclic l)) = is_multiple period l.cycle
 suits_lists period (Some (egress.Joined j)) = is_multiple period j.old.cycle && is_multiple period j.new.cycle
 
+-- and of those of a port
 abbrev pub suits_port : {A : Type 0} → ℕ → Option (PortPlan A) → Bool
 suits_port period None = true
 suits_port period (Some out) = suits_lists period out.list
@@ -79,6 +81,7 @@ filter_fault p index r (Some f) =
     else if not (suits p f r.traffic.period) then Some (fault.Text (net.OutOfRange (row_key index field.Period)))
     else None
 
+-- what is wrong with a row of traffic by the plan for which it is
 abbrev pub row_fault : {A : Type 0} → Plan A → ℕ → TrafficRow → Option TrafficFault
 row_fault p index r = filter_fault p index r (lookup (nat_eq r.filter) p.filters)
 
@@ -138,5 +141,6 @@ is_met (Some deadline) worst = nat_le worst deadline
 abbrev pub is_kept : QueueTiming → Bool
 is_kept x = x.passes && is_met x.deadline x.timing.worst
 
+-- each queue of traffic is in time
 abbrev pub are_kept : List QueueTiming → Bool
 are_kept xs = list_all is_kept xs

@@ -1,12 +1,12 @@
 -- What is printed of traffic.
 use Rattle.std.specs.Prelude.{◌≡◌, ◌⊎◌, ℕ, Bool, true, false, ◌++◌, List, Option, None, Some, Ok, Err, flat_map, codes, decimal, string_bytes, take}
 use Rattle.bridge_config.specs.Model.{Plan}
-use Rattle.bridge_lanes.specs.declared.fault.RunFault.TheVariants as run
+use Rattle.bridge_inputs.specs.declared.fault.RunFault.TheVariants as run
 use Rattle.bridge_netfile.specs.declared.fault.NetFault.{NetFault}
-use Rattle.bridge_program.specs.declared.fault.Fault.{Fault}
-use Rattle.bridge_program.specs.declared.fault.Fault.TheVariants as fault
-use Rattle.bridge_program.specs.Jobs.{Accepts, EndsCheck}
-use Rattle.bridge_program.specs.Reading.{IsOfFile}
+use Rattle.bridge_jobs.specs.declared.fault.Fault.{Fault}
+use Rattle.bridge_jobs.specs.declared.fault.Fault.TheVariants as fault
+use Rattle.bridge_jobs.specs.Jobs.{Accepts, EndsCheck}
+use Rattle.bridge_jobs.specs.Reading.{IsOfFile}
 use Rattle.bridge_traffic.specs.declared.fault.TrafficFault.{TrafficFault}
 use Rattle.bridge_traffic.specs.declared.fault.TrafficFault.TheVariants as text
 use Rattle.bridge_traffic.specs.declared.rows.TrafficRow.{TrafficRow}

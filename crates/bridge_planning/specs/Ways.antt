@@ -1,12 +1,12 @@
 -- The way of a frame through several bridges, and how long it takes at most.
 use Rattle.std.specs.Prelude.{◌≡◌, ℕ, ◌+◌, List, [], ◌∷◌, Some, slice_get}
-use Rattle.bridge_base.specs.Members.{In}
+use Rattle.bridge_limits.specs.Members.{In}
 use Rattle.bridge_frame.specs.Link.{occupied}
 use Rattle.bridge_port.specs.Schedule.{Copy, Started}
 use Rattle.bridge_config.specs.declared.ports.PortPlan.{PortPlan}
 use Rattle.bridge_config.specs.Model.{Plan}
 use Rattle.bridge_config.specs.Rules.{port_at}
-use Rattle.bridge_run.specs.Offers.{Carried}
+use Rattle.bridge_semantics.specs.Offers.{Carried}
 use Rattle.bridge_network.specs.Networks.{Network, sender}
 use Rattle.bridge_bounds.specs.Bounds.{IsBound}
 

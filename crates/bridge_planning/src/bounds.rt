@@ -1,18 +1,18 @@
 //! The bounds of all queues of a plan.
 ghost use Rattle.std.specs.Prelude.{All, ◌≡◌, ℕ, ◌+◌, ◌<◌, ◌≤◌, [], Some, length, nat_eq, OnOk, IfOk, MatchOption};
 ghost use Rattle.std.specs.Map.{lookup};
-ghost use Rattle.bridge_base.specs.Members.{Rising};
+ghost use Rattle.bridge_limits.specs.Members.{Rising};
 ghost use Rattle.bridge_check.specs.Reach.{reaches};
 ghost use Rattle.bridge_check.specs.Reached.{reach_of};
 ghost use Rattle.bridge_bounds.specs.Bounds.{HasNoBound, IsBound};
 ghost use Rattle.bridge_planning.specs.Bounds.{AreBounds, AreUpTo, IsPlaced, IsReachAt};
 
-use bridge_base::NoMemory;
 use bridge_bounds::bound_of;
 use bridge_check::{Accepted, Reach, may_wait_at, reach_of};
 use bridge_config::Plan;
 use bridge_core::filters_in_order;
 use bridge_filter::FilterPlan;
+use bridge_limits::NoMemory;
 use std::alloc::Allocator;
 
 /// How long a frame of a protected filter takes at most in a queue that its frames may come to.

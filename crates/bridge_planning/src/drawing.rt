@@ -4,11 +4,11 @@ ghost use Rattle.bridge_planning.specs.Networks.{EndsNetwork};
 
 use crate::network::{beside, memory_fault, read_network, read_plans, tested};
 use crate::streams::{bounds_of_all, bounds_of_streams};
-use bridge_base::NoMemory;
 use bridge_check::Accepted;
+use bridge_jobs::{Fault, read_at_most};
+use bridge_limits::NoMemory;
 use bridge_netfile::NetworkFile;
 use bridge_netpicture::draw_network;
-use bridge_program::{Fault, read_at_most};
 use std::alloc::{AllocError, Global};
 use std::fs;
 use std::rt::Files;

@@ -1,8 +1,8 @@
 //! Laws of the way of a frame through a network, each the contract of a function that does nothing.
 ghost use Rattle.std.specs.Prelude.{◌≡◌, ◌≤◌, ◌+◌, ℕ, List, Some, slice_get};
 ghost use Rattle.bridge_capture.specs.Grammar.{Captured};
-ghost use Rattle.bridge_run.specs.Merge.{Input};
-ghost use Rattle.bridge_run.specs.declared.outcome.Outcome.{Outcome};
+ghost use Rattle.bridge_semantics.specs.Merge.{Input};
+ghost use Rattle.bridge_semantics.specs.declared.outcome.Outcome.{Outcome};
 ghost use Rattle.bridge_network.specs.declared.links.Link.{Link};
 ghost use Rattle.bridge_network.specs.declared.links.StreamHop.{StreamHop};
 ghost use Rattle.bridge_network.specs.Networks.{IsNetwork, IsNetworkRun, Network};

@@ -4,8 +4,8 @@ ghost use Rattle.bridge_netfile.specs.Model.{Stream};
 ghost use Rattle.bridge_netfile.specs.Rules.{IsNetwork};
 ghost use Rattle.bridge_network.specs.declared.links.StreamHop.{StreamHop as Hop};
 ghost use Rattle.bridge_network.specs.Refusing.{first_fault};
-ghost use Rattle.bridge_lanes.specs.declared.fault.RunFault.{RunFault};
-ghost use Rattle.bridge_program.specs.declared.fault.Fault.{Fault};
+ghost use Rattle.bridge_inputs.specs.declared.fault.RunFault.{RunFault};
+ghost use Rattle.bridge_jobs.specs.declared.fault.Fault.{Fault};
 ghost use Rattle.bridge_planning.specs.Telling.{AreTold};
 ghost use Rattle.bridge_planning.specs.Networks.{AreLinesOfNetwork, EndsNetwork, IsMadeOf, PrintsNetwork, RefusesNetwork, RefusesPeriods, accepted_line, hops_in, link_in};
 ghost use Rattle.bridge_planning.specs.Streams.{hop_in};
@@ -15,14 +15,14 @@ use crate::refusing::said_of_network;
 use crate::streams::{StreamLines, bounds_of_all, stream_lines};
 use crate::talkers::first_misfit as misfit_in;
 use crate::telling::told_of;
-use bridge_base::NoMemory;
 use bridge_check::Accepted;
-use bridge_lanes::RunFault;
+use bridge_inputs::RunFault;
+use bridge_jobs::{Fault, fault_line as plan_line, fault_of_file, planned, read_at_most};
+use bridge_limits::NoMemory;
 use bridge_netfile::{
     BridgeRow, LinkRow, NetFault, NetworkFile, StreamRow, fault_line, network_of,
 };
 use bridge_network::{End, Link, Network, StreamHop, check_network};
-use bridge_program::{Fault, fault_line as plan_line, fault_of_file, planned, read_at_most};
 use std::alloc::{AllocError, Allocator, Global};
 use std::fs;
 use std::rt::Files;

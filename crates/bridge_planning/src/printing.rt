@@ -1,14 +1,14 @@
 //! What is printed of bounds.
 ghost use Rattle.std.specs.Prelude.{◌≡◌, ◌++◌, ℕ, List, Some, IfOk, IfErr, OnOk, string_bytes};
-ghost use Rattle.bridge_program.specs.Jobs.{EndsCheck};
+ghost use Rattle.bridge_jobs.specs.Jobs.{EndsCheck};
 ghost use Rattle.bridge_planning.specs.Printing.{AreLinesOf, PrintsBounds, bound_line, bounds_text};
 
 use crate::bounds::QueueBound;
 use crate::tight::tight_bounds_of;
-use bridge_base::NoMemory;
 use bridge_check::Accepted;
-use bridge_lanes::RunFault;
-use bridge_program::{Fault, planned};
+use bridge_inputs::RunFault;
+use bridge_jobs::{Fault, planned};
+use bridge_limits::NoMemory;
 use std::alloc::{AllocError, Allocator, Global};
 use std::io::Read;
 

@@ -3,7 +3,7 @@ ghost use Rattle.std.specs.Prelude.{◌≡◌, ◌++◌, codes, decimal, IfOk, s
 ghost use Rattle.bridge_planning.specs.Networks.{filter_text, line_of, of_hop, of_link, port_text, sends_text};
 ghost use Rattle.bridge_planning.specs.Naming.{name_at};
 
-use bridge_base::NoMemory;
+use bridge_limits::NoMemory;
 use bridge_netfile::BridgeRow;
 use bridge_network::NetworkFault;
 use std::alloc::Allocator;

@@ -1,6 +1,6 @@
 //! The job over a plan and the traffic that its talkers send.
 ghost use Rattle.std.specs.Prelude.{◌≡◌, ◌⊎◌, ◌≤◌, All, IfErr, IfOk, List, Some, length, string_bytes, take, ℕ, None};
-ghost use Rattle.bridge_program.specs.Reading.{IsOfFile};
+ghost use Rattle.bridge_jobs.specs.Reading.{IsOfFile};
 ghost use Rattle.bridge_traffic.specs.Document.{rows_of_text};
 ghost use Rattle.bridge_traffic.specs.Rows.{IsRow};
 ghost use Rattle.bridge_planning.specs.Traffic.{first_fault_from};
@@ -9,11 +9,11 @@ ghost use Rattle.bridge_planning.specs.TrafficText.{AreLinesOfTraffic, EndsTraff
 use crate::printing::lines_of;
 use crate::timings::{are_kept, timings_of, timings_text};
 use crate::traffic::traffic_fault;
-use bridge_base::NoMemory;
 use bridge_check::Accepted;
-use bridge_lanes::RunFault;
+use bridge_inputs::RunFault;
+use bridge_jobs::{Fault, fault_of_file, planned, read_at_most};
+use bridge_limits::NoMemory;
 use bridge_netfile::NetFault;
-use bridge_program::{Fault, fault_of_file, planned, read_at_most};
 use bridge_traffic::{TrafficFault, TrafficRow, fault_line, traffic_of};
 use std::alloc::{Allocator, Global};
 use std::io::Read;

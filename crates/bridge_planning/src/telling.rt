@@ -6,12 +6,12 @@ ghost use Rattle.bridge_planning.specs.Telling as spec;
 ghost use Rattle.bridge_planning.specs.Telling.{AreTold, address_text, destination_text, fall_line, fall_text, falls_from, falls_of, left_from, left_of, left_text, left_words, round_line, round_words, vlan_text};
 
 use crate::refusing::name_of;
-use bridge_base::NoMemory;
 use bridge_check::Accepted;
 use bridge_circling::{Circulation, circulations_in};
 use bridge_config::Plan;
 use bridge_filter::FilterPlan;
 use bridge_ident::StreamEntry;
+use bridge_limits::NoMemory;
 use bridge_netfile::{BridgeRow, LinkRow, NetworkFile, StreamRow};
 use bridge_network::Network;
 use std::alloc::{AllocError, Allocator, Global};

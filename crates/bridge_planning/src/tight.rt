@@ -4,9 +4,9 @@ ghost use Rattle.bridge_bounds.specs.Bounds.{IsBound};
 ghost use Rattle.bridge_planning.specs.Bounds.{AreBounds, AreTightBounds, AreTightened};
 
 use crate::bounds::{QueueBound, bounds_of};
-use bridge_base::NoMemory;
 use bridge_bounds::tight_bound_of;
 use bridge_check::Accepted;
+use bridge_limits::NoMemory;
 use std::alloc::Allocator;
 
 /// Adds the tight bound of a queue that has a bound.

@@ -8,9 +8,9 @@ ghost use Rattle.bridge_planning.specs.Traffic.{AreRowTimings, AreTimings, RowPa
 ghost use Rattle.bridge_planning.specs.TrafficText as printing;
 
 use crate::bounds::{QueueBound, bounds_of};
-use bridge_base::NoMemory;
 use bridge_bounds::filter_at;
 use bridge_check::Accepted;
+use bridge_limits::NoMemory;
 use bridge_periods::{Timing, passes, timing_of};
 use bridge_traffic::TrafficRow;
 use std::alloc::{AllocError, Allocator};

@@ -4,9 +4,9 @@ use Rattle.std.proofs.lemmas.Bool.{cases_lt, lt-leb}
 use Rattle.std.specs.Prelude.{nat_eq}
 use Rattle.std.proofs.Math.Bool.{and-false}
 use Rattle.bridge_cycle.specs.Moments.{Fits}
-use Rattle.bridge_base.specs.Members.{In}
+use Rattle.bridge_limits.specs.Members.{In}
 use Rattle.bridge_cycle.proofs.Cases.{by_bool}
-use Rattle.bridge_port.specs.Schedule.{Fate, Never, Full, Queued, Started, Copy, Rules, occupies, is_free, head, or_newer, fate_at, IsAnswer, IsStart, StartsFit, Apart, ApartFrom, InTurn, InTurnWith, OfferedUpTo, Serves, IsLawful}
+use Rattle.bridge_port.specs.Schedule.{Fate, Never, Full, Queued, Started, Copy, Rules, occupies, is_free, head, older_or, fate_at, IsAnswer, IsStart, StartsFit, Apart, ApartFrom, InTurn, InTurnWith, OfferedUpTo, Serves, IsLawful}
 
 -- A later moment at which nothing was missed.
 
@@ -109,7 +109,7 @@ occupies_new u n Full l = refl
 occupies_new u n Queued l = refl
 occupies_new u n (Started t) l = absurd l
 
-pub or_none : {X : Type 0} (o : Option (ℕ × X)) → or_newer o None ≡ o
+pub or_none : {X : Type 0} (o : Option (ℕ × X)) → older_or o None ≡ o
 or_none None = refl
 or_none (Some p) = refl
 

@@ -1,6 +1,6 @@
 -- What a start does to the copies of a schedule.
 use Rattle.std.proofs.Common.{◌≡◌, ℕ, List, ap, refl, ◌∙◌, sym, ◌⊎◌, inl, inr}
-use Rattle.bridge_base.specs.Members.{In}
+use Rattle.bridge_limits.specs.Members.{In}
 use Rattle.bridge_port.specs.Schedule.{Queued, Started, Copy, Begun, here, there}
 
 -- each copy after it was there before, or is the one that started

@@ -3,7 +3,7 @@ use Rattle.std.proofs.Common.{◌≡◌, ℕ, Bool, true, false, List, [], ◌�
 use Rattle.std.specs.Prelude.{if◌then◌else◌, nat_eq, nat_le, ◌&&◌}
 use Rattle.std.proofs.lemmas.Option.{same_Some}
 use Rattle.bridge_cycle.specs.Moments.{Fits}
-use Rattle.bridge_port.specs.Schedule.{Fate, Never, Full, Queued, Started, Copy, Rules, is_there, waiting, is_free, head, or_newer, fate_at, IsAnswer, Answered, IsStart, StartsFit, Apart, ApartFrom, AllApart, InTurnWith, AllInTurn, OfferedUpTo, Serves, IsLawful}
+use Rattle.bridge_port.specs.Schedule.{Fate, Never, Full, Queued, Started, Copy, Rules, is_there, waiting, is_free, head, older_or, fate_at, IsAnswer, Answered, IsStart, StartsFit, Apart, ApartFrom, AllApart, InTurnWith, AllInTurn, OfferedUpTo, Serves, IsLawful}
 use Rattle.bridge_port.specs.Solo.{IsWhole}
 use Rattle.bridge_port.specs.Schedule.{Begun, here, there, has_queued}
 use Rattle.bridge_port.specs.Seen.{seen, all_seen, rules_seen, SameRooms}
@@ -24,7 +24,7 @@ waiting_seen : {X Y : Type 0} (g : X → Y) (c t : ℕ) (xs : List (Copy X)) →
 waiting_seen g c t [] = refl
 waiting_seen g c t (x ∷ xs) = rw (waiting_seen g c t xs) refl
 
-see_newer : {X Y : Type 0} (g : X → Y) (a b : Option (ℕ × X)) → see g (or_newer a b) ≡ or_newer (see g a) (see g b)
+see_newer : {X Y : Type 0} (g : X → Y) (a b : Option (ℕ × X)) → see g (older_or a b) ≡ older_or (see g a) (see g b)
 see_newer g None b = refl
 see_newer g (Some a) b = refl
 
@@ -34,7 +34,7 @@ see_one g false i x = refl
 
 head_seen : {X Y : Type 0} (g : X → Y) (c u : ℕ) (xs : List (Copy X)) → head c u (all_seen g xs) ≡ see g (head c u xs)
 head_seen g c u [] = refl
-head_seen g c u (x ∷ xs) = rw (head_seen g c u xs, length_seen g xs) (sym (see_newer g (head c u xs) (if nat_eq x.class c && nat_le x.at u && is_there u x.fate then Some (length xs, x.item) else None) ∙ ap (or_newer (see g (head c u xs))) (see_one g (nat_eq x.class c && nat_le x.at u && is_there u x.fate) (length xs) x.item)))
+head_seen g c u (x ∷ xs) = rw (head_seen g c u xs, length_seen g xs) (sym (see_newer g (head c u xs) (if nat_eq x.class c && nat_le x.at u && is_there u x.fate then Some (length xs, x.item) else None) ∙ ap (older_or (see g (head c u xs))) (see_one g (nat_eq x.class c && nat_le x.at u && is_there u x.fate) (length xs) x.item)))
 
 fate_seen : {X Y : Type 0} (g : X → Y) (i : ℕ) (xs : List (Copy X)) → fate_at i (all_seen g xs) ≡ fate_at i xs
 fate_seen g i [] = refl

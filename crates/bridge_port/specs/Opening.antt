@@ -50,6 +50,7 @@ ever (Exchanged j) c n = list_ever j.old c n && list_ever j.new c n
 abbrev pub opens_of : {A : Type 0} → Option (Egress A) → ℕ → ℕ → Bool
 opens_of list = opens (opening_of list)
 
+-- whether a time fits at some moment under the lists of a port
 abbrev pub ever_of : {A : Type 0} → Option (Egress A) → ℕ → ℕ → Bool
 ever_of list = ever (opening_of list)
 

@@ -1,3 +1,4 @@
+-- The lawful schedule of a port (IEEE 802.1Q-2018, 8.6.8).
 use Rattle.std.specs.Prelude.{◌≡◌, ℕ, Bool, true, false, ◌<◌, ◌≤◌, ◌+◌, ◌&&◌, ◌||◌, not, max, nat_lt, nat_le, nat_eq, Option, Some, None, List, [], ◌∷◌, ◌++◌, length, if◌then◌else◌, ◌⊎◌}
 use Rattle.bridge_cycle.specs.Moments.{Fits}
 
@@ -22,12 +23,14 @@ pub record Rules (X : Type 0) : Type 0 where
   pub room : ℕ → ℕ
   pub occ : X → ℕ
 
+-- whether a copy got a place in its queue
 abbrev pub is_accepted : Fate → Bool
 is_accepted Never = false
 is_accepted Full = false
 is_accepted Queued = true
 is_accepted (Started s) = true
 
+-- whether it starts before a moment
 abbrev pub starts_before : ℕ → Fate → Bool
 starts_before u Never = false
 starts_before u Full = false
@@ -56,9 +59,10 @@ InTurn (Started s) Queued = ⊥
 InTurn (Started s) (Started t) = t < s
 InTurn f g = Unit {0}
 
-abbrev pub or_newer : {X : Type 0} → Option (ℕ × X) → Option (ℕ × X) → Option (ℕ × X)
-or_newer None b = b
-or_newer (Some a) b = Some a
+-- the older of two heads, where there is one
+abbrev pub older_or : {X : Type 0} → Option (ℕ × X) → Option (ℕ × X) → Option (ℕ × X)
+older_or None b = b
+older_or (Some a) b = Some a
 
 -- a copy that started
 abbrev pub is_started : Fate → Bool
@@ -96,7 +100,7 @@ module _ {X : Type 0} where
   -- a copy at the head of its class, by its place
   abbrev pub head : ℕ → ℕ → List (Copy X) → Option (ℕ × X)
   head c u [] = None
-  head c u (x ∷ xs) = or_newer (head c u xs) (if nat_eq x.class c && nat_le x.at u && is_there u x.fate then Some (length xs, x.item) else None)
+  head c u (x ∷ xs) = older_or (head c u xs) (if nat_eq x.class c && nat_le x.at u && is_there u x.fate then Some (length xs, x.item) else None)
 
   -- the fate of the copy at a place
   abbrev pub fate_at : ℕ → List (Copy X) → Option Fate
@@ -110,6 +114,7 @@ module _ {X : Type 0} where
   IsAnswer r x xs Queued = (r.ever x.class (r.occ x.item) ≡ true) × (waiting x.class x.at xs < r.room x.class)
   IsAnswer r x xs (Started s) = (r.ever x.class (r.occ x.item) ≡ true) × (waiting x.class x.at xs < r.room x.class)
 
+  -- each copy was answered as the ones before it ask for
   abbrev pub Answered : Rules X → List (Copy X) → Type 0
   Answered r [] = Unit {0}
   Answered r (x ∷ xs) = IsAnswer r x xs x.fate × Answered r xs
@@ -121,22 +126,27 @@ module _ {X : Type 0} where
   IsStart r h x Queued = Unit {0}
   IsStart r h x (Started s) = (s < h) × (x.at ≤ s) × Fits (r.opens x.class) (r.occ x.item) s
 
+  -- each start is behind its offer, fits, and lies before h
   abbrev pub StartsFit : Rules X → ℕ → List (Copy X) → Type 0
   StartsFit r h [] = Unit {0}
   StartsFit r h (x ∷ xs) = IsStart r h x x.fate × StartsFit r h xs
 
+  -- a copy is on the link at no moment at which one of these is
   abbrev pub ApartFrom : Rules X → Copy X → List (Copy X) → Type 0
   ApartFrom r x [] = Unit {0}
   ApartFrom r x (y ∷ ys) = Apart (r.occ x.item) x.fate (r.occ y.item) y.fate × ApartFrom r x ys
 
+  -- of any two copies one is off the link before the other starts
   abbrev pub AllApart : Rules X → List (Copy X) → Type 0
   AllApart r [] = Unit {0}
   AllApart r (x ∷ xs) = ApartFrom r x xs × AllApart r xs
 
+  -- a copy starts behind those of its class that came before it
   abbrev pub InTurnWith : Copy X → List (Copy X) → Type 0
   InTurnWith x [] = Unit {0}
   InTurnWith x (y ∷ ys) = (x.class ≡ y.class → InTurn x.fate y.fate) × InTurnWith x ys
 
+  -- the copies of each class start in the order in which they came
   abbrev pub AllInTurn : List (Copy X) → Type 0
   AllInTurn [] = Unit {0}
   AllInTurn (x ∷ xs) = InTurnWith x xs × AllInTurn xs
@@ -156,6 +166,7 @@ module _ {X : Type 0} where
     pub fits : Fits (r.opens class) (r.occ item) u
     pub highest : c ≤ class
 
+  -- before h no moment passes at which the link is free and a head fits, without a start of its class or of a higher one
   abbrev pub NoneMissed : Rules X → ℕ → List (Copy X) → Type 0
   NoneMissed r h xs = (u : ℕ) → u < h → is_free r u xs ≡ true → (c : ℕ) (p : ℕ × X) → head c u xs ≡ Some p → Fits (r.opens c) (r.occ p.1) u → Serves r xs u c
 
@@ -173,6 +184,7 @@ module _ {X : Type 0} where
   queue c [] = []
   queue c (x ∷ xs) = queue c xs ++ (if nat_eq x.class c && is_queued x.fate then x.item ∷ [] else [])
 
+  -- a copy of a class still waits
   abbrev pub has_queued : ℕ → List (Copy X) → Bool
   has_queued c [] = false
   has_queued c (x ∷ xs) = (nat_eq x.class c && is_queued x.fate) || has_queued c xs

@@ -6,6 +6,7 @@ use Rattle.bridge_port.specs.Schedule.{Copy, Rules}
 abbrev pub seen : {X Y : Type 0} → (X → Y) → Copy X → Copy Y
 seen g x = record { at = x.at; class = x.class; item = g x.item; fate = x.fate }
 
+-- copies as another kind of item
 abbrev pub all_seen : {X Y : Type 0} → (X → Y) → List (Copy X) → List (Copy Y)
 all_seen g [] = []
 all_seen g (x ∷ xs) = seen g x ∷ all_seen g xs

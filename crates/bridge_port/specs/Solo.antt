@@ -1,3 +1,4 @@
+-- The schedule of a class alone.
 use Rattle.std.specs.Prelude.{◌≡◌, ℕ, true, false, ◌<◌, ◌≤◌, ◌+◌, nat_eq, max, List, [], ◌∷◌, if◌then◌else◌}
 use Rattle.bridge_cycle.specs.Moments.{IsFirst}
 use Rattle.bridge_port.specs.Schedule.{Fate, Never, Full, Queued, Started, Copy, Rules, waiting, is_queued}
@@ -27,6 +28,7 @@ module _ {X : Type 0} where
   IsSoloFate r x xs Queued = ⊥
   IsSoloFate r x xs (Started s) = (r.ever x.class (r.occ x.item) ≡ true) × (waiting x.class x.at xs < r.room x.class) × IsFirst (r.opens x.class) (r.occ x.item) (max x.at (last_done r xs)) s
 
+  -- each copy is answered and started as if no other class were there
   abbrev pub IsSolo : Rules X → List (Copy X) → Type 0
   IsSolo r [] = Unit {0}
   IsSolo r (x ∷ xs) = IsSoloFate r x xs x.fate × IsSolo r xs

@@ -11,6 +11,7 @@ use Rattle.bridge_port.specs.declared.spans.Span.{Span}
 abbrev pub OpenUpTo : (ℕ → Bool) → ℕ → ℕ → Type 0
 OpenUpTo opens m n = (u : ℕ) → m ≤ u → u < n → opens u ≡ true
 
+-- a class is shut from one moment up to another
 abbrev pub ShutUpTo : (ℕ → Bool) → ℕ → ℕ → Type 0
 ShutUpTo opens m n = (u : ℕ) → m ≤ u → u < n → opens u ≡ false
 

@@ -1,6 +1,6 @@
 -- What contracts see of a port, what it answers and how it moves, and the schedules that it stands for.
 use Rattle.std.specs.Prelude.{◌≡◌, ℕ, Bool, true, ◌<◌, ◌≤◌, ◌+◌, ◌*◌, ◌^◌, nat_le, not, Option, Some, None, List, [], ◌∷◌, ◌++◌, length, replicate, Result, Ok, Err, slice_index_or, slice_set, drop, sum_by, count_by, if◌then◌else◌}
-use Rattle.bridge_base.specs.declared.TheConstants.{END_OF_TIME, LONGEST_FRAME, MOST_ARRIVALS}
+use Rattle.bridge_limits.specs.declared.TheConstants.{END_OF_TIME, LONGEST_FRAME, MOST_ARRIVALS}
 use Rattle.bridge_frame.specs.declared.Speed.{Speed}
 use Rattle.bridge_frame.specs.Link.{occupied}
 use Rattle.bridge_cycle.specs.Moments.{Fits}
@@ -36,6 +36,7 @@ idle_state speed list rooms = record { speed = speed; list = list; rooms = rooms
 abbrev pub rules_of : {T : Type 0} → State T → Rules (Item T)
 rules_of p = record { opens = opens p.list; ever = ever p.list; room = λ c. slice_index_or p.rooms c 0; occ = λ x. occupied x.len p.speed }
 
+-- the queue of a class
 abbrev pub queue_of : {T : Type 0} → State T → ℕ → List (Item T)
 queue_of p c = slice_index_or p.queues c []
 
@@ -88,6 +89,7 @@ abbrev pub answer_of : {X : Type 0} → Option Refusal → X → Result (Unit {0
 answer_of None x = Ok tt
 answer_of (Some r) x = Err (x, r)
 
+-- what becomes of a copy by the answer to it
 abbrev pub fate_of : Option Refusal → Fate
 fate_of None = Queued
 fate_of (Some refusal.NeverFits) = Never

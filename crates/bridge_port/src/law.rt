@@ -4,7 +4,7 @@ ghost use Rattle.bridge_cycle.specs.Cyclic.{Cyclic};
 ghost use Rattle.bridge_cycle.specs.Joined.{Joined};
 ghost use Rattle.bridge_cycle.specs.Moments.{Fits};
 ghost use Rattle.bridge_port.specs.Opening.{Always, ever, Exchanged, IsMade, list_opens, One, Opening, opens};
-ghost use Rattle.bridge_base.specs.Members.{In};
+ghost use Rattle.bridge_limits.specs.Members.{In};
 ghost use Rattle.bridge_port.specs.Schedule.{Begun, Copy, Rules, IsAnswer, IsLawful, OfferedUpTo, Started, head, is_free};
 ghost use Rattle.bridge_port.specs.Solo.{HasOwnWindow, IsSolo, IsWhole, SameOffers, only};
 

@@ -11,7 +11,7 @@ use Rattle.bridge_filter.specs.Standing as filter
 use Rattle.bridge_filter.specs.Verdicts as verdicts
 use Rattle.bridge_config.specs.Model.{Plan}
 use Rattle.bridge_config.specs.Commands.{has_instance}
-use Rattle.bridge_run.specs.Events.{Event, Cleared, calls, police_of}
+use Rattle.bridge_semantics.specs.Events.{Event, Cleared, calls, police_of}
 use Rattle.bridge_relay.specs.Relays.{RelayState, IsSound, IsKept, Stands}
 
 -- what the plan has the filters have

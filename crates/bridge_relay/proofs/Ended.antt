@@ -5,7 +5,7 @@ use Rattle.std.specs.Map.{lookup}
 use Rattle.std.specs.Option.{is_some}
 use Rattle.std.proofs.Math.Numerals.{add-one}
 use Rattle.std.proofs.lemmas.Bool.Decides.{nat_tests}
-use Rattle.bridge_base.specs.Members.{AllAfter, In, Rising}
+use Rattle.bridge_limits.specs.Members.{AllAfter, In, Rising}
 use Rattle.bridge_capture.specs.Grammar.{Captured}
 use Rattle.bridge_cycle.proofs.Cases.{by_bool}
 use Rattle.bridge_filter.specs.declared.FilterPlan.{FilterPlan}
@@ -16,23 +16,23 @@ use Rattle.bridge_config.specs.declared.ports.PortPlan.{PortPlan}
 use Rattle.bridge_config.specs.Model.{Plan}
 use Rattle.bridge_config.specs.Rules.{port_at}
 use Rattle.bridge_port.specs.Schedule.{Copy}
-use Rattle.bridge_run.specs.declared.outcome.Departure.{Departure}
-use Rattle.bridge_run.specs.declared.outcome.Dropped.{Dropped}
-use Rattle.bridge_run.specs.declared.outcome.Origin.{Origin}
-use Rattle.bridge_run.specs.declared.outcome.Outcome.{Outcome}
-use Rattle.bridge_run.specs.declared.outcome.PortCount.{PortCount}
-use Rattle.bridge_run.specs.declared.outcome.View.{View}
-use Rattle.bridge_run.specs.Events.{Event, calls, police_of, steps}
-use Rattle.bridge_run.specs.Offers.{Carried}
-use Rattle.bridge_run.specs.Outputs.{Ends}
-use Rattle.bridge_run.specs.Runs.{IsTold, IsView, IsCount, AtPort}
-use Rattle.bridge_parts.specs.declared.slot.Slot.{Slot}
-use Rattle.bridge_parts.specs.Counting.{count_one, counts_to}
-use Rattle.bridge_parts.specs.Ports.{slot_in, slot_at, AreKept}
-use Rattle.bridge_parts.specs.Tables.{TableState}
+use Rattle.bridge_semantics.specs.declared.outcome.Departure.{Departure}
+use Rattle.bridge_semantics.specs.declared.outcome.Dropped.{Dropped}
+use Rattle.bridge_semantics.specs.declared.outcome.Origin.{Origin}
+use Rattle.bridge_semantics.specs.declared.outcome.Outcome.{Outcome}
+use Rattle.bridge_semantics.specs.declared.outcome.PortCount.{PortCount}
+use Rattle.bridge_semantics.specs.declared.outcome.View.{View}
+use Rattle.bridge_semantics.specs.Events.{Event, calls, police_of, steps}
+use Rattle.bridge_semantics.specs.Offers.{Carried}
+use Rattle.bridge_semantics.specs.Outputs.{Ends}
+use Rattle.bridge_semantics.specs.Runs.{IsTold, IsView, IsCount, AtPort}
+use Rattle.bridge_state.specs.declared.slot.Slot.{Slot}
+use Rattle.bridge_state.specs.Counting.{count_one, counts_to}
+use Rattle.bridge_state.specs.Ports.{slot_in, slot_at, AreKept}
+use Rattle.bridge_state.specs.Tables.{TableState}
 use Rattle.bridge_relay.specs.Ending.{IsShown, AreShown}
 use Rattle.bridge_relay.specs.Relays.{RelayState, Stands, IsSound, seen}
-use Rattle.bridge_parts.specs.Ports.{AreAlike, IsMade}
+use Rattle.bridge_state.specs.Ports.{AreAlike, IsMade}
 use Rattle.bridge_relay.proofs.Ending.{stood, run_of, output_of, whole_of, not_before_none}
 use Rattle.bridge_relay.proofs.Relayed.{port_is}
 use Rattle.bridge_relay.proofs.Sound.{rising_push, in_push, found_some}

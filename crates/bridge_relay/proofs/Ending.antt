@@ -15,16 +15,16 @@ use Rattle.bridge_port.proofs.Watched.{lawful_seen, whole_seen}
 use Rattle.bridge_config.specs.declared.ports.PortPlan.{PortPlan}
 use Rattle.bridge_config.specs.Model.{Plan}
 use Rattle.bridge_config.specs.Rules.{port_at}
-use Rattle.bridge_run.specs.declared.load.Load.{Load}
-use Rattle.bridge_run.specs.Events.{Event}
-use Rattle.bridge_run.specs.Offers.{Carried, carried, egress}
-use Rattle.bridge_run.specs.Outputs.{IsOutput, Reaches, HasRun}
-use Rattle.bridge_run.specs.Runs.{IsRun, AreWhole}
-use Rattle.bridge_parts.specs.declared.slot.Slot.{Slot}
-use Rattle.bridge_parts.specs.Ports.{slot_at, AreKept, NotBefore}
-use Rattle.bridge_parts.proofs.Porting.{not_late}
+use Rattle.bridge_semantics.specs.declared.load.Load.{Load}
+use Rattle.bridge_semantics.specs.Events.{Event}
+use Rattle.bridge_semantics.specs.Offers.{Carried, carried, egress}
+use Rattle.bridge_semantics.specs.Outputs.{IsOutput, Reaches, HasRun}
+use Rattle.bridge_semantics.specs.Runs.{IsRun, AreWhole}
+use Rattle.bridge_state.specs.declared.slot.Slot.{Slot}
+use Rattle.bridge_state.specs.Ports.{slot_at, AreKept, NotBefore}
+use Rattle.bridge_state.proofs.Porting.{not_late}
 use Rattle.bridge_relay.specs.Relays.{RelayState, Stands, IsSound, seen}
-use Rattle.bridge_parts.specs.Ports.{AreAlike, IsMade}
+use Rattle.bridge_state.specs.Ports.{AreAlike, IsMade}
 use Rattle.bridge_relay.proofs.Relayed.{port_is}
 
 some_is : {X : Type 0} (a b : X) → Some a ≡ Some b → a ≡ b

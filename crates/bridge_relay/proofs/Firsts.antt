@@ -4,7 +4,7 @@ use Rattle.std.specs.Prelude.{nat_eq, sum_by, if◌then◌else◌, ◌⊎◌}
 use Rattle.std.specs.Map.{lookup}
 use Rattle.std.specs.Option.{is_some}
 use Rattle.std.proofs.lemmas.List.Sums.{sum_by-cons}
-use Rattle.bridge_base.specs.Members.{In}
+use Rattle.bridge_limits.specs.Members.{In}
 use Rattle.bridge_cycle.proofs.Cases.{by_bool}
 use Rattle.bridge_capture.specs.Grammar.{Captured}
 use Rattle.bridge_check.specs.Acceptable.{IsAcceptable}
@@ -18,18 +18,18 @@ use Rattle.bridge_meter.specs.declared.MeterPlan.{MeterPlan}
 use Rattle.bridge_filter.specs.Standing as filter
 use Rattle.bridge_port.specs.declared.item.Item.{Item}
 use Rattle.bridge_port.specs.Schedule.{Copy}
-use Rattle.bridge_run.specs.declared.load.Load.{Load}
-use Rattle.bridge_run.specs.declared.outcome.Departure.{Departure}
-use Rattle.bridge_run.specs.declared.outcome.Dropped.{Dropped}
-use Rattle.bridge_run.specs.declared.outcome.PortCount.{PortCount}
-use Rattle.bridge_run.specs.Events.{Event, police_of}
-use Rattle.bridge_run.specs.Offers.{Carried}
-use Rattle.bridge_run.specs.Outputs.{IsOutput}
-use Rattle.bridge_run.specs.Runs.{IsTold, IsCount, AtPort}
-use Rattle.bridge_parts.specs.declared.slot.Slot.{Slot}
-use Rattle.bridge_parts.specs.Ports.{slot_in, slot_at, AreAlike, IsFirst, IsMade, IsNew}
-use Rattle.bridge_parts.specs.Tables.{TableState}
-use Rattle.bridge_parts.specs.Told.{fresh, fresh_tables}
+use Rattle.bridge_semantics.specs.declared.load.Load.{Load}
+use Rattle.bridge_semantics.specs.declared.outcome.Departure.{Departure}
+use Rattle.bridge_semantics.specs.declared.outcome.Dropped.{Dropped}
+use Rattle.bridge_semantics.specs.declared.outcome.PortCount.{PortCount}
+use Rattle.bridge_semantics.specs.Events.{Event, police_of}
+use Rattle.bridge_semantics.specs.Offers.{Carried}
+use Rattle.bridge_semantics.specs.Outputs.{IsOutput}
+use Rattle.bridge_semantics.specs.Runs.{IsTold, IsCount, AtPort}
+use Rattle.bridge_state.specs.declared.slot.Slot.{Slot}
+use Rattle.bridge_state.specs.Ports.{slot_in, slot_at, AreAlike, IsFirst, IsMade, IsNew}
+use Rattle.bridge_state.specs.Tables.{TableState}
+use Rattle.bridge_state.specs.Told.{fresh, fresh_tables}
 use Rattle.bridge_relay.specs.Relays.{RelayState, HasLeft, IsKept, IsSound, Stands, written, count_in, count_all, is_wrong, is_of}
 
 -- what a bridge is made of

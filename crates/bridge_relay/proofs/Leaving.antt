@@ -1,7 +1,7 @@
 -- What has left a port over offers and starts.
 use Rattle.std.proofs.Common.{◌≡◌, ℕ, ◌+◌, ◌<◌, ◌≤◌, List, [], ◌∷◌, ◌++◌, length, arith, refl, ap, ◌∙◌, sym, subst, inl, inr, Option, Some, None}
 use Rattle.std.specs.Prelude.{◌⊎◌, ◌↔◌}
-use Rattle.bridge_base.specs.Members.{In, Rising}
+use Rattle.bridge_limits.specs.Members.{In, Rising}
 use Rattle.bridge_capture.specs.Grammar.{Captured}
 use Rattle.bridge_frame.specs.declared.Speed.{Speed}
 use Rattle.bridge_frame.specs.Link.{occupied}
@@ -11,9 +11,9 @@ use Rattle.bridge_port.specs.declared.item.Refusal.TheVariants as refusal
 use Rattle.bridge_port.specs.Schedule.{Started, Copy, Begun}
 use Rattle.bridge_port.specs.Standing.{fate_of}
 use Rattle.bridge_port.proofs.Members.{begun_to, begun_from, begun_there}
-use Rattle.bridge_run.specs.Offers.{Carried}
-use Rattle.bridge_run.specs.Outputs.{Leaves, LeavesBefore, IsOutput, departure}
-use Rattle.bridge_parts.specs.declared.slot.Slot.{Slot}
+use Rattle.bridge_semantics.specs.Offers.{Carried}
+use Rattle.bridge_semantics.specs.Outputs.{Leaves, LeavesBefore, IsOutput, departure}
+use Rattle.bridge_state.specs.declared.slot.Slot.{Slot}
 use Rattle.bridge_relay.specs.Relays.{HasLeft}
 use Rattle.bridge_relay.proofs.Sound.{rising_push, in_push}
 use Rattle.bridge_relay.proofs.Members.{in_left, in_end}

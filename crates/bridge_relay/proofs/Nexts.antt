@@ -21,16 +21,16 @@ use Rattle.bridge_port.proofs.Watched.{whole_seen}
 use Rattle.bridge_config.specs.declared.ports.PortPlan.{PortPlan}
 use Rattle.bridge_config.specs.Model.{Plan}
 use Rattle.bridge_config.specs.Rules.{port_at}
-use Rattle.bridge_run.specs.declared.load.Load.{Load}
-use Rattle.bridge_run.specs.Events.{Event}
-use Rattle.bridge_run.specs.Next.{AreNext, HasNext, HasNoneQueued, IsNextAfter, IsNextOf, ReachesStart, SendsHead, StartsNext, up_to_start}
-use Rattle.bridge_run.specs.Offers.{Carried, carried, egress}
-use Rattle.bridge_run.specs.Runs.{IsRun}
-use Rattle.bridge_parts.specs.declared.slot.Begun as slot
-use Rattle.bridge_parts.specs.declared.slot.Slot.{Slot}
-use Rattle.bridge_parts.specs.Ports.{PortsState, AreAlike, AreKept, HasStarted, IsAfter, IsMade, slot_at}
-use Rattle.bridge_parts.specs.Tables.{TableState}
-use Rattle.bridge_parts.proofs.Porting.{not_late}
+use Rattle.bridge_semantics.specs.declared.load.Load.{Load}
+use Rattle.bridge_semantics.specs.Events.{Event}
+use Rattle.bridge_semantics.specs.Next.{AreNext, HasNext, HasNoneQueued, IsNextAfter, IsNextOf, ReachesStart, SendsHead, StartsNext, up_to_start}
+use Rattle.bridge_semantics.specs.Offers.{Carried, carried, egress}
+use Rattle.bridge_semantics.specs.Runs.{IsRun}
+use Rattle.bridge_state.specs.declared.slot.Begun as slot
+use Rattle.bridge_state.specs.declared.slot.Slot.{Slot}
+use Rattle.bridge_state.specs.Ports.{PortsState, AreAlike, AreKept, HasStarted, IsAfter, IsMade, slot_at}
+use Rattle.bridge_state.specs.Tables.{TableState}
+use Rattle.bridge_state.proofs.Porting.{not_late}
 use Rattle.bridge_relay.specs.Relays.{RelayState, IsSound, Stands, seen}
 use Rattle.bridge_relay.proofs.Ending.{lawful_out, moment_of, not_before_none, output_of, run_of, run_so_far, stood, whole_of}
 use Rattle.bridge_relay.proofs.Sound.{early_started}

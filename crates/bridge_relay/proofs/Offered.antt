@@ -16,12 +16,12 @@ use Rattle.bridge_filter.specs.Verdicts as verdicts
 use Rattle.bridge_config.specs.declared.ports.PortPlan.{PortPlan}
 use Rattle.bridge_config.specs.Model.{Plan}
 use Rattle.bridge_config.specs.Rules.{port_at, IsPort}
-use Rattle.bridge_run.specs.declared.outcome.Origin.{Origin}
-use Rattle.bridge_run.specs.Events.{Arrival, Event, Arrived, count, metered, police_of, steps, way_of}
-use Rattle.bridge_run.specs.Offers.{Carried, Offer, offers, offer_of_step, leaving, step_of}
-use Rattle.bridge_parts.specs.declared.slot.Slot.{Slot}
-use Rattle.bridge_parts.specs.Tables.{TableState}
-use Rattle.bridge_parts.specs.Ports.{slot_at, outs, NotBefore}
+use Rattle.bridge_semantics.specs.declared.outcome.Origin.{Origin}
+use Rattle.bridge_semantics.specs.Events.{Arrival, Event, Arrived, count, metered, police_of, steps, way_of}
+use Rattle.bridge_semantics.specs.Offers.{Carried, Offer, offers, offer_of_step, leaving, step_of}
+use Rattle.bridge_state.specs.declared.slot.Slot.{Slot}
+use Rattle.bridge_state.specs.Tables.{TableState}
+use Rattle.bridge_state.specs.Ports.{slot_at, outs, NotBefore}
 use Rattle.bridge_relay.specs.declared.relay.Seen.{Seen}
 use Rattle.bridge_relay.specs.Relays.{RelayState, IsSound, HasSpare, Stands, is_flow_stray}
 use Rattle.bridge_relay.specs.Relaying.{Carries, HasRuled, IsFresh, IsNumbered, IsOffering, IsPending, MayRelay, called, filter_number, goes, offer_to, offers_to, one_less, releasing}

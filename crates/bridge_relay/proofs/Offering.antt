@@ -4,7 +4,7 @@ use Rattle.std.specs.Prelude.{nat_eq, nat_lt, not, if◌then◌else◌, slice_se
 use Rattle.std.specs.Map.{lookup}
 use Rattle.std.proofs.lemmas.Bool.Decides.{nat_tests}
 use Rattle.std.proofs.lemmas.List.{get_or_past}
-use Rattle.bridge_base.specs.Members.{In}
+use Rattle.bridge_limits.specs.Members.{In}
 use Rattle.std.proofs.lemmas.Bool.{cases_lt}
 use Rattle.bridge_cycle.proofs.Cases.{by_bool}
 use Rattle.bridge_capture.specs.Grammar.{Captured}
@@ -19,21 +19,21 @@ use Rattle.bridge_port.proofs.Keeping.{count_cons}
 use Rattle.bridge_config.specs.declared.ports.PortPlan.{PortPlan}
 use Rattle.bridge_config.specs.Model.{Plan}
 use Rattle.bridge_config.specs.Rules.{port_at}
-use Rattle.bridge_run.specs.declared.load.Load.{Load}
-use Rattle.bridge_run.specs.declared.outcome.Departure.{Departure}
-use Rattle.bridge_run.specs.declared.outcome.Dropped.{Dropped}
-use Rattle.bridge_run.specs.declared.outcome.PortCount.{PortCount}
-use Rattle.bridge_run.specs.Offers.{Carried, carried, Offer, offered, leaving}
-use Rattle.bridge_base.specs.Members.{Rising}
-use Rattle.bridge_run.specs.Runs.{DroppedBefore, Departs, Drops, Delayed, IsGreatest, IsTold, AtPort, fate_by}
-use Rattle.bridge_parts.specs.declared.slot.Slot.{Slot}
-use Rattle.bridge_parts.specs.Slots.{offered_slot, counted_copy, refusal_to, refusal_by}
-use Rattle.bridge_parts.specs.Tables.{TableState, change, change_if, refused, after_answer}
-use Rattle.bridge_parts.specs.Ports.{PortsState, slot_in, slot_at, goes_out, outs, is_there, NotBefore}
+use Rattle.bridge_semantics.specs.declared.load.Load.{Load}
+use Rattle.bridge_semantics.specs.declared.outcome.Departure.{Departure}
+use Rattle.bridge_semantics.specs.declared.outcome.Dropped.{Dropped}
+use Rattle.bridge_semantics.specs.declared.outcome.PortCount.{PortCount}
+use Rattle.bridge_semantics.specs.Offers.{Carried, carried, Offer, offered, leaving}
+use Rattle.bridge_limits.specs.Members.{Rising}
+use Rattle.bridge_semantics.specs.Runs.{DroppedBefore, Departs, Drops, Delayed, IsGreatest, IsTold, AtPort, fate_by}
+use Rattle.bridge_state.specs.declared.slot.Slot.{Slot}
+use Rattle.bridge_state.specs.Slots.{offered_slot, counted_copy, refusal_to, refusal_by}
+use Rattle.bridge_state.specs.Tables.{TableState, change, change_if, refused, after_answer}
+use Rattle.bridge_state.specs.Ports.{PortsState, slot_in, slot_at, goes_out, outs, is_there, NotBefore}
 use Rattle.bridge_relay.specs.Relays.{RelayState, HasLeft, IsSound, IsAwaited, written, is_flow, is_of, count_all, seen}
-use Rattle.bridge_parts.specs.Ports.{AreAlike, IsMade}
+use Rattle.bridge_state.specs.Ports.{AreAlike, IsMade}
 use Rattle.bridge_relay.specs.Relaying.{CountTheSame, HasOfferedTo, Carries, offer_to, offers_below, IsPending, IsOffering, MayRelay, HasCopies, leaves}
-use Rattle.bridge_parts.proofs.Porting.{below, set_here, set_there}
+use Rattle.bridge_state.proofs.Porting.{below, set_here, set_there}
 use Rattle.bridge_relay.proofs.Sound.{changed, in_push}
 use Rattle.bridge_relay.proofs.Members.{in_left, in_end}
 use Rattle.bridge_relay.proofs.Standing.{put, put_same, put_other, out_of}

@@ -17,19 +17,19 @@ use Rattle.bridge_config.specs.declared.ports.PortPlan.{PortPlan}
 use Rattle.bridge_config.specs.Model.{Plan}
 use Rattle.bridge_config.specs.Rules.{port_at}
 use Rattle.bridge_filter.specs.Own.{is_number}
-use Rattle.bridge_run.specs.declared.outcome.Origin.{Origin}
-use Rattle.bridge_run.specs.declared.outcome.PortCount.{PortCount}
-use Rattle.bridge_run.specs.declared.way.Way.{Way}
-use Rattle.bridge_run.specs.declared.way.Way.TheVariants.{Goes}
-use Rattle.bridge_run.specs.Events.{Arrival, Event, Arrived, arrivals, and_call, call_by, call_of, calls, flow_by, flow_of, metered, origin, origins_of, police_of, steps, way_of}
-use Rattle.bridge_run.specs.Offers.{Carried, Offer, offers}
-use Rattle.bridge_run.specs.Runs.{IsTold, AtPort, IsCount, count_frames, is_malformed, is_nowhere, is_relayed, is_unfiltered}
-use Rattle.bridge_parts.specs.declared.slot.Slot.{Slot}
-use Rattle.bridge_parts.specs.declared.slot.Came.{Came}
-use Rattle.bridge_parts.specs.declared.slot.Came.TheVariants as came
-use Rattle.bridge_parts.specs.Slots.{counted_frame}
-use Rattle.bridge_parts.specs.Tables.{TableState, change, judged, released}
-use Rattle.bridge_parts.specs.Ports.{slot_at}
+use Rattle.bridge_semantics.specs.declared.outcome.Origin.{Origin}
+use Rattle.bridge_semantics.specs.declared.outcome.PortCount.{PortCount}
+use Rattle.bridge_semantics.specs.declared.way.Way.{Way}
+use Rattle.bridge_semantics.specs.declared.way.Way.TheVariants.{Goes}
+use Rattle.bridge_semantics.specs.Events.{Arrival, Event, Arrived, arrivals, and_call, call_by, call_of, calls, flow_by, flow_of, metered, origin, origins_of, police_of, steps, way_of}
+use Rattle.bridge_semantics.specs.Offers.{Carried, Offer, offers}
+use Rattle.bridge_semantics.specs.Runs.{IsTold, AtPort, IsCount, count_frames, is_malformed, is_nowhere, is_relayed, is_unfiltered}
+use Rattle.bridge_state.specs.declared.slot.Slot.{Slot}
+use Rattle.bridge_state.specs.declared.slot.Came.{Came}
+use Rattle.bridge_state.specs.declared.slot.Came.TheVariants as came
+use Rattle.bridge_state.specs.Slots.{counted_frame}
+use Rattle.bridge_state.specs.Tables.{TableState, change, judged, released}
+use Rattle.bridge_state.specs.Ports.{slot_at}
 use Rattle.bridge_relay.specs.Relays.{RelayState, HasLeft, Stands, written, is_flow, seen}
 use Rattle.bridge_relay.specs.declared.relay.Seen.{Seen}
 use Rattle.bridge_relay.specs.Relaying.{Carries, CountTheSame, HasRuled, called, came_as, came_on, goes, judged_by, one_less}

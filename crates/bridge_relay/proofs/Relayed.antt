@@ -14,15 +14,15 @@ use Rattle.bridge_forward.specs.Ports.{has}
 use Rattle.bridge_config.specs.declared.ports.PortPlan.{PortPlan}
 use Rattle.bridge_config.specs.Model.{Plan}
 use Rattle.bridge_config.specs.Rules.{port_at, IsPort, IsPlan}
-use Rattle.bridge_run.specs.declared.outcome.PortCount.{PortCount}
-use Rattle.bridge_run.specs.declared.way.Way.{Way}
-use Rattle.bridge_run.specs.declared.way.Way.TheVariants.{Goes}
-use Rattle.bridge_run.specs.Events.{Arrival, Event, Arrived, Cleared, arrivals, and_call, call_of, calls, count, flow_by, flow_of, metered, police_of, steps, way_of}
-use Rattle.bridge_run.specs.Offers.{Carried, Offer, offers, offer_of, offer_on, offer_of_step, step_of}
-use Rattle.bridge_run.specs.Runs.{count_frames, is_malformed, is_nowhere, is_unfiltered}
-use Rattle.bridge_parts.specs.declared.slot.Slot.{Slot}
-use Rattle.bridge_parts.specs.Tables.{TableState}
-use Rattle.bridge_parts.specs.Ports.{slot_at, outs, NotBefore}
+use Rattle.bridge_semantics.specs.declared.outcome.PortCount.{PortCount}
+use Rattle.bridge_semantics.specs.declared.way.Way.{Way}
+use Rattle.bridge_semantics.specs.declared.way.Way.TheVariants.{Goes}
+use Rattle.bridge_semantics.specs.Events.{Arrival, Event, Arrived, Cleared, arrivals, and_call, call_of, calls, count, flow_by, flow_of, metered, police_of, steps, way_of}
+use Rattle.bridge_semantics.specs.Offers.{Carried, Offer, offers, offer_of, offer_on, offer_of_step, step_of}
+use Rattle.bridge_semantics.specs.Runs.{count_frames, is_malformed, is_nowhere, is_unfiltered}
+use Rattle.bridge_state.specs.declared.slot.Slot.{Slot}
+use Rattle.bridge_state.specs.Tables.{TableState}
+use Rattle.bridge_state.specs.Ports.{slot_at, outs, NotBefore}
 use Rattle.bridge_relay.specs.Relays.{RelayState, Stands, IsSound, written, written_of}
 use Rattle.bridge_relay.specs.Relaying.{Carries, offer_to, offers_to, offers_below, IsPending, IsOffering}
 use Rattle.bridge_relay.proofs.Offering.{carries_same}

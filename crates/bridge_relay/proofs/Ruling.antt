@@ -3,7 +3,7 @@ use Rattle.std.proofs.Common.{◌≡◌, ℕ, Bool, true, false, ◌+◌, ◌-�
 use Rattle.std.specs.Prelude.{nat_eq, if◌then◌else◌, ◌⊎◌, IsTrue}
 use Rattle.std.specs.Map.{lookup}
 use Rattle.std.proofs.lemmas.Bool.Decides.{nat_tests}
-use Rattle.bridge_base.specs.Members.{In}
+use Rattle.bridge_limits.specs.Members.{In}
 use Rattle.bridge_cycle.proofs.Cases.{by_bool}
 use Rattle.bridge_filter.specs.declared.Ruling.{Ruling}
 use Rattle.bridge_filter.specs.declared.Verdict.{Verdict}
@@ -11,22 +11,22 @@ use Rattle.bridge_filter.specs.declared.Verdict.TheVariants as verdict
 use Rattle.std.specs.Option.{option_map}
 use Rattle.bridge_filter.specs.declared.FilterPlan.{FilterPlan}
 use Rattle.bridge_filter.specs.Plans.{is_there, KeepsNumbers}
-use Rattle.bridge_run.specs.declared.outcome.Origin.{Origin}
-use Rattle.bridge_run.specs.Events.{metered}
+use Rattle.bridge_semantics.specs.declared.outcome.Origin.{Origin}
+use Rattle.bridge_semantics.specs.Events.{metered}
 use Rattle.bridge_relay.specs.declared.relay.Seen.{Seen}
 use Rattle.bridge_filter.specs.Standing as filter
 use Rattle.bridge_filter.specs.Verdicts as verdicts
 use Rattle.bridge_config.specs.Model.{Plan}
 use Rattle.bridge_config.specs.Rules.{port_at}
-use Rattle.bridge_run.specs.declared.outcome.Departure.{Departure}
-use Rattle.bridge_run.specs.declared.outcome.Dropped.{Dropped}
-use Rattle.bridge_parts.specs.declared.slot.Slot.{Slot}
-use Rattle.bridge_parts.specs.Tables.{TableState, change, judged}
-use Rattle.bridge_parts.specs.Ports.{PortsState, slot_in, slot_at}
+use Rattle.bridge_semantics.specs.declared.outcome.Departure.{Departure}
+use Rattle.bridge_semantics.specs.declared.outcome.Dropped.{Dropped}
+use Rattle.bridge_state.specs.declared.slot.Slot.{Slot}
+use Rattle.bridge_state.specs.Tables.{TableState, change, judged}
+use Rattle.bridge_state.specs.Ports.{PortsState, slot_in, slot_at}
 use Rattle.bridge_relay.specs.Relays.{RelayState, IsSound, IsKept, count_all, is_of, is_wrong}
-use Rattle.bridge_parts.specs.Ports.{AreAlike}
+use Rattle.bridge_state.specs.Ports.{AreAlike}
 use Rattle.bridge_relay.specs.Relaying.{HasRuled, IsFresh, called, came_as, came_on, judged_by}
-use Rattle.bridge_parts.proofs.Porting.{below, set_here}
+use Rattle.bridge_state.proofs.Porting.{below, set_here}
 use Rattle.bridge_relay.proofs.Sound.{changed, changed_there}
 use Rattle.bridge_relay.proofs.Passing.{counting, passed_here, passed_there, count_passed, frames_of, alike_passed}
 

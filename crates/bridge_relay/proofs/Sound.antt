@@ -4,30 +4,30 @@ use Rattle.std.specs.Prelude.{if◌then◌else◌, nat_eq, nat_lt, IsTrue, max, 
 use Rattle.std.specs.Map.{lookup}
 use Rattle.std.specs.Option.{is_some}
 use Rattle.std.proofs.lemmas.Bool.Decides.{nat_tests}
-use Rattle.bridge_base.specs.Members.{In}
+use Rattle.bridge_limits.specs.Members.{In}
 use Rattle.bridge_cycle.proofs.Cases.{by_bool}
 use Rattle.bridge_filter.specs.Plans.{is_there}
 use Rattle.bridge_config.specs.declared.ports.PortPlan.{PortPlan}
 use Rattle.bridge_config.specs.Rules.{port_at}
-use Rattle.bridge_run.specs.declared.load.Load.{Load}
-use Rattle.bridge_run.specs.declared.outcome.Departure.{Departure}
-use Rattle.bridge_base.specs.Members.{AllAfter, Rising}
-use Rattle.bridge_run.specs.Runs.{DepartsBefore, DroppedBefore}
-use Rattle.bridge_parts.specs.declared.slot.Slot.{Slot}
-use Rattle.bridge_parts.specs.declared.slot.Begun.{Begun}
+use Rattle.bridge_semantics.specs.declared.load.Load.{Load}
+use Rattle.bridge_semantics.specs.declared.outcome.Departure.{Departure}
+use Rattle.bridge_limits.specs.Members.{AllAfter, Rising}
+use Rattle.bridge_semantics.specs.Runs.{DepartsBefore, DroppedBefore}
+use Rattle.bridge_state.specs.declared.slot.Slot.{Slot}
+use Rattle.bridge_state.specs.declared.slot.Begun.{Begun}
 use Rattle.bridge_port.specs.declared.item.Item.{Item}
 use Rattle.bridge_port.specs.declared.item.Refusal.{Refusal}
 use Rattle.bridge_port.specs.Standing.{count_queued, refusal_of}
 use Rattle.std.proofs.lemmas.List.Sums.{sum_by-set}
-use Rattle.bridge_run.specs.declared.outcome.Dropped.{Dropped}
-use Rattle.bridge_parts.specs.Slots.{started_slot, offered_slot, counted_copy, refusal_to, refusal_by}
-use Rattle.bridge_parts.specs.Tables.{TableState, change, change_if, departed, promised, refused, after_answer, Owes, MayPromise}
-use Rattle.bridge_parts.specs.Ports.{PortsState, slot_in, slot_at, outs, HasStarted, HasOffered, IsAfter, NotBefore}
+use Rattle.bridge_semantics.specs.declared.outcome.Dropped.{Dropped}
+use Rattle.bridge_state.specs.Slots.{started_slot, offered_slot, counted_copy, refusal_to, refusal_by}
+use Rattle.bridge_state.specs.Tables.{TableState, change, change_if, departed, promised, refused, after_answer, Owes, MayPromise}
+use Rattle.bridge_state.specs.Ports.{PortsState, slot_in, slot_at, outs, HasStarted, HasOffered, IsAfter, NotBefore}
 use Rattle.bridge_relay.specs.Relays.{RelayState, IsKept, IsSound, IsAwaited, is_flow_stray, count_in, count_all, is_of, is_flow, is_wrong}
-use Rattle.bridge_parts.specs.Ports.{AreAlike, IsMade}
+use Rattle.bridge_state.specs.Ports.{AreAlike, IsMade}
 use Rattle.bridge_relay.specs.Relaying.{HasOfferedTo}
 use Rattle.bridge_filter.specs.declared.FilterPlan.{FilterPlan}
-use Rattle.bridge_parts.proofs.Porting.{below, set_here, set_there, same_slot}
+use Rattle.bridge_state.proofs.Porting.{below, set_here, set_there, same_slot}
 use Rattle.bridge_relay.proofs.Advancing.{count_started}
 
 -- one more at the end of what rises

@@ -3,7 +3,7 @@ use Rattle.std.proofs.Common.{◌≡◌, ℕ, Bool, true, false, ◌+◌, ◌-�
 use Rattle.std.specs.Prelude.{nat_eq, not, if◌then◌else◌, slice_set, count_by}
 use Rattle.std.specs.Map.{lookup}
 use Rattle.std.proofs.lemmas.Bool.Decides.{nat_tests}
-use Rattle.bridge_base.specs.Members.{In}
+use Rattle.bridge_limits.specs.Members.{In}
 use Rattle.bridge_cycle.proofs.Cases.{by_bool}
 use Rattle.bridge_capture.specs.Grammar.{Captured}
 use Rattle.bridge_frame.specs.Link.{occupied}
@@ -19,22 +19,22 @@ use Rattle.bridge_port.proofs.Watched.{begun_seen}
 use Rattle.bridge_config.specs.declared.ports.PortPlan.{PortPlan}
 use Rattle.bridge_config.specs.Model.{Plan}
 use Rattle.bridge_config.specs.Rules.{port_at}
-use Rattle.bridge_run.specs.declared.load.Load.{Load}
-use Rattle.bridge_run.specs.declared.outcome.Departure.{Departure}
-use Rattle.bridge_run.specs.declared.outcome.PortCount.{PortCount}
-use Rattle.bridge_run.specs.Events.{Event, steps}
-use Rattle.bridge_run.specs.Offers.{Carried, carried, offers, offered}
-use Rattle.bridge_run.specs.Outputs.{departure}
-use Rattle.bridge_base.specs.Members.{Rising}
-use Rattle.bridge_run.specs.Runs.{DepartsBefore, IsTold, AtPort, IsCount}
-use Rattle.bridge_parts.specs.declared.slot.Slot.{Slot}
-use Rattle.bridge_parts.specs.declared.slot.Begun as slot
-use Rattle.bridge_parts.specs.Slots.{started_slot}
-use Rattle.bridge_parts.specs.Tables.{TableState, change_if, departed, longer}
-use Rattle.bridge_parts.specs.Ports.{PortsState, slot_in, slot_at, HasStarted}
+use Rattle.bridge_semantics.specs.declared.load.Load.{Load}
+use Rattle.bridge_semantics.specs.declared.outcome.Departure.{Departure}
+use Rattle.bridge_semantics.specs.declared.outcome.PortCount.{PortCount}
+use Rattle.bridge_semantics.specs.Events.{Event, steps}
+use Rattle.bridge_semantics.specs.Offers.{Carried, carried, offers, offered}
+use Rattle.bridge_semantics.specs.Outputs.{departure}
+use Rattle.bridge_limits.specs.Members.{Rising}
+use Rattle.bridge_semantics.specs.Runs.{DepartsBefore, IsTold, AtPort, IsCount}
+use Rattle.bridge_state.specs.declared.slot.Slot.{Slot}
+use Rattle.bridge_state.specs.declared.slot.Begun as slot
+use Rattle.bridge_state.specs.Slots.{started_slot}
+use Rattle.bridge_state.specs.Tables.{TableState, change_if, departed, longer}
+use Rattle.bridge_state.specs.Ports.{PortsState, slot_in, slot_at, HasStarted}
 use Rattle.bridge_relay.specs.Relays.{RelayState, HasLeft, Stands, IsSound, written, is_flow, seen}
-use Rattle.bridge_parts.specs.Ports.{AreAlike, IsMade}
-use Rattle.bridge_parts.proofs.Porting.{below, set_here, set_there}
+use Rattle.bridge_state.specs.Ports.{AreAlike, IsMade}
+use Rattle.bridge_state.proofs.Porting.{below, set_here, set_there}
 use Rattle.bridge_relay.proofs.Sound.{changed}
 use Rattle.bridge_relay.proofs.Leaving.{left_begun}
 use Rattle.bridge_relay.proofs.Telling.{IsBegunAt, IsDone, dated, told_other, told_more, offered_same, counted_same, start_after, in_seen}

@@ -2,7 +2,7 @@
 use Rattle.std.proofs.Common.{◌≡◌, ℕ, Bool, true, false, ◌+◌, ◌<◌, ◌≤◌, List, [], ◌∷◌, ◌++◌, arith, refl, ap, ◌∙◌, sym, subst, inl, inr, Option, Some, None}
 use Rattle.std.specs.Prelude.{nat_eq, nat_le, max, not, count_by, ◌⊎◌, ◌↔◌, map, if◌then◌else◌}
 use Rattle.std.proofs.lemmas.Bool.Decides.{nat_tests}
-use Rattle.bridge_base.specs.Members.{In}
+use Rattle.bridge_limits.specs.Members.{In}
 use Rattle.bridge_cycle.proofs.Cases.{by_bool}
 use Rattle.bridge_frame.specs.Link.{occupied}
 use Rattle.bridge_filter.specs.declared.Verdict.{Verdict}
@@ -18,15 +18,15 @@ use Rattle.bridge_port.proofs.Members.{begun_to, begun_from, begun_kept, begun_t
 use Rattle.bridge_config.specs.declared.ports.PortPlan.{PortPlan}
 use Rattle.bridge_config.specs.Model.{Plan}
 use Rattle.bridge_config.specs.Rules.{port_at}
-use Rattle.bridge_run.specs.declared.way.Way.{Way}
-use Rattle.bridge_run.specs.declared.way.Way.TheVariants as way
-use Rattle.bridge_run.specs.declared.outcome.Departure.{Departure}
-use Rattle.bridge_run.specs.declared.outcome.Dropped.{Dropped}
-use Rattle.bridge_run.specs.Events.{Arrival, Event, Arrived, Cleared, way_of, metered}
-use Rattle.bridge_run.specs.Offers.{Carried, Offer, offers, offer_of, offer_on, offer_of_step, offer_by, offered, step_of}
-use Rattle.bridge_base.specs.Members.{Rising}
-use Rattle.bridge_run.specs.Runs.{DepartsBefore, DroppedBefore, Departs, Drops, Delayed, IsGreatest, IsTold, AtPort, fate_by}
-use Rattle.bridge_parts.specs.Tables.{longer}
+use Rattle.bridge_semantics.specs.declared.way.Way.{Way}
+use Rattle.bridge_semantics.specs.declared.way.Way.TheVariants as way
+use Rattle.bridge_semantics.specs.declared.outcome.Departure.{Departure}
+use Rattle.bridge_semantics.specs.declared.outcome.Dropped.{Dropped}
+use Rattle.bridge_semantics.specs.Events.{Arrival, Event, Arrived, Cleared, way_of, metered}
+use Rattle.bridge_semantics.specs.Offers.{Carried, Offer, offers, offer_of, offer_on, offer_of_step, offer_by, offered, step_of}
+use Rattle.bridge_limits.specs.Members.{Rising}
+use Rattle.bridge_semantics.specs.Runs.{DepartsBefore, DroppedBefore, Departs, Drops, Delayed, IsGreatest, IsTold, AtPort, fate_by}
+use Rattle.bridge_state.specs.Tables.{longer}
 use Rattle.bridge_relay.proofs.Sound.{rising_push, in_push}
 use Rattle.bridge_relay.proofs.Members.{in_left, in_end}
 

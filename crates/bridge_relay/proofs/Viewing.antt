@@ -7,14 +7,14 @@ use Rattle.std.proofs.Math.Numerals.{add-one}
 use Rattle.std.proofs.Math.Seq.{drop-cons, take-suc}
 use Rattle.std.proofs.lemmas.Bool.Decides.{nat_tests}
 use Rattle.std.proofs.lemmas.List.{take_all}
-use Rattle.bridge_base.specs.Members.{AllAfter, Rising}
+use Rattle.bridge_limits.specs.Members.{AllAfter, Rising}
 use Rattle.bridge_cycle.proofs.Cases.{by_bool}
 use Rattle.bridge_filter.specs.declared.FilterPlan.{FilterPlan}
 use Rattle.bridge_filter.specs.Plans.{is_there}
 use Rattle.bridge_filter.specs.Standing as filter
-use Rattle.bridge_run.specs.declared.outcome.View.{View}
-use Rattle.bridge_parts.specs.Tables.{TableState, change}
-use Rattle.bridge_parts.specs.Told.{fresh}
+use Rattle.bridge_semantics.specs.declared.outcome.View.{View}
+use Rattle.bridge_state.specs.Tables.{TableState, change}
+use Rattle.bridge_state.specs.Told.{fresh}
 use Rattle.bridge_relay.specs.Ending.{IsShown, AreShown}
 
 abbrev pub IsBefore : {X : Type 0} → ℕ × X → ℕ × X → Type 0

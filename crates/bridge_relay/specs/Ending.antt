@@ -5,8 +5,8 @@ use Rattle.bridge_filter.specs.declared.FilterPlan.{FilterPlan}
 use Rattle.bridge_filter.specs.Counts.{verdicts_of, counters_of, flags_of, buckets_by}
 use Rattle.bridge_filter.specs.Standing as filter
 use Rattle.bridge_filter.specs.Verdicts as verdicts
-use Rattle.bridge_run.specs.declared.outcome.View.{View}
-use Rattle.bridge_parts.specs.Tables.{TableState}
+use Rattle.bridge_semantics.specs.declared.outcome.View.{View}
+use Rattle.bridge_state.specs.Tables.{TableState}
 
 -- what a table tells is shown
 pub record ShowsTable {A : Type 0} (t : TableState) (v : View A) : Type 0 where

@@ -1,8 +1,8 @@
 -- How a frame is relayed.
 use Rattle.std.specs.Prelude.{◌≡◌, ℕ, Bool, true, false, not, ◌+◌, ◌-◌, ◌<◌, ◌≤◌, ◌&&◌, ◌⊎◌, Option, Some, None, IfSome, is_none, List, [], ◌∷◌, ◌++◌, length, count_by, nat_eq, nat_lt, slice_set, slice_index, if◌then◌else◌, Vec, max}
 use Rattle.std.specs.Map.{lookup}
-use Rattle.bridge_base.specs.Members.{In}
-use Rattle.bridge_base.specs.declared.TheConstants.{END_OF_TIME, LONGEST_FRAME, MOST_ARRIVALS}
+use Rattle.bridge_limits.specs.Members.{In}
+use Rattle.bridge_limits.specs.declared.TheConstants.{END_OF_TIME, LONGEST_FRAME, MOST_ARRIVALS}
 use Rattle.std.specs.Option.{option_map}
 use Rattle.bridge_filter.specs.declared.Ruling.{Ruling}
 use Rattle.bridge_filter.specs.Plans.{KeepsNumbers}
@@ -15,32 +15,34 @@ use Rattle.bridge_port.specs.Schedule.{is_accepted}
 use Rattle.bridge_config.specs.declared.ports.PortPlan.{PortPlan}
 use Rattle.bridge_config.specs.Model.{Plan}
 use Rattle.bridge_config.specs.Rules.{port_at}
-use Rattle.bridge_run.specs.Offers.{Carried, carried, Offer, offered, leaving}
-use Rattle.bridge_run.specs.Runs.{IsTold, AtPort}
+use Rattle.bridge_semantics.specs.Offers.{Carried, carried, Offer, offered, leaving}
+use Rattle.bridge_semantics.specs.Runs.{IsTold, AtPort}
 use Rattle.bridge_port.specs.declared.item.Item.{Item}
 use Rattle.bridge_port.specs.declared.item.Refusal.{Refusal}
 use Rattle.bridge_port.specs.Schedule.{Copy}
 use Rattle.bridge_port.specs.Standing.{StandsFor, refusal_of, copy_of, count_queued}
-use Rattle.bridge_run.specs.declared.load.Load.{Load}
-use Rattle.bridge_run.specs.declared.outcome.Dropped.{Dropped}
-use Rattle.bridge_run.specs.declared.outcome.Origin.{Origin}
-use Rattle.bridge_run.specs.declared.outcome.PortCount.{PortCount}
-use Rattle.bridge_run.specs.declared.way.Way.{Way}
-use Rattle.bridge_run.specs.declared.way.Way.TheVariants.{Malformed, Nowhere, Goes}
-use Rattle.bridge_parts.specs.declared.slot.Came.{Came}
-use Rattle.bridge_parts.specs.declared.slot.Came.TheVariants as came
-use Rattle.bridge_parts.specs.declared.slot.Slot.{Slot}
-use Rattle.bridge_parts.specs.Slots.{offered_slot, refusal_to, counted_frame}
-use Rattle.bridge_parts.specs.Tables.{TableState, after_answer, change, judged, released}
-use Rattle.bridge_run.specs.Events.{metered}
+use Rattle.bridge_semantics.specs.declared.load.Load.{Load}
+use Rattle.bridge_semantics.specs.declared.outcome.Dropped.{Dropped}
+use Rattle.bridge_semantics.specs.declared.outcome.Origin.{Origin}
+use Rattle.bridge_semantics.specs.declared.outcome.PortCount.{PortCount}
+use Rattle.bridge_semantics.specs.declared.way.Way.{Way}
+use Rattle.bridge_semantics.specs.declared.way.Way.TheVariants.{Malformed, Nowhere, Goes}
+use Rattle.bridge_state.specs.declared.slot.Came.{Came}
+use Rattle.bridge_state.specs.declared.slot.Came.TheVariants as came
+use Rattle.bridge_state.specs.declared.slot.Slot.{Slot}
+use Rattle.bridge_state.specs.Slots.{offered_slot, refusal_to, counted_frame}
+use Rattle.bridge_state.specs.Tables.{TableState, after_answer, change, judged, released}
+use Rattle.bridge_semantics.specs.Events.{metered}
 use Rattle.bridge_relay.specs.declared.relay.Seen.{Seen}
-use Rattle.bridge_parts.specs.Ports.{PortsState, slot_in, slot_at, goes_out, outs, is_there, NotBefore}
+use Rattle.bridge_state.specs.Ports.{PortsState, slot_in, slot_at, goes_out, outs, is_there, NotBefore}
 use Rattle.bridge_relay.specs.Relays.{RelayState, HasLeft, IsSound, written, count_all, is_of, is_flow_stray, seen}
 
+-- a frame that goes somewhere has a priority, 0 to 7
 abbrev pub HasWayPriority : Way → Type 0
 HasWayPriority (Goes set handle priority dei sdu) = priority ≤ 7
 HasWayPriority w = Unit {0}
 
+-- a frame goes somewhere
 abbrev pub IsRelayed : Way → Type 0
 IsRelayed (Goes set handle priority dei sdu) = Unit {0}
 IsRelayed w = ⊥
@@ -71,6 +73,7 @@ pub record Carries {G A : Type 0} (p : Plan A) (b : RelayState G A) (os : ℕ �
 abbrev pub leaves : {A : Type 0} → Load A → ℕ → Bool → Carried
 leaves load len eligible = record { at = load.at; flow = load.flow; own = load.own; len = len; octets = leaving eligible load.octets.items }
 
+-- what is carried, as it is offered to a port in the class of a priority
 abbrev pub offer_to : {A : Type 0} → PortPlan A → ℕ → Carried → Offer
 offer_to out priority x = record { at = x.at; class = slice_index out.classes priority; item = x }
 
@@ -148,6 +151,7 @@ goes set s = Goes set s.handle s.priority s.dei s.sdu
 abbrev pub filter_number : {A : Type 0} → Plan A → verdicts.Call → Option ℕ
 filter_number p c = option_map (λ f. f.0) (verdicts.flow p.filters c)
 
+-- what the relay tells of a frame, by its verdict
 abbrev pub came_as : Option Ruling → Came
 came_as None = came.Unfiltered
 came_as (Some r) = came.Policed

@@ -3,8 +3,8 @@ use Rattle.std.specs.Prelude.{◌≡◌, ℕ, Bool, true, false, ◌+◌, ◌*�
 use Rattle.std.specs.Map.{lookup}
 use Rattle.bridge_frame.specs.Link.{occupied}
 use Rattle.bridge_capture.specs.Grammar.{Captured}
-use Rattle.bridge_base.specs.Members.{In}
-use Rattle.bridge_base.specs.declared.TheConstants.{MOST_ARRIVALS}
+use Rattle.bridge_limits.specs.Members.{In}
+use Rattle.bridge_limits.specs.declared.TheConstants.{MOST_ARRIVALS}
 use Rattle.bridge_ident.specs.declared.StreamEntry.{StreamEntry}
 use Rattle.bridge_filter.specs.declared.FilterPlan.{FilterPlan}
 use Rattle.bridge_filter.specs.declared.Verdict.{Verdict}
@@ -19,19 +19,19 @@ use Rattle.bridge_config.specs.declared.ports.PortPlan.{PortPlan}
 use Rattle.bridge_config.specs.Model.{Plan}
 use Rattle.bridge_config.specs.Rules.{IsPlan, port_at}
 use Rattle.bridge_check.specs.Acceptable.{IsAcceptable}
-use Rattle.bridge_run.specs.declared.load.Load.{Load}
-use Rattle.bridge_run.specs.declared.outcome.Departure.{Departure}
-use Rattle.bridge_run.specs.declared.outcome.Dropped.{Dropped}
-use Rattle.bridge_run.specs.declared.outcome.Origin.{Origin}
-use Rattle.bridge_run.specs.Events.{Event, arrivals, calls, origins_of, police_of, steps}
-use Rattle.bridge_run.specs.Offers.{Carried, carried, offers, offered}
-use Rattle.bridge_run.specs.Outputs.{IsOutput}
-use Rattle.bridge_base.specs.Members.{Rising}
-use Rattle.bridge_run.specs.Runs.{DepartsBefore, DroppedBefore, IsTold, AtPort, IsCount}
-use Rattle.bridge_parts.specs.declared.slot.Slot.{Slot}
+use Rattle.bridge_semantics.specs.declared.load.Load.{Load}
+use Rattle.bridge_semantics.specs.declared.outcome.Departure.{Departure}
+use Rattle.bridge_semantics.specs.declared.outcome.Dropped.{Dropped}
+use Rattle.bridge_semantics.specs.declared.outcome.Origin.{Origin}
+use Rattle.bridge_semantics.specs.Events.{Event, arrivals, calls, origins_of, police_of, steps}
+use Rattle.bridge_semantics.specs.Offers.{Carried, carried, offers, offered}
+use Rattle.bridge_semantics.specs.Outputs.{IsOutput}
+use Rattle.bridge_limits.specs.Members.{Rising}
+use Rattle.bridge_semantics.specs.Runs.{DepartsBefore, DroppedBefore, IsTold, AtPort, IsCount}
+use Rattle.bridge_state.specs.declared.slot.Slot.{Slot}
 use Rattle.bridge_relay.specs.declared.relay.Sent.{Sent}
-use Rattle.bridge_parts.specs.Tables.{TableState}
-use Rattle.bridge_parts.specs.Ports.{PortsState, AreAlike, slot_in, slot_at}
+use Rattle.bridge_state.specs.Tables.{TableState}
+use Rattle.bridge_state.specs.Ports.{PortsState, AreAlike, slot_in, slot_at}
 
 -- the plan, its streams, the filters, the ports, what is told of each filter, how many frames came, and the least moment of the next one
 pub record RelayState (G A : Type 0) : Type 0 where
@@ -48,12 +48,15 @@ abbrev pub count_in : {A : Type 0} → (Item (Load A) → Bool) → Option (Slot
 count_in f None = 0
 count_in f (Some s) = count_queued f s.port
 
+-- how many copies in the queues of all ports are such
 abbrev pub count_all : {G A : Type 0} → (Item (Load A) → Bool) → PortsState G A → ℕ
 count_all f p = sum_by (count_in f) p.slots
 
+-- how many copies wait
 abbrev pub waiting : {G A : Type 0} → RelayState G A → ℕ
 waiting b = count_all (λ x. true) b.ports
 
+-- whether a copy is of the filter of a number
 abbrev pub is_flow : Option ℕ → ℕ → Bool
 is_flow None n = false
 is_flow (Some m) n = nat_eq m n

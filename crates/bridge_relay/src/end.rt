@@ -1,30 +1,30 @@
 //! How a bridge ends.
 ghost use Rattle.std.specs.Prelude.{◌≡◌, ℕ, true, ◌<◌, ◌≤◌, List, [], Option, Some, None, length, nat_eq, vec_capacity};
 ghost use Rattle.std.specs.Map.{lookup};
-ghost use Rattle.bridge_base.specs.Members.{In, Rising};
+ghost use Rattle.bridge_limits.specs.Members.{In, Rising};
 ghost use Rattle.bridge_capture.specs.Grammar.{Captured};
 ghost use Rattle.bridge_config.specs.Model as config;
 ghost use Rattle.bridge_events.specs.Least.{IsLeast};
 ghost use Rattle.bridge_filter.specs.declared.FilterPlan.{FilterPlan};
 ghost use Rattle.bridge_filter.specs.Plans.{is_there};
 ghost use Rattle.bridge_port.specs.Schedule.{Copy};
-ghost use Rattle.bridge_run.specs.Events.{Event, own};
-ghost use Rattle.bridge_run.specs.Offers.{Carried};
-ghost use Rattle.bridge_run.specs.Next.{AreNext, IsNextAfter};
-ghost use Rattle.bridge_run.specs.Outputs.{Reaches, HasRun, Ends};
-ghost use Rattle.bridge_run.specs.Runs.{IsOutcome, IsSoloView, TellTheSame};
-ghost use Rattle.bridge_parts.specs.Ports.{NotBefore};
-ghost use Rattle.bridge_parts.specs.Tables.{change};
-ghost use Rattle.bridge_parts.specs.Told.{fresh};
+ghost use Rattle.bridge_semantics.specs.Events.{Event, own};
+ghost use Rattle.bridge_semantics.specs.Offers.{Carried};
+ghost use Rattle.bridge_semantics.specs.Next.{AreNext, IsNextAfter};
+ghost use Rattle.bridge_semantics.specs.Outputs.{Reaches, HasRun, Ends};
+ghost use Rattle.bridge_semantics.specs.Runs.{IsOutcome, IsSoloView, TellTheSame};
+ghost use Rattle.bridge_state.specs.Ports.{NotBefore};
+ghost use Rattle.bridge_state.specs.Tables.{change};
+ghost use Rattle.bridge_state.specs.Told.{fresh};
 ghost use Rattle.bridge_relay.specs.Ending.{IsShown, AreShown};
 ghost use Rattle.bridge_relay.specs.Relays.{Stands};
 
 use crate::relay::Relay;
 use bridge_events::Agenda;
 use bridge_filter::{FilterPlan, Police};
-use bridge_parts::tables::take_told;
-use bridge_parts::{Tables, Told};
-use bridge_run::{Outcome, PortCount, View};
+use bridge_semantics::{Outcome, PortCount, View};
+use bridge_state::tables::take_told;
+use bridge_state::{Tables, Told};
 use std::alloc::Allocator;
 
 /// What a run tells of a filter, moved out of its table.

@@ -2,7 +2,7 @@
 ghost use Rattle.std.specs.Prelude.{◌≡◌, ℕ, [], None, IfOk};
 ghost use Rattle.bridge_filter.specs.Plans.{KeepsNumbers};
 ghost use Rattle.bridge_filter.specs.Standing as standing;
-ghost use Rattle.bridge_run.specs.Events as events;
+ghost use Rattle.bridge_semantics.specs.Events as events;
 ghost use Rattle.bridge_relay.specs.Relays.{Stands};
 
 use crate::relay::Relay;
@@ -13,8 +13,8 @@ use bridge_events::Agenda;
 use bridge_filter::Police;
 use bridge_gate::GatePlan;
 use bridge_ident::{Ident, StreamEntry};
-use bridge_parts::Ports;
-use bridge_parts::tables::tables_of;
+use bridge_state::Ports;
+use bridge_state::tables::tables_of;
 use std::alloc::{AllocError, Allocator};
 
 /// Equal gates, each with its number.

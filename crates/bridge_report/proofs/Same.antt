@@ -1,7 +1,7 @@
 -- Views that tell the same have one section.
 use Rattle.std.proofs.Common.{◌≡◌, ℕ, refl}
-use Rattle.bridge_run.specs.declared.outcome.View.{View}
-use Rattle.bridge_run.specs.Runs.{TellTheSame}
+use Rattle.bridge_semantics.specs.declared.outcome.View.{View}
+use Rattle.bridge_semantics.specs.Runs.{TellTheSame}
 use Rattle.bridge_report.specs.Section.{section_of, state_of, copies_of, lists_of}
 
 pub same_section : {A : Type 0} (filter : ℕ) (u v : View A) → TellTheSame u v → section_of filter u ≡ section_of filter v

@@ -5,9 +5,9 @@ use Rattle.bridge_filter.specs.declared.Verdict.{Verdict}
 use Rattle.bridge_filter.specs.declared.Verdict.TheVariants as verdict
 use Rattle.bridge_filter.specs.declared.Counters.{Counters}
 use Rattle.bridge_filter.specs.declared.Flags.{Flags}
-use Rattle.bridge_run.specs.declared.outcome.Departure.{Departure}
-use Rattle.bridge_run.specs.declared.outcome.PortCount.{PortCount}
-use Rattle.bridge_run.specs.declared.outcome.View.{View}
+use Rattle.bridge_semantics.specs.declared.outcome.Departure.{Departure}
+use Rattle.bridge_semantics.specs.declared.outcome.PortCount.{PortCount}
+use Rattle.bridge_semantics.specs.declared.outcome.View.{View}
 use Rattle.bridge_report.specs.Section.{bucket_line, copies_of, counter_lines, delay_line, each_flag, flags_line, frame_lines, header_line, lists_of, out_line, queued_line, section_of, state_of}
 use Rattle.bridge_report.specs.Summary.{summary_of}
 

@@ -6,9 +6,9 @@ use Rattle.bridge_filter.specs.declared.Counters.{Counters}
 use Rattle.bridge_filter.specs.declared.Flags.{Flags}
 use Rattle.bridge_port.specs.declared.item.Refusal.{Refusal}
 use Rattle.bridge_port.specs.declared.item.Refusal.TheVariants as refusal
-use Rattle.bridge_run.specs.declared.outcome.Departure.{Departure}
-use Rattle.bridge_run.specs.declared.outcome.Dropped.{Dropped}
-use Rattle.bridge_run.specs.declared.outcome.View.{View}
+use Rattle.bridge_semantics.specs.declared.outcome.Departure.{Departure}
+use Rattle.bridge_semantics.specs.declared.outcome.Dropped.{Dropped}
+use Rattle.bridge_semantics.specs.declared.outcome.View.{View}
 use Rattle.bridge_report.specs.Words.{kind_word, flag_word, verdict_word, refusal_word}
 
 -- the filter's number, and whether it is protected
@@ -40,6 +40,7 @@ flag_named name flag = codes " " ++ (name ++ (codes " " ++ flag_word flag))
 unfoldable pub each_flag : Flags → List ℕ
 each_flag f = flag_named (codes "blocked") f.blocked ++ (flag_named (codes "rx") f.rx ++ (flag_named (codes "octets") f.octets ++ flag_named (codes "red") f.red))
 
+-- the line of a filter's flags
 abbrev pub flags_line : Flags → List ℕ
 flags_line f = codes "flags" ++ (each_flag f ++ codes "\n")
 
@@ -49,10 +50,12 @@ bucket_line None = codes "bucket none\n"
 bucket_line (Some b) = codes "bucket committed " ++ (decimal b.committed ++ (codes " excess " ++ (decimal b.excess
     ++ (codes " at " ++ (decimal b.at ++ codes "\n")))))
 
+-- a copy found its queue full
 abbrev pub is_full : Refusal → Bool
 is_full refusal.Full = true
 is_full refusal.NeverFits = false
 
+-- a copy fits at no moment
 abbrev pub never_fits : Refusal → Bool
 never_fits refusal.Full = false
 never_fits refusal.NeverFits = true

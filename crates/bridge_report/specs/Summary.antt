@@ -1,6 +1,6 @@
 -- The line that sums up a run.
 use Rattle.std.specs.Prelude.{ℕ, ◌-◌, List, ◌++◌, sum_by, codes, decimal}
-use Rattle.bridge_run.specs.declared.outcome.PortCount.{PortCount}
+use Rattle.bridge_semantics.specs.declared.outcome.PortCount.{PortCount}
 
 -- a count over all ports
 abbrev pub over_ports : (PortCount → ℕ) → List (ℕ × PortCount) → ℕ

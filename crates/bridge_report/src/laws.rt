@@ -1,7 +1,7 @@
 //! A law of reports, the contract of a function that does nothing.
 ghost use Rattle.std.specs.Prelude.{◌≡◌, ℕ};
-ghost use Rattle.bridge_run.specs.declared.outcome.View.{View};
-ghost use Rattle.bridge_run.specs.Runs.{TellTheSame};
+ghost use Rattle.bridge_semantics.specs.declared.outcome.View.{View};
+ghost use Rattle.bridge_semantics.specs.Runs.{TellTheSame};
 ghost use Rattle.bridge_report.specs.Section.{section_of};
 
 use std::alloc::Allocator;

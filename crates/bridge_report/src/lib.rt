@@ -13,7 +13,7 @@ mod text;
 mod totals;
 mod word;
 
-pub use bridge_base::NoMemory;
+pub use bridge_limits::NoMemory;
 pub use fault::ReportFault;
 pub use laws::same_section;
 pub use sections::{has_section, report, section, view_of, write_report};

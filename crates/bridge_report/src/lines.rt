@@ -10,7 +10,7 @@ use crate::word::{flag_word, kind_word, refusal_word, verdict_word};
 use bridge_filter::{Counters, Flags, Verdict};
 use bridge_meter::Buckets;
 use bridge_port::Refusal;
-use bridge_run::{Departure, Dropped};
+use bridge_semantics::{Departure, Dropped};
 
 /// Puts the filter's number, and whether it is protected.
 pub fn put_header<T: Text>(text: &mut T, filter: u32, protected: bool) -> Result<(), ReportFault>

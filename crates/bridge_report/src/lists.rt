@@ -7,7 +7,7 @@ use crate::fault::ReportFault;
 use crate::lines::{put_drop, put_frame, put_out};
 use crate::text::Text;
 use bridge_filter::Verdict;
-use bridge_run::{Departure, Dropped};
+use bridge_semantics::{Departure, Dropped};
 
 /// Puts the frames of a filter, from 1 on, and their verdicts.
 #[tactic(auto, using(crate::proofs::Puts::puts))]

@@ -3,13 +3,13 @@ ghost use Rattle.std.specs.Prelude.{◌≡◌, nat_eq, is_some, option_map, stri
 ghost use Rattle.std.specs.Map.{lookup};
 ghost use Rattle.std.specs.Io.KnownBytes.{Appends};
 ghost use Rattle.bridge_report.specs.Section.{report_of, section_of};
-ghost use Rattle.bridge_run.specs.declared.outcome.View.{View};
+ghost use Rattle.bridge_semantics.specs.declared.outcome.View.{View};
 
 use crate::fault::ReportFault;
 use crate::held::Held;
 use crate::shown::{put_section, put_sections};
-use bridge_base::NoMemory;
-use bridge_run::{Outcome, View};
+use bridge_limits::NoMemory;
+use bridge_semantics::{Outcome, View};
 use std::alloc::Allocator;
 use std::io::Write;
 

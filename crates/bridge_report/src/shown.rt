@@ -6,7 +6,7 @@ use crate::fault::ReportFault;
 use crate::lines::{put_bucket, put_counters, put_delay, put_flags, put_header, put_queued};
 use crate::lists::{put_drops, put_frames, put_outs};
 use crate::text::Text;
-use bridge_run::View;
+use bridge_semantics::View;
 use std::alloc::Allocator;
 
 /// Puts what the filter, its gate and its meter are left with.

@@ -2,8 +2,8 @@
 ghost use Rattle.std.specs.Prelude.{◌≡◌, ◌-◌, ◌++◌, string_bytes, IfOk, OnOk};
 ghost use Rattle.bridge_report.specs.Summary.{arrivals_text, copies_text, over_ports, summary_of};
 
-use bridge_base::NoMemory;
-use bridge_run::{Outcome, PortCount};
+use bridge_limits::NoMemory;
+use bridge_semantics::{Outcome, PortCount};
 use std::alloc::{AllocError, Allocator};
 
 /// The counts of all ports, added up.

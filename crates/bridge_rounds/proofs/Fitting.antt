@@ -4,20 +4,20 @@ use Rattle.std.specs.Prelude.{All, slice_get, if◌then◌else◌}
 use Rattle.std.proofs.lemmas.Bool.Decides.{nat_tests}
 use Rattle.std.proofs.lemmas.List.Elements.{All-cons, All-head, All-nil, All-tail}
 use Rattle.std.proofs.lemmas.Option.{slice_get-map, slice_get_within}
-use Rattle.bridge_base.specs.Members.{Rising}
-use Rattle.bridge_base.specs.declared.TheConstants.{END_OF_TIME}
+use Rattle.bridge_limits.specs.Members.{Rising}
+use Rattle.bridge_limits.specs.declared.TheConstants.{END_OF_TIME}
 use Rattle.bridge_capture.specs.Grammar.{Captured, Records, AtEnd}
 use Rattle.bridge_capture.specs.Written.{written_text}
 use Rattle.bridge_config.specs.declared.ports.PortPlan.{PortPlan}
 use Rattle.bridge_config.specs.Model.{Plan}
 use Rattle.bridge_config.specs.Rules.{IsPlan, port_at}
 use Rattle.bridge_config.proofs.PlanPorts.{number_is}
-use Rattle.bridge_run.specs.declared.outcome.Outcome.{Outcome}
-use Rattle.bridge_run.specs.Merge.{Input, NotBefore, commands_of, events, inputs_of, of_rank, streams}
+use Rattle.bridge_semantics.specs.declared.outcome.Outcome.{Outcome}
+use Rattle.bridge_semantics.specs.Merge.{Input, NotBefore, commands_of, events, inputs_of, of_rank, streams}
 use Rattle.bridge_port.specs.Schedule.{Copy}
-use Rattle.bridge_run.specs.Offers.{Carried}
-use Rattle.bridge_run.specs.Outputs.{IsOutput}
-use Rattle.bridge_run.specs.Runs.{IsOutcome}
+use Rattle.bridge_semantics.specs.Offers.{Carried}
+use Rattle.bridge_semantics.specs.Outputs.{IsOutput}
+use Rattle.bridge_semantics.specs.Runs.{IsOutcome}
 use Rattle.bridge_core.specs.Lines.{FitsRecord}
 use Rattle.bridge_core.proofs.Beginning.{covered}
 use Rattle.bridge_core.proofs.Sorted.{rising_numbers}

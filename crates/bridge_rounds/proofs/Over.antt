@@ -6,17 +6,17 @@ use Rattle.std.proofs.lemmas.Bool.Decides.{nat_tests}
 use Rattle.std.proofs.lemmas.List.{length-map}
 use Rattle.std.proofs.lemmas.List.Elements.{All-head, All-tail}
 use Rattle.std.proofs.lemmas.Option.{slice_get-map, slice_get_within}
-use Rattle.bridge_base.specs.Members.{AllAfter, Rising}
+use Rattle.bridge_limits.specs.Members.{AllAfter, Rising}
 use Rattle.bridge_capture.specs.Grammar.{Records, AtEnd}
 use Rattle.bridge_capture.specs.Memory.{MemoryDevice}
 use Rattle.bridge_capture.specs.Written.{written_text}
 use Rattle.bridge_config.specs.declared.command.Command.{Command}
 use Rattle.bridge_config.specs.Commands.{AreCommands}
 use Rattle.bridge_config.specs.Model.{Plan}
-use Rattle.bridge_lanes.specs.Lanes.{AreRests, AreTexts}
-use Rattle.bridge_lanes.specs.declared.fault.RunFault.{RunFault}
-use Rattle.bridge_lanes.specs.declared.fault.RunFault.TheVariants as run
-use Rattle.bridge_run.specs.declared.outcome.Outcome.{Outcome}
+use Rattle.bridge_inputs.specs.Lanes.{AreRests, AreTexts}
+use Rattle.bridge_inputs.specs.declared.fault.RunFault.{RunFault}
+use Rattle.bridge_inputs.specs.declared.fault.RunFault.TheVariants as run
+use Rattle.bridge_semantics.specs.declared.outcome.Outcome.{Outcome}
 use Rattle.bridge_core.specs.Simulated.{AreNumbers, Runs, Stops}
 use Rattle.bridge_core.proofs.Beginning.{known}
 use Rattle.bridge_core.proofs.Simulating.{ports_many}

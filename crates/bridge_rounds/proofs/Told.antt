@@ -5,13 +5,13 @@ use Rattle.std.specs.Map.{lookup}
 use Rattle.std.proofs.lemmas.List.{length-map}
 use Rattle.std.proofs.lemmas.List.Elements.{All-head, All-tail}
 use Rattle.std.proofs.lemmas.Option.{slice_get-map, slice_get_within}
-use Rattle.bridge_base.specs.Members.{In}
+use Rattle.bridge_limits.specs.Members.{In}
 use Rattle.bridge_capture.specs.Memory.{MemoryDevice}
 use Rattle.bridge_capture.specs.Written.{written_text}
 use Rattle.bridge_config.specs.declared.command.Command.{Command}
 use Rattle.bridge_config.specs.Model.{Plan}
-use Rattle.bridge_run.specs.declared.outcome.Outcome.{Outcome}
-use Rattle.bridge_run.specs.Merge.{Input, asked, commands_of}
+use Rattle.bridge_semantics.specs.declared.outcome.Outcome.{Outcome}
+use Rattle.bridge_semantics.specs.Merge.{Input, asked, commands_of}
 use Rattle.bridge_network.specs.Checked.{AreClosed}
 use Rattle.bridge_network.proofs.Chain.{alone_in}
 use Rattle.bridge_network.proofs.Once.{one_course}

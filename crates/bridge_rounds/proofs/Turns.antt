@@ -10,7 +10,7 @@ use Rattle.bridge_capture.specs.Grammar.{Captured}
 use Rattle.bridge_capture.specs.Written.{written_text}
 use Rattle.bridge_core.specs.Lines.{FitsRecord}
 use Rattle.std.proofs.lemmas.List.Elements.{All-cons, All-head, All-nil, All-tail}
-use Rattle.bridge_lanes.specs.declared.fault.RunFault.{RunFault}
+use Rattle.bridge_inputs.specs.declared.fault.RunFault.{RunFault}
 use Rattle.bridge_rounds.specs.Delaying.{delayed}
 use Rattle.bridge_rounds.specs.Stations.{AreFedAt, Ground, HasRun, IsFedAt, IsLaterText, StationState, StopsBridge, ground, open_texts, tap_of, text_by, texts_of}
 

@@ -1,16 +1,16 @@
 -- Whole runs of networks by rounds.
 use Rattle.std.specs.Prelude.{◌≡◌, ◌<◌, ℕ, zero, suc, Some, None, List, [], ◌∷◌, length, map, slice_get, Vec, nat_eq}
 use Rattle.std.specs.Map.{lookup}
-use Rattle.bridge_base.specs.Members.{In}
+use Rattle.bridge_limits.specs.Members.{In}
 use Rattle.bridge_capture.specs.Grammar.{Captured, Records, AtEnd}
 use Rattle.bridge_capture.specs.Memory.{MemoryDevice}
 use Rattle.bridge_capture.specs.Written.{written_text}
 use Rattle.bridge_config.specs.Model.{Plan}
 use Rattle.bridge_config.specs.Rules.{port_at}
-use Rattle.bridge_run.specs.declared.outcome.Outcome.{Outcome}
-use Rattle.bridge_run.specs.declared.outcome.View.{View}
-use Rattle.bridge_run.specs.Merge.{Input, commands_of}
-use Rattle.bridge_run.specs.Runs.{TellTheSame}
+use Rattle.bridge_semantics.specs.declared.outcome.Outcome.{Outcome}
+use Rattle.bridge_semantics.specs.declared.outcome.View.{View}
+use Rattle.bridge_semantics.specs.Merge.{Input, commands_of}
+use Rattle.bridge_semantics.specs.Runs.{TellTheSame}
 use Rattle.bridge_core.specs.Simulated.{AreNumbers}
 use Rattle.bridge_network.specs.declared.links.StreamHop.{StreamHop}
 use Rattle.bridge_network.specs.Alone.{HaveSameFirst, IsAlone}

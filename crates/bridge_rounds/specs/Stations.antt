@@ -7,11 +7,11 @@ use Rattle.bridge_config.specs.declared.command.Command.{Command}
 use Rattle.bridge_config.specs.Commands.{AreCommands}
 use Rattle.bridge_config.specs.Model.{Plan}
 use Rattle.bridge_config.specs.Rules.{port_at}
-use Rattle.bridge_lanes.specs.declared.fault.RunFault.{RunFault}
-use Rattle.bridge_lanes.specs.declared.fault.RunFault.TheVariants as run
-use Rattle.bridge_run.specs.declared.outcome.Outcome.{Outcome}
-use Rattle.bridge_run.specs.Merge.{Input, IsMerged, events, commands_of, streams}
-use Rattle.bridge_run.specs.Outputs.{Ends}
+use Rattle.bridge_inputs.specs.declared.fault.RunFault.{RunFault}
+use Rattle.bridge_inputs.specs.declared.fault.RunFault.TheVariants as run
+use Rattle.bridge_semantics.specs.declared.outcome.Outcome.{Outcome}
+use Rattle.bridge_semantics.specs.Merge.{Input, IsMerged, events, commands_of, streams}
+use Rattle.bridge_semantics.specs.Outputs.{Ends}
 use Rattle.bridge_core.specs.Lines.{FitsRecord}
 use Rattle.bridge_core.specs.Simulated.{AreNumbers, Stops}
 use Rattle.bridge_network.specs.Networks as networks
@@ -69,6 +69,7 @@ taps_in taps = map (λ (d : MemoryDevice). d.octets) taps
 abbrev pub sender_value : Sender → networks.Sender
 sender_value s = record { from = end_of s.from; delay = s.delay }
 
+-- what sends to ports, as the definitions have it
 abbrev pub senders_in : List (Option Sender) → List (Option networks.Sender)
 senders_in senders = map (option_map sender_value) senders
 
@@ -106,6 +107,7 @@ pub record Ground (A : Type 0) : Type 0 where
   pub senders : List (Option networks.Sender)
   pub outside : List (List ℕ)
 
+-- what of a bridge no round changes
 abbrev pub ground : {A : Type 0} → StationState A → Ground A
 ground s = record { plan = s.plan; commands = s.commands; ports = s.ports; senders = s.senders; outside = open_texts s.senders s.texts }
 
@@ -168,6 +170,7 @@ HasRun {A} x = (o : Outcome A) × (x.outcome ≡ Some o)
 abbrev pub texts_of : {A : Type 0} → StationState A → List (List ℕ)
 texts_of x = x.texts
 
+-- the captures of what left a bridge
 abbrev pub taps_of : {A : Type 0} → StationState A → List (List ℕ)
 taps_of x = x.taps
 

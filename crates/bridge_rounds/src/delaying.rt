@@ -6,7 +6,7 @@ ghost use Rattle.bridge_capture.specs.Written.{written_item, written_text};
 ghost use Rattle.bridge_core.specs.Lines.{FitsRecord};
 ghost use Rattle.bridge_rounds.specs.Delaying.{AddsLater, IsWord, delayed, later_moment, moment_words};
 
-use bridge_base::{END_OF_TIME, NoMemory};
+use bridge_limits::{END_OF_TIME, NoMemory};
 use std::alloc::Allocator;
 
 /// How many octets the header of a capture has.

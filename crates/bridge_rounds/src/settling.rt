@@ -9,11 +9,11 @@ ghost use Rattle.bridge_rounds.specs.Rounds.{AreBegun, AreIncoming, AreSettled, 
 
 use crate::delaying::later_text;
 use crate::station::{Incoming, Sender, Station};
-use bridge_base::NoMemory;
 use bridge_capture::VecSink;
-use bridge_lanes::RunFault;
+use bridge_inputs::RunFault;
+use bridge_limits::NoMemory;
 use bridge_network::Network;
-use bridge_run::Outcome;
+use bridge_semantics::Outcome;
 use std::alloc::Allocator;
 
 /// Who is told how far a run of a network is.

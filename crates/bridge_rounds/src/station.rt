@@ -7,14 +7,14 @@ ghost use Rattle.bridge_network.specs.Networks as networks;
 ghost use Rattle.bridge_rounds.specs.Stations.{HasRun, IsBegun, IsIncoming, IsStation, NoneCame, NoneCameBefore, RunsBridge, StopsBridge, ground, of_memory, open_texts, sender_value, senders_in, taps_in, text_by, texts_in};
 ghost use Rattle.bridge_network.specs.Wiring.{end_of, link_of};
 
-use bridge_base::NoMemory;
 use bridge_capture::{SliceSource, VecSink};
 use bridge_check::Accepted;
 use bridge_config::Command;
 use bridge_core::simulate;
-use bridge_lanes::RunFault;
+use bridge_inputs::RunFault;
+use bridge_limits::NoMemory;
 use bridge_network::{End, Link};
-use bridge_run::Outcome;
+use bridge_semantics::Outcome;
 use std::alloc::Allocator;
 use std::marker::Model;
 

@@ -1,7 +1,7 @@
 -- The rows of a text of traffic, or its first fault.
 use Rattle.std.specs.Prelude.{ℕ, List, [], ◌∷◌, Result}
 use Rattle.toml.specs.Data.{Items, Members}
-use Rattle.bridge_keys.specs.Readers.{◌>>=◌}
+use Rattle.bridge_schema.specs.Readers.{◌>>=◌}
 use Rattle.bridge_netfile.specs.declared.fault.NetSection.TheVariants as section
 use Rattle.bridge_netfile.specs.declared.fault.NetFault.{NetFault}
 use Rattle.bridge_netfile.specs.declared.fault.NetFault.TheVariants as fault

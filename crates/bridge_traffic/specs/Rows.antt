@@ -2,8 +2,8 @@
 use Rattle.std.specs.Prelude.{ℕ, ◌-◌, ◌^◌, ◌≤◌, ◌<◌, Bool, List, [], ◌∷◌, Option, Result, Ok}
 use Rattle.std.specs.Option.{ForSome}
 use Rattle.toml.specs.Data.{Members}
-use Rattle.bridge_base.specs.declared.TheConstants.{END_OF_TIME, LONGEST_FRAME}
-use Rattle.bridge_keys.specs.Readers.{◌>>=◌, between}
+use Rattle.bridge_limits.specs.declared.TheConstants.{END_OF_TIME, LONGEST_FRAME}
+use Rattle.bridge_schema.specs.Readers.{◌>>=◌, between}
 use Rattle.bridge_netfile.specs.declared.fault.NetSection.TheVariants as section
 use Rattle.bridge_netfile.specs.declared.fault.NetField.{NetField}
 use Rattle.bridge_netfile.specs.declared.fault.NetField.TheVariants as field

@@ -2,7 +2,7 @@
 ghost use Rattle.std.specs.Prelude.{◌≡◌, IfOk, string_bytes};
 ghost use Rattle.bridge_traffic.specs.Faults.{traffic_line};
 
-use bridge_base::NoMemory;
+use bridge_limits::NoMemory;
 use bridge_netfile::{NetFault, refusal_line};
 use std::alloc::Allocator;
 use thiserror::Error;

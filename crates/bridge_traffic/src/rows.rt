@@ -7,12 +7,12 @@ ghost use Rattle.bridge_netfile.specs.Reading.{Gives};
 ghost use Rattle.bridge_traffic.specs.Rows as spec;
 ghost use Rattle.bridge_traffic.specs.Rows.{IsRow};
 
-use bridge_base::{END_OF_TIME, LONGEST_FRAME};
-use bridge_keys::Between;
+use bridge_limits::{END_OF_TIME, LONGEST_FRAME};
 use bridge_netfile::{
     NetFault, NetField, NetPlace, NetSection, RowReader, are_known, optional, required,
 };
 use bridge_periods::Traffic;
+use bridge_schema::Between;
 use std::alloc::Allocator;
 use toml::Table;
 

@@ -3,7 +3,7 @@ use Rattle.std.proofs.Common.{◌≡◌, ◌∙◌, ◌<◌, ◌+◌, ◌↔◌,
 use Rattle.std.specs.List.{filter}
 use Rattle.std.proofs.lemmas.List.Elements.{filter_more}
 use Rattle.std.proofs.lemmas.List.{map-append}
-use Rattle.bridge_base.specs.Members.{In}
+use Rattle.bridge_limits.specs.Members.{In}
 use Rattle.bridge_walks.specs.declared.places.Place.{Place}
 use Rattle.bridge_walks.specs.declared.places.Step.{Step}
 use Rattle.bridge_walks.specs.Walks.{Leads, GoesRound, Walks, step}

@@ -1,7 +1,7 @@
 -- Which steps may be laid aside. No public clause speaks of it.
 use Rattle.std.specs.Prelude.{Bool, ◌&&◌, nat_eq, List}
 use Rattle.std.specs.List.{list_any}
-use Rattle.bridge_base.specs.Members.{In}
+use Rattle.bridge_limits.specs.Members.{In}
 use Rattle.bridge_walks.specs.declared.places.Place.{Place}
 use Rattle.bridge_walks.specs.declared.places.Step.{Step}
 use Rattle.bridge_walks.specs.Walks.{GoesRound}

@@ -1,7 +1,7 @@
 -- How the ports are found to which steps lead from one. No public clause speaks of it.
 use Rattle.std.specs.Prelude.{◌≡◌, ◌⊎◌, Bool, ◌||◌, not, List, [], ◌∷◌, ◌++◌, map}
 use Rattle.std.specs.List.{filter}
-use Rattle.bridge_base.specs.Members.{In}
+use Rattle.bridge_limits.specs.Members.{In}
 use Rattle.bridge_walks.specs.declared.places.Place.{Place}
 use Rattle.bridge_walks.specs.declared.places.Step.{Step}
 use Rattle.bridge_walks.specs.Walks.{Walks, step}

@@ -1,6 +1,6 @@
 -- Walks along steps from port to port, and those that come round.
 use Rattle.std.specs.Prelude.{List, [], ◌∷◌}
-use Rattle.bridge_base.specs.Members.{In}
+use Rattle.bridge_limits.specs.Members.{In}
 use Rattle.bridge_walks.specs.declared.places.Place.{Place}
 use Rattle.bridge_walks.specs.declared.places.Step.{Step}
 

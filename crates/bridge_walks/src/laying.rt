@@ -5,7 +5,7 @@ ghost use Rattle.bridge_walks.specs.Peeling as peeling;
 ghost use Rattle.bridge_walks.specs.Peeling.{IsLaidAside};
 
 use crate::places::{Place, Step, is_one};
-use bridge_base::NoMemory;
+use bridge_limits::NoMemory;
 use std::alloc::Allocator;
 
 /// Whether a step begins at a port.

@@ -6,7 +6,7 @@ ghost use Rattle.bridge_walks.specs.declared.places.Place.{Place as Port};
 use crate::laying::laid_aside;
 use crate::places::{Place, Step};
 use crate::searching::comes_back;
-use bridge_base::NoMemory;
+use bridge_limits::NoMemory;
 use std::alloc::Allocator;
 
 /// A port from which steps lead to itself again, if there is one, by searching from the beginning of each step.

@@ -6,7 +6,7 @@ ghost use Rattle.bridge_walks.specs.Searching as searching;
 ghost use Rattle.bridge_walks.specs.Searching.{targets};
 
 use crate::places::{Place, Step, is_among, is_one};
-use bridge_base::NoMemory;
+use bridge_limits::NoMemory;
 use std::alloc::Allocator;
 
 /// Whether a port is the one where the search begins, or one that was reached.

@@ -21,11 +21,11 @@ use Rattle.bridge_port.specs.Standing.{State, StandsFor, IsDue, IsIdle}
 use Rattle.bridge_port.proofs.Ports.{idle_whole}
 use Rattle.bridge_port.proofs.Watched.{whole_seen}
 use Rattle.bridge_wire.specs.declared.count.WireCount.{WireCount}
-use Rattle.bridge_lanes.specs.declared.lane.Lane.{Lane}
-use Rattle.bridge_lanes.specs.Lanes.{FailsFirst, Finds, fault_at}
-use Rattle.bridge_lanes.specs.Lanes.{room as room_ahead}
+use Rattle.bridge_inputs.specs.declared.lane.CaptureReader.{CaptureReader}
+use Rattle.bridge_inputs.specs.Lanes.{FailsFirst, Finds, fault_at}
+use Rattle.bridge_inputs.specs.Lanes.{room as room_ahead}
 use Rattle.bridge_wire.specs.Wire.{offers_of, IsOutput, IsUpTo, IsWireRun, LooksFrom, Stops, StopsWriting, WantsMemory, Wires}
-use Rattle.bridge_lanes.specs.declared.fault.RunFault.{RunFault}
+use Rattle.bridge_inputs.specs.declared.fault.RunFault.{RunFault}
 use Rattle.bridge_wire.specs.Sending.{EndsSo, frame_of, no_count, NotBefore, IsRunning, IsUnderWay, Sends, StopsAfter}
 use Rattle.bridge_wire.proofs.Running.{goes_until, is_up_to, stops_after, HasGone}
 
@@ -135,17 +135,17 @@ run_ends speed room frames old new count began now after r gone idle =
     )
 
 -- how much a lane may still give where a frame is ahead
-pub room_some : {A : Type 0} (lane : Lane A) (p : Packet A) → lane.ahead ≡ Some p → room_ahead lane ≡ records_left lane.capture + 1
+pub room_some : {A : Type 0} (lane : CaptureReader A) (p : Packet A) → lane.ahead ≡ Some p → room_ahead lane ≡ records_left lane.capture + 1
 room_some lane p e = rw e refl
 
 -- a run that is under way, at the end of its text, once all that were accepted have left
-pub wires_all : {A : Type 0} (speed : Speed) (room : ℕ) (text : List ℕ) (remaining : Option (List ℕ)) (lane : Lane A) (old new : State (Vec ℕ A)) (count : WireCount) (began now after : Option (List ℕ)) → IsUnderWay speed room text remaining lane old count began now → lane.ahead ≡ None → HasGone old new now after → IsIdle new → Wires speed room text began after count
+pub wires_all : {A : Type 0} (speed : Speed) (room : ℕ) (text : List ℕ) (remaining : Option (List ℕ)) (lane : CaptureReader A) (old new : State (Vec ℕ A)) (count : WireCount) (began now after : Option (List ℕ)) → IsUnderWay speed room text remaining lane old count began now → lane.ahead ≡ None → HasGone old new now after → IsIdle new → Wires speed room text began after count
 wires_all speed room text remaining lane old new count began now after u none gone idle =
     let e = run_ends speed room u.frames old new count began now after u.running gone idle in
     record { frames = u.frames; left = e.0; reads = subst (Finds text u.frames) none u.ahead.finds; runs = e.1; writes = e.2 }
 
 -- the sink failed while the last frames left
-pub stops_at_end : {A : Type 0} (speed : Speed) (room : ℕ) (text : List ℕ) (remaining : Option (List ℕ)) (lane : Lane A) (old new : State (Vec ℕ A)) (count : WireCount) (began now after : Option (List ℕ)) (u : IsUnderWay speed room text remaining lane old count began now) → lane.ahead ≡ None → new.list ≡ old.list → new.speed ≡ old.speed → new.rooms ≡ old.rooms → last_time 0 u.frames ≤ new.earliest → (gone : List Captured) → Sends new (offers_of u.frames) count.sent count.full (u.running.left ++ gone) → AppendsFront now after (flat_map written_item gone) → StopsWriting speed room text began after
+pub stops_at_end : {A : Type 0} (speed : Speed) (room : ℕ) (text : List ℕ) (remaining : Option (List ℕ)) (lane : CaptureReader A) (old new : State (Vec ℕ A)) (count : WireCount) (began now after : Option (List ℕ)) (u : IsUnderWay speed room text remaining lane old count began now) → lane.ahead ≡ None → new.list ≡ old.list → new.speed ≡ old.speed → new.rooms ≡ old.rooms → last_time 0 u.frames ≤ new.earliest → (gone : List Captured) → Sends new (offers_of u.frames) count.sent count.full (u.running.left ++ gone) → AppendsFront now after (flat_map written_item gone) → StopsWriting speed room text began after
 stops_at_end speed room text remaining lane old new count began now after u none list pace places from gone s front =
     let stops = stops_after speed room u.frames old new count new.earliest began now after u.running list pace places from (omega arith) gone s front in
     stops_writing speed room text u.frames new.earliest began after stops (inl (subst (Finds text u.frames) none u.ahead.finds))

@@ -15,7 +15,7 @@ use Rattle.bridge_capture.specs.Grammar.{Captured}
 use Rattle.bridge_capture.specs.Written.{written_item}
 use Rattle.bridge_capture.specs.Sinks.{AppendsFront}
 use Rattle.bridge_capture.proofs.Written.{front_of_second}
-use Rattle.bridge_base.specs.Members.{In}
+use Rattle.bridge_limits.specs.Members.{In}
 use Rattle.bridge_port.specs.declared.item.Item.{Item}
 use Rattle.bridge_port.specs.Schedule.{Fate, Queued, Started, Copy, Begun, here, there, is_accepted}
 use Rattle.bridge_port.specs.Seen.{all_seen}
@@ -23,7 +23,7 @@ use Rattle.bridge_port.specs.Standing.{State, StandsFor, IsNext, IsBegun, NoStar
 use Rattle.bridge_port.proofs.Watched.{begun_seen}
 use Rattle.bridge_port.proofs.Members.{begun_to, begun_from, begun_there}
 use Rattle.bridge_port.proofs.Keeping.{count_cons}
-use Rattle.bridge_lanes.specs.declared.fault.RunFault.{RunFault}
+use Rattle.bridge_inputs.specs.declared.fault.RunFault.{RunFault}
 use Rattle.bridge_wire.specs.Wire.{IsShort, Frame, Offer, offered, departure, IsOutput}
 use Rattle.bridge_wire.specs.Sending.{frame_of, AreOfClass, Sends, Goes}
 use Rattle.bridge_wire.proofs.Lists.{in_left, in_last, in_push, rising_push}

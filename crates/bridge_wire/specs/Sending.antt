@@ -6,18 +6,18 @@ use Rattle.bridge_frame.specs.declared.Speed.{Speed}
 use Rattle.bridge_capture.specs.Grammar.{Captured}
 use Rattle.bridge_capture.specs.Written.{written_item, written_text}
 use Rattle.bridge_capture.specs.Sinks.{AppendsFront}
-use Rattle.bridge_base.specs.Members.{In}
-use Rattle.bridge_base.specs.declared.TheConstants.{END_OF_SENDING}
+use Rattle.bridge_limits.specs.Members.{In}
+use Rattle.bridge_limits.specs.declared.TheConstants.{END_OF_SENDING}
 use Rattle.bridge_port.specs.declared.item.Item.{Item}
 use Rattle.bridge_port.specs.Opening.{Always}
 use Rattle.bridge_port.specs.Schedule.{Copy, is_accepted}
 use Rattle.bridge_port.specs.Seen.{all_seen}
 use Rattle.bridge_port.specs.Standing.{State, StandsFor, NoStartBefore, count_queued}
 use Rattle.bridge_wire.specs.declared.count.WireCount.{WireCount}
-use Rattle.bridge_lanes.specs.declared.fault.RunFault.{RunFault}
+use Rattle.bridge_inputs.specs.declared.fault.RunFault.{RunFault}
 use Rattle.bridge_capture.specs.Standing.{last_time}
-use Rattle.bridge_lanes.specs.declared.lane.Lane.{Lane}
-use Rattle.bridge_lanes.specs.Lanes.{IsAhead}
+use Rattle.bridge_inputs.specs.declared.lane.CaptureReader.{CaptureReader}
+use Rattle.bridge_inputs.specs.Lanes.{IsAhead}
 use Rattle.bridge_wire.specs.Wire.{Frame, Offer, offered, offers_of, is_well_formed, IsShort, IsOutput, GoesThrough, Stops, Wires}
 
 -- a queued frame as a frame
@@ -94,13 +94,13 @@ abbrev pub no_count : WireCount
 no_count = record { frames = 0; malformed = 0; sent = 0; full = 0 }
 
 -- a run is under way: these frames of the text were taken, what comes behind them is ahead, and what left is written
-pub record IsUnderWay {A : Type 0} (speed : Speed) (room : ℕ) (text : List ℕ) (remaining : Option (List ℕ)) (lane : Lane A) (p : State (Vec ℕ A)) (count : WireCount) (began now : Option (List ℕ)) : Type 0 where
+pub record IsUnderWay {A : Type 0} (speed : Speed) (room : ℕ) (text : List ℕ) (remaining : Option (List ℕ)) (lane : CaptureReader A) (p : State (Vec ℕ A)) (count : WireCount) (began now : Option (List ℕ)) : Type 0 where
   pub frames : List Captured
   pub ahead : IsAhead lane remaining text frames
   pub running : IsRunning speed room frames p count began now
 
 -- a run goes on, or stopped
-abbrev pub GoesOn : {A : Type 0} → Speed → ℕ → List ℕ → Option (List ℕ) → Lane A → State (Vec ℕ A) → WireCount → Option (List ℕ) → Option (List ℕ) → Result (Unit {0}) RunFault → Type 0
+abbrev pub GoesOn : {A : Type 0} → Speed → ℕ → List ℕ → Option (List ℕ) → CaptureReader A → State (Vec ℕ A) → WireCount → Option (List ℕ) → Option (List ℕ) → Result (Unit {0}) RunFault → Type 0
 GoesOn speed room text remaining lane p count began now (Ok u) = IsUnderWay speed room text remaining lane p count began now
 GoesOn speed room text remaining lane p count began now (Err fault) = Stops speed room text remaining began now fault
 

@@ -4,16 +4,16 @@ ghost use Rattle.bridge_capture.specs.Grammar.{Captured};
 ghost use Rattle.bridge_capture.specs.Reading.{view};
 ghost use Rattle.bridge_capture.specs.Standing.{Gave, IsReading, records_left, StandsFor};
 ghost use Rattle.bridge_port.specs.Standing.{count_queued, State};
-ghost use Rattle.bridge_lanes.specs.Lanes.{IsLane, room as room_ahead};
+ghost use Rattle.bridge_inputs.specs.Lanes.{IsLane, room as room_ahead};
 ghost use Rattle.bridge_wire.specs.Wire.{IsOfPortOne, Stops, Wires};
 ghost use Rattle.bridge_wire.specs.Sending.{Continues, EndsSo, GoesOn, is_overlong, IsRunning, IsUnderWay, no_count};
 
 use crate::count::WireCount;
 use crate::sending::depart_before;
-use bridge_base::{END_OF_TIME, MOST_CAPTURED};
 use bridge_capture::{ByteSink, ByteSource, CaptureFault, MAX_RECORDS, Packet, Writer};
 use bridge_frame::{Speed, parse};
-use bridge_lanes::{Lane, RunFault, Spares, fault_of};
+use bridge_inputs::{CaptureReader, RunFault, Spares, fault_of};
+use bridge_limits::{END_OF_TIME, MOST_CAPTURED};
 use bridge_port::{Item, LARGEST_ROOM, Port};
 use std::alloc::Allocator;
 
@@ -74,7 +74,7 @@ fn take<W: ByteSink, A: Allocator + Copy>(
 fn take_next<R: ByteSource, W: ByteSink, A: Allocator + Copy>(
     speed: Speed,
     packet: Packet<A>,
-    lane: &mut Lane<A>,
+    lane: &mut CaptureReader<A>,
     port: &mut Port<Vec<u8, A>, A>,
     writer: &mut Writer,
     count: &mut WireCount,
@@ -117,7 +117,7 @@ fn take_next<R: ByteSource, W: ByteSink, A: Allocator + Copy>(
 /// Sends all frames of a capture through a queue, and makes and writes all starts.
 fn run_through<R: ByteSource, W: ByteSink, A: Allocator + Copy>(
     speed: Speed,
-    lane: &mut Lane<A>,
+    lane: &mut CaptureReader<A>,
     port: &mut Port<Vec<u8, A>, A>,
     writer: &mut Writer,
     source: &mut R,
@@ -185,7 +185,7 @@ pub fn wire<R: ByteSource, W: ByteSink, A: Allocator + Copy>(
     ensures write { (port : ℕ) → result ≡ Err (RunFault.Write port) → W.has_failed sink.new ≡ true }
     ensures sound { (port : ℕ) → W.never_fails sink.old ≡ true → result ≡ Err (RunFault.Write port) → W.ran_out sink.new ≡ true }
 {
-    let mut lane = match Lane::begin(alloc, 1, source) {
+    let mut lane = match CaptureReader::begin(alloc, 1, source) {
         Ok(lane) => lane,
         Err(fault) => return Err(fault_of(1, fault)),
     };

@@ -6,7 +6,7 @@ ghost use Rattle.bridge_wire.specs.Wire.{Offer};
 ghost use Rattle.bridge_wire.specs.Sending.{Goes, is_overlong, NotBefore, Sends};
 
 use bridge_capture::{ByteSink, Writer};
-use bridge_lanes::{RunFault, Spares};
+use bridge_inputs::{RunFault, Spares};
 use bridge_port::{Item, Port};
 use std::alloc::Allocator;
 

@@ -3,15 +3,15 @@
 ghost use Rattle.std.specs.Prelude.{◌≡◌, ℕ, true, Option};
 ghost use Rattle.bridge_filter.specs.Plans.{is_there};
 ghost use Rattle.bridge_config.specs.Commands.{has_instance};
-ghost use Rattle.bridge_parts.specs.Ports.{NotBefore};
+ghost use Rattle.bridge_state.specs.Ports.{NotBefore};
 ghost use Rattle.bridge_core.specs.Bridges.{next_start, plan_in};
 
-use bridge_base::{END_OF_TIME, MOST_ARRIVALS, MOST_CAPTURED};
 use bridge_capture::{Capture, Packet, SliceSource};
 use bridge_check::Accepted;
 use bridge_config::Command;
 use bridge_core::{Agenda, Bridge, Outcome, Sent};
 use bridge_filter::Clear;
+use bridge_limits::{END_OF_TIME, MOST_ARRIVALS, MOST_CAPTURED};
 use std::alloc::{Allocator, Global};
 use std::fmt::Debug;
 use std::test::Fail;

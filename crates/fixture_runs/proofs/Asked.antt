@@ -1,6 +1,6 @@
 -- Lists of no command and of one.
 use Rattle.std.proofs.Common.{◌≡◌, List, [], ◌∷◌, true, inl, inr, sym, subst}
-use Rattle.bridge_base.specs.Members.{In}
+use Rattle.bridge_limits.specs.Members.{In}
 use Rattle.bridge_config.specs.declared.command.Command.{Command}
 use Rattle.bridge_config.specs.Model.{Plan}
 use Rattle.bridge_config.specs.Commands.{has_instance, AreCommands}

@@ -15,7 +15,7 @@ use bridge_meter::Buckets;
 use bridge_port::Refusal;
 use bridge_relay::Sent;
 use bridge_report::summary;
-use bridge_run::{Departure, Dropped, Outcome, PortCount, View};
+use bridge_semantics::{Departure, Dropped, Outcome, PortCount, View};
 use fixture_bridge::{driven, has_instance, same};
 use std::alloc::{Allocator, Global};
 use std::test::Fail;

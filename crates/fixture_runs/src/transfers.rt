@@ -4,7 +4,7 @@ use crate::runs::{Row, line_told};
 use bridge_check::Accepted;
 use bridge_config::Command;
 use bridge_files::{Halted, run_over};
-use bridge_run::Outcome;
+use bridge_semantics::Outcome;
 use fixture_bridge::{has_instance, same};
 use std::alloc::{AllocError, Allocator, Global};
 use std::io::{Read, Write};

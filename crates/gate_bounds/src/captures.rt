@@ -2,7 +2,7 @@
 ghost use Rattle.std.specs.Prelude.{◌<◌};
 
 use bridge_capture::{VecSink, Writer};
-use bridge_lanes::RunFault;
+use bridge_inputs::RunFault;
 use std::alloc::Allocator;
 
 /// The first octets of a frame of the stream.

@@ -8,9 +8,9 @@ mod periods;
 mod running;
 
 use bridge_check::Accepted;
-use bridge_lanes::RunFault;
+use bridge_inputs::RunFault;
+use bridge_jobs::{Fault, end, planned, print};
 use bridge_planning::{QueueBound, bounds_of};
-use bridge_program::{Fault, end, planned, print};
 use captures::Near;
 use periods::tell_talkers;
 use running::{drawn_delay, made_delay};

@@ -1,11 +1,11 @@
 //! Runs, and how long the frames of a filter took in them.
 use crate::captures::{Near, Numbers, drawn, near_capture, none};
-use bridge_base::NoMemory;
 use bridge_capture::{SliceSource, VecSink};
 use bridge_check::Accepted;
 use bridge_core::{Departure, Outcome, View, simulate};
-use bridge_lanes::RunFault;
-use bridge_run::Origin;
+use bridge_inputs::RunFault;
+use bridge_limits::NoMemory;
+use bridge_semantics::Origin;
 use std::alloc::{Allocator, Global};
 
 /// How many runs there are of captures that are drawn.

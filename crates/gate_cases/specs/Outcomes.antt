@@ -1,8 +1,8 @@
 -- What becomes of texts, as lines.
 use Rattle.std.specs.Prelude.{◌≡◌, ◌++◌, ℕ, List, Result, Ok, Err, length, codes, decimal}
 use Rattle.std.specs.Global.{Vec}
-use Rattle.bridge_keys.specs.declared.fault.PlanFault.{PlanFault}
-use Rattle.bridge_keys.specs.Readers.{Gives, GivesAs}
+use Rattle.bridge_schema.specs.declared.fault.PlanFault.{PlanFault}
+use Rattle.bridge_schema.specs.Readers.{Gives, GivesAs}
 use Rattle.bridge_config.specs.Model.{Plan}
 use Rattle.bridge_config.specs.declared.command.Command.{Command}
 use Rattle.bridge_config.specs.Document.{plan_of_text, commands_of_text}
@@ -13,8 +13,8 @@ use Rattle.bridge_netfile.specs.Model.{Network}
 use Rattle.bridge_netfile.specs.Reading as reading
 use Rattle.bridge_traffic.specs.declared.rows.TrafficRow.{TrafficRow}
 use Rattle.bridge_traffic.specs.Document.{rows_of_text}
-use Rattle.bridge_program.specs.PlanLines.{line_of_plan}
-use Rattle.bridge_program.specs.RefusedCommands.{line_of_commands}
+use Rattle.bridge_jobs.specs.PlanLines.{line_of_plan}
+use Rattle.bridge_jobs.specs.RefusedCommands.{line_of_commands}
 
 -- a plan is accepted, or refused by its line
 abbrev pub plan_line : {A : Type 0} → Result (Plan A) PlanFault → List ℕ

@@ -3,7 +3,7 @@ ghost use Rattle.std.specs.Prelude.{◌≡◌, ◌++◌, OnOk, codes, string_byt
 
 use crate::case::{halves, parts_of};
 use bridge_config::{Plan, plan_of};
-use bridge_program::Fault;
+use bridge_jobs::Fault;
 use std::alloc::{AllocError, Global};
 
 /// The place behind all pieces of the base plan.

@@ -3,7 +3,7 @@ use crate::bases::{Bases, bases_of};
 use crate::case::{after, parts_of};
 use crate::outcome::{Finding, found};
 use crate::reading::text_in;
-use bridge_program::{Fault, print};
+use bridge_jobs::{Fault, print};
 use std::rt::Files;
 
 /// Judges the files of cases behind the file of the base plan's pieces and that of what the plan of the commands has

@@ -15,7 +15,7 @@ mod telling;
 mod told_cases;
 mod told_faults;
 
-use bridge_program::{Fault, end, words_of};
+use bridge_jobs::{Fault, end, words_of};
 use judging::judged;
 use std::process::ExitCode;
 use std::rt::{Env, Files};

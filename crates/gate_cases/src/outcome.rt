@@ -1,13 +1,13 @@
 //! What becomes of the text of a case.
 ghost use Rattle.std.specs.Prelude.{◌≡◌, IfOk, string_bytes};
-ghost use Rattle.bridge_program.specs.Lines.{line_of};
+ghost use Rattle.bridge_jobs.specs.Lines.{line_of};
 ghost use Rattle.gate_cases.specs.Outcomes.{IsCommandsLine, IsPlanLine};
 
 use crate::bases::Bases;
 use crate::case::{Case, case_of, written_out};
 use crate::networks::line_at;
 use bridge_config::{Plan, commands_of, plan_of};
-use bridge_program::{Fault, fault_line};
+use bridge_jobs::{Fault, fault_line};
 use std::alloc::{AllocError, Allocator, Global};
 
 /// What is found of a part of a file.

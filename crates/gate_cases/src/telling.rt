@@ -2,8 +2,8 @@
 use crate::reading::text_in;
 use crate::told_cases::{heading_of, told};
 use crate::told_faults::{told_of_causes, told_of_faults};
-use bridge_program::{Fault, print};
-use bridge_words::manual_of;
+use bridge_cli::manual_of;
+use bridge_jobs::{Fault, print};
 use std::rt::Files;
 
 /// Prints the help of the program and of each of its commands, tells of each case of the files behind that of a plan that

@@ -1,14 +1,14 @@
 //! A case of a file, and what is told of it.
 
 use bridge_check::{Accepted, CheckFault, check};
+use bridge_cli::job_of;
 use bridge_config::{Plan, commands_of, plan_of};
 use bridge_explain::{
     explain_check, explain_commands, explain_plan, explain_run, explain_text, explain_words,
     warn_of_plan,
 };
-use bridge_program::{Fault, NoMemory, TextFault, fault_line, wire_text};
-use bridge_text::octets_of;
-use bridge_words::job_of;
+use bridge_hex::octets_of;
+use bridge_jobs::{Fault, NoMemory, TextFault, fault_line, wire_text};
 use std::alloc::{AllocError, Global};
 
 /// The first line of a case.

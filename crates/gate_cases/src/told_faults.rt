@@ -7,9 +7,9 @@ use bridge_config::plan_of;
 use bridge_explain::{
     Cause, explain_check, explain_commands, explain_file, explain_plan, explain_run, explain_text,
 };
-use bridge_keys::PlanFault;
-use bridge_lanes::RunFault;
-use bridge_program::{Fault, TextFault};
+use bridge_inputs::RunFault;
+use bridge_jobs::{Fault, TextFault};
+use bridge_schema::PlanFault;
 use std::alloc::{AllocError, Global};
 
 /// Faults of runs.

@@ -2,7 +2,7 @@
 
 use crate::files::{are_equal_in, copy_all, copy_file, make_folder, octets_of, print_file};
 use crate::{print_under, run_network};
-use bridge_program::{Fault, print};
+use bridge_jobs::{Fault, print};
 use std::rt::Files;
 
 /// The bridges.

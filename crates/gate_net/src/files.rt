@@ -1,6 +1,6 @@
 //! Files that are read, compared and copied.
 
-use bridge_program::{Fault, print, read_at_most};
+use bridge_jobs::{Fault, print, read_at_most};
 use std::fs;
 use std::rt::Files;
 

@@ -9,8 +9,8 @@ mod refused;
 mod row;
 
 use babbling::print_babbling;
-use bridge_net_folder::{RoundsJob, rounds_job};
-use bridge_program::{Fault, end, print};
+use bridge_jobs::{Fault, end, print};
+use bridge_net_app::{RoundsJob, rounds_job};
 use refused::print_refused;
 use row::print_row;
 use std::process::ExitCode;

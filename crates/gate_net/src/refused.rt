@@ -2,7 +2,7 @@
 
 use crate::files::{are_equal, make_folder, octets_of};
 use crate::{print_under, run_network};
-use bridge_program::{Fault, fault_line, print};
+use bridge_jobs::{Fault, fault_line, print};
 use std::fs;
 use std::rt::Files;
 

@@ -2,8 +2,8 @@
 
 use crate::files::{are_equal_in, copy_all, copy_file, make_folder, print_file};
 use crate::{print_under, run_network};
-use bridge_folder::run_job;
-use bridge_program::{Fault, print};
+use bridge_app::run_job;
+use bridge_jobs::{Fault, print};
 use std::rt::Files;
 
 /// What is written of a bridge.

@@ -5,9 +5,9 @@
 //! The words name the files of all three, with `bounds` and `traffic` between them; of the last ones the plan stands before its
 //! traffic.
 
-use bridge_lanes::RunFault;
+use bridge_inputs::RunFault;
+use bridge_jobs::{Fault, end, fault_line, print, words_of};
 use bridge_planning::{bounds_job, explain_network, network_job, traffic_job};
-use bridge_program::{Fault, end, fault_line, print, words_of};
 use std::fs;
 use std::process::ExitCode;
 use std::rt::{Env, Files};

@@ -8,7 +8,7 @@ mod numbers;
 mod running;
 mod trying;
 
-use bridge_program::{Fault, end, print};
+use bridge_jobs::{Fault, end, print};
 use std::process::ExitCode;
 use trying::{Said, Seen, Sorts, seen_of, sorts_of};
 

@@ -3,7 +3,7 @@ use crate::frames::{FRAMES, Left, number_at};
 use bridge_capture::{SliceSource, VecSink};
 use bridge_check::Accepted;
 use bridge_core::{Outcome, View, simulate};
-use bridge_lanes::RunFault;
+use bridge_inputs::RunFault;
 use bridge_network::StreamHop;
 use std::alloc::Global;
 

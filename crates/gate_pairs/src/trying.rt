@@ -5,7 +5,7 @@ use crate::numbers::Numbers;
 use crate::running::{Ran, is_foreign, own_in, ran_over, taken};
 use bridge_capture::VecSink;
 use bridge_check::Accepted;
-use bridge_lanes::RunFault;
+use bridge_inputs::RunFault;
 use bridge_network::{End, Link, NetworkFault, StreamHop, check_network, stray_at};
 use std::alloc::{AllocError, Global};
 

@@ -10,7 +10,7 @@ use crate::numbers::Numbers;
 use crate::traffic::{Comer, Spoilt, capture_of, spoil};
 use bridge_check::Accepted;
 use bridge_config::{Command, commands_of};
-use bridge_lanes::RunFault;
+use bridge_inputs::RunFault;
 use bridge_network::Link;
 use bridge_rounds::{Incoming, is_linked};
 use std::alloc::Global;

@@ -13,7 +13,7 @@ mod shape;
 mod traffic;
 mod trying;
 
-use bridge_program::{Fault, end, print};
+use bridge_jobs::{Fault, end, print};
 use refusals::growths_refused;
 use std::process::ExitCode;
 use trying::{Seen, seen_of};

@@ -3,7 +3,7 @@ use bridge_config::Command;
 use bridge_core::{Outcome, View};
 use bridge_network::Link;
 use bridge_rounds::is_linked;
-use bridge_run::Origin;
+use bridge_semantics::Origin;
 use std::alloc::Global;
 
 /// Whether frames came over links at such moments.

@@ -5,10 +5,10 @@ ghost use Rattle.bridge_rounds.specs.Stations.{IsIncoming};
 ghost use Rattle.bridge_rounds.specs.Rounds.{AreIncoming};
 ghost use Rattle.gate_rounds.specs.Coming.{AllIncoming};
 
-use bridge_base::NoMemory;
 use bridge_capture::{VecSink, Writer};
 use bridge_check::{Accepted, check};
 use bridge_config::{Command, commands_of, plan_of};
+use bridge_limits::NoMemory;
 use bridge_network::{End, Link, Network, StreamHop, check_network};
 use bridge_rounds::{Incoming, Nobody, RoundsFault, Settled, settle};
 use fixture_alloc::{Ending, RefusesOne};

@@ -7,7 +7,7 @@ use bridge_capture::{SliceSource, VecSink};
 use bridge_check::Accepted;
 use bridge_config::Command;
 use bridge_core::{Outcome, View, simulate};
-use bridge_lanes::RunFault;
+use bridge_inputs::RunFault;
 use bridge_network::{End, Link, Network};
 use bridge_report::report;
 use bridge_rounds::{Settled, later_text};

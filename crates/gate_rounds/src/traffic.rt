@@ -3,7 +3,7 @@ ghost use Rattle.std.specs.Prelude.{◌≤◌};
 
 use crate::numbers::Numbers;
 use bridge_capture::{VecSink, Writer};
-use bridge_lanes::RunFault;
+use bridge_inputs::RunFault;
 use std::alloc::Global;
 
 /// What comes to a port.

@@ -8,7 +8,7 @@ use crate::shape::{Shape, Way, hops_of, links_of, next_shape, ways_of};
 use crate::traffic::Spoilt;
 use bridge_capture::CaptureFault;
 use bridge_check::Accepted;
-use bridge_lanes::RunFault;
+use bridge_inputs::RunFault;
 use bridge_network::{Network, StreamHop, check_network};
 use bridge_report::{has_section, section};
 use bridge_rounds::{Nobody, RoundsFault, Settled, settle};

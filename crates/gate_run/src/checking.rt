@@ -1,8 +1,8 @@
 //! `check` over a file.
 
 use crate::wording::job_in;
-use bridge_program::{Fault, check_job, print};
-use bridge_words::Job;
+use bridge_cli::Job;
+use bridge_jobs::{Fault, check_job, print};
 use std::fs;
 use std::rt::Files;
 

@@ -3,9 +3,9 @@
 
 use crate::kept::octets_of;
 use crate::section::{Finding, compared, said_of, sections_of};
+use bridge_app::run_job;
 use bridge_files::report_path;
-use bridge_folder::run_job;
-use bridge_program::{Fault, print};
+use bridge_jobs::{Fault, print};
 use std::rt::Files;
 
 /// The examples: folders with a plan and two folders of captures, `normal` and `babbling`.

@@ -1,7 +1,7 @@
 //! Runs that are refused, and what their files hold afterwards; then one whose report is empty.
 
-use bridge_folder::run_job;
-use bridge_program::{Fault, fault_line, print, read_at_most};
+use bridge_app::run_job;
+use bridge_jobs::{Fault, fault_line, print, read_at_most};
 use std::fs;
 use std::rt::Files;
 

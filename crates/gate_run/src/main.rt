@@ -14,11 +14,11 @@ mod strict;
 mod wiring;
 mod wording;
 
+use bridge_app::run_job;
+use bridge_cli::{Job, job_of};
 use bridge_files::{capture_path, report_path};
-use bridge_folder::run_job;
-use bridge_program::{Fault, end, print, words_of};
-use bridge_text::lines_of;
-use bridge_words::{Job, job_of};
+use bridge_hex::lines_of;
+use bridge_jobs::{Fault, end, print, words_of};
 use checking::print_checked;
 use examples::print_compared;
 use kept::{octets_of, print_kept};

@@ -2,9 +2,9 @@
 //! that a picture replaces no file of its job.
 
 use crate::kept::octets_of;
-use bridge_folder::{drawn_job, picture_job, run_job};
-use bridge_program::{Fault, fault_line, print};
-use bridge_words::Sketch;
+use bridge_app::{picture_job, run_job, run_with_picture};
+use bridge_cli::PictureRequest;
+use bridge_jobs::{Fault, fault_line, print};
 use std::rt::Files;
 
 /// The files that a run writes.
@@ -67,8 +67,8 @@ fn drawn(
     let input = owned(rt, "babbling")?;
     let output = owned(rt, "drawn")?;
     let file = owned(rt, file)?;
-    let sketch = Sketch { file, from, to };
-    drawn_job(rt, plan, input, output, None, Some(sketch))
+    let sketch = PictureRequest { file, from, to };
+    run_with_picture(rt, plan, input, output, None, Some(sketch))
 }
 
 /// Prints what a file holds.

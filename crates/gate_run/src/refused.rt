@@ -3,7 +3,7 @@
 use crate::kept::octets_of;
 use bridge_files::wire_files;
 use bridge_frame::Speed;
-use bridge_program::{Fault, fault_line, print};
+use bridge_jobs::{Fault, fault_line, print};
 use std::fs;
 use std::rt::Files;
 

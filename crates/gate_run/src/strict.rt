@@ -2,8 +2,8 @@
 //! at all moments.
 
 use crate::kept::octets_of;
-use bridge_folder::{Strict, strict_check_job, strict_run_job};
-use bridge_program::{Fault, print};
+use bridge_app::{Strict, strict_check_job, strict_run_job};
+use bridge_jobs::{Fault, print};
 use std::rt::Files;
 
 /// Prints what both jobs come to over each plan, and how many octets the report of the folder that the runs write holds

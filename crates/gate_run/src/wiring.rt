@@ -3,11 +3,11 @@
 
 use crate::kept::octets_of;
 use crate::wording::job_in;
+use bridge_cli::Job;
 use bridge_files::{Said, say, wire_files, wire_over};
 use bridge_frame::Speed;
-use bridge_program::{Fault, print};
-use bridge_text::lines_of;
-use bridge_words::Job;
+use bridge_hex::lines_of;
+use bridge_jobs::{Fault, print};
 use std::fs;
 use std::rt::Files;
 

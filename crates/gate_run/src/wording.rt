@@ -1,10 +1,10 @@
 //! Jobs of the command line, by a line of their words.
 
 ghost use Rattle.std.specs.Prelude.{IfOk};
-ghost use Rattle.bridge_words.specs.CommandLine.{HasRoom};
+ghost use Rattle.bridge_cli.specs.CommandLine.{HasRoom};
 
-use bridge_program::Fault;
-use bridge_words::{Job, job_of};
+use bridge_cli::{Job, job_of};
+use bridge_jobs::Fault;
 use std::alloc::Global;
 
 /// The job that the words of a line ask for, which single spaces part.

@@ -1,6 +1,6 @@
 //! Rows for the hexadecimal text of captures.
 use bridge_capture::{ByteSink, CaptureFault, VecSink, Writer};
-use bridge_text::{HexFault, MAX_OCTETS, MAX_TEXT, lines_of, octets_of};
+use bridge_hex::{HexFault, MAX_OCTETS, MAX_TEXT, lines_of, octets_of};
 use fixture_alloc::RefusesOne;
 use fixture_text::must::must;
 use std::alloc::{AllocError, Allocator};

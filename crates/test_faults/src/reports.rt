@@ -1,7 +1,7 @@
 //! Reports into writers, writers that fail, and memory that runs out.
 use bridge_filter::{Counters, Flags, Verdict};
 use bridge_report::{ReportFault, has_section, report, section, summary, write_report};
-use bridge_run::{Departure, Origin, Outcome, View};
+use bridge_semantics::{Departure, Origin, Outcome, View};
 use fixture_alloc::RefusesOne;
 use fixture_bridge::same;
 use fixture_runs::runs::{CAUGHT, NO_FLAGS};

@@ -1,7 +1,7 @@
 //! Frames of both filters: when they leave, where they go, and which are dropped.
 use bridge_check::{Accepted, CheckFault};
 use bridge_port::Refusal::{Full, NeverFits};
-use bridge_run::{Dropped, Outcome, View};
+use bridge_semantics::{Dropped, Outcome, View};
 use fixture_bridge::same;
 use fixture_runs::frames::{Frame, RESERVED, SHORT, TO_A, TO_B, VID_20, capture, flood, header};
 use fixture_runs::plans::{ROOM_FOR_ONE, SLOW, fault_of, text_of};

@@ -1,6 +1,6 @@
 //! The base plan with more lines, and the faults of texts.
 use bridge_config::{Plan, commands_of, plan_of};
-use bridge_keys::PlanFault;
+use bridge_schema::PlanFault;
 use fixture_text::base::text_with;
 use std::alloc::{Allocator, Global};
 

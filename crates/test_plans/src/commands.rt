@@ -2,7 +2,7 @@
 use crate::base::{fault_of_commands, plan_with};
 use bridge_config::{Command, Plan, commands_of};
 use bridge_filter::Clear;
-use bridge_keys::PlanFault;
+use bridge_schema::PlanFault;
 use fixture_alloc::{Ending, refuse_each};
 use fixture_text::must::must;
 use std::alloc::{Allocator, Global};

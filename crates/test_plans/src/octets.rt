@@ -1,7 +1,7 @@
 //! Octets that are no text.
 use crate::base::{fault_of, fault_of_commands, plan_with};
 use bridge_config::Plan;
-use bridge_keys::PlanFault;
+use bridge_schema::PlanFault;
 use std::alloc::{Allocator, Global};
 use std::process::Abort;
 use std::test::Fail;

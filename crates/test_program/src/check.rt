@@ -1,7 +1,7 @@
 //! Which plans isolate their protected filters: a plan of one protected filter, and each change of it that is refused.
 use bridge_check::{Accepted, CheckFault, Refused, check};
 use bridge_config::{Plan, PlanFault, plan_of};
-use bridge_program::{Fault, NoMemory, check_line, fault_line};
+use bridge_jobs::{Fault, NoMemory, check_line, fault_line};
 use fixture_alloc::{Ending, refuse_each};
 use fixture_text::base::{BASE, Change, changed};
 use std::alloc::{Allocator, Global};

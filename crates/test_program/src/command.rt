@@ -1,9 +1,9 @@
 //! The command line: its jobs, the words that it refuses, and what it says of a run.
 use bridge_capture::{ByteSink, Order, SliceSource, VecSink};
+use bridge_cli::{Job, job_of};
 use bridge_frame::Speed;
-use bridge_program::{Fault, NoMemory, fault_line, wire_line};
+use bridge_jobs::{Fault, NoMemory, fault_line, wire_line};
 use bridge_wire::{WireCount, wire};
-use bridge_words::{Job, job_of};
 use fixture_alloc::{Ending, refuse_each};
 use fixture_text::captures::{Words, capture_under};
 use fixture_text::must::must;

@@ -2,7 +2,7 @@
 use crate::check::{NO_VALUE, NONE};
 use bridge_check::Accepted;
 use bridge_config::{Command, Plan};
-use bridge_program::{Fault, NoMemory, commanded, fault_line, plan_from};
+use bridge_jobs::{Fault, NoMemory, commanded, fault_line, plan_from};
 use fixture_alloc::{Ending, refuse_each};
 use fixture_text::base::{BASE, Change, changed};
 use fixture_text::must::must;

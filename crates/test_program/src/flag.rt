@@ -1,6 +1,6 @@
 //! The flags `--explain` and `--strict`: which words have them, and that they change no job.
-use bridge_program::Fault;
-use bridge_words::{job_of, wants_explanation, wants_strictness};
+use bridge_cli::{job_of, wants_explanation, wants_strictness};
+use bridge_jobs::Fault;
 use fixture_text::must::must;
 use std::alloc::{AllocError, Global};
 use std::test::Fail;

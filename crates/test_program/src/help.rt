@@ -1,5 +1,5 @@
 //! Words that ask for help or for the version, with the text that they get, and words that ask for neither.
-use bridge_words::help_of;
+use bridge_cli::help_of;
 use fixture_text::must::must;
 use std::alloc::{AllocError, Global};
 use std::test::Fail;

@@ -2,8 +2,8 @@
 use bridge_capture::CaptureFault;
 use bridge_check::CheckFault;
 use bridge_cycle::ListFault;
-use bridge_keys::{Field, Place, PlanFault, Section};
-use bridge_program::{Fault, NoMemory, TextFault, check_job, fault_line, wire_text};
+use bridge_jobs::{Fault, NoMemory, TextFault, check_job, fault_line, wire_text};
+use bridge_schema::{Field, Place, PlanFault, Section};
 use bridge_wire::RunFault;
 use fixture_alloc::{Ending, refuse_each};
 use fixture_text::must::must;

@@ -1,6 +1,6 @@
 //! Words that ask for a picture, of a plan or of a run.
-use bridge_program::Fault;
-use bridge_words::{job_of, sketch_of};
+use bridge_cli::{job_of, picture_request_of};
+use bridge_jobs::Fault;
 use fixture_text::must::must;
 use std::alloc::{AllocError, Global};
 use std::test::Fail;
@@ -11,11 +11,11 @@ type Row = (&'static [&'static str], &'static str);
 const ASKED: &[Row] = &[
     (
         &["run", "PLAN", "IN", "OUT", "--picture", "FILE"],
-        "Some(Sketch { file: \"FILE\", from: None, to: None })",
+        "Some(PictureRequest { file: \"FILE\", from: None, to: None })",
     ),
     (
         &["run", "--picture=a b", "--from", "7", "PLAN", "IN", "OUT"],
-        "Some(Sketch { file: \"a b\", from: Some(7), to: None })",
+        "Some(PictureRequest { file: \"a b\", from: Some(7), to: None })",
     ),
     (
         &[
@@ -31,7 +31,7 @@ const ASKED: &[Row] = &[
             "--commands",
             "C",
         ],
-        "Some(Sketch { file: \"FILE\", from: Some(0), to: Some(3999999999999999999) })",
+        "Some(PictureRequest { file: \"FILE\", from: Some(0), to: Some(3999999999999999999) })",
     ),
     (&["run", "PLAN", "IN", "OUT"], "None"),
     (&["run", "PLAN", "IN", "OUT", "--commands", "C"], "None"),
@@ -96,7 +96,7 @@ fn owned_of(alloc: Global, line: &[&str]) -> Result<Vec<String>, AllocError> {
 /// Whether these words ask for the picture that is wanted.
 fn asks(alloc: Global, row: &Row) -> Result<bool, Fail> {
     let words = owned_of(alloc, row.0)?;
-    match sketch_of(alloc, &words) {
+    match picture_request_of(alloc, &words) {
         Ok(sketch) => {
             let told = format!(in alloc; "{sketch:?}")?;
             Ok(told.as_str() == row.1)
@@ -108,7 +108,7 @@ fn asks(alloc: Global, row: &Row) -> Result<bool, Fail> {
 /// Whether these words are refused.
 fn is_refused(alloc: Global, line: &[&str]) -> Result<bool, Fail> {
     let words = owned_of(alloc, line)?;
-    Ok(matches!(sketch_of(alloc, &words), Err(Fault::Words)))
+    Ok(matches!(picture_request_of(alloc, &words), Err(Fault::Words)))
 }
 
 #[test]

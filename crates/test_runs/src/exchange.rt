@@ -2,7 +2,7 @@
 use bridge_check::{Accepted, CheckFault};
 use bridge_filter::Verdict::{GateClosed, OctetsExceeded};
 use bridge_port::Refusal::NeverFits;
-use bridge_run::Outcome;
+use bridge_semantics::Outcome;
 use fixture_bridge::same;
 use fixture_runs::frames::{Frame, TO_A, capture, header};
 use fixture_runs::plans::{

@@ -1,5 +1,5 @@
 //! Where the own frames of a filter came: worked examples, by each way in which a run is made.
-use bridge_run::{Origin, Outcome};
+use bridge_semantics::{Origin, Outcome};
 use fixture_bridge::same;
 use fixture_runs::frames::{Frame, TO_A, TO_B, capture};
 use fixture_runs::runs::{each_way, planned};

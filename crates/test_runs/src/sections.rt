@@ -5,7 +5,7 @@ use bridge_config::Command;
 use bridge_events::{RowAgenda, TreeAgenda};
 use bridge_filter::Clear;
 use bridge_report::{has_section, report, section, write_report};
-use bridge_run::Outcome;
+use bridge_semantics::Outcome;
 use fixture_bridge::{driven, same};
 use fixture_runs::frames::{Frame, TO_A, capture, flood, header};
 use fixture_runs::plans::{

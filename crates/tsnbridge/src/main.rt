@@ -1,19 +1,21 @@
 #![tactic(auto)]
 //! The program: it reads its job, does it, and ends with the status and the line of the first fault.
-ghost use Rattle.bridge_words.specs.CommandLine.{HasRoom};
+ghost use Rattle.bridge_cli.specs.CommandLine.{HasRoom};
 
-use bridge_files::{Said, say, wire_files};
-use bridge_folder::{
-    Strict, drawn_job, explain, explain_accepted, picture_job, strict_check_job, strict_run_job,
-    write_picture,
+use bridge_app::{
+    Strict, explain, explain_accepted, picture_job, run_with_picture, strict_check_job,
+    strict_run_job, write_picture,
 };
-use bridge_net_folder::{RoundsJob, explain_stopped, rounds_job};
+use bridge_cli::{
+    Job, PictureRequest, help_of, job_of, picture_request_of, wants_explanation, wants_strictness,
+};
+use bridge_files::{Said, say, wire_files};
+use bridge_jobs::{Fault, check_job, end, print, text_job, words_of};
+use bridge_net_app::{RoundsJob, explain_stopped, rounds_job};
 use bridge_planning::{
     TrafficReport, bounds_job, explain_network, explain_traffic, is_network, network_job,
     network_picture, traffic_job,
 };
-use bridge_program::{Fault, check_job, end, print, text_job, words_of};
-use bridge_words::{Job, Sketch, help_of, job_of, sketch_of, wants_explanation, wants_strictness};
 use std::alloc::Global;
 use std::fs;
 use std::io::IsTerminal;
@@ -154,7 +156,7 @@ fn run(
         return Err(Fault::Words);
     }
     let job = job_of(rt.alloc(), &words)?;
-    let sketch = sketch_of(rt.alloc(), &words)?;
+    let sketch = picture_request_of(rt.alloc(), &words)?;
     let wishes = Wishes {
         is_strict: wants_strictness(&words),
         is_explained: wants_explanation(&words),
@@ -197,7 +199,7 @@ fn tell_rounds(rt: &(impl AllocGlobal + Eprint), rounds: Option<u32>) {
 fn answer_of(
     rt: &(impl Input + AllocGlobal + Print + Eprint + Files),
     job: Job,
-    sketch: Option<Sketch>,
+    sketch: Option<PictureRequest>,
     wishes: Wishes,
 ) -> Result<Answer, Fault>
     requires { HasRoom job }
@@ -249,11 +251,11 @@ fn run_bridge(
     input: String,
     output: String,
     commands: Option<String>,
-    sketch: Option<Sketch>,
+    sketch: Option<PictureRequest>,
     wishes: Wishes,
 ) -> Result<Answer, Fault> {
     if !wishes.is_strict {
-        return Ok(printed(drawn_job(rt, plan, input, output, commands, sketch)?));
+        return Ok(printed(run_with_picture(rt, plan, input, output, commands, sketch)?));
     }
     let explained = wishes.is_explained;
     let strict = strict_run_job(rt, plan, input, output, commands, sketch, explained)?;

@@ -1,7 +1,7 @@
 use Rattle.std.proofs.Common.{◌≡◌, ℕ, ap, ◌∙◌}
 use Rattle.bridge_frame.specs.Link.{occupied}
 use Rattle.bridge_check.specs.Windows.{longest_frame}
-use Rattle.bridge_run.specs.Offers.{egress}
+use Rattle.bridge_semantics.specs.Offers.{egress}
 use Rattle.bridge_bounds.proofs.Lists.{bound_is}
 use Rattle.bridge_bounds.proofs.bound.bound_at.Goals as goal
 

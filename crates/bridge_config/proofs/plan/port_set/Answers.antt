@@ -1,7 +1,7 @@
 use Rattle.std.proofs.Common.{ℕ, ◌+◌, ◌-◌, ◌^◌, ◌∙◌, List, drop, map, arith, ap, sym, subst, bit_or}
 use Rattle.std.proofs.lemmas.List.{at_drop_all, at_drop_more}
 use Rattle.std.proofs.lemmas.List.Elements.{All-get_or}
-use Rattle.bridge_keys.specs.Readers.{set_with}
+use Rattle.bridge_schema.specs.Readers.{set_with}
 use Rattle.bridge_config.specs.declared.ports.PortPlan.{PortPlan}
 use Rattle.bridge_config.specs.Rules.{IsPort}
 use Rattle.bridge_config.proofs.plan.port_set.Goals as goal

@@ -1,5 +1,5 @@
 use Rattle.std.proofs.Common.{◌≡◌, drop, map}
-use Rattle.bridge_keys.specs.Readers.{set_with}
+use Rattle.bridge_schema.specs.Readers.{set_with}
 use Rattle.bridge_config.specs.Rules.{port_set}
 use Rattle.bridge_config.proofs.plan.port_set.Given as goal
 

@@ -2,7 +2,7 @@ use Rattle.std.proofs.Common.{◌<◌, length, slice_index_or, refl, ap, ◌∙�
 use Rattle.std.proofs.lemmas.Grind.{common_steps}
 use Rattle.std.proofs.lemmas.List.{take_all}
 use Rattle.std.proofs.lemmas.Option.{slice_get-get_or}
-use Rattle.bridge_lanes.proofs.Looks.{lasts_set, sure_next}
+use Rattle.bridge_inputs.proofs.Looks.{lasts_set, sure_next}
 use Rattle.bridge_core.specs.declared.line.Line.{Line}
 use Rattle.bridge_core.specs.Lines.{numbers}
 use Rattle.bridge_core.proofs.Written.{headers_none, headers_more, headers_stop, headers_all, numbers_more}

@@ -1,5 +1,5 @@
 use Rattle.std.proofs.Common.{◌≡◌, ◌≤◌, length, take, vec_len, vec_capacity}
-use Rattle.bridge_lanes.specs.Devices.{NeverFail}
+use Rattle.bridge_inputs.specs.Devices.{NeverFail}
 use Rattle.bridge_core.specs.Lines.{numbers}
 use Rattle.bridge_core.proofs.Written.{HaveHeaders}
 use Rattle.bridge_core.proofs.line.begin_all.Given as goal

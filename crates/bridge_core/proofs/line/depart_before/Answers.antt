@@ -1,8 +1,8 @@
 use Rattle.std.proofs.Common.{◌≡◌, ◌<◌, ℕ, Some, Err, refl, ◌∙◌, sym, subst, arith, rules}
 use Rattle.std.proofs.lemmas.Option.{none-some}
-use Rattle.bridge_base.specs.Members.{Rising}
+use Rattle.bridge_limits.specs.Members.{Rising}
 use Rattle.bridge_relay.specs.Relays.{captured, one_more}
-use Rattle.bridge_lanes.specs.Devices.{HasFailed}
+use Rattle.bridge_inputs.specs.Devices.{HasFailed}
 use Rattle.bridge_core.specs.Lines.{AreWritten, HasRunOut, MakesStart, numbers, Writes}
 use Rattle.bridge_core.proofs.Departing.{waits_there, early_next, after_start, departs_stop, from_on, none_then, sooner}
 use Rattle.bridge_core.proofs.line.depart_before.Goals as goal

@@ -1,9 +1,9 @@
 use Rattle.std.proofs.Common.{◌≡◌, ◌≤◌, ℕ, List, Ok, IfSome}
 use Rattle.bridge_capture.specs.Grammar.{Captured}
 use Rattle.bridge_config.specs.Model.{Plan}
-use Rattle.bridge_parts.specs.Ports.{NotBefore}
-use Rattle.bridge_run.specs.Events.{Event}
-use Rattle.bridge_lanes.specs.Devices.{NeverFail}
+use Rattle.bridge_state.specs.Ports.{NotBefore}
+use Rattle.bridge_semantics.specs.Events.{Event}
+use Rattle.bridge_inputs.specs.Devices.{NeverFail}
 use Rattle.bridge_relay.specs.Relays.{waiting, Stands}
 use Rattle.bridge_core.specs.Lines.{AreWritten, Departs, numbers}
 use Rattle.bridge_core.proofs.line.depart_before.Given as goal

@@ -4,7 +4,7 @@ use Rattle.std.specs.Io.KnownBytes.{Appends}
 use Rattle.std.proofs.lemmas.Option.{slice_get-get_or}
 use Rattle.bridge_capture.specs.Written.{written_record}
 use Rattle.bridge_capture.specs.Sinks.{AppendsFront}
-use Rattle.bridge_lanes.proofs.Looks.{lasts_set, sure_next}
+use Rattle.bridge_inputs.proofs.Looks.{lasts_set, sure_next}
 use Rattle.bridge_core.specs.Lines.{numbers}
 use Rattle.bridge_core.proofs.Written.{numbers_set, place_unique, set_here, writes_one, breaks_one, writes_none, fits_record}
 use Rattle.bridge_core.proofs.line.write.Goals as goal

@@ -1,12 +1,12 @@
 use Rattle.std.proofs.Common.{◌≡◌, ℕ, ◌<◌, ◌≤◌, List, [], Some, None, length, nat_eq, arith, Err, inl, inr, refl, ap, sym, subst, ◌∙◌, slice_get}
 use Rattle.std.specs.Map.{lookup}
-use Rattle.bridge_base.specs.Members.{Rising}
-use Rattle.bridge_lanes.specs.declared.fault.RunFault.TheVariants as run
+use Rattle.bridge_limits.specs.Members.{Rising}
+use Rattle.bridge_inputs.specs.declared.fault.RunFault.TheVariants as run
 use Rattle.bridge_config.specs.Model.{Plan}
-use Rattle.bridge_run.specs.Merge.{events}
-use Rattle.bridge_run.proofs.Few.{few_leave}
+use Rattle.bridge_semantics.specs.Merge.{events}
+use Rattle.bridge_semantics.proofs.Few.{few_leave}
 use Rattle.bridge_relay.specs.Relays.{Stands}
-use Rattle.bridge_lanes.specs.Lanes.{AreAheadOf, AreLanes, AreRests, AreTexts, FailsLook, numbers, room_of}
+use Rattle.bridge_inputs.specs.Lanes.{AreAheadOf, AreLanes, AreRests, AreTexts, FailsLook, numbers, room_of}
 use Rattle.bridge_core.specs.Lines.{AreWritten, HeadersStop, numbers as written_numbers}
 use Rattle.bridge_core.specs.Simulated.{AreListsOf, AreNumbers}
 use Rattle.bridge_core.specs.Taking.{first_of_commands, StopsAmong}

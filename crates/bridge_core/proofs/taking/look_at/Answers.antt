@@ -1,5 +1,5 @@
 use Rattle.std.proofs.Common.{◌<◌, length, arith}
-use Rattle.bridge_lanes.proofs.Looks.{lasts_set, sure_next}
+use Rattle.bridge_inputs.proofs.Looks.{lasts_set, sure_next}
 use Rattle.bridge_core.proofs.taking.look_at.Goals as goal
 
 pub returns-clause-sure : goal.returns-clause-sure

@@ -1,7 +1,7 @@
 use Rattle.std.proofs.Common.{rules, ◌≡◌, ℕ, ◌<◌, ◌≤◌, List, length, arith, refl, ap, sym, subst, ◌∙◌, Option, Some, None, Ok, Err, slice_get}
-use Rattle.bridge_parts.specs.Ports.{NotBefore}
-use Rattle.bridge_run.specs.Merge.{events, asked}
-use Rattle.bridge_lanes.specs.Lanes.{numbers}
+use Rattle.bridge_state.specs.Ports.{NotBefore}
+use Rattle.bridge_semantics.specs.Merge.{events, asked}
+use Rattle.bridge_inputs.specs.Lanes.{numbers}
 use Rattle.bridge_core.specs.Lines.{AreWritten, numbers as written_numbers}
 use Rattle.bridge_core.proofs.Commanded.{command_next, may_still}
 use Rattle.bridge_core.proofs.Steps.{depart_stops, written_so}

@@ -1,7 +1,7 @@
 use Rattle.std.proofs.Common.{rules, ◌≡◌, ℕ, ◌+◌, ◌<◌, ◌≤◌, ◌∷◌, List, length, take, drop, get_or, arith, refl, ap, sym, subst, ◌∙◌, Option, Some, None, Ok, Err, slice_get}
 use Rattle.bridge_filter.specs.declared.Clear.TheVariants.{Blocked}
-use Rattle.bridge_run.specs.Merge.{events, asked, commands_of}
-use Rattle.bridge_lanes.specs.Lanes.{numbers}
+use Rattle.bridge_semantics.specs.Merge.{events, asked, commands_of}
+use Rattle.bridge_inputs.specs.Lanes.{numbers}
 use Rattle.bridge_core.specs.Lines.{numbers as written_numbers}
 use Rattle.bridge_core.specs.Taking.{first_of_commands, IsUnderWay}
 use Rattle.bridge_core.proofs.Running.{all_done, first_is, gone, has_it, idle_at, next_later, rises_behind, stops_at, stops_behind, with_it}

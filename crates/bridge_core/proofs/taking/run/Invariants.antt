@@ -2,11 +2,11 @@ use Rattle.std.proofs.Common.{◌≡◌, ℕ, ◌≤◌, List, [], ◌∷◌, Op
 use Rattle.std.specs.Prelude.{IfSome}
 use Rattle.bridge_config.specs.declared.command.Command.{Command}
 use Rattle.bridge_config.specs.Model as config
-use Rattle.bridge_lanes.specs.Devices.{NeverFail}
-use Rattle.bridge_parts.specs.Ports.{NotBefore}
-use Rattle.bridge_lanes.specs.Lanes.{numbers}
+use Rattle.bridge_inputs.specs.Devices.{NeverFail}
+use Rattle.bridge_state.specs.Ports.{NotBefore}
+use Rattle.bridge_inputs.specs.Lanes.{numbers}
 use Rattle.bridge_core.specs.Lines.{numbers as written_numbers}
-use Rattle.bridge_run.specs.Merge.{commands_of}
+use Rattle.bridge_semantics.specs.Merge.{commands_of}
 use Rattle.bridge_core.specs.Taking.{first_of_commands, IsUnderWay, MayTake}
 use Rattle.bridge_core.proofs.taking.run.Given as goal
 

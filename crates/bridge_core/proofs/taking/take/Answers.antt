@@ -2,11 +2,11 @@ use Rattle.std.proofs.Common.{◌≡◌, ℕ, ◌+◌, ◌<◌, ◌≤◌, ◌�
 use Rattle.bridge_config.specs.Model.{Plan}
 use Rattle.bridge_capture.specs.Reading.{view}
 use Rattle.bridge_capture.specs.Standing.{RefusedSo}
-use Rattle.bridge_parts.specs.Ports.{NotBefore}
-use Rattle.bridge_run.specs.Events.{arrival, Arrived}
-use Rattle.bridge_run.specs.Merge.{events, frame}
+use Rattle.bridge_state.specs.Ports.{NotBefore}
+use Rattle.bridge_semantics.specs.Events.{arrival, Arrived}
+use Rattle.bridge_semantics.specs.Merge.{events, frame}
 use Rattle.bridge_relay.specs.Relays.{RelayState, Stands}
-use Rattle.bridge_lanes.specs.Lanes.{fault_at, numbers, room_of}
+use Rattle.bridge_inputs.specs.Lanes.{fault_at, numbers, room_of}
 use Rattle.bridge_core.specs.Lines.{AreWritten, numbers as written_numbers}
 use Rattle.bridge_core.specs.Taking.{IsUnderWay, MayTake, StopsForMemory, StopsSo}
 use Rattle.bridge_core.proofs.Steps.{all_later, depart_stops, look_stops, memory_before, newest_late, number_at, one_place, stood, waits_of, went_on, written_so}

@@ -1,6 +1,6 @@
 use Rattle.std.proofs.Common.{rules, ◌≡◌, ℕ, ◌<◌, ◌≤◌, List, length, arith, refl, ap, sym, subst, ◌∙◌, Option, Some, None, Ok, Err, slice_get}
 use Rattle.bridge_core.proofs.Steps.{before_next, early_next}
-use Rattle.bridge_lanes.specs.Lanes.{IsFirstAt, numbers}
+use Rattle.bridge_inputs.specs.Lanes.{IsFirstAt, numbers}
 use Rattle.bridge_core.proofs.taking.take_before.Goals as goal
 
 pub loop-place-preserved : goal.loop-place-preserved

@@ -1,10 +1,10 @@
 use Rattle.std.proofs.Common.{◌≡◌, ℕ, ◌≤◌, List, Option, Some, length}
 use Rattle.std.specs.Prelude.{IfSome}
 use Rattle.bridge_config.specs.Model as config
-use Rattle.bridge_run.specs.Merge.{Input}
-use Rattle.bridge_lanes.specs.Devices.{NeverFail}
-use Rattle.bridge_parts.specs.Ports.{NotBefore}
-use Rattle.bridge_lanes.specs.Lanes.{numbers, room_of}
+use Rattle.bridge_semantics.specs.Merge.{Input}
+use Rattle.bridge_inputs.specs.Devices.{NeverFail}
+use Rattle.bridge_state.specs.Ports.{NotBefore}
+use Rattle.bridge_inputs.specs.Lanes.{numbers, room_of}
 use Rattle.bridge_core.specs.Lines.{numbers as written_numbers}
 use Rattle.bridge_core.specs.Taking.{IsUnderWay, MayTake}
 use Rattle.bridge_core.proofs.taking.take_before.Given as goal

@@ -1,5 +1,5 @@
 use Rattle.std.proofs.Common.{Bool, List, ap, ◌∙◌}
-use Rattle.bridge_run.specs.declared.outcome.Departure.{Departure}
+use Rattle.bridge_semantics.specs.declared.outcome.Departure.{Departure}
 use Rattle.bridge_delays.specs.Tallies.{delays_of}
 use Rattle.bridge_delays.proofs.tallies.delays_of.Goals as goal
 

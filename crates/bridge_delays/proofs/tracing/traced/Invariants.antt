@@ -1,6 +1,6 @@
 use Rattle.std.proofs.Common.{◌≡◌, length}
-use Rattle.bridge_base.specs.Members.{In}
-use Rattle.bridge_run.specs.declared.outcome.Departure.{Departure}
+use Rattle.bridge_limits.specs.Members.{In}
+use Rattle.bridge_semantics.specs.declared.outcome.Departure.{Departure}
 use Rattle.bridge_rounds.specs.Stations.{sender_value}
 use Rattle.bridge_delays.specs.Tracing.{AreTraced}
 use Rattle.bridge_delays.proofs.tracing.traced.Given as goal

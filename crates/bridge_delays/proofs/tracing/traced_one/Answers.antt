@@ -1,6 +1,6 @@
 use Rattle.std.proofs.Common.{List, inr, sym, subst, ◌∙◌}
-use Rattle.bridge_base.specs.Members.{In}
-use Rattle.bridge_run.specs.declared.outcome.Departure.{Departure}
+use Rattle.bridge_limits.specs.Members.{In}
+use Rattle.bridge_semantics.specs.declared.outcome.Departure.{Departure}
 use Rattle.bridge_rounds.specs.Stations.{sender_value}
 use Rattle.bridge_delays.proofs.Traced.{due_in, over_in}
 use Rattle.bridge_delays.proofs.tracing.traced_one.Goals as goal

@@ -3,7 +3,7 @@ use Rattle.std.proofs.lemmas.List.Elements.{All-push}
 use Rattle.toml.specs.Data.{Data, Items, item}
 use Rattle.toml.specs.View.{items_view, view}
 use Rattle.toml.proofs.Views.{items_view-drop}
-use Rattle.bridge_keys.specs.Readers.{◌>>=◌}
+use Rattle.bridge_schema.specs.Readers.{◌>>=◌}
 use Rattle.bridge_netfile.specs.declared.fault.NetFault.{NetFault}
 use Rattle.bridge_netfile.specs.declared.fault.NetPlace.{NetPlace}
 use Rattle.bridge_netfile.specs.Model.{Bridge}

@@ -1,7 +1,7 @@
 use Rattle.bridge_frame.specs.Link.{occupied}
 use Rattle.bridge_port.specs.Opening.{opens_of}
-use Rattle.bridge_run.specs.Offers.{Carried}
-use Rattle.bridge_run.specs.Merge.{of_rank}
+use Rattle.bridge_semantics.specs.Offers.{Carried}
+use Rattle.bridge_semantics.specs.Merge.{of_rank}
 use Rattle.bridge_network.proofs.Hopping.{inputs_in_periods}
 use Rattle.bridge_network.proofs.latency.next_hop_in_periods.Goals as goal
 

@@ -1,7 +1,7 @@
 use Rattle.std.proofs.Common.{◌≡◌, ◌<◌, ℕ, None, ap, sym, ◌∙◌, subst, List}
 use Rattle.std.specs.Map.{lookup}
 use Rattle.std.specs.Prelude.{nat_eq}
-use Rattle.bridge_base.specs.Members.{Rising}
+use Rattle.bridge_limits.specs.Members.{Rising}
 use Rattle.bridge_filter.specs.declared.FilterPlan.{FilterPlan}
 use Rattle.bridge_core.specs.Bridges.{next_start, StandsAfter}
 use Rattle.bridge_core.proofs.bridge.Bridge.finish.Goals as goal

@@ -1,5 +1,5 @@
 use Rattle.std.proofs.Common.{subst, sym}
-use Rattle.bridge_run.specs.Next.{AreNext}
+use Rattle.bridge_semantics.specs.Next.{AreNext}
 use Rattle.bridge_core.specs.Bridges.{next_start, StandsAfter}
 use Rattle.bridge_core.proofs.bridge.Bridge.reached.Goals as goal
 

@@ -1,6 +1,6 @@
 use Rattle.std.proofs.Common.{◌≡◌, sym, None, subst, rules, ◌<◌, ◌≤◌}
 use Rattle.std.specs.Prelude.{length, slice_index_or}
-use Rattle.bridge_base.specs.declared.TheConstants.{MOST_ARRIVALS}
+use Rattle.bridge_limits.specs.declared.TheConstants.{MOST_ARRIVALS}
 use Rattle.bridge_frame.specs.Link.{occupied}
 use Rattle.bridge_port.specs.Standing.{State, state, refusal_of, IsKept, queue_of, NoStartBefore}
 use Rattle.bridge_port.proofs.Keeping.{admitted, kept_offered, offered_stands, offered_counts}

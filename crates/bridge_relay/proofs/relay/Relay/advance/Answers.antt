@@ -2,9 +2,9 @@ use Rattle.std.proofs.Common.{rules, ◌≡◌, ℕ, List, [], ◌∷◌, ◌++�
 use Rattle.std.specs.Prelude.{max, nat_eq, if◌then◌else◌}
 use Rattle.bridge_relay.specs.Relays.{RelayState, count_all, one_more, waiting, IsSent, Stands}
 use Rattle.bridge_relay.specs.declared.relay.Sent.{Sent}
-use Rattle.bridge_parts.specs.Ports.{PortsState}
+use Rattle.bridge_state.specs.Ports.{PortsState}
 use Rattle.bridge_relay.proofs.Advancing.{count_started, right_item, short_item, owes_by, is_sent}
-use Rattle.bridge_run.specs.declared.outcome.Departure.{Departure}
+use Rattle.bridge_semantics.specs.declared.outcome.Departure.{Departure}
 use Rattle.bridge_relay.proofs.Sound.{sound_started}
 use Rattle.bridge_relay.proofs.Standing.{stands_started}
 use Rattle.bridge_relay.proofs.Nexts.{made_after, made_at, reaches_start, sends_head}

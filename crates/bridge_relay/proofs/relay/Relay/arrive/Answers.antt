@@ -6,11 +6,11 @@ use Rattle.bridge_filter.specs.Plans.{is_there}
 use Rattle.bridge_filter.specs.Finding.{IsFound}
 use Rattle.bridge_filter.specs.Verdicts.{flow}
 use Rattle.bridge_config.specs.Rules.{port_at}
-use Rattle.bridge_run.specs.declared.way.Way.{Way}
-use Rattle.bridge_run.specs.Events.{Arrival, Arrived, arrival, metered, way_of}
-use Rattle.bridge_parts.specs.declared.slot.Slot.{Slot}
-use Rattle.bridge_parts.specs.Tables.{IsOpen}
-use Rattle.bridge_parts.specs.Ports.{slot_at, outs, NotBefore}
+use Rattle.bridge_semantics.specs.declared.way.Way.{Way}
+use Rattle.bridge_semantics.specs.Events.{Arrival, Arrived, arrival, metered, way_of}
+use Rattle.bridge_state.specs.declared.slot.Slot.{Slot}
+use Rattle.bridge_state.specs.Tables.{IsOpen}
+use Rattle.bridge_state.specs.Ports.{slot_at, outs, NotBefore}
 use Rattle.bridge_relay.specs.declared.relay.Seen.{Seen}
 use Rattle.bridge_relay.specs.Relays.{RelayState, IsSound, HasSpare, Stands, is_flow_stray}
 use Rattle.bridge_relay.specs.Relaying.{HasCopies, IsFresh, called, filter_number, one_less}

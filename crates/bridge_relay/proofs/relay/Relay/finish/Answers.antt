@@ -8,10 +8,10 @@ use Rattle.bridge_capture.specs.Grammar.{Captured}
 use Rattle.bridge_config.specs.Model.{Plan}
 use Rattle.bridge_config.specs.Rules.{IsPlan}
 use Rattle.bridge_check.specs.Acceptable.{IsAcceptable}
-use Rattle.bridge_run.specs.declared.outcome.Outcome.{Outcome}
-use Rattle.bridge_run.specs.Events.{Event}
-use Rattle.bridge_run.specs.Outputs.{Ends}
-use Rattle.bridge_run.proofs.Headline.{protected_alone, two_runs}
+use Rattle.bridge_semantics.specs.declared.outcome.Outcome.{Outcome}
+use Rattle.bridge_semantics.specs.Events.{Event}
+use Rattle.bridge_semantics.specs.Outputs.{Ends}
+use Rattle.bridge_semantics.proofs.Headline.{protected_alone, two_runs}
 use Rattle.bridge_relay.specs.Relays.{RelayState, Stands}
 use Rattle.bridge_relay.proofs.Ended.{ends_of}
 use Rattle.bridge_relay.proofs.relay.Relay.finish.Goals as goal

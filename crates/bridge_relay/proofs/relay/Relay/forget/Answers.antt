@@ -1,6 +1,6 @@
 use Rattle.std.proofs.Common.{rules, ◌≡◌, ℕ, ◌+◌, ◌-◌, ◌≤◌, ◌<◌, List, ◌∷◌, length, arith, sym, subst, ap, ◌∙◌, refl, Option, Some, None, true, false}
-use Rattle.bridge_parts.specs.Tables.{TableState}
-use Rattle.bridge_parts.specs.Ports.{outs}
+use Rattle.bridge_state.specs.Tables.{TableState}
+use Rattle.bridge_state.specs.Ports.{outs}
 use Rattle.bridge_relay.specs.Relays.{RelayState, IsSound}
 use Rattle.bridge_relay.specs.Relaying.{IsPending}
 use Rattle.bridge_relay.proofs.Spares.{sound_released}

@@ -1,9 +1,9 @@
 use Rattle.std.proofs.Common.{rules, ◌≡◌, ℕ, ◌+◌, ◌≤◌, ◌<◌, List, length, arith, sym, subst, ap, ◌∙◌, refl, Some, false, true, Bool}
 use Rattle.std.specs.Prelude.{◌&&◌, Vec}
 use Rattle.bridge_forward.specs.Ports.{has}
-use Rattle.bridge_run.specs.declared.load.Load.{Load}
-use Rattle.bridge_run.specs.Offers.{Carried}
-use Rattle.bridge_parts.specs.Ports.{slot_at, is_there, goes_out}
+use Rattle.bridge_semantics.specs.declared.load.Load.{Load}
+use Rattle.bridge_semantics.specs.Offers.{Carried}
+use Rattle.bridge_state.specs.Ports.{slot_at, is_there, goes_out}
 use Rattle.bridge_relay.specs.Relays.{RelayState}
 use Rattle.bridge_relay.specs.Relaying.{leaves, MayRelay, IsOffering}
 use Rattle.bridge_relay.proofs.Offering.{skipped, not_out, out_not, out_yes, same_leaves, copies_pop, copies_left, goes_first}

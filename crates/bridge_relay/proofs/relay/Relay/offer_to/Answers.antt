@@ -1,9 +1,9 @@
 use Rattle.std.proofs.Common.{rules, ◌≡◌, ℕ, ◌≤◌, ◌<◌, arith, sym, subst, ap, ◌∙◌, refl, Some, false}
 use Rattle.std.specs.Prelude.{IfSome, slice_index}
 use Rattle.bridge_port.specs.declared.item.Item.{Item}
-use Rattle.bridge_run.specs.declared.load.Load.{Load}
-use Rattle.bridge_parts.specs.declared.slot.Slot.{Slot}
-use Rattle.bridge_parts.specs.Ports.{slot_at, NotBefore}
+use Rattle.bridge_semantics.specs.declared.load.Load.{Load}
+use Rattle.bridge_state.specs.declared.slot.Slot.{Slot}
+use Rattle.bridge_state.specs.Ports.{slot_at, NotBefore}
 use Rattle.bridge_relay.specs.Relaying.{HasOfferedTo}
 use Rattle.bridge_relay.specs.Relays.{RelayState, IsAwaited, is_flow_stray}
 use Rattle.bridge_relay.proofs.Sound.{owes_awaited, right_of, sound_offered, has_offered_to}

@@ -1,10 +1,10 @@
 use Rattle.std.proofs.Common.{◌≡◌, ℕ, ◌≤◌, sym, subst, Some}
-use Rattle.bridge_parts.specs.Ports.{NotBefore}
+use Rattle.bridge_state.specs.Ports.{NotBefore}
 use Rattle.bridge_relay.specs.Relays.{RelayState, Stands}
 use Rattle.bridge_relay.proofs.Ending.{ran_of, reaches_of}
 use Rattle.bridge_relay.proofs.Nexts.{are_next, next_after}
 use Rattle.bridge_events.specs.Least.{IsLeast}
-use Rattle.bridge_run.specs.Next.{AreNext}
+use Rattle.bridge_semantics.specs.Next.{AreNext}
 use Rattle.bridge_relay.proofs.relay.Relay.reached.Goals as goal
 
 pub returns-clause-reaches : goal.returns-clause-reaches

@@ -5,11 +5,11 @@ use Rattle.std.specs.Option.{option_map}
 use Rattle.bridge_filter.specs.declared.Ruling.{Ruling}
 use Rattle.bridge_filter.specs.declared.Verdict.{Verdict}
 use Rattle.bridge_filter.specs.declared.Verdict.TheVariants as verdict
-use Rattle.bridge_run.specs.Events.{Arrival, Arrived, arrival, calls, police_of}
-use Rattle.bridge_run.specs.Offers.{Carried, leaving}
-use Rattle.bridge_parts.specs.declared.slot.Slot.{Slot}
-use Rattle.bridge_parts.specs.Tables.{TableState}
-use Rattle.bridge_parts.specs.Ports.{slot_at, outs, NotBefore}
+use Rattle.bridge_semantics.specs.Events.{Arrival, Arrived, arrival, calls, police_of}
+use Rattle.bridge_semantics.specs.Offers.{Carried, leaving}
+use Rattle.bridge_state.specs.declared.slot.Slot.{Slot}
+use Rattle.bridge_state.specs.Tables.{TableState}
+use Rattle.bridge_state.specs.Ports.{slot_at, outs, NotBefore}
 use Rattle.bridge_relay.specs.Relays.{RelayState, IsSound, HasSpare, Stands, is_flow_stray}
 use Rattle.bridge_relay.specs.Relaying.{HasRuled, HasCopies, IsNumbered, IsOffering, IsPending, MayRelay, called, filter_number, goes, leaves, offer_to, one_less, releasing}
 use Rattle.bridge_relay.proofs.Offered.{leaving_length, refused_by, may_offer, numbered_none, numbered_some, offers_passed, offers_refused, offers_unfiltered, own_is, stands_let_go, stands_offered}

@@ -2,9 +2,9 @@ use Rattle.std.proofs.Common.{rules, ◌≡◌, ℕ, ◌+◌, ◌-◌, ◌≤◌
 use Rattle.std.specs.Option.{option_map}
 use Rattle.bridge_filter.specs.declared.Ruling.{Ruling}
 use Rattle.bridge_filter.specs.Finding.{IsFound}
-use Rattle.bridge_run.specs.Events.{metered}
-use Rattle.bridge_parts.specs.declared.slot.Slot.{Slot}
-use Rattle.bridge_parts.specs.Ports.{slot_at}
+use Rattle.bridge_semantics.specs.Events.{metered}
+use Rattle.bridge_state.specs.declared.slot.Slot.{Slot}
+use Rattle.bridge_state.specs.Ports.{slot_at}
 use Rattle.bridge_relay.specs.Relays.{RelayState}
 use Rattle.bridge_relay.specs.Relaying.{HasRuled, IsFresh, IsNumbered, called}
 use Rattle.bridge_relay.proofs.Ruling.{has_ruled, sound_ruled}

@@ -1,0 +1,264 @@
+//! The job of a run over a folder of captures.
+ghost use Rattle.std.specs.Prelude.{◌≡◌, IfOk, IfErr, length, option_map, string_bytes};
+ghost use Rattle.bridge_config.specs.Commands.{AreCommands};
+ghost use Rattle.bridge_app.specs.Files.{EndsDrawn, EndsReading, EndsRun, EndsSending, EndsShown, IsAcceptedPlan, IsOfOutputs, IsOfReport, IsOfShowing, PrintsRun};
+
+use crate::picturing::put_sketch;
+use bridge_check::Accepted;
+use bridge_cli::PictureRequest;
+use bridge_config::Command;
+use bridge_files::{
+    FileId, Output, add_file, add_files, create_all, file_at, is_one_of, is_same_folder, open_all,
+    open_taken, output_at, report_path, run_over,
+};
+use bridge_inputs::RunFault;
+use bridge_jobs::{Fault, NoMemory, commanded, fault_of_file, plan_from};
+use bridge_report::{ReportFault, summary, write_report};
+use bridge_semantics::Outcome;
+use std::alloc::Global;
+use std::fs::OpenFile;
+use std::io::Write;
+use std::rt::Files;
+
+/// What is printed for a run under the plan of a file: the captures of a folder go through the bridge with the commands of
+/// another file, if there is one, what left each port is written into another folder, which is there already, and the
+/// report of all filters beside it.
+///
+/// Faults in this order: PLAN opened and read, its text; the commands opened and read, their text; the check of the plan;
+/// each capture of IN opened by rising port; `File` of OUT where it is the folder IN; each capture of OUT opened or made by
+/// rising port, then the report, `File` of one that is a file that is read; the run; the report made and written. What the
+/// outputs hold stays until they are written.
+pub fn run_job<H: AllocGlobal + Files>(
+    rt: &H,
+    plan: String,
+    input: String,
+    output: String,
+    commands: Option<String>,
+) -> Result<String, Fault>
+    ensures ok { IfOk result (λ line. PrintsRun Global (string_bytes line)) }
+    ensures err { IfErr result (EndsRun Global (string_bytes plan) (option_map string_bytes commands) (string_bytes input) (string_bytes output)) }
+{
+    run_with_picture(rt, plan, input, output, commands, None)
+}
+
+/// The same, and where one is asked for a picture of the run, in a file that is none of the run's: it is made behind the
+/// report, before the line is told, and changes nothing else. `File` of the picture comes last among the faults.
+pub fn run_with_picture<H: AllocGlobal + Files>(
+    rt: &H,
+    plan: String,
+    input: String,
+    output: String,
+    commands: Option<String>,
+    sketch: Option<PictureRequest>,
+) -> Result<String, Fault>
+    ensures ok { IfOk result (λ line. PrintsRun Global (string_bytes line)) }
+    ensures err { IfErr result (EndsDrawn Global (string_bytes plan) (option_map string_bytes commands) (string_bytes input) (string_bytes output) (option_map (λ s. string_bytes s.file) sketch)) }
+{
+    let mut taken = Vec::new(rt.alloc());
+    let (accepted, orders) = match read_job(rt, plan, commands, &mut taken) {
+        Ok(read) => read,
+        Err(fault) => return Err(fault),
+    };
+    let told = send_drawn(rt, &accepted, &orders, input, output, taken, sketch);
+    drop(accepted);
+    told
+}
+
+/// What is printed for a run under an accepted plan from one folder into another, with a picture where one is asked for. No
+/// output is one of the files that are taken.
+pub(crate) fn send_drawn<H: AllocGlobal + Files>(
+    rt: &H,
+    accepted: &Accepted<Global>,
+    orders: &[Command],
+    input: String,
+    output: String,
+    taken: Vec<FileId>,
+    sketch: Option<PictureRequest>,
+) -> Result<String, Fault>
+    requires commands { AreCommands accepted.now orders.now }
+    ensures ok { IfOk result (λ line. PrintsRun Global (string_bytes line)) }
+    ensures err { IfErr result (EndsShown accepted.now (string_bytes input) (string_bytes output) (option_map (λ s. string_bytes s.file) sketch)) }
+{
+    let mut taken = taken;
+    let outcome = match send(rt, accepted, orders, input.as_str(), output, &mut taken) {
+        Ok(outcome) => outcome,
+        Err(fault) => return Err(fault),
+    };
+    let told = show(rt, accepted, &outcome, input.as_str(), sketch, &taken);
+    drop(outcome);
+    told
+}
+
+/// What is printed of what a run told, once its picture is made where one is asked for.
+fn show<H: AllocGlobal + Files>(
+    rt: &H,
+    accepted: &Accepted<Global>,
+    outcome: &Outcome<Global>,
+    input: &str,
+    sketch: Option<PictureRequest>,
+    taken: &[FileId],
+) -> Result<String, Fault>
+    ensures ok { IfOk result (λ line. PrintsRun Global (string_bytes line)) }
+    ensures err { IfErr result (IsOfShowing (option_map (λ s. string_bytes s.file) sketch)) }
+{
+    if let Some(sketch) = sketch {
+        if let Err(fault) = put_sketch(rt, accepted, outcome, input, sketch, taken) {
+            return Err(fault);
+        }
+    }
+    match summary(rt.alloc(), outcome) {
+        Ok(line) => Ok(line),
+        Err(_) => Err(Fault::Run(RunFault::NoMemory)),
+    }
+}
+
+/// What a run under an accepted plan from one folder into another tells, once its report is written. No output is one of the
+/// files that are taken, and each is one of them then.
+fn send<H: AllocGlobal + Files>(
+    rt: &H,
+    accepted: &Accepted<Global>,
+    orders: &[Command],
+    input: &str,
+    output: String,
+    taken: &mut Vec<FileId>,
+) -> Result<Outcome<Global>, Fault>
+    requires commands { AreCommands accepted.now orders.now }
+    ensures { IfErr result (EndsSending accepted.now input.now (string_bytes output)) }
+{
+    let Ok(ports) = accepted.plan().port_numbers(rt.alloc()) else {
+        return Err(Fault::Run(RunFault::NoMemory));
+    };
+    let readers = match open_all(rt, input, &ports) {
+        Ok(readers) => readers,
+        Err(fault) => return Err(fault),
+    };
+    if is_same_folder(rt, input, output.as_str()) {
+        return Err(Fault::File(output));
+    }
+    let writers = match outputs_of(rt, output.as_str(), &ports, &readers, taken) {
+        Ok(writers) => writers,
+        Err(fault) => return Err(fault),
+    };
+    let outcome = match run_over(rt.alloc(), accepted, orders, readers, writers) {
+        Ok((outcome, _)) => outcome,
+        Err(halted) => return Err(Fault::Run(halted.fault)),
+    };
+    if let Err(fault) = put_report(rt, &outcome, output.as_str(), taken) {
+        drop(outcome);
+        return Err(fault);
+    }
+    Ok(outcome)
+}
+
+/// Opens the captures of ports in a folder to be written anew. None of them, nor the report of the folder, is one of the
+/// files that are read or taken; they and those that are read are taken then.
+fn outputs_of<H: AllocGlobal + Files>(
+    rt: &H,
+    folder: &str,
+    ports: &[u8],
+    readers: &[H::File],
+    taken: &mut Vec<FileId>,
+) -> Result<Vec<Output<H::File>>, Fault>
+    ensures all { IfOk result (λ outputs. length outputs.items ≡ length ports.now) }
+    ensures only { IfErr result (IsOfOutputs folder.now ports.now) }
+{
+    if add_files(taken, readers).is_err() {
+        return Err(Fault::Run(RunFault::NoMemory));
+    }
+    let outputs = match create_all(rt, folder, ports, taken) {
+        Ok(outputs) => outputs,
+        Err(fault) => return Err(fault),
+    };
+    if let Err(fault) = spare_report(rt, folder, taken) {
+        return Err(fault);
+    }
+    match add_outputs(taken, &outputs) {
+        Ok(()) => Ok(outputs),
+        Err(_) => Err(Fault::Run(RunFault::NoMemory)),
+    }
+}
+
+/// `File` of the report of a folder where it is one of the files that are taken.
+fn spare_report<H: AllocGlobal + Files>(rt: &H, folder: &str, taken: &[FileId]) -> Result<(), Fault>
+    ensures { IfErr result (IsOfReport folder.now) }
+{
+    let Ok(path) = report_path(rt.alloc(), folder) else {
+        return Err(Fault::Run(RunFault::NoMemory));
+    };
+    if is_one_of(taken, file_at(rt, path.as_str())) {
+        return Err(Fault::File(path));
+    }
+    Ok(())
+}
+
+/// Adds the files of outputs to a list, where the system tells which they are.
+fn add_outputs<F: Write + OpenFile + Drop>(
+    taken: &mut Vec<FileId>,
+    outputs: &[Output<F>],
+) -> Result<(), NoMemory> {
+    for output in outputs {
+        let Ok(()) = add_file(taken, output.id()) else {
+            return Err(NoMemory);
+        };
+    }
+    Ok(())
+}
+
+/// The plan of a file, where it is accepted, with the commands of another file, if there is one. Both files are added to
+/// those that are taken.
+pub(crate) fn read_job<H: AllocGlobal + Files>(
+    rt: &H,
+    plan: String,
+    commands: Option<String>,
+    taken: &mut Vec<FileId>,
+) -> Result<(Accepted<Global>, Vec<Command>), Fault>
+    ensures accepted { IfOk result (λ read. IsAcceptedPlan read.0) }
+    ensures commands { IfOk result (λ read. AreCommands read.0 read.1.items) }
+    ensures err { IfErr result (EndsReading Global (string_bytes plan) (option_map string_bytes commands)) }
+{
+    let alloc = rt.alloc();
+    let reader = match open_taken(rt, plan.as_str(), taken) {
+        Ok(reader) => reader,
+        Err(fault) => return Err(fault_of_file(plan, fault)),
+    };
+    let read = match plan_from(alloc, alloc, plan, reader) {
+        Ok(read) => read,
+        Err(fault) => return Err(fault),
+    };
+    let file = match commands {
+        None => None,
+        Some(path) => match open_taken(rt, path.as_str(), taken) {
+            Ok(reader) => Some((path, reader)),
+            Err(fault) => return Err(fault_of_file(path, fault)),
+        },
+    };
+    commanded(alloc, alloc, read, file)
+}
+
+/// Makes the report in a folder, and adds its file to those that are taken.
+fn put_report<H: AllocGlobal + Files>(
+    rt: &H,
+    outcome: &Outcome<Global>,
+    folder: &str,
+    taken: &mut Vec<FileId>,
+) -> Result<(), Fault>
+    ensures { IfErr result (IsOfReport folder.now) }
+{
+    let Ok(path) = report_path(rt.alloc(), folder) else {
+        return Err(Fault::Run(RunFault::NoMemory));
+    };
+    let Ok(output) = output_at(rt, path.as_str()) else {
+        return Err(Fault::File(path));
+    };
+    if add_file(taken, output.id()).is_err() {
+        return Err(Fault::Run(RunFault::NoMemory));
+    }
+    match write_report(rt.alloc(), outcome, output) {
+        Ok(output) => match output.finish() {
+            Ok(()) => Ok(()),
+            Err(_) => Err(Fault::File(path)),
+        },
+        Err(ReportFault::Broken) => Err(Fault::File(path)),
+        Err(ReportFault::NoMemory) => Err(Fault::Run(RunFault::NoMemory)),
+    }
+}

@@ -1,0 +1,12 @@
+#![tactic(auto)]
+//! Jobs over files: runs over folders of captures, pictures, and what is told of a fault beside its line.
+
+mod explaining;
+mod job;
+mod picturing;
+mod strict;
+
+pub use explaining::{explain, explain_accepted};
+pub use job::{run_job, run_with_picture};
+pub use picturing::{picture_job, write_picture};
+pub use strict::{Strict, strict_check_job, strict_run_job};

@@ -1,0 +1,451 @@
+//! The commands and their words: one table, by which `clap` reads the words and writes the help.
+ghost use Rattle.std.specs.Prelude.{◌≡◌, ◌≢◌, [], IfOk, IfErr, false, map, string_bytes, codes, fold};
+ghost use Rattle.clap.specs.Words.{FailsBy, app_of, fault_of, kind_of, rule_of, subcommand_of, subcommand_rows_of, with_subcommand};
+ghost use Rattle.clap.specs.declared.builder.command.Command.TheViews.{out-Command as fields_of};
+ghost use Rattle.bridge_cli.specs.CommandLine.{bounds_command, bridge_jobs, check_command, commands, described, drawing_jobs, jobs, net_command, picture_command, plain_jobs, program, rule_in, run_command, wire_command, wiring, with_word};
+
+use clap::error::ErrorKind;
+use clap::{Arg, ArgAction, ArgMatches, Command, Error};
+use std::alloc::{AllocError, Global};
+
+/// How a word of a command is written.
+#[derive(Clone, Copy)]
+pub(crate) enum Form {
+    /// In its place, where it has to be.
+    Place,
+    /// In its place behind those that have to be there, which need not be there.
+    Extra,
+    /// Behind its name as an option, which need not be there.
+    Choice,
+    /// As the name of an option alone, which need not be there.
+    Flag,
+}
+
+/// A word of a command.
+#[derive(Clone, Copy)]
+pub(crate) struct Word {
+    /// The name by which the value is read; an option is written by it, behind `--`.
+    id: &'static str,
+    /// What the help calls the value.
+    value: &'static str,
+    /// How the word is written.
+    form: Form,
+    /// What it is, and its range.
+    help: &'static str,
+}
+
+/// A command.
+#[derive(Clone, Copy)]
+pub(crate) struct Description {
+    /// The word by which it is called.
+    name: &'static str,
+    /// What it does.
+    about: &'static str,
+    /// Its words.
+    words: &'static [Word],
+    /// An example, and the statuses.
+    after: &'static str,
+}
+
+/// The plan of a bridge.
+const PLAN: Word = Word {
+    id: "plan",
+    value: "PLAN",
+    form: Form::Place,
+    help: "file of the plan (TOML, at most 1,048,576 octets)",
+};
+
+/// Whether more is to be said than a line; it stands with each command.
+const EXPLAIN: Word = Word {
+    id: "explain",
+    value: "",
+    form: Form::Flag,
+    help: "say more on standard error: of a fault, or of a plan that is accepted",
+};
+
+/// Whether a plan is refused too where something is told of it that is accepted.
+const STRICT: Word = Word {
+    id: "strict",
+    value: "",
+    form: Form::Flag,
+    help: "end with status 1 where there is a warning of a plan that is accepted",
+};
+
+const WIRE: Description = Description {
+    name: "wire",
+    about: "Send a capture through one queue",
+    words: &[
+        Word {
+            id: "mbps",
+            value: "MBPS",
+            form: Form::Place,
+            help: "speed of the link in Mb/s: 10, 100, 1000, 2500 or 10000",
+        },
+        Word {
+            id: "room",
+            value: "ROOM",
+            form: Form::Place,
+            help: "places of the queue: 1 to 4096",
+        },
+        Word {
+            id: "input",
+            value: "IN",
+            form: Form::Place,
+            help: "the capture that is read (classic, not pcapng), or - for standard input",
+        },
+        Word {
+            id: "output",
+            value: "OUT",
+            form: Form::Place,
+            help: "the capture that is written (of nanoseconds), or - for standard output",
+        },
+        EXPLAIN,
+    ],
+    after: "\
+Example:
+  tsnbridge wire 1000 4 in.pcap out.pcap
+
+Statuses:
+  0  the capture went through; one line has its counts
+  2  the capture is refused
+  3  a file, a read, a write or memory failed
+  4  the words are refused",
+};
+
+const CHECK: Description = Description {
+    name: "check",
+    about: "Say whether a plan protects its streams",
+    words: &[PLAN, STRICT, EXPLAIN],
+    after: "\
+Example:
+  tsnbridge check examples/base.toml
+
+Statuses:
+  0  the plan is accepted; one line has its protected filters
+  1  the plan is refused; with --strict also where there is a warning
+  3  a file, a read, a write or memory failed
+  4  the words are refused",
+};
+
+const RUN: Description = Description {
+    name: "run",
+    about: "Send the captures of all ports through the bridge of a plan",
+    words: &[
+        PLAN,
+        Word {
+            id: "input",
+            value: "IN",
+            form: Form::Place,
+            help: "folder of the captures that are read, <port>.pcap for each port of the plan",
+        },
+        Word {
+            id: "output",
+            value: "OUT",
+            form: Form::Place,
+            help: "folder of what is written, <port>.pcap and report.txt; it is there already and isn't IN",
+        },
+        Word {
+            id: "commands",
+            value: "FILE",
+            form: Form::Choice,
+            help: "file of commands that clear flags (TOML, at most 1,048,576 octets)",
+        },
+        Word {
+            id: "picture",
+            value: "FILE",
+            form: Form::Choice,
+            help: "file of a picture of the run, which is made too (SVG)",
+        },
+        Word {
+            id: "from",
+            value: "NS",
+            form: Form::Choice,
+            help: "from when on the picture shows the run, in ns below 4 * 10^18; else from its start",
+        },
+        Word {
+            id: "to",
+            value: "NS",
+            form: Form::Choice,
+            help: "up to when it does, in ns below 4 * 10^18, behind that; else up to its end",
+        },
+        Word {
+            id: "strict",
+            value: "",
+            form: Form::Flag,
+            help: "run nothing and end with status 1 where there is a warning of the plan",
+        },
+        EXPLAIN,
+    ],
+    after: "\
+Example:
+  mkdir out
+  tsnbridge run examples/base.toml examples/gated out
+
+Statuses:
+  0  the captures went through; one line has their counts
+  1  the plan or its commands are refused; with --strict also where there is a warning
+  2  a capture is refused
+  3  a file, a read, a write or memory failed
+  4  the words are refused",
+};
+
+const PICTURE: Description = Description {
+    name: "picture",
+    about: "Draw the windows and the stream gates of a plan, or the streams of a network",
+    words: &[
+        Word {
+            id: "plan",
+            value: "PLAN",
+            form: Form::Place,
+            help: "file of the plan, or of a network (TOML, at most 1,048,576 octets)",
+        },
+        Word {
+            id: "file",
+            value: "FILE",
+            form: Form::Place,
+            help: "file of the picture that is made (SVG)",
+        },
+        EXPLAIN,
+    ],
+    after: "\
+Example:
+  tsnbridge picture examples/base.toml base.svg
+
+Statuses:
+  0  the picture is made
+  1  the plan's text is refused, or the network
+  3  a file, a read, a write or memory failed
+  4  the words are refused",
+};
+
+const BOUNDS: Description = Description {
+    name: "bounds",
+    about: "Say how long the frames of protected streams may take",
+    words: &[
+        PLAN,
+        Word {
+            id: "traffic",
+            value: "FILE",
+            form: Form::Choice,
+            help: "file of the traffic of the streams' talkers (TOML, at most 1,048,576 octets)",
+        },
+        EXPLAIN,
+    ],
+    after: "\
+For each queue of each protected filter one line: the most ns from a frame's arrival until it is out,
+whatever its talker and all others do. With traffic, for each stream that has a period what its frames
+take while its talker keeps to it.
+
+Example:
+  tsnbridge bounds examples/base.toml
+
+Statuses:
+  0  the plan is accepted, and traffic is in time; a line for each queue has its bound
+  1  the plan or the traffic is refused, or a frame may be refused or late
+  3  a file, a read, a write or memory failed
+  4  the words are refused",
+};
+
+const NET: Description = Description {
+    name: "net",
+    about: "Say whether a network of bridges protects its streams, or run it",
+    words: &[
+        Word {
+            id: "first",
+            value: "check|NET",
+            form: Form::Place,
+            help: "the word check, or to run a network its file (TOML, at most 1,048,576 octets)",
+        },
+        Word {
+            id: "second",
+            value: "NET|IN",
+            form: Form::Place,
+            help: "behind check the file of the network, else the folder of the captures that are read",
+        },
+        Word {
+            id: "output",
+            value: "OUT",
+            form: Form::Extra,
+            help: "folder of the captures, reports and tables that are written: the network is run",
+        },
+        Word {
+            id: "picture",
+            value: "FILE",
+            form: Form::Choice,
+            help: "picture of the run that is made too (SVG)",
+        },
+        Word {
+            id: "strict",
+            value: "",
+            form: Form::Flag,
+            help: "end with status 1 where something is told of a network that is accepted",
+        },
+        EXPLAIN,
+    ],
+    after: "\
+Examples:
+  tsnbridge net check examples/line/network.toml
+  tsnbridge net examples/network/network.toml examples/network out
+
+Plans lie beside the network's file. The folder that is read has one for each bridge, with the
+captures of its open ports (1.pcap ..) and commands.toml where commands come to it.
+
+Statuses:
+  0  the network is accepted; one line counts what it has, and each stream has its bound; a run
+     has one line
+  1  the network, a plan or commands are refused; with --strict also where something is told
+  2  a capture is refused, or frames go round and the run doesn't settle
+  3  a file, a read, a write or memory failed
+  4  the words are refused",
+};
+
+const PROGRAM: Description = Description {
+    name: "tsnbridge",
+    about: "Send captures of Ethernet frames through a time-aware bridge, exactly (IEEE 802.1Q-2018)",
+    words: &[],
+    after: "\
+Without words the program reads the hexadecimal text of a capture from standard input, sends it
+through one queue of 4 places at 1000 Mb/s, and prints the text of what left.
+
+Example:
+  tsnbridge run examples/base.toml examples/gated out
+
+Statuses:
+  0  the job is done
+  1  a plan, its commands or a network are refused
+  2  a text or a capture is refused, or a network doesn't settle
+  3  a file, a read, a write or memory failed
+  4  the words are refused",
+};
+
+/// The version of the program.
+const VERSION: &str = "1.0.0";
+
+/// What the words after the program's name are to `clap`: a command with its values, or what is wrong with them.
+pub fn matches_of<'a>(alloc: Global, words: &'a [String]) -> Result<ArgMatches<'a>, Error>
+    ensures taken { IfOk result (λ _. fault_of commands (map string_bytes words.entry.now) ≡ []) }
+    ensures kinds { FailsBy (fault_of commands (map string_bytes words.entry.now)) result }
+    ensures values { IfOk result (λ m. subcommand_rows_of m ≡ subcommand_of commands (map string_bytes words.entry.now)) }
+    ensures refused { IfErr result (λ e. kind_of e ≢ ErrorKind.OutOfMemory → fault_of commands (map string_bytes words.entry.now) ≢ []) }
+{
+    let command = commands_of(alloc)?;
+    command.try_get_matches_from(words)
+}
+
+/// The program with its commands.
+pub(crate) fn commands_of<'a>(alloc: Global) -> Result<Command<'a>, AllocError>
+    ensures { IfOk result (λ c. app_of c ≡ commands) }
+{
+    let program = bridge_jobs_of(alloc)?;
+    with_command(alloc, program, &NET)
+}
+
+/// The program with the commands of one bridge.
+fn bridge_jobs_of<'a>(alloc: Global) -> Result<Command<'a>, AllocError>
+    ensures { IfOk result (λ c. app_of c ≡ bridge_jobs) }
+{
+    let program = drawing_jobs_of(alloc)?;
+    with_command(alloc, program, &BOUNDS)
+}
+
+/// The program with the commands that run, check or draw.
+fn drawing_jobs_of<'a>(alloc: Global) -> Result<Command<'a>, AllocError>
+    ensures { IfOk result (λ c. app_of c ≡ drawing_jobs) }
+{
+    let program = jobs_of(alloc)?;
+    with_command(alloc, program, &PICTURE)
+}
+
+/// The program with the commands that don't draw alone.
+fn jobs_of<'a>(alloc: Global) -> Result<Command<'a>, AllocError>
+    ensures { IfOk result (λ c. app_of c ≡ jobs) }
+{
+    let program = plain_jobs_of(alloc)?;
+    with_command(alloc, program, &RUN)
+}
+
+/// The program with the commands that take no folder.
+fn plain_jobs_of<'a>(alloc: Global) -> Result<Command<'a>, AllocError>
+    ensures { IfOk result (λ c. app_of c ≡ plain_jobs) }
+{
+    let program = wiring_of(alloc)?;
+    with_command(alloc, program, &CHECK)
+}
+
+/// The program with the command that needs no plan.
+fn wiring_of<'a>(alloc: Global) -> Result<Command<'a>, AllocError>
+    ensures { IfOk result (λ c. app_of c ≡ wiring) }
+{
+    let program = program_of(alloc)?;
+    with_command(alloc, program, &WIRE)
+}
+
+/// The program with the command of a description behind those that it has.
+fn with_command<'a>(
+    alloc: Global,
+    program: Command<'a>,
+    description: &Description,
+) -> Result<Command<'a>, AllocError>
+    ensures { IfOk result (λ c. app_of c ≡ with_subcommand (app_of program.entry) (described description.now).top) }
+{
+    match command_of(alloc, description) {
+        Ok(command) => program.subcommand(command),
+        Err(error) => {
+            drop(program);
+            Err(error)
+        }
+    }
+}
+
+/// The program without its commands.
+fn program_of<'a>(alloc: Global) -> Result<Command<'a>, AllocError>
+    ensures { IfOk result (λ c. app_of c ≡ program) }
+{
+    let program = command_of(alloc, &PROGRAM)?;
+    program
+        .no_binary_name(true)
+        .version(VERSION)
+        .propagate_version(true)
+        .bin_name(PROGRAM.name)
+}
+
+/// The command of a description.
+fn command_of<'a>(alloc: Global, description: &Description) -> Result<Command<'a>, AllocError>
+    ensures command { IfOk result (λ c. app_of c ≡ described description.now) }
+    ensures local { IfOk result (λ c. (fields_of c).has_globals ≡ false) }
+{
+    let command = Command::new(alloc, description.name)
+        .about(description.about)
+        .after_help(description.after);
+    with_words(alloc, command, description.words)
+}
+
+/// The command with these words.
+fn with_words<'a>(
+    alloc: Global,
+    command: Command<'a>,
+    words: &[Word],
+) -> Result<Command<'a>, AllocError>
+    ensures command { IfOk result (λ c. app_of c ≡ fold with_word (app_of command.entry) words.now) }
+    ensures local { (fields_of command.entry).has_globals ≡ false → IfOk result (λ c. (fields_of c).has_globals ≡ false) }
+{
+    let mut grown = command;
+    for word in words {
+        grown = grown.arg(word_of(alloc, *word))?;
+    }
+    Ok(grown)
+}
+
+/// What `clap` is to read of a word.
+fn word_of<'a>(alloc: Global, word: Word) -> Arg<'a>
+    ensures rule { rule_of result ≡ rule_in word.form word.id.now }
+    ensures local { result.global ≡ false }
+{
+    let arg = Arg::new(alloc, word.id).help(word.help);
+    match word.form {
+        Form::Place => arg.value_name(word.value).required(true),
+        Form::Extra => arg.value_name(word.value),
+        Form::Choice => arg.value_name(word.value).long(word.id),
+        Form::Flag => arg.long(word.id).action(ArgAction::SetTrue),
+    }
+}

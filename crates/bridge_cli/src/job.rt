@@ -1,0 +1,321 @@
+//! The job that the words of the command line ask for.
+ghost use Rattle.std.specs.Prelude.{◌≡◌, ◌⊎◌, Err, IfOk, IfErr, None, Option, Some, ℕ, codes, map, option_map, string_bytes};
+ghost use Rattle.bridge_frame.specs.declared.Speed.{Speed};
+ghost use Rattle.bridge_inputs.specs.declared.fault.RunFault.{RunFault};
+ghost use Rattle.clap.specs.Words.{Text, first_of, found_of, kind_of, rows_of};
+ghost use Rattle.bridge_cli.specs.declared.job.Job.{Job};
+ghost use Rattle.bridge_cli.specs.CommandLine.{AsksFor, AsksForBounds, AsksForCheck, AsksForNetwork, AsksForNetworkRun, AsksForPicture, AsksForRun, AsksForWire, HasRoom, IsBoundsJob, IsCheckJob, IsNetworkJob, IsPictureJob, IsRunJob, IsWireJob, fault_of_kind};
+
+use crate::command::matches_of;
+use crate::number::{room_of, speed_of};
+use bridge_frame::Speed;
+use bridge_jobs::Fault;
+use bridge_wire::RunFault;
+use clap::error::ErrorKind;
+use clap::{ArgMatches, Error};
+use std::alloc::Global;
+
+/// What the program is to do.
+#[derive(Debug, Drop)]
+pub enum Job {
+    /// The hexadecimal text of a capture, from standard input, through one queue.
+    Text,
+    /// A capture file through one queue into another one.
+    Wire {
+        /// The speed of the link.
+        speed: Speed,
+        /// The room of the queue, 1 to 4096 frames.
+        room: u16,
+        /// The path of the capture that is read.
+        input: String,
+        /// The path of the capture that is written.
+        output: String,
+    },
+    /// Whether a plan isolates its protected filters.
+    Check {
+        /// The path of the plan.
+        plan: String,
+    },
+    /// A folder of captures through the bridge of a plan into another folder.
+    Run {
+        /// The path of the plan.
+        plan: String,
+        /// The path of the folder of the captures that are read.
+        input: String,
+        /// The path of the folder of the captures that are written.
+        output: String,
+        /// The path of the commands that come to the bridge, if any do.
+        commands: Option<String>,
+    },
+    /// How long the frames of a plan's protected filters may take.
+    Bounds {
+        /// The path of the plan.
+        plan: String,
+        /// The path of the traffic that their talkers send, if it is told.
+        traffic: Option<String>,
+    },
+    /// Whether a network of bridges isolates its streams.
+    Network {
+        /// The path of the network.
+        network: String,
+    },
+    /// Folders of captures through a network of bridges into other folders.
+    RunNetwork {
+        /// The path of the network.
+        network: String,
+        /// The path of the folder in which each bridge has that of its captures that are read.
+        input: String,
+        /// The path of the folder in which each bridge gets that of its captures that are written.
+        output: String,
+        /// The path of a picture of the run, if one is made.
+        picture: Option<String>,
+    },
+    /// A picture of a plan.
+    Picture {
+        /// The path of the plan.
+        plan: String,
+        /// The path of the picture that is made.
+        file: String,
+    },
+}
+
+/// The job that the words after the program's name ask for: `Text` without words, `Wire` for `wire MBPS ROOM IN OUT`,
+/// `Check` for `check PLAN`, `Run` for `run PLAN IN OUT`, also with `--commands FILE` (once, wherever `clap` takes options),
+/// `Picture` for `picture PLAN FILE`, `Bounds` for `bounds PLAN`, also with `--traffic FILE`, `Network` for `net check NET`, and
+/// `RunNetwork` for `net NET IN OUT`, also with `--picture FILE`, whatever the name of NET is.
+///
+/// MBPS is 10, 100, 1000, 2500 or 10000 and ROOM is 1 to 4096, both as decimal digits alone. `Words` for all other words,
+/// also for a request for help or for a version, and `Run` with `NoMemory` where a growth was refused.
+pub fn job_of(alloc: Global, words: &[String]) -> Result<Job, Fault>
+    ensures ok { IfOk result (AsksFor (map string_bytes words.now)) }
+    ensures room { IfOk result HasRoom }
+    ensures words { result ≡ Err Fault.Words → (job : Job) → ¬ AsksFor (map string_bytes words.now) job }
+    ensures only { IfErr result (λ fault. (fault ≡ Fault.Words) ⊎ (fault ≡ Fault.Run RunFault.NoMemory)) }
+{
+    if words.is_empty() {
+        return Ok(Job::Text);
+    }
+    let matches = match matches_of(alloc, words) {
+        Ok(matches) => matches,
+        Err(error) => return Err(fault_of(&error)),
+    };
+    if let Some(values) = matches.subcommand_matches("wire") {
+        return wire_job(alloc, values);
+    }
+    if let Some(values) = matches.subcommand_matches("check") {
+        return check_job(alloc, values);
+    }
+    if let Some(values) = matches.subcommand_matches("run") {
+        return run_job(alloc, values);
+    }
+    if let Some(values) = matches.subcommand_matches("picture") {
+        return picture_job(alloc, values);
+    }
+    if let Some(values) = matches.subcommand_matches("bounds") {
+        return bounds_job(alloc, values);
+    }
+    if let Some(values) = matches.subcommand_matches("net") {
+        return network_job(alloc, values);
+    }
+    Err(Fault::Words)
+}
+
+/// The job of a `wire` command with these values.
+fn wire_job(alloc: Global, values: &ArgMatches) -> Result<Job, Fault>
+    ensures ok { IfOk result (IsWireJob (rows_of (found_of values.now))) }
+    ensures room { IfOk result HasRoom }
+    ensures words { result ≡ Err Fault.Words → (speed : Speed) (room : ℕ) (input output : Text) → ¬ AsksForWire (rows_of (found_of values.now)) speed room input output }
+    ensures only { IfErr result (λ fault. (fault ≡ Fault.Words) ⊎ (fault ≡ Fault.Run RunFault.NoMemory)) }
+{
+    let Some(mbps) = value_of(values, "mbps") else {
+        return Err(Fault::Words);
+    };
+    let Some(speed) = speed_of(mbps) else {
+        return Err(Fault::Words);
+    };
+    let Some(places) = value_of(values, "room") else {
+        return Err(Fault::Words);
+    };
+    let Some(room) = room_of(places) else {
+        return Err(Fault::Words);
+    };
+    let Some(from) = value_of(values, "input") else {
+        return Err(Fault::Words);
+    };
+    let Some(to) = value_of(values, "output") else {
+        return Err(Fault::Words);
+    };
+    let input = String::from_str(alloc, from)?;
+    let output = String::from_str(alloc, to)?;
+    Ok(Job::Wire {
+        speed,
+        room,
+        input,
+        output,
+    })
+}
+
+/// The job of a `check` command with these values.
+fn check_job(alloc: Global, values: &ArgMatches) -> Result<Job, Fault>
+    ensures ok { IfOk result (IsCheckJob (rows_of (found_of values.now))) }
+    ensures room { IfOk result HasRoom }
+    ensures words { result ≡ Err Fault.Words → (plan : Text) → ¬ AsksForCheck (rows_of (found_of values.now)) plan }
+    ensures only { IfErr result (λ fault. (fault ≡ Fault.Words) ⊎ (fault ≡ Fault.Run RunFault.NoMemory)) }
+{
+    let Some(path) = value_of(values, "plan") else {
+        return Err(Fault::Words);
+    };
+    let plan = String::from_str(alloc, path)?;
+    Ok(Job::Check { plan })
+}
+
+/// The job of a `run` command with these values.
+fn run_job(alloc: Global, values: &ArgMatches) -> Result<Job, Fault>
+    ensures ok { IfOk result (IsRunJob (rows_of (found_of values.now))) }
+    ensures room { IfOk result HasRoom }
+    ensures words { result ≡ Err Fault.Words → (plan input output : Text) (commands : Option Text) → ¬ AsksForRun (rows_of (found_of values.now)) plan input output commands }
+    ensures only { IfErr result (λ fault. (fault ≡ Fault.Words) ⊎ (fault ≡ Fault.Run RunFault.NoMemory)) }
+{
+    let Some(path) = value_of(values, "plan") else {
+        return Err(Fault::Words);
+    };
+    let Some(from_folder) = value_of(values, "input") else {
+        return Err(Fault::Words);
+    };
+    let Some(to_folder) = value_of(values, "output") else {
+        return Err(Fault::Words);
+    };
+    let plan = String::from_str(alloc, path)?;
+    let input = String::from_str(alloc, from_folder)?;
+    let output = String::from_str(alloc, to_folder)?;
+    let commands = match value_of(values, "commands") {
+        Some(file) => Some(String::from_str(alloc, file)?),
+        None => None,
+    };
+    Ok(Job::Run {
+        plan,
+        input,
+        output,
+        commands,
+    })
+}
+
+/// The job of a `picture` command with these values.
+fn picture_job(alloc: Global, values: &ArgMatches) -> Result<Job, Fault>
+    ensures ok { IfOk result (IsPictureJob (rows_of (found_of values.now))) }
+    ensures room { IfOk result HasRoom }
+    ensures words { result ≡ Err Fault.Words → (plan file : Text) → ¬ AsksForPicture (rows_of (found_of values.now)) plan file }
+    ensures only { IfErr result (λ fault. (fault ≡ Fault.Words) ⊎ (fault ≡ Fault.Run RunFault.NoMemory)) }
+{
+    let Some(path) = value_of(values, "plan") else {
+        return Err(Fault::Words);
+    };
+    let Some(to_file) = value_of(values, "file") else {
+        return Err(Fault::Words);
+    };
+    let plan = String::from_str(alloc, path)?;
+    let file = String::from_str(alloc, to_file)?;
+    Ok(Job::Picture { plan, file })
+}
+
+/// The job of a `bounds` command with these values.
+fn bounds_job(alloc: Global, values: &ArgMatches) -> Result<Job, Fault>
+    ensures ok { IfOk result (IsBoundsJob (rows_of (found_of values.now))) }
+    ensures room { IfOk result HasRoom }
+    ensures words { result ≡ Err Fault.Words → (plan : Text) (traffic : Option Text) → ¬ AsksForBounds (rows_of (found_of values.now)) plan traffic }
+    ensures only { IfErr result (λ fault. (fault ≡ Fault.Words) ⊎ (fault ≡ Fault.Run RunFault.NoMemory)) }
+{
+    let Some(path) = value_of(values, "plan") else {
+        return Err(Fault::Words);
+    };
+    let plan = String::from_str(alloc, path)?;
+    let traffic = match value_of(values, "traffic") {
+        Some(file) => Some(String::from_str(alloc, file)?),
+        None => None,
+    };
+    Ok(Job::Bounds { plan, traffic })
+}
+
+/// The job of a `net` command with these values: the check of a network, or with a third word its run.
+fn network_job(alloc: Global, values: &ArgMatches) -> Result<Job, Fault>
+    ensures ok { IfOk result (IsNetworkJob (rows_of (found_of values.now))) }
+    ensures room { IfOk result HasRoom }
+    ensures checks { result ≡ Err Fault.Words → (network : Text) → ¬ AsksForNetwork (rows_of (found_of values.now)) network }
+    ensures runs { result ≡ Err Fault.Words → (network input output : Text) (picture : Option Text) → ¬ AsksForNetworkRun (rows_of (found_of values.now)) network input output picture }
+    ensures only { IfErr result (λ fault. (fault ≡ Fault.Words) ⊎ (fault ≡ Fault.Run RunFault.NoMemory)) }
+{
+    match value_of(values, "output") {
+        Some(to_folder) => network_run_job(alloc, values, to_folder),
+        None => network_check_job(alloc, values),
+    }
+}
+
+/// The job of a `net` command with these values, which have no third word.
+fn network_check_job(alloc: Global, values: &ArgMatches) -> Result<Job, Fault>
+    requires { first_of (codes "output") (rows_of (found_of values.now)) ≡ None }
+    ensures ok { IfOk result (IsNetworkJob (rows_of (found_of values.now))) }
+    ensures room { IfOk result HasRoom }
+    ensures words { result ≡ Err Fault.Words → (network : Text) → ¬ AsksForNetwork (rows_of (found_of values.now)) network }
+    ensures only { IfErr result (λ fault. (fault ≡ Fault.Words) ⊎ (fault ≡ Fault.Run RunFault.NoMemory)) }
+{
+    let Some(task) = value_of(values, "first") else {
+        return Err(Fault::Words);
+    };
+    if task != "check" {
+        return Err(Fault::Words);
+    }
+    if value_of(values, "picture").is_some() {
+        return Err(Fault::Words);
+    }
+    let Some(path) = value_of(values, "second") else {
+        return Err(Fault::Words);
+    };
+    let network = String::from_str(alloc, path)?;
+    Ok(Job::Network { network })
+}
+
+/// The job of a `net` command with these values, the third of which is the folder that is written.
+fn network_run_job(alloc: Global, values: &ArgMatches, to_folder: &str) -> Result<Job, Fault>
+    requires { first_of (codes "output") (rows_of (found_of values.now)) ≡ Some to_folder.now }
+    ensures ok { IfOk result (IsNetworkJob (rows_of (found_of values.now))) }
+    ensures room { IfOk result HasRoom }
+    ensures words { result ≡ Err Fault.Words → (network input output : Text) (picture : Option Text) → ¬ AsksForNetworkRun (rows_of (found_of values.now)) network input output picture }
+    ensures only { IfErr result (λ fault. (fault ≡ Fault.Words) ⊎ (fault ≡ Fault.Run RunFault.NoMemory)) }
+{
+    let Some(path) = value_of(values, "first") else {
+        return Err(Fault::Words);
+    };
+    let Some(from_folder) = value_of(values, "second") else {
+        return Err(Fault::Words);
+    };
+    let network = String::from_str(alloc, path)?;
+    let input = String::from_str(alloc, from_folder)?;
+    let output = String::from_str(alloc, to_folder)?;
+    let picture = match value_of(values, "picture") {
+        Some(file) => Some(String::from_str(alloc, file)?),
+        None => None,
+    };
+    Ok(Job::RunNetwork {
+        network,
+        input,
+        output,
+        picture,
+    })
+}
+
+/// The value of a command by its name.
+pub(crate) fn value_of<'a>(values: &ArgMatches<'a>, name: &str) -> Option<&'a str>
+    ensures { option_map (λ s. s.now) result ≡ first_of name.now (rows_of (found_of values.now)) }
+{
+    values.get_str(name)
+}
+
+/// The fault of words that `clap` refuses.
+pub(crate) fn fault_of(error: &Error) -> Fault
+    ensures { result ≡ fault_of_kind (kind_of error.now) }
+{
+    match error.kind() {
+        ErrorKind::OutOfMemory => Fault::Run(RunFault::NoMemory),
+        _ => Fault::Words,
+    }
+}

@@ -1,0 +1,14 @@
+#![tactic(auto)]
+//! The words of the command line: the job that they ask for, and what they ask for beside it.
+
+mod command;
+mod explaining;
+mod helping;
+mod job;
+mod number;
+mod picture_request;
+
+pub use explaining::{wants_explanation, wants_strictness};
+pub use helping::{help_of, manual_of};
+pub use job::{Job, job_of};
+pub use picture_request::{PictureRequest, picture_request_of};

@@ -1,0 +1,60 @@
+//! Words of the command line that stand for a number.
+ghost use Rattle.std.specs.Prelude.{◌≡◌, ◌<◌, ◌^◌, MatchOption};
+ghost use Rattle.std.specs.Option.{SomeIff};
+ghost use Rattle.std.specs.Str.Parse.{IsNumeral, digits_value};
+ghost use Rattle.bridge_frame.specs.declared.Speed.{Speed};
+ghost use Rattle.bridge_cli.specs.Numbers.{IsMoment, IsRoom, IsSpeed};
+
+use bridge_frame::Speed;
+use bridge_limits::END_OF_TIME;
+use bridge_port::LARGEST_ROOM;
+
+/// The number of a word of decimal digits alone, one or more, where it is below 2^32.
+fn number_of(word: &str) -> Option<u32>
+    ensures { SomeIff result (IsNumeral 10 word.now × (digits_value 10 word.now < 2 ^ 32)) (digits_value 10 word.now) }
+{
+    if word.as_bytes().first() == Some(&b'+') {
+        return None;
+    }
+    match word.parse::<u32>() {
+        Ok(number) => Some(number),
+        Err(_) => None,
+    }
+}
+
+/// The room of a queue that a word gives: decimal digits alone, 1 to 4096 frames.
+pub fn room_of(word: &str) -> Option<u16>
+    ensures { SomeIff result (IsRoom word.now) (digits_value 10 word.now) }
+{
+    let number = number_of(word)?;
+    if number == 0 {
+        return None;
+    }
+    if number > LARGEST_ROOM as u32 {
+        return None;
+    }
+    Some(number as u16)
+}
+
+/// The speed that a word gives: decimal digits alone, 10, 100, 1000, 2500 or 10000 megabits a second.
+pub fn speed_of(word: &str) -> Option<Speed>
+    ensures { MatchOption result ((speed : Speed) → ¬ IsSpeed word.now speed) (IsSpeed word.now) }
+{
+    match number_of(word) {
+        Some(number) => Speed::of(number),
+        None => None,
+    }
+}
+
+/// The moment that a word gives, in ns: decimal digits alone, below 4 * 10^18.
+pub fn moment_of(word: &str) -> Option<u64>
+    ensures { SomeIff result (IsMoment word.now) (digits_value 10 word.now) }
+{
+    if word.as_bytes().first() == Some(&b'+') {
+        return None;
+    }
+    match word.parse::<u64>() {
+        Ok(moment) if moment < END_OF_TIME => Some(moment),
+        _ => None,
+    }
+}

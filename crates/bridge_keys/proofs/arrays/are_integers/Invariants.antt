@@ -1,7 +1,0 @@
-use Rattle.std.proofs.Common.{◌≡◌, drop}
-use Rattle.toml.specs.View.{items_view}
-use Rattle.bridge_keys.specs.Readers.{are_integers}
-use Rattle.bridge_keys.proofs.arrays.are_integers.Given as goal
-
-abbrev pub invariant-items : goal.invariant-items
-invariant-items l = are_integers (items_view (drop l.item-index l.items)) ≡ are_integers (items_view l.items)

@@ -1,7 +1,0 @@
-use Rattle.std.proofs.Common.{◌≡◌, drop}
-use Rattle.toml.specs.View.{items_view}
-use Rattle.bridge_keys.specs.Readers.{are_tables}
-use Rattle.bridge_keys.proofs.arrays.are_tables.Given as goal
-
-abbrev pub invariant-items : goal.invariant-items
-invariant-items l = are_tables (items_view (drop l.item-index l.items)) ≡ are_tables (items_view l.items)

@@ -1,0 +1,37 @@
+-- How many frames of all streams came to their first hops in a run of a network, and how many of these were delivered.
+use Rattle.std.specs.Prelude.{◌≡◌, ℕ, ◌+◌, ◌-◌, ◌^◌, min, Option, List, [], ◌∷◌, length, Vec}
+use Rattle.bridge_semantics.specs.declared.outcome.Outcome.{Outcome}
+use Rattle.bridge_network.specs.declared.links.Link.{Link}
+use Rattle.bridge_netfile.specs.Model.{Stream}
+use Rattle.bridge_rounds.specs.declared.settling.Settled.{Settled}
+use Rattle.bridge_rounds.specs.Rounds.{AreOutcomes}
+use Rattle.bridge_delays.specs.declared.hops.HopRun.{HopRun}
+use Rattle.bridge_delays.specs.declared.tallies.Tally.{Tally}
+use Rattle.bridge_delays.specs.declared.tracing.Root.{Root}
+use Rattle.bridge_delays.specs.Counting.{AreTallies}
+use Rattle.bridge_delays.specs.Streams.{delivered_of}
+use Rattle.bridge_delays.specs.Tracing.{AreFrom}
+use Rattle.bridge_net_app.specs.InTime.{AreRunsOf}
+
+-- so many frames came to the first hop of a stream, and so many of them were delivered, by what was told of its hops and by what is known of the
+-- frames there
+pub record IsCountOf {A : Type 0} (links : List Link) (settled : List (Settled A)) (stream : List (ℕ × ℕ)) (frames delivered : ℕ) : Type 0 where
+  pub hops : List (HopRun A)
+  pub known : List (Vec (Option Root) A)
+  pub tallies : List Tally
+  pub many : length hops ≡ length stream
+  pub told : (o : ℕ → Outcome A) → AreOutcomes settled o → AreRunsOf o stream hops
+  pub from : AreFrom links hops known
+  pub counted : AreTallies links hops known tallies
+  pub all : frames ≡ length tallies
+  pub kept : delivered ≡ delivered_of tallies
+
+-- a count with more, as far as it goes
+abbrev pub with_more : ℕ → ℕ → ℕ
+with_more n m = min (n + m) (2 ^ 64 - 1)
+
+-- counts of frames and of delivered ones, and what they are with those of streams
+abbrev pub CountsTo : {A : Type 0} → List Link → List (Settled A) → List Stream → ℕ → ℕ → ℕ → ℕ → Type 0
+CountsTo links settled [] n m frames delivered = (frames ≡ n) × (delivered ≡ m)
+CountsTo links settled (s ∷ ss) n m frames delivered =
+    (f : ℕ) × (d : ℕ) × IsCountOf links settled s.hops f d × CountsTo links settled ss (with_more n f) (with_more m d) frames delivered

@@ -1,0 +1,347 @@
+//! The job of a run of a network over folders.
+ghost use Rattle.std.specs.Prelude.{◌≡◌, ◌≤◌, IfOk, IfErr, length, string_bytes};
+ghost use Rattle.bridge_net_app.specs.Folders.{EndsFiles, EndsRounds, IsLine, PrintsRounds, TellsRun, network_words, rounds_line};
+
+use crate::incoming::read_all;
+use crate::outputs::{Outputs, open_outputs};
+use crate::picture::{open_picture, put_picture};
+use crate::refusing::said_of_run;
+use crate::tables::put_tables;
+use crate::watching::{Teller, is_long};
+use crate::writing::put_bridges;
+use bridge_files::{FileId, Output, add_file, file_at};
+use bridge_jobs::Fault;
+use bridge_limits::NoMemory;
+use bridge_netfile::NetworkFile;
+use bridge_network::Network;
+use bridge_planning::{
+    QueueBound, bounds_of_all, bounds_of_streams, memory_fault, paths_of, read_network, read_plans,
+    tested, told_of,
+};
+use bridge_rounds::{Settled, settle};
+use std::alloc::{AllocError, Global};
+use std::rt::Files;
+
+/// After how many rounds a network that still changes isn't run further.
+const MOST_ROUNDS: u32 = 64;
+
+/// The files of some paths, where the system tells which they are.
+fn files_at<H: AllocGlobal + Files>(rt: &H, paths: &[String]) -> Result<Vec<FileId>, NoMemory> {
+    let mut files = Vec::new(rt.alloc());
+    for path in paths {
+        let Ok(()) = add_file(&mut files, file_at(rt, path.as_str())) else {
+            return Err(NoMemory);
+        };
+    }
+    Ok(files)
+}
+
+/// How many bridges, links and streams a network has.
+#[tactic(auto, unfolding(crate::specs::Folders::network_words))]
+fn network_words(alloc: Global, file: &NetworkFile<Global>) -> Result<String, AllocError>
+    ensures { IfOk result (λ words. string_bytes words ≡ network_words file.now) }
+{
+    let bridges = file.bridges().len();
+    let links = file.links().len();
+    let streams = file.streams().len();
+    let mut text = String::new(alloc);
+    write!(text, "bridges {bridges} links {links} streams {streams} ")?;
+    Ok(text)
+}
+
+/// The line of a run: how many bridges, links and streams there are, how many frames came to the first hops of streams, and
+/// how many of these were delivered and lost.
+#[tactic(auto, unfolding(crate::specs::Folders::rounds_line))]
+fn line_of(
+    alloc: Global,
+    file: &NetworkFile<Global>,
+    frames: u64,
+    delivered: u64,
+) -> Result<String, AllocError>
+    ensures { IfOk result (λ line. string_bytes line ≡ rounds_line file.now frames delivered) }
+{
+    let start = network_words(alloc, file)?;
+    let lost = frames.saturating_sub(delivered);
+    let mut text = String::new(alloc);
+    write!(
+        text,
+        "{start}frames {frames} delivered {delivered} lost {lost}\n"
+    )?;
+    Ok(text)
+}
+
+/// Writes what a run of a network told.
+fn put_all<H: AllocGlobal + Files>(
+    rt: &H,
+    file: &NetworkFile<Global>,
+    network: &Network<Global>,
+    queues: &[Vec<QueueBound>],
+    output: &str,
+    settled: &[Settled<Global>],
+    outputs: Outputs<H::File>,
+) -> Result<String, Fault>
+    ensures ok { IfOk result (λ line. IsLine network.now.links settled.now file.now (string_bytes line)) }
+    ensures err { IfErr result EndsFiles }
+{
+    let alloc = rt.alloc();
+    let Outputs {
+        bridges,
+        streams,
+        frames,
+    } = outputs;
+    let Ok(bounds) = bounds_of_streams(alloc, queues, file.links(), file.streams()) else {
+        drop(bridges);
+        drop(streams);
+        drop(frames);
+        return Err(memory_fault());
+    };
+    if let Err(fault) = put_bridges(alloc, network, file.bridges(), output, settled, bridges) {
+        drop(streams);
+        drop(frames);
+        return Err(fault);
+    }
+    let totals = put_tables(
+        alloc,
+        file,
+        network.links(),
+        settled,
+        &bounds,
+        output,
+        streams,
+        frames,
+    )?;
+    match line_of(alloc, file, totals.frames, totals.delivered) {
+        Ok(line) => Ok(line),
+        Err(_) => Err(memory_fault()),
+    }
+}
+
+/// Writes what a run of a network told, and its picture, where one is asked for.
+fn put_drawn<H: AllocGlobal + Files>(
+    rt: &H,
+    file: &NetworkFile<Global>,
+    network: &Network<Global>,
+    output: &str,
+    settled: &[Settled<Global>],
+    outputs: Outputs<H::File>,
+    picture: Option<String>,
+    drawing: Option<Output<H::File>>,
+) -> Result<String, Fault>
+    ensures ok { IfOk result (λ line. IsLine network.now.links settled.now file.now (string_bytes line)) }
+    ensures err { IfErr result EndsFiles }
+{
+    let Ok(queues) = bounds_of_all(rt.alloc(), network.plans()) else {
+        drop(outputs);
+        drop(drawing);
+        return Err(memory_fault());
+    };
+    let line = match put_all(rt, file, network, &queues, output, settled, outputs) {
+        Ok(line) => line,
+        Err(fault) => {
+            drop(drawing);
+            return Err(fault);
+        }
+    };
+    match put_picture(
+        rt.alloc(),
+        file,
+        network,
+        &queues,
+        settled,
+        picture,
+        drawing,
+    ) {
+        Ok(()) => Ok(line),
+        Err(fault) => Err(fault),
+    }
+}
+
+/// Runs a network from one folder into another.
+fn run_network<H: AllocGlobal + Eprint + Files>(
+    rt: &H,
+    file: &NetworkFile<Global>,
+    network: &Network<Global>,
+    input: &str,
+    output: &str,
+    picture: Option<String>,
+    is_watched: bool,
+    teller: &mut Teller<'_, H>,
+    taken: Vec<FileId>,
+) -> Result<String, Fault>
+    ensures ok { IfOk result (λ line. TellsRun network.now file.now (string_bytes line)) }
+    ensures err { IfErr result EndsRounds }
+{
+    let mut taken = taken;
+    let incoming = read_all(rt, network, file.bridges(), input, &mut taken)?;
+    let outputs = match open_outputs(
+        rt,
+        network.plans(),
+        file.bridges(),
+        input,
+        output,
+        &mut taken,
+    ) {
+        Ok(outputs) => outputs,
+        Err(fault) => {
+            drop(incoming);
+            return Err(fault);
+        }
+    };
+    let drawing = match open_picture(rt, &picture, &mut taken) {
+        Ok(drawing) => drawing,
+        Err(fault) => {
+            drop(incoming);
+            drop(outputs);
+            return Err(fault);
+        }
+    };
+    teller.is_wanted = is_watched && is_long(&incoming);
+    match settle(rt.alloc(), network, incoming, MOST_ROUNDS, teller) {
+        Ok(settled) => {
+            let told = put_drawn(
+                rt, file, network, output, &settled, outputs, picture, drawing,
+            );
+            drop(settled);
+            told
+        }
+        Err(fault) => {
+            drop(outputs);
+            drop(drawing);
+            Err(said_of_run(rt.alloc(), file.bridges(), fault))
+        }
+    }
+}
+
+/// What is said of a run of a network.
+#[derive(Debug, Drop)]
+pub struct RoundsSaid {
+    /// The line that is printed.
+    pub line: String,
+    /// Whether `net check` tells something of the network; looked at where that is asked for alone.
+    pub is_told: bool,
+    /// In how many rounds it was found: in the last of them nothing else was sent over any link than before.
+    pub rounds: u32,
+}
+
+/// Whether `net check` tells something of a network.
+fn is_told(
+    alloc: Global,
+    file: &NetworkFile<Global>,
+    network: &Network<Global>,
+) -> Result<bool, NoMemory>
+    requires few { length network.now.plans ≤ 64 }
+{
+    let told = told_of(alloc, alloc, file, network)?;
+    Ok(!told.is_empty())
+}
+
+/// Runs an accepted network, and looks at what is told of it, where that is asked for.
+fn run_accepted<H: AllocGlobal + Eprint + Files>(
+    rt: &H,
+    file: &NetworkFile<Global>,
+    network: &Network<Global>,
+    job: RoundsJob,
+    taken: Vec<FileId>,
+) -> Result<RoundsSaid, Fault>
+    requires few { length network.now.plans ≤ 64 }
+    ensures ok { IfOk result (λ said. TellsRun network.now file.now (string_bytes said.line)) }
+    ensures err { IfErr result EndsRounds }
+{
+    let RoundsJob {
+        network: _,
+        input,
+        output,
+        picture,
+        is_strict,
+        is_watched,
+    } = job;
+    let told = if is_strict {
+        is_told(rt.alloc(), file, network)
+    } else {
+        Ok(false)
+    };
+    let Ok(is_told) = told else {
+        return Err(memory_fault());
+    };
+    let mut teller = Teller {
+        rt,
+        bridges: file.bridges(),
+        is_wanted: false,
+        rounds: 0,
+    };
+    match run_network(
+        rt,
+        file,
+        network,
+        input.as_str(),
+        output.as_str(),
+        picture,
+        is_watched,
+        &mut teller,
+        taken,
+    ) {
+        Ok(line) => Ok(RoundsSaid {
+            line,
+            is_told,
+            rounds: teller.rounds,
+        }),
+        Err(fault) => Err(fault),
+    }
+}
+
+/// A run of a network that is asked for.
+#[derive(Debug, Drop)]
+pub struct RoundsJob {
+    /// The path of the network.
+    pub network: String,
+    /// The path of the folder that is read.
+    pub input: String,
+    /// The path of the folder that is written.
+    pub output: String,
+    /// The path of a picture of the run, if one is made.
+    pub picture: Option<String>,
+    /// Whether what `net check` tells of the network is looked at.
+    pub is_strict: bool,
+    /// Whether a long run says on standard error how far it is: in which round which bridge runs.
+    pub is_watched: bool,
+}
+
+/// What is printed for a run of the network of a file whose plans lie beside it, where it is accepted: the captures of the open
+/// ports go through the whole network, with the commands of each bridge; what left each port of each bridge is written, a
+/// report of each bridge, the tables of the streams, and a picture, where one is asked for.
+///
+/// From the folder IN are read `BRIDGE/PORT.pcap` of each open port and `BRIDGE/commands.toml` where it is there; into the folder
+/// OUT are written `BRIDGE/PORT.pcap` of each port, `BRIDGE/report.txt`, `streams.csv` and `frames.csv`. Folders of OUT are
+/// made where they aren't there.
+///
+/// Faults in this order: those of `network_job`; what comes to each bridge; the folders and files that are written; the run,
+/// `Rounds` of a capture or where something still changes after 64 rounds; then the writing. What the outputs hold stays until
+/// the run is done.
+pub fn rounds_job<H: AllocGlobal + Eprint + Files>(
+    rt: &H,
+    job: RoundsJob,
+) -> Result<RoundsSaid, Fault>
+    ensures ok { IfOk result (λ said. PrintsRounds Global (string_bytes said.line)) }
+    ensures err { IfErr result EndsRounds }
+{
+    let alloc = rt.alloc();
+    let copy = String::from_str(alloc, job.network.as_str())?;
+    let file = read_network(rt, copy)?;
+    let plans = read_plans(rt, job.network.as_str(), file.bridges())?;
+    let Ok(paths) = paths_of(alloc, job.network.as_str(), &file) else {
+        drop(plans);
+        return Err(memory_fault());
+    };
+    let Ok(taken) = files_at(rt, &paths) else {
+        drop(plans);
+        return Err(memory_fault());
+    };
+    match tested(alloc, alloc, &file, plans) {
+        Ok(network) => {
+            let told = run_accepted(rt, &file, &network, job, taken);
+            drop(network);
+            told
+        }
+        Err(fault) => Err(fault),
+    }
+}

@@ -1,0 +1,198 @@
+//! The files that a run of a network writes.
+ghost use Rattle.std.specs.Prelude.{IfErr};
+ghost use Rattle.bridge_net_app.specs.Folders.{EndsFiles};
+
+use crate::refusing::name_at;
+use bridge_check::Accepted;
+use bridge_files::{
+    FileId, Output, add_file, create_all, file_at, is_one_of, output_at, report_path,
+};
+use bridge_jobs::Fault;
+use bridge_netfile::BridgeRow;
+use bridge_planning::memory_fault;
+use std::alloc::{AllocError, Global};
+use std::fs;
+use std::fs::OpenFile;
+use std::io::Write;
+use std::rt::Files;
+
+/// The folder of a bridge in a folder.
+pub(crate) fn folder_of(alloc: Global, folder: &str, name: &str) -> Result<String, AllocError> {
+    format!(in alloc; "{folder}/{name}")
+}
+
+/// What is written of a bridge: the captures of what left its ports, by rising number, and its report.
+#[derive(Drop)]
+pub(crate) struct BridgeOutputs<F: Write + OpenFile + Drop> {
+    pub(crate) taps: Vec<Output<F>>,
+    pub(crate) report: Output<F>,
+}
+
+/// What is written of a network: of each bridge, and the tables of its streams.
+#[derive(Drop)]
+pub(crate) struct Outputs<F: Write + OpenFile + Drop> {
+    pub(crate) bridges: Vec<BridgeOutputs<F>>,
+    pub(crate) streams: Output<F>,
+    pub(crate) frames: Output<F>,
+}
+
+/// The folders that are read, where the system tells which they are.
+fn folders_read<H: AllocGlobal + Files>(
+    rt: &H,
+    bridges: &[BridgeRow<Global>],
+    input: &str,
+) -> Result<Vec<FileId>, AllocError> {
+    let mut folders = Vec::new(rt.alloc());
+    if let Some(folder) = file_at(rt, input) {
+        folders.push(folder)?;
+    }
+    for row in bridges {
+        let path = folder_of(rt.alloc(), input, row.name())?;
+        if let Some(folder) = file_at(rt, path.as_str()) {
+            folders.push(folder)?;
+        }
+    }
+    Ok(folders)
+}
+
+/// Makes a folder, and those above it, where it isn't there. It is `File` of its path where it can't be made, or is one of
+/// those that are read.
+fn make_folder<H: AllocGlobal + Files>(rt: &H, path: &str, read: &[FileId]) -> Result<(), Fault>
+    ensures { IfErr result EndsFiles }
+{
+    if !is_one_of(read, file_at(rt, path)) && fs::create_dir_all(rt, path).is_ok() {
+        return Ok(());
+    }
+    match String::from_str(rt.alloc(), path) {
+        Ok(path) => Err(Fault::File(path)),
+        Err(_) => Err(memory_fault()),
+    }
+}
+
+/// Opens a file to be written anew, and adds it to those that are taken. It is `File` of its path where it can't be opened or
+/// made, or is one of those taken.
+pub(crate) fn open_output<H: AllocGlobal + Files>(
+    rt: &H,
+    path: String,
+    taken: &mut Vec<FileId>,
+) -> Result<Output<H::File>, Fault>
+    ensures { IfErr result EndsFiles }
+{
+    let Ok(output) = output_at(rt, path.as_str()) else {
+        return Err(Fault::File(path));
+    };
+    if is_one_of(taken, output.id()) {
+        return Err(Fault::File(path));
+    }
+    match add_file(taken, output.id()) {
+        Ok(()) => Ok(output),
+        Err(_) => Err(memory_fault()),
+    }
+}
+
+/// Adds files that are written to those that are taken.
+fn add_outputs<F: Write + OpenFile + Drop>(
+    taken: &mut Vec<FileId>,
+    outputs: &[Output<F>],
+) -> Result<(), Fault>
+    ensures { IfErr result EndsFiles }
+{
+    for output in outputs {
+        if add_file(taken, output.id()).is_err() {
+            return Err(memory_fault());
+        }
+    }
+    Ok(())
+}
+
+/// Opens a table in a folder to be written anew.
+fn open_table<H: AllocGlobal + Files>(
+    rt: &H,
+    folder: &str,
+    name: &str,
+    taken: &mut Vec<FileId>,
+) -> Result<Output<H::File>, Fault>
+    ensures { IfErr result EndsFiles }
+{
+    match format!(in rt.alloc(); "{folder}/{name}.csv") {
+        Ok(path) => open_output(rt, path, taken),
+        Err(_) => Err(memory_fault()),
+    }
+}
+
+/// Opens the captures and the report of a bridge to be written anew, in its folder.
+fn open_bridge<H: AllocGlobal + Files>(
+    rt: &H,
+    accepted: &Accepted<Global>,
+    folder: &str,
+    taken: &mut Vec<FileId>,
+) -> Result<BridgeOutputs<H::File>, Fault>
+    ensures { IfErr result EndsFiles }
+{
+    let Ok(ports) = accepted.plan().port_numbers(rt.alloc()) else {
+        return Err(memory_fault());
+    };
+    let taps = create_all(rt, folder, &ports, taken)?;
+    add_outputs(taken, &taps)?;
+    let Ok(path) = report_path(rt.alloc(), folder) else {
+        return Err(memory_fault());
+    };
+    let report = open_output(rt, path, taken)?;
+    Ok(BridgeOutputs { taps, report })
+}
+
+/// Opens what is written of each bridge.
+fn open_bridges<H: AllocGlobal + Files>(
+    rt: &H,
+    plans: &[Accepted<Global>],
+    bridges: &[BridgeRow<Global>],
+    input: &str,
+    output: &str,
+    taken: &mut Vec<FileId>,
+) -> Result<Vec<BridgeOutputs<H::File>>, Fault>
+    ensures { IfErr result EndsFiles }
+{
+    let Ok(read) = folders_read(rt, bridges, input) else {
+        return Err(memory_fault());
+    };
+    make_folder(rt, output, &read)?;
+    let mut all = Vec::new(rt.alloc());
+    for accepted in plans {
+        let name = name_at(bridges, all.len());
+        let Ok(folder) = folder_of(rt.alloc(), output, name) else {
+            return Err(memory_fault());
+        };
+        make_folder(rt, folder.as_str(), &read)?;
+        let outputs = open_bridge(rt, accepted, folder.as_str(), taken)?;
+        if all.push(outputs).is_err() {
+            return Err(memory_fault());
+        }
+    }
+    Ok(all)
+}
+
+/// Opens all files that a run of a network writes, in a folder with one for each bridge; folders that aren't there are made.
+/// What the files hold stays until they are written.
+///
+/// `File` of a folder that can't be made or is one that is read, and of a file that can't be opened or made, or is one of
+/// those that are taken: of the folder, then by the order of the bridges the folder, the captures by rising port and the
+/// report, then of the tables.
+pub(crate) fn open_outputs<H: AllocGlobal + Files>(
+    rt: &H,
+    plans: &[Accepted<Global>],
+    bridges: &[BridgeRow<Global>],
+    input: &str,
+    output: &str,
+    taken: &mut Vec<FileId>,
+) -> Result<Outputs<H::File>, Fault>
+    ensures { IfErr result EndsFiles }
+{
+    let opened = open_bridges(rt, plans, bridges, input, output, taken)?;
+    let streams = open_table(rt, output, "streams", taken)?;
+    let frames = open_table(rt, output, "frames", taken)?;
+    Ok(Outputs {
+        bridges: opened,
+        streams,
+        frames,
+    })
+}

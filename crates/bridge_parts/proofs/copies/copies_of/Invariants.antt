@@ -1,8 +1,0 @@
-use Rattle.std.proofs.Common.{◌≡◌, length, All}
-use Rattle.bridge_parts.proofs.copies.copies_of.Given as goal
-
-abbrev pub invariant-loop : goal.invariant-loop
-invariant-loop g l = record {
-  count : length l.copies.items ≡ l.counter;
-  octets : All (λ v. v.items ≡ l.octets) l.copies.items;
-}

@@ -1,5 +1,0 @@
-use Rattle.bridge_run.proofs.Facts.{class_alone}
-use Rattle.bridge_run.proofs.laws.no_other_class_occupies.Goals as goal
-
-pub returns : goal.returns
-returns g c = class_alone

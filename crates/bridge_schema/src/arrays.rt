@@ -1,0 +1,251 @@
+//! Arrays of numbers, and arrays of tables.
+ghost use Rattle.std.specs.Prelude.{◌≡◌, ◌≤◌, ◌<◌, ◌+◌, ◌-◌, ◌^◌, true, length, nat_eq, bit_or};
+ghost use Rattle.toml.specs.View.{view, items_view};
+ghost use Rattle.bridge_schema.specs.Readers as spec;
+
+use crate::fault::Flaw;
+use crate::kinds::Kind;
+use toml::Value;
+
+fn are_integers(items: &[Value]) -> bool
+    ensures { result ≡ spec.are_integers (items_view items.now) }
+{
+    'items: for item in items {
+        if !matches!(item, Value::Integer(_)) {
+            return false;
+        }
+    }
+    true
+}
+
+fn are_between(items: &[Value], low: u64, high: u64) -> bool
+    ensures { result ≡ spec.are_between low high (items_view items.now) }
+{
+    'items: for item in items {
+        match item {
+            Value::Integer(number) => {
+                if *number < 0 || (*number as u64) < low || (*number as u64) > high {
+                    return false;
+                }
+            }
+            _ => return false,
+        }
+    }
+    true
+}
+
+/// Whether each item of an array is a table.
+pub fn are_tables(items: &[Value]) -> bool
+    ensures tables { result ≡ spec.are_tables (items_view items.now) }
+{
+    'items: for item in items {
+        if !matches!(item, Value::Table(_)) {
+            return false;
+        }
+    }
+    true
+}
+
+fn numbers_flaw(items: &[Value], low: u64, high: u64) -> Option<Flaw>
+    ensures { result ≡ spec.numbers_flaw low high (items_view items.now) }
+{
+    if !are_integers(items) {
+        Some(Flaw::WrongKind)
+    } else if !are_between(items, low, high) {
+        Some(Flaw::OutOfRange)
+    } else {
+        None
+    }
+}
+
+fn number_in(value: &Value) -> u64
+    ensures { result ≡ spec.number_in (view value.now) }
+{
+    match value {
+        Value::Integer(number) if *number >= 0 => *number as u64,
+        _ => 0,
+    }
+}
+
+/// The bits with bit `k` set.
+#[tactic(auto, using(crate::proofs::Sets::shifted))]
+pub fn with_bit(bits: u16, k: u64) -> u16
+    requires few { k < 16 }
+    ensures bits { result ≡ bit_or bits (2 ^ k) }
+{
+    bits | 1 << k
+}
+
+fn set_of(items: &[Value], low: u64, high: u64) -> u16
+    requires order { low ≤ high }
+    requires few { high < low + 16 }
+    requires between { spec.are_between low high (items_view items.now) ≡ true }
+    ensures set { result ≡ spec.set_with low 0 (spec.numbers_of (items_view items.now)) }
+    ensures fits { result < 2 ^ (high - low + 1) }
+{
+    let mut bits: u16 = 0;
+    'items: for item in items {
+        let number = number_in(item);
+        bits = with_bit(bits, number - low);
+    }
+    bits
+}
+
+/// An array of whole numbers from `low` to `high`, at most 16 different ones, as a set: bit `n - low`
+/// says whether the array has `n`. Repetitions don't matter.
+pub struct SetOf {
+    /// The least number.
+    pub low: u64,
+    /// The largest number.
+    pub high: u64,
+    ghost order: { low ≤ high },
+    ghost few: { high < low + 16 },
+}
+
+impl Kind for SetOf {
+    type Out = u16;
+
+    ghost reading = { λ k. spec.set_of k.low k.high };
+
+    ghost Fits = { λ k n. n < 2 ^ (k.high - k.low + 1) };
+
+    #[tactic(auto, unfolding(crate::specs::Readers::numbers, crate::specs::Readers::set_of))]
+    fn read(&self, value: &Value) -> Result<u16, Flaw> {
+        match value {
+            Value::Array(items) => match numbers_flaw(items, self.low, self.high) {
+                Some(flaw) => Err(flaw),
+                None => Ok(set_of(items, self.low, self.high)),
+            },
+            _ => Err(Flaw::WrongKind),
+        }
+    }
+}
+
+/// A list of ports that the plan has, as a set from port 1 on. Any other number is Unresolved, also one that no port
+/// can have.
+#[derive(Clone, Copy)]
+pub struct PortsOf {
+    /// The ports of the plan: bit `n - 1` says whether it has port `n`.
+    pub all: u16,
+}
+
+impl Kind for PortsOf {
+    type Out = u16;
+
+    ghost reading = { λ k. spec.ports_of k.all };
+
+    ghost Fits = { λ k ports. spec.is_subset ports k.all ≡ true };
+
+    #[tactic(auto, unfolding(crate::specs::Readers::ports_of))]
+    fn read(&self, value: &Value) -> Result<u16, Flaw> {
+        match value {
+            Value::Array(items) => {
+                if !are_integers(items) {
+                    return Err(Flaw::WrongKind);
+                }
+                if !are_between(items, 1, 16) {
+                    return Err(Flaw::Unresolved);
+                }
+                let ports = set_of(items, 1, 16);
+                if ports & self.all == ports {
+                    Ok(ports)
+                } else {
+                    Err(Flaw::Unresolved)
+                }
+            }
+            _ => Err(Flaw::WrongKind),
+        }
+    }
+}
+
+#[tactic(auto, using(crate::proofs::Sets::count_of_view))]
+fn has_eight(items: &[Value]) -> bool
+    ensures numbers { result ≡ nat_eq (length (spec.numbers_of (items_view items.now))) 8 }
+    ensures items { result ≡ true → length items.now ≡ 8 }
+{
+    items.len() == 8
+}
+
+fn classes_of(items: &[Value]) -> [u8; 8]
+    requires eight { length items.now ≡ 8 }
+    requires between { spec.are_between 0 7 (items_view items.now) ≡ true }
+    ensures numbers { result ≡ spec.numbers_of (items_view items.now) }
+    ensures fits { spec.are_within 0 7 result ≡ true }
+{
+    let mut out = [0; 8];
+    'items: for (i, item) in items.iter().enumerate() {
+        out[i] = number_in(item) as u8;
+    }
+    out
+}
+
+fn rooms_of(items: &[Value]) -> [u16; 8]
+    requires eight { length items.now ≡ 8 }
+    requires between { spec.are_between 1 4096 (items_view items.now) ≡ true }
+    ensures numbers { result ≡ spec.numbers_of (items_view items.now) }
+    ensures fits { spec.are_within 1 4096 result ≡ true }
+{
+    let mut out = [0; 8];
+    'items: for (i, item) in items.iter().enumerate() {
+        out[i] = number_in(item) as u16;
+    }
+    out
+}
+
+/// Eight numbers from 0 to 7: the class of each priority, from priority 0 (IEEE 802.1Q-2018 8.6.6).
+#[derive(Clone, Copy)]
+pub struct Classes;
+
+impl Kind for Classes {
+    type Out = [u8; 8];
+
+    ghost reading = { λ _. spec.eight 0 7 };
+
+    ghost Fits = { λ _ classes. spec.are_within 0 7 classes ≡ true };
+
+    #[tactic(auto, unfolding(crate::specs::Readers::numbers, crate::specs::Readers::eight))]
+    fn read(&self, value: &Value) -> Result<[u8; 8], Flaw> {
+        match value {
+            Value::Array(items) => match numbers_flaw(items, 0, 7) {
+                Some(flaw) => Err(flaw),
+                None => {
+                    if has_eight(items) {
+                        Ok(classes_of(items))
+                    } else {
+                        Err(Flaw::OutOfRange)
+                    }
+                }
+            },
+            _ => Err(Flaw::WrongKind),
+        }
+    }
+}
+
+/// Eight numbers from 1 to 4096: the room of each class in frames, from class 0.
+#[derive(Clone, Copy)]
+pub struct Rooms;
+
+impl Kind for Rooms {
+    type Out = [u16; 8];
+
+    ghost reading = { λ _. spec.eight 1 4096 };
+
+    ghost Fits = { λ _ rooms. spec.are_within 1 4096 rooms ≡ true };
+
+    #[tactic(auto, unfolding(crate::specs::Readers::numbers, crate::specs::Readers::eight))]
+    fn read(&self, value: &Value) -> Result<[u16; 8], Flaw> {
+        match value {
+            Value::Array(items) => match numbers_flaw(items, 1, 4096) {
+                Some(flaw) => Err(flaw),
+                None => {
+                    if has_eight(items) {
+                        Ok(rooms_of(items))
+                    } else {
+                        Err(Flaw::OutOfRange)
+                    }
+                }
+            },
+            _ => Err(Flaw::WrongKind),
+        }
+    }
+}

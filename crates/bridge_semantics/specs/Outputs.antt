@@ -1,0 +1,55 @@
+-- What leaves a port.
+use Rattle.std.specs.Prelude.{◌≡◌, ℕ, ◌+◌, ◌<◌, ◌≤◌, List, Option, Some, ◌↔◌}
+use Rattle.bridge_limits.specs.Members.{In, Rising}
+use Rattle.bridge_capture.specs.Grammar.{Captured}
+use Rattle.bridge_frame.specs.declared.Speed.{Speed}
+use Rattle.bridge_frame.specs.Link.{occupied}
+use Rattle.bridge_port.specs.Schedule.{Copy, Started}
+use Rattle.bridge_config.specs.declared.ports.PortPlan.{PortPlan}
+use Rattle.bridge_config.specs.Model.{Plan}
+use Rattle.bridge_config.specs.Rules.{port_at}
+use Rattle.bridge_semantics.specs.declared.outcome.Outcome.{Outcome}
+use Rattle.bridge_semantics.specs.Events.{Event}
+use Rattle.bridge_semantics.specs.Offers.{Carried}
+use Rattle.bridge_semantics.specs.Runs.{IsRun, IsOutcome}
+
+-- a frame that started to leave at a moment, as the capture of its port has it: when it was done, its length and its octets
+abbrev pub departure : Speed → ℕ → Carried → Captured
+departure speed start item = record { time = start + occupied item.len speed; len = item.len; octets = item.octets }
+
+-- a frame that left a port is a copy that started
+pub record Leaves (speed : Speed) (copies : List (Copy Carried)) (left : Captured) : Type 0 where
+  pub copy : Copy Carried
+  pub start : ℕ
+  pub listed : In copy copies
+  pub started : copy.fate ≡ Started start
+  pub is : left ≡ departure speed start copy.item
+
+-- one frame leaves before another
+abbrev pub LeavesBefore : Captured → Captured → Type 0
+LeavesBefore a b = a.time < b.time
+
+-- the frames that left a port on a link of a speed, by rising time
+pub record IsOutput (speed : Speed) (copies : List (Copy Carried)) (left : List Captured) : Type 0 where
+  pub rises : Rising LeavesBefore left
+  pub members : (d : Captured) → In d left ↔ Leaves speed copies d
+
+-- a run of these events up to a moment, and what has left its ports
+pub record Reaches {A : Type 0} (p : Plan A) (es : List Event) (moment : ℕ) (left : ℕ → List Captured) : Type 0 where
+  pub lists : ℕ → List (Copy Carried)
+  pub run : IsRun p es (λ q. moment) lists
+  pub output : (q : ℕ) (out : PortPlan A) → port_at p.ports q ≡ Some out → IsOutput out.speed (lists q) (left q)
+
+-- a run of these events, each port up to a moment of its own, none after this one, and what has left its ports
+pub record HasRun {A : Type 0} (p : Plan A) (es : List Event) (until : Option ℕ) (left : ℕ → List Captured) : Type 0 where
+  pub moments : ℕ → ℕ
+  pub lists : ℕ → List (Copy Carried)
+  pub run : IsRun p es moments lists
+  pub within : (q t : ℕ) → until ≡ Some t → moments q ≤ t
+  pub output : (q : ℕ) (out : PortPlan A) → port_at p.ports q ≡ Some out → IsOutput out.speed (lists q) (left q)
+
+-- a whole run of these events, what it tells, and what has left its ports
+pub record Ends {A : Type 0} (p : Plan A) (es : List Event) (left : ℕ → List Captured) (o : Outcome A) : Type 0 where
+  pub lists : ℕ → List (Copy Carried)
+  pub outcome : IsOutcome p es lists o
+  pub output : (q : ℕ) (out : PortPlan A) → port_at p.ports q ≡ Some out → IsOutput out.speed (lists q) (left q)

@@ -1,0 +1,187 @@
+-- Runs, and what they tell of each filter and each port.
+use Rattle.std.specs.Prelude.{◌≡◌, ℕ, Bool, true, false, not, ◌+◌, ◌<◌, ◌≤◌, ◌&&◌, nat_eq, Option, Some, None, is_none, List, [], count_by, ◌⊎◌, ◌↔◌}
+use Rattle.std.specs.Map.{lookup}
+use Rattle.bridge_frame.specs.Link.{occupied}
+use Rattle.bridge_limits.specs.Members.{In, Rising}
+use Rattle.bridge_filter.specs.declared.FilterPlan.{FilterPlan}
+use Rattle.bridge_filter.specs.Counts.{verdicts_of, counters_of, flags_of, buckets_by}
+use Rattle.bridge_port.specs.declared.item.Refusal.{Refusal}
+use Rattle.bridge_port.specs.declared.item.Refusal.TheVariants as refusal
+use Rattle.bridge_port.specs.Schedule.{Fate, Never, Full, Copy, Started, IsLawful, is_accepted}
+use Rattle.bridge_port.specs.Solo.{IsWhole, IsSolo}
+use Rattle.bridge_config.specs.declared.ports.PortPlan.{PortPlan}
+use Rattle.bridge_config.specs.Model.{Plan}
+use Rattle.bridge_config.specs.Rules.{port_at}
+use Rattle.bridge_semantics.specs.declared.way.Way.{Way}
+use Rattle.bridge_semantics.specs.declared.way.Way.TheVariants as way
+use Rattle.bridge_semantics.specs.declared.outcome.Departure.{Departure}
+use Rattle.bridge_semantics.specs.declared.outcome.Dropped.{Dropped}
+use Rattle.bridge_semantics.specs.declared.outcome.PortCount.{PortCount}
+use Rattle.bridge_semantics.specs.declared.outcome.View.{View}
+use Rattle.bridge_semantics.specs.declared.outcome.Outcome.{Outcome}
+use Rattle.bridge_semantics.specs.Events.{Arrival, Event, arrivals, way_of, flow_of, origins_of, own as own_events, police_of, steps}
+use Rattle.bridge_semantics.specs.Offers.{Carried, egress, offers, offered, in_class}
+
+-- by start, then by port
+abbrev pub DepartsBefore : Departure → Departure → Type 0
+DepartsBefore a b = (a.start < b.start) ⊎ ((a.start ≡ b.start) × (a.port < b.port))
+
+-- by the frame, then by port
+abbrev pub DroppedBefore : Dropped → Dropped → Type 0
+DroppedBefore a b = (a.own < b.own) ⊎ ((a.own ≡ b.own) × (a.port < b.port))
+
+-- Copies lie at ports: Lies q x says that x is one of those of port q.
+
+-- a copy of a filter's frame left
+pub record Departs {A : Type 0} (p : Plan A) (s : ℕ) (Lies : ℕ → Copy Carried → Type 0) (d : Departure) : Type 0 where
+  pub out : PortPlan A
+  pub copy : Copy Carried
+  pub at : port_at p.ports d.port ≡ Some out
+  pub lies : Lies d.port copy
+  pub flow : copy.item.flow ≡ Some s
+  pub own : copy.item.own ≡ d.own
+  pub started : copy.fate ≡ Started d.start
+  pub done : d.done ≡ d.start + occupied copy.item.len out.speed
+
+-- what becomes of a copy that is refused
+abbrev pub fate_by : Refusal → Fate
+fate_by refusal.NeverFits = Never
+fate_by refusal.Full = Full
+
+-- a copy of a filter's frame was not queued
+pub record Drops {A : Type 0} (p : Plan A) (s : ℕ) (Lies : ℕ → Copy Carried → Type 0) (d : Dropped) : Type 0 where
+  pub copy : Copy Carried
+  pub lies : Lies d.port copy
+  pub flow : copy.item.flow ≡ Some s
+  pub own : copy.item.own ≡ d.own
+  pub refused : copy.fate ≡ fate_by d.refusal
+
+-- a copy of a filter's frame was done so long after it came
+pub record Delayed {A : Type 0} (p : Plan A) (s : ℕ) (Lies : ℕ → Copy Carried → Type 0) (n : ℕ) : Type 0 where
+  pub port : ℕ
+  pub out : PortPlan A
+  pub copy : Copy Carried
+  pub start : ℕ
+  pub at : port_at p.ports port ≡ Some out
+  pub lies : Lies port copy
+  pub flow : copy.item.flow ≡ Some s
+  pub started : copy.fate ≡ Started start
+  pub delay : n + copy.at ≡ start + occupied copy.item.len out.speed
+
+-- the greatest number of which something holds, none where it holds of none
+abbrev pub IsGreatest : (ℕ → Type 0) → Option ℕ → Type 0
+IsGreatest P None = (n : ℕ) → P n → ⊥
+IsGreatest P (Some m) = P m × ((n : ℕ) → P n → n ≤ m)
+
+-- what is told of a filter's copies
+pub record IsTold {A : Type 0} (p : Plan A) (s : ℕ) (Lies : ℕ → Copy Carried → Type 0) (departures : List Departure) (drops : List Dropped) (delay : Option ℕ) : Type 0 where
+  pub departures_rise : Rising DepartsBefore departures
+  pub departures_are : (d : Departure) → In d departures ↔ Departs p s Lies d
+  pub drops_rise : Rising DroppedBefore drops
+  pub drops_are : (d : Dropped) → In d drops ↔ Drops p s Lies d
+  pub longest : IsGreatest (Delayed p s Lies) delay
+
+-- what is told of a filter by events and by where copies lie
+pub record IsView {A : Type 0} (p : Plan A) (s : ℕ) (f : FilterPlan) (es : List Event) (Lies : ℕ → Copy Carried → Type 0) (v : View A) : Type 0 where
+  pub protected : v.protected ≡ f.protected
+  pub verdicts : v.verdicts.items ≡ verdicts_of s (steps p es)
+  pub origins : v.origins.items ≡ origins_of p s es
+  pub counters : v.counters ≡ counters_of (verdicts_of s (steps p es))
+  pub flags : v.flags ≡ flags_of (police_of p) s f (steps p es)
+  pub buckets : v.buckets ≡ buckets_by (police_of p) f.meter (steps p es)
+  pub told : IsTold p s Lies v.departures.items v.drops.items v.delay
+
+-- the copies of the ports, by number
+abbrev pub AtPort : (ℕ → List (Copy Carried)) → ℕ → Copy Carried → Type 0
+AtPort lists q x = In x (lists q)
+
+-- the ports have these copies, each up to its own moment
+pub record IsRun {A : Type 0} (p : Plan A) (es : List Event) (moments : ℕ → ℕ) (lists : ℕ → List (Copy Carried)) : Type 0 where
+  pub offers : (q : ℕ) (out : PortPlan A) → port_at p.ports q ≡ Some out → offered (lists q) ≡ offers p out es
+  pub lawful : (q : ℕ) (out : PortPlan A) → port_at p.ports q ≡ Some out → IsLawful (egress out) (moments q) (lists q)
+  pub others : (q : ℕ) → port_at p.ports q ≡ None → lists q ≡ []
+
+-- a copy occupies the link of a port at a moment: it started then or before, and is not done
+pub record IsOnLink {A : Type 0} (out : PortPlan A) (x : Copy Carried) (u : ℕ) : Type 0 where
+  pub start : ℕ
+  pub started : x.fate ≡ Started start
+  pub begun : start ≤ u
+  pub going_on : u < start + occupied x.item.len out.speed
+
+-- no copy is queued
+abbrev pub AreWhole : (ℕ → List (Copy Carried)) → Type 0
+AreWhole lists = (q : ℕ) → IsWhole (lists q)
+
+-- the frames of a port that went a way
+abbrev pub is_malformed : Way → Bool
+is_malformed way.Malformed = true
+is_malformed w = false
+
+-- a frame goes nowhere
+abbrev pub is_nowhere : Way → Bool
+is_nowhere way.Nowhere = true
+is_nowhere w = false
+
+-- a frame goes somewhere
+abbrev pub is_relayed : Way → Bool
+is_relayed (way.Goes set handle priority dei sdu) = true
+is_relayed w = false
+
+-- a frame goes somewhere, and no filter takes it
+abbrev pub is_unfiltered : {A : Type 0} → Plan A → Arrival → Bool
+is_unfiltered p a = is_relayed (way_of p a) && is_none (flow_of p a)
+
+-- how many frames of a port pass a test
+abbrev pub count_frames : ℕ → (Arrival → Bool) → List Event → ℕ
+count_frames q test es = count_by (λ a. nat_eq a.port q && test a) (arrivals es)
+
+-- a port's counts
+pub record IsCount {A : Type 0} (p : Plan A) (es : List Event) (q : ℕ) (xs : List (Copy Carried)) (c : PortCount) : Type 0 where
+  pub frames : c.frames ≡ count_frames q (λ a. true) es
+  pub malformed : c.malformed ≡ count_frames q (λ a. is_malformed (way_of p a)) es
+  pub nowhere : c.nowhere ≡ count_frames q (λ a. is_nowhere (way_of p a)) es
+  pub unfiltered : c.unfiltered ≡ count_frames q (is_unfiltered p) es
+  pub sent : c.sent ≡ count_by (λ x. is_accepted x.fate) xs
+  pub dropped : c.dropped ≡ count_by (λ x. not (is_accepted x.fate)) xs
+
+-- what a whole run of these events, in which the ports have these copies, tells
+pub record IsOutcome {A : Type 0} (p : Plan A) (es : List Event) (lists : ℕ → List (Copy Carried)) (o : Outcome A) : Type 0 where
+  pub moments : ℕ → ℕ
+  pub run : IsRun p es moments lists
+  pub whole : AreWhole lists
+  pub filters_rise : Rising (λ x y. x.0 < y.0) o.filters.items
+  pub filters_are : (n : ℕ) → ((f : FilterPlan) × (lookup (nat_eq n) p.filters ≡ Some f)) ↔ ((v : View A) × (lookup (nat_eq n) o.filters.items ≡ Some v))
+  pub views : (n : ℕ) (f : FilterPlan) (v : View A) → lookup (nat_eq n) p.filters ≡ Some f → lookup (nat_eq n) o.filters.items ≡ Some v → IsView p n f es (AtPort lists) v
+  pub ports_rise : Rising (λ x y. x.0 < y.0) o.ports.items
+  pub ports_are : (q : ℕ) → ((out : PortPlan A) × (port_at p.ports q ≡ Some out)) ↔ ((c : PortCount) × (lookup (nat_eq q) o.ports.items ≡ Some c))
+  pub counts : (q : ℕ) (c : PortCount) → lookup (nat_eq q) o.ports.items ≡ Some c → IsCount p es q (lists q) c
+
+-- what these events offer to each queue of an idle bridge fares as if the queue had its link alone
+pub record AreSolo {A : Type 0} (p : Plan A) (es : List Event) (lists : ℕ → ℕ → List (Copy Carried)) : Type 0 where
+  pub offers : (q c : ℕ) (out : PortPlan A) → port_at p.ports q ≡ Some out → offered (lists q c) ≡ in_class c (offers p out es)
+  pub solo : (q c : ℕ) (out : PortPlan A) → port_at p.ports q ≡ Some out → IsSolo (egress out) (lists q c)
+  pub others : (q c : ℕ) → port_at p.ports q ≡ None → lists q c ≡ []
+
+-- of the copies of a run a filter's are those that its own events give, each of their queues alone on an idle bridge
+pub record AreOwnQueues {A : Type 0} (p : Plan A) (n : ℕ) (f : FilterPlan) (es : List Event) (lists : ℕ → List (Copy Carried)) : Type 0 where
+  pub own : ℕ → ℕ → List (Copy Carried)
+  pub solo : AreSolo p (own_events p n f es) own
+  pub same : (q : ℕ) (x : Copy Carried) → (In x (lists q) × (x.item.flow ≡ Some n)) ↔ ((c : ℕ) × In x (own q c))
+
+-- what is told of a filter on an idle bridge, each of its queues alone
+pub record IsSoloView {A : Type 0} (p : Plan A) (s : ℕ) (f : FilterPlan) (es : List Event) (v : View A) : Type 0 where
+  pub lists : ℕ → ℕ → List (Copy Carried)
+  pub solo : AreSolo p es lists
+  pub view : IsView p s f es (λ q x. (c : ℕ) × In x (lists q c)) v
+
+-- two views that tell the same
+pub record TellTheSame {A : Type 0} (u v : View A) : Type 0 where
+  pub protected : u.protected ≡ v.protected
+  pub verdicts : u.verdicts.items ≡ v.verdicts.items
+  pub origins : u.origins.items ≡ v.origins.items
+  pub counters : u.counters ≡ v.counters
+  pub flags : u.flags ≡ v.flags
+  pub buckets : u.buckets ≡ v.buckets
+  pub departures : u.departures.items ≡ v.departures.items
+  pub drops : u.drops.items ≡ v.drops.items
+  pub delay : u.delay ≡ v.delay

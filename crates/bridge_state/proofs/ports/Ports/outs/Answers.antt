@@ -1,0 +1,38 @@
+use Rattle.std.proofs.Common.{◌≡◌, ℕ, true, ◌<◌, ◌≤◌, ◌/◌, ◌^◌, ◌∙◌, arith, ap, sym, inl, inr}
+use Rattle.std.proofs.lemmas.Bool.{cases_lt}
+use Rattle.bridge_state.specs.Ports.{goes_out, outs, IsLastOut}
+use Rattle.bridge_state.proofs.Outs.{out_not_before, out_not_behind, outs_all, outs_none}
+use Rattle.bridge_state.proofs.ports.Ports.outs.Goals as goal
+
+pub loop-place-init : goal.loop-place-init
+loop-place-init g c =
+    let first = c.first_place-place.ensures in
+    let slots = c.args.self.now.slots in
+    record {
+      within = first.within;
+      count = sym (outs_none slots c.args.set c.first_place-place.result first.none);
+      few = omega arith;
+      low = omega arith;
+      is_in = λ some. absurd {A = goes_out slots c.args.set 0 ≡ true} (omega (arith, some));
+      none_after = λ q later here. out_not_before slots c.args.set c.first_place-place.result q first.none (omega (arith, later)) here;
+    }
+
+pub returns-else-bits-place-ne0-clause-count : goal.returns-else-bits-place-ne0-clause-count
+returns-else-bits-place-ne0-clause-count g c =
+    let i = c.loop-place.invariant in
+    let none : c.args.set / 2 ^ c.loop-place.place ≡ 0 = ap (λ (n : ℕ). n / 2 ^ c.loop-place.place) (sym c.bits-bits.ensures) ∙ c.if-bits-place-ne0.false in
+    i.count ∙ sym (outs_all c.args.self.now.slots c.args.set c.loop-place.place none i.within)
+
+pub returns-else-bits-place-ne0-clause-last : goal.returns-else-bits-place-ne0-clause-last
+returns-else-bits-place-ne0-clause-last g c =
+    let i = c.loop-place.invariant in
+    let none : c.args.set / 2 ^ c.loop-place.place ≡ 0 = ap (λ (n : ℕ). n / 2 ^ c.loop-place.place) (sym c.bits-bits.ensures) ∙ c.if-bits-place-ne0.false in
+    let low = i.low in
+    let within = i.within in
+    record {
+      is_in = λ some. (omega (arith, low, within), i.is_in some);
+      none_after = λ q later few. elim (cases_lt c.loop-place.place q) [
+        | inl behind ↦ out_not_behind c.args.self.now.slots c.args.set c.loop-place.place q none behind
+        | inr here ↦ i.none_after q later here
+      ];
+    }

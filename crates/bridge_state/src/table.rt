@@ -1,0 +1,158 @@
+//! What is told of a filter so far.
+ghost use Rattle.std.specs.Prelude.{◌≡◌, ℕ, Bool, true, false, ◌<◌, ◌≤◌, ◌+◌, ◌-◌, ◌^◌, ◌++◌, ◌∷◌, [], Option, None, OnErr, OnOk, length};
+ghost use Rattle.bridge_state.specs.Tables.{TableState, longer};
+ghost use Rattle.bridge_state.specs.Told.{fresh, HasTold};
+
+use bridge_cycle::NoMemory;
+use bridge_filter::Verdict;
+use bridge_semantics::{Departure, Dropped, Origin};
+use std::alloc::Allocator;
+use std::marker::Model;
+use std::mem;
+
+/// What is told of a filter: the verdicts of its frames and where these came, the copies that left and those that were
+/// not queued, and the longest time in ns that one took.
+#[derive(Drop)]
+pub struct Told<A: Allocator + Copy> {
+    pub verdicts: Vec<Verdict, A>,
+    pub origins: Vec<Origin, A>,
+    pub departures: Vec<Departure, A>,
+    pub drops: Vec<Dropped, A>,
+    pub delay: Option<u64>,
+}
+
+/// What is told of a filter so far, with room for what its copies that are queued or about to be offered still owe: each
+/// leaves or is dropped.
+#[derive(Drop)]
+pub struct Table<A: Allocator + Copy> {
+    verdicts: Vec<Verdict, A>,
+    origins: Vec<Origin, A>,
+    departures: Vec<Departure, A>,
+    drops: Vec<Dropped, A>,
+    delay: Option<u64>,
+    owed: usize,
+    is_open: bool,
+}
+
+impl<A: Allocator + Copy> Model for Table<A> {
+    ghost use Rattle.std.specs.Prelude.{◌≤◌, ◌+◌, vec_capacity, vec_len, if◌then◌else◌};
+    ghost use Rattle.bridge_state.specs.Tables.{TableState, HasRoom};
+
+    ghost Value = { TableState };
+
+    ghost view = { λ t. record { verdicts = t.verdicts.items; origins = t.origins.items; departures = t.departures.items; drops = t.drops.items; delay = t.delay; owed = t.owed; is_open = t.is_open } };
+
+    ghost invariant = { λ t. HasRoom t.verdicts t.origins t.departures t.drops t.owed t.is_open };
+}
+
+impl<A: Allocator + Copy> Table<A> {
+    /// Nothing is told.
+    pub fn new(alloc: A) -> Table<A>
+        ensures { result ≡ record { verdicts = []; origins = []; departures = []; drops = []; delay = None; owed = 0; is_open = false } }
+    {
+        Table {
+            verdicts: Vec::new(alloc),
+            origins: Vec::new(alloc),
+            departures: Vec::new(alloc),
+            drops: Vec::new(alloc),
+            delay: None,
+            owed: 0,
+            is_open: false,
+        }
+    }
+
+    /// Makes room for a verdict and for so many more copies.
+    #[inline(always)]
+    pub fn promise(&mut self, copies: usize) -> Result<(), NoMemory>
+        requires { self.old.owed + copies < 2 ^ 32 }
+        ensures ok { OnOk result (self.new ≡ record self.old { owed = self.old.owed + copies; is_open = true }) }
+        ensures err { OnErr result (self.new ≡ self.old) }
+    {
+        let owed = self.owed + copies;
+        self.verdicts.reserve(1)?;
+        self.origins.reserve(1)?;
+        self.departures.reserve(owed)?;
+        self.drops.reserve(owed)?;
+        self.owed = owed;
+        self.is_open = true;
+        Ok(())
+    }
+
+    /// Writes a verdict down and where its frame came, and gives the number of the frame, from 1.
+    #[inline(always)]
+    pub fn judge(&mut self, verdict: Verdict, origin: Origin) -> u64
+        requires { self.old.is_open ≡ true }
+        ensures told { self.new ≡ record self.old { verdicts = self.old.verdicts ++ verdict ∷ []; origins = self.old.origins ++ origin ∷ []; is_open = false } }
+        ensures own { result ≡ length self.old.verdicts + 1 }
+    {
+        self.is_open = false;
+        match self.verdicts.push(verdict) {
+            Ok(()) => {}
+            Err(_) => unreachable!(),
+        }
+        match self.origins.push(origin) {
+            Ok(()) => {}
+            Err(_) => unreachable!(),
+        }
+        self.verdicts.len() as u64
+    }
+
+    /// So many copies are not offered.
+    pub fn release(&mut self, copies: usize)
+        requires { copies ≤ self.old.owed }
+        ensures { self.new ≡ record self.old { owed = self.old.owed - copies } }
+    {
+        self.owed -= copies;
+    }
+
+    /// Writes down that a copy was not queued.
+    pub fn drop_copy(&mut self, dropped: Dropped)
+        requires { 0 < self.old.owed }
+        ensures { self.new ≡ record self.old { drops = self.old.drops ++ dropped ∷ []; owed = self.old.owed - 1 } }
+    {
+        self.owed -= 1;
+        match self.drops.push(dropped) {
+            Ok(()) => {}
+            Err(_) => unreachable!(),
+        }
+    }
+
+    /// Writes down that a copy left, so long after its frame came.
+    #[inline(always)]
+    pub fn depart(&mut self, departure: Departure, delay: u64)
+        requires { 0 < self.old.owed }
+        ensures { self.new ≡ record self.old { departures = self.old.departures ++ departure ∷ []; delay = longer self.old.delay delay; owed = self.old.owed - 1 } }
+    {
+        self.owed -= 1;
+        match self.departures.push(departure) {
+            Ok(()) => {}
+            Err(_) => unreachable!(),
+        }
+        self.delay = match self.delay {
+            Some(longest) => Some(longest.max(delay)),
+            None => Some(delay),
+        };
+    }
+
+    /// Moves out what is told, and leaves a fresh table behind. It takes no memory.
+    pub fn take(&mut self, alloc: A) -> Told<A>
+        ensures told { HasTold self.old result }
+        ensures fresh { self.new ≡ fresh }
+    {
+        let Table {
+            verdicts,
+            origins,
+            departures,
+            drops,
+            delay,
+            ..
+        } = mem::replace(self, Table::new(alloc));
+        Told {
+            verdicts,
+            origins,
+            departures,
+            drops,
+            delay,
+        }
+    }
+}
