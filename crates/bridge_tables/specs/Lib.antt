@@ -1,0 +1,4 @@
+pub mod Frames
+pub mod Losses
+pub mod PortBounds
+pub mod Delays
