@@ -40,12 +40,19 @@ full_at port drops = count_by (is_full_at port) drops
 abbrev pub never_at : ℕ → List Dropped → ℕ
 never_at port drops = count_by (is_never_at port) drops
 
--- how many frames a filter refused, by each reason
-unfoldable pub refused_fields : List Verdict → List ℕ
-refused_fields vs = field (refused_for reason.Blocked vs) ++ (field (refused_for reason.Oversize vs) ++ (field (refused_for reason.GateClosed vs)
-    ++ (field (refused_for reason.ShutByRx vs) ++ (field (refused_for reason.ShutByOctets vs) ++ (field (refused_for reason.OctetsExceeded vs)
-    ++ (field (refused_for reason.Red vs) ++ field (refused_for reason.YellowDropped vs)))))))
+-- how many frames the filter itself refused, by each reason
+unfoldable pub filter_fields : List Verdict → List ℕ
+filter_fields vs = field (refused_for reason.Blocked vs) ++ field (refused_for reason.Oversize vs)
+
+-- how many its gate refused
+unfoldable pub gate_fields : List Verdict → List ℕ
+gate_fields vs = field (refused_for reason.GateClosed vs) ++ (field (refused_for reason.ShutByRx vs)
+    ++ (field (refused_for reason.ShutByOctets vs) ++ field (refused_for reason.OctetsExceeded vs)))
+
+-- how many its meter discarded
+unfoldable pub meter_fields : List Verdict → List ℕ
+meter_fields vs = field (refused_for reason.Red vs) ++ field (refused_for reason.YellowDropped vs)
 
 -- the end of a row: the frames that the filter refused, then copies that were dropped, at full queues and since no moment fits them
 unfoldable pub loss_fields : List Verdict → ℕ → ℕ → List ℕ
-loss_fields verdicts full never = refused_fields verdicts ++ (field full ++ (decimal never ++ codes "\n"))
+loss_fields verdicts full never = filter_fields verdicts ++ (gate_fields verdicts ++ (meter_fields verdicts ++ (field full ++ (decimal never ++ codes "\n"))))

@@ -97,20 +97,31 @@ fn push_refused<A: Allocator>(
     push_field(text, refused_for(reason, verdicts) as u64)
 }
 
-/// Adds how many frames were refused, by each reason.
-#[tactic(auto, unfolding(crate::specs::Losses::refused_fields))]
-fn push_each_refused<A: Allocator>(
-    text: &mut String<A>,
-    verdicts: &[Verdict],
-) -> Result<(), AllocError>
-    ensures { OnOk result (string_bytes text.new ≡ string_bytes text.old ++ spec.refused_fields verdicts.now) }
+/// Adds how many frames the filter itself refused, by each reason.
+#[tactic(auto, unfolding(crate::specs::Losses::filter_fields))]
+fn push_filter<A: Allocator>(text: &mut String<A>, verdicts: &[Verdict]) -> Result<(), AllocError>
+    ensures { OnOk result (string_bytes text.new ≡ string_bytes text.old ++ spec.filter_fields verdicts.now) }
 {
     push_refused(text, Reason::Blocked, verdicts)?;
-    push_refused(text, Reason::Oversize, verdicts)?;
+    push_refused(text, Reason::Oversize, verdicts)
+}
+
+/// Adds how many frames the gate refused, by each reason.
+#[tactic(auto, unfolding(crate::specs::Losses::gate_fields))]
+fn push_gate<A: Allocator>(text: &mut String<A>, verdicts: &[Verdict]) -> Result<(), AllocError>
+    ensures { OnOk result (string_bytes text.new ≡ string_bytes text.old ++ spec.gate_fields verdicts.now) }
+{
     push_refused(text, Reason::GateClosed, verdicts)?;
     push_refused(text, Reason::ShutByRx, verdicts)?;
     push_refused(text, Reason::ShutByOctets, verdicts)?;
-    push_refused(text, Reason::OctetsExceeded, verdicts)?;
+    push_refused(text, Reason::OctetsExceeded, verdicts)
+}
+
+/// Adds how many frames the meter discarded, by each reason.
+#[tactic(auto, unfolding(crate::specs::Losses::meter_fields))]
+fn push_meter<A: Allocator>(text: &mut String<A>, verdicts: &[Verdict]) -> Result<(), AllocError>
+    ensures { OnOk result (string_bytes text.new ≡ string_bytes text.old ++ spec.meter_fields verdicts.now) }
+{
     push_refused(text, Reason::Red, verdicts)?;
     push_refused(text, Reason::YellowDropped, verdicts)
 }
@@ -125,7 +136,9 @@ pub(crate) fn push_losses<A: Allocator>(
 ) -> Result<(), AllocError>
     ensures { OnOk result (string_bytes text.new ≡ string_bytes text.old ++ spec.loss_fields verdicts.now full never) }
 {
-    push_each_refused(text, verdicts)?;
+    push_filter(text, verdicts)?;
+    push_gate(text, verdicts)?;
+    push_meter(text, verdicts)?;
     push_field(text, full as u64)?;
     push_last(text, never as u64)
 }
