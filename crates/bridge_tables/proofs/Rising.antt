@@ -1,9 +1,9 @@
 -- Rows of filters, one filter more at a time.
-use Rattle.std.proofs.Common.{◌≡◌, ◌∙◌, ℕ, List, [], ◌∷◌, ◌++◌, ap, sym, subst, refl}
+use Rattle.std.proofs.Common.{◌≡◌, ◌∙◌, ℕ, List, [], ◌∷◌, ◌++◌, length, ap, sym, subst, refl}
 use Rattle.std.proofs.lemmas.List.{append-nil, append_assoc}
 use Rattle.bridge_config.specs.Model.{Plan}
 use Rattle.bridge_semantics.specs.declared.outcome.View.{View}
-use Rattle.bridge_tables.specs.Delays.{AreRows, AreRowsOf, IsDelayTable, delays_header}
+use Rattle.bridge_tables.specs.Delays.{AreRows, AreRowsOf}
 
 -- rows were put behind a text, and with those of the filters that are left they are the rows of all
 pub record Reaches {A B : Type 0} (p : Plan A) (all left : List (ℕ × View B)) (old new : List ℕ) : Type 0 where
@@ -19,9 +19,9 @@ pub reaches_more : {A B : Type 0} (p : Plan A) (all left behind : List (ℕ × V
 reaches_more p all left behind f old mid new more is before are put = record {
   rows = before.rows ++ more;
   put = put ∙ (ap (λ l. l ++ more) before.put ∙ append_assoc old before.rows more);
-  whole = λ rest others. subst (AreRows p all) (sym (append_assoc before.rows more rest)) (before.whole (more ++ rest) (subst (λ l. AreRows p l (more ++ rest)) (sym is) (more, (rest, (are, (others, refl))))));
+  whole = λ rest others. subst (AreRows p all) (sym (append_assoc before.rows more rest)) (before.whole (more ++ rest) (subst (λ l. AreRows p l (more ++ rest)) (sym is) (more, rest, are, others, refl)));
 }
 
-pub reaches_end : {A B : Type 0} (p : Plan A) (all left : List (ℕ × View B)) (old new : List ℕ) → left ≡ [] → Reaches p all left old new → (rows : List ℕ) × AreRows p all rows × (new ≡ old ++ rows)
-reaches_end p all left old new is before =
-    (before.rows, (subst (AreRows p all) (append-nil before.rows) (before.whole [] (subst (λ l. AreRows p l []) (sym is) refl)), before.put))
+pub reaches_end : {A B : Type 0} (p : Plan A) (all left : List (ℕ × View B)) (old new : List ℕ) → length left ≡ 0 → Reaches p all left old new → (rows : List ℕ) × AreRows p all rows × (new ≡ old ++ rows)
+reaches_end p all [] old new none before = (before.rows, subst (AreRows p all) (append-nil before.rows) (before.whole [] refl), before.put)
+reaches_end p all (f ∷ fs) old new none before = absurd (cc)
