@@ -3,7 +3,7 @@ use Rattle.std.proofs.Common.{◌≡◌, ◌∙◌, ◌⊎◌, inl, inr, ℕ, ze
 use Rattle.std.specs.Prelude.{slice_get}
 use Rattle.std.proofs.lemmas.List.{length-append}
 use Rattle.bridge_config.specs.Model.{Plan}
-use Rattle.bridge_tables.specs.PortBounds.{AreAll, AreClassBounds, AreEach, ArePortBounds, IsClassBound, IsGreatest, IsPortBound, greater, greatest_bound}
+use Rattle.bridge_tables.specs.PortBounds.{AreAll, IsClassBound, IsGreatest, IsPortBound, greater}
 
 some_is : {X : Type 0} (a b : X) → Some a ≡ Some b → a ≡ b
 some_is a b h = cc

@@ -1,5 +1,5 @@
 -- The table of delays: a row for each filter and each port out of which its frames left, each with its line feed.
-use Rattle.std.specs.Prelude.{◌≡◌, ℕ, ◌-◌, ◌/◌, ◌^◌, max, min, nat_eq, Option, None, Some, List, [], ◌∷◌, ◌++◌, flat_map, fold, length, slice_get, sum, codes, decimal, if◌then◌else◌}
+use Rattle.std.specs.Prelude.{◌≡◌, ℕ, ◌-◌, ◌/◌, ◌^◌, max, min, nat_eq, Option, None, Some, List, [], ◌∷◌, ◌++◌, flat_map, fold, length, slice_get, sum, codes, if◌then◌else◌}
 use Rattle.std.specs.List.{range_with_len}
 use Rattle.bridge_config.specs.Model.{Plan}
 use Rattle.bridge_semantics.specs.declared.outcome.Departure.{Departure}

@@ -2,3 +2,4 @@ pub mod Frames
 pub mod Losses
 pub mod PortBounds
 pub mod Delays
+pub mod Examples

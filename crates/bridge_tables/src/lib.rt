@@ -12,4 +12,4 @@ mod rows;
 pub use bridge_limits::NoMemory;
 pub use delays::{DELAYS_HEADER, delay_table};
 pub use frames::frame_table;
-pub use rows::{FRAMES_HEADER, Frame};
+pub use rows::FRAMES_HEADER;

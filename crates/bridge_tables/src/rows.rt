@@ -16,7 +16,7 @@ pub const FRAMES_HEADER: &str =
 
 /// A frame of a filter: its number among the filter's frames, from 1, where it came, and what the filter did with it.
 #[derive(Clone, Copy, Debug, PartialEq, Eq)]
-pub struct Frame {
+pub(crate) struct Frame {
     pub filter: u32,
     pub own: u64,
     pub origin: Origin,

@@ -1,4 +1,4 @@
-use Rattle.std.proofs.Common.{◌≡◌, ◌∙◌, ap, rules}
+use Rattle.std.proofs.Common.{◌∙◌, ap, rules}
 use Rattle.std.proofs.lemmas.List.Sorted.{IsNonDecreasingBy-from_sort_by_key, answers_always}
 use Rattle.bridge_port.specs.declared.item.Refusal.TheVariants.{Full}
 use Rattle.bridge_semantics.specs.declared.outcome.Dropped.{Dropped}

@@ -1,4 +1,4 @@
-use Rattle.std.proofs.Common.{leb, ltb, arith, rules}
+use Rattle.std.proofs.Common.{leb, ltb, rules}
 use Rattle.std.proofs.lemmas.List.Sorted.{IsPartitionPoint-from_clause, IsPartitionedBy-leb, IsPartitionedBy-ltb}
 use Rattle.bridge_port.specs.declared.item.Refusal.TheVariants.{Full}
 use Rattle.bridge_semantics.specs.declared.outcome.Dropped.{Dropped}

@@ -1,4 +1,4 @@
-use Rattle.std.proofs.Common.{◌≡◌, ◌++◌, length}
+use Rattle.std.proofs.Common.{length}
 use Rattle.std.specs.Prelude.{string_bytes}
 use Rattle.bridge_tables.proofs.Rising.{Reaches}
 use Rattle.bridge_tables.proofs.delays.push_filters.Given as goal
