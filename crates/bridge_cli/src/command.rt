@@ -154,7 +154,7 @@ const RUN: Description = Description {
             id: "delays",
             value: "FILE",
             form: Form::Choice,
-            help: "file of a table of delays, losses and bounds, filter by filter, which is made too (CSV)",
+            help: "file of a table of each filter's delays and losses, which is made too (CSV)",
         },
         Word {
             id: "frames",
