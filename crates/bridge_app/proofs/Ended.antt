@@ -7,7 +7,7 @@ use Rattle.bridge_jobs.specs.declared.fault.Fault.TheVariants as fault
 use Rattle.bridge_core.specs.Simulated.{AreNumbers}
 use Rattle.bridge_jobs.specs.Commanding.{EndsCommanded}
 use Rattle.bridge_jobs.specs.Reading.{IsOfFile}
-use Rattle.bridge_app.specs.Files.{EndsDrawn, EndsPicture, EndsReading, EndsRun, EndsSending, EndsShown, IsAcceptedPlan, IsOfOutputs, IsOfPicture, IsOfReport, IsOfShowing, IsPlanOfText}
+use Rattle.bridge_app.specs.Files.{EndsDrawn, EndsPicture, EndsReading, EndsRun, EndsSending, EndsShown, EndsTabled, EndsTold, IsAcceptedPlan, IsOfOutputs, IsOfPicture, IsOfReport, IsOfShowing, IsOfTable, IsOfTables, IsPlanOfText}
 use Rattle.bridge_files.specs.Files.{IsOfCaptures}
 
 -- a capture or the report that failed is an output
@@ -61,28 +61,62 @@ pub sent_shown : {A : Type 0} (p : Plan A) (input output : List ℕ) (file : Opt
 sent_shown p input output None f h = h
 sent_shown p input output (Some path) f h = inl h
 
+-- a run whose tables were made or failed
+pub sent_tabled : {A : Type 0} (p : Plan A) (input output : List ℕ) (delays frames file : Option (List ℕ)) (f : Fault) → EndsSending p input output f → EndsTabled p input output delays frames file f
+sent_tabled p input output delays frames file f h = inl (sent_shown p input output file f h)
+
 -- want of memory may end a run under a plan
-pub memory_ends : {A : Type 0} (p : Plan A) (input output : List ℕ) (file : Option (List ℕ)) → EndsShown p input output file (fault.Run run.NoMemory)
-memory_ends p input output file = sent_shown p input output file (fault.Run run.NoMemory) tt
+pub memory_ends : {A : Type 0} (p : Plan A) (input output : List ℕ) (delays frames file : Option (List ℕ)) → EndsTabled p input output delays frames file (fault.Run run.NoMemory)
+memory_ends p input output delays frames file = sent_tabled p input output delays frames file (fault.Run run.NoMemory) tt
 
 pub memory_shown : (file : Option (List ℕ)) → IsOfShowing file (fault.Run run.NoMemory)
 memory_shown None = refl
 memory_shown (Some path) = refl
 
-pub all_shown : {A X : Type 0} (p : Plan A) (input output : List ℕ) (file : Option (List ℕ)) (r : Result X Fault) → IfErr r (IsOfShowing file) → IfErr r (EndsShown p input output file)
-all_shown p input output file (Ok line) h = tt
-all_shown p input output None (Err f) h = subst (λ g. EndsSending p input output g) (sym h) tt
-all_shown p input output (Some path) (Err f) h = inr h
+shown_ends : {A : Type 0} (p : Plan A) (input output : List ℕ) (file : Option (List ℕ)) (f : Fault) → IsOfShowing file f → EndsShown p input output file f
+shown_ends p input output None f h = subst (λ g. EndsSending p input output g) (sym h) tt
+shown_ends p input output (Some path) f h = inr h
+
+-- the same of what is answered, behind the tables
+pub all_tabled : {A X : Type 0} (p : Plan A) (input output : List ℕ) (delays frames file : Option (List ℕ)) (r : Result X Fault) → IfErr r (λ f. IsOfShowing file f ⊎ IsOfTables delays frames f) → IfErr r (EndsTabled p input output delays frames file)
+all_tabled p input output delays frames file (Ok line) h = tt
+all_tabled p input output delays frames file (Err f) (inl h) = inl (shown_ends p input output file f h)
+all_tabled p input output delays frames file (Err f) (inr h) = inr h
+
+-- a picture that failed behind tables that were made
+pub all_behind : {X : Type 0} (delays frames file : Option (List ℕ)) (r : Result X Fault) → IfErr r (IsOfShowing file) → IfErr r (λ f. IsOfShowing file f ⊎ IsOfTables delays frames f)
+all_behind delays frames file (Ok line) h = tt
+all_behind delays frames file (Err f) h = inl h
+
+-- the table of frames, which is made behind that of delays
+pub frames_told : {X : Type 0} (delays frames : Option (List ℕ)) (r : Result X Fault) → IfErr r (IsOfTable frames) → IfErr r (IsOfTables delays frames)
+frames_told delays frames (Ok done) h = tt
+frames_told delays frames (Err f) h = inr h
 
 pub reading_drawn : (A : Type 0) (plan : List ℕ) (commands : Option (List ℕ)) (input output : List ℕ) (file : Option (List ℕ)) (f : Fault) → EndsReading A plan commands f → EndsDrawn A plan commands input output file f
 reading_drawn A plan commands input output None f h = inl h
 reading_drawn A plan commands input output (Some path) f h = inl (inl h)
 
-pub all_drawn : {A X : Type 0} (p : Plan A) (plan : List ℕ) (commands : Option (List ℕ)) (input output : List ℕ) (file : Option (List ℕ)) (r : Result X Fault) → IsAcceptedPlan p → IfErr r (EndsShown p input output file) → IfErr r (EndsDrawn A plan commands input output file)
-all_drawn p plan commands input output file (Ok line) ok h = tt
-all_drawn p plan commands input output None (Err f) ok h = inr (p, ok, h)
-all_drawn p plan commands input output (Some path) (Err f) ok (inl h) = inl (inr (p, ok, h))
-all_drawn p plan commands input output (Some path) (Err f) ok (inr h) = inr h
+pub reading_told : (A : Type 0) (plan : List ℕ) (commands : Option (List ℕ)) (input output : List ℕ) (delays frames file : Option (List ℕ)) (f : Fault) → EndsReading A plan commands f → EndsTold A plan commands input output delays frames file f
+reading_told A plan commands input output delays frames file f h = inl (reading_drawn A plan commands input output file f h)
+
+shown_drawn : {A : Type 0} (p : Plan A) (plan : List ℕ) (commands : Option (List ℕ)) (input output : List ℕ) (file : Option (List ℕ)) (f : Fault) → IsAcceptedPlan p → EndsShown p input output file f → EndsDrawn A plan commands input output file f
+shown_drawn p plan commands input output None f ok h = inr (p, ok, h)
+shown_drawn p plan commands input output (Some path) f ok (inl h) = inl (inr (p, ok, h))
+shown_drawn p plan commands input output (Some path) f ok (inr h) = inr h
+
+pub all_told_of : {A X : Type 0} (p : Plan A) (plan : List ℕ) (commands : Option (List ℕ)) (input output : List ℕ) (delays frames file : Option (List ℕ)) (r : Result X Fault) → IsAcceptedPlan p
+    → IfErr r (EndsTabled p input output delays frames file) → IfErr r (EndsTold A plan commands input output delays frames file)
+all_told_of p plan commands input output delays frames file (Ok line) ok h = tt
+all_told_of p plan commands input output delays frames file (Err f) ok (inl h) = inl (shown_drawn p plan commands input output file f ok h)
+all_told_of p plan commands input output delays frames file (Err f) ok (inr h) = inr h
+
+-- a run without tables
+pub none_told : {A X : Type 0} (plan : List ℕ) (commands : Option (List ℕ)) (input output : List ℕ) (file : Option (List ℕ)) (r : Result X Fault) → IfErr r (EndsTold A plan commands input output None None file) → IfErr r (EndsDrawn A plan commands input output file)
+none_told plan commands input output file (Ok line) h = tt
+none_told plan commands input output file (Err f) (inl h) = h
+none_told plan commands input output file (Err f) (inr (inl h)) = absurd h
+none_told plan commands input output file (Err f) (inr (inr h)) = absurd h
 
 -- a plan, or commands, that can't be opened
 pub plan_not_opened : (A : Type 0) (plan : List ℕ) (commands : Option (List ℕ)) (f : Fault) → IsOfFile plan f → EndsReading A plan commands f

@@ -84,3 +84,23 @@ EndsShown p input output (Some file) f = EndsSending p input output f ⊎ IsOfPi
 abbrev pub EndsDrawn : (A : Type 0) → List ℕ → Option (List ℕ) → List ℕ → List ℕ → Option (List ℕ) → Fault → Type 0
 EndsDrawn A plan commands input output None f = EndsRun A plan commands input output f
 EndsDrawn A plan commands input output (Some file) f = EndsRun A plan commands input output f ⊎ IsOfPicture file f
+
+-- a table of this path, where one is asked for, failed, or memory was refused
+abbrev pub IsOfTable : Option (List ℕ) → Fault → Type 0
+IsOfTable None f = ⊥
+IsOfTable (Some file) (fault.File path) = string_bytes path ≡ file
+IsOfTable (Some file) (fault.Run f) = f ≡ run.NoMemory
+IsOfTable (Some file) f = ⊥
+
+-- the table of delays or the one of frames failed, by their paths where they are asked for, or memory was refused
+abbrev pub IsOfTables : Option (List ℕ) → Option (List ℕ) → Fault → Type 0
+IsOfTables delays frames f = IsOfTable delays f ⊎ IsOfTable frames f
+
+-- which fault ends a run under a plan, by the paths of its tables too: one of the run, of a table, or of the picture, which is made
+-- behind the tables
+abbrev pub EndsTabled : {A : Type 0} → Plan A → List ℕ → List ℕ → Option (List ℕ) → Option (List ℕ) → Option (List ℕ) → Fault → Type 0
+EndsTabled p input output delays frames picture f = EndsShown p input output picture f ⊎ IsOfTables delays frames f
+
+-- which fault ends a run over files, by the paths of its tables too
+abbrev pub EndsTold : (A : Type 0) → List ℕ → Option (List ℕ) → List ℕ → List ℕ → Option (List ℕ) → Option (List ℕ) → Option (List ℕ) → Fault → Type 0
+EndsTold A plan commands input output delays frames picture f = EndsDrawn A plan commands input output picture f ⊎ IsOfTables delays frames f

@@ -3,7 +3,7 @@
 //! Nothing here can fail: what can't be read again is left out.
 
 use bridge_check::{CheckFault, check};
-use bridge_cli::{Job, job_of, picture_request_of};
+use bridge_cli::{Job, job_of, picture_request_of, table_request_of};
 use bridge_config::plan_of;
 use bridge_explain::{
     Cause, explain_check, explain_commands, explain_file, explain_plan, explain_run, explain_text,
@@ -226,15 +226,36 @@ fn folder_of(path: &str) -> Option<&str> {
     }
 }
 
-/// Whether a job writes the file of a path, as an output or as the picture that the words ask for.
+/// Whether a job writes the file of a path, as an output or as a table or the picture that the words ask for.
 fn is_output<H: AllocGlobal>(rt: &H, words: &[String], job: &Job, path: &str) -> bool {
     match job {
         Job::Wire { output, .. } => output.as_str() == path,
         Job::Run { output, .. } => {
-            folder_of(path) == Some(output.as_str()) || is_sketched(rt, words, path)
+            folder_of(path) == Some(output.as_str()) || is_beside(rt, words, path)
         }
         Job::Picture { file, .. } => file.as_str() == path,
         _ => false,
+    }
+}
+
+/// Whether a table or a picture of a run is asked for in the file of a path.
+fn is_beside<H: AllocGlobal>(rt: &H, words: &[String], path: &str) -> bool {
+    is_tabled(rt, words, path) || is_sketched(rt, words, path)
+}
+
+/// Whether a table of a run is asked for in the file of a path.
+fn is_tabled<H: AllocGlobal>(rt: &H, words: &[String], path: &str) -> bool {
+    match table_request_of(rt.alloc(), words) {
+        Ok(tables) => { is_path(&tables.delays, path) || is_path(&tables.frames, path) }
+        Err(_) => false,
+    }
+}
+
+/// Whether there is a path, and it is this one.
+fn is_path(file: &Option<String>, path: &str) -> bool {
+    match file {
+        Some(file) => file.as_str() == path,
+        None => false,
     }
 }
 
@@ -285,15 +306,37 @@ fn is_capture_in<H: AllocGlobal + Files>(rt: &H, folder: &str, path: &str) -> bo
     false
 }
 
-/// Whether the picture of a run is asked for in a file of the folder into which the run writes.
+/// Whether a table or the picture of a run is asked for in a file of the folder into which the run writes, or in that of
+/// another table.
 fn is_in_output<H: AllocGlobal + Files>(rt: &H, words: &[String], job: &Job, path: &str) -> bool {
     match job {
         Job::Run { output, .. } => {
             let folder = output.as_str();
-            is_sketched(rt, words, path)
-                && (is_capture_in(rt, folder, path) || is_report_of(rt, folder, path))
+            is_beside(rt, words, path)
+                && (is_capture_in(rt, folder, path)
+                    || is_report_of(rt, folder, path)
+                    || is_twice(rt, words, path))
         }
         _ => false,
+    }
+}
+
+/// Whether two of the tables and the picture of a run are asked for in the file of a path.
+fn is_twice<H: AllocGlobal + Files>(rt: &H, words: &[String], path: &str) -> bool {
+    let Ok(tables) = table_request_of(rt.alloc(), words) else {
+        return false;
+    };
+    let is_first = leads_to(rt, &tables.delays, path);
+    let is_second = leads_to(rt, &tables.frames, path);
+    let is_third = is_sketched(rt, words, path);
+    (is_first && is_second) || (is_third && (is_first || is_second))
+}
+
+/// Whether there is a path, and it leads to the file of another one.
+fn leads_to<H: Files>(rt: &H, file: &Option<String>, path: &str) -> bool {
+    match file {
+        Some(file) => is_one_file(rt, file.as_str(), path),
+        None => false,
     }
 }
 

@@ -1,11 +1,12 @@
 //! The job of a run over a folder of captures.
-ghost use Rattle.std.specs.Prelude.{◌≡◌, IfOk, IfErr, length, option_map, string_bytes};
+ghost use Rattle.std.specs.Prelude.{◌≡◌, ◌⊎◌, IfOk, IfErr, length, option_map, string_bytes};
 ghost use Rattle.bridge_config.specs.Commands.{AreCommands};
-ghost use Rattle.bridge_app.specs.Files.{EndsDrawn, EndsReading, EndsRun, EndsSending, EndsShown, IsAcceptedPlan, IsOfOutputs, IsOfReport, IsOfShowing, PrintsRun};
+ghost use Rattle.bridge_app.specs.Files.{EndsDrawn, EndsReading, EndsRun, EndsSending, EndsTabled, EndsTold, IsAcceptedPlan, IsOfOutputs, IsOfReport, IsOfShowing, IsOfTables, PrintsRun};
 
 use crate::picturing::put_sketch;
+use crate::tables::put_tables;
 use bridge_check::Accepted;
-use bridge_cli::PictureRequest;
+use bridge_cli::{PictureRequest, TableRequest};
 use bridge_config::Command;
 use bridge_files::{
     FileId, Output, add_file, add_files, create_all, file_at, is_one_of, is_same_folder, open_all,
@@ -54,39 +55,90 @@ pub fn run_with_picture<H: AllocGlobal + Files>(
     ensures ok { IfOk result (λ line. PrintsRun Global (string_bytes line)) }
     ensures err { IfErr result (EndsDrawn Global (string_bytes plan) (option_map string_bytes commands) (string_bytes input) (string_bytes output) (option_map (λ s. string_bytes s.file) sketch)) }
 {
+    let none = TableRequest {
+        delays: None,
+        frames: None,
+    };
+    run_with_tables(rt, plan, input, output, commands, none, sketch)
+}
+
+/// The same, and the tables that are asked for, each in a file that is none of the run's: they are made behind the report and
+/// before the picture, that of delays before that of frames, and change nothing else. `File` of each comes among the faults
+/// in this order: of the report, of the table of delays, of that of frames, of the picture.
+pub fn run_with_tables<H: AllocGlobal + Files>(
+    rt: &H,
+    plan: String,
+    input: String,
+    output: String,
+    commands: Option<String>,
+    tables: TableRequest,
+    sketch: Option<PictureRequest>,
+) -> Result<String, Fault>
+    ensures ok { IfOk result (λ line. PrintsRun Global (string_bytes line)) }
+    ensures err { IfErr result (EndsTold Global (string_bytes plan) (option_map string_bytes commands) (string_bytes input) (string_bytes output) (option_map string_bytes tables.delays) (option_map string_bytes tables.frames) (option_map (λ s. string_bytes s.file) sketch)) }
+{
     let mut taken = Vec::new(rt.alloc());
     let (accepted, orders) = match read_job(rt, plan, commands, &mut taken) {
         Ok(read) => read,
         Err(fault) => return Err(fault),
     };
-    let told = send_drawn(rt, &accepted, &orders, input, output, taken, sketch);
+    let told = send_told(rt, &accepted, &orders, input, output, taken, tables, sketch);
     drop(accepted);
     told
 }
 
-/// What is printed for a run under an accepted plan from one folder into another, with a picture where one is asked for. No
-/// output is one of the files that are taken.
-pub(crate) fn send_drawn<H: AllocGlobal + Files>(
+/// What is printed for a run under an accepted plan from one folder into another, with the tables and the picture that are
+/// asked for. No output is one of the files that are taken.
+pub(crate) fn send_told<H: AllocGlobal + Files>(
     rt: &H,
     accepted: &Accepted<Global>,
     orders: &[Command],
     input: String,
     output: String,
     taken: Vec<FileId>,
+    tables: TableRequest,
     sketch: Option<PictureRequest>,
 ) -> Result<String, Fault>
     requires commands { AreCommands accepted.now orders.now }
     ensures ok { IfOk result (λ line. PrintsRun Global (string_bytes line)) }
-    ensures err { IfErr result (EndsShown accepted.now (string_bytes input) (string_bytes output) (option_map (λ s. string_bytes s.file) sketch)) }
+    ensures err { IfErr result (EndsTabled accepted.now (string_bytes input) (string_bytes output) (option_map string_bytes tables.delays) (option_map string_bytes tables.frames) (option_map (λ s. string_bytes s.file) sketch)) }
 {
     let mut taken = taken;
     let outcome = match send(rt, accepted, orders, input.as_str(), output, &mut taken) {
         Ok(outcome) => outcome,
         Err(fault) => return Err(fault),
     };
-    let told = show(rt, accepted, &outcome, input.as_str(), sketch, &taken);
+    let told = tell(
+        rt,
+        accepted,
+        &outcome,
+        input.as_str(),
+        tables,
+        sketch,
+        taken,
+    );
     drop(outcome);
     told
+}
+
+/// What is printed of what a run told, once its tables and its picture are made where they are asked for.
+fn tell<H: AllocGlobal + Files>(
+    rt: &H,
+    accepted: &Accepted<Global>,
+    outcome: &Outcome<Global>,
+    input: &str,
+    tables: TableRequest,
+    sketch: Option<PictureRequest>,
+    taken: Vec<FileId>,
+) -> Result<String, Fault>
+    ensures ok { IfOk result (λ line. PrintsRun Global (string_bytes line)) }
+    ensures err { IfErr result (λ f. IsOfShowing (option_map (λ s. string_bytes s.file) sketch) f ⊎ IsOfTables (option_map string_bytes tables.delays) (option_map string_bytes tables.frames) f) }
+{
+    let mut taken = taken;
+    if let Err(fault) = put_tables(rt, accepted, outcome, tables, &mut taken) {
+        return Err(fault);
+    }
+    show(rt, accepted, outcome, input, sketch, &taken)
 }
 
 /// What is printed of what a run told, once its picture is made where one is asked for.

@@ -1,11 +1,11 @@
 //! Jobs over a plan for which a warning of it is a fault.
 ghost use Rattle.std.specs.Prelude.{◌≡◌, IfOk, IfErr, IfSome, None, option_map, string_bytes, true};
 ghost use Rattle.bridge_config.specs.Commands.{AreCommands};
-ghost use Rattle.bridge_app.specs.Files.{EndsDrawn, EndsShown, PrintsRun};
+ghost use Rattle.bridge_app.specs.Files.{EndsTabled, EndsTold, PrintsRun};
 
-use crate::job::{read_job, send_drawn};
+use crate::job::{read_job, send_told};
 use bridge_check::Accepted;
-use bridge_cli::PictureRequest;
+use bridge_cli::{PictureRequest, TableRequest};
 use bridge_config::Command;
 use bridge_explain::{warn_of_plan, warnings_of};
 use bridge_files::FileId;
@@ -80,22 +80,23 @@ pub fn strict_check_job<H: AllocGlobal + Files>(
     }
 }
 
-/// What a run under the plan of a file comes to, as by `run_with_picture`, where there is no warning of the plan; where there
+/// What a run under the plan of a file comes to, as by `run_with_tables`, where there is no warning of the plan; where there
 /// is one nothing is run, and no file is opened but those of the plan and of the commands.
 ///
-/// Faults in the order of `run_with_picture`.
+/// Faults in the order of `run_with_tables`.
 pub fn strict_run_job<H: AllocGlobal + Files>(
     rt: &H,
     plan: String,
     input: String,
     output: String,
     commands: Option<String>,
+    tables: TableRequest,
     sketch: Option<PictureRequest>,
     is_explained: bool,
 ) -> Result<Strict, Fault>
     ensures ok { IfOk result (λ strict. IfSome strict.line (λ line. PrintsRun Global (string_bytes line))) }
     ensures warned { IfOk result (λ strict. strict.is_warned ≡ true → strict.line ≡ None) }
-    ensures err { IfErr result (EndsDrawn Global (string_bytes plan) (option_map string_bytes commands) (string_bytes input) (string_bytes output) (option_map (λ s. string_bytes s.file) sketch)) }
+    ensures err { IfErr result (EndsTold Global (string_bytes plan) (option_map string_bytes commands) (string_bytes input) (string_bytes output) (option_map string_bytes tables.delays) (option_map string_bytes tables.frames) (option_map (λ s. string_bytes s.file) sketch)) }
 {
     let mut taken = Vec::new(rt.alloc());
     let (accepted, orders) = match read_job(rt, plan, commands, &mut taken) {
@@ -109,6 +110,7 @@ pub fn strict_run_job<H: AllocGlobal + Files>(
         input,
         output,
         taken,
+        tables,
         sketch,
         is_explained,
     );
@@ -125,13 +127,14 @@ fn send_strictly<H: AllocGlobal + Files>(
     input: String,
     output: String,
     taken: Vec<FileId>,
+    tables: TableRequest,
     sketch: Option<PictureRequest>,
     is_explained: bool,
 ) -> Result<Strict, Fault>
     requires commands { AreCommands accepted.now orders.now }
     ensures ok { IfOk result (λ strict. IfSome strict.line (λ line. PrintsRun Global (string_bytes line))) }
     ensures warned { IfOk result (λ strict. strict.is_warned ≡ true → strict.line ≡ None) }
-    ensures err { IfErr result (EndsShown accepted.now (string_bytes input) (string_bytes output) (option_map (λ s. string_bytes s.file) sketch)) }
+    ensures err { IfErr result (EndsTabled accepted.now (string_bytes input) (string_bytes output) (option_map string_bytes tables.delays) (option_map string_bytes tables.frames) (option_map (λ s. string_bytes s.file) sketch)) }
 {
     let Ok((told, is_warned)) = told_of(rt.alloc(), accepted, is_explained) else {
         return Err(Fault::Run(RunFault::NoMemory));
@@ -143,7 +146,7 @@ fn send_strictly<H: AllocGlobal + Files>(
             is_warned,
         });
     }
-    match send_drawn(rt, accepted, orders, input, output, taken, sketch) {
+    match send_told(rt, accepted, orders, input, output, taken, tables, sketch) {
         Ok(line) => Ok(Strict {
             line: Some(line),
             told,

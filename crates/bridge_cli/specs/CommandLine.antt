@@ -45,10 +45,11 @@ wire_command = with_rule (with_rule (with_rule (with_rule (with_rule (new_app (c
 abbrev pub check_command : App
 check_command = with_rule (with_rule (with_rule (new_app (codes "check")) (word_named (codes "plan"))) (flag_named (codes "strict"))) (flag_named (codes "explain"))
 
--- `run PLAN IN OUT`, with `--commands FILE` if commands are wanted
+-- `run PLAN IN OUT`, with `--commands FILE` if commands are wanted, and what is wanted beside the report
 abbrev pub run_command : App
-run_command = with_rule (with_rule (with_rule (with_rule (with_rule (with_rule (with_rule (with_rule (with_rule (new_app (codes "run"))
+run_command = with_rule (with_rule (with_rule (with_rule (with_rule (with_rule (with_rule (with_rule (with_rule (with_rule (with_rule (new_app (codes "run"))
     (word_named (codes "plan"))) (word_named (codes "input"))) (word_named (codes "output"))) (option_named (codes "commands")))
+    (option_named (codes "delays"))) (option_named (codes "frames")))
     (option_named (codes "picture"))) (option_named (codes "from"))) (option_named (codes "to"))) (flag_named (codes "strict")))
     (flag_named (codes "explain"))
 

@@ -111,6 +111,29 @@ pub commands_twice : fault_of commands (codes "run" ∷ codes "p" ∷ codes "i" 
 unfolding clap_on_literals
 commands_twice = refl
 
+-- `run plan.toml in out --delays delays.csv --frames=frames.csv`
+abbrev tabled_words : List Text
+tabled_words = codes "run" ∷ codes "plan.toml" ∷ codes "in" ∷ codes "out" ∷ codes "--delays" ∷ codes "delays.csv" ∷ codes "--frames=frames.csv" ∷ []
+
+-- nothing is wrong with these words
+pub tabled_faultless : fault_of commands tabled_words ≡ []
+unfolding clap_on_literals
+tabled_faultless = refl
+
+-- both options have their values
+pub tabled_delays : option_map (λ p. first_of (codes "delays") p.1) (subcommand_of commands tabled_words) ≡ Some (Some (codes "delays.csv"))
+unfolding clap_on_literals
+tabled_delays = refl
+
+pub tabled_frames : option_map (λ p. first_of (codes "frames") p.1) (subcommand_of commands tabled_words) ≡ Some (Some (codes "frames.csv"))
+unfolding clap_on_literals
+tabled_frames = refl
+
+-- a table of no run
+pub table_of_check : fault_of commands (codes "check" ∷ codes "p" ∷ codes "--delays" ∷ codes "d" ∷ []) ≡ UnknownArgument ∷ []
+unfolding clap_on_literals
+table_of_check = refl
+
 -- `check --explain plan.toml`
 abbrev explained_words : List Text
 explained_words = codes "check" ∷ codes "--explain" ∷ codes "plan.toml" ∷ []

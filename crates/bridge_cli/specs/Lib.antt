@@ -3,3 +3,4 @@ pub mod CommandLine
 pub mod Helping
 pub mod Examples
 pub mod Sketching
+pub mod Tabling

@@ -151,6 +151,18 @@ const RUN: Description = Description {
             help: "file of commands that clear flags (TOML, at most 1,048,576 octets)",
         },
         Word {
+            id: "delays",
+            value: "FILE",
+            form: Form::Choice,
+            help: "file of a table of each filter's delays and losses, which is made too (CSV)",
+        },
+        Word {
+            id: "frames",
+            value: "FILE",
+            form: Form::Choice,
+            help: "file of a table of what became of each frame, which is made too (CSV)",
+        },
+        Word {
             id: "picture",
             value: "FILE",
             form: Form::Choice,

@@ -46,7 +46,9 @@ impl Named for Verb {
 #[derive(Clone, Copy)]
 enum Switch {
     Commands,
+    Delays,
     Explain,
+    Frames,
     From,
     Picture,
     Strict,
@@ -55,9 +57,11 @@ enum Switch {
 }
 
 /// The options of the program.
-const SWITCHES: [Switch; 7] = [
+const SWITCHES: [Switch; 9] = [
     Switch::Commands,
+    Switch::Delays,
     Switch::Explain,
+    Switch::Frames,
     Switch::From,
     Switch::Picture,
     Switch::Strict,
@@ -69,7 +73,9 @@ impl Named for Switch {
     fn name(&self) -> &'static str {
         match self {
             Switch::Commands => "--commands",
+            Switch::Delays => "--delays",
             Switch::Explain => "--explain",
+            Switch::Frames => "--frames",
             Switch::From => "--from",
             Switch::Picture => "--picture",
             Switch::Strict => "--strict",
@@ -87,7 +93,7 @@ fn usage_of(verb: Verb) -> &'static str {
         Verb::Net => "net check NET [--strict]",
         Verb::Picture => "picture PLAN FILE",
         Verb::Run => {
-            "run PLAN IN OUT [--commands FILE] [--picture FILE [--from NS] [--to NS]] [--strict]"
+            "run PLAN IN OUT [--commands FILE] [--delays FILE] [--frames FILE] [--picture FILE [--from NS] [--to NS]] [--strict]"
         }
         Verb::Wire => "wire MBPS ROOM IN OUT",
     }
@@ -190,7 +196,7 @@ fn put_switch(alloc: Global, said: &mut String, name: &str) -> Result<(), AllocE
             write!(said, "The nearest option is {name}.\n")
         }
         None => said.push_str(
-            "The options are --commands FILE, --picture FILE, --from NS and --to NS (of run), --traffic FILE (of bounds), --strict (of check, run and net), and --explain.\n",
+            "The options are --commands FILE, --delays FILE, --frames FILE, --picture FILE, --from NS and --to NS (of run), --traffic FILE (of bounds), --strict (of check, run and net), and --explain.\n",
         ),
     }
 }
@@ -222,6 +228,8 @@ fn put_usages(said: &mut String) -> Result<(), AllocError> {
 /// Whether a word is an option whose value is the next word.
 fn takes_value(word: &str) -> bool {
     word == "--commands"
+        || word == "--delays"
+        || word == "--frames"
         || word == "--picture"
         || word == "--from"
         || word == "--to"

@@ -2,7 +2,7 @@
 //! The jobs over files: `run` over a folder of captures, then what it wrote: the octets of each capture, and the report;
 //! runs that are refused, over files that are to keep what they hold; pictures; `wire` over two files, then the octets of
 //! the one that it wrote, from standard input and to standard output, and over files that are to keep what they hold;
-//! `check`; both where a warning is a fault; and the examples, each with a babbling talker and without.
+//! `check`; both where a warning is a fault; the tables of runs; and the examples, each with a babbling talker and without.
 
 mod checking;
 mod examples;
@@ -11,6 +11,7 @@ mod pictures;
 mod refused;
 mod section;
 mod strict;
+mod tables;
 mod wiring;
 mod wording;
 
@@ -27,6 +28,7 @@ use refused::print_refused;
 use std::process::ExitCode;
 use std::rt::{Env, Files};
 use strict::print_strict;
+use tables::print_tables;
 use wiring::print_wired;
 
 /// The ports of the plan.
@@ -49,6 +51,7 @@ fn run(rt: &(impl Input + AllocGlobal + Print + Eprint + Env + Files)) -> Result
     print_refused(rt)?;
     print_checked(rt)?;
     print_strict(rt)?;
+    print_tables(rt)?;
     print_compared(rt)
 }
 

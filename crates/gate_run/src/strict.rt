@@ -3,6 +3,7 @@
 
 use crate::kept::octets_of;
 use bridge_app::{Strict, strict_check_job, strict_run_job};
+use bridge_cli::TableRequest;
 use bridge_jobs::{Fault, print};
 use std::rt::Files;
 
@@ -25,7 +26,11 @@ fn print_run(rt: &(impl AllocGlobal + Print + Files), plan: &str) -> Result<(), 
     let plan = String::from_str(rt.alloc(), plan)?;
     let input = String::from_str(rt.alloc(), "in")?;
     let output = String::from_str(rt.alloc(), "strict")?;
-    let strict = strict_run_job(rt, plan, input, output, None, None, false)?;
+    let none = TableRequest {
+        delays: None,
+        frames: None,
+    };
+    let strict = strict_run_job(rt, plan, input, output, None, none, None, false)?;
     print_said(rt, &strict)?;
     let count = octets_of(rt, "strict/report.txt")?.len();
     let told = format!(in rt.alloc(); "report.txt {count} octets\n")?;

@@ -98,6 +98,8 @@ Arguments:
 
 Options:
       --commands <FILE>  file of commands that clear flags (TOML, at most 1,048,576 octets)
+      --delays <FILE>    file of a table of each filter's delays and losses, which is made too (CSV)
+      --frames <FILE>    file of a table of what became of each frame, which is made too (CSV)
       --picture <FILE>   file of a picture of the run, which is made too (SVG)
       --from <NS>        from when on the picture shows the run, in ns below 4 * 10^18; else from its start
       --to <NS>          up to when it does, in ns below 4 * 10^18, behind that; else up to its end

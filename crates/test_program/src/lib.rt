@@ -15,3 +15,5 @@ mod help;
 mod program;
 #[cfg(test)]
 mod sketch;
+#[cfg(test)]
+mod tabled;

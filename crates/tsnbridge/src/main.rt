@@ -3,11 +3,12 @@
 ghost use Rattle.bridge_cli.specs.CommandLine.{HasRoom};
 
 use bridge_app::{
-    Strict, explain, explain_accepted, picture_job, run_with_picture, strict_check_job,
+    Strict, explain, explain_accepted, picture_job, run_with_tables, strict_check_job,
     strict_run_job, write_picture,
 };
 use bridge_cli::{
-    Job, PictureRequest, help_of, job_of, picture_request_of, wants_explanation, wants_strictness,
+    Job, PictureRequest, TableRequest, help_of, job_of, picture_request_of, table_request_of,
+    wants_explanation, wants_strictness,
 };
 use bridge_files::{Said, say, wire_files};
 use bridge_jobs::{Fault, check_job, end, print, text_job, words_of};
@@ -131,6 +132,15 @@ fn strictly(strict: Strict) -> Answer {
     }
 }
 
+/// What is made beside the report of a run.
+#[derive(Drop)]
+struct Beside {
+    /// The tables that are asked for.
+    tables: TableRequest,
+    /// The picture that is asked for.
+    sketch: Option<PictureRequest>,
+}
+
 /// What is wanted of a job beside it.
 #[derive(Clone, Copy)]
 struct Wishes {
@@ -156,13 +166,16 @@ fn run(
         return Err(Fault::Words);
     }
     let job = job_of(rt.alloc(), &words)?;
-    let sketch = picture_request_of(rt.alloc(), &words)?;
+    let beside = Beside {
+        tables: table_request_of(rt.alloc(), &words)?,
+        sketch: picture_request_of(rt.alloc(), &words)?,
+    };
     let wishes = Wishes {
         is_strict: wants_strictness(&words),
         is_explained: wants_explanation(&words),
         is_watched,
     };
-    let answer = answer_of(rt, job, sketch, wishes)?;
+    let answer = answer_of(rt, job, beside, wishes)?;
     if let Some(said) = &answer.said {
         say(rt, said)?;
     }
@@ -195,11 +208,11 @@ fn tell_rounds(rt: &(impl AllocGlobal + Eprint), rounds: Option<u32>) {
 }
 
 /// What a job says, over standard input and output or the files that it names, where it says something; a run with the
-/// picture that is asked for beside it.
+/// tables and the picture that are asked for beside it.
 fn answer_of(
     rt: &(impl Input + AllocGlobal + Print + Eprint + Files),
     job: Job,
-    sketch: Option<PictureRequest>,
+    beside: Beside,
     wishes: Wishes,
 ) -> Result<Answer, Fault>
     requires { HasRoom job }
@@ -218,7 +231,7 @@ fn answer_of(
             input,
             output,
             commands,
-        } => run_bridge(rt, plan, input, output, commands, sketch, wishes),
+        } => run_bridge(rt, plan, input, output, commands, beside, wishes),
         Job::Picture { plan, file } => {
             draw(rt, plan, file)?;
             Ok(answered(None))
@@ -244,21 +257,23 @@ fn answer_of(
     }
 }
 
-/// What a run under the plan of a file says, with the picture that is asked for beside it.
+/// What a run under the plan of a file says, with the tables and the picture that are asked for beside it.
 fn run_bridge(
     rt: &(impl AllocGlobal + Files),
     plan: String,
     input: String,
     output: String,
     commands: Option<String>,
-    sketch: Option<PictureRequest>,
+    beside: Beside,
     wishes: Wishes,
 ) -> Result<Answer, Fault> {
+    let Beside { tables, sketch } = beside;
     if !wishes.is_strict {
-        return Ok(printed(run_with_picture(rt, plan, input, output, commands, sketch)?));
+        let line = run_with_tables(rt, plan, input, output, commands, tables, sketch)?;
+        return Ok(printed(line));
     }
     let explained = wishes.is_explained;
-    let strict = strict_run_job(rt, plan, input, output, commands, sketch, explained)?;
+    let strict = strict_run_job(rt, plan, input, output, commands, tables, sketch, explained)?;
     Ok(strictly(strict))
 }
 

@@ -1,0 +1,103 @@
+//! Tables of a run as files.
+ghost use Rattle.std.specs.Prelude.{IfErr, Some, option_map, string_bytes};
+ghost use Rattle.bridge_app.specs.Files.{IsOfTable, IsOfTables};
+
+use bridge_check::Accepted;
+use bridge_cli::TableRequest;
+use bridge_files::{FileId, Output, add_file, is_one_of, output_at};
+use bridge_inputs::RunFault;
+use bridge_jobs::Fault;
+use bridge_semantics::Outcome;
+use bridge_tables::{delay_table, frame_table};
+use std::alloc::Global;
+use std::fs::OpenFile;
+use std::io;
+use std::io::Write;
+use std::rt::Files;
+
+/// Writes the tables of what a run told that are asked for, each into a file that is none of those taken and is one of them
+/// then: that of delays, then that of frames.
+pub(crate) fn put_tables<H: AllocGlobal + Files>(
+    rt: &H,
+    accepted: &Accepted<Global>,
+    outcome: &Outcome<Global>,
+    tables: TableRequest,
+    taken: &mut Vec<FileId>,
+) -> Result<(), Fault>
+    ensures { IfErr result (IsOfTables (option_map string_bytes tables.delays) (option_map string_bytes tables.frames)) }
+{
+    let TableRequest { delays, frames } = tables;
+    if let Err(fault) = put_delays(rt, accepted, outcome, delays, taken) {
+        return Err(fault);
+    }
+    put_frames(rt, outcome, frames, taken)
+}
+
+/// Writes the table of delays, if it is asked for.
+fn put_delays<H: AllocGlobal + Files>(
+    rt: &H,
+    accepted: &Accepted<Global>,
+    outcome: &Outcome<Global>,
+    path: Option<String>,
+    taken: &mut Vec<FileId>,
+) -> Result<(), Fault>
+    ensures { IfErr result (IsOfTable (option_map string_bytes path)) }
+{
+    let Some(path) = path else {
+        return Ok(());
+    };
+    let Ok(text) = delay_table(rt.alloc(), accepted, outcome) else {
+        return Err(Fault::Run(RunFault::NoMemory));
+    };
+    put_table(rt, path, taken, text.as_str())
+}
+
+/// Writes the table of frames, if it is asked for.
+fn put_frames<H: AllocGlobal + Files>(
+    rt: &H,
+    outcome: &Outcome<Global>,
+    path: Option<String>,
+    taken: &mut Vec<FileId>,
+) -> Result<(), Fault>
+    ensures { IfErr result (IsOfTable (option_map string_bytes path)) }
+{
+    let Some(path) = path else {
+        return Ok(());
+    };
+    let Ok(text) = frame_table(rt.alloc(), outcome) else {
+        return Err(Fault::Run(RunFault::NoMemory));
+    };
+    put_table(rt, path, taken, text.as_str())
+}
+
+/// Writes a table into the file of a path, which is none of those taken and is one of them then.
+fn put_table<H: AllocGlobal + Files>(
+    rt: &H,
+    path: String,
+    taken: &mut Vec<FileId>,
+    text: &str,
+) -> Result<(), Fault>
+    ensures { IfErr result (IsOfTable (Some (string_bytes path))) }
+{
+    let Ok(output) = output_at(rt, path.as_str()) else {
+        return Err(Fault::File(path));
+    };
+    if is_one_of(taken, output.id()) {
+        return Err(Fault::File(path));
+    }
+    if add_file(taken, output.id()).is_err() {
+        return Err(Fault::Run(RunFault::NoMemory));
+    }
+    match write_whole(output, text) {
+        Ok(()) => Ok(()),
+        Err(_) => Err(Fault::File(path)),
+    }
+}
+
+/// Writes a text as the whole of a file.
+fn write_whole<F: Write + OpenFile + Drop>(output: Output<F>, text: &str) -> io::Result<()> {
+    let mut output = output;
+    output.write_all(text.as_bytes())?;
+    output.flush()?;
+    output.finish()
+}

@@ -1,0 +1,61 @@
+//! The tables of a run that the words of the command line ask for.
+ghost use Rattle.std.specs.Prelude.{◌≡◌, ◌⊎◌, Some, IfOk, IfErr, List, codes, map, option_map, string_bytes};
+ghost use Rattle.bridge_inputs.specs.declared.fault.RunFault.{RunFault};
+ghost use Rattle.clap.specs.Words.{Row, first_of, found_of, rows_of, subcommand_of};
+ghost use Rattle.bridge_cli.specs.CommandLine.{commands};
+ghost use Rattle.bridge_cli.specs.Tabling.{AsksForTables};
+
+use crate::command::matches_of;
+use crate::job::{fault_of, value_of};
+use bridge_jobs::Fault;
+use clap::ArgMatches;
+use std::alloc::{AllocError, Global};
+
+/// The tables that are asked for of a run.
+#[derive(Debug, Drop)]
+pub struct TableRequest {
+    /// The path of the table of delays, if one is made.
+    pub delays: Option<String>,
+    /// The path of the table of frames, if one is made.
+    pub frames: Option<String>,
+}
+
+/// The tables that the words after the program's name ask for beside a run, by `--delays FILE` and `--frames FILE`; none for
+/// every other job.
+///
+/// `Words` for words that `clap` refuses; `Run` with `NoMemory` where a growth was refused.
+pub fn table_request_of(alloc: Global, words: &[String]) -> Result<TableRequest, Fault>
+    ensures ok { IfOk result (λ tables. (values : List Row) → subcommand_of commands (map string_bytes words.now) ≡ Some (codes "run", values) → AsksForTables values tables) }
+    ensures only { IfErr result (λ fault. (fault ≡ Fault.Words) ⊎ (fault ≡ Fault.Run RunFault.NoMemory)) }
+{
+    match matches_of(alloc, words) {
+        Ok(matches) => match matches.subcommand_matches("run") {
+            Some(values) => tables_in(alloc, values),
+            None => Ok(TableRequest {
+                delays: None,
+                frames: None,
+            }),
+        },
+        Err(error) => Err(fault_of(&error)),
+    }
+}
+
+/// The tables that these values ask for.
+fn tables_in(alloc: Global, values: &ArgMatches) -> Result<TableRequest, Fault>
+    ensures ok { IfOk result (AsksForTables (rows_of (found_of values.now))) }
+    ensures only { IfErr result (λ fault. (fault ≡ Fault.Words) ⊎ (fault ≡ Fault.Run RunFault.NoMemory)) }
+{
+    let delays = path_of(alloc, values, "delays")?;
+    let frames = path_of(alloc, values, "frames")?;
+    Ok(TableRequest { delays, frames })
+}
+
+/// The path of an option, where it stands there.
+fn path_of(alloc: Global, values: &ArgMatches, name: &str) -> Result<Option<String>, AllocError>
+    ensures { IfOk result (λ path. first_of name.now (rows_of (found_of values.now)) ≡ option_map string_bytes path) }
+{
+    match value_of(values, name) {
+        Some(path) => Ok(Some(String::from_str(alloc, path)?)),
+        None => Ok(None),
+    }
+}

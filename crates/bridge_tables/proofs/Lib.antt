@@ -1,0 +1,5 @@
+mod Bounded
+mod Kept
+mod Ports
+mod Rising
+mod Told

@@ -1,0 +1,11 @@
+use Rattle.std.proofs.Common.{◌≡◌, ◌++◌, ◌-◌, ◌≤◌}
+use Rattle.std.specs.Prelude.{flat_map, string_bytes}
+use Rattle.std.specs.List.{range_with_len}
+use Rattle.bridge_tables.specs.Delays.{row_at}
+use Rattle.bridge_tables.proofs.delays.push_ports.Given as goal
+
+abbrev pub invariant-loop-port : goal.invariant-loop-port
+invariant-loop-port g l = record {
+  from : 1 ≤ l.port;
+  told : string_bytes l.text ≡ string_bytes l.initial.text ++ flat_map (row_at l.filter l.view l.bounds) (range_with_len 1 (l.port - 1));
+}

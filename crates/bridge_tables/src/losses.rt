@@ -1,0 +1,144 @@
+//! How many frames of a filter were refused, and how many copies of them were dropped.
+ghost use Rattle.std.specs.Prelude.{◌≡◌, ◌++◌, OnOk, string_bytes};
+ghost use Rattle.bridge_report.specs.Section.{full_in, never_in};
+ghost use Rattle.bridge_tables.specs.Frames.{field};
+ghost use Rattle.bridge_tables.specs.Losses as spec;
+
+use crate::rows::{push_field, push_last};
+use bridge_filter::Verdict;
+use bridge_port::Refusal;
+use bridge_semantics::Dropped;
+use std::alloc::{AllocError, Allocator};
+
+/// Why a frame is refused.
+#[derive(Clone, Copy)]
+pub(crate) enum Reason {
+    Blocked,
+    Oversize,
+    GateClosed,
+    ShutByRx,
+    ShutByOctets,
+    OctetsExceeded,
+    Red,
+    YellowDropped,
+}
+
+/// Whether a frame was refused for a reason.
+fn is_for(reason: Reason, verdict: Verdict) -> bool
+    ensures { result ≡ spec.is_for reason verdict }
+{
+    match reason {
+        Reason::Blocked => matches!(verdict, Verdict::Blocked),
+        Reason::Oversize => matches!(verdict, Verdict::Oversize),
+        Reason::GateClosed => matches!(verdict, Verdict::GateClosed),
+        Reason::ShutByRx => matches!(verdict, Verdict::ShutByRx),
+        Reason::ShutByOctets => matches!(verdict, Verdict::ShutByOctets),
+        Reason::OctetsExceeded => matches!(verdict, Verdict::OctetsExceeded),
+        Reason::Red => matches!(verdict, Verdict::Red),
+        Reason::YellowDropped => matches!(verdict, Verdict::YellowDropped),
+    }
+}
+
+/// How many frames were refused for a reason.
+fn refused_for(reason: Reason, verdicts: &[Verdict]) -> usize
+    ensures { result ≡ spec.refused_for reason verdicts.now }
+{
+    verdicts.iter().filter(|v| is_for(reason, **v)).count()
+}
+
+/// How many copies were dropped at a port since their queues were full.
+pub(crate) fn full_at(port: u8, drops: &[Dropped]) -> usize
+    ensures { result ≡ spec.full_at port drops.now }
+{
+    drops
+        .iter()
+        .filter(|d| d.port == port && matches!(d.refusal, Refusal::Full))
+        .count()
+}
+
+/// How many copies were dropped at a port since no moment fits them.
+pub(crate) fn never_at(port: u8, drops: &[Dropped]) -> usize
+    ensures { result ≡ spec.never_at port drops.now }
+{
+    drops
+        .iter()
+        .filter(|d| d.port == port && matches!(d.refusal, Refusal::NeverFits))
+        .count()
+}
+
+/// How many copies were dropped at full queues.
+pub(crate) fn full_in(drops: &[Dropped]) -> usize
+    ensures { result ≡ full_in drops.now }
+{
+    drops
+        .iter()
+        .filter(|d| matches!(d.refusal, Refusal::Full))
+        .count()
+}
+
+/// How many copies were dropped since no moment fits them.
+pub(crate) fn never_in(drops: &[Dropped]) -> usize
+    ensures { result ≡ never_in drops.now }
+{
+    drops
+        .iter()
+        .filter(|d| matches!(d.refusal, Refusal::NeverFits))
+        .count()
+}
+
+/// Adds how many frames were refused for a reason.
+fn push_refused<A: Allocator>(
+    text: &mut String<A>,
+    reason: Reason,
+    verdicts: &[Verdict],
+) -> Result<(), AllocError>
+    ensures { OnOk result (string_bytes text.new ≡ string_bytes text.old ++ field (spec.refused_for reason verdicts.now)) }
+{
+    push_field(text, refused_for(reason, verdicts) as u64)
+}
+
+/// Adds how many frames the filter itself refused, by each reason.
+#[tactic(auto, unfolding(crate::specs::Losses::filter_fields))]
+fn push_filter<A: Allocator>(text: &mut String<A>, verdicts: &[Verdict]) -> Result<(), AllocError>
+    ensures { OnOk result (string_bytes text.new ≡ string_bytes text.old ++ spec.filter_fields verdicts.now) }
+{
+    push_refused(text, Reason::Blocked, verdicts)?;
+    push_refused(text, Reason::Oversize, verdicts)
+}
+
+/// Adds how many frames the gate refused, by each reason.
+#[tactic(auto, unfolding(crate::specs::Losses::gate_fields))]
+fn push_gate<A: Allocator>(text: &mut String<A>, verdicts: &[Verdict]) -> Result<(), AllocError>
+    ensures { OnOk result (string_bytes text.new ≡ string_bytes text.old ++ spec.gate_fields verdicts.now) }
+{
+    push_refused(text, Reason::GateClosed, verdicts)?;
+    push_refused(text, Reason::ShutByRx, verdicts)?;
+    push_refused(text, Reason::ShutByOctets, verdicts)?;
+    push_refused(text, Reason::OctetsExceeded, verdicts)
+}
+
+/// Adds how many frames the meter discarded, by each reason.
+#[tactic(auto, unfolding(crate::specs::Losses::meter_fields))]
+fn push_meter<A: Allocator>(text: &mut String<A>, verdicts: &[Verdict]) -> Result<(), AllocError>
+    ensures { OnOk result (string_bytes text.new ≡ string_bytes text.old ++ spec.meter_fields verdicts.now) }
+{
+    push_refused(text, Reason::Red, verdicts)?;
+    push_refused(text, Reason::YellowDropped, verdicts)
+}
+
+/// Adds the end of a row: how many frames were refused and how many copies dropped.
+#[tactic(auto, unfolding(crate::specs::Losses::loss_fields))]
+pub(crate) fn push_losses<A: Allocator>(
+    text: &mut String<A>,
+    verdicts: &[Verdict],
+    full: usize,
+    never: usize,
+) -> Result<(), AllocError>
+    ensures { OnOk result (string_bytes text.new ≡ string_bytes text.old ++ spec.loss_fields verdicts.now full never) }
+{
+    push_filter(text, verdicts)?;
+    push_gate(text, verdicts)?;
+    push_meter(text, verdicts)?;
+    push_field(text, full as u64)?;
+    push_last(text, never as u64)
+}
