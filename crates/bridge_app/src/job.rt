@@ -84,7 +84,7 @@ pub(crate) fn send_drawn<H: AllocGlobal + Files>(
         Ok(outcome) => outcome,
         Err(fault) => return Err(fault),
     };
-    let told = show(rt, accepted, &outcome, input.as_str(), sketch, &taken);
+    let told = show(rt, accepted, &outcome, sketch, &taken);
     drop(outcome);
     told
 }
@@ -94,7 +94,6 @@ fn show<H: AllocGlobal + Files>(
     rt: &H,
     accepted: &Accepted<Global>,
     outcome: &Outcome<Global>,
-    input: &str,
     sketch: Option<PictureRequest>,
     taken: &[FileId],
 ) -> Result<String, Fault>
@@ -102,7 +101,7 @@ fn show<H: AllocGlobal + Files>(
     ensures err { IfErr result (IsOfShowing (option_map (λ s. string_bytes s.file) sketch)) }
 {
     if let Some(sketch) = sketch {
-        if let Err(fault) = put_sketch(rt, accepted, outcome, input, sketch, taken) {
+        if let Err(fault) = put_sketch(rt, accepted, outcome, sketch, taken) {
             return Err(fault);
         }
     }

@@ -18,7 +18,6 @@ mod svg;
 mod windows;
 
 pub use bridge_limits::NoMemory;
-pub use marks::{Arrivals, Mark, MarkKind, has_marks};
 pub use plan::draw_plan;
 pub use run::draw_run;
 pub use span::{LONGEST_HYPERCYCLE, Span};

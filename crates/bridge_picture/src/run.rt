@@ -4,7 +4,7 @@ ghost use Rattle.std.specs.Prelude.{◌≤◌, IfOk, length, string_bytes};
 use crate::axis::put_axis;
 use crate::lanes::{most_of, put_port};
 use crate::legend::{Legend, RUN, Sample, put_legend, put_wait};
-use crate::marks::Mark;
+use crate::marks::{Mark, came_at, marks_of};
 use crate::numbers::stretch;
 use crate::plan::{put_bands, put_head};
 use crate::shapes::{LEFT, Picture, Put, Rect, Shape, Style, Tip, Title};
@@ -68,14 +68,6 @@ fn with_stretch(ends: Option<(u64, u64)>, from: u64, to: u64) -> Option<(u64, u6
     match ends {
         None => Some((from, to)),
         Some((first, last)) => Some((first.min(from), last.max(to))),
-    }
-}
-
-/// When a frame of a filter came.
-fn came_at<B: Allocator>(view: &View<B>, own: u64) -> Option<u64> {
-    match view.origins.get(own.saturating_sub(1) as usize) {
-        Some(origin) => Some(origin.at),
-        None => None,
     }
 }
 
@@ -307,13 +299,14 @@ fn put_views<A: Allocator + Copy, B: Allocator>(
 }
 
 /// Draws a mark, a greater one with an edge where its filter is protected.
-fn put_mark(picture: &mut Picture, mark: &Mark, colour: u8, is_protected: bool) -> Put {
-    let (is_up, why) = mark.kind.look();
-    let (style, half) = if is_protected {
+fn put_mark(picture: &mut Picture, mark: &Mark) -> Put {
+    let colour = colour_at(mark.place);
+    let (style, half) = if mark.is_protected {
         (Style::Edged(colour), 60)
     } else {
         (Style::Filter(colour), 40)
     };
+    let is_up = mark.is_stopped;
     let tip = Tip {
         x: picture.span.place(mark.at),
         y: picture.below(if is_up { 10 } else { 130 }),
@@ -326,26 +319,24 @@ fn put_mark(picture: &mut Picture, mark: &Mark, colour: u8, is_protected: bool) 
         came: Some(mark.at),
         left: None,
         by: None,
-        why,
+        why: mark.why,
     };
     picture.put(Shape::Mark(style, tip, Some(title)))
 }
 
 /// Draws the marks at a port: of the protected filters, or of the others.
-fn put_marks<B: Allocator>(
+fn put_marks(
     picture: &mut Picture,
-    filters: &[(u32, View<B>)],
     marks: &[Mark],
     shares: &mut Shares,
     port: u8,
     is_protected: bool,
 ) -> Put {
     for mark in marks {
-        if mark.port == port && picture.span.has(mark.at) {
-            let place = filters.partition_point(|it| it.0 < mark.filter);
-            let found = filters.get(place).map_or(false, |it| it.1.protected);
-            if found == is_protected && shares.takes(port, picture.span.place(mark.at)) {
-                put_mark(picture, mark, colour_at(place), found)?;
+        let (span, at) = (picture.span, mark.at);
+        if mark.port == port && mark.is_protected == is_protected && span.has(at) {
+            if shares.takes(port, span.place(at)) {
+                put_mark(picture, mark)?;
             }
         }
     }
@@ -372,16 +363,10 @@ fn put_link<A: Allocator + Copy, B: Allocator>(
 }
 
 /// Draws the marks at a port, and what of them is left out.
-fn put_stops<A: Allocator + Copy, B: Allocator>(
-    picture: &mut Picture,
-    drawn: &Drawn<A, B>,
-    shares: &mut Shares,
-    port: u8,
-) -> Put {
+fn put_stops(picture: &mut Picture, marks: &[Mark], shares: &mut Shares, port: u8) -> Put {
     picture.word(Style::Small, 200, 110, "not let on")?;
-    let (filters, marks) = (&drawn.outcome.filters, drawn.marks);
-    put_marks(picture, filters, marks, shares, port, true)?;
-    put_marks(picture, filters, marks, shares, port, false)?;
+    put_marks(picture, marks, shares, port, true)?;
+    put_marks(picture, marks, shares, port, false)?;
     shares.put_hatches(picture, port, 10, 120)?;
     picture.go_down(170);
     Ok(())
@@ -399,7 +384,7 @@ fn put_lanes<A: Allocator + Copy, B: Allocator>(
 {
     put_port(picture, drawn.accepted.plan(), port)?;
     put_link(picture, drawn, &mut chosen.frames, port.number)?;
-    put_stops(picture, drawn, &mut chosen.marks, port.number)
+    put_stops(picture, drawn.marks, &mut chosen.marks, port.number)
 }
 
 /// Draws all ports.
@@ -497,18 +482,18 @@ pub fn draw_run<A: Allocator + Copy, B: Allocator>(
     alloc: Global,
     accepted: &Accepted<A>,
     outcome: &Outcome<B>,
-    marks: &[Mark],
     from: Option<u64>,
     to: Option<u64>,
 ) -> Result<String, NoMemory>
     ensures { IfOk result (λ text. length (string_bytes text) ≤ 2000000) }
 {
-    let span = shown(outcome, marks, from, to);
+    let marks = marks_of(alloc, outcome)?;
+    let span = shown(outcome, &marks, from, to);
     let mut picture = Picture::new(alloc, span, most_of(accepted.plan(), 0));
     let drawn = Drawn {
         accepted,
         outcome,
-        marks,
+        marks: &marks,
     };
     put_run(&mut picture, &drawn)?;
     Ok(svg_of(alloc, &picture.shapes, picture.below(150))?)
