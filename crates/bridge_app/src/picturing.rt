@@ -2,7 +2,7 @@
 ghost use Rattle.std.specs.Prelude.{◌≤◌, IfErr, string_bytes};
 ghost use Rattle.bridge_app.specs.Files.{EndsPicture, IsOfPicture};
 
-use bridge_check::Accepted;
+use bridge_check::{Accepted, check};
 use bridge_cli::PictureRequest;
 use bridge_files::{FileId, Output, add_file, file_at, is_one_of, open_taken, output_at};
 use bridge_inputs::RunFault;
@@ -31,8 +31,9 @@ pub fn picture_job<H: AllocGlobal + Files>(rt: &H, plan: String, file: String) -
         Ok(read) => read,
         Err(fault) => return Err(fault),
     };
-    let drawn = draw_plan(rt.alloc(), &read);
-    drop(read);
+    let checked = check(rt.alloc(), read);
+    let drawn = draw_plan(rt.alloc(), &checked);
+    drop(checked);
     match drawn {
         Ok(text) => put_picture(rt, file, &taken, text.as_str()),
         Err(_) => Err(Fault::Run(RunFault::NoMemory)),

@@ -5,6 +5,7 @@
 //! its colours follow the reader's light or dark scheme. Nothing here changes what it draws.
 
 mod axis;
+mod conflict;
 mod lanes;
 mod legend;
 mod marks;

@@ -2,7 +2,7 @@
 ghost use Rattle.std.specs.Prelude.{◌≤◌, IfOk, length, string_bytes};
 
 use crate::axis::put_axis;
-use crate::lanes::{most_of, put_port};
+use crate::lanes::{gates_below, most_of, put_gates_at, put_port};
 use crate::legend::{Legend, RUN, Sample, put_legend, put_wait};
 use crate::marks::{Mark, came_at, marks_of};
 use crate::numbers::stretch;
@@ -372,7 +372,7 @@ fn put_stops(picture: &mut Picture, marks: &[Mark], shares: &mut Shares, port: u
     Ok(())
 }
 
-/// Draws a port: its windows, what left its link, and the marks.
+/// Draws a port: its windows, what left its link, the marks, and the stream gates of what comes in.
 fn put_lanes<A: Allocator + Copy, B: Allocator>(
     picture: &mut Picture,
     drawn: &Drawn<A, B>,
@@ -384,7 +384,8 @@ fn put_lanes<A: Allocator + Copy, B: Allocator>(
 {
     put_port(picture, drawn.accepted.plan(), port)?;
     put_link(picture, drawn, &mut chosen.frames, port.number)?;
-    put_stops(picture, drawn.marks, &mut chosen.marks, port.number)
+    put_stops(picture, drawn.marks, &mut chosen.marks, port.number)?;
+    put_gates_at(picture, drawn.accepted.plan(), port.number)
 }
 
 /// Draws all ports.
@@ -460,7 +461,7 @@ fn put_run<A: Allocator + Copy, B: Allocator>(picture: &mut Picture, drawn: &Dra
     put_head(picture, "run", shows)?;
     put_left_out(picture, &chosen)?;
     put_filters(picture, &drawn.outcome.filters)?;
-    put_legend(picture, RUN, change.is_some())?;
+    put_legend(picture, RUN, change.is_some(), false)?;
     let line = picture.below(150);
     picture.go_down(350);
     let top = picture.down;
@@ -471,9 +472,10 @@ fn put_run<A: Allocator + Copy, B: Allocator>(picture: &mut Picture, drawn: &Dra
 
 /// The picture of a run under a plan as an SVG text of at most 2,000,000 octets: for each port the windows of its classes,
 /// below them its link, on which each frame that left is a bar from its start to its end in the colour of its filter, and
-/// below that a mark for each frame that was not let on, at the moment at which it came. Frames of protected filters stand
-/// out, and are drawn before others, each over a line from when it came to its start and one to when it is done at the
-/// latest, as the bound of its queue has it. Frames without a filter aren't drawn.
+/// below that a mark for each frame that was not let on, at the moment at which it came, and the open entries of the stream
+/// gates of protected filters whose streams come in at the port. Frames of protected filters stand out, and are drawn before
+/// others, each over a line from when it came to its start and one to when it is done at the latest, as the bound of its
+/// queue has it. Frames without a filter aren't drawn.
 ///
 /// It shows the time from `from` up to `to`, in ns; without one of them as far as there is something to draw. Where there is
 /// more than has room, each port and each part of the time has its share, what is left out is hatched, and the head says
@@ -489,7 +491,8 @@ pub fn draw_run<A: Allocator + Copy, B: Allocator>(
 {
     let marks = marks_of(alloc, outcome)?;
     let span = shown(outcome, &marks, from, to);
-    let mut picture = Picture::new(alloc, span, most_of(accepted.plan(), 0));
+    let gates = gates_below(alloc, accepted.plan())?;
+    let mut picture = Picture::new(alloc, span, most_of(accepted.plan(), gates));
     let drawn = Drawn {
         accepted,
         outcome,

@@ -22,6 +22,9 @@ text{font:110px system-ui,sans-serif;fill:#222}.h{font-weight:700;font-size:150p
 const HATCH: &str =
     "<pattern id=\"h\" width=\"70\" height=\"70\" patternUnits=\"userSpaceOnUse\" patternTransform=\"rotate(45)\"><path class=\"h0\" d=\"M0 0V70\"/></pattern>";
 
+/// The name of the style of a fault: bold, in a red that a picture of a plan has for nothing else.
+const FAULT: &str = "b c1";
+
 /// The names of the styles of filters.
 const FILTERS: [&str; 8] = ["c0", "c1", "c2", "c3", "c4", "c5", "c6", "c7"];
 
@@ -52,6 +55,7 @@ fn class_of(style: Style) -> &'static str {
         Style::Lane => "lane",
         Style::Open => "open",
         Style::Own => "own",
+        Style::Fault => FAULT,
         Style::Gate => "gate",
         Style::Hatched => "hatch",
         Style::Grid => "grid",

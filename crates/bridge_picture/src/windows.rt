@@ -22,19 +22,20 @@ const LEAST: u64 = 8;
 /// The width from which on a bar has its internal priority value written into it.
 const WIDE: u64 = 160;
 
-/// What is open by time: a class of a port's lists, or a stream gate.
+/// What is open by time: a class of a port's lists, with whether it is at fault beside another class, or a stream gate.
 #[derive(Drop)]
 pub(crate) enum Lists<'a, A: Allocator + Copy> {
-    Class(&'a Egress<A>, u8),
+    Class(&'a Egress<A>, u8, bool),
     Gate(&'a Schedule<A>),
 }
 
-/// A stretch of time in which something is open or closed, with the internal priority value that it gives.
+/// A stretch of time in which something is open or closed, or is at fault, with the internal priority value that it gives.
 #[derive(Clone, Copy)]
 struct Window {
     from: u64,
     to: u64,
     is_open: bool,
+    is_at_fault: bool,
     value: Option<u8>,
 }
 
@@ -56,12 +57,13 @@ fn look_at<A: Allocator + Copy>(lists: &Lists<A>, from: u64) -> Window
     requires { from < END_OF_TURNS }
 {
     match lists {
-        Lists::Class(list, class) => {
+        Lists::Class(list, class, is_at_fault) => {
             let turn = list.turn(from);
             Window {
                 from,
                 to: turn.end,
                 is_open: is_open(turn.state, *class % 8),
+                is_at_fault: *is_at_fault && turn.state != 1 << (*class % 8),
                 value: None,
             }
         }
@@ -71,10 +73,16 @@ fn look_at<A: Allocator + Copy>(lists: &Lists<A>, from: u64) -> Window
                 from,
                 to: turn.end,
                 is_open: turn.state.lets,
+                is_at_fault: false,
                 value: turn.state.ipv,
             }
         }
     }
+}
+
+/// Whether two windows look alike.
+fn is_alike(one: &Window, other: &Window) -> bool {
+    one.value == other.value && one.is_at_fault == other.is_at_fault
 }
 
 /// Adds a window behind the others, or to the last of them where it goes on.
@@ -83,7 +91,7 @@ fn add(windows: &mut Vec<Window>, window: Window) -> Put {
         return Ok(());
     }
     if let Some(last) = windows.last_mut() {
-        if last.to == window.from && last.value == window.value {
+        if last.to == window.from && is_alike(last, &window) {
             last.to = window.to;
             return Ok(());
         }
@@ -95,7 +103,7 @@ fn add(windows: &mut Vec<Window>, window: Window) -> Put {
 /// Whether only one list holds from a moment on.
 fn is_settled<A: Allocator + Copy>(lists: &Lists<A>, from: u64) -> bool {
     match lists {
-        Lists::Class(Egress::Joined(joined), _) => joined.at() <= from,
+        Lists::Class(Egress::Joined(joined), _, _) => joined.at() <= from,
         Lists::Gate(Schedule::Joined(joined)) => joined.at() <= from,
         _ => true,
     }
@@ -140,6 +148,11 @@ fn windows_of<A: Allocator + Copy>(
 /// Draws a window.
 fn put_window(picture: &mut Picture, style: Style, window: Window) -> Put {
     let (x, width) = extent(picture.span, window.from, window.to);
+    let style = if window.is_at_fault {
+        Style::Fault
+    } else {
+        style
+    };
     picture.bar(style, Rect::new(x, picture.down, width, HEIGHT))?;
     match window.value {
         Some(value) if width >= WIDE => {
