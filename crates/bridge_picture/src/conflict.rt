@@ -12,53 +12,22 @@ pub(crate) struct Conflict {
 
 /// The class of a port that a fault names, where it names one.
 pub(crate) fn conflict_of(fault: CheckFault) -> Option<Conflict> {
-    let (port, class, is_beside) = match fault {
-        CheckFault::QueueShared {
-            filter: _,
+    let is_beside = matches!(fault, CheckFault::WindowShared { .. });
+    match fault {
+        CheckFault::QueueShared { port, class, .. }
+        | CheckFault::WindowShared { port, class, .. }
+        | CheckFault::MaxSduNeverFits { port, class, .. } => Some(Conflict {
             port,
             class,
-            other: _,
-        } => (port, class, false),
-        CheckFault::WindowShared {
-            filter: _,
-            port,
-            class,
-            at: _,
-        } => (port, class, true),
-        CheckFault::MaxSduNeverFits {
-            filter: _,
-            port,
-            class,
-        } => (port, class, false),
-        _ => return None,
-    };
-    Some(Conflict {
-        port,
-        class,
-        is_beside,
-    })
+            is_beside,
+        }),
+        _ => None,
+    }
 }
 
 /// What a fault is, in words.
 pub(crate) fn fault_text(alloc: Global, fault: CheckFault) -> Result<String, AllocError> {
     match fault {
-        CheckFault::ProtectedWildcard { filter } => {
-            format!(in alloc; "refused: filter {filter} is protected and names no stream")
-        }
-        CheckFault::NoMaxSdu { filter } => {
-            format!(in alloc; "refused: filter {filter} is protected and bounds no length")
-        }
-        CheckFault::GateShared { filter } => {
-            format!(in alloc; "refused: another filter has the gate of filter {filter}")
-        }
-        CheckFault::MeterShared { filter } => {
-            format!(in alloc; "refused: another filter has the meter of filter {filter}")
-        }
-        CheckFault::NoCatchAll { filter } => {
-            format!(in alloc;
-                "refused: filter {filter} is protected, and the last filter doesn't take every frame"
-            )
-        }
         CheckFault::QueueShared {
             filter,
             port,
@@ -73,7 +42,7 @@ pub(crate) fn fault_text(alloc: Global, fault: CheckFault) -> Result<String, All
             filter,
             port,
             class,
-            at: _,
+            ..
         } => {
             format!(in alloc;
                 "refused: port {port} opens class {class}, where frames of filter {filter} wait, beside another class"
@@ -88,6 +57,13 @@ pub(crate) fn fault_text(alloc: Global, fault: CheckFault) -> Result<String, All
                 "refused: the longest frame of filter {filter} never fits in class {class} of port {port}"
             )
         }
-        CheckFault::NoMemory => String::from_str(alloc, "refused: no memory"),
+        CheckFault::ProtectedWildcard { filter }
+        | CheckFault::NoMaxSdu { filter }
+        | CheckFault::GateShared { filter }
+        | CheckFault::MeterShared { filter }
+        | CheckFault::NoCatchAll { filter } => {
+            format!(in alloc; "refused: filter {filter}: {fault}")
+        }
+        CheckFault::NoMemory => format!(in alloc; "refused: {fault}"),
     }
 }

@@ -1,6 +1,7 @@
 //! The lanes of ports and of stream gates.
 ghost use Rattle.std.specs.Prelude.{◌≤◌, ◌<◌};
 
+use crate::conflict::Conflict;
 use crate::shapes::{LEFT, Picture, Put, Style};
 use crate::windows::{Lists, put_open, put_windows};
 use bridge_check::may_wait;
@@ -80,22 +81,11 @@ fn owners_of<A: Allocator + Copy>(
     Ok(owners)
 }
 
-/// Whether all windows of a class of a port are at fault, or of all classes.
-fn is_at_fault(picture: &Picture, port: u8, class: Option<u8>) -> bool {
-    match (picture.conflict, class) {
-        (None, _) => false,
-        (Some(conflict), None) => conflict.port == port,
-        (Some(conflict), Some(class)) => {
-            conflict.port == port && conflict.class == class && !conflict.is_beside
-        }
-    }
-}
-
-/// Whether a class of a port is at fault while another class is open beside it.
-fn is_at_fault_beside(picture: &Picture, port: u8, class: u8) -> bool {
+/// The fault of a class of a port, or of all, where it is there.
+fn conflict_at(picture: &Picture, port: u8, class: Option<u8>) -> Option<Conflict> {
     match picture.conflict {
-        None => false,
-        Some(conflict) => conflict.port == port && conflict.class == class && conflict.is_beside,
+        Some(it) if it.port == port && class.unwrap_or(it.class) == it.class => Some(it),
+        _ => None,
     }
 }
 
@@ -121,11 +111,7 @@ fn put_owners<A: Allocator + Copy>(
         (Style::Bold, Style::Own)
     };
     picture.name(style, name, &owners)?;
-    Ok(if is_at_fault(picture, port, class) {
-        Style::Fault
-    } else {
-        own
-    })
+    Ok(own)
 }
 
 /// Draws the head and the lanes of a port, class 7 on top, or one lane where it is always open.
@@ -148,7 +134,7 @@ pub(crate) fn put_port<A: Allocator + Copy>(
         Some(list) => put_classes(picture, plan, number, list),
         None => {
             let style = put_owners(picture, plan, number, None)?;
-            put_open(picture, style)
+            put_open(picture, style, conflict_at(picture, number, None).is_some())
         }
     }
 }
@@ -166,8 +152,8 @@ fn put_classes<A: Allocator + Copy>(
     for below in 0..8u8 {
         let class = 7 - below;
         let style = put_owners(picture, plan, port, Some(class))?;
-        let is_beside = is_at_fault_beside(picture, port, class);
-        put_windows(picture, style, &Lists::Class(list, class, is_beside))?;
+        let conflict = conflict_at(picture, port, Some(class));
+        put_windows(picture, style, &Lists::Class(list, class, conflict))?;
     }
     Ok(())
 }
@@ -224,12 +210,9 @@ pub(crate) fn put_gates<A: Allocator + Copy>(picture: &mut Picture, plan: &Plan<
 
 /// Whether frames of a stream come in at a port.
 fn comes_in(streams: &[StreamEntry], handle: Option<u32>, port: u8) -> bool {
-    for stream in streams {
-        if stream.port == port && Some(stream.handle) == handle {
-            return true;
-        }
-    }
-    false
+    streams
+        .iter()
+        .any(|it| it.port == port && Some(it.handle) == handle)
 }
 
 /// The numbers of the stream gates of protected filters whose streams come in at a port.

@@ -1,24 +1,22 @@
 //! Marks for the frames of a run that were not let on, by what the run tells of each filter.
+use crate::shapes::{Put, Title};
 use bridge_filter::Verdict;
 use bridge_port::Refusal;
 use bridge_semantics::{Outcome, View};
 use std::alloc::{AllocError, Allocator, Global};
 
-/// A frame of a filter that was not let on: when it came, the port where that shows, and why.
+/// A frame of a filter that was not let on: when it came, and why not.
 #[derive(Clone, Copy)]
 pub(crate) struct Mark {
     pub at: u64,
     /// The port that it came on, where its filter stopped it, else the port whose queue did.
     pub port: u8,
-    pub filter: u32,
     /// The place of its filter.
     pub place: usize,
     pub is_protected: bool,
-    /// Its number among the frames of its filter, from 1.
-    pub own: u64,
     /// Whether its filter stopped it.
     pub is_stopped: bool,
-    pub why: &'static str,
+    pub title: Title,
 }
 
 /// Why a filter stopped a frame, where it did.
@@ -49,57 +47,37 @@ fn refusal_word(refusal: Refusal) -> &'static str {
 
 /// When a frame of a filter came.
 pub(crate) fn came_at<A: Allocator>(view: &View<A>, own: u64) -> Option<u64> {
-    match view.origins.get(own.saturating_sub(1) as usize) {
-        Some(origin) => Some(origin.at),
-        None => None,
-    }
+    let origin = view.origins.get(own.saturating_sub(1) as usize)?;
+    Some(origin.at)
 }
 
-/// Adds the marks of the frames that the filter at a place stopped.
-fn add_stopped<A: Allocator>(
+/// Adds the mark of a frame of the filter at a place, which was stopped there or by the queue of a port.
+fn add<A: Allocator>(
     marks: &mut Vec<Mark>,
     place: usize,
     (filter, view): &(u32, View<A>),
-) -> Result<(), AllocError> {
-    let mut own: u64 = 0;
-    for (origin, verdict) in view.origins.iter().zip(view.verdicts.iter()) {
-        own = own.saturating_add(1);
-        if let Some(why) = stop_of(*verdict) {
-            marks.push(Mark {
-                at: origin.at,
-                port: origin.port,
-                filter: *filter,
-                place,
-                is_protected: view.protected,
-                own,
-                is_stopped: true,
-                why,
-            })?;
-        }
-    }
-    Ok(())
-}
-
-/// Adds the marks of the copies of the filter's frames that queues refused.
-fn add_refused<A: Allocator>(
-    marks: &mut Vec<Mark>,
-    place: usize,
-    (filter, view): &(u32, View<A>),
-) -> Result<(), AllocError> {
-    for dropped in &view.drops {
-        if let Some(at) = came_at(view, dropped.own) {
-            marks.push(Mark {
-                at,
-                port: dropped.port,
-                filter: *filter,
-                place,
-                is_protected: view.protected,
-                own: dropped.own,
-                is_stopped: false,
-                why: refusal_word(dropped.refusal),
-            })?;
-        }
-    }
+    own: u64,
+    queue: Option<u8>,
+    why: &'static str,
+) -> Put {
+    let Some(origin) = view.origins.get(own.saturating_sub(1) as usize) else {
+        return Ok(());
+    };
+    marks.push(Mark {
+        at: origin.at,
+        port: queue.unwrap_or(origin.port),
+        place,
+        is_protected: view.protected,
+        is_stopped: queue.is_none(),
+        title: Title {
+            filter: *filter,
+            own,
+            came: Some(origin.at),
+            left: None,
+            by: None,
+            why,
+        },
+    })?;
     Ok(())
 }
 
@@ -111,9 +89,24 @@ pub(crate) fn marks_of<A: Allocator>(
     let mut marks = Vec::new(alloc);
     let mut place = 0usize;
     for filter in &outcome.filters {
-        add_stopped(&mut marks, place, filter)?;
-        add_refused(&mut marks, place, filter)?;
+        add_all(&mut marks, place, filter)?;
         place = place.saturating_add(1);
     }
     Ok(marks)
+}
+
+/// Adds the marks of the filter at a place: of frames that it stopped, then of copies that queues refused.
+fn add_all<A: Allocator>(marks: &mut Vec<Mark>, place: usize, filter: &(u32, View<A>)) -> Put {
+    let mut own: u64 = 0;
+    for verdict in &filter.1.verdicts {
+        own = own.saturating_add(1);
+        if let Some(why) = stop_of(*verdict) {
+            add(marks, place, filter, own, None, why)?;
+        }
+    }
+    for dropped in &filter.1.drops {
+        let why = refusal_word(dropped.refusal);
+        add(marks, place, filter, dropped.own, Some(dropped.port), why)?;
+    }
+    Ok(())
 }

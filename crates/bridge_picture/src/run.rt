@@ -16,7 +16,7 @@ use bridge_bounds::bound_of;
 use bridge_check::Accepted;
 use bridge_config::PortPlan;
 use bridge_limits::NoMemory;
-use bridge_semantics::{Departure, Origin, Outcome, View};
+use bridge_semantics::{Departure, Outcome, View};
 use std::alloc::{AllocError, Allocator, Global};
 
 /// The height of the lane of a link.
@@ -52,15 +52,13 @@ struct Chosen {
     marks: Shares,
 }
 
-/// A frame that left: the colour of its filter, when it came, and when it is done at the latest, where it is protected.
+/// A frame that left: the colour of its filter, and what shows where it is pointed at.
 #[derive(Clone, Copy)]
 struct Sent {
-    filter: u32,
     colour: u8,
-    departure: Departure,
-    came: Option<u64>,
-    by: Option<u64>,
     is_protected: bool,
+    departure: Departure,
+    title: Title,
 }
 
 /// The ends of a stretch and another one together.
@@ -185,8 +183,7 @@ fn seen(width: u64) -> u64 {
 
 /// Draws a frame that left, higher where it is protected.
 fn put_frame(picture: &mut Picture, sent: &Sent) -> Put {
-    let (start, done) = (sent.departure.start, sent.departure.done);
-    let (x, width) = extent(picture.span, start, done);
+    let (x, width) = extent(picture.span, sent.departure.start, sent.departure.done);
     let width = seen(width);
     let (by, high) = if sent.is_protected {
         (15, 190)
@@ -198,21 +195,13 @@ fn put_frame(picture: &mut Picture, sent: &Sent) -> Put {
     } else {
         Style::Filter(sent.colour)
     };
-    let title = Title {
-        filter: sent.filter,
-        own: sent.departure.own,
-        came: sent.came,
-        left: Some((start, done)),
-        by: sent.by,
-        why: "",
-    };
     let at = Rect::new(x, picture.below(by), width, high);
-    picture.put(Shape::Bar(style, at, Some(title)))
+    picture.put(Shape::Bar(style, at, Some(sent.title)))
 }
 
 /// Draws when a protected frame came and how long it waited, and below that until when it is done at the latest.
 fn put_waiting(picture: &mut Picture, sent: &Sent) -> Put {
-    let (Some(came), Some(by)) = (sent.came, sent.by) else {
+    let (Some(came), Some(by)) = (sent.title.came, sent.title.by) else {
         return Ok(());
     };
     let (x, due) = extent(picture.span, came, by);
@@ -228,20 +217,12 @@ fn put_waiting(picture: &mut Picture, sent: &Sent) -> Put {
 
 /// Whether a frame left a port.
 fn has_left<B: Allocator>(view: &View<B>, port: u8) -> bool {
-    for departure in &view.departures {
-        if departure.port == port {
-            return true;
-        }
-    }
-    false
+    view.departures.iter().any(|it| it.port == port)
 }
 
 /// When a frame is done at the latest.
 fn due_at(came: Option<u64>, longest: Option<u64>) -> Option<u64> {
-    match (came, longest) {
-        (Some(came), Some(longest)) => Some(came.saturating_add(longest)),
-        _ => None,
-    }
+    Some(came?.saturating_add(longest?))
 }
 
 /// Draws what left a port of one filter.
@@ -258,12 +239,17 @@ fn put_view<B: Allocator>(
         if departure.port == port && is_shown(picture.span, departure) && frames.takes(port, x) {
             let came = came_at(view, departure.own);
             let sent = Sent {
-                filter: *filter,
                 colour,
-                departure: *departure,
-                came,
-                by: due_at(came, longest),
                 is_protected: view.protected,
+                departure: *departure,
+                title: Title {
+                    filter: *filter,
+                    own: departure.own,
+                    came,
+                    left: Some((departure.start, departure.done)),
+                    by: due_at(came, longest),
+                    why: "",
+                },
             };
             put_waiting(picture, &sent)?;
             put_frame(picture, &sent)?;
@@ -313,15 +299,7 @@ fn put_mark(picture: &mut Picture, mark: &Mark) -> Put {
         half,
         is_up,
     };
-    let title = Title {
-        filter: mark.filter,
-        own: mark.own,
-        came: Some(mark.at),
-        left: None,
-        by: None,
-        why: mark.why,
-    };
-    picture.put(Shape::Mark(style, tip, Some(title)))
+    picture.put(Shape::Mark(style, tip, Some(mark.title)))
 }
 
 /// Draws the marks at a port: of the protected filters, or of the others.
@@ -400,24 +378,10 @@ fn put_each<A: Allocator + Copy, B: Allocator>(
     Ok(())
 }
 
-/// Whether some frame that came did so in a stretch.
-fn has_come(span: Span, origins: &[Origin]) -> bool {
-    for origin in origins {
-        if span.has(origin.at) {
-            return true;
-        }
-    }
-    false
-}
-
 /// Whether something of a filter is drawn: a frame that came, or one that left.
 fn is_drawn<B: Allocator>(span: Span, view: &View<B>) -> bool {
-    for departure in &view.departures {
-        if is_shown(span, departure) {
-            return true;
-        }
-    }
-    has_come(span, &view.origins)
+    view.departures.iter().any(|it| is_shown(span, it))
+        || view.origins.iter().any(|it| span.has(it.at))
 }
 
 /// Names the filters of which something is drawn.

@@ -33,16 +33,6 @@ const EDGED: [&str; 8] = [
     "c0 e", "c1 e", "c2 e", "c3 e", "c4 e", "c5 e", "c6 e", "c7 e",
 ];
 
-/// The name of the style of a filter.
-fn coloured(colour: u8) -> &'static str {
-    FILTERS[usize::from(colour % 8)]
-}
-
-/// The name of the style of a filter with an edge.
-fn edged(colour: u8) -> &'static str {
-    EDGED[usize::from(colour % 8)]
-}
-
 /// The name of a style.
 fn class_of(style: Style) -> &'static str {
     match style {
@@ -61,8 +51,8 @@ fn class_of(style: Style) -> &'static str {
         Style::Grid => "grid",
         Style::Change => "change",
         Style::Grey => "grey",
-        Style::Filter(colour) => coloured(colour),
-        Style::Edged(colour) => edged(colour),
+        Style::Filter(colour) => FILTERS[usize::from(colour % 8)],
+        Style::Edged(colour) => EDGED[usize::from(colour % 8)],
     }
 }
 
