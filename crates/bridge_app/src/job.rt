@@ -108,15 +108,7 @@ pub(crate) fn send_told<H: AllocGlobal + Files>(
         Ok(outcome) => outcome,
         Err(fault) => return Err(fault),
     };
-    let told = tell(
-        rt,
-        accepted,
-        &outcome,
-        input.as_str(),
-        tables,
-        sketch,
-        taken,
-    );
+    let told = tell(rt, accepted, &outcome, tables, sketch, taken);
     drop(outcome);
     told
 }
@@ -126,7 +118,6 @@ fn tell<H: AllocGlobal + Files>(
     rt: &H,
     accepted: &Accepted<Global>,
     outcome: &Outcome<Global>,
-    input: &str,
     tables: TableRequest,
     sketch: Option<PictureRequest>,
     taken: Vec<FileId>,
@@ -138,7 +129,7 @@ fn tell<H: AllocGlobal + Files>(
     if let Err(fault) = put_tables(rt, accepted, outcome, tables, &mut taken) {
         return Err(fault);
     }
-    show(rt, accepted, outcome, input, sketch, &taken)
+    show(rt, accepted, outcome, sketch, &taken)
 }
 
 /// What is printed of what a run told, once its picture is made where one is asked for.
@@ -146,7 +137,6 @@ fn show<H: AllocGlobal + Files>(
     rt: &H,
     accepted: &Accepted<Global>,
     outcome: &Outcome<Global>,
-    input: &str,
     sketch: Option<PictureRequest>,
     taken: &[FileId],
 ) -> Result<String, Fault>
@@ -154,7 +144,7 @@ fn show<H: AllocGlobal + Files>(
     ensures err { IfErr result (IsOfShowing (option_map (λ s. string_bytes s.file) sketch)) }
 {
     if let Some(sketch) = sketch {
-        if let Err(fault) = put_sketch(rt, accepted, outcome, input, sketch, taken) {
+        if let Err(fault) = put_sketch(rt, accepted, outcome, sketch, taken) {
             return Err(fault);
         }
     }

@@ -1,6 +1,7 @@
 //! The lanes of ports and of stream gates.
 ghost use Rattle.std.specs.Prelude.{◌≤◌, ◌<◌};
 
+use crate::conflict::Conflict;
 use crate::shapes::{LEFT, Picture, Put, Style};
 use crate::windows::{Lists, put_open, put_windows};
 use bridge_check::may_wait;
@@ -8,6 +9,8 @@ use bridge_config::{Plan, PortPlan};
 use bridge_cycle::Egress;
 use bridge_filter::FilterPlan;
 use bridge_frame::Speed;
+use bridge_gate::GatePlan;
+use bridge_ident::StreamEntry;
 use std::alloc::{AllocError, Allocator, Global};
 
 /// The windows of a picture, shared among its lanes.
@@ -78,6 +81,14 @@ fn owners_of<A: Allocator + Copy>(
     Ok(owners)
 }
 
+/// The fault of a class of a port, or of all, where it is there.
+fn conflict_at(picture: &Picture, port: u8, class: Option<u8>) -> Option<Conflict> {
+    match picture.conflict {
+        Some(it) if it.port == port && class.unwrap_or(it.class) == it.class => Some(it),
+        _ => None,
+    }
+}
+
 /// Names the lane of a class of a port, or of all, with the protected filters whose frames may wait there, and answers the
 /// style of its windows.
 fn put_owners<A: Allocator + Copy>(
@@ -94,13 +105,13 @@ fn put_owners<A: Allocator + Copy>(
         Some(class) => format!(in picture.alloc; "class {class}")?,
         None => String::from_str(picture.alloc, "always open")?,
     };
-    if owners.is_empty() {
-        picture.name(Style::Plain, name, &owners)?;
-        Ok(Style::Open)
+    let (style, own) = if owners.is_empty() {
+        (Style::Plain, Style::Open)
     } else {
-        picture.name(Style::Bold, name, &owners)?;
-        Ok(Style::Own)
-    }
+        (Style::Bold, Style::Own)
+    };
+    picture.name(style, name, &owners)?;
+    Ok(own)
 }
 
 /// Draws the head and the lanes of a port, class 7 on top, or one lane where it is always open.
@@ -123,7 +134,7 @@ pub(crate) fn put_port<A: Allocator + Copy>(
         Some(list) => put_classes(picture, plan, number, list),
         None => {
             let style = put_owners(picture, plan, number, None)?;
-            put_open(picture, style)
+            put_open(picture, style, conflict_at(picture, number, None).is_some())
         }
     }
 }
@@ -141,7 +152,8 @@ fn put_classes<A: Allocator + Copy>(
     for below in 0..8u8 {
         let class = 7 - below;
         let style = put_owners(picture, plan, port, Some(class))?;
-        put_windows(picture, style, &Lists::Class(list, class))?;
+        let conflict = conflict_at(picture, port, Some(class));
+        put_windows(picture, style, &Lists::Class(list, class, conflict))?;
     }
     Ok(())
 }
@@ -161,23 +173,96 @@ fn users_of(
     Ok(numbers)
 }
 
-/// Draws the stream gates of a plan below one another, with the filters that use them, and says how many have no room.
+/// Draws the lane of a stream gate, with the filters that use it.
+fn put_gate<A: Allocator + Copy>(
+    picture: &mut Picture,
+    plan: &Plan<A>,
+    (number, gate): &(u32, GatePlan<A>),
+) -> Put {
+    let users = users_of(picture.alloc, plan.filters(), *number)?;
+    let name = format!(in picture.alloc; "gate {number}")?;
+    picture.name(Style::Plain, name, &users)?;
+    put_windows(picture, Style::Gate, &Lists::Gate(&gate.schedule))
+}
+
+/// Says how many stream gates have no room, where some haven't.
+fn put_further(picture: &mut Picture, further: usize) -> Put {
+    if further > 0 {
+        let words = format!(in picture.alloc; "left out: {further} further stream gates")?;
+        picture.text(Style::Bold, LEFT, 115, words)?;
+        picture.go_down(150);
+    }
+    Ok(())
+}
+
+/// Draws the stream gates of a plan below one another, and says how many have no room.
 pub(crate) fn put_gates<A: Allocator + Copy>(picture: &mut Picture, plan: &Plan<A>) -> Put {
     picture.go_down(250);
     picture.word(Style::Head, 100, 0, "stream gates")?;
     picture.go_down(60);
-    for (number, gate) in plan.gates().iter().take(MOST_GATES) {
-        let users = users_of(picture.alloc, plan.filters(), *number)?;
-        let name = format!(in picture.alloc; "gate {number}")?;
-        picture.name(Style::Plain, name, &users)?;
-        put_windows(picture, Style::Gate, &Lists::Gate(&gate.schedule))?;
+    for gate in plan.gates().iter().take(MOST_GATES) {
+        put_gate(picture, plan, gate)?;
     }
-    let more = plan.gates().len().saturating_sub(MOST_GATES);
-    if more > 0 {
-        let words = format!(in picture.alloc; "left out: {more} further stream gates")?;
-        picture.text(Style::Bold, LEFT, 115, words)?;
-        picture.go_down(150);
-    }
+    put_further(picture, plan.gates().len().saturating_sub(MOST_GATES))?;
     picture.go_down(60);
     Ok(())
+}
+
+/// Whether frames of a stream come in at a port.
+fn comes_in(streams: &[StreamEntry], handle: Option<u32>, port: u8) -> bool {
+    streams
+        .iter()
+        .any(|it| it.port == port && Some(it.handle) == handle)
+}
+
+/// The numbers of the stream gates of protected filters whose streams come in at a port.
+fn gates_at<A: Allocator + Copy>(
+    alloc: Global,
+    plan: &Plan<A>,
+    port: u8,
+) -> Result<Vec<u32>, AllocError> {
+    let mut gates = Vec::new(alloc);
+    for (_, filter) in plan.filters() {
+        if filter.protected && comes_in(plan.streams(), filter.handle, port) {
+            gates.push(filter.gate)?;
+        }
+    }
+    Ok(gates)
+}
+
+/// How many lanes of stream gates there are below all ports.
+pub(crate) fn gates_below<A: Allocator + Copy>(
+    alloc: Global,
+    plan: &Plan<A>,
+) -> Result<usize, AllocError> {
+    let mut count = 0usize;
+    for port in plan.ports() {
+        count = count.saturating_add(gates_at(alloc, plan, port.number)?.len());
+    }
+    Ok(count)
+}
+
+/// Draws the stream gate of a number.
+fn put_gate_of<A: Allocator + Copy>(picture: &mut Picture, plan: &Plan<A>, number: u32) -> Put {
+    for gate in plan.gates() {
+        if gate.0 == number {
+            return put_gate(picture, plan, gate);
+        }
+    }
+    Ok(())
+}
+
+/// Draws the stream gates of protected filters whose streams come in at a port, and says how many have no room: each port
+/// has its share.
+pub(crate) fn put_gates_at<A: Allocator + Copy>(
+    picture: &mut Picture,
+    plan: &Plan<A>,
+    port: u8,
+) -> Put {
+    let most = MOST_GATES / plan.ports().len().max(1);
+    let gates = gates_at(picture.alloc, plan, port)?;
+    for number in gates.iter().take(most) {
+        put_gate_of(picture, plan, *number)?;
+    }
+    put_further(picture, gates.len().saturating_sub(most))
 }

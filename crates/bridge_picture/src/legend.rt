@@ -33,12 +33,19 @@ pub(crate) const PLAN: &[Item] = &[
     (Sample::Nothing, "number at a gate: a filter of it"),
 ];
 
+/// What the picture of a plan says of a fault.
+const FAULT: &[Item] = &[(Sample::Bar(Style::Fault), "at fault")];
+
 /// What the picture of a run says beside that.
 pub(crate) const RUN: &[Item] = &[
     (Sample::Waits, "came, and waited until its start"),
     (Sample::Due, "until when it is done at the latest"),
     (Sample::Mark(false), "refused by a queue"),
     (Sample::Mark(true), "stopped by its filter"),
+    (
+        Sample::Bar(Style::Gate),
+        "stream gate of a protected filter open, by its list",
+    ),
 ];
 
 /// What a change of schedules says.
@@ -84,13 +91,21 @@ impl Legend {
     }
 }
 
-/// Puts the legend of what lanes say and some more, with a change of schedules or not.
-pub(crate) fn put_legend(picture: &mut Picture, items: &[Item], has_change: bool) -> Put {
+/// Puts the legend of what lanes say and some more, with a change of schedules or not and with a fault or not.
+pub(crate) fn put_legend(
+    picture: &mut Picture,
+    items: &[Item],
+    has_change: bool,
+    has_fault: bool,
+) -> Put {
     let mut legend = Legend::new(picture);
     legend.put_all(picture, LANES)?;
     legend.put_all(picture, items)?;
     if has_change {
         legend.put_all(picture, CHANGE)?;
+    }
+    if has_fault {
+        legend.put_all(picture, FAULT)?;
     }
     Ok(())
 }

@@ -5,6 +5,7 @@
 //! its colours follow the reader's light or dark scheme. Nothing here changes what it draws.
 
 mod axis;
+mod conflict;
 mod lanes;
 mod legend;
 mod marks;
@@ -18,7 +19,6 @@ mod svg;
 mod windows;
 
 pub use bridge_limits::NoMemory;
-pub use marks::{Arrivals, Mark, MarkKind, has_marks};
 pub use plan::draw_plan;
 pub use run::draw_run;
 pub use span::{LONGEST_HYPERCYCLE, Span};

@@ -2,12 +2,14 @@
 ghost use Rattle.std.specs.Prelude.{◌≤◌, IfOk, length, string_bytes};
 
 use crate::axis::put_axis;
+use crate::conflict::{conflict_of, fault_text};
 use crate::lanes::{most_of, put_gates, put_port};
 use crate::legend::{PLAN, put_legend};
 use crate::numbers::{clock_of, length_text, moment, stretch};
 use crate::shapes::{LEFT, Picture, Put, Style};
 use crate::span::{Times, times_of};
 use crate::svg::svg_of;
+use bridge_check::{Accepted, CheckFault, Refused};
 use bridge_config::Plan;
 use bridge_limits::NoMemory;
 use std::alloc::{AllocError, Allocator, Global};
@@ -59,11 +61,28 @@ fn title_of(picture: &Picture, times: Times) -> Result<String, AllocError> {
     }
 }
 
-/// Lays out the picture of a plan.
-fn put_plan<A: Allocator + Copy>(picture: &mut Picture, plan: &Plan<A>, times: Times) -> Put {
+/// Says why the plan isn't accepted.
+fn put_fault(picture: &mut Picture, fault: CheckFault) -> Put {
+    let words = fault_text(picture.alloc, fault)?;
+    picture.conflict = conflict_of(fault);
+    picture.go_down(190);
+    picture.text(Style::Fault, LEFT, 0, words)
+}
+
+/// Lays out the picture of a plan, with its fault where it has one.
+fn put_plan<A: Allocator + Copy>(
+    picture: &mut Picture,
+    plan: &Plan<A>,
+    fault: Option<CheckFault>,
+    times: Times,
+) -> Put {
     let title = title_of(picture, times)?;
     put_head(picture, "plan", title)?;
-    put_legend(picture, PLAN, times.change.is_some())?;
+    if let Some(fault) = fault {
+        put_fault(picture, fault)?;
+    }
+    let has_conflict = picture.conflict.is_some();
+    put_legend(picture, PLAN, times.change.is_some(), has_conflict)?;
     let line = picture.below(150);
     picture.go_down(350);
     let top = picture.down;
@@ -87,12 +106,26 @@ fn put_ports<A: Allocator + Copy>(picture: &mut Picture, plan: &Plan<A>) -> Put 
 /// below the ports the open entries of the stream gates, with their internal priority values and the filters that use them;
 /// and the axis of time.
 ///
+/// The head of a plan that isn't accepted says why. Where the fault names a queue, the windows of its class are in the
+/// colour of a fault: all of them, or where the windows are shared those in which another class is open too. Where there
+/// was no memory to check the plan, none is drawn.
+///
 /// A lane with more windows than have room is a hatched band, and the head says how many there are.
-pub fn draw_plan<A: Allocator + Copy>(alloc: Global, plan: &Plan<A>) -> Result<String, NoMemory>
+pub fn draw_plan<A: Allocator + Copy>(
+    alloc: Global,
+    checked: &Result<Accepted<A>, Refused<A>>,
+) -> Result<String, NoMemory>
     ensures { IfOk result (λ text. length (string_bytes text) ≤ 2000000) }
 {
+    let (plan, fault) = match checked {
+        Ok(accepted) => (accepted.plan(), None),
+        Err(refused) => (&refused.plan, Some(refused.fault)),
+    };
+    if fault == Some(CheckFault::NoMemory) {
+        return Err(NoMemory);
+    }
     let times = times_of(plan);
     let mut picture = Picture::new(alloc, times.span(), most_of(plan, plan.gates().len()));
-    put_plan(&mut picture, plan, times)?;
+    put_plan(&mut picture, plan, fault, times)?;
     Ok(svg_of(alloc, &picture.shapes, picture.below(150))?)
 }

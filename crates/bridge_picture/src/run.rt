@@ -2,9 +2,9 @@
 ghost use Rattle.std.specs.Prelude.{◌≤◌, IfOk, length, string_bytes};
 
 use crate::axis::put_axis;
-use crate::lanes::{most_of, put_port};
+use crate::lanes::{gates_below, most_of, put_gates_at, put_port};
 use crate::legend::{Legend, RUN, Sample, put_legend, put_wait};
-use crate::marks::Mark;
+use crate::marks::{Mark, came_at, marks_of};
 use crate::numbers::stretch;
 use crate::plan::{put_bands, put_head};
 use crate::shapes::{LEFT, Picture, Put, Rect, Shape, Style, Tip, Title};
@@ -16,7 +16,7 @@ use bridge_bounds::bound_of;
 use bridge_check::Accepted;
 use bridge_config::PortPlan;
 use bridge_limits::NoMemory;
-use bridge_semantics::{Departure, Origin, Outcome, View};
+use bridge_semantics::{Departure, Outcome, View};
 use std::alloc::{AllocError, Allocator, Global};
 
 /// The height of the lane of a link.
@@ -52,15 +52,13 @@ struct Chosen {
     marks: Shares,
 }
 
-/// A frame that left: the colour of its filter, when it came, and when it is done at the latest, where it is protected.
+/// A frame that left: the colour of its filter, and what shows where it is pointed at.
 #[derive(Clone, Copy)]
 struct Sent {
-    filter: u32,
     colour: u8,
-    departure: Departure,
-    came: Option<u64>,
-    by: Option<u64>,
     is_protected: bool,
+    departure: Departure,
+    title: Title,
 }
 
 /// The ends of a stretch and another one together.
@@ -68,14 +66,6 @@ fn with_stretch(ends: Option<(u64, u64)>, from: u64, to: u64) -> Option<(u64, u6
     match ends {
         None => Some((from, to)),
         Some((first, last)) => Some((first.min(from), last.max(to))),
-    }
-}
-
-/// When a frame of a filter came.
-fn came_at<B: Allocator>(view: &View<B>, own: u64) -> Option<u64> {
-    match view.origins.get(own.saturating_sub(1) as usize) {
-        Some(origin) => Some(origin.at),
-        None => None,
     }
 }
 
@@ -193,8 +183,7 @@ fn seen(width: u64) -> u64 {
 
 /// Draws a frame that left, higher where it is protected.
 fn put_frame(picture: &mut Picture, sent: &Sent) -> Put {
-    let (start, done) = (sent.departure.start, sent.departure.done);
-    let (x, width) = extent(picture.span, start, done);
+    let (x, width) = extent(picture.span, sent.departure.start, sent.departure.done);
     let width = seen(width);
     let (by, high) = if sent.is_protected {
         (15, 190)
@@ -206,21 +195,13 @@ fn put_frame(picture: &mut Picture, sent: &Sent) -> Put {
     } else {
         Style::Filter(sent.colour)
     };
-    let title = Title {
-        filter: sent.filter,
-        own: sent.departure.own,
-        came: sent.came,
-        left: Some((start, done)),
-        by: sent.by,
-        why: "",
-    };
     let at = Rect::new(x, picture.below(by), width, high);
-    picture.put(Shape::Bar(style, at, Some(title)))
+    picture.put(Shape::Bar(style, at, Some(sent.title)))
 }
 
 /// Draws when a protected frame came and how long it waited, and below that until when it is done at the latest.
 fn put_waiting(picture: &mut Picture, sent: &Sent) -> Put {
-    let (Some(came), Some(by)) = (sent.came, sent.by) else {
+    let (Some(came), Some(by)) = (sent.title.came, sent.title.by) else {
         return Ok(());
     };
     let (x, due) = extent(picture.span, came, by);
@@ -236,20 +217,12 @@ fn put_waiting(picture: &mut Picture, sent: &Sent) -> Put {
 
 /// Whether a frame left a port.
 fn has_left<B: Allocator>(view: &View<B>, port: u8) -> bool {
-    for departure in &view.departures {
-        if departure.port == port {
-            return true;
-        }
-    }
-    false
+    view.departures.iter().any(|it| it.port == port)
 }
 
 /// When a frame is done at the latest.
 fn due_at(came: Option<u64>, longest: Option<u64>) -> Option<u64> {
-    match (came, longest) {
-        (Some(came), Some(longest)) => Some(came.saturating_add(longest)),
-        _ => None,
-    }
+    Some(came?.saturating_add(longest?))
 }
 
 /// Draws what left a port of one filter.
@@ -266,12 +239,17 @@ fn put_view<B: Allocator>(
         if departure.port == port && is_shown(picture.span, departure) && frames.takes(port, x) {
             let came = came_at(view, departure.own);
             let sent = Sent {
-                filter: *filter,
                 colour,
-                departure: *departure,
-                came,
-                by: due_at(came, longest),
                 is_protected: view.protected,
+                departure: *departure,
+                title: Title {
+                    filter: *filter,
+                    own: departure.own,
+                    came,
+                    left: Some((departure.start, departure.done)),
+                    by: due_at(came, longest),
+                    why: "",
+                },
             };
             put_waiting(picture, &sent)?;
             put_frame(picture, &sent)?;
@@ -307,45 +285,36 @@ fn put_views<A: Allocator + Copy, B: Allocator>(
 }
 
 /// Draws a mark, a greater one with an edge where its filter is protected.
-fn put_mark(picture: &mut Picture, mark: &Mark, colour: u8, is_protected: bool) -> Put {
-    let (is_up, why) = mark.kind.look();
-    let (style, half) = if is_protected {
+fn put_mark(picture: &mut Picture, mark: &Mark) -> Put {
+    let colour = colour_at(mark.place);
+    let (style, half) = if mark.is_protected {
         (Style::Edged(colour), 60)
     } else {
         (Style::Filter(colour), 40)
     };
+    let is_up = mark.is_stopped;
     let tip = Tip {
         x: picture.span.place(mark.at),
         y: picture.below(if is_up { 10 } else { 130 }),
         half,
         is_up,
     };
-    let title = Title {
-        filter: mark.filter,
-        own: mark.own,
-        came: Some(mark.at),
-        left: None,
-        by: None,
-        why,
-    };
-    picture.put(Shape::Mark(style, tip, Some(title)))
+    picture.put(Shape::Mark(style, tip, Some(mark.title)))
 }
 
 /// Draws the marks at a port: of the protected filters, or of the others.
-fn put_marks<B: Allocator>(
+fn put_marks(
     picture: &mut Picture,
-    filters: &[(u32, View<B>)],
     marks: &[Mark],
     shares: &mut Shares,
     port: u8,
     is_protected: bool,
 ) -> Put {
     for mark in marks {
-        if mark.port == port && picture.span.has(mark.at) {
-            let place = filters.partition_point(|it| it.0 < mark.filter);
-            let found = filters.get(place).map_or(false, |it| it.1.protected);
-            if found == is_protected && shares.takes(port, picture.span.place(mark.at)) {
-                put_mark(picture, mark, colour_at(place), found)?;
+        let (span, at) = (picture.span, mark.at);
+        if mark.port == port && mark.is_protected == is_protected && span.has(at) {
+            if shares.takes(port, span.place(at)) {
+                put_mark(picture, mark)?;
             }
         }
     }
@@ -372,22 +341,16 @@ fn put_link<A: Allocator + Copy, B: Allocator>(
 }
 
 /// Draws the marks at a port, and what of them is left out.
-fn put_stops<A: Allocator + Copy, B: Allocator>(
-    picture: &mut Picture,
-    drawn: &Drawn<A, B>,
-    shares: &mut Shares,
-    port: u8,
-) -> Put {
+fn put_stops(picture: &mut Picture, marks: &[Mark], shares: &mut Shares, port: u8) -> Put {
     picture.word(Style::Small, 200, 110, "not let on")?;
-    let (filters, marks) = (&drawn.outcome.filters, drawn.marks);
-    put_marks(picture, filters, marks, shares, port, true)?;
-    put_marks(picture, filters, marks, shares, port, false)?;
+    put_marks(picture, marks, shares, port, true)?;
+    put_marks(picture, marks, shares, port, false)?;
     shares.put_hatches(picture, port, 10, 120)?;
     picture.go_down(170);
     Ok(())
 }
 
-/// Draws a port: its windows, what left its link, and the marks.
+/// Draws a port: its windows, what left its link, the marks, and the stream gates of what comes in.
 fn put_lanes<A: Allocator + Copy, B: Allocator>(
     picture: &mut Picture,
     drawn: &Drawn<A, B>,
@@ -399,7 +362,8 @@ fn put_lanes<A: Allocator + Copy, B: Allocator>(
 {
     put_port(picture, drawn.accepted.plan(), port)?;
     put_link(picture, drawn, &mut chosen.frames, port.number)?;
-    put_stops(picture, drawn, &mut chosen.marks, port.number)
+    put_stops(picture, drawn.marks, &mut chosen.marks, port.number)?;
+    put_gates_at(picture, drawn.accepted.plan(), port.number)
 }
 
 /// Draws all ports.
@@ -414,24 +378,10 @@ fn put_each<A: Allocator + Copy, B: Allocator>(
     Ok(())
 }
 
-/// Whether some frame that came did so in a stretch.
-fn has_come(span: Span, origins: &[Origin]) -> bool {
-    for origin in origins {
-        if span.has(origin.at) {
-            return true;
-        }
-    }
-    false
-}
-
 /// Whether something of a filter is drawn: a frame that came, or one that left.
 fn is_drawn<B: Allocator>(span: Span, view: &View<B>) -> bool {
-    for departure in &view.departures {
-        if is_shown(span, departure) {
-            return true;
-        }
-    }
-    has_come(span, &view.origins)
+    view.departures.iter().any(|it| is_shown(span, it))
+        || view.origins.iter().any(|it| span.has(it.at))
 }
 
 /// Names the filters of which something is drawn.
@@ -475,7 +425,7 @@ fn put_run<A: Allocator + Copy, B: Allocator>(picture: &mut Picture, drawn: &Dra
     put_head(picture, "run", shows)?;
     put_left_out(picture, &chosen)?;
     put_filters(picture, &drawn.outcome.filters)?;
-    put_legend(picture, RUN, change.is_some())?;
+    put_legend(picture, RUN, change.is_some(), false)?;
     let line = picture.below(150);
     picture.go_down(350);
     let top = picture.down;
@@ -486,9 +436,10 @@ fn put_run<A: Allocator + Copy, B: Allocator>(picture: &mut Picture, drawn: &Dra
 
 /// The picture of a run under a plan as an SVG text of at most 2,000,000 octets: for each port the windows of its classes,
 /// below them its link, on which each frame that left is a bar from its start to its end in the colour of its filter, and
-/// below that a mark for each frame that was not let on, at the moment at which it came. Frames of protected filters stand
-/// out, and are drawn before others, each over a line from when it came to its start and one to when it is done at the
-/// latest, as the bound of its queue has it. Frames without a filter aren't drawn.
+/// below that a mark for each frame that was not let on, at the moment at which it came, and the open entries of the stream
+/// gates of protected filters whose streams come in at the port. Frames of protected filters stand out, and are drawn before
+/// others, each over a line from when it came to its start and one to when it is done at the latest, as the bound of its
+/// queue has it. Frames without a filter aren't drawn.
 ///
 /// It shows the time from `from` up to `to`, in ns; without one of them as far as there is something to draw. Where there is
 /// more than has room, each port and each part of the time has its share, what is left out is hatched, and the head says
@@ -497,18 +448,19 @@ pub fn draw_run<A: Allocator + Copy, B: Allocator>(
     alloc: Global,
     accepted: &Accepted<A>,
     outcome: &Outcome<B>,
-    marks: &[Mark],
     from: Option<u64>,
     to: Option<u64>,
 ) -> Result<String, NoMemory>
     ensures { IfOk result (λ text. length (string_bytes text) ≤ 2000000) }
 {
-    let span = shown(outcome, marks, from, to);
-    let mut picture = Picture::new(alloc, span, most_of(accepted.plan(), 0));
+    let marks = marks_of(alloc, outcome)?;
+    let span = shown(outcome, &marks, from, to);
+    let gates = gates_below(alloc, accepted.plan())?;
+    let mut picture = Picture::new(alloc, span, most_of(accepted.plan(), gates));
     let drawn = Drawn {
         accepted,
         outcome,
-        marks,
+        marks: &marks,
     };
     put_run(&mut picture, &drawn)?;
     Ok(svg_of(alloc, &picture.shapes, picture.below(150))?)

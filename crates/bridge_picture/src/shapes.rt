@@ -1,4 +1,5 @@
 //! The shapes of a picture, and a picture that grows downwards. All lengths are tenths of a pixel.
+use crate::conflict::Conflict;
 use crate::span::Span;
 use std::alloc::{AllocError, Global};
 
@@ -31,6 +32,7 @@ pub(crate) enum Style {
     Lane,
     Open,
     Own,
+    Fault,
     Gate,
     Hatched,
     Grid,
@@ -89,7 +91,7 @@ pub(crate) enum Shape {
 }
 
 /// A picture of a stretch of time: the shapes that it has so far, how far down they go, how many windows each lane may have,
-/// and how many lanes have more.
+/// how many lanes have more, and which class of a port is at fault, if one is.
 #[derive(Drop)]
 pub(crate) struct Picture {
     pub alloc: Global,
@@ -98,6 +100,7 @@ pub(crate) struct Picture {
     pub down: u64,
     pub most: usize,
     pub bands: u32,
+    pub conflict: Option<Conflict>,
 }
 
 impl Rect {
@@ -122,6 +125,7 @@ impl Picture {
             down: 0,
             most,
             bands: 0,
+            conflict: None,
         }
     }
 

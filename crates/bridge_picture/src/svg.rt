@@ -22,6 +22,9 @@ text{font:110px system-ui,sans-serif;fill:#222}.h{font-weight:700;font-size:150p
 const HATCH: &str =
     "<pattern id=\"h\" width=\"70\" height=\"70\" patternUnits=\"userSpaceOnUse\" patternTransform=\"rotate(45)\"><path class=\"h0\" d=\"M0 0V70\"/></pattern>";
 
+/// The name of the style of a fault: bold, in a red that a picture of a plan has for nothing else.
+const FAULT: &str = "b c1";
+
 /// The names of the styles of filters.
 const FILTERS: [&str; 8] = ["c0", "c1", "c2", "c3", "c4", "c5", "c6", "c7"];
 
@@ -29,16 +32,6 @@ const FILTERS: [&str; 8] = ["c0", "c1", "c2", "c3", "c4", "c5", "c6", "c7"];
 const EDGED: [&str; 8] = [
     "c0 e", "c1 e", "c2 e", "c3 e", "c4 e", "c5 e", "c6 e", "c7 e",
 ];
-
-/// The name of the style of a filter.
-fn coloured(colour: u8) -> &'static str {
-    FILTERS[usize::from(colour % 8)]
-}
-
-/// The name of the style of a filter with an edge.
-fn edged(colour: u8) -> &'static str {
-    EDGED[usize::from(colour % 8)]
-}
 
 /// The name of a style.
 fn class_of(style: Style) -> &'static str {
@@ -52,13 +45,14 @@ fn class_of(style: Style) -> &'static str {
         Style::Lane => "lane",
         Style::Open => "open",
         Style::Own => "own",
+        Style::Fault => FAULT,
         Style::Gate => "gate",
         Style::Hatched => "hatch",
         Style::Grid => "grid",
         Style::Change => "change",
         Style::Grey => "grey",
-        Style::Filter(colour) => coloured(colour),
-        Style::Edged(colour) => edged(colour),
+        Style::Filter(colour) => FILTERS[usize::from(colour % 8)],
+        Style::Edged(colour) => EDGED[usize::from(colour % 8)],
     }
 }
 

@@ -1,6 +1,7 @@
 //! Bars for the stretches of time in which something is open.
 ghost use Rattle.std.specs.Prelude.{◌<◌};
 
+use crate::conflict::Conflict;
 use crate::shapes::{Picture, Put, Rect, Style};
 use crate::span::Span;
 use bridge_cycle::{END_OF_TURNS, Egress, Timeline, is_open};
@@ -22,19 +23,20 @@ const LEAST: u64 = 8;
 /// The width from which on a bar has its internal priority value written into it.
 const WIDE: u64 = 160;
 
-/// What is open by time: a class of a port's lists, or a stream gate.
+/// What is open by time: a class of a port's lists, with its fault where it has one, or a stream gate.
 #[derive(Drop)]
 pub(crate) enum Lists<'a, A: Allocator + Copy> {
-    Class(&'a Egress<A>, u8),
+    Class(&'a Egress<A>, u8, Option<Conflict>),
     Gate(&'a Schedule<A>),
 }
 
-/// A stretch of time in which something is open or closed, with the internal priority value that it gives.
+/// A stretch of time in which something is open or closed, or is at fault, with the internal priority value that it gives.
 #[derive(Clone, Copy)]
 struct Window {
     from: u64,
     to: u64,
     is_open: bool,
+    is_at_fault: bool,
     value: Option<u8>,
 }
 
@@ -51,17 +53,28 @@ pub(crate) fn extent(span: Span, from: u64, to: u64) -> (u64, u64) {
     (x, span.place(to).saturating_sub(x).max(LEAST))
 }
 
+/// Whether a state of a list has a fault of a class.
+fn is_at_fault(conflict: Option<Conflict>, state: u8, class: u8) -> bool
+    requires { class < 8 }
+{
+    match conflict {
+        Some(conflict) => !conflict.is_beside || state != 1 << class,
+        None => false,
+    }
+}
+
 /// What holds from a moment on.
 fn look_at<A: Allocator + Copy>(lists: &Lists<A>, from: u64) -> Window
     requires { from < END_OF_TURNS }
 {
     match lists {
-        Lists::Class(list, class) => {
+        Lists::Class(list, class, conflict) => {
             let turn = list.turn(from);
             Window {
                 from,
                 to: turn.end,
                 is_open: is_open(turn.state, *class % 8),
+                is_at_fault: is_at_fault(*conflict, turn.state, *class % 8),
                 value: None,
             }
         }
@@ -71,10 +84,16 @@ fn look_at<A: Allocator + Copy>(lists: &Lists<A>, from: u64) -> Window
                 from,
                 to: turn.end,
                 is_open: turn.state.lets,
+                is_at_fault: false,
                 value: turn.state.ipv,
             }
         }
     }
+}
+
+/// Whether two windows look alike.
+fn is_alike(one: &Window, other: &Window) -> bool {
+    one.value == other.value && one.is_at_fault == other.is_at_fault
 }
 
 /// Adds a window behind the others, or to the last of them where it goes on.
@@ -83,7 +102,7 @@ fn add(windows: &mut Vec<Window>, window: Window) -> Put {
         return Ok(());
     }
     if let Some(last) = windows.last_mut() {
-        if last.to == window.from && last.value == window.value {
+        if last.to == window.from && is_alike(last, &window) {
             last.to = window.to;
             return Ok(());
         }
@@ -95,7 +114,7 @@ fn add(windows: &mut Vec<Window>, window: Window) -> Put {
 /// Whether only one list holds from a moment on.
 fn is_settled<A: Allocator + Copy>(lists: &Lists<A>, from: u64) -> bool {
     match lists {
-        Lists::Class(Egress::Joined(joined), _) => joined.at() <= from,
+        Lists::Class(Egress::Joined(joined), _, _) => joined.at() <= from,
         Lists::Gate(Schedule::Joined(joined)) => joined.at() <= from,
         _ => true,
     }
@@ -137,9 +156,15 @@ fn windows_of<A: Allocator + Copy>(
     Ok(Windows { list, is_whole })
 }
 
+/// The style of what may be at fault.
+fn style_of(style: Style, is_at_fault: bool) -> Style {
+    if is_at_fault { Style::Fault } else { style }
+}
+
 /// Draws a window.
 fn put_window(picture: &mut Picture, style: Style, window: Window) -> Put {
     let (x, width) = extent(picture.span, window.from, window.to);
+    let style = style_of(style, window.is_at_fault);
     picture.bar(style, Rect::new(x, picture.down, width, HEIGHT))?;
     match window.value {
         Some(value) if width >= WIDE => {
@@ -157,9 +182,9 @@ fn put_band(picture: &mut Picture, style: Style) -> Put {
     picture.wide(Style::Hatched, HEIGHT)
 }
 
-/// Draws a lane that is always open.
-pub(crate) fn put_open(picture: &mut Picture, style: Style) -> Put {
-    picture.wide(style, HEIGHT)?;
+/// Draws a lane that is always open, in the colour of a fault where it has one.
+pub(crate) fn put_open(picture: &mut Picture, style: Style, is_at_fault: bool) -> Put {
+    picture.wide(style_of(style, is_at_fault), HEIGHT)?;
     picture.go_down(LANE);
     Ok(())
 }
