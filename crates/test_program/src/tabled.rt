@@ -48,9 +48,7 @@ const ASKED: &[Row] = &[
 const REFUSED: &[&[&str]] = &[
     &["run", "PLAN", "IN", "OUT", "--delays"],
     &["run", "PLAN", "IN", "OUT", "--frames"],
-    &[
-        "run", "PLAN", "IN", "OUT", "--delays", "D", "--delays", "D",
-    ],
+    &["run", "PLAN", "IN", "OUT", "--delays", "D", "--delays", "D"],
     &["check", "PLAN", "--delays", "D"],
     &["net", "NET", "IN", "OUT", "--frames", "F"],
     &["--delays", "D"],
