@@ -1,5 +1,5 @@
 -- Which fault ends a run over files.
-use Rattle.std.proofs.Common.{◌≡◌, ℕ, List, [], Option, Some, None, Result, Ok, Err, IfErr, inl, inr, ap, sym, subst, refl, ◌∙◌}
+use Rattle.std.proofs.Common.{◌≡◌, ◌⊎◌, ℕ, List, [], Option, Some, None, Result, Ok, Err, IfErr, inl, inr, ap, sym, subst, refl, ◌∙◌}
 use Rattle.bridge_config.specs.Model.{Plan}
 use Rattle.bridge_jobs.specs.declared.fault.Fault.{Fault}
 use Rattle.bridge_inputs.specs.declared.fault.RunFault.TheVariants as run
@@ -112,11 +112,11 @@ all_told_of p plan commands input output delays frames file (Err f) ok (inl h) =
 all_told_of p plan commands input output delays frames file (Err f) ok (inr h) = inr h
 
 -- a run without tables
-pub none_told : {A X : Type 0} (plan : List ℕ) (commands : Option (List ℕ)) (input output : List ℕ) (file : Option (List ℕ)) (r : Result X Fault) → IfErr r (EndsTold A plan commands input output None None file) → IfErr r (EndsDrawn A plan commands input output file)
-none_told plan commands input output file (Ok line) h = tt
-none_told plan commands input output file (Err f) (inl h) = h
-none_told plan commands input output file (Err f) (inr (inl h)) = absurd h
-none_told plan commands input output file (Err f) (inr (inr h)) = absurd h
+pub none_told : (A : Type 0) {X : Type 0} (plan : List ℕ) (commands : Option (List ℕ)) (input output : List ℕ) (file : Option (List ℕ)) (r : Result X Fault) → IfErr r (EndsTold A plan commands input output None None file) → IfErr r (EndsDrawn A plan commands input output file)
+none_told A plan commands input output file (Ok line) h = tt
+none_told A plan commands input output file (Err f) (inl h) = h
+none_told A plan commands input output file (Err f) (inr (inl h)) = absurd h
+none_told A plan commands input output file (Err f) (inr (inr h)) = absurd h
 
 -- a plan, or commands, that can't be opened
 pub plan_not_opened : (A : Type 0) (plan : List ℕ) (commands : Option (List ℕ)) (f : Fault) → IsOfFile plan f → EndsReading A plan commands f
