@@ -2,7 +2,7 @@
 ghost use Rattle.std.specs.Prelude.{◌≤◌, IfErr, string_bytes};
 ghost use Rattle.bridge_app.specs.Files.{EndsPicture, IsOfPicture};
 
-use bridge_check::{Accepted, check};
+use bridge_check::{Accepted, CheckFault, Refused, check};
 use bridge_cli::PictureRequest;
 use bridge_files::{FileId, Output, add_file, file_at, is_one_of, open_taken, output_at};
 use bridge_inputs::RunFault;
@@ -32,11 +32,24 @@ pub fn picture_job<H: AllocGlobal + Files>(rt: &H, plan: String, file: String) -
         Err(fault) => return Err(fault),
     };
     let checked = check(rt.alloc(), read);
-    let drawn = draw_plan(rt.alloc(), &checked);
+    let drawn = drawn_of(rt.alloc(), &checked);
     drop(checked);
     match drawn {
-        Ok(text) => put_picture(rt, file, &taken, text.as_str()),
-        Err(_) => Err(Fault::Run(RunFault::NoMemory)),
+        Some(text) => put_picture(rt, file, &taken, text.as_str()),
+        None => Err(Fault::Run(RunFault::NoMemory)),
+    }
+}
+
+/// The picture of a plan by what its check answered; none where memory was refused to the check or to the picture.
+fn drawn_of(alloc: Global, checked: &Result<Accepted<Global>, Refused<Global>>) -> Option<String> {
+    if let Err(refused) = checked {
+        if matches!(refused.fault, CheckFault::NoMemory) {
+            return None;
+        }
+    }
+    match draw_plan(alloc, checked) {
+        Ok(text) => Some(text),
+        Err(_) => None,
     }
 }
 
