@@ -4,6 +4,7 @@ ghost use Rattle.bridge_config.specs.Commands.{AreCommands};
 ghost use Rattle.bridge_app.specs.Files.{EndsDrawn, EndsReading, EndsRun, EndsSending, EndsTabled, EndsTold, IsAcceptedPlan, IsOfOutputs, IsOfReport, IsOfShowing, IsOfTables, PrintsRun};
 
 use crate::picturing::put_sketch;
+use crate::sparing::{spare_files, take_outputs, take_standard};
 use crate::tables::put_tables;
 use bridge_check::Accepted;
 use bridge_cli::{PictureRequest, TableRequest};
@@ -13,7 +14,7 @@ use bridge_files::{
     open_taken, output_at, report_path, run_over,
 };
 use bridge_inputs::RunFault;
-use bridge_jobs::{Fault, NoMemory, commanded, fault_of_file, plan_from};
+use bridge_jobs::{Fault, commanded, fault_of_file, plan_from};
 use bridge_report::{ReportFault, summary, write_report};
 use bridge_semantics::Outcome;
 use std::alloc::Global;
@@ -27,8 +28,8 @@ use std::rt::Files;
 ///
 /// Faults in this order: PLAN opened and read, its text; the commands opened and read, their text; the check of the plan;
 /// each capture of IN opened by rising port; `File` of OUT where it is the folder IN; each capture of OUT opened or made by
-/// rising port, then the report, `File` of one that is a file that is read; the run; the report made and written. What the
-/// outputs hold stays until they are written.
+/// rising port, then the report, `File` of one that is a file that is read, an output before it, or the file into which
+/// standard output goes; the run; the report made and written. What the outputs hold stays until they are written.
 pub fn run_job<H: AllocGlobal + Files>(
     rt: &H,
     plan: String,
@@ -63,8 +64,9 @@ pub fn run_with_picture<H: AllocGlobal + Files>(
 }
 
 /// The same, and the tables that are asked for, each in a file that is none of the run's: they are made behind the report and
-/// before the picture, that of delays before that of frames, and change nothing else. `File` of each comes among the faults
-/// in this order: of the report, of the table of delays, of that of frames, of the picture.
+/// before the picture, that of delays before that of frames, and change nothing else. `File` of one that is a file of the run
+/// comes before the run; else `File` of each comes in this order: of the report, of the table of delays, of that of frames, of
+/// the picture.
 pub fn run_with_tables<H: AllocGlobal + Files>(
     rt: &H,
     plan: String,
@@ -89,6 +91,7 @@ pub fn run_with_tables<H: AllocGlobal + Files>(
 
 /// What is printed for a run under an accepted plan from one folder into another, with the tables and the picture that are
 /// asked for. No output is one of the files that are taken.
+#[tactic(auto, using(crate::proofs::Ended::memory_ends))]
 pub(crate) fn send_told<H: AllocGlobal + Files>(
     rt: &H,
     accepted: &Accepted<Global>,
@@ -104,6 +107,20 @@ pub(crate) fn send_told<H: AllocGlobal + Files>(
     ensures err { IfErr result (EndsTabled accepted.now (string_bytes input) (string_bytes output) (option_map string_bytes tables.delays) (option_map string_bytes tables.frames) (option_map (λ s. string_bytes s.file) sketch)) }
 {
     let mut taken = taken;
+    if take_standard(rt, &mut taken).is_err() {
+        return Err(Fault::Run(RunFault::NoMemory));
+    }
+    if let Err(fault) = spare_files(
+        rt,
+        accepted,
+        input.as_str(),
+        output.as_str(),
+        &tables,
+        &sketch,
+        &taken,
+    ) {
+        return Err(fault);
+    }
     let outcome = match send(rt, accepted, orders, input.as_str(), output, &mut taken) {
         Ok(outcome) => outcome,
         Err(fault) => return Err(fault),
@@ -193,7 +210,7 @@ fn send<H: AllocGlobal + Files>(
 }
 
 /// Opens the captures of ports in a folder to be written anew. None of them, nor the report of the folder, is one of the
-/// files that are read or taken; they and those that are read are taken then.
+/// files that are read or taken, and no two of them are one file; they and those that are read are taken then.
 fn outputs_of<H: AllocGlobal + Files>(
     rt: &H,
     folder: &str,
@@ -211,13 +228,13 @@ fn outputs_of<H: AllocGlobal + Files>(
         Ok(outputs) => outputs,
         Err(fault) => return Err(fault),
     };
+    if let Err(fault) = take_outputs(rt, folder, ports, taken) {
+        return Err(fault);
+    }
     if let Err(fault) = spare_report(rt, folder, taken) {
         return Err(fault);
     }
-    match add_outputs(taken, &outputs) {
-        Ok(()) => Ok(outputs),
-        Err(_) => Err(Fault::Run(RunFault::NoMemory)),
-    }
+    Ok(outputs)
 }
 
 /// `File` of the report of a folder where it is one of the files that are taken.
@@ -229,19 +246,6 @@ fn spare_report<H: AllocGlobal + Files>(rt: &H, folder: &str, taken: &[FileId]) 
     };
     if is_one_of(taken, file_at(rt, path.as_str())) {
         return Err(Fault::File(path));
-    }
-    Ok(())
-}
-
-/// Adds the files of outputs to a list, where the system tells which they are.
-fn add_outputs<F: Write + OpenFile + Drop>(
-    taken: &mut Vec<FileId>,
-    outputs: &[Output<F>],
-) -> Result<(), NoMemory> {
-    for output in outputs {
-        let Ok(()) = add_file(taken, output.id()) else {
-            return Err(NoMemory);
-        };
     }
     Ok(())
 }

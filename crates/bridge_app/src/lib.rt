@@ -4,6 +4,7 @@
 mod explaining;
 mod job;
 mod picturing;
+mod sparing;
 mod strict;
 mod tables;
 

@@ -1,0 +1,176 @@
+//! Files that a run would write over what it wrote or reads: two outputs that are one file, a table or a picture that is one of
+//! the run's files, an output into which the line of the run goes too.
+ghost use Rattle.std.specs.Prelude.{◌⊎◌, IfErr, Some, option_map, string_bytes};
+ghost use Rattle.bridge_files.specs.Files.{IsOfCaptures};
+ghost use Rattle.bridge_app.specs.Files.{IsOfShowing, IsOfTable, IsOfTables};
+
+use bridge_check::Accepted;
+use bridge_cli::{PictureRequest, TableRequest};
+use bridge_files::{FileId, add_file, capture_path, file_at, is_one_of, report_path};
+use bridge_inputs::RunFault;
+use bridge_jobs::{Fault, NoMemory};
+use std::alloc::Global;
+use std::fs;
+use std::rt::Files;
+
+/// To which regular file a path leads, where the system tells. What has no length, as a pipe or a device, has nothing to lose.
+fn regular_at(rt: &impl Files, path: &str) -> Option<FileId> {
+    match fs::metadata(rt, path) {
+        Ok(metadata) => {
+            if metadata.is_file() {
+                file_at(rt, path)
+            } else {
+                None
+            }
+        }
+        Err(_) => None,
+    }
+}
+
+/// Takes the file into which standard output goes, if it is a regular one: an output of that file would be written over by the
+/// line of the run.
+pub(crate) fn take_standard(rt: &impl Files, taken: &mut Vec<FileId>) -> Result<(), NoMemory> {
+    add_file(taken, regular_at(rt, "/dev/stdout"))
+}
+
+/// Takes a file, and tells whether it was none of those taken before.
+fn take_new(rt: &impl Files, path: &str, taken: &mut Vec<FileId>) -> Result<bool, NoMemory> {
+    let file = regular_at(rt, path);
+    if is_one_of(taken, file) {
+        return Ok(false);
+    }
+    add_file(taken, file)?;
+    Ok(true)
+}
+
+/// Takes the captures of ports in a folder, which are there already. The first that is one of those taken, as where it is
+/// the same file as one before it, is `File` of its path.
+pub(crate) fn take_outputs<H: AllocGlobal + Files>(
+    rt: &H,
+    folder: &str,
+    ports: &[u8],
+    taken: &mut Vec<FileId>,
+) -> Result<(), Fault>
+    ensures { IfErr result (IsOfCaptures folder.now ports.now) }
+{
+    for port in ports {
+        let Ok(path) = capture_path(rt.alloc(), folder, *port) else {
+            return Err(Fault::Run(RunFault::NoMemory));
+        };
+        let Ok(is_new) = take_new(rt, path.as_str(), taken) else {
+            return Err(Fault::Run(RunFault::NoMemory));
+        };
+        if !is_new {
+            return Err(Fault::File(path));
+        }
+    }
+    Ok(())
+}
+
+/// Adds the captures of a folder at ports of a plan to some files, where they are there.
+fn add_captures<H: AllocGlobal + Files>(
+    rt: &H,
+    accepted: &Accepted<Global>,
+    folder: &str,
+    files: &mut Vec<FileId>,
+) -> Result<(), NoMemory> {
+    for port in accepted.plan().ports() {
+        let path = capture_path(rt.alloc(), folder, port.number)?;
+        add_file(files, regular_at(rt, path.as_str()))?;
+    }
+    Ok(())
+}
+
+/// The files that are taken, and the captures that a run reads and writes and its report, where they are there already.
+fn files_of_run<H: AllocGlobal + Files>(
+    rt: &H,
+    accepted: &Accepted<Global>,
+    input: &str,
+    output: &str,
+    taken: &[FileId],
+) -> Result<Vec<FileId>, NoMemory> {
+    let mut files = Vec::from_slice(rt.alloc(), taken)?;
+    add_captures(rt, accepted, input, &mut files)?;
+    add_captures(rt, accepted, output, &mut files)?;
+    let report = report_path(rt.alloc(), output)?;
+    add_file(&mut files, regular_at(rt, report.as_str()))?;
+    Ok(files)
+}
+
+/// `File` of a path that leads to one of some files.
+fn spare<H: AllocGlobal + Files>(rt: &H, path: &str, files: &[FileId]) -> Result<(), Fault>
+    ensures { IfErr result (IsOfTable (Some path.now)) }
+{
+    if !is_one_of(files, regular_at(rt, path)) {
+        return Ok(());
+    }
+    match String::from_str(rt.alloc(), path) {
+        Ok(path) => Err(Fault::File(path)),
+        Err(_) => Err(Fault::Run(RunFault::NoMemory)),
+    }
+}
+
+/// `File` of a table that is asked for and would be one of some files.
+fn spare_table<H: AllocGlobal + Files>(
+    rt: &H,
+    path: &Option<String>,
+    files: &[FileId],
+) -> Result<(), Fault>
+    ensures { IfErr result (IsOfTable (option_map string_bytes path.now)) }
+{
+    match path {
+        Some(path) => spare(rt, path.as_str(), files),
+        None => Ok(()),
+    }
+}
+
+/// `File` of a picture that is asked for and would be one of some files.
+fn spare_picture<H: AllocGlobal + Files>(
+    rt: &H,
+    sketch: &Option<PictureRequest>,
+    files: &[FileId],
+) -> Result<(), Fault>
+    ensures { IfErr result (IsOfShowing (option_map (λ s. string_bytes s.file) sketch.now)) }
+{
+    match sketch {
+        Some(sketch) => spare(rt, sketch.file.as_str(), files),
+        None => Ok(()),
+    }
+}
+
+/// `File` of the first table, or else of the picture, that is asked for beside a run and would be one of some files.
+fn spare_each<H: AllocGlobal + Files>(
+    rt: &H,
+    tables: &TableRequest,
+    sketch: &Option<PictureRequest>,
+    files: &[FileId],
+) -> Result<(), Fault>
+    ensures { IfErr result (λ f. IsOfShowing (option_map (λ s. string_bytes s.file) sketch.now) f ⊎ IsOfTables (option_map string_bytes tables.now.delays) (option_map string_bytes tables.now.frames) f) }
+{
+    if let Err(fault) = spare_table(rt, &tables.delays, files) {
+        return Err(fault);
+    }
+    if let Err(fault) = spare_table(rt, &tables.frames, files) {
+        return Err(fault);
+    }
+    spare_picture(rt, sketch, files)
+}
+
+/// `File` of the first table, or else of the picture, that is asked for beside a run from one folder into another and would be
+/// one of its files or of those taken, as far as these are there already.
+pub(crate) fn spare_files<H: AllocGlobal + Files>(
+    rt: &H,
+    accepted: &Accepted<Global>,
+    input: &str,
+    output: &str,
+    tables: &TableRequest,
+    sketch: &Option<PictureRequest>,
+    taken: &[FileId],
+) -> Result<(), Fault>
+    ensures { IfErr result (λ f. IsOfShowing (option_map (λ s. string_bytes s.file) sketch.now) f ⊎ IsOfTables (option_map string_bytes tables.now.delays) (option_map string_bytes tables.now.frames) f) }
+{
+    let Ok(files) = files_of_run(rt, accepted, input, output, taken) else {
+        return Err(Fault::Run(RunFault::NoMemory));
+    };
+    spare_each(rt, tables, sketch, &files)
+}
