@@ -1,7 +1,8 @@
 -- What is known of frames that came over links.
-use Rattle.std.proofs.Common.{◌≡◌, ◌≢◌, ◌⊎◌, inl, inr, ℕ, zero, suc, ◌+◌, ◌-◌, ◌≤◌, Bool, true, List, [], ◌∷◌, ◌++◌, Option, Some, None, map, length, refl, sym, ap, subst, ◌∙◌, arith}
-use Rattle.std.specs.Prelude.{nat_eq, slice_get, slice_set, Vec}
+use Rattle.std.proofs.Common.{◌≡◌, ◌≢◌, ◌⊎◌, inl, inr, ℕ, zero, suc, ◌+◌, ◌-◌, ◌<◌, ◌≤◌, Bool, true, false, List, [], ◌∷◌, ◌++◌, Option, Some, None, map, length, refl, sym, ap, subst, ◌∙◌, arith}
+use Rattle.std.specs.Prelude.{nat_eq, nat_le, is_some, slice_get, slice_set, Vec}
 use Rattle.std.proofs.lemmas.Bool.{and_parts, eqb-true, eqb-false}
+use Rattle.std.proofs.lemmas.Bool.Decides.{nat_tests}
 use Rattle.std.proofs.lemmas.Option.{slice_get_within}
 use Rattle.bridge_limits.specs.Members.{In}
 use Rattle.bridge_cycle.proofs.Cases.{by_bool}
@@ -14,7 +15,7 @@ use Rattle.bridge_semantics.specs.declared.outcome.Origin.{Origin}
 use Rattle.bridge_delays.specs.declared.hops.HopRun.{HopRun}
 use Rattle.bridge_delays.specs.declared.tracing.Root.{Root}
 use Rattle.bridge_delays.specs.Hops.{AreAnswers, leads_on}
-use Rattle.bridge_delays.specs.Tracing.{AreBegun, AreBegunAt, AreFirst, AreFrom, AreTraced, AreUnknown, IsFrom, IsOver, SenderIs, due_from, is_due, joined, root_at, root_over}
+use Rattle.bridge_delays.specs.Tracing.{AddNothing, AreBegun, AreBegunAt, AreFirst, AreFirstKnown, AreFrom, AreOwn, AreSound, AreTraced, AreUnknown, IsExhausted, IsFrom, IsOver, IsPairExhausted, IsTracedEach, SenderIs, ServeFrom, due_from, is_due, joined, root_at, root_over, traced_at}
 
 head_is : {X : Type 0} (x y : X) (xs ys : List X) → x ∷ xs ≡ y ∷ ys → x ≡ y
 head_is x y xs ys h = cc
@@ -54,6 +55,43 @@ over_in s q o ds (d ∷ us) roots r to same e = by_bool (nat_eq (d.done + s.dela
     })
     (λ k. let none : None ≡ Some r = rw k at e in absurd (cc))
 
+-- what isn't due at a moment isn't at a later one
+not_due : (q delay at later : ℕ) (x : Departure) → at ≤ later → is_due q delay at x ≡ false → is_due q delay later x ≡ false
+not_due q delay at later x le k = by_bool (nat_eq x.port q)
+    (λ e. let before : nat_le at (x.done + delay) ≡ false = rw e at k in let after : nat_le later (x.done + delay) ≡ false = grind (arith, nat_tests) in rw e after)
+    (λ e. rw e refl)
+
+-- so the copies that are due later are among those that are due earlier
+due_again : (q delay at later : ℕ) (ds : List Departure) → at ≤ later → due_from q delay later (due_from q delay at ds) ≡ due_from q delay later ds
+due_again q delay at later [] le = refl
+due_again q delay at later (x ∷ xs) le = by_bool (is_due q delay at x)
+    (λ k. rw k refl)
+    (λ k. rw (k, not_due q delay at later x le k) (due_again q delay at later xs le))
+
+pub serve_due : (s : Sender) (sent due : List Departure) (at : ℕ) → due ≡ due_from s.from.port s.delay at sent → ServeFrom s sent due at
+serve_due s sent due at e = λ later le. ap (due_from s.from.port s.delay later) e ∙ due_again s.from.port s.delay at later sent le
+
+-- what was known stays
+traced_some : (s : Sender) (sent : List Departure) (roots : List (Option Root)) (q : ℕ) (o : Origin) (r : Root) → traced_at s sent roots q o (Some r) ≡ Some r
+traced_some s sent roots q o r = by_bool (nat_eq o.port q) (λ k. rw k refl) (λ k. rw k refl)
+
+pub traced_known : (s : Sender) (sent : List Departure) (roots : List (Option Root)) (q : ℕ) (o : Origin) (x : Option Root) → is_some x ≡ true → x ≡ traced_at s sent roots q o x
+traced_known s sent roots q o (Some r) h = sym (traced_some s sent roots q o r)
+traced_known s sent roots q o None h = absurd (cc)
+
+-- and so does what came to another port
+pub traced_apart : (s : Sender) (sent : List Departure) (roots : List (Option Root)) (q : ℕ) (o : Origin) (x : Option Root) → o.port ≢ q → x ≡ traced_at s sent roots q o x
+traced_apart s sent roots q o x n = by_bool (nat_eq o.port q) (λ k. absurd (n (eqb-true o.port q k))) (λ k. rw k refl)
+
+-- else it is what is found
+pub traced_found : (s : Sender) (sent due : List Departure) (roots : List (Option Root)) (q : ℕ) (o : Origin) (x y : Option Root) → o.port ≡ q → is_some x ≡ false
+    → due ≡ due_from s.from.port s.delay o.at sent → y ≡ root_over roots s.delay o.at due → y ≡ traced_at s sent roots q o x
+traced_found s sent due roots q o (Some r) y to none same is = absurd (cc)
+traced_found s sent due roots q o None y to none same is =
+    let here : nat_eq o.port q ≡ true = grind (arith, nat_tests) in
+    let found : y ≡ root_over roots s.delay o.at (due_from s.from.port s.delay o.at sent) = is ∙ ap (root_over roots s.delay o.at) same in
+    rw here found
+
 joined_is : (x : Option (Option Root)) (r : Root) → joined x ≡ Some r → x ≡ Some (Some r)
 joined_is None r e = absurd (cc)
 joined_is (Some y) r e = ap (λ (z : Option Root). Some z) e
@@ -66,8 +104,20 @@ root_there roots n r e = by_bool (nat_eq n 0)
     let there : joined (slice_get roots (n - 1)) ≡ Some r = rw k at e in
     (let apart = eqb-false n 0 k in omega (arith, apart), joined_is (slice_get roots (n - 1)) r there))
 
+traced_or : (s : Sender) (sent : List Departure) (roots : List (Option Root)) (q : ℕ) (o : Origin) (x : Option Root) (r : Root) → traced_at s sent roots q o x ≡ Some r → (x ≡ Some r) ⊎ IsOver s sent roots q o r
+traced_or s sent roots q o (Some y) r e = inl (sym (traced_some s sent roots q o y) ∙ e)
+traced_or s sent roots q o None r e = by_bool (nat_eq o.port q)
+    (λ k. let there : root_over roots s.delay o.at (due_from s.from.port s.delay o.at sent) ≡ Some r = rw k at e in
+    inr (over_in s q o sent (due_from s.from.port s.delay o.at sent) roots r (eqb-true o.port q k) refl there))
+    (λ k. let none : None ≡ Some r = rw k at e in absurd (cc))
+
+there_is : {X : Type 0} (xs : List X) (i : ℕ) → i < length xs → (x : X) × (slice_get xs i ≡ Some x)
+there_is [] i l = absurd (omega arith)
+there_is (x ∷ xs) zero l = (x, refl)
+there_is (x ∷ xs) (suc i) l = there_is xs i (omega arith)
+
 -- what came to a port of a hop from another one is known of
-pub one_traced : {A : Type 0} (links : List Link) (hops : List (HopRun A)) (all : List (Vec (Option Root) A)) (h g : HopRun A) (mine others made : Vec (Option Root) A) (place other q : ℕ) (s : Sender)
+one_traced : {A : Type 0} (links : List Link) (hops : List (HopRun A)) (all : List (Vec (Option Root) A)) (h g : HopRun A) (mine others made : Vec (Option Root) A) (place other q : ℕ) (s : Sender)
     → slice_get hops place ≡ Some h → slice_get hops other ≡ Some g → slice_get all place ≡ Some mine → slice_get all other ≡ Some others
     → g.bridge ≡ s.from.bridge → SenderIs links hops place q s
     → AreTraced s g.view.now.departures.items others.items q h.view.now.origins.items mine.items made.items
@@ -77,12 +127,17 @@ one_traced {A} links hops all h g mine others made place other q s is_h is_g is_
     let here : i ≡ place = eqb-true i place e in
     let set : slice_get (slice_set all place made) place ≡ Some made = set_here all place made (slice_get_within all place mine is_mine) in
     let same : known ≡ made = some_is known made (sym is_known ∙ (ap (slice_get (slice_set all place made)) here ∙ set)) in
-    elim (traced k r (subst (λ (v : Vec (Option Root) A). slice_get v.items k ≡ Some (Some r)) same is_root)) [
+    let root : slice_get made.items k ≡ Some (Some r) = subst (λ (v : Vec (Option Root) A). slice_get v.items k ≡ Some (Some r)) same is_root in
+    let inside = slice_get_within made.items k (Some r) root in
+    let within = traced.within in
+    let beside = traced.came in
+    let (x, was) = there_is mine.items k (omega (arith, inside, within)) in
+    let (o, came) = there_is h.view.now.origins.items k (omega (arith, inside, beside)) in
+    elim (traced_or s g.view.now.departures.items others.items q o x r (sym (traced.each k o x (Some r) came was root))) [
       | inl old ↦
-          let (n, from) = are place k mine r is_mine old in
+          let (n, from) = are place k mine r is_mine (was ∙ ap (λ (z : Option Root). Some z) old) in
           (n, subst (λ (j : ℕ). IsFrom links hops r n j k) (sym here) from)
-      | inr new ↦
-          let (o, came, over) = new in
+      | inr over ↦
           let number = root_there others.items over.copy.own r over.known in
           let (n, from) = are other (over.copy.own - 1) others r is_others number.1 in (
             suc n,
@@ -112,6 +167,44 @@ one_traced {A} links hops all h g mine others made place other q s is_h is_g is_
     let apart : i ≢ place = eqb-false i place e in
     are i k known r (sym (set_there all place i made apart) ∙ is_known) is_root)
 
+-- and each frame of the first hop stays known
+first_kept : {A : Type 0} (hops : List (HopRun A)) (all : List (Vec (Option Root) A)) (h : HopRun A) (mine made : Vec (Option Root) A) (place q : ℕ) (s : Sender) (sent : List Departure) (roots : List (Option Root))
+    → slice_get hops place ≡ Some h → slice_get all place ≡ Some mine → AreTraced s sent roots q h.view.now.origins.items mine.items made.items
+    → AreFirstKnown hops all → AreFirstKnown hops (slice_set all place made)
+first_kept {A} hops all h mine made place q s sent roots is_h is_mine traced are first known k o is_first is_known came = by_bool (nat_eq 0 place)
+    (λ e.
+    let here : 0 ≡ place = eqb-true 0 place e in
+    let r : Root = record { number = k + 1; came = o.at } in
+    let set : slice_get (slice_set all place made) place ≡ Some made = set_here all place made (slice_get_within all place mine is_mine) in
+    let same : known ≡ made = some_is known made (sym is_known ∙ (ap (slice_get (slice_set all place made)) here ∙ set)) in
+    let own : first ≡ h = some_is first h (sym is_first ∙ (ap (slice_get hops) here ∙ is_h)) in
+    let was : slice_get mine.items k ≡ Some (Some r) = are first mine k o is_first (ap (slice_get all) here ∙ is_mine) came in
+    let own_came : slice_get h.view.now.origins.items k ≡ Some o = subst (λ (g : HopRun A). slice_get g.view.now.origins.items k ≡ Some o) own came in
+    let (y, is_y) = there_is made.items k (traced.covers k (slice_get_within mine.items k (Some r) was) (slice_get_within h.view.now.origins.items k o own_came)) in
+    let is : y ≡ Some r = traced.each k o (Some r) y own_came was is_y ∙ traced_some s sent roots q o r in
+    subst (λ (v : Vec (Option Root) A). slice_get v.items k ≡ Some (Some r)) (sym same) (is_y ∙ ap (λ (z : Option Root). Some z) is))
+    (λ e.
+    let apart : 0 ≢ place = eqb-false 0 place e in
+    are first known k o is_first (sym (set_there all place 0 made apart) ∙ is_known) came)
+
+pub sound_kept : {A : Type 0} (links : List Link) (hops : List (HopRun A)) (all : List (Vec (Option Root) A)) (h g : HopRun A) (mine others made : Vec (Option Root) A) (place other q : ℕ) (s : Sender)
+    → slice_get hops place ≡ Some h → slice_get hops other ≡ Some g → slice_get all place ≡ Some mine → slice_get all other ≡ Some others
+    → g.bridge ≡ s.from.bridge → SenderIs links hops place q s
+    → AreTraced s g.view.now.departures.items others.items q h.view.now.origins.items mine.items made.items
+    → AreSound links hops all → AreSound links hops (slice_set all place made)
+sound_kept links hops all h g mine others made place other q s is_h is_g is_mine is_others bridge sends traced are = record {
+  from = one_traced links hops all h g mine others made place other q s is_h is_g is_mine is_others bridge sends traced are.from;
+  first = first_kept hops all h mine made place q s g.view.now.departures.items others.items is_h is_mine traced are.first;
+}
+
+-- where nothing is added nothing more is found
+pub exhausted_of : (s : Sender) (sent : List Departure) (roots : List (Option Root)) (q : ℕ) (origins : List Origin) (old new : List (Option Root)) → AreTraced s sent roots q origins old new → AddNothing old new
+    → IsExhausted s sent roots q origins old
+exhausted_of s sent roots q origins old new traced nothing k o (Some r) came was = traced_some s sent roots q o r
+exhausted_of s sent roots q origins old new traced nothing k o None came was =
+    let (y, is) = there_is new k (traced.covers k (slice_get_within old k None was) (slice_get_within origins k o came)) in
+    sym (traced.each k o None y came was is) ∙ nothing k y was is
+
 -- one more
 pushed : {X : Type 0} (xs : List X) (x y : X) (b : ℕ) → slice_get (xs ++ x ∷ []) b ≡ Some y → (slice_get xs b ≡ Some y) ⊎ ((b ≡ length xs) × (x ≡ y))
 pushed [] x y zero e = inr (refl, some_is x y e)
@@ -121,13 +214,13 @@ pushed (z ∷ xs) x y (suc b) e = elim (pushed xs x y b e) [ inl there ↦ inl t
 
 -- one frame more of the first hop
 pub first_more : (origins : List Origin) (roots : List (Option Root)) (o : Origin) (x : Root) → slice_get origins (length roots) ≡ Some o → x ≡ record { number = length roots + 1; came = o.at }
-    → AreFirst origins roots → AreFirst origins (roots ++ Some x ∷ [])
-first_more origins roots o x came is are k r there = elim (pushed roots (Some x) (Some r) k there) [
-  | inl before ↦ are k r before
+    → AreOwn origins roots → AreOwn origins (roots ++ Some x ∷ [])
+first_more origins roots o x came is are k y there = elim (pushed roots (Some x) y k there) [
+  | inl before ↦ are k y before
   | inr here ↦ (
     o,
     ap (slice_get origins) here.0 ∙ came,
-    sym (some_is x r here.1) ∙ (is ∙ ap (λ (n : ℕ). record { number = n + 1; came = o.at }) (sym here.0)),
+    sym here.1 ∙ ap (λ (z : Root). Some z) (is ∙ ap (λ (n : ℕ). record { number = n + 1; came = o.at }) (sym here.0)),
   )
 ]
 
@@ -148,45 +241,64 @@ begun_more {A} hops all h made is_h begun are i k known r there root = elim (pus
       by_bool (nat_eq (length all) 0)
       (λ e.
       let first : AreFirst h.view.now.origins.items made.items = rw e at begun in
-      let (o, came, is) = first k r own in
+      let (o, came, is) = first.each k (Some r) own in
       record {
         hop = h;
         origin = o;
         place = here.0 ∙ eqb-true (length all) 0 e;
         there = ap (slice_get hops) here.0 ∙ is_h;
         came = came;
-        root = is;
+        root = some_is r (record { number = k + 1; came = o.at }) is;
       })
       (λ e. let none : AreUnknown made.items = rw e at begun in absurd (none k r own))
 ]
 
--- what is known at first is so
-pub begun_from : {A : Type 0} (links : List Link) (hops : List (HopRun A)) (all : List (Vec (Option Root) A)) → AreBegun hops all → AreFrom links hops all
-begun_from links hops all are i k known r there root = (0, are i k known r there root)
+-- and each frame of the first hop is known
+pub first_begun : {A : Type 0} (hops : List (HopRun A)) (all : List (Vec (Option Root) A)) (h : HopRun A) (made : Vec (Option Root) A) → slice_get hops (length all) ≡ Some h
+    → AreBegunAt (nat_eq (length all) 0) h.view.now.origins.items made.items → AreFirstKnown hops all → AreFirstKnown hops (all ++ made ∷ [])
+first_begun {A} hops all h made is_h begun are first known k o is_first is_known came = elim (pushed all made known 0 is_known) [
+  | inl before ↦ are first known k o is_first before came
+  | inr here ↦
+      let e : nat_eq (length all) 0 ≡ true = subst (λ (n : ℕ). nat_eq n 0 ≡ true) here.0 refl in
+      let whole : AreFirst h.view.now.origins.items made.items = rw e at begun in
+      let own : first ≡ h = some_is first h (sym is_first ∙ (ap (slice_get hops) here.0 ∙ is_h)) in
+      let own_came : slice_get h.view.now.origins.items k ≡ Some o = subst (λ (g : HopRun A). slice_get g.view.now.origins.items k ≡ Some o) own came in
+      let inside = slice_get_within h.view.now.origins.items k o own_came in
+      let many = whole.many in
+      let (x, is_x) = there_is made.items k (omega (arith, inside, many)) in
+      let (p, there, is) = whole.each k x is_x in
+      let same : p ≡ o = some_is p o (sym there ∙ own_came) in
+      subst (λ (v : Vec (Option Root) A). slice_get v.items k ≡ Some (Some (record { number = k + 1; came = o.at }))) here.1
+      (is_x ∙ ap (λ (z : Option Root). Some z) (is ∙ ap (λ (w : Origin). Some (record { number = k + 1; came = w.at })) same))
+]
 
--- a copy that comes over a link is one of more
-over_more : (s : Sender) (ds es : List Departure) (roots : List (Option Root)) (q : ℕ) (o : Origin) (r : Root) → ((d : Departure) → In d ds → In d es) → IsOver s ds roots q o r → IsOver s es roots q o r
-over_more s ds es roots q o r more over = record {
-  copy = over.copy;
-  listed = more over.copy over.listed;
-  to = over.to;
-  port = over.port;
-  moment = over.moment;
-  known = over.known;
-}
+-- what is known at first is so
+pub begun_sound : {A : Type 0} (links : List Link) (hops : List (HopRun A)) (all : List (Vec (Option Root) A)) → AreBegun hops all → AreFirstKnown hops all → AreSound links hops all
+begun_sound links hops all are first = record { from = λ i k known r there root. (0, are i k known r there root); first = first }
 
 -- one frame more of a hop
-pub traced_more : (s : Sender) (sent left : List Departure) (sent_roots : List (Option Root)) (q : ℕ) (origins : List Origin) (old new : List (Option Root)) (o : Origin) (root made : Option Root)
-    → slice_get old (length new) ≡ Some root → slice_get origins (length new) ≡ Some o → ((d : Departure) → In d left → In d sent)
-    → ((r : Root) → made ≡ Some r → (root ≡ Some r) ⊎ IsOver s left sent_roots q o r)
-    → AreTraced s sent sent_roots q origins old new → AreTraced s sent sent_roots q origins old (new ++ made ∷ [])
-traced_more s sent left sent_roots q origins old new o root made was came more over are k r there = elim (pushed new made (Some r) k there) [
-  | inl before ↦ are k r before
-  | inr here ↦ elim (over r here.1) [
-    | inl same ↦ inl (ap (slice_get old) here.0 ∙ (was ∙ ap (λ (z : Option Root). Some z) same))
-    | inr is ↦ inr (o, ap (slice_get origins) here.0 ∙ came, over_more s left sent sent_roots q o r more is)
-  ]
+pub traced_more : (s : Sender) (sent : List Departure) (sent_roots : List (Option Root)) (q : ℕ) (origins : List Origin) (old new : List (Option Root)) (o : Origin) (x y : Option Root)
+    → slice_get old (length new) ≡ Some x → slice_get origins (length new) ≡ Some o → y ≡ traced_at s sent sent_roots q o x
+    → IsTracedEach s sent sent_roots q origins old new → IsTracedEach s sent sent_roots q origins old (new ++ y ∷ [])
+traced_more s sent sent_roots q origins old new o x y was came is are k o2 x2 y2 came2 was2 there = elim (pushed new y y2 k there) [
+  | inl before ↦ are k o2 x2 y2 came2 was2 before
+  | inr here ↦
+      let same_o : o ≡ o2 = some_is o o2 (sym came ∙ (ap (slice_get origins) (sym here.0) ∙ came2)) in
+      let same_x : x ≡ x2 = some_is x x2 (sym was ∙ (ap (slice_get old) (sym here.0) ∙ was2)) in
+      subst (λ (p : Origin). y2 ≡ traced_at s sent sent_roots q p x2) same_o (subst (λ (p : Option Root). y2 ≡ traced_at s sent sent_roots q o p) same_x (sym here.1 ∙ is))
 ]
+
+-- one frame more of which nothing is known that wasn't
+pub nothing_more : (old new : List (Option Root)) (n : ℕ) (x y : Option Root)
+    → slice_get new n ≡ Some y → (slice_get old n ≡ Some None → y ≡ None)
+    → ((k : ℕ) (z : Option Root) → k < n → slice_get old k ≡ Some None → slice_get new k ≡ Some z → z ≡ None)
+    → (k : ℕ) (z : Option Root) → k < n + 1 → slice_get old k ≡ Some None → slice_get new k ≡ Some z → z ≡ None
+nothing_more old new n x y at is before k z l was there = by_bool (nat_eq k n)
+    (λ e.
+    let here : k ≡ n = eqb-true k n e in
+    let same : y ≡ z = some_is y z (sym at ∙ (ap (slice_get new) (sym here) ∙ there)) in
+    sym same ∙ is (ap (slice_get old) (sym here) ∙ was))
+    (λ e. let apart = eqb-false k n e in before k z (omega (arith, l, apart)) was there)
 
 -- one port more
 pub answers_more : {A : Type 0} (links : List Link) (hops : List (HopRun A)) (b : ℕ) (ways : List Bool) (on : Bool) (q : ℕ) → length ways + 1 ≡ q → on ≡ leads_on links hops b q → AreAnswers links hops b ways
@@ -195,3 +307,13 @@ answers_more links hops b ways on q at is are i x there = elim (pushed ways on x
   | inl before ↦ are i x before
   | inr here ↦ sym here.1 ∙ (is ∙ ap (leads_on links hops b) (let last = here.0 in omega (arith, at, last)))
 ]
+
+-- so of the hops at two places
+pub pair_exhausted : {A : Type 0} (hops : List (HopRun A)) (all : List (Vec (Option Root) A)) (s : Sender) (i q j : ℕ) (h g : HopRun A) (mine others : Vec (Option Root) A)
+    → slice_get hops i ≡ Some h → slice_get hops j ≡ Some g → slice_get all i ≡ Some mine → slice_get all j ≡ Some others
+    → IsExhausted s g.view.now.departures.items others.items q h.view.now.origins.items mine.items → IsPairExhausted hops all s i q j
+pair_exhausted {A} hops all s i q j h g mine others is_h is_g is_mine is_others done h2 g2 mine2 others2 there beyond own known bridge =
+    subst (λ (x : HopRun A). IsExhausted s x.view.now.departures.items others2.items q h2.view.now.origins.items mine2.items) (some_is g g2 (sym is_g ∙ beyond))
+    (subst (λ (x : Vec (Option Root) A). IsExhausted s g.view.now.departures.items x.items q h2.view.now.origins.items mine2.items) (some_is others others2 (sym is_others ∙ known))
+    (subst (λ (x : HopRun A). IsExhausted s g.view.now.departures.items others.items q x.view.now.origins.items mine2.items) (some_is h h2 (sym is_h ∙ there))
+    (subst (λ (x : Vec (Option Root) A). IsExhausted s g.view.now.departures.items others.items q h.view.now.origins.items x.items) (some_is mine mine2 (sym is_mine ∙ own)) done)))

@@ -1,10 +1,7 @@
 //! From which frame of the first hop each frame of each hop is.
-ghost use Rattle.std.specs.Prelude.{◌≡◌, ◌⊎◌, ◌<◌, List, Some, length, IfOk, OnOk};
-ghost use Rattle.bridge_limits.specs.Members.{In};
+ghost use Rattle.std.specs.Prelude.{◌≡◌, ◌<◌, ◌≤◌, ℕ, List, false, length, IfOk, OnOk};
 ghost use Rattle.bridge_network.specs.declared.links.Link.{Link};
-ghost use Rattle.bridge_semantics.specs.declared.outcome.Departure.{Departure as Left};
 ghost use Rattle.bridge_rounds.specs.Stations.{sender_value};
-ghost use Rattle.bridge_delays.specs.declared.tracing.Root.{Root as Known};
 ghost use Rattle.bridge_delays.specs.Tracing as spec;
 
 use crate::hops::HopRun;
@@ -76,6 +73,7 @@ fn begun<A: Allocator + Copy>(
 ) -> Result<Vec<Vec<Option<Root>, A>, A>, NoMemory>
     ensures many { IfOk result (λ all. length all.items ≡ length hops.now) }
     ensures begun { IfOk result (λ all. spec.AreBegun hops.now all.items) }
+    ensures first { IfOk result (λ all. spec.AreFirstKnown hops.now all.items) }
 {
     let mut all = Vec::with_capacity(alloc, hops.len())?;
     for place in 0..hops.len() {
@@ -136,27 +134,52 @@ fn root_over(roots: &[Option<Root>], departures: &[Departure], delay: u64, at: u
     }
 }
 
-/// What is known of a frame that came, once what came to a port from some copies is known of, and the copies that may come
-/// later.
+/// The copies from the first on that left the other end of a link and come at a moment or later: among those that are left from
+/// an earlier moment on, or else among all.
+fn due_for<'a>(
+    sender: Sender,
+    sent: &'a [Departure],
+    left: &'a [Departure],
+    since: u64,
+    at: u64,
+) -> &'a [Departure]
+    requires { spec.ServeFrom (sender_value sender) sent.now left.now since }
+    ensures { result.now ≡ spec.due_from sender.from.port sender.delay at sent.entry.now }
+{
+    if at < since {
+        return due_from(sent, sender.from.port, sender.delay, at);
+    }
+    due_from(left, sender.from.port, sender.delay, at)
+}
+
+/// What is known of a frame that came, once what came to a port from some copies is known of; then the copies that are left
+/// for frames from a moment on, and that moment.
 fn traced_one<'a>(
     sender: Sender,
+    sent: &'a [Departure],
     left: &'a [Departure],
+    since: u64,
     sent_roots: &[Option<Root>],
     port: u8,
     origin: &Origin,
     root: Option<Root>,
-) -> (Option<Root>, &'a [Departure])
-    ensures fewer { (d : Left) → In d result.1.now → In d left.entry.now }
-    ensures over { (r : Known) → result.0 ≡ Some r → (root ≡ Some r) ⊎ spec.IsOver (sender_value sender) left.entry.now sent_roots.now port origin.now r }
+) -> (Option<Root>, &'a [Departure], u64)
+    requires { spec.ServeFrom (sender_value sender) sent.now left.now since }
+    ensures root { result.0 ≡ spec.traced_at (sender_value sender) sent.entry.now sent_roots.now port origin.now root }
+    ensures left { spec.ServeFrom (sender_value sender) sent.entry.now result.1.now result.2 }
 {
     if origin.port != port {
-        return (root, left);
+        return (root, left, since);
     }
-    let due = due_from(left, sender.from.port, sender.delay, origin.at);
+    let due = due_for(sender, sent, left, since, origin.at);
     if root.is_some() {
-        return (root, due);
+        return (root, due, origin.at);
     }
-    (root_over(sent_roots, due, sender.delay, origin.at), due)
+    (
+        root_over(sent_roots, due, sender.delay, origin.at),
+        due,
+        origin.at,
+    )
 }
 
 /// From which frames those of a hop are, once what came to a port from another hop is known of.
@@ -173,25 +196,41 @@ fn traced<A: Allocator + Copy>(
 {
     let mut made = Vec::with_capacity(alloc, roots.len())?;
     let mut left = sent;
+    let mut since = 0u64;
     for place in 0..roots.len() {
         if place >= origins.len() {
             return Ok(made);
         }
-        let (root, due) = traced_one(
+        let (root, due, at) = traced_one(
             sender,
+            sent,
             left,
+            since,
             sent_roots,
             port,
             &origins[place],
             roots[place],
         );
         left = due;
+        since = at;
         made.push(root)?;
     }
     Ok(made)
 }
 
-/// Traces what came to a port of the hop at a place from another one.
+/// Whether something is known of a frame of which nothing was.
+fn is_more(old: &[Option<Root>], new: &[Option<Root>]) -> bool
+    ensures { result ≡ false → spec.AddNothing old.now new.now }
+{
+    for place in 0..new.len() {
+        if place < old.len() && old[place].is_none() && new[place].is_some() {
+            return true;
+        }
+    }
+    false
+}
+
+/// Traces what came to a port of the hop at a place from another one; whether something more is known then.
 fn trace_pair<A: Allocator + Copy>(
     alloc: A,
     hops: &[HopRun<'_, A>],
@@ -200,15 +239,17 @@ fn trace_pair<A: Allocator + Copy>(
     other: usize,
     port: u8,
     sender: Sender,
-) -> Result<(), NoMemory>
+) -> Result<bool, NoMemory>
     requires place { place < length hops.now }
     requires other { other < length hops.now }
     requires many { length all.old.items ≡ length hops.now }
     ensures many { OnOk result (length all.new.items ≡ length hops.now) }
-    ensures traced { OnOk result ((links : List Link) → spec.SenderIs links hops.now place port (sender_value sender) → spec.AreFrom links hops.now all.old.items → spec.AreFrom links hops.now all.new.items) }
+    ensures sound { OnOk result ((links : List Link) → spec.SenderIs links hops.now place port (sender_value sender) → spec.AreSound links hops.now all.old.items → spec.AreSound links hops.now all.new.items) }
+    ensures same { IfOk result (λ more. more ≡ false → all.new ≡ all.old) }
+    ensures exhausted { IfOk result (λ more. more ≡ false → spec.IsPairExhausted hops.now all.old.items (sender_value sender) place port other) }
 {
     if hops[other].bridge != sender.from.bridge as usize {
-        return Ok(());
+        return Ok(false);
     }
     let sent = hops[other].view;
     let came = hops[place].view;
@@ -221,11 +262,23 @@ fn trace_pair<A: Allocator + Copy>(
         &came.origins,
         &all[place],
     )?;
+    if !is_more(&all[place], &made) {
+        return Ok(false);
+    }
     all[place] = made;
-    Ok(())
+    Ok(true)
 }
 
-/// Traces what came to a port of the hop at a place from all hops of the bridge that sends there.
+/// Whether either holds.
+fn either(one: bool, other: bool) -> bool
+    ensures one { result ≡ false → one ≡ false }
+    ensures other { result ≡ false → other ≡ false }
+{
+    one || other
+}
+
+/// Traces what came to a port of the hop at a place from all hops of the bridge that sends there; whether something more is
+/// known then.
 fn trace_sender<A: Allocator + Copy>(
     alloc: A,
     hops: &[HopRun<'_, A>],
@@ -233,19 +286,23 @@ fn trace_sender<A: Allocator + Copy>(
     place: usize,
     port: u8,
     sender: Sender,
-) -> Result<(), NoMemory>
+) -> Result<bool, NoMemory>
     requires place { place < length hops.now }
     requires many { length all.old.items ≡ length hops.now }
     ensures many { OnOk result (length all.new.items ≡ length hops.now) }
-    ensures traced { OnOk result ((links : List Link) → spec.SenderIs links hops.now place port (sender_value sender) → spec.AreFrom links hops.now all.old.items → spec.AreFrom links hops.now all.new.items) }
+    ensures sound { OnOk result ((links : List Link) → spec.SenderIs links hops.now place port (sender_value sender) → spec.AreSound links hops.now all.old.items → spec.AreSound links hops.now all.new.items) }
+    ensures same { IfOk result (λ more. more ≡ false → all.new ≡ all.old) }
+    ensures exhausted { IfOk result (λ more. more ≡ false → (j : ℕ) → j < length hops.now → spec.IsPairExhausted hops.now all.old.items (sender_value sender) place port j) }
 {
+    let mut more = false;
     for other in 0..hops.len() {
-        trace_pair(alloc, hops, all, place, other, port, sender)?;
+        let found = trace_pair(alloc, hops, all, place, other, port, sender)?;
+        more = either(more, found);
     }
-    Ok(())
+    Ok(more)
 }
 
-/// Traces what came to a port of the hop at a place over its link.
+/// Traces what came to a port of the hop at a place over its link; whether something more is known then.
 fn trace_port<A: Allocator + Copy>(
     alloc: A,
     links: &[Link],
@@ -253,74 +310,71 @@ fn trace_port<A: Allocator + Copy>(
     all: &mut Vec<Vec<Option<Root>, A>, A>,
     place: usize,
     port: u8,
-) -> Result<(), NoMemory>
+) -> Result<bool, NoMemory>
     requires place { place < length hops.now }
     requires many { length all.old.items ≡ length hops.now }
     ensures many { OnOk result (length all.new.items ≡ length hops.now) }
-    ensures traced { OnOk result (spec.AreFrom links.now hops.now all.old.items → spec.AreFrom links.now hops.now all.new.items) }
+    ensures sound { OnOk result (spec.AreSound links.now hops.now all.old.items → spec.AreSound links.now hops.now all.new.items) }
+    ensures same { IfOk result (λ more. more ≡ false → all.new ≡ all.old) }
+    ensures exhausted { IfOk result (λ more. more ≡ false → spec.IsPortExhausted links.now hops.now all.old.items place port) }
 {
     match sender_of(links, hops[place].bridge, port) {
         Some(sender) => {
-            trace_sender(alloc, hops, all, place, port, sender)?;
-            Ok(())
+            let more = trace_sender(alloc, hops, all, place, port, sender)?;
+            Ok(more)
         }
-        None => Ok(()),
+        None => Ok(false),
     }
 }
 
-/// Traces what came to the hop at a place over links.
+/// Traces what came to the hop at a place over links; whether something more is known then.
 fn trace_hop<A: Allocator + Copy>(
     alloc: A,
     links: &[Link],
     hops: &[HopRun<'_, A>],
     all: &mut Vec<Vec<Option<Root>, A>, A>,
     place: usize,
-) -> Result<(), NoMemory>
+) -> Result<bool, NoMemory>
     requires place { place < length hops.now }
     requires many { length all.old.items ≡ length hops.now }
     ensures many { OnOk result (length all.new.items ≡ length hops.now) }
-    ensures traced { OnOk result (spec.AreFrom links.now hops.now all.old.items → spec.AreFrom links.now hops.now all.new.items) }
+    ensures sound { OnOk result (spec.AreSound links.now hops.now all.old.items → spec.AreSound links.now hops.now all.new.items) }
+    ensures same { IfOk result (λ more. more ≡ false → all.new ≡ all.old) }
+    ensures exhausted { IfOk result (λ more. more ≡ false → (q : ℕ) → 1 ≤ q → q < 17 → spec.IsPortExhausted links.now hops.now all.old.items place q) }
 {
+    let mut more = false;
     for port in 1..17u8 {
-        trace_port(alloc, links, hops, all, place, port)?;
+        let found = trace_port(alloc, links, hops, all, place, port)?;
+        more = either(more, found);
     }
-    Ok(())
+    Ok(more)
 }
 
-/// Traces what came to each hop over links.
+/// Traces what came to each hop over links; whether something more is known then.
 fn trace_all<A: Allocator + Copy>(
     alloc: A,
     links: &[Link],
     hops: &[HopRun<'_, A>],
     all: &mut Vec<Vec<Option<Root>, A>, A>,
-) -> Result<(), NoMemory>
+) -> Result<bool, NoMemory>
     requires many { length all.old.items ≡ length hops.now }
     ensures many { OnOk result (length all.new.items ≡ length hops.now) }
-    ensures traced { OnOk result (spec.AreFrom links.now hops.now all.old.items → spec.AreFrom links.now hops.now all.new.items) }
+    ensures sound { OnOk result (spec.AreSound links.now hops.now all.old.items → spec.AreSound links.now hops.now all.new.items) }
+    ensures same { IfOk result (λ more. more ≡ false → all.new ≡ all.old) }
+    ensures exhausted { IfOk result (λ more. more ≡ false → spec.AreExhausted links.now hops.now all.old.items) }
 {
+    let mut more = false;
     for place in 0..hops.len() {
-        trace_hop(alloc, links, hops, all, place)?;
+        let found = trace_hop(alloc, links, hops, all, place)?;
+        more = either(more, found);
     }
-    Ok(())
-}
-
-/// How many frames are known of.
-fn known_in<A: Allocator>(all: &[Vec<Option<Root>, A>]) -> usize {
-    let mut count = 0usize;
-    for roots in all {
-        for root in roots {
-            if root.is_some() {
-                count = count.saturating_add(1);
-            }
-        }
-    }
-    count
+    Ok(more)
 }
 
 /// From which frame of the first hop each frame of each hop is, hop by hop in the order of the frames: one that came over a
 /// link is of the frame that the copy is of that left the other end so much before. Nothing of a frame that came otherwise.
 ///
-/// The hops stand in any order but for the first. As many steps over links are followed as there are hops.
+/// The hops stand in any order but for the first. Links are followed until nothing more is found.
 pub fn roots_of<A: Allocator + Copy>(
     alloc: A,
     links: &[Link],
@@ -328,15 +382,14 @@ pub fn roots_of<A: Allocator + Copy>(
 ) -> Result<Vec<Vec<Option<Root>, A>, A>, NoMemory>
     ensures many { IfOk result (λ all. length all.items ≡ length hops.now) }
     ensures from { IfOk result (λ all. spec.AreFrom links.now hops.now all.items) }
+    ensures first { IfOk result (λ all. spec.AreFirstKnown hops.now all.items) }
+    ensures exhausted { IfOk result (λ all. spec.AreExhausted links.now hops.now all.items) }
 {
     let mut all = begun(alloc, hops)?;
-    for step in 0..hops.len() {
-        let _step = step;
-        let known = known_in(&all);
-        trace_all(alloc, links, hops, &mut all)?;
-        if known_in(&all) == known {
+    for _ in 0..u64::MAX {
+        if !trace_all(alloc, links, hops, &mut all)? {
             return Ok(all);
         }
     }
-    Ok(all)
+    Err(NoMemory)
 }

@@ -10,7 +10,7 @@ use Rattle.bridge_delays.specs.declared.tallies.Tally.{Tally}
 use Rattle.bridge_delays.specs.declared.tracing.Root.{Root}
 use Rattle.bridge_delays.specs.Counting.{AreTallies}
 use Rattle.bridge_delays.specs.Streams.{delivered_of}
-use Rattle.bridge_delays.specs.Tracing.{AreFrom}
+use Rattle.bridge_delays.specs.Tracing.{AreExhausted, AreFirstKnown, AreFrom}
 use Rattle.bridge_net_app.specs.InTime.{AreRunsOf}
 
 -- so many frames came to the first hop of a stream, and so many of them were delivered, by what was told of its hops and by what is known of the
@@ -22,6 +22,8 @@ pub record IsCountOf {A : Type 0} (links : List Link) (settled : List (Settled A
   pub many : length hops ≡ length stream
   pub told : (o : ℕ → Outcome A) → AreOutcomes settled o → AreRunsOf o stream hops
   pub from : AreFrom links hops known
+  pub first : AreFirstKnown hops known
+  pub exhausted : AreExhausted links hops known
   pub counted : AreTallies links hops known tallies
   pub all : frames ≡ length tallies
   pub kept : delivered ≡ delivered_of tallies
