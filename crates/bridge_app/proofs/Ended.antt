@@ -83,6 +83,11 @@ all_tabled p input output delays frames file (Ok line) h = tt
 all_tabled p input output delays frames file (Err f) (inl h) = inl (shown_ends p input output file f h)
 all_tabled p input output delays frames file (Err f) (inr h) = inr h
 
+-- a table or a picture that is refused before the run
+pub asked_tabled : {A : Type 0} (p : Plan A) (input output : List ℕ) (delays frames file : Option (List ℕ)) (f : Fault) → IsOfShowing file f ⊎ IsOfTables delays frames f → EndsTabled p input output delays frames file f
+asked_tabled p input output delays frames file f (inl h) = inl (shown_ends p input output file f h)
+asked_tabled p input output delays frames file f (inr h) = inr h
+
 -- a picture that failed behind tables that were made
 pub all_behind : {X : Type 0} (delays frames file : Option (List ℕ)) (r : Result X Fault) → IfErr r (IsOfShowing file) → IfErr r (λ f. IsOfShowing file f ⊎ IsOfTables delays frames f)
 all_behind delays frames file (Ok line) h = tt
