@@ -46,6 +46,22 @@ def named(name):
     return next(it for it in crates() if it.name == name)
 
 
+def tries(crate, edits):
+    """Of each edit whether it is refused, and what is said of it, as the kit at hand tries them: over one check of the crate."""
+    flags, tried = ["--jobs", "1"], []
+    if hasattr(rt, "must_fail_all"):
+        return rt.must_fail_all(crate, edits, flags)
+    with rt.ending():
+        room = rt.seeded(crate, flags)
+        for number, edit in enumerate(edits):
+            over = room and f"{room}/{number}"
+            if room:
+                rt.linked(f"{room}/seed", over)
+            kind, said = rt.must_fail(crate, edit, flags, over)
+            tried.append((kind in (rt.REFUSED, rt.AT_LIMIT), said))
+    return tried
+
+
 def do(name, kind):
     """One task; its last line has the word that tells how it ended."""
     crate, begun, well = named(name), time.time(), True
@@ -59,7 +75,7 @@ def do(name, kind):
         well = not crate.ci(["--jobs", "1"], True)
     elif kind == "edits":
         good, bad = rt.edits_of(crate)
-        for refused, said in rt.must_fail_all(crate, good, ["--jobs", "1"]):
+        for refused, said in tries(crate, good):
             print(said)
             well = well and refused
         well = well and not bad
