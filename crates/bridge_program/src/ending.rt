@@ -1,5 +1,5 @@
 //! With what a job ends, and how a fault does.
-ghost use Rattle.std.specs.Prelude.{◌≡◌, IfOk};
+ghost use Rattle.std.specs.Prelude.{[], ◌≡◌, IfOk, string_bytes};
 ghost use Rattle.bridge_jobs.specs.Status.{status_of};
 
 use bridge_app::said_of;
@@ -29,6 +29,7 @@ pub fn refused(
     fault: &Fault,
 ) -> Result<Ending, NoMemory>
     ensures status { IfOk result (λ ending. ending.status ≡ status_of fault.now) }
+    ensures printed { IfOk result (λ ending. string_bytes ending.printed ≡ []) }
 {
     let (line, status) = fault_line(rt.alloc(), fault)?;
     let told = lines_of(line, explanation_of(rt, words, fault))?;

@@ -1,5 +1,7 @@
 #![tactic(auto)]
 //! The program: it does the job of its words, says what is to be said of it, and ends with its status.
+ghost use Rattle.std.specs.Prelude.{◌≡◌, IfErr, IfOk};
+ghost use Rattle.std.specs.Process.{exit_status};
 
 use bridge_jobs::{NoMemory, end, print, words_of};
 use bridge_program::{Ending, perform, refused};
@@ -29,7 +31,10 @@ fn done<H: Input + AllocGlobal + Print + Eprint + Files>(
 }
 
 /// Tells what is to be told of a job on standard error, and gives its status.
-fn tell(rt: &impl Eprint, ending: Result<Ending, NoMemory>) -> ExitCode {
+fn tell(rt: &impl Eprint, ending: Result<Ending, NoMemory>) -> ExitCode
+    ensures status { IfOk ending (λ said. exit_status result ≡ said.status) }
+    ensures memory { IfErr ending (λ _. exit_status result ≡ 3) }
+{
     match ending {
         Ok(ending) => {
             let _ = rt.eprint(ending.told.as_str());
