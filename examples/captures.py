@@ -5,13 +5,13 @@ Each of the folders vehicle, cell, aircraft and change beside this file gets two
 `normal`, in which all talkers keep to the plan, and `babbling`, in which one of them sends at the rate of its link, under the
 addresses of other streams, and with any priority; all others send the same frames as in `normal` (in `change` it sends to the
 address of the stream, around a change of schedules and in a window of the stream). The merge gate gets the same plans and
-captures in `crates/gate_run/data`. `line` gets what comes to each of its two bridges, but for the port of the second
+captures in `crates/gate_session/data`. `line` gets what comes to each of its two bridges, but for the port of the second
 that the first one feeds. The seed is fixed, so the same files come out each time.
 
 The files are little-endian and count nanoseconds. A record's moment is that at which the whole frame has come, and only the
 first octets of each frame are captured: its addresses, its tag and its EtherType.
 
-`network` gets what comes to the open ports of its three bridges. `crates/gate_net/data` gets both networks with their
+`network` gets what comes to the open ports of its three bridges. `crates/gate_session/data` gets both networks with their
 captures, and for each open port of `network` a capture in which a talker babbles there beside what comes on it anyway.
 """
 import os
@@ -20,8 +20,7 @@ import shutil
 import struct
 
 TOP = os.path.dirname(os.path.abspath(__file__))
-GATE = os.path.join(os.path.dirname(TOP), "crates", "gate_run", "data")
-NETWORKS = os.path.join(os.path.dirname(TOP), "crates", "gate_net", "data")
+GATE = os.path.join(os.path.dirname(TOP), "crates", "gate_session", "data")
 SEED = 20260801
 GAP = 12
 
@@ -239,7 +238,7 @@ def networks():
     """Makes the captures of the two networks, and gives them and their plans to the merge gate."""
     first, second = line()
     all_ports = zones(None)
-    for top in (TOP, NETWORKS):
+    for top in (TOP, GATE):
         write(os.path.join(top, "line", "first"), first)
         write(os.path.join(top, "line", "second"), second)
         for zone in "abc":
@@ -247,10 +246,10 @@ def networks():
             write(os.path.join(top, "network", zone), ports)
     for name, files in (("line", ("first", "second", "network")), ("network", ("zone_a", "zone_b", "zone_c", "network"))):
         for file in files:
-            shutil.copyfile(os.path.join(TOP, name, f"{file}.toml"), os.path.join(NETWORKS, name, f"{file}.toml"))
-    os.makedirs(os.path.join(NETWORKS, "babbling"), exist_ok=True)
+            shutil.copyfile(os.path.join(TOP, name, f"{file}.toml"), os.path.join(GATE, name, f"{file}.toml"))
+    os.makedirs(os.path.join(GATE, "babbling"), exist_ok=True)
     for zone, number in all_ports:
-        zones((zone, number))[(zone, number)].write(os.path.join(NETWORKS, "babbling", f"{zone}.{number}.pcap"))
+        zones((zone, number))[(zone, number)].write(os.path.join(GATE, "babbling", f"{zone}.{number}.pcap"))
 
 
 def change(babbling):

@@ -23,24 +23,9 @@ const MOST_TEXT: u64 = 1_048_577;
 /// The octets of a capture that are looked at.
 const FRONT: u64 = 64;
 
-/// Tells on standard error why the job of these words ended with a fault. What is told is made anew of the files that the
-/// words name, which are read and not written.
-pub fn explain<H: AllocGlobal + Eprint + Files>(rt: &H, words: &[String], fault: &Fault) {
-    if let Some(said) = said_of(rt, words, fault) {
-        let _ = eprint!(rt; "{said}");
-    }
-}
-
-/// Tells on standard error what is to be said of the plan that these words check or run, where it is accepted: where the
-/// frames of its protected filters may wait and how long they take there at most, and what of it is likely a mistake.
-pub fn explain_accepted<H: AllocGlobal + Eprint + Files>(rt: &H, words: &[String]) {
-    if let Some(said) = said_of_accepted(rt, words) {
-        let _ = eprint!(rt; "{said}");
-    }
-}
-
-/// What is told of a fault of the job of these words.
-fn said_of<H: AllocGlobal + Files>(rt: &H, words: &[String], fault: &Fault) -> Option<String> {
+/// What is told of a fault of the job of these words. It is made anew of the files that the words name, which are read and not
+/// written.
+pub fn said_of<H: AllocGlobal + Files>(rt: &H, words: &[String], fault: &Fault) -> Option<String> {
     let alloc = rt.alloc();
     match job_of(alloc, words) {
         Ok(job) => said_of_job(rt, words, &job, fault),
@@ -134,8 +119,9 @@ fn said_of_check<H: AllocGlobal + Files>(rt: &H, path: &str, fault: &CheckFault)
     said.ok()
 }
 
-/// What is told of the plan of the words where it is accepted.
-fn said_of_accepted<H: AllocGlobal + Files>(rt: &H, words: &[String]) -> Option<String> {
+/// What is told of the plan that these words check or run, where it is accepted: where the frames of its protected filters may
+/// wait and how long they take there at most, and what of it is likely a mistake.
+pub fn said_of_accepted<H: AllocGlobal + Files>(rt: &H, words: &[String]) -> Option<String> {
     match job_of(rt.alloc(), words) {
         Ok(job) => said_of_warnings(rt, accepted_path(&job)?),
         Err(_) => None,

@@ -1,6 +1,5 @@
 //! The flags `--explain` and `--strict`: which words have them, and that they change no job.
 use bridge_cli::{job_of, wants_explanation, wants_strictness};
-use bridge_jobs::Fault;
 use fixture_text::must::must;
 use std::alloc::{AllocError, Global};
 use std::test::Fail;
@@ -48,18 +47,6 @@ const PLAIN: &[&[&str]] = &[
     &["wire", "10", "1", "IN", "--", "--explain"],
     &["run", "PLAN", "IN", "OUT", "--commands=--explain"],
     &["run", "PLAN", "IN", "--", "--explain"],
-];
-
-/// Words that are refused, whether they have the flag or not.
-const REFUSED: &[&[&str]] = &[
-    &["--explain"],
-    &["--explain", "check", "PLAN"],
-    &["check", "--explain"],
-    &["check", "PLAN", "--explain", "--explain"],
-    &["check", "PLAN", "--explain=yes"],
-    &["check", "PLAN", "--explained"],
-    &["check", "PLAN", "-e"],
-    &["run", "PLAN", "IN", "OUT", "--commands", "--explain"],
 ];
 
 /// Words of a plan or of a network, and whether they want strictness.
@@ -140,28 +127,6 @@ fn each_is_plain(alloc: Global) -> Result<(), Fail> {
 #[test]
 fn a_path_is_no_flag(rt: HostRuntime) -> Result<(), Fail> {
     each_is_plain(rt.alloc())
-}
-
-/// Whether the words are refused.
-fn is_refused(alloc: Global, line: &[&str]) -> Result<bool, Fail> {
-    let words = owned_of(alloc, line)?;
-    Ok(matches!(job_of(alloc, &words), Err(Fault::Words)))
-}
-
-/// Tests each row of words that are refused.
-fn each_is_refused(alloc: Global) -> Result<(), Fail> {
-    let mut number = 0;
-    for line in REFUSED {
-        let holds = is_refused(alloc, line)?;
-        must(holds, "words", number)?;
-        number = number.saturating_add(1);
-    }
-    Ok(())
-}
-
-#[test]
-fn the_flag_stands_behind_a_command_once(rt: HostRuntime) -> Result<(), Fail> {
-    each_is_refused(rt.alloc())
 }
 
 /// Whether the words ask for a job, and want strictness or don't.

@@ -10,8 +10,6 @@ mod commanded;
 #[cfg(test)]
 mod flag;
 #[cfg(test)]
-mod help;
-#[cfg(test)]
 mod program;
 #[cfg(test)]
 mod sketch;

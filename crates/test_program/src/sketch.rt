@@ -1,6 +1,5 @@
 //! Words that ask for a picture, of a plan or of a run.
 use bridge_cli::{job_of, picture_request_of};
-use bridge_jobs::Fault;
 use fixture_text::must::must;
 use std::alloc::{AllocError, Global};
 use std::test::Fail;
@@ -40,50 +39,6 @@ const ASKED: &[Row] = &[
     (&["wire", "10", "1", "IN", "OUT"], "None"),
 ];
 
-const REFUSED: &[&[&str]] = &[
-    &["run", "PLAN", "IN", "OUT", "--from", "7"],
-    &["run", "PLAN", "IN", "OUT", "--to", "7"],
-    &["run", "PLAN", "IN", "OUT", "--picture"],
-    &[
-        "run",
-        "PLAN",
-        "IN",
-        "OUT",
-        "--picture",
-        "P",
-        "--picture",
-        "Q",
-    ],
-    &["run", "PLAN", "IN", "OUT", "--picture", "P", "--from", "x"],
-    &["run", "PLAN", "IN", "OUT", "--picture", "P", "--from", "+7"],
-    &["run", "PLAN", "IN", "OUT", "--picture", "P", "--from", ""],
-    &[
-        "run",
-        "PLAN",
-        "IN",
-        "OUT",
-        "--picture",
-        "P",
-        "--to",
-        "4000000000000000000",
-    ],
-    &[
-        "run",
-        "PLAN",
-        "IN",
-        "OUT",
-        "--picture",
-        "P",
-        "--from",
-        "7",
-        "--to",
-        "7",
-    ],
-    &["check", "PLAN", "--picture", "P"],
-    &["picture", "PLAN"],
-    &["picture", "PLAN", "FILE", "MORE"],
-];
-
 /// The words of a command line.
 fn owned_of(alloc: Global, line: &[&str]) -> Result<Vec<String>, AllocError> {
     let mut words = Vec::new(alloc);
@@ -105,27 +60,11 @@ fn asks(alloc: Global, row: &Row) -> Result<bool, Fail> {
     }
 }
 
-/// Whether these words are refused.
-fn is_refused(alloc: Global, line: &[&str]) -> Result<bool, Fail> {
-    let words = owned_of(alloc, line)?;
-    Ok(matches!(picture_request_of(alloc, &words), Err(Fault::Words)))
-}
-
 #[test]
 fn words_ask_for_a_picture_of_a_run(rt: HostRuntime) -> Result<(), Fail> {
     let mut number = 0;
     for row in ASKED {
         must(asks(rt.alloc(), row)?, "row", number)?;
-        number = number.saturating_add(1);
-    }
-    Ok(())
-}
-
-#[test]
-fn other_words_are_refused(rt: HostRuntime) -> Result<(), Fail> {
-    let mut number = 0;
-    for line in REFUSED {
-        must(is_refused(rt.alloc(), line)?, "row", number)?;
         number = number.saturating_add(1);
     }
     Ok(())

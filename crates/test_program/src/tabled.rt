@@ -1,6 +1,5 @@
 //! Words that ask for tables of a run.
 use bridge_cli::table_request_of;
-use bridge_jobs::Fault;
 use fixture_text::must::must;
 use std::alloc::{AllocError, Global};
 use std::test::Fail;
@@ -45,15 +44,6 @@ const ASKED: &[Row] = &[
     ),
 ];
 
-const REFUSED: &[&[&str]] = &[
-    &["run", "PLAN", "IN", "OUT", "--delays"],
-    &["run", "PLAN", "IN", "OUT", "--frames"],
-    &["run", "PLAN", "IN", "OUT", "--delays", "D", "--delays", "D"],
-    &["check", "PLAN", "--delays", "D"],
-    &["net", "NET", "IN", "OUT", "--frames", "F"],
-    &["--delays", "D"],
-];
-
 /// The words of a command line.
 fn owned_of(alloc: Global, line: &[&str]) -> Result<Vec<String>, AllocError> {
     let mut words = Vec::new(alloc);
@@ -75,27 +65,11 @@ fn asks(alloc: Global, row: &Row) -> Result<bool, Fail> {
     }
 }
 
-/// Whether these words are refused.
-fn is_refused(alloc: Global, line: &[&str]) -> Result<bool, Fail> {
-    let words = owned_of(alloc, line)?;
-    Ok(matches!(table_request_of(alloc, &words), Err(Fault::Words)))
-}
-
 #[test]
 fn words_ask_for_tables_of_a_run(rt: HostRuntime) -> Result<(), Fail> {
     let mut number = 0;
     for row in ASKED {
         must(asks(rt.alloc(), row)?, "row", number)?;
-        number = number.saturating_add(1);
-    }
-    Ok(())
-}
-
-#[test]
-fn other_words_are_refused(rt: HostRuntime) -> Result<(), Fail> {
-    let mut number = 0;
-    for line in REFUSED {
-        must(is_refused(rt.alloc(), line)?, "row", number)?;
         number = number.saturating_add(1);
     }
     Ok(())
