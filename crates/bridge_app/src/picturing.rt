@@ -7,7 +7,7 @@ use bridge_cli::PictureRequest;
 use bridge_files::{FileId, Output, add_file, file_at, is_one_of, open_taken, output_at};
 use bridge_inputs::RunFault;
 use bridge_jobs::{Fault, fault_of_file, plan_from};
-use bridge_picture::{draw_plan, draw_run};
+use bridge_picture::{Part, draw_plan, draw_run};
 use bridge_semantics::Outcome;
 use std::alloc::Global;
 use std::fs::OpenFile;
@@ -47,7 +47,13 @@ fn drawn_of(alloc: Global, checked: &Result<Accepted<Global>, Refused<Global>>) 
             return None;
         }
     }
-    match draw_plan(alloc, checked) {
+    let part = Part {
+        from: None,
+        to: None,
+        ports: &[],
+        filters: &[],
+    };
+    match draw_plan(alloc, checked, &part) {
         Ok(text) => Some(text),
         Err(_) => None,
     }
@@ -83,7 +89,13 @@ pub(crate) fn put_sketch<H: AllocGlobal + Files>(
 ) -> Result<(), Fault>
     ensures { IfErr result (IsOfPicture (string_bytes sketch.file)) }
 {
-    let Ok(text) = draw_run(rt.alloc(), accepted, outcome, sketch.from, sketch.to) else {
+    let part = Part {
+        from: sketch.from,
+        to: sketch.to,
+        ports: &[],
+        filters: &[],
+    };
+    let Ok(text) = draw_run(rt.alloc(), accepted, outcome, &part) else {
         return Err(Fault::Run(RunFault::NoMemory));
     };
     put_picture(rt, sketch.file, taken, text.as_str())
