@@ -103,6 +103,8 @@ Options:
       --picture <FILE>   file of a picture of the run, which is made too (SVG)
       --from <NS>        from when on the picture shows the run, in ns below 4 * 10^18; else from its start
       --to <NS>          up to when it does, in ns below 4 * 10^18, behind that; else up to its end
+      --ports <LIST>     the ports that the picture shows, as 1,3; else all
+      --filters <LIST>   the filters of which it shows the frames, as 10,20; else all
       --strict           run nothing and end with status 1 where there is a warning of the plan
       --explain          say more on standard error: of a fault, or of a plan that is accepted
   -h, --help             Print help
@@ -130,9 +132,12 @@ Arguments:
   <FILE>  file of the picture that is made (SVG)
 
 Options:
-      --explain  say more on standard error: of a fault, or of a plan that is accepted
-  -h, --help     Print help
-  -V, --version  Print version
+      --from <NS>     of a plan from when on it is drawn, in ns below 4 * 10^18; else from its start
+      --to <NS>       of a plan up to when, in ns below 4 * 10^18, behind that; else up to its end
+      --ports <LIST>  of a plan the ports that are drawn, as 1,3, without its stream gates; else all
+      --explain       say more on standard error: of a fault, or of a plan that is accepted
+  -h, --help          Print help
+  -V, --version       Print version
 
 Example:
   tsnbridge picture examples/base.toml base.svg

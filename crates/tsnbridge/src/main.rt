@@ -3,7 +3,7 @@
 ghost use Rattle.bridge_cli.specs.CommandLine.{HasRoom};
 
 use bridge_app::{
-    Strict, explain, explain_accepted, picture_job, run_with_tables, strict_check_job,
+    Strict, explain, explain_accepted, picture_part_job, run_with_tables, strict_check_job,
     strict_run_job, write_picture,
 };
 use bridge_cli::{
@@ -233,7 +233,7 @@ fn answer_of(
             commands,
         } => run_bridge(rt, plan, input, output, commands, beside, wishes),
         Job::Picture { plan, file } => {
-            draw(rt, plan, file)?;
+            draw(rt, plan, file, beside.sketch)?;
             Ok(answered(None))
         }
         Job::Bounds { plan, traffic } => bounds(rt, plan, traffic),
@@ -289,10 +289,18 @@ fn run_network(rt: &(impl AllocGlobal + Eprint + Files), job: RoundsJob) -> Resu
     })
 }
 
-/// Draws the network or the plan of a file into another file.
-fn draw(rt: &(impl AllocGlobal + Files), path: String, file: String) -> Result<(), Fault> {
+/// Draws the network or the plan of a file, or a part of a plan, into another file. `Words` for a part of a network.
+fn draw(
+    rt: &(impl AllocGlobal + Files),
+    path: String,
+    file: String,
+    sketch: Option<PictureRequest>,
+) -> Result<(), Fault> {
     if !is_network(rt, path.as_str()) {
-        return picture_job(rt, path, file);
+        return picture_part_job(rt, path, file, sketch);
+    }
+    if sketch.is_some() {
+        return Err(Fault::Words);
     }
     let picture = network_picture(rt, path.as_str())?;
     write_picture(rt, file, &picture.read, picture.text.as_str())
