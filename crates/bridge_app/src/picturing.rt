@@ -3,11 +3,11 @@ ghost use Rattle.std.specs.Prelude.{◌≤◌, IfErr, string_bytes};
 ghost use Rattle.bridge_app.specs.Files.{EndsPicture, IsOfPicture};
 
 use bridge_check::{Accepted, CheckFault, Refused, check};
-use bridge_cli::PictureRequest;
+use bridge_cli::{PictureRequest, numbers_of};
 use bridge_files::{FileId, Output, add_file, file_at, is_one_of, open_taken, output_at};
 use bridge_inputs::RunFault;
 use bridge_jobs::{Fault, fault_of_file, plan_from};
-use bridge_picture::{draw_plan, draw_run};
+use bridge_picture::{NoMemory, Part, draw_plan, draw_run};
 use bridge_semantics::Outcome;
 use std::alloc::Global;
 use std::fs::OpenFile;
@@ -22,6 +22,18 @@ use std::rt::Files;
 pub fn picture_job<H: AllocGlobal + Files>(rt: &H, plan: String, file: String) -> Result<(), Fault>
     ensures { IfErr result (EndsPicture Global (string_bytes plan) (string_bytes file)) }
 {
+    picture_part_job(rt, plan, file, None)
+}
+
+/// The same of the part of the plan that is asked for, where one is.
+pub fn picture_part_job<H: AllocGlobal + Files>(
+    rt: &H,
+    plan: String,
+    file: String,
+    sketch: Option<PictureRequest>,
+) -> Result<(), Fault>
+    ensures { IfErr result (EndsPicture Global (string_bytes plan) (string_bytes file)) }
+{
     let mut taken = Vec::new(rt.alloc());
     let reader = match open_taken(rt, plan.as_str(), &mut taken) {
         Ok(reader) => reader,
@@ -32,7 +44,7 @@ pub fn picture_job<H: AllocGlobal + Files>(rt: &H, plan: String, file: String) -
         Err(fault) => return Err(fault),
     };
     let checked = check(rt.alloc(), read);
-    let drawn = drawn_of(rt.alloc(), &checked);
+    let drawn = drawn_of(rt.alloc(), &checked, &sketch);
     drop(checked);
     match drawn {
         Some(text) => put_picture(rt, file, &taken, text.as_str()),
@@ -40,16 +52,75 @@ pub fn picture_job<H: AllocGlobal + Files>(rt: &H, plan: String, file: String) -
     }
 }
 
-/// The picture of a plan by what its check answered; none where memory was refused to the check or to the picture.
-fn drawn_of(alloc: Global, checked: &Result<Accepted<Global>, Refused<Global>>) -> Option<String> {
+/// The picture of a plan by what its check answered, or of the part of it that is asked for; none where memory was refused to
+/// the check or to the picture.
+fn drawn_of(
+    alloc: Global,
+    checked: &Result<Accepted<Global>, Refused<Global>>,
+    sketch: &Option<PictureRequest>,
+) -> Option<String> {
     if let Err(refused) = checked {
         if matches!(refused.fault, CheckFault::NoMemory) {
             return None;
         }
     }
-    match draw_plan(alloc, checked) {
+    let drawn = match sketch {
+        Some(sketch) => part_drawn(alloc, checked, sketch),
+        None => draw_plan(alloc, checked, &WHOLE),
+    };
+    match drawn {
         Ok(text) => Some(text),
         Err(_) => None,
+    }
+}
+
+/// All of a plan.
+const WHOLE: Part<'static> = Part {
+    from: None,
+    to: None,
+    ports: &[],
+    filters: &[],
+};
+
+/// The picture of the part of a plan that is asked for.
+fn part_drawn(
+    alloc: Global,
+    checked: &Result<Accepted<Global>, Refused<Global>>,
+    sketch: &PictureRequest,
+) -> Result<String, NoMemory> {
+    let ports = listed(alloc, &sketch.ports)?;
+    let part = Part {
+        from: sketch.from,
+        to: sketch.to,
+        ports: &ports,
+        filters: &[],
+    };
+    draw_plan(alloc, checked, &part)
+}
+
+/// The picture of the part of a run that is asked for.
+fn run_drawn(
+    alloc: Global,
+    accepted: &Accepted<Global>,
+    outcome: &Outcome<Global>,
+    sketch: &PictureRequest,
+) -> Result<String, NoMemory> {
+    let ports = listed(alloc, &sketch.ports)?;
+    let filters = listed(alloc, &sketch.filters)?;
+    let part = Part {
+        from: sketch.from,
+        to: sketch.to,
+        ports: &ports,
+        filters: &filters,
+    };
+    draw_run(alloc, accepted, outcome, &part)
+}
+
+/// The numbers of a list, where there is one.
+fn listed(alloc: Global, list: &Option<String>) -> Result<Vec<u32>, NoMemory> {
+    match list {
+        Some(list) => Ok(numbers_of(alloc, list.as_str())?),
+        None => Ok(Vec::new(alloc)),
     }
 }
 
@@ -83,7 +154,7 @@ pub(crate) fn put_sketch<H: AllocGlobal + Files>(
 ) -> Result<(), Fault>
     ensures { IfErr result (IsOfPicture (string_bytes sketch.file)) }
 {
-    let Ok(text) = draw_run(rt.alloc(), accepted, outcome, sketch.from, sketch.to) else {
+    let Ok(text) = run_drawn(rt.alloc(), accepted, outcome, &sketch) else {
         return Err(Fault::Run(RunFault::NoMemory));
     };
     put_picture(rt, sketch.file, taken, text.as_str())

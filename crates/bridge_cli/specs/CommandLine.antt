@@ -47,15 +47,17 @@ check_command = with_rule (with_rule (with_rule (new_app (codes "check")) (word_
 
 -- `run PLAN IN OUT`, with `--commands FILE` if commands are wanted, and what is wanted beside the report
 abbrev pub run_command : App
-run_command = with_rule (with_rule (with_rule (with_rule (with_rule (with_rule (with_rule (with_rule (with_rule (with_rule (with_rule (new_app (codes "run"))
+run_command = with_rule (with_rule (with_rule (with_rule (with_rule (with_rule (with_rule (with_rule (with_rule (with_rule (with_rule (with_rule (with_rule (new_app (codes "run"))
     (word_named (codes "plan"))) (word_named (codes "input"))) (word_named (codes "output"))) (option_named (codes "commands")))
     (option_named (codes "delays"))) (option_named (codes "frames")))
-    (option_named (codes "picture"))) (option_named (codes "from"))) (option_named (codes "to"))) (flag_named (codes "strict")))
+    (option_named (codes "picture"))) (option_named (codes "from"))) (option_named (codes "to"))) (option_named (codes "ports"))) (option_named (codes "filters")))
+    (flag_named (codes "strict")))
     (flag_named (codes "explain"))
 
--- `picture PLAN FILE`
+-- `picture PLAN FILE`, with options if a part of it is drawn
 abbrev pub picture_command : App
-picture_command = with_rule (with_rule (with_rule (new_app (codes "picture")) (word_named (codes "plan"))) (word_named (codes "file"))) (flag_named (codes "explain"))
+picture_command = with_rule (with_rule (with_rule (with_rule (with_rule (with_rule (new_app (codes "picture")) (word_named (codes "plan"))) (word_named (codes "file")))
+    (option_named (codes "from"))) (option_named (codes "to"))) (option_named (codes "ports"))) (flag_named (codes "explain"))
 
 -- `bounds PLAN`, with `--traffic FILE` if traffic is told
 abbrev pub bounds_command : App

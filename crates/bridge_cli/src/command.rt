@@ -181,6 +181,18 @@ const RUN: Description = Description {
             help: "up to when it does, in ns below 4 * 10^18, behind that; else up to its end",
         },
         Word {
+            id: "ports",
+            value: "LIST",
+            form: Form::Choice,
+            help: "the ports that the picture shows, as 1,3; else all",
+        },
+        Word {
+            id: "filters",
+            value: "LIST",
+            form: Form::Choice,
+            help: "the filters of which it shows the frames, as 10,20; else all",
+        },
+        Word {
             id: "strict",
             value: "",
             form: Form::Flag,
@@ -216,6 +228,24 @@ const PICTURE: Description = Description {
             value: "FILE",
             form: Form::Place,
             help: "file of the picture that is made (SVG)",
+        },
+        Word {
+            id: "from",
+            value: "NS",
+            form: Form::Choice,
+            help: "of a plan from when on it is drawn, in ns below 4 * 10^18; else from its start",
+        },
+        Word {
+            id: "to",
+            value: "NS",
+            form: Form::Choice,
+            help: "of a plan up to when, in ns below 4 * 10^18, behind that; else up to its end",
+        },
+        Word {
+            id: "ports",
+            value: "LIST",
+            form: Form::Choice,
+            help: "of a plan the ports that are drawn, as 1,3, without its stream gates; else all",
         },
         EXPLAIN,
     ],

@@ -12,5 +12,6 @@ mod table_request;
 pub use explaining::{wants_explanation, wants_strictness};
 pub use helping::{help_of, manual_of};
 pub use job::{Job, job_of};
+pub use number::numbers_of;
 pub use picture_request::{PictureRequest, picture_request_of};
 pub use table_request::{TableRequest, table_request_of};

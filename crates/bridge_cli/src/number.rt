@@ -8,6 +8,7 @@ ghost use Rattle.bridge_cli.specs.Numbers.{IsMoment, IsRoom, IsSpeed};
 use bridge_frame::Speed;
 use bridge_limits::END_OF_TIME;
 use bridge_port::LARGEST_ROOM;
+use std::alloc::{AllocError, Global};
 
 /// The number of a word of decimal digits alone, one or more, where it is below 2^32.
 fn number_of(word: &str) -> Option<u32>
@@ -57,4 +58,25 @@ pub fn moment_of(word: &str) -> Option<u64>
         Ok(moment) if moment < END_OF_TIME => Some(moment),
         _ => None,
     }
+}
+
+/// Whether a word is a list of numbers: decimal digits alone, one or more, each number below 2^32, with a comma between two.
+pub(crate) fn is_list(word: &str) -> bool {
+    for part in word.split(',') {
+        if number_of(part).is_none() {
+            return false;
+        }
+    }
+    true
+}
+
+/// The numbers of a list with a comma between two, each of decimal digits alone and below 2^32; of other words nothing.
+pub fn numbers_of(alloc: Global, list: &str) -> Result<Vec<u32>, AllocError> {
+    let mut numbers = Vec::new(alloc);
+    for part in list.split(',') {
+        if let Some(number) = number_of(part) {
+            numbers.push(number)?;
+        }
+    }
+    Ok(numbers)
 }

@@ -1,68 +1,113 @@
-//! The picture of a run that the words of the command line ask for.
-ghost use Rattle.std.specs.Prelude.{◌≡◌, ◌⊎◌, Some, IfOk, IfErr, IsTrue, List, codes, map, string_bytes};
+//! The picture of a run, or the part of a plan, that the words of the command line ask for.
+ghost use Rattle.std.specs.Prelude.{◌≡◌, ◌⊎◌, Some, IfOk, IfErr, IsTrue, List, codes, map, option_map, string_bytes};
 ghost use Rattle.bridge_inputs.specs.declared.fault.RunFault.{RunFault};
 ghost use Rattle.clap.specs.Words.{Row, first_of, found_of, rows_of, subcommand_of};
 ghost use Rattle.bridge_cli.specs.CommandLine.{commands};
-ghost use Rattle.bridge_cli.specs.Sketching.{AreInOrder, AsksForSketch, IsBound};
+ghost use Rattle.bridge_cli.specs.Sketching.{AreInOrder, AsksForPart, AsksForSketch, HasNoPart, IsBound, IsSketch};
 
 use crate::command::matches_of;
 use crate::job::{fault_of, value_of};
-use crate::number::moment_of;
+use crate::number::{is_list, moment_of};
 use bridge_jobs::Fault;
 use clap::ArgMatches;
-use std::alloc::Global;
+use std::alloc::{AllocError, Global};
 
-/// A picture that is asked for of a run.
+/// A picture that is asked for of a run, or of a part of a plan.
 #[derive(Debug, Drop)]
 pub struct PictureRequest {
     /// The path of its file.
     pub file: String,
-    /// The moment from which on it shows the run, in ns; without it from the first thing on that there is to show.
+    /// The moment from which on it shows the run or the plan, in ns; without it from the first thing on that there is to show.
     pub from: Option<u64>,
     /// The moment up to which it does, in ns; without it up to the last such thing.
     pub to: Option<u64>,
+    /// The numbers of the ports that it shows, with commas between them (`numbers_of`); without them all.
+    pub ports: Option<String>,
+    /// The numbers of the filters of which it shows the frames; without them all.
+    pub filters: Option<String>,
 }
 
-/// The picture that the words after the program's name ask for beside a run, by `--picture FILE`, `--from NS` and `--to NS`;
-/// none for every other job.
+/// The picture that the words after the program's name ask for beside a run, by `--picture FILE`, `--from NS`, `--to NS`,
+/// `--ports LIST` and `--filters LIST`, and the one of a plan, where `--from NS`, `--to NS` or `--ports LIST` asks for a part of
+/// it; none for every other job.
 ///
-/// `Words` for a moment that isn't one, for moments that aren't in order, and for a moment without a picture; `Run` with
+/// `Words` for a moment or a list that isn't one, for moments that aren't in order, and for either without a picture; `Run` with
 /// `NoMemory` where a growth was refused.
 pub fn picture_request_of(alloc: Global, words: &[String]) -> Result<Option<PictureRequest>, Fault>
     ensures ok { IfOk result (λ sketch. (values : List Row) → subcommand_of commands (map string_bytes words.now) ≡ Some (codes "run", values) → AsksForSketch values sketch) }
+    ensures part { IfOk result (λ sketch. (values : List Row) → subcommand_of commands (map string_bytes words.now) ≡ Some (codes "picture", values) → AsksForPart values sketch) }
     ensures only { IfErr result (λ fault. (fault ≡ Fault.Words) ⊎ (fault ≡ Fault.Run RunFault.NoMemory)) }
 {
-    match matches_of(alloc, words) {
-        Ok(matches) => match matches.subcommand_matches("run") {
-            Some(values) => sketch_in(alloc, values),
-            None => Ok(None),
-        },
-        Err(error) => Err(fault_of(&error)),
+    let matches = match matches_of(alloc, words) {
+        Ok(matches) => matches,
+        Err(error) => return Err(fault_of(&error)),
+    };
+    if let Some(values) = matches.subcommand_matches("run") {
+        return sketch_in(alloc, values);
+    }
+    if let Some(values) = matches.subcommand_matches("picture") {
+        return part_in(alloc, values);
+    }
+    Ok(None)
+}
+
+/// Whether these values name no part of a run or of a plan.
+fn has_no_part(values: &ArgMatches) -> bool
+    ensures { IsTrue result → HasNoPart (rows_of (found_of values.now)) }
+{
+    let from = value_of(values, "from");
+    let to = value_of(values, "to");
+    let ports = value_of(values, "ports");
+    let filters = value_of(values, "filters");
+    match (from, to, ports, filters) {
+        (None, None, None, None) => true,
+        _ => false,
     }
 }
 
-/// The picture that these values ask for.
+/// The picture of a run that these values ask for.
 fn sketch_in(alloc: Global, values: &ArgMatches) -> Result<Option<PictureRequest>, Fault>
     ensures ok { IfOk result (AsksForSketch (rows_of (found_of values.now))) }
     ensures only { IfErr result (λ fault. (fault ≡ Fault.Words) ⊎ (fault ≡ Fault.Run RunFault.NoMemory)) }
 {
-    match value_of(values, "picture") {
-        Some(path) => sketch_into(alloc, values, path),
-        None => match (value_of(values, "from"), value_of(values, "to")) {
-            (None, None) => Ok(None),
-            _ => Err(Fault::Words),
-        },
+    let Some(path) = value_of(values, "picture") else {
+        if has_no_part(values) {
+            return Ok(None);
+        }
+        return Err(Fault::Words);
+    };
+    match sketch_into(alloc, values, "picture", path) {
+        Ok(sketch) => Ok(Some(sketch)),
+        Err(fault) => Err(fault),
     }
 }
 
-/// The picture that these values ask for, into the file of a path.
+/// The picture of a part of a plan that these values ask for, where they ask for a part.
+fn part_in(alloc: Global, values: &ArgMatches) -> Result<Option<PictureRequest>, Fault>
+    ensures ok { IfOk result (AsksForPart (rows_of (found_of values.now))) }
+    ensures only { IfErr result (λ fault. (fault ≡ Fault.Words) ⊎ (fault ≡ Fault.Run RunFault.NoMemory)) }
+{
+    if has_no_part(values) {
+        return Ok(None);
+    }
+    let Some(path) = value_of(values, "file") else {
+        return Err(Fault::Words);
+    };
+    match sketch_into(alloc, values, "file", path) {
+        Ok(sketch) => Ok(Some(sketch)),
+        Err(fault) => Err(fault),
+    }
+}
+
+/// The picture that these values ask for, into the file of a path, which stands by this name.
 fn sketch_into(
     alloc: Global,
     values: &ArgMatches,
+    name: &str,
     path: &str,
-) -> Result<Option<PictureRequest>, Fault>
-    requires { first_of (codes "picture") (rows_of (found_of values.now)) ≡ Some path.now }
-    ensures ok { IfOk result (AsksForSketch (rows_of (found_of values.now))) }
+) -> Result<PictureRequest, Fault>
+    requires { first_of name.now (rows_of (found_of values.now)) ≡ Some path.now }
+    ensures ok { IfOk result (IsSketch name.now (rows_of (found_of values.now))) }
     ensures only { IfErr result (λ fault. (fault ≡ Fault.Words) ⊎ (fault ≡ Fault.Run RunFault.NoMemory)) }
 {
     let Some(from) = bound_of(values, "from") else {
@@ -74,8 +119,37 @@ fn sketch_into(
     if !are_in_order(from, to) {
         return Err(Fault::Words);
     }
+    if !has_list(values, "ports") || !has_list(values, "filters") {
+        return Err(Fault::Words);
+    }
     let file = String::from_str(alloc, path)?;
-    Ok(Some(PictureRequest { file, from, to }))
+    let ports = list_of(alloc, values, "ports")?;
+    let filters = list_of(alloc, values, "filters")?;
+    Ok(PictureRequest {
+        file,
+        from,
+        to,
+        ports,
+        filters,
+    })
+}
+
+/// Whether an option, where it stands there, is a list of numbers.
+fn has_list(values: &ArgMatches, name: &str) -> bool {
+    match value_of(values, name) {
+        None => true,
+        Some(word) => is_list(word),
+    }
+}
+
+/// The list of an option, where it stands there.
+fn list_of(alloc: Global, values: &ArgMatches, name: &str) -> Result<Option<String>, AllocError>
+    ensures { IfOk result (λ list. first_of name.now (rows_of (found_of values.now)) ≡ option_map string_bytes list) }
+{
+    match value_of(values, name) {
+        Some(word) => Ok(Some(String::from_str(alloc, word)?)),
+        None => Ok(None),
+    }
 }
 
 /// The moment of an option, where it stands there; `None` where it isn't one.

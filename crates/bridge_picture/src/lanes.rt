@@ -1,41 +1,46 @@
 //! The lanes of ports and of stream gates.
-ghost use Rattle.std.specs.Prelude.{◌≤◌, ◌<◌};
-
-use crate::conflict::Conflict;
-use crate::shapes::{LEFT, Picture, Put, Style};
-use crate::windows::{Lists, put_open, put_windows};
+use crate::svg::{LEFT, Picture, Put, TEXT, either, fill};
+use crate::time::Part;
+use crate::windows::{Lane, put_windows};
 use bridge_check::may_wait;
 use bridge_config::{Plan, PortPlan};
-use bridge_cycle::Egress;
 use bridge_filter::FilterPlan;
 use bridge_frame::Speed;
-use bridge_gate::GatePlan;
-use bridge_ident::StreamEntry;
 use std::alloc::{AllocError, Allocator, Global};
 
-/// The windows of a picture, shared among its lanes.
+/// The windows of a picture, shared among its lanes; the least and the most that a lane may have, as more can't be told apart.
 const MOST_WINDOWS: usize = 8_000;
 
-/// The least number of windows that a lane may have.
 const FEWEST: usize = 24;
 
-/// The most windows of a lane: more can't be told apart.
 const MOST: usize = 250;
 
 /// The gates that are drawn.
-const MOST_GATES: usize = 128;
+pub(crate) const MOST_GATES: usize = 128;
+
+/// The most letters of the name of a lane and of the numbers beside it, without how many more there are.
+const NAMES: usize = 18;
+
+/// The head of a port, and how many stream gates have no room.
+const PORT: &str = r#"<text class="h" x="100" y="{0}">port {1}</text>
+<text class="s" x="{2}" y="{0}">{3} Mb/s</text>"#;
+
+const FURTHER: &str =
+    r#"<text class="b" x="{0}" y="{1}">left out: {2} further stream gates</text>"#;
 
 /// How many windows each lane of a picture may have, with so many gates.
-pub(crate) fn most_of<A: Allocator + Copy>(plan: &Plan<A>, gates: usize) -> usize {
+pub(crate) fn most_of<A: Allocator + Copy>(plan: &Plan<A>, part: &Part, gates: usize) -> usize {
     let mut lanes = gates.min(MOST_GATES);
     for port in plan.ports() {
-        lanes = lanes.saturating_add(if port.list.is_some() { 8 } else { 1 });
+        if part.has_port(port.number) {
+            lanes = lanes.saturating_add(if port.list.is_some() { 8 } else { 1 });
+        }
     }
     (MOST_WINDOWS / lanes.max(1)).max(FEWEST).min(MOST)
 }
 
 /// The speed of a link in Mb/s.
-fn megabits(speed: Speed) -> u32 {
+fn megabits(speed: Speed) -> u64 {
     match speed {
         Speed::Mbps10 => 10,
         Speed::Mbps100 => 100,
@@ -45,73 +50,75 @@ fn megabits(speed: Speed) -> u32 {
     }
 }
 
-/// Whether frames of a filter may wait in some class of a port.
-fn may_wait_there<A: Allocator + Copy>(plan: &Plan<A>, filter: &FilterPlan, port: u8) -> bool
-    requires from { 1 ≤ port }
-    requires to { port ≤ 16 }
-{
+/// Whether frames of a filter may wait in some of these classes of a port.
+fn waits<A: Allocator + Copy>(plan: &Plan<A>, filter: &FilterPlan, port: u8, classes: u8) -> bool {
     for class in 0..8u8 {
-        if may_wait(plan, filter, port, class) {
+        let is_asked = classes == 8 || classes == class;
+        if is_asked && (1..=16).contains(&port) && may_wait(plan, filter, port, class) {
             return true;
         }
     }
     false
 }
 
-/// The numbers of the protected filters whose frames may wait in a class of a port, or in any.
-fn owners_of<A: Allocator + Copy>(
-    alloc: Global,
+/// Whether a lane names a filter: that of a gate those that use it, another one the protected ones whose frames may wait there.
+fn is_named<A: Allocator + Copy>(plan: &Plan<A>, filter: &FilterPlan, lane: &Lane<A>) -> bool {
+    match lane {
+        Lane::Gate(_, gate) => filter.gate == *gate,
+        Lane::Open(port) => filter.protected && waits(plan, filter, *port, 8),
+        Lane::Class(_, port, class) => filter.protected && waits(plan, filter, *port, *class),
+    }
+}
+
+/// Writes as many numbers of the filters that a lane names as have room for their digits, each behind a space, and how many
+/// more there are.
+fn put_numbers<A: Allocator + Copy>(
+    list: &mut String,
     plan: &Plan<A>,
-    port: u8,
-    class: Option<u8>,
-) -> Result<Vec<u32>, AllocError>
-    requires from { 1 ≤ port }
-    requires to { port ≤ 16 }
-{
-    let mut owners = Vec::new(alloc);
+    lane: &Lane<A>,
+    room: usize,
+) -> Put {
+    let mut more: u64 = 0;
     for (number, filter) in plan.filters() {
-        let may = match class {
-            Some(class) => may_wait(plan, filter, port, class % 8),
-            None => may_wait_there(plan, filter, port),
-        };
-        if filter.protected && may {
-            owners.push(*number)?;
+        if is_named(plan, filter, lane) {
+            let digits = number.checked_ilog10().unwrap_or(0) as usize;
+            if more > 0 || list.len().saturating_add(digits).saturating_add(2) > room {
+                more = more.saturating_add(1);
+            } else {
+                fill(list, " {0}", &[u64::from(*number)], "", "")?;
+            }
         }
     }
-    Ok(owners)
+    if more > 0 {
+        fill(list, " +{0}", &[more], "", "")?;
+    }
+    Ok(())
 }
 
-/// The fault of a class of a port, or of all, where it is there.
-fn conflict_at(picture: &Picture, port: u8, class: Option<u8>) -> Option<Conflict> {
-    match picture.conflict {
-        Some(it) if it.port == port && class.unwrap_or(it.class) == it.class => Some(it),
-        _ => None,
+/// Writes the name of a lane.
+fn put_name<A: Allocator + Copy>(name: &mut String, lane: &Lane<A>) -> Put {
+    match lane {
+        Lane::Class(_, _, class) => fill(name, "class {0}", &[u64::from(*class)], "", ""),
+        Lane::Open(_) => name.push_str("always open"),
+        Lane::Gate(_, gate) => fill(name, "gate {0}", &[u64::from(*gate)], "", ""),
     }
 }
 
-/// Names the lane of a class of a port, or of all, with the protected filters whose frames may wait there, and answers the
-/// style of its windows.
-fn put_owners<A: Allocator + Copy>(
-    picture: &mut Picture,
-    plan: &Plan<A>,
-    port: u8,
-    class: Option<u8>,
-) -> Result<Style, AllocError>
-    requires from { 1 ≤ port }
-    requires to { port ≤ 16 }
-{
-    let owners = owners_of(picture.alloc, plan, port, class)?;
-    let name = match class {
-        Some(class) => format!(in picture.alloc; "class {class}")?,
-        None => String::from_str(picture.alloc, "always open")?,
-    };
-    let (style, own) = if owners.is_empty() {
-        (Style::Plain, Style::Open)
-    } else {
-        (Style::Bold, Style::Own)
-    };
-    picture.name(style, name, &owners)?;
-    Ok(own)
+/// Draws a lane with its name, the filters that it names and its windows.
+fn put_lane<A: Allocator + Copy>(picture: &mut Picture, plan: &Plan<A>, lane: &Lane<A>) -> Put {
+    let (mut name, mut list) = (String::new(picture.alloc), String::new(picture.alloc));
+    put_name(&mut name, lane)?;
+    put_numbers(&mut list, plan, lane, NAMES.saturating_sub(name.len()))?;
+    let y = picture.below(115);
+    let is_gate = matches!(lane, Lane::Gate(_, _));
+    let is_bold = !is_gate && !list.is_empty();
+    let style = either(is_bold, "b", "t");
+    picture.put(TEXT, &[200, y], style, name.as_str())?;
+    if !list.is_empty() {
+        picture.put(TEXT, &[LEFT - 50, y], "s r", list.as_str().trim_start())?;
+    }
+    let open = either(is_gate, "gate", "open");
+    put_windows(picture, lane, either(is_bold, "own", open))
 }
 
 /// Draws the head and the lanes of a port, class 7 on top, or one lane where it is always open.
@@ -119,150 +126,68 @@ pub(crate) fn put_port<A: Allocator + Copy>(
     picture: &mut Picture,
     plan: &Plan<A>,
     port: &PortPlan<A>,
-) -> Put
-    requires from { 1 ≤ port.now.number }
-    requires to { port.now.number ≤ 16 }
-{
-    let (number, speed) = (port.number, megabits(port.speed));
+) -> Put {
     picture.go_down(250);
-    let name = format!(in picture.alloc; "port {number}")?;
-    picture.text(Style::Head, 100, 0, name)?;
-    let link = format!(in picture.alloc; "{speed} Mb/s")?;
-    picture.text(Style::Small, LEFT, 0, link)?;
+    let (number, speed) = (u64::from(port.number), megabits(port.speed));
+    picture.put(PORT, &[picture.down, number, LEFT, speed], "", "")?;
     picture.go_down(60);
     match &port.list {
-        Some(list) => put_classes(picture, plan, number, list),
-        None => {
-            let style = put_owners(picture, plan, number, None)?;
-            put_open(picture, style, conflict_at(picture, number, None).is_some())
+        Some(list) => {
+            for below in 0..8u8 {
+                put_lane(picture, plan, &Lane::Class(list, port.number, 7 - below))?;
+            }
+            Ok(())
         }
+        None => put_lane(picture, plan, &Lane::Open(port.number)),
     }
 }
 
-/// Draws the lanes of the classes of a port.
-fn put_classes<A: Allocator + Copy>(
-    picture: &mut Picture,
-    plan: &Plan<A>,
-    port: u8,
-    list: &Egress<A>,
-) -> Put
-    requires from { 1 ≤ port }
-    requires to { port ≤ 16 }
-{
-    for below in 0..8u8 {
-        let class = 7 - below;
-        let style = put_owners(picture, plan, port, Some(class))?;
-        let conflict = conflict_at(picture, port, Some(class));
-        put_windows(picture, style, &Lists::Class(list, class, conflict))?;
-    }
-    Ok(())
+/// Whether frames of the stream of a filter come in at a port.
+fn comes_in<A: Allocator + Copy>(plan: &Plan<A>, filter: &FilterPlan, port: u8) -> bool {
+    let mut streams = plan.streams().iter();
+    streams.any(|it| it.port == port && Some(it.handle) == filter.handle)
 }
 
-/// The numbers of the filters that use a gate.
-fn users_of(
-    alloc: Global,
-    filters: &[(u32, FilterPlan)],
-    gate: u32,
-) -> Result<Vec<u32>, AllocError> {
-    let mut numbers = Vec::new(alloc);
-    for (number, filter) in filters {
-        if filter.gate == gate {
-            numbers.push(*number)?;
-        }
-    }
-    Ok(numbers)
-}
-
-/// Draws the lane of a stream gate, with the filters that use it.
-fn put_gate<A: Allocator + Copy>(
-    picture: &mut Picture,
-    plan: &Plan<A>,
-    (number, gate): &(u32, GatePlan<A>),
-) -> Put {
-    let users = users_of(picture.alloc, plan.filters(), *number)?;
-    let name = format!(in picture.alloc; "gate {number}")?;
-    picture.name(Style::Plain, name, &users)?;
-    put_windows(picture, Style::Gate, &Lists::Gate(&gate.schedule))
-}
-
-/// Says how many stream gates have no room, where some haven't.
-fn put_further(picture: &mut Picture, further: usize) -> Put {
-    if further > 0 {
-        let words = format!(in picture.alloc; "left out: {further} further stream gates")?;
-        picture.text(Style::Bold, LEFT, 115, words)?;
-        picture.go_down(150);
-    }
-    Ok(())
-}
-
-/// Draws the stream gates of a plan below one another, and says how many have no room.
-pub(crate) fn put_gates<A: Allocator + Copy>(picture: &mut Picture, plan: &Plan<A>) -> Put {
-    picture.go_down(250);
-    picture.word(Style::Head, 100, 0, "stream gates")?;
-    picture.go_down(60);
-    for gate in plan.gates().iter().take(MOST_GATES) {
-        put_gate(picture, plan, gate)?;
-    }
-    put_further(picture, plan.gates().len().saturating_sub(MOST_GATES))?;
-    picture.go_down(60);
-    Ok(())
-}
-
-/// Whether frames of a stream come in at a port.
-fn comes_in(streams: &[StreamEntry], handle: Option<u32>, port: u8) -> bool {
-    streams
-        .iter()
-        .any(|it| it.port == port && Some(it.handle) == handle)
-}
-
-/// The numbers of the stream gates of protected filters whose streams come in at a port.
-fn gates_at<A: Allocator + Copy>(
+/// The numbers of the stream gates of protected filters that are asked for whose streams come in at a port.
+pub(crate) fn gates_of<A: Allocator + Copy>(
     alloc: Global,
     plan: &Plan<A>,
+    part: &Part,
     port: u8,
 ) -> Result<Vec<u32>, AllocError> {
     let mut gates = Vec::new(alloc);
-    for (_, filter) in plan.filters() {
-        if filter.protected && comes_in(plan.streams(), filter.handle, port) {
+    for (number, filter) in plan.filters() {
+        if filter.protected && part.has_filter(*number) && comes_in(plan, filter, port) {
             gates.push(filter.gate)?;
         }
     }
     Ok(gates)
 }
 
-/// How many lanes of stream gates there are below all ports.
-pub(crate) fn gates_below<A: Allocator + Copy>(
-    alloc: Global,
-    plan: &Plan<A>,
-) -> Result<usize, AllocError> {
-    let mut count = 0usize;
-    for port in plan.ports() {
-        count = count.saturating_add(gates_at(alloc, plan, port.number)?.len());
-    }
-    Ok(count)
-}
-
 /// Draws the stream gate of a number.
-fn put_gate_of<A: Allocator + Copy>(picture: &mut Picture, plan: &Plan<A>, number: u32) -> Put {
+fn put_gate<A: Allocator + Copy>(picture: &mut Picture, plan: &Plan<A>, number: u32) -> Put {
     for gate in plan.gates() {
         if gate.0 == number {
-            return put_gate(picture, plan, gate);
+            return put_lane(picture, plan, &Lane::Gate(&gate.1.schedule, number));
         }
     }
     Ok(())
 }
 
-/// Draws the stream gates of protected filters whose streams come in at a port, and says how many have no room: each port
-/// has its share.
-pub(crate) fn put_gates_at<A: Allocator + Copy>(
+/// Draws so many of some stream gates below one another, and says how many have no room.
+pub(crate) fn put_gates<A: Allocator + Copy>(
     picture: &mut Picture,
     plan: &Plan<A>,
-    port: u8,
+    gates: &[u32],
+    most: usize,
 ) -> Put {
-    let most = MOST_GATES / plan.ports().len().max(1);
-    let gates = gates_at(picture.alloc, plan, port)?;
     for number in gates.iter().take(most) {
-        put_gate_of(picture, plan, *number)?;
+        put_gate(picture, plan, *number)?;
     }
-    put_further(picture, gates.len().saturating_sub(most))
+    let further = gates.len().saturating_sub(most) as u64;
+    if further > 0 {
+        picture.put(FURTHER, &[LEFT, picture.below(115), further], "", "")?;
+        picture.go_down(150);
+    }
+    Ok(())
 }

@@ -1,144 +1,119 @@
 //! What the shapes of a picture say.
-use crate::shapes::{LEFT, Picture, Put, Rect, Shape, Style, Tip, WIDTH};
+use crate::svg::{LEFT, Picture, Put, TEXT, WIDTH};
 
-/// A sample that stands before its words.
-#[derive(Clone, Copy)]
-pub(crate) enum Sample {
-    Bar(Style),
-    Waits,
-    Due,
-    /// A triangle, whose tip is above or below.
-    Mark(bool),
-    Change,
-    Nothing,
-}
+/// A row of a legend: a sample, the style of its shapes, and the words behind it.
+type Row = (&'static str, &'static str, &'static str);
 
-/// A sample and its words.
-pub(crate) type Item = (Sample, &'static str);
+/// Samples: a bar, one in the colour of a filter, a line with a tick where it begins, a thin line, triangles with the tip below
+/// and above, a line downwards. Across 0 is the left end, 3, 5 and 4 are 30, 80 and 130 to the right; 1 is the top, 2, 6 and 7
+/// are 60, 100 and 110 below; 8 is the number of a colour.
+const BAR: &str = r#"<rect class="{a}" x="{0}" y="{1}" width="160" height="100"/>"#;
 
-/// What lanes say.
-const LANES: &[Item] = &[
-    (Sample::Bar(Style::Own), "open for protected filters"),
-    (Sample::Bar(Style::Open), "open"),
-    (Sample::Bar(Style::Hatched), "more than can be drawn"),
-    (Sample::Nothing, "number at a lane: a protected filter"),
+const FILTER: &str = r#"<rect class="c{8}{a}" x="{0}" y="{1}" width="160" height="100"/>"#;
+
+const WAITS: &str = r#"<rect class="{a}" x="{0}" y="{1}" width="12" height="90"/>
+<rect class="{a}" x="{0}" y="{2}" width="160" height="14"/>"#;
+
+const DUE: &str = r#"<rect class="{a}" x="{0}" y="{2}" width="160" height="10"/>"#;
+
+const TIP_BELOW: &str = r#"<path class="{a}" d="M{3} {1}H{4}L{5} {6}Z"/>"#;
+
+const TIP_ABOVE: &str = r#"<path class="{a}" d="M{3} {6}H{4}L{5} {1}Z"/>"#;
+
+const LINE: &str = r#"<path class="{a}" d="M{5} {1}V{7}"/>"#;
+
+/// What lanes say, the stream gates of a plan, the picture of a run, a change of schedules, a fault.
+const LANES: &[Row] = &[
+    (BAR, "own", "open for protected filters"),
+    (BAR, "open", "open"),
+    (BAR, "hatch", "more than can be drawn"),
+    ("", "", "number at a lane: a protected filter"),
 ];
 
-/// What the picture of a plan says beside that.
-pub(crate) const PLAN: &[Item] = &[
+pub(crate) const GATES: &[Row] = &[
     (
-        Sample::Bar(Style::Gate),
+        BAR,
+        "gate",
         "stream gate open, with the internal priority value that it gives",
     ),
-    (Sample::Nothing, "number at a gate: a filter of it"),
+    ("", "", "number at a gate: a filter of it"),
 ];
 
-/// What the picture of a plan says of a fault.
-const FAULT: &[Item] = &[(Sample::Bar(Style::Fault), "at fault")];
-
-/// What the picture of a run says beside that.
-pub(crate) const RUN: &[Item] = &[
-    (Sample::Waits, "came, and waited until its start"),
-    (Sample::Due, "until when it is done at the latest"),
-    (Sample::Mark(false), "refused by a queue"),
-    (Sample::Mark(true), "stopped by its filter"),
+pub(crate) const RUN: &[Row] = &[
+    (WAITS, "grey", "came, and waited until its start"),
+    (DUE, "grey", "until when it is done at the latest"),
+    (TIP_BELOW, "grey", "refused by a queue"),
+    (TIP_ABOVE, "grey", "stopped by its filter"),
     (
-        Sample::Bar(Style::Gate),
+        BAR,
+        "gate",
         "stream gate of a protected filter open, by its list",
     ),
 ];
 
-/// What a change of schedules says.
-const CHANGE: &[Item] = &[(Sample::Change, "change of schedules")];
+const CHANGE: &[Row] = &[(LINE, "change", "change of schedules")];
 
-/// A legend under way: how far to the right it goes.
-#[derive(Clone, Copy)]
-pub(crate) struct Legend {
-    x: u64,
+const FAULT: &[Row] = &[(BAR, "b c1", "at fault")];
+
+/// Begins a legend, on a line of its own.
+pub(crate) fn begin(picture: &mut Picture) {
+    picture.go_down(190);
+    picture.right = LEFT;
 }
 
-impl Legend {
-    /// A legend on a line of its own.
-    pub(crate) fn new(picture: &mut Picture) -> Legend {
-        picture.go_down(190);
-        Legend { x: LEFT }
+/// Puts a row behind the others, or on a further line where there is no room beside them.
+fn put_row(picture: &mut Picture, (sample, style, words): (&str, &str, &str), colour: u64) -> Put {
+    let width = (words.len() as u64).saturating_mul(62).saturating_add(360);
+    if picture.right.saturating_add(width) > WIDTH && picture.right > LEFT {
+        picture.go_down(170);
+        picture.right = LEFT;
     }
-
-    /// Adds a sample and its words behind the others, or on a further line where there is no room beside them.
-    pub(crate) fn put(&mut self, picture: &mut Picture, sample: Sample, words: &str) -> Put {
-        let width = (words.len() as u64).saturating_mul(62).saturating_add(360);
-        if self.x.saturating_add(width) > WIDTH && self.x > LEFT {
-            picture.go_down(170);
-            self.x = LEFT;
-        }
-        let x = self.x;
-        self.x = x.saturating_add(width);
-        put_sample(picture, sample, x)?;
-        let beside = if matches!(sample, Sample::Nothing) {
-            0
-        } else {
-            210
-        };
-        picture.word(Style::Plain, x.saturating_add(beside), 0, words)
+    let x = picture.right.min(WIDTH);
+    let y = picture.down.saturating_sub(90).min(u64::MAX - 110);
+    picture.right = x.saturating_add(width);
+    if sample.is_empty() {
+        return picture.put(TEXT, &[x, picture.down], "t", words);
     }
-
-    /// Adds some samples with their words.
-    fn put_all(&mut self, picture: &mut Picture, items: &[Item]) -> Put {
-        for (sample, words) in items {
-            self.put(picture, *sample, words)?;
-        }
-        Ok(())
-    }
+    let (ends, base) = ((x + 30, x + 130), y + 100);
+    let places = [x, y, y + 60, ends.0, ends.1, x + 80, base, y + 110, colour];
+    picture.put(sample, &places, style, "")?;
+    picture.put(TEXT, &[x + 210, picture.down], "t", words)
 }
 
-/// Puts the legend of what lanes say and some more, with a change of schedules or not and with a fault or not.
-pub(crate) fn put_legend(
+/// Names a filter with its colour, behind the others.
+pub(crate) fn put_filter(
     picture: &mut Picture,
-    items: &[Item],
-    has_change: bool,
-    has_fault: bool,
+    filter: u32,
+    is_protected: bool,
+    colour: u64,
 ) -> Put {
-    let mut legend = Legend::new(picture);
-    legend.put_all(picture, LANES)?;
-    legend.put_all(picture, items)?;
-    if has_change {
-        legend.put_all(picture, CHANGE)?;
-    }
-    if has_fault {
-        legend.put_all(picture, FAULT)?;
+    let (edge, manner) = if is_protected {
+        (" e", "protected")
+    } else {
+        ("", "plain")
+    };
+    let words = format!(in picture.alloc; "{filter} {manner}")?;
+    put_row(picture, (FILTER, edge, words.as_str()), colour)
+}
+
+/// Puts some rows.
+fn put_rows(picture: &mut Picture, rows: &[Row]) -> Put {
+    for row in rows {
+        put_row(picture, *row, 0)?;
     }
     Ok(())
 }
 
-/// Draws a sample.
-fn put_sample(picture: &mut Picture, sample: Sample, x: u64) -> Put {
-    let y = picture.down.saturating_sub(90);
-    let middle = x.saturating_add(80);
-    match sample {
-        Sample::Bar(style) => picture.bar(style, Rect::new(x, y, 160, 100)),
-        Sample::Waits => put_wait(picture, Style::Grey, x, y, 160),
-        Sample::Due => picture.bar(Style::Grey, Rect::new(x, y.saturating_add(60), 160, 10)),
-        Sample::Mark(is_up) => put_tip(picture, middle, y, is_up),
-        Sample::Change => {
-            picture.put(Shape::Line(Style::Change, middle, (y, y.saturating_add(110))))
-        }
-        Sample::Nothing => Ok(()),
+/// Puts the legend of what lanes say and some more, with a change of schedules or not and with a fault where there is one.
+pub(crate) fn put_legend(picture: &mut Picture, rows: &[Row], has_change: bool) -> Put {
+    begin(picture);
+    put_rows(picture, LANES)?;
+    put_rows(picture, rows)?;
+    if has_change {
+        put_rows(picture, CHANGE)?;
     }
-}
-
-/// Draws the sample of a mark.
-fn put_tip(picture: &mut Picture, x: u64, top: u64, is_up: bool) -> Put {
-    let tip = Tip {
-        x,
-        y: top.saturating_add(if is_up { 0 } else { 100 }),
-        half: 50,
-        is_up,
-    };
-    picture.put(Shape::Mark(Style::Grey, tip, None))
-}
-
-/// Draws a thin line of a width with a tick where it begins.
-pub(crate) fn put_wait(picture: &mut Picture, style: Style, x: u64, y: u64, width: u64) -> Put {
-    picture.bar(style, Rect::new(x, y, 12, 90))?;
-    picture.bar(style, Rect::new(x, y.saturating_add(60), width, 14))
+    if picture.port > 0 {
+        put_rows(picture, FAULT)?;
+    }
+    Ok(())
 }

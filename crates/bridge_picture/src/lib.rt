@@ -1,24 +1,21 @@
 #![tactic(auto)]
 //! Pictures: a plan's windows and gates by time, and what left each port in a run, as SVG texts.
 //!
-//! Layout gives shapes (`shapes`), and one writer prints them (`svg`), which escapes each text. A picture has no script, and
-//! its colours follow the reader's light or dark scheme. Nothing here changes what it draws.
+//! Layout gives shapes, each a form with its numbers and words, and one writer (`svg`) fills the forms and escapes each word. A
+//! picture has no script, and its colours follow the reader's light or dark scheme. Nothing here changes what it draws.
 
-mod axis;
-mod conflict;
+mod frames;
 mod lanes;
 mod legend;
-mod marks;
-mod numbers;
 mod plan;
 mod run;
-mod shapes;
-mod shares;
-mod span;
 mod svg;
+mod time;
+mod times;
 mod windows;
 
 pub use bridge_limits::NoMemory;
 pub use plan::draw_plan;
 pub use run::draw_run;
-pub use span::{LONGEST_HYPERCYCLE, Span};
+pub use time::Part;
+pub use times::LONGEST_HYPERCYCLE;

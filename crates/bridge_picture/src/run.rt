@@ -1,402 +1,210 @@
 //! The picture of a run.
 ghost use Rattle.std.specs.Prelude.{◌≤◌, IfOk, length, string_bytes};
 
-use crate::axis::put_axis;
-use crate::lanes::{gates_below, most_of, put_gates_at, put_port};
-use crate::legend::{Legend, RUN, Sample, put_legend, put_wait};
-use crate::marks::{Mark, came_at, marks_of};
-use crate::numbers::stretch;
-use crate::plan::{put_bands, put_head};
-use crate::shapes::{LEFT, Picture, Put, Rect, Shape, Style, Tip, Title};
-use crate::shares::Shares;
-use crate::span::{Span, times_of};
-use crate::svg::svg_of;
-use crate::windows::extent;
+use crate::frames::{Choice, Frame, choice_of};
+use crate::lanes::{MOST_GATES, gates_of, most_of, put_gates, put_port};
+use crate::legend::{RUN, begin, put_filter, put_legend};
+use crate::plan::{put_bands, put_head, put_part};
+use crate::svg::{LEFT, Picture, Put, either, fill, svg_of};
+use crate::time::{Part, Span, put_axis, put_stretch};
+use crate::times::times_of;
 use bridge_bounds::bound_of;
 use bridge_check::Accepted;
-use bridge_config::PortPlan;
+use bridge_config::Plan;
 use bridge_limits::NoMemory;
-use bridge_semantics::{Departure, Outcome, View};
+use bridge_semantics::{Outcome, View};
 use std::alloc::{AllocError, Allocator, Global};
 
 /// The height of the lane of a link.
 const LINK: u64 = 300;
 
-/// The least width of a frame's bar.
+/// The least width of a frame's bar, the gap behind it, and the width from which on it has an edge.
 const LEAST: u64 = 30;
 
-/// The width from which on a frame's bar has an edge.
-const WIDE: u64 = 70;
-
-/// The gap behind a frame's bar.
 const GAP: u64 = 12;
 
-/// The most frames that are drawn.
-const MOST_FRAMES: u64 = 2_400;
+const WIDE: u64 = 70;
 
-/// The most marks that are drawn.
-const MOST_MARKS: u64 = 1_600;
+/// How many frames and marks aren't drawn; the names of the lanes of a link and of marks.
+const LEFT_OUT: &str =
+    r#"<text class="b" x="{0}" y="{1}">left out where it is hatched: {2} of {3} frames, {4} of {5} marks; show less time by --from and --to</text>"#;
 
-/// What a picture of a run draws.
-#[derive(Drop)]
-struct Drawn<'a, A: Allocator + Copy, B: Allocator> {
-    accepted: &'a Accepted<A>,
-    outcome: &'a Outcome<B>,
-    marks: &'a [Mark],
-}
+const LINK_NAME: &str = r#"<text class="b" x="200" y="{0}">link</text>"#;
 
-/// Which frames and which marks are drawn.
-#[derive(Drop)]
-struct Chosen {
-    frames: Shares,
-    marks: Shares,
-}
+const MARKS_NAME: &str = r#"<text class="s" x="200" y="{0}">not let on</text>"#;
 
-/// A frame that left: the colour of its filter, and what shows where it is pointed at.
-#[derive(Clone, Copy)]
-struct Sent {
-    colour: u8,
-    is_protected: bool,
-    departure: Departure,
-    title: Title,
-}
+/// Of a protected frame until when it is done at the latest, where it came, and how long it waited.
+const DUE: &str = r#"<rect class="grey" x="{0}" y="{1}" width="{2}" height="10"/>"#;
 
-/// The ends of a stretch and another one together.
-fn with_stretch(ends: Option<(u64, u64)>, from: u64, to: u64) -> Option<(u64, u64)> {
-    match ends {
-        None => Some((from, to)),
-        Some((first, last)) => Some((first.min(from), last.max(to))),
-    }
-}
+const CAME: &str = r#"<rect class="c{2}" x="{0}" y="{1}" width="12" height="90"/>"#;
 
-/// The ends of some time together with those of what left of a filter, and the coming of what is protected.
-fn with_view<B: Allocator>(ends: Option<(u64, u64)>, view: &View<B>) -> Option<(u64, u64)> {
-    let mut ends = ends;
-    for departure in &view.departures {
-        let start = departure.start;
-        let from = if view.protected {
-            came_at(view, departure.own).map_or(start, |at| at.min(start))
-        } else {
-            start
-        };
-        ends = with_stretch(ends, from, departure.done);
-    }
-    ends
-}
+const WAITED: &str = r#"<rect class="c{3}" x="{0}" y="{1}" width="{2}" height="14"/>"#;
 
-/// The first moment of what is to be drawn, and the one behind the last.
-fn ends_of<B: Allocator>(outcome: &Outcome<B>, marks: &[Mark]) -> Option<(u64, u64)> {
-    let mut ends = None;
-    for (_, view) in &outcome.filters {
-        ends = with_view(ends, view);
-    }
-    for mark in marks {
-        ends = with_stretch(ends, mark.at, mark.at.saturating_add(1));
-    }
-    ends
-}
+/// A frame that left, in the colour of its filter, what shows where it is pointed at, and when it is done at the latest; a frame
+/// that was not let on, a triangle by its corners.
+const FRAME: &str =
+    r#"<rect class="c{4}{a}" x="{0}" y="{1}" width="{2}" height="{3}"><title>{b}</title></rect>"#;
 
-/// The stretch that a picture shows: the one that is asked for, and where an end of it isn't, as far as there is something
-/// to draw.
-fn shown<B: Allocator>(
-    outcome: &Outcome<B>,
-    marks: &[Mark],
-    from: Option<u64>,
-    to: Option<u64>,
-) -> Span {
-    let (first, last) = ends_of(outcome, marks).unwrap_or((0, 1_000_000));
-    let from = from.unwrap_or(first);
-    Span {
-        from,
-        to: to.unwrap_or(last).max(from.saturating_add(1)),
-    }
-}
+const TITLE: &str = "filter {0} frame {1}, {2} to {3} ns, came at {4} ns";
 
-/// Whether some of a frame is in a stretch.
-fn is_shown(span: Span, departure: &Departure) -> bool {
-    span.from < departure.done && departure.start < span.to
-}
+const BY: &str = ", done by {0} ns at the latest";
 
-/// Counts the frames of a filter that left.
-fn count_view<B: Allocator>(frames: &mut Shares, span: Span, view: &View<B>) {
-    for departure in &view.departures {
-        if is_shown(span, departure) {
-            frames.count(departure.port, span.place(departure.start));
-        }
-    }
-}
-
-/// Counts the marks.
-fn count_marks(shares: &mut Shares, span: Span, marks: &[Mark]) {
-    for mark in marks {
-        if span.has(mark.at) {
-            shares.count(mark.port, span.place(mark.at));
-        }
-    }
-}
-
-/// Chooses which frames and marks are drawn.
-fn choose<A: Allocator + Copy, B: Allocator>(
-    picture: &Picture,
-    drawn: &Drawn<A, B>,
-) -> Result<Chosen, AllocError> {
-    let span = picture.span;
-    let mut frames = Shares::new(picture.alloc)?;
-    let mut marks = Shares::new(picture.alloc)?;
-    for (_, view) in &drawn.outcome.filters {
-        count_view(&mut frames, span, view);
-    }
-    count_marks(&mut marks, span, drawn.marks);
-    frames.share(MOST_FRAMES);
-    marks.share(MOST_MARKS);
-    Ok(Chosen { frames, marks })
-}
+const MARK: &str =
+    r#"<path class="c{8}{a}" d="M{0} {1}H{2}L{3} {4}Z"><title>filter {5} frame {6}, came at {7} ns: {b}</title></path>"#;
 
 /// How long a frame of a protected filter takes at most from when it came until it is out of a port, whichever of the port's
 /// queues takes it.
-fn longest_at<A: Allocator + Copy>(accepted: &Accepted<A>, filter: u32, port: u8) -> Option<u64>
-    requires from { 1 ≤ port }
-    requires to { port ≤ 16 }
-{
+fn longest_at<A: Allocator + Copy>(accepted: &Accepted<A>, filter: u32, port: u8) -> Option<u64> {
     let mut longest = None;
-    for class in 0..8u8 {
-        if let Some(bound) = bound_of(accepted, filter, port, class) {
-            longest = Some(bound.max(longest.unwrap_or(0)));
+    if (1..=16).contains(&port) {
+        for class in 0..8u8 {
+            longest = longest.max(bound_of(accepted, filter, port, class));
         }
     }
     longest
 }
 
-/// The number of the colour of the filter at a place.
-fn colour_at(place: usize) -> u8 {
-    (place % 8) as u8
-}
-
-/// The width of a frame's bar: wide enough to be seen, and with a gap behind it where that leaves it so.
-fn seen(width: u64) -> u64 {
-    if width > GAP + LEAST {
-        width - GAP
-    } else {
-        width.max(LEAST)
+/// Draws until when a protected frame is done at the latest, when it came and how long it waited.
+fn put_waiting(picture: &mut Picture, frame: &Frame, by: u64) -> Put {
+    let (came, colour) = (frame.came, frame.colour);
+    let (x, due) = picture.span.extent(came, by);
+    let (_, waited) = picture.span.extent(came, frame.start);
+    picture.put(DUE, &[x, picture.below(245), due], "", "")?;
+    if picture.span.has(came, came.saturating_add(1)) {
+        picture.put(CAME, &[x, picture.below(165), colour], "", "")?;
     }
+    picture.put(WAITED, &[x, picture.below(225), waited, colour], "", "")
 }
 
-/// Draws a frame that left, higher where it is protected.
-fn put_frame(picture: &mut Picture, sent: &Sent) -> Put {
-    let (x, width) = extent(picture.span, sent.departure.start, sent.departure.done);
-    let width = seen(width);
-    let (by, high) = if sent.is_protected {
+/// Draws a frame that left, higher where it is protected, with how long it takes at most there, where that is known. Its bar is
+/// wide enough to be seen, and has a gap behind it where that leaves it so.
+fn put_frame(picture: &mut Picture, frame: &Frame, longest: Option<u64>) -> Put {
+    let numbers = [
+        u64::from(frame.filter),
+        frame.own,
+        frame.start,
+        frame.done,
+        frame.came,
+    ];
+    let mut title = String::new(picture.alloc);
+    fill(&mut title, TITLE, &numbers, "", "")?;
+    if let Some(longest) = longest {
+        let by = frame.came.saturating_add(longest);
+        fill(&mut title, BY, &[by], "", "")?;
+        put_waiting(picture, frame, by)?;
+    }
+    let (x, width) = picture.span.extent(frame.start, frame.done);
+    let wide = width.saturating_sub(GAP);
+    let width = if wide > LEAST { wide } else { width.max(LEAST) };
+    let (down, high) = if frame.is_protected {
         (15, 190)
     } else {
         (55, 130)
     };
-    let style = if sent.is_protected && width >= WIDE {
-        Style::Edged(sent.colour)
-    } else {
-        Style::Filter(sent.colour)
-    };
-    let at = Rect::new(x, picture.below(by), width, high);
-    picture.put(Shape::Bar(style, at, Some(sent.title)))
+    let is_edged = frame.is_protected && width >= WIDE;
+    let edge = either(is_edged, " e", "");
+    let place = [x, picture.below(down), width, high, frame.colour];
+    picture.put(FRAME, &place, edge, title.as_str())
 }
 
-/// Draws when a protected frame came and how long it waited, and below that until when it is done at the latest.
-fn put_waiting(picture: &mut Picture, sent: &Sent) -> Put {
-    let (Some(came), Some(by)) = (sent.title.came, sent.title.by) else {
-        return Ok(());
-    };
-    let (x, due) = extent(picture.span, came, by);
-    let (_, waited) = extent(picture.span, came, sent.departure.start);
-    picture.bar(Style::Grey, Rect::new(x, picture.below(245), due, 10))?;
-    let style = Style::Filter(sent.colour);
-    if picture.span.has(came) {
-        put_wait(picture, style, x, picture.below(165), waited)
-    } else {
-        picture.bar(style, Rect::new(x, picture.below(225), waited, 14))
-    }
-}
-
-/// Whether a frame left a port.
-fn has_left<B: Allocator>(view: &View<B>, port: u8) -> bool {
-    view.departures.iter().any(|it| it.port == port)
-}
-
-/// When a frame is done at the latest.
-fn due_at(came: Option<u64>, longest: Option<u64>) -> Option<u64> {
-    Some(came?.saturating_add(longest?))
-}
-
-/// Draws what left a port of one filter.
-fn put_view<B: Allocator>(
+/// Draws the frames that left a port, those of each protected filter with how long they take at most there.
+fn put_frames<A: Allocator + Copy>(
     picture: &mut Picture,
-    frames: &mut Shares,
+    accepted: &Accepted<A>,
+    frames: &[Frame],
     port: u8,
-    (filter, view): &(u32, View<B>),
-    colour: u8,
-    longest: Option<u64>,
 ) -> Put {
-    for departure in &view.departures {
-        let x = picture.span.place(departure.start);
-        if departure.port == port && is_shown(picture.span, departure) && frames.takes(port, x) {
-            let came = came_at(view, departure.own);
-            let sent = Sent {
-                colour,
-                is_protected: view.protected,
-                departure: *departure,
-                title: Title {
-                    filter: *filter,
-                    own: departure.own,
-                    came,
-                    left: Some((departure.start, departure.done)),
-                    by: due_at(came, longest),
-                    why: "",
-                },
-            };
-            put_waiting(picture, &sent)?;
-            put_frame(picture, &sent)?;
-        }
-    }
-    Ok(())
-}
-
-/// Draws what left a port: of the protected filters, or of the others.
-fn put_views<A: Allocator + Copy, B: Allocator>(
-    picture: &mut Picture,
-    drawn: &Drawn<A, B>,
-    frames: &mut Shares,
-    port: u8,
-    is_protected: bool,
-) -> Put
-    requires from { 1 ≤ port }
-    requires to { port ≤ 16 }
-{
-    let mut place = 0usize;
-    for filter in &drawn.outcome.filters {
-        if filter.1.protected == is_protected && has_left(&filter.1, port) {
-            let longest = if is_protected {
-                longest_at(drawn.accepted, filter.0, port)
-            } else {
-                None
-            };
-            put_view(picture, frames, port, filter, colour_at(place), longest)?;
-        }
-        place = place.saturating_add(1);
-    }
-    Ok(())
-}
-
-/// Draws a mark, a greater one with an edge where its filter is protected.
-fn put_mark(picture: &mut Picture, mark: &Mark) -> Put {
-    let colour = colour_at(mark.place);
-    let (style, half) = if mark.is_protected {
-        (Style::Edged(colour), 60)
-    } else {
-        (Style::Filter(colour), 40)
-    };
-    let is_up = mark.is_stopped;
-    let tip = Tip {
-        x: picture.span.place(mark.at),
-        y: picture.below(if is_up { 10 } else { 130 }),
-        half,
-        is_up,
-    };
-    picture.put(Shape::Mark(style, tip, Some(mark.title)))
-}
-
-/// Draws the marks at a port: of the protected filters, or of the others.
-fn put_marks(
-    picture: &mut Picture,
-    marks: &[Mark],
-    shares: &mut Shares,
-    port: u8,
-    is_protected: bool,
-) -> Put {
-    for mark in marks {
-        let (span, at) = (picture.span, mark.at);
-        if mark.port == port && mark.is_protected == is_protected && span.has(at) {
-            if shares.takes(port, span.place(at)) {
-                put_mark(picture, mark)?;
+    let (mut known, mut longest) = (None, None);
+    for frame in frames {
+        if frame.port == port && frame.why.is_empty() {
+            if known != Some(frame.filter) {
+                known = Some(frame.filter);
+                longest = longest_at(accepted, frame.filter, port);
             }
+            put_frame(picture, frame, longest)?;
         }
     }
     Ok(())
 }
 
-/// Draws the link of a port, with what left it, and what of that is left out.
-fn put_link<A: Allocator + Copy, B: Allocator>(
-    picture: &mut Picture,
-    drawn: &Drawn<A, B>,
-    frames: &mut Shares,
-    port: u8,
-) -> Put
-    requires from { 1 ≤ port }
-    requires to { port ≤ 16 }
-{
-    picture.wide(Style::Lane, LINK - 20)?;
-    picture.word(Style::Bold, 200, 160, "link")?;
-    put_views(picture, drawn, frames, port, true)?;
-    put_views(picture, drawn, frames, port, false)?;
-    frames.put_hatches(picture, port, 55, 130)?;
-    picture.go_down(LINK);
-    Ok(())
+/// Draws a frame that was not let on, greater and with an edge where its filter is protected.
+fn put_mark(picture: &mut Picture, frame: &Frame) -> Put {
+    let (edge, half) = if frame.is_protected {
+        (" e", 60)
+    } else {
+        ("", 40)
+    };
+    let (tip, base) = if frame.is_stopped {
+        (10, 10 + 2 * half)
+    } else {
+        (130, 130 - 2 * half)
+    };
+    let x = picture.span.place(frame.came);
+    let (left, right) = (x.saturating_sub(half), x.saturating_add(half));
+    let (base, tip) = (picture.below(base), picture.below(tip));
+    let (filter, own, came) = (u64::from(frame.filter), frame.own, frame.came);
+    let numbers = [left, base, right, x, tip, filter, own, came, frame.colour];
+    picture.put(MARK, &numbers, edge, frame.why)
 }
 
-/// Draws the marks at a port, and what of them is left out.
-fn put_stops(picture: &mut Picture, marks: &[Mark], shares: &mut Shares, port: u8) -> Put {
-    picture.word(Style::Small, 200, 110, "not let on")?;
-    put_marks(picture, marks, shares, port, true)?;
-    put_marks(picture, marks, shares, port, false)?;
-    shares.put_hatches(picture, port, 10, 120)?;
+/// Draws the link of a port with what left it, and below it what was not let on there, each with what of it is left out.
+fn put_link<A: Allocator + Copy>(
+    picture: &mut Picture,
+    accepted: &Accepted<A>,
+    choice: &Choice,
+    port: u8,
+) -> Put {
+    picture.wide("lane", LINK - 20)?;
+    picture.put(LINK_NAME, &[picture.below(160)], "", "")?;
+    put_frames(picture, accepted, &choice.frames, port)?;
+    choice.put_hatches(picture, port, false)?;
+    picture.go_down(LINK);
+    picture.put(MARKS_NAME, &[picture.below(110)], "", "")?;
+    for frame in &choice.frames {
+        if frame.port == port && !frame.why.is_empty() {
+            put_mark(picture, frame)?;
+        }
+    }
+    choice.put_hatches(picture, port, true)?;
     picture.go_down(170);
     Ok(())
 }
 
-/// Draws a port: its windows, what left its link, the marks, and the stream gates of what comes in.
-fn put_lanes<A: Allocator + Copy, B: Allocator>(
+/// Draws all ports: their windows, what left their links and was not let on, and the stream gates of what comes in. Each port
+/// has its share of the gates.
+fn put_ports<A: Allocator + Copy>(
     picture: &mut Picture,
-    drawn: &Drawn<A, B>,
-    chosen: &mut Chosen,
-    port: &PortPlan<A>,
-) -> Put
-    requires from { 1 ≤ port.now.number }
-    requires to { port.now.number ≤ 16 }
-{
-    put_port(picture, drawn.accepted.plan(), port)?;
-    put_link(picture, drawn, &mut chosen.frames, port.number)?;
-    put_stops(picture, drawn.marks, &mut chosen.marks, port.number)?;
-    put_gates_at(picture, drawn.accepted.plan(), port.number)
-}
-
-/// Draws all ports.
-fn put_each<A: Allocator + Copy, B: Allocator>(
-    picture: &mut Picture,
-    drawn: &Drawn<A, B>,
-    chosen: &mut Chosen,
+    accepted: &Accepted<A>,
+    choice: &Choice,
+    part: &Part,
 ) -> Put {
-    for port in drawn.accepted.plan().ports() {
-        put_lanes(picture, drawn, chosen, port)?;
+    let plan = accepted.plan();
+    let most = MOST_GATES / plan.ports().len().max(1);
+    for port in plan.ports() {
+        if part.has_port(port.number) {
+            put_port(picture, plan, port)?;
+            put_link(picture, accepted, choice, port.number)?;
+            let gates = gates_of(picture.alloc, plan, part, port.number)?;
+            put_gates(picture, plan, &gates, most)?;
+        }
     }
     Ok(())
 }
 
 /// Whether something of a filter is drawn: a frame that came, or one that left.
-fn is_drawn<B: Allocator>(span: Span, view: &View<B>) -> bool {
-    view.departures.iter().any(|it| is_shown(span, it))
-        || view.origins.iter().any(|it| span.has(it.at))
+fn is_drawn<B: Allocator>(span: Span, part: &Part, view: &View<B>) -> bool {
+    let (mut left, mut came) = (view.departures.iter(), view.origins.iter());
+    left.any(|it| part.has_port(it.port) && span.has(it.start, it.done))
+        || came.any(|it| part.has_port(it.port) && span.has(it.at, it.at.saturating_add(1)))
 }
 
 /// Names the filters of which something is drawn.
-fn put_filters<B: Allocator>(picture: &mut Picture, filters: &[(u32, View<B>)]) -> Put {
-    let mut legend = Legend::new(picture);
+fn put_filters<B: Allocator>(picture: &mut Picture, part: &Part, outcome: &Outcome<B>) -> Put {
+    begin(picture);
     let mut place = 0usize;
-    for (number, view) in filters {
-        if is_drawn(picture.span, view) {
-            let (style, manner) = if view.protected {
-                (Style::Edged(colour_at(place)), "protected")
-            } else {
-                (Style::Filter(colour_at(place)), "plain")
-            };
-            let words = format!(in picture.alloc; "{number} {manner}")?;
-            legend.put(picture, Sample::Bar(style), words.as_str())?;
+    for (filter, view) in &outcome.filters {
+        if part.has_filter(*filter) && is_drawn(picture.span, part, view) {
+            put_filter(picture, *filter, view.protected, (place % 8) as u64)?;
         }
         place = place.saturating_add(1);
     }
@@ -404,34 +212,53 @@ fn put_filters<B: Allocator>(picture: &mut Picture, filters: &[(u32, View<B>)]) 
 }
 
 /// Says how many frames and marks aren't drawn, where some aren't.
-fn put_left_out(picture: &mut Picture, chosen: &Chosen) -> Put {
-    let (frames, no_frames) = chosen.frames.left_out();
-    let (marks, no_marks) = chosen.marks.left_out();
+fn put_left_out(picture: &mut Picture, choice: &Choice) -> Put {
+    let ((no_frames, frames), (no_marks, marks)) = (choice.left_out(false), choice.left_out(true));
     if no_frames == 0 && no_marks == 0 {
         return Ok(());
     }
-    let words = format!(in picture.alloc;
-        "left out where it is hatched: {no_frames} of {frames} frames, {no_marks} of {marks} marks; show less time by --from and --to"
-    )?;
     picture.go_down(190);
-    picture.text(Style::Bold, LEFT, 0, words)
+    let numbers = [LEFT, picture.down, no_frames, frames, no_marks, marks];
+    picture.put(LEFT_OUT, &numbers, "", "")
 }
 
 /// Lays out the picture of a run.
-fn put_run<A: Allocator + Copy, B: Allocator>(picture: &mut Picture, drawn: &Drawn<A, B>) -> Put {
-    let change = times_of(drawn.accepted.plan()).change;
-    let mut chosen = choose(picture, drawn)?;
-    let shows = stretch(picture.alloc, picture.span)?;
-    put_head(picture, "run", shows)?;
-    put_left_out(picture, &chosen)?;
-    put_filters(picture, &drawn.outcome.filters)?;
-    put_legend(picture, RUN, change.is_some(), false)?;
+fn put_run<A: Allocator + Copy, B: Allocator>(
+    picture: &mut Picture,
+    accepted: &Accepted<A>,
+    outcome: &Outcome<B>,
+    choice: &Choice,
+    part: &Part,
+) -> Put {
+    let change = times_of(accepted.plan()).change;
+    let mut shows = String::new(picture.alloc);
+    put_stretch(picture.alloc, &mut shows, picture.span)?;
+    put_head(picture, "run", shows.as_str())?;
+    put_part(picture, accepted.plan(), part)?;
+    put_left_out(picture, choice)?;
+    put_filters(picture, part, outcome)?;
+    put_legend(picture, RUN, change.is_some())?;
     let line = picture.below(150);
     picture.go_down(350);
     let top = picture.down;
-    put_each(picture, drawn, &mut chosen)?;
+    put_ports(picture, accepted, choice, part)?;
     put_axis(picture, change, top)?;
     put_bands(picture, line)
+}
+
+/// How many windows each lane of the picture of a run may have.
+fn most_in<A: Allocator + Copy>(
+    alloc: Global,
+    plan: &Plan<A>,
+    part: &Part,
+) -> Result<usize, AllocError> {
+    let mut gates = 0usize;
+    for port in plan.ports() {
+        if part.has_port(port.number) {
+            gates = gates.saturating_add(gates_of(alloc, plan, part, port.number)?.len());
+        }
+    }
+    Ok(most_of(plan, part, gates))
 }
 
 /// The picture of a run under a plan as an SVG text of at most 2,000,000 octets: for each port the windows of its classes,
@@ -441,27 +268,20 @@ fn put_run<A: Allocator + Copy, B: Allocator>(picture: &mut Picture, drawn: &Dra
 /// others, each over a line from when it came to its start and one to when it is done at the latest, as the bound of its
 /// queue has it. Frames without a filter aren't drawn.
 ///
-/// It shows the time from `from` up to `to`, in ns; without one of them as far as there is something to draw. Where there is
-/// more than has room, each port and each part of the time has its share, what is left out is hatched, and the head says
-/// how much it is.
+/// It shows the part that is asked for; where an end of the time isn't, it goes as far as there is something to draw. Where
+/// there is more than has room, each port and each part of the time has its share, what is left out is hatched, and the head
+/// says how much it is.
 pub fn draw_run<A: Allocator + Copy, B: Allocator>(
     alloc: Global,
     accepted: &Accepted<A>,
     outcome: &Outcome<B>,
-    from: Option<u64>,
-    to: Option<u64>,
+    part: &Part,
 ) -> Result<String, NoMemory>
     ensures { IfOk result (λ text. length (string_bytes text) ≤ 2000000) }
 {
-    let marks = marks_of(alloc, outcome)?;
-    let span = shown(outcome, &marks, from, to);
-    let gates = gates_below(alloc, accepted.plan())?;
-    let mut picture = Picture::new(alloc, span, most_of(accepted.plan(), gates));
-    let drawn = Drawn {
-        accepted,
-        outcome,
-        marks: &marks,
-    };
-    put_run(&mut picture, &drawn)?;
-    Ok(svg_of(alloc, &picture.shapes, picture.below(150))?)
+    let most = most_in(alloc, accepted.plan(), part)?;
+    let choice = choice_of(alloc, outcome, part)?;
+    let mut picture = Picture::new(alloc, choice.span, most);
+    put_run(&mut picture, accepted, outcome, &choice, part)?;
+    Ok(svg_of(&picture)?)
 }

@@ -1,13 +1,22 @@
-//! The one place where shapes become SVG.
+//! A picture that grows downwards, and the one place where forms become SVG. All lengths are tenths of a pixel.
 ghost use Rattle.std.specs.Prelude.{◌≤◌, IfOk, length, string_bytes};
 
-use crate::shapes::{Put, Rect, Shape, Style, Tip, Title, WIDTH};
+use crate::time::Span;
 use std::alloc::{AllocError, Global};
 
-/// The most octets of a picture.
+/// What a layout answers: memory may be refused.
+pub(crate) type Put = Result<(), AllocError>;
+
+/// The width of a picture, where the time begins from the left, and the length across which it goes.
+pub(crate) const WIDTH: u64 = 12_000;
+
+pub(crate) const LEFT: u64 = 1_500;
+
+pub(crate) const ACROSS: u64 = 10_000;
+
+/// The most octets of a picture, and those that are kept free for one shape and for the end.
 const MOST_OCTETS: usize = 2_000_000;
 
-/// The octets that are kept free for one shape and for the end of a picture.
 const FREE: usize = 20_000;
 
 /// The styles of all shapes.
@@ -18,185 +27,165 @@ text{font:110px system-ui,sans-serif;fill:#222}.h{font-weight:700;font-size:150p
 .c0{fill:#2a7de1}.c1{fill:#e4572e}.c2{fill:#29a37a}.c3{fill:#a14fc4}.c4{fill:#d9a400}.c5{fill:#16a3b8}.c6{fill:#c2447a}.c7{fill:#7a7f3c}\
 @media(prefers-color-scheme:dark){text{fill:#e6e6e6}.s{fill:#a0a0a0}.page{fill:#16181c}.lane{fill:#22262c}.open{fill:#4a525e}.own{fill:#5c8a49}.gate{fill:#4b6a91}.h0{stroke:#fff}.e{stroke:#fff}}";
 
-/// How what is left out is hatched.
-const HATCH: &str =
-    "<pattern id=\"h\" width=\"70\" height=\"70\" patternUnits=\"userSpaceOnUse\" patternTransform=\"rotate(45)\"><path class=\"h0\" d=\"M0 0V70\"/></pattern>";
+/// The head of a picture: its size, its styles, how what is left out is hatched, and its ground.
+const HEAD: &str =
+    r#"<svg xmlns="http://www.w3.org/2000/svg" width="{0}" height="{1}" viewBox="0 0 {2} {3}">
+<style>{a}</style>
+<pattern id="h" width="70" height="70" patternUnits="userSpaceOnUse" patternTransform="rotate(45)"><path class="h0" d="M0 0V70"/></pattern>
+<rect class="page" width="{2}" height="{3}"/>
+"#;
 
-/// The name of the style of a fault: bold, in a red that a picture of a plan has for nothing else.
-const FAULT: &str = "b c1";
+/// What stands at the end where not all shapes have room, and in place of a picture where none has.
+const LEFT_OUT: &str =
+    r#"<text class="s" x="100" y="{0}">left out: {1} shapes, beyond {2} octets</text>
+"#;
 
-/// The names of the styles of filters.
-const FILTERS: [&str; 8] = ["c0", "c1", "c2", "c3", "c4", "c5", "c6", "c7"];
+const TOO_MUCH: &str =
+    r#"<svg xmlns="http://www.w3.org/2000/svg" width="400" height="40"><text x="10" y="25">too much to draw</text></svg>
+"#;
 
-/// The names of those with an edge.
-const EDGED: [&str; 8] = [
-    "c0 e", "c1 e", "c2 e", "c3 e", "c4 e", "c5 e", "c6 e", "c7 e",
-];
+/// A bar at a place, so wide and high; a text on a line.
+pub(crate) const BAR: &str = r#"<rect class="{a}" x="{0}" y="{1}" width="{2}" height="{3}"/>"#;
 
-/// The name of a style.
-fn class_of(style: Style) -> &'static str {
-    match style {
-        Style::Plain => "t",
-        Style::Head => "h",
-        Style::Bold => "b",
-        Style::Small => "s",
-        Style::Numbers => "s r",
-        Style::Middle => "m",
-        Style::Lane => "lane",
-        Style::Open => "open",
-        Style::Own => "own",
-        Style::Fault => FAULT,
-        Style::Gate => "gate",
-        Style::Hatched => "hatch",
-        Style::Grid => "grid",
-        Style::Change => "change",
-        Style::Grey => "grey",
-        Style::Filter(colour) => FILTERS[usize::from(colour % 8)],
-        Style::Edged(colour) => EDGED[usize::from(colour % 8)],
+pub(crate) const TEXT: &str = r#"<text class="{a}" x="{0}" y="{1}">{b}</text>"#;
+
+/// A picture of a stretch of time: its shapes, one a line, how far down they go and how far to the right its legend, how many
+/// windows each lane may have, how many lanes have more, and the class of a port that is at fault, of port 0 where none is: only
+/// beside another class, or always.
+#[derive(Drop)]
+pub(crate) struct Picture {
+    pub alloc: Global,
+    pub span: Span,
+    pub shapes: String,
+    pub down: u64,
+    pub right: u64,
+    pub most: usize,
+    pub bands: u64,
+    pub port: u8,
+    pub class: u8,
+    pub is_beside: bool,
+}
+
+impl Picture {
+    /// A picture with nothing in it.
+    pub(crate) fn new(alloc: Global, span: Span, most: usize) -> Picture {
+        Picture {
+            alloc,
+            span,
+            shapes: String::new(alloc),
+            down: 0,
+            right: LEFT,
+            most,
+            bands: 0,
+            port: 0,
+            class: 0,
+            is_beside: false,
+        }
+    }
+
+    /// Goes further down.
+    pub(crate) fn go_down(&mut self, by: u64) {
+        self.down = self.down.saturating_add(by);
+    }
+
+    /// A place so far below how far the picture goes.
+    pub(crate) fn below(&self, by: u64) -> u64 {
+        self.down.saturating_add(by)
+    }
+
+    /// Adds the shapes of a form, with its numbers and its words.
+    pub(crate) fn put(&mut self, form: &str, numbers: &[u64], one: &str, other: &str) -> Put {
+        fill(&mut self.shapes, form, numbers, one, other)?;
+        self.shapes.push('\n')
+    }
+
+    /// Adds a bar over the whole time.
+    pub(crate) fn wide(&mut self, style: &str, height: u64) -> Put {
+        self.put(BAR, &[LEFT, self.down, ACROSS, height], style, "")
     }
 }
 
-/// What stands for a letter that has a meaning in SVG.
-fn entity_of(letter: char) -> Option<&'static str> {
+/// One of two words.
+pub(crate) fn either(is: bool, yes: &'static str, no: &'static str) -> &'static str {
+    if is { yes } else { no }
+}
+
+/// What stands for a letter that has a meaning in SVG; nothing for another one.
+fn entity_of(letter: char) -> &'static str {
     match letter {
-        '&' => Some("&amp;"),
-        '<' => Some("&lt;"),
-        '>' => Some("&gt;"),
-        _ => None,
+        '&' => "&amp;",
+        '<' => "&lt;",
+        '>' => "&gt;",
+        _ => "",
     }
 }
 
-/// Writes a text with what has a meaning in SVG escaped.
-fn put_escaped(svg: &mut String, text: &str) -> Put {
-    for letter in text.chars() {
-        match entity_of(letter) {
-            Some(entity) => svg.push_str(entity)?,
-            None => svg.push(letter)?,
+/// Writes a word with what has a meaning in SVG escaped.
+fn put_escaped(text: &mut String, word: &str) -> Put {
+    for letter in word.chars() {
+        let entity = entity_of(letter);
+        if entity.is_empty() {
+            text.push(letter)?;
+        } else {
+            text.push_str(entity)?;
         }
     }
     Ok(())
 }
 
-/// Writes what shows when a shape is pointed at.
-fn put_words(svg: &mut String, title: Title) -> Put {
-    let (filter, own) = (title.filter, title.own);
-    write!(svg, "filter {filter} frame {own}")?;
-    if let Some((start, done)) = title.left {
-        write!(svg, ", {start} to {done} ns")?;
-    }
-    if let Some(came) = title.came {
-        write!(svg, ", came at {came} ns")?;
-    }
-    if let Some(by) = title.by {
-        write!(svg, ", done by {by} ns at the latest")?;
-    }
-    if title.why.is_empty() {
-        return Ok(());
-    }
-    svg.push_str(": ")?;
-    put_escaped(svg, title.why)
-}
-
-/// Writes the end of a shape, with its title.
-fn put_title(svg: &mut String, tag: &str, title: Option<Title>) -> Put {
-    let Some(title) = title else {
-        return svg.push_str("/>\n");
-    };
-    svg.push_str("><title>")?;
-    put_words(svg, title)?;
-    write!(svg, "</title></{tag}>\n")
-}
-
-/// Writes a bar.
-fn put_bar(svg: &mut String, class: &str, at: Rect, title: Option<Title>) -> Put {
-    let (x, y, width, height) = (at.x, at.y, at.width, at.height);
-    write!(
-        svg,
-        "<rect class=\"{class}\" x=\"{x}\" y=\"{y}\" width=\"{width}\" height=\"{height}\""
-    )?;
-    put_title(svg, "rect", title)
-}
-
-/// Writes a triangle.
-fn put_mark(svg: &mut String, class: &str, at: Tip, title: Option<Title>) -> Put {
-    let (x, y) = (at.x, at.y);
-    let (left, right) = (x.saturating_sub(at.half), x.saturating_add(at.half));
-    let high = at.half.saturating_mul(2);
-    let base = if at.is_up {
-        y.saturating_add(high)
-    } else {
-        y.saturating_sub(high)
-    };
-    write!(
-        svg,
-        "<path class=\"{class}\" d=\"M{left} {base}H{right}L{x} {y}Z\""
-    )?;
-    put_title(svg, "path", title)
-}
-
-/// Writes a text.
-fn put_text(svg: &mut String, class: &str, x: u64, y: u64, text: &str) -> Put {
-    write!(svg, "<text class=\"{class}\" x=\"{x}\" y=\"{y}\">")?;
-    put_escaped(svg, text)?;
-    svg.push_str("</text>\n")
-}
-
-/// Writes a line downwards.
-fn put_line(svg: &mut String, class: &str, x: u64, from: u64, to: u64) -> Put {
-    write!(svg, "<path class=\"{class}\" d=\"M{x} {from}V{to}\"/>\n")
-}
-
-/// Writes a shape.
-fn put_shape(svg: &mut String, shape: &Shape) -> Put {
-    match shape {
-        Shape::Bar(style, at, title) => put_bar(svg, class_of(*style), *at, *title),
-        Shape::Mark(style, at, title) => put_mark(svg, class_of(*style), *at, *title),
-        Shape::Line(style, x, (from, to)) => put_line(svg, class_of(*style), *x, *from, *to),
-        Shape::Text(style, (x, y), words) => {
-            put_text(svg, class_of(*style), *x, *y, words.0.as_str())
+/// Writes a form: in place of `{0}`, `{1}` and so on the numbers, at most ten, in place of `{a}` and `{b}` the words.
+pub(crate) fn fill(text: &mut String, form: &str, numbers: &[u64], one: &str, other: &str) -> Put {
+    let mut is_place = false;
+    for letter in form.chars() {
+        if letter == '{' || letter == '}' {
+            is_place = letter == '{';
+        } else if !is_place {
+            text.push(letter)?;
+        } else if let Some(number) = numbers.get((letter as usize).wrapping_sub(48)) {
+            write!(text, "{number}")?;
+        } else if letter == 'a' {
+            put_escaped(text, one)?;
+        } else {
+            put_escaped(text, other)?;
         }
     }
+    Ok(())
+}
+
+/// A picture as an SVG text of at most 2,000,000 octets. Where shapes have no room, it says how many.
+pub(crate) fn svg_of(picture: &Picture) -> Result<String, AllocError>
+    ensures { IfOk result (λ text. length (string_bytes text) ≤ 2000000) }
+{
+    let mut svg = String::new(picture.alloc);
+    let high = picture.below(150);
+    fill(
+        &mut svg,
+        HEAD,
+        &[WIDTH / 10, high / 10, WIDTH, high],
+        STYLES,
+        "",
+    )?;
+    let left_out = put_shapes(&mut svg, picture.shapes.as_str())?;
+    if left_out > 0 {
+        let numbers = [high.saturating_sub(30), left_out, MOST_OCTETS as u64];
+        fill(&mut svg, LEFT_OUT, &numbers, "", "")?;
+    }
+    svg.push_str("</svg>\n")?;
+    if svg.len() <= MOST_OCTETS {
+        return Ok(svg);
+    }
+    String::from_str(picture.alloc, TOO_MUCH)
 }
 
 /// Writes shapes, and answers how many had no room.
-fn put_shapes(svg: &mut String, shapes: &[Shape]) -> Result<u64, AllocError> {
+fn put_shapes(svg: &mut String, shapes: &str) -> Result<u64, AllocError> {
     let mut left_out: u64 = 0;
-    for shape in shapes {
+    for shape in shapes.split_inclusive('\n') {
         if svg.len() > MOST_OCTETS - FREE {
             left_out = left_out.saturating_add(1);
         } else {
-            put_shape(svg, shape)?;
+            svg.push_str(shape)?;
         }
     }
     Ok(left_out)
-}
-
-/// Shapes as an SVG text of at most 2,000,000 octets, so high. Where shapes have no room, it says how many.
-pub(crate) fn svg_of(alloc: Global, shapes: &[Shape], high: u64) -> Result<String, AllocError>
-    ensures { IfOk result (λ text. length (string_bytes text) ≤ 2000000) }
-{
-    let (width, height) = (WIDTH / 10, high / 10);
-    let mut svg = format!(in alloc;
-        "<svg xmlns=\"http://www.w3.org/2000/svg\" width=\"{width}\" height=\"{height}\" viewBox=\"0 0 {WIDTH} {high}\">\n<style>{STYLES}</style>\n{HATCH}\n<rect class=\"page\" width=\"{WIDTH}\" height=\"{high}\"/>\n"
-    )?;
-    let left_out = put_shapes(&mut svg, shapes)?;
-    if left_out > 0 {
-        let words = format!(in alloc; "left out: {left_out} shapes, beyond {MOST_OCTETS} octets")?;
-        put_text(&mut svg, "s", 100, high.saturating_sub(30), words.as_str())?;
-    }
-    svg.push_str("</svg>\n")?;
-    within(alloc, svg)
-}
-
-/// A text, where it isn't too long, else a picture that says so.
-fn within(alloc: Global, text: String) -> Result<String, AllocError>
-    ensures { IfOk result (λ kept. length (string_bytes kept) ≤ 2000000) }
-{
-    if text.len() <= MOST_OCTETS {
-        return Ok(text);
-    }
-    String::from_str(
-        alloc,
-        "<svg xmlns=\"http://www.w3.org/2000/svg\" width=\"400\" height=\"40\"><text x=\"10\" y=\"25\">too much to draw</text></svg>\n",
-    )
 }

@@ -1,9 +1,7 @@
-//! Bars for the stretches of time in which something is open.
+//! Lanes: bars for the stretches of time in which something is open.
 ghost use Rattle.std.specs.Prelude.{◌<◌};
 
-use crate::conflict::Conflict;
-use crate::shapes::{Picture, Put, Rect, Style};
-use crate::span::Span;
+use crate::svg::{BAR, Picture, Put};
 use bridge_cycle::{END_OF_TURNS, Egress, Timeline, is_open};
 use bridge_gate::Schedule;
 use std::alloc::{AllocError, Allocator};
@@ -11,26 +9,25 @@ use std::alloc::{AllocError, Allocator};
 /// The turns of a list that are looked at for one lane.
 const MOST_TURNS: usize = 20_000;
 
-/// The height of a lane.
+/// The height of a lane, and of the bars in it.
 const LANE: u64 = 150;
 
-/// The height of the bars in a lane.
 const HEIGHT: u64 = LANE - 20;
 
-/// The least width of a bar, so that none is lost.
-const LEAST: u64 = 8;
-
-/// The width from which on a bar has its internal priority value written into it.
+/// The width from which on a bar has its internal priority value written into it, and that value.
 const WIDE: u64 = 160;
 
-/// What is open by time: a class of a port's lists, with its fault where it has one, or a stream gate.
+const VALUE: &str = r#"<text class="m" x="{0}" y="{1}">{2}</text>"#;
+
+/// What is open by time: a class of a port by its lists, a port that is always open, or a stream gate.
 #[derive(Drop)]
-pub(crate) enum Lists<'a, A: Allocator + Copy> {
-    Class(&'a Egress<A>, u8, Option<Conflict>),
-    Gate(&'a Schedule<A>),
+pub(crate) enum Lane<'a, A: Allocator + Copy> {
+    Class(&'a Egress<A>, u8, u8),
+    Open(u8),
+    Gate(&'a Schedule<A>, u32),
 }
 
-/// A stretch of time in which something is open or closed, or is at fault, with the internal priority value that it gives.
+/// A stretch of time in which something is open, maybe at fault, or closed, with the internal priority value that it gives.
 #[derive(Clone, Copy)]
 struct Window {
     from: u64,
@@ -40,69 +37,41 @@ struct Window {
     value: Option<u8>,
 }
 
-/// The windows of a lane, up to one more than it may have, and whether these are all.
-#[derive(Drop)]
-struct Windows {
-    list: Vec<Window>,
-    is_whole: bool,
-}
-
-/// Where a stretch of time stands: its left end and its width.
-pub(crate) fn extent(span: Span, from: u64, to: u64) -> (u64, u64) {
-    let x = span.place(from);
-    (x, span.place(to).saturating_sub(x).max(LEAST))
-}
-
-/// Whether a state of a list has a fault of a class.
-fn is_at_fault(conflict: Option<Conflict>, state: u8, class: u8) -> bool
-    requires { class < 8 }
-{
-    match conflict {
-        Some(conflict) => !conflict.is_beside || state != 1 << class,
-        None => false,
-    }
-}
-
 /// What holds from a moment on.
-fn look_at<A: Allocator + Copy>(lists: &Lists<A>, from: u64) -> Window
+fn look_at<A: Allocator + Copy>(picture: &Picture, lane: &Lane<A>, from: u64) -> Window
     requires { from < END_OF_TURNS }
 {
-    match lists {
-        Lists::Class(list, class, conflict) => {
+    let (to, is_open, is_at_fault, value) = match lane {
+        Lane::Class(list, port, class) => {
             let turn = list.turn(from);
-            Window {
-                from,
-                to: turn.end,
-                is_open: is_open(turn.state, *class % 8),
-                is_at_fault: is_at_fault(*conflict, turn.state, *class % 8),
-                value: None,
-            }
+            let is_there = picture.port == *port && picture.class == *class;
+            let is_right = picture.is_beside && turn.state.count_ones() == 1;
+            let is_open = is_open(turn.state, *class % 8);
+            (turn.end, is_open, is_there && !is_right, None)
         }
-        Lists::Gate(schedule) => {
+        Lane::Open(port) => (END_OF_TURNS, true, picture.port == *port, None),
+        Lane::Gate(schedule, _) => {
             let turn = schedule.turn(from);
-            Window {
-                from,
-                to: turn.end,
-                is_open: turn.state.lets,
-                is_at_fault: false,
-                value: turn.state.ipv,
-            }
+            (turn.end, turn.state.lets, false, turn.state.ipv)
         }
+    };
+    Window {
+        from,
+        to,
+        is_open,
+        is_at_fault,
+        value,
     }
 }
 
-/// Whether two windows look alike.
-fn is_alike(one: &Window, other: &Window) -> bool {
-    one.value == other.value && one.is_at_fault == other.is_at_fault
-}
-
-/// Adds a window behind the others, or to the last of them where it goes on.
+/// Adds a window behind the others, or to the last of them where it goes on and looks alike.
 fn add(windows: &mut Vec<Window>, window: Window) -> Put {
     if !window.is_open {
         return Ok(());
     }
     if let Some(last) = windows.last_mut() {
-        if last.to == window.from && is_alike(last, &window) {
+        let is_alike = last.value == window.value && last.is_at_fault == window.is_at_fault;
+        if last.to == window.from && is_alike {
             last.to = window.to;
             return Ok(());
         }
@@ -112,10 +81,10 @@ fn add(windows: &mut Vec<Window>, window: Window) -> Put {
 }
 
 /// Whether only one list holds from a moment on.
-fn is_settled<A: Allocator + Copy>(lists: &Lists<A>, from: u64) -> bool {
-    match lists {
-        Lists::Class(Egress::Joined(joined), _, _) => joined.at() <= from,
-        Lists::Gate(Schedule::Joined(joined)) => joined.at() <= from,
+fn is_settled<A: Allocator + Copy>(lane: &Lane<A>, from: u64) -> bool {
+    match lane {
+        Lane::Class(Egress::Joined(joined), _, _) => joined.at() <= from,
+        Lane::Gate(Schedule::Joined(joined), _) => joined.at() <= from,
         _ => true,
     }
 }
@@ -129,80 +98,69 @@ fn is_constant(windows: &[Window], from: u64, to: u64) -> bool {
     }
 }
 
-/// The windows in the stretch of time that a picture shows. What is open or closed for as many turns as are looked at, which
-/// are more than a list has, is so for good.
-fn windows_of<A: Allocator + Copy>(
+/// Finds the windows in the stretch of time that a picture shows, up to one more than a lane may have, and answers whether
+/// these are all. What is open or closed for as many turns as are looked at, which are more than a list has, is so for good.
+fn find_windows<A: Allocator + Copy>(
     picture: &Picture,
-    lists: &Lists<A>,
-) -> Result<Windows, AllocError> {
-    let end = picture.span.to.min(END_OF_TURNS);
-    let mut list = Vec::new(picture.alloc);
-    let mut at = picture.span.from;
+    lane: &Lane<A>,
+    windows: &mut Vec<Window>,
+) -> Result<bool, AllocError> {
+    let (from, end) = (picture.span.from, picture.span.to.min(END_OF_TURNS));
+    let mut at = from;
     for _ in 0..MOST_TURNS {
-        if at >= end || list.len() > picture.most {
+        if at >= end || windows.len() > picture.most {
             break;
         }
-        let window = look_at(lists, at);
+        let window = look_at(picture, lane, at);
         at = window.to;
-        add(&mut list, window)?;
+        add(windows, window)?;
     }
-    if is_settled(lists, picture.span.from) && is_constant(&list, picture.span.from, at) {
-        if let Some(only) = list.last_mut() {
+    if is_settled(lane, from) && is_constant(windows, from, at) {
+        if let Some(only) = windows.last_mut() {
             only.to = end;
         }
         at = end;
     }
-    let is_whole = at >= end && list.len() <= picture.most;
-    Ok(Windows { list, is_whole })
-}
-
-/// The style of what may be at fault.
-fn style_of(style: Style, is_at_fault: bool) -> Style {
-    if is_at_fault { Style::Fault } else { style }
+    Ok(at >= end && windows.len() <= picture.most)
 }
 
 /// Draws a window.
-fn put_window(picture: &mut Picture, style: Style, window: Window) -> Put {
-    let (x, width) = extent(picture.span, window.from, window.to);
-    let style = style_of(style, window.is_at_fault);
-    picture.bar(style, Rect::new(x, picture.down, width, HEIGHT))?;
+fn put_window(picture: &mut Picture, style: &str, window: Window) -> Put {
+    let (x, width) = picture.span.extent(window.from, window.to);
+    let style = if window.is_at_fault { "b c1" } else { style };
+    picture.put(BAR, &[x, picture.down, width, HEIGHT], style, "")?;
     match window.value {
         Some(value) if width >= WIDE => {
-            let words = format!(in picture.alloc; "{value}")?;
-            picture.text(Style::Middle, x.saturating_add(width / 2), 105, words)
+            let place = x.saturating_add(width / 2);
+            picture.put(
+                VALUE,
+                &[place, picture.below(105), u64::from(value)],
+                "",
+                "",
+            )
         }
         _ => Ok(()),
     }
 }
 
-/// Draws a band: more windows than can be drawn.
-fn put_band(picture: &mut Picture, style: Style) -> Put {
-    picture.bands = picture.bands.saturating_add(1);
-    picture.wide(style, HEIGHT)?;
-    picture.wide(Style::Hatched, HEIGHT)
-}
-
-/// Draws a lane that is always open, in the colour of a fault where it has one.
-pub(crate) fn put_open(picture: &mut Picture, style: Style, is_at_fault: bool) -> Put {
-    picture.wide(style_of(style, is_at_fault), HEIGHT)?;
-    picture.go_down(LANE);
-    Ok(())
-}
-
-/// Draws a lane with its windows over the whole time, or as a band where there are more than it may have.
+/// Draws the windows of a lane over the whole time, or a hatched band where there are more than it may have.
 pub(crate) fn put_windows<A: Allocator + Copy>(
     picture: &mut Picture,
-    style: Style,
-    lists: &Lists<A>,
+    lane: &Lane<A>,
+    style: &str,
 ) -> Put {
-    picture.wide(Style::Lane, HEIGHT)?;
-    let windows = windows_of(picture, lists)?;
-    if windows.is_whole {
-        for window in &windows.list {
+    if !matches!(lane, Lane::Open(_)) {
+        picture.wide("lane", HEIGHT)?;
+    }
+    let mut windows = Vec::new(picture.alloc);
+    if find_windows(picture, lane, &mut windows)? {
+        for window in &windows {
             put_window(picture, style, *window)?;
         }
     } else {
-        put_band(picture, style)?;
+        picture.bands = picture.bands.saturating_add(1);
+        picture.wide(style, HEIGHT)?;
+        picture.wide("hatch", HEIGHT)?;
     }
     picture.go_down(LANE);
     Ok(())

@@ -3,7 +3,7 @@ ghost use Rattle.bridge_cli.specs.CommandLine.{HasRoom};
 
 use crate::ending::{Ending, refused};
 use bridge_app::{
-    Strict, picture_job, run_with_tables, said_of_accepted, strict_check_job, strict_run_job,
+    Strict, picture_part_job, run_with_tables, said_of_accepted, strict_check_job, strict_run_job,
     write_picture,
 };
 use bridge_cli::{
@@ -128,7 +128,7 @@ fn done_job<H: Input + AllocGlobal + Print + Eprint + Files>(
             output,
             commands,
         } => run_bridge(rt, words, plan, input, output, commands, wishes),
-        Job::Picture { plan, file } => draw(rt, plan, file),
+        Job::Picture { plan, file } => draw(rt, words, plan, file),
         Job::Bounds { plan, traffic } => bounds(rt, plan, traffic),
         Job::Network { network } => check_network(rt, network, wishes),
         Job::RunNetwork {
@@ -278,17 +278,37 @@ fn run_bridge(
     accepted(rt, words, line, explained)
 }
 
-/// How the drawing of the network or of the plan of a file ends.
-fn draw(rt: &(impl AllocGlobal + Files), path: String, file: String) -> Result<Ending, Fault> {
-    let drawn = if is_network(rt, path.as_str()) {
-        draw_network(rt, path.as_str(), file)
-    } else {
-        picture_job(rt, path, file)
+/// How the drawing of the network or of the plan of a file ends, or of the part of a plan that the words ask for.
+fn draw(
+    rt: &(impl AllocGlobal + Files),
+    words: &[String],
+    path: String,
+    file: String,
+) -> Result<Ending, Fault> {
+    let drawn = match picture_request_of(rt.alloc(), words) {
+        Ok(sketch) => draw_file(rt, path, file, sketch),
+        Err(fault) => Err(fault),
     };
     match drawn {
         Ok(()) => Ok(printed(rt.alloc(), String::new(rt.alloc()), true)),
         Err(fault) => Err(fault),
     }
+}
+
+/// Draws the network or the plan of a file, or a part of a plan, into another file. `Words` for a part of a network.
+fn draw_file(
+    rt: &(impl AllocGlobal + Files),
+    path: String,
+    file: String,
+    sketch: Option<PictureRequest>,
+) -> Result<(), Fault> {
+    if !is_network(rt, path.as_str()) {
+        return picture_part_job(rt, path, file, sketch);
+    }
+    if sketch.is_some() {
+        return Err(Fault::Words);
+    }
+    draw_network(rt, path.as_str(), file)
 }
 
 /// Draws the network of a file into another file.

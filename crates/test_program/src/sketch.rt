@@ -10,11 +10,11 @@ type Row = (&'static [&'static str], &'static str);
 const ASKED: &[Row] = &[
     (
         &["run", "PLAN", "IN", "OUT", "--picture", "FILE"],
-        "Some(PictureRequest { file: \"FILE\", from: None, to: None })",
+        "Some(PictureRequest { file: \"FILE\", from: None, to: None, ports: None, filters: None })",
     ),
     (
         &["run", "--picture=a b", "--from", "7", "PLAN", "IN", "OUT"],
-        "Some(PictureRequest { file: \"a b\", from: Some(7), to: None })",
+        "Some(PictureRequest { file: \"a b\", from: Some(7), to: None, ports: None, filters: None })",
     ),
     (
         &[
@@ -30,7 +30,25 @@ const ASKED: &[Row] = &[
             "--commands",
             "C",
         ],
-        "Some(PictureRequest { file: \"FILE\", from: Some(0), to: Some(3999999999999999999) })",
+        "Some(PictureRequest { file: \"FILE\", from: Some(0), to: Some(3999999999999999999), ports: None, filters: None })",
+    ),
+    (
+        &[
+            "run",
+            "PLAN",
+            "IN",
+            "OUT",
+            "--picture",
+            "P",
+            "--ports",
+            "1,3",
+            "--filters=10",
+        ],
+        "Some(PictureRequest { file: \"P\", from: None, to: None, ports: Some(\"1,3\"), filters: Some(\"10\") })",
+    ),
+    (
+        &["picture", "PLAN", "FILE", "--ports=3", "--to", "7"],
+        "Some(PictureRequest { file: \"FILE\", from: None, to: Some(7), ports: Some(\"3\"), filters: None })",
     ),
     (&["run", "PLAN", "IN", "OUT"], "None"),
     (&["run", "PLAN", "IN", "OUT", "--commands", "C"], "None"),
