@@ -1,8 +1,8 @@
 //! A text with its document, and where the instances of its sections stand.
 
-use crate::allowed::own_key;
-use crate::position::{Position, headers_in, key_position, table_position};
-use crate::value::put_value;
+use crate::keys::own_key;
+use crate::position::{Position, key_position, table_position};
+use crate::text::{Fact, fill};
 use bridge_schema::{Field, Section};
 use std::alloc::AllocError;
 use toml::{Table, Value};
@@ -42,28 +42,36 @@ pub(crate) fn value_of<'a>(table: Option<&'a Table>, key: Field) -> Option<&'a V
     }
 }
 
-/// Where an instance begins, where each table of its section has a header of its own.
-pub(crate) fn instance_position(
-    source: Source<'_>,
-    section: Section,
-    index: u32,
-) -> Option<Position> {
-    let name = section.name();
-    if headers_in(source.text, name) != items_of(source.document, section).len() {
-        return None;
+/// A number that isn't negative.
+pub(crate) fn number_in(value: Option<&Value>) -> Option<u64> {
+    match value {
+        Some(Value::Integer(number)) if *number >= 0 => Some(*number as u64),
+        _ => None,
     }
-    table_position(source.text, name, index)
 }
 
-/// Where a key of an instance stands, else where the instance begins.
-pub(crate) fn position_of(
+/// A value as it is told, or a word where there is none.
+pub(crate) fn fact_of<'a>(value: Option<&'a Value>, word: &'static str) -> Fact<'a> {
+    match value {
+        Some(value) => Fact::Value(value),
+        None => Fact::Text(word),
+    }
+}
+
+/// Where a key of an instance stands, else where the instance begins, where each table of its section has a header of its
+/// own.
+fn position_of(
     source: Source<'_>,
     section: Section,
     index: u32,
-    key: &str,
+    key: Option<&str>,
 ) -> Option<Position> {
-    let header = instance_position(source, section, index)?;
-    match key_position(source.text, section.name(), header.line, key) {
+    let (name, count) = (section.name(), items_of(source.document, section).len());
+    let header = table_position(source.text, name, index, count)?;
+    let Some(key) = key else {
+        return Some(header);
+    };
+    match key_position(source.text, name, header.line, key) {
         Some(position) => Some(position),
         None => Some(header),
     }
@@ -74,35 +82,84 @@ pub(crate) fn put_position(
     said: &mut String,
     position: Option<Position>,
 ) -> Result<(), AllocError> {
-    match position {
-        Some(Position { line, column }) => write!(said, ", line {line}, column {column}: "),
-        None => said.push_str(": "),
-    }
-}
-
-/// Adds a key that is there with its value, behind a comma.
-fn put_known(said: &mut String, table: Option<&Table>, key: Field) -> Result<(), AllocError> {
-    if let Some(value) = value_of(table, key) {
-        let name = key.key();
-        write!(said, ", {name} = ")?;
-        put_value(said, value)?;
-    }
-    Ok(())
+    let Some(Position { line, column }) = position else {
+        return said.push_str(": ");
+    };
+    fill(
+        said,
+        ", line {line}, column {column}: ",
+        &[
+            ("line", Fact::Number(line as u64)),
+            ("column", Fact::Number(column as u64)),
+        ],
+    )
 }
 
 /// Adds an instance by its place in the file, and by the keys by which it is known.
-pub(crate) fn put_instance(
+fn put_instance(
     said: &mut String,
     document: &Table,
     section: Section,
     index: u32,
 ) -> Result<(), AllocError> {
-    let name = section.name();
     let table = table_of(document, section, index);
-    write!(said, "`{name}` {index} of the file")?;
-    put_known(said, table, own_key(section))?;
-    if section == Section::Static {
-        put_known(said, table, Field::Address)?;
-    }
-    said.push_str(".\n")
+    let own = value_of(table, own_key(section));
+    let address = match section {
+        Section::Static => value_of(table, Field::Address),
+        _ => None,
+    };
+    let template = match (own, address) {
+        (None, None) => "`{name}` {index} of the file.\n",
+        (Some(_), None) => "`{name}` {index} of the file, {key} = {own}.\n",
+        (None, Some(_)) => "`{name}` {index} of the file, address = {address}.\n",
+        (Some(_), Some(_)) => "`{name}` {index} of the file, {key} = {own}, address = {address}.\n",
+    };
+    fill(
+        said,
+        template,
+        &[
+            ("name", Fact::Text(section.name())),
+            ("index", Fact::Number(u64::from(index))),
+            ("key", Fact::Text(own_key(section).key())),
+            ("own", fact_of(own, "")),
+            ("address", fact_of(address, "")),
+        ],
+    )
+}
+
+/// Adds where a key of an instance stands, or the instance, and which instance it is.
+pub(crate) fn put_place(
+    said: &mut String,
+    source: Source<'_>,
+    section: Section,
+    index: u32,
+    key: Option<&str>,
+) -> Result<(), AllocError> {
+    put_position(said, position_of(source, section, index, key))?;
+    put_instance(said, source.document, section, index)
+}
+
+/// Adds where the first instance of a section stands that is one too many, and how many there are.
+pub(crate) fn put_too_many(
+    said: &mut String,
+    source: Source<'_>,
+    section: Section,
+    limit: u32,
+) -> Result<(), AllocError> {
+    put_position(
+        said,
+        position_of(source, section, limit.saturating_add(1), None),
+    )?;
+    fill(
+        said,
+        "`{name}` has {count} tables.\nIt may have at most {limit}.\n",
+        &[
+            ("name", Fact::Text(section.name())),
+            (
+                "count",
+                Fact::Number(items_of(source.document, section).len() as u64),
+            ),
+            ("limit", Fact::Number(u64::from(limit))),
+        ],
+    )
 }

@@ -1,17 +1,21 @@
 //! The sentences on each fault of a plan or of commands.
 
 use crate::document::{
-    Source, instance_position, items_of, position_of, put_instance, put_position,
+    Source, fact_of, items_of, number_in, put_place, put_position, put_too_many, table_of, value_of,
 };
-use crate::duplicates::put_duplicate;
 use crate::entries::{put_entries, put_list};
-use crate::found::{put_found, put_missing};
-use crate::keys::lists_of;
+use crate::keys::{Allowed, key_among, keys_of, limit_of, own_key};
 use crate::position::top_position;
 use crate::strays::{put_stray, put_top_key};
-use crate::value::put_value;
+use crate::text::{Fact, fill};
+use crate::value::put_comma;
+use bridge_cycle::LONGEST_CYCLE;
 use bridge_schema::{Field, Place, PlanFault, Section};
 use std::alloc::{AllocError, Global};
+use toml::{Table, Value};
+
+/// The most numbers of instances that are listed.
+const MOST_NUMBERS: usize = 16;
 
 /// Adds the sentences on a fault of a text.
 pub(crate) fn put_fault(
@@ -20,96 +24,302 @@ pub(crate) fn put_fault(
     source: Source<'_>,
     fault: &PlanFault,
 ) -> Result<(), AllocError> {
-    match fault {
+    match *fault {
         PlanFault::UnknownKey(Section::Top, _) => put_top_key(alloc, said, source),
-        PlanFault::UnknownKey(section, index) => put_stray(alloc, said, source, *section, *index),
-        PlanFault::NotAList(section) => put_no_list(said, source, *section),
+        PlanFault::UnknownKey(section, index) => put_stray(alloc, said, source, section, index),
+        PlanFault::NotAList(section) => put_no_list(said, source, section.name()),
         PlanFault::Missing(place)
         | PlanFault::WrongKind(place)
         | PlanFault::OutOfRange(place)
-        | PlanFault::Unresolved(place) => put_at(said, source, *place),
-        PlanFault::Duplicate(section, index) => put_duplicate(said, source, *section, *index),
-        PlanFault::TooMany(section) => put_too_many(said, source, *section),
-        PlanFault::BadList(section, index, fault) => {
-            put_list(said, source, *section, *index, *fault)
-        }
-        PlanFault::NoPorts => {
-            said.push_str(
-                ": the plan has no port. Add a `[[port]]` with its `number` and `mbps`.\n",
-            )
-        }
-        PlanFault::Syntax | PlanFault::TooLong | PlanFault::NoMemory => {
-            said.push_str(": the text can't be read.\n")
-        }
-    }
-}
-
-/// Whether a key is that of a list of an instance.
-fn is_list(section: Section, field: Field) -> bool {
-    match lists_of(section) {
-        Some(lists) => field == lists.first.entries || field == lists.next.entries,
-        None => false,
-    }
-}
-
-/// Adds what is wrong at a key of an instance.
-fn put_at(said: &mut String, source: Source<'_>, place: Place) -> Result<(), AllocError> {
-    let Place {
-        section,
-        index,
-        field,
-    } = place;
-    put_position(said, position_of(source, section, index, field.key()))?;
-    put_instance(said, source.document, section, index)?;
-    if is_list(section, field) {
-        return put_entries(said, source, place);
-    }
-    match crate::found::value_at_place(source, place) {
-        Some(value) => put_found(said, source, place, value),
-        None => put_missing(said, source, place),
+        | PlanFault::Unresolved(place) => put_at(alloc, said, source, place),
+        PlanFault::Duplicate(section, index) => put_duplicate(said, source, section, index),
+        PlanFault::TooMany(section) => put_too_many(said, source, section, limit_of(section)),
+        PlanFault::BadList(section, index, fault) => put_list(
+            alloc, said, source, section, index, fault,
+        ),
+        PlanFault::NoPorts => said.push_str(
+            ": the plan has no port. Add a `[[port]]` with its `number` and `mbps`.\n",
+        ),
+        PlanFault::Syntax | PlanFault::TooLong | PlanFault::NoMemory => said.push_str(
+            ": the text can't be read.\n",
+        ),
     }
 }
 
 /// Adds that a section is no array of tables.
-fn put_no_list(said: &mut String, source: Source<'_>, section: Section) -> Result<(), AllocError> {
-    let name = section.name();
+fn put_no_list(said: &mut String, source: Source<'_>, name: &str) -> Result<(), AllocError> {
     put_position(said, top_position(source.text, name))?;
-    match source.document.get(name) {
-        Some(value) => {
-            write!(said, "`{name}` is ")?;
-            put_value(said, value)?;
-        }
-        None => write!(said, "`{name}` is absent")?,
-    }
-    write!(
+    fill(
         said,
-        ".\nIt must be an array of tables: write `[[{name}]]` above the keys of each.\n"
+        "`{name}` is {value}.\nIt must be an array of tables: write `[[{name}]]` above the keys of each.\n",
+        &[
+            ("name", Fact::Text(name)),
+            ("value", fact_of(source.document.get(name), "absent")),
+        ],
     )
 }
 
-/// The most instances of a section.
-fn limit_of(section: Section) -> u32 {
-    match section {
-        Section::Top => 0,
-        Section::Change => 1,
-        Section::Port => 16,
-        Section::Vlan => 4094,
-        Section::Static | Section::Stream | Section::Command => 4096,
-        Section::Gate | Section::Meter | Section::Filter => 1024,
+/// Adds what stands at a key of an instance, and what may stand there.
+fn put_at(
+    alloc: Global,
+    said: &mut String,
+    source: Source<'_>,
+    place: Place,
+) -> Result<(), AllocError> {
+    let key = place.field.key();
+    put_place(said, source, place.section, place.index, Some(key))?;
+    let table = table_of(source.document, place.section, place.index);
+    let value = value_of(table, place.field);
+    let allowed = match key_among(keys_of(place.section), key) {
+        Some(row) => allowed_there(source, place, table, row.1),
+        None => Allowed::Unknown,
+    };
+    if matches!(allowed, Allowed::Tables) {
+        return put_entries(said, place.section, key, value);
+    }
+    fill(
+        said,
+        "`{key}` is {value}.\n",
+        &[
+            ("key", Fact::Text(key)),
+            ("value", fact_of(value, "missing")),
+        ],
+    )?;
+    put_may(alloc, said, source, allowed)?;
+    match (place.section, place.field) {
+        (Section::Command, Field::At) => put_falling(said, source, place.index, number_in(value)),
+        _ => Ok(()),
     }
 }
 
-/// Adds that a section has too many instances.
-fn put_too_many(said: &mut String, source: Source<'_>, section: Section) -> Result<(), AllocError> {
-    let name = section.name();
-    let limit = limit_of(section);
-    let count = items_of(source.document, section).len();
-    put_position(
+/// What a command names, by the flag that it clears.
+fn named_by(value: Option<&Value>) -> Option<Section> {
+    match value?.as_str()? {
+        "blocked" => Some(Section::Filter),
+        "rx" | "octets" => Some(Section::Gate),
+        "red" => Some(Section::Meter),
+        _ => None,
+    }
+}
+
+/// The moment of the command before one; 0 where there is none.
+fn moment_before(source: Source<'_>, index: u32) -> u64 {
+    let before = table_of(source.document, Section::Command, index.saturating_sub(1));
+    number_in(value_of(before, Field::At)).unwrap_or(0)
+}
+
+/// What may stand at a place, where more than the key tells: of commands.
+fn allowed_there(
+    source: Source<'_>,
+    place: Place,
+    table: Option<&Table>,
+    allowed: Allowed,
+) -> Allowed {
+    match (place.section, place.field, allowed) {
+        (Section::Command, Field::At, Allowed::Between(_, high)) => Allowed::Between(
+            moment_before(source, place.index),
+            high,
+        ),
+        (Section::Command, Field::Number, _) => match named_by(value_of(table, Field::Clear)) {
+            Some(section) => Allowed::NumberOf(section),
+            None => allowed,
+        },
+        _ => allowed,
+    }
+}
+
+/// Adds the moments of a command and of the one before it, where it is the earlier one.
+fn put_falling(
+    said: &mut String,
+    source: Source<'_>,
+    index: u32,
+    at: Option<u64>,
+) -> Result<(), AllocError> {
+    let before = moment_before(source, index);
+    let Some(at) = at else {
+        return Ok(());
+    };
+    if at >= before {
+        return Ok(());
+    }
+    fill(
         said,
-        instance_position(source, section, limit.saturating_add(1)),
-    )?;
-    write!(
+        "The moments of commands must not fall: `command` {other} of the file is at {before} ns, and `command` {index} at {at} ns.\n",
+        &[
+            ("other", Fact::Number(u64::from(index.saturating_sub(1)))),
+            ("before", Fact::Number(before)),
+            ("index", Fact::Number(u64::from(index))),
+            ("at", Fact::Number(at)),
+        ],
+    )
+}
+
+/// What may stand at a key.
+fn sentence_of(allowed: Allowed) -> &'static str {
+    match allowed {
+        Allowed::Between(_, _) => "It must be a whole number from {low} to {high}.\n",
+        Allowed::Set(_, _) => "It must be an array of whole numbers from {low} to {high}.\n",
+        Allowed::Eight(_, _) =>
+            "It must be an array of eight whole numbers from {low} to {high}.\n",
+        Allowed::NumberOf(_) => "It must be the `{own}` of a `{name}` of the plan.\n",
+        Allowed::Ports => "It must be an array of numbers of ports of the plan.\n",
+        Allowed::Tables => "It must be an array of tables.\n",
+        Allowed::Unknown => "",
+        Allowed::Length => "It must be a whole number from 1 to {longest} (ns).\n",
+        Allowed::Mbps => "It must be 10, 100, 1000, 2500 or 10000 (Mb/s).\n",
+        Allowed::Switch => "It must be true or false.\n",
+        Allowed::Address =>
+            "It must be six pairs of hexadecimal digits joined by hyphens, as \"01-80-C2-00-00-0E\".\n",
+        Allowed::Kind => "It must be \"null\" or \"source\".\n",
+        Allowed::Tag => "It must be \"tagged\", \"priority\" or \"all\".\n",
+        Allowed::State => "It must be \"open\" or \"closed\".\n",
+        Allowed::Colour => "It must be \"blind\" or \"aware\".\n",
+        Allowed::Clear => "It must be \"blocked\", \"rx\", \"octets\" or \"red\".\n",
+    }
+}
+
+/// Adds what may stand somewhere.
+pub(crate) fn put_allowed(said: &mut String, allowed: Allowed) -> Result<(), AllocError> {
+    let (low, high) = match allowed {
+        Allowed::Between(low, high) | Allowed::Set(low, high) | Allowed::Eight(low, high) => (
+            low, high,
+        ),
+        _ => (0, 0),
+    };
+    let section = section_of(allowed).unwrap_or(Section::Top);
+    fill(
         said,
-        "`{name}` has {count} tables.\nIt may have at most {limit}.\n"
+        sentence_of(allowed),
+        &[
+            ("low", Fact::Number(low)),
+            ("high", Fact::Number(high)),
+            ("longest", Fact::Number(LONGEST_CYCLE)),
+            ("own", Fact::Text(own_key(section).key())),
+            ("name", Fact::Text(section.name())),
+        ],
+    )
+}
+
+/// The section of which something at a key has to be there.
+fn section_of(allowed: Allowed) -> Option<Section> {
+    match allowed {
+        Allowed::NumberOf(section) => Some(section),
+        Allowed::Ports => Some(Section::Port),
+        _ => None,
+    }
+}
+
+/// The numbers of the instances of a section, of the first sixteen of them.
+fn numbers_of(alloc: Global, items: &[Value], own: Field) -> Result<String, AllocError> {
+    let mut numbers = String::new(alloc);
+    let mut is_first = true;
+    for item in items.iter().take(MOST_NUMBERS) {
+        if let Some(number) = number_in(value_of(item.as_table(), own)) {
+            put_comma(&mut numbers, is_first)?;
+            write!(numbers, "{number}")?;
+            is_first = false;
+        }
+    }
+    if items.len() > MOST_NUMBERS {
+        numbers.push_str(", ..")?;
+    }
+    Ok(numbers)
+}
+
+/// Adds what may stand somewhere, and which instances the plan has of what it names.
+fn put_may(
+    alloc: Global,
+    said: &mut String,
+    source: Source<'_>,
+    allowed: Allowed,
+) -> Result<(), AllocError> {
+    put_allowed(said, allowed)?;
+    let Some(section) = section_of(allowed) else {
+        return Ok(());
+    };
+    let items = items_of(source.plan, section);
+    let numbers = numbers_of(alloc, items, own_key(section))?;
+    put_there(said, section.name(), items.len(), numbers.as_str())
+}
+
+/// Adds which instances a plan has of a section.
+fn put_there<'a>(
+    said: &mut String,
+    name: &'a str,
+    count: usize,
+    numbers: &'a str,
+) -> Result<(), AllocError> {
+    let template = match count {
+        0 => "The plan has no `{name}`.\n",
+        _ => "The plan has {count} of `{name}`: {numbers}.\n",
+    };
+    fill(
+        said,
+        template,
+        &[
+            ("name", Fact::Text(name)),
+            ("count", Fact::Number(count as u64)),
+            ("numbers", Fact::Text(numbers)),
+        ],
+    )
+}
+
+/// Whether two values are one number or one address.
+fn is_same(one: Option<&Value>, other: Option<&Value>) -> bool {
+    match (one, other) {
+        (Some(Value::Integer(one)), Some(Value::Integer(other))) => *one == *other,
+        (Some(Value::String(one)), Some(Value::String(other))) => {
+            one.as_str().eq_ignore_ascii_case(other.as_str())
+        }
+        _ => false,
+    }
+}
+
+/// The place, from 1, of the first of some tables that has the same at one key, and at another one if there is one, as a
+/// table; 0 where none has.
+fn twin_of(items: &[Value], table: Option<&Table>, key: Field, more: Option<Field>) -> usize {
+    let mut place = 0usize;
+    for item in items {
+        place = place.saturating_add(1);
+        let one = item.as_table();
+        let is_twin = match more {
+            Some(more) => is_same(value_of(one, more), value_of(table, more)),
+            None => true,
+        };
+        if is_twin && is_same(value_of(one, key), value_of(table, key)) {
+            return place;
+        }
+    }
+    0
+}
+
+/// Adds which earlier instance an instance of a section repeats.
+fn put_duplicate(
+    said: &mut String,
+    source: Source<'_>,
+    section: Section,
+    index: u32,
+) -> Result<(), AllocError> {
+    let (more, keys) = match section {
+        Section::Static => (Some(Field::Address), "`vid` and `address`"),
+        Section::Vlan => (None, "`vid`"),
+        _ => (None, "`number`"),
+    };
+    let table = table_of(source.document, section, index);
+    let twin = twin_of(
+        items_of(source.document, section),
+        table,
+        own_key(section),
+        more,
+    );
+    put_place(said, source, section, index, None)?;
+    fill(
+        said,
+        "`{name}` {twin} of the file has the same {keys}; each `{name}` must have its own.\n",
+        &[
+            ("name", Fact::Text(section.name())),
+            ("twin", Fact::Number(twin as u64)),
+            ("keys", Fact::Text(keys)),
+        ],
     )
 }

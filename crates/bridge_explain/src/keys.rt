@@ -1,288 +1,282 @@
-//! Which keys a table may have, and why one isn't among them.
+//! The keys of each section: what may stand at each, and beside which others it may stand.
 
+use bridge_limits::END_OF_TIME;
 use bridge_schema::{Field, Section, has_key};
-use toml::{Table, Value};
+use toml::Table;
 
-/// Why a known key may not stand in a table.
+/// The largest number of an instance: 2^32 - 1.
+const LARGEST_NUMBER: u64 = u32::MAX as u64;
+
+/// The largest moment, in ns.
+const LAST_MOMENT: u64 = END_OF_TIME - 1;
+
+/// The highest rate, in bit/s.
+const HIGHEST_RATE: u64 = 100_000_000_000;
+
+const BESIDE: &str = "{key} may stand only beside `{other}`.\n";
+
+const WITHOUT: &str = "{key} may not stand beside `{other}`.\n";
+
+const IN_CHANGE: &str = "{key} may stand only in a plan with a `[[change]]`.\n";
+
+/// What may stand at a key.
 #[derive(Clone, Copy)]
-pub(crate) enum Misplaced {
-    /// It stands only beside another key.
+pub(crate) enum Allowed {
+    /// A whole number of a range.
+    Between(u64, u64),
+    /// An array of numbers of a range.
+    Set(u64, u64),
+    /// Eight numbers of a range.
+    Eight(u64, u64),
+    /// The length of a cycle or of an entry, in ns.
+    Length,
+    /// Megabits a second.
+    Mbps,
+    /// True or false.
+    Switch,
+    /// A MAC address.
+    Address,
+    /// How a stream is identified.
+    Kind,
+    /// Which frames of a stream are identified.
+    Tag,
+    /// The state of a gate.
+    State,
+    /// The colour mode of a meter.
+    Colour,
+    /// The flag that a command clears.
+    Clear,
+    /// Nothing that is known of it.
+    Unknown,
+    /// A number by which the plan has an instance of a section.
+    NumberOf(Section),
+    /// An array of numbers of ports.
+    Ports,
+    /// An array of tables.
+    Tables,
+}
+
+/// Beside which other keys a key may stand.
+#[derive(Clone, Copy)]
+pub(crate) enum Presence {
+    /// Beside any, and it has to.
+    Must,
+    /// Beside any, or not at all.
+    May,
+    /// Only beside the entries of a list.
     Beside(Field),
-    /// It doesn't stand beside another key.
+    /// Not beside the entries of a list.
     Without(Field),
-    /// It stands only in a plan with a change of schedules.
-    WithoutChange,
+    /// Only beside the entries of a list and those of the one that takes over, in a plan with a change of schedules.
+    Next(Field, Field),
 }
 
-/// A key that a table may not have.
+/// A key, what may stand there, and beside which other keys it may stand.
 #[derive(Clone, Copy)]
-pub(crate) struct Stray<'a> {
-    /// The key.
-    pub key: &'a str,
-    /// The list in whose entry it stands, and the place of the entry from 1.
-    pub entry: Option<(Field, usize)>,
-}
+pub(crate) struct Key(pub Field, pub Allowed, pub Presence);
 
-/// The keys of a list.
+/// The keys of the entries and of the cycle of a list of a port or a gate.
 #[derive(Clone, Copy)]
-pub(crate) struct ListKeys {
-    pub entries: Field,
-    pub base: Field,
-    pub cycle: Field,
-}
+pub(crate) struct ListKeys(pub Field, pub Field);
 
-/// The keys of the first list of an instance, and of the one that takes over at the change of schedules.
-#[derive(Clone, Copy)]
-pub(crate) struct Lists {
-    pub first: ListKeys,
-    pub next: ListKeys,
-}
+const NUMBER: Allowed = Allowed::Between(0, LARGEST_NUMBER);
 
-/// The keys of the lists of a port.
-const PORT_LISTS: Lists = Lists {
-    first: ListKeys {
-        entries: Field::Gates,
-        base: Field::Base,
-        cycle: Field::Cycle,
-    },
-    next: ListKeys {
-        entries: Field::NextGates,
-        base: Field::NextBase,
-        cycle: Field::NextCycle,
-    },
-};
+const VID: Allowed = Allowed::Between(1, 4094);
 
-/// The keys of the lists of a gate.
-const GATE_LISTS: Lists = Lists {
-    first: ListKeys {
-        entries: Field::Entries,
-        base: Field::Base,
-        cycle: Field::Cycle,
-    },
-    next: ListKeys {
-        entries: Field::NextEntries,
-        base: Field::NextBase,
-        cycle: Field::NextCycle,
-    },
-};
+const PRIORITY: Allowed = Allowed::Between(0, 7);
 
-/// The lists of an instance of a section.
-pub(crate) fn lists_of(section: Section) -> Option<Lists> {
-    match section {
-        Section::Port => Some(PORT_LISTS),
-        Section::Gate => Some(GATE_LISTS),
-        _ => None,
-    }
-}
+const MOMENT: Allowed = Allowed::Between(0, LAST_MOMENT);
 
-/// The sections of a plan.
-pub(crate) const PLAN_SECTIONS: [Section; 8] = [
-    Section::Change,
-    Section::Port,
-    Section::Vlan,
-    Section::Static,
-    Section::Stream,
-    Section::Gate,
-    Section::Meter,
-    Section::Filter,
-];
+const RATE: Allowed = Allowed::Between(0, HIGHEST_RATE);
 
-/// The keys of a table of a section.
-pub(crate) fn keys_of(section: Section) -> &'static [Field] {
+const OF_GATES: Presence = Presence::Beside(Field::Gates);
+
+const NEXT_GATES: Presence = Presence::Next(Field::Gates, Field::NextGates);
+
+const OF_ENTRIES: Presence = Presence::Beside(Field::Entries);
+
+const NEXT_ENTRIES: Presence = Presence::Next(Field::Entries, Field::NextEntries);
+
+const NO_ENTRIES: Presence = Presence::Without(Field::Entries);
+
+/// The keys of a table of a section, in the order in which they are listed.
+pub(crate) fn keys_of(section: Section) -> &'static [Key] {
     match section {
         Section::Top => &[],
-        Section::Change => &[Field::At],
+        Section::Change => &[Key(Field::At, MOMENT, Presence::Must)],
         Section::Port => &[
-            Field::Number,
-            Field::Mbps,
-            Field::Vid,
-            Field::Priority,
-            Field::Classes,
-            Field::Rooms,
-            Field::Base,
-            Field::Cycle,
-            Field::Gates,
-            Field::NextBase,
-            Field::NextCycle,
-            Field::NextGates,
+            Key(Field::Number, Allowed::Between(1, 16), Presence::Must),
+            Key(Field::Mbps, Allowed::Mbps, Presence::Must),
+            Key(Field::Vid, VID, Presence::May),
+            Key(Field::Priority, PRIORITY, Presence::May),
+            Key(Field::Classes, Allowed::Eight(0, 7), Presence::May),
+            Key(Field::Rooms, Allowed::Eight(1, 4096), Presence::May),
+            Key(Field::Base, MOMENT, OF_GATES),
+            Key(Field::Cycle, Allowed::Length, OF_GATES),
+            Key(Field::Gates, Allowed::Tables, Presence::May),
+            Key(Field::NextBase, MOMENT, NEXT_GATES),
+            Key(Field::NextCycle, Allowed::Length, NEXT_GATES),
+            Key(Field::NextGates, Allowed::Tables, NEXT_GATES),
         ],
-        Section::Vlan => &[Field::Vid, Field::Members],
-        Section::Static => &[Field::Vid, Field::Address, Field::Ports],
+        Section::Vlan => &[
+            Key(Field::Vid, VID, Presence::Must),
+            Key(Field::Members, Allowed::Ports, Presence::Must),
+        ],
+        Section::Static => &[
+            Key(Field::Vid, Allowed::NumberOf(Section::Vlan), Presence::Must),
+            Key(Field::Address, Allowed::Address, Presence::Must),
+            Key(Field::Ports, Allowed::Ports, Presence::Must),
+        ],
         Section::Stream => &[
-            Field::Handle,
-            Field::Port,
-            Field::Kind,
-            Field::Address,
-            Field::Vid,
-            Field::Tag,
+            Key(Field::Handle, NUMBER, Presence::Must),
+            Key(
+                Field::Port,
+                Allowed::NumberOf(Section::Port),
+                Presence::Must,
+            ),
+            Key(Field::Kind, Allowed::Kind, Presence::Must),
+            Key(Field::Address, Allowed::Address, Presence::Must),
+            Key(Field::Vid, VID, Presence::Must),
+            Key(Field::Tag, Allowed::Tag, Presence::Must),
         ],
         Section::Gate => &[
-            Field::Number,
-            Field::ShutOnRx,
-            Field::ShutOnOctets,
-            Field::State,
-            Field::Ipv,
-            Field::Base,
-            Field::Cycle,
-            Field::Entries,
-            Field::NextBase,
-            Field::NextCycle,
-            Field::NextEntries,
+            Key(Field::Number, NUMBER, Presence::Must),
+            Key(Field::ShutOnRx, Allowed::Switch, Presence::May),
+            Key(Field::ShutOnOctets, Allowed::Switch, Presence::May),
+            Key(Field::State, Allowed::State, NO_ENTRIES),
+            Key(Field::Ipv, PRIORITY, NO_ENTRIES),
+            Key(Field::Base, MOMENT, OF_ENTRIES),
+            Key(Field::Cycle, Allowed::Length, OF_ENTRIES),
+            Key(Field::Entries, Allowed::Tables, Presence::May),
+            Key(Field::NextBase, MOMENT, NEXT_ENTRIES),
+            Key(Field::NextCycle, Allowed::Length, NEXT_ENTRIES),
+            Key(Field::NextEntries, Allowed::Tables, NEXT_ENTRIES),
         ],
         Section::Meter => &[
-            Field::Number,
-            Field::Cir,
-            Field::Cbs,
-            Field::Eir,
-            Field::Ebs,
-            Field::Coupling,
-            Field::Colour,
-            Field::DropYellow,
-            Field::MarkAllRed,
+            Key(Field::Number, NUMBER, Presence::Must),
+            Key(Field::Cir, RATE, Presence::Must),
+            Key(Field::Cbs, NUMBER, Presence::Must),
+            Key(Field::Eir, RATE, Presence::Must),
+            Key(Field::Ebs, NUMBER, Presence::Must),
+            Key(Field::Coupling, Allowed::Switch, Presence::May),
+            Key(Field::Colour, Allowed::Colour, Presence::May),
+            Key(Field::DropYellow, Allowed::Switch, Presence::May),
+            Key(Field::MarkAllRed, Allowed::Switch, Presence::May),
         ],
         Section::Filter => &[
-            Field::Number,
-            Field::Handle,
-            Field::Priority,
-            Field::Gate,
-            Field::MaxSdu,
-            Field::Meter,
-            Field::BlockOversize,
-            Field::Protected,
+            Key(Field::Number, NUMBER, Presence::Must),
+            Key(Field::Handle, NUMBER, Presence::May),
+            Key(Field::Priority, PRIORITY, Presence::May),
+            Key(
+                Field::Gate,
+                Allowed::NumberOf(Section::Gate),
+                Presence::Must,
+            ),
+            Key(Field::MaxSdu, Allowed::Between(0, 65_535), Presence::May),
+            Key(
+                Field::Meter,
+                Allowed::NumberOf(Section::Meter),
+                Presence::May,
+            ),
+            Key(Field::BlockOversize, Allowed::Switch, Presence::May),
+            Key(Field::Protected, Allowed::Switch, Presence::May),
         ],
-        Section::Command => &[Field::At, Field::Clear, Field::Number],
+        Section::Command => &[
+            Key(Field::At, MOMENT, Presence::Must),
+            Key(Field::Clear, Allowed::Clear, Presence::Must),
+            Key(Field::Number, NUMBER, Presence::Must),
+        ],
     }
 }
 
 /// The keys of an entry of a list of a section.
-pub(crate) fn entry_keys(section: Section) -> &'static [Field] {
+pub(crate) fn entry_keys(section: Section) -> &'static [Key] {
     match section {
-        Section::Port => &[Field::Open, Field::Ns],
-        _ => &[Field::Open, Field::Ns, Field::Ipv, Field::Octets],
+        Section::Port => &[
+            Key(Field::Open, Allowed::Set(0, 7), Presence::Must),
+            Key(Field::Ns, Allowed::Length, Presence::Must),
+        ],
+        _ => &[
+            Key(Field::Open, Allowed::Switch, Presence::Must),
+            Key(Field::Ns, Allowed::Length, Presence::Must),
+            Key(Field::Ipv, PRIORITY, Presence::May),
+            Key(Field::Octets, NUMBER, Presence::May),
+        ],
     }
 }
 
-/// The key of this spelling among some.
-pub(crate) fn key_among(keys: &[Field], key: &str) -> Option<Field> {
-    for field in keys {
-        if field.key() == key {
-            return Some(*field);
+/// The lists of an instance of a section: the first, and the one that takes over at the change of schedules.
+pub(crate) fn lists_of(section: Section) -> &'static [ListKeys] {
+    match section {
+        Section::Port => &[
+            ListKeys(Field::Gates, Field::Cycle),
+            ListKeys(Field::NextGates, Field::NextCycle),
+        ],
+        Section::Gate => &[
+            ListKeys(Field::Entries, Field::Cycle),
+            ListKeys(Field::NextEntries, Field::NextCycle),
+        ],
+        _ => &[],
+    }
+}
+
+/// The most instances of a section.
+pub(crate) fn limit_of(section: Section) -> u32 {
+    match section {
+        Section::Top => 0,
+        Section::Change => 1,
+        Section::Port => 16,
+        Section::Vlan => 4094,
+        Section::Static | Section::Stream | Section::Command => 4096,
+        Section::Gate | Section::Meter | Section::Filter => 1024,
+    }
+}
+
+/// The key by which an instance is known.
+pub(crate) fn own_key(section: Section) -> Field {
+    match section {
+        Section::Vlan | Section::Static => Field::Vid,
+        Section::Stream => Field::Handle,
+        Section::Command | Section::Change => Field::At,
+        _ => Field::Number,
+    }
+}
+
+/// The row of a key of this spelling among some.
+pub(crate) fn key_among(keys: &'static [Key], name: &str) -> Option<&'static Key> {
+    for key in keys {
+        if key.0.key() == name {
+            return Some(key);
         }
     }
     None
 }
 
-/// Why a key of the lists of an instance may not stand in its table.
-fn misplaced_of_list(
-    lists: Lists,
+/// Why a key may not stand in a table, and the other key of which that tells; none where it may.
+pub(crate) fn misplaced(
+    presence: Presence,
     table: &Table,
     has_change: bool,
-    field: Field,
-) -> Option<Misplaced> {
-    let Lists { first, next } = lists;
-    let has_first = has_key(table, first.entries);
-    let is_next = field == next.entries || field == next.base || field == next.cycle;
-    if (is_next || field == first.base || field == first.cycle) && !has_first {
-        return Some(Misplaced::Beside(first.entries));
-    }
-    if is_next && !has_change {
-        return Some(Misplaced::WithoutChange);
-    }
-    if is_next && !has_key(table, next.entries) {
-        return Some(Misplaced::Beside(next.entries));
-    }
-    None
-}
-
-/// Why a key of a section may not stand in a table of it, where it may not.
-pub(crate) fn why_misplaced(
-    section: Section,
-    table: &Table,
-    has_change: bool,
-    field: Field,
-) -> Option<Misplaced> {
-    if section == Section::Gate
-        && (field == Field::State || field == Field::Ipv)
-        && has_key(table, Field::Entries)
-    {
-        return Some(Misplaced::Without(Field::Entries));
-    }
-    match lists_of(section) {
-        Some(lists) => misplaced_of_list(lists, table, has_change, field),
-        None => None,
-    }
-}
-
-/// Whether a table of a section may have a key.
-fn may_stand(section: Section, table: &Table, has_change: bool, key: &str) -> bool {
-    match key_among(keys_of(section), key) {
-        Some(field) => why_misplaced(section, table, has_change, field).is_none(),
-        None => false,
-    }
-}
-
-/// The first key of a table that it may not have.
-fn stray_of<'a>(section: Section, table: &'a Table, has_change: bool) -> Option<&'a str> {
-    for (key, _) in table.iter() {
-        if !may_stand(section, table, has_change, key.as_str()) {
-            return Some(key.as_str());
+) -> Option<(&'static str, Field)> {
+    let (list, next) = match presence {
+        Presence::Must | Presence::May => return None,
+        Presence::Without(list) => {
+            return if has_key(table, list) {
+                Some((WITHOUT, list))
+            } else {
+                None
+            };
         }
-    }
-    None
-}
-
-/// The first key of a table that is none of these.
-fn unknown_of<'a>(keys: &[Field], table: &'a Table) -> Option<&'a str> {
-    for (key, _) in table.iter() {
-        if key_among(keys, key.as_str()).is_none() {
-            return Some(key.as_str());
-        }
-    }
-    None
-}
-
-/// The first key of the entries of a list that they may not have.
-fn stray_in_list<'a>(section: Section, table: &'a Table, list: Field) -> Option<Stray<'a>> {
-    let Some(Value::Array(items)) = table.get(list.key()) else {
-        return None;
+        Presence::Beside(list) => (list, list),
+        Presence::Next(list, next) => (list, next),
     };
-    let mut number = 0usize;
-    for item in items {
-        number = number.saturating_add(1);
-        if let Value::Table(entry) = item {
-            if let Some(key) = unknown_of(entry_keys(section), entry) {
-                return Some(Stray {
-                    key,
-                    entry: Some((list, number)),
-                });
-            }
-        }
+    if !has_key(table, list) {
+        Some((BESIDE, list))
+    } else if list != next && !has_change {
+        Some((IN_CHANGE, list))
+    } else if !has_key(table, next) {
+        Some((BESIDE, next))
+    } else {
+        None
     }
-    None
-}
-
-/// The first key of a table of a section, or of the entries of its lists, that may not stand there.
-pub(crate) fn stray_in<'a>(
-    section: Section,
-    table: &'a Table,
-    has_change: bool,
-) -> Option<Stray<'a>> {
-    if let Some(key) = stray_of(section, table, has_change) {
-        return Some(Stray { key, entry: None });
-    }
-    let lists = lists_of(section)?;
-    match stray_in_list(section, table, lists.first.entries) {
-        Some(stray) => Some(stray),
-        None => stray_in_list(section, table, lists.next.entries),
-    }
-}
-
-/// The first key of a document that is the name of none of these sections.
-pub(crate) fn unknown_section<'a>(sections: &[Section], document: &'a Table) -> Option<&'a str> {
-    for (key, _) in document.iter() {
-        if !sections.iter().any(|s| s.name() == key.as_str()) {
-            return Some(key.as_str());
-        }
-    }
-    None
 }

@@ -2,15 +2,12 @@
 //! What a planner is told beside the line of a fault: where it is, what was found there, what may stand there and what to
 //! change; and of a plan that is accepted where its protected frames wait and for how long, and what of it is likely a mistake.
 
-mod allowed;
 mod capture;
 mod check;
 mod document;
-mod duplicates;
 mod entries;
 mod faults;
 mod file;
-mod found;
 mod keys;
 mod nearest;
 mod plan;

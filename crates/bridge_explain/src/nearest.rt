@@ -2,9 +2,8 @@
 ghost use Rattle.std.specs.Prelude.{IfOk, Contains};
 ghost use Rattle.std.specs.Option.{ForSome};
 
-use bridge_schema::{Field, Section};
 use std::alloc::{AllocError, Global};
-use strsim::levenshtein;
+use strsim::osa_distance;
 
 /// The most octets of a word that is compared.
 const LONGEST_WORD: usize = 40;
@@ -12,44 +11,36 @@ const LONGEST_WORD: usize = 40;
 /// The most edits that lead from a word to a name that is near to it.
 const MOST_EDITS: usize = 3;
 
-/// What has a name.
-pub trait Named {
-    /// The name.
-    fn name(&self) -> &'static str;
-}
-
-impl Named for Field {
-    fn name(&self) -> &'static str {
-        self.key()
-    }
-}
-
-impl Named for Section {
-    fn name(&self) -> &'static str {
-        (*self).name()
-    }
-}
-
-/// The one of some names that is nearest to a word, where one is near to it: at most three edits away, and fewer than the
-/// word has characters. The first of several.
-pub fn nearest_name<N: Named + Copy>(
+/// The one of some names that is nearest to a word, where one is near to it: at most three edits away, and at most one for
+/// each four octets of the word that have begun. Two characters that change places are one edit. The first of several.
+pub(crate) fn nearest_name(
     alloc: Global,
     word: &str,
-    names: &[N],
-) -> Result<Option<N>, AllocError>
+    names: &[&'static str],
+) -> Result<Option<&'static str>, AllocError>
     ensures known { IfOk result (λ found. ForSome found (Contains names.now)) }
 {
     if word.len() > LONGEST_WORD {
         return Ok(None);
     }
     let mut found = None;
-    let mut least = word.len().min(MOST_EDITS + 1);
+    let mut least = word.len().div_ceil(4).min(MOST_EDITS) + 1;
     for name in names {
-        let edits = levenshtein(alloc, word, name.name())?;
+        let edits = osa_distance(alloc, word, *name)?;
         if edits < least {
             least = edits;
             found = Some(*name);
         }
     }
     Ok(found)
+}
+
+/// Whether a word is among some names.
+pub(crate) fn is_among(names: &[&str], word: &str) -> bool {
+    for name in names {
+        if *name == word {
+            return true;
+        }
+    }
+    false
 }

@@ -5,7 +5,7 @@ ghost use Rattle.bridge_explain.specs.Said.{BeginsWith};
 use crate::document::{Source, put_position};
 use crate::faults::put_fault;
 use crate::position::position_behind;
-use crate::text::of_file;
+use crate::text::{Fact, fill, of_file};
 use bridge_limits::NoMemory;
 use bridge_schema::PlanFault;
 use std::alloc::{AllocError, Global};
@@ -47,87 +47,109 @@ fn body_of(
     plan: Option<&[u8]>,
     fault: &PlanFault,
 ) -> Result<String, AllocError> {
-    match fault {
-        PlanFault::TooLong => String::from_str(
-            alloc,
-            ": the text has more than 1048576 octets. Leave out what the bridge doesn't need.\n",
-        ),
-        PlanFault::NoMemory => String::from_str(
-            alloc,
-            ": there is not enough memory to read it.\n",
-        ),
-        _ => match str::from_utf8(octets) {
-            Ok(text) => of_text(alloc, text, plan, fault),
-            Err(error) => of_octets(alloc, octets, error.valid_up_to()),
-        },
-    }
-}
-
-/// What is said of octets that are no text from a place on.
-fn of_octets(alloc: Global, octets: &[u8], place: usize) -> Result<String, AllocError> {
     let mut said = String::new(alloc);
-    put_position(&mut said, Some(position_behind(octets, place)))?;
-    said.push_str("the octets are no text in UTF-8 from here on.\n")?;
+    match fault {
+        PlanFault::TooLong => said.push_str(
+            ": the text has more than 1048576 octets. Leave out what the bridge doesn't need.\n",
+        )?,
+        PlanFault::NoMemory => said.push_str(": there is not enough memory to read it.\n")?,
+        _ => put_octets(alloc, &mut said, octets, plan, fault)?,
+    }
     Ok(said)
 }
 
-/// What is said of a text.
-fn of_text(
+/// Adds what is said of octets, which may be no text.
+fn put_octets(
     alloc: Global,
+    said: &mut String,
+    octets: &[u8],
+    plan: Option<&[u8]>,
+    fault: &PlanFault,
+) -> Result<(), AllocError> {
+    match str::from_utf8(octets) {
+        Ok(text) => put_text(alloc, said, text, plan, fault),
+        Err(error) => {
+            put_position(said, Some(position_behind(octets, error.valid_up_to())))?;
+            said.push_str("the octets are no text in UTF-8 from here on.\n")
+        }
+    }
+}
+
+/// Adds what is said of a text.
+fn put_text(
+    alloc: Global,
+    said: &mut String,
     text: &str,
     plan: Option<&[u8]>,
     fault: &PlanFault,
-) -> Result<String, AllocError> {
+) -> Result<(), AllocError> {
     let document = match toml::table_from_str(alloc, text) {
         Ok(document) => document,
-        Err(error) => return of_error(alloc, text, &error),
+        Err(error) => return put_error(said, text, &error),
     };
-    let mut said = String::new(alloc);
-    match plan_in(alloc, plan) {
-        Some(plan) => {
-            let source = Source {
-                text,
-                document: &document,
-                plan: &plan,
-                is_commands: true,
-            };
-            put_fault(alloc, &mut said, source, fault)?;
-        }
-        None => {
-            let source = Source {
-                text,
-                document: &document,
-                plan: &document,
-                is_commands: plan.is_some(),
-            };
-            put_fault(alloc, &mut said, source, fault)?;
-        }
-    }
-    Ok(said)
+    let bridge = match plan {
+        Some(plan) => toml::table_from_slice(alloc, plan).ok(),
+        None => None,
+    };
+    let source = Source {
+        text,
+        document: &document,
+        plan: bridge.as_ref().unwrap_or(&document),
+        is_commands: plan.is_some(),
+    };
+    put_fault(alloc, said, source, fault)
 }
 
-/// The document of a plan, where there is one.
-fn plan_in(alloc: Global, plan: Option<&[u8]>) -> Option<toml::Table> {
-    match toml::table_from_slice(alloc, plan?) {
-        Ok(document) => Some(document),
-        Err(_) => None,
-    }
+/// Adds what is said of a text that is no TOML document.
+fn put_error(said: &mut String, text: &str, error: &Error) -> Result<(), AllocError> {
+    let facts = [("message", Fact::Text(error.message()))];
+    let Some(span) = error.span() else {
+        return fill(said, ": no TOML document: {message}.\n", &facts);
+    };
+    put_position(said, Some(position_behind(text.as_bytes(), span.start)))?;
+    fill(said, "no TOML document: {message}.\n", &facts)?;
+    let (front, word) = word_at(text, span.start);
+    let template = if error.message() == "duplicate key" && !word.is_empty() {
+        "The key `{word}` stands twice in its table: take one of the two away.\n"
+    } else if front.ends_with('=') || front.ends_with('[') || front.ends_with(',') {
+        advice_on(word)
+    } else {
+        ""
+    };
+    fill(said, template, &[("word", Fact::Text(word))])
 }
 
-/// What is said of a text that is no TOML document.
-fn of_error(alloc: Global, text: &str, error: &Error) -> Result<String, AllocError> {
-    let mut said = String::new(alloc);
-    match error.span() {
-        Some(span) => {
-            put_position(
-                &mut said,
-                Some(position_behind(text.as_bytes(), span.start)),
-            )?;
+/// What stands before the word at a place of a text, without the blanks behind it, and the word: letters, digits and what
+/// joins them in keys and addresses.
+fn word_at(text: &str, place: usize) -> (&str, &str) {
+    let mut start = 0usize;
+    let mut end = 0usize;
+    for octet in text.as_bytes() {
+        if !octet.is_ascii_alphanumeric() && *octet != b'-' && *octet != b'_' && *octet != b':' {
+            if end >= place {
+                break;
+            }
+            start = end.saturating_add(1);
         }
-        None => put_position(&mut said, None)?,
+        end = end.saturating_add(1);
     }
-    said.push_str("no TOML document: ")?;
-    said.push_str(error.message())?;
-    said.push_str(".\n")?;
-    Ok(said)
+    let front = text.get(..start).unwrap_or("");
+    (front.trim_end(), text.get(start..end).unwrap_or(""))
+}
+
+/// What to write in place of a word that stands where a value should: in quotes what begins with a letter, or with a
+/// digit as an address does.
+fn advice_on(word: &str) -> &'static str {
+    let first = word.as_bytes().first().copied().unwrap_or(b'-');
+    if word.eq_ignore_ascii_case("true") || word.eq_ignore_ascii_case("yes") {
+        "`{word}` is no value: write true, in small letters and without quotes.\n"
+    } else if word.eq_ignore_ascii_case("false") || word.eq_ignore_ascii_case("no") {
+        "`{word}` is no value: write false, in small letters and without quotes.\n"
+    } else if first.is_ascii_alphabetic()
+        || first != b'-' && (word.contains('-') || word.contains(':'))
+    {
+        "`{word}` is no value: a text stands in quotes, as \"{word}\".\n"
+    } else {
+        ""
+    }
 }

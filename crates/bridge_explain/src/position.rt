@@ -42,104 +42,64 @@ fn behind<'a>(line: &'a str, word: &str) -> Option<&'a str> {
     }
 }
 
-/// What follows the brackets of a line that is the header of a table.
-fn header_of(line: &str) -> Option<&str> {
-    match behind(line, "[") {
-        Some(rest) => Some(rest.trim_start_matches('[').trim_start()),
-        None => None,
-    }
-}
-
 /// What follows a name in the header of a table.
 fn header_behind<'a>(line: &'a str, name: &str) -> Option<&'a str> {
-    match header_of(line) {
-        Some(rest) => behind(rest, name),
-        None => None,
-    }
+    behind(behind(line, "[")?.trim_start_matches('['), name)
 }
 
-/// Whether a line begins a table of an array of this name.
-fn is_header(line: &str, name: &str) -> bool {
+/// Whether what follows a name in the header of a table begins with a word.
+fn is_header(line: &str, name: &str, word: &str) -> bool {
     match header_behind(line, name) {
-        Some(rest) => behind(line, "[[").is_some() && rest.starts_with("]]"),
+        Some(rest) => rest.starts_with(word),
         None => false,
     }
 }
 
-/// Whether a line is the header of something inside a table of this name.
-fn is_inner(line: &str, name: &str) -> bool {
-    match header_behind(line, name) {
-        Some(rest) => rest.starts_with('.'),
-        None => false,
-    }
-}
-
-/// Whether a line is the header of a key inside a table of this name.
-fn is_inner_key(line: &str, name: &str, key: &str) -> bool {
-    let Some(rest) = header_behind(line, name) else {
-        return false;
-    };
-    let Some(rest) = behind(rest, ".") else {
-        return false;
-    };
-    match behind(rest, key) {
-        Some(rest) => rest.starts_with(']'),
-        None => false,
-    }
-}
-
-/// Whether a line gives a key its value.
-fn is_key(line: &str, key: &str) -> bool {
-    match behind(line, key) {
-        Some(rest) => rest.starts_with('='),
-        None => false,
-    }
-}
-
-/// Whether a line is the header of a key of the top.
-fn is_top_header(line: &str, key: &str) -> bool {
-    match header_behind(line, key) {
-        Some(rest) => rest.starts_with(']') || rest.starts_with('.'),
-        None => false,
-    }
-}
-
-/// How many lines begin a table of an array of this name.
-pub(crate) fn headers_in(text: &str, name: &str) -> usize {
-    let mut count = 0usize;
-    for line in text.lines() {
-        if is_header(line, name) {
-            count = count.saturating_add(1);
+/// Whether a line gives a key its value, or is the header of it inside the table of a name.
+fn is_key(line: &str, name: &str, key: &str) -> bool {
+    if let Some(rest) = behind(line, key) {
+        if rest.starts_with('=') {
+            return true;
         }
     }
-    count
+    match header_behind(line, name) {
+        Some(rest) => match behind(rest, ".") {
+            Some(inner) => match behind(inner, key) {
+                Some(end) => end.starts_with(']'),
+                None => false,
+            },
+            None => false,
+        },
+        None => false,
+    }
 }
 
-/// Where the table begins that is at a place, from 1, of the array of this name.
-pub(crate) fn table_position(text: &str, name: &str, index: u32) -> Option<Position> {
-    let mut found = 0u32;
+/// Where the table begins that is at a place, from 1, of the array of a name, which has so many.
+pub(crate) fn table_position(text: &str, name: &str, index: u32, count: usize) -> Option<Position> {
+    let mut position = None;
+    let mut found = 0usize;
     let mut number = 0usize;
     for line in text.lines() {
         number = number.saturating_add(1);
-        if is_header(line, name) {
+        if is_header(line, name, "]]") && behind(line, "[[").is_some() {
             found = found.saturating_add(1);
-            if found == index {
-                return Some(front_of(number, line));
+            if found == index as usize {
+                position = Some(front_of(number, line));
             }
         }
     }
-    None
+    if found == count { position } else { None }
 }
 
-/// Where a key stands in the table of this name whose header is at a line.
+/// Where a key stands in the table of a name whose header is at a line.
 pub(crate) fn key_position(text: &str, name: &str, header: usize, key: &str) -> Option<Position> {
     let mut number = header;
     for line in text.lines().skip(header) {
         number = number.saturating_add(1);
-        if is_key(line, key) || is_inner_key(line, name, key) {
+        if is_key(line, name, key) {
             return Some(front_of(number, line));
         }
-        if header_of(line).is_some() && !is_inner(line, name) {
+        if behind(line, "[").is_some() && !is_header(line, name, ".") {
             return None;
         }
     }
@@ -152,10 +112,13 @@ pub(crate) fn top_position(text: &str, key: &str) -> Option<Position> {
     let mut is_top = true;
     for line in text.lines() {
         number = number.saturating_add(1);
-        if is_top_header(line, key) || is_top && is_key(line, key) {
+        if is_header(line, key, "]")
+            || is_header(line, key, ".")
+            || is_top && is_key(line, key, key)
+        {
             return Some(front_of(number, line));
         }
-        is_top = is_top && header_of(line).is_none();
+        is_top = is_top && behind(line, "[").is_none();
     }
     None
 }

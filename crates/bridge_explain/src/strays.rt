@@ -1,56 +1,71 @@
 //! Keys that may not stand where they do.
 
-use crate::document::{
-    Source, instance_position, items_of, position_of, put_instance, put_position, table_of,
-};
-use crate::keys::{
-    Misplaced, PLAN_SECTIONS, Stray, entry_keys, key_among, keys_of, stray_in, unknown_section,
-    why_misplaced,
-};
-use crate::nearest::{Named, nearest_name};
+use crate::document::{Source, items_of, put_place, put_position, table_of};
+use crate::keys::{Key, entry_keys, key_among, keys_of, lists_of, misplaced};
+use crate::nearest::{is_among, nearest_name};
 use crate::position::top_position;
-use crate::value::put_key;
+use crate::text::{Fact, fill};
+use crate::value::put_comma;
 use bridge_schema::{Field, Section};
 use std::alloc::{AllocError, Global};
-use toml::Table;
+use toml::{Table, Value};
 
-/// The sections that a document may have: those of a plan, unless another plan stands beside it.
-fn sections_of(source: Source<'_>) -> &'static [Section] {
-    if source.is_commands {
-        &[Section::Command]
-    } else {
-        &PLAN_SECTIONS
-    }
-}
+/// The sections of a text of commands.
+const COMMAND_SECTIONS: &[&str] = &["command"];
+
+/// The sections of a plan.
+const PLAN_SECTIONS: &[&str] = &[
+    "change", "port", "vlan", "static", "stream", "gate", "meter", "filter",
+];
 
 /// Adds the nearest of some names, or all where none is near.
-fn put_nearest<N: Named + Copy>(
+fn put_nearest(
     alloc: Global,
     said: &mut String,
     word: &str,
-    names: &[N],
+    names: &[&'static str],
 ) -> Result<(), AllocError> {
-    if let Some(found) = nearest_name(alloc, word, names)? {
-        let name = found.name();
-        return write!(said, "The nearest key is `{name}`.\n");
+    if let Some(name) = nearest_name(alloc, word, names)? {
+        return fill(
+            said,
+            "The nearest key is `{name}`.\n",
+            &[("name", Fact::Text(name))],
+        );
     }
     said.push_str("The keys are ")?;
-    put_names(said, names)?;
+    let mut is_first = true;
+    for name in names {
+        put_comma(said, is_first)?;
+        fill(said, "`{name}`", &[("name", Fact::Text(*name))])?;
+        is_first = false;
+    }
     said.push_str(".\n")
 }
 
-/// Adds some names, with commas between them.
-fn put_names<N: Named + Copy>(said: &mut String, names: &[N]) -> Result<(), AllocError> {
-    let mut is_first = true;
-    for named in names {
-        if !is_first {
-            said.push_str(", ")?;
+/// Adds the nearest of the spellings of some keys, or all where none is near.
+fn put_nearest_key(
+    alloc: Global,
+    said: &mut String,
+    word: &str,
+    keys: &'static [Key],
+) -> Result<(), AllocError> {
+    let mut names = Vec::new(alloc);
+    for key in keys {
+        if names.push(key.0.key()).is_err() {
+            return Err(AllocError);
         }
-        is_first = false;
-        let name = named.name();
-        write!(said, "`{name}`")?;
     }
-    Ok(())
+    put_nearest(alloc, said, word, &names)
+}
+
+/// The first key of a document that is none of these names.
+fn unknown_section<'a>(names: &[&'static str], document: &'a Table) -> Option<&'a str> {
+    for (key, _) in document.iter() {
+        if !is_among(names, key.as_str()) {
+            return Some(key.as_str());
+        }
+    }
+    None
 }
 
 /// Adds which key of the top is none, and the nearest.
@@ -59,14 +74,52 @@ pub(crate) fn put_top_key(
     said: &mut String,
     source: Source<'_>,
 ) -> Result<(), AllocError> {
-    let sections = sections_of(source);
-    let Some(key) = unknown_section(sections, source.document) else {
+    let names = if source.is_commands {
+        COMMAND_SECTIONS
+    } else {
+        PLAN_SECTIONS
+    };
+    let Some(key) = unknown_section(names, source.document) else {
         return said.push_str(": each key of the top is known.\n");
     };
     put_position(said, top_position(source.text, key))?;
-    put_key(said, key)?;
-    said.push_str(" is no section.\n")?;
-    put_nearest(alloc, said, key, sections)
+    fill(said, "{key} is no section.\n", &[("key", Fact::Key(key))])?;
+    put_nearest(alloc, said, key, names)
+}
+
+/// The first key of a table that may not stand there, of those that may.
+fn stray_of<'a>(keys: &'static [Key], table: &'a Table, has_change: bool) -> Option<&'a str> {
+    for (key, _) in table.iter() {
+        let may_stand = match key_among(keys, key.as_str()) {
+            Some(known) => misplaced(known.2, table, has_change).is_none(),
+            None => false,
+        };
+        if !may_stand {
+            return Some(key.as_str());
+        }
+    }
+    None
+}
+
+/// The place from 1 of the first entry of a list that has a key which may not stand there, and the key.
+fn stray_in_list<'a>(
+    keys: &'static [Key],
+    table: &'a Table,
+    list: Field,
+) -> Option<(u64, &'a str)> {
+    let Some(Value::Array(items)) = table.get(list.key()) else {
+        return None;
+    };
+    let mut number = 0u64;
+    for item in items {
+        number = number.saturating_add(1);
+        if let Value::Table(entry) = item {
+            if let Some(key) = stray_of(keys, entry, false) {
+                return Some((number, key));
+            }
+        }
+    }
+    None
 }
 
 /// Adds which key of an instance is none, and the nearest, or why a known key may not stand there.
@@ -78,54 +131,30 @@ pub(crate) fn put_stray(
     index: u32,
 ) -> Result<(), AllocError> {
     let has_change = !items_of(source.plan, Section::Change).is_empty();
-    let found = match table_of(source.document, section, index) {
-        Some(table) => stray_in(section, table, has_change),
-        None => None,
+    let Some(table) = table_of(source.document, section, index) else {
+        return put_place(said, source, section, index, None);
     };
-    let Some(stray) = found else {
-        put_position(said, instance_position(source, section, index))?;
-        return put_instance(said, source.document, section, index);
-    };
-    put_position(said, stray_position(source, section, index, stray))?;
-    put_instance(said, source.document, section, index)?;
-    match stray.entry {
-        Some((list, number)) => put_in_entry(alloc, said, section, list, number, stray.key),
-        None => match table_of(source.document, section, index) {
-            Some(table) => put_in_table(alloc, said, section, table, has_change, stray.key),
-            None => Ok(()),
-        },
+    if let Some(key) = stray_of(keys_of(section), table, has_change) {
+        put_place(said, source, section, index, Some(key))?;
+        return put_in_table(alloc, said, section, table, has_change, key);
     }
-}
-
-/// Where a key that may not stand there stands, or the list in which it does.
-fn stray_position(
-    source: Source<'_>,
-    section: Section,
-    index: u32,
-    stray: Stray<'_>,
-) -> Option<crate::position::Position> {
-    match stray.entry {
-        Some((list, _)) => position_of(source, section, index, list.key()),
-        None => position_of(source, section, index, stray.key),
+    for list in lists_of(section) {
+        if let Some((number, key)) = stray_in_list(entry_keys(section), table, list.0) {
+            let list = list.0.key();
+            put_place(said, source, section, index, Some(list))?;
+            fill(
+                said,
+                "{key}, in entry {number} of `{list}`, is no key of an entry.\n",
+                &[
+                    ("key", Fact::Key(key)),
+                    ("number", Fact::Number(number)),
+                    ("list", Fact::Text(list)),
+                ],
+            )?;
+            return put_nearest_key(alloc, said, key, entry_keys(section));
+        }
     }
-}
-
-/// Adds that a key is none of an entry of a list, and the nearest.
-fn put_in_entry(
-    alloc: Global,
-    said: &mut String,
-    section: Section,
-    list: Field,
-    number: usize,
-    key: &str,
-) -> Result<(), AllocError> {
-    let list = list.key();
-    put_key(said, key)?;
-    write!(
-        said,
-        ", in entry {number} of `{list}`, is no key of an entry.\n"
-    )?;
-    put_nearest(alloc, said, key, entry_keys(section))
+    put_place(said, source, section, index, None)
 }
 
 /// Adds that a key is none of a table of a section, and the nearest, or why it may not stand there.
@@ -138,34 +167,24 @@ fn put_in_table(
     key: &str,
 ) -> Result<(), AllocError> {
     let keys = keys_of(section);
-    put_key(said, key)?;
     let why = match key_among(keys, key) {
-        Some(field) => why_misplaced(section, table, has_change, field),
+        Some(known) => misplaced(known.2, table, has_change),
         None => None,
     };
-    match why {
-        Some(why) => put_misplaced(said, why),
-        None => {
-            let name = section.name();
-            write!(said, " is no key of `{name}`.\n")?;
-            put_nearest(alloc, said, key, keys)
-        }
+    if let Some((template, other)) = why {
+        return fill(
+            said,
+            template,
+            &[("key", Fact::Key(key)), ("other", Fact::Text(other.key()))],
+        );
     }
-}
-
-/// Adds why a known key may not stand in a table.
-fn put_misplaced(said: &mut String, why: Misplaced) -> Result<(), AllocError> {
-    match why {
-        Misplaced::Beside(other) => {
-            let key = other.key();
-            write!(said, " may stand only beside `{key}`.\n")
-        }
-        Misplaced::Without(other) => {
-            let key = other.key();
-            write!(said, " may not stand beside `{key}`.\n")
-        }
-        Misplaced::WithoutChange => {
-            said.push_str(" may stand only in a plan with a `[[change]]`.\n")
-        }
-    }
+    fill(
+        said,
+        "{key} is no key of `{name}`.\n",
+        &[
+            ("key", Fact::Key(key)),
+            ("name", Fact::Text(section.name())),
+        ],
+    )?;
+    put_nearest_key(alloc, said, key, keys)
 }

@@ -29,12 +29,11 @@ pub(crate) fn put_text(said: &mut String, text: &str) -> Result<(), AllocError> 
 
 /// Adds a key as it is quoted in a sentence, cut where it is long.
 pub(crate) fn put_key(said: &mut String, key: &str) -> Result<(), AllocError> {
-    let front = front_of(key);
-    let plain = front
+    let is_plain = key
         .bytes()
         .all(|b| b.is_ascii_alphanumeric() || b == b'_' || b == b'-');
-    if plain && front.len() == key.len() {
-        write!(said, "`{front}`")
+    if is_plain && key.len() <= MOST_CHARACTERS {
+        write!(said, "`{key}`")
     } else {
         put_text(said, key)
     }
@@ -54,15 +53,22 @@ fn put_item(said: &mut String, item: &Value) -> Result<(), AllocError> {
     }
 }
 
+/// Adds a comma, unless nothing is listed before.
+pub(crate) fn put_comma(said: &mut String, is_first: bool) -> Result<(), AllocError> {
+    if is_first {
+        Ok(())
+    } else {
+        said.push_str(", ")
+    }
+}
+
 /// Adds the items of an array, the first sixteen of them.
 fn put_items(said: &mut String, items: &[Value]) -> Result<(), AllocError> {
     let mut is_first = true;
     for item in items.iter().take(MOST_ITEMS) {
-        if !is_first {
-            said.push_str(", ")?;
-        }
-        is_first = false;
+        put_comma(said, is_first)?;
         put_item(said, item)?;
+        is_first = false;
     }
     if items.len() > MOST_ITEMS {
         said.push_str(", ..")?;

@@ -1,8 +1,9 @@
 //! What is said of a plan that is accepted.
 ghost use Rattle.std.specs.Prelude.{◌<◌, ◌≤◌};
 
-use crate::windows::{longest_at, put_open};
-use bridge_advice::{Advice, advice_of, put_advice};
+use crate::text::{Fact, fill};
+use crate::windows::{longest_at, open_of};
+use bridge_advice::{advice_of, put_advice};
 use bridge_bounds::{bound_of, tight_bound_of};
 use bridge_check::{Accepted, may_wait};
 use bridge_config::PortPlan;
@@ -10,6 +11,12 @@ use bridge_filter::FilterPlan;
 use bridge_frame::occupation;
 use bridge_limits::{LONGEST_FRAME, NoMemory};
 use std::alloc::{AllocError, Allocator, Global};
+
+const BOUND: &str =
+    "A frame that this queue takes is done at most {bound} ns after it came: there is room for {room}, each of at most {length} octets, which occupy the link for {occupied} ns, and they leave while the class is open.\n";
+
+const TIGHT: &str =
+    "Its gate lets so few octets through in one turn that it is done at most {tight} ns after it came.\n";
 
 /// What is said of a plan that is accepted: for each protected filter where its frames may wait, when each of these queues
 /// is open, the longest frame that fits, and how long a frame takes there at most; then a warning for each thing that is
@@ -41,13 +48,7 @@ fn put_warnings<A: Allocator + Copy>(
     accepted: &Accepted<A>,
 ) -> Result<(), NoMemory> {
     let found = advice_of(alloc, accepted)?;
-    put_all(said, &found)?;
-    Ok(())
-}
-
-/// Adds the sentence of each of some findings.
-fn put_all(said: &mut String, found: &[Advice]) -> Result<(), AllocError> {
-    for advice in found {
+    for advice in &found {
         put_advice(said, advice)?;
     }
     Ok(())
@@ -61,24 +62,16 @@ fn put_filters<A: Allocator + Copy>(
 ) -> Result<(), AllocError> {
     for (number, filter) in accepted.plan().filters() {
         if filter.protected {
-            write!(said, "Filter {number} is protected.\n")?;
-            put_ports(alloc, said, accepted, *number, filter)?;
-        }
-    }
-    Ok(())
-}
-
-/// Adds where the frames of a filter may wait.
-fn put_ports<A: Allocator + Copy>(
-    alloc: Global,
-    said: &mut String,
-    accepted: &Accepted<A>,
-    number: u32,
-    filter: &FilterPlan,
-) -> Result<(), AllocError> {
-    for port in 1..17u8 {
-        if let Some(found) = accepted.plan().port(port) {
-            put_classes(alloc, said, accepted, number, filter, port, found)?;
+            fill(
+                said,
+                "Filter {filter} is protected.\n",
+                &[("filter", Fact::Number(u64::from(*number)))],
+            )?;
+            for port in 1..17u8 {
+                if let Some(found) = accepted.plan().port(port) {
+                    put_classes(alloc, said, accepted, *number, filter, port, found)?;
+                }
+            }
         }
     }
     Ok(())
@@ -101,8 +94,8 @@ fn put_classes<A: Allocator + Copy>(
         if may_wait(accepted.plan(), filter, port, class) {
             put_queue(alloc, said, port, found, class)?;
             if let Some(bound) = bound_of(accepted, number, port, class) {
-                put_bound(said, filter, found, class, bound)?;
-                put_tight(said, accepted, number, port, class, bound)?;
+                let tight = tight_bound_of(accepted, number, port, class).unwrap_or(bound);
+                put_bound(said, filter, found, class, bound, tight)?;
             }
         }
     }
@@ -119,60 +112,53 @@ fn put_queue<A: Allocator + Copy>(
 ) -> Result<(), AllocError>
     requires { class < 8 }
 {
-    write!(
+    let longest = longest_at(port, class);
+    let template = match longest {
+        Some(_) =>
+            "Its frames may wait at port {port} in class {class}, which is {open}; the longest frame that fits has {longest} octets.\n",
+        None =>
+            "Its frames may wait at port {port} in class {class}, which is {open}; no frame fits.\n",
+    };
+    let open = open_of(alloc, port, class)?;
+    fill(
         said,
-        "Its frames may wait at port {number} in class {class}, which is "
-    )?;
-    put_open(alloc, said, port, class)?;
-    match longest_at(port, class) {
-        Some(longest) => write!(
-            said,
-            "; the longest frame that fits has {longest} octets.\n"
-        ),
-        None => said.push_str("; no frame fits.\n"),
-    }
+        template,
+        &[
+            ("port", Fact::Number(u64::from(number))),
+            ("class", Fact::Number(u64::from(class))),
+            ("open", Fact::Text(open.as_str())),
+            ("longest", Fact::Number(u64::from(longest.unwrap_or(0)))),
+        ],
+    )
 }
 
-/// Adds how long a frame takes at most that a queue takes, and what this rests on.
+/// Adds how long a frame takes at most that a queue takes, what this rests on, and how long by what its gate lets through
+/// where that is less.
 fn put_bound<A: Allocator + Copy>(
     said: &mut String,
     filter: &FilterPlan,
     port: &PortPlan<A>,
     class: u8,
     bound: u64,
+    tight: u64,
 ) -> Result<(), AllocError>
     requires { class < 8 }
 {
-    let Some(sdu) = filter.max_sdu else {
-        return Ok(());
-    };
-    let room = port.rooms[class as usize];
-    let length = sdu.saturating_add(16).min(LONGEST_FRAME);
-    let occupied = occupation(length, port.speed);
-    write!(
-        said,
-        "A frame that this queue takes is done at most {bound} ns after it came: there is room for {room}, each of at most {length} octets, which occupy the link for {occupied} ns, and they leave while the class is open.\n"
-    )
-}
-
-/// Adds how long a frame takes at most by what its gate lets through, where that is less.
-fn put_tight<A: Allocator + Copy>(
-    said: &mut String,
-    accepted: &Accepted<A>,
-    number: u32,
-    port: u8,
-    class: u8,
-    bound: u64,
-) -> Result<(), AllocError>
-    requires from { 1 ≤ port }
-    requires to { port ≤ 16 }
-    requires class { class < 8 }
-{
-    match tight_bound_of(accepted, number, port, class) {
-        Some(tight) if tight < bound => write!(
+    if let Some(sdu) = filter.max_sdu {
+        let length = sdu.saturating_add(16).min(LONGEST_FRAME);
+        fill(
             said,
-            "Its gate lets so few octets through in one turn that it is done at most {tight} ns after it came.\n"
-        ),
-        _ => Ok(()),
+            BOUND,
+            &[
+                ("bound", Fact::Number(bound)),
+                ("room", Fact::Number(u64::from(port.rooms[class as usize]))),
+                ("length", Fact::Number(u64::from(length))),
+                ("occupied", Fact::Number(occupation(length, port.speed))),
+            ],
+        )?;
     }
+    if tight < bound {
+        fill(said, TIGHT, &[("tight", Fact::Number(tight))])?;
+    }
+    Ok(())
 }

@@ -3,102 +3,89 @@ ghost use Rattle.std.specs.Prelude.{◌↔◌, ◌<◌, ◌≡◌, true, IfSome}
 ghost use Rattle.bridge_cycle.specs.Runs.{Allows};
 ghost use Rattle.bridge_frame.specs.Link.{occupied};
 
+use crate::text::{Fact, fill};
 use bridge_config::PortPlan;
 use bridge_cycle::{CyclicList, Egress, Run, Timeline, is_open, longest_run};
 use bridge_frame::{Speed, occupation};
 use bridge_limits::LONGEST_FRAME;
 use std::alloc::{AllocError, Allocator, Global};
 
-/// The most windows that are listed.
-const MOST_WINDOWS: usize = 8;
-
 /// The steps in which the longest frame is looked for, in octets.
 const STEPS: [u32; 14] = [
     8192, 4096, 2048, 1024, 512, 256, 128, 64, 32, 16, 8, 4, 2, 1,
 ];
 
-/// A time for which a class is open without a break, in ns from phase 0 of its list.
-#[derive(Clone, Copy)]
-struct Window {
-    from: u64,
-    length: u64,
-}
-
-/// The windows of a class in a cycle, one after the other.
-fn windows_of<A: Allocator + Copy>(
-    alloc: Global,
-    list: &CyclicList<u8, A>,
-    class: u8,
-) -> Result<Vec<Window>, AllocError>
-    requires { class < 8 }
-{
-    let mut windows = Vec::new(alloc);
-    let mut start = 0u64;
-    let mut opened = None;
-    for entry in list.entries() {
-        if is_open(entry.0, class) {
-            opened = opened.or(Some(start));
-        } else {
-            push_window(&mut windows, opened, start)?;
-            opened = None;
-        }
-        start = start.saturating_add(entry.1);
+/// What is said of a window by its place among all, from 0: the first eight are listed.
+fn window_at(place: usize) -> &'static str {
+    match place {
+        0 => "open from phase {from} ns for {length} ns",
+        1..=7 => ", from phase {from} ns for {length} ns",
+        8 => ", ..",
+        _ => "",
     }
-    push_window(&mut windows, opened, list.cycle())?;
-    Ok(windows)
 }
 
-/// Adds the window that was opened at a phase, if it was, and ends at another.
-fn push_window(windows: &mut Vec<Window>, opened: Option<u64>, end: u64) -> Result<(), AllocError> {
-    let Some(from) = opened else {
-        return Ok(());
-    };
-    let length = end.saturating_sub(from);
-    if windows.push(Window { from, length }).is_err() {
-        return Err(AllocError);
-    }
-    Ok(())
+/// Adds one more window of a class, by its place from 0, or that there are more.
+fn put_window(said: &mut String, place: usize, from: u64, to: u64) -> Result<(), AllocError> {
+    fill(
+        said,
+        window_at(place),
+        &[
+            ("from", Fact::Number(from)),
+            ("length", Fact::Number(to.saturating_sub(from))),
+        ],
+    )
 }
 
-/// Adds when a list opens a class.
+/// Adds when a list opens a class: each time for which it is open without a break in a cycle, the first eight of them.
 fn put_list<A: Allocator + Copy>(
-    alloc: Global,
     said: &mut String,
     list: &CyclicList<u8, A>,
     class: u8,
 ) -> Result<(), AllocError>
     requires { class < 8 }
 {
-    let windows = windows_of(alloc, list, class)?;
-    let cycle = list.cycle();
-    if windows.is_empty() {
-        return said.push_str("never open");
+    let mut count = 0usize;
+    let mut start = 0u64;
+    let mut opened = None;
+    for entry in list.entries() {
+        if is_open(entry.0, class) {
+            opened = opened.or(Some(start));
+        } else if let Some(from) = opened {
+            put_window(said, count, from, start)?;
+            count = count.saturating_add(1);
+            opened = None;
+        }
+        start = start.saturating_add(entry.1);
     }
-    said.push_str("open ")?;
-    put_windows(said, &windows)?;
-    write!(said, " of each {cycle} ns")
+    let cycle = list.cycle();
+    match opened {
+        Some(from) => put_window(said, count, from, cycle)?,
+        None if count == 0 => return said.push_str("never open"),
+        None => {}
+    }
+    fill(
+        said,
+        " of each {cycle} ns",
+        &[("cycle", Fact::Number(cycle))],
+    )
 }
 
-/// Adds windows, the first eight of them.
-fn put_windows(said: &mut String, windows: &[Window]) -> Result<(), AllocError> {
-    let mut is_first = true;
-    for window in windows.iter().take(MOST_WINDOWS) {
-        if !is_first {
-            said.push_str(", ")?;
-        }
-        is_first = false;
-        let Window { from, length } = *window;
-        write!(said, "from phase {from} ns for {length} ns")?;
-    }
-    if windows.len() > MOST_WINDOWS {
-        said.push_str(", ..")?;
-    }
-    Ok(())
+/// When a port opens a class.
+pub(crate) fn open_of<A: Allocator + Copy>(
+    alloc: Global,
+    port: &PortPlan<A>,
+    class: u8,
+) -> Result<String, AllocError>
+    requires { class < 8 }
+{
+    let mut said = String::new(alloc);
+    put_open(&mut said, port, class)?;
+    Ok(said)
 }
 
 /// Adds when a port opens a class.
-pub(crate) fn put_open<A: Allocator + Copy>(
-    alloc: Global,
+fn put_open<A: Allocator + Copy>(
     said: &mut String,
     port: &PortPlan<A>,
     class: u8,
@@ -107,13 +94,16 @@ pub(crate) fn put_open<A: Allocator + Copy>(
 {
     match &port.list {
         None => said.push_str("always open"),
-        Some(Egress::Cyclic(list)) => put_list(alloc, said, list, class),
+        Some(Egress::Cyclic(list)) => put_list(said, list, class),
         Some(Egress::Joined(joined)) => {
             let (old, new) = joined.lists();
-            put_list(alloc, said, old, class)?;
-            let at = joined.at();
-            write!(said, "; from {at} ns on ")?;
-            put_list(alloc, said, new, class)
+            put_list(said, old, class)?;
+            fill(
+                said,
+                "; from {at} ns on ",
+                &[("at", Fact::Number(joined.at()))],
+            )?;
+            put_list(said, new, class)
         }
     }
 }
@@ -145,10 +135,14 @@ pub(crate) fn longest_in(run: Run, speed: Speed) -> Option<u32>
 
 /// The shorter of two runs.
 fn shorter(one: Run, other: Run) -> Run {
-    match (one, other) {
-        (Run::Never, _) | (_, Run::Never) => Run::Never,
-        (Run::Always, run) | (run, Run::Always) => run,
-        (Run::For(one), Run::For(other)) => Run::For(one.min(other)),
+    match one {
+        Run::Always => other,
+        Run::Never => one,
+        Run::For(length) => match other {
+            Run::Always => one,
+            Run::Never => other,
+            Run::For(more) => Run::For(length.min(more)),
+        },
     }
 }
 

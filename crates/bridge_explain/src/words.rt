@@ -2,125 +2,62 @@
 ghost use Rattle.std.specs.Prelude.{IfOk, codes, string_bytes};
 ghost use Rattle.bridge_explain.specs.Said.{BeginsWith};
 
-use crate::nearest::{Named, nearest_name};
-use crate::text::of_file;
-use crate::value::put_text;
+use crate::nearest::{is_among, nearest_name};
+use crate::text::{Fact, fill, of_file};
 use bridge_limits::NoMemory;
 use std::alloc::{AllocError, Global};
 
-/// A command of the program.
-#[derive(Clone, Copy)]
-enum Verb {
-    Bounds,
-    Check,
-    Net,
-    Picture,
-    Run,
-    Wire,
-}
-
 /// The commands of the program.
-const VERBS: [Verb; 6] = [
-    Verb::Bounds,
-    Verb::Check,
-    Verb::Net,
-    Verb::Picture,
-    Verb::Run,
-    Verb::Wire,
-];
-
-impl Named for Verb {
-    fn name(&self) -> &'static str {
-        match self {
-            Verb::Bounds => "bounds",
-            Verb::Check => "check",
-            Verb::Net => "net",
-            Verb::Picture => "picture",
-            Verb::Run => "run",
-            Verb::Wire => "wire",
-        }
-    }
-}
-
-/// An option of the program.
-#[derive(Clone, Copy)]
-enum Switch {
-    Commands,
-    Delays,
-    Explain,
-    Frames,
-    From,
-    Picture,
-    Strict,
-    To,
-    Traffic,
-}
+const COMMANDS: &[&str] = &["bounds", "check", "net", "picture", "run", "wire"];
 
 /// The options of the program.
-const SWITCHES: [Switch; 9] = [
-    Switch::Commands,
-    Switch::Delays,
-    Switch::Explain,
-    Switch::Frames,
-    Switch::From,
-    Switch::Picture,
-    Switch::Strict,
-    Switch::To,
-    Switch::Traffic,
+const OPTIONS: &[&str] = &[
+    "--commands",
+    "--delays",
+    "--explain",
+    "--frames",
+    "--from",
+    "--picture",
+    "--strict",
+    "--to",
+    "--traffic",
 ];
 
-impl Named for Switch {
-    fn name(&self) -> &'static str {
-        match self {
-            Switch::Commands => "--commands",
-            Switch::Delays => "--delays",
-            Switch::Explain => "--explain",
-            Switch::Frames => "--frames",
-            Switch::From => "--from",
-            Switch::Picture => "--picture",
-            Switch::Strict => "--strict",
-            Switch::To => "--to",
-            Switch::Traffic => "--traffic",
-        }
+const THE_OPTIONS: &str =
+    "The options are --commands FILE, --delays FILE, --frames FILE, --picture FILE, --from NS and --to NS (of run), --traffic FILE (of bounds), --strict (of check, run and net), and --explain.\n";
+
+const OF_RUN: &str =
+    "An option stands where it may not, twice, or without its value.\n--from and --to stand beside --picture, and are moments in ns below 4 * 10^18, the first before the second.\n";
+
+/// How a command is called, and how many words it takes.
+fn call_of(command: &str) -> (&'static str, usize) {
+    match command {
+        "bounds" => ("bounds PLAN [--traffic FILE]", 1),
+        "check" => ("check PLAN [--strict]", 1),
+        "net" => ("net check NET [--strict]", 2),
+        "picture" => ("picture PLAN FILE", 2),
+        "run" => (
+            "run PLAN IN OUT [--commands FILE] [--delays FILE] [--frames FILE] [--picture FILE [--from NS] [--to NS]] [--strict]",
+            3,
+        ),
+        _ => ("wire MBPS ROOM IN OUT", 4),
     }
 }
 
-/// How a command is called.
-fn usage_of(verb: Verb) -> &'static str {
-    match verb {
-        Verb::Bounds => "bounds PLAN [--traffic FILE]",
-        Verb::Check => "check PLAN [--strict]",
-        Verb::Net => "net check NET [--strict]",
-        Verb::Picture => "picture PLAN FILE",
-        Verb::Run => {
-            "run PLAN IN OUT [--commands FILE] [--delays FILE] [--frames FILE] [--picture FILE [--from NS] [--to NS]] [--strict]"
-        }
-        Verb::Wire => "wire MBPS ROOM IN OUT",
+/// What may be wrong with the words of a command that has as many as it takes.
+fn reason_of(command: &str) -> &'static str {
+    match command {
+        "wire" =>
+            "MBPS must be 10, 100, 1000, 2500 or 10000, and ROOM a whole number from 1 to 4096.\n",
+        "run" => OF_RUN,
+        "net" =>
+            "An option stands where it may not, twice, or without its value.\nThe first word behind `net` is `check`.\n",
+        _ => "An option stands where it may not, twice, or without its value.\n",
     }
-}
-
-/// How many words a command takes.
-fn count_of(verb: Verb) -> usize {
-    match verb {
-        Verb::Bounds | Verb::Check => 1,
-        Verb::Net | Verb::Picture => 2,
-        Verb::Run => 3,
-        Verb::Wire => 4,
-    }
-}
-
-/// The command of a word.
-fn verb_of(word: &str) -> Option<Verb> {
-    for verb in &VERBS {
-        if verb.name() == word {
-            return Some(*verb);
-        }
-    }
-    None
 }
 
 /// Whether a word is an option, and of what name.
-fn switch_of(word: &str) -> Option<&str> {
+fn option_of(word: &str) -> Option<&str> {
     if !word.starts_with("--") || word == "--" {
         return None;
     }
@@ -128,11 +65,6 @@ fn switch_of(word: &str) -> Option<&str> {
         Some((name, _)) => Some(name),
         None => Some(word),
     }
-}
-
-/// Whether an option is known.
-fn is_known(name: &str) -> bool {
-    SWITCHES.iter().any(|s| s.name() == name)
 }
 
 /// Why the words after the program's name are refused: the first that is wrong, and how the command is called.
@@ -146,29 +78,27 @@ pub fn explain_words(alloc: Global, words: &[String]) -> Result<String, NoMemory
 
 /// Adds why words are refused.
 fn put_words(alloc: Global, said: &mut String, words: &[String]) -> Result<(), AllocError> {
-    if let Some(name) = unknown_switch(words) {
-        return put_switch(alloc, said, name);
+    if let Some(name) = unknown_option(words) {
+        return put_option(alloc, said, name);
     }
     match first_word(words) {
         None => {
             said.push_str("A command is missing.\n")?;
-            put_usages(said)
+            put_calls(said)
         }
-        Some(word) => match verb_of(word) {
-            None => put_unknown(alloc, said, word),
-            Some(verb) => put_verb(said, words, verb),
-        },
+        Some(word) if is_among(COMMANDS, word) => put_command(said, words, word),
+        Some(word) => put_unknown(alloc, said, word),
     }
 }
 
 /// The first option that is unknown.
-fn unknown_switch(words: &[String]) -> Option<&str> {
+fn unknown_option(words: &[String]) -> Option<&str> {
     for word in words {
         if word.as_str() == "--" {
             return None;
         }
-        if let Some(name) = switch_of(word.as_str()) {
-            if !is_known(name) {
+        if let Some(name) = option_of(word.as_str()) {
+            if !is_among(OPTIONS, name) {
                 return Some(name);
             }
         }
@@ -179,7 +109,7 @@ fn unknown_switch(words: &[String]) -> Option<&str> {
 /// The first word that is no option.
 fn first_word(words: &[String]) -> Option<&str> {
     for word in words {
-        if switch_of(word.as_str()).is_none() {
+        if option_of(word.as_str()).is_none() {
             return Some(word.as_str());
         }
     }
@@ -187,53 +117,46 @@ fn first_word(words: &[String]) -> Option<&str> {
 }
 
 /// Adds that an option is unknown, and the nearest.
-fn put_switch(alloc: Global, said: &mut String, name: &str) -> Result<(), AllocError> {
-    put_text(said, name)?;
-    said.push_str(" is no option.\n")?;
-    match nearest_name(alloc, name, &SWITCHES)? {
-        Some(found) => {
-            let name = found.name();
-            write!(said, "The nearest option is {name}.\n")
-        }
-        None => said.push_str(
-            "The options are --commands FILE, --delays FILE, --frames FILE, --picture FILE, --from NS and --to NS (of run), --traffic FILE (of bounds), --strict (of check, run and net), and --explain.\n",
+fn put_option(alloc: Global, said: &mut String, name: &str) -> Result<(), AllocError> {
+    fill(
+        said,
+        "{word} is no option.\n",
+        &[("word", Fact::Quoted(name))],
+    )?;
+    match nearest_name(alloc, name, OPTIONS)? {
+        Some(found) => fill(
+            said,
+            "The nearest option is {name}.\n",
+            &[("name", Fact::Text(found))],
         ),
+        None => said.push_str(THE_OPTIONS),
     }
 }
 
 /// Adds that a command is unknown, and the nearest.
 fn put_unknown(alloc: Global, said: &mut String, word: &str) -> Result<(), AllocError> {
-    put_text(said, word)?;
-    said.push_str(" is no command.\n")?;
-    match nearest_name(alloc, word, &VERBS)? {
-        Some(found) => put_usage(said, "The nearest command is", found),
-        None => put_usages(said),
+    fill(
+        said,
+        "{word} is no command.\n",
+        &[("word", Fact::Quoted(word))],
+    )?;
+    match nearest_name(alloc, word, COMMANDS)? {
+        Some(found) => put_call(said, "The nearest command is: tsnbridge {call}\n", found),
+        None => put_calls(said),
     }
 }
 
 /// Adds how a command is called.
-fn put_usage(said: &mut String, front: &str, verb: Verb) -> Result<(), AllocError> {
-    let usage = usage_of(verb);
-    write!(said, "{front}: tsnbridge {usage}\n")
+fn put_call(said: &mut String, template: &str, command: &str) -> Result<(), AllocError> {
+    fill(said, template, &[("call", Fact::Text(call_of(command).0))])
 }
 
 /// Adds how each command is called.
-fn put_usages(said: &mut String) -> Result<(), AllocError> {
-    for verb in &VERBS {
-        put_usage(said, "A command is", *verb)?;
+fn put_calls(said: &mut String) -> Result<(), AllocError> {
+    for command in COMMANDS {
+        put_call(said, "A command is: tsnbridge {call}\n", *command)?;
     }
     Ok(())
-}
-
-/// Whether a word is an option whose value is the next word.
-fn takes_value(word: &str) -> bool {
-    word == "--commands"
-        || word == "--delays"
-        || word == "--frames"
-        || word == "--picture"
-        || word == "--from"
-        || word == "--to"
-        || word == "--traffic"
 }
 
 /// How many words behind the command are no options.
@@ -241,11 +164,12 @@ fn values_in(words: &[String]) -> usize {
     let mut count = 0usize;
     let mut is_value = false;
     for word in words {
+        let word = word.as_str();
         if is_value {
             is_value = false;
-        } else if takes_value(word.as_str()) {
-            is_value = true;
-        } else if switch_of(word.as_str()).is_none() && word.as_str() != "--" {
+        } else if is_among(OPTIONS, word) {
+            is_value = word != "--explain" && word != "--strict";
+        } else if option_of(word).is_none() && word != "--" {
             count = count.saturating_add(1);
         }
     }
@@ -253,28 +177,20 @@ fn values_in(words: &[String]) -> usize {
 }
 
 /// Adds why the words of a command are refused.
-fn put_verb(said: &mut String, words: &[String], verb: Verb) -> Result<(), AllocError> {
-    let name = verb.name();
-    let wanted = count_of(verb);
+fn put_command(said: &mut String, words: &[String], command: &str) -> Result<(), AllocError> {
+    let (call, wanted) = call_of(command);
     let count = values_in(words);
-    if count != wanted {
-        write!(
-            said,
-            "The words behind `{name}` must be {wanted}, and are {count}.\n"
-        )?;
-    } else if verb == Verb::Wire {
-        said.push_str(
-            "MBPS must be 10, 100, 1000, 2500 or 10000, and ROOM a whole number from 1 to 4096.\n",
-        )?;
+    let reason = if count != wanted {
+        "The words behind `{command}` must be {wanted}, and are {count}.\n"
     } else {
-        said.push_str("An option stands where it may not, twice, or without its value.\n")?;
-        if verb == Verb::Run {
-            said.push_str(
-                "--from and --to stand beside --picture, and are moments in ns below 4 * 10^18, the first before the second.\n",
-            )?;
-        } else if verb == Verb::Net {
-            said.push_str("The first word behind `net` is `check`.\n")?;
-        }
-    }
-    put_usage(said, "It is called", verb)
+        reason_of(command)
+    };
+    let facts = [
+        ("command", Fact::Text(command)),
+        ("wanted", Fact::Number(wanted as u64)),
+        ("count", Fact::Number(count as u64)),
+        ("call", Fact::Text(call)),
+    ];
+    fill(said, reason, &facts)?;
+    fill(said, "It is called: tsnbridge {call}\n", &facts)
 }
