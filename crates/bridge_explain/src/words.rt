@@ -15,19 +15,24 @@ const OPTIONS: &[&str] = &[
     "--commands",
     "--delays",
     "--explain",
+    "--filters",
     "--frames",
     "--from",
     "--picture",
+    "--ports",
     "--strict",
     "--to",
     "--traffic",
 ];
 
 const THE_OPTIONS: &str =
-    "The options are --commands FILE, --delays FILE, --frames FILE, --picture FILE, --from NS and --to NS (of run), --traffic FILE (of bounds), --strict (of check, run and net), and --explain.\n";
+    "The options are --commands FILE, --delays FILE, --frames FILE, --picture FILE and --filters LIST (of run), --from NS, --to NS and --ports LIST (of run and picture), --traffic FILE (of bounds), --strict (of check, run and net), and --explain.\n";
 
 const OF_RUN: &str =
-    "An option stands where it may not, twice, or without its value.\n--from and --to stand beside --picture, and are moments in ns below 4 * 10^18, the first before the second.\n";
+    "An option stands where it may not, twice, or without its value.\n--from, --to, --ports and --filters stand beside --picture. Moments are in ns below 4 * 10^18, the first before the second; lists are numbers joined by commas, as 1,3.\n";
+
+const OF_PICTURE: &str =
+    "An option stands where it may not, twice, or without its value.\n--from and --to are moments in ns below 4 * 10^18, the first before the second, and --ports are numbers joined by commas, as 1,3.\n";
 
 /// How a command is called, and how many words it takes.
 fn call_of(command: &str) -> (&'static str, usize) {
@@ -35,9 +40,9 @@ fn call_of(command: &str) -> (&'static str, usize) {
         "bounds" => ("bounds PLAN [--traffic FILE]", 1),
         "check" => ("check PLAN [--strict]", 1),
         "net" => ("net check NET [--strict]", 2),
-        "picture" => ("picture PLAN FILE", 2),
+        "picture" => ("picture PLAN FILE [--from NS] [--to NS] [--ports LIST]", 2),
         "run" => (
-            "run PLAN IN OUT [--commands FILE] [--delays FILE] [--frames FILE] [--picture FILE [--from NS] [--to NS]] [--strict]",
+            "run PLAN IN OUT [--commands FILE] [--delays FILE] [--frames FILE] [--picture FILE [--from NS] [--to NS] [--ports LIST] [--filters LIST]] [--strict]",
             3,
         ),
         _ => ("wire MBPS ROOM IN OUT", 4),
@@ -49,6 +54,7 @@ fn reason_of(command: &str) -> &'static str {
     match command {
         "wire" =>
             "MBPS must be 10, 100, 1000, 2500 or 10000, and ROOM a whole number from 1 to 4096.\n",
+        "picture" => OF_PICTURE,
         "run" => OF_RUN,
         "net" =>
             "An option stands where it may not, twice, or without its value.\nThe first word behind `net` is `check`.\n",
