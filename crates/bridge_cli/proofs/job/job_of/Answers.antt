@@ -46,3 +46,14 @@ returns-in-Some-subcommand_matches-5-clause-words c = λ is asked.
     let bounds : ¬ (codes "net" ≡ codes "bounds") = search rules in
     asks_for_none _ (codes "net") _ _ (search rules) c.in-Ok.ensures.values (name_first _ _ _ _ named) c.in-Some-subcommand_matches-5.ensures.rows
     (λ e speed room input output asks. wire e) (λ e plan asks. check e) (λ e plan input output file asks. run e) (λ e plan file asks. picture e) (λ e plan traffic asks. bounds e) (λ e. c.network_job.ensures.checks is) (λ e. c.network_job.ensures.runs is) asked
+
+pub returns-in-Some-subcommand_matches-4-clause-words : goal.returns-in-Some-subcommand_matches-4-clause-words
+returns-in-Some-subcommand_matches-4-clause-words c = λ is asked.
+    let named : subcommand_name_of c.in-Ok.matches ≡ Some (codes "bounds") = search rules in
+    let wire : ¬ (codes "bounds" ≡ codes "wire") = search rules in
+    let check : ¬ (codes "bounds" ≡ codes "check") = search rules in
+    let run : ¬ (codes "bounds" ≡ codes "run") = search rules in
+    let picture : ¬ (codes "bounds" ≡ codes "picture") = search rules in
+    let net : ¬ (codes "bounds" ≡ codes "net") = search rules in
+    asks_for_none _ (codes "bounds") _ _ (search rules) c.in-Ok.ensures.values (name_first _ _ _ _ named) c.in-Some-subcommand_matches-4.ensures.rows
+    (λ e speed room input output asks. wire e) (λ e plan asks. check e) (λ e plan input output file asks. run e) (λ e plan file asks. picture e) (λ e. c.bounds_job.ensures.words is) (λ e network asks. net e) (λ e network input output file asks. net e) asked
