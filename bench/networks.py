@@ -1,11 +1,11 @@
 #!/usr/bin/env python3
-"""Times `tsnbridge net` beside the same runs of single bridges over files: networks.py [BRIDGES FRAMES]
+"""Times `tsnbridge net` beside the same runs of single bridges over files: networks.py [BRIDGES FRAMES] [--tables]
 
 Two networks of so many bridges (16 by default), a row and a ring, and so many frames (1,000,000 by default) of 64 octets of
 one stream, which go from the first bridge to the last one. `net` runs the network; beside it `run` runs bridge after bridge,
 each over what the one before it wrote. The links have no delay, so the captures of both have to be the same, octet for
-octet. It prints the times and the peak memory, and whether the captures are the same. All files go into a new folder, which
-is removed at the end.
+octet. It prints the times and the peak memory, and whether the captures are the same. With `--tables` the single runs write
+their tables too, as `net` does, where frames go through them. All files go into a new folder, which is removed at the end.
 """
 import filecmp
 import os
@@ -122,8 +122,9 @@ def timed(words):
     return time.perf_counter() - start, usage.ru_utime + usage.ru_stime, usage.ru_maxrss / 1024
 
 
-def run_single(folder, bridges, is_ring):
-    """Runs bridge after bridge over files, each once without frames, as the first round does, and then over what comes."""
+def run_single(folder, bridges, is_ring, has_tables):
+    """Runs bridge after bridge over files, each once without frames, as the first round does, and then over what comes; then
+    with its tables, where these are wanted."""
     wall, processor, peak = 0.0, 0.0, 0.0
     for b, (source, target, _) in enumerate(ways(bridges, is_ring)):
         came, left = os.path.join(folder, "in", f"b{b}"), os.path.join(folder, "single", f"b{b}")
@@ -132,7 +133,8 @@ def run_single(folder, bridges, is_ring):
         for n in range(calls):
             if b > 0 and n == 1:
                 shutil.copy(os.path.join(folder, "single", f"b{b - 1}", "2.pcap"), os.path.join(came, f"{source}.pcap"))
-            more = timed(["run", os.path.join(folder, f"b{b}.toml"), came, left])
+            tables = ["--delays", os.path.join(left, "delays.csv"), "--frames", os.path.join(left, "frames.csv")]
+            more = timed(["run", os.path.join(folder, f"b{b}.toml"), came, left] + tables * (has_tables and n == calls - 1))
             wall, processor, peak = wall + more[0], processor + more[1], max(peak, more[2])
     return wall, processor, peak
 
@@ -147,7 +149,7 @@ def are_same(folder, bridges, is_ring):
     return all(filecmp.cmp(os.path.join(folder, "out", n), os.path.join(folder, "single", n), shallow=False) for n in names)
 
 
-def measure(bridges, frames, is_ring):
+def measure(bridges, frames, is_ring, has_tables):
     """Prints the row of a network."""
     folder = tempfile.mkdtemp()
     try:
@@ -155,7 +157,7 @@ def measure(bridges, frames, is_ring):
         write_inputs(folder, bridges, is_ring, frames)
         os.mkdir(os.path.join(folder, "out"))
         net = timed(["net", os.path.join(folder, "network.toml"), os.path.join(folder, "in"), os.path.join(folder, "out")])
-        single = run_single(folder, bridges, is_ring)
+        single = run_single(folder, bridges, is_ring, has_tables)
         same = "the same" if are_same(folder, bridges, is_ring) else "DIFFERENT"
         shape = "ring" if is_ring else "row"
         print(
@@ -169,11 +171,13 @@ def measure(bridges, frames, is_ring):
 
 def main():
     """Measures both networks."""
-    bridges, frames = (int(sys.argv[1]), int(sys.argv[2])) if len(sys.argv) > 2 else (16, 1_000_000)
+    words = [it for it in sys.argv[1:] if it != "--tables"]
+    has_tables = "--tables" in sys.argv
+    bridges, frames = (int(words[0]), int(words[1])) if len(words) > 1 else (16, 1_000_000)
     print("| network | `net` s | processor s | peak MiB | single runs s | processor s | peak MiB | ratio | captures |")
     print("|---|---|---|---|---|---|---|---|---|", flush=True)
-    measure(bridges, frames, False)
-    measure(bridges, frames, True)
+    measure(bridges, frames, False, has_tables)
+    measure(bridges, frames, True, has_tables)
 
 
 if __name__ == "__main__":
