@@ -10,11 +10,12 @@ use bridge_cli::{
     Job, PictureRequest, TableRequest, help_of, job_of, picture_request_of, table_request_of,
     wants_explanation, wants_strictness,
 };
-use bridge_files::{Said, wire_files};
+use bridge_files::{Said, is_standard, wire_files};
 use bridge_jobs::{Fault, NoMemory, check_job, text_job};
 use bridge_net_app::{RoundsJob, RoundsSaid, rounds_job};
 use bridge_planning::{
-    NetworkSaid, TrafficReport, bounds_job, is_network, network_job, network_picture, traffic_job,
+    NetworkSaid, TrafficReport, bounds_job, is_network, memory_fault, network_job, network_picture,
+    traffic_job,
 };
 use std::alloc::Global;
 use std::fs;
@@ -121,7 +122,7 @@ fn done_job<H: Input + AllocGlobal + Print + Eprint + Files>(
             input,
             output,
         } => wired(rt.alloc(), wire_files(rt, speed, room, input, output)),
-        Job::Check { plan } => check(rt, words, plan, wishes),
+        Job::Check { plan } => check_at(rt, words, plan, wishes),
         Job::Run {
             plan,
             input,
@@ -228,6 +229,30 @@ fn accepted(
     }
 }
 
+/// A path that the words name, where `-` stands for a device.
+fn path_or(alloc: Global, path: String, device: &str) -> Result<String, Fault> {
+    if !is_standard(path.as_str()) {
+        return Ok(path);
+    }
+    match String::from_str(alloc, device) {
+        Ok(path) => Ok(path),
+        Err(_) => Err(memory_fault()),
+    }
+}
+
+/// How the check of the plan of a file, or of standard input for `-`, ends.
+fn check_at(
+    rt: &(impl AllocGlobal + Files),
+    words: &[String],
+    plan: String,
+    wishes: Wishes,
+) -> Result<Ending, Fault> {
+    match path_or(rt.alloc(), plan, "/dev/stdin") {
+        Ok(plan) => check(rt, words, plan, wishes),
+        Err(fault) => Err(fault),
+    }
+}
+
 /// How the check of the plan of a file ends.
 fn check(
     rt: &(impl AllocGlobal + Files),
@@ -295,8 +320,22 @@ fn draw(
     }
 }
 
-/// Draws the network or the plan of a file, or a part of a plan, into another file. `Words` for a part of a network.
+/// Draws the network or the plan of a file, or a part of a plan, into another file, or to standard output for `-`. `Words` for
+/// a part of a network.
 fn draw_file(
+    rt: &(impl AllocGlobal + Files),
+    path: String,
+    file: String,
+    sketch: Option<PictureRequest>,
+) -> Result<(), Fault> {
+    match path_or(rt.alloc(), file, "/dev/stdout") {
+        Ok(file) => draw_into(rt, path, file, sketch),
+        Err(fault) => Err(fault),
+    }
+}
+
+/// The same into a file.
+fn draw_into(
     rt: &(impl AllocGlobal + Files),
     path: String,
     file: String,
