@@ -4,6 +4,7 @@ ghost use Rattle.bridge_jobs.specs.Status.{status_of};
 
 use bridge_app::said_of;
 use bridge_cli::{Job, job_of, wants_explanation};
+use bridge_files::is_standard;
 use bridge_jobs::{Fault, NoMemory, fault_line};
 use bridge_net_app::explain_stopped;
 use bridge_planning::{explain_network, explain_traffic};
@@ -57,13 +58,21 @@ fn explanation_of(
     words: &[String],
     fault: &Fault,
 ) -> Option<String> {
-    if !wants_explanation(words) {
+    if !wants_explanation(words) || is_of_standard_input(rt.alloc(), words) {
         return None;
     }
     match fault {
         Fault::Rounds(line) => explain_stopped(rt.alloc(), line.as_str()),
         Fault::Network(_) => explanation_of_refusal(rt, words),
         _ => said_of(rt, words, fault),
+    }
+}
+
+/// Whether these words check a plan of standard input, of which nothing is left then.
+fn is_of_standard_input(alloc: Global, words: &[String]) -> bool {
+    match job_of(alloc, words) {
+        Ok(Job::Check { plan }) => is_standard(plan.as_str()),
+        _ => false,
     }
 }
 

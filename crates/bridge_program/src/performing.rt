@@ -47,8 +47,8 @@ struct Beside {
 /// The status is 0 where the job is done, that of the fault where it isn't, and 1 where a frame of the traffic that is asked
 /// about may be refused or late, or where something is told that the words, as they want strictness, take for a fault.
 ///
-/// A capture that is written to standard output goes there at once. Where it is watched, a long job says on standard error how
-/// far it is.
+/// A capture or a picture that is written to standard output goes there at once. Where it is watched, a long job says on
+/// standard error how far it is.
 pub fn perform<H: Input + AllocGlobal + Print + Eprint + Files>(
     rt: &H,
     words: &[String],
@@ -186,8 +186,12 @@ fn wired(alloc: Global, line: Result<Said, Fault>) -> Result<Ending, Fault> {
     }
 }
 
-/// How a job over a plan ends for which a warning is a fault.
-fn strictly(alloc: Global, strict: Result<Strict, Fault>) -> Result<Ending, Fault> {
+/// How a job over a plan ends that tells its warnings, by whether one is a fault.
+fn strictly(
+    alloc: Global,
+    strict: Result<Strict, Fault>,
+    is_fault: bool,
+) -> Result<Ending, Fault> {
     match strict {
         Ok(
             Strict {
@@ -198,7 +202,7 @@ fn strictly(alloc: Global, strict: Result<Strict, Fault>) -> Result<Ending, Faul
         ) => Ok(Ending {
             printed: text_or_none(alloc, line),
             told,
-            status: status_of(!is_warned),
+            status: status_of(!(is_warned && is_fault)),
         }),
         Err(fault) => Err(fault),
     }
@@ -240,35 +244,38 @@ fn path_or(alloc: Global, path: String, device: &str) -> Result<String, Fault> {
     }
 }
 
-/// How the check of the plan of a file, or of standard input for `-`, ends.
+/// How the check of the plan of a file, or of standard input for `-`, ends. What is told of the latter comes from one reading,
+/// as nothing of it is left then.
 fn check_at(
     rt: &(impl AllocGlobal + Files),
     words: &[String],
     plan: String,
     wishes: Wishes,
 ) -> Result<Ending, Fault> {
+    let is_told_at_once = wishes.is_explained && is_standard(plan.as_str());
     match path_or(rt.alloc(), plan, "/dev/stdin") {
-        Ok(plan) => check(rt, words, plan, wishes),
+        Ok(plan) if is_told_at_once || wishes.is_strict => strictly(
+            rt.alloc(),
+            strict_check_job(rt, plan, wishes.is_explained),
+            wishes.is_strict,
+        ),
+        Ok(plan) => check(rt, words, plan, wishes.is_explained),
         Err(fault) => Err(fault),
     }
 }
 
-/// How the check of the plan of a file ends.
+/// How the check of the plan of a file ends for which a warning is no fault.
 fn check(
     rt: &(impl AllocGlobal + Files),
     words: &[String],
     plan: String,
-    wishes: Wishes,
+    is_explained: bool,
 ) -> Result<Ending, Fault> {
-    let explained = wishes.is_explained;
-    if wishes.is_strict {
-        return strictly(rt.alloc(), strict_check_job(rt, plan, explained));
-    }
     let Ok(reader) = fs::open(rt, plan.as_str()) else {
         return Err(Fault::File(plan));
     };
     let line = check_job(rt.alloc(), rt.alloc(), plan, reader);
-    accepted(rt, words, line, explained)
+    accepted(rt, words, line, is_explained)
 }
 
 /// What the words ask for beside the report of a run.
@@ -297,7 +304,7 @@ fn run_bridge(
     let explained = wishes.is_explained;
     if wishes.is_strict {
         let strict = strict_run_job(rt, plan, input, output, commands, tables, sketch, explained);
-        return strictly(rt.alloc(), strict);
+        return strictly(rt.alloc(), strict, true);
     }
     let line = run_with_tables(rt, plan, input, output, commands, tables, sketch);
     accepted(rt, words, line, explained)
