@@ -187,11 +187,7 @@ fn wired(alloc: Global, line: Result<Said, Fault>) -> Result<Ending, Fault> {
 }
 
 /// How a job over a plan ends that tells its warnings, by whether one is a fault.
-fn strictly(
-    alloc: Global,
-    strict: Result<Strict, Fault>,
-    is_fault: bool,
-) -> Result<Ending, Fault> {
+fn strictly(alloc: Global, strict: Result<Strict, Fault>, is_fault: bool) -> Result<Ending, Fault> {
     match strict {
         Ok(
             Strict {
