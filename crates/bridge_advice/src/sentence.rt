@@ -1,20 +1,79 @@
 //! The sentence of a finding.
-use crate::advice::{Advice, AllTaken, Hidden, LimitBelow, Nowhere, Outside, OwnPort, Stuck};
+use crate::advice::{Advice, Nowhere, Outside, Stuck};
 use crate::telling::{put_burst, put_cycles, put_flood, put_pause, put_rate, put_rooms};
 use crate::useless::SHORTEST;
-use std::alloc::AllocError;
+use bridge_text::Text;
+use std::alloc::Allocator;
+
+const OWN_PORT: &str =
+    "Warning: `stream` {0} of the file, handle {1}, comes in at port {2}, to which its `static` entry sends it: no frame leaves where it came in.\n";
+
+const CLOSED: &str = "Warning: gate {0} is closed at all moments: no frame goes through it.\n";
+
+const NO_TOKEN: &str =
+    "Warning: meter {0} gives no token: `cbs` and `ebs` are below {1} octets, the least of a frame, so every frame is red.\n";
+
+const NONE_AGAIN: &str =
+    "Warning: meter {0} gives no token again: `cir` and `eir` are 0, so every frame is red once its buckets are empty.\n";
+
+const NO_STREAM: &str =
+    "Warning: filter {0} names handle {1}, which no `stream` gives: it gets no frame.\n";
+
+const TAKEN: &str =
+    "Warning: filter {0} gets no frame: filter {1}, which has a lower number, takes all of them.\n";
+
+const LIMIT: &str =
+    "Warning: gate {0} has an entry of `octets` {1}, below the `max_sdu` {2} of filter {3}: its longest frames don't go through there.\n";
+
+const HIDDEN: &str =
+    "Warning: `stream` {0} of the file, handle {1}, gets no frame: `stream` {2}, which stands before it, takes all of them. Take one of them away, or let them ask for other frames.\n";
+
+const STUCK: &str =
+    "Warning: no frame of filter {0}, which is protected, leaves by `stream` {1} of the file: ";
+
+const OUTSIDE: &str =
+    "Warning: no frame of filter {0}, which is protected, leaves port {1} by `stream` {2} of the file: its `static` entry names the port, which is none of the `members` of VLAN {3}. Add it there.\n";
 
 /// Adds the sentence of a finding, a line that begins with `Warning: ` and says what to change where that isn't plain.
-pub fn put_advice(said: &mut String, advice: &Advice) -> Result<(), AllocError> {
+pub fn put_advice<A: Allocator>(said: &mut Text<A>, advice: &Advice) {
     match advice {
-        Advice::OwnPort(own) => put_own_port(said, own),
-        Advice::ClosedGate { gate } => put_closed(said, *gate),
-        Advice::NoToken { meter } => put_no_token(said, *meter),
-        Advice::NoTokenAgain { meter } => put_none_again(said, *meter),
-        Advice::NoStream { filter, handle } => put_no_stream(said, *filter, *handle),
-        Advice::AllTaken(taken) => put_taken(said, taken),
-        Advice::LimitBelow(below) => put_limit(said, below),
-        Advice::Hidden(hidden) => put_hidden(said, hidden),
+        Advice::OwnPort(own) => said.fill(
+            OWN_PORT,
+            &[own.place as u64, u64::from(own.handle), u64::from(own.port)],
+            &[],
+        ),
+        Advice::ClosedGate { gate } => said.fill(CLOSED, &[u64::from(*gate)], &[]),
+        Advice::NoToken { meter } => said.fill(NO_TOKEN, &[u64::from(*meter), SHORTEST], &[]),
+        Advice::NoTokenAgain { meter } => said.fill(NONE_AGAIN, &[u64::from(*meter)], &[]),
+        Advice::NoStream { filter, handle } => said.fill(
+            NO_STREAM,
+            &[u64::from(*filter), u64::from(*handle)],
+            &[],
+        ),
+        Advice::AllTaken(taken) => said.fill(
+            TAKEN,
+            &[u64::from(taken.filter), u64::from(taken.lower)],
+            &[],
+        ),
+        Advice::LimitBelow(below) => said.fill(
+            LIMIT,
+            &[
+                u64::from(below.gate),
+                u64::from(below.octets),
+                u64::from(below.sdu),
+                u64::from(below.filter),
+            ],
+            &[],
+        ),
+        Advice::Hidden(hidden) => said.fill(
+            HIDDEN,
+            &[
+                hidden.place as u64,
+                u64::from(hidden.handle),
+                hidden.earlier as u64,
+            ],
+            &[],
+        ),
         Advice::Nowhere(stuck) => put_stuck(said, stuck),
         Advice::Outside(outside) => put_outside(said, outside),
         Advice::Burst(burst) => put_burst(said, burst),
@@ -26,135 +85,47 @@ pub fn put_advice(said: &mut String, advice: &Advice) -> Result<(), AllocError> 
     }
 }
 
-fn put_own_port(said: &mut String, own: &OwnPort) -> Result<(), AllocError> {
-    let OwnPort {
-        place,
-        handle,
-        port,
-    } = *own;
-    write!(
-        said,
-        "Warning: `stream` {place} of the file, handle {handle}, comes in at port {port}, to which its `static` entry sends it: no frame leaves where it came in.\n"
-    )
-}
-
-fn put_closed(said: &mut String, gate: u32) -> Result<(), AllocError> {
-    write!(
-        said,
-        "Warning: gate {gate} is closed at all moments: no frame goes through it.\n"
-    )
-}
-
-fn put_no_token(said: &mut String, meter: u32) -> Result<(), AllocError> {
-    write!(
-        said,
-        "Warning: meter {meter} gives no token: `cbs` and `ebs` are below {SHORTEST} octets, the least of a frame, so every frame is red.\n"
-    )
-}
-
-fn put_none_again(said: &mut String, meter: u32) -> Result<(), AllocError> {
-    write!(
-        said,
-        "Warning: meter {meter} gives no token again: `cir` and `eir` are 0, so every frame is red once its buckets are empty.\n"
-    )
-}
-
-fn put_no_stream(said: &mut String, filter: u32, handle: u32) -> Result<(), AllocError> {
-    write!(
-        said,
-        "Warning: filter {filter} names handle {handle}, which no `stream` gives: it gets no frame.\n"
-    )
-}
-
-fn put_taken(said: &mut String, taken: &AllTaken) -> Result<(), AllocError> {
-    let AllTaken { filter, lower } = *taken;
-    write!(
-        said,
-        "Warning: filter {filter} gets no frame: filter {lower}, which has a lower number, takes all of them.\n"
-    )
-}
-
-fn put_limit(said: &mut String, below: &LimitBelow) -> Result<(), AllocError> {
-    let LimitBelow {
-        gate,
-        octets,
-        sdu,
-        filter,
-    } = *below;
-    write!(
-        said,
-        "Warning: gate {gate} has an entry of `octets` {octets}, below the `max_sdu` {sdu} of filter {filter}: its longest frames don't go through there.\n"
-    )
-}
-
-fn put_hidden(said: &mut String, hidden: &Hidden) -> Result<(), AllocError> {
-    let Hidden {
-        place,
-        handle,
-        earlier,
-    } = *hidden;
-    write!(
-        said,
-        "Warning: `stream` {place} of the file, handle {handle}, gets no frame: `stream` {earlier}, which stands before it, takes all of them. Take one of them away, or let them ask for other frames.\n"
-    )
-}
-
 /// Adds why no frame of a protected filter leaves by a stream, and what to change.
-fn put_stuck(said: &mut String, stuck: &Stuck) -> Result<(), AllocError> {
-    let Stuck {
-        filter,
-        place,
-        port,
-        vid,
-        reason,
-    } = *stuck;
-    write!(
-        said,
-        "Warning: no frame of filter {filter}, which is protected, leaves by `stream` {place} of the file: "
-    )?;
-    put_reason(said, reason, port, vid)
+fn put_stuck<A: Allocator>(said: &mut Text<A>, stuck: &Stuck) {
+    said.fill(STUCK, &[u64::from(stuck.filter), stuck.place as u64], &[]);
+    let named = match stuck.reason {
+        Nowhere::Egress { port } => port,
+        _ => 0,
+    };
+    let numbers = [
+        u64::from(stuck.port),
+        u64::from(stuck.vid),
+        u64::from(named),
+    ];
+    said.fill(reason_of(stuck.reason), &numbers, &[]);
 }
 
-fn put_reason(said: &mut String, reason: Nowhere, port: u8, vid: u16) -> Result<(), AllocError> {
+/// The sentence on a reason: of a stream that comes in at port `{0}`, in VLAN `{1}`, and is to leave by port `{2}`.
+fn reason_of(reason: Nowhere) -> &'static str {
     match reason {
-        Nowhere::Reserved => said.push_str(
+        Nowhere::Reserved =>
             "its address is one of 01-80-C2-00-00-00 to 01-80-C2-00-00-0F, which no bridge lets on. Give it another one.\n",
-        ),
-        Nowhere::NoVlan => write!(
-            said,
-            "there is no VLAN {vid}. Add it, with port {port}, where it comes in, and the ports where it is to leave as `members`.\n"
-        ),
-        Nowhere::Ingress => write!(
-            said,
-            "port {port}, where it comes in, is none of the `members` of VLAN {vid}. Add it there.\n"
-        ),
-        Nowhere::NoPorts => said.push_str(
-            "its `static` entry has no `ports`. Name those where it is to leave.\n",
-        ),
-        Nowhere::OwnPort => write!(
-            said,
-            "its `static` entry names port {port} alone, where it comes in. Name those where it is to leave.\n"
-        ),
-        Nowhere::Egress { port } => write!(
-            said,
-            "port {port}, which its `static` entry names, is none of the `members` of VLAN {vid}. Add it there.\n"
-        ),
-        Nowhere::Alone => write!(
-            said,
-            "VLAN {vid} has no member but port {port}, where it comes in. Add those where it is to leave.\n"
-        ),
+        Nowhere::NoVlan =>
+            "there is no VLAN {1}. Add it, with port {0}, where it comes in, and the ports where it is to leave as `members`.\n",
+        Nowhere::Ingress =>
+            "port {0}, where it comes in, is none of the `members` of VLAN {1}. Add it there.\n",
+        Nowhere::NoPorts => "its `static` entry has no `ports`. Name those where it is to leave.\n",
+        Nowhere::OwnPort =>
+            "its `static` entry names port {0} alone, where it comes in. Name those where it is to leave.\n",
+        Nowhere::Egress { .. } =>
+            "port {2}, which its `static` entry names, is none of the `members` of VLAN {1}. Add it there.\n",
+        Nowhere::Alone =>
+            "VLAN {1} has no member but port {0}, where it comes in. Add those where it is to leave.\n",
     }
 }
 
-fn put_outside(said: &mut String, outside: &Outside) -> Result<(), AllocError> {
-    let Outside {
-        filter,
-        place,
-        port,
-        vid,
-    } = *outside;
-    write!(
-        said,
-        "Warning: no frame of filter {filter}, which is protected, leaves port {port} by `stream` {place} of the file: its `static` entry names the port, which is none of the `members` of VLAN {vid}. Add it there.\n"
-    )
+/// Adds that a stream doesn't leave by a port of its static entry.
+fn put_outside<A: Allocator>(said: &mut Text<A>, outside: &Outside) {
+    let numbers = [
+        u64::from(outside.filter),
+        u64::from(outside.port),
+        outside.place as u64,
+        u64::from(outside.vid),
+    ];
+    said.fill(OUTSIDE, &numbers, &[]);
 }

@@ -114,7 +114,7 @@ fn said_of_check<H: AllocGlobal + Files>(rt: &H, path: &str, fault: &CheckFault)
     let Ok(plan) = plan_of(rt.alloc(), rt.alloc(), &text) else {
         return None;
     };
-    let said = explain_check(rt.alloc(), path, &plan, fault);
+    let said = explain_check(rt.alloc(), path, &text, &plan, fault);
     drop(plan);
     said.ok()
 }

@@ -2,10 +2,11 @@
 ghost use Rattle.std.specs.Prelude.{IfOk, string_bytes};
 ghost use Rattle.bridge_explain.specs.Said.{BeginsWith};
 
-use crate::text::{Fact, fill, of_file};
+use crate::text::{Said, behind};
 use bridge_capture::CaptureFault;
 use bridge_limits::NoMemory;
-use std::alloc::{AllocError, Global};
+use bridge_text::Text;
+use std::alloc::Global;
 
 /// The octets of the header of a capture.
 const HEADER: u64 = 24;
@@ -41,47 +42,48 @@ pub fn explain_capture(
 ) -> Result<String, NoMemory>
     ensures { IfOk result (λ said. BeginsWith path.now (string_bytes said)) }
 {
-    let mut body = String::new(alloc);
-    put_capture(&mut body, path, octets, fault)?;
-    Ok(of_file(alloc, path, body.as_str())?)
+    let mut said = Text::new(alloc);
+    put_capture(&mut said, path, octets, fault);
+    behind(alloc, path, said)
 }
 
-/// The sentence on a fault of a capture.
+/// The sentence on a fault of a capture: at the path `{a}`, which looks like `{b}`; the file has `{0}` octets, a header `{1}`; the
+/// record is `{2}`, the version `{3}.{4}`, the link type `{5}`.
 fn sentence_of(octets: &[u8], fault: &CaptureFault) -> &'static str {
     match fault {
         CaptureFault::BadMagic if looks_of(octets).is_some() =>
-            ": it looks like {looks}, and must be a classic capture (pcap). Convert it: editcap -F nsecpcap {path} NEW.pcap\n",
+            ": it looks like {b}, and must be a classic capture (pcap). Convert it: editcap -F nsecpcap {a} NEW.pcap\n",
         CaptureFault::BadMagic if octets.is_empty() =>
             ": it is empty, and must be a classic capture (pcap).\n",
         CaptureFault::BadMagic if is_text(octets) =>
-            ": it looks like a text, and must be a classic capture (pcap). Where it is a hexadecimal dump: text2pcap -F nsecpcap {path} NEW.pcap\n",
+            ": it looks like a text, and must be a classic capture (pcap). Where it is a hexadecimal dump: text2pcap -F nsecpcap {a} NEW.pcap\n",
         CaptureFault::BadMagic =>
             ": it looks like no capture, and must be a classic capture (pcap). See whether it is the file that you mean.\n",
         CaptureFault::BadVersion =>
-            ": its version is {major}.{minor}, and must be 2.4. Convert it: editcap -F nsecpcap {path} NEW.pcap\n",
+            ": its version is {3}.{4}, and must be 2.4. Convert it: editcap -F nsecpcap {a} NEW.pcap\n",
         CaptureFault::BadLinkType if link_at(octets).0 != 1 =>
-            ": its link type is {kind}, and must be 1 (Ethernet). Capture at an Ethernet interface.\n",
+            ": its link type is {5}, and must be 1 (Ethernet). Capture at an Ethernet interface.\n",
         CaptureFault::BadLinkType if link_at(octets).1 & 0x0400 != 0 =>
-            ": its link type is 1 (Ethernet), and the word in which it stands says that each frame carries its check sequence; a capture here has frames without it. Cut it off: editcap -F nsecpcap -L -C -4 {path} NEW.pcap\n",
+            ": its link type is 1 (Ethernet), and the word in which it stands says that each frame carries its check sequence; a capture here has frames without it. Cut it off: editcap -F nsecpcap -L -C -4 {a} NEW.pcap\n",
         CaptureFault::BadLinkType =>
-            ": its link type is 1 (Ethernet), and the word in which it stands has more in its upper half, where 0 is wanted. Convert it: editcap -F nsecpcap {path} NEW.pcap\n",
+            ": its link type is 1 (Ethernet), and the word in which it stands has more in its upper half, where 0 is wanted. Convert it: editcap -F nsecpcap {a} NEW.pcap\n",
         CaptureFault::HeaderCut
             if looks_of(octets).is_none() && !octets.is_empty() && is_text(octets) =>
-            ": it has {count} octets and looks like a text; the header of a capture has {header}.\n",
+            ": it has {0} octets and looks like a text; the header of a capture has {1}.\n",
         CaptureFault::HeaderCut =>
-            ": it has {count} octets, and the header of a capture has {header}. See whether it was written or copied whole.\n",
+            ": it has {0} octets, and the header of a capture has {1}. See whether it was written or copied whole.\n",
         CaptureFault::RecordCut(_) =>
-            ": the file ends inside record {record}. See whether it was written or copied whole; the whole records alone: editcap -F nsecpcap {path} NEW.pcap\n",
+            ": the file ends inside record {2}. See whether it was written or copied whole; the whole records alone: editcap -F nsecpcap {a} NEW.pcap\n",
         CaptureFault::LengthsCross(_) =>
-            ": record {record} has more captured octets than its frame has. See what wrote the file.\n",
+            ": record {2} has more captured octets than its frame has. See what wrote the file.\n",
         CaptureFault::RecordTooLarge(_) =>
-            ": record {record} has more than 262144 captured octets. Cut the frames: editcap -F nsecpcap -s 262144 {path} NEW.pcap\n",
+            ": record {2} has more than 262144 captured octets. Cut the frames: editcap -F nsecpcap -s 262144 {a} NEW.pcap\n",
         CaptureFault::TimeBack(_) =>
-            ": record {record} is earlier than the record before it. Sort the records: reordercap {path} NEW.pcap\n",
+            ": record {2} is earlier than the record before it. Sort the records: reordercap {a} NEW.pcap\n",
         CaptureFault::TimeTooLate(_) =>
-            ": the time of record {record} is not below 4000000000 seconds. Shift the times: editcap -F nsecpcap -t -SECONDS {path} NEW.pcap\n",
+            ": the time of record {2} is not below 4000000000 seconds. Shift the times: editcap -F nsecpcap -t -SECONDS {a} NEW.pcap\n",
         CaptureFault::TooManyRecords =>
-            ": it has more than 1000000 records. Take a part: editcap -F nsecpcap -r {path} NEW.pcap 1-1000000\n",
+            ": it has more than 1000000 records. Take a part: editcap -F nsecpcap -r {a} NEW.pcap 1-1000000\n",
         CaptureFault::Read =>
             ": reading it failed part of the way; see the disk or the network below it.\n",
         CaptureFault::Write => ": writing it failed; see whether the disk is full.\n",
@@ -128,24 +130,15 @@ fn pair_at(octets: &[u8], place: usize) -> u64 {
 }
 
 /// Adds what is said of a capture behind its path.
-fn put_capture(
-    said: &mut String,
-    path: &str,
-    octets: &[u8],
-    fault: &CaptureFault,
-) -> Result<(), AllocError> {
-    fill(
-        said,
-        sentence_of(octets, fault),
-        &[
-            ("path", Fact::Text(path)),
-            ("looks", Fact::Text(looks_of(octets).unwrap_or(""))),
-            ("major", Fact::Number(pair_at(octets, 4))),
-            ("minor", Fact::Number(pair_at(octets, 6))),
-            ("kind", Fact::Number(link_at(octets).0)),
-            ("count", Fact::Number(octets.len() as u64)),
-            ("header", Fact::Number(HEADER)),
-            ("record", Fact::Number(record_of(fault))),
-        ],
-    )
+fn put_capture(said: &mut Said, path: &str, octets: &[u8], fault: &CaptureFault) {
+    let numbers = [
+        octets.len() as u64,
+        HEADER,
+        record_of(fault),
+        pair_at(octets, 4),
+        pair_at(octets, 6),
+        link_at(octets).0,
+    ];
+    let words = [path, looks_of(octets).unwrap_or("")];
+    said.fill(sentence_of(octets, fault), &numbers, &words);
 }

@@ -2,9 +2,9 @@
 
 use crate::keys::own_key;
 use crate::position::{Position, key_position, table_position};
-use crate::text::{Fact, fill};
+use crate::text::Said;
+use crate::value::put_value_or;
 use bridge_schema::{Field, Section};
-use std::alloc::AllocError;
 use toml::{Table, Value};
 
 /// A text with its document.
@@ -50,14 +50,6 @@ pub(crate) fn number_in(value: Option<&Value>) -> Option<u64> {
     }
 }
 
-/// A value as it is told, or a word where there is none.
-pub(crate) fn fact_of<'a>(value: Option<&'a Value>, word: &'static str) -> Fact<'a> {
-    match value {
-        Some(value) => Fact::Value(value),
-        None => Fact::Text(word),
-    }
-}
-
 /// Where a key of an instance stands, else where the instance begins, where each table of its section has a header of its
 /// own.
 fn position_of(
@@ -78,88 +70,60 @@ fn position_of(
 }
 
 /// Adds a place of a text, where it is known, behind the name of its file.
-pub(crate) fn put_position(
-    said: &mut String,
-    position: Option<Position>,
-) -> Result<(), AllocError> {
-    let Some(Position { line, column }) = position else {
-        return said.push_str(": ");
-    };
-    fill(
-        said,
-        ", line {line}, column {column}: ",
-        &[
-            ("line", Fact::Number(line as u64)),
-            ("column", Fact::Number(column as u64)),
-        ],
-    )
+pub(crate) fn put_position(said: &mut Said, position: Option<Position>) {
+    match position {
+        Some(Position { line, column }) => said.fill(
+            ", line {0}, column {1}: ",
+            &[line as u64, column as u64],
+            &[],
+        ),
+        None => said.put(": "),
+    }
 }
 
 /// Adds an instance by its place in the file, and by the keys by which it is known.
-fn put_instance(
-    said: &mut String,
-    document: &Table,
-    section: Section,
-    index: u32,
-) -> Result<(), AllocError> {
+fn put_instance(said: &mut Said, document: &Table, section: Section, index: u32) {
     let table = table_of(document, section, index);
-    let own = value_of(table, own_key(section));
-    let address = match section {
-        Section::Static => value_of(table, Field::Address),
-        _ => None,
-    };
-    let template = match (own, address) {
-        (None, None) => "`{name}` {index} of the file.\n",
-        (Some(_), None) => "`{name}` {index} of the file, {key} = {own}.\n",
-        (None, Some(_)) => "`{name}` {index} of the file, address = {address}.\n",
-        (Some(_), Some(_)) => "`{name}` {index} of the file, {key} = {own}, address = {address}.\n",
-    };
-    fill(
-        said,
-        template,
-        &[
-            ("name", Fact::Text(section.name())),
-            ("index", Fact::Number(u64::from(index))),
-            ("key", Fact::Text(own_key(section).key())),
-            ("own", fact_of(own, "")),
-            ("address", fact_of(address, "")),
-        ],
-    )
+    said.fill(
+        "`{a}` {0} of the file",
+        &[u64::from(index)],
+        &[section.name()],
+    );
+    put_known(said, own_key(section), value_of(table, own_key(section)));
+    if matches!(section, Section::Static) {
+        put_known(said, Field::Address, value_of(table, Field::Address));
+    }
+    said.put(".\n");
+}
+
+/// Adds a key with its value, where it has one.
+fn put_known(said: &mut Said, key: Field, value: Option<&Value>) {
+    if value.is_some() {
+        said.fill(", {a} = ", &[], &[key.key()]);
+        put_value_or(said, value, "");
+    }
 }
 
 /// Adds where a key of an instance stands, or the instance, and which instance it is.
 pub(crate) fn put_place(
-    said: &mut String,
+    said: &mut Said,
     source: Source<'_>,
     section: Section,
     index: u32,
     key: Option<&str>,
-) -> Result<(), AllocError> {
-    put_position(said, position_of(source, section, index, key))?;
-    put_instance(said, source.document, section, index)
+) {
+    put_position(said, position_of(source, section, index, key));
+    put_instance(said, source.document, section, index);
 }
 
 /// Adds where the first instance of a section stands that is one too many, and how many there are.
-pub(crate) fn put_too_many(
-    said: &mut String,
-    source: Source<'_>,
-    section: Section,
-    limit: u32,
-) -> Result<(), AllocError> {
-    put_position(
-        said,
-        position_of(source, section, limit.saturating_add(1), None),
-    )?;
-    fill(
-        said,
-        "`{name}` has {count} tables.\nIt may have at most {limit}.\n",
-        &[
-            ("name", Fact::Text(section.name())),
-            (
-                "count",
-                Fact::Number(items_of(source.document, section).len() as u64),
-            ),
-            ("limit", Fact::Number(u64::from(limit))),
-        ],
-    )
+pub(crate) fn put_too_many(said: &mut Said, source: Source<'_>, section: Section, limit: u32) {
+    let first = position_of(source, section, limit.saturating_add(1), None);
+    let count = items_of(source.document, section).len();
+    put_position(said, first);
+    said.fill(
+        "`{a}` has {0} tables.\nIt may have at most {1}.\n",
+        &[count as u64, u64::from(limit)],
+        &[section.name()],
+    );
 }

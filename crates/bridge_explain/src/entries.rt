@@ -1,12 +1,14 @@
 //! The lists of ports and gates, entry by entry.
 
-use crate::document::{Source, fact_of, number_in, put_place, table_of, value_of};
+use crate::document::{Source, number_in, put_place, table_of, value_of};
 use crate::faults::put_allowed;
 use crate::keys::{Allowed, Key, ListKeys, Presence, entry_keys, lists_of};
-use crate::text::{Fact, fill};
+use crate::text::Said;
+use crate::value::put_value_or;
 use bridge_cycle::{CyclicList, LONGEST_CYCLE, ListFault, MOST_ENTRIES};
+use bridge_limits::NoMemory;
 use bridge_schema::{Field, Section};
-use std::alloc::{AllocError, Global};
+use std::alloc::Global;
 use toml::{Table, Value};
 
 /// Whether a value is a number of a range.
@@ -54,48 +56,34 @@ fn flaw_of(keys: &'static [Key], entry: &Table) -> Option<&'static Key> {
 }
 
 /// Adds what is wrong with the value of the entries of a list.
-pub(crate) fn put_entries<'a>(
-    said: &mut String,
-    section: Section,
-    list: &'a str,
-    value: Option<&'a Value>,
-) -> Result<(), AllocError> {
-    let Some(Value::Array(items)) = value else {
-        let template = match value {
-            Some(_) => "`{list}` is {value}.\nIt must be an array of tables.\n",
-            None => "`{list}` is missing.\n",
-        };
-        return fill(
-            said,
-            template,
-            &[("list", Fact::Text(list)), ("value", fact_of(value, ""))],
-        );
-    };
+pub(crate) fn put_entries(said: &mut Said, section: Section, list: &str, value: Option<&Value>) {
+    match value {
+        None => said.fill("`{a}` is missing.\n", &[], &[list]),
+        Some(Value::Array(items)) => put_items(said, section, list, items),
+        Some(_) => {
+            said.fill("`{a}` is ", &[], &[list]);
+            put_value_or(said, value, "");
+            said.put(".\nIt must be an array of tables.\n");
+        }
+    }
+}
+
+/// Adds what is wrong with the entries of a list: the first that is no table, else the first that has a flaw.
+fn put_items(said: &mut Said, section: Section, list: &str, items: &[Value]) {
     let mut number = 0u64;
     for item in items {
         number = number.saturating_add(1);
         if item.as_table().is_none() {
-            return fill(
-                said,
-                "Item {number} of `{list}` is {value}.\nIt must be a table.\n",
-                &[
-                    ("number", Fact::Number(number)),
-                    ("list", Fact::Text(list)),
-                    ("value", Fact::Value(item)),
-                ],
-            );
+            said.fill("Item {0} of `{a}` is ", &[number], &[list]);
+            put_value_or(said, Some(item), "");
+            return said.put(".\nIt must be a table.\n");
         }
     }
-    put_flawed(said, entry_keys(section), list, items)
+    put_flawed(said, entry_keys(section), list, items);
 }
 
 /// Adds what is wrong with the first entry of a list that has a flaw.
-fn put_flawed<'a>(
-    said: &mut String,
-    keys: &'static [Key],
-    list: &'a str,
-    items: &'a [Value],
-) -> Result<(), AllocError> {
+fn put_flawed(said: &mut Said, keys: &'static [Key], list: &str, items: &[Value]) {
     let mut number = 0u64;
     for item in items {
         number = number.saturating_add(1);
@@ -105,34 +93,26 @@ fn put_flawed<'a>(
             }
         }
     }
-    fill(
-        said,
-        "Each entry of `{list}` is as it may be.\n",
-        &[("list", Fact::Text(list))],
-    )
+    said.fill("Each entry of `{a}` is as it may be.\n", &[], &[list]);
 }
 
 /// Adds what stands at a key of an entry, and what may stand there.
-fn put_flaw<'a>(
-    said: &mut String,
+fn put_flaw(
+    said: &mut Said,
     number: u64,
-    list: &'a str,
+    list: &str,
     field: Field,
     allowed: Allowed,
-    entry: &'a Table,
-) -> Result<(), AllocError> {
-    let key = field.key();
-    fill(
-        said,
-        "In entry {number} of `{list}`, `{key}` is {value}.\n",
-        &[
-            ("number", Fact::Number(number)),
-            ("list", Fact::Text(list)),
-            ("key", Fact::Text(key)),
-            ("value", fact_of(entry.get(key), "missing")),
-        ],
-    )?;
-    put_allowed(said, allowed)
+    entry: &Table,
+) {
+    said.fill(
+        "In entry {0} of `{a}`, `{b}` is ",
+        &[number],
+        &[list, field.key()],
+    );
+    put_value_or(said, entry.get(field.key()), "missing");
+    said.put(".\n");
+    put_allowed(said, allowed);
 }
 
 /// The entries at a key of an instance.
@@ -154,13 +134,11 @@ fn is_refused(
     table: Option<&Table>,
     keys: ListKeys,
     fault: ListFault,
-) -> Result<bool, AllocError> {
+) -> Result<bool, NoMemory> {
     let cycle = number_in(value_of(table, keys.1)).unwrap_or(0);
     let mut entries = Vec::new(alloc);
     for item in entries_at(table, keys.0).iter().take(MOST_ENTRIES + 1) {
-        if entries.push(((), interval_of(item))).is_err() {
-            return Err(AllocError);
-        }
+        entries.push(((), interval_of(item)))?;
     }
     match CyclicList::new(alloc, 0, cycle, entries) {
         Ok(_list) => Ok(false),
@@ -174,7 +152,7 @@ fn refused_of(
     section: Section,
     table: Option<&Table>,
     fault: ListFault,
-) -> Result<Option<ListKeys>, AllocError> {
+) -> Result<Option<ListKeys>, NoMemory> {
     let lists = lists_of(section);
     for keys in lists {
         if is_refused(alloc, table, *keys, fault)? {
@@ -187,33 +165,44 @@ fn refused_of(
 /// Adds why a list of an instance is refused.
 pub(crate) fn put_list(
     alloc: Global,
-    said: &mut String,
+    said: &mut Said,
     source: Source<'_>,
     section: Section,
     index: u32,
     fault: ListFault,
-) -> Result<(), AllocError> {
+) {
     let table = table_of(source.document, section, index);
-    let Some(keys) = refused_of(alloc, section, table, fault)? else {
-        return put_place(said, source, section, index, None);
+    let keys = match refused_of(alloc, section, table, fault) {
+        Ok(Some(keys)) => keys,
+        Ok(None) => return put_place(said, source, section, index, None),
+        Err(_) => return said.give_up(),
     };
     let key = match fault {
         ListFault::CycleOutOfRange => keys.1,
         _ => keys.0,
     };
-    put_place(said, source, section, index, Some(key.key()))?;
+    put_place(said, source, section, index, Some(key.key()));
     let cycle = number_in(value_of(table, keys.1)).unwrap_or(0);
-    put_refused(said, keys, cycle, entries_at(table, keys.0), fault)
+    put_refused(said, keys, cycle, entries_at(table, keys.0), fault);
+}
+
+/// The sentence on a list that is refused: its keys are `{a}` and that of its cycle `{b}`; it has so many entries `{0}` of at
+/// most `{1}`, a cycle `{2}` of at most `{3}`, a first entry of no length `{4}`, and lasts `{5}` ns in all.
+fn refusal_of(fault: ListFault) -> &'static str {
+    match fault {
+        ListFault::Empty => "`{a}` has no entry.\nIt must have 1 to {1}.\n",
+        ListFault::TooManyEntries => "`{a}` has {0} entries.\nIt must have 1 to {1}.\n",
+        ListFault::CycleOutOfRange =>
+            "`{b}` is {2}.\nIt must be a whole number from 1 to {3} (ns).\n",
+        ListFault::ZeroInterval => "Entry {4} of `{a}` lasts 0 ns.\nEach must last 1 ns or more.\n",
+        ListFault::OverCycle =>
+            "The entries of `{a}` last {5} ns together, and `{b}` is {2} ns.\nThey must last at most as long as `{b}`.\n",
+        ListFault::NoMemory => "There is not enough memory for it.\n",
+    }
 }
 
 /// Adds why a list of a cycle and entries is refused.
-fn put_refused(
-    said: &mut String,
-    keys: ListKeys,
-    cycle: u64,
-    items: &[Value],
-    fault: ListFault,
-) -> Result<(), AllocError> {
+fn put_refused(said: &mut Said, keys: ListKeys, cycle: u64, items: &[Value], fault: ListFault) {
     let mut sum = 0u64;
     let mut place = 0u64;
     let mut zero = 0u64;
@@ -225,30 +214,6 @@ fn put_refused(
             zero = place;
         }
     }
-    let template = match fault {
-        ListFault::Empty => "`{list}` has no entry.\nIt must have 1 to {most}.\n",
-        ListFault::TooManyEntries => "`{list}` has {count} entries.\nIt must have 1 to {most}.\n",
-        ListFault::CycleOutOfRange =>
-            "`{length}` is {cycle}.\nIt must be a whole number from 1 to {longest} (ns).\n",
-        ListFault::ZeroInterval =>
-            "Entry {zero} of `{list}` lasts 0 ns.\nEach must last 1 ns or more.\n",
-        ListFault::OverCycle => {
-            "The entries of `{list}` last {sum} ns together, and `{length}` is {cycle} ns.\nThey must last at most as long as `{length}`.\n"
-        }
-        ListFault::NoMemory => "There is not enough memory for it.\n",
-    };
-    fill(
-        said,
-        template,
-        &[
-            ("list", Fact::Text(keys.0.key())),
-            ("length", Fact::Text(keys.1.key())),
-            ("count", Fact::Number(items.len() as u64)),
-            ("most", Fact::Number(MOST_ENTRIES as u64)),
-            ("longest", Fact::Number(LONGEST_CYCLE)),
-            ("cycle", Fact::Number(cycle)),
-            ("zero", Fact::Number(zero)),
-            ("sum", Fact::Number(sum)),
-        ],
-    )
+    let numbers = [place, MOST_ENTRIES as u64, cycle, LONGEST_CYCLE, zero, sum];
+    said.fill(refusal_of(fault), &numbers, &[keys.0.key(), keys.1.key()]);
 }

@@ -1,29 +1,24 @@
 //! The sentences on each fault of a plan or of commands.
 
 use crate::document::{
-    Source, fact_of, items_of, number_in, put_place, put_position, put_too_many, table_of, value_of,
+    Source, items_of, number_in, put_place, put_position, put_too_many, table_of, value_of,
 };
 use crate::entries::{put_entries, put_list};
 use crate::keys::{Allowed, key_among, keys_of, limit_of, own_key};
 use crate::position::top_position;
 use crate::strays::{put_stray, put_top_key};
-use crate::text::{Fact, fill};
-use crate::value::put_comma;
+use crate::text::Said;
+use crate::value::{put_comma, put_value_or};
 use bridge_cycle::LONGEST_CYCLE;
 use bridge_schema::{Field, Place, PlanFault, Section};
-use std::alloc::{AllocError, Global};
+use std::alloc::Global;
 use toml::{Table, Value};
 
 /// The most numbers of instances that are listed.
 const MOST_NUMBERS: usize = 16;
 
 /// Adds the sentences on a fault of a text.
-pub(crate) fn put_fault(
-    alloc: Global,
-    said: &mut String,
-    source: Source<'_>,
-    fault: &PlanFault,
-) -> Result<(), AllocError> {
+pub(crate) fn put_fault(alloc: Global, said: &mut Said, source: Source<'_>, fault: &PlanFault) {
     match *fault {
         PlanFault::UnknownKey(Section::Top, _) => put_top_key(alloc, said, source),
         PlanFault::UnknownKey(section, index) => put_stray(alloc, said, source, section, index),
@@ -31,43 +26,37 @@ pub(crate) fn put_fault(
         PlanFault::Missing(place)
         | PlanFault::WrongKind(place)
         | PlanFault::OutOfRange(place)
-        | PlanFault::Unresolved(place) => put_at(alloc, said, source, place),
+        | PlanFault::Unresolved(place) => put_at(said, source, place),
         PlanFault::Duplicate(section, index) => put_duplicate(said, source, section, index),
         PlanFault::TooMany(section) => put_too_many(said, source, section, limit_of(section)),
         PlanFault::BadList(section, index, fault) => put_list(
             alloc, said, source, section, index, fault,
         ),
-        PlanFault::NoPorts => said.push_str(
+        PlanFault::NoPorts => said.put(
             ": the plan has no port. Add a `[[port]]` with its `number` and `mbps`.\n",
         ),
-        PlanFault::Syntax | PlanFault::TooLong | PlanFault::NoMemory => said.push_str(
+        PlanFault::Syntax | PlanFault::TooLong | PlanFault::NoMemory => said.put(
             ": the text can't be read.\n",
         ),
     }
 }
 
 /// Adds that a section is no array of tables.
-fn put_no_list(said: &mut String, source: Source<'_>, name: &str) -> Result<(), AllocError> {
-    put_position(said, top_position(source.text, name))?;
-    fill(
-        said,
-        "`{name}` is {value}.\nIt must be an array of tables: write `[[{name}]]` above the keys of each.\n",
-        &[
-            ("name", Fact::Text(name)),
-            ("value", fact_of(source.document.get(name), "absent")),
-        ],
-    )
+fn put_no_list(said: &mut Said, source: Source<'_>, name: &str) {
+    put_position(said, top_position(source.text, name));
+    said.fill("`{a}` is ", &[], &[name]);
+    put_value_or(said, source.document.get(name), "absent");
+    said.fill(
+        ".\nIt must be an array of tables: write `[[{a}]]` above the keys of each.\n",
+        &[],
+        &[name],
+    );
 }
 
 /// Adds what stands at a key of an instance, and what may stand there.
-fn put_at(
-    alloc: Global,
-    said: &mut String,
-    source: Source<'_>,
-    place: Place,
-) -> Result<(), AllocError> {
+fn put_at(said: &mut Said, source: Source<'_>, place: Place) {
     let key = place.field.key();
-    put_place(said, source, place.section, place.index, Some(key))?;
+    put_place(said, source, place.section, place.index, Some(key));
     let table = table_of(source.document, place.section, place.index);
     let value = value_of(table, place.field);
     let allowed = match key_among(keys_of(place.section), key) {
@@ -77,18 +66,12 @@ fn put_at(
     if matches!(allowed, Allowed::Tables) {
         return put_entries(said, place.section, key, value);
     }
-    fill(
-        said,
-        "`{key}` is {value}.\n",
-        &[
-            ("key", Fact::Text(key)),
-            ("value", fact_of(value, "missing")),
-        ],
-    )?;
-    put_may(alloc, said, source, allowed)?;
-    match (place.section, place.field) {
-        (Section::Command, Field::At) => put_falling(said, source, place.index, number_in(value)),
-        _ => Ok(()),
+    said.fill("`{a}` is ", &[], &[key]);
+    put_value_or(said, value, "missing");
+    said.put(".\n");
+    put_may(said, source, allowed);
+    if let (Section::Command, Field::At) = (place.section, place.field) {
+        put_falling(said, source, place.index, number_in(value));
     }
 }
 
@@ -129,43 +112,32 @@ fn allowed_there(
 }
 
 /// Adds the moments of a command and of the one before it, where it is the earlier one.
-fn put_falling(
-    said: &mut String,
-    source: Source<'_>,
-    index: u32,
-    at: Option<u64>,
-) -> Result<(), AllocError> {
+fn put_falling(said: &mut Said, source: Source<'_>, index: u32, at: Option<u64>) {
     let before = moment_before(source, index);
     let Some(at) = at else {
-        return Ok(());
+        return;
     };
-    if at >= before {
-        return Ok(());
+    if at < before {
+        let index = u64::from(index);
+        said.fill(
+            "The moments of commands must not fall: `command` {0} of the file is at {1} ns, and `command` {2} at {3} ns.\n",
+            &[index.saturating_sub(1), before, index, at],
+            &[],
+        );
     }
-    fill(
-        said,
-        "The moments of commands must not fall: `command` {other} of the file is at {before} ns, and `command` {index} at {at} ns.\n",
-        &[
-            ("other", Fact::Number(u64::from(index.saturating_sub(1)))),
-            ("before", Fact::Number(before)),
-            ("index", Fact::Number(u64::from(index))),
-            ("at", Fact::Number(at)),
-        ],
-    )
 }
 
-/// What may stand at a key.
+/// What may stand at a key: numbers from `{0}` to `{1}`, lengths to `{2}`, the `{a}` of a `{b}`.
 fn sentence_of(allowed: Allowed) -> &'static str {
     match allowed {
-        Allowed::Between(_, _) => "It must be a whole number from {low} to {high}.\n",
-        Allowed::Set(_, _) => "It must be an array of whole numbers from {low} to {high}.\n",
-        Allowed::Eight(_, _) =>
-            "It must be an array of eight whole numbers from {low} to {high}.\n",
-        Allowed::NumberOf(_) => "It must be the `{own}` of a `{name}` of the plan.\n",
+        Allowed::Between(_, _) => "It must be a whole number from {0} to {1}.\n",
+        Allowed::Set(_, _) => "It must be an array of whole numbers from {0} to {1}.\n",
+        Allowed::Eight(_, _) => "It must be an array of eight whole numbers from {0} to {1}.\n",
+        Allowed::NumberOf(_) => "It must be the `{a}` of a `{b}` of the plan.\n",
         Allowed::Ports => "It must be an array of numbers of ports of the plan.\n",
         Allowed::Tables => "It must be an array of tables.\n",
         Allowed::Unknown => "",
-        Allowed::Length => "It must be a whole number from 1 to {longest} (ns).\n",
+        Allowed::Length => "It must be a whole number from 1 to {2} (ns).\n",
         Allowed::Mbps => "It must be 10, 100, 1000, 2500 or 10000 (Mb/s).\n",
         Allowed::Switch => "It must be true or false.\n",
         Allowed::Address =>
@@ -179,7 +151,7 @@ fn sentence_of(allowed: Allowed) -> &'static str {
 }
 
 /// Adds what may stand somewhere.
-pub(crate) fn put_allowed(said: &mut String, allowed: Allowed) -> Result<(), AllocError> {
+pub(crate) fn put_allowed(said: &mut Said, allowed: Allowed) {
     let (low, high) = match allowed {
         Allowed::Between(low, high) | Allowed::Set(low, high) | Allowed::Eight(low, high) => (
             low, high,
@@ -187,17 +159,8 @@ pub(crate) fn put_allowed(said: &mut String, allowed: Allowed) -> Result<(), All
         _ => (0, 0),
     };
     let section = section_of(allowed).unwrap_or(Section::Top);
-    fill(
-        said,
-        sentence_of(allowed),
-        &[
-            ("low", Fact::Number(low)),
-            ("high", Fact::Number(high)),
-            ("longest", Fact::Number(LONGEST_CYCLE)),
-            ("own", Fact::Text(own_key(section).key())),
-            ("name", Fact::Text(section.name())),
-        ],
-    )
+    let words = [own_key(section).key(), section.name()];
+    said.fill(sentence_of(allowed), &[low, high, LONGEST_CYCLE], &words);
 }
 
 /// The section of which something at a key has to be there.
@@ -209,59 +172,38 @@ fn section_of(allowed: Allowed) -> Option<Section> {
     }
 }
 
-/// The numbers of the instances of a section, of the first sixteen of them.
-fn numbers_of(alloc: Global, items: &[Value], own: Field) -> Result<String, AllocError> {
-    let mut numbers = String::new(alloc);
+/// Adds the numbers of the instances of a section, of the first sixteen of them.
+fn put_numbers(said: &mut Said, items: &[Value], own: Field) {
     let mut is_first = true;
     for item in items.iter().take(MOST_NUMBERS) {
         if let Some(number) = number_in(value_of(item.as_table(), own)) {
-            put_comma(&mut numbers, is_first)?;
-            write!(numbers, "{number}")?;
+            put_comma(said, is_first);
+            said.put_number(number);
             is_first = false;
         }
     }
     if items.len() > MOST_NUMBERS {
-        numbers.push_str(", ..")?;
+        said.put(", ..");
     }
-    Ok(numbers)
 }
 
 /// Adds what may stand somewhere, and which instances the plan has of what it names.
-fn put_may(
-    alloc: Global,
-    said: &mut String,
-    source: Source<'_>,
-    allowed: Allowed,
-) -> Result<(), AllocError> {
-    put_allowed(said, allowed)?;
+fn put_may(said: &mut Said, source: Source<'_>, allowed: Allowed) {
+    put_allowed(said, allowed);
     let Some(section) = section_of(allowed) else {
-        return Ok(());
+        return;
     };
     let items = items_of(source.plan, section);
-    let numbers = numbers_of(alloc, items, own_key(section))?;
-    put_there(said, section.name(), items.len(), numbers.as_str())
-}
-
-/// Adds which instances a plan has of a section.
-fn put_there<'a>(
-    said: &mut String,
-    name: &'a str,
-    count: usize,
-    numbers: &'a str,
-) -> Result<(), AllocError> {
-    let template = match count {
-        0 => "The plan has no `{name}`.\n",
-        _ => "The plan has {count} of `{name}`: {numbers}.\n",
-    };
-    fill(
-        said,
-        template,
-        &[
-            ("name", Fact::Text(name)),
-            ("count", Fact::Number(count as u64)),
-            ("numbers", Fact::Text(numbers)),
-        ],
-    )
+    if items.is_empty() {
+        return said.fill("The plan has no `{a}`.\n", &[], &[section.name()]);
+    }
+    said.fill(
+        "The plan has {0} of `{a}`: ",
+        &[items.len() as u64],
+        &[section.name()],
+    );
+    put_numbers(said, items, own_key(section));
+    said.put(".\n");
 }
 
 /// Whether two values are one number or one address.
@@ -294,32 +236,19 @@ fn twin_of(items: &[Value], table: Option<&Table>, key: Field, more: Option<Fiel
 }
 
 /// Adds which earlier instance an instance of a section repeats.
-fn put_duplicate(
-    said: &mut String,
-    source: Source<'_>,
-    section: Section,
-    index: u32,
-) -> Result<(), AllocError> {
+fn put_duplicate(said: &mut Said, source: Source<'_>, section: Section, index: u32) {
     let (more, keys) = match section {
         Section::Static => (Some(Field::Address), "`vid` and `address`"),
         Section::Vlan => (None, "`vid`"),
         _ => (None, "`number`"),
     };
     let table = table_of(source.document, section, index);
-    let twin = twin_of(
-        items_of(source.document, section),
-        table,
-        own_key(section),
-        more,
+    let items = items_of(source.document, section);
+    let twin = twin_of(items, table, own_key(section), more);
+    put_place(said, source, section, index, None);
+    said.fill(
+        "`{a}` {0} of the file has the same {b}; each `{a}` must have its own.\n",
+        &[twin as u64],
+        &[section.name(), keys],
     );
-    put_place(said, source, section, index, None)?;
-    fill(
-        said,
-        "`{name}` {twin} of the file has the same {keys}; each `{name}` must have its own.\n",
-        &[
-            ("name", Fact::Text(section.name())),
-            ("twin", Fact::Number(twin as u64)),
-            ("keys", Fact::Text(keys)),
-        ],
-    )
 }

@@ -4,7 +4,7 @@ ghost use Rattle.bridge_explain.specs.Said.{BeginsWith};
 
 use crate::text::of_file;
 use bridge_limits::NoMemory;
-use std::alloc::{AllocError, Global};
+use std::alloc::Global;
 
 /// What is found of a file that can't be opened, made, read or written.
 #[derive(Clone, Copy, Debug, PartialEq, Eq)]
@@ -35,7 +35,7 @@ pub enum Cause {
 pub fn explain_file(alloc: Global, path: &str, cause: Cause) -> Result<String, NoMemory>
     ensures { IfOk result (λ said. BeginsWith path.now (string_bytes said)) }
 {
-    Ok(of_file(alloc, path, sentence_of(cause))?)
+    of_file(alloc, path, sentence_of(cause))
 }
 
 /// What is said of a cause.

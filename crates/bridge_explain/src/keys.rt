@@ -13,11 +13,11 @@ const LAST_MOMENT: u64 = END_OF_TIME - 1;
 /// The highest rate, in bit/s.
 const HIGHEST_RATE: u64 = 100_000_000_000;
 
-const BESIDE: &str = "{key} may stand only beside `{other}`.\n";
+const BESIDE: &str = " may stand only beside `{a}`.\n";
 
-const WITHOUT: &str = "{key} may not stand beside `{other}`.\n";
+const WITHOUT: &str = " may not stand beside `{a}`.\n";
 
-const IN_CHANGE: &str = "{key} may stand only in a plan with a `[[change]]`.\n";
+const IN_CHANGE: &str = " may stand only in a plan with a `[[change]]`.\n";
 
 /// What may stand at a key.
 #[derive(Clone, Copy)]
@@ -252,7 +252,7 @@ pub(crate) fn key_among(keys: &'static [Key], name: &str) -> Option<&'static Key
     None
 }
 
-/// Why a key may not stand in a table, and the other key of which that tells; none where it may.
+/// Why a key may not stand in a table, as a sentence behind it, and the other key of which that tells; none where it may.
 pub(crate) fn misplaced(
     presence: Presence,
     table: &Table,

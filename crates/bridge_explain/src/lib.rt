@@ -17,6 +17,7 @@ mod strays;
 mod text;
 mod value;
 mod warn;
+mod ways;
 mod windows;
 mod words;
 

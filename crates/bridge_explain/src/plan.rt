@@ -5,10 +5,11 @@ ghost use Rattle.bridge_explain.specs.Said.{BeginsWith};
 use crate::document::{Source, put_position};
 use crate::faults::put_fault;
 use crate::position::position_behind;
-use crate::text::{Fact, fill, of_file};
+use crate::text::{Said, behind};
 use bridge_limits::NoMemory;
 use bridge_schema::PlanFault;
-use std::alloc::{AllocError, Global};
+use bridge_text::Text;
+use std::alloc::Global;
 use toml::de::Error;
 
 /// Why the text of a file is no plan, by the fault of the plan: where it is, what was found there and what may stand
@@ -21,8 +22,7 @@ pub fn explain_plan(
 ) -> Result<String, NoMemory>
     ensures { IfOk result (λ said. BeginsWith path.now (string_bytes said)) }
 {
-    let body = body_of(alloc, text, None, fault)?;
-    Ok(of_file(alloc, path, body.as_str())?)
+    behind(alloc, path, body_of(alloc, text, None, fault))
 }
 
 /// Why the text of a file has no commands to the bridge of a plan, by the fault of the commands and the text of the plan.
@@ -36,53 +36,41 @@ pub fn explain_commands(
 ) -> Result<String, NoMemory>
     ensures { IfOk result (λ said. BeginsWith path.now (string_bytes said)) }
 {
-    let body = body_of(alloc, text, Some(plan), fault)?;
-    Ok(of_file(alloc, path, body.as_str())?)
+    behind(alloc, path, body_of(alloc, text, Some(plan), fault))
 }
 
 /// What is said of a text behind the name of its file, with the text of the plan where it is one of commands.
-fn body_of(
-    alloc: Global,
-    octets: &[u8],
-    plan: Option<&[u8]>,
-    fault: &PlanFault,
-) -> Result<String, AllocError> {
-    let mut said = String::new(alloc);
+fn body_of(alloc: Global, octets: &[u8], plan: Option<&[u8]>, fault: &PlanFault) -> Said {
+    let mut said = Text::new(alloc);
     match fault {
-        PlanFault::TooLong => said.push_str(
+        PlanFault::TooLong => said.put(
             ": the text has more than 1048576 octets. Leave out what the bridge doesn't need.\n",
-        )?,
-        PlanFault::NoMemory => said.push_str(": there is not enough memory to read it.\n")?,
-        _ => put_octets(alloc, &mut said, octets, plan, fault)?,
+        ),
+        PlanFault::NoMemory => said.put(": there is not enough memory to read it.\n"),
+        _ => put_octets(alloc, &mut said, octets, plan, fault),
     }
-    Ok(said)
+    said
 }
 
 /// Adds what is said of octets, which may be no text.
 fn put_octets(
     alloc: Global,
-    said: &mut String,
+    said: &mut Said,
     octets: &[u8],
     plan: Option<&[u8]>,
     fault: &PlanFault,
-) -> Result<(), AllocError> {
+) {
     match str::from_utf8(octets) {
         Ok(text) => put_text(alloc, said, text, plan, fault),
         Err(error) => {
-            put_position(said, Some(position_behind(octets, error.valid_up_to())))?;
-            said.push_str("the octets are no text in UTF-8 from here on.\n")
+            put_position(said, Some(position_behind(octets, error.valid_up_to())));
+            said.put("the octets are no text in UTF-8 from here on.\n");
         }
     }
 }
 
 /// Adds what is said of a text.
-fn put_text(
-    alloc: Global,
-    said: &mut String,
-    text: &str,
-    plan: Option<&[u8]>,
-    fault: &PlanFault,
-) -> Result<(), AllocError> {
+fn put_text(alloc: Global, said: &mut Said, text: &str, plan: Option<&[u8]>, fault: &PlanFault) {
     let document = match toml::table_from_str(alloc, text) {
         Ok(document) => document,
         Err(error) => return put_error(said, text, &error),
@@ -97,26 +85,25 @@ fn put_text(
         plan: bridge.as_ref().unwrap_or(&document),
         is_commands: plan.is_some(),
     };
-    put_fault(alloc, said, source, fault)
+    put_fault(alloc, said, source, fault);
 }
 
 /// Adds what is said of a text that is no TOML document.
-fn put_error(said: &mut String, text: &str, error: &Error) -> Result<(), AllocError> {
-    let facts = [("message", Fact::Text(error.message()))];
+fn put_error(said: &mut Said, text: &str, error: &Error) {
     let Some(span) = error.span() else {
-        return fill(said, ": no TOML document: {message}.\n", &facts);
+        return said.fill(": no TOML document: {a}.\n", &[], &[error.message()]);
     };
-    put_position(said, Some(position_behind(text.as_bytes(), span.start)))?;
-    fill(said, "no TOML document: {message}.\n", &facts)?;
+    put_position(said, Some(position_behind(text.as_bytes(), span.start)));
+    said.fill("no TOML document: {a}.\n", &[], &[error.message()]);
     let (front, word) = word_at(text, span.start);
     let template = if error.message() == "duplicate key" && !word.is_empty() {
-        "The key `{word}` stands twice in its table: take one of the two away.\n"
+        "The key `{a}` stands twice in its table: take one of the two away.\n"
     } else if front.ends_with('=') || front.ends_with('[') || front.ends_with(',') {
         advice_on(word)
     } else {
         ""
     };
-    fill(said, template, &[("word", Fact::Text(word))])
+    said.fill(template, &[], &[word]);
 }
 
 /// What stands before the word at a place of a text, without the blanks behind it, and the word: letters, digits and what
@@ -142,13 +129,13 @@ fn word_at(text: &str, place: usize) -> (&str, &str) {
 fn advice_on(word: &str) -> &'static str {
     let first = word.as_bytes().first().copied().unwrap_or(b'-');
     if word.eq_ignore_ascii_case("true") || word.eq_ignore_ascii_case("yes") {
-        "`{word}` is no value: write true, in small letters and without quotes.\n"
+        "`{a}` is no value: write true, in small letters and without quotes.\n"
     } else if word.eq_ignore_ascii_case("false") || word.eq_ignore_ascii_case("no") {
-        "`{word}` is no value: write false, in small letters and without quotes.\n"
+        "`{a}` is no value: write false, in small letters and without quotes.\n"
     } else if first.is_ascii_alphabetic()
         || first != b'-' && (word.contains('-') || word.contains(':'))
     {
-        "`{word}` is no value: a text stands in quotes, as \"{word}\".\n"
+        "`{a}` is no value: a text stands in quotes, as \"{a}\".\n"
     } else {
         ""
     }

@@ -8,7 +8,7 @@ use bridge_capture::CaptureFault;
 use bridge_inputs::RunFault;
 use bridge_jobs::TextFault;
 use bridge_limits::NoMemory;
-use std::alloc::{AllocError, Global};
+use std::alloc::Global;
 
 /// Why a run stopped, by the path of the capture and its first octets. It begins with the path.
 pub fn explain_run(
@@ -22,11 +22,7 @@ pub fn explain_run(
     match fault {
         RunFault::Capture { fault, .. } => explain_capture(alloc, path, octets, fault),
         RunFault::Write { .. } => explain_capture(alloc, path, octets, &CaptureFault::Write),
-        RunFault::NoMemory => Ok(of_file(
-            alloc,
-            path,
-            ": there is not enough memory for the run.\n",
-        )?),
+        RunFault::NoMemory => of_file(alloc, path, ": there is not enough memory for the run.\n"),
     }
 }
 
@@ -35,16 +31,16 @@ pub fn explain_text(alloc: Global, fault: &TextFault) -> Result<String, NoMemory
     ensures { IfOk result (λ said. BeginsWith (codes "-") (string_bytes said)) }
 {
     match fault {
-        TextFault::NotHex => Ok(of_file(
+        TextFault::NotHex => of_file(
             alloc,
             "-",
             ": standard input must be hexadecimal digits in pairs, with blanks between pairs alone. The commands take files: check, run, wire.\n",
-        )?),
-        TextFault::TooLong => Ok(of_file(
+        ),
+        TextFault::TooLong => of_file(
             alloc,
             "-",
             ": standard input may have at most 4194304 characters and 1048576 pairs of digits. Send a capture file: wire MBPS ROOM IN OUT.\n",
-        )?),
+        ),
         TextFault::Run(fault) => explain_run(alloc, "-", &[], fault),
     }
 }

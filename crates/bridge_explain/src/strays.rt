@@ -4,10 +4,11 @@ use crate::document::{Source, items_of, put_place, put_position, table_of};
 use crate::keys::{Key, entry_keys, key_among, keys_of, lists_of, misplaced};
 use crate::nearest::{is_among, nearest_name};
 use crate::position::top_position;
-use crate::text::{Fact, fill};
-use crate::value::put_comma;
+use crate::text::Said;
+use crate::value::{put_comma, put_key};
+use bridge_limits::NoMemory;
 use bridge_schema::{Field, Section};
-use std::alloc::{AllocError, Global};
+use std::alloc::Global;
 use toml::{Table, Value};
 
 /// The sections of a text of commands.
@@ -19,43 +20,41 @@ const PLAN_SECTIONS: &[&str] = &[
 ];
 
 /// Adds the nearest of some names, or all where none is near.
-fn put_nearest(
-    alloc: Global,
-    said: &mut String,
-    word: &str,
-    names: &[&'static str],
-) -> Result<(), AllocError> {
-    if let Some(name) = nearest_name(alloc, word, names)? {
-        return fill(
-            said,
-            "The nearest key is `{name}`.\n",
-            &[("name", Fact::Text(name))],
-        );
+fn put_nearest(alloc: Global, said: &mut Said, word: &str, names: &[&'static str]) {
+    match nearest_name(alloc, word, names) {
+        Ok(Some(name)) => said.fill("The nearest key is `{a}`.\n", &[], &[name]),
+        Ok(None) => put_all(said, names),
+        Err(_) => said.give_up(),
     }
-    said.push_str("The keys are ")?;
+}
+
+/// Adds all of some names.
+fn put_all(said: &mut Said, names: &[&'static str]) {
+    said.put("The keys are ");
     let mut is_first = true;
     for name in names {
-        put_comma(said, is_first)?;
-        fill(said, "`{name}`", &[("name", Fact::Text(*name))])?;
+        put_comma(said, is_first);
+        said.fill("`{a}`", &[], &[*name]);
         is_first = false;
     }
-    said.push_str(".\n")
+    said.put(".\n");
+}
+
+/// The spellings of some keys.
+fn spellings_of(alloc: Global, keys: &'static [Key]) -> Result<Vec<&'static str>, NoMemory> {
+    let mut names = Vec::new(alloc);
+    for key in keys {
+        names.push(key.0.key())?;
+    }
+    Ok(names)
 }
 
 /// Adds the nearest of the spellings of some keys, or all where none is near.
-fn put_nearest_key(
-    alloc: Global,
-    said: &mut String,
-    word: &str,
-    keys: &'static [Key],
-) -> Result<(), AllocError> {
-    let mut names = Vec::new(alloc);
-    for key in keys {
-        if names.push(key.0.key()).is_err() {
-            return Err(AllocError);
-        }
+fn put_nearest_key(alloc: Global, said: &mut Said, word: &str, keys: &'static [Key]) {
+    match spellings_of(alloc, keys) {
+        Ok(names) => put_nearest(alloc, said, word, &names),
+        Err(_) => said.give_up(),
     }
-    put_nearest(alloc, said, word, &names)
 }
 
 /// The first key of a document that is none of these names.
@@ -69,22 +68,19 @@ fn unknown_section<'a>(names: &[&'static str], document: &'a Table) -> Option<&'
 }
 
 /// Adds which key of the top is none, and the nearest.
-pub(crate) fn put_top_key(
-    alloc: Global,
-    said: &mut String,
-    source: Source<'_>,
-) -> Result<(), AllocError> {
+pub(crate) fn put_top_key(alloc: Global, said: &mut Said, source: Source<'_>) {
     let names = if source.is_commands {
         COMMAND_SECTIONS
     } else {
         PLAN_SECTIONS
     };
     let Some(key) = unknown_section(names, source.document) else {
-        return said.push_str(": each key of the top is known.\n");
+        return said.put(": each key of the top is known.\n");
     };
-    put_position(said, top_position(source.text, key))?;
-    fill(said, "{key} is no section.\n", &[("key", Fact::Key(key))])?;
-    put_nearest(alloc, said, key, names)
+    put_position(said, top_position(source.text, key));
+    put_key(said, key);
+    said.put(" is no section.\n");
+    put_nearest(alloc, said, key, names);
 }
 
 /// The first key of a table that may not stand there, of those that may.
@@ -125,66 +121,55 @@ fn stray_in_list<'a>(
 /// Adds which key of an instance is none, and the nearest, or why a known key may not stand there.
 pub(crate) fn put_stray(
     alloc: Global,
-    said: &mut String,
+    said: &mut Said,
     source: Source<'_>,
     section: Section,
     index: u32,
-) -> Result<(), AllocError> {
+) {
     let has_change = !items_of(source.plan, Section::Change).is_empty();
     let Some(table) = table_of(source.document, section, index) else {
         return put_place(said, source, section, index, None);
     };
     if let Some(key) = stray_of(keys_of(section), table, has_change) {
-        put_place(said, source, section, index, Some(key))?;
+        put_place(said, source, section, index, Some(key));
         return put_in_table(alloc, said, section, table, has_change, key);
     }
     for list in lists_of(section) {
         if let Some((number, key)) = stray_in_list(entry_keys(section), table, list.0) {
             let list = list.0.key();
-            put_place(said, source, section, index, Some(list))?;
-            fill(
-                said,
-                "{key}, in entry {number} of `{list}`, is no key of an entry.\n",
-                &[
-                    ("key", Fact::Key(key)),
-                    ("number", Fact::Number(number)),
-                    ("list", Fact::Text(list)),
-                ],
-            )?;
+            put_place(said, source, section, index, Some(list));
+            put_key(said, key);
+            said.fill(
+                ", in entry {0} of `{a}`, is no key of an entry.\n",
+                &[number],
+                &[list],
+            );
             return put_nearest_key(alloc, said, key, entry_keys(section));
         }
     }
-    put_place(said, source, section, index, None)
+    put_place(said, source, section, index, None);
 }
 
 /// Adds that a key is none of a table of a section, and the nearest, or why it may not stand there.
 fn put_in_table(
     alloc: Global,
-    said: &mut String,
+    said: &mut Said,
     section: Section,
     table: &Table,
     has_change: bool,
     key: &str,
-) -> Result<(), AllocError> {
+) {
     let keys = keys_of(section);
     let why = match key_among(keys, key) {
         Some(known) => misplaced(known.2, table, has_change),
         None => None,
     };
-    if let Some((template, other)) = why {
-        return fill(
-            said,
-            template,
-            &[("key", Fact::Key(key)), ("other", Fact::Text(other.key()))],
-        );
+    put_key(said, key);
+    match why {
+        Some((template, other)) => said.fill(template, &[], &[other.key()]),
+        None => {
+            said.fill(" is no key of `{a}`.\n", &[], &[section.name()]);
+            put_nearest_key(alloc, said, key, keys);
+        }
     }
-    fill(
-        said,
-        "{key} is no key of `{name}`.\n",
-        &[
-            ("key", Fact::Key(key)),
-            ("name", Fact::Text(section.name())),
-        ],
-    )?;
-    put_nearest_key(alloc, said, key, keys)
 }

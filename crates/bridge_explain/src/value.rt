@@ -1,6 +1,6 @@
 //! Values of a document, as a planner reads them.
 
-use std::alloc::AllocError;
+use crate::text::Said;
 use toml::Value;
 
 /// The most characters of a text that are shown.
@@ -18,73 +18,77 @@ fn front_of(text: &str) -> &str {
 }
 
 /// Adds a text in quotes, cut where it is long.
-pub(crate) fn put_text(said: &mut String, text: &str) -> Result<(), AllocError> {
+pub(crate) fn put_text(said: &mut Said, text: &str) {
     let front = front_of(text);
+    said.put_quoted(front);
     if front.len() < text.len() {
-        write!(said, "{front:?}..")
-    } else {
-        write!(said, "{front:?}")
+        said.put("..");
     }
 }
 
 /// Adds a key as it is quoted in a sentence, cut where it is long.
-pub(crate) fn put_key(said: &mut String, key: &str) -> Result<(), AllocError> {
+pub(crate) fn put_key(said: &mut Said, key: &str) {
     let is_plain = key
         .bytes()
         .all(|b| b.is_ascii_alphanumeric() || b == b'_' || b == b'-');
     if is_plain && key.len() <= MOST_CHARACTERS {
-        write!(said, "`{key}`")
+        said.fill("`{a}`", &[], &[key]);
     } else {
-        put_text(said, key)
+        put_text(said, key);
     }
 }
 
 /// Adds an item of an array; of an array or a table in it the brackets alone.
-fn put_item(said: &mut String, item: &Value) -> Result<(), AllocError> {
+fn put_item(said: &mut Said, item: &Value) {
     match item {
         Value::String(text) => put_text(said, text.as_str()),
-        Value::Integer(number) => write!(said, "{number}"),
-        Value::Boolean(true) => said.push_str("true"),
-        Value::Boolean(false) => said.push_str("false"),
-        Value::Float(_) => said.push_str("a float"),
-        Value::Datetime(_) => said.push_str("a date or a time"),
-        Value::Array(_) => said.push_str("[..]"),
-        Value::Table(_) => said.push_str("{..}"),
+        Value::Integer(number) => said.put_integer(*number),
+        Value::Boolean(true) => said.put("true"),
+        Value::Boolean(false) => said.put("false"),
+        Value::Float(_) => said.put("a float"),
+        Value::Datetime(_) => said.put("a date or a time"),
+        Value::Array(_) => said.put("[..]"),
+        Value::Table(_) => said.put("{..}"),
     }
 }
 
 /// Adds a comma, unless nothing is listed before.
-pub(crate) fn put_comma(said: &mut String, is_first: bool) -> Result<(), AllocError> {
-    if is_first {
-        Ok(())
-    } else {
-        said.push_str(", ")
+pub(crate) fn put_comma(said: &mut Said, is_first: bool) {
+    if !is_first {
+        said.put(", ");
     }
 }
 
 /// Adds the items of an array, the first sixteen of them.
-fn put_items(said: &mut String, items: &[Value]) -> Result<(), AllocError> {
+fn put_items(said: &mut Said, items: &[Value]) {
     let mut is_first = true;
     for item in items.iter().take(MOST_ITEMS) {
-        put_comma(said, is_first)?;
-        put_item(said, item)?;
+        put_comma(said, is_first);
+        put_item(said, item);
         is_first = false;
     }
     if items.len() > MOST_ITEMS {
-        said.push_str(", ..")?;
+        said.put(", ..");
     }
-    Ok(())
 }
 
 /// Adds a value.
-pub(crate) fn put_value(said: &mut String, value: &Value) -> Result<(), AllocError> {
+fn put_value(said: &mut Said, value: &Value) {
     match value {
         Value::Array(items) => {
-            said.push_str("[")?;
-            put_items(said, items)?;
-            said.push_str("]")
+            said.put("[");
+            put_items(said, items);
+            said.put("]");
         }
-        Value::Table(_) => said.push_str("a table"),
+        Value::Table(_) => said.put("a table"),
         _ => put_item(said, value),
+    }
+}
+
+/// Adds a value, or a word where there is none.
+pub(crate) fn put_value_or(said: &mut Said, value: Option<&Value>, word: &str) {
+    match value {
+        Some(value) => put_value(said, value),
+        None => said.put(word),
     }
 }

@@ -3,46 +3,35 @@ ghost use Rattle.std.specs.Prelude.{◌↔◌, ◌<◌, ◌≡◌, true, IfSome}
 ghost use Rattle.bridge_cycle.specs.Runs.{Allows};
 ghost use Rattle.bridge_frame.specs.Link.{occupied};
 
-use crate::text::{Fact, fill};
+use crate::text::Said;
 use bridge_config::PortPlan;
 use bridge_cycle::{CyclicList, Egress, Run, Timeline, is_open, longest_run};
 use bridge_frame::{Speed, occupation};
 use bridge_limits::LONGEST_FRAME;
-use std::alloc::{AllocError, Allocator, Global};
+use std::alloc::Allocator;
 
 /// The steps in which the longest frame is looked for, in octets.
 const STEPS: [u32; 14] = [
     8192, 4096, 2048, 1024, 512, 256, 128, 64, 32, 16, 8, 4, 2, 1,
 ];
 
-/// What is said of a window by its place among all, from 0: the first eight are listed.
+/// What is said of a window from the phase `{0}` on, for `{1}` ns, by its place among all, from 0: the first eight are listed.
 fn window_at(place: usize) -> &'static str {
     match place {
-        0 => "open from phase {from} ns for {length} ns",
-        1..=7 => ", from phase {from} ns for {length} ns",
+        0 => "open from phase {0} ns for {1} ns",
+        1..=7 => ", from phase {0} ns for {1} ns",
         8 => ", ..",
         _ => "",
     }
 }
 
 /// Adds one more window of a class, by its place from 0, or that there are more.
-fn put_window(said: &mut String, place: usize, from: u64, to: u64) -> Result<(), AllocError> {
-    fill(
-        said,
-        window_at(place),
-        &[
-            ("from", Fact::Number(from)),
-            ("length", Fact::Number(to.saturating_sub(from))),
-        ],
-    )
+fn put_window(said: &mut Said, place: usize, from: u64, to: u64) {
+    said.fill(window_at(place), &[from, to.saturating_sub(from)], &[]);
 }
 
 /// Adds when a list opens a class: each time for which it is open without a break in a cycle, the first eight of them.
-fn put_list<A: Allocator + Copy>(
-    said: &mut String,
-    list: &CyclicList<u8, A>,
-    class: u8,
-) -> Result<(), AllocError>
+fn put_list<A: Allocator + Copy>(said: &mut Said, list: &CyclicList<u8, A>, class: u8)
     requires { class < 8 }
 {
     let mut count = 0usize;
@@ -52,7 +41,7 @@ fn put_list<A: Allocator + Copy>(
         if is_open(entry.0, class) {
             opened = opened.or(Some(start));
         } else if let Some(from) = opened {
-            put_window(said, count, from, start)?;
+            put_window(said, count, from, start);
             count = count.saturating_add(1);
             opened = None;
         }
@@ -60,50 +49,25 @@ fn put_list<A: Allocator + Copy>(
     }
     let cycle = list.cycle();
     match opened {
-        Some(from) => put_window(said, count, from, cycle)?,
-        None if count == 0 => return said.push_str("never open"),
+        Some(from) => put_window(said, count, from, cycle),
+        None if count == 0 => return said.put("never open"),
         None => {}
     }
-    fill(
-        said,
-        " of each {cycle} ns",
-        &[("cycle", Fact::Number(cycle))],
-    )
-}
-
-/// When a port opens a class.
-pub(crate) fn open_of<A: Allocator + Copy>(
-    alloc: Global,
-    port: &PortPlan<A>,
-    class: u8,
-) -> Result<String, AllocError>
-    requires { class < 8 }
-{
-    let mut said = String::new(alloc);
-    put_open(&mut said, port, class)?;
-    Ok(said)
+    said.fill(" of each {0} ns", &[cycle], &[]);
 }
 
 /// Adds when a port opens a class.
-fn put_open<A: Allocator + Copy>(
-    said: &mut String,
-    port: &PortPlan<A>,
-    class: u8,
-) -> Result<(), AllocError>
+pub(crate) fn put_open<A: Allocator + Copy>(said: &mut Said, port: &PortPlan<A>, class: u8)
     requires { class < 8 }
 {
     match &port.list {
-        None => said.push_str("always open"),
+        None => said.put("always open"),
         Some(Egress::Cyclic(list)) => put_list(said, list, class),
         Some(Egress::Joined(joined)) => {
             let (old, new) = joined.lists();
-            put_list(said, old, class)?;
-            fill(
-                said,
-                "; from {at} ns on ",
-                &[("at", Fact::Number(joined.at()))],
-            )?;
-            put_list(said, new, class)
+            put_list(said, old, class);
+            said.fill("; from {0} ns on ", &[joined.at()], &[]);
+            put_list(said, new, class);
         }
     }
 }

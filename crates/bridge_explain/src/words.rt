@@ -3,9 +3,11 @@ ghost use Rattle.std.specs.Prelude.{IfOk, codes, string_bytes};
 ghost use Rattle.bridge_explain.specs.Said.{BeginsWith};
 
 use crate::nearest::{is_among, nearest_name};
-use crate::text::{Fact, fill, of_file};
+use crate::text::{Said, behind};
+use crate::value::put_text;
 use bridge_limits::NoMemory;
-use std::alloc::{AllocError, Global};
+use bridge_text::Text;
+use std::alloc::Global;
 
 /// The commands of the program.
 const COMMANDS: &[&str] = &["bounds", "check", "net", "picture", "run", "wire"];
@@ -77,20 +79,20 @@ fn option_of(word: &str) -> Option<&str> {
 pub fn explain_words(alloc: Global, words: &[String]) -> Result<String, NoMemory>
     ensures { IfOk result (λ said. BeginsWith (codes "command line: ") (string_bytes said)) }
 {
-    let mut body = String::new(alloc);
-    put_words(alloc, &mut body, words)?;
-    Ok(of_file(alloc, "command line: ", body.as_str())?)
+    let mut said = Text::new(alloc);
+    put_words(alloc, &mut said, words);
+    behind(alloc, "command line: ", said)
 }
 
 /// Adds why words are refused.
-fn put_words(alloc: Global, said: &mut String, words: &[String]) -> Result<(), AllocError> {
+fn put_words(alloc: Global, said: &mut Said, words: &[String]) {
     if let Some(name) = unknown_option(words) {
         return put_option(alloc, said, name);
     }
     match first_word(words) {
         None => {
-            said.push_str("A command is missing.\n")?;
-            put_calls(said)
+            said.put("A command is missing.\n");
+            put_calls(said);
         }
         Some(word) if is_among(COMMANDS, word) => put_command(said, words, word),
         Some(word) => put_unknown(alloc, said, word),
@@ -123,46 +125,37 @@ fn first_word(words: &[String]) -> Option<&str> {
 }
 
 /// Adds that an option is unknown, and the nearest.
-fn put_option(alloc: Global, said: &mut String, name: &str) -> Result<(), AllocError> {
-    fill(
-        said,
-        "{word} is no option.\n",
-        &[("word", Fact::Quoted(name))],
-    )?;
-    match nearest_name(alloc, name, OPTIONS)? {
-        Some(found) => fill(
-            said,
-            "The nearest option is {name}.\n",
-            &[("name", Fact::Text(found))],
-        ),
-        None => said.push_str(THE_OPTIONS),
+fn put_option(alloc: Global, said: &mut Said, name: &str) {
+    put_text(said, name);
+    said.put(" is no option.\n");
+    match nearest_name(alloc, name, OPTIONS) {
+        Ok(Some(found)) => said.fill("The nearest option is {a}.\n", &[], &[found]),
+        Ok(None) => said.put(THE_OPTIONS),
+        Err(_) => said.give_up(),
     }
 }
 
 /// Adds that a command is unknown, and the nearest.
-fn put_unknown(alloc: Global, said: &mut String, word: &str) -> Result<(), AllocError> {
-    fill(
-        said,
-        "{word} is no command.\n",
-        &[("word", Fact::Quoted(word))],
-    )?;
-    match nearest_name(alloc, word, COMMANDS)? {
-        Some(found) => put_call(said, "The nearest command is: tsnbridge {call}\n", found),
-        None => put_calls(said),
+fn put_unknown(alloc: Global, said: &mut Said, word: &str) {
+    put_text(said, word);
+    said.put(" is no command.\n");
+    match nearest_name(alloc, word, COMMANDS) {
+        Ok(Some(found)) => put_call(said, "The nearest command is: tsnbridge {a}\n", found),
+        Ok(None) => put_calls(said),
+        Err(_) => said.give_up(),
     }
 }
 
 /// Adds how a command is called.
-fn put_call(said: &mut String, template: &str, command: &str) -> Result<(), AllocError> {
-    fill(said, template, &[("call", Fact::Text(call_of(command).0))])
+fn put_call(said: &mut Said, template: &str, command: &str) {
+    said.fill(template, &[], &[call_of(command).0]);
 }
 
 /// Adds how each command is called.
-fn put_calls(said: &mut String) -> Result<(), AllocError> {
+fn put_calls(said: &mut Said) {
     for command in COMMANDS {
-        put_call(said, "A command is: tsnbridge {call}\n", *command)?;
+        put_call(said, "A command is: tsnbridge {a}\n", *command);
     }
-    Ok(())
 }
 
 /// How many words behind the command are no options.
@@ -183,20 +176,14 @@ fn values_in(words: &[String]) -> usize {
 }
 
 /// Adds why the words of a command are refused.
-fn put_command(said: &mut String, words: &[String], command: &str) -> Result<(), AllocError> {
-    let (call, wanted) = call_of(command);
+fn put_command(said: &mut Said, words: &[String], command: &str) {
+    let (_, wanted) = call_of(command);
     let count = values_in(words);
     let reason = if count != wanted {
-        "The words behind `{command}` must be {wanted}, and are {count}.\n"
+        "The words behind `{a}` must be {0}, and are {1}.\n"
     } else {
         reason_of(command)
     };
-    let facts = [
-        ("command", Fact::Text(command)),
-        ("wanted", Fact::Number(wanted as u64)),
-        ("count", Fact::Number(count as u64)),
-        ("call", Fact::Text(call)),
-    ];
-    fill(said, reason, &facts)?;
-    fill(said, "It is called: tsnbridge {call}\n", &facts)
+    said.fill(reason, &[wanted as u64, count as u64], &[command]);
+    put_call(said, "It is called: tsnbridge {a}\n", command);
 }

@@ -10,3 +10,7 @@ Grows (Some old) octets (Some new) = new ≡ old ++ octets
 -- the same
 pub record HasGrown (old : Option (List ℕ)) (octets : List ℕ) (new : Option (List ℕ)) : Type 0 where
   pub grows : Grows old octets new
+
+-- a text that is still there has what it had in front, and maybe more behind it
+pub record IsLonger (old new : Option (List ℕ)) : Type 0 where
+  pub more : (octets : List ℕ) × Grows old octets new

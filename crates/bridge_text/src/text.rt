@@ -1,9 +1,9 @@
 //! A text that grows at its end.
-ghost use Rattle.std.specs.Prelude.{◌≡◌, [], IfOk, Some, decimal, string_bytes};
-ghost use Rattle.bridge_text.specs.Growth.{HasGrown};
+ghost use Rattle.std.specs.Prelude.{◌≡◌, [], IfOk, None, Some, decimal, string_bytes};
+ghost use Rattle.bridge_text.specs.Growth.{HasGrown, IsLonger};
 
 use bridge_limits::NoMemory;
-use itoa::Buffer;
+use itoa::{Buffer, Integer};
 use std::alloc::Allocator;
 use std::marker::Model;
 
@@ -50,6 +50,77 @@ impl<A: Allocator> Text<A> {
     {
         let mut digits = Buffer::new();
         self.put(digits.format(number));
+    }
+
+    /// Puts the digits of a number of any width at the end, behind its sign.
+    pub fn put_integer<I: Integer>(&mut self, number: I)
+        ensures { HasGrown self.old (I.text number) self.new }
+    {
+        let mut digits = Buffer::new();
+        self.put(digits.format(number));
+    }
+
+    /// Puts a piece at the end in quotes, as Rust writes a text.
+    pub fn put_quoted(&mut self, piece: &str) {
+        let is_refused = match &mut self.held {
+            Some(held) => write!(held, "{piece:?}").is_err(),
+            None => false,
+        };
+        if is_refused {
+            self.held = None;
+        }
+    }
+
+    /// Puts a template at the end: in place of `{0}` to `{9}` the digits of numbers, in place of `{a}` to `{z}` words, by
+    /// their places; nothing where there are fewer.
+    #[tactic(auto, using(crate::proofs::Longer::longer))]
+    pub fn fill(&mut self, template: &str, numbers: &[u64], words: &[&str])
+        ensures { IsLonger self.old self.new }
+    {
+        for piece in template.split('{') {
+            self.fill_piece(piece, numbers, words);
+        }
+    }
+
+    /// Puts what stands for the place at the front of a piece of a template, and what is behind it.
+    #[tactic(auto, using(crate::proofs::Longer::longer))]
+    fn fill_piece(&mut self, piece: &str, numbers: &[u64], words: &[&str])
+        ensures { IsLonger self.old self.new }
+    {
+        match piece.split_once('}') {
+            Some((place, behind)) => {
+                self.put_place(place.as_bytes(), numbers, words);
+                self.put(behind);
+            }
+            None => self.put(piece),
+        }
+    }
+
+    /// Puts what stands for a place of a template.
+    #[tactic(auto, using(crate::proofs::Longer::longer))]
+    fn put_place(&mut self, place: &[u8], numbers: &[u64], words: &[&str])
+        ensures { IsLonger self.old self.new }
+    {
+        match place {
+            [digit @ b'0'..=b'9'] => {
+                if let Some(number) = numbers.get((*digit - b'0') as usize) {
+                    self.put_number(*number);
+                }
+            }
+            [letter @ b'a'..=b'z'] => {
+                if let Some(word) = words.get((*letter - b'a') as usize) {
+                    self.put(*word);
+                }
+            }
+            _ => {}
+        }
+    }
+
+    /// Lets go of the text, as where memory was refused for a part of it.
+    pub fn give_up(&mut self)
+        ensures { self.new ≡ None }
+    {
+        self.held = None;
     }
 
     /// The text, unless memory was refused to it.
