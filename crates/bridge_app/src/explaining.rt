@@ -2,17 +2,19 @@
 //!
 //! Nothing here can fail: what can't be read again is left out.
 
-use bridge_check::{CheckFault, check};
+use bridge_check::{Accepted, CheckFault, check};
 use bridge_cli::{Job, job_of, picture_request_of, table_request_of};
 use bridge_config::plan_of;
 use bridge_explain::{
     Cause, explain_check, explain_commands, explain_file, explain_plan, explain_run, explain_text,
-    explain_words, warn_of_plan,
+    explain_words, put_unread, warn_of_plan,
 };
 use bridge_files::{are_same, capture_path, file_at, is_standard, report_path};
 use bridge_inputs::RunFault;
 use bridge_jobs::{Fault, read_at_most};
 use bridge_schema::PlanFault;
+use bridge_text::Text;
+use std::alloc::Global;
 use std::fs;
 use std::io::{Error, ErrorKind};
 use std::rt::Files;
@@ -123,29 +125,63 @@ fn said_of_check<H: AllocGlobal + Files>(rt: &H, path: &str, fault: &CheckFault)
 /// wait and how long they take there at most, and what of it is likely a mistake.
 pub fn said_of_accepted<H: AllocGlobal + Files>(rt: &H, words: &[String]) -> Option<String> {
     match job_of(rt.alloc(), words) {
-        Ok(job) => said_of_warnings(rt, accepted_path(&job)?),
-        Err(_) => None,
-    }
-}
-
-/// The path of the plan that a job checks or runs.
-fn accepted_path(job: &Job) -> Option<&str> {
-    match job {
-        Job::Check { plan } => Some(plan.as_str()),
-        Job::Run { plan, .. } => Some(plan.as_str()),
+        Ok(Job::Check { plan }) => said_of_warnings(rt, plan.as_str(), None),
+        Ok(Job::Run { plan, input, .. }) => {
+            said_of_warnings(rt, plan.as_str(), Some(input.as_str()))
+        }
         _ => None,
     }
 }
 
-/// What is told of the plan of a file that is accepted.
-fn said_of_warnings<H: AllocGlobal + Files>(rt: &H, path: &str) -> Option<String> {
+/// What is told of the plan of a file that is accepted, and of the folder of captures that is sent through its bridge.
+fn said_of_warnings<H: AllocGlobal + Files>(
+    rt: &H,
+    path: &str,
+    input: Option<&str>,
+) -> Option<String> {
     let text = front_of(rt, path, MOST_TEXT)?;
     let Ok(plan) = plan_of(rt.alloc(), rt.alloc(), &text) else {
         return None;
     };
     match check(rt.alloc(), plan) {
-        Ok(accepted) => warn_of_plan(rt.alloc(), &accepted).ok(),
+        Ok(accepted) => warned_of(rt, &accepted, input),
         Err(_) => None,
+    }
+}
+
+/// What is told of an accepted plan, and of a folder of captures.
+fn warned_of<H: AllocGlobal + Files>(
+    rt: &H,
+    accepted: &Accepted<Global>,
+    input: Option<&str>,
+) -> Option<String> {
+    let warned = warn_of_plan(rt.alloc(), accepted).ok()?;
+    let mut said = Text::new(rt.alloc());
+    said.put(warned.as_str());
+    if let Some(folder) = input {
+        for port in 1..=16u8 {
+            if accepted.plan().port(port).is_none() {
+                put_capture(rt, &mut said, folder, port);
+            }
+        }
+    }
+    said.done().ok()
+}
+
+/// Adds a warning of the capture of a port that the plan doesn't have, where the folder holds one.
+fn put_capture<H: AllocGlobal + Files>(rt: &H, said: &mut Text<Global>, folder: &str, port: u8) {
+    match capture_path(rt.alloc(), folder, port) {
+        Ok(path) if is_there(rt, path.as_str()) => put_unread(said, path.as_str(), port),
+        Ok(_) => {}
+        Err(_) => said.give_up(),
+    }
+}
+
+/// Whether a path is that of a file.
+fn is_there<H: Files>(rt: &H, path: &str) -> bool {
+    match fs::metadata(rt, path) {
+        Ok(data) => data.is_file(),
+        Err(_) => false,
     }
 }
 
@@ -349,16 +385,40 @@ fn cause_of<H: AllocGlobal + Files>(rt: &H, words: &[String], job: &Job, path: &
         Ok(_) if is_in_output(rt, words, job, path) => Cause::Taken,
         Ok(_) if is_written => Cause::NotWritable,
         Ok(_) => Cause::NotReadable,
-        Err(error) => cause_of_error(rt, is_written, path, &error),
+        Err(error) => cause_of_error(rt, job, is_written, path, &error),
+    }
+}
+
+/// Why a file that is read isn't there, though its folder is: by what lies beside it, and what it is to be.
+fn cause_of_missing<H: AllocGlobal + Files>(rt: &H, job: &Job, path: &str) -> Cause {
+    match job {
+        Job::Run { .. } | Job::Wire { .. } if lies_beside(rt, path, "ng") => Cause::Pcapng,
+        Job::Run { .. } | Job::Wire { .. } if lies_beside(rt, path, ".gz") => Cause::Gzip,
+        Job::Run { input, .. } if folder_of(path) == Some(input.as_str()) => Cause::NoCapture,
+        _ => Cause::NotFound,
+    }
+}
+
+/// Whether there is a file of a path with more behind it.
+fn lies_beside<H: AllocGlobal + Files>(rt: &H, path: &str, ending: &str) -> bool {
+    match format!(in rt.alloc(); "{path}{ending}") {
+        Ok(other) => is_there(rt, other.as_str()),
+        Err(_) => false,
     }
 }
 
 /// Why a file is not there, by whether it was to be written.
-fn cause_of_error<H: Files>(rt: &H, is_written: bool, path: &str, error: &Error) -> Cause {
+fn cause_of_error<H: AllocGlobal + Files>(
+    rt: &H,
+    job: &Job,
+    is_written: bool,
+    path: &str,
+    error: &Error,
+) -> Cause {
     match error.kind() {
         ErrorKind::NotFound if !has_folder(rt, path) => Cause::NoFolder,
         ErrorKind::NotFound if is_written => Cause::NotWritable,
-        ErrorKind::NotFound => Cause::NotFound,
+        ErrorKind::NotFound => cause_of_missing(rt, job, path),
         ErrorKind::NotADirectory => Cause::NoFolderButFile,
         ErrorKind::PermissionDenied if is_written => Cause::NotWritable,
         ErrorKind::PermissionDenied => Cause::NotReadable,

@@ -51,11 +51,11 @@ const TOO_LONG: &str =
 /// Why the plan of a file doesn't isolate its protected filters, by its text and the fault of its check: what that fault is, then
 /// each other test that fails, with the line of the filter where that is known, and what to change. It begins with the path of
 /// the file, as what is said of each test does. Of a plan that has another fault it says less, or what isn't so.
-pub fn explain_check<A: Allocator + Copy>(
+pub fn explain_check(
     alloc: Global,
     path: &str,
     text: &[u8],
-    plan: &Plan<A>,
+    plan: &Plan<Global>,
     fault: &CheckFault,
 ) -> Result<String, NoMemory>
     ensures { IfOk result (λ said. BeginsWith path.now (string_bytes said)) }

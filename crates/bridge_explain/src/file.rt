@@ -2,15 +2,22 @@
 ghost use Rattle.std.specs.Prelude.{IfOk, string_bytes};
 ghost use Rattle.bridge_explain.specs.Said.{BeginsWith};
 
-use crate::text::of_file;
+use crate::text::behind;
 use bridge_limits::NoMemory;
-use std::alloc::Global;
+use bridge_text::Text;
+use std::alloc::{Allocator, Global};
 
 /// What is found of a file that can't be opened, made, read or written.
 #[derive(Clone, Copy, Debug, PartialEq, Eq)]
 pub enum Cause {
     /// There is no file of this name.
     NotFound,
+    /// There is none, and it is the capture that a port of a plan needs.
+    NoCapture,
+    /// There is none, but a pcapng file of the same name with its own ending.
+    Pcapng,
+    /// There is none, but one of the name that is packed by gzip.
+    Gzip,
     /// The folder in which it should lie isn't there.
     NoFolder,
     /// It is a folder.
@@ -35,14 +42,22 @@ pub enum Cause {
 pub fn explain_file(alloc: Global, path: &str, cause: Cause) -> Result<String, NoMemory>
     ensures { IfOk result (λ said. BeginsWith path.now (string_bytes said)) }
 {
-    of_file(alloc, path, sentence_of(cause))
+    let mut said = Text::new(alloc);
+    said.fill(sentence_of(cause), &[], &[path]);
+    behind(alloc, path, said)
 }
 
-/// What is said of a cause.
+/// What is said of a cause at the path `{a}`.
 fn sentence_of(cause: Cause) -> &'static str {
     match cause {
         Cause::NotFound =>
             ": there is no such file. See the spelling, and the folder from which the program is called.\n",
+        Cause::NoCapture =>
+            ": there is no such file, and each port of the plan needs its capture. Where nothing comes in, one without frames will do, as examples/alone/2.pcap.\n",
+        Cause::Pcapng =>
+            ": there is no such file, but {a}ng lies beside it. Convert it: editcap -F nsecpcap {a}ng {a}\n",
+        Cause::Gzip =>
+            ": there is no such file, but {a}.gz lies beside it. Unpack it: gunzip {a}.gz\n",
         Cause::NoFolder => ": the folder in which it should lie is not there. Make it first.\n",
         Cause::Folder => ": it is a folder, and a file is wanted.\n",
         Cause::NoFolderButFile => ": what should be its folder is a file.\n",
@@ -56,4 +71,13 @@ fn sentence_of(cause: Cause) -> &'static str {
         Cause::Standard => ": standard input or output can't be read or written.\n",
         Cause::Unknown => ": the system gives no reason that is known here.\n",
     }
+}
+
+/// Adds a warning that a capture isn't read, since the plan has no port of its number.
+pub fn put_unread<A: Allocator>(said: &mut Text<A>, path: &str, port: u8) {
+    said.fill(
+        "Warning: {a} is not read: the plan has no port {0}.\n",
+        &[u64::from(port)],
+        &[path],
+    );
 }

@@ -24,7 +24,7 @@ mod words;
 pub use bridge_limits::NoMemory;
 pub use capture::explain_capture;
 pub use check::explain_check;
-pub use file::{Cause, explain_file};
+pub use file::{Cause, explain_file, put_unread};
 pub use plan::{explain_commands, explain_plan};
 pub use run::{explain_run, explain_text};
 pub use warn::{warn_of_plan, warnings_of};

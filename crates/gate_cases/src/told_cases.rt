@@ -63,7 +63,7 @@ pub fn with_line(alloc: Global, fault: &Fault, said: &str) -> Result<String, All
 /// What is told of the text of a plan.
 fn told_of_plan(alloc: Global, text: &str) -> Result<String, AllocError> {
     match plan_of(alloc, alloc, text.as_bytes()) {
-        Ok(plan) => told_of_check(alloc, plan),
+        Ok(plan) => told_of_check(alloc, text, plan),
         Err(fault) => {
             let said = plain(explain_plan(alloc, "plan.toml", text.as_bytes(), &fault))?;
             with_line(alloc, &Fault::Plan(fault), said.as_str())
@@ -72,10 +72,10 @@ fn told_of_plan(alloc: Global, text: &str) -> Result<String, AllocError> {
 }
 
 /// What is told of a plan.
-fn told_of_check(alloc: Global, plan: Plan<Global>) -> Result<String, AllocError> {
+fn told_of_check(alloc: Global, text: &str, plan: Plan<Global>) -> Result<String, AllocError> {
     match check(alloc, plan) {
         Ok(accepted) => told_of_accepted(alloc, &accepted),
-        Err(refused) => told_of_refused(alloc, &refused.plan, refused.fault),
+        Err(refused) => told_of_refused(alloc, text, &refused.plan, refused.fault),
     }
 }
 
@@ -88,10 +88,11 @@ fn told_of_accepted(alloc: Global, accepted: &Accepted<Global>) -> Result<String
 /// What is told of a plan that is not accepted.
 fn told_of_refused(
     alloc: Global,
+    text: &str,
     plan: &Plan<Global>,
     fault: CheckFault,
 ) -> Result<String, AllocError> {
-    let said = plain(explain_check(alloc, "plan.toml", plan, &fault))?;
+    let said = plain(explain_check(alloc, "plan.toml", text.as_bytes(), plan, &fault))?;
     with_line(alloc, &Fault::Check(fault), said.as_str())
 }
 

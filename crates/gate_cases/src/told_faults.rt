@@ -83,7 +83,7 @@ fn put_memory(alloc: Global, said: &mut String) -> Result<(), AllocError> {
     let Ok(plan) = plan_of(alloc, alloc, b"[[port]]\nnumber = 1\nmbps = 10\n") else {
         return Ok(());
     };
-    let told = plain(explain_check(alloc, "plan.toml", &plan, &CheckFault::NoMemory))?;
+    let told = plain(explain_check(alloc, "plan.toml", &[], &plan, &CheckFault::NoMemory))?;
     put(
         alloc,
         said,
