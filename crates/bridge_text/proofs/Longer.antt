@@ -1,5 +1,5 @@
 -- Texts that grow step by step.
-use Rattle.std.proofs.Common.{◌≡◌, ℕ, List, [], ◌++◌, Option, Some, None, refl, sym, ap, ◌∙◌, append_assoc, append-nil}
+use Rattle.std.proofs.Common.{ℕ, List, [], ◌++◌, Option, Some, None, sym, ap, ◌∙◌, append_assoc, append-nil}
 use Rattle.bridge_text.specs.Growth.{Grows, HasGrown, IsLonger}
 
 grows_none : (o : Option (List ℕ)) → Grows o [] o

@@ -1,5 +1,5 @@
 //! A text that grows at its end.
-ghost use Rattle.std.specs.Prelude.{◌≡◌, [], IfOk, None, Some, decimal, string_bytes};
+ghost use Rattle.std.specs.Prelude.{◌≡◌, [], IfOk, IfSome, None, Some, decimal, length, string_bytes};
 ghost use Rattle.bridge_text.specs.Growth.{HasGrown, IsLonger};
 
 use bridge_limits::NoMemory;
@@ -28,6 +28,16 @@ impl<A: Allocator> Text<A> {
     {
         Text {
             held: Some(String::new(alloc)),
+        }
+    }
+
+    /// How many octets it has; 0 where memory was refused.
+    pub fn len(&self) -> usize
+        ensures { IfSome self.now (λ octets. result ≡ length octets) }
+    {
+        match &self.held {
+            Some(held) => held.len(),
+            None => 0,
         }
     }
 
