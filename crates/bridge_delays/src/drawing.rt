@@ -8,7 +8,8 @@ use bridge_limits::NoMemory;
 use bridge_network::Link;
 use bridge_rounds::sender_of;
 use bridge_semantics::{Departure, Origin, View};
-use std::alloc::{AllocError, Allocator, Global};
+use bridge_text::Text;
+use std::alloc::{Allocator, Global};
 
 /// The most octets of a picture.
 const MOST_OCTETS: usize = 2_000_000;
@@ -39,13 +40,34 @@ text{font:13px system-ui,sans-serif;fill:#222}.s{font-size:11px;fill:#666}.page{
 .row{stroke:#d5dae1}.open{fill:#cdeccf}.wait{fill:#f0b429}.out{fill:#2a7de1}.lost{fill:#d64545}.link{stroke:#8a94a3}\
 @media(prefers-color-scheme:dark){text{fill:#e6e6e6}.s{fill:#a0a0a0}.page{fill:#16181c}.row{stroke:#3a4048}.open{fill:#254d2b}}";
 
+/// What stands around the shapes of a picture.
+const HEAD: &str =
+    "<svg xmlns=\"http://www.w3.org/2000/svg\" viewBox=\"0 0 {0} {1}\">\n<style>{a}</style>\n<rect class=\"page\" width=\"100%\" height=\"100%\"/>\n<text class=\"s\" x=\"12\" y=\"24\">from {2} to {3} ns: yellow from a frame's coming to its start, blue on the link, red where it was refused; green while a queue is open";
+
+const LEFT_OUT: &str = "; {0} shapes are left out";
+
+/// A bar of a copy that left, so far from the left and the top and so wide; one of a frame that was refused; a way over a link; the
+/// row of a hop with its name; a window of a queue.
+const LEFT_BAR: &str =
+    "<rect class=\"{a}\" x=\"{0}\" y=\"{1}\" width=\"{2}\" height=\"12\"><title>frame {3} came {4} started {5} done {6} ns, port {7}</title></rect>\n";
+
+const LOST_BAR: &str =
+    "<rect class=\"lost\" x=\"{0}\" y=\"{1}\" width=\"{2}\" height=\"12\"><title>refused</title></rect>\n";
+
+const LINK: &str = "<path class=\"link\" d=\"M{0} {1}L{2} {3}\"/>\n";
+
+const HOP: &str = "<text x=\"12\" y=\"{0}\">{a}</text><path class=\"row\" d=\"M{1} {2}H{3}\"/>\n";
+
+const WINDOW: &str =
+    "<rect class=\"open\" x=\"{0}\" y=\"{1}\" width=\"{2}\" height=\"20\"><title>port {3} opens class {4}</title></rect>\n";
+
 /// A picture under way: the first and the last moment that it shows, in ns, and the shapes so far.
 #[derive(Drop)]
 pub struct RunPicture {
     from: u64,
     to: u64,
     rows: u64,
-    shapes: String,
+    shapes: Text<Global>,
     /// The shapes that had no room any more.
     left_out: u64,
 }
@@ -81,12 +103,12 @@ fn place_of(picture: &RunPicture, moment: u64) -> u64 {
 }
 
 /// Adds a shape, where there is room for it.
-fn put(picture: &mut RunPicture, shape: &str) -> Result<(), AllocError> {
-    if picture.shapes.len() > MOST_OCTETS - FREE || shape.len() > FREE / 2 {
+fn put(picture: &mut RunPicture, form: &str, numbers: &[u64], word: &str) {
+    if picture.shapes.len() > MOST_OCTETS - FREE || word.len() > FREE / 2 {
         picture.left_out = picture.left_out.saturating_add(1);
-        return Ok(());
+    } else {
+        picture.shapes.fill(form, numbers, &[word]);
     }
-    picture.shapes.push_str(shape)
 }
 
 /// Where a row is, in pixels from the top.
@@ -105,23 +127,10 @@ fn came_at(origins: &[Origin], own: u64, other: u64) -> u64 {
     }
 }
 
-/// Adds a bar between two moments.
-fn put_bar(
-    alloc: Global,
-    picture: &mut RunPicture,
-    style: &str,
-    y: u64,
-    from: u64,
-    to: u64,
-    said: &str,
-) -> Result<(), AllocError> {
+/// The place from the left of a bar between two moments, and its width.
+fn bar_of(picture: &RunPicture, from: u64, to: u64) -> (u64, u64) {
     let x = place_of(picture, from);
-    let width = place_of(picture, to).saturating_sub(x).max(1);
-    let top = y.saturating_sub(6);
-    let shape = format!(in alloc;
-        "<rect class=\"{style}\" x=\"{x}\" y=\"{top}\" width=\"{width}\" height=\"12\"><title>{said}</title></rect>\n"
-    )?;
-    put(picture, shape.as_str())
+    (x, place_of(picture, to).saturating_sub(x).max(1))
 }
 
 /// The place of the first of some hops at a bridge.
@@ -136,120 +145,102 @@ fn hop_at<A: Allocator>(hops: &[HopRun<'_, A>], bridge: usize) -> Option<usize> 
 
 /// Adds the way of a copy over a link to the row of the hop at its other end.
 fn put_link<A: Allocator>(
-    alloc: Global,
     picture: &mut RunPicture,
     links: &[Link],
     hops: &[HopRun<'_, A>],
     bridge: usize,
     y: u64,
     departure: &Departure,
-) -> Result<(), AllocError> {
+) {
     let Some(other) = sender_of(links, bridge, departure.port) else {
-        return Ok(());
+        return;
     };
     let Some(place) = hop_at(hops, other.from.bridge as usize) else {
-        return Ok(());
+        return;
     };
     let from = place_of(picture, departure.done);
     let to = place_of(picture, departure.done.saturating_add(other.delay));
     let below = height_of(picture.rows.saturating_add(place as u64));
-    let shape = format!(in alloc; "<path class=\"link\" d=\"M{from} {y}L{to} {below}\"/>\n")?;
-    put(picture, shape.as_str())
+    put(picture, LINK, &[from, y, to, below], "");
 }
 
 /// Adds a copy that left a hop: how long it waited, and how long it was on the link.
-fn put_departure<A: Allocator>(
-    alloc: Global,
-    picture: &mut RunPicture,
-    links: &[Link],
-    hops: &[HopRun<'_, A>],
-    hop: &HopRun<'_, A>,
-    y: u64,
-    departure: &Departure,
-) -> Result<(), AllocError> {
+fn put_departure(picture: &mut RunPicture, origins: &[Origin], y: u64, departure: &Departure) {
     let Departure {
         own,
         port,
         start,
         done,
     } = *departure;
-    let at = came_at(&hop.view.origins, own, start);
-    let said = format!(in alloc;
-        "frame {own} came {at} started {start} done {done} ns, port {port}"
-    )?;
-    put_bar(alloc, picture, "wait", y, at, start, said.as_str())?;
-    put_bar(alloc, picture, "out", y, start, done, said.as_str())?;
-    put_link(alloc, picture, links, hops, hop.bridge, y, departure)
+    let at = came_at(origins, own, start);
+    let top = y.saturating_sub(6);
+    let port = u64::from(port);
+    let (x, width) = bar_of(picture, at, start);
+    put(
+        picture,
+        LEFT_BAR,
+        &[x, top, width, own, at, start, done, port],
+        "wait",
+    );
+    let (x, width) = bar_of(picture, start, done);
+    put(
+        picture,
+        LEFT_BAR,
+        &[x, top, width, own, at, start, done, port],
+        "out",
+    );
 }
 
 /// Adds the frames that a hop refused.
-fn put_refused<A: Allocator>(
-    alloc: Global,
-    picture: &mut RunPicture,
-    view: &View<A>,
-    y: u64,
-) -> Result<(), AllocError> {
+fn put_refused<A: Allocator>(picture: &mut RunPicture, view: &View<A>, y: u64) {
     for place in 0..view.verdicts.len() {
         if place >= view.origins.len() {
-            return Ok(());
+            return;
         }
         if !passes(view.verdicts[place]) {
             let at = view.origins[place].at;
-            put_bar(alloc, picture, "lost", y, at, at, "refused")?;
+            let (x, width) = bar_of(picture, at, at);
+            put(picture, LOST_BAR, &[x, y.saturating_sub(6), width], "");
         }
     }
-    Ok(())
 }
 
 /// Adds the row of a hop.
 fn put_hop<A: Allocator>(
-    alloc: Global,
     picture: &mut RunPicture,
     links: &[Link],
     hops: &[HopRun<'_, A>],
     hop: &HopRun<'_, A>,
     y: u64,
     name: &str,
-) -> Result<(), AllocError> {
-    let below = y.saturating_add(4);
-    let end = LEFT + WIDTH;
-    let shape = format!(in alloc;
-        "<text x=\"12\" y=\"{below}\">{name}</text><path class=\"row\" d=\"M{LEFT} {y}H{end}\"/>\n"
-    )?;
-    put(picture, shape.as_str())?;
+) {
+    put(
+        picture,
+        HOP,
+        &[y.saturating_add(4), LEFT, y, LEFT + WIDTH],
+        name,
+    );
     for departure in &hop.view.departures {
-        put_departure(alloc, picture, links, hops, hop, y, departure)?;
+        put_departure(picture, &hop.view.origins, y, departure);
+        put_link(picture, links, hops, hop.bridge, y, departure);
     }
-    put_refused(alloc, picture, hop.view, y)
+    put_refused(picture, hop.view, y);
 }
 
 /// Adds a window of a queue, behind what else stands in a row.
-fn put_window(
-    alloc: Global,
-    picture: &mut RunPicture,
-    y: u64,
-    queue: (u8, u8),
-    from: u64,
-    to: u64,
-) -> Result<(), AllocError> {
-    let (port, class) = queue;
-    let x = place_of(picture, from);
-    let width = place_of(picture, to).saturating_sub(x).max(1);
-    let top = y.saturating_sub(10);
-    let shape = format!(in alloc;
-        "<rect class=\"open\" x=\"{x}\" y=\"{top}\" width=\"{width}\" height=\"20\"><title>port {port} opens class {class}</title></rect>\n"
-    )?;
-    put(picture, shape.as_str())
+fn put_window(picture: &mut RunPicture, y: u64, queue: (u8, u8), from: u64, to: u64) {
+    let (x, width) = bar_of(picture, from, to);
+    let (port, class) = (u64::from(queue.0), u64::from(queue.1));
+    put(
+        picture,
+        WINDOW,
+        &[x, y.saturating_sub(10), width, port, class],
+        "",
+    );
 }
 
 /// Adds the windows in which lists open a class, over the moments of a picture.
-fn put_turns<L: Timeline<State = u8>>(
-    alloc: Global,
-    picture: &mut RunPicture,
-    y: u64,
-    queue: (u8, u8),
-    list: &L,
-) -> Result<(), AllocError>
+fn put_turns<L: Timeline<State = u8>>(picture: &mut RunPicture, y: u64, queue: (u8, u8), list: &L)
     requires { queue.1 < 8 }
 {
     let end = picture.to.min(END_OF_TURNS);
@@ -264,19 +255,18 @@ fn put_turns<L: Timeline<State = u8>>(
         if is_open(turn.state, queue.1) {
             opened = opened.or(Some(at));
         } else if let Some(from) = opened {
-            put_window(alloc, picture, y, queue, from, at)?;
+            put_window(picture, y, queue, from, at);
             drawn += 1;
             opened = None;
         }
         at = turn.end;
     }
     if let Some(from) = opened {
-        put_window(alloc, picture, y, queue, from, at.min(end))?;
+        put_window(picture, y, queue, from, at.min(end));
     }
     if at < end {
         picture.left_out = picture.left_out.saturating_add(1);
     }
-    Ok(())
 }
 
 impl RunPicture {
@@ -286,7 +276,7 @@ impl RunPicture {
             from: u64::MAX,
             to: 0,
             rows: 0,
-            shapes: String::new(alloc),
+            shapes: Text::new(alloc),
             left_out: 0,
         }
     }
@@ -303,49 +293,32 @@ impl RunPicture {
     /// stream whose rows are added next. They stand behind its frames.
     pub fn open<A: Allocator + Copy>(
         &mut self,
-        alloc: Global,
         place: usize,
         port: u8,
         class: u8,
         list: &Option<Egress<A>>,
-    ) -> Result<(), NoMemory> {
+    ) {
         let y = height_of(self.rows.saturating_add(place as u64));
         if class >= 8 {
-            return Ok(());
+            return;
         }
         let (from, to) = (self.from, self.to);
         match list {
-            Some(list) => put_turns(alloc, self, y, (port, class), list)?,
-            None => put_window(alloc, self, y, (port, class), from, to)?,
+            Some(list) => put_turns(self, y, (port, class), list),
+            None => put_window(self, y, (port, class), from, to),
         }
-        Ok(())
     }
 
     /// Adds the rows of a stream, one for each hop, by the names of its hops.
-    pub fn add<A: Allocator>(
-        &mut self,
-        alloc: Global,
-        links: &[Link],
-        hops: &[HopRun<'_, A>],
-        names: &[String],
-    ) -> Result<(), NoMemory> {
+    pub fn add<A: Allocator>(&mut self, links: &[Link], hops: &[HopRun<'_, A>], names: &[String]) {
         for place in 0..hops.len() {
             if place >= names.len() {
-                return Ok(());
+                return;
             }
             let y = height_of(self.rows.saturating_add(place as u64));
-            put_hop(
-                alloc,
-                self,
-                links,
-                hops,
-                &hops[place],
-                y,
-                names[place].as_str(),
-            )?;
+            put_hop(self, links, hops, &hops[place], y, names[place].as_str());
         }
         self.rows = self.rows.saturating_add(hops.len() as u64);
-        Ok(())
     }
 
     /// The picture as an SVG text: a row for each hop, in which each copy that left waited (yellow) from when its frame came, and was
@@ -358,16 +331,17 @@ impl RunPicture {
             shapes,
             left_out,
         } = self;
+        let shapes = shapes.done()?;
         let height = height_of(rows).saturating_add(30);
-        let width = LEFT + WIDTH + 30;
-        let from = from.min(to);
-        let note = if left_out == 0 {
-            String::new(alloc)
-        } else {
-            format!(in alloc; "; {left_out} shapes are left out")?
-        };
-        Ok(format!(in alloc;
-            "<svg xmlns=\"http://www.w3.org/2000/svg\" viewBox=\"0 0 {width} {height}\">\n<style>{STYLES}</style>\n<rect class=\"page\" width=\"100%\" height=\"100%\"/>\n<text class=\"s\" x=\"12\" y=\"24\">from {from} to {to} ns: yellow from a frame's coming to its start, blue on the link, red where it was refused; green while a queue is open{note}</text>\n{shapes}</svg>\n"
-        )?)
+        let numbers = [LEFT + WIDTH + 30, height, from.min(to), to];
+        let mut text = Text::new(alloc);
+        text.fill(HEAD, &numbers, &[STYLES]);
+        if left_out > 0 {
+            text.fill(LEFT_OUT, &[left_out], &[]);
+        }
+        text.put("</text>\n");
+        text.put(shapes.as_str());
+        text.put("</svg>\n");
+        text.done()
     }
 }

@@ -69,55 +69,48 @@ fn look_at_all(
 
 /// Adds when a queue is open to the row of a hop.
 fn open_queue(
-    alloc: Global,
     picture: &mut RunPicture,
     network: &Network<Global>,
     bridge: usize,
     place: usize,
     queue: &QueueBound,
-) -> Result<(), NoMemory> {
-    let Some(accepted) = network.plans().get(bridge) else {
-        return Ok(());
-    };
-    let Some(port) = accepted.plan().port(queue.port) else {
-        return Ok(());
-    };
-    picture.open(alloc, place, queue.port, queue.class, &port.list)
+) {
+    if let Some(accepted) = network.plans().get(bridge) {
+        if let Some(port) = accepted.plan().port(queue.port) {
+            picture.open(place, queue.port, queue.class, &port.list);
+        }
+    }
 }
 
 /// Adds when the queues of a hop are open to its row.
 fn open_hop(
-    alloc: Global,
     picture: &mut RunPicture,
     network: &Network<Global>,
     queues: &[Vec<QueueBound>],
     place: usize,
     hop: (u16, u32),
-) -> Result<(), NoMemory> {
+) {
     let (bridge, filter) = hop;
     let Some(rows) = queues.get(bridge as usize) else {
-        return Ok(());
+        return;
     };
     for row in rows {
         if row.filter == filter {
-            open_queue(alloc, picture, network, bridge as usize, place, row)?;
+            open_queue(picture, network, bridge as usize, place, row);
         }
     }
-    Ok(())
 }
 
 /// Adds when the queues of all hops of a stream are open.
 fn open_hops(
-    alloc: Global,
     picture: &mut RunPicture,
     network: &Network<Global>,
     queues: &[Vec<QueueBound>],
     hops: &[(u16, u32)],
-) -> Result<(), NoMemory> {
+) {
     for place in 0..hops.len() {
-        open_hop(alloc, picture, network, queues, place, hops[place])?;
+        open_hop(picture, network, queues, place, hops[place]);
     }
-    Ok(())
 }
 
 /// Adds the rows of all streams.
@@ -133,8 +126,8 @@ fn add_all(
     for stream in streams {
         let runs = runs_of(alloc, settled, stream.hops())?;
         let names = names_of(alloc, bridges, stream)?;
-        open_hops(alloc, picture, network, queues, stream.hops())?;
-        picture.add(alloc, network.links(), &runs, &names)?;
+        open_hops(picture, network, queues, stream.hops());
+        picture.add(network.links(), &runs, &names);
     }
     Ok(())
 }

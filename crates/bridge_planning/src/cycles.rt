@@ -7,11 +7,13 @@ use bridge_bounds::{filter_at, gate_at};
 use bridge_check::reach_of;
 use bridge_config::Plan;
 use bridge_cycle::{Egress, Timeline};
+use bridge_filter::FilterPlan;
 use bridge_gate::Schedule;
 use bridge_jobs::planned;
 use bridge_netfile::{NetFault, NetField};
+use bridge_text::Text;
 use bridge_traffic::{TrafficFault, TrafficRow};
-use std::alloc::{AllocError, Global};
+use std::alloc::Global;
 use std::fs;
 use std::rt::Files;
 
@@ -58,7 +60,7 @@ fn said_of_rows(
         index = index.saturating_add(1);
         let fault = row_fault(plan, index, row);
         if is_of_period(fault) {
-            return said_of_row(alloc, file, plan, index, row).ok();
+            return said_of_row(alloc, file, plan, index, row);
         }
         if fault.is_some() {
             return None;
@@ -68,62 +70,54 @@ fn said_of_rows(
 }
 
 /// Adds a cycle, and whether the period suits it.
-fn put_cycle(
-    said: &mut String,
-    what: &str,
-    number: u32,
-    cycle: u64,
-    period: u64,
-) -> Result<(), AllocError> {
-    if cycle > 0 && period % cycle == 0 {
-        write!(said, "{what} {number} begins again each {cycle} ns.\n")
+fn put_cycle(said: &mut Text<Global>, what: &str, number: u32, cycle: u64, period: u64) {
+    let template = if cycle > 0 && period % cycle == 0 {
+        "{a} {0} begins again each {1} ns.\n"
     } else {
-        write!(
-            said,
-            "{what} {number} begins again each {cycle} ns, of which it is no multiple.\n"
-        )
-    }
+        "{a} {0} begins again each {1} ns, of which it is no multiple.\n"
+    };
+    said.fill(template, &[u64::from(number), cycle], &[what]);
 }
 
 /// Adds the cycles of a gate.
-fn put_gate(
-    said: &mut String,
-    plan: &Plan<Global>,
-    number: u32,
-    period: u64,
-) -> Result<(), AllocError> {
+fn put_gate(said: &mut Text<Global>, plan: &Plan<Global>, number: u32, period: u64) {
     let Some(gate) = gate_at(plan.gates(), number) else {
-        return Ok(());
+        return;
     };
     match &gate.schedule {
-        Schedule::Fixed { lets: _, ipv: _ } => Ok(()),
+        Schedule::Fixed { lets: _, ipv: _ } => {}
         Schedule::Cyclic(list) => put_cycle(said, "Gate", number, list.cycle(), period),
         Schedule::Joined(joined) => {
             let (old, new) = joined.lists();
-            put_cycle(said, "Gate", number, old.cycle(), period)?;
-            put_cycle(said, "Behind its change gate", number, new.cycle(), period)
+            put_cycle(said, "Gate", number, old.cycle(), period);
+            put_cycle(said, "Behind its change gate", number, new.cycle(), period);
         }
     }
 }
 
 /// Adds the cycles of a port.
-fn put_port(
-    said: &mut String,
-    plan: &Plan<Global>,
-    number: u8,
-    period: u64,
-) -> Result<(), AllocError> {
+fn put_port(said: &mut Text<Global>, plan: &Plan<Global>, number: u8, period: u64) {
     let Some(port) = plan.port(number) else {
-        return Ok(());
+        return;
     };
     let number = number as u32;
     match &port.list {
-        None => Ok(()),
+        None => {}
         Some(Egress::Cyclic(list)) => put_cycle(said, "Port", number, list.cycle(), period),
         Some(Egress::Joined(joined)) => {
             let (old, new) = joined.lists();
-            put_cycle(said, "Port", number, old.cycle(), period)?;
-            put_cycle(said, "Behind its change port", number, new.cycle(), period)
+            put_cycle(said, "Port", number, old.cycle(), period);
+            put_cycle(said, "Behind its change port", number, new.cycle(), period);
+        }
+    }
+}
+
+/// Adds the cycles of the ports to which frames of a filter come.
+fn put_ports(said: &mut Text<Global>, plan: &Plan<Global>, filter: &FilterPlan, period: u64) {
+    let reach = reach_of(plan, filter);
+    for place in 0..16u8 {
+        if comes_to(plan, filter, &reach, place + 1) {
+            put_port(said, plan, place + 1, period);
         }
     }
 }
@@ -135,23 +129,18 @@ fn said_of_row(
     plan: &Plan<Global>,
     index: u32,
     row: &TrafficRow,
-) -> Result<String, AllocError> {
-    let mut said = String::new(alloc);
+) -> Option<String> {
+    let mut said = Text::new(alloc);
     let period = row.traffic.period;
     let number = row.filter;
-    write!(
-        said,
-        "{file}: the period of traffic {index}, {period} ns, has to be a multiple of each cycle on the way of the frames of filter {number}.\n"
-    )?;
-    let Some(filter) = filter_at(plan.filters(), number) else {
-        return Ok(said);
-    };
-    put_gate(&mut said, plan, filter.gate, period)?;
-    let reach = reach_of(plan, &filter);
-    for place in 0..16u8 {
-        if comes_to(plan, &filter, &reach, place + 1) {
-            put_port(&mut said, plan, place + 1, period)?;
-        }
+    said.fill(
+        "{a}: the period of traffic {0}, {1} ns, has to be a multiple of each cycle on the way of the frames of filter {2}.\n",
+        &[u64::from(index), period, u64::from(number)],
+        &[file],
+    );
+    if let Some(filter) = filter_at(plan.filters(), number) {
+        put_gate(&mut said, plan, filter.gate, period);
+        put_ports(&mut said, plan, &filter, period);
     }
-    Ok(said)
+    said.done().ok()
 }

@@ -11,7 +11,8 @@ use bridge_netfile::{BridgeRow, NetworkFile};
 use bridge_network::{
     End, NetworkFault, RefusedNetwork, Stray, StreamHop, check_network, peer_of, stray_at,
 };
-use std::alloc::{AllocError, Allocator, Global};
+use bridge_text::Text;
+use std::alloc::{Allocator, Global};
 use std::rt::Files;
 
 /// What is told of the network of a file that is refused, made anew of the file and of the plans beside it.
@@ -95,76 +96,74 @@ fn said_of_open(
     let stray = stray_at(plans, links, hops, hop, open.port)?;
     let end = peer_of(links, hop.bridge, open.port)?;
     let sender = plans.get(end.bridge as usize)?.plan();
-    let mut said = String::new(heap);
-    put_hop(&mut said, path, file.bridges(), row.name(), hop, open).ok()?;
-    put_frame(heap, &mut said, file.bridges(), &stray, end, open).ok()?;
-    put_ways(&mut said, file.bridges(), sender, hops, &stray, end, open).ok()?;
-    Some(said)
+    let mut said = Text::new(heap);
+    put_hop(&mut said, path, file.bridges(), row.name(), hop, open);
+    put_frame(heap, &mut said, file.bridges(), &stray, end, open);
+    put_ways(&mut said, file.bridges(), sender, hops, &stray, end, open);
+    said.done().ok()
 }
 
 /// Adds which hop takes what isn't its.
 fn put_hop<A: Allocator + Copy>(
-    said: &mut String,
+    said: &mut Text<Global>,
     path: &str,
     bridges: &[BridgeRow<A>],
     stream: &str,
     hop: StreamHop,
     open: Open,
-) -> Result<(), AllocError> {
-    let name = name_of(bridges, hop.bridge);
-    let number = open.hop;
-    let filter = hop.filter;
-    let port = open.port;
-    write!(
-        said,
-        "{path}: hop {number} of the stream {stream}, filter {filter} of {name}, takes frames at port {port} that are of no hop of the stream.\n"
-    )
+) {
+    said.fill(
+        "{a}: hop {0} of the stream {b}, filter {1} of {c}, takes frames at port {2} that are of no hop of the stream.\n",
+        &[open.hop as u64, u64::from(hop.filter), u64::from(open.port)],
+        &[path, stream, name_of(bridges, hop.bridge)],
+    );
 }
 
 /// Adds what frames of a tag have.
-fn put_tag(said: &mut String, tag: Option<Tag>) -> Result<(), AllocError> {
-    match tag {
-        None => said.push_str("no tag"),
-        Some(tag) => {
-            let pcp = tag.pcp;
-            let vid = tag.vid;
-            if vid == 0 {
-                write!(said, "a tag of priority {pcp} that names no VLAN")
-            } else {
-                write!(said, "a tag of VLAN {vid} and priority {pcp}")
-            }
-        }
-    }
+fn put_tag(said: &mut Text<Global>, tag: Option<Tag>) {
+    let Some(tag) = tag else {
+        return said.put("no tag");
+    };
+    let template = if tag.vid == 0 {
+        "a tag of priority {0} that names no VLAN"
+    } else {
+        "a tag of VLAN {1} and priority {0}"
+    };
+    said.fill(template, &[u64::from(tag.pcp), u64::from(tag.vid)], &[]);
 }
 
 /// Adds the frame that is taken: its tag, its address, where it comes in, and which filter lets it through.
 fn put_frame<A: Allocator + Copy>(
     heap: Global,
-    said: &mut String,
+    said: &mut Text<Global>,
     bridges: &[BridgeRow<A>],
     stray: &Stray,
     end: End,
     open: Open,
-) -> Result<(), AllocError> {
-    let name = name_of(bridges, end.bridge);
-    let from = open.from;
-    let out = end.port;
-    let address = address_words(heap, &stray.entry.address)?;
+) {
+    let Ok(address) = address_words(heap, &stray.entry.address) else {
+        return said.give_up();
+    };
     let looks = match stray.entry.kind {
         Kind::Null => "goes to",
         Kind::Source => "comes from",
     };
-    said.push_str("Such a frame has ")?;
-    put_tag(said, stray.tag)?;
-    write!(
-        said,
-        " and {looks} {address}. It comes to {name} on port {from}, "
-    )?;
+    said.put("Such a frame has ");
+    put_tag(said, stray.tag);
+    said.fill(
+        " and {a} {b}. It comes to {c} on port {0}, ",
+        &[u64::from(open.from)],
+        &[looks, address.as_str(), name_of(bridges, end.bridge)],
+    );
     match open.filter {
-        Some(filter) => write!(said, "filter {filter} lets it through")?,
-        None => said.push_str("no filter stops it")?,
+        Some(filter) => said.fill("filter {0} lets it through", &[u64::from(filter)], &[]),
+        None => said.put("no filter stops it"),
     }
-    write!(said, ", and it leaves by port {out}.\n")
+    said.fill(
+        ", and it leaves by port {0}.\n",
+        &[u64::from(end.port)],
+        &[],
+    );
 }
 
 /// The VLAN in which a port of the sender classifies the frame.
@@ -196,40 +195,43 @@ fn handle_at<A: Allocator + Copy>(
 
 /// Adds the four ways to keep such frames away.
 fn put_ways<A: Allocator + Copy>(
-    said: &mut String,
+    said: &mut Text<Global>,
     bridges: &[BridgeRow<Global>],
     sender: &Plan<A>,
     hops: &[StreamHop],
     stray: &Stray,
     end: End,
     open: Open,
-) -> Result<(), AllocError> {
-    let name = name_of(bridges, end.bridge);
-    let from = open.from;
-    let vid = vlan_at(sender, from, stray.tag);
-    write!(
-        said,
-        "Each of these, in the plan of {name}, keeps it away:\n"
-    )?;
+) {
+    let from = u64::from(open.from);
+    let vid = u64::from(vlan_at(sender, open.from, stray.tag));
+    said.fill(
+        "Each of these, in the plan of {a}, keeps it away:\n",
+        &[],
+        &[name_of(bridges, end.bridge)],
+    );
     if let Some(filter) = open.filter {
-        write!(
-            said,
-            "  close the gate of filter {filter}, so that none of its frames goes on;\n"
-        )?;
+        said.fill(
+            "  close the gate of filter {0}, so that none of its frames goes on;\n",
+            &[u64::from(filter)],
+            &[],
+        );
     }
-    write!(said, "  take port {from} out of VLAN {vid};\n")?;
+    said.fill("  take port {0} out of VLAN {1};\n", &[from, vid], &[]);
     if let Some(handle) = handle_at(sender, hops, end.bridge) {
-        write!(
-            said,
-            "  give port {from} an entry of handle {handle} too, so that such frames are policed as the stream's;\n"
-        )?;
+        said.fill(
+            "  give port {0} an entry of handle {1} too, so that such frames are policed as the stream's;\n",
+            &[from, u64::from(handle)],
+            &[],
+        );
     }
-    write!(
-        said,
-        "  give port {from} an entry of a handle of strays, whose filter has a closed gate"
-    )?;
+    said.fill(
+        "  give port {0} an entry of a handle of strays, whose filter has a closed gate",
+        &[from],
+        &[],
+    );
     match open.filter {
-        Some(filter) => write!(said, " and a number below {filter}.\n"),
-        None => said.push_str(".\n"),
+        Some(filter) => said.fill(" and a number below {0}.\n", &[u64::from(filter)], &[]),
+        None => said.put(".\n"),
     }
 }
