@@ -2,7 +2,7 @@
 ghost use Rattle.std.specs.Prelude.{IfOk, string_bytes};
 ghost use Rattle.bridge_explain.specs.Said.{BeginsWith};
 
-use crate::text::{Said, behind};
+use crate::text::{Said, behind, fill_two};
 use bridge_capture::CaptureFault;
 use bridge_limits::NoMemory;
 use bridge_text::Text;
@@ -139,6 +139,6 @@ fn put_capture(said: &mut Said, path: &str, octets: &[u8], fault: &CaptureFault)
         pair_at(octets, 6),
         link_at(octets).0,
     ];
-    let words = [path, looks_of(octets).unwrap_or("")];
-    said.fill(sentence_of(octets, fault), &numbers, &words);
+    let looks = looks_of(octets).unwrap_or("");
+    fill_two(said, sentence_of(octets, fault), &numbers, path, looks);
 }

@@ -3,7 +3,7 @@
 use crate::document::{Source, number_in, put_place, table_of, value_of};
 use crate::faults::put_allowed;
 use crate::keys::{Allowed, Key, ListKeys, Presence, entry_keys, lists_of};
-use crate::text::Said;
+use crate::text::{Said, fill_two};
 use crate::value::put_value_or;
 use bridge_cycle::{CyclicList, LONGEST_CYCLE, ListFault, MOST_ENTRIES};
 use bridge_limits::NoMemory;
@@ -105,11 +105,8 @@ fn put_flaw(
     allowed: Allowed,
     entry: &Table,
 ) {
-    said.fill(
-        "In entry {0} of `{a}`, `{b}` is ",
-        &[number],
-        &[list, field.key()],
-    );
+    let template = "In entry {0} of `{a}`, `{b}` is ";
+    fill_two(said, template, &[number], list, field.key());
     put_value_or(said, entry.get(field.key()), "missing");
     said.put(".\n");
     put_allowed(said, allowed);

@@ -9,6 +9,17 @@ use std::alloc::Global;
 /// What is said so far.
 pub(crate) type Said = Text<Global>;
 
+/// Adds a template with two words.
+pub(crate) fn fill_two<'a>(
+    said: &mut Said,
+    template: &str,
+    numbers: &[u64],
+    one: &'a str,
+    other: &'a str,
+) {
+    said.fill(template, numbers, &[one, other]);
+}
+
 /// A text behind the name of a file.
 pub(crate) fn of_file(alloc: Global, path: &str, body: &str) -> Result<String, NoMemory>
     ensures { IfOk result (λ said. BeginsWith path.now (string_bytes said)) }

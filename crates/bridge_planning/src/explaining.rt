@@ -112,10 +112,12 @@ fn put_hop<A: Allocator + Copy>(
     hop: StreamHop,
     open: Open,
 ) {
+    said.fill("{a}: hop {0} of the stream ", &[open.hop as u64], &[path]);
+    said.fill("{a}, filter {0} of ", &[u64::from(hop.filter)], &[stream]);
     said.fill(
-        "{a}: hop {0} of the stream {b}, filter {1} of {c}, takes frames at port {2} that are of no hop of the stream.\n",
-        &[open.hop as u64, u64::from(hop.filter), u64::from(open.port)],
-        &[path, stream, name_of(bridges, hop.bridge)],
+        "{a}, takes frames at port {0} that are of no hop of the stream.\n",
+        &[u64::from(open.port)],
+        &[name_of(bridges, hop.bridge)],
     );
 }
 
@@ -150,10 +152,12 @@ fn put_frame<A: Allocator + Copy>(
     };
     said.put("Such a frame has ");
     put_tag(said, stray.tag);
+    said.fill(" and {a} ", &[], &[looks]);
+    said.fill("{a}. It comes to ", &[], &[address.as_str()]);
     said.fill(
-        " and {a} {b}. It comes to {c} on port {0}, ",
+        "{a} on port {0}, ",
         &[u64::from(open.from)],
-        &[looks, address.as_str(), name_of(bridges, end.bridge)],
+        &[name_of(bridges, end.bridge)],
     );
     match open.filter {
         Some(filter) => said.fill("filter {0} lets it through", &[u64::from(filter)], &[]),
