@@ -1,13 +1,11 @@
 use Rattle.std.proofs.Common.{◌≡◌, List, Option, Some, sym, ap, subst, ◌∙◌, arith}
 use Rattle.std.specs.Prelude.{Vec, slice_get}
 use Rattle.std.proofs.lemmas.Option.{get_or_from_slice_get, slice_get-get_or}
-use Rattle.bridge_semantics.specs.declared.outcome.Departure.{Departure}
-use Rattle.bridge_semantics.specs.declared.outcome.Origin.{Origin}
 use Rattle.bridge_rounds.specs.Stations.{sender_value}
 use Rattle.bridge_delays.specs.declared.hops.HopRun.{HopRun}
 use Rattle.bridge_delays.specs.declared.tracing.Root.{Root}
-use Rattle.bridge_delays.specs.Tracing.{AddNothing, AreTraced}
-use Rattle.bridge_delays.proofs.Traced.{exhausted_of, pair_exhausted, some_is, sound_kept}
+use Rattle.bridge_delays.specs.Tracing.{AddNothing}
+use Rattle.bridge_delays.proofs.Traced.{exhausted_of, pair_exhausted, some_is, sound_kept, traced_as}
 use Rattle.bridge_delays.proofs.tracing.trace_pair.Goals as goal
 
 pub returns-clause-sound : goal.returns-clause-sound
@@ -31,11 +29,7 @@ returns-clause-sound g c = λ links sends are.
     let sent = c.deref.ensures.value ∙ ap (λ (x : HopRun g.row.A.Denot). x.view.now.departures.items) (sym c.index-hops-other-2.is) in
     let came = c.deref-3.ensures.value ∙ ap (λ (x : HopRun g.row.A.Denot). x.view.now.origins.items) (sym c.index-hops-place.is) in
     let from = subst (λ (x : HopRun g.row.A.Denot). x.bridge ≡ c.args.sender.from.bridge) (get_or_from_slice_get hops other o c.index-hops-other.result is_o) c.if-hops-other.false in
-    let traced : AreTraced s o.view.now.departures.items others.items c.args.port h.view.now.origins.items mine.items c.in_ok-made.made.items =
-    subst (λ (l : List (Option Root)). AreTraced s o.view.now.departures.items others.items c.args.port h.view.now.origins.items l c.in_ok-made.made.items) c.deref-4.ensures.value
-    (subst (λ (l : List Origin). AreTraced s o.view.now.departures.items others.items c.args.port l c.deref-4.result.now c.in_ok-made.made.items) came
-    (subst (λ (l : List (Option Root)). AreTraced s o.view.now.departures.items l c.args.port c.deref-3.result.now c.deref-4.result.now c.in_ok-made.made.items) c.deref-2.ensures.value
-    (subst (λ (l : List Departure). AreTraced s l c.deref-2.result.now c.args.port c.deref-3.result.now c.deref-4.result.now c.in_ok-made.made.items) sent c.in_ok-made.ensures))) in
+    let traced = traced_as s o.view.now.departures.items others.items c.args.port h.view.now.origins.items mine.items c.in_ok-made.made.items sent c.deref-2.ensures.value came c.deref-4.ensures.value c.in_ok-made.ensures in
     sound_kept links hops all h o mine others c.in_ok-made.made place other c.args.port s is_h is_o is_mine is_others from sends traced are
 
 pub returns-then-not-is_more-clause-exhausted : goal.returns-then-not-is_more-clause-exhausted
@@ -58,11 +52,7 @@ returns-then-not-is_more-clause-exhausted g c = λ same.
     let is_others : slice_get all other ≡ Some others = slice_get-get_or all other others (omega (arith, many, other_in)) ∙ ap (λ (x : Vec (Option Root) g.row.A.Denot). Some x) (sym c.index.ensures) in
     let sent = c.deref.ensures.value ∙ ap (λ (x : HopRun g.row.A.Denot). x.view.now.departures.items) (sym c.index-hops-other-2.is) in
     let came = c.deref-3.ensures.value ∙ ap (λ (x : HopRun g.row.A.Denot). x.view.now.origins.items) (sym c.index-hops-place.is) in
-    let traced : AreTraced s o.view.now.departures.items others.items c.args.port h.view.now.origins.items mine.items c.in_ok-made.made.items =
-    subst (λ (l : List (Option Root)). AreTraced s o.view.now.departures.items others.items c.args.port h.view.now.origins.items l c.in_ok-made.made.items) c.deref-4.ensures.value
-    (subst (λ (l : List Origin). AreTraced s o.view.now.departures.items others.items c.args.port l c.deref-4.result.now c.in_ok-made.made.items) came
-    (subst (λ (l : List (Option Root)). AreTraced s o.view.now.departures.items l c.args.port c.deref-3.result.now c.deref-4.result.now c.in_ok-made.made.items) c.deref-2.ensures.value
-    (subst (λ (l : List Departure). AreTraced s l c.deref-2.result.now c.args.port c.deref-3.result.now c.deref-4.result.now c.in_ok-made.made.items) sent c.in_ok-made.ensures))) in
+    let traced = traced_as s o.view.now.departures.items others.items c.args.port h.view.now.origins.items mine.items c.in_ok-made.made.items sent c.deref-2.ensures.value came c.deref-4.ensures.value c.in_ok-made.ensures in
     let again = c.index-3.result.now in
     let is_again : slice_get all place ≡ Some again = slice_get-get_or all place again (omega (arith, many, place_in)) ∙ ap (λ (x : Vec (Option Root) g.row.A.Denot). Some x) (sym c.index-3.ensures) in
     let one : mine ≡ again = some_is mine again (sym is_mine ∙ is_again) in
