@@ -279,11 +279,11 @@ begun_sound links hops all are first = record { from = λ i k known r there root
 -- what is traced through some lists is traced through the same ones
 pub traced_as : (s : Sender) {sent1 : List Departure} (sent : List Departure) {roots1 : List (Option Root)} (roots : List (Option Root)) (q : ℕ) {origins1 : List Origin} (origins : List Origin) {old1 : List (Option Root)} (old made : List (Option Root))
     → sent1 ≡ sent → roots1 ≡ roots → origins1 ≡ origins → old1 ≡ old → AreTraced s sent1 roots1 q origins1 old1 made → AreTraced s sent roots q origins old made
-traced_as s sent roots q {origins1} origins {old1} old made same_sent same_roots same_origins same_old traced =
+traced_as s {sent1} sent {roots1} roots q {origins1} origins {old1} old made same_sent same_roots same_origins same_old traced =
     subst (λ l. AreTraced s sent roots q origins l made) same_old
     (subst (λ l. AreTraced s sent roots q l old1 made) same_origins
     (subst (λ l. AreTraced s sent l q origins1 old1 made) same_roots
-    (subst (λ l. AreTraced s l _ q origins1 old1 made) same_sent traced)))
+    (subst (λ l. AreTraced s l roots1 q origins1 old1 made) same_sent traced)))
 
 -- one frame more of a hop
 pub traced_more : (s : Sender) (sent : List Departure) (sent_roots : List (Option Root)) (q : ℕ) (origins : List Origin) (old new : List (Option Root)) (o : Origin) (x y : Option Root)
