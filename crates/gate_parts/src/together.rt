@@ -42,10 +42,10 @@ fn is_listed_if_any<X>(list: &[(u32, X)], number: Option<u32>) -> bool
 }
 
 /// Whether the gates and the meters that filters name are there.
-fn have_all_instances<A: Allocator + Copy>(
+fn have_all_instances<G, M>(
     filters: &[(u32, FilterPlan)],
-    gates: &[(u32, GatePlan<A>)],
-    meters: &[(u32, MeterPlan)],
+    gates: &[(u32, G)],
+    meters: &[(u32, M)],
 ) -> bool
     ensures { result ≡ list_all (λ f. is_there f.1.gate gates.now && is_there_if_any f.1.meter meters.now) filters.now }
 {

@@ -6,7 +6,7 @@ use Rattle.bridge_cycle.proofs.Changes.{allowed_over}
 use Rattle.gate_parts.proofs.lists.fit_of_both.Goals as goal
 
 pub first_fit-requires-clause-some : goal.first_fit-requires-clause-some
-first_fit-requires-clause-some g c =
+first_fit-requires-clause-some c =
     let before = c.longest_run-before.result in
     let after = c.longest_run-after.result in
     let one : c.allows.result ≡ true = search rules in
