@@ -15,11 +15,6 @@ pub enum Ending {
 }
 
 impl Ending {
-    /// Whole where a call made something, else want of memory: of a call that has no other answer.
-    pub fn made(is_made: bool) -> Ending {
-        Ending::of(is_made, true)
-    }
-
     /// Whole where a call gave what is wanted of it, want of memory where it answered that, else wrong.
     pub fn of(is_whole: bool, is_no_memory: bool) -> Ending {
         if is_whole {

@@ -1,0 +1,145 @@
+//! The filtering database: where frames go. Sets of ports are numbers: bit n - 1 is 1 where port n is in the set.
+
+use crate::growths::{ending_of, tell_growths};
+use crate::words::{Fault, address_in, first_word, number, number_at, parted, tell, word_at};
+use bridge_forward::{Forwarding, PortSet, StaticEntry, Vlan, laws};
+use std::alloc::{AllocError, Allocator, Global};
+use std::io;
+
+/// How many static entries the line `many` makes.
+const MANY: u16 = 4096;
+
+/// The number of 16 bits at a place of a line.
+fn short_at(line: &str, place: usize) -> u16 {
+    number(word_at(line, place)).unwrap_or(0)
+}
+
+/// The VLANs of lines `vlan VLAN PORTS`.
+fn vlans_in<A: Allocator>(alloc: A, lines: &str) -> Result<Vec<Vlan, A>, AllocError> {
+    let mut vlans = Vec::with_capacity(alloc, lines.lines().count())?;
+    for line in lines.lines() {
+        if first_word(line) == "vlan" {
+            vlans.push(Vlan {
+                vid: short_at(line, 1),
+                members: PortSet::of_bits(short_at(line, 2)),
+            })?;
+        }
+    }
+    Ok(vlans)
+}
+
+/// The entries of lines `static VLAN ADDRESS PORTS`.
+fn statics_in<A: Allocator>(alloc: A, lines: &str) -> Result<Vec<StaticEntry, A>, AllocError> {
+    let mut statics = Vec::with_capacity(alloc, lines.lines().count())?;
+    for line in lines.lines() {
+        match first_word(line) {
+            "static" => statics.push(StaticEntry {
+                vid: short_at(line, 1),
+                address: address_in(word_at(line, 2)),
+                ports: PortSet::of_bits(short_at(line, 3)),
+            })?,
+            "many" => push_many(&mut statics)?,
+            _ => {}
+        }
+    }
+    Ok(statics)
+}
+
+/// Entries of VLAN 10, each for another address.
+fn push_many<A: Allocator>(statics: &mut Vec<StaticEntry, A>) -> Result<(), AllocError> {
+    for number in 0..MANY {
+        statics.push(StaticEntry {
+            vid: 10,
+            address: address_of(number),
+            ports: PortSet::of_bits(bits_of(number)),
+        })?;
+    }
+    Ok(())
+}
+
+fn address_of(number: u16) -> [u8; 6] {
+    let [high, low] = number.to_be_bytes();
+    [2, 0, 0, 0, high, low]
+}
+
+/// Entries with an even number send to port 2, the others to port 16.
+fn bits_of(number: u16) -> u16 {
+    if number % 2 == 0 { 2 } else { 32_768 }
+}
+
+fn database_in<A: Allocator + Copy>(alloc: A, lines: &str) -> Result<Forwarding<A>, Fault> {
+    let vlans = vlans_in(alloc, lines)?;
+    let statics = statics_in(alloc, lines)?;
+    Ok(Forwarding::new(alloc, vlans, statics)?)
+}
+
+/// Asks a database.
+pub fn database<H: AllocGlobal + Print>(rt: &H, text: &str) -> io::Result<()> {
+    let (head, lines) = parted(text);
+    match database_in(rt.alloc(), lines) {
+        Ok(database) => {
+            let done = ask_all(rt, &database, head, lines);
+            drop(database);
+            done
+        }
+        Err(fault) => tell(rt, head, &fault),
+    }
+}
+
+fn ask_all<H: AllocGlobal + Print>(
+    rt: &H,
+    database: &Forwarding<Global>,
+    head: &str,
+    lines: &str,
+) -> io::Result<()> {
+    println!(rt; "{head} -> made")?;
+    for line in lines.lines() {
+        match first_word(line) {
+            "frame" => frame(rt, database, line)?,
+            "vlans" => tell(rt, line, &database.vlans().len())?,
+            "statics" => tell(rt, line, &database.statics().len())?,
+            "each" => tell(rt, line, &found(database))?,
+            "laws" => name_laws(rt, line)?,
+            "refuse" => refuse(rt, lines, line)?,
+            _ => println!(rt; "{line}")?,
+        }
+    }
+    Ok(())
+}
+
+/// Prints where a frame goes, and whether that has port 3: `frame PORT VLAN ADDRESS`.
+fn frame<H: Print>(rt: &H, database: &Forwarding<Global>, line: &str) -> io::Result<()> {
+    let port = number_at(line, 1);
+    if port < 1 || port > 16 {
+        return tell(rt, line, &Fault::NotAllowed);
+    }
+    let address = address_in(word_at(line, 3));
+    let ports = database.forward(port as u8, short_at(line, 2), &address);
+    tell(rt, line, &(ports.bits(), ports.has(3)))
+}
+
+/// For how many of many entries a frame goes where it says.
+fn found(database: &Forwarding<Global>) -> u64 {
+    let mut found = 0u64;
+    for number in 0..MANY {
+        let ports = database.forward(1, 10, &address_of(number));
+        if ports.bits() == bits_of(number) {
+            found = found.saturating_add(1);
+        }
+    }
+    found
+}
+
+/// The laws can be named.
+fn name_laws<H: Print>(rt: &H, line: &str) -> io::Result<()> {
+    laws::forward_is_goes_out();
+    laws::outputs_are_members();
+    laws::none_goes_back();
+    laws::no_vlan_no_outputs();
+    laws::outputs_fit();
+    println!(rt; "{line} -> named")
+}
+
+fn refuse<H: AllocGlobal + Print>(rt: &H, lines: &str, line: &str) -> io::Result<()> {
+    tell_growths(rt, line, |gate| ending_of(database_in(gate, lines)))
+}

@@ -1,0 +1,142 @@
+//! Stream gates: answers, flags and octets.
+
+use crate::growths::{ending_of, tell_growths};
+use crate::words::{
+    Fault, first_word, has, number, number_after, number_at, parted, small_at, tell,
+};
+use bridge_cycle::CyclicList;
+use bridge_gate::{GateEntry, GatePlan, Schedule, StreamGate};
+use bridge_limits::END_OF_TIME;
+use std::alloc::{AllocError, Allocator, Global};
+use std::io;
+use std::str::FromStr;
+
+/// The number at a place among parts, which commas part.
+fn part_at<N: FromStr>(parts: &str, place: usize) -> Option<N>
+where
+    N::Err: Drop,
+{
+    match parts.split(',').nth(place) {
+        Some(part) => number(part),
+        None => None,
+    }
+}
+
+/// An entry of the form `shut:INTERVAL`, `open:INTERVAL`, `open,PRIORITY:INTERVAL` or `open,PRIORITY,OCTETS:INTERVAL`.
+fn entry_in(word: &str) -> Option<(GateEntry, u64)> {
+    let (state, interval) = word.split_once(':')?;
+    let entry = GateEntry {
+        lets: state.starts_with("open"),
+        ipv: part_at(state, 1),
+        octets: part_at(state, 2),
+    };
+    Some((entry, number(interval)?))
+}
+
+fn entries_in<A: Allocator>(alloc: A, line: &str) -> Result<Vec<(GateEntry, u64), A>, AllocError> {
+    let mut entries = Vec::with_capacity(alloc, line.split(' ').count())?;
+    for word in line.split(' ') {
+        if let Some(entry) = entry_in(word) {
+            entries.push(entry)?;
+        }
+    }
+    Ok(entries)
+}
+
+/// The schedule of a line: `fixed open ipv NUMBER`, or a list of base 0.
+fn schedule_in<A: Allocator + Copy>(alloc: A, line: &str) -> Result<Schedule<A>, Fault> {
+    if has(line, "fixed") {
+        return Ok(Schedule::Fixed {
+            lets: has(line, "open"),
+            ipv: number_after(line, "ipv"),
+        });
+    }
+    let cycle = number_after(line, "cycle").unwrap_or(0);
+    let list = CyclicList::new(alloc, 0, cycle, entries_in(alloc, line)?)?;
+    Ok(Schedule::Cyclic(list))
+}
+
+/// The plan of a line, or with the word `copied` its copy.
+pub fn gate_plan_in<A: Allocator + Copy>(alloc: A, line: &str) -> Result<GatePlan<A>, Fault> {
+    let plan = GatePlan {
+        shut_on_rx: has(line, "shut_on_rx"),
+        shut_on_octets: has(line, "shut_on_octets"),
+        schedule: schedule_in(alloc, line)?,
+    };
+    if !has(line, "copied") {
+        return Ok(plan);
+    }
+    let copied = plan.copy(alloc);
+    drop(plan);
+    Ok(copied?)
+}
+
+/// Asks a gate.
+pub fn gate<H: AllocGlobal + Print>(rt: &H, text: &str) -> io::Result<()> {
+    let (head, lines) = parted(text);
+    match gate_plan_in(rt.alloc(), head) {
+        Ok(plan) => ask_plan(rt, plan, head, lines),
+        Err(fault) => tell(rt, head, &fault),
+    }
+}
+
+/// Asks the gate of a plan, if its priorities are some.
+fn ask_plan<H: AllocGlobal + Print>(
+    rt: &H,
+    plan: GatePlan<Global>,
+    head: &str,
+    lines: &str,
+) -> io::Result<()> {
+    if !plan.schedule.has_priorities() {
+        drop(plan);
+        return tell(rt, head, &Fault::NotAllowed);
+    }
+    let mut gate = StreamGate::new(plan);
+    let done = ask_all(rt, &mut gate, head, lines);
+    drop(gate);
+    done
+}
+
+fn ask_all<H: AllocGlobal + Print>(
+    rt: &H,
+    gate: &mut StreamGate<Global>,
+    head: &str,
+    lines: &str,
+) -> io::Result<()> {
+    println!(rt; "{head} -> made")?;
+    for line in lines.lines() {
+        match first_word(line) {
+            "frame" => frame(rt, gate, line)?,
+            "earliest" => tell(rt, line, &gate.earliest())?,
+            "flags" => tell(rt, line, &gate.flags())?,
+            "clear" => clear(rt, gate, line)?,
+            "refuse" => refuse(rt, head, line)?,
+            _ => println!(rt; "{line}")?,
+        }
+    }
+    Ok(())
+}
+
+/// Prints the answer to a frame, and the least moment of the next one: `frame MOMENT OCTETS`.
+fn frame<H: Print>(rt: &H, gate: &mut StreamGate<Global>, line: &str) -> io::Result<()> {
+    let t = number_at(line, 1);
+    if t < gate.earliest() || t >= END_OF_TIME {
+        return tell(rt, line, &Fault::NotAllowed);
+    }
+    let answer = gate.ask(t, small_at(line, 2));
+    tell(rt, line, &(answer, gate.earliest()))
+}
+
+/// Clears the flag that a line names, `rx` or else `octets`.
+fn clear<H: Print>(rt: &H, gate: &mut StreamGate<Global>, line: &str) -> io::Result<()> {
+    if has(line, "rx") {
+        gate.clear_rx();
+    } else {
+        gate.clear_octets();
+    }
+    println!(rt; "{line}")
+}
+
+fn refuse<H: AllocGlobal + Print>(rt: &H, head: &str, line: &str) -> io::Result<()> {
+    tell_growths(rt, line, |gate| ending_of(gate_plan_in(gate, head)))
+}

@@ -1,0 +1,248 @@
+//! Stream filters: verdicts, counters, flags and buckets.
+ghost use Rattle.std.specs.Prelude.{◌≡◌, true, IfOk};
+ghost use Rattle.bridge_filter.specs.Plans.{KeepsNumbers, is_there};
+
+use crate::gates::gate_plan_in;
+use crate::growths::{ending_of, tell_growths};
+use crate::meters::meter_plan_in;
+use crate::together::{go_together, is_listed};
+use crate::words::{
+    Fault, first_word, has, number_after, number_at, parted, small_at, tell, word_at,
+};
+use bridge_filter::{Clear, FilterPlan, Police, Ruling};
+use bridge_gate::GatePlan;
+use bridge_limits::END_OF_TIME;
+use bridge_meter::MeterPlan;
+use std::alloc::{AllocError, Allocator, Global};
+use std::io;
+
+/// The plan of a line `filter NUMBER gate NUMBER ..`.
+fn filter_plan_in(line: &str) -> FilterPlan {
+    FilterPlan {
+        handle: number_after(line, "handle"),
+        priority: number_after(line, "priority"),
+        gate: number_after(line, "gate").unwrap_or(0),
+        max_sdu: number_after(line, "max_sdu"),
+        meter: number_after(line, "meter"),
+        block_oversize: has(line, "block_oversize"),
+        protected: has(line, "protected"),
+    }
+}
+
+fn filters_in<A: Allocator>(
+    alloc: A,
+    lines: &str,
+) -> Result<Vec<(u32, FilterPlan), A>, AllocError> {
+    let mut filters = Vec::with_capacity(alloc, lines.lines().count())?;
+    for line in lines.lines() {
+        if first_word(line) == "filter" {
+            filters.push((small_at(line, 1), filter_plan_in(line)))?;
+        }
+    }
+    Ok(filters)
+}
+
+fn meters_in<A: Allocator>(alloc: A, lines: &str) -> Result<Vec<(u32, MeterPlan), A>, AllocError> {
+    let mut meters = Vec::with_capacity(alloc, lines.lines().count())?;
+    for line in lines.lines() {
+        if first_word(line) == "meter" {
+            meters.push((small_at(line, 1), meter_plan_in(line)))?;
+        }
+    }
+    Ok(meters)
+}
+
+/// The gates of lines `gate NUMBER ..`.
+type Gates<A> = Vec<(u32, GatePlan<A>), A>;
+
+fn push_gate<A: Allocator + Copy>(alloc: A, gates: &mut Gates<A>, line: &str) -> Result<(), Fault> {
+    let plan = gate_plan_in(alloc, line)?;
+    match gates.push((small_at(line, 1), plan)) {
+        Ok(()) => Ok(()),
+        Err(_) => Err(Fault::NoMemory),
+    }
+}
+
+fn push_gates<A: Allocator + Copy>(
+    alloc: A,
+    gates: &mut Gates<A>,
+    lines: &str,
+) -> Result<(), Fault> {
+    for line in lines.lines() {
+        if first_word(line) == "gate" {
+            push_gate(alloc, gates, line)?;
+        }
+    }
+    Ok(())
+}
+
+fn gates_in<A: Allocator + Copy>(alloc: A, lines: &str) -> Result<Gates<A>, Fault> {
+    let mut gates = Vec::with_capacity(alloc, lines.lines().count())?;
+    match push_gates(alloc, &mut gates, lines) {
+        Ok(()) => Ok(gates),
+        Err(fault) => Err(fault),
+    }
+}
+
+/// A police, and whether it has gate 1 and meter 5, whose flags can be cleared then.
+#[derive(Drop)]
+struct Made<A: Allocator + Copy> {
+    police: Police<A>,
+    has_both: bool,
+}
+
+/// The police of the filters, gates and meters of lines.
+fn made_of<A: Allocator + Copy>(alloc: A, lines: &str) -> Result<Made<A>, Fault>
+    ensures gate { IfOk result (λ m. m.has_both ≡ true → is_there 1 m.police.gates ≡ true) }
+    ensures meter { IfOk result (λ m. m.has_both ≡ true → is_there 5 m.police.meters ≡ true) }
+{
+    let filters = filters_in(alloc, lines)?;
+    let meters = meters_in(alloc, lines)?;
+    let gates = gates_in(alloc, lines)?;
+    let has_both = is_listed(&gates, 1) && is_listed(&meters, 5);
+    match police_of(alloc, filters, gates, meters) {
+        Ok(police) => Ok(Made { police, has_both }),
+        Err(fault) => Err(fault),
+    }
+}
+
+/// The police of filters, gates and meters, if they go together.
+fn police_of<A: Allocator + Copy>(
+    alloc: A,
+    filters: Vec<(u32, FilterPlan), A>,
+    gates: Gates<A>,
+    meters: Vec<(u32, MeterPlan), A>,
+) -> Result<Police<A>, Fault>
+    ensures gates { IfOk result (λ p. KeepsNumbers gates.items p.gates) }
+    ensures meters { IfOk result (λ p. KeepsNumbers meters.items p.meters) }
+{
+    if go_together(&filters, &gates, &meters) {
+        match Police::new(alloc, filters, gates, meters) {
+            Ok(police) => Ok(police),
+            Err(_) => Err(Fault::NoMemory),
+        }
+    } else {
+        Err(Fault::NotAllowed)
+    }
+}
+
+/// Asks a police.
+pub fn police<H: AllocGlobal + Print>(rt: &H, text: &str) -> io::Result<()> {
+    let (head, lines) = parted(text);
+    match made_of(rt.alloc(), lines) {
+        Ok(made) => {
+            let Made {
+                mut police,
+                has_both,
+            } = made;
+            println!(rt; "{head} -> made")?;
+            let done = ask_all(rt, &mut police, has_both, lines);
+            drop(police);
+            done
+        }
+        Err(fault) => tell(rt, head, &fault),
+    }
+}
+
+fn ask_all<H: AllocGlobal + Print>(
+    rt: &H,
+    police: &mut Police<Global>,
+    has_both: bool,
+    lines: &str,
+) -> io::Result<()>
+    requires gate { has_both ≡ true → is_there 1 police.old.gates ≡ true }
+    requires meter { has_both ≡ true → is_there 5 police.old.meters ≡ true }
+{
+    for line in lines.lines() {
+        match first_word(line) {
+            "frame" => frame(rt, police, line)?,
+            "clear" => clear(rt, police, has_both, line)?,
+            "refuse" => refuse(rt, lines, line)?,
+            _ => show(rt, police, line)?,
+        }
+    }
+    Ok(())
+}
+
+/// Prints the ruling of a frame: `frame MOMENT sdu OCTETS`, with a handle or a priority behind their names.
+fn frame<H: Print>(rt: &H, police: &mut Police<Global>, line: &str) -> io::Result<()>
+    ensures gates { KeepsNumbers police.old.gates police.new.gates }
+    ensures meters { KeepsNumbers police.old.meters police.new.meters }
+{
+    match ruling_of(police, line) {
+        Ok(ruling) => tell(rt, line, &ruling),
+        Err(fault) => tell(rt, line, &fault),
+    }
+}
+
+fn ruling_of(police: &mut Police<Global>, line: &str) -> Result<Option<Ruling>, Fault>
+    ensures gates { KeepsNumbers police.old.gates police.new.gates }
+    ensures meters { KeepsNumbers police.old.meters police.new.meters }
+{
+    let t = number_at(line, 1);
+    if t < police.earliest() || t >= END_OF_TIME || police.calls() >= 1_000 {
+        return Err(Fault::NotAllowed);
+    }
+    let handle = number_after(line, "handle");
+    let priority = number_after(line, "priority").unwrap_or(0);
+    let sdu = number_after(line, "sdu").unwrap_or(0);
+    Ok(police.pass(t, handle, priority, false, sdu, 64))
+}
+
+/// Clears a flag, if the police has what a line may name: `clear blocked|rx|octets|red`.
+fn clear<H: Print>(
+    rt: &H,
+    police: &mut Police<Global>,
+    has_both: bool,
+    line: &str,
+) -> io::Result<()>
+    requires gate { has_both ≡ true → is_there 1 police.old.gates ≡ true }
+    requires meter { has_both ≡ true → is_there 5 police.old.meters ≡ true }
+    ensures gates { KeepsNumbers police.old.gates police.new.gates }
+    ensures meters { KeepsNumbers police.old.meters police.new.meters }
+{
+    if !has_both {
+        return tell(rt, line, &Fault::NotAllowed);
+    }
+    clear_flag(police, word_at(line, 1));
+    println!(rt; "{line}")
+}
+
+/// Clears a flag of gate 1, of meter 5 or of the filter of the stream.
+fn clear_flag(police: &mut Police<Global>, flag: &str)
+    requires gate { is_there 1 police.old.gates ≡ true }
+    requires meter { is_there 5 police.old.meters ≡ true }
+    ensures gates { KeepsNumbers police.old.gates police.new.gates }
+    ensures meters { KeepsNumbers police.old.meters police.new.meters }
+{
+    match flag {
+        "rx" => police.clear(Clear::Rx, 1),
+        "octets" => police.clear(Clear::Octets, 1),
+        "red" => police.clear(Clear::Red, 5),
+        _ => clear_blocked(police),
+    }
+}
+
+fn clear_blocked(police: &mut Police<Global>)
+    ensures gates { KeepsNumbers police.old.gates police.new.gates }
+    ensures meters { KeepsNumbers police.old.meters police.new.meters }
+{
+    if let Some(filter) = police.filter_of(Some(1), 0) {
+        police.clear(Clear::Blocked, filter);
+    }
+}
+
+/// Prints what is seen of the police, or of the filter of the frames of stream 1, with its number.
+fn show<H: Print>(rt: &H, police: &Police<Global>, line: &str) -> io::Result<()> {
+    match (first_word(line), police.filter_of(Some(1), 0)) {
+        ("came", _) => tell(rt, line, &(police.earliest(), police.calls())),
+        ("flags", Some(filter)) => tell(rt, line, &(filter, police.flags(filter))),
+        ("counts", Some(filter)) => tell(rt, line, &(filter, police.counters(filter))),
+        ("holds", Some(filter)) => tell(rt, line, &(filter, police.buckets(filter))),
+        _ => println!(rt; "{line}"),
+    }
+}
+
+fn refuse<H: AllocGlobal + Print>(rt: &H, lines: &str, line: &str) -> io::Result<()> {
+    tell_growths(rt, line, |gate| ending_of(made_of(gate, lines)))
+}

@@ -1,0 +1,192 @@
+//! Ports: what is refused, and what starts when.
+ghost use Rattle.std.specs.Prelude.{◌≡◌, true};
+ghost use Rattle.bridge_port.specs.Standing.{NoStartBefore};
+
+use crate::growths::{ending_of, tell_growths};
+use crate::lists::egress_in;
+use crate::words::{Fault, first_word, has, number_after, number_at, parted, small_at, tell};
+use bridge_frame::{Speed, occupation};
+use bridge_limits::{END_OF_TIME, LONGEST_FRAME, MOST_ARRIVALS};
+use bridge_port::{
+    Item, Port, Refusal, alone_follows, are_rooms, ever_fits_soon, ever_is_fitting,
+    own_windows_isolate,
+};
+use std::alloc::{Allocator, Global};
+use std::io;
+
+/// What starts: the class, the length, the moment and when it is done.
+type Start = (u8, u32, u64, u64);
+
+/// The rooms of a line: 64 for each class but class 7, whose room is the number behind `last`.
+fn rooms_in(line: &str) -> [u16; 8] {
+    let last = number_after(line, "last").unwrap_or(64);
+    [64, 64, 64, 64, 64, 64, 64, last]
+}
+
+fn speed_in(line: &str) -> Option<Speed> {
+    match number_after(line, "mbps") {
+        Some(mbps) => Speed::of(mbps),
+        None => None,
+    }
+}
+
+/// The port of a line `port mbps NUMBER`, with lists where it has a cycle.
+fn port_in<A: Allocator + Copy>(alloc: A, line: &str, speed: Speed) -> Result<Port<u32, A>, Fault> {
+    let rooms = rooms_in(line);
+    if !are_rooms(&rooms) {
+        return Err(Fault::NotAllowed);
+    }
+    let lists = if has(line, "cycle") {
+        Some(egress_in(alloc, line)?)
+    } else {
+        None
+    };
+    Ok(Port::new(alloc, speed, lists, rooms)?)
+}
+
+/// Asks a port.
+pub fn port<H: AllocGlobal + Print>(rt: &H, text: &str) -> io::Result<()> {
+    let (head, lines) = parted(text);
+    match speed_in(head) {
+        Some(speed) => port_of(rt, head, lines, speed),
+        None => tell(rt, head, &Fault::NotAllowed),
+    }
+}
+
+fn port_of<H: AllocGlobal + Print>(
+    rt: &H,
+    head: &str,
+    lines: &str,
+    speed: Speed,
+) -> io::Result<()> {
+    match port_in(rt.alloc(), head, speed) {
+        Ok(mut port) => {
+            let done = ask_all(rt, &mut port, head, lines, speed);
+            drop(port);
+            done
+        }
+        Err(fault) => tell(rt, head, &fault),
+    }
+}
+
+fn ask_all<H: AllocGlobal + Print>(
+    rt: &H,
+    port: &mut Port<u32, Global>,
+    head: &str,
+    lines: &str,
+    speed: Speed,
+) -> io::Result<()> {
+    println!(rt; "{head} -> made")?;
+    for line in lines.lines() {
+        match first_word(line) {
+            "offer" => offer(rt, port, line, speed)?,
+            "starts" => starts(rt, port, line, speed)?,
+            "next" => tell(rt, line, &port.next_start())?,
+            "counts" => tell(rt, line, &counts(port))?,
+            "laws" => name_laws(rt, line)?,
+            "refuse" => refuse(rt, head, line, speed)?,
+            _ => println!(rt; "{line}")?,
+        }
+    }
+    Ok(())
+}
+
+/// The offers, the starts, and the least moment of the next offer.
+fn counts(port: &Port<u32, Global>) -> (u64, u64, u64) {
+    (port.offered(), port.started(), port.earliest())
+}
+
+/// Makes the starts that are due before an offer, and prints why it is refused: `offer MOMENT CLASS LENGTH`.
+fn offer<H: Print>(
+    rt: &H,
+    port: &mut Port<u32, Global>,
+    line: &str,
+    speed: Speed,
+) -> io::Result<()> {
+    let t = number_at(line, 1);
+    starts_before(rt, port, speed, t)?;
+    match offered(port, t, number_at(line, 2), small_at(line, 3)) {
+        Ok(answer) => tell(rt, line, &answer),
+        Err(fault) => tell(rt, line, &fault),
+    }
+}
+
+/// Offers a frame, if it may be offered, and says why it is refused.
+fn offered(
+    port: &mut Port<u32, Global>,
+    t: u64,
+    class: u64,
+    len: u32,
+) -> Result<Result<(), Refusal>, Fault> {
+    let is_allowed = class < 8 && len <= LONGEST_FRAME && port.offered() < MOST_ARRIVALS;
+    if !is_allowed || t < port.earliest() || t >= END_OF_TIME || !is_calm(port, t) {
+        return Err(Fault::NotAllowed);
+    }
+    match port.offer(t, class as u8, Item { len, load: len }) {
+        Ok(()) => Ok(Ok(())),
+        Err((_, refusal)) => Ok(Err(refusal)),
+    }
+}
+
+/// Whether no start is due before a moment.
+fn is_calm(port: &Port<u32, Global>, t: u64) -> bool
+    ensures { result ≡ true → NoStartBefore port.now t }
+{
+    match port.next_start() {
+        Some(next) => t <= next,
+        None => true,
+    }
+}
+
+/// Makes all starts that are left.
+fn starts<H: Print>(
+    rt: &H,
+    port: &mut Port<u32, Global>,
+    line: &str,
+    speed: Speed,
+) -> io::Result<()> {
+    println!(rt; "{line}")?;
+    starts_before(rt, port, speed, u64::MAX)
+}
+
+/// Makes the starts that are due before a moment, and prints each.
+fn starts_before<H: Print>(
+    rt: &H,
+    port: &mut Port<u32, Global>,
+    speed: Speed,
+    t: u64,
+) -> io::Result<()> {
+    for _ in 0..1_000 {
+        match start_before(port, speed, t) {
+            Some(start) => tell(rt, "start", &start)?,
+            None => break,
+        }
+    }
+    Ok(())
+}
+
+/// Makes the next start, if it is due before a moment.
+fn start_before(port: &mut Port<u32, Global>, speed: Speed, t: u64) -> Option<Start> {
+    match port.next_start() {
+        Some(next) if next < t => {
+            let (item, class) = port.start();
+            let start = port.earliest().saturating_sub(1);
+            let done = start.saturating_add(occupation(item.len, speed));
+            Some((class, item.load, start, done))
+        }
+        _ => None,
+    }
+}
+
+/// The laws can be named.
+fn name_laws<H: Print>(rt: &H, line: &str) -> io::Result<()> {
+    ever_is_fitting();
+    ever_fits_soon();
+    alone_follows::<u32>();
+    own_windows_isolate::<u32>();
+    println!(rt; "{line} -> named")
+}
+
+fn refuse<H: AllocGlobal + Print>(rt: &H, head: &str, line: &str, speed: Speed) -> io::Result<()> {
+    tell_growths(rt, line, |gate| ending_of(port_in(gate, head, speed)))
+}

@@ -1,0 +1,89 @@
+//! Whether lists of filters, gates and meters go together.
+
+ghost use Rattle.std.specs.Prelude.{◌≡◌, ◌&&◌, true};
+ghost use Rattle.std.specs.List.{list_all};
+ghost use Rattle.bridge_filter.specs.Plans.{is_there, are_distinct, is_there_if_any, have_instances, all_have_priorities, all_within_limits};
+
+use bridge_filter::FilterPlan;
+use bridge_gate::GatePlan;
+use bridge_meter::MeterPlan;
+use std::alloc::Allocator;
+
+/// Whether a number is in a list.
+pub fn is_listed<X>(list: &[(u32, X)], number: u32) -> bool
+    ensures { result ≡ is_there number list.now }
+{
+    for item in list {
+        if number == item.0 {
+            return true;
+        }
+    }
+    false
+}
+
+/// Whether the numbers of a list differ from one another.
+fn are_all_distinct<X>(list: &[(u32, X)]) -> bool
+    ensures { result ≡ are_distinct list.now }
+{
+    match list {
+        [first, rest @ ..] => !is_listed(rest, first.0) && are_all_distinct(rest),
+        [] => true,
+    }
+}
+
+/// Whether the meter that a filter names is there, if it names one.
+fn is_listed_if_any<X>(list: &[(u32, X)], number: Option<u32>) -> bool
+    ensures { result ≡ is_there_if_any number list.now }
+{
+    match number {
+        Some(number) => is_listed(list, number),
+        None => true,
+    }
+}
+
+/// Whether the gates and the meters that filters name are there.
+fn have_all_instances<G, M>(
+    filters: &[(u32, FilterPlan)],
+    gates: &[(u32, G)],
+    meters: &[(u32, M)],
+) -> bool
+    ensures { result ≡ list_all (λ f. is_there f.1.gate gates.now && is_there_if_any f.1.meter meters.now) filters.now }
+{
+    filters.iter().all(|filter| is_listed(gates, filter.1.gate)
+        && is_listed_if_any(meters, filter.1.meter))
+}
+
+/// Whether the internal priority values of gates are priorities.
+fn have_all_priorities<A: Allocator + Copy>(gates: &[(u32, GatePlan<A>)]) -> bool
+    ensures { result ≡ all_have_priorities gates.now }
+{
+    gates.iter().all(|gate| gate.1.schedule.has_priorities())
+}
+
+/// Whether meters are within their limits.
+fn are_all_within_limits(meters: &[(u32, MeterPlan)]) -> bool
+    ensures { result ≡ all_within_limits meters.now }
+{
+    meters.iter().all(|meter| meter.1.is_within_limits())
+}
+
+/// Whether filters, gates and meters make a police.
+pub fn go_together<A: Allocator + Copy>(
+    filters: &[(u32, FilterPlan)],
+    gates: &[(u32, GatePlan<A>)],
+    meters: &[(u32, MeterPlan)],
+) -> bool
+    ensures filters { result ≡ true → are_distinct filters.now ≡ true }
+    ensures gates { result ≡ true → are_distinct gates.now ≡ true }
+    ensures meters { result ≡ true → are_distinct meters.now ≡ true }
+    ensures instances { result ≡ true → have_instances filters.now gates.now meters.now ≡ true }
+    ensures priorities { result ≡ true → all_have_priorities gates.now ≡ true }
+    ensures limits { result ≡ true → all_within_limits meters.now ≡ true }
+{
+    are_all_distinct(filters)
+        && are_all_distinct(gates)
+        && are_all_distinct(meters)
+        && have_all_instances(filters, gates, meters)
+        && have_all_priorities(gates)
+        && are_all_within_limits(meters)
+}
