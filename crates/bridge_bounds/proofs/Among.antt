@@ -5,6 +5,7 @@ use Rattle.std.proofs.lemmas.Bool.{eqb-true}
 use Rattle.std.proofs.lemmas.Bool.Decides.{nat_tests}
 use Rattle.std.proofs.lemmas.Option.{same_Some}
 use Rattle.bridge_limits.specs.Members.{In}
+use Rattle.bridge_check.proofs.Members.{in_left, in_right}
 use Rattle.bridge_cycle.proofs.Cases.{by_bool}
 use Rattle.bridge_limits.specs.declared.TheConstants.{LONGEST_FRAME}
 use Rattle.bridge_frame.specs.declared.FrameFault.{FrameFault}
@@ -87,15 +88,6 @@ among_all (t ∷ ts) (u ∷ us) (v ∷ vs) a (inr b) = inr (among_all (t ∷ ts)
 -- when the offers of a class were made
 abbrev offered_at : ℕ → List Offer → List ℕ
 offered_at c os = map (λ o. o.at) (in_class c os)
-
-in_left : {X : Type 0} (x : X) (xs ys : List X) → In x xs → In x (xs ++ ys)
-in_left x [] ys i = absurd i
-in_left x (z ∷ xs) ys (inl e) = inl e
-in_left x (z ∷ xs) ys (inr i) = inr (in_left x xs ys i)
-
-in_right : {X : Type 0} (x : X) (xs ys : List X) → In x ys → In x (xs ++ ys)
-in_right x [] ys i = i
-in_right x (z ∷ xs) ys i = inr (in_right x xs ys i)
 
 -- the copies of a class that started were offered at moments of offers of the class
 started_among : (c : ℕ) (xs : List (Copy Carried)) → IsAmong (started_at (only c xs)) (offered_at c (offered xs))

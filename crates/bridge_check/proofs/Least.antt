@@ -48,12 +48,12 @@ neither_by : (x : Bool) (a b : Numbered) → cond x (Some b) (Some a) ≡ None �
 neither_by true a b h = absurd (cc)
 neither_by false a b h = absurd (cc)
 
-neither : (a b : Option Numbered) → lesser_fault a b ≡ None → (a ≡ None) × (b ≡ None)
+pub neither : (a b : Option Numbered) → lesser_fault a b ≡ None → (a ≡ None) × (b ≡ None)
 neither None b h = (refl, h)
 neither (Some a) None h = absurd (cc)
 neither (Some a) (Some b) h = absurd (neither_by (nat_lt b.0 a.0) a b h)
 
-no_fault : (n : ℕ) (o : Option CheckFault) → option_map {U = Numbered} (λ e. (n, e)) o ≡ None → o ≡ None
+pub no_fault : (n : ℕ) (o : Option CheckFault) → option_map {U = Numbered} (λ e. (n, e)) o ≡ None → o ≡ None
 no_fault n None h = refl
 no_fault n (Some e) h = absurd (cc)
 
@@ -68,7 +68,7 @@ none_of p (g ∷ gs) h n f (inr i) is =
     let (here, rest) = neither (numbered_fault p g) (least_fault p gs) h in
     none_of p gs rest n f i is
 
-no_first : (o : Option Numbered) → option_map (λ x. x.1) o ≡ None → o ≡ None
+pub no_first : (o : Option Numbered) → option_map (λ x. x.1) o ≡ None → o ≡ None
 no_first None h = refl
 no_first (Some x) h = absurd (cc)
 

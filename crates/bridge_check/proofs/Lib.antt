@@ -4,6 +4,8 @@ pub mod Told
 pub mod Led
 pub mod Others
 pub mod Least
+pub mod Members
+pub mod Among
 pub mod Isolated
 pub mod Sound
 pub mod Heads

@@ -1,5 +1,5 @@
 -- Why a plan doesn't isolate a protected filter: eight tests in order, over ports and classes in rising order.
-use Rattle.std.specs.Prelude.{ℕ, zero, suc, ◌+◌, Bool, true, false, not, ◌&&◌, List, [], ◌∷◌, Option, Some, None, is_some, option_map, nat_eq, nat_le, nat_lt, if◌then◌else◌}
+use Rattle.std.specs.Prelude.{ℕ, zero, suc, ◌+◌, Bool, true, false, not, ◌&&◌, List, [], ◌∷◌, Option, Some, None, filter_map, flat_map, is_some, option_map, nat_eq, nat_le, nat_lt, if◌then◌else◌}
 use Rattle.std.specs.List.{list_any, list_all}
 use Rattle.bridge_filter.specs.declared.FilterPlan.{FilterPlan}
 use Rattle.bridge_filter.specs.Finding.{lesser_number}
@@ -105,9 +105,9 @@ abbrev pub first_fault_of : List (Option CheckFault) → Option CheckFault
 first_fault_of [] = None
 first_fault_of (e ∷ es) = first_of e (first_fault_of es)
 
--- the first test that a protected filter fails
-abbrev pub fault_of : {A : Type 0} → Plan A → ℕ → FilterPlan → Option CheckFault
-fault_of p n f = first_fault_of (
+-- what each of the eight tests says of a protected filter, in order
+abbrev pub tests_of : {A : Type 0} → Plan A → ℕ → FilterPlan → List (Option CheckFault)
+tests_of p n f =
     wildcard_fault n f
     ∷ max_sdu_fault n f
     ∷ gate_fault p n f
@@ -116,7 +116,23 @@ fault_of p n f = first_fault_of (
     ∷ queue_fault p n f
     ∷ window_fault p n f
     ∷ size_fault p n f
-    ∷ [])
+    ∷ []
+
+-- the first test that a protected filter fails
+abbrev pub fault_of : {A : Type 0} → Plan A → ℕ → FilterPlan → Option CheckFault
+fault_of p n f = first_fault_of (tests_of p n f)
+
+-- those of some tests that fail
+abbrev pub failing_in : List (Option CheckFault) → List CheckFault
+failing_in tests = filter_map (λ told. told) tests
+
+-- the tests that a filter fails, where it is protected
+abbrev pub failing_of : {A : Type 0} → Plan A → ℕ × FilterPlan → List CheckFault
+failing_of p f = if f.1.protected then failing_in (tests_of p f.0 f.1) else []
+
+-- the tests that the filters of a plan fail, in the order in which they stand there
+abbrev pub all_faults : {A : Type 0} → Plan A → List CheckFault
+all_faults p = flat_map (failing_of p) p.filters
 
 -- the fault of the lesser number, where either may be none
 abbrev pub lesser_fault : Option (ℕ × CheckFault) → Option (ℕ × CheckFault) → Option (ℕ × CheckFault)

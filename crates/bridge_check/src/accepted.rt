@@ -11,7 +11,7 @@ ghost use Rattle.bridge_check.specs.Acceptable.{IsAcceptable};
 use crate::fault::CheckFault;
 use crate::queues::reaches_in;
 use crate::reach::{Reach, reach_of};
-use crate::rules::{Case, has_catch_all};
+use crate::rules::{Case, first_in, has_catch_all};
 use bridge_config::Plan;
 use bridge_filter::FilterPlan;
 use std::alloc::{AllocError, Allocator};
@@ -90,7 +90,7 @@ fn numbered_fault<A: Allocator + Copy>(
         filter,
         reach: reach_of(plan, &filter),
     };
-    match case.fault() {
+    match first_in(&case.tests()) {
         Some(fault) => Some((number, fault)),
         None => None,
     }

@@ -1,5 +1,5 @@
 //! Laws of accepted plans, each the contract of a function that does nothing.
-ghost use Rattle.std.specs.Prelude.{◌≡◌, ℕ, Bool, List, Ok, Option, None, Some, true};
+ghost use Rattle.std.specs.Prelude.{◌≡◌, [], ℕ, Bool, List, Ok, Option, None, Some, true};
 ghost use Rattle.bridge_limits.specs.Members.{In};
 ghost use Rattle.bridge_frame.specs.declared.Head.{Head};
 ghost use Rattle.bridge_frame.specs.Frames as frames;
@@ -16,7 +16,8 @@ ghost use Rattle.bridge_config.specs.Rules.{IsPlan, port_at};
 ghost use Rattle.bridge_check.specs.Reach.{reaches};
 ghost use Rattle.bridge_check.specs.Sending.{vid_of, priority_of, call_of, class_of};
 ghost use Rattle.bridge_check.specs.Acceptable.{KeepsApart};
-ghost use Rattle.bridge_check.specs.Faults.{fault_of};
+ghost use Rattle.bridge_check.specs.declared.fault.CheckFault.{CheckFault};
+ghost use Rattle.bridge_check.specs.Faults.{all_faults, fault_of, first_fault};
 
 use std::alloc::Allocator;
 
@@ -62,4 +63,10 @@ pub fn without_fault_is_apart<A: Allocator + Copy>()
         → In (n, f) p.filters
         → fault_of p n f ≡ None
         → IsApart (plans_of p.filters p.gates p.meters) n f }
+{}
+
+/// The first fault of a plan is one of all, and where there is no first one there is none.
+pub fn the_first_fault_is_one_of_all<A: Allocator + Copy>()
+    ensures one { (p : Plan A) (e : CheckFault) → first_fault p ≡ Some e → In e (all_faults p) }
+    ensures none { (p : Plan A) → first_fault p ≡ None → all_faults p ≡ [] }
 {}

@@ -3,6 +3,7 @@
 //! windows for itself, and otherwise the first reason, by filter, port and class.
 
 mod accepted;
+mod failing;
 mod fault;
 pub mod laws;
 mod queues;
@@ -11,5 +12,6 @@ mod rules;
 mod windows;
 
 pub use accepted::{Accepted, Refused, check};
+pub use failing::faults_of;
 pub use fault::CheckFault;
 pub use reach::{Reach, may_wait, may_wait_at, reach_of};

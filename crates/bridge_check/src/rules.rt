@@ -1,5 +1,5 @@
 //! The eight tests of a protected filter.
-ghost use Rattle.std.specs.Prelude.{◌≡◌, ◌≤◌, ◌<◌, ◌+◌, Some, ◌∷◌, []};
+ghost use Rattle.std.specs.Prelude.{◌≡◌, ◌≤◌, ◌<◌, ◌+◌, Some};
 ghost use Rattle.bridge_config.specs.Rules.{port_at};
 ghost use Rattle.bridge_check.specs.Reach.{reaches};
 ghost use Rattle.bridge_check.specs.Faults as spec;
@@ -245,45 +245,50 @@ impl<'a, A: Allocator + Copy> Case<'a, A> {
     }
 }
 
-impl<'a, A: Allocator + Copy> Case<'a, A> {
-    /// The first test of the filter's queues that fails.
-    fn queue_fault(&self) -> Option<CheckFault>
-        requires { reached.IsCase self.now }
-        ensures { result ≡ spec.first_fault_of (spec.queue_fault self.now.plan.now self.now.number self.now.filter ∷ spec.window_fault self.now.plan.now self.now.number self.now.filter ∷ spec.size_fault self.now.plan.now self.now.number self.now.filter ∷ []) }
-    {
-        let shared = self.first_in_reach(QueueTest::Shared);
-        if shared.is_some() {
-            return shared;
-        }
-        let window = self.first_in_reach(QueueTest::Window);
-        if window.is_some() {
-            return window;
-        }
-        self.first_in_reach(QueueTest::Size)
-    }
+/// A fault where a test fails.
+fn unless(passes: bool, fault: CheckFault) -> Option<CheckFault>
+    ensures { result ≡ spec.fault_unless passes fault }
+{
+    if passes { None } else { Some(fault) }
+}
 
-    /// The first test that the filter fails.
-    pub(crate) fn fault(&self) -> Option<CheckFault>
+/// The first fault of some.
+pub(crate) fn first_in(tests: &[Option<CheckFault>]) -> Option<CheckFault>
+    ensures { result ≡ spec.first_fault_of tests.now }
+{
+    for told in tests {
+        if told.is_some() {
+            return *told;
+        }
+    }
+    None
+}
+
+impl<'a, A: Allocator + Copy> Case<'a, A> {
+    /// What each of the eight tests says of the filter, in order.
+    pub(crate) fn tests(&self) -> [Option<CheckFault>; 8]
         requires { reached.IsCase self.now }
-        ensures { result ≡ spec.fault_of self.now.plan.now self.now.number self.now.filter }
+        ensures { result ≡ spec.tests_of self.now.plan.now self.now.number self.now.filter }
     {
         let filter = self.number;
         let filters = self.plan.filters();
-        if self.filter.handle.is_none() {
-            return Some(CheckFault::ProtectedWildcard { filter });
-        }
-        if self.filter.max_sdu.is_none() {
-            return Some(CheckFault::NoMaxSdu { filter });
-        }
-        if is_gate_shared(filters, filter, &self.filter) {
-            return Some(CheckFault::GateShared { filter });
-        }
-        if is_meter_shared(filters, filter, &self.filter) {
-            return Some(CheckFault::MeterShared { filter });
-        }
-        if !self.catches {
-            return Some(CheckFault::NoCatchAll { filter });
-        }
-        self.queue_fault()
+        let shares_gate = is_gate_shared(filters, filter, &self.filter);
+        let shares_meter = is_meter_shared(filters, filter, &self.filter);
+        [
+            unless(
+                self.filter.handle.is_some(),
+                CheckFault::ProtectedWildcard { filter },
+            ),
+            unless(
+                self.filter.max_sdu.is_some(),
+                CheckFault::NoMaxSdu { filter },
+            ),
+            unless(!shares_gate, CheckFault::GateShared { filter }),
+            unless(!shares_meter, CheckFault::MeterShared { filter }),
+            unless(self.catches, CheckFault::NoCatchAll { filter }),
+            self.first_in_reach(QueueTest::Shared),
+            self.first_in_reach(QueueTest::Window),
+            self.first_in_reach(QueueTest::Size),
+        ]
     }
 }

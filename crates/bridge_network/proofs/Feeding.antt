@@ -46,7 +46,8 @@ use Rattle.bridge_semantics.specs.Offers.{Offer, leaving, offer_by, offer_of_ste
 use Rattle.bridge_semantics.proofs.Safe.{IsSafe, alone}
 use Rattle.bridge_semantics.proofs.Offering.{IsGoing, going_if, in_split, offered_by}
 use Rattle.bridge_network.specs.Feeding.{Sort, tag_of, is_kind, may_match, handles_of, flow_for, reaches_any, is_fed, may_go, sends_from, sends_only, tags_of, gives_to, sort_by, takes_by, takes_only}
-use Rattle.bridge_network.proofs.Members.{in_left, in_right, map_in}
+use Rattle.bridge_check.proofs.Members.{in_left, in_right}
+use Rattle.bridge_network.proofs.Members.{map_in}
 use Rattle.bridge_network.proofs.Marking.{plain, SameHead, leaving_head}
 
 -- WHERE AN OFFER COMES FROM

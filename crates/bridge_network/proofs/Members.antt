@@ -7,6 +7,7 @@ use Rattle.bridge_cycle.proofs.Cases.{by_bool}
 use Rattle.bridge_capture.specs.Grammar.{Captured}
 use Rattle.bridge_filter.specs.declared.FilterPlan.{FilterPlan}
 use Rattle.bridge_config.specs.Model.{Plan}
+use Rattle.bridge_check.proofs.Members.{in_left, in_right}
 use Rattle.bridge_semantics.specs.Events.{is_own}
 use Rattle.bridge_semantics.specs.Merge.{Input, frame, of_rank, inputs_of, own_inputs}
 use Rattle.bridge_semantics.specs.Outputs.{LeavesBefore}
@@ -14,15 +15,6 @@ use Rattle.bridge_semantics.proofs.Offering.{in_split}
 use Rattle.bridge_semantics.proofs.Views.{after_all}
 use Rattle.bridge_network.specs.Networks.{later}
 use Rattle.bridge_network.specs.Alone.{IsLater}
-
-pub in_left : {X : Type 0} (x : X) (xs ys : List X) → In x xs → In x (xs ++ ys)
-in_left x [] ys i = absurd i
-in_left x (z ∷ xs) ys (inl e) = inl e
-in_left x (z ∷ xs) ys (inr i) = inr (in_left x xs ys i)
-
-pub in_right : {X : Type 0} (x : X) (xs ys : List X) → In x ys → In x (xs ++ ys)
-in_right x [] ys i = i
-in_right x (z ∷ xs) ys i = inr (in_right x xs ys i)
 
 pub in_map : {X Y : Type 0} (f : X → Y) (y : Y) (xs : List X) → In y (map f xs) → (x : X) × In x xs × (y ≡ f x)
 in_map f y [] i = absurd i

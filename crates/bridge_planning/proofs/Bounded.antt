@@ -14,6 +14,7 @@ use Rattle.bridge_filter.specs.declared.FilterPlan.{FilterPlan}
 use Rattle.bridge_config.specs.declared.ports.PortPlan.{PortPlan}
 use Rattle.bridge_config.specs.Model.{Plan}
 use Rattle.bridge_config.specs.Rules.{port_at}
+use Rattle.bridge_check.proofs.Members.{in_left}
 use Rattle.bridge_check.specs.Reach.{reaches}
 use Rattle.bridge_bounds.specs.Bounds.{HasNoBound, IsBound}
 use Rattle.bridge_relay.proofs.Sound.{in_push, rising_push}
@@ -133,7 +134,7 @@ module _ {A : Type 0} (p : Plan A) (order : Numbered) (at place n q c : ℕ) (f 
           | inr new ↦ (at, f, (let e : r.filter ≡ n = ap (λ (z : QueueBound). z.filter) new in rw e here), inr (refl, (let e : place_of r.port r.class ≡ place = ap (λ (z : QueueBound). place_of z.port z.class) new ∙ is in omega (arith, e))))
         ];
         all = λ i r d m g there protected begins ends small reach done. elim (last_or_before i (place_of r d) at place done) [
-          | inl old ↦ (let z = up.all i r d m g there protected begins ends small reach old in (z.0, in_left rows row (queue_bound m r d z.0) z.1))
+          | inl old ↦ (let z = up.all i r d m g there protected begins ends small reach old in (z.0, in_left (queue_bound m r d z.0) rows (row ∷ []) z.1))
           | inr (same, last) ↦ (
             b,
             in_last rows row (queue_bound m r d b) (
@@ -146,11 +147,6 @@ module _ {A : Type 0} (p : Plan A) (order : Numbered) (at place n q c : ℕ) (f 
         ];
       }
     where
-      in_left : (xs : List QueueBound) (y z : QueueBound) → In z xs → In z (xs ++ y ∷ [])
-      in_left [] y z i = absurd i
-      in_left (x ∷ xs) y z (inl e) = inl e
-      in_left (x ∷ xs) y z (inr i) = inr (in_left xs y z i)
-
       in_last : (xs : List QueueBound) (y z : QueueBound) → z ≡ y → In z (xs ++ y ∷ [])
       in_last [] y z e = inl e
       in_last (x ∷ xs) y z e = inr (in_last xs y z e)

@@ -16,7 +16,8 @@ use Rattle.bridge_semantics.specs.Outputs.{Leaves, LeavesBefore, IsOutput, depar
 use Rattle.bridge_state.specs.declared.slot.Slot.{Slot}
 use Rattle.bridge_relay.specs.Relays.{HasLeft}
 use Rattle.bridge_relay.proofs.Sound.{rising_push, in_push}
-use Rattle.bridge_relay.proofs.Members.{in_left, in_end}
+use Rattle.bridge_check.proofs.Members.{in_left}
+use Rattle.bridge_relay.proofs.Members.{in_end}
 
 -- the answer to an offer is no start
 pub answered_waits : (o : Option Refusal) (k : ℕ) → fate_of o ≡ Started k → ⊥

@@ -35,7 +35,8 @@ use Rattle.bridge_state.specs.Ports.{AreAlike, IsMade}
 use Rattle.bridge_relay.specs.Relaying.{CountTheSame, HasOfferedTo, Carries, offer_to, offers_below, IsPending, IsOffering, MayRelay, HasCopies, leaves}
 use Rattle.bridge_state.proofs.Porting.{below, set_here, set_there}
 use Rattle.bridge_relay.proofs.Sound.{changed, in_push}
-use Rattle.bridge_relay.proofs.Members.{in_left, in_end}
+use Rattle.bridge_check.proofs.Members.{in_left}
+use Rattle.bridge_relay.proofs.Members.{in_end}
 use Rattle.bridge_relay.proofs.Standing.{put, put_same, put_other, out_of}
 use Rattle.bridge_relay.proofs.Leaving.{left_pushed, answered_waits}
 

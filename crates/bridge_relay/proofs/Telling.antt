@@ -28,7 +28,8 @@ use Rattle.bridge_limits.specs.Members.{Rising}
 use Rattle.bridge_semantics.specs.Runs.{DepartsBefore, DroppedBefore, Departs, Drops, Delayed, IsGreatest, IsTold, AtPort, fate_by}
 use Rattle.bridge_state.specs.Tables.{longer}
 use Rattle.bridge_relay.proofs.Sound.{rising_push, in_push}
-use Rattle.bridge_relay.proofs.Members.{in_left, in_end}
+use Rattle.bridge_check.proofs.Members.{in_left}
+use Rattle.bridge_relay.proofs.Members.{in_end}
 
 -- Members.
 
