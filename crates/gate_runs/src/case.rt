@@ -81,7 +81,7 @@ impl Case {
         let (port, count) = first_of(rest);
         let count = number(count)?;
         let text = self.text(port)?;
-        while text.len() as u64 > count {
+        for _ in count..text.len() as u64 {
             let _ = text.pop();
         }
         Ok(())

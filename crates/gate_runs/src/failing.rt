@@ -80,18 +80,15 @@ fn print_failing(
     Ok(())
 }
 
-/// Prints how runs end whose source or sink of a port fails behind each number of octets, from 0 on: `source PORT` or
-/// `sink PORT`.
-pub fn fails(
+/// Prints how runs end that fail behind each number of octets of a port, from 0 on.
+fn each_fails(
     rt: &(impl AllocGlobal + Print),
     accepted: &Accepted<Global>,
     case: &Case,
-    rest: &str,
+    what: &str,
+    port: u64,
+    whole: [&[u8]; 3],
 ) -> Result<(), Fail> {
-    let (what, port) = first_of(rest);
-    let port = number(port)?;
-    let sinks = whole_of(rt.alloc(), accepted, case)?;
-    let whole = held(&sinks);
     if what == "source" {
         for count in 0..=at_port(case.texts(), port).len() {
             print_failing(
@@ -108,6 +105,19 @@ pub fn fails(
         }
     }
     Ok(())
+}
+
+/// Prints how runs end whose source or sink of a port fails: `source PORT` or `sink PORT`.
+pub fn fails(
+    rt: &(impl AllocGlobal + Print),
+    accepted: &Accepted<Global>,
+    case: &Case,
+    rest: &str,
+) -> Result<(), Fail> {
+    let (what, port) = first_of(rest);
+    let port = number(port)?;
+    let sinks = whole_of(rt.alloc(), accepted, case)?;
+    each_fails(rt, accepted, case, what, port, held(&sinks))
 }
 
 /// How a run ends into writers, with how many of them come back.
@@ -128,15 +138,14 @@ fn stop_into(
     }
 }
 
-/// Prints how a run ends into writers with room for so many octets: `COUNT COUNT COUNT`.
-pub fn rooms(
-    rt: &(impl AllocGlobal + Print),
+/// How a run ends into writers with room for so many octets.
+fn stop_of(
+    alloc: Global,
     accepted: &Accepted<Global>,
     case: &Case,
-    rest: &str,
-) -> Result<(), Fail> {
-    let alloc = rt.alloc();
-    let (first, rest) = first_of(rest);
+    rooms: &str,
+) -> Result<String, Fail> {
+    let (first, rest) = first_of(rooms);
     let (second, third) = first_of(rest);
     let mut first = room_of(alloc, number(first)?)?;
     let mut second = room_of(alloc, number(second)?)?;
@@ -147,7 +156,17 @@ pub fn rooms(
         second.as_mut_slice(),
         third.as_mut_slice(),
     )?;
-    let stop = stop_into(alloc, accepted, case, writers)?;
+    stop_into(alloc, accepted, case, writers)
+}
+
+/// Prints how a run ends into writers with room for so many octets: `COUNT COUNT COUNT`.
+pub fn rooms(
+    rt: &(impl AllocGlobal + Print),
+    accepted: &Accepted<Global>,
+    case: &Case,
+    rest: &str,
+) -> Result<(), Fail> {
+    let stop = stop_of(rt.alloc(), accepted, case, rest)?;
     println!(rt; "{stop}")?;
     Ok(())
 }

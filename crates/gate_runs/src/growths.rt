@@ -111,30 +111,29 @@ fn ending_in<A: Allocator + Copy>(
     ending
 }
 
-/// Prints how many growths a plan has, together with what is made under it; each is refused once, and has to be answered with
-/// want of memory: `plan`, `run`, `over`, `section`, `report`, `line` or `written`.
+/// How many growths a plan and what is made under it have, each of which is refused once, and has to be answered with want of
+/// memory.
+fn refused_in_turn(heap: Global, case: &Case, what: &str, whole: [&[u8]; 3]) -> Result<u64, Fail> {
+    for n in 1..100_000u64 {
+        let gate = RefusesOne::new(heap, n);
+        match (ending_in(&gate, heap, case, what, whole)?, gate.refused()) {
+            (Ending::NoMemory, true) => {}
+            (Ending::Whole, false) => return Ok(n - 1),
+            (ending, _) => return Err(Fail::new(format_args!("growth {n}: {ending:?}"))),
+        }
+    }
+    Err(Fail::from("some growth was always refused"))
+}
+
+/// Prints how many growths there are: `plan`, `run`, `over`, `section`, `report`, `line` or `written`.
 pub fn refuse(
     rt: &(impl AllocGlobal + Print),
     accepted: &Accepted<Global>,
     case: &Case,
     what: &str,
 ) -> Result<(), Fail> {
-    let heap = rt.alloc();
-    let sinks = whole_of(heap, accepted, case)?;
-    for n in 1..100_000u64 {
-        let gate = RefusesOne::new(heap, n);
-        match (
-            ending_in(&gate, heap, case, what, held(&sinks))?,
-            gate.refused(),
-        ) {
-            (Ending::NoMemory, true) => {}
-            (Ending::Whole, false) => {
-                let growths = n - 1;
-                println!(rt; "{growths} growths, each refused: no memory")?;
-                return Ok(());
-            }
-            (ending, _) => return Err(Fail::new(format_args!("growth {n}: {ending:?}"))),
-        }
-    }
-    Err(Fail::from("some growth was always refused"))
+    let sinks = whole_of(rt.alloc(), accepted, case)?;
+    let growths = refused_in_turn(rt.alloc(), case, what, held(&sinks))?;
+    println!(rt; "{growths} growths, each refused: no memory")?;
+    Ok(())
 }

@@ -12,6 +12,17 @@ use std::test::Fail;
 /// What a writer holds before a report.
 const BEFORE: &[u8] = &[1, 2, 3];
 
+/// What a run tells.
+fn outcome_of(
+    alloc: Global,
+    accepted: &Accepted<Global>,
+    case: &Case,
+) -> Result<Outcome<Global>, Fail> {
+    let moves = Moves::AtOnce;
+    let mut sinks = sinks_of(alloc, moves);
+    Ok(ran_into(alloc, alloc, accepted, case, Form::Plain, moves, &mut sinks)??)
+}
+
 /// Prints how many octets the report of a run has, whether it stands behind what its writer holds, and how reports end in
 /// writers with room for so many octets up to so many: `FIRST LAST`.
 pub fn reports(
@@ -21,13 +32,19 @@ pub fn reports(
     rest: &str,
 ) -> Result<(), Fail> {
     let (first, last) = first_of(rest);
-    let (alloc, moves) = (rt.alloc(), Moves::AtOnce);
-    let mut sinks = sinks_of(alloc, moves);
-    let outcome = ran_into(alloc, alloc, accepted, case, Form::Plain, moves, &mut sinks)??;
-    let text = report(alloc, &outcome)?;
-    let (length, is_behind) = (text.len(), is_behind(alloc, &outcome, text.as_bytes())?);
+    let (first, last) = (number(first)?, number(last)?);
+    let outcome = outcome_of(rt.alloc(), accepted, case)?;
+    behind(rt, &outcome)?;
+    within(rt, &outcome, first, last)
+}
+
+/// Prints how many octets the report of a run has, and whether it stands behind what its writer holds.
+fn behind(rt: &(impl AllocGlobal + Print), outcome: &Outcome<Global>) -> Result<(), Fail> {
+    let text = report(rt.alloc(), outcome)?;
+    let is_behind = is_behind(rt.alloc(), outcome, text.as_bytes())?;
+    let length = text.len();
     println!(rt; "{length} octets, behind what a writer holds: {is_behind}")?;
-    within(rt, &outcome, number(first)?, number(last)?)
+    Ok(())
 }
 
 /// Whether the report of a run stands behind what its writer holds.

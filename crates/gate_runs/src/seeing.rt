@@ -2,12 +2,12 @@
 
 use crate::captures::{header, push_frame};
 use crate::case::Case;
-use crate::telling::{ending_of, put_left};
+use crate::telling::seen_of;
 use crate::ways::{
     FORMS, Form, MOVES, Moves, commands_in, held, ran_into, ran_over, sinks_of, three_of,
 };
 use bridge_check::Accepted;
-use bridge_core::{Agenda, RowAgenda, Sent, TreeAgenda};
+use bridge_core::{Agenda, Outcome, RowAgenda, RunFault, Sent, TreeAgenda};
 use fixture_bridge::driven;
 use std::alloc::{AllocError, Global};
 use std::test::Fail;
@@ -22,9 +22,15 @@ fn seen_by(
 ) -> Result<String, Fail> {
     let mut sinks = sinks_of(alloc, moves);
     let ended = ran_into(alloc, alloc, accepted, case, form, moves, &mut sinks)?;
-    let mut text = ending_of(alloc, ended)?;
-    put_left(alloc, &mut text, held(&sinks))?;
-    Ok(text)
+    seen_of(alloc, &ended, held(&sinks))
+}
+
+/// What three writers hold.
+fn written_in(writers: &[Vec<u8>]) -> [&[u8]; 3] {
+    match writers {
+        [first, second, third] => [first, second, third],
+        _ => [&[], &[], &[]],
+    }
 }
 
 /// What is seen of a run from readers to writers.
@@ -33,15 +39,10 @@ fn seen_over(alloc: Global, accepted: &Accepted<Global>, case: &Case) -> Result<
     let readers = three_of(alloc, first, second, third)?;
     let empty = Vec::<u8>::new(alloc);
     let writers = three_of(alloc, empty, Vec::new(alloc), Vec::new(alloc))?;
-    let (ended, written) = match ran_over(alloc, alloc, accepted, case, readers, writers)? {
-        Ok((outcome, written)) => (Ok(outcome), written),
-        Err(halted) => (Err(halted.fault), halted.writers),
-    };
-    let mut text = ending_of(alloc, ended)?;
-    if let [first, second, third] = written.as_slice() {
-        put_left(alloc, &mut text, [first, second, third])?;
+    match ran_over(alloc, alloc, accepted, case, readers, writers)? {
+        Ok((outcome, written)) => seen_of(alloc, &Ok(outcome), written_in(&written)),
+        Err(halted) => seen_of(alloc, &Err(halted.fault), written_in(&halted.writers)),
     }
-    Ok(text)
 }
 
 /// The capture of the frames that left a port.
@@ -55,6 +56,18 @@ fn capture_left(alloc: Global, gone: &[Sent<Global>], port: u8) -> Result<Vec<u8
     Ok(text)
 }
 
+/// What is seen of a run of which these frames left.
+fn seen_beside(
+    alloc: Global,
+    ended: &Result<Outcome<Global>, RunFault>,
+    gone: &[Sent<Global>],
+) -> Result<String, Fail> {
+    let first = capture_left(alloc, gone, 1)?;
+    let second = capture_left(alloc, gone, 2)?;
+    let third = capture_left(alloc, gone, 3)?;
+    seen_of(alloc, ended, [&first, &second, &third])
+}
+
 /// What is seen of a bridge over an agenda to which the frames and the command come one by one.
 fn seen_driven<G: Agenda + Drop>(
     alloc: Global,
@@ -63,12 +76,7 @@ fn seen_driven<G: Agenda + Drop>(
 ) -> Result<String, Fail> {
     let commands = commands_in(alloc, accepted, case.commands.as_str())?;
     let (outcome, gone) = driven::<G>(alloc, accepted, commands.first().copied(), case.texts())?;
-    let mut text = ending_of(alloc, Ok(outcome))?;
-    let first = capture_left(alloc, &gone, 1)?;
-    let second = capture_left(alloc, &gone, 2)?;
-    let third = capture_left(alloc, &gone, 3)?;
-    put_left(alloc, &mut text, [&first, &second, &third])?;
-    Ok(text)
+    seen_beside(alloc, &Ok(outcome), &gone)
 }
 
 /// Prints a way in which something else is seen.

@@ -6,17 +6,23 @@ use bridge_report::{has_section, report, section, summary, write_report};
 use std::alloc::{AllocError, Global};
 use std::test::Fail;
 
-/// What a run tells, or why it stops.
-pub fn ending_of(alloc: Global, ended: Result<Outcome<Global>, RunFault>) -> Result<String, Fail> {
-    match ended {
-        Ok(outcome) => told(alloc, &outcome),
-        Err(fault) => Ok(format!(in alloc; "stops: {fault:?}\n")?),
-    }
+/// What a run tells, or why it stops, and what left each port.
+pub fn seen_of(
+    alloc: Global,
+    ended: &Result<Outcome<Global>, RunFault>,
+    left: [&[u8]; 3],
+) -> Result<String, Fail> {
+    let mut text = match ended {
+        Ok(outcome) => told(alloc, outcome)?,
+        Err(fault) => format!(in alloc; "stops: {fault:?}\n")?,
+    };
+    put_left(alloc, &mut text, left)?;
+    Ok(text)
 }
 
 /// What a run tells: its report, then what no report tells of the frames of each filter, what each port counts, and the line
 /// that sums it up.
-pub fn told(alloc: Global, outcome: &Outcome<Global>) -> Result<String, Fail> {
+fn told(alloc: Global, outcome: &Outcome<Global>) -> Result<String, Fail> {
     let mut text = report(alloc, outcome)?;
     let written = write_report(alloc, outcome, Vec::new(alloc))?;
     if written.as_slice() != text.as_bytes() || !has_front(alloc, outcome, text.as_str())? {
@@ -57,12 +63,13 @@ fn put_view(text: &mut String, filter: u32, view: &View<Global>) -> Result<(), A
 }
 
 /// Adds what left each port: a written capture in hexadecimals.
-pub fn put_left(alloc: Global, text: &mut String, left: [&[u8]; 3]) -> Result<(), Fail> {
+fn put_left(alloc: Global, text: &mut String, left: [&[u8]; 3]) -> Result<(), Fail> {
     for (place, octets) in left.iter().enumerate() {
-        let lines = lines_of(alloc, octets)?;
         let (port, length) = (place.saturating_add(1), octets.len());
         writeln!(text, "left {port} {length} octets")?;
-        text.push_str(lines.as_str())?;
+        if length > 0 {
+            text.push_str(lines_of(alloc, octets)?.as_str())?;
+        }
     }
     Ok(())
 }
