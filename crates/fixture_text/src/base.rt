@@ -70,15 +70,6 @@ pub fn changed<A: Allocator + Copy>(
     }
 }
 
-/// The text of the plan after these changes.
-pub fn text_of<A: Allocator + Copy>(alloc: A, changes: &[Change]) -> Result<String<A>, Fail> {
-    let mut text = String::from_str(alloc, BASE)?;
-    for change in changes {
-        text = changed(alloc, &text, *change)?;
-    }
-    Ok(text)
-}
-
 /// The text of the plan, and more lines behind it.
 pub fn text_with<A: Allocator + Copy>(alloc: A, more: &str) -> Result<String<A>, AllocError> {
     let mut text = String::from_str(alloc, BASE)?;

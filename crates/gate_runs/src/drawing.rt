@@ -1,16 +1,16 @@
 //! Captures of any frames, drawn by a generator with a fixed seed.
 ghost use Rattle.std.specs.Prelude.{◌<◌, ◌≤◌};
 
-use fixture_runs::frames::{header, push_record};
-use std::alloc::{AllocError, Allocator};
+use crate::captures::{header, push_frame};
+use std::alloc::{AllocError, Global};
 
 /// Numbers one after another, the same ones for the same seed.
 #[derive(Drop)]
-pub(crate) struct Numbers(u64);
+pub struct Numbers(u64);
 
 impl Numbers {
     /// The numbers of a seed.
-    pub(crate) fn of(seed: u64) -> Numbers {
+    pub fn of(seed: u64) -> Numbers {
         Numbers(seed)
     }
 
@@ -65,7 +65,7 @@ fn octets(numbers: &mut Numbers) -> [u8; 18] {
 }
 
 /// How many of a frame's octets are captured: all that there are of its first ones, or fewer.
-fn captured(numbers: &mut Numbers, len: u32) -> usize
+fn captured(numbers: &mut Numbers, len: u64) -> usize
     ensures { result ≤ 18 }
 {
     let most = if len < 18 { 14 } else { 18 };
@@ -76,19 +76,15 @@ fn captured(numbers: &mut Numbers, len: u32) -> usize
 }
 
 /// A capture of thirty frames, of 14 to 9,217 octets each, some of them cut, at times from one on that do not fall.
-pub(crate) fn foreign<A: Allocator + Copy>(
-    alloc: A,
-    numbers: &mut Numbers,
-    from: u32,
-) -> Result<Vec<u8, A>, AllocError> {
+pub fn drawn(alloc: Global, numbers: &mut Numbers, from: u64) -> Result<Vec<u8>, AllocError> {
     let mut text = header(alloc)?;
     let mut at = from;
     for _ in 0..30 {
-        at = at.saturating_add(numbers.below(9_000) as u32);
-        let len = 14 + numbers.below(9_204) as u32;
+        at = at.saturating_add(numbers.below(9_000));
+        let len = 14 + numbers.below(9_204);
         let octets = octets(numbers);
         let captured = captured(numbers, len);
-        push_record(&mut text, 0, at, len, &octets[..captured])?;
+        push_frame(&mut text, at, len, &octets[..captured])?;
     }
     Ok(text)
 }

@@ -1,0 +1,174 @@
+//! The calls by which a run is made.
+ghost use Rattle.std.specs.Prelude.{◌≡◌, IfOk, length};
+ghost use Rattle.bridge_config.specs.Commands.{AreCommands};
+
+use crate::case::Case;
+use bridge_capture::{ByteSink, ByteSource, SliceSource, VecSink};
+use bridge_check::{Accepted, check};
+use bridge_config::{Command, commands_of, plan_of};
+use bridge_core::{Outcome, RowAgenda, RunFault, TreeAgenda, simulate, simulate_over};
+use bridge_files::{Halted, run_over};
+use std::alloc::{AllocError, Allocator, Global};
+use std::io::{Read, Write};
+use std::test::Fail;
+
+/// By which call a run is made from sources to sinks.
+#[derive(Clone, Copy, Debug)]
+pub enum Form {
+    /// The run that the program makes.
+    Plain,
+    /// Over the agenda that is a row.
+    Row,
+    /// Over the agenda that is a tree.
+    Tree,
+}
+
+/// Each of them.
+pub const FORMS: &[Form] = &[Form::Plain, Form::Row, Form::Tree];
+
+/// How the octets of sources and sinks move.
+#[derive(Clone, Copy, Debug)]
+pub enum Moves {
+    /// As many as are asked for.
+    AtOnce,
+    /// One a call.
+    ByOctets,
+    /// At once, but that the source of a port fails behind so many.
+    UntilSource { port: u64, count: usize },
+    /// At once, but that the sink of a port fails behind so many.
+    UntilSink { port: u64, count: usize },
+}
+
+/// Those in which nothing fails.
+pub const MOVES: &[Moves] = &[Moves::AtOnce, Moves::ByOctets];
+
+/// The plan of a text, where it is accepted.
+pub fn accepted_of<A: Allocator + Copy>(alloc: A, heap: Global, text: &str) -> Option<Accepted<A>> {
+    let Ok(plan) = plan_of(alloc, heap, text.as_bytes()) else {
+        return None;
+    };
+    check(alloc, plan).ok()
+}
+
+/// The commands of a text to a plan.
+pub fn commands_in<A: Allocator + Copy>(
+    heap: Global,
+    accepted: &Accepted<A>,
+    text: &str,
+) -> Result<Vec<Command>, Fail>
+    ensures { IfOk result (λ all. AreCommands accepted.now all.items) }
+{
+    match commands_of(heap, heap, text.as_bytes(), accepted.plan()) {
+        Ok(commands) => Ok(commands),
+        Err(_) => Err(Fail::from("a command that is refused")),
+    }
+}
+
+/// A source of what comes to a port.
+fn source_of(text: &[u8], at: u64, moves: Moves) -> SliceSource<'_> {
+    match moves {
+        Moves::ByOctets => SliceSource::one_by_one(text),
+        Moves::UntilSource { port, count } if port == at => SliceSource::failing_after(text, count),
+        _ => SliceSource::new(text),
+    }
+}
+
+/// A sink of what leaves a port.
+fn sink_of(heap: Global, at: u64, moves: Moves) -> VecSink<Global> {
+    match moves {
+        Moves::ByOctets => VecSink::one_by_one(heap),
+        Moves::UntilSink { port, count } if port == at => VecSink::failing_after(heap, count),
+        _ => VecSink::new(heap),
+    }
+}
+
+/// Sinks of what leaves the ports 1, 2 and 3.
+pub fn sinks_of(heap: Global, moves: Moves) -> [VecSink<Global>; 3] {
+    [
+        sink_of(heap, 1, moves),
+        sink_of(heap, 2, moves),
+        sink_of(heap, 3, moves),
+    ]
+}
+
+/// What sinks hold.
+pub fn held<'a>(sinks: &'a [VecSink<Global>; 3]) -> [&'a [u8]; 3] {
+    [sinks[0].octets(), sinks[1].octets(), sinks[2].octets()]
+}
+
+/// A run by a call.
+fn ran<R: ByteSource, W: ByteSink, A: Allocator + Copy>(
+    alloc: A,
+    accepted: &Accepted<A>,
+    commands: &[Command],
+    form: Form,
+    sources: &mut [R],
+    sinks: &mut [W],
+) -> Result<Outcome<A>, RunFault>
+    requires sources { length sources.old ≡ length accepted.now.ports }
+    requires sinks { length sinks.old ≡ length accepted.now.ports }
+    requires commands { AreCommands accepted.now commands.now }
+{
+    match form {
+        Form::Plain => simulate(alloc, accepted, commands, sources, sinks),
+        Form::Row => simulate_over::<R, W, RowAgenda, A>(alloc, accepted, commands, sources, sinks),
+        Form::Tree => simulate_over::<R, W, TreeAgenda, A>(
+            alloc, accepted, commands, sources, sinks,
+        ),
+    }
+}
+
+/// A run of what comes to three ports into sinks, where the plan has as many.
+pub fn ran_into<A: Allocator + Copy>(
+    alloc: A,
+    heap: Global,
+    accepted: &Accepted<A>,
+    case: &Case,
+    form: Form,
+    moves: Moves,
+    sinks: &mut [VecSink<Global>],
+) -> Result<Result<Outcome<A>, RunFault>, Fail> {
+    let commands = commands_in(heap, accepted, case.commands.as_str())?;
+    let [first, second, third] = case.texts();
+    let mut sources = [
+        source_of(first, 1, moves),
+        source_of(second, 2, moves),
+        source_of(third, 3, moves),
+    ];
+    let ports = accepted.plan().ports().len();
+    if ports != sources.len() || ports != sinks.len() {
+        return Err(Fail::from("a plan of other ports"));
+    }
+    Ok(ran(alloc, accepted, &commands, form, &mut sources, sinks))
+}
+
+/// Three readers or writers, by rising port.
+pub fn three_of<T: Drop, A: Allocator + Copy>(
+    alloc: A,
+    first: T,
+    second: T,
+    third: T,
+) -> Result<Vec<T, A>, AllocError> {
+    let mut all = Vec::with_capacity(alloc, 3)?;
+    all.push(first)?;
+    all.push(second)?;
+    all.push(third)?;
+    Ok(all)
+}
+
+/// A run from readers to writers, as the program makes it over files, where there is one of each for each port.
+pub fn ran_over<R: Read + Drop, W: Write + Drop, A: Allocator + Copy>(
+    alloc: A,
+    heap: Global,
+    accepted: &Accepted<A>,
+    case: &Case,
+    readers: Vec<R, A>,
+    writers: Vec<W, A>,
+) -> Result<Result<(Outcome<A>, Vec<W, A>), Halted<W, A>>, Fail> {
+    let commands = commands_in(heap, accepted, case.commands.as_str())?;
+    let ports = accepted.plan().ports().len();
+    if readers.len() != ports || writers.len() != ports {
+        return Err(Fail::from("a plan of other ports"));
+    }
+    Ok(run_over(alloc, accepted, &commands, readers, writers))
+}
