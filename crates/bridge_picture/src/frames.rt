@@ -1,27 +1,17 @@
 //! The frames of a run that its picture draws, by what the run tells of each filter: those that left a port, and those that
 //! were not let on. Each port and each part of the time has its share of either.
-use crate::svg::{ACROSS, BAR, LEFT, Picture, Put};
+use crate::svg::{ACROSS, LEFT, Picture};
 use crate::time::{Part, Span};
 use bridge_filter::Verdict;
+use bridge_limits::NoMemory;
 use bridge_port::Refusal;
 use bridge_semantics::{Outcome, View};
-use std::alloc::{AllocError, Allocator, Global};
-
-/// The most frames that are drawn of those that left, and of those that were not let on.
-const MOST_FRAMES: u64 = 2_400;
-
-const MOST_MARKS: u64 = 1_600;
+use std::alloc::{Allocator, Global};
 
 /// The parts of the time of a port, and the width of one.
 const PARTS: usize = 100;
 
 const PART: u64 = ACROSS / PARTS as u64;
-
-/// The parts of all ports, from port 0 on.
-const ALL: usize = 17 * PARTS;
-
-/// The steps by which the share of a part grows, each by a quarter, until it is greater than any count.
-const STEPS: usize = 128;
 
 /// A frame of a filter that left a port or was not let on there.
 #[derive(Clone, Copy)]
@@ -58,15 +48,23 @@ enum Pass {
     Take(bool),
 }
 
-/// What is drawn of the frames of a run: the stretch of time, the frames in it, and the shares of the parts, first of frames that
-/// left, then of others.
+/// The frames that are drawn of those that left, or of the others, with the shares of the parts of each port, from port 0 on;
+/// and whether memory was refused to them.
 #[derive(Drop)]
-pub(crate) struct Choice<'a> {
-    part: &'a Part<'a>,
-    pass: Pass,
-    pub span: Span,
+pub(crate) struct Group {
     pub frames: Vec<Frame>,
     shares: Vec<Share>,
+    is_refused: bool,
+}
+
+/// What is drawn of a run: the part that is asked for, its stretch of time, and the frames in it.
+#[derive(Drop)]
+pub(crate) struct Choice<'a> {
+    part: Part<'a>,
+    pass: Pass,
+    pub span: Span,
+    pub left: Group,
+    pub marks: Group,
 }
 
 /// Why a filter stopped a frame; nothing where it didn't.
@@ -92,78 +90,116 @@ fn refusal_of(refusal: Refusal) -> &'static str {
     }
 }
 
-impl Share {
-    /// Counts a frame, or says whether it is drawn.
-    fn takes(&mut self, pass: Pass, is_protected: bool) -> bool {
+impl Group {
+    /// No frames.
+    fn new(alloc: Global) -> Result<Group, NoMemory> {
+        Ok(Group {
+            frames: Vec::new(alloc),
+            shares: Vec::from_elem(alloc, Share { left: 0, room: 0 }, 17 * PARTS)?,
+            is_refused: false,
+        })
+    }
+
+    /// Counts a frame that stands at a place across its port, or takes it where its share has room.
+    fn take(&mut self, pass: Pass, frame: Frame, x: u64) {
+        let part = (x.saturating_sub(LEFT) / PART) as usize;
+        let place = usize::from(frame.port) * PARTS + part.min(PARTS - 1);
+        let Some(share) = self.shares.get_mut(place) else {
+            return;
+        };
         match pass {
-            Pass::Count => self.left = self.left.saturating_add(1),
-            Pass::Take(it) if it == is_protected && self.room > 0 => {
-                self.room = self.room.saturating_sub(1);
-                self.left = self.left.saturating_sub(1);
-                return true;
+            Pass::Count => share.left = share.left.saturating_add(1),
+            Pass::Take(it) if it == frame.is_protected && share.room > 0 => {
+                share.room = share.room.saturating_sub(1);
+                share.left = share.left.saturating_sub(1);
+                self.is_refused |= self.frames.push(frame).is_err();
             }
             _ => {}
         }
-        false
+    }
+
+    /// How many frames are drawn where each part may have so many.
+    fn drawn(&self, each: u64) -> u64 {
+        let mut drawn: u64 = 0;
+        for share in &self.shares {
+            drawn = drawn.saturating_add(share.left.min(each));
+        }
+        drawn
+    }
+
+    /// Gives each part its share of the most frames that are drawn. It grows by steps of a quarter, which in 128 is more than any
+    /// count.
+    fn allot(&mut self, most: u64) {
+        let mut each: u64 = 1;
+        for _ in 0..128 {
+            let next = each.saturating_add((each / 4).max(1));
+            if self.drawn(next) > most {
+                break;
+            }
+            each = next;
+        }
+        for share in &mut self.shares {
+            share.room = each;
+        }
+    }
+
+    /// How many frames aren't drawn, and how many there are.
+    pub(crate) fn left_out(&self) -> (u64, u64) {
+        let left_out = self.drawn(u64::MAX);
+        let frames = self.frames.len() as u64;
+        (left_out, left_out.saturating_add(frames))
     }
 }
 
-/// The number of the part that has a place across a port, of frames that left or of others.
-fn part_of(is_mark: bool, port: u8, x: u64) -> usize {
-    let part = (x.saturating_sub(LEFT) / PART) as usize;
-    let first = if is_mark { ALL } else { 0 };
-    first + usize::from(port) * PARTS + part.min(PARTS - 1)
+impl<A: Allocator + Copy> Picture<'_, '_, A> {
+    /// Hatches the parts of a port in which some frame of a group isn't drawn, so far below and so high.
+    pub(crate) fn put_hatches(&mut self, group: &Group, port: u8, by: u64, high: u64) {
+        let (first, mut x) = (usize::from(port) * PARTS, LEFT);
+        for share in group.shares.iter().skip(first).take(PARTS) {
+            if share.left > 0 {
+                self.bar("hatch", x, by, PART, high);
+            }
+            x = x.saturating_add(PART);
+        }
+    }
 }
 
 impl Choice<'_> {
-    /// Looks at a frame, of which all is known but when it came, and where, if its filter stopped it.
-    fn see<B: Allocator>(&mut self, view: &View<B>, frame: Frame) -> Put {
+    /// Looks at a frame, of which all is known but when it came, and where, if its filter stopped it: widens the stretch by it,
+    /// counts it, or takes it.
+    fn see<B: Allocator>(&mut self, view: &View<B>, frame: Frame) {
         let Some(origin) = view.origins.get(frame.own.saturating_sub(1) as usize) else {
-            return Ok(());
+            return;
         };
         let mut seen = frame;
         seen.came = origin.at;
         if !frame.why.is_empty() {
-            seen.start = origin.at;
-            seen.done = origin.at.saturating_add(1);
+            (seen.start, seen.done) = (origin.at, origin.at.saturating_add(1));
         }
         if frame.is_stopped {
             seen.port = origin.port;
         }
-        if self.part.has_port(seen.port) {
-            return self.choose(seen);
+        if !self.part.has_port(seen.port) {
+            return;
         }
-        Ok(())
-    }
-
-    /// Widens the stretch by a frame, counts it, or takes it where its share has room.
-    fn choose(&mut self, frame: Frame) -> Put {
-        let (start, done) = (frame.start, frame.done);
+        let (start, done) = (seen.start, seen.done);
         if matches!(self.pass, Pass::Ends) {
-            let came = if frame.is_protected {
-                frame.came
-            } else {
-                start
-            };
+            let came = if seen.is_protected { seen.came } else { start };
             self.span.from = self.span.from.min(start).min(came);
             self.span.to = self.span.to.max(done);
-            return Ok(());
-        }
-        let is_shown = self.span.has(start, done);
-        let place = part_of(!frame.why.is_empty(), frame.port, self.span.place(start));
-        if let Some(share) = self.shares.get_mut(place) {
-            if is_shown && share.takes(self.pass, frame.is_protected) {
-                self.frames.push(frame)?;
+        } else if self.span.has(start, done) {
+            let x = self.span.place(start);
+            match frame.why {
+                "" => self.left.take(self.pass, seen, x),
+                _ => self.marks.take(self.pass, seen, x),
             }
         }
-        Ok(())
     }
 
     /// Looks at the frames of the filter at a place: those that left, those that it stopped, and the copies that queues refused.
-    fn pass_filter<B: Allocator>(&mut self, place: usize, filter: &(u32, View<B>)) -> Put {
-        let view = &filter.1;
+    fn pass_filter<B: Allocator>(&mut self, place: usize, filter: u32, view: &View<B>) {
         let mut frame = Frame {
-            filter: filter.0,
+            filter,
             own: 0,
             is_protected: view.protected,
             colour: (place % 8) as u64,
@@ -177,128 +213,63 @@ impl Choice<'_> {
         for it in &view.departures {
             (frame.own, frame.port) = (it.own, it.port);
             (frame.start, frame.done) = (it.start, it.done);
-            self.see(view, frame)?;
+            self.see(view, frame);
         }
         (frame.own, frame.is_stopped) = (0, true);
         for verdict in &view.verdicts {
             frame.own = frame.own.saturating_add(1);
             frame.why = stop_of(*verdict);
             if !frame.why.is_empty() {
-                self.see(view, frame)?;
+                self.see(view, frame);
             }
         }
         frame.is_stopped = false;
         for it in &view.drops {
             (frame.own, frame.port) = (it.own, it.port);
             frame.why = refusal_of(it.refusal);
-            self.see(view, frame)?;
+            self.see(view, frame);
         }
-        Ok(())
     }
 
     /// Looks at all frames.
-    fn pass<B: Allocator>(&mut self, outcome: &Outcome<B>, pass: Pass) -> Put {
+    fn pass<B: Allocator>(&mut self, outcome: &Outcome<B>, pass: Pass) {
         self.pass = pass;
-        let mut place = 0usize;
-        for filter in &outcome.filters {
-            if self.part.has_filter(filter.0) {
-                self.pass_filter(place, filter)?;
+        for (place, (filter, view)) in outcome.filters.iter().enumerate() {
+            if self.part.has_filter(*filter) {
+                self.pass_filter(place, *filter, view);
             }
-            place = place.saturating_add(1);
         }
-        Ok(())
-    }
-
-    /// How many frames are drawn where each part may have so many: of those that left, or of the others.
-    fn drawn(&self, is_mark: bool, each: u64) -> u64 {
-        let mut drawn: u64 = 0;
-        for share in self.shares.iter().skip(part_of(is_mark, 0, LEFT)).take(ALL) {
-            drawn = drawn.saturating_add(share.left.min(each));
-        }
-        drawn
-    }
-
-    /// Gives each part its share of the most frames that are drawn.
-    fn allot(&mut self, is_mark: bool, most: u64) {
-        let mut each: u64 = 1;
-        for _ in 0..STEPS {
-            let next = each.saturating_add((each / 4).max(1));
-            if self.drawn(is_mark, next) > most {
-                break;
-            }
-            each = next;
-        }
-        for share in self
-            .shares
-            .iter_mut()
-            .skip(part_of(is_mark, 0, LEFT))
-            .take(ALL)
-        {
-            share.room = each;
-        }
-    }
-
-    /// Chooses the stretch of time, the one that is asked for, and where an end of it isn't, as far as there is something to
-    /// draw; and the frames in it that are drawn.
-    fn make<B: Allocator>(&mut self, outcome: &Outcome<B>) -> Put {
-        for _ in 0..2 * ALL {
-            self.shares.push(Share { left: 0, room: 0 })?;
-        }
-        self.pass(outcome, Pass::Ends)?;
-        if self.span.from > self.span.to {
-            (self.span.from, self.span.to) = (0, 1_000_000);
-        }
-        self.span = self.part.span(self.span);
-        self.pass(outcome, Pass::Count)?;
-        self.allot(false, MOST_FRAMES);
-        self.allot(true, MOST_MARKS);
-        self.pass(outcome, Pass::Take(true))?;
-        self.pass(outcome, Pass::Take(false))
-    }
-
-    /// How many frames aren't drawn, and how many there are: of those that left, or of the others.
-    pub(crate) fn left_out(&self, is_mark: bool) -> (u64, u64) {
-        let left_out = self.drawn(is_mark, u64::MAX);
-        let frames = self.frames.iter().filter(|it| it.why.is_empty() != is_mark);
-        (left_out, left_out.saturating_add(frames.count() as u64))
-    }
-
-    /// Hatches the parts of a port in which some frame isn't drawn: of those that left, or of the others.
-    pub(crate) fn put_hatches(&self, picture: &mut Picture, port: u8, is_mark: bool) -> Put {
-        let (by, high) = if is_mark { (10, 120) } else { (55, 130) };
-        let y = picture.below(by);
-        let mut x = LEFT;
-        for share in self
-            .shares
-            .iter()
-            .skip(part_of(is_mark, port, LEFT))
-            .take(PARTS)
-        {
-            if share.left > 0 {
-                picture.put(BAR, &[x, y, PART, high], "hatch", "")?;
-            }
-            x = x.saturating_add(PART);
-        }
-        Ok(())
     }
 }
 
-/// What is drawn of the frames of a run.
+/// What is drawn of a run: the stretch of time that is asked for, where an end of it isn't as far as there is something to draw,
+/// and the frames in it that have room: of those that left 2,400 at most, of the others 1,600.
 pub(crate) fn choice_of<'a, B: Allocator>(
     alloc: Global,
     outcome: &Outcome<B>,
-    part: &'a Part<'a>,
-) -> Result<Choice<'a>, AllocError> {
+    part: Part<'a>,
+) -> Result<Choice<'a>, NoMemory> {
+    let (left, marks) = (Group::new(alloc)?, Group::new(alloc)?);
+    let (from, to) = (u64::MAX, 0);
     let mut choice = Choice {
         part,
         pass: Pass::Ends,
-        span: Span {
-            from: u64::MAX,
-            to: 0,
-        },
-        frames: Vec::new(alloc),
-        shares: Vec::new(alloc),
+        span: Span { from, to },
+        left,
+        marks,
     };
-    choice.make(outcome)?;
+    choice.pass(outcome, Pass::Ends);
+    if choice.span.from > choice.span.to {
+        (choice.span.from, choice.span.to) = (0, 1_000_000);
+    }
+    choice.span = part.span(choice.span);
+    choice.pass(outcome, Pass::Count);
+    choice.left.allot(2_400);
+    choice.marks.allot(1_600);
+    choice.pass(outcome, Pass::Take(true));
+    choice.pass(outcome, Pass::Take(false));
+    if choice.left.is_refused || choice.marks.is_refused {
+        return Err(NoMemory);
+    }
     Ok(choice)
 }

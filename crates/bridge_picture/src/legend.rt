@@ -1,5 +1,7 @@
 //! What the shapes of a picture say.
-use crate::svg::{LEFT, Picture, Put, TEXT, WIDTH};
+use crate::lanes::digits_of;
+use crate::svg::{LEFT, Picture, WIDTH, either};
+use std::alloc::Allocator;
 
 /// A row of a legend: a sample, the style of its shapes, and the words behind it.
 type Row = (&'static str, &'static str, &'static str);
@@ -51,69 +53,53 @@ pub(crate) const RUN: &[Row] = &[
     ),
 ];
 
-const CHANGE: &[Row] = &[(LINE, "change", "change of schedules")];
-
-const FAULT: &[Row] = &[(BAR, "b c1", "at fault")];
-
-/// Begins a legend, on a line of its own.
-pub(crate) fn begin(picture: &mut Picture) {
-    picture.go_down(190);
-    picture.right = LEFT;
-}
-
-/// Puts a row behind the others, or on a further line where there is no room beside them.
-fn put_row(picture: &mut Picture, (sample, style, words): (&str, &str, &str), colour: u64) -> Put {
-    let width = (words.len() as u64).saturating_mul(62).saturating_add(360);
-    if picture.right.saturating_add(width) > WIDTH && picture.right > LEFT {
-        picture.go_down(170);
-        picture.right = LEFT;
+impl<A: Allocator + Copy> Picture<'_, '_, A> {
+    /// Begins a legend, on a line of its own.
+    pub(crate) fn begin_legend(&mut self) {
+        self.go_down(190);
+        self.right = LEFT;
     }
-    let x = picture.right.min(WIDTH);
-    let y = picture.down.saturating_sub(90).min(u64::MAX - 110);
-    picture.right = x.saturating_add(width);
-    if sample.is_empty() {
-        return picture.put(TEXT, &[x, picture.down], "t", words);
-    }
-    let (ends, base) = ((x + 30, x + 130), y + 100);
-    let places = [x, y, y + 60, ends.0, ends.1, x + 80, base, y + 110, colour];
-    picture.put(sample, &places, style, "")?;
-    picture.put(TEXT, &[x + 210, picture.down], "t", words)
-}
 
-/// Names a filter with its colour, behind the others.
-pub(crate) fn put_filter(
-    picture: &mut Picture,
-    filter: u32,
-    is_protected: bool,
-    colour: u64,
-) -> Put {
-    let (edge, manner) = if is_protected {
-        (" e", "protected")
-    } else {
-        ("", "plain")
-    };
-    let words = format!(in picture.alloc; "{filter} {manner}")?;
-    put_row(picture, (FILTER, edge, words.as_str()), colour)
-}
+    /// Puts a row of so many letters, with the numbers of a colour and of a filter, behind the others, or on a further line where
+    /// there is no room beside them.
+    fn put_row(&mut self, row: Row, letters: usize, colour: u64, filter: u64) {
+        let (sample, style, words) = row;
+        let width = (letters as u64).saturating_mul(62).saturating_add(360);
+        if self.right.saturating_add(width) > WIDTH && self.right > LEFT {
+            self.go_down(170);
+            self.right = LEFT;
+        }
+        let x = self.right.min(WIDTH);
+        let y = self.down.saturating_sub(90).min(u64::MAX - 110);
+        self.right = x.saturating_add(width);
+        if sample.is_empty() {
+            return self.say("t", x, 0, words, &[]);
+        }
+        let (ends, base) = ((x + 30, x + 130), y + 100);
+        let places = [x, y, y + 60, ends.0, ends.1, x + 80, base, y + 110, colour];
+        self.put(sample, &places, style);
+        self.say("t", x + 210, 0, words, &[filter]);
+    }
 
-/// Puts some rows.
-fn put_rows(picture: &mut Picture, rows: &[Row]) -> Put {
-    for row in rows {
-        put_row(picture, *row, 0)?;
+    /// Names a filter with its colour, behind the others.
+    pub(crate) fn put_filter(&mut self, filter: u32, is_protected: bool, colour: u64) {
+        let edge = either(is_protected, " e", "");
+        let words = either(is_protected, "{0} protected", "{0} plain");
+        let letters = digits_of(filter).saturating_add(if is_protected { 10 } else { 6 });
+        self.put_row((FILTER, edge, words), letters, colour, u64::from(filter));
     }
-    Ok(())
-}
 
-/// Puts the legend of what lanes say and some more, with a change of schedules or not and with a fault where there is one.
-pub(crate) fn put_legend(picture: &mut Picture, rows: &[Row], has_change: bool) -> Put {
-    begin(picture);
-    put_rows(picture, LANES)?;
-    put_rows(picture, rows)?;
-    if has_change {
-        put_rows(picture, CHANGE)?;
+    /// Puts the legend of what lanes say and some more, with a change of schedules or not and with a fault where there is one.
+    pub(crate) fn put_legend(&mut self, rows: &[Row]) {
+        self.begin_legend();
+        for row in LANES.iter().chain(rows) {
+            self.put_row(*row, row.2.len(), 0, 0);
+        }
+        if self.times.change.is_some() {
+            self.put_row((LINE, "change", "change of schedules"), 19, 0, 0);
+        }
+        if self.fault.0 > 0 {
+            self.put_row((BAR, "b c1", "at fault"), 8, 0, 0);
+        }
     }
-    if picture.port > 0 {
-        put_rows(picture, FAULT)?;
-    }
-    Ok(())
 }

@@ -11,11 +11,8 @@ mod plan;
 mod run;
 mod svg;
 mod time;
-mod times;
-mod windows;
 
 pub use bridge_limits::NoMemory;
 pub use plan::draw_plan;
 pub use run::draw_run;
-pub use time::Part;
-pub use times::LONGEST_HYPERCYCLE;
+pub use time::{LONGEST_HYPERCYCLE, Part};

@@ -1,11 +1,11 @@
 //! A picture that grows downwards, and the one place where forms become SVG. All lengths are tenths of a pixel.
 ghost use Rattle.std.specs.Prelude.{◌≤◌, IfOk, length, string_bytes};
 
-use crate::time::Span;
-use std::alloc::{AllocError, Global};
-
-/// What a layout answers: memory may be refused.
-pub(crate) type Put = Result<(), AllocError>;
+use crate::time::{Part, Span, Times};
+use bridge_config::Plan;
+use bridge_limits::NoMemory;
+use bridge_text::Text;
+use std::alloc::{Allocator, Global};
 
 /// The width of a picture, where the time begins from the left, and the length across which it goes.
 pub(crate) const WIDTH: u64 = 12_000;
@@ -44,64 +44,100 @@ const TOO_MUCH: &str =
     r#"<svg xmlns="http://www.w3.org/2000/svg" width="400" height="40"><text x="10" y="25">too much to draw</text></svg>
 "#;
 
-/// A bar at a place, so wide and high; a text on a line.
-pub(crate) const BAR: &str = r#"<rect class="{a}" x="{0}" y="{1}" width="{2}" height="{3}"/>"#;
+/// A bar at a place, so wide and high; a text up to its words.
+const BAR: &str = r#"<rect class="{a}" x="{0}" y="{1}" width="{2}" height="{3}"/>"#;
 
-pub(crate) const TEXT: &str = r#"<text class="{a}" x="{0}" y="{1}">{b}</text>"#;
+const TEXT: &str = r#"<text class="{a}" x="{0}" y="{1}">"#;
 
-/// A picture of a stretch of time: its shapes, one a line, how far down they go and how far to the right its legend, how many
-/// windows each lane may have, how many lanes have more, and the class of a port that is at fault, of port 0 where none is: only
-/// beside another class, or always.
+/// A picture of a part of a plan in a stretch of time: its shapes, one a line, how far down they go and how far to the right its
+/// legend, how many windows each lane may have, how many lanes have more, and the port and the class that are at fault, of port 0
+/// where none is: only beside another class, or always.
 #[derive(Drop)]
-pub(crate) struct Picture {
-    pub alloc: Global,
+pub(crate) struct Picture<'a, 'b, A: Allocator + Copy> {
+    pub plan: &'a Plan<A>,
+    pub part: Part<'b>,
+    pub times: Times,
     pub span: Span,
-    pub shapes: String,
+    pub shapes: Text<Global>,
     pub down: u64,
     pub right: u64,
     pub most: usize,
     pub bands: u64,
-    pub port: u8,
-    pub class: u8,
-    pub is_beside: bool,
+    pub fault: (u8, u8, bool),
 }
 
-impl Picture {
-    /// A picture with nothing in it.
-    pub(crate) fn new(alloc: Global, span: Span, most: usize) -> Picture {
-        Picture {
-            alloc,
-            span,
-            shapes: String::new(alloc),
-            down: 0,
-            right: LEFT,
-            most,
-            bands: 0,
-            port: 0,
-            class: 0,
-            is_beside: false,
-        }
-    }
-
-    /// Goes further down.
-    pub(crate) fn go_down(&mut self, by: u64) {
-        self.down = self.down.saturating_add(by);
-    }
-
+impl<A: Allocator + Copy> Picture<'_, '_, A> {
     /// A place so far below how far the picture goes.
     pub(crate) fn below(&self, by: u64) -> u64 {
         self.down.saturating_add(by)
     }
 
-    /// Adds the shapes of a form, with its numbers and its words.
-    pub(crate) fn put(&mut self, form: &str, numbers: &[u64], one: &str, other: &str) -> Put {
-        fill(&mut self.shapes, form, numbers, one, other)?;
-        self.shapes.push('\n')
+    /// Goes further down.
+    pub(crate) fn go_down(&mut self, by: u64) {
+        self.down = self.below(by);
     }
 
-    /// Adds a bar over the whole time.
-    pub(crate) fn wide(&mut self, style: &str, height: u64) -> Put {
-        self.put(BAR, &[LEFT, self.down, ACROSS, height], style, "")
+    /// Adds what a form says, with its numbers and its word.
+    pub(crate) fn add(&mut self, form: &str, numbers: &[u64], word: &str) {
+        fill(&mut self.shapes, form, numbers, word);
+    }
+
+    /// The same, and ends the line.
+    pub(crate) fn put(&mut self, form: &str, numbers: &[u64], word: &str) {
+        self.add(form, numbers, word);
+        self.shapes.put("\n");
+    }
+
+    /// Begins a text at a place.
+    pub(crate) fn begin(&mut self, style: &str, x: u64, y: u64) {
+        self.add(TEXT, &[x, y], style);
+    }
+
+    /// Begins a line of text at the left end of the time, so far further down.
+    pub(crate) fn begin_line(&mut self, style: &str, by: u64) {
+        self.go_down(by);
+        self.begin(style, LEFT, self.down);
+    }
+
+    /// Ends a text.
+    pub(crate) fn end(&mut self) {
+        self.shapes.put("</text>\n");
+    }
+
+    /// Adds a text so far below how far the picture goes.
+    pub(crate) fn say(&mut self, style: &str, x: u64, by: u64, form: &str, numbers: &[u64]) {
+        self.begin(style, x, self.below(by));
+        self.add(form, numbers, "");
+        self.end();
+    }
+
+    /// Adds a bar so far below how far the picture goes, so wide and high.
+    pub(crate) fn bar(&mut self, style: &str, x: u64, by: u64, width: u64, height: u64) {
+        self.put(BAR, &[x, self.below(by), width, height], style);
+    }
+
+    /// The picture as an SVG text of at most 2,000,000 octets. Where shapes have no room, it says how many.
+    pub(crate) fn done(self, alloc: Global) -> Result<String, NoMemory>
+        ensures { IfOk result (λ text. length (string_bytes text) ≤ 2000000) }
+    {
+        let high = self.below(150);
+        let shapes = self.shapes.done()?;
+        let mut head = Text::new(alloc);
+        let size = [WIDTH / 10, high / 10, WIDTH, high];
+        fill(&mut head, HEAD, &size, STYLES);
+        let head = head.done()?;
+        let mut svg = Text::new(alloc);
+        let left_out = put_shapes(&mut svg, head.as_str(), shapes.as_str());
+        if left_out > 0 {
+            let numbers = [high.saturating_sub(30), left_out, MOST_OCTETS as u64];
+            fill(&mut svg, LEFT_OUT, &numbers, "");
+        }
+        svg.put("</svg>\n");
+        let svg = svg.done()?;
+        if svg.len() <= MOST_OCTETS {
+            return Ok(svg);
+        }
+        Ok(String::from_str(alloc, TOO_MUCH)?)
     }
 }
 
@@ -110,82 +146,44 @@ pub(crate) fn either(is: bool, yes: &'static str, no: &'static str) -> &'static 
     if is { yes } else { no }
 }
 
-/// What stands for a letter that has a meaning in SVG; nothing for another one.
-fn entity_of(letter: char) -> &'static str {
-    match letter {
-        '&' => "&amp;",
-        '<' => "&lt;",
-        '>' => "&gt;",
-        _ => "",
-    }
-}
-
 /// Writes a word with what has a meaning in SVG escaped.
-fn put_escaped(text: &mut String, word: &str) -> Put {
+fn put_escaped(text: &mut Text<Global>, word: &str) {
     for letter in word.chars() {
-        let entity = entity_of(letter);
-        if entity.is_empty() {
-            text.push(letter)?;
-        } else {
-            text.push_str(entity)?;
+        match letter {
+            '&' => text.put("&amp;"),
+            '<' => text.put("&lt;"),
+            '>' => text.put("&gt;"),
+            _ => text.put(letter.encode_utf8(&mut [0; 4])),
         }
     }
-    Ok(())
 }
 
-/// Writes a form: in place of `{0}`, `{1}` and so on the numbers, at most ten, in place of `{a}` and `{b}` the words.
-pub(crate) fn fill(text: &mut String, form: &str, numbers: &[u64], one: &str, other: &str) -> Put {
-    let mut is_place = false;
-    for letter in form.chars() {
-        if letter == '{' || letter == '}' {
-            is_place = letter == '{';
-        } else if !is_place {
-            text.push(letter)?;
-        } else if let Some(number) = numbers.get((letter as usize).wrapping_sub(48)) {
-            write!(text, "{number}")?;
-        } else if letter == 'a' {
-            put_escaped(text, one)?;
-        } else {
-            put_escaped(text, other)?;
+/// Writes a form: in place of `{0}`, `{1}` and so on the numbers, of `{a}` the word.
+fn fill(text: &mut Text<Global>, form: &str, numbers: &[u64], word: &str) {
+    for part in form.split('{') {
+        let Some((place, rest)) = part.split_once('}') else {
+            text.put(part);
+            continue;
+        };
+        match place.parse::<usize>() {
+            Ok(place) => text.put_number(numbers.get(place).copied().unwrap_or(0)),
+            Err(_) => put_escaped(text, word),
         }
+        text.put(rest);
     }
-    Ok(())
 }
 
-/// A picture as an SVG text of at most 2,000,000 octets. Where shapes have no room, it says how many.
-pub(crate) fn svg_of(picture: &Picture) -> Result<String, AllocError>
-    ensures { IfOk result (λ text. length (string_bytes text) ≤ 2000000) }
-{
-    let mut svg = String::new(picture.alloc);
-    let high = picture.below(150);
-    fill(
-        &mut svg,
-        HEAD,
-        &[WIDTH / 10, high / 10, WIDTH, high],
-        STYLES,
-        "",
-    )?;
-    let left_out = put_shapes(&mut svg, picture.shapes.as_str())?;
-    if left_out > 0 {
-        let numbers = [high.saturating_sub(30), left_out, MOST_OCTETS as u64];
-        fill(&mut svg, LEFT_OUT, &numbers, "", "")?;
-    }
-    svg.push_str("</svg>\n")?;
-    if svg.len() <= MOST_OCTETS {
-        return Ok(svg);
-    }
-    String::from_str(picture.alloc, TOO_MUCH)
-}
-
-/// Writes shapes, and answers how many had no room.
-fn put_shapes(svg: &mut String, shapes: &str) -> Result<u64, AllocError> {
-    let mut left_out: u64 = 0;
+/// Writes a head and the shapes that have room behind it, and answers how many had none.
+fn put_shapes(svg: &mut Text<Global>, head: &str, shapes: &str) -> u64 {
+    svg.put(head);
+    let (mut octets, mut left_out) = (head.len(), 0u64);
     for shape in shapes.split_inclusive('\n') {
-        if svg.len() > MOST_OCTETS - FREE {
+        if octets > MOST_OCTETS - FREE {
             left_out = left_out.saturating_add(1);
         } else {
-            svg.push_str(shape)?;
+            octets = octets.saturating_add(shape.len());
+            svg.put(shape);
         }
     }
-    Ok(left_out)
+    left_out
 }
