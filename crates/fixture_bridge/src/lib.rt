@@ -161,7 +161,7 @@ fn is_listed<X>(list: &[(u32, X)], number: u32) -> bool
 }
 
 /// Whether a plan has what a command names.
-fn has_instance<A: Allocator + Copy>(accepted: &Accepted<A>, clear: Clear, number: u32) -> bool
+pub fn has_instance<A: Allocator + Copy>(accepted: &Accepted<A>, clear: Clear, number: u32) -> bool
     ensures { result ≡ has_instance accepted.now clear number }
 {
     let plan = accepted.plan();
