@@ -28,10 +28,13 @@ fn told_ending<A: Allocator + Copy>(
 ) -> Ending {
     match what {
         "section" => {
-            Ending::made(has_section(outcome, 10) && section(gate, outcome, 10).is_ok())
+            Ending::of(
+                has_section(outcome, 10) && section(gate, outcome, 10).is_ok(),
+                true,
+            )
         }
-        "report" => Ending::made(report(gate, outcome).is_ok()),
-        "line" => Ending::made(summary(gate, outcome).is_ok()),
+        "report" => Ending::of(report(gate, outcome).is_ok(), true),
+        "line" => Ending::of(summary(gate, outcome).is_ok(), true),
         "written" => written_ending(gate, heap, outcome),
         _ => Ending::Whole,
     }
