@@ -1,6 +1,5 @@
 //! The filtering database: where frames go. Sets of ports are numbers: bit n - 1 is 1 where port n is in the set.
 
-use crate::growths::{ending_of, tell_growths};
 use crate::words::{Fault, address_in, first_word, number, number_at, parted, tell, word_at};
 use bridge_forward::{Forwarding, PortSet, StaticEntry, Vlan, laws};
 use std::alloc::{AllocError, Allocator, Global};
@@ -67,7 +66,8 @@ fn bits_of(number: u16) -> u16 {
     if number % 2 == 0 { 2 } else { 32_768 }
 }
 
-fn database_in<A: Allocator + Copy>(alloc: A, lines: &str) -> Result<Forwarding<A>, Fault> {
+/// The database of lines.
+pub fn database_in<A: Allocator + Copy>(alloc: A, lines: &str) -> Result<Forwarding<A>, Fault> {
     let vlans = vlans_in(alloc, lines)?;
     let statics = statics_in(alloc, lines)?;
     Ok(Forwarding::new(alloc, vlans, statics)?)
@@ -86,7 +86,7 @@ pub fn database<H: AllocGlobal + Print>(rt: &H, text: &str) -> io::Result<()> {
     }
 }
 
-fn ask_all<H: AllocGlobal + Print>(
+fn ask_all<H: Print>(
     rt: &H,
     database: &Forwarding<Global>,
     head: &str,
@@ -100,7 +100,6 @@ fn ask_all<H: AllocGlobal + Print>(
             "statics" => tell(rt, line, &database.statics().len())?,
             "each" => tell(rt, line, &found(database))?,
             "laws" => name_laws(rt, line)?,
-            "refuse" => refuse(rt, lines, line)?,
             _ => println!(rt; "{line}")?,
         }
     }
@@ -138,8 +137,4 @@ fn name_laws<H: Print>(rt: &H, line: &str) -> io::Result<()> {
     laws::no_vlan_no_outputs();
     laws::outputs_fit();
     println!(rt; "{line} -> named")
-}
-
-fn refuse<H: AllocGlobal + Print>(rt: &H, lines: &str, line: &str) -> io::Result<()> {
-    tell_growths(rt, line, |gate| ending_of(database_in(gate, lines)))
 }

@@ -2,6 +2,7 @@
 
 use crate::words::{Fault, first_word, number, number_at, parted, small_at, tell, word_at};
 use bridge_frame::{FrameFault, Head, Speed, mark_drop_eligible, occupation, parse};
+use bridge_limits::MOST_CAPTURED;
 use std::alloc::{AllocError, Global};
 use std::io;
 
@@ -48,7 +49,7 @@ fn head_of<H: AllocGlobal + Print>(rt: &H, line: &str) -> io::Result<()> {
 
 /// The head of a frame, where the octets that are captured of it may be so many.
 fn parsed(octets: &[u8], len: u32) -> Option<Result<Head, FrameFault>> {
-    if octets.len() <= 262_144 && octets.len() <= len as usize {
+    if octets.len() <= MOST_CAPTURED as usize && octets.len() <= len as usize {
         Some(parse(octets, len))
     } else {
         None

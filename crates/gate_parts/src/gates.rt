@@ -1,6 +1,5 @@
 //! Stream gates: answers, flags and octets.
 
-use crate::growths::{ending_of, tell_growths};
 use crate::words::{
     Fault, first_word, has, number, number_after, number_at, parted, small_at, tell,
 };
@@ -81,12 +80,7 @@ pub fn gate<H: AllocGlobal + Print>(rt: &H, text: &str) -> io::Result<()> {
 }
 
 /// Asks the gate of a plan, if its priorities are some.
-fn ask_plan<H: AllocGlobal + Print>(
-    rt: &H,
-    plan: GatePlan<Global>,
-    head: &str,
-    lines: &str,
-) -> io::Result<()> {
+fn ask_plan<H: Print>(rt: &H, plan: GatePlan<Global>, head: &str, lines: &str) -> io::Result<()> {
     if !plan.schedule.has_priorities() {
         drop(plan);
         return tell(rt, head, &Fault::NotAllowed);
@@ -97,7 +91,7 @@ fn ask_plan<H: AllocGlobal + Print>(
     done
 }
 
-fn ask_all<H: AllocGlobal + Print>(
+fn ask_all<H: Print>(
     rt: &H,
     gate: &mut StreamGate<Global>,
     head: &str,
@@ -110,7 +104,6 @@ fn ask_all<H: AllocGlobal + Print>(
             "earliest" => tell(rt, line, &gate.earliest())?,
             "flags" => tell(rt, line, &gate.flags())?,
             "clear" => clear(rt, gate, line)?,
-            "refuse" => refuse(rt, head, line)?,
             _ => println!(rt; "{line}")?,
         }
     }
@@ -135,8 +128,4 @@ fn clear<H: Print>(rt: &H, gate: &mut StreamGate<Global>, line: &str) -> io::Res
         gate.clear_octets();
     }
     println!(rt; "{line}")
-}
-
-fn refuse<H: AllocGlobal + Print>(rt: &H, head: &str, line: &str) -> io::Result<()> {
-    tell_growths(rt, line, |gate| ending_of(gate_plan_in(gate, head)))
 }

@@ -1,12 +1,21 @@
-//! Each growth of a call refused in turn.
+//! Each growth of what makes a part refused in turn.
 
-use crate::words::{Fault, tell};
+use crate::databases::database_in;
+use crate::gates::gate_plan_in;
+use crate::lists::lists_in;
+use crate::police::made_in;
+use crate::ports::port_in;
+use crate::streams::table_in;
+use crate::words::{Fault, first_word, parted, tell};
 use fixture_alloc::{Ending, RefusesOne};
-use std::alloc::Global;
+use std::alloc::Allocator;
 use std::io;
 
+/// More growths than any part asks for.
+const NEVER: u64 = 100_000;
+
 /// How a value was made, which is let go.
-pub fn ending_of<T: Drop>(made: Result<T, Fault>) -> Ending {
+fn ending_of<T: Drop>(made: Result<T, Fault>) -> Ending {
     match made {
         Ok(value) => {
             drop(value);
@@ -16,23 +25,38 @@ pub fn ending_of<T: Drop>(made: Result<T, Fault>) -> Ending {
     }
 }
 
-/// Makes a call over and over, its growths from the first on refused in turn, until it asks for fewer. Prints a line with how
-/// many there are, or with the growth that wasn't answered by want of memory.
-pub fn tell_growths<H: AllocGlobal + Print, F: FnMut(&RefusesOne<Global>) -> Ending>(
-    rt: &H,
-    line: &str,
-    mut call: F,
-) -> io::Result<()>
-    requires { F.IsAlwaysCallable call }
-{
-    for n in 1..100_000u64 {
+/// How the part of a paragraph is made.
+fn making<A: Allocator + Copy>(alloc: A, text: &str) -> Ending {
+    let (head, lines) = parted(text);
+    match first_word(head) {
+        "list" => ending_of(lists_in(alloc, head)),
+        "gate" => ending_of(gate_plan_in(alloc, head)),
+        "streams" => ending_of(table_in(alloc, lines, true)),
+        "database" => ending_of(database_in(alloc, lines)),
+        "police" => ending_of(made_in(alloc, lines)),
+        "port" => ending_of(port_in(alloc, head)),
+        _ => Ending::Wrong,
+    }
+}
+
+/// Makes the part behind the first line over and over, its growths from the first on refused in turn, until it asks for fewer.
+/// Prints how many there are, or the one that wasn't answered by want of memory.
+pub fn refuse<H: AllocGlobal + Print>(rt: &H, text: &str) -> io::Result<()> {
+    let (line, part) = parted(text);
+    for n in 1..NEVER {
         let gate = RefusesOne::new(rt.alloc(), n);
-        let ending = call(&gate);
+        let ending = making(&gate, part);
         match (ending, gate.refused()) {
-            (Ending::Whole, false) => return tell(rt, line, &(n - 1)),
+            (Ending::Whole, false) => {
+                tell(rt, line, &(n - 1))?;
+                break;
+            }
             (Ending::NoMemory, true) => {}
-            (ending, refused) => return tell(rt, line, &(n, ending, refused)),
+            (ending, refused) => {
+                tell(rt, line, &(n, ending, refused))?;
+                break;
+            }
         }
     }
-    tell(rt, line, &Ending::Wrong)
+    println!(rt; "{part}")
 }

@@ -19,7 +19,8 @@ mod words;
 use databases::database;
 use frames::frames;
 use gates::gate;
-use lists::{egress, joined, list};
+use growths::refuse;
+use lists::lists;
 use meters::meter;
 use police::police;
 use ports::port;
@@ -53,9 +54,7 @@ fn play<H: AllocGlobal + Print + Files>(rt: &H, path: &str) -> io::Result<()> {
 /// Makes what the first line of a paragraph says, and asks it.
 fn paragraph<H: AllocGlobal + Print>(rt: &H, text: &str) -> io::Result<()> {
     match first_word(parted(text).0) {
-        "list" => list(rt, text),
-        "joined" => joined(rt, text),
-        "egress" => egress(rt, text),
+        "list" => lists(rt, text),
         "meter" => meter(rt, text),
         "gate" => gate(rt, text),
         "frames" => frames(rt, text),
@@ -63,6 +62,7 @@ fn paragraph<H: AllocGlobal + Print>(rt: &H, text: &str) -> io::Result<()> {
         "database" => database(rt, text),
         "police" => police(rt, text),
         "port" => port(rt, text),
+        "refuse" => refuse(rt, text),
         _ => println!(rt; "{text}"),
     }
 }

@@ -3,7 +3,6 @@ ghost use Rattle.std.specs.Prelude.{◌≡◌, true, IfOk};
 ghost use Rattle.bridge_filter.specs.Plans.{KeepsNumbers, is_there};
 
 use crate::gates::gate_plan_in;
-use crate::growths::{ending_of, tell_growths};
 use crate::meters::meter_plan_in;
 use crate::together::{go_together, is_listed};
 use crate::words::{
@@ -86,13 +85,13 @@ fn gates_in<A: Allocator + Copy>(alloc: A, lines: &str) -> Result<Gates<A>, Faul
 
 /// A police, and whether it has gate 1 and meter 5, whose flags can be cleared then.
 #[derive(Drop)]
-struct Made<A: Allocator + Copy> {
+pub struct Made<A: Allocator + Copy> {
     police: Police<A>,
     has_both: bool,
 }
 
 /// The police of the filters, gates and meters of lines.
-fn made_of<A: Allocator + Copy>(alloc: A, lines: &str) -> Result<Made<A>, Fault>
+pub fn made_in<A: Allocator + Copy>(alloc: A, lines: &str) -> Result<Made<A>, Fault>
     ensures gate { IfOk result (λ m. m.has_both ≡ true → is_there 1 m.police.gates ≡ true) }
     ensures meter { IfOk result (λ m. m.has_both ≡ true → is_there 5 m.police.meters ≡ true) }
 {
@@ -129,7 +128,7 @@ fn police_of<A: Allocator + Copy>(
 /// Asks a police.
 pub fn police<H: AllocGlobal + Print>(rt: &H, text: &str) -> io::Result<()> {
     let (head, lines) = parted(text);
-    match made_of(rt.alloc(), lines) {
+    match made_in(rt.alloc(), lines) {
         Ok(made) => {
             let Made {
                 mut police,
@@ -144,7 +143,7 @@ pub fn police<H: AllocGlobal + Print>(rt: &H, text: &str) -> io::Result<()> {
     }
 }
 
-fn ask_all<H: AllocGlobal + Print>(
+fn ask_all<H: Print>(
     rt: &H,
     police: &mut Police<Global>,
     has_both: bool,
@@ -157,7 +156,6 @@ fn ask_all<H: AllocGlobal + Print>(
         match first_word(line) {
             "frame" => frame(rt, police, line)?,
             "clear" => clear(rt, police, has_both, line)?,
-            "refuse" => refuse(rt, lines, line)?,
             _ => show(rt, police, line)?,
         }
     }
@@ -241,8 +239,4 @@ fn show<H: Print>(rt: &H, police: &Police<Global>, line: &str) -> io::Result<()>
         ("holds", Some(filter)) => tell(rt, line, &(filter, police.buckets(filter))),
         _ => println!(rt; "{line}"),
     }
-}
-
-fn refuse<H: AllocGlobal + Print>(rt: &H, lines: &str, line: &str) -> io::Result<()> {
-    tell_growths(rt, line, |gate| ending_of(made_of(gate, lines)))
 }

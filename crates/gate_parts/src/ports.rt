@@ -2,8 +2,7 @@
 ghost use Rattle.std.specs.Prelude.{◌≡◌, true};
 ghost use Rattle.bridge_port.specs.Standing.{NoStartBefore};
 
-use crate::growths::{ending_of, tell_growths};
-use crate::lists::egress_in;
+use crate::lists::lists_in;
 use crate::words::{Fault, first_word, has, number_after, number_at, parted, small_at, tell};
 use bridge_frame::{Speed, occupation};
 use bridge_limits::{END_OF_TIME, LONGEST_FRAME, MOST_ARRIVALS};
@@ -31,13 +30,16 @@ fn speed_in(line: &str) -> Option<Speed> {
 }
 
 /// The port of a line `port mbps NUMBER`, with lists where it has a cycle.
-fn port_in<A: Allocator + Copy>(alloc: A, line: &str, speed: Speed) -> Result<Port<u32, A>, Fault> {
+pub fn port_in<A: Allocator + Copy>(alloc: A, line: &str) -> Result<Port<u32, A>, Fault> {
     let rooms = rooms_in(line);
+    let Some(speed) = speed_in(line) else {
+        return Err(Fault::NotAllowed);
+    };
     if !are_rooms(&rooms) {
         return Err(Fault::NotAllowed);
     }
     let lists = if has(line, "cycle") {
-        Some(egress_in(alloc, line)?)
+        Some(lists_in(alloc, line)?)
     } else {
         None
     };
@@ -59,7 +61,7 @@ fn port_of<H: AllocGlobal + Print>(
     lines: &str,
     speed: Speed,
 ) -> io::Result<()> {
-    match port_in(rt.alloc(), head, speed) {
+    match port_in(rt.alloc(), head) {
         Ok(mut port) => {
             let done = ask_all(rt, &mut port, head, lines, speed);
             drop(port);
@@ -69,7 +71,7 @@ fn port_of<H: AllocGlobal + Print>(
     }
 }
 
-fn ask_all<H: AllocGlobal + Print>(
+fn ask_all<H: Print>(
     rt: &H,
     port: &mut Port<u32, Global>,
     head: &str,
@@ -84,7 +86,6 @@ fn ask_all<H: AllocGlobal + Print>(
             "next" => tell(rt, line, &port.next_start())?,
             "counts" => tell(rt, line, &counts(port))?,
             "laws" => name_laws(rt, line)?,
-            "refuse" => refuse(rt, head, line, speed)?,
             _ => println!(rt; "{line}")?,
         }
     }
@@ -185,8 +186,4 @@ fn name_laws<H: Print>(rt: &H, line: &str) -> io::Result<()> {
     alone_follows::<u32>();
     own_windows_isolate::<u32>();
     println!(rt; "{line} -> named")
-}
-
-fn refuse<H: AllocGlobal + Print>(rt: &H, head: &str, line: &str, speed: Speed) -> io::Result<()> {
-    tell_growths(rt, line, |gate| ending_of(port_in(gate, head, speed)))
 }

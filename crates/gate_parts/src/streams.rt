@@ -1,6 +1,5 @@
 //! Stream identification: handles.
 
-use crate::growths::{ending_of, tell_growths};
 use crate::words::{
     Fault, address_in, first_word, has, number, number_at, parted, small_at, tell, word_at,
 };
@@ -76,7 +75,7 @@ fn push_many<A: Allocator>(entries: &mut Vec<StreamEntry, A>) -> Result<(), Allo
 }
 
 /// The table of the entries of lines, with an index or without.
-fn table_in<A: Allocator + Copy>(
+pub fn table_in<A: Allocator + Copy>(
     alloc: A,
     lines: &str,
     has_index: bool,
@@ -100,7 +99,7 @@ fn table<H: AllocGlobal + Print>(rt: &H, text: &str, has_index: bool) -> io::Res
     match table_in(rt.alloc(), lines, has_index) {
         Ok(table) => {
             println!(rt; "{head}, with an index: {has_index}")?;
-            let done = ask_all(rt, &table, lines, has_index);
+            let done = ask_all(rt, &table, lines);
             drop(table);
             done
         }
@@ -108,18 +107,12 @@ fn table<H: AllocGlobal + Print>(rt: &H, text: &str, has_index: bool) -> io::Res
     }
 }
 
-fn ask_all<H: AllocGlobal + Print>(
-    rt: &H,
-    table: &Ident<Global>,
-    lines: &str,
-    has_index: bool,
-) -> io::Result<()> {
+fn ask_all<H: Print>(rt: &H, table: &Ident<Global>, lines: &str) -> io::Result<()> {
     for line in lines.lines() {
         match first_word(line) {
             "frame" => frame(rt, table, line)?,
             "entries" => tell(rt, line, &table.entries().len())?,
             "each" => tell(rt, line, &found(table))?,
-            "refuse" => refuse(rt, lines, line, has_index)?,
             _ => println!(rt; "{line}")?,
         }
     }
@@ -176,13 +169,4 @@ fn found(table: &Ident<Global>) -> (u64, u64) {
         }
     }
     (found, missed)
-}
-
-fn refuse<H: AllocGlobal + Print>(
-    rt: &H,
-    lines: &str,
-    line: &str,
-    has_index: bool,
-) -> io::Result<()> {
-    tell_growths(rt, line, |gate| ending_of(table_in(gate, lines, has_index)))
 }

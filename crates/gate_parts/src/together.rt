@@ -49,22 +49,34 @@ fn have_all_instances<G, M>(
 ) -> bool
     ensures { result ≡ list_all (λ f. is_there f.1.gate gates.now && is_there_if_any f.1.meter meters.now) filters.now }
 {
-    filters.iter().all(|filter| is_listed(gates, filter.1.gate)
-        && is_listed_if_any(meters, filter.1.meter))
+    match filters {
+        [first, rest @ ..] => {
+            is_listed(gates, first.1.gate)
+                && is_listed_if_any(meters, first.1.meter)
+                && have_all_instances(rest, gates, meters)
+        }
+        [] => true,
+    }
 }
 
 /// Whether the internal priority values of gates are priorities.
 fn have_all_priorities<A: Allocator + Copy>(gates: &[(u32, GatePlan<A>)]) -> bool
     ensures { result ≡ all_have_priorities gates.now }
 {
-    gates.iter().all(|gate| gate.1.schedule.has_priorities())
+    match gates {
+        [first, rest @ ..] => first.1.schedule.has_priorities() && have_all_priorities(rest),
+        [] => true,
+    }
 }
 
 /// Whether meters are within their limits.
 fn are_all_within_limits(meters: &[(u32, MeterPlan)]) -> bool
     ensures { result ≡ all_within_limits meters.now }
 {
-    meters.iter().all(|meter| meter.1.is_within_limits())
+    match meters {
+        [first, rest @ ..] => first.1.is_within_limits() && are_all_within_limits(rest),
+        [] => true,
+    }
 }
 
 /// Whether filters, gates and meters make a police.

@@ -57,7 +57,12 @@ pub fn parted(text: &str) -> (&str, &str) {
 
 /// Whether a line has a word.
 pub fn has(line: &str, name: &str) -> bool {
-    line.split(' ').any(|word| word == name)
+    for word in line.split(' ') {
+        if word == name {
+            return true;
+        }
+    }
+    false
 }
 
 /// The number behind a word of a line.
