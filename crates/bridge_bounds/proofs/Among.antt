@@ -5,9 +5,9 @@ use Rattle.std.proofs.lemmas.Bool.{eqb-true}
 use Rattle.std.proofs.lemmas.Bool.Decides.{nat_tests}
 use Rattle.std.proofs.lemmas.Option.{same_Some}
 use Rattle.bridge_limits.specs.Members.{In}
-use Rattle.bridge_check.proofs.Members.{in_left, in_right}
-use Rattle.bridge_cycle.proofs.Cases.{by_bool}
 use Rattle.bridge_limits.specs.declared.TheConstants.{LONGEST_FRAME}
+use Rattle.bridge_limits.proofs.Members.{in_left, in_right}
+use Rattle.bridge_limits.proofs.Cases.{by_bool}
 use Rattle.bridge_frame.specs.declared.FrameFault.{FrameFault}
 use Rattle.bridge_frame.specs.declared.FrameFault.TheVariants.{TooLong, TooShort}
 use Rattle.bridge_frame.specs.declared.Head.{Head}

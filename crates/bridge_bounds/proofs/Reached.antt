@@ -8,7 +8,7 @@ use Rattle.std.specs.Option.{ForSome}
 use Rattle.std.proofs.lemmas.Bool.{and_parts, eqb-true, not-true, not-false, false≢true, cases_lt}
 use Rattle.std.proofs.lemmas.Option.{same_Some}
 use Rattle.bridge_limits.specs.Members.{In}
-use Rattle.bridge_cycle.proofs.Cases.{by_bool}
+use Rattle.bridge_limits.proofs.Cases.{by_bool}
 use Rattle.bridge_frame.specs.Link.{occupied}
 use Rattle.bridge_gate.specs.declared.schedule.GatePlan.{GatePlan}
 use Rattle.bridge_filter.specs.declared.FilterPlan.{FilterPlan}

@@ -5,7 +5,7 @@ use Rattle.std.proofs.Math.Bool.{and-false}
 use Rattle.std.proofs.lemmas.Bool.{cases_lt}
 use Rattle.std.proofs.lemmas.Bool.Decides.{nat_tests}
 use Rattle.bridge_limits.specs.Members.{In}
-use Rattle.bridge_cycle.proofs.Cases.{by_bool}
+use Rattle.bridge_limits.proofs.Cases.{by_bool}
 use Rattle.bridge_port.specs.Schedule.{Copy, Fate, Full, Never, OfferedUpTo, Queued, Rules, Started, is_started, is_there, waiting}
 use Rattle.bridge_port.specs.Solo.{IsSolo, IsSoloFate}
 use Rattle.bridge_bounds.specs.Bounds.{AreShort, IsLongest}

@@ -5,7 +5,8 @@ use Rattle.std.proofs.lemmas.Option.{same_Some}
 use Rattle.std.proofs.lemmas.Bool.Decides.{nat_tests}
 use Rattle.bridge_limits.specs.Members.{In}
 use Rattle.bridge_limits.specs.declared.TheConstants.{LONGEST_FRAME}
-use Rattle.bridge_cycle.proofs.Cases.{by_bool}
+use Rattle.bridge_limits.proofs.Members.{in_either}
+use Rattle.bridge_limits.proofs.Cases.{by_bool}
 use Rattle.bridge_frame.specs.declared.Head.{Head}
 use Rattle.bridge_frame.specs.declared.FrameFault.{FrameFault}
 use Rattle.bridge_frame.specs.declared.FrameFault.TheVariants.{TooShort, TooLong}
@@ -29,7 +30,7 @@ use Rattle.bridge_semantics.specs.declared.way.Way.{Way}
 use Rattle.bridge_semantics.specs.declared.way.Way.TheVariants.{Malformed, Nowhere, Goes}
 use Rattle.bridge_semantics.specs.Events.{Arrival, Event, Arrived, Cleared, way_of, metered, police_of, steps, count}
 use Rattle.bridge_semantics.specs.Offers.{Offer, offer_by, offer_of_step, offer_on, offer_of, offers}
-use Rattle.bridge_semantics.proofs.Offering.{going_if, in_split}
+use Rattle.bridge_semantics.proofs.Offering.{going_if}
 
 -- THE TIME OF A LENGTH
 
@@ -153,7 +154,7 @@ within_way {A} p n m f out a es o (Goes set handle priority dei sdu) plan listed
 pub within_size : {A : Type 0} (p : Plan A) (n m : ℕ) (f : FilterPlan) (out : PortPlan A) (es : List Event) (o : Offer) → IsPlan p → In (n, f) p.filters → f.max_sdu ≡ Some m → o.item.flow ≡ Some n → In o (offers p out es) → o.item.len ≤ longest_frame m
 within_size p n m f out [] o plan listed size flow i = absurd i
 within_size p n m f out (Cleared clear k ∷ es) o plan listed size flow i = within_size p n m f out es o plan listed size flow i
-within_size p n m f out (Arrived a ∷ es) o plan listed size flow i = elim (in_split o (offer_of p out a es) (offers p out es) i) [
+within_size p n m f out (Arrived a ∷ es) o plan listed size flow i = elim (in_either o (offer_of p out a es) (offers p out es) i) [
   | inl now ↦ within_way p n m f out a es o (way_of p a) plan listed size flow refl now
   | inr later ↦ within_size p n m f out es o plan listed size flow later
 ]

@@ -2,13 +2,13 @@
 use Rattle.std.proofs.Common.{◌≡◌, ℕ, Bool, true, false, List, [], ◌∷◌, ◌++◌, Option, Some, None, nat_lt, refl, sym, ap, ◌∙◌, subst, inl, inr, cond, ◌⊎◌}
 use Rattle.std.specs.Prelude.{flat_map, option_map}
 use Rattle.bridge_limits.specs.Members.{In}
-use Rattle.bridge_cycle.proofs.Cases.{by_bool}
+use Rattle.bridge_limits.proofs.Members.{in_left, in_right}
+use Rattle.bridge_limits.proofs.Cases.{by_bool}
 use Rattle.bridge_filter.specs.declared.FilterPlan.{FilterPlan}
 use Rattle.bridge_config.specs.Model.{Plan}
 use Rattle.bridge_check.specs.declared.fault.CheckFault.{CheckFault}
 use Rattle.bridge_check.specs.Faults.{all_faults, failing_in, failing_of, fault_of, first_fault, first_fault_of, least_fault, lesser_fault, numbered_fault, tests_of}
 use Rattle.bridge_check.proofs.Least.{neither, no_fault, no_first}
-use Rattle.bridge_check.proofs.Members.{in_left, in_right}
 
 abbrev Numbered : Type 0
 Numbered = ℕ × CheckFault

@@ -8,11 +8,3 @@ use Rattle.bridge_check.specs.Reach.{gives, lets}
 pub lets_both : (xs ys : List GateEntry) (priority : Option ℕ) (k : ℕ) → lets (xs ++ ys) priority k ≡ (lets xs priority k || lets ys priority k)
 lets_both xs ys priority k = list_any-append (λ e. gives e priority k) xs ys
 
-pub in_front : {X : Type 0} (x : X) (xs ys : List X) → In x xs → In x (xs ++ ys)
-in_front x [] ys i = absurd i
-in_front x (z ∷ xs) ys (inl e) = inl e
-in_front x (z ∷ xs) ys (inr i) = inr (in_front x xs ys i)
-
-pub in_back : {X : Type 0} (x : X) (xs ys : List X) → In x ys → In x (xs ++ ys)
-in_back x [] ys i = i
-in_back x (z ∷ xs) ys i = inr (in_back x xs ys i)

@@ -4,7 +4,6 @@ pub mod Told
 pub mod Led
 pub mod Others
 pub mod Least
-pub mod Members
 pub mod Among
 pub mod Isolated
 pub mod Sound

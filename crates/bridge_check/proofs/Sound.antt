@@ -12,8 +12,9 @@ use Rattle.std.proofs.lemmas.Slice.Eq.{bytes_eq-Decides}
 use Rattle.bridge_frame.specs.declared.Head.{Head}
 use Rattle.bridge_frame.specs.Frames as frames
 use Rattle.bridge_limits.specs.Members.{In}
+use Rattle.bridge_limits.proofs.Members.{in_left, in_right}
+use Rattle.bridge_limits.proofs.Cases.{by_bool}
 use Rattle.bridge_cycle.specs.declared.timeline.Turn.{Turn}
-use Rattle.bridge_cycle.proofs.Cases.{by_bool}
 use Rattle.bridge_cycle.proofs.Lists.{among}
 use Rattle.bridge_cycle.proofs.Changes.{among_both}
 use Rattle.bridge_gate.specs.declared.gate.GateAnswer.{GateAnswer}
@@ -49,7 +50,6 @@ use Rattle.bridge_check.specs.Sending.{vid_of, priority_of, call_of, class_of}
 use Rattle.bridge_config.proofs.PlanPorts.{port_is}
 use Rattle.bridge_frame.proofs.Heads.{head_few}
 use Rattle.bridge_check.proofs.Heads.{priority_few}
-use Rattle.bridge_check.proofs.Both.{in_front, in_back}
 use Rattle.bridge_check.proofs.Isolated.{each_passes, isolated}
 
 passes_any : {X : Type 0} (t : X → Bool) (xs : List X) (x : X) → In x xs → t x ≡ true → list_any t xs ≡ true
@@ -220,11 +220,11 @@ entry_of (schedule.Joined j) t x h has =
       | inl a ↦
           let (e, i, same) = a in
           let (listed, priority) = state_of j.old.entries e x.state i same before in
-          record { listed = in_front x.state (map (λ (y : GateEntry × ℕ). y.0) j.old.entries) (map (λ (y : GateEntry × ℕ). y.0) j.new.entries) listed; priority = priority }
+          record { listed = in_left x.state (map (λ (y : GateEntry × ℕ). y.0) j.old.entries) (map (λ (y : GateEntry × ℕ). y.0) j.new.entries) listed; priority = priority }
       | inr b ↦
           let (e, i, same) = b in
           let (listed, priority) = state_of j.new.entries e x.state i same after in
-          record { listed = in_back x.state (map (λ (y : GateEntry × ℕ). y.0) j.old.entries) (map (λ (y : GateEntry × ℕ). y.0) j.new.entries) listed; priority = priority }
+          record { listed = in_right x.state (map (λ (y : GateEntry × ℕ). y.0) j.old.entries) (map (λ (y : GateEntry × ℕ). y.0) j.new.entries) listed; priority = priority }
     ]
 
 lookup_by : {A : Type 0} (b : Bool) (x : ℕ × GatePlan A) (xs : List (ℕ × GatePlan A)) (n : ℕ) (g : GatePlan A) → (schedules.has_priorities x.1.schedule && list_all (λ (y : ℕ × GatePlan A). schedules.has_priorities y.1.schedule) xs) ≡ true → cond b (Some x.1) (lookup (nat_eq n) xs) ≡ Some g → (list_all (λ (y : ℕ × GatePlan A). schedules.has_priorities y.1.schedule) xs ≡ true → lookup (nat_eq n) xs ≡ Some g → schedules.has_priorities g.schedule ≡ true) → schedules.has_priorities g.schedule ≡ true

@@ -10,8 +10,8 @@ ghost use Rattle.bridge_check.specs.Acceptable.{IsAcceptable};
 
 use crate::fault::CheckFault;
 use crate::queues::reaches_in;
-use crate::reach::{Reach, reach_of};
-use crate::rules::{Case, first_in, has_catch_all};
+use crate::reach::Reach;
+use crate::rules::{first_in, has_catch_all, tests_of};
 use bridge_config::Plan;
 use bridge_filter::FilterPlan;
 use std::alloc::{AllocError, Allocator};
@@ -82,15 +82,7 @@ fn numbered_fault<A: Allocator + Copy>(
     if !filter.protected {
         return None;
     }
-    let case = Case {
-        plan,
-        reaches,
-        catches,
-        number,
-        filter,
-        reach: reach_of(plan, &filter),
-    };
-    match first_in(&case.tests()) {
+    match first_in(&tests_of(plan, reaches, catches, number, filter)) {
         Some(fault) => Some((number, fault)),
         None => None,
     }

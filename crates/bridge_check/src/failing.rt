@@ -6,8 +6,8 @@ ghost use Rattle.bridge_check.specs.Reached.{reaches_of};
 
 use crate::fault::CheckFault;
 use crate::queues::reaches_in;
-use crate::reach::{Reach, reach_of};
-use crate::rules::{Case, has_catch_all};
+use crate::reach::Reach;
+use crate::rules::{has_catch_all, tests_of};
 use bridge_config::Plan;
 use bridge_filter::FilterPlan;
 use bridge_limits::NoMemory;
@@ -45,15 +45,7 @@ fn push_filter<A: Allocator + Copy>(
     if !filter.protected {
         return Ok(());
     }
-    let case = Case {
-        plan,
-        reaches,
-        catches,
-        number,
-        filter,
-        reach: reach_of(plan, &filter),
-    };
-    push_failing(faults, &case.tests())
+    push_failing(faults, &tests_of(plan, reaches, catches, number, filter))
 }
 
 /// Every test that a protected filter of a plan fails, in the order in which the filters stand there, then in that of the

@@ -1,5 +1,6 @@
 //! The eight tests of a protected filter.
 ghost use Rattle.std.specs.Prelude.{◌≡◌, ◌≤◌, ◌<◌, ◌+◌, Some};
+ghost use Rattle.std.specs.Option.{ForSome};
 ghost use Rattle.bridge_config.specs.Rules.{port_at};
 ghost use Rattle.bridge_check.specs.Reach.{reaches};
 ghost use Rattle.bridge_check.specs.Faults as spec;
@@ -7,7 +8,7 @@ ghost use Rattle.bridge_check.specs.Reached as reached;
 
 use crate::fault::CheckFault;
 use crate::queues::other_at;
-use crate::reach::Reach;
+use crate::reach::{Reach, reach_of};
 use crate::windows::{ever_fits, shared_at};
 use bridge_config::{Plan, PortPlan};
 use bridge_filter::FilterPlan;
@@ -23,15 +24,15 @@ pub(crate) enum QueueTest {
 
 /// A protected filter, with what is asked about it.
 #[derive(Clone, Copy)]
-pub(crate) struct Case<'a, A: Allocator + Copy> {
-    pub plan: &'a Plan<A>,
+struct Case<'a, A: Allocator + Copy> {
+    plan: &'a Plan<A>,
     /// The reach of each filter.
-    pub reaches: &'a [(u32, Reach)],
+    reaches: &'a [(u32, Reach)],
     /// Whether the filter with the greatest number takes every frame.
-    pub catches: bool,
-    pub number: u32,
-    pub filter: FilterPlan,
-    pub reach: Reach,
+    catches: bool,
+    number: u32,
+    filter: FilterPlan,
+    reach: Reach,
 }
 
 /// Whether another filter uses the gate of this one.
@@ -266,7 +267,7 @@ pub(crate) fn first_in(tests: &[Option<CheckFault>]) -> Option<CheckFault>
 
 impl<'a, A: Allocator + Copy> Case<'a, A> {
     /// What each of the eight tests says of the filter, in order.
-    pub(crate) fn tests(&self) -> [Option<CheckFault>; 8]
+    fn tests(&self) -> [Option<CheckFault>; 8]
         requires { reached.IsCase self.now }
         ensures { result ≡ spec.tests_of self.now.plan.now self.now.number self.now.filter }
     {
@@ -291,4 +292,28 @@ impl<'a, A: Allocator + Copy> Case<'a, A> {
             self.first_in_reach(QueueTest::Size),
         ]
     }
+}
+
+/// What each of the eight tests says of a filter with its number, in order.
+pub(crate) fn tests_of<A: Allocator + Copy>(
+    plan: &Plan<A>,
+    reaches: &[(u32, Reach)],
+    catches: bool,
+    number: u32,
+    filter: FilterPlan,
+) -> [Option<CheckFault>; 8]
+    requires reaches { reaches.now ≡ reached.reaches_of plan.now plan.now.filters }
+    requires catches { catches ≡ spec.has_catch_all plan.now.filters }
+    requires sdu { ForSome filter.max_sdu (λ n. n ≤ 65535) }
+    ensures { result ≡ spec.tests_of plan.now number filter }
+{
+    let case = Case {
+        plan,
+        reaches,
+        catches,
+        number,
+        filter,
+        reach: reach_of(plan, &filter),
+    };
+    case.tests()
 }

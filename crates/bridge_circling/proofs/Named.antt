@@ -5,10 +5,12 @@ use Rattle.std.specs.Str.{bytes_eq}
 use Rattle.std.proofs.lemmas.Bool.{and_parts, eqb-true}
 use Rattle.std.proofs.lemmas.Slice.Eq.{bytes_eq-Decides}
 use Rattle.bridge_limits.specs.Members.{In}
+use Rattle.bridge_limits.proofs.Cases.{by_bool}
+use Rattle.bridge_limits.proofs.Members.{in_end, in_left}
 use Rattle.bridge_forward.specs.declared.StaticEntry.{StaticEntry}
 use Rattle.bridge_forward.specs.declared.Vlan.{Vlan}
 use Rattle.bridge_config.specs.Model.{Plan}
-use Rattle.bridge_walks.proofs.Filtered.{by_bool, found, in_back, in_front}
+use Rattle.bridge_walks.proofs.Filtered.{found}
 use Rattle.bridge_circling.specs.declared.groups.Group.{Group}
 use Rattle.bridge_circling.specs.Groups.{all_groups, group_by, has_group, is_one_destination, is_one_group, is_one_vlan, with_group, with_known, with_plan, with_vlan}
 use Rattle.bridge_circling.specs.Circulations.{IsNamed, IsNamedBy, NamesEntry, NamesVlan}
@@ -36,12 +38,12 @@ same_group a b t =
 -- ONE GROUP MORE
 
 in_with : (groups : List Group) (g x : Group) → In x groups → In x (with_group groups g)
-in_with groups g x i = by_bool (has_group groups g) (λ t. rw t i) (λ f. rw f (in_front groups (g ∷ []) x i))
+in_with groups g x i = by_bool (has_group groups g) (λ t. rw t i) (λ f. rw f (in_left x groups (g ∷ []) i))
 
 has_with : (groups : List Group) (g : Group) → In g (with_group groups g)
 has_with groups g = by_bool (has_group groups g)
     (λ t. let f = found (λ (h : Group). is_one_group h g) groups t in rw t (subst (λ h. In h groups) (same_group f.item g f.passes) f.listed))
-    (λ f. rw f (in_back groups (g ∷ []) g (inl refl)))
+    (λ f. rw f (in_end g groups))
 
 -- MANY GROUPS MORE
 

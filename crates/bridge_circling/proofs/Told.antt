@@ -1,10 +1,11 @@
 -- The groups of which rows tell.
 use Rattle.std.proofs.Common.{◌≡◌, ◌<◌, ◌+◌, ℕ, List, [], ◌∷◌, ◌++◌, take, length, get_or, refl, sym, subst, inl, inr, Result, Ok, Err, IfOk, Vec}
 use Rattle.bridge_limits.specs.Members.{In}
+use Rattle.bridge_limits.proofs.Members.{in_end, in_left, in_push}
 use Rattle.bridge_config.specs.Model.{Plan}
 use Rattle.bridge_network.specs.declared.links.Link.{Link}
 use Rattle.bridge_walks.specs.declared.places.Place.{Place}
-use Rattle.bridge_walks.proofs.Filtered.{in_back, in_either, in_front, in_take}
+use Rattle.bridge_walks.proofs.Filtered.{in_take}
 use Rattle.bridge_circling.specs.declared.groups.Group.{Group}
 use Rattle.bridge_circling.specs.declared.circulations.Circulation.{Circulation}
 use Rattle.bridge_circling.specs.Groups.{all_groups}
@@ -32,7 +33,7 @@ pub told_more : {A : Type 0} (plans : List (Plan A)) (links : List Link) (groups
 told_more plans links groups rows more i d at less may is are = rw is (
     let new : Circulation = record { group = get_or groups i d; at = at } in
     record {
-      sound = λ c j. elim (in_either rows (new ∷ []) c j) [
+      sound = λ c j. elim (in_push c new rows j) [
         | inl old ↦ are.sound c old
         | inr last ↦ elim last [
           | inl e ↦ subst (λ r. MayGoRound plans links r.group r.at) (sym e) may
@@ -40,8 +41,8 @@ told_more plans links groups rows more i d at less may is are = rw is (
         ]
       ];
       told = λ g x j round. elim (in_take groups i d g less j) [
-        | inl old ↦ let h = are.told g x old round in record { row = h.row; listed = in_front rows (new ∷ []) h.row h.listed; is = h.is }
-        | inr e ↦ record { row = new; listed = in_back rows (new ∷ []) new (inl refl); is = sym e }
+        | inl old ↦ let h = are.told g x old round in record { row = h.row; listed = in_left h.row rows (new ∷ []) h.listed; is = h.is }
+        | inr e ↦ record { row = new; listed = in_end new rows; is = sym e }
       ];
     })
 

@@ -3,6 +3,7 @@ use Rattle.std.proofs.Common.{◌≡◌, ℕ, ◌-◌, ◌<◌, ◌≤◌, true,
 use Rattle.std.specs.Prelude.{◌⊎◌}
 use Rattle.bridge_limits.specs.Members.{In, AllAfter, Rising}
 use Rattle.bridge_limits.specs.declared.TheConstants.{END_OF_TIME}
+use Rattle.bridge_limits.proofs.Members.{in_push, rising_push}
 use Rattle.bridge_config.specs.declared.command.Command.{Command}
 use Rattle.bridge_config.specs.Model.{Plan}
 use Rattle.bridge_config.specs.Commands.{has_instance, AreCommands, last_moment}
@@ -28,19 +29,6 @@ last_some (d ∷ cs) t c e = last_at d cs c (subst (λ (n : ℕ). Some c ≡ sli
 pub last_none : (cs : List Command) (t : ℕ) → None ≡ slice_get cs (length cs - 1) → t ≡ last_moment t cs
 last_none [] t e = refl
 last_none (d ∷ cs) t e = absurd (some_at d cs (subst (λ (n : ℕ). None ≡ slice_get (d ∷ cs) n) (one_less d cs) e))
-
--- one more at the end of what rises
-after_push : {X : Type 0} (R : X → X → Type 0) (x y : X) (xs : List X) → AllAfter R x xs → R x y → AllAfter R x (xs ++ y ∷ [])
-after_push R x y [] a r = (r, tt)
-after_push R x y (z ∷ xs) a r = (a.0, after_push R x y xs a.1 r)
-
-rising_push : {X : Type 0} (R : X → X → Type 0) (xs : List X) (y : X) → Rising R xs → ((x : X) → In x xs → R x y) → Rising R (xs ++ y ∷ [])
-rising_push R [] y a r = (tt, tt)
-rising_push R (x ∷ xs) y a r = (after_push R x y xs a.0 (r x (inl refl)), rising_push R xs y a.1 (λ z i. r z (inr i)))
-
-in_push : {X : Type 0} (x y : X) (xs : List X) → In x (xs ++ y ∷ []) → In x xs ⊎ (x ≡ y)
-in_push x y [] i = elim i [ inl e ↦ inr e | inr l ↦ absurd l ]
-in_push x y (z ∷ xs) i = elim i [ inl e ↦ inl (inl e) | inr l ↦ elim (in_push x y xs l) [ inl k ↦ inl (inr k) | inr k ↦ inr k ] ]
 
 -- what comes before all of some commands comes before the last one
 before_last : (x : Command) (t : ℕ) (cs : List Command) → x.at ≤ t → AllAfter (λ a b. a.at ≤ b.at) x cs → x.at ≤ last_moment t cs

@@ -3,7 +3,9 @@ use Rattle.std.proofs.Common.{◌≡◌, ℕ, zero, suc, ◌+◌, ◌<◌, ◌�
 use Rattle.std.specs.List.Sorted.{IsPermutation}
 use Rattle.std.proofs.lemmas.List.Sorted.{Contains-permutation, IsPermutation-sym}
 use Rattle.std.proofs.lemmas.Bool.Decides.{nat_tests}
+use Rattle.std.proofs.lemmas.Option.{same_Some}
 use Rattle.bridge_limits.specs.Members.{In, Rising}
+use Rattle.bridge_limits.proofs.Cases.{by_bool}
 use Rattle.bridge_capture.specs.declared.fault.CaptureFault.{CaptureFault}
 use Rattle.bridge_capture.specs.declared.form.Form.{Form}
 use Rattle.bridge_capture.specs.declared.packet.Packet.{Packet}
@@ -13,14 +15,10 @@ use Rattle.bridge_config.proofs.PlanPorts.{there_is}
 use Rattle.bridge_config.specs.declared.ports.PortPlan.{PortPlan}
 use Rattle.bridge_config.specs.Model.{Plan}
 use Rattle.bridge_config.specs.Rules.{port_at}
-use Rattle.bridge_cycle.proofs.Cases.{by_bool}
 use Rattle.bridge_semantics.proofs.Views.{rising_one}
 use Rattle.bridge_inputs.specs.Lanes.{Finds}
 use Rattle.bridge_core.specs.Simulated.{AreNumbers}
 use Rattle.bridge_core.proofs.Sorted.{rising_numbers}
-
-some_is : {X : Type 0} (a b : X) → Some a ≡ Some b → a ≡ b
-some_is a b h = cc
 
 contains_in : {X : Type 0} (xs : List X) (x : X) → Contains xs x → In x xs
 contains_in [] x c = absurd (let l = c.1 in omega (arith, l))
@@ -56,7 +54,7 @@ place_in x (y ∷ xs) (inr i) = let z = place_in x xs i in (suc z.0, z.1)
 
 in_place : {X : Type 0} (x : X) (xs : List X) (i : ℕ) → slice_get xs i ≡ Some x → In x xs
 in_place x [] i e = absurd (cc)
-in_place x (y ∷ xs) zero e = inl (sym (some_is y x e))
+in_place x (y ∷ xs) zero e = inl (sym (same_Some y x e))
 in_place x (y ∷ xs) (suc i) e = inr (in_place x xs i e)
 
 -- each port has its place

@@ -2,6 +2,7 @@
 use Rattle.std.proofs.Common.{◌≡◌, ℕ, zero, suc, ◌+◌, ◌<◌, ◌≤◌, true, List, [], ◌∷◌, ◌++◌, slice_get, arith, refl, ap, sym, subst, ◌∙◌, inl, inr, Option, Some, None}
 use Rattle.std.specs.Prelude.{IfSome, ◌⊎◌, nat_eq, false}
 use Rattle.std.proofs.lemmas.Bool.Decides.{nat_tests}
+use Rattle.std.proofs.lemmas.Option.{same_Some}
 use Rattle.bridge_capture.specs.declared.packet.Packet.{Packet}
 use Rattle.bridge_capture.specs.Grammar.{Captured}
 use Rattle.bridge_capture.specs.Reading.{view}
@@ -18,9 +19,6 @@ use Rattle.bridge_core.specs.Lines.{AreWritten}
 use Rattle.bridge_core.specs.Taking.{AreLater, Follows, HasTaken, IsUnderWay, MayTake}
 use Rattle.bridge_core.proofs.Order.{in_order_next}
 use Rattle.bridge_core.proofs.Steps.{by_order}
-
-some_is : {X : Type 0} (a b : X) → Some a ≡ Some b → a ≡ b
-some_is a b h = cc
 
 merged_each : (commanded : List Input) (frames : ℕ → List Captured) (inputs : List Input) (c : Command) → ((q : ℕ) → of_rank q inputs ≡ streams commanded frames q) → (q : ℕ) → of_rank q (asked c ∷ inputs) ≡ streams (asked c ∷ commanded) frames q
 merged_each commanded frames inputs c h zero = ap (λ l. asked c ∷ l) (h 0)
@@ -53,7 +51,7 @@ command_next remaining contents p texts commanded c next olds b d lanes sources 
     commands = behind_next c next u.inputs after;
   };
   ahead = u.ahead;
-  follow = λ i l e at is. let z = later i l e at is in let y = some_is c.at z.0 z.1 in let x = z.2 in behind c (frame l.number (view e)) (omega (arith, y, x));
+  follow = λ i l e at is. let z = later i l e at is in let y = same_Some c.at z.0 z.1 in let x = z.2 in behind c (frame l.number (view e)) (omega (arith, y, x));
   covered = u.covered;
   stands = stands;
   late = late;
@@ -66,7 +64,7 @@ may_still {G} {A} b c lanes t may plan arrived earliest later = record {
   each = may.each;
   from = may.from;
   known = λ i l e. let k = may.known i l e in (k.0, subst (λ (v : Plan A). port_at v.ports l.number ≡ Some k.0) (sym plan) k.1);
-  onward = λ i l d e a. let z = later i l d e a in let y = some_is t z.0 z.1 in let x = z.2 in omega (arith, y, x, earliest);
+  onward = λ i l d e a. let z = later i l d e a in let y = same_Some t z.0 z.1 in let x = z.2 in omega (arith, y, x, earliest);
   few = let few = may.few in omega (arith, few, arrived);
   rises = may.rises;
 }

@@ -1,19 +1,16 @@
 -- A frame is taken from its lane.
 use Rattle.std.proofs.Common.{◌≡◌, ℕ, ◌<◌, List, length, slice_get, slice_index_or, slice_set, refl, ap, sym, subst, ◌∙◌, Option, Some, None}
-use Rattle.std.proofs.lemmas.Option.{slice_get_read}
+use Rattle.std.proofs.lemmas.Option.{slice_get_read, same_Some}
 use Rattle.bridge_capture.specs.declared.packet.Packet.{Packet}
 use Rattle.bridge_inputs.specs.declared.lane.CaptureReader.{CaptureReader}
 use Rattle.bridge_inputs.specs.Lanes.{IsFirstAt}
 use Rattle.bridge_core.specs.Taking.{HasGiven}
 
-some_is : {X : Type 0} (a b : X) → Some a ≡ Some b → a ≡ b
-some_is a b h = cc
-
 none_some : {X : Type 0} (o : Option X) (a : X) → o ≡ None → o ≡ Some a → ⊥
 none_some o a h k = cc
 
 pub lane_is : {A : Type 0} (lanes : List (CaptureReader A)) (place : ℕ) (first : IsFirstAt lanes place) (l : CaptureReader A) → place < length lanes → l ≡ slice_index_or lanes place l → l ≡ first.lane
-lane_is lanes place first l within is = some_is l first.lane (sym (slice_get_read lanes (length lanes) place l refl within is) ∙ first.there)
+lane_is lanes place first l within is = same_Some l first.lane (sym (slice_get_read lanes (length lanes) place l refl within is) ∙ first.there)
 
 -- there is one
 pub is_ahead : {A : Type 0} (lanes : List (CaptureReader A)) (place : ℕ) (first : IsFirstAt lanes place) (l : CaptureReader A) (o : Option (Packet A)) → place < length lanes → l ≡ slice_index_or lanes place l → o ≡ (slice_index_or lanes place l).ahead → o ≡ None → ⊥

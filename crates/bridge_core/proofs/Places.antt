@@ -3,12 +3,9 @@ use Rattle.std.proofs.Common.{◌≡◌, ◌≢◌, ℕ, zero, suc, ◌+◌, ◌
 use Rattle.std.specs.Prelude.{nat_eq, false}
 use Rattle.std.proofs.lemmas.Bool.Decides.{nat_tests}
 use Rattle.std.proofs.Common.{get_or}
-use Rattle.std.proofs.lemmas.Option.{get_or_from_slice_get, slice_get_within}
+use Rattle.std.proofs.lemmas.Option.{get_or_from_slice_get, slice_get_within, same_Some}
 use Rattle.std.proofs.lemmas.List.Sums.{get_or-le-sum_by, sum_by-set}
 use Rattle.bridge_limits.specs.Members.{AllAfter, Rising}
-
-some_is : {X : Type 0} (a b : X) → Some a ≡ Some b → a ≡ b
-some_is a b h = cc
 
 pub set_here : {X : Type 0} (xs : List X) (i : ℕ) (v : X) → i < length xs → slice_get (slice_set xs i v) i ≡ Some v
 set_here [] i v l = absurd (omega arith)
@@ -35,11 +32,11 @@ sum_at f xs i x e = subst (λ y. f y ≤ sum_by f xs) (get_or_from_slice_get xs 
 
 after_at : {X : Type 0} (R : X → X → Type 0) (x : X) (xs : List X) (i : ℕ) (y : X) → AllAfter R x xs → slice_get xs i ≡ Some y → R x y
 after_at R x [] i y h e = absurd (cc)
-after_at R x (z ∷ xs) zero y h e = subst (R x) (some_is z y e) h.0
+after_at R x (z ∷ xs) zero y h e = subst (R x) (same_Some z y e) h.0
 after_at R x (z ∷ xs) (suc i) y h e = after_at R x xs i y h.1 e
 
 pub rising_at : {X : Type 0} (R : X → X → Type 0) (xs : List X) (i j : ℕ) (x y : X) → Rising R xs → slice_get xs i ≡ Some x → slice_get xs j ≡ Some y → i < j → R x y
 rising_at R [] i j x y r e f l = absurd (cc)
 rising_at R (z ∷ xs) i zero x y r e f l = absurd (omega (arith, l))
-rising_at {X} R (z ∷ xs) zero (suc j) x y r e f l = subst (λ (w : X). R w y) (some_is z x e) (after_at R z xs j y r.0 f)
+rising_at {X} R (z ∷ xs) zero (suc j) x y r e f l = subst (λ (w : X). R w y) (same_Some z x e) (after_at R z xs j y r.0 f)
 rising_at R (z ∷ xs) (suc i) (suc j) x y r e f l = rising_at R xs i j x y r.1 e f (omega (arith, l))

@@ -1,9 +1,10 @@
 -- One frame more is taken, or a run stops.
 use Rattle.std.proofs.Common.{◌≡◌, ◌≢◌, ℕ, zero, suc, ◌+◌, ◌<◌, ◌≤◌, true, false, List, [], ◌∷◌, ◌++◌, length, slice_get, slice_set, arith, refl, ap, sym, subst, ◌∙◌, inl, inr, Option, Some, None, Result, Ok, Err}
 use Rattle.std.specs.Prelude.{nat_eq, ◌⊎◌, IfSome}
-use Rattle.std.proofs.lemmas.Option.{slice_get_within}
+use Rattle.std.proofs.lemmas.Option.{slice_get_within, same_Some}
 use Rattle.std.proofs.lemmas.Bool.Decides.{nat_tests}
 use Rattle.bridge_limits.specs.Members.{Rising}
+use Rattle.bridge_limits.proofs.Cases.{by_bool}
 use Rattle.bridge_capture.specs.declared.fault.CaptureFault.{CaptureFault}
 use Rattle.bridge_capture.specs.declared.fault.CaptureFault.TheVariants as faults
 use Rattle.bridge_capture.specs.declared.packet.Packet.{Packet}
@@ -13,7 +14,6 @@ use Rattle.bridge_capture.specs.Standing.{Gave, RefusedSo, StandsFor}
 use Rattle.bridge_config.specs.declared.ports.PortPlan.{PortPlan}
 use Rattle.bridge_config.specs.Model.{Plan}
 use Rattle.bridge_config.specs.Rules.{port_at}
-use Rattle.bridge_cycle.proofs.Cases.{by_bool}
 use Rattle.bridge_inputs.specs.declared.fault.RunFault.{RunFault}
 use Rattle.bridge_inputs.specs.declared.fault.RunFault.TheVariants as run
 use Rattle.bridge_semantics.specs.Merge.{Input, frame, NotBefore, events, newest}
@@ -26,9 +26,6 @@ use Rattle.bridge_core.specs.Taking.{AreLater, Follows, HasTaken, IsBefore, IsOf
 use Rattle.bridge_core.proofs.Order.{back, frames_here, frames_there, is_same, taken_frame, with_frame}
 use Rattle.bridge_core.proofs.Places.{rising_at, set_here, set_there}
 
-some_is : {X : Type 0} (a b : X) → Some a ≡ Some b → a ≡ b
-some_is a b h = cc
-
 none_some : {X : Type 0} (o : Option X) (a : X) → o ≡ None → o ≡ Some a → ⊥
 none_some o a h k = cc
 
@@ -39,17 +36,17 @@ is_apart a b e same = grind (arith, nat_tests)
 
 pub number_at : {A : Type 0} (lanes : List (CaptureReader A)) (i : ℕ) (l : CaptureReader A) → slice_get lanes i ≡ Some l → slice_get (numbers lanes) i ≡ Some l.number
 number_at [] i l e = absurd (cc)
-number_at (m ∷ lanes) zero l e = ap (λ (z : CaptureReader _). Some z.number) (some_is m l e)
+number_at (m ∷ lanes) zero l e = ap (λ (z : CaptureReader _). Some z.number) (same_Some m l e)
 number_at (m ∷ lanes) (suc i) l e = number_at lanes i l e
 
 pub lane_at : {A : Type 0} (lanes : List (CaptureReader A)) (i q : ℕ) → slice_get (numbers lanes) i ≡ Some q → (l : CaptureReader A) × (slice_get lanes i ≡ Some l) × (l.number ≡ q)
 lane_at [] i q e = absurd (cc)
-lane_at (m ∷ lanes) zero q e = (m, refl, some_is m.number q e)
+lane_at (m ∷ lanes) zero q e = (m, refl, same_Some m.number q e)
 lane_at (m ∷ lanes) (suc i) q e = lane_at lanes i q e
 
 pub numbers_set : {A : Type 0} (lanes : List (CaptureReader A)) (i : ℕ) (l m : CaptureReader A) → slice_get lanes i ≡ Some l → m.number ≡ l.number → numbers (slice_set lanes i m) ≡ numbers lanes
 numbers_set [] i l m e n = absurd (cc)
-numbers_set (k ∷ lanes) zero l m e n = ap (λ (z : ℕ). z ∷ numbers lanes) (n ∙ ap (λ (z : CaptureReader _). z.number) (sym (some_is k l e)))
+numbers_set (k ∷ lanes) zero l m e n = ap (λ (z : ℕ). z ∷ numbers lanes) (n ∙ ap (λ (z : CaptureReader _). z.number) (sym (same_Some k l e)))
 numbers_set (k ∷ lanes) (suc i) l m e n = ap (λ z. k.number ∷ z) (numbers_set lanes i l m e n)
 
 pub by_order : (P : Type 0) (i j : ℕ) → (i < j → P) → (j < i → P) → (i ≡ j → P) → P
@@ -91,8 +88,8 @@ ahead_of : {R A : Type 0} (remaining : R → Option (List ℕ)) (texts : ℕ →
 ahead_of {R} {A} remaining texts frames lanes sources place l m r c ahead rises there within number looks i k s e f =
     by_place (λ j. slice_get (slice_set lanes place m) j ≡ Some k → slice_get (slice_set sources place r) j ≡ Some s → IsAhead k (remaining s) (texts k.number) (with_frame frames l.number c k.number)) place i
     (λ g h.
-    let is : m ≡ k = some_is m k (sym (set_here lanes place m (slice_get_within lanes place l there)) ∙ g) in
-    let rest : r ≡ s = some_is r s (sym (set_here sources place r within) ∙ h) in
+    let is : m ≡ k = same_Some m k (sym (set_here lanes place m (slice_get_within lanes place l there)) ∙ g) in
+    let rest : r ≡ s = same_Some r s (sym (set_here sources place r within) ∙ h) in
     let z : IsAhead m (remaining r) (texts l.number) (with_frame frames l.number c l.number) = subst (IsAhead m (remaining r) (texts l.number)) (sym (frames_here frames l.number c)) looks in
     let y : IsAhead m (remaining r) (texts m.number) (with_frame frames l.number c m.number) = subst (λ (n : ℕ). IsAhead m (remaining r) (texts n) (with_frame frames l.number c n)) (sym number) z in
     subst (λ (w : CaptureReader A). IsAhead w (remaining s) (texts w.number) (with_frame frames l.number c w.number)) is (subst (λ (w : R). IsAhead m (remaining w) (texts m.number) (with_frame frames l.number c m.number)) rest y))
@@ -112,7 +109,7 @@ follow_next : {A : Type 0} (lanes : List (CaptureReader A)) (place : ℕ) (first
 follow_next {A} lanes place first m inputs rises number onward i k d e h =
     by_place (λ j. slice_get (slice_set lanes place m) j ≡ Some k → NotBefore (frame k.number (view d)) (frame first.lane.number (view first.packet))) place i
     (λ g.
-    let is : m ≡ k = some_is m k (sym (set_here lanes place m (slice_get_within lanes place first.lane first.there)) ∙ g) in
+    let is : m ≡ k = same_Some m k (sym (set_here lanes place m (slice_get_within lanes place first.lane first.there)) ∙ g) in
     let late = onward d (ap (λ (w : CaptureReader A). w.ahead) is ∙ h) in
     let same : k.number ≡ first.lane.number = ap (λ (w : CaptureReader A). w.number) (sym is) ∙ number in
     no_sooner first.lane.number k.number (view first.packet) (view d) same late)
@@ -265,7 +262,7 @@ module _ {R W G A : Type 0} (remaining : R → Option (List ℕ)) (contents : W 
       others = λ q out e n.
           let z = port_looks q out e in
           let apart : nat_eq q first.lane.number ≡ false = by_bool (nat_eq q first.lane.number) (λ h. absurd (n (is_same q first.lane.number h))) (λ h. h) in
-          let elsewhere : z.0 ≢ place = λ h. n (sym z.3 ∙ ap (λ (w : CaptureReader A). w.number) (some_is z.1 first.lane (sym (subst (λ (k : ℕ). slice_get lanes k ≡ Some z.1) h z.2) ∙ first.there))) in
+          let elsewhere : z.0 ≢ place = λ h. n (sym z.3 ∙ ap (λ (w : CaptureReader A). w.number) (same_Some z.1 first.lane (sym (subst (λ (k : ℕ). slice_get lanes k ≡ Some z.1) h z.2) ∙ first.there))) in
           subst (λ taken. LooksOn (texts q) q taken (frame first.lane.number (view first.packet) ∷ u.inputs)) (sym (frames_there u.frames first.lane.number (view first.packet) q apart))
           (looks_of (texts q) q (u.frames q) (frame first.lane.number (view first.packet) ∷ u.inputs) z.1.ahead z.4 (λ d h. subst (λ (k : ℕ). NotBefore (frame k (view d)) (frame first.lane.number (view first.packet))) z.3 (is_next lanes place first may.rises z.0 z.1 d z.2 h elsewhere)));
       reaches = reaches;
@@ -287,7 +284,7 @@ module _ {R W G A : Type 0} (remaining : R → Option (List ℕ)) (contents : W 
           inr (sym same, subst (λ (n : ℕ). RefusedSo faults.NoMemory (rests n) (texts n) (with_frame u.frames first.lane.number (view first.packet) n)) (sym same) here))
           (λ apart.
           let z = port_looks q out e in
-          let elsewhere : z.0 ≢ place = λ h. absurd (let w : q ≡ first.lane.number = sym z.3 ∙ ap (λ (w : CaptureReader A). w.number) (some_is z.1 first.lane (sym (subst (λ (k : ℕ). slice_get lanes k ≡ Some z.1) h z.2) ∙ first.there)) in is_apart q first.lane.number apart w) in
+          let elsewhere : z.0 ≢ place = λ h. absurd (let w : q ≡ first.lane.number = sym z.3 ∙ ap (λ (w : CaptureReader A). w.number) (same_Some z.1 first.lane (sym (subst (λ (k : ℕ). slice_get lanes k ≡ Some z.1) h z.2) ∙ first.there)) in is_apart q first.lane.number apart w) in
           inl (subst (λ taken. LooksFrom (Some first.packet.time) (texts q) q taken (frame first.lane.number (view first.packet) ∷ u.inputs)) (sym (frames_there u.frames first.lane.number (view first.packet) q apart))
           (looks_from (Some first.packet.time) (texts q) q (u.frames q) (frame first.lane.number (view first.packet) ∷ u.inputs) z.1.ahead z.4 (λ d h. subst (λ (k : ℕ). NotBefore (frame k (view d)) (frame first.lane.number (view first.packet))) z.3 (is_next lanes place first may.rises z.0 z.1 d z.2 h elsewhere))
           (λ d h. all_later z.0 z.1 d z.2 h))));

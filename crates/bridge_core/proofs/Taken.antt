@@ -3,7 +3,7 @@ use Rattle.std.proofs.Common.{◌≡◌, ◌≢◌, ℕ, zero, suc, ◌+◌, ◌
 use Rattle.std.specs.Prelude.{OnOk, IfSome, nat_eq, ◌⊎◌, if◌then◌else◌}
 use Rattle.std.proofs.Common.{inl, inr}
 use Rattle.std.specs.Option.{is_some}
-use Rattle.std.proofs.lemmas.Option.{slice_get_within}
+use Rattle.std.proofs.lemmas.Option.{slice_get_within, same_Some}
 use Rattle.bridge_limits.specs.Members.{Rising}
 use Rattle.bridge_capture.specs.declared.fault.CaptureFault.{CaptureFault}
 use Rattle.bridge_capture.specs.declared.fault.CaptureFault.TheVariants as faults
@@ -22,14 +22,11 @@ use Rattle.bridge_core.specs.Taking.{HasGiven, HasLooked, MayTake}
 use Rattle.bridge_core.proofs.Places.{set_here, set_there, sum_at, sum_set}
 use Rattle.bridge_core.proofs.Steps.{by_place, number_at, numbers_set}
 
-pub some_is : {X : Type 0} (a b : X) → Some a ≡ Some b → a ≡ b
-some_is a b h = cc
-
 -- the frame that was taken is the first
 abbrev pub again : {A : Type 0} (lanes new : List (CaptureReader A)) (place : ℕ) (given : ℕ × Packet A) → IsFirstAt lanes place → HasGiven lanes new place given → IsFirstAt lanes place
 again {A} lanes new place given first h =
-    let lane : first.lane ≡ h.lane = some_is first.lane h.lane (sym first.there ∙ h.there) in
-    let same : first.packet ≡ given.1 = some_is first.packet given.1 (sym first.ahead ∙ ap (λ (l : CaptureReader A). l.ahead) lane ∙ h.ahead) in record {
+    let lane : first.lane ≡ h.lane = same_Some first.lane h.lane (sym first.there ∙ h.there) in
+    let same : first.packet ≡ given.1 = same_Some first.packet given.1 (sym first.ahead ∙ ap (λ (l : CaptureReader A). l.ahead) lane ∙ h.ahead) in record {
       lane = h.lane;
       packet = given.1;
       there = h.there;
@@ -75,7 +72,7 @@ pub renewed : {R A : Type 0} (remaining : R → Option (List ℕ)) (lanes given 
 renewed {R} {A} remaining lanes given new sources rest place which result g h =
     let within = slice_get_within lanes place g.lane g.there in
     let here : slice_get given place ≡ Some (record g.lane { ahead = None }) = ap (λ (ls : List (CaptureReader A)). slice_get ls place) g.now ∙ set_here lanes place (record g.lane { ahead = None }) within in
-    renewed_at remaining lanes given new sources rest place result g.lane within g.now h (some_is (record g.lane { ahead = None }) h.was (sym here ∙ h.there))
+    renewed_at remaining lanes given new sources rest place result g.lane within g.now h (same_Some (record g.lane { ahead = None }) h.was (sym here ∙ h.there))
 
 -- what a frame that is taken keeps
 
@@ -89,7 +86,7 @@ pub still_reading : {A : Type 0} (lanes given : List (CaptureReader A)) (place :
 still_reading {A} lanes given place which each g lane e =
     let within = slice_get_within lanes place g.lane g.there in
     let here : slice_get given place ≡ Some (record g.lane { ahead = None }) = ap (λ (ls : List (CaptureReader A)). slice_get ls place) g.now ∙ set_here lanes place (record g.lane { ahead = None }) within in
-    subst (λ (l : CaptureReader A). IsReading l.capture) (some_is (record g.lane { ahead = None }) lane (sym here ∙ e)) (each place g.lane g.there which.1 g.ahead).reading
+    subst (λ (l : CaptureReader A). IsReading l.capture) (same_Some (record g.lane { ahead = None }) lane (sym here ∙ e)) (each place g.lane g.there which.1 g.ahead).reading
 
 pub numbers_given : {A : Type 0} (lanes given : List (CaptureReader A)) (place : ℕ) (which : ℕ × Packet A) → HasGiven lanes given place which → numbers given ≡ numbers lanes
 numbers_given lanes given place which g = ap numbers g.now ∙ numbers_set lanes place g.lane (record g.lane { ahead = None }) g.there refl
@@ -113,7 +110,7 @@ port_known {G} {A} b c lanes given place which may g plan =
 -- at each place of lanes one of which changed
 at_each : {A : Type 0} (P : CaptureReader A → Type 0) (lanes : List (CaptureReader A)) (place : ℕ) (m : CaptureReader A) → place < length lanes → P m → ((i : ℕ) (l : CaptureReader A) → i ≢ place → slice_get lanes i ≡ Some l → P l) → (i : ℕ) (l : CaptureReader A) → slice_get (slice_set lanes place m) i ≡ Some l → P l
 at_each {A} P lanes place m within here there i l e = by_place (λ j. slice_get (slice_set lanes place m) j ≡ Some l → P l) place i
-    (λ h. subst P (some_is m l (sym (set_here lanes place m within) ∙ h)) here)
+    (λ h. subst P (same_Some m l (sym (set_here lanes place m within) ∙ h)) here)
     (λ n h. there i l n (sym (set_there lanes place i m n) ∙ h))
     e
 

@@ -10,11 +10,11 @@ use Rattle.std.proofs.lemmas.List.{length-set, take_more}
 use Rattle.std.proofs.lemmas.List.Elements.{All-nil, All-push}
 use Rattle.bridge_limits.specs.Members.{AllAfter, Rising}
 use Rattle.bridge_limits.specs.declared.TheConstants.{LONGEST_FRAME}
+use Rattle.bridge_limits.proofs.Cases.{by_bool}
 use Rattle.bridge_capture.specs.Grammar.{Captured}
 use Rattle.bridge_capture.specs.Written.{written_header, written_item, written_text}
 use Rattle.bridge_capture.specs.Sinks.{AppendsFront}
 use Rattle.bridge_capture.proofs.Written.{front_of_second, written_more}
-use Rattle.bridge_cycle.proofs.Cases.{by_bool}
 use Rattle.bridge_core.specs.declared.line.Line.{Line}
 use Rattle.bridge_relay.specs.declared.relay.Sent.{Sent}
 use Rattle.bridge_relay.specs.Relays.{captured, one_more}

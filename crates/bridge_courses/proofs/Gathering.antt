@@ -4,6 +4,7 @@ use Rattle.std.proofs.lemmas.List.{append-nil, take_all, take_more}
 use Rattle.std.proofs.lemmas.List.Elements.{filter-append}
 use Rattle.std.proofs.lemmas.List.Sums.{fold-append}
 use Rattle.std.specs.Prelude.{◌↔◌, filter, fold, slice_get}
+use Rattle.bridge_limits.proofs.Cases.{by_bool}
 use Rattle.bridge_network.specs.declared.links.StreamHop.{StreamHop}
 use Rattle.bridge_courses.specs.declared.courses.Course.{Course}
 use Rattle.bridge_courses.specs.declared.courses.Gathered.{Gathered}
@@ -11,10 +12,6 @@ use Rattle.bridge_courses.specs.declared.courses.Gathered.TheVariants as gathere
 use Rattle.bridge_courses.specs.declared.stops.Coming.{Coming}
 use Rattle.bridge_courses.specs.declared.trees.HopQueue.{HopQueue}
 use Rattle.bridge_courses.specs.Courses.{Each, GathersOne, HopPasses, IsToldAt, Parts, Tells, Whether, figures_of, is_of, with_one}
-
-by_bool : {Z : Type 0} (b : Bool) → (b ≡ true → Z) → (b ≡ false → Z) → Z
-by_bool true f g = f refl
-by_bool false f g = g refl
 
 each_push : {X Y : Type 0} (R : X → Y → Type 0) (xs : List X) (ys : List Y) (x : X) (y : Y) → Each R xs ys → R x y → Each R (xs ++ x ∷ []) (ys ++ y ∷ [])
 each_push R [] [] x y each is = (is, tt)

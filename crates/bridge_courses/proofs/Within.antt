@@ -4,7 +4,7 @@ use Rattle.std.proofs.lemmas.Cmp.{nat_eq_equiv}
 use Rattle.std.proofs.lemmas.Option.{same_Some}
 use Rattle.std.specs.Prelude.{MatchOption, filter, fold, slice_get}
 use Rattle.bridge_limits.specs.Members.{In}
-use Rattle.bridge_cycle.proofs.Cases.{by_bool}
+use Rattle.bridge_limits.proofs.Cases.{by_bool}
 use Rattle.bridge_config.specs.Model.{Plan}
 use Rattle.bridge_bounds.specs.Bounds.{HasNoBound}
 use Rattle.bridge_network.specs.declared.links.StreamHop.{StreamHop}

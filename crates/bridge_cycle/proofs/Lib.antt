@@ -1,4 +1,3 @@
-pub mod Cases
 pub mod Searching
 pub mod Turns
 pub mod Totals

@@ -2,10 +2,10 @@ use Rattle.std.proofs.Common.{◌≡◌, ℕ, Bool, true, false, ◌+◌, ◌-�
 use Rattle.std.proofs.lemmas.Bool.{cases_lt, both_ways}
 use Rattle.std.proofs.Math.Nat.{mod-lt}
 use Rattle.std.specs.Prelude.{◌↔◌}
+use Rattle.bridge_limits.proofs.Cases.{by_bool}
 use Rattle.bridge_cycle.specs.Moments.{Fits, Repeats}
 use Rattle.bridge_cycle.specs.Runs.{IsLongestBefore}
 use Rattle.bridge_cycle.proofs.Repeats.{turns, fits_near}
-use Rattle.bridge_cycle.proofs.Cases.{by_bool}
 
 -- what was seen up to a moment: the longest time open without a break, and the one that lasts there
 pub record Ran (opens : ℕ → Bool) (longest run seen : ℕ) : Type 0 where

@@ -3,9 +3,9 @@ use Rattle.std.proofs.Common.{◌≡◌, ◌≢◌, ◌⊎◌, inl, inr, ℕ, ze
 use Rattle.std.specs.Prelude.{nat_eq, nat_le, is_some, slice_get, slice_set, Vec}
 use Rattle.std.proofs.lemmas.Bool.{and_parts, eqb-true, eqb-false}
 use Rattle.std.proofs.lemmas.Bool.Decides.{nat_tests}
-use Rattle.std.proofs.lemmas.Option.{slice_get_within}
+use Rattle.std.proofs.lemmas.Option.{slice_get_within, same_Some}
 use Rattle.bridge_limits.specs.Members.{In}
-use Rattle.bridge_cycle.proofs.Cases.{by_bool}
+use Rattle.bridge_limits.proofs.Cases.{by_bool}
 use Rattle.bridge_core.proofs.Places.{set_here, set_there}
 use Rattle.bridge_network.specs.Networks.{Sender, sender}
 use Rattle.bridge_network.specs.Wiring.{link_of}
@@ -19,9 +19,6 @@ use Rattle.bridge_delays.specs.Tracing.{AddNothing, AreBegun, AreBegunAt, AreFir
 
 head_is : {X : Type 0} (x y : X) (xs ys : List X) → x ∷ xs ≡ y ∷ ys → x ≡ y
 head_is x y xs ys h = cc
-
-pub some_is : {X : Type 0} (a b : X) → Some a ≡ Some b → a ≡ b
-some_is a b h = cc
 
 -- the copies from the first that is due on are some of all
 pub due_in : (q delay at : ℕ) (ds : List Departure) (d : Departure) → In d (due_from q delay at ds) → In d ds
@@ -126,7 +123,7 @@ one_traced {A} links hops all h g mine others made place other q s is_h is_g is_
     (λ e.
     let here : i ≡ place = eqb-true i place e in
     let set : slice_get (slice_set all place made) place ≡ Some made = set_here all place made (slice_get_within all place mine is_mine) in
-    let same : known ≡ made = some_is known made (sym is_known ∙ (ap (slice_get (slice_set all place made)) here ∙ set)) in
+    let same : known ≡ made = same_Some known made (sym is_known ∙ (ap (slice_get (slice_set all place made)) here ∙ set)) in
     let root : slice_get made.items k ≡ Some (Some r) = subst (λ (v : Vec (Option Root) A). slice_get v.items k ≡ Some (Some r)) same is_root in
     let inside = slice_get_within made.items k (Some r) root in
     let within = traced.within in
@@ -176,8 +173,8 @@ first_kept {A} hops all h mine made place q s sent roots is_h is_mine traced are
     let here : 0 ≡ place = eqb-true 0 place e in
     let r : Root = record { number = k + 1; came = o.at } in
     let set : slice_get (slice_set all place made) place ≡ Some made = set_here all place made (slice_get_within all place mine is_mine) in
-    let same : known ≡ made = some_is known made (sym is_known ∙ (ap (slice_get (slice_set all place made)) here ∙ set)) in
-    let own : first ≡ h = some_is first h (sym is_first ∙ (ap (slice_get hops) here ∙ is_h)) in
+    let same : known ≡ made = same_Some known made (sym is_known ∙ (ap (slice_get (slice_set all place made)) here ∙ set)) in
+    let own : first ≡ h = same_Some first h (sym is_first ∙ (ap (slice_get hops) here ∙ is_h)) in
     let was : slice_get mine.items k ≡ Some (Some r) = are first mine k o is_first (ap (slice_get all) here ∙ is_mine) came in
     let own_came : slice_get h.view.now.origins.items k ≡ Some o = subst (λ (g : HopRun A). slice_get g.view.now.origins.items k ≡ Some o) own came in
     let (y, is_y) = there_is made.items k (traced.covers k (slice_get_within mine.items k (Some r) was) (slice_get_within h.view.now.origins.items k o own_came)) in
@@ -207,7 +204,7 @@ exhausted_of s sent roots q origins old new traced nothing k o None came was =
 
 -- one more
 pushed : {X : Type 0} (xs : List X) (x y : X) (b : ℕ) → slice_get (xs ++ x ∷ []) b ≡ Some y → (slice_get xs b ≡ Some y) ⊎ ((b ≡ length xs) × (x ≡ y))
-pushed [] x y zero e = inr (refl, some_is x y e)
+pushed [] x y zero e = inr (refl, same_Some x y e)
 pushed [] x y (suc b) e = absurd (cc)
 pushed (z ∷ xs) x y zero e = inl e
 pushed (z ∷ xs) x y (suc b) e = elim (pushed xs x y b e) [ inl there ↦ inl there | inr here ↦ inr (ap suc here.0, here.1) ]
@@ -248,7 +245,7 @@ begun_more {A} hops all h made is_h begun are i k known r there root = elim (pus
         place = here.0 ∙ eqb-true (length all) 0 e;
         there = ap (slice_get hops) here.0 ∙ is_h;
         came = came;
-        root = some_is r (record { number = k + 1; came = o.at }) is;
+        root = same_Some r (record { number = k + 1; came = o.at }) is;
       })
       (λ e. let none : AreUnknown made.items = rw e at begun in absurd (none k r own))
 ]
@@ -261,13 +258,13 @@ first_begun {A} hops all h made is_h begun are first known k o is_first is_known
   | inr here ↦
       let e : nat_eq (length all) 0 ≡ true = subst (λ (n : ℕ). nat_eq n 0 ≡ true) here.0 refl in
       let whole : AreFirst h.view.now.origins.items made.items = rw e at begun in
-      let own : first ≡ h = some_is first h (sym is_first ∙ (ap (slice_get hops) here.0 ∙ is_h)) in
+      let own : first ≡ h = same_Some first h (sym is_first ∙ (ap (slice_get hops) here.0 ∙ is_h)) in
       let own_came : slice_get h.view.now.origins.items k ≡ Some o = subst (λ (g : HopRun A). slice_get g.view.now.origins.items k ≡ Some o) own came in
       let inside = slice_get_within h.view.now.origins.items k o own_came in
       let many = whole.many in
       let (x, is_x) = there_is made.items k (omega (arith, inside, many)) in
       let (p, there, is) = whole.each k x is_x in
-      let same : p ≡ o = some_is p o (sym there ∙ own_came) in
+      let same : p ≡ o = same_Some p o (sym there ∙ own_came) in
       subst (λ (v : Vec (Option Root) A). slice_get v.items k ≡ Some (Some (record { number = k + 1; came = o.at }))) here.1
       (is_x ∙ ap (λ (z : Option Root). Some z) (is ∙ ap (λ (w : Origin). Some (record { number = k + 1; came = w.at })) same))
 ]
@@ -292,8 +289,8 @@ pub traced_more : (s : Sender) (sent : List Departure) (sent_roots : List (Optio
 traced_more s sent sent_roots q origins old new o x y was came is are k o2 x2 y2 came2 was2 there = elim (pushed new y y2 k there) [
   | inl before ↦ are k o2 x2 y2 came2 was2 before
   | inr here ↦
-      let same_o : o ≡ o2 = some_is o o2 (sym came ∙ (ap (slice_get origins) (sym here.0) ∙ came2)) in
-      let same_x : x ≡ x2 = some_is x x2 (sym was ∙ (ap (slice_get old) (sym here.0) ∙ was2)) in
+      let same_o : o ≡ o2 = same_Some o o2 (sym came ∙ (ap (slice_get origins) (sym here.0) ∙ came2)) in
+      let same_x : x ≡ x2 = same_Some x x2 (sym was ∙ (ap (slice_get old) (sym here.0) ∙ was2)) in
       subst (λ (p : Origin). y2 ≡ traced_at s sent sent_roots q p x2) same_o (subst (λ (p : Option Root). y2 ≡ traced_at s sent sent_roots q o p) same_x (sym here.1 ∙ is))
 ]
 
@@ -305,7 +302,7 @@ pub nothing_more : (old new : List (Option Root)) (n : ℕ) (x y : Option Root)
 nothing_more old new n x y at is before k z l was there = by_bool (nat_eq k n)
     (λ e.
     let here : k ≡ n = eqb-true k n e in
-    let same : y ≡ z = some_is y z (sym at ∙ (ap (slice_get new) (sym here) ∙ there)) in
+    let same : y ≡ z = same_Some y z (sym at ∙ (ap (slice_get new) (sym here) ∙ there)) in
     sym same ∙ is (ap (slice_get old) (sym here) ∙ was))
     (λ e. let apart = eqb-false k n e in before k z (omega (arith, l, apart)) was there)
 
@@ -322,7 +319,7 @@ pub pair_exhausted : {A : Type 0} (hops : List (HopRun A)) (all : List (Vec (Opt
     → slice_get hops i ≡ Some h → slice_get hops j ≡ Some g → slice_get all i ≡ Some mine → slice_get all j ≡ Some others
     → IsExhausted s g.view.now.departures.items others.items q h.view.now.origins.items mine.items → IsPairExhausted hops all s i q j
 pair_exhausted {A} hops all s i q j h g mine others is_h is_g is_mine is_others done h2 g2 mine2 others2 there beyond own known bridge =
-    subst (λ (x : HopRun A). IsExhausted s x.view.now.departures.items others2.items q h2.view.now.origins.items mine2.items) (some_is g g2 (sym is_g ∙ beyond))
-    (subst (λ (x : Vec (Option Root) A). IsExhausted s g.view.now.departures.items x.items q h2.view.now.origins.items mine2.items) (some_is others others2 (sym is_others ∙ known))
-    (subst (λ (x : HopRun A). IsExhausted s g.view.now.departures.items others.items q x.view.now.origins.items mine2.items) (some_is h h2 (sym is_h ∙ there))
-    (subst (λ (x : Vec (Option Root) A). IsExhausted s g.view.now.departures.items others.items q h.view.now.origins.items x.items) (some_is mine mine2 (sym is_mine ∙ own)) done)))
+    subst (λ (x : HopRun A). IsExhausted s x.view.now.departures.items others2.items q h2.view.now.origins.items mine2.items) (same_Some g g2 (sym is_g ∙ beyond))
+    (subst (λ (x : Vec (Option Root) A). IsExhausted s g.view.now.departures.items x.items q h2.view.now.origins.items mine2.items) (same_Some others others2 (sym is_others ∙ known))
+    (subst (λ (x : HopRun A). IsExhausted s g.view.now.departures.items others.items q x.view.now.origins.items mine2.items) (same_Some h h2 (sym is_h ∙ there))
+    (subst (λ (x : Vec (Option Root) A). IsExhausted s g.view.now.departures.items others.items q h.view.now.origins.items x.items) (same_Some mine mine2 (sym is_mine ∙ own)) done)))

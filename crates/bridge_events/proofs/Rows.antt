@@ -2,11 +2,8 @@
 use Rattle.std.proofs.Common.{◌≡◌, ℕ, Bool, true, false, ◌+◌, ◌-◌, ◌<◌, ◌≤◌, arith, refl, sym, subst, inl, inr, Option, Some, None, List, [], ◌∷◌, length, zero, suc}
 use Rattle.std.specs.Prelude.{◌⊎◌, nat_le, nat_lt, if◌then◌else◌, slice_index_or}
 use Rattle.std.proofs.lemmas.Bool.Decides.{nat_tests}
+use Rattle.bridge_limits.proofs.Cases.{by_bool}
 use Rattle.bridge_events.specs.Least.{IsLeast, entry, earlier, in_row}
-
-pub by_bool : {C : Type 0} (b : Bool) → (b ≡ true → C) → (b ≡ false → C) → C
-by_bool true p q = p refl
-by_bool false p q = q refl
 
 -- the moments of the ports up to n
 abbrev pub up_to : ℕ → (ℕ → Option ℕ) → ℕ → Option ℕ

@@ -3,11 +3,9 @@ use Rattle.std.proofs.Common.{◌≡◌, ℕ, zero, suc, ◌<◌, ◌≤◌, map
 use Rattle.std.specs.Io.KnownBytes.{Keeps}
 use Rattle.std.proofs.KnownBytes.{Keeps-refl, Keeps-trans}
 use Rattle.std.proofs.lemmas.List.{length-map, length-take, map-id}
+use Rattle.std.proofs.lemmas.Option.{same_Some}
 use Rattle.bridge_limits.specs.Members.{In}
 use Rattle.bridge_files.specs.Flushed.{AllKept, NoneFailed}
-
-some_is : {X : Type 0} (a b : X) → Some a ≡ Some b → a ≡ b
-some_is a b h = cc
 
 -- one device more
 pub kept_push : {V W : Type 0} (f : V → Option (List ℕ)) (g : W → Option (List ℕ)) (vs : List V) (ws : List W) (v : V) (w : W) → AllKept f g vs ws → Keeps (f v) (g w) → AllKept f g (vs ++ v ∷ []) (ws ++ w ∷ [])
@@ -25,7 +23,7 @@ kept_length f g (x ∷ vs) (y ∷ ws) h = ap suc (kept_length f g vs ws h.1)
 pub kept_at : {V W : Type 0} (f : V → Option (List ℕ)) (g : W → Option (List ℕ)) (vs : List V) (ws : List W) (i : ℕ) (v : V) (w : W) → AllKept f g vs ws → slice_get vs i ≡ Some v → slice_get ws i ≡ Some w → Keeps (f v) (g w)
 kept_at f g [] ws i v w h a b = absurd (cc)
 kept_at f g (x ∷ vs) [] i v w h a b = absurd h
-kept_at {V} {W} f g (x ∷ vs) (y ∷ ws) zero v w h a b = subst (λ (z : W). Keeps (f v) (g z)) (some_is y w b) (subst (λ (z : V). Keeps (f z) (g y)) (some_is x v a) h.0)
+kept_at {V} {W} f g (x ∷ vs) (y ∷ ws) zero v w h a b = subst (λ (z : W). Keeps (f v) (g z)) (same_Some y w b) (subst (λ (z : V). Keeps (f z) (g y)) (same_Some x v a) h.0)
 kept_at f g (x ∷ vs) (y ∷ ws) (suc i) v w h a b = kept_at f g vs ws i v w h.1 a b
 
 pub kept_same : {V : Type 0} (f : V → Option (List ℕ)) (vs : List V) → AllKept f f vs vs
@@ -52,7 +50,7 @@ none_push failed (x ∷ vs) v h e = (h.0, none_push failed vs v h.1 e)
 
 pub none_at : {V : Type 0} (failed : V → Bool) (vs : List V) (i : ℕ) (v : V) → NoneFailed failed vs → slice_get vs i ≡ Some v → failed v ≡ false
 none_at failed [] i v h e = absurd (cc)
-none_at failed (x ∷ vs) zero v h e = ap failed (sym (some_is x v e)) ∙ h.0
+none_at failed (x ∷ vs) zero v h e = ap failed (sym (same_Some x v e)) ∙ h.0
 none_at failed (x ∷ vs) (suc i) v h e = none_at failed vs i v h.1 e
 
 -- what a loop over a list has yielded is a front of it

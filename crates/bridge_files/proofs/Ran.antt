@@ -1,7 +1,7 @@
 -- A run into sinks, as one into the writers behind them.
 use Rattle.std.proofs.Common.{◌≡◌, ℕ, ◌≤◌, inl, inr, Bool, true, false, Option, Some, None, List, [], ◌∷◌, ◌++◌, length, take, drop, slice_get, refl, sym, ap, subst, ◌∙◌, arith, take_all, drop_of_length-le, append-nil, rules, zero, suc, map}
 use Rattle.std.proofs.lemmas.List.{length-map}
-use Rattle.std.proofs.lemmas.Option.{slice_get_within}
+use Rattle.std.proofs.lemmas.Option.{slice_get_within, same_Some}
 use Rattle.std.proofs.KnownBytes.{Appends-kept}
 use Rattle.bridge_capture.specs.Grammar.{Captured}
 use Rattle.bridge_capture.specs.Written.{written_text}
@@ -24,9 +24,6 @@ use Rattle.bridge_core.specs.Taking.{StopsAmong, StopsSo}
 use Rattle.bridge_core.proofs.Simulating.{ports_many}
 use Rattle.bridge_files.specs.Flushed.{AllKept, NoneFailed, StopsFlushed}
 use Rattle.bridge_files.proofs.Kept.{kept_at, kept_length, kept_through, none_at, there}
-
-some_is : {X : Type 0} (a b : X) → Some a ≡ Some b → a ≡ b
-some_is a b h = cc
 
 -- a list that was lent and came back with as many
 pub lent : {X : Type 0} (old new : List X) (n : ℕ) → n ≡ length old → length new ≡ length old → take n (new ++ drop (length new) old) ≡ new
@@ -134,7 +131,7 @@ rest_of asked (p ∷ ports) (s ∷ sources) q = if nat_eq p q then asked s else 
 
 after_at : (p q : ℕ) (ports : List ℕ) (i : ℕ) → AllAfter (λ a b. a < b) p ports → slice_get ports i ≡ Some q → p < q
 after_at p q [] i a e = absurd (cc)
-after_at p q (r ∷ ports) zero a e = subst (λ (z : ℕ). p < z) (some_is r q e) a.0
+after_at p q (r ∷ ports) zero a e = subst (λ (z : ℕ). p < z) (same_Some r q e) a.0
 after_at p q (r ∷ ports) (suc i) a e = after_at p q ports i a.1 e
 
 -- there are such rests of sources
@@ -142,8 +139,8 @@ pub are_rests : {S : Type 0} (asked : S → Option (List ℕ)) (ports : List ℕ
 are_rests asked [] sources r i q s at held = absurd (cc)
 are_rests asked (p ∷ ports) [] r i q s at held = absurd (cc)
 are_rests {S} asked (p ∷ ports) (t ∷ sources) r zero q s at held =
-    let same : p ≡ q = some_is p q at in
-    let is : t ≡ s = some_is t s held in
+    let same : p ≡ q = same_Some p q at in
+    let is : t ≡ s = same_Some t s held in
     ap asked (sym is) ∙ sym (ap (λ b. if b then asked t else rest_of asked ports sources q) (eq-eqb p q same))
 are_rests {S} asked (p ∷ ports) (t ∷ sources) r (suc i) q s at held =
     let less = after_at p q ports i r.0 at in
@@ -183,7 +180,7 @@ tail_is a b xs ys h = cc
 map_at : {X Y Z : Type 0} (f : X → Z) (g : Y → Z) (xs : List X) (ys : List Y) (i : ℕ) (x : X) (y : Y) → map f xs ≡ map g ys → slice_get xs i ≡ Some x → slice_get ys i ≡ Some y → f x ≡ g y
 map_at f g [] ys i x y same a b = absurd (cc)
 map_at f g (u ∷ xs) [] i x y same a b = absurd (cc)
-map_at f g (u ∷ xs) (v ∷ ys) zero x y same a b = ap f (sym (some_is u x a)) ∙ head_is (f u) (g v) (map f xs) (map g ys) same ∙ ap g (some_is v y b)
+map_at f g (u ∷ xs) (v ∷ ys) zero x y same a b = ap f (sym (same_Some u x a)) ∙ head_is (f u) (g v) (map f xs) (map g ys) same ∙ ap g (same_Some v y b)
 map_at f g (u ∷ xs) (v ∷ ys) (suc i) x y same a b = map_at f g xs ys i x y (tail_is (f u) (g v) (map f xs) (map g ys) same) a b
 
 -- the texts of readers are those of the sources before them

@@ -12,7 +12,7 @@ use Rattle.indexmap.specs.Layout.{set_value_at}
 use Rattle.indexmap.proofs.CallerLemmas.{updates-with_value_at}
 use Rattle.bridge_filter.specs.Plans.{KeepsNumbers, is_there}
 use Rattle.std.proofs.lemmas.Bool.{eqb-true, eqb-false}
-use Rattle.bridge_cycle.proofs.Cases.{by_bool}
+use Rattle.bridge_limits.proofs.Cases.{by_bool}
 
 pub same_eq : (n : ℕ) → nat_eq n n ≡ true
 same_eq n = grind (arith, nat_tests)

@@ -1,7 +1,7 @@
 -- What is counted and shown of a filter needs only its own steps.
 use Rattle.std.proofs.Common.{◌≡◌, ℕ, List, [], ◌∷◌, refl, ap, ◌∙◌, sym, Option, Some, None, append-nil}
 use Rattle.std.specs.Prelude.{nat_eq}
-use Rattle.bridge_cycle.proofs.Cases.{by_bool}
+use Rattle.bridge_limits.proofs.Cases.{by_bool}
 use Rattle.bridge_meter.specs.Colours as meter
 use Rattle.bridge_filter.specs.declared.FilterPlan.{FilterPlan}
 use Rattle.bridge_filter.specs.Verdicts.{Plans, Step, Unfiltered, Judged, Commanded}

@@ -6,12 +6,12 @@ use Rattle.std.specs.List.{list_all}
 use Rattle.std.proofs.lemmas.Option.{same_Some}
 use Rattle.std.proofs.Math.Bool.{and-false}
 use Rattle.std.proofs.lemmas.Bool.{and_parts}
+use Rattle.bridge_limits.proofs.Cases.{by_bool}
 use Rattle.bridge_meter.specs.declared.Buckets.{Buckets}
 use Rattle.bridge_meter.specs.declared.MeterPlan.{MeterPlan}
 use Rattle.bridge_meter.specs.Standing as meter
 use Rattle.bridge_gate.specs.declared.schedule.GatePlan.{GatePlan}
 use Rattle.bridge_gate.specs.Standing as gate
-use Rattle.bridge_cycle.proofs.Cases.{by_bool}
 use Rattle.bridge_filter.specs.declared.FilterPlan.{FilterPlan}
 use Rattle.bridge_filter.specs.declared.filter.Filter.{Filter}
 use Rattle.bridge_filter.specs.declared.find.Route.{Route}

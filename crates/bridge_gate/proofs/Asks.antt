@@ -5,10 +5,10 @@ use Rattle.std.proofs.lemmas.Bool.Decides.{nat_tests, Decides-int_eq}
 use Rattle.std.specs.Prelude.{if◌then◌else◌}
 use Rattle.std.specs.Ordering.{int_eq}
 use Rattle.std.proofs.Math.Bool.{and-true, and-false}
+use Rattle.bridge_limits.proofs.Cases.{by_bool}
 use lib.IntN.{ℤ}
 use lib.Signed.{◌≤ℤ◌}
 use Rattle.bridge_cycle.specs.declared.timeline.Turn.{Turn}
-use Rattle.bridge_cycle.proofs.Cases.{by_bool}
 use Rattle.bridge_gate.specs.declared.schedule.GateEntry.{GateEntry}
 use Rattle.bridge_gate.specs.declared.gate.GateAnswer.{GateAnswer}
 use Rattle.bridge_gate.specs.declared.gate.GateAnswer.TheVariants.{Through, Closed, ShutByRx, ShutByOctets, OctetsExceeded}

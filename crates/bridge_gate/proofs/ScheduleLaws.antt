@@ -9,10 +9,10 @@ use Rattle.bridge_cycle.specs.Cyclic as cyclic
 use Rattle.bridge_cycle.specs.Joined as joined
 use Rattle.bridge_cycle.specs.JoinedLaws.{IsTurnOf, list_turned, joined_turned}
 use Rattle.bridge_limits.specs.Members.{In}
+use Rattle.bridge_limits.proofs.Cases.{by_bool}
 use Rattle.bridge_cycle.proofs.Lists.{among}
 use Rattle.bridge_cycle.proofs.Changes.{among_both}
 use Rattle.bridge_cycle.specs.declared.timeline.Turn.{Turn}
-use Rattle.bridge_cycle.proofs.Cases.{by_bool}
 use Rattle.bridge_gate.specs.declared.schedule.GateEntry.{GateEntry}
 use Rattle.bridge_gate.specs.declared.schedule.Schedule.{Schedule}
 use Rattle.bridge_gate.specs.declared.schedule.Schedule.TheVariants.{Fixed, Cyclic, Joined}

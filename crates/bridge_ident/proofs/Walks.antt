@@ -3,6 +3,7 @@ use Rattle.std.proofs.Common.{◌≡◌, ℕ, ◌+◌, ◌<◌, Bool, true, fals
 use Rattle.std.specs.Option.{option_map, option_or}
 use Rattle.std.specs.Str.{bytes_eq}
 use Rattle.std.proofs.lemmas.Bool.{lt-ltb, le-ltb}
+use Rattle.bridge_limits.proofs.Cases.{by_bool}
 use Rattle.bridge_frame.specs.declared.Head.{Head}
 use Rattle.bridge_frame.specs.declared.Tag.{Tag}
 use Rattle.bridge_ident.specs.declared.Kind.{Kind}
@@ -13,11 +14,6 @@ use Rattle.bridge_ident.specs.declared.StreamEntry.{StreamEntry}
 use Rattle.bridge_ident.specs.declared.index.First.{First}
 use Rattle.bridge_ident.specs.Identification.{takes_tag, names_vlan, is_match, handle_in}
 use Rattle.bridge_ident.specs.Firsts.{takes, is_for, is_at, first_from, lesser}
-
--- what follows where a test is true and where it is false
-by_bool : {A : Type 0} (b : Bool) → (b ≡ true → A) → (b ≡ false → A) → A
-by_bool true f g = f refl
-by_bool false f g = g refl
 
 -- what follows for each kind
 by_kind : {A : Type 0} (k : Kind) → (k ≡ Null → A) → (k ≡ Source → A) → A

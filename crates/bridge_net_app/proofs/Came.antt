@@ -1,6 +1,7 @@
 -- What comes to the bridges of a network, bridge by bridge.
 use Rattle.std.proofs.Common.{◌≡◌, ℕ, zero, suc, List, [], ◌∷◌, ◌++◌, length, Some, refl, ap, subst}
 use Rattle.std.specs.Prelude.{slice_get}
+use Rattle.std.proofs.lemmas.Option.{same_Some}
 use Rattle.bridge_config.specs.Model.{Plan}
 use Rattle.bridge_rounds.specs.declared.station.Incoming.{Incoming}
 use Rattle.bridge_rounds.specs.Rounds.{AreIncoming}
@@ -20,15 +21,12 @@ many [] (y ∷ ys) are = absurd are
 many (x ∷ xs) [] are = absurd are
 many (x ∷ xs) (y ∷ ys) are = ap suc (many xs ys are.1)
 
-some_is : {X : Type 0} (a b : X) → Some a ≡ Some b → a ≡ b
-some_is a b h = cc
-
 each : {A : Type 0} (ps : List (Plan A)) (cs : List (Incoming A)) (b : ℕ) (p : Plan A) (c : Incoming A) → AllIncoming ps cs → slice_get ps b ≡ Some p → slice_get cs b ≡ Some c → IsIncoming p c
 each [] [] b p c are is_p is_c = absurd (cc)
 each [] (y ∷ ys) b p c are is_p is_c = absurd are
 each (x ∷ xs) [] b p c are is_p is_c = absurd are
 each (x ∷ xs) (y ∷ ys) zero p c are is_p is_c =
-    subst (λ q. IsIncoming q c) (some_is x p is_p) (subst (λ d. IsIncoming x d) (some_is y c is_c) are.0)
+    subst (λ q. IsIncoming q c) (same_Some x p is_p) (subst (λ d. IsIncoming x d) (same_Some y c is_c) are.0)
 each (x ∷ xs) (y ∷ ys) (suc b) p c are is_p is_c = each xs ys b p c are.1 is_p is_c
 
 -- so can come what comes to all

@@ -3,7 +3,8 @@ use Rattle.std.proofs.Common.{◌≡◌, ◌+◌, ◌-◌, ℕ, zero, suc, List,
 use Rattle.std.specs.Prelude.{slice_get}
 use Rattle.std.proofs.lemmas.List.{length-append}
 use Rattle.bridge_limits.specs.Members.{In}
-use Rattle.bridge_cycle.proofs.Cases.{by_bool}
+use Rattle.bridge_limits.proofs.Members.{in_either}
+use Rattle.bridge_limits.proofs.Cases.{by_bool}
 use Rattle.bridge_filter.specs.Own.{is_number}
 use Rattle.bridge_filter.specs.Verdicts as verdicts
 use Rattle.bridge_filter.specs.declared.Verdict.{Verdict}
@@ -17,7 +18,6 @@ use Rattle.bridge_semantics.specs.declared.way.Way.TheVariants as way
 use Rattle.bridge_semantics.specs.Events.{Arrival, Arrived, Cleared, Event, count, flow_of, metered, origin, origins_of, way_of}
 use Rattle.bridge_semantics.specs.Offers.{Offer, offer_by, offer_of, offer_of_step, offer_on, offers, step_of}
 use Rattle.bridge_semantics.proofs.Numbers.{own_next}
-use Rattle.bridge_semantics.proofs.Offering.{in_split}
 
 -- THE MOMENT OF AN OFFER
 
@@ -78,7 +78,7 @@ pub record CameAs {A : Type 0} (p : Plan A) (n : ℕ) (es : List Event) (o : Off
 pub came_as : {A : Type 0} (p : Plan A) (out : PortPlan A) (n : ℕ) (es : List Event) (o : Offer) → In o (offers p out es) → o.item.flow ≡ Some n → CameAs p n es o
 came_as p out n [] o i flow = absurd i
 came_as p out n (Cleared clear m ∷ es) o i flow = let was = came_as p out n es o i flow in record { origin = was.origin; there = was.there; moment = was.moment }
-came_as p out n (Arrived a ∷ es) o i flow = elim (in_split o (offer_of p out a es) (offers p out es) i) [
+came_as p out n (Arrived a ∷ es) o i flow = elim (in_either o (offer_of p out a es) (offers p out es) i) [
   | inl now ↦
       let next = own_next p out a es n o now flow in
       let own = next.own in

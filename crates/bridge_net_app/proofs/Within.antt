@@ -6,7 +6,8 @@ use Rattle.std.proofs.lemmas.Bool.{and_parts, eq-eqb}
 use Rattle.std.proofs.lemmas.Option.{same_Some}
 use Rattle.std.proofs.Math.Nat.{le-max_left, le-max_right}
 use Rattle.bridge_limits.specs.Members.{AllAfter, In}
-use Rattle.bridge_cycle.proofs.Cases.{by_bool}
+use Rattle.bridge_limits.proofs.Members.{in_either}
+use Rattle.bridge_limits.proofs.Cases.{by_bool}
 use Rattle.bridge_filter.specs.declared.FilterPlan.{FilterPlan}
 use Rattle.bridge_filter.proofs.Members.{member_found}
 use Rattle.bridge_config.specs.declared.ports.PortPlan.{PortPlan}
@@ -16,7 +17,6 @@ use Rattle.bridge_config.proofs.PlanPorts.{number_is}
 use Rattle.bridge_check.specs.Reach.{reaches}
 use Rattle.bridge_semantics.specs.declared.outcome.Departure.{Departure}
 use Rattle.bridge_semantics.specs.declared.outcome.Outcome.{Outcome}
-use Rattle.bridge_semantics.proofs.Offering.{in_split}
 use Rattle.bridge_bounds.proofs.Reached.{class_few, not_reached}
 use Rattle.bridge_netfile.specs.Model.{Stream}
 use Rattle.bridge_netfile.specs.Model as file
@@ -161,7 +161,7 @@ link_within rows hops b q s linked at =
 
 in_flat : {X Y : Type 0} (g : X → List Y) (y : Y) (xs : List X) → In y (flat_map g xs) → (x : X) × In x xs × In y (g x)
 in_flat g y [] i = absurd i
-in_flat g y (x ∷ xs) i = elim (in_split y (g x) (flat_map g xs) i) [ inl here ↦ (x, inl refl, here) | inr later ↦ let (z, listed, of) = in_flat g y xs later in (z, inr listed, of) ]
+in_flat g y (x ∷ xs) i = elim (in_either y (g x) (flat_map g xs) i) [ inl here ↦ (x, inl refl, here) | inr later ↦ let (z, listed, of) = in_flat g y xs later in (z, inr listed, of) ]
 
 delivered_in : (on : Bool) (delay : ℕ) (ds : List ℕ) → In delay (if_delivered on ds) → In delay ds
 delivered_in true delay ds i = absurd i

@@ -7,7 +7,8 @@ use Rattle.std.proofs.lemmas.Bool.{and_parts, cases_lt, or_cases, eqb-true, eqb-
 use Rattle.std.proofs.lemmas.Option.{same_Some}
 use Rattle.std.proofs.lemmas.Slice.Eq.{bytes_eq-Decides}
 use Rattle.bridge_limits.specs.Members.{In}
-use Rattle.bridge_cycle.proofs.Cases.{by_bool}
+use Rattle.bridge_limits.proofs.Members.{in_left, in_right, in_either}
+use Rattle.bridge_limits.proofs.Cases.{by_bool}
 use Rattle.bridge_frame.specs.declared.Head.{Head}
 use Rattle.bridge_frame.specs.declared.FrameFault.{FrameFault}
 use Rattle.bridge_frame.specs.declared.Tag.{Tag}
@@ -44,9 +45,8 @@ use Rattle.bridge_semantics.specs.declared.way.Way.TheVariants.{Goes}
 use Rattle.bridge_semantics.specs.Events.{Arrival, arrival, Event, Arrived, Cleared, way_of, call_by, call_of, flow_of, flow_by, metered}
 use Rattle.bridge_semantics.specs.Offers.{Offer, leaving, offer_by, offer_of_step, step_of, offer_on, offer_of, offers}
 use Rattle.bridge_semantics.proofs.Safe.{IsSafe, alone}
-use Rattle.bridge_semantics.proofs.Offering.{IsGoing, going_if, in_split, offered_by}
+use Rattle.bridge_semantics.proofs.Offering.{IsGoing, going_if, offered_by}
 use Rattle.bridge_network.specs.Feeding.{Sort, tag_of, is_kind, may_match, handles_of, flow_for, reaches_any, is_fed, may_go, sends_from, sends_only, tags_of, gives_to, sort_by, takes_by, takes_only}
-use Rattle.bridge_check.proofs.Members.{in_left, in_right}
 use Rattle.bridge_network.proofs.Members.{map_in}
 use Rattle.bridge_network.proofs.Marking.{plain, SameHead, leaving_head}
 
@@ -103,7 +103,7 @@ from_way p out a es o (way.Goes set handle priority dei sdu) e i j =
 from_events : {A : Type 0} (p : Plan A) (out : PortPlan A) (es : List Event) (o : Offer) → In o (offers p out es) → IsFrom p out o
 from_events p out [] o i = absurd i
 from_events p out (Cleared c m ∷ es) o i = from_events p out es o i
-from_events p out (Arrived a ∷ es) o i = elim (in_split o (offer_of p out a es) (offers p out es) i) [
+from_events p out (Arrived a ∷ es) o i = elim (in_either o (offer_of p out a es) (offers p out es) i) [
   | inl here ↦ from_way p out a es o (way_of p a) refl here here
   | inr more ↦ from_events p out es o more
 ]

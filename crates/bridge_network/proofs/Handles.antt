@@ -4,7 +4,7 @@ use Rattle.std.specs.List.{list_any}
 use Rattle.std.proofs.lemmas.Bool.{and_parts, eqb-true, false≢true}
 use Rattle.std.proofs.lemmas.Option.{same_Some}
 use Rattle.bridge_limits.specs.Members.{In}
-use Rattle.bridge_cycle.proofs.Cases.{by_bool}
+use Rattle.bridge_limits.proofs.Cases.{by_bool}
 use Rattle.bridge_filter.specs.declared.FilterPlan.{FilterPlan}
 use Rattle.bridge_filter.specs.Own.{is_number}
 use Rattle.bridge_filter.specs.Verdicts as verdicts
@@ -39,9 +39,6 @@ has_handle (f ∷ fs) m h e = by_bool (nat_eq f.0 m && f.1.protected)
     let r = has_handle fs m h more in
     record { filter = r.filter; listed = inr r.listed; handle = r.handle })
 
-some_is : (h k : ℕ) → ◌≡◌ {A = Option ℕ} (Some h) (Some k) → h ≡ k
-some_is h k e = same_Some h k e
-
 -- frames that the filter takes have its handle
 pub names_handle : {A : Type 0} (p : Plan A) (m h : ℕ) → IsPlan p → handle_of p.filters m ≡ Some h → (g k : ℕ) → is_number m (flow_for p (Some g) k) ≡ true → g ≡ h
 names_handle p m h plan e g k is =
@@ -49,7 +46,7 @@ names_handle p m h plan e g k is =
     let (x, flows, own) = number_of m (flow_for p (Some g) k) is in
     let there : In x p.filters = flow_listed p.filters (verdicts.call 0 (Some g) k false 0 0) x flows in
     let same : f.filter ≡ x.1 = one_number p.filters m f.filter x.1 plan.filters.own f.listed (subst (λ (z : ℕ). In (z, x.1) p.filters) own there) in
-    some_is g h (flow_handle p.filters (verdicts.call 0 (Some g) k false 0 0) x h flows (ap (λ (z : FilterPlan). z.handle) (sym same) ∙ f.handle))
+    same_Some g h (flow_handle p.filters (verdicts.call 0 (Some g) k false 0 0) x h flows (ap (λ (z : FilterPlan). z.handle) (sym same) ∙ f.handle))
 
 handle_there : (fs : List (ℕ × FilterPlan)) (m : ℕ) → ((f : FilterPlan) → In (m, f) fs → f.protected ≡ true → (h : ℕ) × (f.handle ≡ Some h)) → list_any (λ (f : ℕ × FilterPlan). nat_eq f.0 m && f.1.protected) fs ≡ true → (h : ℕ) × (handle_of fs m ≡ Some h)
 handle_there [] m good e = absurd (false≢true e)

@@ -3,15 +3,14 @@ use Rattle.std.proofs.Common.{◌≡◌, ◌<◌, ◌+◌, ℕ, true, List, [], 
 use Rattle.std.proofs.lemmas.Bool.{eq-eqb}
 use Rattle.std.specs.Prelude.{nat_eq}
 use Rattle.bridge_limits.specs.Members.{In, AllAfter, Rising}
-use Rattle.bridge_cycle.proofs.Cases.{by_bool}
+use Rattle.bridge_limits.proofs.Members.{in_left, in_right, in_either}
+use Rattle.bridge_limits.proofs.Cases.{by_bool}
 use Rattle.bridge_capture.specs.Grammar.{Captured}
 use Rattle.bridge_filter.specs.declared.FilterPlan.{FilterPlan}
 use Rattle.bridge_config.specs.Model.{Plan}
-use Rattle.bridge_check.proofs.Members.{in_left, in_right}
 use Rattle.bridge_semantics.specs.Events.{is_own}
 use Rattle.bridge_semantics.specs.Merge.{Input, frame, of_rank, inputs_of, own_inputs}
 use Rattle.bridge_semantics.specs.Outputs.{LeavesBefore}
-use Rattle.bridge_semantics.proofs.Offering.{in_split}
 use Rattle.bridge_semantics.proofs.Views.{after_all}
 use Rattle.bridge_network.specs.Networks.{later}
 use Rattle.bridge_network.specs.Alone.{IsLater}
@@ -49,7 +48,7 @@ rank_in q x (y ∷ ys) (inr i) e = by_bool (nat_eq y.rank q) (λ k. rw k (inr (r
 -- frames as inputs
 pub in_inputs : (q : ℕ) (x : Input) (cs : List Captured) → In x (inputs_of q cs) → (c : Captured) × In c cs × (x ≡ frame q c)
 in_inputs q x [] i = absurd i
-in_inputs q x (c ∷ cs) i = elim (in_split x (inputs_of q cs) (frame q c ∷ []) i) [
+in_inputs q x (c ∷ cs) i = elim (in_either x (inputs_of q cs) (frame q c ∷ []) i) [
   | inl a ↦ let r = in_inputs q x cs a in (r.0, inr r.1, r.2)
   | inr b ↦ elim b [ inl e ↦ (c, inl refl, e) | inr z ↦ absurd z ]
 ]

@@ -3,7 +3,8 @@ use Rattle.std.proofs.Common.{◌≡◌, ◌<◌, ◌≤◌, ◌+◌, ℕ, zero,
 use Rattle.std.proofs.lemmas.Bool.Decides.{nat_tests}
 use Rattle.std.specs.Prelude.{nat_eq, nat_lt, if◌then◌else◌}
 use Rattle.bridge_limits.specs.Members.{In, Rising}
-use Rattle.bridge_cycle.proofs.Cases.{by_bool}
+use Rattle.bridge_limits.proofs.Members.{in_either}
+use Rattle.bridge_limits.proofs.Cases.{by_bool}
 use Rattle.bridge_capture.specs.Grammar.{Captured}
 use Rattle.bridge_frame.specs.Link.{occupied}
 use Rattle.bridge_frame.proofs.Times.{occupied_some}
@@ -25,7 +26,7 @@ use Rattle.bridge_semantics.specs.Offers.{Carried, Offer, egress, offer_by, offe
 use Rattle.bridge_semantics.specs.Merge.{Input, NotBefore, of_rank, events, newest}
 use Rattle.bridge_semantics.specs.Runs.{AreSolo, IsSoloView, TellTheSame}
 use Rattle.bridge_semantics.proofs.Headline.{in_class_in}
-use Rattle.bridge_semantics.proofs.Offering.{in_split, in_class_join}
+use Rattle.bridge_semantics.proofs.Offering.{in_class_join}
 use Rattle.bridge_semantics.proofs.Views.{after_all, rising_one, same_offers, told_once}
 use Rattle.bridge_semantics.proofs.Merging.{in_at, one_list}
 use Rattle.bridge_network.specs.Networks.{Network, Sender, sender, IsTimed, AreTimed, Hop, hop, IsHop}
@@ -158,7 +159,7 @@ moment_of : {A : Type 0} (p : Plan A) (out : PortPlan A) (a : Arrival) (es : Lis
 moment_of p out a es o i = moment_on p out a es (way_of p a) o i
 
 at_event : {A : Type 0} (p : Plan A) (out : PortPlan A) (e : Event) (es : List Event) (t : ℕ) (o : Offer) → IsTimed t e → In o (offers p out (e ∷ es)) → (o.at ≡ t) ⊎ In o (offers p out es)
-at_event p out (Arrived a) es t o h i = elim (in_split o (offer_of p out a es) (offers p out es) i) [ inl x ↦ inl (moment_of p out a es o x ∙ h) | inr y ↦ inr y ]
+at_event p out (Arrived a) es t o h i = elim (in_either o (offer_of p out a es) (offers p out es) i) [ inl x ↦ inl (moment_of p out a es o x ∙ h) | inr y ↦ inr y ]
 at_event p out (Cleared c m) es t o h i = inr i
 
 -- an offer is of the moment of an input

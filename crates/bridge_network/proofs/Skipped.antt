@@ -1,7 +1,7 @@
 -- Entries that give nothing to a hop.
 use Rattle.std.proofs.Common.{◌≡◌, false, ◌&&◌, List, Option, Some, None, nat_eq, refl}
 use Rattle.std.proofs.lemmas.Bool.{and_parts}
-use Rattle.bridge_cycle.proofs.Cases.{by_bool}
+use Rattle.bridge_limits.proofs.Cases.{by_bool}
 use Rattle.bridge_frame.specs.declared.Tag.{Tag}
 use Rattle.bridge_ident.specs.declared.StreamEntry.{StreamEntry}
 use Rattle.bridge_ident.specs.Identification.{takes_tag}

@@ -4,8 +4,9 @@ use Rattle.std.specs.Prelude.{nat_eq, MatchOption}
 use Rattle.std.specs.Map.{lookup}
 use Rattle.std.proofs.lemmas.Option.{same_Some}
 use Rattle.bridge_limits.specs.Members.{In, Rising}
+use Rattle.bridge_limits.proofs.Members.{in_either}
+use Rattle.bridge_limits.proofs.Cases.{by_bool}
 use Rattle.bridge_cycle.specs.Moments.{IsFirst, Repeats}
-use Rattle.bridge_cycle.proofs.Cases.{by_bool}
 use Rattle.bridge_frame.specs.Link.{occupied}
 use Rattle.bridge_frame.proofs.Times.{occupied_some}
 use Rattle.bridge_filter.specs.declared.FilterPlan.{FilterPlan}
@@ -31,7 +32,6 @@ use Rattle.bridge_semantics.specs.Merge.{Input}
 use Rattle.bridge_semantics.specs.Offers.{Carried, Offer, egress, in_class, offer_by, offer_of, offer_of_step, offer_on, offers, step_of}
 use Rattle.bridge_semantics.specs.Runs.{AreOwnQueues, AreWhole, IsRun}
 use Rattle.bridge_semantics.proofs.Headline.{as_offer, in_class_in, in_offered, own_alone, own_flow}
-use Rattle.bridge_semantics.proofs.Offering.{in_split}
 use Rattle.bridge_bounds.specs.Bounds.{IsBound}
 use Rattle.bridge_bounds.proofs.Reached.{class_few, longest_fits}
 use Rattle.bridge_bounds.proofs.Sizes.{occupied_rises, within_size}
@@ -142,7 +142,7 @@ offered_long p out t next [] o h i = absurd i
 offered_long p out t next (Cleared clear n ∷ es) o h i = offered_long p out t next es o h i
 offered_long p out t next (Arrived a ∷ es) o h i =
     let (m, multiple, before, low, high, least, most, rest) = h in
-    elim (in_split o (offer_of p out a es) (offers p out es) i) [
+    elim (in_either o (offer_of p out a es) (offers p out es) i) [
       | inl now ↦
           let len = long_on_way p out a es o (way_of p a) now in
           record { least = omega (arith, len, least); longest = omega (arith, len, most) }

@@ -9,15 +9,14 @@ use Rattle.std.proofs.Math.Nat.{mod-lt}
 use Rattle.std.proofs.lemmas.Bool.{false≢true, eqb-true}
 use Rattle.std.proofs.lemmas.Cmp.{nat_eq_equiv}
 use Rattle.bridge_limits.specs.Members.{In, AllAfter, Rising}
-use Rattle.bridge_cycle.proofs.Cases.{by_bool}
+use Rattle.bridge_limits.proofs.Members.{in_left, in_push, rising_push}
+use Rattle.bridge_limits.proofs.Cases.{by_bool}
 use Rattle.bridge_filter.specs.declared.FilterPlan.{FilterPlan}
 use Rattle.bridge_config.specs.declared.ports.PortPlan.{PortPlan}
 use Rattle.bridge_config.specs.Model.{Plan}
 use Rattle.bridge_config.specs.Rules.{port_at}
-use Rattle.bridge_check.proofs.Members.{in_left}
 use Rattle.bridge_check.specs.Reach.{reaches}
 use Rattle.bridge_bounds.specs.Bounds.{HasNoBound, IsBound}
-use Rattle.bridge_relay.proofs.Sound.{in_push, rising_push}
 use Rattle.bridge_planning.specs.declared.bounds.QueueBound.{QueueBound}
 use Rattle.bridge_planning.specs.Streams.{AreBoundsOf}
 use Rattle.bridge_planning.specs.Bounds.{AreBounds, AreUpTo, IsBefore, IsDone, place_of, queue_bound}

@@ -7,7 +7,7 @@ use Rattle.std.proofs.lemmas.Nat.{div-add-mod'}
 use Rattle.std.proofs.Math.Nat.{mod-le, mul-le-mul_right}
 use Rattle.std.specs.Prelude.{MatchOption, nat_eq, nat_le, nat_lt, ◌&&◌, slice_get}
 use Rattle.bridge_limits.specs.Members.{In, Rising}
-use Rattle.bridge_cycle.proofs.Cases.{by_bool}
+use Rattle.bridge_limits.proofs.Cases.{by_bool}
 use Rattle.bridge_capture.specs.Grammar.{Captured}
 use Rattle.bridge_frame.specs.Link.{occupied}
 use Rattle.bridge_filter.specs.declared.Clear.{Clear}

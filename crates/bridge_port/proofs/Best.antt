@@ -7,10 +7,10 @@ use Rattle.std.proofs.lemmas.Grind.{common_steps}
 use Rattle.std.proofs.lemmas.List.{get_or_past}
 use Rattle.std.proofs.lemmas.Option.{same_Some, none-some}
 use Rattle.bridge_limits.specs.declared.TheConstants.{LONGEST_FRAME}
+use Rattle.bridge_limits.proofs.Cases.{by_bool}
 use Rattle.bridge_frame.specs.declared.Speed.{Speed}
 use Rattle.bridge_frame.specs.Link.{occupied}
 use Rattle.bridge_cycle.specs.Moments.{Fits, IsFirst}
-use Rattle.bridge_cycle.proofs.Cases.{by_bool}
 use Rattle.bridge_port.specs.declared.item.Item.{Item}
 use Rattle.bridge_port.specs.Heads.{IsFit, is_past, IsSoonest, IsBest, sooner, sooner_of, StartsNext, AreFits}
 use Rattle.bridge_port.specs.Standing.{State, IsIdle, AllStartable, NoStartBefore, queue_of}

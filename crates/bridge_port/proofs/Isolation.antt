@@ -3,8 +3,8 @@ use Rattle.std.proofs.lemmas.Bool.Decides.{nat_tests}
 use Rattle.std.specs.Prelude.{nat_le, nat_lt, nat_eq, ◌&&◌}
 use Rattle.std.proofs.lemmas.Option.{same_Some}
 use Rattle.std.proofs.Math.Bool.{and-false}
+use Rattle.bridge_limits.proofs.Cases.{by_bool}
 use Rattle.bridge_cycle.specs.Moments.{Fits}
-use Rattle.bridge_cycle.proofs.Cases.{by_bool}
 use Rattle.bridge_port.specs.Schedule.{Fate, Never, Full, Queued, Started, Copy, Rules, is_there, occupies, waiting, is_free, head, fate_at, IsAnswer, Answered, IsStart, StartsFit, Apart, ApartFrom, AllApart, InTurn, InTurnWith, AllInTurn, OfferedUpTo, IsLawful, is_queued}
 use Rattle.bridge_port.specs.Solo.{done_or, only, last_done, IsSoloFate, IsSolo, IsWhole, HasOwnWindow}
 use Rattle.bridge_port.proofs.Laws.{fate_older}

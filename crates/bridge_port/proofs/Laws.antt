@@ -5,7 +5,7 @@ use Rattle.std.specs.Prelude.{nat_eq}
 use Rattle.std.proofs.Math.Bool.{and-false}
 use Rattle.bridge_cycle.specs.Moments.{Fits}
 use Rattle.bridge_limits.specs.Members.{In}
-use Rattle.bridge_cycle.proofs.Cases.{by_bool}
+use Rattle.bridge_limits.proofs.Cases.{by_bool}
 use Rattle.bridge_port.specs.Schedule.{Fate, Never, Full, Queued, Started, Copy, Rules, occupies, is_free, head, older_or, fate_at, IsAnswer, IsStart, StartsFit, Apart, ApartFrom, InTurn, InTurnWith, OfferedUpTo, Serves, IsLawful}
 
 -- A later moment at which nothing was missed.

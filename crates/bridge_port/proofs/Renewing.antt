@@ -4,10 +4,10 @@ use Rattle.std.proofs.lemmas.Bool.Decides.{nat_tests}
 use Rattle.std.proofs.lemmas.Bool.{cases_order}
 use Rattle.std.specs.Prelude.{IsSome, nat_lt, nat_eq, slice_index_or, slice_get, slice_set, drop, sum_by, count_by}
 use Rattle.bridge_limits.specs.declared.TheConstants.{END_OF_TIME, LONGEST_FRAME, MOST_ARRIVALS}
+use Rattle.bridge_limits.proofs.Cases.{by_bool}
 use Rattle.bridge_frame.specs.Link.{occupied}
 use Rattle.bridge_frame.specs.declared.Speed.{Speed}
 use Rattle.bridge_cycle.specs.Moments.{IsFirst}
-use Rattle.bridge_cycle.proofs.Cases.{by_bool}
 use Rattle.bridge_port.specs.declared.item.Item.{Item}
 use Rattle.bridge_port.specs.Heads.{IsFit, is_past, IsBest, sooner, GainsHead, AreFits, KeepsHeads, StartsNext}
 use Rattle.bridge_port.specs.Standing.{State, count_queued, queue_of, queues_with, IsKept, IsNext, NoStartBefore, started_state}

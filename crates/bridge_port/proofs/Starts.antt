@@ -2,8 +2,8 @@ use Rattle.std.proofs.Common.{◌≡◌, ℕ, Bool, true, false, ◌+◌, ◌<�
 use Rattle.std.proofs.lemmas.Bool.Decides.{nat_tests}
 use Rattle.std.proofs.lemmas.Bool.{cases_lt, and_parts, or_parts, eq-eqb, le-ltb}
 use Rattle.std.specs.Prelude.{nat_le, nat_lt, nat_eq, not, ◌&&◌}
+use Rattle.bridge_limits.proofs.Cases.{by_bool}
 use Rattle.bridge_cycle.specs.Moments.{Fits}
-use Rattle.bridge_cycle.proofs.Cases.{by_bool}
 use Rattle.bridge_port.specs.Schedule.{Fate, Never, Full, Queued, Started, Copy, Rules, is_there, occupies, waiting, is_free, head, fate_at, IsAnswer, Answered, IsStart, StartsFit, Apart, ApartFrom, AllApart, InTurn, InTurnWith, AllInTurn, OfferedUpTo, Serves, IsLawful, is_queued, has_queued, queue, Begun, here, there}
 use Rattle.bridge_port.proofs.Laws.{offered_later, starts_later, fate_older}
 

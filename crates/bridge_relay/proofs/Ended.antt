@@ -5,9 +5,11 @@ use Rattle.std.specs.Map.{lookup}
 use Rattle.std.specs.Option.{is_some}
 use Rattle.std.proofs.Math.Numerals.{add-one}
 use Rattle.std.proofs.lemmas.Bool.Decides.{nat_tests}
+use Rattle.std.proofs.lemmas.Option.{same_Some}
 use Rattle.bridge_limits.specs.Members.{AllAfter, In, Rising}
+use Rattle.bridge_limits.proofs.Members.{rising_push, in_push}
+use Rattle.bridge_limits.proofs.Cases.{by_bool}
 use Rattle.bridge_capture.specs.Grammar.{Captured}
-use Rattle.bridge_cycle.proofs.Cases.{by_bool}
 use Rattle.bridge_filter.specs.declared.FilterPlan.{FilterPlan}
 use Rattle.bridge_filter.specs.declared.Verdict.{Verdict}
 use Rattle.bridge_filter.specs.Plans.{is_there}
@@ -35,12 +37,9 @@ use Rattle.bridge_relay.specs.Relays.{RelayState, Stands, IsSound, seen}
 use Rattle.bridge_state.specs.Ports.{AreAlike, IsMade}
 use Rattle.bridge_relay.proofs.Ending.{stood, run_of, output_of, whole_of, not_before_none}
 use Rattle.bridge_relay.proofs.Relayed.{port_is}
-use Rattle.bridge_relay.proofs.Sound.{rising_push, in_push, found_some}
+use Rattle.bridge_relay.proofs.Sound.{found_some}
 use Rattle.bridge_relay.proofs.Standing.{out_of}
 use Rattle.bridge_relay.proofs.Viewing.{IsBefore}
-
-some_is : {X : Type 0} (a b : X) → Some a ≡ Some b → a ≡ b
-some_is a b h = cc
 
 none_some : {X : Type 0} (o : Option X) (a : X) → o ≡ None → o ≡ Some a → ⊥
 none_some o a h k = cc
@@ -82,7 +81,7 @@ found_filter police tables (z ∷ xs) [] n v s h = absurd s
 found_filter {A} police tables (z ∷ xs) (w ∷ ys) n v s h = by_bool (nat_eq n z.0)
     (λ e.
     let there : nat_eq n w.0 ≡ true = subst (λ (k : ℕ). nat_eq n k ≡ true) (sym s.0) e in
-    let is : w.1 ≡ v = some_is w.1 v (rw there at h) in
+    let is : w.1 ≡ v = same_Some w.1 v (rw there at h) in
     (z.1, rw e refl, subst (λ (k : ℕ). IsShown police tables k z.1 v) (sym (is_same n z.0 e)) (subst (IsShown police tables z.0 z.1) is s.1)))
     (λ e.
     let there : nat_eq n w.0 ≡ false = subst (λ (k : ℕ). nat_eq n k ≡ false) (sym s.0) e in
@@ -181,7 +180,7 @@ counted {A} slots q (suc n) from to = by_bool (nat_eq q (n + 1))
 
 slot_by : {A : Type 0} (o : Option (Slot A)) (c : PortCount) → count_of o ≡ Some c → (s : Slot A) × (o ≡ Some s) × (s.count ≡ c)
 slot_by None c h = absurd (cc)
-slot_by (Some s) c h = (s, refl, some_is s.count c h)
+slot_by (Some s) c h = (s, refl, same_Some s.count c h)
 
 -- a port that is counted is there
 counted_there : {A : Type 0} (slots : List (Option (Slot A))) (q : ℕ) (c : PortCount) → lookup (nat_eq q) (counts_to slots 16) ≡ Some c → (1 ≤ q) × ((s : Slot A) × (slot_in slots q ≡ Some s) × (s.count ≡ c))
@@ -212,7 +211,7 @@ ends_of {G} {A} held p b es left order o st sound kept idle rises same shown cou
         );
         views = λ n f v e h.
             let r = found_filter b.police b.tables order o.filters.items n v shown h in
-            let is : r.0 ≡ f = some_is r.0 f (sym r.1 ∙ (listed n ∙ e)) in
+            let is : r.0 ≡ f = same_Some r.0 f (sym r.1 ∙ (listed n ∙ e)) in
             view_is held p b es left st sound n f v e (subst (λ (w : FilterPlan). IsShown b.police b.tables n w v) is r.2);
         ports_rise = subst (Rising IsBefore) (sym counts) (rising_counts b.ports.slots 16);
         ports_are = λ q. (

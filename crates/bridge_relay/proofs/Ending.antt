@@ -1,6 +1,7 @@
 -- The run that a bridge stands for.
 use Rattle.std.proofs.Common.{◌≡◌, ℕ, zero, suc, ◌+◌, ◌<◌, ◌≤◌, List, [], ◌∷◌, arith, refl, ap, ◌∙◌, sym, subst, Option, Some, None}
 use Rattle.std.specs.Prelude.{slice_index_or}
+use Rattle.std.proofs.lemmas.Option.{same_Some}
 use Rattle.bridge_capture.specs.Grammar.{Captured}
 use Rattle.bridge_frame.specs.Link.{occupied}
 use Rattle.bridge_frame.specs.declared.Speed.{Speed}
@@ -27,9 +28,6 @@ use Rattle.bridge_relay.specs.Relays.{RelayState, Stands, IsSound, seen}
 use Rattle.bridge_state.specs.Ports.{AreAlike, IsMade}
 use Rattle.bridge_relay.proofs.Relayed.{port_is}
 
-some_is : {X : Type 0} (a b : X) → Some a ≡ Some b → a ≡ b
-some_is a b h = cc
-
 same_rooms : {X : Type 0} (room other : ℕ → ℕ) → ((c : ℕ) → room c ≡ other c) → (xs : List (Copy X)) → SameRooms room other xs
 same_rooms room other h [] = tt
 same_rooms room other h (x ∷ xs) = (h x.class, same_rooms room other h xs)
@@ -50,7 +48,7 @@ pub record Stood {G A : Type 0} (b : RelayState G A) (q : ℕ) (out : PortPlan A
 slot_of : {A : Type 0} (o : Option (PortPlan A)) (r : Option (Slot A)) (out : PortPlan A) → AreAlike o r → o ≡ Some out → (s : Slot A) × (r ≡ Some s) × IsMade out s
 slot_of None r out a e = absurd (cc)
 slot_of (Some v) None out a e = absurd a
-slot_of (Some v) (Some s) out a e = (s, refl, subst (λ (w : PortPlan _). IsMade w s) (some_is v out e) a)
+slot_of (Some v) (Some s) out a e = (s, refl, subst (λ (w : PortPlan _). IsMade w s) (same_Some v out e) a)
 
 pub stood : {G A : Type 0} (held : G → ℕ → Option ℕ) (p : Plan A) (b : RelayState G A) → b.plan ≡ p → IsSound held b → (q : ℕ) (out : PortPlan A) → port_at p.ports q ≡ Some out → Stood b q out
 stood {G} {A} held p b same sound q out e =

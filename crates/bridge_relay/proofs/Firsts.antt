@@ -4,8 +4,9 @@ use Rattle.std.specs.Prelude.{nat_eq, sum_by, if◌then◌else◌, ◌⊎◌}
 use Rattle.std.specs.Map.{lookup}
 use Rattle.std.specs.Option.{is_some}
 use Rattle.std.proofs.lemmas.List.Sums.{sum_by-cons}
+use Rattle.std.proofs.lemmas.Option.{same_Some}
 use Rattle.bridge_limits.specs.Members.{In}
-use Rattle.bridge_cycle.proofs.Cases.{by_bool}
+use Rattle.bridge_limits.proofs.Cases.{by_bool}
 use Rattle.bridge_capture.specs.Grammar.{Captured}
 use Rattle.bridge_check.specs.Acceptable.{IsAcceptable}
 use Rattle.bridge_config.specs.declared.ports.PortPlan.{PortPlan}
@@ -61,9 +62,6 @@ made_of held b p plan rules acceptable streams police gates meters ports none ta
   earliest = earliest;
 }
 
-some_is : {X : Type 0} (a b : X) → Some a ≡ Some b → a ≡ b
-some_is a b h = cc
-
 alike_first : {A : Type 0} (o : Option (PortPlan A)) (r : Option (Slot A)) → IsFirst o r → AreAlike o r
 alike_first None None f = tt
 alike_first None (Some s) f = absurd f
@@ -73,7 +71,7 @@ alike_first (Some out) (Some s) f = f.0
 new_first : {A : Type 0} (o : Option (PortPlan A)) (r : Option (Slot A)) (s : Slot A) → IsFirst o r → r ≡ Some s → IsNew s
 new_first o None s f e = absurd (cc)
 new_first None (Some v) s f e = absurd f
-new_first (Some out) (Some v) s f e = subst IsNew (some_is v s e) f.1
+new_first (Some out) (Some v) s f e = subst IsNew (same_Some v s e) f.1
 
 count_first : {A : Type 0} (f : Item (Load A) → Bool) (o : Option (PortPlan A)) (r : Option (Slot A)) → IsFirst o r → count_in f r ≡ 0
 count_first f o None h = refl
@@ -92,7 +90,7 @@ none_queued {G} {A} held b m f = sum_none f b.ports.slots (λ k.
 fresh_at : (fs : List (ℕ × FilterPlan)) (n : ℕ) (t : TableState) → lookup (nat_eq n) (fresh_tables fs) ≡ Some t → t ≡ fresh
 fresh_at [] n t h = absurd (cc)
 fresh_at (f ∷ fs) n t h = by_bool (nat_eq n f.0)
-    (λ e. sym (some_is fresh t (rw e at h)))
+    (λ e. sym (same_Some fresh t (rw e at h)))
     (λ e. fresh_at fs n t (rw e at h))
 
 fresh_there : (fs : List (ℕ × FilterPlan)) (n : ℕ) → is_there n (fresh_tables fs) ≡ is_there n fs

@@ -2,6 +2,7 @@
 use Rattle.std.proofs.Common.{◌≡◌, ℕ, ◌+◌, ◌<◌, ◌≤◌, List, [], ◌∷◌, ◌++◌, length, arith, refl, ap, ◌∙◌, sym, subst, inl, inr, Option, Some, None}
 use Rattle.std.specs.Prelude.{◌⊎◌, ◌↔◌}
 use Rattle.bridge_limits.specs.Members.{In, Rising}
+use Rattle.bridge_limits.proofs.Members.{in_left, rising_push, in_push, in_end}
 use Rattle.bridge_capture.specs.Grammar.{Captured}
 use Rattle.bridge_frame.specs.declared.Speed.{Speed}
 use Rattle.bridge_frame.specs.Link.{occupied}
@@ -15,9 +16,6 @@ use Rattle.bridge_semantics.specs.Offers.{Carried}
 use Rattle.bridge_semantics.specs.Outputs.{Leaves, LeavesBefore, IsOutput, departure}
 use Rattle.bridge_state.specs.declared.slot.Slot.{Slot}
 use Rattle.bridge_relay.specs.Relays.{HasLeft}
-use Rattle.bridge_relay.proofs.Sound.{rising_push, in_push}
-use Rattle.bridge_check.proofs.Members.{in_left}
-use Rattle.bridge_relay.proofs.Members.{in_end}
 
 -- the answer to an offer is no start
 pub answered_waits : (o : Option Refusal) (k : ℕ) → fate_of o ≡ Started k → ⊥

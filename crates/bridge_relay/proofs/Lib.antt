@@ -1,4 +1,3 @@
-pub mod Members
 pub mod Advancing
 pub mod Sound
 pub mod Leaving

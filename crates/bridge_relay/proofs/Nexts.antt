@@ -4,8 +4,8 @@ use Rattle.std.specs.Prelude.{◌&&◌, if◌then◌else◌, nat_eq, nat_le, nat
 use Rattle.std.proofs.lemmas.Bool.{ltb-true, ltb-false}
 use Rattle.std.proofs.lemmas.Bool.Decides.{nat_tests}
 use Rattle.std.proofs.lemmas.Option.{same_Some, none-some}
+use Rattle.bridge_limits.proofs.Cases.{by_bool}
 use Rattle.bridge_capture.specs.Grammar.{Captured}
-use Rattle.bridge_cycle.proofs.Cases.{by_bool}
 use Rattle.bridge_cycle.specs.Moments.{Fits}
 use Rattle.bridge_events.specs.Least.{IsLeast}
 use Rattle.bridge_frame.specs.Link.{occupied}

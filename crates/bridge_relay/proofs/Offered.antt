@@ -3,7 +3,8 @@ use Rattle.std.proofs.Common.{◌≡◌, ℕ, Bool, true, false, ◌+◌, ◌≤
 use Rattle.std.specs.Prelude.{All, nat_eq, not, IfSome, unwrap_or, slice_index, if◌then◌else◌}
 use Rattle.std.specs.Option.{option_map}
 use Rattle.std.specs.Map.{lookup}
-use Rattle.bridge_cycle.proofs.Cases.{by_bool}
+use Rattle.std.proofs.lemmas.Option.{same_Some}
+use Rattle.bridge_limits.proofs.Cases.{by_bool}
 use Rattle.bridge_capture.specs.Grammar.{Captured}
 use Rattle.bridge_frame.specs.Frames.{has_tag, with_drop_eligible}
 use Rattle.bridge_filter.specs.declared.FilterPlan.{FilterPlan}
@@ -28,9 +29,6 @@ use Rattle.bridge_relay.specs.Relaying.{Carries, HasRuled, IsFresh, IsNumbered, 
 use Rattle.bridge_relay.proofs.Relayed.{offering_start, offering_done, passed_offers, kept_offers, own_count, port_is}
 use Rattle.bridge_relay.proofs.Policed.{IsPoliced, carries_ruled, judged_step, stands_policed, unfiltered_step}
 use Rattle.bridge_relay.proofs.Spares.{after_offering, after_released, carries_released, may_relay_ruled, outs_ruled, pending_ruled}
-
-some_is : {X : Type 0} (a b : X) → Some a ≡ Some b → a ≡ b
-some_is a b h = cc
 
 pub numbered_none : (tables : List (ℕ × TableState)) (r : Option Ruling) → IsNumbered tables r None → r ≡ None
 numbered_none tables None n = refl

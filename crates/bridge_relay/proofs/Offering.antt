@@ -6,7 +6,7 @@ use Rattle.std.proofs.lemmas.Bool.Decides.{nat_tests}
 use Rattle.std.proofs.lemmas.List.{get_or_past}
 use Rattle.bridge_limits.specs.Members.{In}
 use Rattle.std.proofs.lemmas.Bool.{cases_lt}
-use Rattle.bridge_cycle.proofs.Cases.{by_bool}
+use Rattle.std.proofs.lemmas.Option.{same_Some}
 use Rattle.bridge_capture.specs.Grammar.{Captured}
 use Rattle.bridge_forward.specs.Ports.{has}
 use Rattle.bridge_port.specs.declared.item.Item.{Item}
@@ -25,6 +25,8 @@ use Rattle.bridge_semantics.specs.declared.outcome.Dropped.{Dropped}
 use Rattle.bridge_semantics.specs.declared.outcome.PortCount.{PortCount}
 use Rattle.bridge_semantics.specs.Offers.{Carried, carried, Offer, offered, leaving}
 use Rattle.bridge_limits.specs.Members.{Rising}
+use Rattle.bridge_limits.proofs.Members.{in_left, in_push, in_end}
+use Rattle.bridge_limits.proofs.Cases.{by_bool}
 use Rattle.bridge_semantics.specs.Runs.{DroppedBefore, Departs, Drops, Delayed, IsGreatest, IsTold, AtPort, fate_by}
 use Rattle.bridge_state.specs.declared.slot.Slot.{Slot}
 use Rattle.bridge_state.specs.Slots.{offered_slot, counted_copy, refusal_to, refusal_by}
@@ -34,14 +36,9 @@ use Rattle.bridge_relay.specs.Relays.{RelayState, HasLeft, IsSound, IsAwaited, w
 use Rattle.bridge_state.specs.Ports.{AreAlike, IsMade}
 use Rattle.bridge_relay.specs.Relaying.{CountTheSame, HasOfferedTo, Carries, offer_to, offers_below, IsPending, IsOffering, MayRelay, HasCopies, leaves}
 use Rattle.bridge_state.proofs.Porting.{below, set_here, set_there}
-use Rattle.bridge_relay.proofs.Sound.{changed, in_push}
-use Rattle.bridge_check.proofs.Members.{in_left}
-use Rattle.bridge_relay.proofs.Members.{in_end}
+use Rattle.bridge_relay.proofs.Sound.{changed}
 use Rattle.bridge_relay.proofs.Standing.{put, put_same, put_other, out_of}
 use Rattle.bridge_relay.proofs.Leaving.{left_pushed, answered_waits}
-
-some_is : {X : Type 0} (a b : X) → Some a ≡ Some b → a ≡ b
-some_is a b h = cc
 
 none_some : {X : Type 0} (o : Option X) (a : X) → o ≡ None → o ≡ Some a → ⊥
 none_some o a h k = cc
@@ -167,7 +164,7 @@ flow_is (Some m) n e = let z : m ≡ n = grind (arith, nat_tests) in ap Some z
 
 flow_not : (flow : Option ℕ) (n : ℕ) → is_flow flow n ≡ false → flow ≡ Some n → ⊥
 flow_not None n e h = cc
-flow_not (Some m) n e h = let z : m ≡ n = some_is m n h in let w : nat_eq m n ≡ true = grind (arith, nat_tests) in let v : true ≡ false = sym w ∙ e in cc
+flow_not (Some m) n e h = let z : m ≡ n = same_Some m n h in let w : nat_eq m n ≡ true = grind (arith, nat_tests) in let v : true ≡ false = sym w ∙ e in cc
 
 if_true : (b : Bool) (x y : TableState) (t : TableState) → b ≡ true → t ≡ (if b then x else y) → t ≡ x
 if_true b x y t e h = rw e at h
@@ -224,7 +221,7 @@ carries_offered {G} {A} held p old new q c s x plan sound sound_new h there low 
       pushed = ap (all_seen carried) (put_same q (copy ∷ st.lists q) st.lists q itself);
       others = λ r e. ap (all_seen carried) (put_other q (copy ∷ st.lists q) st.lists r e);
     } in
-    let is_now : (r : ℕ) (v : Slot A) → nat_eq r q ≡ true → slot_at new.ports r ≡ Some v → offered_slot s x.load.at c x ≡ v = λ r v y e. (let same : q ≡ r = grind (arith, nat_tests) in some_is (offered_slot s x.load.at c x) v (sym at_now ∙ subst (λ (m : ℕ). slot_at new.ports m ≡ Some v) (sym same) e)) in
+    let is_now : (r : ℕ) (v : Slot A) → nat_eq r q ≡ true → slot_at new.ports r ≡ Some v → offered_slot s x.load.at c x ≡ v = λ r v y e. (let same : q ≡ r = grind (arith, nat_tests) in same_Some (offered_slot s x.load.at c x) v (sym at_now ∙ subst (λ (m : ℕ). slot_at new.ports m ≡ Some v) (sym same) e)) in
     record {
       lists = lists;
       others = λ r e. by_bool (nat_eq r q)
@@ -266,7 +263,7 @@ carries_same p b os ps same left st = record { leaves = st.leaves; lists = st.li
 pub change_finds : {X : Type 0} (n : ℕ) (f : X → X) (xs : List (ℕ × X)) (x : X) → lookup (nat_eq n) xs ≡ Some x → lookup (nat_eq n) (change n f xs) ≡ Some (f x)
 change_finds n f [] x h = absurd (cc)
 change_finds {X} n f (e ∷ xs) x h = by_bool (nat_eq n e.0)
-    (λ t. let it : e.1 ≡ x = some_is e.1 x (rw t at h) in rw (t, t) (ap (λ (v : X). Some (f v)) it))
+    (λ t. let it : e.1 ≡ x = same_Some e.1 x (rw t at h) in rw (t, t) (ap (λ (v : X). Some (f v)) it))
     (λ t. let it : lookup (nat_eq n) xs ≡ Some x = rw t at h in rw (t, t) (change_finds n f xs x it))
 
 pending_answered : {G A : Type 0} (old new : RelayState G A) (n own q left : ℕ) (o : Option Refusal) → new.tables ≡ after_answer old.tables (Some n) own q (refusal_by o) → count_all (is_of n) new.ports ≡ (if is_none o then 1 else 0) + count_all (is_of n) old.ports → 1 ≤ left → IsPending old left own q n → IsPending new (left - 1) own (q + 1) n
@@ -458,7 +455,7 @@ offering_more {G} {A} held first now new set priority x k s item a low high goes
       counted = λ q r l e. by_bool (nat_eq q k)
           (λ y.
           let same : k ≡ q = grind (arith, nat_tests) in
-          let is : offered_slot s item.load.at (slice_index s.classes priority) item ≡ r = some_is (offered_slot s item.load.at (slice_index s.classes priority) item) r (sym (offered_here now new k (slice_index s.classes priority) s item h there) ∙ subst (λ (m : ℕ). slot_at new.ports m ≡ Some r) (sym same) e) in
+          let is : offered_slot s item.load.at (slice_index s.classes priority) item ≡ r = same_Some (offered_slot s item.load.at (slice_index s.classes priority) item) r (sym (offered_here now new k (slice_index s.classes priority) s item h there) ∙ subst (λ (m : ℕ). slot_at new.ports m ≡ Some r) (sym same) e) in
           let w = a.counted k s low there in
           let joined = count_joined (counted_copy s.count (refusal_of s.port (slice_index s.classes priority) item)) s.count w.0.count (count_copied s.count (refusal_of s.port (slice_index s.classes priority) item)) w.2 in
           (w.0, subst (λ (m : ℕ). slot_at first.ports m ≡ Some w.0) same w.1, subst (λ (v : Slot A). CountTheSame v.count w.0.count) is joined))
@@ -466,7 +463,7 @@ offering_more {G} {A} held first now new set priority x k s item a low high goes
       carries = λ os left st. carries_offered held first.plan now new k (slice_index s.classes priority) s item a.plan a.sound sound h there low (offers_below set k priority x os) (offers_below set (k + 1) priority x os)
           (λ r v y e. offers_skip set k priority x os r v y)
           (λ v e.
-          let one : out.0 ≡ v = some_is out.0 v (sym out.1 ∙ subst (λ (w : Plan A). port_at w.ports k ≡ Some v) (sym a.plan) e) in
+          let one : out.0 ≡ v = same_Some out.0 v (sym out.1 ∙ subst (λ (w : Plan A). port_at w.ports k ≡ Some v) (sym a.plan) e) in
           offers_here set k priority x os v in_set ∙ ap (λ (o : Offer). o ∷ offers_below set k priority x os k v) (same_offer v s priority x (carried item) item.load.at (out.2.classes ∙ ap (λ (w : PortPlan A). w.classes) one) carries_x refl))
           left (a.carries os left st);
     }

@@ -4,8 +4,9 @@ use Rattle.std.specs.Prelude.{nat_eq, if◌then◌else◌, ◌&&◌, ◌⊎◌, 
 use Rattle.std.specs.Map.{lookup}
 use Rattle.std.proofs.lemmas.Bool.Decides.{nat_tests}
 use Rattle.std.proofs.lemmas.List.Sums.{sum_by-set}
+use Rattle.std.proofs.lemmas.Option.{same_Some}
 use Rattle.bridge_limits.specs.Members.{In}
-use Rattle.bridge_cycle.proofs.Cases.{by_bool}
+use Rattle.bridge_limits.proofs.Cases.{by_bool}
 use Rattle.bridge_filter.specs.Plans.{is_there}
 use Rattle.bridge_filter.specs.Verdicts as verdicts
 use Rattle.bridge_filter.specs.Standing as filter
@@ -41,9 +42,6 @@ use Rattle.bridge_relay.specs.Relaying.{HasPassed, IsOver}
 use Rattle.bridge_state.proofs.Porting.{below, set_here, set_there}
 use Rattle.bridge_relay.proofs.Leaving.{left_same}
 
-some_is : {X : Type 0} (a b : X) → Some a ≡ Some b → a ≡ b
-some_is a b h = cc
-
 abbrev pub counting : {A : Type 0} → Slot A → Came → Slot A
 counting s v = record s { count = counted_frame s.count v }
 
@@ -51,7 +49,7 @@ pub passed_here : {G A : Type 0} (old new : RelayState G A) (q : ℕ) (s : Slot 
 passed_here {G} {A} old new q s v h there r w e at =
     let same : q ≡ r = grind (arith, nat_tests) in
     let at_now : slot_at new.ports q ≡ Some (counting s v) = ap (λ (z : List (Option (Slot A))). slot_in z q) h ∙ set_here old.ports.slots q (Some (counting s v)) (below old.ports.slots q s there) in
-    some_is (counting s v) w (sym at_now ∙ subst (λ (m : ℕ). slot_at new.ports m ≡ Some w) (sym same) at)
+    same_Some (counting s v) w (sym at_now ∙ subst (λ (m : ℕ). slot_at new.ports m ≡ Some w) (sym same) at)
 
 pub passed_there : {G A : Type 0} (old new : RelayState G A) (q : ℕ) (s : Slot A) (v : Came) → new.ports.slots ≡ slice_set old.ports.slots (q - 1) (Some (counting s v)) → 1 ≤ q → (r : ℕ) → 1 ≤ r → nat_eq r q ≡ false → slot_at new.ports r ≡ slot_at old.ports r
 passed_there {G} {A} old new q s v h low r l e = ap (λ (z : List (Option (Slot A))). slot_in z r) h ∙ set_there old.ports.slots r q (Some (counting s v)) l low e

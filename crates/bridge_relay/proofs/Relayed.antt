@@ -3,7 +3,8 @@ use Rattle.std.proofs.Common.{◌≡◌, ℕ, suc, Bool, true, false, ◌+◌, �
 use Rattle.std.specs.Prelude.{nat_eq, nat_lt, if◌then◌else◌, ◌&&◌, IfSome, All}
 use Rattle.std.specs.Map.{lookup}
 use Rattle.std.proofs.lemmas.Bool.Decides.{nat_tests}
-use Rattle.bridge_cycle.proofs.Cases.{by_bool}
+use Rattle.std.proofs.lemmas.Option.{same_Some}
+use Rattle.bridge_limits.proofs.Cases.{by_bool}
 use Rattle.bridge_filter.specs.declared.FilterPlan.{FilterPlan}
 use Rattle.bridge_filter.specs.Own.{is_number}
 use Rattle.bridge_filter.specs.Counts.{verdicts_of}
@@ -27,15 +28,12 @@ use Rattle.bridge_relay.specs.Relays.{RelayState, Stands, IsSound, written, writ
 use Rattle.bridge_relay.specs.Relaying.{Carries, offer_to, offers_to, offers_below, IsPending, IsOffering}
 use Rattle.bridge_relay.proofs.Offering.{carries_same}
 
-some_is : {X : Type 0} (a b : X) → Some a ≡ Some b → a ≡ b
-some_is a b h = cc
-
 -- the port of a number has that number, and is within its ranges
 pub port_is : {A : Type 0} (ports : List (PortPlan A)) (n : ℕ) (out : PortPlan A) → All IsPort ports → port_at ports n ≡ Some out → IsPort out × (out.number ≡ n)
 port_is [] n out all h = absurd (cc)
 port_is {A} (p ∷ ps) n out all h = by_bool (nat_eq p.number n)
     (λ e.
-    let it : p ≡ out = some_is p out (rw e at h) in
+    let it : p ≡ out = same_Some p out (rw e at h) in
     let same : p.number ≡ n = grind (arith, nat_tests) in
     subst (λ (v : PortPlan A). IsPort v × (v.number ≡ n)) it (all 0 p (omega arith), same))
     (λ e. port_is ps n out (λ k d l. all (suc k) d (omega arith)) (rw e at h))

@@ -5,13 +5,14 @@ use Rattle.std.specs.Map.{lookup}
 use Rattle.std.specs.Option.{is_some}
 use Rattle.std.proofs.lemmas.Bool.Decides.{nat_tests}
 use Rattle.bridge_limits.specs.Members.{In}
-use Rattle.bridge_cycle.proofs.Cases.{by_bool}
 use Rattle.bridge_filter.specs.Plans.{is_there}
 use Rattle.bridge_config.specs.declared.ports.PortPlan.{PortPlan}
 use Rattle.bridge_config.specs.Rules.{port_at}
 use Rattle.bridge_semantics.specs.declared.load.Load.{Load}
 use Rattle.bridge_semantics.specs.declared.outcome.Departure.{Departure}
 use Rattle.bridge_limits.specs.Members.{AllAfter, Rising}
+use Rattle.bridge_limits.proofs.Members.{in_push, rising_push}
+use Rattle.bridge_limits.proofs.Cases.{by_bool}
 use Rattle.bridge_semantics.specs.Runs.{DepartsBefore, DroppedBefore}
 use Rattle.bridge_state.specs.declared.slot.Slot.{Slot}
 use Rattle.bridge_state.specs.declared.slot.Begun.{Begun}
@@ -19,6 +20,7 @@ use Rattle.bridge_port.specs.declared.item.Item.{Item}
 use Rattle.bridge_port.specs.declared.item.Refusal.{Refusal}
 use Rattle.bridge_port.specs.Standing.{count_queued, refusal_of}
 use Rattle.std.proofs.lemmas.List.Sums.{sum_by-set}
+use Rattle.std.proofs.lemmas.Option.{same_Some}
 use Rattle.bridge_semantics.specs.declared.outcome.Dropped.{Dropped}
 use Rattle.bridge_state.specs.Slots.{started_slot, offered_slot, counted_copy, refusal_to, refusal_by}
 use Rattle.bridge_state.specs.Tables.{TableState, change, change_if, departed, promised, refused, after_answer, Owes, MayPromise}
@@ -30,27 +32,11 @@ use Rattle.bridge_filter.specs.declared.FilterPlan.{FilterPlan}
 use Rattle.bridge_state.proofs.Porting.{below, set_here, set_there, same_slot}
 use Rattle.bridge_relay.proofs.Advancing.{count_started}
 
--- one more at the end of what rises
-after_push : {X : Type 0} (R : X → X → Type 0) (x y : X) (xs : List X) → AllAfter R x xs → R x y → AllAfter R x (xs ++ y ∷ [])
-after_push R x y [] a r = (r, tt)
-after_push R x y (z ∷ xs) a r = (a.0, after_push R x y xs a.1 r)
-
-pub rising_push : {X : Type 0} (R : X → X → Type 0) (xs : List X) (y : X) → Rising R xs → ((x : X) → In x xs → R x y) → Rising R (xs ++ y ∷ [])
-rising_push R [] y a r = (tt, tt)
-rising_push R (x ∷ xs) y a r = (after_push R x y xs a.0 (r x (inl refl)), rising_push R xs y a.1 (λ z i. r z (inr i)))
-
-pub in_push : {X : Type 0} (x y : X) (xs : List X) → In x (xs ++ y ∷ []) → In x xs ⊎ (x ≡ y)
-in_push x y [] i = elim i [ inl e ↦ inr e | inr l ↦ absurd l ]
-in_push x y (z ∷ xs) i = elim i [ inl e ↦ inl (inl e) | inr l ↦ elim (in_push x y xs l) [ inl k ↦ inl (inr k) | inr k ↦ inr k ] ]
-
 -- what a list by number has after the value of one number has changed
 pub record IsChangedFrom {X : Type 0} (old : List (ℕ × X)) (flow : Option ℕ) (f : X → X) (n : ℕ) (y : X) : Type 0 where
   pub was : X
   pub there : lookup (nat_eq n) old ≡ Some was
   pub is : y ≡ (if is_flow flow n then f was else was)
-
-some_is : {X : Type 0} (a b : X) → Some a ≡ Some b → a ≡ b
-some_is a b h = cc
 
 change_found : {X : Type 0} (m : ℕ) (f : X → X) (xs : List (ℕ × X)) (n : ℕ) (y : X) → lookup (nat_eq n) (change m f xs) ≡ Some y → IsChangedFrom xs (Some m) f n y
 change_found m f [] n y h = absurd (cc)
@@ -60,7 +46,7 @@ change_found {X} m f (e ∷ xs) n y h = by_bool (nat_eq m e.0)
     by_bool (nat_eq n e.0)
     (λ u.
     let same : nat_eq m n ≡ true = grind (arith, nat_tests) in
-    let it : f e.1 ≡ y = some_is (f e.1) y (rw u at k) in
+    let it : f e.1 ≡ y = same_Some (f e.1) y (rw u at k) in
     record { was = e.1; there = rw u refl; is = rw same (sym it) })
     (λ u.
     let apart : nat_eq m n ≡ false = by_bool (nat_eq m n) (λ w. absurd (let z : nat_eq n e.0 ≡ true = grind (arith, nat_tests) in let v : true ≡ false = sym z ∙ u in cc)) (λ w. w) in
@@ -71,7 +57,7 @@ change_found {X} m f (e ∷ xs) n y h = by_bool (nat_eq m e.0)
     by_bool (nat_eq n e.0)
     (λ u.
     let apart : nat_eq m n ≡ false = by_bool (nat_eq m n) (λ w. absurd (let z : nat_eq m e.0 ≡ true = grind (arith, nat_tests) in let v : true ≡ false = sym z ∙ t in cc)) (λ w. w) in
-    let it : e.1 ≡ y = some_is e.1 y (rw u at k) in
+    let it : e.1 ≡ y = same_Some e.1 y (rw u at k) in
     record { was = e.1; there = rw u refl; is = rw apart (sym it) })
     (λ u.
     let r = change_found m f xs n y (rw u at k) in
@@ -141,7 +127,7 @@ early_started {G} {A} held old ports q k s c sound h low due p r l at =
     by_bool (nat_eq p q)
     (λ y.
     let same : q ≡ p = grind (arith, nat_tests) in
-    let is : now ≡ r = some_is now r (sym at_now ∙ subst (λ (m : ℕ). slot_at ports m ≡ Some r) (sym same) at) in
+    let is : now ≡ r = same_Some now r (sym at_now ∙ subst (λ (m : ℕ). slot_at ports m ≡ Some r) (sym same) at) in
     subst (λ (v : Slot A). (v.port.earliest ≤ k + 1) × (q + 1 ≤ p → v.port.earliest ≤ k)) is (omega arith, λ z. absurd (omega (arith, same, z))))
     (λ y.
     let other : slot_at ports p ≡ slot_at old.ports p = ap (λ (z : List (Option (Slot A))). slot_in z p) h.slots ∙ set_there old.ports.slots p q (Some now) l low y in
@@ -183,7 +169,7 @@ sound_started {G} {A} held old ports tables earliest q k s c d delay sound h low
       early = λ p r l at. by_bool (nat_eq p q)
           (λ y.
           let same : q ≡ p = grind (arith, nat_tests) in
-          let is : now ≡ r = some_is now r (sym at_now ∙ subst (λ (m : ℕ). slot_at ports m ≡ Some r) (sym same) at) in
+          let is : now ≡ r = same_Some now r (sym at_now ∙ subst (λ (m : ℕ). slot_at ports m ≡ Some r) (sym same) at) in
           let was = sound.early q s low h.there in
           let few = was.1 in
           subst (λ (v : Slot A). (v.port.earliest ≤ earliest) × (v.port.offered ≤ old.arrived)) is (omega arith, few))
@@ -196,7 +182,7 @@ sound_started {G} {A} held old ports tables earliest q k s c d delay sound h low
       frames = λ p r l at. by_bool (nat_eq p q)
           (λ y.
           let same : q ≡ p = grind (arith, nat_tests) in
-          let is : now ≡ r = some_is now r (sym at_now ∙ subst (λ (m : ℕ). slot_at ports m ≡ Some r) (sym same) at) in
+          let is : now ≡ r = same_Some now r (sym at_now ∙ subst (λ (m : ℕ). slot_at ports m ≡ Some r) (sym same) at) in
           subst (λ (v : Slot A). v.count.frames ≤ old.arrived) is (sound.frames q s low h.there))
           (λ y. sound.frames p r l (sym (ap (λ (z : List (Option (Slot A))). slot_in z p) h.slots ∙ set_there old.ports.slots p q (Some now) l low y) ∙ at));
       right = let z = count_started old.ports ports q s k c h (is_wrong old.plan.filters) in let w = sound.right in omega arith;
@@ -248,7 +234,7 @@ kept_other held old new n t kept counts calm same onward = record {
 -- the frame's filter, where the copy is queued
 kept_queued : {G A : Type 0} (held : G → ℕ → Option ℕ) (old new : RelayState G A) (n own q : ℕ) (t : TableState) → lookup (nat_eq n) old.tables ≡ Some t → IsAwaited old n own q → IsKept held old n t → count_all (is_of n) new.ports ≡ 1 + count_all (is_of n) old.ports → NotBefore (held new.ports.agenda) new.earliest → new.arrived ≡ old.arrived → old.earliest ≤ new.earliest → IsKept held new n t
 kept_queued held old new n own q t there a kept counts calm same onward =
-    let it : a.table ≡ t = some_is a.table t (sym a.there ∙ there) in
+    let it : a.table ≡ t = same_Some a.table t (sym a.there ∙ there) in
     let spare : count_all (is_of n) old.ports + 1 ≤ t.owed = subst (λ (v : TableState). count_all (is_of n) old.ports + 1 ≤ v.owed) it a.spare in
     record {
       covered = omega arith;
@@ -262,7 +248,7 @@ kept_queued held old new n own q t there a kept counts calm same onward =
 -- the frame's filter, where the copy is dropped
 kept_dropped : {G A : Type 0} (held : G → ℕ → Option ℕ) (old new : RelayState G A) (n own q : ℕ) (t : TableState) (r : Refusal) → lookup (nat_eq n) old.tables ≡ Some t → IsAwaited old n own q → IsKept held old n t → count_all (is_of n) new.ports ≡ count_all (is_of n) old.ports → NotBefore (held new.ports.agenda) new.earliest → new.arrived ≡ old.arrived → old.earliest ≤ new.earliest → IsKept held new n (refused t (record { own = own; port = q; refusal = r }))
 kept_dropped held old new n own q t r there a kept counts calm same onward =
-    let it : a.table ≡ t = some_is a.table t (sym a.there ∙ there) in
+    let it : a.table ≡ t = same_Some a.table t (sym a.there ∙ there) in
     let spare : count_all (is_of n) old.ports + 1 ≤ t.owed = subst (λ (v : TableState). count_all (is_of n) old.ports + 1 ≤ v.owed) it a.spare in
     let later = subst (λ (v : TableState). (d : Dropped) → In d v.drops → (d.own < own) ⊎ ((d.own ≡ own) × (d.port < q))) it a.later in
     let heard : own ≤ length t.verdicts = subst (λ (v : TableState). own ≤ length v.verdicts) it a.heard in
@@ -314,7 +300,7 @@ sound_offered {G} {A} held old ports tables q t c s x answer sound there h low c
     let early : (p : ℕ) (r : Slot A) → 1 ≤ p → slot_at ports p ≡ Some r → (r.port.earliest ≤ t) × (r.port.offered ≤ old.arrived) = λ p r l at. by_bool (nat_eq p q)
     (λ y.
     let same : q ≡ p = grind (arith, nat_tests) in
-    let is : now ≡ r = some_is now r (sym at_now ∙ subst (λ (m : ℕ). slot_at ports m ≡ Some r) (sym same) at) in
+    let is : now ≡ r = same_Some now r (sym at_now ∙ subst (λ (m : ℕ). slot_at ports m ≡ Some r) (sym same) at) in
     subst (λ (v : Slot A). (v.port.earliest ≤ t) × (v.port.offered ≤ old.arrived)) is (omega arith, omega arith))
     (λ y.
     let other : slot_at ports p ≡ slot_at old.ports p = ap (λ (z : List (Option (Slot A))). slot_in z p) h.slots ∙ set_there old.ports.slots p q (Some now) l low y in
@@ -343,7 +329,7 @@ sound_offered {G} {A} held old ports tables q t c s x answer sound there h low c
       frames = λ p r l at. by_bool (nat_eq p q)
           (λ y.
           let same : q ≡ p = grind (arith, nat_tests) in
-          let is : now ≡ r = some_is now r (sym at_now ∙ subst (λ (m : ℕ). slot_at ports m ≡ Some r) (sym same) at) in
+          let is : now ≡ r = same_Some now r (sym at_now ∙ subst (λ (m : ℕ). slot_at ports m ≡ Some r) (sym same) at) in
           subst (λ (v : Slot A). v.count.frames ≤ old.arrived) is (subst (λ (n : ℕ). n ≤ old.arrived) (sym (frames_same s (refusal_of s.port c x))) (sound.frames q s low there)))
           (λ y. sound.frames p r l (sym (ap (λ (z : List (Option (Slot A))). slot_in z p) h.slots ∙ set_there old.ports.slots p q (Some now) l low y) ∙ at));
       right = not_wrong (is_none (refusal_of s.port c x)) (is_wrong old.plan.filters x) (count_all (is_wrong old.plan.filters) ports) (count_all (is_wrong old.plan.filters) old.ports) right (count_offered old.ports ports q s t c x answer there h (is_wrong old.plan.filters)) sound.right;

@@ -3,8 +3,9 @@ use Rattle.std.proofs.Common.{◌≡◌, ℕ, zero, suc, Bool, true, false, ◌+
 use Rattle.std.specs.Prelude.{nat_eq, if◌then◌else◌, ◌&&◌, ◌⊎◌, IfSome, IsTrue, Vec, max}
 use Rattle.std.specs.Map.{lookup}
 use Rattle.std.proofs.lemmas.Bool.Decides.{nat_tests}
+use Rattle.std.proofs.lemmas.Option.{same_Some}
 use Rattle.bridge_limits.specs.Members.{In}
-use Rattle.bridge_cycle.proofs.Cases.{by_bool}
+use Rattle.bridge_limits.proofs.Cases.{by_bool}
 use Rattle.bridge_capture.specs.Grammar.{Captured}
 use Rattle.bridge_filter.specs.declared.Ruling.{Ruling}
 use Rattle.bridge_filter.specs.declared.Verdict.{Verdict}
@@ -29,9 +30,6 @@ use Rattle.bridge_relay.proofs.Passing.{counting, passed_here, passed_there, cou
 use Rattle.bridge_state.proofs.Porting.{below, set_here}
 use Rattle.bridge_relay.proofs.Offering.{change_finds}
 use Rattle.bridge_relay.proofs.Policed.{IsAfter}
-
-some_is : {X : Type 0} (a b : X) → Some a ≡ Some b → a ≡ b
-some_is a b h = cc
 
 -- What was promised.
 
@@ -178,7 +176,7 @@ sound_released {G} {A} held b own k n sound pending = record {
       let c = changed (Some n) (λ (v : TableState). released v k) b.tables m t found in
       subst (IsKept held (releasing b n k) m) (sym c.is) (kept_released held b n k m (nat_eq n m) c.was (sound.each m c.was c.there) (λ e.
       let same : n ≡ m = grind (arith, nat_tests) in
-      let is : pending.table ≡ c.was = some_is pending.table c.was (sym pending.there ∙ subst (λ (z : ℕ). lookup (nat_eq z) b.tables ≡ Some c.was) (sym same) c.there) in
+      let is : pending.table ≡ c.was = same_Some pending.table c.was (sym pending.there ∙ subst (λ (z : ℕ). lookup (nat_eq z) b.tables ≡ Some c.was) (sym same) c.there) in
       subst (λ (z : ℕ). count_all (is_of z) b.ports + k ≤ c.was.owed) same (subst (λ (v : TableState). count_all (is_of n) b.ports + k ≤ v.owed) is pending.spare)));
 }
 

@@ -3,8 +3,8 @@ use Rattle.std.proofs.Common.{◌≡◌, ℕ, Bool, true, false, ◌+◌, ◌-�
 use Rattle.std.specs.Prelude.{nat_eq, not, if◌then◌else◌, slice_set, count_by}
 use Rattle.std.specs.Map.{lookup}
 use Rattle.std.proofs.lemmas.Bool.Decides.{nat_tests}
+use Rattle.std.proofs.lemmas.Option.{same_Some}
 use Rattle.bridge_limits.specs.Members.{In}
-use Rattle.bridge_cycle.proofs.Cases.{by_bool}
 use Rattle.bridge_capture.specs.Grammar.{Captured}
 use Rattle.bridge_frame.specs.Link.{occupied}
 use Rattle.bridge_frame.specs.declared.Speed.{Speed}
@@ -26,6 +26,7 @@ use Rattle.bridge_semantics.specs.Events.{Event, steps}
 use Rattle.bridge_semantics.specs.Offers.{Carried, carried, offers, offered}
 use Rattle.bridge_semantics.specs.Outputs.{departure}
 use Rattle.bridge_limits.specs.Members.{Rising}
+use Rattle.bridge_limits.proofs.Cases.{by_bool}
 use Rattle.bridge_semantics.specs.Runs.{DepartsBefore, IsTold, AtPort, IsCount}
 use Rattle.bridge_state.specs.declared.slot.Slot.{Slot}
 use Rattle.bridge_state.specs.declared.slot.Begun as slot
@@ -38,9 +39,6 @@ use Rattle.bridge_state.proofs.Porting.{below, set_here, set_there}
 use Rattle.bridge_relay.proofs.Sound.{changed}
 use Rattle.bridge_relay.proofs.Leaving.{left_begun}
 use Rattle.bridge_relay.proofs.Telling.{IsBegunAt, IsDone, dated, told_other, told_more, offered_same, counted_same, start_after, in_seen}
-
-some_is : {X : Type 0} (a b : X) → Some a ≡ Some b → a ≡ b
-some_is a b h = cc
 
 none_some : {X : Type 0} (o : Option X) (a : X) → o ≡ None → o ≡ Some a → ⊥
 none_some o a h k = cc
@@ -64,7 +62,7 @@ now_same {G} {A} old new q s k b h r v e at =
     let now : Slot A = started_slot s k b.class b.item in
     let same : q ≡ r = grind (arith, nat_tests) in
     let at_now : slot_at new q ≡ Some now = ap (λ (z : List (Option (Slot A))). slot_in z q) h.slots ∙ set_here old.slots q (Some now) (below old.slots q s h.there) in
-    some_is now v (sym at_now ∙ subst (λ (m : ℕ). slot_at new m ≡ Some v) (sym same) at)
+    same_Some now v (sym at_now ∙ subst (λ (m : ℕ). slot_at new m ≡ Some v) (sym same) at)
 
 now_other : {G A : Type 0} (old new : PortsState G A) (q : ℕ) (s : Slot A) (k : ℕ) (b : slot.Begun A) → HasStarted old new q s k b → (r : ℕ) → 1 ≤ r → nat_eq r q ≡ false → slot_at new r ≡ slot_at old r
 now_other {G} {A} old new q s k b h r l e = ap (λ (z : List (Option (Slot A))). slot_in z r) h.slots ∙ set_there old.slots r q (Some (started_slot s k b.class b.item)) l h.from e
@@ -75,7 +73,7 @@ flow_is (Some m) n e = let z : m ≡ n = grind (arith, nat_tests) in ap Some z
 
 flow_not : (flow : Option ℕ) (n : ℕ) → is_flow flow n ≡ false → flow ≡ Some n → ⊥
 flow_not None n e h = cc
-flow_not (Some m) n e h = let z : m ≡ n = some_is m n h in let w : nat_eq m n ≡ true = grind (arith, nat_tests) in let v : true ≡ false = sym w ∙ e in cc
+flow_not (Some m) n e h = let z : m ≡ n = same_Some m n h in let w : nat_eq m n ≡ true = grind (arith, nat_tests) in let v : true ≡ false = sym w ∙ e in cc
 
 if_true : (b : Bool) (x y : TableState) (t : TableState) → b ≡ true → t ≡ (if b then x else y) → t ≡ x
 if_true b x y t e h = rw e at h

@@ -3,7 +3,6 @@ use Rattle.std.proofs.Common.{◌≡◌, ℕ, Bool, true, false, ◌+◌, ◌<�
 use Rattle.std.specs.Prelude.{nat_eq, nat_le, max, not, count_by, ◌⊎◌, ◌↔◌, map, if◌then◌else◌}
 use Rattle.std.proofs.lemmas.Bool.Decides.{nat_tests}
 use Rattle.bridge_limits.specs.Members.{In}
-use Rattle.bridge_cycle.proofs.Cases.{by_bool}
 use Rattle.bridge_frame.specs.Link.{occupied}
 use Rattle.bridge_filter.specs.declared.Verdict.{Verdict}
 use Rattle.bridge_filter.specs.declared.Verdict.TheVariants as verdict
@@ -25,17 +24,12 @@ use Rattle.bridge_semantics.specs.declared.outcome.Dropped.{Dropped}
 use Rattle.bridge_semantics.specs.Events.{Arrival, Event, Arrived, Cleared, way_of, metered}
 use Rattle.bridge_semantics.specs.Offers.{Carried, Offer, offers, offer_of, offer_on, offer_of_step, offer_by, offered, step_of}
 use Rattle.bridge_limits.specs.Members.{Rising}
+use Rattle.bridge_limits.proofs.Members.{in_left, rising_push, in_push, in_end, in_either}
+use Rattle.bridge_limits.proofs.Cases.{by_bool}
 use Rattle.bridge_semantics.specs.Runs.{DepartsBefore, DroppedBefore, Departs, Drops, Delayed, IsGreatest, IsTold, AtPort, fate_by}
 use Rattle.bridge_state.specs.Tables.{longer}
-use Rattle.bridge_relay.proofs.Sound.{rising_push, in_push}
-use Rattle.bridge_check.proofs.Members.{in_left}
-use Rattle.bridge_relay.proofs.Members.{in_end}
 
 -- Members.
-
-pub in_either : {X : Type 0} (x : X) (xs ys : List X) → In x (xs ++ ys) → In x xs ⊎ In x ys
-in_either x [] ys i = inr i
-in_either x (z ∷ xs) ys i = elim i [ inl e ↦ inl (inl e) | inr l ↦ elim (in_either x xs ys l) [ inl k ↦ inl (inr k) | inr k ↦ inr k ] ]
 
 -- Each copy is offered when its frame comes.
 

@@ -8,7 +8,7 @@ use Rattle.std.proofs.lemmas.Bool.Decides.{nat_tests}
 use Rattle.std.proofs.lemmas.List.{length-append}
 use Rattle.std.proofs.lemmas.List.Elements.{All-cons, All-head, All-nil, All-tail}
 use Rattle.bridge_limits.specs.declared.TheConstants.{END_OF_TIME}
-use Rattle.bridge_cycle.proofs.Cases.{by_bool}
+use Rattle.bridge_limits.proofs.Cases.{by_bool}
 use Rattle.bridge_capture.specs.declared.form.Form.{Form}
 use Rattle.bridge_capture.specs.declared.fault.CaptureFault.{CaptureFault}
 use Rattle.bridge_capture.specs.declared.fault.CaptureFault.TheVariants.{TooManyRecords, TimeTooLate, TimeBack}

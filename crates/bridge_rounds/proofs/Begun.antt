@@ -3,10 +3,10 @@ use Rattle.std.proofs.Common.{◌≡◌, ℕ, zero, suc, ◌+◌, ◌≤◌, ◌
 use Rattle.std.specs.Prelude.{slice_get}
 use Rattle.std.proofs.lemmas.Bool.{eqb-false, eqb-true}
 use Rattle.std.proofs.lemmas.List.{length-drop}
-use Rattle.std.proofs.lemmas.Option.{slice_get_within}
+use Rattle.std.proofs.lemmas.Option.{slice_get_within, same_Some}
+use Rattle.bridge_limits.proofs.Cases.{by_bool}
 use Rattle.bridge_config.specs.Model.{Plan}
 use Rattle.bridge_capture.specs.Written.{written_text}
-use Rattle.bridge_cycle.proofs.Cases.{by_bool}
 use Rattle.bridge_network.specs.Networks.{Sender}
 use Rattle.bridge_network.specs.Wiring.{Parts}
 use Rattle.bridge_rounds.specs.declared.station.Incoming.{Incoming}
@@ -14,9 +14,6 @@ use Rattle.bridge_rounds.specs.Stations.{IsBegun, NoneCame, NoneCameBefore, Stat
 use Rattle.bridge_rounds.specs.Rounds.{AreBegun, AreIncoming}
 use Rattle.bridge_rounds.proofs.Feeding.{set_else, set_is}
 use Rattle.bridge_rounds.proofs.Over.{there}
-
-some_is : {X : Type 0} (a b : X) → Some a ≡ Some b → a ≡ b
-some_is a b h = cc
 
 -- what is left behind a place
 pub left_at : {X : Type 0} (xs : List X) (n : ℕ) (x : X) (rest : List X) → drop n xs ≡ x ∷ rest → (slice_get xs n ≡ Some x) × (drop (suc n) xs ≡ rest)
@@ -27,7 +24,7 @@ left_at (y ∷ xs) (suc n) x rest e = left_at xs n x rest e
 
 -- one more
 pub pushed : {X : Type 0} (xs : List X) (x y : X) (b : ℕ) → slice_get (xs ++ x ∷ []) b ≡ Some y → (slice_get xs b ≡ Some y) ⊎ ((b ≡ length xs) × (x ≡ y))
-pushed [] x y zero e = inr (refl, some_is x y e)
+pushed [] x y zero e = inr (refl, same_Some x y e)
 pushed [] x y (suc b) e = absurd (cc)
 pushed (z ∷ xs) x y zero e = inl e
 pushed (z ∷ xs) x y (suc b) e = elim (pushed xs x y b e) [ inl there ↦ inl there | inr here ↦ inr (ap suc here.0, here.1) ]
@@ -41,8 +38,8 @@ begun_more {A} n came xs p c x b last plan own begun before i q d y is_q is_d is
   | inl there ↦ before i q d y is_q is_d there
   | inr here ↦
       let at : b ≡ i = last ∙ sym here.0 in
-      let same_plan : p ≡ q = some_is p q (sym plan ∙ (ap (slice_get n.plans) at ∙ is_q)) in
-      let same_came : c ≡ d = some_is c d (sym own ∙ (ap (slice_get came) at ∙ is_d)) in
+      let same_plan : p ≡ q = same_Some p q (sym plan ∙ (ap (slice_get n.plans) at ∙ is_q)) in
+      let same_came : c ≡ d = same_Some c d (sym own ∙ (ap (slice_get came) at ∙ is_d)) in
       subst (λ (z : StationState A). IsBegun q n.links i d z) here.1
       (subst (λ (z : ℕ). IsBegun q n.links z d x) at
       (subst (λ (z : Incoming A). IsBegun q n.links b z x) same_came

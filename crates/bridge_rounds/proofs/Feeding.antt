@@ -2,13 +2,10 @@
 use Rattle.std.proofs.Common.{◌≡◌, ◌≢◌, ℕ, zero, suc, ◌+◌, ◌≤◌, ◌<◌, List, [], ◌∷◌, length, map, nat_eq, option_map, slice_set, Option, Some, None, refl, sym, ap, ◌∙◌, subst, arith}
 use Rattle.std.specs.Prelude.{slice_get}
 use Rattle.std.proofs.lemmas.Bool.{eqb-false, eqb-true}
-use Rattle.std.proofs.lemmas.Option.{slice_get-map, slice_get_within}
-use Rattle.bridge_cycle.proofs.Cases.{by_bool}
+use Rattle.std.proofs.lemmas.Option.{slice_get-map, slice_get_within, same_Some}
+use Rattle.bridge_limits.proofs.Cases.{by_bool}
 use Rattle.bridge_network.specs.Networks.{Sender}
 use Rattle.bridge_rounds.specs.Stations.{AreGiven, AreGivenBefore, Ground, IsFedAt, IsLaterText, StationState, ground, tap_of, taps_of, text_by}
-
-some_is : {X : Type 0} (a b : X) → Some a ≡ Some b → a ≡ b
-some_is a b h = cc
 
 -- what is set is there
 pub set_here : {X : Type 0} (xs : List X) (i : ℕ) (x y : X) → slice_get xs i ≡ Some y → slice_get (slice_set xs i x) i ≡ Some x
@@ -18,7 +15,7 @@ set_here (z ∷ xs) (suc i) x y is = set_here xs i x y is
 
 pub set_is : {X : Type 0} (xs : List X) (i : ℕ) (x u : X) → slice_get (slice_set xs i x) i ≡ Some u → x ≡ u
 set_is [] i x u is = absurd (cc)
-set_is (z ∷ xs) zero x u is = some_is x u is
+set_is (z ∷ xs) zero x u is = same_Some x u is
 set_is (z ∷ xs) (suc i) x u is = set_is xs i x u is
 
 -- and all else stays
@@ -32,13 +29,13 @@ set_else (z ∷ xs) (suc i) (suc j) x apart = set_else xs i j x (λ e. apart (ap
 -- what is set where it is already
 pub set_there : {X : Type 0} (xs : List X) (i : ℕ) (x : X) → slice_get xs i ≡ Some x → xs ≡ slice_set xs i x
 set_there [] i x is = refl
-set_there (z ∷ xs) zero x is = ap (λ y. y ∷ xs) (some_is z x is)
+set_there (z ∷ xs) zero x is = ap (λ y. y ∷ xs) (same_Some z x is)
 set_there (z ∷ xs) (suc i) x is = ap (λ l. z ∷ l) (set_there xs i x is)
 
 -- where one is set that has the same of something, all have the same of it
 pub same_of : {X Y : Type 0} (f : X → Y) (xs : List X) (i : ℕ) (x y : X) → slice_get xs i ≡ Some y → f x ≡ f y → map f (slice_set xs i x) ≡ map f xs
 same_of f [] i x y is e = refl
-same_of {X} {Y} f (z ∷ xs) zero x y is e = ap (λ (u : Y). u ∷ map f xs) (e ∙ ap f (sym (some_is z y is)))
+same_of {X} {Y} f (z ∷ xs) zero x y is e = ap (λ (u : Y). u ∷ map f xs) (e ∙ ap f (sym (same_Some z y is)))
 same_of {X} {Y} f (z ∷ xs) (suc i) x y is e = ap (λ (l : List Y). f z ∷ l) (same_of f xs i x y is e)
 
 -- what left a port goes by the ports and the taps alone
@@ -68,7 +65,7 @@ module _ {A : Type 0} (ran given : List (StationState A)) (b i : ℕ) (x w : Sta
 
   here : IsFedAt ran w i
   here r u has came =
-      let sender : s ≡ r = some_is s r (some_is (Some s) (Some r) (sym linked ∙ (ap (λ (l : List (Option Sender)). slice_get l i) (sym senders) ∙ has))) in
+      let sender : s ≡ r = same_Some s r (same_Some (Some s) (Some r) (sym linked ∙ (ap (λ (l : List (Option Sender)). slice_get l i) (sym senders) ∙ has))) in
       let own : text ≡ u = set_is x.texts i text u (ap (λ (l : List (List ℕ)). slice_get l i) (sym texts) ∙ came) in
       subst (λ (z : Sender). IsLaterText z.delay (tap_of (slice_get ran z.from.bridge) z.from.port) u) sender
       (subst (IsLaterText s.delay (tap_of (slice_get ran s.from.bridge) s.from.port)) own
@@ -98,7 +95,7 @@ given_open {A} ran given b i x is none before = record {
   ports = λ j y less at.
       by_bool (nat_eq j i)
       (λ e r u has came.
-      let own : x ≡ y = some_is x y (sym is ∙ at) in
+      let own : x ≡ y = same_Some x y (sym is ∙ at) in
       let here : slice_get y.senders j ≡ Some None = ap (slice_get y.senders) (eqb-true j i e) ∙ (ap (λ (z : StationState A). slice_get z.senders i) (sym own) ∙ none) in
       let wrong : Some None ≡ Some (Some r) = sym here ∙ has in absurd (cc))
       (λ e. before.ports j y (let apart = eqb-false j i e in omega (arith, less, apart)) at);
@@ -117,7 +114,7 @@ given_bridge {A} ran given b n x is all before = record {
       by_bool (nat_eq c b)
       (λ e.
       let there : slice_get given b ≡ Some y = ap (slice_get given) (sym (eqb-true c b e)) ∙ at in
-      let own : x ≡ y = some_is x y (sym is ∙ there) in
+      let own : x ≡ y = same_Some x y (sym is ∙ there) in
       let many = ap (λ (z : StationState A). length z.ports) own in
       before.ports j y (omega (arith, within, many, all)) there)
       (λ e. before.bridges c j y (let apart = eqb-false c b e in omega (arith, less, apart)) at within);

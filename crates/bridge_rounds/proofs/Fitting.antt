@@ -3,7 +3,7 @@ use Rattle.std.proofs.Common.{◌≡◌, ℕ, zero, suc, Bool, false, ◌+◌, �
 use Rattle.std.specs.Prelude.{All, slice_get, if◌then◌else◌}
 use Rattle.std.proofs.lemmas.Bool.Decides.{nat_tests}
 use Rattle.std.proofs.lemmas.List.Elements.{All-cons, All-head, All-nil, All-tail}
-use Rattle.std.proofs.lemmas.Option.{slice_get-map, slice_get_within}
+use Rattle.std.proofs.lemmas.Option.{slice_get-map, slice_get_within, same_Some}
 use Rattle.bridge_limits.specs.Members.{Rising}
 use Rattle.bridge_limits.specs.declared.TheConstants.{END_OF_TIME}
 use Rattle.bridge_capture.specs.Grammar.{Captured, Records, AtEnd}
@@ -26,9 +26,6 @@ use Rattle.bridge_rounds.specs.Delaying.{delayed}
 use Rattle.bridge_rounds.specs.Stations.{AreFed, IsStation, IsTapOf, RunsBridge, StationState, tap_of}
 use Rattle.bridge_rounds.proofs.Back.{IsEarly, read_back}
 use Rattle.bridge_rounds.proofs.Over.{text_at, there}
-
-some_is : {X : Type 0} (a b : X) → Some a ≡ Some b → a ≡ b
-some_is a b h = cc
 
 -- FRAMES THAT COME LATER
 
@@ -95,7 +92,7 @@ unfolding frames_in inputs_in left_in
 ran_at [] all b x is = absurd (cc)
 ran_at {A} (y ∷ xs) all zero x is =
     let own : RanAt (y ∷ xs) all zero y = record { ran = all.0; frames = refl; inputs = refl; left = refl } in
-    subst (RanAt (y ∷ xs) all zero) (some_is y x is) own
+    subst (RanAt (y ∷ xs) all zero) (same_Some y x is) own
 ran_at (y ∷ xs) all (suc b) x is =
     let r = ran_at xs all.1 b x is in
     record { ran = r.ran; frames = r.frames; inputs = r.inputs; left = r.left }
@@ -110,15 +107,15 @@ outcome_in : {A : Type 0} (xs : List (StationState A)) (all : AllRan xs) (b : �
 unfolding inputs_in lists_in
 outcome_in [] all b x o is told = absurd (cc)
 outcome_in {A} (y ∷ xs) all zero x o is told =
-    let own : all.0.outcome ≡ o = some_is all.0.outcome o (sym all.0.told ∙ (ap (λ (z : StationState A). z.outcome) (some_is y x is) ∙ told)) in
-    subst (λ (z : StationState A). IsOutcome z.plan (events all.0.runs.inputs) all.0.runs.ends.lists o) (some_is y x is)
+    let own : all.0.outcome ≡ o = same_Some all.0.outcome o (sym all.0.told ∙ (ap (λ (z : StationState A). z.outcome) (same_Some y x is) ∙ told)) in
+    subst (λ (z : StationState A). IsOutcome z.plan (events all.0.runs.inputs) all.0.runs.ends.lists o) (same_Some y x is)
     (subst (λ (z : Outcome A). IsOutcome y.plan (events all.0.runs.inputs) all.0.runs.ends.lists z) own all.0.runs.ends.outcome)
 outcome_in (y ∷ xs) all (suc b) x o is told = outcome_in xs all.1 b x o is told
 
 output_in : {A : Type 0} (xs : List (StationState A)) (all : AllRan xs) (b q : ℕ) (x : StationState A) (out : PortPlan A) → slice_get xs b ≡ Some x → port_at x.plan.ports q ≡ Some out → IsOutput out.speed (lists_in xs all b q) (left_in xs all b q)
 unfolding lists_in left_in
 output_in [] all b q x out is at = absurd (cc)
-output_in {A} (y ∷ xs) all zero q x out is at = all.0.runs.ends.output q out (subst (λ (z : StationState A). port_at z.plan.ports q ≡ Some out) (sym (some_is y x is)) at)
+output_in {A} (y ∷ xs) all zero q x out is at = all.0.runs.ends.output q out (subst (λ (z : StationState A). port_at z.plan.ports q ≡ Some out) (sym (same_Some y x is)) at)
 output_in (y ∷ xs) all (suc b) q x out is at = output_in xs all.1 b q x out is at
 
 -- A NETWORK
@@ -135,7 +132,7 @@ station_of {A} n xs b p same is = go xs b (ap (λ (l : List (Plan A)). slice_get
   where
     go : (ys : List (StationState A)) (c : ℕ) → slice_get (map (λ (x : StationState A). x.plan) ys) c ≡ Some p → (x : StationState A) × (slice_get ys c ≡ Some x) × (x.plan ≡ p)
     go [] c e = absurd (cc)
-    go (y ∷ ys) zero e = (y, refl, some_is y.plan p e)
+    go (y ∷ ys) zero e = (y, refl, same_Some y.plan p e)
     go (y ∷ ys) (suc c) e = go ys c e
 
 -- ports have numbers above 0

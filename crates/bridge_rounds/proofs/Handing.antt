@@ -3,17 +3,14 @@ use Rattle.std.proofs.Common.{◌≡◌, ℕ, Bool, false, ◌+◌, ◌≤◌, z
 use Rattle.std.specs.Prelude.{slice_get}
 use Rattle.std.specs.Option.{option_or}
 use Rattle.std.proofs.lemmas.Bool.{eqb-false, eqb-true}
-use Rattle.std.proofs.lemmas.Option.{slice_get_within}
-use Rattle.bridge_cycle.proofs.Cases.{by_bool}
+use Rattle.std.proofs.lemmas.Option.{slice_get_within, same_Some}
+use Rattle.bridge_limits.proofs.Cases.{by_bool}
 use Rattle.bridge_network.specs.Networks.{Sender}
 use Rattle.bridge_rounds.specs.Feeding.{AreAllHanded, AreFedBut, AreFedByRun, AreHanded, AreKept, IsHanded}
 use Rattle.bridge_rounds.specs.Stations.{AreFed, AreFedAt, AreGivenBefore, Ground, HasRun, IsFedAt, IsFirstOf, IsFirstUnfed, IsLaterText, IsUnfedAt, StationState, ground, tap_of, taps_of, texts_of}
 use Rattle.bridge_rounds.proofs.Begun.{pushed}
 use Rattle.bridge_rounds.proofs.Feeding.{given_all, given_bridge, given_more, given_none, same_of, set_else, set_here, set_is, tap_kept}
 use Rattle.bridge_rounds.proofs.Turns.{AllFedBefore, AreFedBefore, all_more, fed_more, ground_kept, texts_kept}
-
-some_is : {X : Type 0} (a b : X) → Some a ≡ Some b → a ≡ b
-some_is a b h = cc
 
 -- A PORT THAT IS FED
 
@@ -32,7 +29,7 @@ fed_open xs x i none r u has came = let wrong : Some None ≡ Some (Some r) = sy
 given_here : {A : Type 0} (xs ys : List (StationState A)) (x w : StationState A) (i : ℕ) (s : Sender) (text : List ℕ) → w.senders ≡ x.senders → w.texts ≡ slice_set x.texts i text → slice_get x.senders i ≡ Some (Some s)
     → tap_of (slice_get xs s.from.bridge) s.from.port ≡ tap_of (slice_get ys s.from.bridge) s.from.port → IsLaterText s.delay (tap_of (slice_get xs s.from.bridge) s.from.port) text → IsFedAt ys w i
 given_here xs ys x w i s text senders texts linked taps sent r u has came =
-    let sender : s ≡ r = some_is s r (some_is (Some s) (Some r) (sym linked ∙ (ap (λ (l : List (Option Sender)). slice_get l i) (sym senders) ∙ has))) in
+    let sender : s ≡ r = same_Some s r (same_Some (Some s) (Some r) (sym linked ∙ (ap (λ (l : List (Option Sender)). slice_get l i) (sym senders) ∙ has))) in
     let own : text ≡ u = set_is x.texts i text u (ap (λ (l : List (List ℕ)). slice_get l i) (sym texts) ∙ came) in
     subst (λ (z : Sender). IsLaterText z.delay (tap_of (slice_get ys z.from.bridge) z.from.port) u) sender
     (subst (IsLaterText s.delay (tap_of (slice_get ys s.from.bridge) s.from.port)) own
@@ -73,7 +70,7 @@ fed_but {A} ran old new same texts kept fed b i x s at within linked stood =
     let moved : slice_get old s.from.bridge ≡ slice_get new s.from.bridge = k.1 ∙ sym k.3 in
     fed_moved old new y.0 x i (ap (λ (l : List (Option Sender)). slice_get l i) senders) (ap (λ (l : List (List ℕ)). slice_get l i) (texts_kept new old b x y.0 texts at y.1))
     (λ r has.
-    let sender : s ≡ r = some_is s r (some_is (Some s) (Some r) (sym own ∙ has)) in
+    let sender : s ≡ r = same_Some s r (same_Some (Some s) (Some r) (sym own ∙ has)) in
     subst (λ (z : Sender). tap_of (slice_get old z.from.bridge) z.from.port ≡ tap_of (slice_get new z.from.bridge) z.from.port) sender
     (ap (λ (o : Option (StationState A)). tap_of o s.from.port) moved))
     (fed b i y.0 k.0 s y.1 (omega (arith, within, many)) own k.1 k.2)
@@ -126,7 +123,7 @@ given_same {A} ran given b i x is fed before = record {
       by_bool (nat_eq j i)
       (λ e.
       subst (IsFedAt ran y) (sym (eqb-true j i e))
-      (subst (λ (z : StationState A). IsFedAt ran z i) (some_is x y (sym is ∙ at))
+      (subst (λ (z : StationState A). IsFedAt ran z i) (same_Some x y (sym is ∙ at))
       (fed_moved given ran x x i refl refl (λ s h. tap_kept ran given s.from.bridge s.from.port before.same before.taps) fed)))
       (λ e. before.ports j y (let apart = eqb-false j i e in omega (arith, less, apart)) at);
 }
@@ -137,7 +134,7 @@ handed_same {A} old b i x is fed = record {
   gives = λ ran before. given_same ran old b i x is fed before;
   still = λ ran but. but;
   unchanged = λ e. refl;
-  fed = λ y e at. subst (λ (z : StationState A). IsFedAt old z i) (some_is x y (sym is ∙ at)) fed;
+  fed = λ y e at. subst (λ (z : StationState A). IsFedAt old z i) (same_Some x y (sym is ∙ at)) fed;
   port = λ q y e at. absurd (cc);
   unfed = λ q y e at. absurd (cc);
 }
@@ -150,8 +147,8 @@ handed_other {A} old b i q x w s text is same taps texts linked sent port unfed 
   still = λ ran but. still_set ran old b i x w s text is same taps texts linked sent but;
   unchanged = λ e. absurd (cc);
   fed = λ y e at. absurd (cc);
-  port = λ p y e at. subst (λ (z : StationState A). slice_get z.ports i ≡ Some p) (some_is x y (sym is ∙ at)) (port ∙ e);
-  unfed = λ p y e at. subst (λ (z : StationState A). IsUnfedAt old z i) (some_is x y (sym is ∙ at)) unfed;
+  port = λ p y e at. subst (λ (z : StationState A). slice_get z.ports i ≡ Some p) (same_Some x y (sym is ∙ at)) (port ∙ e);
+  unfed = λ p y e at. subst (λ (z : StationState A). IsUnfedAt old z i) (same_Some x y (sym is ∙ at)) unfed;
 }
 
 -- THE PORTS OF A BRIDGE
@@ -221,7 +218,7 @@ handed_bridge {A} old new b n x y found is at all before =
       still = before.still;
       unchanged = before.unchanged;
       fed = λ e i z there within.
-          let own = ap (λ (v : StationState A). length v.ports) (some_is x z (sym is ∙ there)) in
+          let own = ap (λ (v : StationState A). length v.ports) (same_Some x z (sym is ∙ there)) in
           before.fed e i z there (omega (arith, within, all, own));
       first = before.first;
     }

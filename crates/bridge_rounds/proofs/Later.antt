@@ -6,6 +6,7 @@ use Rattle.std.specs.Prelude.{All}
 use Rattle.std.specs.List.{flat_map}
 use Rattle.std.proofs.lemmas.List.{length-append, take_rest}
 use Rattle.std.proofs.lemmas.List.Elements.{All-head, All-tail}
+use Rattle.std.proofs.lemmas.Option.{same_Some}
 use Rattle.bridge_capture.specs.Grammar.{Captured}
 use Rattle.bridge_capture.specs.Written.{written_words, written_item}
 use Rattle.bridge_core.specs.Lines.{FitsRecord}
@@ -122,12 +123,9 @@ adding_more delay octets old left text next rest fewer adds so_far frames is fit
         let added = adds c (flat_map written_item more) (All-head FitsRecord c more all) is_left in (
           more,
           All-tail FitsRecord c more all,
-          some_is rest (flat_map written_item more) added.0,
+          same_Some rest (flat_map written_item more) added.0,
           ap (λ (z : List ℕ). z ++ flat_map written_item (map (delayed delay) more)) added.1 ∙ (append_assoc text (written_item (delayed delay c)) (flat_map written_item (map (delayed delay) more)) ∙ same),
         )
-      where
-        some_is : (a b : List ℕ) → Some a ≡ Some b → a ≡ b
-        some_is a b h = cc
 
 -- none is left
 pub adding_all : (delay : ℕ) (octets old left text next : List ℕ) → next ≡ text → AddsLater delay left text next None → IsAdding delay octets old left text → (frames : List Captured) → octets ≡ flat_map written_item frames → All FitsRecord frames → next ≡ old ++ flat_map written_item (map (delayed delay) frames)

@@ -5,7 +5,7 @@ use Rattle.std.proofs.lemmas.Bool.{eq-eqb}
 use Rattle.std.proofs.lemmas.Bool.Decides.{nat_tests}
 use Rattle.std.proofs.lemmas.List.{length-map}
 use Rattle.std.proofs.lemmas.List.Elements.{All-head, All-tail}
-use Rattle.std.proofs.lemmas.Option.{slice_get-map, slice_get_within}
+use Rattle.std.proofs.lemmas.Option.{slice_get-map, slice_get_within, same_Some}
 use Rattle.bridge_limits.specs.Members.{AllAfter, Rising}
 use Rattle.bridge_capture.specs.Grammar.{Records, AtEnd}
 use Rattle.bridge_capture.specs.Memory.{MemoryDevice}
@@ -24,23 +24,20 @@ use Rattle.bridge_core.proofs.Sorted.{rising_numbers}
 use Rattle.bridge_network.specs.Networks.{Sender}
 use Rattle.bridge_rounds.specs.Stations.{IsStation, RunsBridge, StopsBridge, of_memory, taps_in, text_by, texts_in}
 
-some_is : {X : Type 0} (a b : X) → Some a ≡ Some b → a ≡ b
-some_is a b h = cc
-
 -- what a sink or a source in memory holds
 abbrev pub held : MemoryDevice → Option (List ℕ)
 held d = Some d.octets
 
 after_at : (p q : ℕ) (ports : List ℕ) (i : ℕ) → AllAfter (λ a b. a < b) p ports → slice_get ports i ≡ Some q → p < q
 after_at p q [] i a e = absurd (cc)
-after_at p q (r ∷ ports) zero a e = subst (λ (z : ℕ). p < z) (some_is r q e) a.0
+after_at p q (r ∷ ports) zero a e = subst (λ (z : ℕ). p < z) (same_Some r q e) a.0
 after_at p q (r ∷ ports) (suc i) a e = after_at p q ports i a.1 e
 
 -- the text beside a port is that at its place
 pub text_at : (ports : List ℕ) (texts : List (List ℕ)) (i q : ℕ) (text : List ℕ) → Rising (λ a b. a < b) ports → slice_get ports i ≡ Some q → slice_get texts i ≡ Some text → text_by ports texts q ≡ text
 text_at [] texts i q text r at is = absurd (cc)
 text_at (p ∷ ports) [] i q text r at is = absurd (cc)
-text_at (p ∷ ports) (t ∷ texts) zero q text r at is = ap (λ b. if b then t else text_by ports texts q) (eq-eqb p q (some_is p q at)) ∙ some_is t text is
+text_at (p ∷ ports) (t ∷ texts) zero q text r at is = ap (λ b. if b then t else text_by ports texts q) (eq-eqb p q (same_Some p q at)) ∙ same_Some t text is
 text_at (p ∷ ports) (t ∷ texts) (suc i) q text r at is =
     let less = after_at p q ports i r.0 at in
     let apart : nat_eq p q ≡ false = grind (arith, nat_tests) in
@@ -80,13 +77,13 @@ runs_bridge {A} p ports commands texts olds news o are many as_many empty ran = 
       let old = there olds i (omega (arith, inside, as_many)) in
       let w = ran.written i q old.0 new.0 at old.1 new.1 in
       let none : old.0.octets ≡ [] = empty_at olds i old.0 empty old.1 in
-      let same : new.0.octets ≡ tap = some_is new.0.octets tap (sym (slice_get-map (λ (d : MemoryDevice). d.octets) news i ∙ ap (option_map (λ (d : MemoryDevice). d.octets)) new.1) ∙ is) in
+      let same : new.0.octets ≡ tap = same_Some new.0.octets tap (sym (slice_get-map (λ (d : MemoryDevice). d.octets) news i ∙ ap (option_map (λ (d : MemoryDevice). d.octets)) new.1) ∙ is) in
       record { is = sym same ∙ (w.0 ∙ ap (λ (z : List ℕ). z ++ written_text (ran.left q)) none); fits = w.1 };
 }
   where
     empty_at : (ds : List MemoryDevice) (i : ℕ) (d : MemoryDevice) → All (λ d. d.octets ≡ []) ds → slice_get ds i ≡ Some d → d.octets ≡ []
     empty_at [] i d all is = absurd (cc)
-    empty_at (x ∷ xs) zero d all is = subst (λ (z : MemoryDevice). z.octets ≡ []) (some_is x d is) (All-head (λ (d : MemoryDevice). d.octets ≡ []) x xs all)
+    empty_at (x ∷ xs) zero d all is = subst (λ (z : MemoryDevice). z.octets ≡ []) (same_Some x d is) (All-head (λ (d : MemoryDevice). d.octets ≡ []) x xs all)
     empty_at (x ∷ xs) (suc i) d all is = empty_at xs i d (All-tail (λ (d : MemoryDevice). d.octets ≡ []) x xs all) is
 
 -- what each source has left
@@ -99,7 +96,7 @@ pub are_rests : (ports : List ℕ) (sources : List MemoryDevice) → Rising (λ 
 are_rests [] sources r i q s at is = absurd (cc)
 are_rests (p ∷ ports) [] r i q s at is = absurd (cc)
 are_rests (p ∷ ports) (t ∷ sources) r zero q s at is =
-    ap held (sym (some_is t s is)) ∙ sym (ap (λ b. if b then held t else rest_by ports sources q) (eq-eqb p q (some_is p q at)))
+    ap held (sym (same_Some t s is)) ∙ sym (ap (λ b. if b then held t else rest_by ports sources q) (eq-eqb p q (same_Some p q at)))
 are_rests (p ∷ ports) (t ∷ sources) r (suc i) q s at is =
     let less = after_at p q ports i r.0 at in
     let apart : nat_eq p q ≡ false = grind (arith, nat_tests) in
@@ -145,7 +142,7 @@ kept_ran {A} p commands ports senders texts taps o numbers are sent many tapped 
   sent = sent;
   texts = many;
   tapped = λ r e. length-map taps (λ (d : MemoryDevice). d.octets) ∙ tapped;
-  runs = λ r e. subst (RunsBridge p ports commands texts (taps_in taps)) (some_is o r e) runs;
+  runs = λ r e. subst (RunsBridge p ports commands texts (taps_in taps)) (same_Some o r e) runs;
 }
 
 -- a bridge that hasn't run is kept

@@ -4,8 +4,9 @@ use Rattle.std.specs.Prelude.{All, IfOk, Result, Ok, Err, slice_get, nat_eq, is_
 use Rattle.std.specs.Map.{lookup}
 use Rattle.std.proofs.lemmas.List.{length-map}
 use Rattle.std.proofs.lemmas.List.Elements.{All-head, All-tail}
-use Rattle.std.proofs.lemmas.Option.{slice_get-map, slice_get_within}
+use Rattle.std.proofs.lemmas.Option.{slice_get-map, slice_get_within, same_Some}
 use Rattle.bridge_limits.specs.Members.{In}
+use Rattle.bridge_limits.proofs.Members.{in_push}
 use Rattle.bridge_capture.specs.Memory.{MemoryDevice}
 use Rattle.bridge_capture.specs.Written.{written_text}
 use Rattle.bridge_config.specs.declared.command.Command.{Command}
@@ -27,9 +28,6 @@ use Rattle.bridge_rounds.proofs.Fitting.{AllRan, AreOf, frames_in, left_there, n
 use Rattle.bridge_rounds.proofs.Over.{there}
 use Rattle.bridge_rounds.proofs.Turns.{ground_kept}
 
-some_is : {X : Type 0} (a b : X) → Some a ≡ Some b → a ≡ b
-some_is a b h = cc
-
 -- each bridge has run
 all_ran : {A : Type 0} (xs : List (StationState A)) → All HasRun xs → ((b : ℕ) (x : StationState A) → slice_get xs b ≡ Some x → IsStation x) → AllRan xs
 all_ran [] ran kept = tt
@@ -46,14 +44,14 @@ by_places {X} {Y} f (x ∷ xs) (y ∷ ys) many each = ap (λ z. z ∷ map f xs) 
 
 commands_at : {A : Type 0} (came : List (Incoming A)) (b : ℕ) (c : Incoming A) → slice_get came b ≡ Some c → commands_in came b ≡ commands_of c.commands.items
 commands_at [] b c is = absurd (cc)
-commands_at {A} (d ∷ came) zero c is = ap (λ (z : Incoming A). commands_of z.commands.items) (some_is d c is)
+commands_at {A} (d ∷ came) zero c is = ap (λ (z : Incoming A). commands_of z.commands.items) (same_Some d c is)
 commands_at (d ∷ came) (suc b) c is = commands_at came b c is
 
 -- the text of an open port stays
 open_at : (senders : List (Option Sender)) (texts : List (List ℕ)) (i : ℕ) → slice_get senders i ≡ Some None → slice_get (open_texts senders texts) i ≡ slice_get texts i
 open_at [] texts i is = absurd (cc)
 open_at (s ∷ senders) [] i is = refl
-open_at (s ∷ senders) (t ∷ texts) zero is = let e = some_is s None is in ap (λ (o : Option Sender). Some (if is_some o then [] else t)) e
+open_at (s ∷ senders) (t ∷ texts) zero is = let e = same_Some s None is in ap (λ (o : Option Sender). Some (if is_some o then [] else t)) e
 open_at (s ∷ senders) (t ∷ texts) (suc i) is = open_at senders texts i is
 
 module _ {A : Type 0} (n : Parts A) (came : List (Incoming A)) (begun xs : List (StationState A)) (settled : List (Settled A))
@@ -96,7 +94,7 @@ module _ {A : Type 0} (n : Parts A) (came : List (Incoming A)) (begun xs : List 
 
   are : AreOf (network_of n) xs
   are = record {
-    plans = sym (by_places (λ (x : StationState A). x.plan) xs n.plans many (λ b x p is at. some_is x.plan p (sym (plan_at b x is) ∙ at)));
+    plans = sym (by_places (λ (x : StationState A). x.plan) xs n.plans many (λ b x p is at. same_Some x.plan p (sym (plan_at b x is) ∙ at)));
     kept = kept;
     senders = λ b x is.
         let w = began_at b x is in
@@ -122,14 +120,14 @@ module _ {A : Type 0} (n : Parts A) (came : List (Incoming A)) (begun xs : List 
       let s = there settled b (omega (arith, within, one, other, both)) in
       let here = slice_get-map (λ (t : Settled A). Some t.outcome) settled b ∙ ap (option_map (λ (t : Settled A). Some t.outcome)) s.1 in
       let own = slice_get-map (λ (y : StationState A). y.outcome) xs b ∙ ap (option_map (λ (y : StationState A). y.outcome)) is in
-      sym (some_is (Some s.0.outcome) x.outcome (sym here ∙ (ap (λ (l : List (Option (Outcome A))). slice_get l b) told.outcomes ∙ own))) ∙ ap (λ (z : Outcome A). Some z) (sym (outcomes b s.0 s.1))
+      sym (same_Some (Some s.0.outcome) x.outcome (sym here ∙ (ap (λ (l : List (Option (Outcome A))). slice_get l b) told.outcomes ∙ own))) ∙ ap (λ (z : Outcome A). Some z) (sym (outcomes b s.0 s.1))
 
   -- the text of an open port is its capture
   text_at : (b i q : ℕ) (x : StationState A) (c : Incoming A) (text : Vec ℕ A) → slice_get xs b ≡ Some x → slice_get x.ports i ≡ Some q → sender (map link_of n.links) b q ≡ None → slice_get came b ≡ Some c → slice_get c.captures.items i ≡ Some text → slice_get x.texts i ≡ Some text.items
   text_at b i q x c text is at open_port own at_text =
       let w = began_at b x is in
       let g = w.same_ground in
-      let same_own : w.own ≡ c = some_is w.own c (sym w.own_is ∙ own) in
+      let same_own : w.own ≡ c = same_Some w.own c (sym w.own_is ∙ own) in
       let none : slice_get x.senders i ≡ Some None = ap (λ (l : List (Option Sender)). slice_get l i) (are.senders b x is) ∙ (slice_get-map (sender (map link_of n.links) b) x.ports i ∙ (ap (option_map (sender (map link_of n.links) b)) at ∙ ap (λ (o : Option Sender). Some o) open_port)) in
       let first_none : slice_get w.first.senders i ≡ Some None = ap (λ (l : List (Option Sender)). slice_get l i) (sym (ap (λ (z : Ground A). z.senders) g)) ∙ none in
       let came_text : slice_get (texts_in w.own.captures.items) i ≡ Some text.items = ap (λ (d : Incoming A). slice_get (texts_in d.captures.items) i) same_own ∙ (slice_get-map (λ (v : Vec ℕ A). v.items) c.captures.items i ∙ ap (option_map (λ (v : Vec ℕ A). v.items)) at_text) in
@@ -141,7 +139,7 @@ module _ {A : Type 0} (n : Parts A) (came : List (Incoming A)) (begun xs : List 
       let within = slice_get_within n.plans b p plan in
       let size = many in
       let x = there xs b (omega (arith, within, size)) in
-      (x.0, x.1, some_is x.0.plan p (sym (plan_at b x.0 x.1) ∙ plan))
+      (x.0, x.1, same_Some x.0.plan p (sym (plan_at b x.0 x.1) ∙ plan))
 
   pub runs_network : RunsNetwork n came settled
   runs_network = record {
@@ -160,7 +158,7 @@ module _ {A : Type 0} (n : Parts A) (came : List (Incoming A)) (begun xs : List 
         let here : slice_get x.0.ports i ≡ Some q = ap (λ (l : List ℕ). slice_get l i) order ∙ at in
         let one = slice_get-map (λ (t : Settled A). taps_in t.taps.items) settled b ∙ ap (option_map (λ (t : Settled A). taps_in t.taps.items)) told_is in
         let other = slice_get-map (λ (y : StationState A). y.taps) xs b ∙ ap (option_map (λ (y : StationState A). y.taps)) x.1 in
-        let same_taps : taps_in s.taps.items ≡ x.0.taps = some_is (taps_in s.taps.items) x.0.taps (sym one ∙ (ap (λ (l : List (List (List ℕ))). slice_get l b) told.taps ∙ other)) in
+        let same_taps : taps_in s.taps.items ≡ x.0.taps = same_Some (taps_in s.taps.items) x.0.taps (sym one ∙ (ap (λ (l : List (List (List ℕ))). slice_get l b) told.taps ∙ other)) in
         let own : slice_get x.0.taps i ≡ Some tap.octets = ap (λ (l : List (List ℕ)). slice_get l i) (sym same_taps) ∙ (slice_get-map (λ (d : MemoryDevice). d.octets) s.taps.items i ∙ ap (option_map (λ (d : MemoryDevice). d.octets)) tap_is) in
         tap_read (network_of n) (commands_in came) xs are requested all fed network b i q x.0 tap.octets x.1 here own
         ∙ sym (ap written_text (left_there (network_of n) (commands_in came) xs are requested all fed network o (told_at o outcomes) b q));
@@ -174,17 +172,12 @@ if_ok P Q (Err e) p h = tt
 -- an item of a list
 pub at_each : {X : Type 0} (P : X → Type 0) (xs : List X) → All P xs → (b : ℕ) (x : X) → slice_get xs b ≡ Some x → P x
 at_each P [] all b x is = absurd (cc)
-at_each P (y ∷ xs) all zero x is = subst P (some_is y x is) (All-head P y xs all)
+at_each P (y ∷ xs) all zero x is = subst P (same_Some y x is) (All-head P y xs all)
 at_each P (y ∷ xs) all (suc b) x is = at_each P xs (All-tail P y xs all) b x is
-
--- commands have no moment of their own
-in_more : {X : Type 0} (x y : X) (xs : List X) → In x (xs ++ y ∷ []) → In x xs ⊎ (x ≡ y)
-in_more x y [] h = elim h [ inl here ↦ inr here | inr none ↦ absurd none ]
-in_more x y (z ∷ xs) h = elim h [ inl here ↦ inl (inl here) | inr more ↦ elim (in_more x y xs more) [ inl there_is ↦ inl (inr there_is) | inr last ↦ inr last ] ]
 
 commands_timed : (cs : List Command) → AreTimed (commands_of cs)
 commands_timed [] x member = absurd member
-commands_timed (c ∷ cs) x member = elim (in_more x (asked c) (commands_of cs) member) [
+commands_timed (c ∷ cs) x member = elim (in_push x (asked c) (commands_of cs) member) [
   | inl old ↦ commands_timed cs x old
   | inr new ↦ subst (λ (y : Input). IsTimed y.at y.event) (sym new) tt
 ]

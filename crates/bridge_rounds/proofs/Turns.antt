@@ -1,21 +1,18 @@
 -- The bridges of a network from turn to turn of a loop.
 use Rattle.std.proofs.Common.{◌≡◌, ◌≢◌, ℕ, zero, suc, Bool, true, false, ◌+◌, ◌≤◌, ◌<◌, List, [], ◌∷◌, ◌++◌, length, map, take, drop, drop_of_length-le, nat_eq, nat_lt, append-nil, slice_index_or, slice_set, Option, Some, None, refl, sym, ap, ◌∙◌, subst, arith}
-use Rattle.std.proofs.lemmas.Option.{slice_get-get_or}
+use Rattle.std.proofs.lemmas.Option.{slice_get-get_or, same_Some}
 use Rattle.std.specs.Prelude.{All, IfOk, Result, Ok, Err, Vec, slice_get, is_some, if◌then◌else◌}
 use Rattle.std.proofs.lemmas.Bool.{eq-eqb, eqb-false, eqb-true}
-use Rattle.bridge_cycle.proofs.Cases.{by_bool}
 use Rattle.std.proofs.lemmas.Bool.Decides.{nat_tests}
 use Rattle.bridge_network.specs.Networks.{Sender}
 use Rattle.bridge_capture.specs.Grammar.{Captured}
 use Rattle.bridge_capture.specs.Written.{written_text}
 use Rattle.bridge_core.specs.Lines.{FitsRecord}
 use Rattle.std.proofs.lemmas.List.Elements.{All-cons, All-head, All-nil, All-tail}
+use Rattle.bridge_limits.proofs.Cases.{by_bool}
 use Rattle.bridge_inputs.specs.declared.fault.RunFault.{RunFault}
 use Rattle.bridge_rounds.specs.Delaying.{delayed}
 use Rattle.bridge_rounds.specs.Stations.{AreFedAt, Ground, HasRun, IsFedAt, IsLaterText, StationState, StopsBridge, ground, open_texts, tap_of, text_by, texts_of}
-
-some_is : {X : Type 0} (a b : X) → Some a ≡ Some b → a ≡ b
-some_is a b h = cc
 
 -- where one is set that has the same of something, all have the same of it
 pub map_set : {X Y : Type 0} (f : X → Y) (xs : List X) (i : ℕ) (d x : X) → f x ≡ f (slice_index_or xs i d) → map f (slice_set xs i x) ≡ map f xs
@@ -66,7 +63,7 @@ map_of_set f (y ∷ xs) (suc i) x = ap (λ z. f y ∷ z) (map_of_set f xs i x)
 pub open_set : (senders : List (Option Sender)) (texts : List (List ℕ)) (i : ℕ) (s : Sender) (t : List ℕ) → slice_get senders i ≡ Some (Some s) → open_texts senders (slice_set texts i t) ≡ open_texts senders texts
 open_set [] texts i s t is = absurd (cc)
 open_set (o ∷ senders) [] i s t is = refl
-open_set (o ∷ senders) (x ∷ texts) zero s t is = let e : o ≡ Some s = some_is o (Some s) is in ap (λ (p : Option Sender). (if is_some p then [] else t) ∷ open_texts senders texts) e ∙ sym (ap (λ (p : Option Sender). (if is_some p then [] else x) ∷ open_texts senders texts) e)
+open_set (o ∷ senders) (x ∷ texts) zero s t is = let e : o ≡ Some s = same_Some o (Some s) is in ap (λ (p : Option Sender). (if is_some p then [] else t) ∷ open_texts senders texts) e ∙ sym (ap (λ (p : Option Sender). (if is_some p then [] else x) ∷ open_texts senders texts) e)
 open_set (o ∷ senders) (x ∷ texts) (suc i) s t is = ap (λ (l : List (List ℕ)). (if is_some o then [] else x) ∷ l) (open_set senders texts i s t is)
 
 pub index_map : {X Y : Type 0} (f : X → Y) (xs : List X) (i : ℕ) (d : X) → slice_index_or (map f xs) i (f d) ≡ f (slice_index_or xs i d)
@@ -87,7 +84,7 @@ later_if delay tap (Err e) h = tt
 -- the bridge at a place
 pub at_place : {X : Type 0} (xs : List X) (i : ℕ) (d x : X) → i < length xs → slice_get xs i ≡ Some x → slice_index_or xs i d ≡ x
 at_place [] i d x l is = absurd (cc)
-at_place (y ∷ xs) zero d x l is = some_is y x is
+at_place (y ∷ xs) zero d x l is = same_Some y x is
 at_place (y ∷ xs) (suc i) d x l is = at_place xs i d x (omega (arith, l)) is
 
 -- what was looked up of bridges
@@ -98,8 +95,8 @@ tap_there xs b q y is = sym (ap (λ (o : Option _). tap_of o q) is)
 pub fed_one : {A : Type 0} (xs : List (StationState A)) (b i : ℕ) (st x : StationState A) (s : Sender) (t : List ℕ) → st ≡ x → slice_get st.senders i ≡ Some (Some s) → slice_get st.texts i ≡ Some t
     → IsLaterText s.delay (tap_of (slice_get xs s.from.bridge) s.from.port) t → IsFedAt xs x i
 fed_one {A} xs b i st x s t same sent text is_later r u is_r is_u =
-    let sender : s ≡ r = some_is s r (some_is (Some s) (Some r) (sym sent ∙ (ap (λ (z : StationState A). slice_get z.senders i) same ∙ is_r))) in
-    let own : t ≡ u = some_is t u (sym text ∙ (ap (λ (z : StationState A). slice_get z.texts i) same ∙ is_u)) in
+    let sender : s ≡ r = same_Some s r (same_Some (Some s) (Some r) (sym sent ∙ (ap (λ (z : StationState A). slice_get z.senders i) same ∙ is_r))) in
+    let own : t ≡ u = same_Some t u (sym text ∙ (ap (λ (z : StationState A). slice_get z.texts i) same ∙ is_u)) in
     subst (λ (z : Sender). IsLaterText z.delay (tap_of (slice_get xs z.from.bridge) z.from.port) u) sender
     (subst (IsLaterText s.delay (tap_of (slice_get xs s.from.bridge) s.from.port)) own is_later)
 
@@ -115,12 +112,12 @@ looked_up xs i d x test e = let within : i < length xs = grind (arith, nat_tests
 
 ground_at : {A : Type 0} (xs : List (StationState A)) (b : ℕ) (x : StationState A) → slice_get xs b ≡ Some x → slice_get (map ground xs) b ≡ Some (ground x)
 ground_at [] b x is = absurd (cc)
-ground_at (y ∷ xs) zero x is = ap (λ z. Some (ground z)) (some_is y x is)
+ground_at (y ∷ xs) zero x is = ap (λ z. Some (ground z)) (same_Some y x is)
 ground_at (y ∷ xs) (suc b) x is = ground_at xs b x is
 
 -- bridges of the same ground have the same ground each
 pub ground_kept : {A : Type 0} (xs ys : List (StationState A)) (b : ℕ) (x y : StationState A) → map ground xs ≡ map ground ys → slice_get xs b ≡ Some x → slice_get ys b ≡ Some y → ground x ≡ ground y
-ground_kept {A} xs ys b x y same is at = some_is (ground x) (ground y) (sym (ground_at xs b x is) ∙ (ap (λ (l : List (Ground A)). slice_get l b) same ∙ ground_at ys b y at))
+ground_kept {A} xs ys b x y same is at = same_Some (ground x) (ground y) (sym (ground_at xs b x is) ∙ (ap (λ (l : List (Ground A)). slice_get l b) same ∙ ground_at ys b y at))
 
 pub ports_kept : {A : Type 0} (xs ys : List (StationState A)) (b : ℕ) (x y : StationState A) → map ground xs ≡ map ground ys → slice_get xs b ≡ Some x → slice_get ys b ≡ Some y → x.ports ≡ y.ports
 ports_kept {A} xs ys b x y same is at = ap (λ (g : Ground A). g.ports) (ground_kept xs ys b x y same is at)
@@ -148,11 +145,11 @@ all_more xs place before here b lt =
 
 texts_at : {A : Type 0} (xs : List (StationState A)) (b : ℕ) (x : StationState A) → slice_get xs b ≡ Some x → slice_get (map texts_of xs) b ≡ Some x.texts
 texts_at [] b x is = absurd (cc)
-texts_at (y ∷ xs) zero x is = ap (λ z. Some (texts_of z)) (some_is y x is)
+texts_at (y ∷ xs) zero x is = ap (λ z. Some (texts_of z)) (same_Some y x is)
 texts_at (y ∷ xs) (suc b) x is = texts_at xs b x is
 
 pub texts_kept : {A : Type 0} (xs ys : List (StationState A)) (b : ℕ) (x y : StationState A) → map texts_of xs ≡ map texts_of ys → slice_get xs b ≡ Some x → slice_get ys b ≡ Some y → x.texts ≡ y.texts
-texts_kept xs ys b x y same is at = some_is x.texts y.texts (sym (texts_at xs b x is) ∙ (ap (λ (l : List (List (List ℕ))). slice_get l b) same ∙ texts_at ys b y at))
+texts_kept xs ys b x y same is at = same_Some x.texts y.texts (sym (texts_at xs b x is) ∙ (ap (λ (l : List (List (List ℕ))). slice_get l b) same ∙ texts_at ys b y at))
 
 -- a bridge that stopped over its texts stopped over those that came to it
 pub stops_kept : {A : Type 0} (xs ys : List (StationState A)) (b : ℕ) (x y : StationState A) (f : RunFault) → map ground xs ≡ map ground ys → map texts_of xs ≡ map texts_of ys → slice_get xs b ≡ Some x → slice_get ys b ≡ Some y

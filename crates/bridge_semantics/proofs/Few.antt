@@ -8,7 +8,7 @@ use Rattle.std.proofs.lemmas.List.{length-append, length-map}
 use Rattle.std.proofs.lemmas.Cmp.{nat_eq_equiv}
 use Rattle.std.proofs.lemmas.Map.Made.{length-le_from_is_member}
 use Rattle.bridge_limits.specs.Members.{In, AllAfter, Rising}
-use Rattle.bridge_cycle.proofs.Cases.{by_bool}
+use Rattle.bridge_limits.proofs.Cases.{by_bool}
 use Rattle.bridge_capture.specs.Grammar.{Captured}
 use Rattle.bridge_frame.specs.declared.Speed.{Speed}
 use Rattle.bridge_frame.specs.Link.{occupied}

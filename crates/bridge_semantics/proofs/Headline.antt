@@ -5,7 +5,8 @@ use Rattle.std.specs.Map.{lookup}
 use Rattle.std.proofs.lemmas.Option.{same_Some}
 use Rattle.std.proofs.lemmas.Bool.{eqb-true, eqb-false}
 use Rattle.bridge_limits.specs.Members.{In}
-use Rattle.bridge_cycle.proofs.Cases.{by_bool}
+use Rattle.bridge_limits.proofs.Members.{in_either}
+use Rattle.bridge_limits.proofs.Cases.{by_bool}
 use Rattle.bridge_frame.proofs.Times.{occupied_some}
 use Rattle.bridge_filter.specs.declared.FilterPlan.{FilterPlan}
 use Rattle.bridge_filter.specs.Verdicts as verdicts
@@ -32,7 +33,7 @@ use Rattle.bridge_filter.proofs.OwnShown.{verdicts_own, buckets_own, flags_own}
 use Rattle.bridge_config.proofs.PlanPorts.{at_port, at_own}
 use Rattle.bridge_semantics.proofs.Safe.{IsSafe, alone, apart}
 use Rattle.bridge_semantics.proofs.Steps.{steps_own}
-use Rattle.bridge_semantics.proofs.Offering.{in_split, none_offered, offered_by, sent, offers_own}
+use Rattle.bridge_semantics.proofs.Offering.{none_offered, offered_by, sent, offers_own}
 
 -- MEMBERS OF LISTS
 
@@ -125,7 +126,7 @@ own_flow p s f out plan there (Cleared clear n ∷ es) o i = by_bool (is_named s
 own_flow p s f out plan there (Arrived a ∷ es) o i = by_bool (is_number s (flow_of p a))
     (λ k.
     let j : In o (offer_of p out a (own p s f es) ++ offers p out (own p s f es)) = rw k at i in
-    elim (in_split o (offer_of p out a (own p s f es)) (offers p out (own p s f es)) j) [
+    elim (in_either o (offer_of p out a (own p s f es)) (offers p out (own p s f es)) j) [
       | inl here ↦ arrived_flow p s out plan there a (own p s f es) o (call_of p a) refl k here
       | inr later ↦ own_flow p s f out plan there es o later
     ])

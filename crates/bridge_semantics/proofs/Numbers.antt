@@ -2,7 +2,8 @@
 use Rattle.std.proofs.Common.{◌≡◌, ◌+◌, ◌≤◌, ℕ, true, List, [], ◌∷◌, ap, ◌∙◌, sym, subst, arith, inl, inr, Option, Some, None, nat_eq}
 use Rattle.std.proofs.lemmas.Option.{same_Some}
 use Rattle.bridge_limits.specs.Members.{In}
-use Rattle.bridge_cycle.proofs.Cases.{by_bool}
+use Rattle.bridge_limits.proofs.Members.{in_either}
+use Rattle.bridge_limits.proofs.Cases.{by_bool}
 use Rattle.bridge_forward.specs.Ports.{has}
 use Rattle.bridge_filter.specs.declared.FilterPlan.{FilterPlan}
 use Rattle.bridge_filter.specs.declared.Verdict.{Verdict}
@@ -16,7 +17,6 @@ use Rattle.bridge_semantics.specs.declared.way.Way.{Way}
 use Rattle.bridge_semantics.specs.declared.way.Way.TheVariants.{Malformed, Nowhere, Goes}
 use Rattle.bridge_semantics.specs.Events.{Arrival, Event, Arrived, Cleared, way_of, metered, call_by, police_of, steps, flow_by, flow_of, count}
 use Rattle.bridge_semantics.specs.Offers.{Offer, offer_by, offer_of_step, offer_on, offer_of, offers}
-use Rattle.bridge_semantics.proofs.Offering.{in_split}
 
 -- a copy that a frame offers for a filter: its number is the next one, and the frame is the filter's
 pub record IsNumbered {A : Type 0} (p : Plan A) (n : ℕ) (o : Offer) (es : List Event) (f : Option (ℕ × FilterPlan)) : Type 0 where
@@ -59,7 +59,7 @@ own_next p out a es n o i fl = by_way p out a es n (way_of p a) o i fl
 pub own_below : {A : Type 0} (p : Plan A) (out : PortPlan A) (n : ℕ) (es : List Event) (o : Offer) → In o (offers p out es) → o.item.flow ≡ Some n → o.item.own ≤ count p n es
 own_below p out n [] o i fl = absurd i
 own_below p out n (Cleared clear m ∷ es) o i fl = own_below p out n es o i fl
-own_below p out n (Arrived a ∷ es) o i fl = elim (in_split o (offer_of p out a es) (offers p out es) i) [
+own_below p out n (Arrived a ∷ es) o i fl = elim (in_either o (offer_of p out a es) (offers p out es) i) [
   | inl now ↦ let r = own_next p out a es n o now fl in rw r.flow (let x = r.own in omega (arith, x))
   | inr later ↦ let x = own_below p out n es o later fl in by_bool (is_number n (flow_of p a)) (λ k. rw k (omega (arith, x))) (λ k. rw k (omega (arith, x)))
 ]

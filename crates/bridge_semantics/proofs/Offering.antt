@@ -4,7 +4,8 @@ use Rattle.std.specs.Prelude.{if◌then◌else◌, nat_eq}
 use Rattle.std.proofs.lemmas.Option.{same_Some}
 use Rattle.std.proofs.lemmas.Bool.{eqb-true, eqb-false}
 use Rattle.bridge_limits.specs.Members.{In}
-use Rattle.bridge_cycle.proofs.Cases.{by_bool}
+use Rattle.bridge_limits.proofs.Members.{in_either}
+use Rattle.bridge_limits.proofs.Cases.{by_bool}
 use Rattle.bridge_frame.specs.declared.Head.{Head}
 use Rattle.bridge_frame.specs.declared.FrameFault.{FrameFault}
 use Rattle.bridge_frame.specs.Frames.{head}
@@ -146,11 +147,6 @@ none_offered p out a es q = none_on p out a es (way_of p a) q
 
 -- THE OFFERS OF ALL
 
-pub in_split : {X : Type 0} (x : X) (xs ys : List X) → In x (xs ++ ys) → In x xs ⊎ In x ys
-in_split x [] ys i = inr i
-in_split x (z ∷ xs) ys (inl e) = inl (inl e)
-in_split x (z ∷ xs) ys (inr i) = elim (in_split x xs ys i) [ inl a ↦ inl (inr a) | inr b ↦ inr b ]
-
 -- the flow of an offer, in whose reach it lies
 pub record IsSent {A : Type 0} (p : Plan A) (out : PortPlan A) (o : Offer) : Type 0 where
   pub number : ℕ
@@ -170,7 +166,7 @@ arrived_sent p s f out safe there a es o (Some c) e i =
 pub sent : {A : Type 0} (p : Plan A) (s : ℕ) (f : FilterPlan) (out : PortPlan A) → IsSafe p s f → port_at p.ports out.number ≡ Some out → (es : List Event) → (o : Offer) → In o (offers p out es) → IsSent p out o
 sent p s f out safe there [] o i = absurd i
 sent p s f out safe there (Cleared clear n ∷ es) o i = sent p s f out safe there es o i
-sent p s f out safe there (Arrived a ∷ es) o i = elim (in_split o (offer_of p out a es) (offers p out es) i) [
+sent p s f out safe there (Arrived a ∷ es) o i = elim (in_either o (offer_of p out a es) (offers p out es) i) [
   | inl now ↦ arrived_sent p s f out safe there a es o (call_of p a) refl now
   | inr later ↦ sent p s f out safe there es o later
 ]

@@ -6,7 +6,7 @@ use Rattle.std.specs.List.{AllByRecursion, IsDistinct}
 use Rattle.std.specs.Map.{keys_of, lookup, set_value}
 use Rattle.std.proofs.lemmas.Map.Keys.{IsDistinct-head, IsDistinct-tail}
 use Rattle.std.proofs.lemmas.Option.{same_Some}
-use Rattle.bridge_cycle.proofs.Cases.{by_bool}
+use Rattle.bridge_limits.proofs.Cases.{by_bool}
 use Rattle.indexmap.specs.IndexMap.{IndexMap, IsUnique}
 use Rattle.indexmap.specs.Layout.{set_value_at}
 use Rattle.bridge_filter.proofs.Numbered.{found_at, number_is, same_eq}

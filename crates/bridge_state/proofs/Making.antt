@@ -5,7 +5,8 @@ use Rattle.std.proofs.lemmas.Bool.Decides.{nat_tests}
 use Rattle.std.proofs.Math.ListN.{get_or-append}
 use Rattle.std.proofs.Math.Seq.{get_or-append_seam}
 use Rattle.std.proofs.lemmas.List.{get_or_past}
-use Rattle.bridge_cycle.proofs.Cases.{by_bool}
+use Rattle.std.proofs.lemmas.Option.{same_Some}
+use Rattle.bridge_limits.proofs.Cases.{by_bool}
 use Rattle.bridge_config.specs.declared.ports.PortPlan.{PortPlan}
 use Rattle.bridge_config.specs.Rules.{ArePorts, port_at}
 use Rattle.bridge_config.proofs.PlanPorts.{class_below, number_is, port_is}
@@ -18,9 +19,6 @@ use Rattle.bridge_state.specs.Ports.{slot_in, AreKept, IsFirst, IsMade, IsNew, I
 pub record AreFirst {A : Type 0} (ports : List (PortPlan A)) (slots : List (Option (Slot A))) (n : ℕ) : Type 0 where
   pub size : length slots ≡ n
   pub each : (q : ℕ) → 1 ≤ q → q ≤ n → IsFirst (port_at ports q) (slot_in slots q)
-
-some_is : {X : Type 0} (a b : X) → Some a ≡ Some b → a ≡ b
-some_is a b h = cc
 
 pub first_start : {A : Type 0} (ports : List (PortPlan A)) (slots : List (Option (Slot A))) → slots ≡ [] → AreFirst ports slots 0
 first_start ports slots none = record { size = ap length none; each = λ q l u. absurd (omega (arith, l, u)) }

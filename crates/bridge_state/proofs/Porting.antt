@@ -4,7 +4,8 @@ use Rattle.std.proofs.lemmas.Bool.Decides.{nat_tests}
 use Rattle.std.proofs.lemmas.Bool.{cases_lt}
 use Rattle.std.proofs.lemmas.List.{get_or_past, get_or_default}
 use Rattle.std.specs.Prelude.{if◌then◌else◌, nat_eq, nat_lt, slice_index, ◌⊎◌, ◌&&◌, is_none, Result}
-use Rattle.bridge_cycle.proofs.Cases.{by_bool}
+use Rattle.std.proofs.lemmas.Option.{same_Some}
+use Rattle.bridge_limits.proofs.Cases.{by_bool}
 use Rattle.bridge_events.specs.Least.{IsLeast}
 use Rattle.bridge_port.specs.declared.item.Item.{Item}
 use Rattle.bridge_port.specs.declared.item.Refusal.{Refusal}
@@ -19,9 +20,6 @@ use Rattle.bridge_state.specs.declared.slot.Came.{Came}
 use Rattle.bridge_state.specs.declared.slot.Came.TheVariants as came
 use Rattle.bridge_state.specs.Slots.{offered_slot, started_slot, counted_copy, counted_frame, refusal_to}
 use Rattle.bridge_state.specs.Ports.{PortsState, slot_in, slot_at, IsSlot, AreKept, NotBefore, IsAfter, HasOffered, HasStarted}
-
-some_is : {X : Type 0} (a b : X) → Some a ≡ Some b → a ≡ b
-some_is a b h = cc
 
 none_some : {X : Type 0} (o : Option X) (a : X) → o ≡ None → o ≡ Some a → ⊥
 none_some o a h k = cc
@@ -61,7 +59,7 @@ kept_set {G} {A} held slots old new q s due k l m h is slot =
       due = λ p r low at. by_bool (nat_eq p q)
           (λ y.
           let same : q ≡ p = grind (arith, nat_tests) in
-          let is_new : s ≡ r = some_is s r (sym (set_here slots q (Some s) m) ∙ subst (λ (n : ℕ). slot_in (slice_set slots (q - 1) (Some s)) n ≡ Some r) (sym same) at) in
+          let is_new : s ≡ r = same_Some s r (sym (set_here slots q (Some s) m) ∙ subst (λ (n : ℕ). slot_in (slice_set slots (q - 1) (Some s)) n ≡ Some r) (sym same) at) in
           let held_is : held new p ≡ due = rw (h p, y) refl in
           rw held_is (subst (λ (v : Slot A). IsDue v.port due) is_new is))
           (λ y.
@@ -78,7 +76,7 @@ kept_set {G} {A} held slots old new q s due k l m h is slot =
       each = λ p r low at. by_bool (nat_eq p q)
           (λ y.
           let same : q ≡ p = grind (arith, nat_tests) in
-          let is_new : s ≡ r = some_is s r (sym (set_here slots q (Some s) m) ∙ subst (λ (n : ℕ). slot_in (slice_set slots (q - 1) (Some s)) n ≡ Some r) (sym same) at) in
+          let is_new : s ≡ r = same_Some s r (sym (set_here slots q (Some s) m) ∙ subst (λ (n : ℕ). slot_in (slice_set slots (q - 1) (Some s)) n ≡ Some r) (sym same) at) in
           subst IsSlot is_new slot)
           (λ y. k.each p r low (sym (set_there slots p q (Some s) low l y) ∙ at));
     }
@@ -90,7 +88,7 @@ not_late p t (Some k) d h = λ c x rest e u a b l. let z = h k refl in d.2.least
 
 after_earliest : {T : Type 0} (p : State T) (due : Option ℕ) → IsDue p due → (k : ℕ) → due ≡ Some k → p.earliest ≤ k
 after_earliest p None d k e = cc
-after_earliest p (Some n) d k e = let z = some_is n k e in let a = d.2.after in omega arith
+after_earliest p (Some n) d k e = let z = same_Some n k e in let a = d.2.after in omega arith
 
 pub not_before : {G T : Type 0} (held : G → ℕ → Option ℕ) (old new : G) (q t : ℕ) (p : State T) (due : Option ℕ) → ((r : ℕ) → held new r ≡ (if nat_eq r q then due else held old r)) → IsDue p due → p.earliest ≡ t → NotBefore (held old) t → NotBefore (held new) t
 not_before held old new q t p due h d l was = λ r k e. by_bool (nat_eq r q)
@@ -128,7 +126,7 @@ pub slot_started : {A : Type 0} (s new : Slot A) (t c : ℕ) (x : Item (Load A))
 slot_started {A} s new t c x e k = subst IsSlot (sym e) (record { classes = k.classes; counted = k.counted; came = k.came; pace = k.pace })
 
 pub same_slot : {A : Type 0} (slots : List (Option (Slot A))) (q : ℕ) (s r : Slot A) → slot_in slots q ≡ Some s → slot_in slots q ≡ Some r → s ≡ r
-same_slot slots q s r h k = some_is s r (sym h ∙ k)
+same_slot slots q s r h k = same_Some s r (sym h ∙ k)
 
 pub has_offered : {G A : Type 0} (old : PortsState G A) (slots : List (Option (Slot A))) (was agenda : G) (q : ℕ) (s new : Slot A) (t c : ℕ) (x : Item (Load A)) (result : Result (Unit {0}) Refusal) → record { slots = slots; agenda = was } ≡ old → new ≡ offered_slot s t c x → result ≡ refusal_to s c x → ((xs : List (Copy (Item (Load A)))) → StandsFor s.port xs → StandsFor new.port (copy_of s.port t c x ∷ xs)) → ((f : Item (Load A) → Bool) → count_queued f new.port ≡ (if is_none (refusal_of s.port c x) && f x then 1 else 0) + count_queued f s.port) → HasOffered old (record { slots = slice_set slots (q - 1) (Some new); agenda = agenda }) q s t c x result
 has_offered {G} {A} old slots was agenda q s new t c x result view moved answer stands counts = record {

@@ -1,5 +1,5 @@
 //! A text that grows at its end.
-ghost use Rattle.std.specs.Prelude.{◌≡◌, [], IfOk, IfSome, None, Some, decimal, length, string_bytes};
+ghost use Rattle.std.specs.Prelude.{◌≡◌, [], IfErr, IfOk, IfSome, None, Some, decimal, length, string_bytes};
 ghost use Rattle.bridge_text.specs.Growth.{HasGrown, IsLonger};
 
 use bridge_limits::NoMemory;
@@ -135,7 +135,8 @@ impl<A: Allocator> Text<A> {
 
     /// The text, unless memory was refused to it.
     pub fn done(self) -> Result<String<A>, NoMemory>
-        ensures { IfOk result (λ text. self ≡ Some (string_bytes text)) }
+        ensures text { IfOk result (λ text. self ≡ Some (string_bytes text)) }
+        ensures refused { IfErr result (λ fault. self ≡ None) }
     {
         match self.held {
             Some(text) => Ok(text),

@@ -2,10 +2,7 @@
 use Rattle.std.proofs.Common.{◌≡◌, ◌<◌, ◌≤◌, ◌+◌, ◌⊎◌, ℕ, zero, suc, take, get_or, Bool, true, false, List, [], ◌∷◌, ◌++◌, length, map, refl, sym, ap, subst, inl, inr, arith}
 use Rattle.std.specs.List.{filter, list_any}
 use Rattle.bridge_limits.specs.Members.{In}
-
-pub by_bool : {A : Type 0} (b : Bool) → (b ≡ true → A) → (b ≡ false → A) → A
-by_bool true f g = f refl
-by_bool false f g = g refl
+use Rattle.bridge_limits.proofs.Cases.{by_bool}
 
 -- a member that passes a test is kept
 pub kept : {X : Type 0} (p : X → Bool) (xs : List X) (x : X) → In x xs → p x ≡ true → In x (filter p xs)
@@ -55,24 +52,6 @@ found p [] t = absurd (cc)
 found p (y ∷ ys) t = by_bool (p y)
     (λ a. record { item = y; listed = inl refl; passes = a })
     (λ a. let f = found p ys (rw a at t) in record { item = f.item; listed = inr f.listed; passes = f.passes })
-
--- members of two lists one behind the other
-pub in_front : {X : Type 0} (xs ys : List X) (x : X) → In x xs → In x (xs ++ ys)
-in_front [] ys x i = absurd i
-in_front (z ∷ zs) ys x (inl e) = inl e
-in_front (z ∷ zs) ys x (inr i) = inr (in_front zs ys x i)
-
-pub in_back : {X : Type 0} (xs ys : List X) (x : X) → In x ys → In x (xs ++ ys)
-in_back [] ys x i = i
-in_back (z ∷ zs) ys x i = inr (in_back zs ys x i)
-
-pub in_either : {X : Type 0} (xs ys : List X) (x : X) → In x (xs ++ ys) → In x xs ⊎ In x ys
-in_either [] ys x i = inr i
-in_either (z ∷ zs) ys x (inl e) = inl (inl e)
-in_either (z ∷ zs) ys x (inr i) = elim (in_either zs ys x i) [
-  | inl a ↦ inl (inr a)
-  | inr b ↦ inr b
-]
 
 -- an image of a member
 pub in_map : {X Y : Type 0} (f : X → Y) (xs : List X) (x : X) → In x xs → In (f x) (map f xs)

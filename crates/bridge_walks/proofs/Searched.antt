@@ -4,12 +4,14 @@ use Rattle.std.specs.List.{filter}
 use Rattle.std.proofs.lemmas.List.Elements.{filter_more}
 use Rattle.std.proofs.lemmas.List.{map-append}
 use Rattle.bridge_limits.specs.Members.{In}
+use Rattle.bridge_limits.proofs.Cases.{by_bool}
+use Rattle.bridge_limits.proofs.Members.{in_either, in_left, in_right}
 use Rattle.bridge_walks.specs.declared.places.Place.{Place}
 use Rattle.bridge_walks.specs.declared.places.Step.{Step}
 use Rattle.bridge_walks.specs.Walks.{Leads, GoesRound, Walks, step}
 use Rattle.bridge_walks.specs.Peeling.{is_among, is_one}
 use Rattle.bridge_walks.specs.Searching.{IsSearched, is_reached, is_untaken, targets}
-use Rattle.bridge_walks.proofs.Filtered.{any_of, by_bool, found, in_back, in_either, in_front, in_map, kept, of_map, was, whole}
+use Rattle.bridge_walks.proofs.Filtered.{any_of, found, in_map, kept, of_map, was, whole}
 use Rattle.bridge_walks.proofs.Laid.{one_self, same_place}
 
 -- WALKS
@@ -49,7 +51,7 @@ pub searched_more : (steps : List Step) (start : Place) (reached : List Place) (
     → IsSearched steps start reached pending → grown ≡ reached ++ targets start reached pending → left ≡ filter (is_untaken start reached) pending → IsSearched steps start grown left
 searched_more steps start reached pending grown left so grew is = rw (grew, is) (record {
   within = λ s i. so.within s (was (is_untaken start reached) pending s i).0;
-  sound = λ y i. elim (in_either reached (targets start reached pending) y i) [
+  sound = λ y i. elim (in_either y reached (targets start reached pending) i) [
     | inl r ↦ so.sound y r
     | inr t ↦
         let image = of_map (λ (s : Step). s.to) (filter (λ (s : Step). is_reached start reached s.from) pending) y t in
@@ -58,9 +60,9 @@ searched_more steps start reached pending grown left so grew is = rw (grew, is) 
   ];
   covered = λ a b i. elim (so.covered a b i) [
     | inl p ↦ by_bool (is_reached start reached a)
-        (λ t. inr (in_back reached (targets start reached pending) b (in_map (λ (s : Step). s.to) (filter (λ (s : Step). is_reached start reached s.from) pending) (step a b) (kept (λ (s : Step). is_reached start reached s.from) pending (step a b) p t))))
+        (λ t. inr (in_right b reached (targets start reached pending) (in_map (λ (s : Step). s.to) (filter (λ (s : Step). is_reached start reached s.from) pending) (step a b) (kept (λ (s : Step). is_reached start reached s.from) pending (step a b) p t))))
         (λ f. inl (kept (is_untaken start reached) pending (step a b) p (rw f refl)))
-    | inr r ↦ inr (in_front reached (targets start reached pending) b r)
+    | inr r ↦ inr (in_left b reached (targets start reached pending) r)
   ];
 })
 

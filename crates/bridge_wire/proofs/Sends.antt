@@ -2,7 +2,6 @@
 use Rattle.std.proofs.Common.{◌≡◌, true, false, zero, suc, ℕ, Bool, ◌+◌, ◌≤◌, List, [], ◌∷◌, ◌++◌, refl, ap, ◌∙◌, sym, subst, arith, inl, inr, Option, Result, Ok, Err, append_assoc, append-nil}
 use Rattle.std.specs.Prelude.{not, nat_lt, count_by, Vec, if◌then◌else◌, IsErr, OnErr, All}
 use Rattle.std.proofs.lemmas.Bool.{ltb-true, ltb-false}
-use Rattle.bridge_cycle.proofs.Cases.{by_bool}
 use Rattle.std.specs.List.{flat_map}
 use Rattle.std.specs.Io.KnownBytes.{Appends}
 use Rattle.std.proofs.KnownBytes.{Appends-trans, Appends-nil}
@@ -16,6 +15,8 @@ use Rattle.bridge_capture.specs.Written.{written_item}
 use Rattle.bridge_capture.specs.Sinks.{AppendsFront}
 use Rattle.bridge_capture.proofs.Written.{front_of_second}
 use Rattle.bridge_limits.specs.Members.{In}
+use Rattle.bridge_limits.proofs.Members.{in_left, in_end, in_push}
+use Rattle.bridge_limits.proofs.Cases.{by_bool}
 use Rattle.bridge_port.specs.declared.item.Item.{Item}
 use Rattle.bridge_port.specs.Schedule.{Fate, Queued, Started, Copy, Begun, here, there, is_accepted}
 use Rattle.bridge_port.specs.Seen.{all_seen}
@@ -26,7 +27,7 @@ use Rattle.bridge_port.proofs.Keeping.{count_cons}
 use Rattle.bridge_inputs.specs.declared.fault.RunFault.{RunFault}
 use Rattle.bridge_wire.specs.Wire.{IsShort, Frame, Offer, offered, departure, IsOutput}
 use Rattle.bridge_wire.specs.Sending.{frame_of, AreOfClass, Sends, Goes}
-use Rattle.bridge_wire.proofs.Lists.{in_left, in_last, in_push, rising_push}
+use Rattle.bridge_wire.proofs.Lists.{rising_push}
 
 -- A start changes neither what was offered, nor the classes, nor what was accepted.
 
@@ -81,7 +82,7 @@ output_start speed k c i frame xs ys left b o before =
           | inr n ↦
               let at : h.start ≡ k = started_is h.start k (sym h.started ∙ n.0) in
               let same : e ≡ d = h.is ∙ (ap (λ s. departure speed s h.copy.item) at ∙ ap (departure speed k) n.1) in
-              subst (λ z. In z (left ++ d ∷ [])) (sym same) (in_last d left)
+              subst (λ z. In z (left ++ d ∷ [])) (sym same) (in_end d left)
         ]),
       );
     }

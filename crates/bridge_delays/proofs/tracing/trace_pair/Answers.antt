@@ -1,11 +1,11 @@
 use Rattle.std.proofs.Common.{◌≡◌, List, Option, Some, sym, ap, subst, ◌∙◌, arith}
 use Rattle.std.specs.Prelude.{Vec, slice_get}
-use Rattle.std.proofs.lemmas.Option.{get_or_from_slice_get, slice_get-get_or}
+use Rattle.std.proofs.lemmas.Option.{get_or_from_slice_get, slice_get-get_or, same_Some}
 use Rattle.bridge_rounds.specs.Stations.{sender_value}
 use Rattle.bridge_delays.specs.declared.hops.HopRun.{HopRun}
 use Rattle.bridge_delays.specs.declared.tracing.Root.{Root}
 use Rattle.bridge_delays.specs.Tracing.{AddNothing}
-use Rattle.bridge_delays.proofs.Traced.{exhausted_of, pair_exhausted, some_is, sound_kept, traced_as}
+use Rattle.bridge_delays.proofs.Traced.{exhausted_of, pair_exhausted, sound_kept, traced_as}
 use Rattle.bridge_delays.proofs.tracing.trace_pair.Goals as goal
 
 pub returns-clause-sound : goal.returns-clause-sound
@@ -55,7 +55,7 @@ returns-then-not-is_more-clause-exhausted g c = λ same.
     let traced = traced_as s o.view.now.departures.items others.items c.args.port h.view.now.origins.items mine.items c.in_ok-made.made.items sent c.deref-2.ensures.value came c.deref-4.ensures.value c.in_ok-made.ensures in
     let again = c.index-3.result.now in
     let is_again : slice_get all place ≡ Some again = slice_get-get_or all place again (omega (arith, many, place_in)) ∙ ap (λ (x : Vec (Option Root) g.row.A.Denot). Some x) (sym c.index-3.ensures) in
-    let one : mine ≡ again = some_is mine again (sym is_mine ∙ is_again) in
+    let one : mine ≡ again = same_Some mine again (sym is_mine ∙ is_again) in
     let nothing : AddNothing mine.items c.in_ok-made.made.items =
     subst (λ (l : List (Option Root)). AddNothing mine.items l) c.deref-6.ensures.value
     (subst (λ (l : List (Option Root)). AddNothing l c.deref-6.result.now) (c.deref-5.ensures.value ∙ ap (λ (x : Vec (Option Root) g.row.A.Denot). x.items) (sym one)) (c.is_more.ensures c.if-not-is_more.true)) in

@@ -1,12 +1,11 @@
 use Rattle.std.proofs.Common.{◌≡◌, Option, None, Some, map, sym, ap, subst, ◌∙◌}
 use Rattle.std.specs.Prelude.{option_map}
-use Rattle.std.proofs.lemmas.Option.{get_or_from_slice_get}
+use Rattle.std.proofs.lemmas.Option.{get_or_from_slice_get, same_Some}
 use Rattle.bridge_network.specs.Networks.{Sender, sender}
 use Rattle.bridge_network.specs.Wiring.{link_of}
 use Rattle.bridge_rounds.specs.Stations.{sender_value}
 use Rattle.bridge_delays.specs.declared.hops.HopRun.{HopRun}
 use Rattle.bridge_delays.specs.Tracing.{IsPairExhausted}
-use Rattle.bridge_delays.proofs.Traced.{some_is}
 use Rattle.bridge_delays.proofs.tracing.trace_port.Goals as goal
 
 pub returns-in_ok-more-in-Some-clause-sound : goal.returns-in_ok-more-in-Some-clause-sound
@@ -23,7 +22,7 @@ returns-in_ok-more-in-Some-clause-exhausted g c = λ none h s is_h is_s j within
     subst (λ (x : HopRun g.row.A.Denot). sender (map link_of c.args.links.now) x.bridge c.args.port ≡ Some (sender_value c.in-Some.sender))
     (get_or_from_slice_get c.args.hops.now c.args.place h c.index-hops-place.result is_h)
     (sym c.sender_of.ensures ∙ ap (option_map sender_value) c.in-Some.is) in
-    let same : sender_value c.in-Some.sender ≡ s = some_is (sender_value c.in-Some.sender) s (sym own ∙ is_s) in
+    let same : sender_value c.in-Some.sender ≡ s = same_Some (sender_value c.in-Some.sender) s (sym own ∙ is_s) in
     subst (λ (z : Sender). IsPairExhausted c.args.hops.now c.args.all.now.items z c.args.place c.args.port j) same (c.in_ok-more-in-Some.ensures.exhausted none j within)
 
 pub returns-in-None-clause-exhausted : goal.returns-in-None-clause-exhausted
