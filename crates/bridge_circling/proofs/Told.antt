@@ -35,10 +35,7 @@ told_more plans links groups rows more i d at less may is are = rw is (
     record {
       sound = λ c j. elim (in_push c new rows j) [
         | inl old ↦ are.sound c old
-        | inr last ↦ elim last [
-          | inl e ↦ subst (λ r. MayGoRound plans links r.group r.at) (sym e) may
-          | inr never ↦ absurd never
-        ]
+        | inr last ↦ subst (λ r. MayGoRound plans links r.group r.at) (sym last) may
       ];
       told = λ g x j round. elim (in_take groups i d g less j) [
         | inl old ↦ let h = are.told g x old round in record { row = h.row; listed = in_left h.row rows (new ∷ []) h.listed; is = h.is }
