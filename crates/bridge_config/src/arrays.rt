@@ -24,7 +24,7 @@ pub(crate) struct Arrays<'a> {
 }
 
 /// The most instances of a section.
-fn limit_of(section: Section) -> usize
+pub fn limit_of(section: Section) -> usize
     ensures { result ≡ doc.limit_of section }
 {
     match section {

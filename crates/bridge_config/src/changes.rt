@@ -7,9 +7,9 @@ ghost use Rattle.bridge_config.specs.Document as doc;
 ghost use Rattle.bridge_config.specs.Rules as rules;
 ghost use Rattle.bridge_config.specs.Sections as sections;
 
-use crate::lists::LAST_MOMENT;
+use crate::ranges::MOMENT;
 use bridge_limits::END_OF_TIME;
-use bridge_schema::{Between, Field, Place, PlanFault, Section, are_known, required};
+use bridge_schema::{Field, Place, PlanFault, Section, are_known, required};
 use toml::{Table, Value};
 
 /// Whether a table has the keys of a change of schedules alone.
@@ -34,15 +34,7 @@ fn moment_of(index: u32, table: &Table) -> Result<u64, PlanFault>
         index,
         field: Field::At,
     };
-    required(
-        table,
-        place,
-        Field::At,
-        &Between {
-            low: 0,
-            high: LAST_MOMENT,
-        },
-    )
+    required(table, place, Field::At, &MOMENT)
 }
 
 /// The first item, where there is one.

@@ -12,9 +12,9 @@ ghost use Rattle.bridge_config.specs.Texts as texts;
 
 use crate::arrays::{are_sections, items_of};
 use crate::command::Command;
-use crate::lists::{LARGEST_NUMBER, LAST_MOMENT};
 use crate::numbers::has_number;
 use crate::plan::{Plan, document_of};
+use crate::ranges::{LAST_MOMENT, NUMBER};
 use bridge_filter::Clear;
 use bridge_schema::{
     Between, Field, Finds, Known, Meaning, Place, PlanFault, Section, SectionReader, Text,
@@ -131,10 +131,7 @@ fn command_of<B: Allocator + Copy>(
         Field::Number,
         &Known {
             among: Named { plan, clear },
-            range: Between {
-                low: 0,
-                high: LARGEST_NUMBER,
-            },
+            range: NUMBER,
         },
     )?;
     Ok(Command {

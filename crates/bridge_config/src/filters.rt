@@ -9,23 +9,17 @@ ghost use Rattle.bridge_schema.specs.Readers.{Gives, GivesAs, instances};
 ghost use Rattle.bridge_config.specs.Sections as sections;
 ghost use Rattle.bridge_config.specs.Rules as rules;
 
-use crate::lists::LARGEST_NUMBER;
 use crate::numbers::{NumbersOf, in_8_bits, in_32_bits};
+use crate::ranges::{MAX_SDU, NUMBER, PRIORITY};
 use bridge_filter::FilterPlan;
 use bridge_gate::GatePlan;
 use bridge_meter::MeterPlan;
 use bridge_schema::{
-    Between, Field, Finds, Known, Place, PlanFault, Section, SectionReader, Switch, are_known,
-    default_to, optional, read_instances, required,
+    Field, Finds, Known, Place, PlanFault, Section, SectionReader, Switch, are_known, default_to,
+    optional, read_instances, required,
 };
 use std::alloc::Allocator;
 use toml::{Table, Value};
-
-/// The number of an instance.
-const NUMBER: Between = Between {
-    low: 0,
-    high: LARGEST_NUMBER,
-};
 
 /// Whether a table has the keys of a filter alone.
 fn has_keys(table: &Table) -> bool
@@ -76,12 +70,7 @@ fn filter_among<G: Finds + Drop, M: Finds + Drop, F: Finds + Drop>(
     }
     let number = required(table, at(Field::Number), Field::Number, &NUMBER)?;
     let handle = optional(table, at(Field::Handle), Field::Handle, &NUMBER)?;
-    let priority = optional(
-        table,
-        at(Field::Priority),
-        Field::Priority,
-        &Between { low: 0, high: 7 },
-    )?;
+    let priority = optional(table, at(Field::Priority), Field::Priority, &PRIORITY)?;
     let gate = required(
         table,
         at(Field::Gate),
@@ -91,15 +80,7 @@ fn filter_among<G: Finds + Drop, M: Finds + Drop, F: Finds + Drop>(
             range: NUMBER,
         },
     )?;
-    let max_sdu = optional(
-        table,
-        at(Field::MaxSdu),
-        Field::MaxSdu,
-        &Between {
-            low: 0,
-            high: 65_535,
-        },
-    )?;
+    let max_sdu = optional(table, at(Field::MaxSdu), Field::MaxSdu, &MAX_SDU)?;
     let meter = optional(
         table,
         at(Field::Meter),

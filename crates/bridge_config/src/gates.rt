@@ -11,14 +11,15 @@ ghost use Rattle.bridge_config.specs.Lists.{parts_in};
 ghost use Rattle.bridge_config.specs.Sections as sections;
 ghost use Rattle.bridge_config.specs.Rules as rules;
 
-use crate::lists::{LARGEST, LARGEST_NUMBER, ListKeys, Parts, list_if, parts_of};
+use crate::lists::{ListKeys, Parts, list_if, parts_of};
 use crate::numbers::{has_number, in_8_bits, in_32_bits};
+use crate::ranges::{LENGTH, NUMBER, PRIORITY};
 use bridge_cycle::{CyclicList, Joined};
 use bridge_gate::{GateEntry, GatePlan, Schedule};
 use bridge_limits::END_OF_TIME;
 use bridge_schema::{
-    Between, Entry, Field, Openness, Place, PlanFault, Section, SectionReader, Switch, Text,
-    are_known, are_known_at, default_to, has_key, optional, required, required_without, value_at,
+    Entry, Field, Openness, Place, PlanFault, Section, SectionReader, Switch, Text, are_known,
+    are_known_at, default_to, has_key, optional, required, required_without, value_at,
 };
 use std::alloc::Allocator;
 use toml::Table;
@@ -52,25 +53,9 @@ impl Entry for Turns {
 
     fn read(&self, table: &Table) -> Result<(GateEntry, u64), PlanFault> {
         let lets = required(table, self.place, Field::Open, &Switch)?;
-        let ns = required(
-            table,
-            self.place,
-            Field::Ns,
-            &Between {
-                low: 0,
-                high: LARGEST,
-            },
-        )?;
-        let ipv = optional(table, self.place, Field::Ipv, &Between { low: 0, high: 7 })?;
-        let octets = optional(
-            table,
-            self.place,
-            Field::Octets,
-            &Between {
-                low: 0,
-                high: LARGEST_NUMBER,
-            },
-        )?;
+        let ns = required(table, self.place, Field::Ns, &LENGTH)?;
+        let ipv = optional(table, self.place, Field::Ipv, &PRIORITY)?;
+        let octets = optional(table, self.place, Field::Octets, &NUMBER)?;
         let state = GateEntry {
             lets,
             ipv: in_8_bits(ipv),
@@ -248,15 +233,7 @@ fn gate_of<A: Allocator + Copy>(
     if !has_keys(change, table) {
         return Err(PlanFault::UnknownKey(Section::Gate, index));
     }
-    let number = required(
-        table,
-        at(Field::Number),
-        Field::Number,
-        &Between {
-            low: 0,
-            high: LARGEST_NUMBER,
-        },
-    )?;
+    let number = required(table, at(Field::Number), Field::Number, &NUMBER)?;
     let shut_on_rx = default_to(false, table, at(Field::ShutOnRx), Field::ShutOnRx, &Switch)?;
     let shut_on_octets = default_to(
         false,
@@ -273,12 +250,7 @@ fn gate_of<A: Allocator + Copy>(
         Field::State,
         &Text { meaning: Openness },
     )?;
-    let ipv = optional(
-        table,
-        at(Field::Ipv),
-        Field::Ipv,
-        &Between { low: 0, high: 7 },
-    )?;
+    let ipv = optional(table, at(Field::Ipv), Field::Ipv, &PRIORITY)?;
     let lists = gate_list(alloc, change, index, table)?;
     if has_number(gates, number) {
         return Err(PlanFault::Duplicate(Section::Gate, index));

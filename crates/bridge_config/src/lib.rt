@@ -12,14 +12,16 @@ mod meters;
 mod numbers;
 mod plan;
 mod ports;
+mod ranges;
 mod statics;
 mod streams;
 mod vlans;
 
+pub use arrays::limit_of;
 pub use bridge_forward::PortSet;
 pub use bridge_schema::PlanFault;
 pub use command::Command;
 pub use commands::commands_of;
-pub use lists::the_limit;
 pub use plan::{Plan, plan_of};
 pub use ports::PortPlan;
+pub use ranges::{BURST, LENGTH, MAX_SDU, MOMENT, NUMBER, PORT, PRIORITY, RATE, VID, the_limit};

@@ -1,5 +1,5 @@
 //! The lists of a port or a gate, where it has entries.
-ghost use Rattle.std.specs.Prelude.{◌≡◌, ◌<◌, ◌-◌, ◌^◌, All, IfOk, option_map};
+ghost use Rattle.std.specs.Prelude.{◌≡◌, ◌<◌, All, IfOk, option_map};
 ghost use Rattle.std.specs.Option.{ForSome};
 ghost use Rattle.toml.specs.View.{table_view};
 ghost use Rattle.bridge_cycle.specs.Cyclic.{IsLawful};
@@ -7,27 +7,14 @@ ghost use Rattle.bridge_schema.specs.Readers.{Gives, GivesAs};
 ghost use Rattle.bridge_config.specs.Lists.{parts_in};
 ghost use Rattle.bridge_config.specs.Sections as sections;
 
+use crate::ranges::{LENGTH, MOMENT};
 use bridge_cycle::{CyclicList, ListFault};
 use bridge_limits::END_OF_TIME;
 use bridge_schema::{
-    Between, Entry, Field, Place, PlanFault, Section, default_to, list_at, required_with, value_at,
+    Entry, Field, Place, PlanFault, Section, default_to, list_at, required_with, value_at,
 };
 use std::alloc::Allocator;
 use toml::Table;
-
-/// The largest number of a document.
-pub(crate) const LARGEST: u64 = 9_223_372_036_854_775_807;
-
-/// The largest number of an instance or a stream handle, and the largest limit of octets of a gate: 2^32 - 1.
-pub(crate) const LARGEST_NUMBER: u64 = u32::MAX as u64;
-
-/// The largest moment, in ns, at which a cycle may begin, schedules may change or a command may come.
-pub(crate) const LAST_MOMENT: u64 = END_OF_TIME - 1;
-
-/// The figure of the limit: numbers of instances, stream handles and limits of octets are below 2^32.
-pub fn the_limit()
-    ensures number { LARGEST_NUMBER ≡ 2 ^ 32 - 1 }
-{}
 
 /// The keys at which the parts of a list stand.
 #[derive(Clone, Copy)]
@@ -76,27 +63,8 @@ where
             field,
         }
     };
-    let base = default_to(
-        0,
-        table,
-        at(keys.base),
-        keys.base,
-        &Between {
-            low: 0,
-            high: LAST_MOMENT,
-        },
-    )?;
-    let cycle = required_with(
-        keys.entries,
-        0,
-        table,
-        at(keys.cycle),
-        keys.cycle,
-        &Between {
-            low: 0,
-            high: LARGEST,
-        },
-    )?;
+    let base = default_to(0, table, at(keys.base), keys.base, &MOMENT)?;
+    let cycle = required_with(keys.entries, 0, table, at(keys.cycle), keys.cycle, &LENGTH)?;
     let entries = list_at(
         alloc,
         at(keys.entries),

@@ -9,27 +9,15 @@ ghost use Rattle.bridge_config.specs.Sections as sections;
 ghost use Rattle.bridge_config.specs.Texts as texts;
 ghost use Rattle.bridge_config.specs.Rules as rules;
 
-use crate::lists::LARGEST_NUMBER;
 use crate::numbers::has_number;
-use bridge_meter::{HIGHEST_RATE, LARGEST_BURST, MeterPlan};
+use crate::ranges::{BURST, NUMBER, RATE};
+use bridge_meter::MeterPlan;
 use bridge_schema::{
-    Between, Field, Meaning, Place, PlanFault, Section, SectionReader, Switch, Text, are_known,
-    default_to, required,
+    Field, Meaning, Place, PlanFault, Section, SectionReader, Switch, Text, are_known, default_to,
+    required,
 };
 use std::alloc::Allocator;
 use toml::Table;
-
-/// A rate in bit/s.
-const RATE: Between = Between {
-    low: 0,
-    high: HIGHEST_RATE,
-};
-
-/// A burst in octets.
-const BURST: Between = Between {
-    low: 0,
-    high: LARGEST_BURST,
-};
 
 /// Whether a meter looks at the drop eligible indication of a frame: `aware` or `blind`.
 #[derive(Clone, Copy)]
@@ -95,15 +83,7 @@ fn meter_of(
     if !has_keys(table) {
         return Err(PlanFault::UnknownKey(Section::Meter, index));
     }
-    let number = required(
-        table,
-        at(Field::Number),
-        Field::Number,
-        &Between {
-            low: 0,
-            high: LARGEST_NUMBER,
-        },
-    )?;
+    let number = required(table, at(Field::Number), Field::Number, &NUMBER)?;
     let cir = required(table, at(Field::Cir), Field::Cir, &RATE)?;
     let cbs = required(table, at(Field::Cbs), Field::Cbs, &BURST)?;
     let eir = required(table, at(Field::Eir), Field::Eir, &RATE)?;

@@ -10,13 +10,14 @@ ghost use Rattle.bridge_config.specs.Lists.{parts_in};
 ghost use Rattle.bridge_config.specs.Sections as sections;
 ghost use Rattle.bridge_config.specs.Rules as rules;
 
-use crate::lists::{LARGEST, ListKeys, Parts, list_if, parts_of};
+use crate::lists::{ListKeys, Parts, list_if, parts_of};
+use crate::ranges::{LENGTH, PORT, PRIORITY, VID};
 use bridge_cycle::{CyclicList, Egress, Joined};
 use bridge_frame::Speed;
 use bridge_limits::END_OF_TIME;
 use bridge_schema::{
-    Between, Classes, Entry, Field, Finds, Mbps, Place, PlanFault, Rooms, Section, SectionReader,
-    SetOf, are_known, are_known_at, default_to, has_key, required, value_at,
+    Classes, Entry, Field, Finds, Mbps, Place, PlanFault, Rooms, Section, SectionReader, SetOf,
+    are_known, are_known_at, default_to, has_key, required, value_at,
 };
 use std::alloc::Allocator;
 use toml::Table;
@@ -70,15 +71,7 @@ impl Entry for PortEntry {
 
     fn read(&self, table: &Table) -> Result<(u8, u64), PlanFault> {
         let classes = required(table, self.place, Field::Open, &SetOf { low: 0, high: 7 })?;
-        let ns = required(
-            table,
-            self.place,
-            Field::Ns,
-            &Between {
-                low: 0,
-                high: LARGEST,
-            },
-        )?;
+        let ns = required(table, self.place, Field::Ns, &LENGTH)?;
         Ok((classes as u8, ns))
     }
 }
@@ -247,27 +240,10 @@ fn port_among<A: Allocator + Copy, P: Finds + Drop>(
     if !has_keys(change, table) {
         return Err(PlanFault::UnknownKey(Section::Port, index));
     }
-    let number = required(
-        table,
-        at(Field::Number),
-        Field::Number,
-        &Between { low: 1, high: 16 },
-    )?;
+    let number = required(table, at(Field::Number), Field::Number, &PORT)?;
     let speed = required(table, at(Field::Mbps), Field::Mbps, &Mbps)?;
-    let vid = default_to(
-        1,
-        table,
-        at(Field::Vid),
-        Field::Vid,
-        &Between { low: 1, high: 4094 },
-    )?;
-    let priority = default_to(
-        0,
-        table,
-        at(Field::Priority),
-        Field::Priority,
-        &Between { low: 0, high: 7 },
-    )?;
+    let vid = default_to(1, table, at(Field::Vid), Field::Vid, &VID)?;
+    let priority = default_to(0, table, at(Field::Priority), Field::Priority, &PRIORITY)?;
     let classes = default_to(
         [0, 1, 2, 3, 4, 5, 6, 7],
         table,

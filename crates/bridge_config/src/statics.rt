@@ -8,11 +8,12 @@ ghost use Rattle.bridge_schema.specs.Readers.{Gives};
 ghost use Rattle.bridge_config.specs.Sections as sections;
 ghost use Rattle.bridge_config.specs.Rules as rules;
 
+use crate::ranges::VID;
 use crate::vlans::VlanNumbers;
 use bridge_forward::{PortSet, StaticEntry, Vlan};
 use bridge_schema::{
-    Address, Between, Field, Known, Place, PlanFault, PortsOf, Section, SectionReader, Text,
-    are_known, required,
+    Address, Field, Known, Place, PlanFault, PortsOf, Section, SectionReader, Text, are_known,
+    required,
 };
 use std::alloc::Allocator;
 use toml::Table;
@@ -74,7 +75,7 @@ fn static_of(
         Field::Vid,
         &Known {
             among: VlanNumbers { vlans },
-            range: Between { low: 1, high: 4094 },
+            range: VID,
         },
     )?;
     let address = required(

@@ -8,11 +8,11 @@ ghost use Rattle.bridge_config.specs.Sections as sections;
 ghost use Rattle.bridge_config.specs.Texts as texts;
 ghost use Rattle.bridge_config.specs.Rules as rules;
 
-use crate::lists::LARGEST_NUMBER;
 use crate::ports::{PortNumbers, PortPlan};
+use crate::ranges::{NUMBER, PORT, VID};
 use bridge_ident::{Kind, StreamEntry, TagKind};
 use bridge_schema::{
-    Address, Between, Field, Finds, Known, Meaning, Place, PlanFault, Section, SectionReader, Text,
+    Address, Field, Finds, Known, Meaning, Place, PlanFault, Section, SectionReader, Text,
     are_known, required,
 };
 use std::alloc::Allocator;
@@ -104,22 +104,14 @@ fn stream_among<P: Finds + Drop>(
     if !has_keys(table) {
         return Err(PlanFault::UnknownKey(Section::Stream, index));
     }
-    let handle = required(
-        table,
-        at(Field::Handle),
-        Field::Handle,
-        &Between {
-            low: 0,
-            high: LARGEST_NUMBER,
-        },
-    )?;
+    let handle = required(table, at(Field::Handle), Field::Handle, &NUMBER)?;
     let port = required(
         table,
         at(Field::Port),
         Field::Port,
         &Known {
             among: ports,
-            range: Between { low: 1, high: 16 },
+            range: PORT,
         },
     )?;
     let kind = required(
@@ -134,12 +126,7 @@ fn stream_among<P: Finds + Drop>(
         Field::Address,
         &Text { meaning: Address },
     )?;
-    let vid = required(
-        table,
-        at(Field::Vid),
-        Field::Vid,
-        &Between { low: 1, high: 4094 },
-    )?;
+    let vid = required(table, at(Field::Vid), Field::Vid, &VID)?;
     let tag = required(
         table,
         at(Field::Tag),

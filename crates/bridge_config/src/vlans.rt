@@ -7,9 +7,10 @@ ghost use Rattle.bridge_schema.specs.Readers.{Gives};
 ghost use Rattle.bridge_config.specs.Sections as sections;
 ghost use Rattle.bridge_config.specs.Rules as rules;
 
+use crate::ranges::VID;
 use bridge_forward::{PortSet, Vlan};
 use bridge_schema::{
-    Between, Field, Finds, Place, PlanFault, PortsOf, Section, SectionReader, are_known, required,
+    Field, Finds, Place, PlanFault, PortsOf, Section, SectionReader, are_known, required,
 };
 use std::alloc::Allocator;
 use toml::Table;
@@ -62,12 +63,7 @@ fn vlan_of(all: u16, vlans: &[Vlan], index: u32, table: &Table) -> Result<Vlan, 
     if !has_keys(table) {
         return Err(PlanFault::UnknownKey(Section::Vlan, index));
     }
-    let vid = required(
-        table,
-        at(Field::Vid),
-        Field::Vid,
-        &Between { low: 1, high: 4094 },
-    )?;
+    let vid = required(table, at(Field::Vid), Field::Vid, &VID)?;
     let members = required(table, at(Field::Members), Field::Members, &PortsOf { all })?;
     if has_vlan(vlans, vid) {
         return Err(PlanFault::Duplicate(Section::Vlan, index));

@@ -117,13 +117,13 @@ pub(crate) fn put_place(
 }
 
 /// Adds where the first instance of a section stands that is one too many, and how many there are.
-pub(crate) fn put_too_many(said: &mut Said, source: Source<'_>, section: Section, limit: u32) {
-    let first = position_of(source, section, limit.saturating_add(1), None);
+pub(crate) fn put_too_many(said: &mut Said, source: Source<'_>, section: Section, limit: usize) {
+    let first = position_of(source, section, (limit as u32).saturating_add(1), None);
     let count = items_of(source.document, section).len();
     put_position(said, first);
     said.fill(
         "`{a}` has {0} tables.\nIt may have at most {1}.\n",
-        &[count as u64, u64::from(limit)],
+        &[count as u64, limit as u64],
         &[section.name()],
     );
 }

@@ -5,24 +5,17 @@ use crate::faults::put_allowed;
 use crate::keys::{Allowed, Key, ListKeys, Presence, entry_keys, lists_of};
 use crate::text::{Said, fill_two};
 use crate::value::put_value_or;
+use bridge_config::LENGTH;
 use bridge_cycle::{CyclicList, LONGEST_CYCLE, ListFault, MOST_ENTRIES};
 use bridge_limits::NoMemory;
-use bridge_schema::{Field, Section};
+use bridge_schema::{Between, Field, Kind, Section, Switch};
 use std::alloc::Global;
 use toml::{Table, Value};
 
-/// Whether a value is a number of a range.
-fn is_between(value: &Value, low: u64, high: u64) -> bool {
-    match number_in(Some(value)) {
-        Some(number) => low <= number && number <= high,
-        None => false,
-    }
-}
-
 /// Whether each item is a number of a range.
-fn are_between(items: &[Value], low: u64, high: u64) -> bool {
+fn are_between(items: &[Value], range: &Between) -> bool {
     for item in items {
-        if !is_between(item, low, high) {
+        if range.read(item).is_err() {
             return false;
         }
     }
@@ -32,10 +25,10 @@ fn are_between(items: &[Value], low: u64, high: u64) -> bool {
 /// Whether a value may stand at a key of an entry.
 fn is_allowed(allowed: Allowed, value: &Value) -> bool {
     match (allowed, value) {
-        (Allowed::Between(low, high), _) => is_between(value, low, high),
-        (Allowed::Length, Value::Integer(number)) => *number >= 0,
-        (Allowed::Set(low, high), Value::Array(items)) => are_between(items, low, high),
-        (Allowed::Switch, Value::Boolean(_)) => true,
+        (Allowed::Between(range), _) => range.read(value).is_ok(),
+        (Allowed::Length, _) => LENGTH.read(value).is_ok(),
+        (Allowed::Set(range), Value::Array(items)) => are_between(items, &range),
+        (Allowed::Switch, _) => Switch.read(value).is_ok(),
         _ => false,
     }
 }

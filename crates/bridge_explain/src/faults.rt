@@ -4,13 +4,14 @@ use crate::document::{
     Source, items_of, number_in, put_place, put_position, put_too_many, table_of, value_of,
 };
 use crate::entries::{put_entries, put_list};
-use crate::keys::{Allowed, key_among, keys_of, limit_of, own_key};
+use crate::keys::{Allowed, key_among, keys_of, own_key};
 use crate::position::top_position;
 use crate::strays::{put_stray, put_top_key};
 use crate::text::Said;
 use crate::value::{put_comma, put_value_or};
+use bridge_config::limit_of;
 use bridge_cycle::LONGEST_CYCLE;
-use bridge_schema::{Field, Place, PlanFault, Section};
+use bridge_schema::{Between, Field, Place, PlanFault, Section};
 use std::alloc::Global;
 use toml::{Table, Value};
 
@@ -99,10 +100,10 @@ fn allowed_there(
     allowed: Allowed,
 ) -> Allowed {
     match (place.section, place.field, allowed) {
-        (Section::Command, Field::At, Allowed::Between(_, high)) => Allowed::Between(
-            moment_before(source, place.index),
-            high,
-        ),
+        (Section::Command, Field::At, Allowed::Between(range)) => Allowed::Between(Between {
+            low: moment_before(source, place.index),
+            high: range.high,
+        }),
         (Section::Command, Field::Number, _) => match named_by(value_of(table, Field::Clear)) {
             Some(section) => Allowed::NumberOf(section),
             None => allowed,
@@ -130,9 +131,9 @@ fn put_falling(said: &mut Said, source: Source<'_>, index: u32, at: Option<u64>)
 /// What may stand at a key: numbers from `{0}` to `{1}`, lengths to `{2}`, the `{a}` of a `{b}`.
 fn sentence_of(allowed: Allowed) -> &'static str {
     match allowed {
-        Allowed::Between(_, _) => "It must be a whole number from {0} to {1}.\n",
-        Allowed::Set(_, _) => "It must be an array of whole numbers from {0} to {1}.\n",
-        Allowed::Eight(_, _) => "It must be an array of eight whole numbers from {0} to {1}.\n",
+        Allowed::Between(_) => "It must be a whole number from {0} to {1}.\n",
+        Allowed::Set(_) => "It must be an array of whole numbers from {0} to {1}.\n",
+        Allowed::Eight(_) => "It must be an array of eight whole numbers from {0} to {1}.\n",
         Allowed::NumberOf(_) => "It must be the `{a}` of a `{b}` of the plan.\n",
         Allowed::Ports => "It must be an array of numbers of ports of the plan.\n",
         Allowed::Tables => "It must be an array of tables.\n",
@@ -153,8 +154,8 @@ fn sentence_of(allowed: Allowed) -> &'static str {
 /// Adds what may stand somewhere.
 pub(crate) fn put_allowed(said: &mut Said, allowed: Allowed) {
     let (low, high) = match allowed {
-        Allowed::Between(low, high) | Allowed::Set(low, high) | Allowed::Eight(low, high) => (
-            low, high,
+        Allowed::Between(range) | Allowed::Set(range) | Allowed::Eight(range) => (
+            range.low, range.high,
         ),
         _ => (0, 0),
     };

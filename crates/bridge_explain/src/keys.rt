@@ -1,17 +1,8 @@
 //! The keys of each section: what may stand at each, and beside which others it may stand.
 
-use bridge_limits::END_OF_TIME;
-use bridge_schema::{Field, Section, has_key};
+use bridge_config::{BURST, MAX_SDU, MOMENT, NUMBER, PORT, PRIORITY, RATE, VID};
+use bridge_schema::{Between, Field, Section, has_key};
 use toml::Table;
-
-/// The largest number of an instance: 2^32 - 1.
-const LARGEST_NUMBER: u64 = u32::MAX as u64;
-
-/// The largest moment, in ns.
-const LAST_MOMENT: u64 = END_OF_TIME - 1;
-
-/// The highest rate, in bit/s.
-const HIGHEST_RATE: u64 = 100_000_000_000;
 
 const BESIDE: &str = " may stand only beside `{a}`.\n";
 
@@ -23,11 +14,11 @@ const IN_CHANGE: &str = " may stand only in a plan with a `[[change]]`.\n";
 #[derive(Clone, Copy)]
 pub(crate) enum Allowed {
     /// A whole number of a range.
-    Between(u64, u64),
+    Between(Between),
     /// An array of numbers of a range.
-    Set(u64, u64),
+    Set(Between),
     /// Eight numbers of a range.
-    Eight(u64, u64),
+    Eight(Between),
     /// The length of a cycle or of an entry, in ns.
     Length,
     /// Megabits a second.
@@ -79,15 +70,18 @@ pub(crate) struct Key(pub Field, pub Allowed, pub Presence);
 #[derive(Clone, Copy)]
 pub(crate) struct ListKeys(pub Field, pub Field);
 
-const NUMBER: Allowed = Allowed::Between(0, LARGEST_NUMBER);
+/// The room of a class, in frames.
+const ROOM: Between = Between { low: 1, high: 4096 };
 
-const VID: Allowed = Allowed::Between(1, 4094);
+const NUMBERED: Allowed = Allowed::Between(NUMBER);
 
-const PRIORITY: Allowed = Allowed::Between(0, 7);
+const VLAN: Allowed = Allowed::Between(VID);
 
-const MOMENT: Allowed = Allowed::Between(0, LAST_MOMENT);
+const GRADED: Allowed = Allowed::Between(PRIORITY);
 
-const RATE: Allowed = Allowed::Between(0, HIGHEST_RATE);
+const TIMED: Allowed = Allowed::Between(MOMENT);
+
+const RATED: Allowed = Allowed::Between(RATE);
 
 const OF_GATES: Presence = Presence::Beside(Field::Gates);
 
@@ -103,23 +97,23 @@ const NO_ENTRIES: Presence = Presence::Without(Field::Entries);
 pub(crate) fn keys_of(section: Section) -> &'static [Key] {
     match section {
         Section::Top => &[],
-        Section::Change => &[Key(Field::At, MOMENT, Presence::Must)],
+        Section::Change => &[Key(Field::At, TIMED, Presence::Must)],
         Section::Port => &[
-            Key(Field::Number, Allowed::Between(1, 16), Presence::Must),
+            Key(Field::Number, Allowed::Between(PORT), Presence::Must),
             Key(Field::Mbps, Allowed::Mbps, Presence::Must),
-            Key(Field::Vid, VID, Presence::May),
-            Key(Field::Priority, PRIORITY, Presence::May),
-            Key(Field::Classes, Allowed::Eight(0, 7), Presence::May),
-            Key(Field::Rooms, Allowed::Eight(1, 4096), Presence::May),
-            Key(Field::Base, MOMENT, OF_GATES),
+            Key(Field::Vid, VLAN, Presence::May),
+            Key(Field::Priority, GRADED, Presence::May),
+            Key(Field::Classes, Allowed::Eight(PRIORITY), Presence::May),
+            Key(Field::Rooms, Allowed::Eight(ROOM), Presence::May),
+            Key(Field::Base, TIMED, OF_GATES),
             Key(Field::Cycle, Allowed::Length, OF_GATES),
             Key(Field::Gates, Allowed::Tables, Presence::May),
-            Key(Field::NextBase, MOMENT, NEXT_GATES),
+            Key(Field::NextBase, TIMED, NEXT_GATES),
             Key(Field::NextCycle, Allowed::Length, NEXT_GATES),
             Key(Field::NextGates, Allowed::Tables, NEXT_GATES),
         ],
         Section::Vlan => &[
-            Key(Field::Vid, VID, Presence::Must),
+            Key(Field::Vid, VLAN, Presence::Must),
             Key(Field::Members, Allowed::Ports, Presence::Must),
         ],
         Section::Static => &[
@@ -128,7 +122,7 @@ pub(crate) fn keys_of(section: Section) -> &'static [Key] {
             Key(Field::Ports, Allowed::Ports, Presence::Must),
         ],
         Section::Stream => &[
-            Key(Field::Handle, NUMBER, Presence::Must),
+            Key(Field::Handle, NUMBERED, Presence::Must),
             Key(
                 Field::Port,
                 Allowed::NumberOf(Section::Port),
@@ -136,43 +130,43 @@ pub(crate) fn keys_of(section: Section) -> &'static [Key] {
             ),
             Key(Field::Kind, Allowed::Kind, Presence::Must),
             Key(Field::Address, Allowed::Address, Presence::Must),
-            Key(Field::Vid, VID, Presence::Must),
+            Key(Field::Vid, VLAN, Presence::Must),
             Key(Field::Tag, Allowed::Tag, Presence::Must),
         ],
         Section::Gate => &[
-            Key(Field::Number, NUMBER, Presence::Must),
+            Key(Field::Number, NUMBERED, Presence::Must),
             Key(Field::ShutOnRx, Allowed::Switch, Presence::May),
             Key(Field::ShutOnOctets, Allowed::Switch, Presence::May),
             Key(Field::State, Allowed::State, NO_ENTRIES),
-            Key(Field::Ipv, PRIORITY, NO_ENTRIES),
-            Key(Field::Base, MOMENT, OF_ENTRIES),
+            Key(Field::Ipv, GRADED, NO_ENTRIES),
+            Key(Field::Base, TIMED, OF_ENTRIES),
             Key(Field::Cycle, Allowed::Length, OF_ENTRIES),
             Key(Field::Entries, Allowed::Tables, Presence::May),
-            Key(Field::NextBase, MOMENT, NEXT_ENTRIES),
+            Key(Field::NextBase, TIMED, NEXT_ENTRIES),
             Key(Field::NextCycle, Allowed::Length, NEXT_ENTRIES),
             Key(Field::NextEntries, Allowed::Tables, NEXT_ENTRIES),
         ],
         Section::Meter => &[
-            Key(Field::Number, NUMBER, Presence::Must),
-            Key(Field::Cir, RATE, Presence::Must),
-            Key(Field::Cbs, NUMBER, Presence::Must),
-            Key(Field::Eir, RATE, Presence::Must),
-            Key(Field::Ebs, NUMBER, Presence::Must),
+            Key(Field::Number, NUMBERED, Presence::Must),
+            Key(Field::Cir, RATED, Presence::Must),
+            Key(Field::Cbs, Allowed::Between(BURST), Presence::Must),
+            Key(Field::Eir, RATED, Presence::Must),
+            Key(Field::Ebs, Allowed::Between(BURST), Presence::Must),
             Key(Field::Coupling, Allowed::Switch, Presence::May),
             Key(Field::Colour, Allowed::Colour, Presence::May),
             Key(Field::DropYellow, Allowed::Switch, Presence::May),
             Key(Field::MarkAllRed, Allowed::Switch, Presence::May),
         ],
         Section::Filter => &[
-            Key(Field::Number, NUMBER, Presence::Must),
-            Key(Field::Handle, NUMBER, Presence::May),
-            Key(Field::Priority, PRIORITY, Presence::May),
+            Key(Field::Number, NUMBERED, Presence::Must),
+            Key(Field::Handle, NUMBERED, Presence::May),
+            Key(Field::Priority, GRADED, Presence::May),
             Key(
                 Field::Gate,
                 Allowed::NumberOf(Section::Gate),
                 Presence::Must,
             ),
-            Key(Field::MaxSdu, Allowed::Between(0, 65_535), Presence::May),
+            Key(Field::MaxSdu, Allowed::Between(MAX_SDU), Presence::May),
             Key(
                 Field::Meter,
                 Allowed::NumberOf(Section::Meter),
@@ -182,9 +176,9 @@ pub(crate) fn keys_of(section: Section) -> &'static [Key] {
             Key(Field::Protected, Allowed::Switch, Presence::May),
         ],
         Section::Command => &[
-            Key(Field::At, MOMENT, Presence::Must),
+            Key(Field::At, TIMED, Presence::Must),
             Key(Field::Clear, Allowed::Clear, Presence::Must),
-            Key(Field::Number, NUMBER, Presence::Must),
+            Key(Field::Number, NUMBERED, Presence::Must),
         ],
     }
 }
@@ -193,14 +187,14 @@ pub(crate) fn keys_of(section: Section) -> &'static [Key] {
 pub(crate) fn entry_keys(section: Section) -> &'static [Key] {
     match section {
         Section::Port => &[
-            Key(Field::Open, Allowed::Set(0, 7), Presence::Must),
+            Key(Field::Open, Allowed::Set(PRIORITY), Presence::Must),
             Key(Field::Ns, Allowed::Length, Presence::Must),
         ],
         _ => &[
             Key(Field::Open, Allowed::Switch, Presence::Must),
             Key(Field::Ns, Allowed::Length, Presence::Must),
-            Key(Field::Ipv, PRIORITY, Presence::May),
-            Key(Field::Octets, NUMBER, Presence::May),
+            Key(Field::Ipv, GRADED, Presence::May),
+            Key(Field::Octets, NUMBERED, Presence::May),
         ],
     }
 }
@@ -217,18 +211,6 @@ pub(crate) fn lists_of(section: Section) -> &'static [ListKeys] {
             ListKeys(Field::NextEntries, Field::NextCycle),
         ],
         _ => &[],
-    }
-}
-
-/// The most instances of a section.
-pub(crate) fn limit_of(section: Section) -> u32 {
-    match section {
-        Section::Top => 0,
-        Section::Change => 1,
-        Section::Port => 16,
-        Section::Vlan => 4094,
-        Section::Static | Section::Stream | Section::Command => 4096,
-        Section::Gate | Section::Meter | Section::Filter => 1024,
     }
 }
 
