@@ -3,7 +3,7 @@ use Rattle.std.proofs.Common.{◌≡◌, ℕ, Bool, ◌<◌, ◌≤◌, ◌+◌,
 use Rattle.std.specs.Prelude.{nat_lt, option_map}
 use Rattle.std.proofs.Math.Nat.{mod-lt}
 use Rattle.std.proofs.lemmas.Bool.{cases_lt, false≢true}
-use Rattle.std.proofs.lemmas.Option.{same_Some}
+use Rattle.std.proofs.lemmas.Option.{same_Some, none-some}
 use lib.IntN.{pos}
 use lib.Signed.{◌≤ℤ◌}
 use Rattle.bridge_limits.specs.Members.{In}
@@ -19,9 +19,6 @@ use Rattle.bridge_bounds.proofs.Cycles.{turn_later}
 
 -- HOW MANY FRAMES
 
-none_some : (k : ℕ) → ◌≡◌ {A = Option ℕ} None (Some k) → ⊥
-none_some k h = cc
-
 -- both of two numbers are there where the greater one is
 record AreBelow (a b : Option ℕ) (k : ℕ) : Type 0 where
   one : ℕ
@@ -32,14 +29,14 @@ record AreBelow (a b : Option ℕ) (k : ℕ) : Type 0 where
   other_most : other ≤ k
 
 below : (a b : Option ℕ) (k : ℕ) → greater a b ≡ Some k → AreBelow a b k
-below None b k h = absurd (none_some k h)
-below (Some i) None k h = absurd (none_some k h)
+below None b k h = absurd (none-some k h)
+below (Some i) None k h = absurd (none-some k h)
 below (Some i) (Some j) k h =
     let is : max i j ≡ k = same_Some (max i j) k h in
     record { one = i; other = j; one_is = refl; other_is = refl; one_most = omega (arith, is); other_most = omega (arith, is) }
 
 few_of : (o : Option ℕ) (i k : ℕ) → option_map (λ limit. limit / 2) o ≡ Some i → i ≤ k → IsFew o k
-few_of None i k h most = absurd (none_some i h)
+few_of None i k h most = absurd (none-some i h)
 few_of (Some limit) i k h most = let is : limit / 2 ≡ i = same_Some (limit / 2) i h in omega (arith, is, most)
 
 -- the limit of each entry that lets frames through lets at most so many through
@@ -65,10 +62,10 @@ turn_few l k t x h at lets =
 
 -- what is fewer than a room holds is the most
 pub fewer_is : (room k : ℕ) (o : Option ℕ) → fewer room o ≡ Some k → o ≡ Some k
-fewer_is room k None h = absurd (none_some k h)
+fewer_is room k None h = absurd (none-some k h)
 fewer_is room k (Some j) h = by_bool (nat_lt j room)
     (λ e. let own : Some j ≡ Some k = rw e at h in own)
-    (λ e. let own : None ≡ Some k = rw e at h in absurd (none_some k own))
+    (λ e. let own : None ≡ Some k = rw e at h in absurd (none-some k own))
 
 -- the entries that are left, with what was found so far
 pub most_more : (es : List (GateEntry × ℕ)) (e : GateEntry × ℕ) (k m : ℕ) (all : Option ℕ) → greater (Some k) (most_in (e ∷ es)) ≡ all → most_frames e.0 ≡ Some m → greater (Some (max m k)) (most_in es) ≡ all

@@ -5,9 +5,7 @@ use Rattle.bridge_capture.specs.declared.packet.Packet.{Packet}
 use Rattle.bridge_inputs.specs.declared.lane.CaptureReader.{CaptureReader}
 use Rattle.bridge_inputs.specs.Lanes.{IsFirstAt}
 use Rattle.bridge_core.specs.Taking.{HasGiven}
-
-none_some : {X : Type 0} (o : Option X) (a : X) → o ≡ None → o ≡ Some a → ⊥
-none_some o a h k = cc
+use Rattle.bridge_state.proofs.Porting.{none_some}
 
 pub lane_is : {A : Type 0} (lanes : List (CaptureReader A)) (place : ℕ) (first : IsFirstAt lanes place) (l : CaptureReader A) → place < length lanes → l ≡ slice_index_or lanes place l → l ≡ first.lane
 lane_is lanes place first l within is = same_Some l first.lane (sym (slice_get_read lanes (length lanes) place l refl within is) ∙ first.there)

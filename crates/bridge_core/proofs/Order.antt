@@ -11,6 +11,7 @@ use Rattle.bridge_config.specs.Model.{Plan}
 use Rattle.bridge_config.specs.Rules.{port_at}
 use Rattle.bridge_semantics.specs.Merge.{Input, frame, NotBefore, of_rank, IsMerged, inputs_of, streams}
 use Rattle.bridge_core.specs.Taking.{Follows, HasTaken}
+use Rattle.bridge_state.proofs.Porting.{none_some}
 
 trans : (a b c : Input) → NotBefore a b → NotBefore b c → NotBefore a c
 trans a b c (inl l) (inl m) = inl (omega (arith, l, m))
@@ -71,9 +72,6 @@ merged_frame commanded frames inputs q c from m f = record {
 later_command : (next : Option Input) (x : Input) (xs : List Input) → IfSome next (λ y. x.at < y.at) → IfSome next (λ y. Follows y (x ∷ xs))
 later_command None x xs h = tt
 later_command (Some y) x xs h = inl h
-
-none_some : {X : Type 0} (o : Option X) (a : X) → o ≡ None → o ≡ Some a → ⊥
-none_some o a h k = cc
 
 -- what was taken, with one frame more
 pub taken_frame : {A : Type 0} (p : Plan A) (texts : ℕ → List ℕ) (commanded : List Input) (next : Option Input) (frames : ℕ → List Captured) (inputs : List Input) (q : ℕ) (c : Captured) (out : PortPlan A) → HasTaken p texts commanded next frames inputs → 1 ≤ q → port_at p.ports q ≡ Some out → Gave (texts q) (frames q ++ c ∷ []) → Follows (frame q c) inputs → IfSome next (λ y. c.time < y.at) → HasTaken p texts commanded next (with_frame frames q c) (frame q c ∷ inputs)

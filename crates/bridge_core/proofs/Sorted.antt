@@ -11,6 +11,7 @@ use Rattle.std.proofs.lemmas.Map.Views.{Contains-from_lookup, lookup-from_Contai
 use Rattle.bridge_limits.specs.Members.{AllAfter, Rising}
 use Rattle.bridge_config.proofs.InOrder.{numbers_differ}
 use Rattle.bridge_filter.specs.Plans.{are_distinct}
+use Rattle.bridge_state.proofs.Porting.{none_some}
 use Rattle.std.proofs.Common.{zero, suc, ◌+◌, ◌≤◌, length, slice_index_or, get_or}
 use Rattle.std.proofs.lemmas.Cmp.{nat_eq_equiv}
 use Rattle.std.proofs.lemmas.List.{get_or-map, length-map}
@@ -52,9 +53,6 @@ keys_sorted {X} (y ∷ ys) h i j d l m =
 -- filters that differ rise when they are sorted
 pub rising_sorted : {X : Type 0} (xs ys : List (ℕ × X)) → are_distinct xs ≡ true → IsPermutation xs ys → IsNonDecreasingBy (λ y. y.0) ys → Rising (λ a b. a.0 < b.0) ys
 rising_sorted {X} xs ys d p s = rising_keys ys (rising_numbers (map (λ (y : ℕ × X). y.0) ys) (IsStrictlyIncreasing-from_distinct (map (λ (y : ℕ × X). y.0) ys) (keys_sorted ys s) (keys_differ xs ys d p)))
-
-none_some : {X : Type 0} (o : Option X) (a : X) → o ≡ None → o ≡ Some a → ⊥
-none_some o a h k = cc
 
 kept : {X : Type 0} (n : ℕ) (v : X) (xs ys : List (ℕ × X)) → IsPermutation xs ys → IsDistinct nat_eq (map (λ y. y.0) ys) → lookup (nat_eq n) xs ≡ Some v → lookup (nat_eq n) ys ≡ Some v
 kept {X} n v xs ys p d e = lookup-from_Contains nat_eq_equiv n v ys d (Contains-permutation xs ys (n, v) p (Contains-from_lookup (λ x y h. eqb-true x y h) n v xs e))

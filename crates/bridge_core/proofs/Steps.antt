@@ -25,9 +25,7 @@ use Rattle.bridge_core.specs.Lines.{AreWritten, AreWrittenBut, Departs, MakesSta
 use Rattle.bridge_core.specs.Taking.{AreLater, Follows, HasTaken, IsBefore, IsOfCapture, IsUnderWay, LooksFrom, LooksOn, MayTake, StopsForMemory, StopsReading, StopsSo, StopsWriting, TakesBefore}
 use Rattle.bridge_core.proofs.Order.{back, frames_here, frames_there, is_same, taken_frame, with_frame}
 use Rattle.bridge_core.proofs.Places.{rising_at, set_here, set_there}
-
-none_some : {X : Type 0} (o : Option X) (a : X) → o ≡ None → o ≡ Some a → ⊥
-none_some o a h k = cc
+use Rattle.bridge_state.proofs.Porting.{none_some}
 
 is_apart : (a b : ℕ) → nat_eq a b ≡ false → a ≡ b → ⊥
 is_apart a b e same = grind (arith, nat_tests)

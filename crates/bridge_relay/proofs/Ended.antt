@@ -40,9 +40,7 @@ use Rattle.bridge_relay.proofs.Relayed.{port_is}
 use Rattle.bridge_relay.proofs.Sound.{found_some}
 use Rattle.bridge_relay.proofs.Standing.{out_of}
 use Rattle.bridge_relay.proofs.Viewing.{IsBefore}
-
-none_some : {X : Type 0} (o : Option X) (a : X) → o ≡ None → o ≡ Some a → ⊥
-none_some o a h k = cc
+use Rattle.bridge_state.proofs.Porting.{none_some}
 
 is_same : (m n : ℕ) → nat_eq m n ≡ true → m ≡ n
 is_same m n e = grind (arith, nat_tests)

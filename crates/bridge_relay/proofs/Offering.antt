@@ -35,13 +35,10 @@ use Rattle.bridge_state.specs.Ports.{PortsState, slot_in, slot_at, goes_out, out
 use Rattle.bridge_relay.specs.Relays.{RelayState, HasLeft, IsSound, IsAwaited, written, is_flow, is_of, count_all, seen}
 use Rattle.bridge_state.specs.Ports.{AreAlike, IsMade}
 use Rattle.bridge_relay.specs.Relaying.{CountTheSame, HasOfferedTo, Carries, offer_to, offers_below, IsPending, IsOffering, MayRelay, HasCopies, leaves}
-use Rattle.bridge_state.proofs.Porting.{below, set_here, set_there}
+use Rattle.bridge_state.proofs.Porting.{below, set_here, set_there, none_some}
 use Rattle.bridge_relay.proofs.Sound.{changed}
 use Rattle.bridge_relay.proofs.Standing.{put, put_same, put_other, out_of}
 use Rattle.bridge_relay.proofs.Leaving.{left_pushed, answered_waits}
-
-none_some : {X : Type 0} (o : Option X) (a : X) → o ≡ None → o ≡ Some a → ⊥
-none_some o a h k = cc
 
 -- How many ports of a set.
 

@@ -35,13 +35,10 @@ use Rattle.bridge_state.specs.Tables.{TableState, change_if, departed, longer}
 use Rattle.bridge_state.specs.Ports.{PortsState, slot_in, slot_at, HasStarted}
 use Rattle.bridge_relay.specs.Relays.{RelayState, HasLeft, Stands, IsSound, written, is_flow, seen}
 use Rattle.bridge_state.specs.Ports.{AreAlike, IsMade}
-use Rattle.bridge_state.proofs.Porting.{below, set_here, set_there}
+use Rattle.bridge_state.proofs.Porting.{below, set_here, set_there, none_some}
 use Rattle.bridge_relay.proofs.Sound.{changed}
 use Rattle.bridge_relay.proofs.Leaving.{left_begun}
 use Rattle.bridge_relay.proofs.Telling.{IsBegunAt, IsDone, dated, told_other, told_more, offered_same, counted_same, start_after, in_seen}
-
-none_some : {X : Type 0} (o : Option X) (a : X) → o ≡ None → o ≡ Some a → ⊥
-none_some o a h k = cc
 
 -- the lists with another one for one port
 abbrev pub put : {X : Type 0} → ℕ → List X → (ℕ → List X) → ℕ → List X

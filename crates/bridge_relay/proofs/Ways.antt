@@ -20,9 +20,7 @@ use Rattle.bridge_state.specs.declared.slot.Slot.{Slot}
 use Rattle.bridge_state.specs.Ports.{defaults_of}
 use Rattle.bridge_state.specs.Ports.{AreAlike, IsMade}
 use Rattle.bridge_relay.specs.Relaying.{classified}
-
-none_some : {X : Type 0} (o : Option X) (a : X) → o ≡ None → o ≡ Some a → ⊥
-none_some o a h k = cc
+use Rattle.bridge_state.proofs.Porting.{none_some}
 
 -- no port, no defaults
 pub none_there : {A : Type 0} (o : Option (PortPlan A)) (s : Option (Slot A)) → AreAlike o s → defaults_of s ≡ None → o ≡ None

@@ -14,6 +14,7 @@ use Rattle.bridge_port.specs.Standing.{IsDue}
 use Rattle.bridge_semantics.specs.declared.outcome.PortCount.{PortCount}
 use Rattle.bridge_state.specs.declared.slot.Slot.{Slot}
 use Rattle.bridge_state.specs.Ports.{slot_in, AreKept, IsFirst, IsMade, IsNew, IsSlot}
+use Rattle.bridge_state.proofs.Porting.{none_some}
 
 -- the first ports are made
 pub record AreFirst {A : Type 0} (ports : List (PortPlan A)) (slots : List (Option (Slot A))) (n : ℕ) : Type 0 where
@@ -70,9 +71,6 @@ slot_kept {A} ports q (Some out) s are e f =
       },
       new.idle,
     )
-
-none_some : (o : Option ℕ) (k : ℕ) → o ≡ None → o ≡ Some k → ⊥
-none_some o k h e = cc
 
 pub kept_first : {G A : Type 0} (held : G → ℕ → Option ℕ) (ports : List (PortPlan A)) (slots : List (Option (Slot A))) (agenda : G) → ArePorts ports → AreFirst ports slots 16 → ((q : ℕ) → held agenda q ≡ None) → AreKept held slots agenda
 kept_first {G} {A} held ports slots agenda are w none =

@@ -21,7 +21,7 @@ use Rattle.bridge_state.specs.declared.slot.Came.TheVariants as came
 use Rattle.bridge_state.specs.Slots.{offered_slot, started_slot, counted_copy, counted_frame, refusal_to}
 use Rattle.bridge_state.specs.Ports.{PortsState, slot_in, slot_at, IsSlot, AreKept, NotBefore, IsAfter, HasOffered, HasStarted}
 
-none_some : {X : Type 0} (o : Option X) (a : X) → o ≡ None → o ≡ Some a → ⊥
+pub none_some : {X : Type 0} (o : Option X) (a : X) → o ≡ None → o ≡ Some a → ⊥
 none_some o a h k = cc
 
 -- a port that is there has a place

@@ -1,6 +1,7 @@
 use Rattle.std.proofs.Common.{◌≡◌, ℕ, List, Option, None, Some, ap, refl, sym, ◌∙◌}
 use Rattle.std.specs.Prelude.{nat_eq}
 use Rattle.std.specs.Map.{lookup}
+use Rattle.std.proofs.lemmas.Option.{none-some}
 use Rattle.bridge_gate.specs.declared.schedule.GatePlan.{GatePlan}
 use Rattle.bridge_bounds.proofs.Reached.{found_in, gate_there, longest_fits, sdu_few}
 use Rattle.bridge_bounds.proofs.tight.tight_bound_in.Goals as goal
@@ -17,14 +18,11 @@ tightened-requires-clause-sdu g c = sdu_few c.args.plan.now c.args.number c.args
 pub tightened-requires-clause-ever : goal.tightened-requires-clause-ever
 tightened-requires-clause-ever g c = longest_fits c.args.plan.now c.args.number c.args.port c.args.class c.in_ok-sdu.sdu c.args.filter.now c.in_ok-out.out.now c.requires.rules c.requires.passes (sym c.in_ok-out.ensures.port) c.requires.reach c.in_ok-sdu.was
 
-none_some : {X : Type 0} (x : X) → ◌≡◌ {A = Option X} None (Some x) → ⊥
-none_some x h = cc
-
 pub returns-in_err-gate : goal.returns-in_err-gate
 returns-in_err-gate g c =
     let (gate, found) = gate_there c.args.plan.now c.args.number c.args.filter.now c.requires.rules (found_in c.args.plan.now.filters c.args.number c.args.filter.now c.requires.found) in
     let none : None ≡ lookup (nat_eq c.args.filter.now.gate) c.gates.result.now = c.in_err-gate.ensures in
-    absurd (none_some gate (none ∙ (ap (λ (xs : List (ℕ × GatePlan _)). lookup (nat_eq c.args.filter.now.gate) xs) c.gates.ensures.gates ∙ found)))
+    absurd (none-some gate (none ∙ (ap (λ (xs : List (ℕ × GatePlan _)). lookup (nat_eq c.args.filter.now.gate) xs) c.gates.ensures.gates ∙ found)))
 
 pub returns : goal.returns
 returns g c =
