@@ -1,17 +1,13 @@
 -- The copies of a filter come to its queues no more often than its gate lets frames through.
-use Rattle.std.proofs.Common.{◌≡◌, ◌<◌, ◌≤◌, ◌-◌, ℕ, Bool, true, false, ◌&&◌, ◌⊎◌, cond, Option, None, Some, List, [], ◌∷◌, ◌++◌, Result, Ok, Err, length, arith, ap, refl, sym, subst, ◌∙◌, inl, inr}
-use Rattle.std.specs.Prelude.{map, nat_eq, nat_lt, if◌then◌else◌}
+use Rattle.std.proofs.Common.{◌≡◌, ◌<◌, ◌≤◌, ◌-◌, ℕ, Bool, true, false, ◌&&◌, ◌⊎◌, cond, Option, None, Some, List, [], ◌∷◌, ◌++◌, Ok, length, arith, ap, refl, sym, subst, ◌∙◌, inl, inr}
+use Rattle.std.specs.Prelude.{map, nat_eq, if◌then◌else◌}
 use Rattle.std.proofs.lemmas.Bool.{eqb-true}
-use Rattle.std.proofs.lemmas.Bool.Decides.{nat_tests}
 use Rattle.std.proofs.lemmas.Option.{same_Some}
 use Rattle.bridge_limits.specs.Members.{In}
-use Rattle.bridge_limits.specs.declared.TheConstants.{LONGEST_FRAME}
 use Rattle.bridge_limits.proofs.Members.{in_left, in_right}
 use Rattle.bridge_limits.proofs.Cases.{by_bool}
-use Rattle.bridge_frame.specs.declared.FrameFault.{FrameFault}
-use Rattle.bridge_frame.specs.declared.FrameFault.TheVariants.{TooLong, TooShort}
 use Rattle.bridge_frame.specs.declared.Head.{Head}
-use Rattle.bridge_frame.specs.Frames.{head, head_octets, is_tagged, sdu_octets}
+use Rattle.bridge_frame.specs.Frames.{head, is_tagged}
 use Rattle.bridge_forward.specs.Ports.{has}
 use Rattle.bridge_gate.specs.declared.gate.GateAnswer.{GateAnswer}
 use Rattle.bridge_gate.specs.declared.gate.GateAnswer.TheVariants as gate

@@ -19,7 +19,7 @@ use Rattle.bridge_filter.specs.declared.FilterPlan.{FilterPlan}
 use Rattle.bridge_filter.specs.declared.Verdict.{Verdict}
 use Rattle.bridge_filter.specs.declared.Verdict.TheVariants as verdict
 use Rattle.bridge_filter.specs.Verdicts as verdicts
-use Rattle.bridge_filter.specs.Verdicts.{is_above, is_blocked}
+use Rattle.bridge_filter.specs.Verdicts.{is_above}
 use Rattle.bridge_filter.proofs.Members.{one_number}
 use Rattle.bridge_filter.proofs.Owned.{flow_listed}
 use Rattle.bridge_config.specs.declared.ports.PortPlan.{PortPlan}

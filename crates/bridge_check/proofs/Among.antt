@@ -1,5 +1,5 @@
 -- The first fault of a plan among all that it has.
-use Rattle.std.proofs.Common.{◌≡◌, ℕ, Bool, true, false, List, [], ◌∷◌, ◌++◌, Option, Some, None, nat_lt, refl, sym, ap, ◌∙◌, subst, inl, inr, cond, ◌⊎◌}
+use Rattle.std.proofs.Common.{◌≡◌, ℕ, Bool, true, false, List, [], ◌∷◌, Option, Some, None, nat_lt, refl, sym, ap, ◌∙◌, subst, inl, inr, cond, ◌⊎◌}
 use Rattle.std.specs.Prelude.{flat_map, option_map}
 use Rattle.bridge_limits.specs.Members.{In}
 use Rattle.bridge_limits.proofs.Members.{in_left, in_right}

@@ -1,10 +1,8 @@
 -- What two lists let through that are exchanged.
-use Rattle.std.proofs.Common.{◌≡◌, ℕ, ◌||◌, List, [], ◌∷◌, ◌++◌, Option, inl, inr}
+use Rattle.std.proofs.Common.{◌≡◌, ℕ, ◌||◌, List, ◌++◌, Option}
 use Rattle.std.proofs.lemmas.List.Folds.{list_any-append}
-use Rattle.bridge_limits.specs.Members.{In}
 use Rattle.bridge_gate.specs.declared.schedule.GateEntry.{GateEntry}
 use Rattle.bridge_check.specs.Reach.{gives, lets}
 
 pub lets_both : (xs ys : List GateEntry) (priority : Option ℕ) (k : ℕ) → lets (xs ++ ys) priority k ≡ (lets xs priority k || lets ys priority k)
 lets_both xs ys priority k = list_any-append (λ e. gives e priority k) xs ys
-

@@ -1,6 +1,5 @@
 -- Each group that is named stands among all groups.
-use Rattle.std.proofs.Common.{◌≡◌, ◌&&◌, ℕ, Bool, true, false, nat_eq, List, [], ◌∷◌, ◌++◌, Option, None, Some, refl, sym, ap, ap₂, subst, inl, inr, fold}
-use Rattle.std.specs.List.{list_any}
+use Rattle.std.proofs.Common.{◌≡◌, ℕ, true, List, [], ◌∷◌, Option, None, Some, refl, ap, ap₂, subst, inl, inr, fold}
 use Rattle.std.specs.Str.{bytes_eq}
 use Rattle.std.proofs.lemmas.Bool.{and_parts, eqb-true}
 use Rattle.std.proofs.lemmas.Slice.Eq.{bytes_eq-Decides}
@@ -13,7 +12,7 @@ use Rattle.bridge_config.specs.Model.{Plan}
 use Rattle.bridge_walks.proofs.Filtered.{found}
 use Rattle.bridge_circling.specs.declared.groups.Group.{Group}
 use Rattle.bridge_circling.specs.Groups.{all_groups, group_by, has_group, is_one_destination, is_one_group, is_one_vlan, with_group, with_known, with_plan, with_vlan}
-use Rattle.bridge_circling.specs.Circulations.{IsNamed, IsNamedBy, NamesEntry, NamesVlan}
+use Rattle.bridge_circling.specs.Circulations.{IsNamed, IsNamedBy}
 
 same_bytes : (xs ys : List ℕ) → bytes_eq xs ys ≡ true → xs ≡ ys
 same_bytes xs ys t = (bytes_eq-Decides xs ys).0 t

@@ -1,5 +1,5 @@
 -- The groups of which rows tell.
-use Rattle.std.proofs.Common.{◌≡◌, ◌<◌, ◌+◌, ℕ, List, [], ◌∷◌, ◌++◌, take, length, get_or, refl, sym, subst, inl, inr, Result, Ok, Err, IfOk, Vec}
+use Rattle.std.proofs.Common.{◌≡◌, ◌<◌, ◌+◌, ℕ, List, [], ◌∷◌, ◌++◌, take, length, get_or, sym, subst, inl, inr, Result, Ok, Err, IfOk, Vec}
 use Rattle.bridge_limits.specs.Members.{In}
 use Rattle.bridge_limits.proofs.Members.{in_end, in_left, in_push}
 use Rattle.bridge_config.specs.Model.{Plan}
@@ -9,7 +9,7 @@ use Rattle.bridge_walks.proofs.Filtered.{in_take}
 use Rattle.bridge_circling.specs.declared.groups.Group.{Group}
 use Rattle.bridge_circling.specs.declared.circulations.Circulation.{Circulation}
 use Rattle.bridge_circling.specs.Groups.{all_groups}
-use Rattle.bridge_circling.specs.Circulations.{AreCirculations, AreOfGroups, HasRow, IsAdded, IsNamed, MayGoRound}
+use Rattle.bridge_circling.specs.Circulations.{AreCirculations, AreOfGroups, IsAdded, MayGoRound}
 use Rattle.bridge_circling.proofs.Named.{is_among_all}
 
 -- of no group nothing is told

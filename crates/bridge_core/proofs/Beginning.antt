@@ -1,15 +1,15 @@
 -- How a run begins.
-use Rattle.std.proofs.Common.{◌≡◌, ℕ, zero, suc, ◌+◌, ◌<◌, ◌≤◌, true, false, List, [], ◌∷◌, ◌++◌, length, map, drop, nat_eq, slice_get, slice_index_or, arith, refl, ap, sym, subst, ◌∙◌, inl, inr, Option, Some, None, Contains, Ok, Err, Result}
+use Rattle.std.proofs.Common.{◌≡◌, ℕ, zero, suc, ◌<◌, List, [], ◌∷◌, map, drop, nat_eq, slice_get, arith, refl, ap, sym, inl, inr, Option, Some, None, Contains, Ok, Err, Result}
 use Rattle.std.specs.List.Sorted.{IsPermutation}
 use Rattle.std.proofs.lemmas.List.Sorted.{Contains-permutation, IsPermutation-sym}
 use Rattle.std.proofs.lemmas.Bool.Decides.{nat_tests}
 use Rattle.std.proofs.lemmas.Option.{same_Some}
-use Rattle.bridge_limits.specs.Members.{In, Rising}
+use Rattle.bridge_limits.specs.Members.{In}
 use Rattle.bridge_limits.proofs.Cases.{by_bool}
 use Rattle.bridge_capture.specs.declared.fault.CaptureFault.{CaptureFault}
 use Rattle.bridge_capture.specs.declared.form.Form.{Form}
 use Rattle.bridge_capture.specs.declared.packet.Packet.{Packet}
-use Rattle.bridge_capture.specs.Grammar.{Captured, Records, ReadsAfter, AtEnd, first_place, header_of}
+use Rattle.bridge_capture.specs.Grammar.{ReadsAfter, AtEnd, first_place, header_of}
 use Rattle.bridge_capture.specs.Standing.{Gave}
 use Rattle.bridge_config.proofs.PlanPorts.{there_is}
 use Rattle.bridge_config.specs.declared.ports.PortPlan.{PortPlan}

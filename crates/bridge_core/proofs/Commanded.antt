@@ -1,13 +1,11 @@
 -- A command is done.
-use Rattle.std.proofs.Common.{◌≡◌, ℕ, zero, suc, ◌+◌, ◌<◌, ◌≤◌, true, List, [], ◌∷◌, ◌++◌, slice_get, arith, refl, ap, sym, subst, ◌∙◌, inl, inr, Option, Some, None}
-use Rattle.std.specs.Prelude.{IfSome, ◌⊎◌, nat_eq, false}
+use Rattle.std.proofs.Common.{◌≡◌, ℕ, zero, suc, ◌+◌, ◌≤◌, List, [], ◌∷◌, ◌++◌, arith, refl, ap, sym, subst, inl, inr, Option, Some, None}
+use Rattle.std.specs.Prelude.{IfSome, nat_eq, false}
 use Rattle.std.proofs.lemmas.Bool.Decides.{nat_tests}
 use Rattle.std.proofs.lemmas.Option.{same_Some}
-use Rattle.bridge_capture.specs.declared.packet.Packet.{Packet}
 use Rattle.bridge_capture.specs.Grammar.{Captured}
 use Rattle.bridge_capture.specs.Reading.{view}
 use Rattle.bridge_config.specs.declared.command.Command.{Command}
-use Rattle.bridge_config.specs.declared.ports.PortPlan.{PortPlan}
 use Rattle.bridge_config.specs.Model.{Plan}
 use Rattle.bridge_config.specs.Rules.{port_at}
 use Rattle.bridge_semantics.specs.Events.{Cleared}
@@ -16,7 +14,7 @@ use Rattle.bridge_relay.specs.Relays.{RelayState, Stands}
 use Rattle.bridge_inputs.specs.declared.lane.CaptureReader.{CaptureReader}
 use Rattle.bridge_inputs.specs.Lanes.{numbers}
 use Rattle.bridge_core.specs.Lines.{AreWritten}
-use Rattle.bridge_core.specs.Taking.{AreLater, Follows, HasTaken, IsUnderWay, MayTake}
+use Rattle.bridge_core.specs.Taking.{AreLater, Follows, IsUnderWay, MayTake}
 use Rattle.bridge_core.proofs.Order.{in_order_next}
 use Rattle.bridge_core.proofs.Steps.{by_order}
 

@@ -1,7 +1,5 @@
 -- Lists by their places.
-use Rattle.std.proofs.Common.{◌≡◌, ◌≢◌, ℕ, zero, suc, ◌+◌, ◌<◌, ◌≤◌, List, [], ◌∷◌, length, slice_get, slice_set, sum_by, arith, refl, ap, sym, subst, ◌∙◌, Option, Some, None}
-use Rattle.std.specs.Prelude.{nat_eq, false}
-use Rattle.std.proofs.lemmas.Bool.Decides.{nat_tests}
+use Rattle.std.proofs.Common.{◌≡◌, ◌≢◌, ℕ, zero, suc, ◌+◌, ◌<◌, ◌≤◌, List, [], ◌∷◌, length, slice_get, slice_set, sum_by, arith, refl, ap, subst, Some}
 use Rattle.std.proofs.Common.{get_or}
 use Rattle.std.proofs.lemmas.Option.{get_or_from_slice_get, slice_get_within, same_Some}
 use Rattle.std.proofs.lemmas.List.Sums.{get_or-le-sum_by, sum_by-set}

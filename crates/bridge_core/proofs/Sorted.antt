@@ -1,6 +1,5 @@
 -- Ports and filters by rising number.
-use Rattle.std.proofs.Common.{◌≡◌, ℕ, ◌<◌, true, List, [], ◌∷◌, map, nat_eq, arith, refl, sym, subst, ◌∙◌, Option, Some, None, AllPairs, Contains}
-use Rattle.std.specs.Cmp.{IsEquivalence}
+use Rattle.std.proofs.Common.{◌≡◌, ℕ, ◌<◌, true, List, [], ◌∷◌, map, nat_eq, arith, refl, Option, Some, None, AllPairs}
 use Rattle.std.specs.List.{IsDistinct}
 use Rattle.std.specs.List.Sorted.{IsPermutation, IsStrictlyIncreasing, IsNonDecreasingBy}
 use Rattle.std.specs.Map.{lookup}
@@ -12,7 +11,7 @@ use Rattle.bridge_limits.specs.Members.{AllAfter, Rising}
 use Rattle.bridge_config.proofs.InOrder.{numbers_differ}
 use Rattle.bridge_filter.specs.Plans.{are_distinct}
 use Rattle.bridge_state.proofs.Porting.{none_some}
-use Rattle.std.proofs.Common.{zero, suc, ◌+◌, ◌≤◌, length, slice_index_or, get_or}
+use Rattle.std.proofs.Common.{suc, length, slice_index_or}
 use Rattle.std.proofs.lemmas.Cmp.{nat_eq_equiv}
 use Rattle.std.proofs.lemmas.List.{get_or-map, length-map}
 use Rattle.std.proofs.lemmas.Bool.{eqb-true}

@@ -1,6 +1,6 @@
 -- One frame more is taken, or a run stops.
-use Rattle.std.proofs.Common.{◌≡◌, ◌≢◌, ℕ, zero, suc, ◌+◌, ◌<◌, ◌≤◌, true, false, List, [], ◌∷◌, ◌++◌, length, slice_get, slice_set, arith, refl, ap, sym, subst, ◌∙◌, inl, inr, Option, Some, None, Result, Ok, Err}
-use Rattle.std.specs.Prelude.{nat_eq, ◌⊎◌, IfSome}
+use Rattle.std.proofs.Common.{◌≡◌, ◌≢◌, ℕ, zero, suc, ◌+◌, ◌<◌, ◌≤◌, true, false, List, [], ◌∷◌, ◌++◌, length, slice_get, slice_set, arith, refl, ap, sym, subst, ◌∙◌, inl, inr, Option, Some, None, Err}
+use Rattle.std.specs.Prelude.{nat_eq, IfSome}
 use Rattle.std.proofs.lemmas.Option.{slice_get_within, same_Some}
 use Rattle.std.proofs.lemmas.Bool.Decides.{nat_tests}
 use Rattle.bridge_limits.specs.Members.{Rising}
@@ -8,7 +8,7 @@ use Rattle.bridge_limits.proofs.Cases.{by_bool}
 use Rattle.bridge_capture.specs.declared.fault.CaptureFault.{CaptureFault}
 use Rattle.bridge_capture.specs.declared.fault.CaptureFault.TheVariants as faults
 use Rattle.bridge_capture.specs.declared.packet.Packet.{Packet}
-use Rattle.bridge_capture.specs.Grammar.{Captured, Records, AtEnd}
+use Rattle.bridge_capture.specs.Grammar.{Captured}
 use Rattle.bridge_capture.specs.Reading.{view}
 use Rattle.bridge_capture.specs.Standing.{Gave, RefusedSo, StandsFor}
 use Rattle.bridge_config.specs.declared.ports.PortPlan.{PortPlan}
@@ -25,7 +25,6 @@ use Rattle.bridge_core.specs.Lines.{AreWritten, AreWrittenBut, Departs, MakesSta
 use Rattle.bridge_core.specs.Taking.{AreLater, Follows, HasTaken, IsBefore, IsOfCapture, IsUnderWay, LooksFrom, LooksOn, MayTake, StopsForMemory, StopsReading, StopsSo, StopsWriting, TakesBefore}
 use Rattle.bridge_core.proofs.Order.{back, frames_here, frames_there, is_same, taken_frame, with_frame}
 use Rattle.bridge_core.proofs.Places.{rising_at, set_here, set_there}
-use Rattle.bridge_state.proofs.Porting.{none_some}
 
 is_apart : (a b : ℕ) → nat_eq a b ≡ false → a ≡ b → ⊥
 is_apart a b e same = grind (arith, nat_tests)

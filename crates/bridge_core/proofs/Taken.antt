@@ -1,15 +1,13 @@
 -- A frame is taken and its lane looks at the next one.
-use Rattle.std.proofs.Common.{◌≡◌, ◌≢◌, ℕ, zero, suc, ◌+◌, ◌-◌, ◌<◌, ◌≤◌, true, false, List, [], ◌∷◌, ◌++◌, length, slice_get, slice_set, sum_by, arith, refl, ap, sym, subst, ◌∙◌, Option, Some, None, Result, Ok, Err}
-use Rattle.std.specs.Prelude.{OnOk, IfSome, nat_eq, ◌⊎◌, if◌then◌else◌}
+use Rattle.std.proofs.Common.{◌≡◌, ◌≢◌, ℕ, zero, suc, ◌+◌, ◌<◌, ◌≤◌, List, [], ◌∷◌, length, slice_get, slice_set, arith, refl, ap, sym, subst, ◌∙◌, Option, Some, None, Result, Err}
+use Rattle.std.specs.Prelude.{OnOk, ◌⊎◌}
 use Rattle.std.proofs.Common.{inl, inr}
-use Rattle.std.specs.Option.{is_some}
 use Rattle.std.proofs.lemmas.Option.{slice_get_within, same_Some}
 use Rattle.bridge_limits.specs.Members.{Rising}
 use Rattle.bridge_capture.specs.declared.fault.CaptureFault.{CaptureFault}
 use Rattle.bridge_capture.specs.declared.fault.CaptureFault.TheVariants as faults
 use Rattle.bridge_capture.specs.declared.packet.Packet.{Packet}
 use Rattle.bridge_capture.specs.Grammar.{Captured}
-use Rattle.bridge_capture.specs.Reading.{view}
 use Rattle.bridge_capture.specs.Standing.{StandsFor, IsReading, records_left}
 use Rattle.bridge_config.specs.declared.ports.PortPlan.{PortPlan}
 use Rattle.bridge_config.specs.Model.{Plan}
@@ -17,7 +15,7 @@ use Rattle.bridge_config.specs.Rules.{port_at}
 use Rattle.bridge_inputs.specs.declared.fault.RunFault.TheVariants as run
 use Rattle.bridge_relay.specs.Relays.{RelayState}
 use Rattle.bridge_inputs.specs.declared.lane.CaptureReader.{CaptureReader}
-use Rattle.bridge_inputs.specs.Lanes.{AreAheadOf, AreRests, fault_at, IsAhead, IsFirstAt, IsLane, IsNext, Looks, numbers, one_ahead, room, room_of}
+use Rattle.bridge_inputs.specs.Lanes.{AreRests, fault_at, IsFirstAt, IsLane, Looks, numbers, room, room_of}
 use Rattle.bridge_core.specs.Taking.{HasGiven, HasLooked, MayTake}
 use Rattle.bridge_core.proofs.Places.{set_here, set_there, sum_at, sum_set}
 use Rattle.bridge_core.proofs.Steps.{by_place, number_at, numbers_set}

@@ -1,5 +1,5 @@
 -- The least of a row, one moment more at a time.
-use Rattle.std.proofs.Common.{◌≡◌, ℕ, Bool, true, false, ◌+◌, ◌-◌, ◌<◌, ◌≤◌, arith, refl, sym, subst, inl, inr, Option, Some, None, List, [], ◌∷◌, length, zero, suc}
+use Rattle.std.proofs.Common.{◌≡◌, ℕ, true, ◌+◌, ◌-◌, ◌<◌, ◌≤◌, arith, refl, sym, subst, inl, inr, Option, Some, None, List, [], ◌∷◌, length, zero, suc}
 use Rattle.std.specs.Prelude.{◌⊎◌, nat_le, nat_lt, if◌then◌else◌, slice_index_or}
 use Rattle.std.proofs.lemmas.Bool.Decides.{nat_tests}
 use Rattle.bridge_limits.proofs.Cases.{by_bool}

@@ -1,11 +1,11 @@
 -- Each frame of traffic passes its filter.
-use Rattle.std.proofs.Common.{◌≡◌, ℕ, ℤ, Bool, true, false, not, ◌&&◌, ◌||◌, ◌<◌, ◌≤◌, ◌+◌, ◌-◌, cond, Option, None, Some, List, [], ◌∷◌, ◌++◌, Result, Ok, Err, length, arith, ap, refl, sym, subst, ◌∙◌, inl, inr}
-use Rattle.std.specs.Prelude.{nat_eq, nat_lt, nat_le, if◌then◌else◌}
+use Rattle.std.proofs.Common.{◌≡◌, ℕ, ℤ, Bool, true, false, not, ◌||◌, ◌<◌, ◌≤◌, ◌+◌, ◌-◌, cond, Option, None, Some, List, [], ◌∷◌, Result, Ok, Err, length, arith, ap, refl, sym, subst, ◌∙◌}
+use Rattle.std.specs.Prelude.{nat_eq, nat_lt, if◌then◌else◌}
 use Rattle.std.specs.List.{list_all}
 use Rattle.std.specs.Map.{lookup}
 use Rattle.std.specs.Ordering.{int_eq}
 use Rattle.std.proofs.Math.Bool.{and-false}
-use Rattle.std.proofs.lemmas.Bool.{and_parts, cases_lt, eqb-true, false≢true}
+use Rattle.std.proofs.lemmas.Bool.{and_parts, eqb-true, false≢true}
 use Rattle.std.proofs.lemmas.Bool.Decides.{nat_tests}
 use Rattle.std.proofs.lemmas.List.Folds.{list_all-append}
 use Rattle.std.proofs.lemmas.Option.{same_Some}
@@ -18,7 +18,6 @@ use Rattle.bridge_frame.specs.declared.Tag.{Tag}
 use Rattle.bridge_frame.specs.declared.FrameFault.{FrameFault}
 use Rattle.bridge_frame.specs.declared.FrameFault.TheVariants.{TooLong, TooShort}
 use Rattle.bridge_frame.specs.Frames.{head, head_octets, is_tagged, sdu_octets, tag_in}
-use Rattle.bridge_gate.specs.declared.gate.GateAnswer.{GateAnswer}
 use Rattle.bridge_gate.specs.declared.gate.GateAnswer.TheVariants as gate
 use Rattle.bridge_gate.specs.declared.schedule.GateEntry.{GateEntry}
 use Rattle.bridge_gate.specs.declared.schedule.GatePlan.{GatePlan}
@@ -27,7 +26,7 @@ use Rattle.bridge_gate.specs.Gates.{GateRules, GateStep, OctetsCleared, RxCleare
 use Rattle.bridge_gate.specs.Schedules as schedules
 use Rattle.bridge_gate.specs.Schedules.{rules_of}
 use Rattle.bridge_gate.proofs.ScheduleLaws.{IsOrdered, ordered}
-use Rattle.bridge_ident.specs.Identification.{HasEntry, handle_in, is_match, names_vlan, takes_tag}
+use Rattle.bridge_ident.specs.Identification.{handle_in, names_vlan, takes_tag}
 use Rattle.bridge_ident.specs.declared.StreamEntry.{StreamEntry}
 use Rattle.bridge_ident.specs.declared.TagKind.{TagKind}
 use Rattle.bridge_ident.specs.declared.TagKind.TheVariants as tag
@@ -41,7 +40,7 @@ use Rattle.bridge_filter.specs.Counts.{verdicts_of}
 use Rattle.bridge_filter.specs.Own.{is_named, is_number}
 use Rattle.bridge_filter.specs.Plans.{gate_or_closed}
 use Rattle.bridge_filter.specs.Verdicts as verdicts
-use Rattle.bridge_filter.specs.Verdicts.{Call, Commanded, Judged, Plans, Step, by_answer, flow, gate_share, is_above, is_blocked, verdict_of}
+use Rattle.bridge_filter.specs.Verdicts.{Call, Commanded, Judged, Plans, Step, flow, gate_share, is_above, is_blocked, verdict_of}
 use Rattle.bridge_filter.proofs.Members.{one_number}
 use Rattle.bridge_filter.proofs.Numbered.{same_eq}
 use Rattle.bridge_filter.proofs.Owned.{flow_listed}

@@ -1,6 +1,6 @@
 -- A bridge after a start.
-use Rattle.std.proofs.Common.{◌≡◌, ◌≢◌, ℕ, Bool, true, false, ◌+◌, ◌-◌, ◌*◌, ◌<◌, ◌≤◌, List, [], ◌∷◌, length, arith, refl, ap, ◌∙◌, sym, subst, inl, inr, Option, Some, None, slice_set, slice_index_or, zero, suc}
-use Rattle.std.specs.Prelude.{if◌then◌else◌, nat_eq, nat_lt, sum_by, IfSome, IsTrue, not, max}
+use Rattle.std.proofs.Common.{◌≡◌, ℕ, Bool, true, false, ◌+◌, ◌-◌, ◌≤◌, List, length, arith, refl, ap, ◌∙◌, sym, subst, Option, Some, None, slice_set, slice_index_or}
+use Rattle.std.specs.Prelude.{if◌then◌else◌, nat_eq, nat_lt, sum_by, IfSome, not, max}
 use Rattle.std.specs.Map.{lookup}
 use Rattle.std.specs.Option.{is_some}
 use Rattle.std.proofs.lemmas.Bool.{ltb-false}
@@ -10,16 +10,15 @@ use Rattle.bridge_limits.proofs.Cases.{by_bool}
 use Rattle.bridge_filter.specs.declared.FilterPlan.{FilterPlan}
 use Rattle.bridge_filter.specs.Plans.{is_there}
 use Rattle.bridge_port.specs.declared.item.Item.{Item}
-use Rattle.bridge_port.specs.Standing.{count_queued, limit, IsNext}
+use Rattle.bridge_port.specs.Standing.{count_queued, IsNext}
 use Rattle.bridge_relay.specs.declared.relay.Sent.{Sent}
 use Rattle.bridge_semantics.specs.declared.load.Load.{Load}
 use Rattle.bridge_state.specs.declared.slot.Slot.{Slot}
 use Rattle.bridge_state.specs.declared.slot.Begun.{Begun}
 use Rattle.bridge_state.specs.Slots.{started_slot}
-use Rattle.bridge_state.specs.Tables.{TableState, Owes}
-use Rattle.bridge_state.specs.Ports.{PortsState, slot_in, slot_at, HasStarted}
-use Rattle.bridge_relay.specs.Relays.{RelayState, count_in, count_all, is_of, is_flow, is_wrong, is_flow_stray, IsSound, IsSent, IsKept}
-use Rattle.bridge_state.specs.Ports.{AreAlike, IsMade}
+use Rattle.bridge_state.specs.Tables.{Owes}
+use Rattle.bridge_state.specs.Ports.{PortsState, HasStarted}
+use Rattle.bridge_relay.specs.Relays.{RelayState, count_in, count_all, is_of, is_flow, is_wrong, is_flow_stray, IsSound, IsSent}
 use Rattle.bridge_state.proofs.Porting.{below}
 
 -- one queued item less

@@ -1,9 +1,8 @@
 -- What a bridge tells when it ends.
-use Rattle.std.proofs.Common.{◌≡◌, ℕ, zero, suc, Bool, true, false, ◌+◌, ◌-◌, ◌<◌, ◌≤◌, List, [], ◌∷◌, ◌++◌, arith, refl, ap, ◌∙◌, sym, subst, inl, inr, Option, Some, None}
-use Rattle.std.specs.Prelude.{nat_eq, nat_lt, if◌then◌else◌, ◌⊎◌, ◌↔◌}
+use Rattle.std.proofs.Common.{◌≡◌, ℕ, zero, suc, true, false, ◌+◌, ◌<◌, ◌≤◌, List, [], ◌∷◌, ◌++◌, arith, refl, ap, ◌∙◌, sym, subst, inl, inr, Option, Some, None}
+use Rattle.std.specs.Prelude.{nat_eq, nat_lt, ◌⊎◌}
 use Rattle.std.specs.Map.{lookup}
 use Rattle.std.specs.Option.{is_some}
-use Rattle.std.proofs.Math.Numerals.{add-one}
 use Rattle.std.proofs.lemmas.Bool.Decides.{nat_tests}
 use Rattle.std.proofs.lemmas.Option.{same_Some}
 use Rattle.bridge_limits.specs.Members.{AllAfter, In, Rising}
@@ -14,7 +13,6 @@ use Rattle.bridge_filter.specs.declared.FilterPlan.{FilterPlan}
 use Rattle.bridge_filter.specs.declared.Verdict.{Verdict}
 use Rattle.bridge_filter.specs.Plans.{is_there}
 use Rattle.bridge_filter.specs.Standing as filter
-use Rattle.bridge_config.specs.declared.ports.PortPlan.{PortPlan}
 use Rattle.bridge_config.specs.Model.{Plan}
 use Rattle.bridge_config.specs.Rules.{port_at}
 use Rattle.bridge_port.specs.Schedule.{Copy}
@@ -24,17 +22,17 @@ use Rattle.bridge_semantics.specs.declared.outcome.Origin.{Origin}
 use Rattle.bridge_semantics.specs.declared.outcome.Outcome.{Outcome}
 use Rattle.bridge_semantics.specs.declared.outcome.PortCount.{PortCount}
 use Rattle.bridge_semantics.specs.declared.outcome.View.{View}
-use Rattle.bridge_semantics.specs.Events.{Event, calls, police_of, steps}
+use Rattle.bridge_semantics.specs.Events.{Event, calls, police_of}
 use Rattle.bridge_semantics.specs.Offers.{Carried}
 use Rattle.bridge_semantics.specs.Outputs.{Ends}
 use Rattle.bridge_semantics.specs.Runs.{IsTold, IsView, IsCount, AtPort}
 use Rattle.bridge_state.specs.declared.slot.Slot.{Slot}
 use Rattle.bridge_state.specs.Counting.{count_one, counts_to}
-use Rattle.bridge_state.specs.Ports.{slot_in, slot_at, AreKept}
+use Rattle.bridge_state.specs.Ports.{slot_in, AreKept}
 use Rattle.bridge_state.specs.Tables.{TableState}
 use Rattle.bridge_relay.specs.Ending.{IsShown, AreShown}
 use Rattle.bridge_relay.specs.Relays.{RelayState, Stands, IsSound, seen}
-use Rattle.bridge_state.specs.Ports.{AreAlike, IsMade}
+use Rattle.bridge_state.specs.Ports.{AreAlike}
 use Rattle.bridge_relay.proofs.Ending.{stood, run_of, output_of, whole_of, not_before_none}
 use Rattle.bridge_relay.proofs.Relayed.{port_is}
 use Rattle.bridge_relay.proofs.Sound.{found_some}

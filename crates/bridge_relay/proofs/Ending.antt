@@ -1,5 +1,5 @@
 -- The run that a bridge stands for.
-use Rattle.std.proofs.Common.{◌≡◌, ℕ, zero, suc, ◌+◌, ◌<◌, ◌≤◌, List, [], ◌∷◌, arith, refl, ap, ◌∙◌, sym, subst, Option, Some, None}
+use Rattle.std.proofs.Common.{◌≡◌, ℕ, zero, suc, ◌≤◌, List, [], ◌∷◌, arith, refl, ap, sym, subst, Option, Some, None}
 use Rattle.std.specs.Prelude.{slice_index_or}
 use Rattle.std.proofs.lemmas.Option.{same_Some}
 use Rattle.bridge_capture.specs.Grammar.{Captured}
@@ -10,7 +10,7 @@ use Rattle.bridge_port.specs.Opening.{Opening, opens, ever}
 use Rattle.bridge_port.specs.Schedule.{Copy, IsLawful}
 use Rattle.bridge_port.specs.Seen.{all_seen, SameRooms}
 use Rattle.bridge_port.specs.Solo.{IsWhole}
-use Rattle.bridge_port.specs.Standing.{rules_of, IsDue, IsIdle, NoStartBefore}
+use Rattle.bridge_port.specs.Standing.{rules_of, IsDue, IsIdle}
 use Rattle.bridge_port.proofs.Ports.{up_to, idle_whole}
 use Rattle.bridge_port.proofs.Watched.{lawful_seen, whole_seen}
 use Rattle.bridge_config.specs.declared.ports.PortPlan.{PortPlan}

@@ -1,37 +1,27 @@
 -- A bridge to which nothing has come.
-use Rattle.std.proofs.Common.{◌≡◌, ℕ, zero, suc, Bool, true, false, ◌+◌, ◌-◌, ◌*◌, ◌<◌, ◌≤◌, List, [], ◌∷◌, length, arith, refl, ap, ◌∙◌, sym, subst, inl, inr, Option, Some, None, slice_index_or}
-use Rattle.std.specs.Prelude.{nat_eq, sum_by, if◌then◌else◌, ◌⊎◌}
+use Rattle.std.proofs.Common.{◌≡◌, ℕ, suc, Bool, true, ◌+◌, ◌-◌, ◌≤◌, List, [], ◌∷◌, arith, refl, ap, ◌∙◌, sym, subst, Option, Some, None, slice_index_or}
+use Rattle.std.specs.Prelude.{nat_eq, sum_by}
 use Rattle.std.specs.Map.{lookup}
-use Rattle.std.specs.Option.{is_some}
 use Rattle.std.proofs.lemmas.List.Sums.{sum_by-cons}
 use Rattle.std.proofs.lemmas.Option.{same_Some}
-use Rattle.bridge_limits.specs.Members.{In}
 use Rattle.bridge_limits.proofs.Cases.{by_bool}
-use Rattle.bridge_capture.specs.Grammar.{Captured}
 use Rattle.bridge_check.specs.Acceptable.{IsAcceptable}
 use Rattle.bridge_config.specs.declared.ports.PortPlan.{PortPlan}
 use Rattle.bridge_config.specs.Model.{Plan}
 use Rattle.bridge_config.specs.Rules.{IsPlan, port_at}
 use Rattle.bridge_filter.specs.declared.FilterPlan.{FilterPlan}
-use Rattle.bridge_filter.specs.Plans.{is_there, KeepsNumbers, plans_of}
-use Rattle.bridge_gate.specs.declared.schedule.GatePlan.{GatePlan}
-use Rattle.bridge_meter.specs.declared.MeterPlan.{MeterPlan}
+use Rattle.bridge_filter.specs.Plans.{is_there, KeepsNumbers}
 use Rattle.bridge_filter.specs.Standing as filter
 use Rattle.bridge_port.specs.declared.item.Item.{Item}
-use Rattle.bridge_port.specs.Schedule.{Copy}
 use Rattle.bridge_semantics.specs.declared.load.Load.{Load}
-use Rattle.bridge_semantics.specs.declared.outcome.Departure.{Departure}
-use Rattle.bridge_semantics.specs.declared.outcome.Dropped.{Dropped}
 use Rattle.bridge_semantics.specs.declared.outcome.PortCount.{PortCount}
-use Rattle.bridge_semantics.specs.Events.{Event, police_of}
-use Rattle.bridge_semantics.specs.Offers.{Carried}
-use Rattle.bridge_semantics.specs.Outputs.{IsOutput}
+use Rattle.bridge_semantics.specs.Events.{police_of}
 use Rattle.bridge_semantics.specs.Runs.{IsTold, IsCount, AtPort}
 use Rattle.bridge_state.specs.declared.slot.Slot.{Slot}
-use Rattle.bridge_state.specs.Ports.{slot_in, slot_at, AreAlike, IsFirst, IsMade, IsNew}
+use Rattle.bridge_state.specs.Ports.{slot_at, AreAlike, IsFirst, IsNew}
 use Rattle.bridge_state.specs.Tables.{TableState}
 use Rattle.bridge_state.specs.Told.{fresh, fresh_tables}
-use Rattle.bridge_relay.specs.Relays.{RelayState, HasLeft, IsKept, IsSound, Stands, written, count_in, count_all, is_wrong, is_of}
+use Rattle.bridge_relay.specs.Relays.{RelayState, IsKept, IsSound, Stands, written, count_in, count_all, is_wrong, is_of}
 
 -- what a bridge is made of
 pub record IsMadeOf {G A : Type 0} (held : G → ℕ → Option ℕ) (b : RelayState G A) : Type 0 where

@@ -1,7 +1,6 @@
 -- What has left a port over offers and starts.
 use Rattle.std.proofs.Common.{◌≡◌, ℕ, ◌+◌, ◌<◌, ◌≤◌, List, [], ◌∷◌, ◌++◌, length, arith, refl, ap, ◌∙◌, sym, subst, inl, inr, Option, Some, None}
-use Rattle.std.specs.Prelude.{◌⊎◌, ◌↔◌}
-use Rattle.bridge_limits.specs.Members.{In, Rising}
+use Rattle.bridge_limits.specs.Members.{In}
 use Rattle.bridge_limits.proofs.Members.{in_left, rising_push, in_push, in_end}
 use Rattle.bridge_capture.specs.Grammar.{Captured}
 use Rattle.bridge_frame.specs.declared.Speed.{Speed}
@@ -13,7 +12,7 @@ use Rattle.bridge_port.specs.Schedule.{Started, Copy, Begun}
 use Rattle.bridge_port.specs.Standing.{fate_of}
 use Rattle.bridge_port.proofs.Members.{begun_to, begun_from, begun_there}
 use Rattle.bridge_semantics.specs.Offers.{Carried}
-use Rattle.bridge_semantics.specs.Outputs.{Leaves, LeavesBefore, IsOutput, departure}
+use Rattle.bridge_semantics.specs.Outputs.{LeavesBefore, IsOutput, departure}
 use Rattle.bridge_state.specs.declared.slot.Slot.{Slot}
 use Rattle.bridge_relay.specs.Relays.{HasLeft}
 

@@ -1,6 +1,6 @@
 -- The next start of a bridge, as schedules have it.
 use Rattle.std.proofs.Common.{◌≡◌, ℕ, Bool, true, false, ◌+◌, ◌<◌, ◌≤◌, List, [], ◌∷◌, ◌++◌, arith, refl, ap, ◌∙◌, sym, subst, inl, inr, Option, Some, None}
-use Rattle.std.specs.Prelude.{◌&&◌, if◌then◌else◌, nat_eq, nat_le, nat_lt, slice_index_or}
+use Rattle.std.specs.Prelude.{◌&&◌, if◌then◌else◌, nat_eq, nat_le, nat_lt}
 use Rattle.std.proofs.lemmas.Bool.{ltb-true, ltb-false}
 use Rattle.std.proofs.lemmas.Bool.Decides.{nat_tests}
 use Rattle.std.proofs.lemmas.Option.{same_Some, none-some}
@@ -23,7 +23,7 @@ use Rattle.bridge_config.specs.Model.{Plan}
 use Rattle.bridge_config.specs.Rules.{port_at}
 use Rattle.bridge_semantics.specs.declared.load.Load.{Load}
 use Rattle.bridge_semantics.specs.Events.{Event}
-use Rattle.bridge_semantics.specs.Next.{AreNext, HasNext, HasNoneQueued, IsNextAfter, IsNextOf, ReachesStart, SendsHead, StartsNext, up_to_start}
+use Rattle.bridge_semantics.specs.Next.{AreNext, HasNext, IsNextAfter, IsNextOf, ReachesStart, SendsHead, StartsNext, up_to_start}
 use Rattle.bridge_semantics.specs.Offers.{Carried, carried, egress}
 use Rattle.bridge_semantics.specs.Runs.{IsRun}
 use Rattle.bridge_state.specs.declared.slot.Begun as slot

@@ -1,9 +1,7 @@
 -- A frame that was policed and offered, or let go.
 use Rattle.std.proofs.Common.{◌≡◌, ℕ, Bool, true, false, ◌+◌, ◌≤◌, ◌<◌, List, [], ◌∷◌, length, length-set, arith, refl, ap, ◌∙◌, sym, subst, Option, Some, None}
-use Rattle.std.specs.Prelude.{All, nat_eq, not, IfSome, unwrap_or, slice_index, if◌then◌else◌}
-use Rattle.std.specs.Option.{option_map}
+use Rattle.std.specs.Prelude.{All, nat_eq, not, IfSome, unwrap_or, slice_index}
 use Rattle.std.specs.Map.{lookup}
-use Rattle.std.proofs.lemmas.Option.{same_Some}
 use Rattle.bridge_limits.proofs.Cases.{by_bool}
 use Rattle.bridge_capture.specs.Grammar.{Captured}
 use Rattle.bridge_frame.specs.Frames.{has_tag, with_drop_eligible}
@@ -11,24 +9,23 @@ use Rattle.bridge_filter.specs.declared.FilterPlan.{FilterPlan}
 use Rattle.bridge_filter.specs.declared.Ruling.{Ruling}
 use Rattle.bridge_filter.specs.declared.Verdict.{Verdict}
 use Rattle.bridge_filter.specs.declared.Verdict.TheVariants as verdict
-use Rattle.bridge_filter.specs.Counts.{verdicts_of}
 use Rattle.bridge_filter.specs.Plans.{is_there}
 use Rattle.bridge_filter.specs.Verdicts as verdicts
 use Rattle.bridge_config.specs.declared.ports.PortPlan.{PortPlan}
 use Rattle.bridge_config.specs.Model.{Plan}
-use Rattle.bridge_config.specs.Rules.{port_at, IsPort}
+use Rattle.bridge_config.specs.Rules.{IsPort}
 use Rattle.bridge_semantics.specs.declared.outcome.Origin.{Origin}
-use Rattle.bridge_semantics.specs.Events.{Arrival, Event, Arrived, count, metered, police_of, steps, way_of}
+use Rattle.bridge_semantics.specs.Events.{Arrival, Event, Arrived, count, police_of, steps}
 use Rattle.bridge_semantics.specs.Offers.{Carried, Offer, offers, offer_of_step, leaving, step_of}
 use Rattle.bridge_state.specs.declared.slot.Slot.{Slot}
 use Rattle.bridge_state.specs.Tables.{TableState}
 use Rattle.bridge_state.specs.Ports.{slot_at, outs, NotBefore}
 use Rattle.bridge_relay.specs.declared.relay.Seen.{Seen}
 use Rattle.bridge_relay.specs.Relays.{RelayState, IsSound, HasSpare, Stands, is_flow_stray}
-use Rattle.bridge_relay.specs.Relaying.{Carries, HasRuled, IsFresh, IsNumbered, IsOffering, IsPending, MayRelay, called, filter_number, goes, offer_to, offers_to, one_less, releasing}
+use Rattle.bridge_relay.specs.Relaying.{Carries, HasRuled, IsFresh, IsNumbered, IsOffering, IsPending, MayRelay, called, offer_to, offers_to, one_less, releasing}
 use Rattle.bridge_relay.proofs.Relayed.{offering_start, offering_done, passed_offers, kept_offers, own_count, port_is}
 use Rattle.bridge_relay.proofs.Policed.{IsPoliced, carries_ruled, judged_step, stands_policed, unfiltered_step}
-use Rattle.bridge_relay.proofs.Spares.{after_offering, after_released, carries_released, may_relay_ruled, outs_ruled, pending_ruled}
+use Rattle.bridge_relay.proofs.Spares.{after_offering, after_released, carries_released, may_relay_ruled, outs_ruled}
 
 pub numbered_none : (tables : List (ℕ × TableState)) (r : Option Ruling) → IsNumbered tables r None → r ≡ None
 numbered_none tables None n = refl

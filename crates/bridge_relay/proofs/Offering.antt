@@ -1,9 +1,8 @@
 -- A frame is offered to one port after another.
 use Rattle.std.proofs.Common.{◌≡◌, ℕ, zero, suc, Bool, true, false, ◌+◌, ◌-◌, ◌<◌, ◌≤◌, List, [], ◌∷◌, ◌++◌, length, arith, refl, ap, ◌∙◌, sym, subst, inl, inr, Option, Some, None}
-use Rattle.std.specs.Prelude.{nat_eq, nat_lt, not, if◌then◌else◌, slice_set, slice_index, count_by, ◌⊎◌, ◌&&◌, is_none, IfSome, All, Vec, max}
+use Rattle.std.specs.Prelude.{nat_eq, nat_lt, not, if◌then◌else◌, slice_index, count_by, ◌⊎◌, ◌&&◌, is_none, IfSome, All, Vec, max}
 use Rattle.std.specs.Map.{lookup}
 use Rattle.std.proofs.lemmas.Bool.Decides.{nat_tests}
-use Rattle.std.proofs.lemmas.List.{get_or_past}
 use Rattle.bridge_limits.specs.Members.{In}
 use Rattle.std.proofs.lemmas.Bool.{cases_lt}
 use Rattle.std.proofs.lemmas.Option.{same_Some}
@@ -12,7 +11,7 @@ use Rattle.bridge_forward.specs.Ports.{has}
 use Rattle.bridge_port.specs.declared.item.Item.{Item}
 use Rattle.bridge_port.specs.declared.item.Refusal.{Refusal}
 use Rattle.bridge_port.specs.declared.item.Refusal.TheVariants as refusal
-use Rattle.bridge_port.specs.Schedule.{Fate, Never, Full, Queued, Started, Copy, is_accepted}
+use Rattle.bridge_port.specs.Schedule.{Fate, Full, Queued, Started, Copy, is_accepted}
 use Rattle.bridge_port.specs.Standing.{StandsFor, copy_of, fate_of, refusal_of}
 use Rattle.bridge_port.specs.Seen.{all_seen}
 use Rattle.bridge_port.proofs.Keeping.{count_cons}
@@ -27,14 +26,14 @@ use Rattle.bridge_semantics.specs.Offers.{Carried, carried, Offer, offered, leav
 use Rattle.bridge_limits.specs.Members.{Rising}
 use Rattle.bridge_limits.proofs.Members.{in_left, in_push, in_end}
 use Rattle.bridge_limits.proofs.Cases.{by_bool}
-use Rattle.bridge_semantics.specs.Runs.{DroppedBefore, Departs, Drops, Delayed, IsGreatest, IsTold, AtPort, fate_by}
+use Rattle.bridge_semantics.specs.Runs.{DroppedBefore, Drops, Delayed, IsGreatest, IsTold, AtPort, fate_by}
 use Rattle.bridge_state.specs.declared.slot.Slot.{Slot}
-use Rattle.bridge_state.specs.Slots.{offered_slot, counted_copy, refusal_to, refusal_by}
-use Rattle.bridge_state.specs.Tables.{TableState, change, change_if, refused, after_answer}
-use Rattle.bridge_state.specs.Ports.{PortsState, slot_in, slot_at, goes_out, outs, is_there, NotBefore}
+use Rattle.bridge_state.specs.Slots.{offered_slot, counted_copy, refusal_by}
+use Rattle.bridge_state.specs.Tables.{TableState, change, refused, after_answer}
+use Rattle.bridge_state.specs.Ports.{slot_in, slot_at, goes_out, outs, is_there, NotBefore}
 use Rattle.bridge_relay.specs.Relays.{RelayState, HasLeft, IsSound, IsAwaited, written, is_flow, is_of, count_all, seen}
-use Rattle.bridge_state.specs.Ports.{AreAlike, IsMade}
-use Rattle.bridge_relay.specs.Relaying.{CountTheSame, HasOfferedTo, Carries, offer_to, offers_below, IsPending, IsOffering, MayRelay, HasCopies, leaves}
+use Rattle.bridge_state.specs.Ports.{AreAlike}
+use Rattle.bridge_relay.specs.Relaying.{CountTheSame, HasOfferedTo, Carries, offer_to, offers_below, IsPending, IsOffering, HasCopies, leaves}
 use Rattle.bridge_state.proofs.Porting.{below, set_here, set_there, none_some}
 use Rattle.bridge_relay.proofs.Sound.{changed}
 use Rattle.bridge_relay.proofs.Standing.{put, put_same, put_other, out_of}

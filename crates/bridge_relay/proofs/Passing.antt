@@ -1,11 +1,10 @@
 -- A frame is counted at its port.
-use Rattle.std.proofs.Common.{◌≡◌, ℕ, Bool, true, false, ◌+◌, ◌-◌, ◌<◌, ◌≤◌, List, [], ◌∷◌, ◌++◌, length, arith, refl, ap, ◌∙◌, sym, subst, inl, inr, Option, Some, None, append-nil, slice_set, slice_index_or}
-use Rattle.std.specs.Prelude.{nat_eq, if◌then◌else◌, ◌&&◌, ◌⊎◌, sum_by, count_by, IsTrue}
+use Rattle.std.proofs.Common.{◌≡◌, ℕ, Bool, true, false, ◌+◌, ◌-◌, ◌<◌, ◌≤◌, List, [], ◌∷◌, ◌++◌, length, arith, refl, ap, ◌∙◌, sym, subst, Option, Some, None, append-nil, slice_set, slice_index_or}
+use Rattle.std.specs.Prelude.{nat_eq, if◌then◌else◌, ◌&&◌, ◌⊎◌, sum_by, IsTrue}
 use Rattle.std.specs.Map.{lookup}
 use Rattle.std.proofs.lemmas.Bool.Decides.{nat_tests}
 use Rattle.std.proofs.lemmas.List.Sums.{sum_by-set}
 use Rattle.std.proofs.lemmas.Option.{same_Some}
-use Rattle.bridge_limits.specs.Members.{In}
 use Rattle.bridge_limits.proofs.Cases.{by_bool}
 use Rattle.bridge_filter.specs.Plans.{is_there}
 use Rattle.bridge_filter.specs.Verdicts as verdicts
@@ -17,15 +16,14 @@ use Rattle.bridge_config.specs.declared.ports.PortPlan.{PortPlan}
 use Rattle.bridge_config.specs.Model.{Plan}
 use Rattle.bridge_config.specs.Rules.{port_at}
 use Rattle.bridge_semantics.specs.declared.load.Load.{Load}
-use Rattle.bridge_semantics.specs.declared.outcome.Departure.{Departure}
 use Rattle.bridge_filter.specs.declared.Verdict.{Verdict}
 use Rattle.bridge_filter.specs.Own.{is_number}
 use Rattle.bridge_semantics.specs.declared.outcome.Origin.{Origin}
 use Rattle.bridge_semantics.specs.declared.outcome.PortCount.{PortCount}
 use Rattle.bridge_semantics.specs.declared.way.Way.{Way}
-use Rattle.bridge_semantics.specs.declared.way.Way.TheVariants.{Malformed, Nowhere, Goes}
-use Rattle.bridge_semantics.specs.Events.{Arrival, Event, Arrived, arrivals, way_of, call_of, call_by, calls, and_call, flow_by, flow_of, origin, origins_of, police_of, steps}
-use Rattle.bridge_semantics.specs.Offers.{Carried, Offer, offers, offer_on}
+use Rattle.bridge_semantics.specs.declared.way.Way.TheVariants.{Malformed, Nowhere}
+use Rattle.bridge_semantics.specs.Events.{Arrival, Event, Arrived, arrivals, way_of, call_by, calls, and_call, flow_by, flow_of, origin, origins_of, police_of, steps}
+use Rattle.bridge_semantics.specs.Offers.{Carried, offers, offer_on}
 use Rattle.bridge_port.specs.Schedule.{Copy}
 use Rattle.bridge_port.specs.Standing.{StandsFor}
 use Rattle.bridge_filter.specs.Counts.{verdicts_of}
@@ -35,9 +33,9 @@ use Rattle.bridge_state.specs.declared.slot.Came.{Came}
 use Rattle.bridge_state.specs.declared.slot.Came.TheVariants as came
 use Rattle.bridge_state.specs.Slots.{counted_frame}
 use Rattle.bridge_state.specs.Tables.{TableState}
-use Rattle.bridge_state.specs.Ports.{PortsState, slot_in, slot_at}
+use Rattle.bridge_state.specs.Ports.{slot_in, slot_at}
 use Rattle.bridge_relay.specs.Relays.{RelayState, HasLeft, Stands, IsSound, IsKept, written_of, count_in, count_all, is_of, is_wrong, seen}
-use Rattle.bridge_state.specs.Ports.{AreAlike, IsMade}
+use Rattle.bridge_state.specs.Ports.{AreAlike}
 use Rattle.bridge_relay.specs.Relaying.{HasPassed, IsOver}
 use Rattle.bridge_state.proofs.Porting.{below, set_here, set_there}
 use Rattle.bridge_relay.proofs.Leaving.{left_same}

@@ -1,5 +1,5 @@
 -- A frame that is policed, as an event.
-use Rattle.std.proofs.Common.{◌≡◌, ℕ, suc, Bool, true, false, ◌+◌, ◌-◌, ◌<◌, ◌≤◌, List, [], ◌∷◌, ◌++◌, length, arith, refl, ap, ◌∙◌, sym, subst, Option, Some, None, slice_set, append-nil}
+use Rattle.std.proofs.Common.{◌≡◌, ℕ, Bool, true, false, ◌+◌, ◌-◌, ◌≤◌, List, [], ◌∷◌, ◌++◌, length, arith, refl, ap, ◌∙◌, sym, subst, Option, Some, None, append-nil}
 use Rattle.std.specs.Prelude.{nat_eq, not, count_by, is_none, if◌then◌else◌, ◌&&◌}
 use Rattle.std.specs.Map.{lookup}
 use Rattle.std.proofs.lemmas.Bool.Decides.{nat_tests}
@@ -20,20 +20,19 @@ use Rattle.bridge_filter.specs.Own.{is_number}
 use Rattle.bridge_semantics.specs.declared.outcome.Origin.{Origin}
 use Rattle.bridge_semantics.specs.declared.outcome.PortCount.{PortCount}
 use Rattle.bridge_semantics.specs.declared.way.Way.{Way}
-use Rattle.bridge_semantics.specs.declared.way.Way.TheVariants.{Goes}
-use Rattle.bridge_semantics.specs.Events.{Arrival, Event, Arrived, arrivals, and_call, call_by, call_of, calls, flow_by, flow_of, metered, origin, origins_of, police_of, steps, way_of}
+use Rattle.bridge_semantics.specs.Events.{Arrival, Event, Arrived, arrivals, and_call, call_by, call_of, calls, flow_by, flow_of, origin, origins_of, police_of, steps, way_of}
 use Rattle.bridge_semantics.specs.Offers.{Carried, Offer, offers}
-use Rattle.bridge_semantics.specs.Runs.{IsTold, AtPort, IsCount, count_frames, is_malformed, is_nowhere, is_relayed, is_unfiltered}
+use Rattle.bridge_semantics.specs.Runs.{IsTold, AtPort, IsCount, is_malformed, is_nowhere, is_relayed, is_unfiltered}
 use Rattle.bridge_state.specs.declared.slot.Slot.{Slot}
 use Rattle.bridge_state.specs.declared.slot.Came.{Came}
 use Rattle.bridge_state.specs.declared.slot.Came.TheVariants as came
 use Rattle.bridge_state.specs.Slots.{counted_frame}
-use Rattle.bridge_state.specs.Tables.{TableState, change, judged, released}
+use Rattle.bridge_state.specs.Tables.{TableState, judged}
 use Rattle.bridge_state.specs.Ports.{slot_at}
-use Rattle.bridge_relay.specs.Relays.{RelayState, HasLeft, Stands, written, is_flow, seen}
+use Rattle.bridge_relay.specs.Relays.{RelayState, HasLeft, Stands, written, seen}
 use Rattle.bridge_relay.specs.declared.relay.Seen.{Seen}
 use Rattle.bridge_relay.specs.Relaying.{Carries, CountTheSame, HasRuled, called, came_as, came_on, goes, judged_by, one_less}
-use Rattle.bridge_relay.proofs.Sound.{IsChangedFrom, changed}
+use Rattle.bridge_relay.proofs.Sound.{changed}
 use Rattle.bridge_relay.proofs.Passing.{counting, passed_here, passed_there, counts_more, counts_same}
 use Rattle.bridge_relay.proofs.Leaving.{left_same}
 use Rattle.bridge_relay.proofs.Relayed.{HasCounted, stands_of}

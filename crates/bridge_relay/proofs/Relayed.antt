@@ -1,5 +1,5 @@
 -- A frame that is relayed, as an event.
-use Rattle.std.proofs.Common.{◌≡◌, ℕ, suc, Bool, true, false, ◌+◌, ◌-◌, ◌<◌, ◌≤◌, List, [], ◌∷◌, ◌++◌, length, arith, refl, ap, ◌∙◌, sym, subst, Option, Some, None}
+use Rattle.std.proofs.Common.{◌≡◌, ℕ, suc, Bool, true, false, ◌+◌, ◌<◌, ◌≤◌, List, [], ◌∷◌, ◌++◌, length, arith, refl, ap, ◌∙◌, sym, subst, Option, Some, None}
 use Rattle.std.specs.Prelude.{nat_eq, nat_lt, if◌then◌else◌, ◌&&◌, IfSome, All}
 use Rattle.std.specs.Map.{lookup}
 use Rattle.std.proofs.lemmas.Bool.Decides.{nat_tests}
@@ -16,7 +16,6 @@ use Rattle.bridge_config.specs.declared.ports.PortPlan.{PortPlan}
 use Rattle.bridge_config.specs.Model.{Plan}
 use Rattle.bridge_config.specs.Rules.{port_at, IsPort, IsPlan}
 use Rattle.bridge_semantics.specs.declared.outcome.PortCount.{PortCount}
-use Rattle.bridge_semantics.specs.declared.way.Way.{Way}
 use Rattle.bridge_semantics.specs.declared.way.Way.TheVariants.{Goes}
 use Rattle.bridge_semantics.specs.Events.{Arrival, Event, Arrived, Cleared, arrivals, and_call, call_of, calls, count, flow_by, flow_of, metered, police_of, steps, way_of}
 use Rattle.bridge_semantics.specs.Offers.{Carried, Offer, offers, offer_of, offer_on, offer_of_step, step_of}

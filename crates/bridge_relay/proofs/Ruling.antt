@@ -1,5 +1,5 @@
 -- A frame is policed.
-use Rattle.std.proofs.Common.{◌≡◌, ℕ, Bool, true, false, ◌+◌, ◌-◌, ◌<◌, ◌≤◌, List, [], ◌∷◌, ◌++◌, length, arith, refl, ap, ◌∙◌, sym, subst, inl, inr, Option, Some, None, slice_set}
+use Rattle.std.proofs.Common.{◌≡◌, ℕ, Bool, true, false, ◌+◌, ◌-◌, ◌<◌, ◌≤◌, List, [], ◌∷◌, ◌++◌, length, arith, refl, ap, ◌∙◌, sym, subst, Option, Some, None, slice_set}
 use Rattle.std.specs.Prelude.{nat_eq, if◌then◌else◌, ◌⊎◌, IsTrue}
 use Rattle.std.specs.Map.{lookup}
 use Rattle.std.proofs.lemmas.Bool.Decides.{nat_tests}
@@ -21,7 +21,7 @@ use Rattle.bridge_config.specs.Rules.{port_at}
 use Rattle.bridge_semantics.specs.declared.outcome.Departure.{Departure}
 use Rattle.bridge_semantics.specs.declared.outcome.Dropped.{Dropped}
 use Rattle.bridge_state.specs.declared.slot.Slot.{Slot}
-use Rattle.bridge_state.specs.Tables.{TableState, change, judged}
+use Rattle.bridge_state.specs.Tables.{TableState, judged}
 use Rattle.bridge_state.specs.Ports.{PortsState, slot_in, slot_at}
 use Rattle.bridge_relay.specs.Relays.{RelayState, IsSound, IsKept, count_all, is_of, is_wrong}
 use Rattle.bridge_state.specs.Ports.{AreAlike}

@@ -1,6 +1,6 @@
 -- A bridge keeps what it keeps over a start.
-use Rattle.std.proofs.Common.{◌≡◌, ◌≢◌, ℕ, Bool, true, false, ◌+◌, ◌-◌, ◌*◌, ◌<◌, ◌≤◌, List, [], ◌∷◌, ◌++◌, length, arith, refl, ap, ◌∙◌, sym, subst, inl, inr, Option, Some, None, slice_set, slice_index_or}
-use Rattle.std.specs.Prelude.{if◌then◌else◌, nat_eq, nat_lt, IsTrue, max, ◌⊎◌, ◌&&◌, is_none, sum_by, IfSome, Result, Ok, Err}
+use Rattle.std.proofs.Common.{◌≡◌, ℕ, Bool, true, false, ◌+◌, ◌-◌, ◌<◌, ◌≤◌, List, [], ◌∷◌, length, arith, refl, ap, ◌∙◌, sym, subst, inl, inr, Option, Some, None, slice_set, slice_index_or}
+use Rattle.std.specs.Prelude.{if◌then◌else◌, nat_eq, nat_lt, IsTrue, max, ◌⊎◌, ◌&&◌, is_none, sum_by, IfSome, Result}
 use Rattle.std.specs.Map.{lookup}
 use Rattle.std.specs.Option.{is_some}
 use Rattle.std.proofs.lemmas.Bool.Decides.{nat_tests}
@@ -10,7 +10,6 @@ use Rattle.bridge_config.specs.declared.ports.PortPlan.{PortPlan}
 use Rattle.bridge_config.specs.Rules.{port_at}
 use Rattle.bridge_semantics.specs.declared.load.Load.{Load}
 use Rattle.bridge_semantics.specs.declared.outcome.Departure.{Departure}
-use Rattle.bridge_limits.specs.Members.{AllAfter, Rising}
 use Rattle.bridge_limits.proofs.Members.{in_push, rising_push}
 use Rattle.bridge_limits.proofs.Cases.{by_bool}
 use Rattle.bridge_semantics.specs.Runs.{DepartsBefore, DroppedBefore}
@@ -22,14 +21,14 @@ use Rattle.bridge_port.specs.Standing.{count_queued, refusal_of}
 use Rattle.std.proofs.lemmas.List.Sums.{sum_by-set}
 use Rattle.std.proofs.lemmas.Option.{same_Some}
 use Rattle.bridge_semantics.specs.declared.outcome.Dropped.{Dropped}
-use Rattle.bridge_state.specs.Slots.{started_slot, offered_slot, counted_copy, refusal_to, refusal_by}
+use Rattle.bridge_state.specs.Slots.{started_slot, offered_slot, counted_copy, refusal_by}
 use Rattle.bridge_state.specs.Tables.{TableState, change, change_if, departed, promised, refused, after_answer, Owes, MayPromise}
 use Rattle.bridge_state.specs.Ports.{PortsState, slot_in, slot_at, outs, HasStarted, HasOffered, IsAfter, NotBefore}
 use Rattle.bridge_relay.specs.Relays.{RelayState, IsKept, IsSound, IsAwaited, is_flow_stray, count_in, count_all, is_of, is_flow, is_wrong}
-use Rattle.bridge_state.specs.Ports.{AreAlike, IsMade}
+use Rattle.bridge_state.specs.Ports.{AreAlike}
 use Rattle.bridge_relay.specs.Relaying.{HasOfferedTo}
 use Rattle.bridge_filter.specs.declared.FilterPlan.{FilterPlan}
-use Rattle.bridge_state.proofs.Porting.{below, set_here, set_there, same_slot}
+use Rattle.bridge_state.proofs.Porting.{below, set_here, set_there}
 use Rattle.bridge_relay.proofs.Advancing.{count_started}
 
 -- what a list by number has after the value of one number has changed

@@ -1,30 +1,27 @@
 -- The room that a frame was promised.
-use Rattle.std.proofs.Common.{◌≡◌, ℕ, zero, suc, Bool, true, false, ◌+◌, ◌-◌, ◌<◌, ◌≤◌, List, [], ◌∷◌, ◌++◌, length, arith, refl, ap, ◌∙◌, sym, subst, inl, inr, Option, Some, None, slice_set}
-use Rattle.std.specs.Prelude.{nat_eq, if◌then◌else◌, ◌&&◌, ◌⊎◌, IfSome, IsTrue, Vec, max}
+use Rattle.std.proofs.Common.{◌≡◌, ℕ, zero, suc, Bool, true, false, ◌+◌, ◌-◌, ◌<◌, ◌≤◌, List, [], ◌∷◌, ◌++◌, length, arith, refl, ap, ◌∙◌, sym, subst, inl, Option, Some, None}
+use Rattle.std.specs.Prelude.{nat_eq, if◌then◌else◌, ◌&&◌, IfSome, IsTrue, Vec, max}
 use Rattle.std.specs.Map.{lookup}
 use Rattle.std.proofs.lemmas.Bool.Decides.{nat_tests}
 use Rattle.std.proofs.lemmas.Option.{same_Some}
-use Rattle.bridge_limits.specs.Members.{In}
 use Rattle.bridge_limits.proofs.Cases.{by_bool}
 use Rattle.bridge_capture.specs.Grammar.{Captured}
 use Rattle.bridge_filter.specs.declared.Ruling.{Ruling}
 use Rattle.bridge_filter.specs.declared.Verdict.{Verdict}
 use Rattle.bridge_filter.specs.Plans.{is_there}
-use Rattle.bridge_filter.specs.Counts.{verdicts_of}
 use Rattle.bridge_filter.specs.Verdicts as verdicts
 use Rattle.bridge_forward.specs.Ports.{has}
 use Rattle.bridge_port.specs.Schedule.{Copy}
 use Rattle.bridge_config.specs.declared.ports.PortPlan.{PortPlan}
 use Rattle.bridge_config.specs.Model.{Plan}
-use Rattle.bridge_semantics.specs.declared.outcome.Dropped.{Dropped}
-use Rattle.bridge_semantics.specs.Events.{Event, steps}
+use Rattle.bridge_semantics.specs.Events.{Event}
 use Rattle.bridge_semantics.specs.Offers.{Carried, Offer}
 use Rattle.bridge_semantics.specs.Runs.{IsTold, AtPort}
 use Rattle.bridge_state.specs.declared.slot.Slot.{Slot}
-use Rattle.bridge_state.specs.Tables.{TableState, change, change_if, judged, promised, released, IsOpen, OwesSo}
+use Rattle.bridge_state.specs.Tables.{TableState, change_if, judged, promised, released, IsOpen, OwesSo}
 use Rattle.bridge_state.specs.Ports.{slot_in, slot_at, goes_out, outs, is_there as is_port}
 use Rattle.bridge_relay.specs.Relays.{RelayState, IsSound, IsKept, HasSpare, Stands, written, count_all, is_flow, is_flow_stray, is_of, seen}
-use Rattle.bridge_relay.specs.Relaying.{Carries, CountTheSame, HasCopies, HasRuled, IsFresh, IsPending, IsOffering, MayRelay, came_as, came_on, judged_by, one_less, releasing}
+use Rattle.bridge_relay.specs.Relaying.{Carries, HasCopies, HasRuled, IsFresh, IsPending, IsOffering, MayRelay, came_as, came_on, one_less, releasing}
 use Rattle.bridge_relay.proofs.Sound.{changed, changed_there, found_some}
 use Rattle.bridge_relay.proofs.Passing.{counting, passed_here, passed_there, count_passed}
 use Rattle.bridge_state.proofs.Porting.{below, set_here}

@@ -1,6 +1,6 @@
 -- What a bridge stands for over a start.
-use Rattle.std.proofs.Common.{◌≡◌, ℕ, Bool, true, false, ◌+◌, ◌-◌, ◌<◌, ◌≤◌, List, [], ◌∷◌, ◌++◌, arith, refl, ap, ◌∙◌, sym, subst, inl, inr, Option, Some, None}
-use Rattle.std.specs.Prelude.{nat_eq, not, if◌then◌else◌, slice_set, count_by}
+use Rattle.std.proofs.Common.{◌≡◌, ℕ, Bool, true, false, ◌+◌, ◌-◌, ◌≤◌, List, [], ◌∷◌, ◌++◌, arith, refl, ap, ◌∙◌, sym, subst, Option, Some, None}
+use Rattle.std.specs.Prelude.{nat_eq, not, if◌then◌else◌, count_by}
 use Rattle.std.specs.Map.{lookup}
 use Rattle.std.proofs.lemmas.Bool.Decides.{nat_tests}
 use Rattle.std.proofs.lemmas.Option.{same_Some}
@@ -8,10 +8,8 @@ use Rattle.bridge_limits.specs.Members.{In}
 use Rattle.bridge_capture.specs.Grammar.{Captured}
 use Rattle.bridge_frame.specs.Link.{occupied}
 use Rattle.bridge_frame.specs.declared.Speed.{Speed}
-use Rattle.bridge_filter.specs.declared.Verdict.{Verdict}
-use Rattle.bridge_filter.specs.Counts.{verdicts_of}
 use Rattle.bridge_port.specs.declared.item.Item.{Item}
-use Rattle.bridge_port.specs.Schedule.{Fate, Started, Copy, Begun, is_accepted}
+use Rattle.bridge_port.specs.Schedule.{Copy, Begun, is_accepted}
 use Rattle.bridge_port.specs.Standing.{StandsFor, IsBegun, rules_of}
 use Rattle.bridge_port.specs.Seen.{all_seen, seen as port_seen}
 use Rattle.bridge_port.proofs.Members.{begun_there}
@@ -22,7 +20,7 @@ use Rattle.bridge_config.specs.Rules.{port_at}
 use Rattle.bridge_semantics.specs.declared.load.Load.{Load}
 use Rattle.bridge_semantics.specs.declared.outcome.Departure.{Departure}
 use Rattle.bridge_semantics.specs.declared.outcome.PortCount.{PortCount}
-use Rattle.bridge_semantics.specs.Events.{Event, steps}
+use Rattle.bridge_semantics.specs.Events.{Event}
 use Rattle.bridge_semantics.specs.Offers.{Carried, carried, offers, offered}
 use Rattle.bridge_semantics.specs.Outputs.{departure}
 use Rattle.bridge_limits.specs.Members.{Rising}
@@ -31,7 +29,7 @@ use Rattle.bridge_semantics.specs.Runs.{DepartsBefore, IsTold, AtPort, IsCount}
 use Rattle.bridge_state.specs.declared.slot.Slot.{Slot}
 use Rattle.bridge_state.specs.declared.slot.Begun as slot
 use Rattle.bridge_state.specs.Slots.{started_slot}
-use Rattle.bridge_state.specs.Tables.{TableState, change_if, departed, longer}
+use Rattle.bridge_state.specs.Tables.{TableState, change_if, departed}
 use Rattle.bridge_state.specs.Ports.{PortsState, slot_in, slot_at, HasStarted}
 use Rattle.bridge_relay.specs.Relays.{RelayState, HasLeft, Stands, IsSound, written, is_flow, seen}
 use Rattle.bridge_state.specs.Ports.{AreAlike, IsMade}

@@ -1,19 +1,18 @@
 -- What is told of a filter over a start.
-use Rattle.std.proofs.Common.{◌≡◌, ℕ, Bool, true, false, ◌+◌, ◌<◌, ◌≤◌, List, [], ◌∷◌, ◌++◌, arith, refl, ap, ◌∙◌, sym, subst, inl, inr, Option, Some, None}
-use Rattle.std.specs.Prelude.{nat_eq, nat_le, max, not, count_by, ◌⊎◌, ◌↔◌, map, if◌then◌else◌}
+use Rattle.std.proofs.Common.{◌≡◌, ℕ, Bool, true, false, ◌+◌, ◌≤◌, List, [], ◌∷◌, ◌++◌, arith, refl, ap, ◌∙◌, sym, subst, inl, inr, Option, Some, None}
+use Rattle.std.specs.Prelude.{nat_eq, nat_le, max, count_by, ◌⊎◌, if◌then◌else◌}
 use Rattle.std.proofs.lemmas.Bool.Decides.{nat_tests}
 use Rattle.bridge_limits.specs.Members.{In}
 use Rattle.bridge_frame.specs.Link.{occupied}
-use Rattle.bridge_filter.specs.declared.Verdict.{Verdict}
 use Rattle.bridge_filter.specs.declared.Verdict.TheVariants as verdict
 use Rattle.bridge_filter.specs.Verdicts as verdicts
 use Rattle.bridge_forward.specs.Ports.{has}
 use Rattle.bridge_port.specs.declared.item.Refusal.{Refusal}
 use Rattle.bridge_port.specs.declared.item.Refusal.TheVariants as refusal
-use Rattle.bridge_port.specs.Schedule.{Fate, Never, Full, Queued, Started, Copy, Begun, here, there, is_accepted, StartsFit, IsStart, Rules}
+use Rattle.bridge_port.specs.Schedule.{Fate, Full, Queued, Started, Copy, Begun, here, there, is_accepted, StartsFit, IsStart, Rules}
 use Rattle.bridge_port.specs.Seen.{seen, all_seen}
 use Rattle.bridge_port.proofs.Keeping.{count_cons}
-use Rattle.bridge_port.proofs.Members.{begun_to, begun_from, begun_kept, begun_there}
+use Rattle.bridge_port.proofs.Members.{begun_to, begun_kept, begun_there}
 use Rattle.bridge_config.specs.declared.ports.PortPlan.{PortPlan}
 use Rattle.bridge_config.specs.Model.{Plan}
 use Rattle.bridge_config.specs.Rules.{port_at}
@@ -22,11 +21,11 @@ use Rattle.bridge_semantics.specs.declared.way.Way.TheVariants as way
 use Rattle.bridge_semantics.specs.declared.outcome.Departure.{Departure}
 use Rattle.bridge_semantics.specs.declared.outcome.Dropped.{Dropped}
 use Rattle.bridge_semantics.specs.Events.{Arrival, Event, Arrived, Cleared, way_of, metered}
-use Rattle.bridge_semantics.specs.Offers.{Carried, Offer, offers, offer_of, offer_on, offer_of_step, offer_by, offered, step_of}
+use Rattle.bridge_semantics.specs.Offers.{Carried, Offer, offers, offer_of, offer_on, offer_of_step, offered, step_of}
 use Rattle.bridge_limits.specs.Members.{Rising}
-use Rattle.bridge_limits.proofs.Members.{in_left, rising_push, in_push, in_end, in_either}
+use Rattle.bridge_limits.proofs.Members.{in_left, in_push, in_end, in_either}
 use Rattle.bridge_limits.proofs.Cases.{by_bool}
-use Rattle.bridge_semantics.specs.Runs.{DepartsBefore, DroppedBefore, Departs, Drops, Delayed, IsGreatest, IsTold, AtPort, fate_by}
+use Rattle.bridge_semantics.specs.Runs.{DepartsBefore, Departs, Drops, Delayed, IsGreatest, IsTold, AtPort, fate_by}
 use Rattle.bridge_state.specs.Tables.{longer}
 
 -- Members.

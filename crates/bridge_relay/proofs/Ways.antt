@@ -1,26 +1,23 @@
 -- Where a frame goes.
-use Rattle.std.proofs.Common.{◌≡◌, ℕ, Bool, true, false, ◌≤◌, List, arith, refl, ap, ◌∙◌, sym, subst, Option, Some, None, Result, Ok, Err}
+use Rattle.std.proofs.Common.{◌≡◌, ℕ, Bool, true, false, ◌≤◌, List, refl, ap, ◌∙◌, sym, Option, Some, None, Result, Ok, Err}
 use Rattle.std.specs.Option.{ForSome}
 use Rattle.std.specs.Prelude.{nat_eq, if◌then◌else◌}
 use Rattle.bridge_frame.specs.declared.Head.{Head}
 use Rattle.bridge_frame.specs.declared.Tag.{Tag}
 use Rattle.bridge_frame.specs.declared.FrameFault.{FrameFault}
 use Rattle.bridge_frame.specs.Frames.{head}
-use Rattle.bridge_ident.specs.declared.StreamEntry.{StreamEntry}
 use Rattle.bridge_ident.specs.Identification.{handle_in}
 use Rattle.bridge_forward.specs.Forward.{forward}
 use Rattle.bridge_config.specs.declared.ports.PortPlan.{PortPlan}
 use Rattle.bridge_config.specs.Model.{Plan}
 use Rattle.bridge_config.specs.Rules.{port_at, IsPort}
 use Rattle.bridge_check.specs.Sending.{vid_of, priority_of, is_eligible}
-use Rattle.bridge_semantics.specs.declared.way.Way.{Way}
 use Rattle.bridge_semantics.specs.declared.way.Way.TheVariants.{Malformed, Nowhere, Goes}
-use Rattle.bridge_semantics.specs.Events.{Arrival, arrival, way_of, way_if, way_to}
+use Rattle.bridge_semantics.specs.Events.{arrival, way_of, way_if, way_to}
 use Rattle.bridge_state.specs.declared.slot.Slot.{Slot}
 use Rattle.bridge_state.specs.Ports.{defaults_of}
-use Rattle.bridge_state.specs.Ports.{AreAlike, IsMade}
+use Rattle.bridge_state.specs.Ports.{AreAlike}
 use Rattle.bridge_relay.specs.Relaying.{classified}
-use Rattle.bridge_state.proofs.Porting.{none_some}
 
 -- no port, no defaults
 pub none_there : {A : Type 0} (o : Option (PortPlan A)) (s : Option (Slot A)) → AreAlike o s → defaults_of s ≡ None → o ≡ None

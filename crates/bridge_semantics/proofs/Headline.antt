@@ -10,7 +10,7 @@ use Rattle.bridge_limits.proofs.Cases.{by_bool}
 use Rattle.bridge_frame.proofs.Times.{occupied_some}
 use Rattle.bridge_filter.specs.declared.FilterPlan.{FilterPlan}
 use Rattle.bridge_filter.specs.Verdicts as verdicts
-use Rattle.bridge_filter.specs.Verdicts.{Plans, Step, Unfiltered, Judged, Commanded}
+use Rattle.bridge_filter.specs.Verdicts.{Step}
 use Rattle.bridge_filter.specs.Counts.{verdicts_of, counters_of, flags_of, buckets_by}
 use Rattle.bridge_filter.specs.Own.{IsApart, own_steps, is_named, is_number}
 use Rattle.bridge_filter.proofs.Owned.{AreListed, told_listed}

@@ -1,6 +1,6 @@
 -- The table of one number changes.
 use Rattle.std.proofs.Common.{◌≡◌, ℕ, true, false, zero, suc, List, [], ◌∷◌, refl, ap, ◌∙◌, sym, subst, Some}
-use Rattle.std.specs.Prelude.{OnOk, OnErr, Result, Ok, Err, nat_eq, slice_get, if◌then◌else◌}
+use Rattle.std.specs.Prelude.{OnOk, OnErr, Result, Ok, Err, nat_eq, slice_get}
 use Rattle.std.specs.Cmp.{nat_eq_equiv}
 use Rattle.std.specs.List.{AllByRecursion, IsDistinct}
 use Rattle.std.specs.Map.{keys_of, lookup, set_value}

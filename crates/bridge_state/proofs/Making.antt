@@ -1,11 +1,10 @@
 -- The ports of a plan, one after the other.
-use Rattle.std.proofs.Common.{◌≡◌, ℕ, zero, suc, Bool, true, false, ◌+◌, ◌-◌, ◌<◌, ◌≤◌, List, [], ◌∷◌, ◌++◌, length, length-append, arith, refl, ap, ◌∙◌, sym, subst, Option, Some, None, slice_index_or}
+use Rattle.std.proofs.Common.{◌≡◌, ℕ, true, false, ◌+◌, ◌-◌, ◌<◌, ◌≤◌, List, [], ◌∷◌, ◌++◌, length, length-append, arith, refl, ap, ◌∙◌, sym, subst, Option, Some, None, slice_index_or}
 use Rattle.std.specs.Prelude.{nat_eq, nat_le, slice_index}
 use Rattle.std.proofs.lemmas.Bool.Decides.{nat_tests}
 use Rattle.std.proofs.Math.ListN.{get_or-append}
 use Rattle.std.proofs.Math.Seq.{get_or-append_seam}
 use Rattle.std.proofs.lemmas.List.{get_or_past}
-use Rattle.std.proofs.lemmas.Option.{same_Some}
 use Rattle.bridge_limits.proofs.Cases.{by_bool}
 use Rattle.bridge_config.specs.declared.ports.PortPlan.{PortPlan}
 use Rattle.bridge_config.specs.Rules.{ArePorts, port_at}
@@ -13,7 +12,7 @@ use Rattle.bridge_config.proofs.PlanPorts.{class_below, number_is, port_is}
 use Rattle.bridge_port.specs.Standing.{IsDue}
 use Rattle.bridge_semantics.specs.declared.outcome.PortCount.{PortCount}
 use Rattle.bridge_state.specs.declared.slot.Slot.{Slot}
-use Rattle.bridge_state.specs.Ports.{slot_in, AreKept, IsFirst, IsMade, IsNew, IsSlot}
+use Rattle.bridge_state.specs.Ports.{slot_in, AreKept, IsFirst, IsSlot}
 use Rattle.bridge_state.proofs.Porting.{none_some}
 
 -- the first ports are made

@@ -1,9 +1,9 @@
 -- One port of a bridge changes, and its agenda with it.
-use Rattle.std.proofs.Common.{◌≡◌, ◌≢◌, ℕ, Bool, true, false, ◌+◌, ◌-◌, ◌<◌, ◌≤◌, List, [], ◌∷◌, length, arith, refl, ap, ◌∙◌, sym, subst, inl, inr, Option, Some, None, slice_set, slice_index_or, length-set, get_or-set_same, get_or-set_other}
+use Rattle.std.proofs.Common.{◌≡◌, ◌≢◌, ℕ, Bool, true, false, ◌+◌, ◌-◌, ◌<◌, ◌≤◌, List, ◌∷◌, length, arith, refl, ap, ◌∙◌, sym, subst, inl, inr, Option, Some, None, slice_set, slice_index_or, length-set, get_or-set_same, get_or-set_other}
 use Rattle.std.proofs.lemmas.Bool.Decides.{nat_tests}
 use Rattle.std.proofs.lemmas.Bool.{cases_lt}
 use Rattle.std.proofs.lemmas.List.{get_or_past, get_or_default}
-use Rattle.std.specs.Prelude.{if◌then◌else◌, nat_eq, nat_lt, slice_index, ◌⊎◌, ◌&&◌, is_none, Result}
+use Rattle.std.specs.Prelude.{if◌then◌else◌, nat_eq, nat_lt, ◌&&◌, is_none, Result}
 use Rattle.std.proofs.lemmas.Option.{same_Some}
 use Rattle.bridge_limits.proofs.Cases.{by_bool}
 use Rattle.bridge_events.specs.Least.{IsLeast}
@@ -11,7 +11,7 @@ use Rattle.bridge_port.specs.declared.item.Item.{Item}
 use Rattle.bridge_port.specs.declared.item.Refusal.{Refusal}
 use Rattle.bridge_frame.specs.Link.{occupied}
 use Rattle.bridge_port.specs.Schedule.{Copy}
-use Rattle.bridge_port.specs.Standing.{State, StandsFor, IsBegun, IsDue, IsNext, NoStartBefore, copy_of, count_queued, limit, refusal_of, offered_state, started_state}
+use Rattle.bridge_port.specs.Standing.{State, StandsFor, IsBegun, IsDue, IsNext, NoStartBefore, copy_of, count_queued, limit, refusal_of}
 use Rattle.bridge_port.proofs.Ports.{idle_calm, next_one}
 use Rattle.bridge_semantics.specs.declared.load.Load.{Load}
 use Rattle.bridge_state.specs.declared.slot.Slot.{Slot}

@@ -1,5 +1,5 @@
 -- Members of lists, and what a filter keeps of them.
-use Rattle.std.proofs.Common.{◌≡◌, ◌<◌, ◌≤◌, ◌+◌, ◌⊎◌, ℕ, zero, suc, take, get_or, Bool, true, false, List, [], ◌∷◌, ◌++◌, length, map, refl, sym, ap, subst, inl, inr, arith}
+use Rattle.std.proofs.Common.{◌≡◌, ◌<◌, ◌≤◌, ◌+◌, ◌⊎◌, ℕ, zero, suc, take, get_or, Bool, true, List, [], ◌∷◌, length, map, refl, sym, ap, subst, inl, inr, arith}
 use Rattle.std.specs.List.{filter, list_any}
 use Rattle.bridge_limits.specs.Members.{In}
 use Rattle.bridge_limits.proofs.Cases.{by_bool}

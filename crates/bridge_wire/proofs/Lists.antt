@@ -1,5 +1,5 @@
 -- Members of lists, and frames by rising time.
-use Rattle.std.proofs.Common.{◌≡◌, ◌<◌, List, [], ◌∷◌, ◌++◌, ◌⊎◌, inl, inr, refl}
+use Rattle.std.proofs.Common.{◌<◌, List, [], ◌∷◌, ◌++◌, inl, inr, refl}
 use Rattle.bridge_capture.specs.Grammar.{Captured}
 use Rattle.bridge_limits.specs.Members.{In}
 use Rattle.bridge_wire.specs.Wire.{IsRising}
