@@ -9,7 +9,7 @@ ghost use Rattle.bridge_config.specs.Sections as sections;
 
 use crate::ranges::MOMENT;
 use bridge_limits::END_OF_TIME;
-use bridge_schema::{Field, Place, PlanFault, Section, are_known, required};
+use bridge_schema::{Field, PlanFault, Row, Section, are_known};
 use toml::{Table, Value};
 
 /// Whether a table has the keys of a change of schedules alone.
@@ -29,12 +29,12 @@ fn moment_of(index: u32, table: &Table) -> Result<u64, PlanFault>
     if !has_keys(table) {
         return Err(PlanFault::UnknownKey(Section::Change, index));
     }
-    let place = Place {
+    let row = Row {
+        table,
         section: Section::Change,
         index,
-        field: Field::At,
     };
-    required(table, place, Field::At, &MOMENT)
+    row.required(Field::At, &MOMENT)
 }
 
 /// The first item, where there is one.

@@ -17,8 +17,8 @@ use crate::plan::{Plan, document_of};
 use crate::ranges::{LAST_MOMENT, NUMBER};
 use bridge_filter::Clear;
 use bridge_schema::{
-    Between, Field, Finds, Known, Meaning, Place, PlanFault, Section, SectionReader, Text,
-    are_known, read_instances, required,
+    Between, Field, Finds, Known, Meaning, PlanFault, Row, Section, SectionReader, Text, are_known,
+    read_instances,
 };
 use std::alloc::{Allocator, Global};
 use toml::{Table, Value};
@@ -98,36 +98,23 @@ fn command_of<B: Allocator + Copy>(
     ensures instance { IfOk result (λ c. spec.has_instance plan.now c.clear c.number ≡ true) }
     ensures takes_no_memory { IfErr result (λ e. ¬ (e ≡ NoMemory)) }
 {
-    let at = |field: Field| -> Place
-        ensures { result ≡ record { section = the_section.Command; index = index; field = field } }
-    {
-        Place {
-            section: Section::Command,
-            index,
-            field,
-        }
+    let row = Row {
+        table,
+        section: Section::Command,
+        index,
     };
     if !has_keys(table) {
         return Err(PlanFault::UnknownKey(Section::Command, index));
     }
-    let moment = required(
-        table,
-        at(Field::At),
+    let moment = row.required(
         Field::At,
         &Between {
             low: last_moment(commands),
             high: LAST_MOMENT,
         },
     )?;
-    let clear = required(
-        table,
-        at(Field::Clear),
-        Field::Clear,
-        &Text { meaning: ClearText },
-    )?;
-    let number = required(
-        table,
-        at(Field::Number),
+    let clear = row.required(Field::Clear, &Text { meaning: ClearText })?;
+    let number = row.required(
         Field::Number,
         &Known {
             among: Named { plan, clear },

@@ -4,7 +4,6 @@ ghost use Rattle.std.specs.Option.{ForSome};
 ghost use Rattle.toml.specs.View.{table_view, items_view};
 ghost use Rattle.bridge_filter.specs.Plans.{has_instances};
 ghost use Rattle.bridge_schema.specs.declared.fault.PlanFault.TheVariants.{NoMemory};
-ghost use Rattle.bridge_schema.specs.declared.fault.Section.TheVariants as the_section;
 ghost use Rattle.bridge_schema.specs.Readers.{Gives, GivesAs, instances};
 ghost use Rattle.bridge_config.specs.Sections as sections;
 ghost use Rattle.bridge_config.specs.Rules as rules;
@@ -15,8 +14,7 @@ use bridge_filter::FilterPlan;
 use bridge_gate::GatePlan;
 use bridge_meter::MeterPlan;
 use bridge_schema::{
-    Field, Finds, Known, Place, PlanFault, Section, SectionReader, Switch, are_known, default_to,
-    optional, read_instances, required,
+    Field, Finds, Known, PlanFault, Row, Section, SectionReader, Switch, are_known, read_instances,
 };
 use std::alloc::Allocator;
 use toml::{Table, Value};
@@ -56,54 +54,34 @@ fn filter_among<G: Finds + Drop, M: Finds + Drop, F: Finds + Drop>(
     ensures meter { IfOk result (λ f. ForSome f.1.meter (λ n. M.among meters n ≡ true)) }
     ensures takes_no_memory { IfErr result (λ e. ¬ (e ≡ NoMemory)) }
 {
-    let at = |field: Field| -> Place
-        ensures { result ≡ record { section = the_section.Filter; index = index; field = field } }
-    {
-        Place {
-            section: Section::Filter,
-            index,
-            field,
-        }
+    let row = Row {
+        table,
+        section: Section::Filter,
+        index,
     };
     if !has_keys(table) {
         return Err(PlanFault::UnknownKey(Section::Filter, index));
     }
-    let number = required(table, at(Field::Number), Field::Number, &NUMBER)?;
-    let handle = optional(table, at(Field::Handle), Field::Handle, &NUMBER)?;
-    let priority = optional(table, at(Field::Priority), Field::Priority, &PRIORITY)?;
-    let gate = required(
-        table,
-        at(Field::Gate),
+    let number = row.required(Field::Number, &NUMBER)?;
+    let handle = row.optional(Field::Handle, &NUMBER)?;
+    let priority = row.optional(Field::Priority, &PRIORITY)?;
+    let gate = row.required(
         Field::Gate,
         &Known {
             among: gates,
             range: NUMBER,
         },
     )?;
-    let max_sdu = optional(table, at(Field::MaxSdu), Field::MaxSdu, &MAX_SDU)?;
-    let meter = optional(
-        table,
-        at(Field::Meter),
+    let max_sdu = row.optional(Field::MaxSdu, &MAX_SDU)?;
+    let meter = row.optional(
         Field::Meter,
         &Known {
             among: meters,
             range: NUMBER,
         },
     )?;
-    let block_oversize = default_to(
-        false,
-        table,
-        at(Field::BlockOversize),
-        Field::BlockOversize,
-        &Switch,
-    )?;
-    let protected = default_to(
-        false,
-        table,
-        at(Field::Protected),
-        Field::Protected,
-        &Switch,
-    )?;
+    let block_oversize = row.default_to(false, Field::BlockOversize, &Switch)?;
+    let protected = row.default_to(false, Field::Protected, &Switch)?;
     if filters.has(number) {
         return Err(PlanFault::Duplicate(Section::Filter, index));
     }

@@ -4,7 +4,6 @@ ghost use Rattle.std.specs.Option.{ForSome};
 ghost use Rattle.toml.specs.Data.{get_member};
 ghost use Rattle.toml.specs.View.{table_view};
 ghost use Rattle.bridge_gate.specs.Schedules as schedules;
-ghost use Rattle.bridge_schema.specs.declared.fault.Section.TheVariants as the_section;
 ghost use Rattle.bridge_schema.specs.Keys.{key_of};
 ghost use Rattle.bridge_schema.specs.Readers.{Gives, GivesAs, are_known, are_known_at};
 ghost use Rattle.bridge_config.specs.Lists.{parts_in};
@@ -18,8 +17,8 @@ use bridge_cycle::{CyclicList, Joined};
 use bridge_gate::{GateEntry, GatePlan, Schedule};
 use bridge_limits::END_OF_TIME;
 use bridge_schema::{
-    Entry, Field, Openness, Place, PlanFault, Section, SectionReader, Switch, Text, are_known,
-    are_known_at, default_to, has_key, optional, required, required_without, value_at,
+    Entry, Field, Openness, Place, PlanFault, Row, Section, SectionReader, Switch, Text, are_known,
+    are_known_at, has_key, optional, required, value_at,
 };
 use std::alloc::Allocator;
 use toml::Table;
@@ -221,36 +220,24 @@ fn gate_of<A: Allocator + Copy>(
     ensures priorities { IfOk result (λ g. schedules.has_priorities g.1.schedule ≡ true) }
     ensures lawful { IfOk result (λ g. schedules.IsLawful g.1.schedule) }
 {
-    let at = |field: Field| -> Place
-        ensures { result ≡ record { section = the_section.Gate; index = index; field = field } }
-    {
-        Place {
-            section: Section::Gate,
-            index,
-            field,
-        }
+    let row = Row {
+        table,
+        section: Section::Gate,
+        index,
     };
     if !has_keys(change, table) {
         return Err(PlanFault::UnknownKey(Section::Gate, index));
     }
-    let number = required(table, at(Field::Number), Field::Number, &NUMBER)?;
-    let shut_on_rx = default_to(false, table, at(Field::ShutOnRx), Field::ShutOnRx, &Switch)?;
-    let shut_on_octets = default_to(
-        false,
-        table,
-        at(Field::ShutOnOctets),
-        Field::ShutOnOctets,
-        &Switch,
-    )?;
-    let lets = required_without(
+    let number = row.required(Field::Number, &NUMBER)?;
+    let shut_on_rx = row.default_to(false, Field::ShutOnRx, &Switch)?;
+    let shut_on_octets = row.default_to(false, Field::ShutOnOctets, &Switch)?;
+    let lets = row.required_without(
         Field::Entries,
         false,
-        table,
-        at(Field::State),
         Field::State,
         &Text { meaning: Openness },
     )?;
-    let ipv = optional(table, at(Field::Ipv), Field::Ipv, &PRIORITY)?;
+    let ipv = row.optional(Field::Ipv, &PRIORITY)?;
     let lists = gate_list(alloc, change, index, table)?;
     if has_number(gates, number) {
         return Err(PlanFault::Duplicate(Section::Gate, index));

@@ -10,9 +10,7 @@ ghost use Rattle.bridge_config.specs.Sections as sections;
 use crate::ranges::{LENGTH, MOMENT};
 use bridge_cycle::{CyclicList, ListFault};
 use bridge_limits::END_OF_TIME;
-use bridge_schema::{
-    Entry, Field, Place, PlanFault, Section, default_to, list_at, required_with, value_at,
-};
+use bridge_schema::{Entry, Field, PlanFault, Row, Section, list_at, value_at};
 use std::alloc::Allocator;
 use toml::Table;
 
@@ -54,20 +52,16 @@ where
     ensures base { IfOk result (λ p. p.base < END_OF_TIME) }
     ensures entries { IfOk result (λ p. ForSome p.entries (λ v. All (E.Fits entry.now) v.items)) }
 {
-    let at = |field: Field| -> Place
-        ensures { result ≡ record { section = section; index = index; field = field } }
-    {
-        Place {
-            section,
-            index,
-            field,
-        }
+    let row = Row {
+        table,
+        section,
+        index,
     };
-    let base = default_to(0, table, at(keys.base), keys.base, &MOMENT)?;
-    let cycle = required_with(keys.entries, 0, table, at(keys.cycle), keys.cycle, &LENGTH)?;
+    let base = row.default_to(0, keys.base, &MOMENT)?;
+    let cycle = row.required_with(keys.entries, 0, keys.cycle, &LENGTH)?;
     let entries = list_at(
         alloc,
-        at(keys.entries),
+        row.at(keys.entries),
         entry,
         value_at(table, keys.entries.key()),
     )?;

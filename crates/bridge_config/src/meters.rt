@@ -3,7 +3,6 @@ ghost use Rattle.std.specs.Prelude.{◌≡◌, IfErr, IfOk, false, true};
 ghost use Rattle.toml.specs.View.{table_view};
 ghost use Rattle.bridge_meter.specs.Colours.{is_within_limits};
 ghost use Rattle.bridge_schema.specs.declared.fault.PlanFault.TheVariants.{NoMemory};
-ghost use Rattle.bridge_schema.specs.declared.fault.Section.TheVariants as the_section;
 ghost use Rattle.bridge_schema.specs.Readers.{Gives};
 ghost use Rattle.bridge_config.specs.Sections as sections;
 ghost use Rattle.bridge_config.specs.Texts as texts;
@@ -13,8 +12,7 @@ use crate::numbers::has_number;
 use crate::ranges::{BURST, NUMBER, RATE};
 use bridge_meter::MeterPlan;
 use bridge_schema::{
-    Field, Meaning, Place, PlanFault, Section, SectionReader, Switch, Text, are_known, default_to,
-    required,
+    Field, Meaning, PlanFault, Row, Section, SectionReader, Switch, Text, are_known,
 };
 use std::alloc::Allocator;
 use toml::Table;
@@ -71,47 +69,29 @@ fn meter_of(
     ensures limits { IfOk result (λ m. is_within_limits m.1 ≡ true) }
     ensures takes_no_memory { IfErr result (λ e. ¬ (e ≡ NoMemory)) }
 {
-    let at = |field: Field| -> Place
-        ensures { result ≡ record { section = the_section.Meter; index = index; field = field } }
-    {
-        Place {
-            section: Section::Meter,
-            index,
-            field,
-        }
+    let row = Row {
+        table,
+        section: Section::Meter,
+        index,
     };
     if !has_keys(table) {
         return Err(PlanFault::UnknownKey(Section::Meter, index));
     }
-    let number = required(table, at(Field::Number), Field::Number, &NUMBER)?;
-    let cir = required(table, at(Field::Cir), Field::Cir, &RATE)?;
-    let cbs = required(table, at(Field::Cbs), Field::Cbs, &BURST)?;
-    let eir = required(table, at(Field::Eir), Field::Eir, &RATE)?;
-    let ebs = required(table, at(Field::Ebs), Field::Ebs, &BURST)?;
-    let coupling = default_to(false, table, at(Field::Coupling), Field::Coupling, &Switch)?;
-    let aware = default_to(
+    let number = row.required(Field::Number, &NUMBER)?;
+    let cir = row.required(Field::Cir, &RATE)?;
+    let cbs = row.required(Field::Cbs, &BURST)?;
+    let eir = row.required(Field::Eir, &RATE)?;
+    let ebs = row.required(Field::Ebs, &BURST)?;
+    let coupling = row.default_to(false, Field::Coupling, &Switch)?;
+    let aware = row.default_to(
         false,
-        table,
-        at(Field::Colour),
         Field::Colour,
         &Text {
             meaning: ColourText,
         },
     )?;
-    let drop_yellow = default_to(
-        false,
-        table,
-        at(Field::DropYellow),
-        Field::DropYellow,
-        &Switch,
-    )?;
-    let mark_all_red = default_to(
-        false,
-        table,
-        at(Field::MarkAllRed),
-        Field::MarkAllRed,
-        &Switch,
-    )?;
+    let drop_yellow = row.default_to(false, Field::DropYellow, &Switch)?;
+    let mark_all_red = row.default_to(false, Field::MarkAllRed, &Switch)?;
     if has_number(meters, number) {
         return Err(PlanFault::Duplicate(Section::Meter, index));
     }

@@ -3,7 +3,6 @@ ghost use Rattle.std.specs.Prelude.{◌≡◌, ◌<◌, IfOk, All, false};
 ghost use Rattle.std.specs.Option.{ForSome};
 ghost use Rattle.toml.specs.Data.{get_member};
 ghost use Rattle.toml.specs.View.{table_view};
-ghost use Rattle.bridge_schema.specs.declared.fault.Section.TheVariants as the_section;
 ghost use Rattle.bridge_schema.specs.Keys.{key_of};
 ghost use Rattle.bridge_schema.specs.Readers.{Gives, GivesAs, are_known, are_known_at};
 ghost use Rattle.bridge_config.specs.Lists.{parts_in};
@@ -16,8 +15,8 @@ use bridge_cycle::{CyclicList, Egress, Joined};
 use bridge_frame::Speed;
 use bridge_limits::END_OF_TIME;
 use bridge_schema::{
-    Classes, Entry, Field, Finds, Mbps, Place, PlanFault, Rooms, Section, SectionReader, SetOf,
-    are_known, are_known_at, default_to, has_key, required, value_at,
+    Classes, Entry, Field, Finds, Mbps, Place, PlanFault, Rooms, Row, Section, SectionReader,
+    SetOf, are_known, are_known_at, has_key, required, value_at,
 };
 use std::alloc::Allocator;
 use toml::Table;
@@ -228,30 +227,20 @@ fn port_among<A: Allocator + Copy, P: Finds + Drop>(
     ensures own { IfOk result (λ p. P.among ports p.number ≡ false) }
     ensures port { IfOk result (λ p. rules.IsPort p) }
 {
-    let at = |field: Field| -> Place
-        ensures { result ≡ record { section = the_section.Port; index = index; field = field } }
-    {
-        Place {
-            section: Section::Port,
-            index,
-            field,
-        }
+    let row = Row {
+        table,
+        section: Section::Port,
+        index,
     };
     if !has_keys(change, table) {
         return Err(PlanFault::UnknownKey(Section::Port, index));
     }
-    let number = required(table, at(Field::Number), Field::Number, &PORT)?;
-    let speed = required(table, at(Field::Mbps), Field::Mbps, &Mbps)?;
-    let vid = default_to(1, table, at(Field::Vid), Field::Vid, &VID)?;
-    let priority = default_to(0, table, at(Field::Priority), Field::Priority, &PRIORITY)?;
-    let classes = default_to(
-        [0, 1, 2, 3, 4, 5, 6, 7],
-        table,
-        at(Field::Classes),
-        Field::Classes,
-        &Classes,
-    )?;
-    let rooms = default_to([64; 8], table, at(Field::Rooms), Field::Rooms, &Rooms)?;
+    let number = row.required(Field::Number, &PORT)?;
+    let speed = row.required(Field::Mbps, &Mbps)?;
+    let vid = row.default_to(1, Field::Vid, &VID)?;
+    let priority = row.default_to(0, Field::Priority, &PRIORITY)?;
+    let classes = row.default_to([0, 1, 2, 3, 4, 5, 6, 7], Field::Classes, &Classes)?;
+    let rooms = row.default_to([64; 8], Field::Rooms, &Rooms)?;
     let list = port_list(alloc, change, index, table)?;
     if ports.has(number) {
         return Err(PlanFault::Duplicate(Section::Port, index));

@@ -3,7 +3,6 @@ ghost use Rattle.std.specs.Prelude.{◌≡◌, ◌&&◌, nat_eq, IfErr, IfOk, fa
 ghost use Rattle.std.specs.Str.{bytes_eq};
 ghost use Rattle.toml.specs.View.{table_view};
 ghost use Rattle.bridge_schema.specs.declared.fault.PlanFault.TheVariants.{NoMemory};
-ghost use Rattle.bridge_schema.specs.declared.fault.Section.TheVariants as the_section;
 ghost use Rattle.bridge_schema.specs.Readers.{Gives};
 ghost use Rattle.bridge_config.specs.Sections as sections;
 ghost use Rattle.bridge_config.specs.Rules as rules;
@@ -12,8 +11,7 @@ use crate::ranges::VID;
 use crate::vlans::VlanNumbers;
 use bridge_forward::{PortSet, StaticEntry, Vlan};
 use bridge_schema::{
-    Address, Field, Known, Place, PlanFault, PortsOf, Section, SectionReader, Text, are_known,
-    required,
+    Address, Field, Known, PlanFault, PortsOf, Row, Section, SectionReader, Text, are_known,
 };
 use std::alloc::Allocator;
 use toml::Table;
@@ -57,34 +55,23 @@ fn static_of(
     ensures entry { IfOk result (λ s. rules.IsStatic all vlans.now s) }
     ensures takes_no_memory { IfErr result (λ e. ¬ (e ≡ NoMemory)) }
 {
-    let at = |field: Field| -> Place
-        ensures { result ≡ record { section = the_section.Static; index = index; field = field } }
-    {
-        Place {
-            section: Section::Static,
-            index,
-            field,
-        }
+    let row = Row {
+        table,
+        section: Section::Static,
+        index,
     };
     if !has_keys(table) {
         return Err(PlanFault::UnknownKey(Section::Static, index));
     }
-    let vid = required(
-        table,
-        at(Field::Vid),
+    let vid = row.required(
         Field::Vid,
         &Known {
             among: VlanNumbers { vlans },
             range: VID,
         },
     )?;
-    let address = required(
-        table,
-        at(Field::Address),
-        Field::Address,
-        &Text { meaning: Address },
-    )?;
-    let ports = required(table, at(Field::Ports), Field::Ports, &PortsOf { all })?;
+    let address = row.required(Field::Address, &Text { meaning: Address })?;
+    let ports = row.required(Field::Ports, &PortsOf { all })?;
     if has_static(statics, vid, &address) {
         return Err(PlanFault::Duplicate(Section::Static, index));
     }

@@ -2,7 +2,6 @@
 ghost use Rattle.std.specs.Prelude.{◌≡◌, ◌≤◌, true, IfErr, IfOk, All, ◌++◌, ◌∷◌, []};
 ghost use Rattle.toml.specs.View.{table_view};
 ghost use Rattle.bridge_schema.specs.declared.fault.PlanFault.TheVariants.{NoMemory};
-ghost use Rattle.bridge_schema.specs.declared.fault.Section.TheVariants as the_section;
 ghost use Rattle.bridge_schema.specs.Readers.{Gives};
 ghost use Rattle.bridge_config.specs.Sections as sections;
 ghost use Rattle.bridge_config.specs.Texts as texts;
@@ -12,8 +11,7 @@ use crate::ports::{PortNumbers, PortPlan};
 use crate::ranges::{NUMBER, PORT, VID};
 use bridge_ident::{Kind, StreamEntry, TagKind};
 use bridge_schema::{
-    Address, Field, Finds, Known, Meaning, Place, PlanFault, Section, SectionReader, Text,
-    are_known, required,
+    Address, Field, Finds, Known, Meaning, PlanFault, Row, Section, SectionReader, Text, are_known,
 };
 use std::alloc::Allocator;
 use toml::Table;
@@ -92,47 +90,26 @@ fn stream_among<P: Finds + Drop>(
     ensures vid_to { IfOk result (λ s. s.vid ≤ 4094) }
     ensures takes_no_memory { IfErr result (λ e. ¬ (e ≡ NoMemory)) }
 {
-    let at = |field: Field| -> Place
-        ensures { result ≡ record { section = the_section.Stream; index = index; field = field } }
-    {
-        Place {
-            section: Section::Stream,
-            index,
-            field,
-        }
+    let row = Row {
+        table,
+        section: Section::Stream,
+        index,
     };
     if !has_keys(table) {
         return Err(PlanFault::UnknownKey(Section::Stream, index));
     }
-    let handle = required(table, at(Field::Handle), Field::Handle, &NUMBER)?;
-    let port = required(
-        table,
-        at(Field::Port),
+    let handle = row.required(Field::Handle, &NUMBER)?;
+    let port = row.required(
         Field::Port,
         &Known {
             among: ports,
             range: PORT,
         },
     )?;
-    let kind = required(
-        table,
-        at(Field::Kind),
-        Field::Kind,
-        &Text { meaning: KindText },
-    )?;
-    let address = required(
-        table,
-        at(Field::Address),
-        Field::Address,
-        &Text { meaning: Address },
-    )?;
-    let vid = required(table, at(Field::Vid), Field::Vid, &VID)?;
-    let tag = required(
-        table,
-        at(Field::Tag),
-        Field::Tag,
-        &Text { meaning: TagText },
-    )?;
+    let kind = row.required(Field::Kind, &Text { meaning: KindText })?;
+    let address = row.required(Field::Address, &Text { meaning: Address })?;
+    let vid = row.required(Field::Vid, &VID)?;
+    let tag = row.required(Field::Tag, &Text { meaning: TagText })?;
     Ok(StreamEntry {
         handle: handle as u32,
         port: port as u8,

@@ -2,16 +2,13 @@
 ghost use Rattle.std.specs.Prelude.{◌≡◌, IfErr, IfOk, false, true};
 ghost use Rattle.toml.specs.View.{table_view};
 ghost use Rattle.bridge_schema.specs.declared.fault.PlanFault.TheVariants.{NoMemory};
-ghost use Rattle.bridge_schema.specs.declared.fault.Section.TheVariants as the_section;
 ghost use Rattle.bridge_schema.specs.Readers.{Gives};
 ghost use Rattle.bridge_config.specs.Sections as sections;
 ghost use Rattle.bridge_config.specs.Rules as rules;
 
 use crate::ranges::VID;
 use bridge_forward::{PortSet, Vlan};
-use bridge_schema::{
-    Field, Finds, Place, PlanFault, PortsOf, Section, SectionReader, are_known, required,
-};
+use bridge_schema::{Field, Finds, PlanFault, PortsOf, Row, Section, SectionReader, are_known};
 use std::alloc::Allocator;
 use toml::Table;
 
@@ -51,20 +48,16 @@ fn vlan_of(all: u16, vlans: &[Vlan], index: u32, table: &Table) -> Result<Vlan, 
     ensures vlan { IfOk result (λ v. rules.IsVlan all v) }
     ensures takes_no_memory { IfErr result (λ e. ¬ (e ≡ NoMemory)) }
 {
-    let at = |field: Field| -> Place
-        ensures { result ≡ record { section = the_section.Vlan; index = index; field = field } }
-    {
-        Place {
-            section: Section::Vlan,
-            index,
-            field,
-        }
+    let row = Row {
+        table,
+        section: Section::Vlan,
+        index,
     };
     if !has_keys(table) {
         return Err(PlanFault::UnknownKey(Section::Vlan, index));
     }
-    let vid = required(table, at(Field::Vid), Field::Vid, &VID)?;
-    let members = required(table, at(Field::Members), Field::Members, &PortsOf { all })?;
+    let vid = row.required(Field::Vid, &VID)?;
+    let members = row.required(Field::Members, &PortsOf { all })?;
     if has_vlan(vlans, vid) {
         return Err(PlanFault::Duplicate(Section::Vlan, index));
     }

@@ -13,6 +13,7 @@ pub mod instances;
 pub mod kinds;
 pub mod known;
 pub mod presence;
+pub mod row;
 pub mod texts;
 
 pub use arrays::{Classes, PortsOf, Rooms, SetOf, are_tables, with_bit};
@@ -24,4 +25,5 @@ pub use known::{are_known, are_known_at};
 pub use presence::{
     default_to, has_key, optional, required, required_with, required_without, value_at,
 };
+pub use row::Row;
 pub use texts::{Address, Meaning, Openness, Text};
