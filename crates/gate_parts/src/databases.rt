@@ -1,6 +1,9 @@
 //! The filtering database: where frames go. Sets of ports are numbers: bit n - 1 is 1 where port n is in the set.
 
-use crate::words::{Fault, address_in, first_word, number, number_at, parted, tell, word_at};
+use crate::parts::{Part, ask_made, collected};
+use crate::words::{
+    Fault, address_in, first_word, has_line, number, number_at, parted, show, tell, word_at,
+};
 use bridge_forward::{Forwarding, PortSet, StaticEntry, Vlan, laws};
 use std::alloc::{AllocError, Allocator, Global};
 use std::io;
@@ -13,33 +16,34 @@ fn short_at(line: &str, place: usize) -> u16 {
     number(word_at(line, place)).unwrap_or(0)
 }
 
-/// The VLANs of lines `vlan VLAN PORTS`.
-fn vlans_in<A: Allocator>(alloc: A, lines: &str) -> Result<Vec<Vlan, A>, AllocError> {
-    let mut vlans = Vec::with_capacity(alloc, lines.lines().count())?;
-    for line in lines.lines() {
-        if first_word(line) == "vlan" {
-            vlans.push(Vlan {
-                vid: short_at(line, 1),
-                members: PortSet::of_bits(short_at(line, 2)),
-            })?;
-        }
+/// The VLAN of a line `vlan VLAN PORTS`.
+fn vlan_in(line: &str) -> Option<Vlan> {
+    if first_word(line) != "vlan" {
+        return None;
     }
-    Ok(vlans)
+    Some(Vlan {
+        vid: short_at(line, 1),
+        members: PortSet::of_bits(short_at(line, 2)),
+    })
 }
 
-/// The entries of lines `static VLAN ADDRESS PORTS`.
+/// The entry of a line `static VLAN ADDRESS PORTS`.
+fn static_in(line: &str) -> Option<StaticEntry> {
+    if first_word(line) != "static" {
+        return None;
+    }
+    Some(StaticEntry {
+        vid: short_at(line, 1),
+        address: address_in(word_at(line, 2)),
+        ports: PortSet::of_bits(short_at(line, 3)),
+    })
+}
+
+/// The entries of lines, with many more behind them where a line says `many`.
 fn statics_in<A: Allocator>(alloc: A, lines: &str) -> Result<Vec<StaticEntry, A>, AllocError> {
-    let mut statics = Vec::with_capacity(alloc, lines.lines().count())?;
-    for line in lines.lines() {
-        match first_word(line) {
-            "static" => statics.push(StaticEntry {
-                vid: short_at(line, 1),
-                address: address_in(word_at(line, 2)),
-                ports: PortSet::of_bits(short_at(line, 3)),
-            })?,
-            "many" => push_many(&mut statics)?,
-            _ => {}
-        }
+    let mut statics = collected(alloc, lines, '\n', static_in)?;
+    if has_line(lines, "many") {
+        push_many(&mut statics)?;
     }
     Ok(statics)
 }
@@ -68,7 +72,7 @@ fn bits_of(number: u16) -> u16 {
 
 /// The database of lines.
 pub fn database_in<A: Allocator + Copy>(alloc: A, lines: &str) -> Result<Forwarding<A>, Fault> {
-    let vlans = vlans_in(alloc, lines)?;
+    let vlans = collected(alloc, lines, '\n', vlan_in)?;
     let statics = statics_in(alloc, lines)?;
     Ok(Forwarding::new(alloc, vlans, statics)?)
 }
@@ -76,34 +80,20 @@ pub fn database_in<A: Allocator + Copy>(alloc: A, lines: &str) -> Result<Forward
 /// Asks a database.
 pub fn database<H: AllocGlobal + Print>(rt: &H, text: &str) -> io::Result<()> {
     let (head, lines) = parted(text);
-    match database_in(rt.alloc(), lines) {
-        Ok(database) => {
-            let done = ask_all(rt, &database, head, lines);
-            drop(database);
-            done
-        }
-        Err(fault) => tell(rt, head, &fault),
-    }
+    ask_made(rt, database_in(rt.alloc(), lines), head, lines)
 }
 
-fn ask_all<H: Print>(
-    rt: &H,
-    database: &Forwarding<Global>,
-    head: &str,
-    lines: &str,
-) -> io::Result<()> {
-    println!(rt; "{head} -> made")?;
-    for line in lines.lines() {
+impl Part for Forwarding<Global> {
+    fn ask<H: AllocGlobal + Print>(&mut self, rt: &H, line: &str) -> io::Result<()> {
         match first_word(line) {
-            "frame" => frame(rt, database, line)?,
-            "vlans" => tell(rt, line, &database.vlans().len())?,
-            "statics" => tell(rt, line, &database.statics().len())?,
-            "each" => tell(rt, line, &found(database))?,
-            "laws" => name_laws(rt, line)?,
-            _ => println!(rt; "{line}")?,
+            "frame" => frame(rt, self, line),
+            "vlans" => tell(rt, line, &self.vlans().len()),
+            "statics" => tell(rt, line, &self.statics().len()),
+            "each" => tell(rt, line, &found(self)),
+            "laws" => name_laws(rt, line),
+            _ => show(rt, line),
         }
     }
-    Ok(())
 }
 
 /// Prints where a frame goes, and whether that has port 3: `frame PORT VLAN ADDRESS`.

@@ -1,6 +1,7 @@
 //! Frames: their heads, how long they occupy a link, and the drop eligible indication.
 
-use crate::words::{Fault, first_word, number, number_at, parted, small_at, tell, word_at};
+use crate::parts::{Part, ask_each, collected};
+use crate::words::{Fault, first_word, number, parted, show, small_at, tell, word_at};
 use bridge_frame::{FrameFault, Head, Speed, mark_drop_eligible, occupation, parse};
 use bridge_limits::MOST_CAPTURED;
 use std::alloc::{AllocError, Global};
@@ -8,29 +9,30 @@ use std::io;
 
 /// The octets of a word, which commas part.
 fn octets_in(alloc: Global, word: &str) -> Result<Vec<u8>, AllocError> {
-    let mut octets = Vec::new(alloc);
-    for part in word.split(',') {
-        if let Some(octet) = number(part) {
-            octets.push(octet)?;
+    collected(alloc, word, ',', number)
+}
+
+/// What is asked of frames.
+#[derive(Drop)]
+struct Asking;
+
+impl Part for Asking {
+    fn ask<H: AllocGlobal + Print>(&mut self, rt: &H, line: &str) -> io::Result<()> {
+        match first_word(line) {
+            "occupation" => occupied(rt, line),
+            "speed" => tell(rt, line, &Speed::of(small_at(line, 1))),
+            "head" => head_of(rt, line),
+            "mark" => marked(rt, line),
+            _ => show(rt, line),
         }
     }
-    Ok(octets)
 }
 
 /// Asks of frames, a line each.
 pub fn frames<H: AllocGlobal + Print>(rt: &H, text: &str) -> io::Result<()> {
     let (head, lines) = parted(text);
-    println!(rt; "{head}")?;
-    for line in lines.lines() {
-        match first_word(line) {
-            "occupation" => occupied(rt, line)?,
-            "speed" => tell(rt, line, &Speed::of(small_at(line, 1)))?,
-            "head" => head_of(rt, line)?,
-            "mark" => marked(rt, line)?,
-            _ => println!(rt; "{line}")?,
-        }
-    }
-    Ok(())
+    show(rt, head)?;
+    ask_each(rt, &mut Asking, lines)
 }
 
 /// Prints for how long a frame occupies a link: `occupation OCTETS SPEED`.

@@ -1,12 +1,13 @@
 //! Stream gates: answers, flags and octets.
 
+use crate::parts::{Part, ask_made, collected};
 use crate::words::{
-    Fault, first_word, has, number, number_after, number_at, parted, small_at, tell,
+    Fault, first_word, has, number, number_after, number_at, parted, show, small_at, tell,
 };
 use bridge_cycle::CyclicList;
 use bridge_gate::{GateEntry, GatePlan, Schedule, StreamGate};
 use bridge_limits::END_OF_TIME;
-use std::alloc::{AllocError, Allocator, Global};
+use std::alloc::{Allocator, Global};
 use std::io;
 use std::str::FromStr;
 
@@ -32,16 +33,6 @@ fn entry_in(word: &str) -> Option<(GateEntry, u64)> {
     Some((entry, number(interval)?))
 }
 
-fn entries_in<A: Allocator>(alloc: A, line: &str) -> Result<Vec<(GateEntry, u64), A>, AllocError> {
-    let mut entries = Vec::with_capacity(alloc, line.split(' ').count())?;
-    for word in line.split(' ') {
-        if let Some(entry) = entry_in(word) {
-            entries.push(entry)?;
-        }
-    }
-    Ok(entries)
-}
-
 /// The schedule of a line: `fixed open ipv NUMBER`, or a list of base 0.
 fn schedule_in<A: Allocator + Copy>(alloc: A, line: &str) -> Result<Schedule<A>, Fault> {
     if has(line, "fixed") {
@@ -51,7 +42,7 @@ fn schedule_in<A: Allocator + Copy>(alloc: A, line: &str) -> Result<Schedule<A>,
         });
     }
     let cycle = number_after(line, "cycle").unwrap_or(0);
-    let list = CyclicList::new(alloc, 0, cycle, entries_in(alloc, line)?)?;
+    let list = CyclicList::new(alloc, 0, cycle, collected(alloc, line, ' ', entry_in)?)?;
     Ok(Schedule::Cyclic(list))
 }
 
@@ -73,41 +64,29 @@ pub fn gate_plan_in<A: Allocator + Copy>(alloc: A, line: &str) -> Result<GatePla
 /// Asks a gate.
 pub fn gate<H: AllocGlobal + Print>(rt: &H, text: &str) -> io::Result<()> {
     let (head, lines) = parted(text);
-    match gate_plan_in(rt.alloc(), head) {
-        Ok(plan) => ask_plan(rt, plan, head, lines),
-        Err(fault) => tell(rt, head, &fault),
-    }
+    ask_made(rt, gate_in(rt.alloc(), head), head, lines)
 }
 
-/// Asks the gate of a plan, if its priorities are some.
-fn ask_plan<H: Print>(rt: &H, plan: GatePlan<Global>, head: &str, lines: &str) -> io::Result<()> {
+/// The gate of a line, if the priorities of its plan are some.
+fn gate_in(alloc: Global, line: &str) -> Result<StreamGate<Global>, Fault> {
+    let plan = gate_plan_in(alloc, line)?;
     if !plan.schedule.has_priorities() {
         drop(plan);
-        return tell(rt, head, &Fault::NotAllowed);
+        return Err(Fault::NotAllowed);
     }
-    let mut gate = StreamGate::new(plan);
-    let done = ask_all(rt, &mut gate, head, lines);
-    drop(gate);
-    done
+    Ok(StreamGate::new(plan))
 }
 
-fn ask_all<H: Print>(
-    rt: &H,
-    gate: &mut StreamGate<Global>,
-    head: &str,
-    lines: &str,
-) -> io::Result<()> {
-    println!(rt; "{head} -> made")?;
-    for line in lines.lines() {
+impl Part for StreamGate<Global> {
+    fn ask<H: AllocGlobal + Print>(&mut self, rt: &H, line: &str) -> io::Result<()> {
         match first_word(line) {
-            "frame" => frame(rt, gate, line)?,
-            "earliest" => tell(rt, line, &gate.earliest())?,
-            "flags" => tell(rt, line, &gate.flags())?,
-            "clear" => clear(rt, gate, line)?,
-            _ => println!(rt; "{line}")?,
+            "frame" => frame(rt, self, line),
+            "earliest" => tell(rt, line, &self.earliest()),
+            "flags" => tell(rt, line, &self.flags()),
+            "clear" => clear(rt, self, line),
+            _ => show(rt, line),
         }
     }
-    Ok(())
 }
 
 /// Prints the answer to a frame, and the least moment of the next one: `frame MOMENT OCTETS`.
@@ -127,5 +106,5 @@ fn clear<H: Print>(rt: &H, gate: &mut StreamGate<Global>, line: &str) -> io::Res
     } else {
         gate.clear_octets();
     }
-    println!(rt; "{line}")
+    show(rt, line)
 }

@@ -1,7 +1,8 @@
 //! Cyclic lists, lists that are exchanged at a moment, and those of a port: turns, runs and fits.
 ghost use Rattle.std.specs.Prelude.{◌<◌, ◌≤◌, IfSome};
 
-use crate::words::{Fault, first_word, has, number, number_after, number_at, parted, tell};
+use crate::parts::{Part, ask_made, push_each};
+use crate::words::{Fault, first_word, has, number, number_after, number_at, parted, show, tell};
 use bridge_cycle::{
     CyclicList, END_OF_SEARCHES, END_OF_TURNS, Egress, Joined, LONGEST_CYCLE, Run, Timeline,
     first_fit, longest_run,
@@ -22,11 +23,7 @@ fn entries_in<A: Allocator>(alloc: A, text: &str) -> Result<Vec<(u8, u64), A>, A
     let words = text.split(' ').count();
     let mut entries = Vec::with_capacity(alloc, words.saturating_mul(times))?;
     for _ in 0..times {
-        for word in text.split(' ') {
-            if let Some(entry) = entry_in(word) {
-                entries.push(entry)?;
-            }
-        }
+        push_each(&mut entries, text, ' ', entry_in)?;
     }
     Ok(entries)
 }
@@ -73,27 +70,18 @@ pub fn lists_in<A: Allocator + Copy>(alloc: A, text: &str) -> Result<Egress<A>, 
 /// Asks lists.
 pub fn lists<H: AllocGlobal + Print>(rt: &H, text: &str) -> io::Result<()> {
     let (head, lines) = parted(text);
-    match lists_in(rt.alloc(), head) {
-        Ok(lists) => {
-            let done = ask_all(rt, &lists, head, lines);
-            drop(lists);
-            done
-        }
-        Err(fault) => tell(rt, head, &fault),
-    }
+    ask_made(rt, lists_in(rt.alloc(), head), head, lines)
 }
 
-fn ask_all<H: Print>(rt: &H, lists: &Egress<Global>, head: &str, lines: &str) -> io::Result<()> {
-    println!(rt; "{head} -> made")?;
-    for line in lines.lines() {
+impl Part for Egress<Global> {
+    fn ask<H: AllocGlobal + Print>(&mut self, rt: &H, line: &str) -> io::Result<()> {
         match first_word(line) {
-            "turn" => turn(rt, lists, line)?,
-            "cycle" => tell(rt, line, &lists.cycle())?,
-            "fit" => fit(rt, lists, line)?,
-            _ => ask(rt, lists, line)?,
+            "turn" => turn(rt, self, line),
+            "cycle" => tell(rt, line, &self.cycle()),
+            "fit" => fit(rt, self, line),
+            _ => ask_one(rt, self, line),
         }
     }
-    Ok(())
 }
 
 /// Prints the turn at a moment: its state, its start and its end.
@@ -107,7 +95,7 @@ fn turn<H: Print>(rt: &H, lists: &Egress<Global>, line: &str) -> io::Result<()> 
 }
 
 /// Prints what is asked of one list, or of two.
-fn ask<H: Print>(rt: &H, lists: &Egress<Global>, line: &str) -> io::Result<()> {
+fn ask_one<H: Print>(rt: &H, lists: &Egress<Global>, line: &str) -> io::Result<()> {
     match lists {
         Egress::Cyclic(list) => ask_list(rt, list, line),
         Egress::Joined(joined) => ask_joined(rt, joined, line),
@@ -119,7 +107,7 @@ fn ask_list<H: Print>(rt: &H, list: &CyclicList<u8, Global>, line: &str) -> io::
         "entries" => tell(rt, line, &list.entries()),
         "base" => tell(rt, line, &list.base()),
         "run" => run(rt, list, line),
-        _ => println!(rt; "{line}"),
+        _ => show(rt, line),
     }
 }
 
@@ -137,7 +125,7 @@ fn ask_joined<H: Print>(rt: &H, joined: &Joined<u8, Global>, line: &str) -> io::
     match first_word(line) {
         "at" => tell(rt, line, &joined.at()),
         "cycles" => tell(rt, line, &(before.cycle(), after.cycle())),
-        _ => println!(rt; "{line}"),
+        _ => show(rt, line),
     }
 }
 

@@ -10,6 +10,7 @@ mod gates;
 mod growths;
 mod lists;
 mod meters;
+mod parts;
 mod police;
 mod ports;
 mod streams;
@@ -27,7 +28,7 @@ use ports::port;
 use std::rt::{Env, Files};
 use std::{env, fs, io};
 use streams::streams;
-use words::{first_word, parted};
+use words::{first_word, parted, show};
 
 fn main(rt: HostRuntime) -> io::Result<()> {
     run(&rt)
@@ -44,9 +45,15 @@ fn run<H: AllocGlobal + Print + Env + Files>(rt: &H) -> io::Result<()> {
 /// Plays a script, a paragraph after the other.
 fn play<H: AllocGlobal + Print + Files>(rt: &H, path: &str) -> io::Result<()> {
     let script = fs::read_to_string(rt, path)?;
-    for part in script.as_str().split("\n\n") {
+    let done = paragraphs(rt, script.as_str());
+    drop(script);
+    done
+}
+
+fn paragraphs<H: AllocGlobal + Print>(rt: &H, script: &str) -> io::Result<()> {
+    for part in script.split("\n\n") {
         paragraph(rt, part)?;
-        println!(rt; "")?;
+        show(rt, "")?;
     }
     Ok(())
 }
@@ -63,6 +70,6 @@ fn paragraph<H: AllocGlobal + Print>(rt: &H, text: &str) -> io::Result<()> {
         "police" => police(rt, text),
         "port" => port(rt, text),
         "refuse" => refuse(rt, text),
-        _ => println!(rt; "{text}"),
+        _ => show(rt, text),
     }
 }

@@ -1,6 +1,7 @@
 //! Meters: colours, and what the buckets hold.
 
-use crate::words::{Fault, first_word, has, number_after, number_at, parted, small_at, tell};
+use crate::parts::{Part, ask_made};
+use crate::words::{Fault, first_word, has, number_after, number_at, parted, show, small_at, tell};
 use bridge_meter::{Meter, MeterPlan};
 use std::io;
 
@@ -19,29 +20,32 @@ pub fn meter_plan_in(line: &str) -> MeterPlan {
 }
 
 /// Asks a meter.
-pub fn meter<H: Print>(rt: &H, text: &str) -> io::Result<()> {
+pub fn meter<H: AllocGlobal + Print>(rt: &H, text: &str) -> io::Result<()> {
     let (head, lines) = parted(text);
-    let plan = meter_plan_in(head);
-    if !plan.is_within_limits() {
-        return tell(rt, head, &Fault::NotAllowed);
-    }
-    println!(rt; "{head} -> made")?;
-    let mut meter = Meter::new(plan);
-    for line in lines.lines() {
-        ask(rt, &mut meter, line)?;
-    }
-    Ok(())
+    ask_made(rt, meter_in(head), head, lines)
 }
 
-fn ask<H: Print>(rt: &H, meter: &mut Meter, line: &str) -> io::Result<()> {
-    match first_word(line) {
-        "frame" => frame(rt, meter, line),
-        "holds" => tell(rt, line, &meter.state()),
-        "clear" => {
-            meter.clear_red();
-            println!(rt; "{line}")
+/// The meter of a line, if its plan is within the limits.
+fn meter_in(line: &str) -> Result<Meter, Fault> {
+    let plan = meter_plan_in(line);
+    if plan.is_within_limits() {
+        Ok(Meter::new(plan))
+    } else {
+        Err(Fault::NotAllowed)
+    }
+}
+
+impl Part for Meter {
+    fn ask<H: AllocGlobal + Print>(&mut self, rt: &H, line: &str) -> io::Result<()> {
+        match first_word(line) {
+            "frame" => frame(rt, self, line),
+            "holds" => tell(rt, line, &self.state()),
+            "clear" => {
+                self.clear_red();
+                show(rt, line)
+            }
+            _ => show(rt, line),
         }
-        _ => println!(rt; "{line}"),
     }
 }
 

@@ -4,9 +4,10 @@ ghost use Rattle.bridge_filter.specs.Plans.{KeepsNumbers, is_there};
 
 use crate::gates::gate_plan_in;
 use crate::meters::meter_plan_in;
+use crate::parts::collected;
 use crate::together::{go_together, is_listed};
 use crate::words::{
-    Fault, first_word, has, number_after, number_at, parted, small_at, tell, word_at,
+    Fault, answer, first_word, has, number_after, number_at, parted, show, small_at, tell, word_at,
 };
 use bridge_filter::{Clear, FilterPlan, Police, Ruling};
 use bridge_gate::GatePlan;
@@ -15,9 +16,12 @@ use bridge_meter::MeterPlan;
 use std::alloc::{AllocError, Allocator, Global};
 use std::io;
 
-/// The plan of a line `filter NUMBER gate NUMBER ..`.
-fn filter_plan_in(line: &str) -> FilterPlan {
-    FilterPlan {
+/// The number and the plan of a line `filter NUMBER gate NUMBER ..`.
+fn filter_in(line: &str) -> Option<(u32, FilterPlan)> {
+    if first_word(line) != "filter" {
+        return None;
+    }
+    let plan = FilterPlan {
         handle: number_after(line, "handle"),
         priority: number_after(line, "priority"),
         gate: number_after(line, "gate").unwrap_or(0),
@@ -25,30 +29,16 @@ fn filter_plan_in(line: &str) -> FilterPlan {
         meter: number_after(line, "meter"),
         block_oversize: has(line, "block_oversize"),
         protected: has(line, "protected"),
-    }
+    };
+    Some((small_at(line, 1), plan))
 }
 
-fn filters_in<A: Allocator>(
-    alloc: A,
-    lines: &str,
-) -> Result<Vec<(u32, FilterPlan), A>, AllocError> {
-    let mut filters = Vec::with_capacity(alloc, lines.lines().count())?;
-    for line in lines.lines() {
-        if first_word(line) == "filter" {
-            filters.push((small_at(line, 1), filter_plan_in(line)))?;
-        }
+/// The number and the plan of a line `meter NUMBER ..`.
+fn meter_in(line: &str) -> Option<(u32, MeterPlan)> {
+    if first_word(line) != "meter" {
+        return None;
     }
-    Ok(filters)
-}
-
-fn meters_in<A: Allocator>(alloc: A, lines: &str) -> Result<Vec<(u32, MeterPlan), A>, AllocError> {
-    let mut meters = Vec::with_capacity(alloc, lines.lines().count())?;
-    for line in lines.lines() {
-        if first_word(line) == "meter" {
-            meters.push((small_at(line, 1), meter_plan_in(line)))?;
-        }
-    }
-    Ok(meters)
+    Some((small_at(line, 1), meter_plan_in(line)))
 }
 
 /// The gates of lines `gate NUMBER ..`.
@@ -95,10 +85,10 @@ pub fn made_in<A: Allocator + Copy>(alloc: A, lines: &str) -> Result<Made<A>, Fa
     ensures gate { IfOk result (λ m. m.has_both ≡ true → is_there 1 m.police.gates ≡ true) }
     ensures meter { IfOk result (λ m. m.has_both ≡ true → is_there 5 m.police.meters ≡ true) }
 {
-    let filters = filters_in(alloc, lines)?;
-    let meters = meters_in(alloc, lines)?;
+    let filters = collected(alloc, lines, '\n', filter_in)?;
+    let meters = collected(alloc, lines, '\n', meter_in)?;
     let gates = gates_in(alloc, lines)?;
-    let has_both = is_listed(&gates, 1) && is_listed(&meters, 5);
+    let has_both = is_listed(&gates, 1) & is_listed(&meters, 5);
     match police_of(alloc, filters, gates, meters) {
         Ok(police) => Ok(Made { police, has_both }),
         Err(fault) => Err(fault),
@@ -134,8 +124,7 @@ pub fn police<H: AllocGlobal + Print>(rt: &H, text: &str) -> io::Result<()> {
                 mut police,
                 has_both,
             } = made;
-            println!(rt; "{head} -> made")?;
-            let done = ask_all(rt, &mut police, has_both, lines);
+            let done = ask_all(rt, &mut police, has_both, head, lines);
             drop(police);
             done
         }
@@ -147,32 +136,33 @@ fn ask_all<H: Print>(
     rt: &H,
     police: &mut Police<Global>,
     has_both: bool,
+    head: &str,
     lines: &str,
 ) -> io::Result<()>
     requires gate { has_both ≡ true → is_there 1 police.old.gates ≡ true }
     requires meter { has_both ≡ true → is_there 5 police.old.meters ≡ true }
 {
+    println!(rt; "{head} -> made")?;
     for line in lines.lines() {
-        match first_word(line) {
-            "frame" => frame(rt, police, line)?,
-            "clear" => clear(rt, police, has_both, line)?,
-            _ => show(rt, police, line)?,
-        }
+        ask(rt, police, has_both, line)?;
     }
     Ok(())
 }
 
-/// Prints the ruling of a frame: `frame MOMENT sdu OCTETS`, with a handle or a priority behind their names.
-fn frame<H: Print>(rt: &H, police: &mut Police<Global>, line: &str) -> io::Result<()>
+fn ask<H: Print>(rt: &H, police: &mut Police<Global>, has_both: bool, line: &str) -> io::Result<()>
+    requires gate { has_both ≡ true → is_there 1 police.old.gates ≡ true }
+    requires meter { has_both ≡ true → is_there 5 police.old.meters ≡ true }
     ensures gates { KeepsNumbers police.old.gates police.new.gates }
     ensures meters { KeepsNumbers police.old.meters police.new.meters }
 {
-    match ruling_of(police, line) {
-        Ok(ruling) => tell(rt, line, &ruling),
-        Err(fault) => tell(rt, line, &fault),
+    match first_word(line) {
+        "frame" => answer(rt, line, ruling_of(police, line)),
+        "clear" => clear(rt, police, has_both, line),
+        _ => look(rt, police, line),
     }
 }
 
+/// The ruling of a frame: `frame MOMENT sdu OCTETS`, with a handle or a priority behind their names.
 fn ruling_of(police: &mut Police<Global>, line: &str) -> Result<Option<Ruling>, Fault>
     ensures gates { KeepsNumbers police.old.gates police.new.gates }
     ensures meters { KeepsNumbers police.old.meters police.new.meters }
@@ -203,7 +193,7 @@ fn clear<H: Print>(
         return tell(rt, line, &Fault::NotAllowed);
     }
     clear_flag(police, word_at(line, 1));
-    println!(rt; "{line}")
+    show(rt, line)
 }
 
 /// Clears a flag of gate 1, of meter 5 or of the filter of the stream.
@@ -231,12 +221,12 @@ fn clear_blocked(police: &mut Police<Global>)
 }
 
 /// Prints what is seen of the police, or of the filter of the frames of stream 1, with its number.
-fn show<H: Print>(rt: &H, police: &Police<Global>, line: &str) -> io::Result<()> {
+fn look<H: Print>(rt: &H, police: &Police<Global>, line: &str) -> io::Result<()> {
     match (first_word(line), police.filter_of(Some(1), 0)) {
         ("came", _) => tell(rt, line, &(police.earliest(), police.calls())),
         ("flags", Some(filter)) => tell(rt, line, &(filter, police.flags(filter))),
         ("counts", Some(filter)) => tell(rt, line, &(filter, police.counters(filter))),
         ("holds", Some(filter)) => tell(rt, line, &(filter, police.buckets(filter))),
-        _ => println!(rt; "{line}"),
+        _ => show(rt, line),
     }
 }

@@ -3,7 +3,10 @@ ghost use Rattle.std.specs.Prelude.{◌≡◌, true};
 ghost use Rattle.bridge_port.specs.Standing.{NoStartBefore};
 
 use crate::lists::lists_in;
-use crate::words::{Fault, first_word, has, number_after, number_at, parted, small_at, tell};
+use crate::parts::{Part, ask_made};
+use crate::words::{
+    Fault, answer, first_word, has, number_after, number_at, parted, show, small_at, tell,
+};
 use bridge_frame::{Speed, occupation};
 use bridge_limits::{END_OF_TIME, LONGEST_FRAME, MOST_ARRIVALS};
 use bridge_port::{
@@ -46,50 +49,38 @@ pub fn port_in<A: Allocator + Copy>(alloc: A, line: &str) -> Result<Port<u32, A>
     Ok(Port::new(alloc, speed, lists, rooms)?)
 }
 
+/// A port on a link of a speed.
+#[derive(Drop)]
+struct Sending {
+    port: Port<u32, Global>,
+    speed: Speed,
+}
+
 /// Asks a port.
 pub fn port<H: AllocGlobal + Print>(rt: &H, text: &str) -> io::Result<()> {
     let (head, lines) = parted(text);
-    match speed_in(head) {
-        Some(speed) => port_of(rt, head, lines, speed),
-        None => tell(rt, head, &Fault::NotAllowed),
-    }
+    ask_made(rt, sending_in(rt.alloc(), head), head, lines)
 }
 
-fn port_of<H: AllocGlobal + Print>(
-    rt: &H,
-    head: &str,
-    lines: &str,
-    speed: Speed,
-) -> io::Result<()> {
-    match port_in(rt.alloc(), head) {
-        Ok(mut port) => {
-            let done = ask_all(rt, &mut port, head, lines, speed);
-            drop(port);
-            done
-        }
-        Err(fault) => tell(rt, head, &fault),
-    }
+fn sending_in(alloc: Global, line: &str) -> Result<Sending, Fault> {
+    let Some(speed) = speed_in(line) else {
+        return Err(Fault::NotAllowed);
+    };
+    let port = port_in(alloc, line)?;
+    Ok(Sending { port, speed })
 }
 
-fn ask_all<H: Print>(
-    rt: &H,
-    port: &mut Port<u32, Global>,
-    head: &str,
-    lines: &str,
-    speed: Speed,
-) -> io::Result<()> {
-    println!(rt; "{head} -> made")?;
-    for line in lines.lines() {
+impl Part for Sending {
+    fn ask<H: AllocGlobal + Print>(&mut self, rt: &H, line: &str) -> io::Result<()> {
         match first_word(line) {
-            "offer" => offer(rt, port, line, speed)?,
-            "starts" => starts(rt, port, line, speed)?,
-            "next" => tell(rt, line, &port.next_start())?,
-            "counts" => tell(rt, line, &counts(port))?,
-            "laws" => name_laws(rt, line)?,
-            _ => println!(rt; "{line}")?,
+            "offer" => offer(rt, &mut self.port, line, self.speed),
+            "starts" => starts(rt, &mut self.port, line, self.speed),
+            "next" => tell(rt, line, &self.port.next_start()),
+            "counts" => tell(rt, line, &counts(&self.port)),
+            "laws" => name_laws(rt, line),
+            _ => show(rt, line),
         }
     }
-    Ok(())
 }
 
 /// The offers, the starts, and the least moment of the next offer.
@@ -106,10 +97,11 @@ fn offer<H: Print>(
 ) -> io::Result<()> {
     let t = number_at(line, 1);
     starts_before(rt, port, speed, t)?;
-    match offered(port, t, number_at(line, 2), small_at(line, 3)) {
-        Ok(answer) => tell(rt, line, &answer),
-        Err(fault) => tell(rt, line, &fault),
-    }
+    answer(
+        rt,
+        line,
+        offered(port, t, number_at(line, 2), small_at(line, 3)),
+    )
 }
 
 /// Offers a frame, if it may be offered, and says why it is refused.
@@ -146,7 +138,7 @@ fn starts<H: Print>(
     line: &str,
     speed: Speed,
 ) -> io::Result<()> {
-    println!(rt; "{line}")?;
+    show(rt, line)?;
     starts_before(rt, port, speed, u64::MAX)
 }
 

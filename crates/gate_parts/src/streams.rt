@@ -1,7 +1,8 @@
 //! Stream identification: handles.
 
+use crate::parts::{Part, ask_each, collected};
 use crate::words::{
-    Fault, address_in, first_word, has, number, number_at, parted, small_at, tell, word_at,
+    Fault, address_in, first_word, has, has_line, number, parted, show, small_at, tell, word_at,
 };
 use bridge_frame::{Head, Tag};
 use bridge_ident::{Ident, Kind, StreamEntry, TagKind};
@@ -16,8 +17,11 @@ const TALKER: [u8; 6] = [2, 0, 0, 0, 0, 1];
 const LISTENER: [u8; 6] = [2, 0, 0, 0, 0, 10];
 
 /// The entry of a line `entry HANDLE PORT source|null ADDRESS VLAN tagged|priority|all`.
-fn entry_in(line: &str) -> StreamEntry {
-    StreamEntry {
+fn entry_in(line: &str) -> Option<StreamEntry> {
+    if first_word(line) != "entry" {
+        return None;
+    }
+    Some(StreamEntry {
         handle: small_at(line, 1),
         port: number(word_at(line, 2)).unwrap_or(0),
         kind: if has(line, "source") {
@@ -28,7 +32,7 @@ fn entry_in(line: &str) -> StreamEntry {
         address: address_in(word_at(line, 4)),
         vid: number(word_at(line, 5)).unwrap_or(0),
         tag: tag_kind_in(line),
-    }
+    })
 }
 
 fn tag_kind_in(line: &str) -> TagKind {
@@ -55,14 +59,11 @@ fn one_of_many(number: u16) -> StreamEntry {
     }
 }
 
+/// The entries of lines, with many more behind them where a line says `many`.
 fn entries_in<A: Allocator>(alloc: A, lines: &str) -> Result<Vec<StreamEntry, A>, AllocError> {
-    let mut entries = Vec::with_capacity(alloc, lines.lines().count())?;
-    for line in lines.lines() {
-        match first_word(line) {
-            "entry" => entries.push(entry_in(line))?,
-            "many" => push_many(&mut entries)?,
-            _ => {}
-        }
+    let mut entries = collected(alloc, lines, '\n', entry_in)?;
+    if has_line(lines, "many") {
+        push_many(&mut entries)?;
     }
     Ok(entries)
 }
@@ -97,9 +98,8 @@ pub fn streams<H: AllocGlobal + Print>(rt: &H, text: &str) -> io::Result<()> {
 fn table<H: AllocGlobal + Print>(rt: &H, text: &str, has_index: bool) -> io::Result<()> {
     let (head, lines) = parted(text);
     match table_in(rt.alloc(), lines, has_index) {
-        Ok(table) => {
-            println!(rt; "{head}, with an index: {has_index}")?;
-            let done = ask_all(rt, &table, lines);
+        Ok(mut table) => {
+            let done = begin(rt, &mut table, head, has_index, lines);
             drop(table);
             done
         }
@@ -107,16 +107,26 @@ fn table<H: AllocGlobal + Print>(rt: &H, text: &str, has_index: bool) -> io::Res
     }
 }
 
-fn ask_all<H: Print>(rt: &H, table: &Ident<Global>, lines: &str) -> io::Result<()> {
-    for line in lines.lines() {
+fn begin<H: AllocGlobal + Print>(
+    rt: &H,
+    table: &mut Ident<Global>,
+    head: &str,
+    has_index: bool,
+    lines: &str,
+) -> io::Result<()> {
+    println!(rt; "{head}, with an index: {has_index}")?;
+    ask_each(rt, table, lines)
+}
+
+impl Part for Ident<Global> {
+    fn ask<H: AllocGlobal + Print>(&mut self, rt: &H, line: &str) -> io::Result<()> {
         match first_word(line) {
-            "frame" => frame(rt, table, line)?,
-            "entries" => tell(rt, line, &table.entries().len())?,
-            "each" => tell(rt, line, &found(table))?,
-            _ => println!(rt; "{line}")?,
+            "frame" => frame(rt, self, line),
+            "entries" => tell(rt, line, &self.entries().len()),
+            "each" => tell(rt, line, &found(self)),
+            _ => show(rt, line),
         }
     }
-    Ok(())
 }
 
 /// Prints the handle of a frame to the listener that has a tag of a VLAN, or none: `frame PORT TAG VLAN`.

@@ -26,7 +26,7 @@ fn are_all_distinct<X>(list: &[(u32, X)]) -> bool
     ensures { result ≡ are_distinct list.now }
 {
     match list {
-        [first, rest @ ..] => !is_listed(rest, first.0) && are_all_distinct(rest),
+        [first, rest @ ..] => !is_listed(rest, first.0) & are_all_distinct(rest),
         [] => true,
     }
 }
@@ -52,8 +52,8 @@ fn have_all_instances<G, M>(
     match filters {
         [first, rest @ ..] => {
             is_listed(gates, first.1.gate)
-                && is_listed_if_any(meters, first.1.meter)
-                && have_all_instances(rest, gates, meters)
+                & is_listed_if_any(meters, first.1.meter)
+                & have_all_instances(rest, gates, meters)
         }
         [] => true,
     }
@@ -64,7 +64,7 @@ fn have_all_priorities<A: Allocator + Copy>(gates: &[(u32, GatePlan<A>)]) -> boo
     ensures { result ≡ all_have_priorities gates.now }
 {
     match gates {
-        [first, rest @ ..] => first.1.schedule.has_priorities() && have_all_priorities(rest),
+        [first, rest @ ..] => first.1.schedule.has_priorities() & have_all_priorities(rest),
         [] => true,
     }
 }
@@ -74,7 +74,7 @@ fn are_all_within_limits(meters: &[(u32, MeterPlan)]) -> bool
     ensures { result ≡ all_within_limits meters.now }
 {
     match meters {
-        [first, rest @ ..] => first.1.is_within_limits() && are_all_within_limits(rest),
+        [first, rest @ ..] => first.1.is_within_limits() & are_all_within_limits(rest),
         [] => true,
     }
 }
@@ -85,17 +85,12 @@ pub fn go_together<A: Allocator + Copy>(
     gates: &[(u32, GatePlan<A>)],
     meters: &[(u32, MeterPlan)],
 ) -> bool
-    ensures filters { result ≡ true → are_distinct filters.now ≡ true }
-    ensures gates { result ≡ true → are_distinct gates.now ≡ true }
-    ensures meters { result ≡ true → are_distinct meters.now ≡ true }
-    ensures instances { result ≡ true → have_instances filters.now gates.now meters.now ≡ true }
-    ensures priorities { result ≡ true → all_have_priorities gates.now ≡ true }
-    ensures limits { result ≡ true → all_within_limits meters.now ≡ true }
+    ensures { result ≡ (are_distinct filters.now && are_distinct gates.now && are_distinct meters.now && have_instances filters.now gates.now meters.now && all_have_priorities gates.now && all_within_limits meters.now) }
 {
     are_all_distinct(filters)
-        && are_all_distinct(gates)
-        && are_all_distinct(meters)
-        && have_all_instances(filters, gates, meters)
-        && have_all_priorities(gates)
-        && are_all_within_limits(meters)
+        & are_all_distinct(gates)
+        & are_all_distinct(meters)
+        & have_all_instances(filters, gates, meters)
+        & have_all_priorities(gates)
+        & are_all_within_limits(meters)
 }

@@ -5,7 +5,7 @@ use bridge_limits::NoMemory;
 use std::alloc::AllocError;
 use std::fmt::Debug;
 use std::io;
-use std::str::FromStr;
+use std::str::{FromStr, Split};
 
 /// Why nothing is made of a line, or asked.
 #[derive(Clone, Copy, Debug, PartialEq, Eq)]
@@ -65,6 +65,16 @@ pub fn has(line: &str, name: &str) -> bool {
     false
 }
 
+/// Whether a text has a line.
+pub fn has_line(text: &str, name: &str) -> bool {
+    for line in text.lines() {
+        if line == name {
+            return true;
+        }
+    }
+    false
+}
+
 /// The number behind a word of a line.
 pub fn number_after<N: FromStr>(line: &str, name: &str) -> Option<N>
 where
@@ -111,11 +121,39 @@ pub fn small_at(line: &str, place: usize) -> u32 {
 
 /// Six octets of a word, which commas part.
 pub fn address_in(word: &str) -> [u8; 6] {
-    let mut address = [0; 6];
-    for (octet, part) in address.iter_mut().zip(word.split(',')) {
-        *octet = number(part).unwrap_or(0);
+    let mut parts = word.split(',');
+    [
+        next_octet(&mut parts),
+        next_octet(&mut parts),
+        next_octet(&mut parts),
+        next_octet(&mut parts),
+        next_octet(&mut parts),
+        next_octet(&mut parts),
+    ]
+}
+
+fn next_octet(parts: &mut Split<'_, char>) -> u8 {
+    match parts.next() {
+        Some(part) => number(part).unwrap_or(0),
+        None => 0,
     }
-    address
+}
+
+/// Prints a line that asks for nothing.
+pub fn show<H: Print>(rt: &H, line: &str) -> io::Result<()> {
+    println!(rt; "{line}")
+}
+
+/// Prints a line with the answer behind it, or with why there is none.
+pub fn answer<H: Print, T: Debug + Drop>(
+    rt: &H,
+    line: &str,
+    answer: Result<T, Fault>,
+) -> io::Result<()> {
+    match answer {
+        Ok(answer) => tell(rt, line, &answer),
+        Err(fault) => tell(rt, line, &fault),
+    }
 }
 
 /// Prints a line with the answer behind it.
