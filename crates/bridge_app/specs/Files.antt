@@ -7,7 +7,7 @@ use Rattle.bridge_jobs.specs.declared.fault.Fault.{Fault}
 use Rattle.bridge_jobs.specs.declared.fault.Fault.TheVariants as fault
 use Rattle.bridge_jobs.specs.Commanding.{EndsCommanded}
 use Rattle.bridge_jobs.specs.Jobs.{Accepts, EndsPlan}
-use Rattle.bridge_report.specs.Summary.{summary_of}
+use Rattle.bridge_summary.specs.Summary.{summary_of}
 use Rattle.bridge_semantics.specs.declared.outcome.Outcome.{Outcome}
 use Rattle.bridge_core.specs.Simulated.{AreNumbers}
 use Rattle.bridge_files.specs.Files.{IsCapture}

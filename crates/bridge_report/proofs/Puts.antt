@@ -1,21 +1,39 @@
 -- Pieces that are put one after the other.
-use Rattle.std.proofs.Common.{◌≡◌, ℕ, List, [], ◌++◌, Option, refl, subst}
-use Rattle.std.specs.Io.KnownBytes.{Appends}
+use Rattle.std.proofs.Common.{◌≡◌, ℕ, List, [], ◌++◌, Option, Some, None, append_assoc, subst}
 use Rattle.std.proofs.KnownBytes.{Appends-nil, Appends-trans}
-use Rattle.bridge_report.specs.Growth.{HasGrown}
+use Rattle.bridge_report.specs.Growth.{Grows, HasGrown}
 
-module _ {T : Type 0} (contents : T → Option (List ℕ)) where
+grows_none : (o : Option (Option (List ℕ))) → Grows o [] o
+grows_none None = tt
+grows_none (Some x) = Appends-nil x
+
+grows_two : (o p q : Option (Option (List ℕ))) (a b : List ℕ) → Grows o a p → Grows p b q → Grows o (a ++ b) q
+grows_two o p None a b first second = tt
+grows_two o None (Some z) a b first second = absurd second
+grows_two None (Some y) (Some z) a b first second = absurd first
+grows_two (Some x) (Some y) (Some z) a b first second = Appends-trans x y z a b first second
+
+module _ {T : Type 0} (contents : T → Option (Option (List ℕ))) where
   pub put_none : (o : T) → HasGrown contents o [] o
-  put_none o = record { appends = Appends-nil (contents o) }
+  put_none o = record { grows = grows_none (contents o) }
+
+  -- a piece, and what is behind it
+  pub put_piece : (o p q : T) (a b : List ℕ) → HasGrown contents o a p → HasGrown contents p b q → HasGrown contents o (a ++ b) q
+  put_piece o p q a b first second = record { grows = grows_two (contents o) (contents p) (contents q) a b first.grows second.grows }
+
+  -- two pieces that were put at once, and what is behind them
+  pub put_pair : (o p q : T) (a b c : List ℕ) → HasGrown contents o (a ++ b) p → HasGrown contents p c q → HasGrown contents o (a ++ (b ++ c)) q
+  put_pair o p q a b c first second = record { grows = subst (λ l. Grows (contents o) l (contents q)) (append_assoc a b c) (grows_two (contents o) (contents p) (contents q) (a ++ b) c first.grows second.grows) }
 
   pub put_two : (o p q : T) (a b all : List ℕ) → HasGrown contents o a p → HasGrown contents p b q → a ++ b ≡ all → HasGrown contents o all q
-  put_two o p q a b all first second is = record { appends = subst (Appends (contents o) (contents q)) is (Appends-trans _ (contents p) _ a b first.appends second.appends) }
+  put_two o p q a b all first second is = record { grows = subst (λ l. Grows (contents o) l (contents q)) is (grows_two (contents o) (contents p) (contents q) a b first.grows second.grows) }
 
-  pub put_three : (o p q r : T) (a b c all : List ℕ) → HasGrown contents o a p → HasGrown contents p b q → HasGrown contents q c r → a ++ (b ++ c) ≡ all → HasGrown contents o all r
-  put_three o p q r a b c all first second third is = put_two o p r a (b ++ c) all first (put_two p q r b c (b ++ c) second third refl) is
+  -- the same octets in other words
+  pub put_as : (o p : T) (a b : List ℕ) → HasGrown contents o a p → a ≡ b → HasGrown contents o b p
+  put_as o p a b first is = record { grows = subst (λ l. Grows (contents o) l (contents p)) is first.grows }
 
-  pub put_four : (o p q r s : T) (a b c d all : List ℕ) → HasGrown contents o a p → HasGrown contents p b q → HasGrown contents q c r → HasGrown contents r d s
-      → a ++ (b ++ (c ++ d)) ≡ all → HasGrown contents o all s
-  put_four o p q r s a b c d all first second third fourth is = put_three o p q s a b (c ++ d) all first second (put_two q r s c d (c ++ d) third fourth refl) is
+-- the pieces of a line
+pub ruleset puts = (put_piece, put_pair)
 
-pub ruleset puts = (put_none, put_two, put_three, put_four)
+-- a piece more in a loop
+pub ruleset goes_on = (put_none, put_two)

@@ -1,4 +1,4 @@
--- Sections and a summary, computed.
+-- Sections, computed.
 use Rattle.std.specs.Prelude.{◌≡◌, ℕ, true, false, Option, Some, None, List, [], ◌∷◌, ◌++◌, codes, flat_map, refl}
 use Rattle.std.specs.Fmt.{digits}
 use Rattle.bridge_filter.specs.declared.Verdict.{Verdict}
@@ -6,10 +6,8 @@ use Rattle.bridge_filter.specs.declared.Verdict.TheVariants as verdict
 use Rattle.bridge_filter.specs.declared.Counters.{Counters}
 use Rattle.bridge_filter.specs.declared.Flags.{Flags}
 use Rattle.bridge_semantics.specs.declared.outcome.Departure.{Departure}
-use Rattle.bridge_semantics.specs.declared.outcome.PortCount.{PortCount}
 use Rattle.bridge_semantics.specs.declared.outcome.View.{View}
 use Rattle.bridge_report.specs.Section.{bucket_line, copies_of, counter_lines, delay_line, each_flag, flags_line, frame_lines, header_line, lists_of, out_line, queued_line, section_of, state_of}
-use Rattle.bridge_report.specs.Summary.{summary_of}
 
 -- what a filter counts that so many frames came to and passed
 abbrev counted : ℕ → Counters
@@ -48,14 +46,3 @@ section_is view protected flags buckets drops = rw (protected, flags, buckets, d
 pub frames : frame_lines 1 (verdict.Pass None true ∷ verdict.GateClosed ∷ []) ≡ codes "frame 1 pass-eligible\nframe 2 gate-closed\n"
 unfolding digits
 frames = refl
-
--- one frame of a filter came to port 1 and left by port 3
-abbrev came : PortCount
-came = record { frames = 1; malformed = 0; nowhere = 0; unfiltered = 0; sent = 0; dropped = 0 }
-
-abbrev went : PortCount
-went = record { frames = 0; malformed = 0; nowhere = 0; unfiltered = 0; sent = 1; dropped = 0 }
-
-pub summed_up : summary_of ((1, came) ∷ (3, went) ∷ []) ≡ codes "frames 1 malformed 0 nowhere 0 policed 1 unfiltered 0 sent 1 dropped 0\n"
-unfolding summary_of digits
-summed_up = refl

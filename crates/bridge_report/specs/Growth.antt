@@ -1,11 +1,18 @@
 -- What becomes of a text into which pieces are put.
-use Rattle.std.specs.Prelude.{ℕ, List, Option, Result, OnOk}
+use Rattle.std.specs.Prelude.{ℕ, List, Option, Some, None, ⊤}
 use Rattle.std.specs.Io.KnownBytes.{Appends}
 
--- the known octets of a text grew by these
-pub record HasGrown {T : Type 0} (contents : T → Option (List ℕ)) (old : T) (octets : List ℕ) (new : T) : Type 0 where
-  pub appends : Appends (contents old) (contents new) octets
+-- the known octets of a text that didn't fail grew by these; one that failed stays so
+abbrev pub Grows : Option (Option (List ℕ)) → List ℕ → Option (Option (List ℕ)) → Type 0
+Grows old octets None = ⊤
+Grows None octets (Some new) = ⊥
+Grows (Some old) octets (Some new) = Appends old new octets
 
--- the same, where the result is Ok
-abbrev pub GrowsOnOk : {T X E : Type 0} → (T → Option (List ℕ)) → T → Result X E → List ℕ → T → Type 0
-GrowsOnOk contents old result octets new = OnOk result (HasGrown contents old octets new)
+-- the same
+pub record HasGrown {T : Type 0} (contents : T → Option (Option (List ℕ))) (old : T) (octets : List ℕ) (new : T) : Type 0 where
+  pub grows : Grows (contents old) octets (contents new)
+
+-- what is known of a text, unless it failed
+abbrev pub unless : {F : Type 0} → Option F → Option (List ℕ) → Option (Option (List ℕ))
+unless None known = Some known
+unless (Some fault) known = None

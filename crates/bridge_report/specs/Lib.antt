@@ -1,6 +1,5 @@
 pub mod Growth
 pub mod Words
 pub mod Section
-pub mod Summary
 pub mod Numbers
 pub mod Examples

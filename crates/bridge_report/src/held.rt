@@ -1,11 +1,11 @@
 //! A writer behind octets that are held back.
-ghost use Rattle.std.specs.Prelude.{◌≡◌, ◌++◌, ◌≤◌, [], OnOk, IfOk, decimal, length};
-ghost use Rattle.std.specs.Io.KnownBytes.{Keeps, append_known};
-ghost use Rattle.bridge_report.specs.Growth.{GrowsOnOk};
+ghost use Rattle.std.specs.Prelude.{◌≡◌, ◌++◌, ◌≤◌, [], OnOk, IfOk, None, decimal, length};
+ghost use Rattle.std.specs.Io.KnownBytes.{Appends, Keeps, append_known};
+ghost use Rattle.bridge_report.specs.Growth.{HasGrown, unless};
 
 use crate::fault::ReportFault;
 use crate::line::Line;
-use crate::text::Text;
+use crate::text::Growing;
 use itoa::write_digits;
 use std::alloc::Allocator;
 use std::io::Write;
@@ -47,7 +47,7 @@ impl<W: Write + Drop, A: Allocator> Held<W, A> {
     }
 
     /// Hands the octets on, and gives the writer back flushed.
-    pub fn end(mut self) -> Result<W, ReportFault>
+    fn end(mut self) -> Result<W, ReportFault>
         ensures { IfOk result (λ writer. Keeps (append_known (W.contents self.writer) self.octets.items) (W.contents writer)) }
     {
         self.hand_on()?;
@@ -98,26 +98,79 @@ fn extend_by_number<A: Allocator>(octets: &mut Vec<u8, A>, number: u64) -> Resul
     Ok(())
 }
 
-impl<W: Write + Drop, A: Allocator> Text for Held<W, A> {
-    ghost contents = { λ s. append_known (W.contents s.writer) s.octets.items };
-
+impl<W: Write + Drop, A: Allocator> Held<W, A> {
+    /// Puts a piece behind the octets.
     #[inline(always)]
-    fn put(&mut self, piece: &str) -> Result<(), ReportFault> {
+    fn put(&mut self, piece: &str) -> Result<(), ReportFault>
+        ensures { OnOk result (Appends (append_known (W.contents self.old.writer) self.old.octets.items) (append_known (W.contents self.new.writer) self.new.octets.items) piece.now) }
+    {
         self.make_room(piece.len())?;
         extend(&mut self.octets, piece.as_bytes())
     }
 
+    /// Puts a number behind the octets, and a piece in front of it.
     #[inline(always)]
-    fn put_number(&mut self, piece: &str, number: u64) -> Result<(), ReportFault> {
+    fn put_number(&mut self, piece: &str, number: u64) -> Result<(), ReportFault>
+        ensures { OnOk result (Appends (append_known (W.contents self.old.writer) self.old.octets.items) (append_known (W.contents self.new.writer) self.new.octets.items) (piece.now ++ decimal number)) }
+    {
         self.make_room(piece.len() + LONGEST)?;
         extend(&mut self.octets, piece.as_bytes())?;
         extend_by_number(&mut self.octets, number)
     }
 
+    /// Puts a line behind the octets.
     #[inline(always)]
-    fn put_line(&mut self, line: &Line) -> Result<(), ReportFault> {
+    fn put_line(&mut self, line: &Line) -> Result<(), ReportFault>
+        ensures { OnOk result (Appends (append_known (W.contents self.old.writer) self.old.octets.items) (append_known (W.contents self.new.writer) self.new.octets.items) line.now) }
+    {
         let octets = line.octets();
         self.make_room(octets.len())?;
         extend(&mut self.octets, octets)
+    }
+}
+
+/// What is written behind octets that are held back. Once that failed it takes nothing more.
+#[derive(Drop)]
+pub struct Written<W: Write + Drop, A: Allocator> {
+    pub held: Held<W, A>,
+    pub fault: Option<ReportFault>,
+}
+
+impl<W: Write + Drop, A: Allocator> Written<W, A> {
+    /// Hands the octets on and gives the writer back flushed, or why not all was written.
+    pub fn end(self) -> Result<W, ReportFault>
+        ensures whole { IfOk result (λ _. self.fault ≡ None) }
+        ensures text { IfOk result (λ writer. Keeps (append_known (W.contents self.held.writer) self.held.octets.items) (W.contents writer)) }
+    {
+        let Written { held, fault } = self;
+        match fault {
+            None => held.end(),
+            Some(fault) => Err(fault),
+        }
+    }
+}
+
+impl<W: Write + Drop, A: Allocator> Growing for Written<W, A> {
+    ghost contents = { λ s. unless s.fault (append_known (W.contents s.held.writer) s.held.octets.items) };
+
+    #[inline(always)]
+    fn put(&mut self, piece: &str) {
+        if self.fault.is_none() {
+            self.fault = self.held.put(piece).err();
+        }
+    }
+
+    #[inline(always)]
+    fn put_number(&mut self, piece: &str, number: u64) {
+        if self.fault.is_none() {
+            self.fault = self.held.put_number(piece, number).err();
+        }
+    }
+
+    #[inline(always)]
+    fn put_line(&mut self, line: &Line) {
+        if self.fault.is_none() {
+            self.fault = self.held.put_line(line).err();
+        }
     }
 }

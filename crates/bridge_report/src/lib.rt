@@ -1,5 +1,6 @@
 #![tactic(auto)]
-//! Report: the text of what a run tells, a section for each stream filter, and the line that sums the run up.
+//! Report: the text of what a run tells, a section for each stream filter; the line that sums the run up is that of
+//! `bridge_summary`.
 
 mod fault;
 mod held;
@@ -10,12 +11,11 @@ mod lists;
 mod sections;
 mod shown;
 mod text;
-mod totals;
 mod word;
 
 pub use bridge_limits::NoMemory;
+pub use bridge_summary::summary;
 pub use fault::ReportFault;
 pub use laws::same_section;
 pub use sections::{has_section, report, section, view_of, write_report};
-pub use totals::summary;
 pub use word::{refusal_word, verdict_word};

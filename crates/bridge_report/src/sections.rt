@@ -6,10 +6,11 @@ ghost use Rattle.bridge_report.specs.Section.{report_of, section_of};
 ghost use Rattle.bridge_semantics.specs.declared.outcome.View.{View};
 
 use crate::fault::ReportFault;
-use crate::held::Held;
+use crate::held::{Held, Written};
 use crate::shown::{put_section, put_sections};
 use bridge_limits::NoMemory;
 use bridge_semantics::{Outcome, View};
+use bridge_text::Text;
 use std::alloc::Allocator;
 use std::io::Write;
 
@@ -47,22 +48,18 @@ pub fn section<A: Allocator + Copy>(
     let Some(view) = view_of(outcome, filter) else {
         unreachable!();
     };
-    let mut text = String::new(alloc);
-    match put_section(&mut text, filter, view) {
-        Ok(()) => Ok(text),
-        Err(_) => Err(NoMemory),
-    }
+    let mut text = Text::new(alloc);
+    put_section(&mut text, filter, view);
+    text.done()
 }
 
 /// The sections of all filters, in their order.
 pub fn report<A: Allocator + Copy>(alloc: A, outcome: &Outcome<A>) -> Result<String<A>, NoMemory>
     ensures { IfOk result (λ text. string_bytes text ≡ report_of outcome.now.filters.items) }
 {
-    let mut text = String::new(alloc);
-    match put_sections(&mut text, &outcome.filters) {
-        Ok(()) => Ok(text),
-        Err(_) => Err(NoMemory),
-    }
+    let mut text = Text::new(alloc);
+    put_sections(&mut text, &outcome.filters);
+    text.done()
 }
 
 /// Writes the sections of all filters, in their order, behind what the writer holds, and hands it back flushed. All that
@@ -77,7 +74,10 @@ pub fn write_report<W: Write + Drop, A: Allocator + Copy>(
     let Ok(octets) = Vec::with_capacity(alloc, MOST_AT_ONCE) else {
         return Err(ReportFault::NoMemory);
     };
-    let mut held = Held { writer, octets };
-    put_sections(&mut held, &outcome.filters)?;
-    held.end()
+    let mut written = Written {
+        held: Held { writer, octets },
+        fault: None,
+    };
+    put_sections(&mut written, &outcome.filters);
+    written.end()
 }

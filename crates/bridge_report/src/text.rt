@@ -1,59 +1,53 @@
 //! What a report is put into, piece by piece.
-ghost use Rattle.std.specs.Prelude.{ℕ, ◌++◌, List, Option, Some, decimal, string_bytes};
-ghost use Rattle.bridge_report.specs.Growth.{GrowsOnOk};
+ghost use Rattle.std.specs.Prelude.{ℕ, ◌++◌, List, Option, Some, decimal, option_map};
+ghost use Rattle.bridge_report.specs.Growth.{HasGrown};
 
-use crate::fault::ReportFault;
 use crate::line::Line;
+use bridge_text::Text;
 use itoa::{Buffer, Integer};
 use std::alloc::Allocator;
 
-/// A text that grows at its end.
-pub trait Text {
-    ghost contents: { Self → Option (List ℕ) };
+/// A text that grows at its end; once it failed it takes nothing more.
+pub trait Growing {
+    /// Nothing of one that failed; else its octets, where they are known.
+    ghost contents: { Self → Option (Option (List ℕ)) };
 
     /// Puts a piece at the end.
-    fn put(&mut self, piece: &str) -> Result<(), ReportFault>
-        ensures { GrowsOnOk contents self.old result piece.now self.new };
+    fn put(&mut self, piece: &str)
+        ensures { HasGrown contents self.old piece.now self.new };
 
     /// Puts a number behind a piece.
-    fn put_number(&mut self, piece: &str, number: u64) -> Result<(), ReportFault>
-        ensures { GrowsOnOk contents self.old result (piece.now ++ decimal number) self.new };
+    fn put_number(&mut self, piece: &str, number: u64)
+        ensures { HasGrown contents self.old (piece.now ++ decimal number) self.new };
 
     /// Puts a line at the end.
-    fn put_line(&mut self, line: &Line) -> Result<(), ReportFault>
-        ensures { GrowsOnOk contents self.old result line.now self.new };
+    fn put_line(&mut self, line: &Line)
+        ensures { HasGrown contents self.old line.now self.new };
 }
 
 /// Puts a number of any width behind a piece.
-pub fn put_wide<T: Text, I: Integer>(
-    text: &mut T,
-    piece: &str,
-    number: I,
-) -> Result<(), ReportFault>
-    ensures { GrowsOnOk T.contents text.old result (piece.now ++ I.text number) text.new }
+#[tactic(auto, using(crate::proofs::Puts::puts))]
+pub fn put_wide<T: Growing, I: Integer>(text: &mut T, piece: &str, number: I)
+    ensures { HasGrown T.contents text.old (piece.now ++ I.text number) text.new }
 {
     let mut digits = Buffer::new();
-    text.put(piece)?;
-    text.put(digits.format(number))
+    text.put(piece);
+    text.put(digits.format(number));
 }
 
-impl<A: Allocator> Text for String<A> {
-    ghost contents = { λ s. Some (string_bytes s) };
+impl<A: Allocator> Growing for Text<A> {
+    ghost contents = { λ s. option_map Some s };
 
-    fn put(&mut self, piece: &str) -> Result<(), ReportFault> {
-        match self.push_str(piece) {
-            Ok(()) => Ok(()),
-            Err(_) => Err(ReportFault::NoMemory),
-        }
+    fn put(&mut self, piece: &str) {
+        self.put(piece);
     }
 
-    fn put_number(&mut self, piece: &str, number: u64) -> Result<(), ReportFault> {
-        let mut digits = Buffer::new();
-        self.put(piece)?;
-        self.put(digits.format(number))
+    fn put_number(&mut self, piece: &str, number: u64) {
+        self.put(piece);
+        self.put_number(number);
     }
 
-    fn put_line(&mut self, line: &Line) -> Result<(), ReportFault> {
-        self.put(line.text())
+    fn put_line(&mut self, line: &Line) {
+        self.put(line.text());
     }
 }

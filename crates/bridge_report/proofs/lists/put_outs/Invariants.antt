@@ -5,4 +5,4 @@ use Rattle.bridge_report.specs.Section.{out_line}
 use Rattle.bridge_report.proofs.lists.put_outs.Given as goal
 
 abbrev pub invariant-loop-departure : goal.invariant-loop-departure
-invariant-loop-departure g l = HasGrown g.T.Text.contents l.fn.text (flat_map out_line (take l.departure-index l.departures)) l.text
+invariant-loop-departure g l = HasGrown g.T.Growing.contents l.fn.text (flat_map out_line (take l.departure-index l.departures)) l.text

@@ -4,4 +4,4 @@ use Rattle.bridge_report.specs.Section.{report_of}
 use Rattle.bridge_report.proofs.shown.put_sections.Given as goal
 
 abbrev pub invariant-loop-filter : goal.invariant-loop-filter
-invariant-loop-filter g l = HasGrown g.T.Text.contents l.fn.text (report_of (take l.filter-index l.filters)) l.text
+invariant-loop-filter g l = HasGrown g.T.Growing.contents l.fn.text (report_of (take l.filter-index l.filters)) l.text

@@ -1,4 +1,4 @@
-use Rattle.std.proofs.Common.{◌≡◌, ◌++◌, ap, decimal, drop, arith, ◌∙◌}
+use Rattle.std.proofs.Common.{◌++◌, ap, decimal, arith, ◌∙◌}
 use Rattle.bridge_report.proofs.Fronts.{digits_in_front, longer_in_front, room_in_front}
 use Rattle.bridge_report.proofs.line.Line.put_digits.Goals as goal
 
