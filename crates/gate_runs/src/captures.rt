@@ -34,13 +34,22 @@ fn push_some(alloc: Global, names: &str, text: &mut Vec<u8>, frames: &str) -> Re
     let (count, step) = first_of(if rest.is_empty() { "1 0" } else { rest });
     let (at, len, count, step) = (number(at)?, number(len)?, number(count)?, number(step)?);
     let octets = octets_of(alloc, named(names, head)?.as_bytes())?;
+    push_steps(text, at, step, count, len, &octets)?;
+    Ok(())
+}
+
+/// Adds so many frames from a moment on, with steps between them.
+fn push_steps(
+    text: &mut Vec<u8>,
+    from: u64,
+    step: u64,
+    count: u64,
+    len: u64,
+    octets: &[u8],
+) -> Result<(), AllocError> {
     for n in 0..count {
-        push_frame(
-            text,
-            at.saturating_add(n.saturating_mul(step)),
-            len,
-            &octets,
-        )?;
+        let at = from.saturating_add(n.saturating_mul(step));
+        push_frame(text, at, len, octets)?;
     }
     Ok(())
 }

@@ -34,6 +34,18 @@ impl Case {
         })
     }
 
+    /// The base plan in place of any other, to which nothing comes.
+    pub fn begin(&mut self, alloc: Global) -> Result<(), Fail> {
+        *self = Case::new(alloc)?;
+        Ok(())
+    }
+
+    /// A command in place of any other, or none.
+    pub fn command(&mut self, alloc: Global, rest: &str) -> Result<(), Fail> {
+        self.commands = command_text(alloc, rest)?;
+        Ok(())
+    }
+
     /// The captures of the ports 1, 2 and 3.
     pub fn texts(&self) -> [&[u8]; 3] {
         [
@@ -108,7 +120,7 @@ fn changed(alloc: Global, text: &str, change: &str) -> Result<String, Fail> {
 }
 
 /// The text of a command, `MOMENT FLAG NUMBER`, or of none.
-pub fn command_text(alloc: Global, rest: &str) -> Result<String, AllocError> {
+fn command_text(alloc: Global, rest: &str) -> Result<String, AllocError> {
     let (at, rest) = first_of(rest);
     let (clear, number) = first_of(rest);
     if number.is_empty() {

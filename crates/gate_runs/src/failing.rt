@@ -3,10 +3,10 @@
 use crate::case::Case;
 use crate::reading::{first_of, number};
 use crate::reports::room_of;
-use crate::seeing::compare;
 use crate::ways::{FORMS, Form, Moves, held, ran_into, ran_over, sinks_of, three_of};
 use bridge_capture::VecSink;
 use bridge_check::Accepted;
+use bridge_core::RunFault;
 use std::alloc::Global;
 use std::test::Fail;
 
@@ -72,10 +72,30 @@ fn print_failing(
 ) -> Result<(), Fail> {
     let first = failing_by(rt.alloc(), accepted, case, Form::Plain, moves, whole)?;
     println!(rt; "{first}")?;
+    compare_failing(rt, accepted, case, moves, whole, first.as_str())
+}
+
+/// Prints a call by which a run ends otherwise, unless it ends the same.
+fn compare_form(rt: &impl Print, is_same: bool, form: Form) -> Result<(), Fail> {
+    if is_same {
+        Ok(())
+    } else {
+        Ok(println!(rt; "differs: {form:?}")?)
+    }
+}
+
+/// Prints the calls by which a run that fails ends otherwise.
+fn compare_failing(
+    rt: &(impl AllocGlobal + Print),
+    accepted: &Accepted<Global>,
+    case: &Case,
+    moves: Moves,
+    whole: [&[u8]; 3],
+    first: &str,
+) -> Result<(), Fail> {
     for form in FORMS {
         let seen = failing_by(rt.alloc(), accepted, case, *form, moves, whole)?;
-        let way = format!(in rt.alloc(); "{form:?}")?;
-        compare(rt, first.as_str(), seen.as_str(), way.as_str())?;
+        compare_form(rt, seen.as_str() == first, *form)?;
     }
     Ok(())
 }
@@ -91,13 +111,8 @@ fn each_fails(
 ) -> Result<(), Fail> {
     if what == "source" {
         for count in 0..=at_port(case.texts(), port).len() {
-            print_failing(
-                rt,
-                accepted,
-                case,
-                Moves::UntilSource { port, count },
-                whole,
-            )?;
+            let moves = Moves::UntilSource { port, count };
+            print_failing(rt, accepted, case, moves, whole)?;
         }
     } else {
         for count in 0..=at_port(whole, port).len() {
@@ -132,10 +147,16 @@ fn stop_into(
     match ran_over(alloc, alloc, accepted, case, readers, writers)? {
         Ok(_) => Ok(String::from_str(alloc, "whole")?),
         Err(halted) => {
-            let (fault, back) = (halted.fault, halted.writers.len());
-            Ok(format!(in alloc; "stops: {fault:?}, {back} writers come back")?)
+            let text = stop_text(alloc, halted.fault, halted.writers.len());
+            drop(halted);
+            text
         }
     }
+}
+
+/// Why a run stops, and how many writers come back.
+fn stop_text(alloc: Global, fault: RunFault, back: usize) -> Result<String, Fail> {
+    Ok(format!(in alloc; "stops: {fault:?}, {back} writers come back")?)
 }
 
 /// How a run ends into writers with room for so many octets.
@@ -167,6 +188,5 @@ pub fn rooms(
     rest: &str,
 ) -> Result<(), Fail> {
     let stop = stop_of(rt.alloc(), accepted, case, rest)?;
-    println!(rt; "{stop}")?;
-    Ok(())
+    Ok(println!(rt; "{stop}")?)
 }

@@ -36,19 +36,44 @@ fn run(rt: &(impl AllocGlobal + Print + Env + Files)) -> Result<(), Fail> {
         return Err(Fail::from("no names"));
     };
     let names = text_in(rt, names.as_str())?;
+    play_all(rt, names.as_str(), scripts)
+}
+
+/// Does scripts, one after the other.
+fn play_all(
+    rt: &(impl AllocGlobal + Print + Files),
+    names: &str,
+    scripts: &[String],
+) -> Result<(), Fail> {
     for path in scripts {
-        play(rt, names.as_str(), path.as_str())?;
+        play(rt, names, path.as_str())?;
     }
     Ok(())
 }
 
-/// Does a script line by line.
+/// Does a script.
 fn play(rt: &(impl AllocGlobal + Print + Files), names: &str, path: &str) -> Result<(), Fail> {
     let script = text_in(rt, path)?;
+    play_text(rt, names, script.as_str())
+}
+
+fn play_text(rt: &(impl AllocGlobal + Print), names: &str, script: &str) -> Result<(), Fail> {
     let mut case = Case::new(rt.alloc())?;
-    for line in script.as_str().lines() {
+    let done = play_lines(rt, names, script, &mut case);
+    drop(case);
+    done
+}
+
+/// Prints and does what a script says, line by line.
+fn play_lines(
+    rt: &(impl AllocGlobal + Print),
+    names: &str,
+    script: &str,
+    case: &mut Case,
+) -> Result<(), Fail> {
+    for line in script.lines() {
         println!(rt; "{line}")?;
-        step(rt, names, &mut case, line)?;
+        step(rt, names, case, line)?;
     }
     Ok(())
 }

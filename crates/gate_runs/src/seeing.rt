@@ -79,12 +79,22 @@ fn seen_driven<G: Agenda + Drop>(
     seen_beside(alloc, &Ok(outcome), &gone)
 }
 
-/// Prints a way in which something else is seen.
-pub fn compare(rt: &impl Print, first: &str, seen: &str, way: &str) -> Result<(), Fail> {
-    if seen != first {
-        println!(rt; "differs: {way}")?;
+/// Prints a way in which something else is seen, unless what is seen is the same.
+fn compare(rt: &impl Print, is_same: bool, way: &str) -> Result<(), Fail> {
+    if is_same {
+        Ok(())
+    } else {
+        Ok(println!(rt; "differs: {way}")?)
     }
-    Ok(())
+}
+
+/// Prints the call and the moves by which something else is seen, unless what is seen is the same.
+fn compare_form(rt: &impl Print, is_same: bool, form: Form, moves: Moves) -> Result<(), Fail> {
+    if is_same {
+        Ok(())
+    } else {
+        Ok(println!(rt; "differs: {form:?} {moves:?}")?)
+    }
 }
 
 /// Makes a run by each call, at once and octet by octet; prints the ways in which something else is seen.
@@ -95,13 +105,62 @@ fn compare_forms(
     first: &str,
 ) -> Result<(), Fail> {
     for form in FORMS {
-        for moves in MOVES {
-            let seen = seen_by(rt.alloc(), accepted, case, *form, *moves)?;
-            let way = format!(in rt.alloc(); "{form:?} {moves:?}")?;
-            compare(rt, first, seen.as_str(), way.as_str())?;
-        }
+        compare_moves(rt, accepted, case, first, *form)?;
     }
     Ok(())
+}
+
+fn compare_moves(
+    rt: &(impl AllocGlobal + Print),
+    accepted: &Accepted<Global>,
+    case: &Case,
+    first: &str,
+    form: Form,
+) -> Result<(), Fail> {
+    for moves in MOVES {
+        let seen = seen_by(rt.alloc(), accepted, case, form, *moves)?;
+        compare_form(rt, seen.as_str() == first, form, *moves)?;
+    }
+    Ok(())
+}
+
+/// Makes a run from readers to writers; says if something else is seen.
+fn compare_over(
+    rt: &(impl AllocGlobal + Print),
+    accepted: &Accepted<Global>,
+    case: &Case,
+    first: &str,
+) -> Result<(), Fail> {
+    let over = seen_over(rt.alloc(), accepted, case)?;
+    compare(rt, over.as_str() == first, "readers to writers")
+}
+
+/// Drives a bridge over an agenda; says if something else is seen.
+fn compare_driven<G: Agenda + Drop>(
+    rt: &(impl AllocGlobal + Print),
+    accepted: &Accepted<Global>,
+    case: &Case,
+    first: &str,
+    way: &str,
+) -> Result<(), Fail> {
+    let driven = seen_driven::<G>(rt.alloc(), accepted, case)?;
+    compare(rt, driven.as_str() == first, way)
+}
+
+/// Makes a run in each way but the first, and prints those in which something else is seen.
+fn compare_all(
+    rt: &(impl AllocGlobal + Print),
+    accepted: &Accepted<Global>,
+    case: &Case,
+    first: &str,
+) -> Result<(), Fail> {
+    compare_forms(rt, accepted, case, first)?;
+    compare_over(rt, accepted, case, first)?;
+    if first.starts_with("stops") {
+        return Ok(());
+    }
+    compare_driven::<RowAgenda>(rt, accepted, case, first, "single calls over a row")?;
+    compare_driven::<TreeAgenda>(rt, accepted, case, first, "single calls over a tree")
 }
 
 /// What is seen of a run, which is made in each way; prints the ways in which something else is.
@@ -110,21 +169,7 @@ pub fn seen(
     accepted: &Accepted<Global>,
     case: &Case,
 ) -> Result<String, Fail> {
-    let alloc = rt.alloc();
-    let first = seen_by(alloc, accepted, case, Form::Plain, Moves::AtOnce)?;
-    compare_forms(rt, accepted, case, first.as_str())?;
-    let over = seen_over(alloc, accepted, case)?;
-    compare(rt, first.as_str(), over.as_str(), "readers to writers")?;
-    if !first.starts_with("stops") {
-        let row = seen_driven::<RowAgenda>(alloc, accepted, case)?;
-        compare(rt, first.as_str(), row.as_str(), "single calls over a row")?;
-        let tree = seen_driven::<TreeAgenda>(alloc, accepted, case)?;
-        compare(
-            rt,
-            first.as_str(),
-            tree.as_str(),
-            "single calls over a tree",
-        )?;
-    }
+    let first = seen_by(rt.alloc(), accepted, case, Form::Plain, Moves::AtOnce)?;
+    compare_all(rt, accepted, case, first.as_str())?;
     Ok(first)
 }

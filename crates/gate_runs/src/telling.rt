@@ -24,20 +24,38 @@ pub fn seen_of(
 /// that sums it up.
 fn told(alloc: Global, outcome: &Outcome<Global>) -> Result<String, Fail> {
     let mut text = report(alloc, outcome)?;
-    let written = write_report(alloc, outcome, Vec::new(alloc))?;
-    if written.as_slice() != text.as_bytes() || !has_front(alloc, outcome, text.as_str())? {
+    put_told(alloc, &mut text, outcome)?;
+    Ok(text)
+}
+
+/// Adds to a report what else a run tells.
+fn put_told(alloc: Global, text: &mut String, outcome: &Outcome<Global>) -> Result<(), Fail> {
+    if !is_written(alloc, outcome, text.as_bytes())? || !has_front(alloc, outcome, text.as_str())? {
         return Err(Fail::from(
             "a report that is written otherwise, or begins with another section",
         ));
     }
+    put_counts(text, outcome)?;
+    let line = summary(alloc, outcome)?;
+    text.push_str(line.as_str())?;
+    Ok(())
+}
+
+/// Whether a report is the one that is written into a writer.
+fn is_written(alloc: Global, outcome: &Outcome<Global>, text: &[u8]) -> Result<bool, Fail> {
+    let written = write_report(alloc, outcome, Vec::new(alloc))?;
+    Ok(written.as_slice() == text)
+}
+
+/// Adds what no report tells of the frames of each filter, and what each port counts.
+fn put_counts(text: &mut String, outcome: &Outcome<Global>) -> Result<(), AllocError> {
     for (filter, view) in &outcome.filters {
-        put_view(&mut text, *filter, view)?;
+        put_view(text, *filter, view)?;
     }
     for (port, count) in &outcome.ports {
         writeln!(text, "port {port} {count:?}")?;
     }
-    text.push_str(summary(alloc, outcome)?.as_str())?;
-    Ok(text)
+    Ok(())
 }
 
 /// Whether a report begins with the section of filter 10, or is empty where there is none.
