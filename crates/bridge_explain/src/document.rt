@@ -118,7 +118,8 @@ pub(crate) fn put_place(
 
 /// Adds where the first instance of a section stands that is one too many, and how many there are.
 pub(crate) fn put_too_many(said: &mut Said, source: Source<'_>, section: Section, limit: usize) {
-    let first = position_of(source, section, (limit as u32).saturating_add(1), None);
+    let most = u32::try_from(limit).unwrap_or(u32::MAX);
+    let first = position_of(source, section, most.saturating_add(1), None);
     let count = items_of(source.document, section).len();
     put_position(said, first);
     said.fill(

@@ -1,12 +1,16 @@
 #![tactic(auto)]
-//! Files of cases: texts of plans, of commands, of networks and of traffic, and what is to become of each; then the help of the program and of each
-//! of its commands, as docs/COMMANDS.md has it, what is told beside the line of each kind of fault, and of plans that are
-//! accepted.
+//! Files of cases: texts of plans, of commands, of networks and of traffic, and what is to become of each; then the
+//! help of the program and of each of its commands, as docs/COMMANDS.md has it, what is read of command lines, what
+//! is told beside the line of each kind of fault, and of plans that are accepted, what jobs over files say, and the
+//! line and the status of faults.
 //!
 //! The words name the files of both, with `told` between them. `data/README.md` says how they are written.
 
 mod bases;
 mod case;
+mod command_lines;
+mod fault_lines;
+mod growths;
 mod judging;
 mod networks;
 mod outcome;
@@ -14,6 +18,7 @@ mod reading;
 mod telling;
 mod told_cases;
 mod told_faults;
+mod told_jobs;
 
 use bridge_jobs::{Fault, end, words_of};
 use judging::judged;

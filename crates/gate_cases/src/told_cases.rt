@@ -1,5 +1,7 @@
 //! A case of a file, and what is told of it.
 
+use crate::command_lines::words_in;
+use crate::told_jobs::told_of_job;
 use bridge_check::{Accepted, CheckFault, check};
 use bridge_cli::job_of;
 use bridge_config::{Plan, commands_of, plan_of};
@@ -28,7 +30,7 @@ fn lines_of(part: &str) -> &str {
 }
 
 /// What is told of a case: by the first word of its heading its lines are a plan, commands to the bridge of a plan, the
-/// hexadecimal text of a capture, or words of the command line.
+/// hexadecimal text of a capture, words of the command line, or the files of a job.
 pub fn told(alloc: Global, plan: &str, part: &str) -> Result<String, AllocError> {
     let lines = lines_of(part);
     if part.starts_with("plan") {
@@ -39,9 +41,16 @@ pub fn told(alloc: Global, plan: &str, part: &str) -> Result<String, AllocError>
         told_of_capture(alloc, lines)
     } else if part.starts_with("words") {
         told_of_words(alloc, lines)
+    } else if is_job(part) {
+        told_of_job(alloc, part, lines)
     } else {
         String::from_str(alloc, "no case\n")
     }
+}
+
+/// Whether a case is one of a job over files.
+fn is_job(part: &str) -> bool {
+    part.starts_with("check") || part.starts_with("run") || part.starts_with("text")
 }
 
 /// What is told, or the want of memory as std has it.
@@ -136,13 +145,7 @@ fn told_of_capture(alloc: Global, text: &str) -> Result<String, AllocError> {
 
 /// What is told of words of the command line, with blanks between them.
 fn told_of_words(alloc: Global, text: &str) -> Result<String, AllocError> {
-    let mut words = Vec::new(alloc);
-    for word in text.split_whitespace() {
-        let word = String::from_str(alloc, word)?;
-        if words.push(word).is_err() {
-            return Err(AllocError);
-        }
-    }
+    let words = words_in(alloc, text)?;
     match job_of(alloc, &words) {
         Ok(_job) => String::from_str(alloc, "accepted\n"),
         Err(fault) => {
