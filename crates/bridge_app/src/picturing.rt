@@ -1,5 +1,5 @@
 //! Pictures as files.
-ghost use Rattle.std.specs.Prelude.{◌≤◌, IfErr, string_bytes};
+ghost use Rattle.std.specs.Prelude.{◌≤◌, ℕ, IfErr, List, codes, string_bytes};
 ghost use Rattle.bridge_app.specs.Files.{EndsPicture, IsOfPicture};
 
 use bridge_check::{Accepted, CheckFault, Refused, check};
@@ -35,7 +35,53 @@ pub fn picture_part_job<H: AllocGlobal + Files>(
     ensures { IfErr result (EndsPicture Global (string_bytes plan) (string_bytes file)) }
 {
     let mut taken = Vec::new(rt.alloc());
-    let reader = match open_taken(rt, plan.as_str(), &mut taken) {
+    let text = match text_taken(rt, plan, sketch, &mut taken) {
+        Ok(text) => text,
+        Err(fault) => return Err(fault),
+    };
+    put_picture(rt, file, &taken, text.as_str())
+}
+
+/// The picture of the plan of a file, or of the part of it that is asked for, for standard output, whose path is `-`.
+///
+/// Faults in this order: PLAN opened and read, its text; `File` of `-` where standard output goes into the file PLAN.
+pub fn picture_text<H: AllocGlobal + Files>(
+    rt: &H,
+    plan: String,
+    sketch: Option<PictureRequest>,
+) -> Result<String, Fault>
+    ensures { IfErr result (EndsPicture Global (string_bytes plan) (codes "-")) }
+{
+    let mut taken = Vec::new(rt.alloc());
+    match text_taken(rt, plan, sketch, &mut taken) {
+        Ok(text) => apart(rt, text, &taken),
+        Err(fault) => Err(fault),
+    }
+}
+
+/// A text that goes to standard output, unless that goes into one of some files.
+fn apart<H: AllocGlobal + Files>(rt: &H, text: String, taken: &[FileId]) -> Result<String, Fault>
+    ensures { IfErr result (IsOfPicture (codes "-")) }
+{
+    if !is_one_of(taken, file_at(rt, "/dev/stdout")) {
+        return Ok(text);
+    }
+    match String::from_str(rt.alloc(), "-") {
+        Ok(path) => Err(Fault::File(path)),
+        Err(_) => Err(Fault::Run(RunFault::NoMemory)),
+    }
+}
+
+/// The picture of the plan of a file, which is added to those taken, or of the part of it that is asked for.
+fn text_taken<H: AllocGlobal + Files>(
+    rt: &H,
+    plan: String,
+    sketch: Option<PictureRequest>,
+    taken: &mut Vec<FileId>,
+) -> Result<String, Fault>
+    ensures { (file : List ℕ) → IfErr result (EndsPicture Global (string_bytes plan) file) }
+{
+    let reader = match open_taken(rt, plan.as_str(), taken) {
         Ok(reader) => reader,
         Err(fault) => return Err(fault_of_file(plan, fault)),
     };
@@ -47,7 +93,7 @@ pub fn picture_part_job<H: AllocGlobal + Files>(
     let drawn = drawn_of(rt.alloc(), &checked, &sketch);
     drop(checked);
     match drawn {
-        Some(text) => put_picture(rt, file, &taken, text.as_str()),
+        Some(text) => Ok(text),
         None => Err(Fault::Run(RunFault::NoMemory)),
     }
 }
@@ -124,6 +170,18 @@ fn listed(alloc: Global, list: &Option<String>) -> Result<Vec<u32>, NoMemory> {
     }
 }
 
+/// Adds some files, by their paths, to those taken.
+fn take_files<H: AllocGlobal + Files>(
+    rt: &H,
+    read: &[String],
+    taken: &mut Vec<FileId>,
+) -> Result<(), NoMemory> {
+    for file in read {
+        add_file(taken, file_at(rt, file.as_str()))?;
+    }
+    Ok(())
+}
+
 /// Writes a picture that was made of some files into the file of a path, which is written anew and is none of them.
 ///
 /// `File` of the path where it can't be opened, made or written, or is one of them.
@@ -136,12 +194,25 @@ pub fn write_picture<H: AllocGlobal + Files>(
     ensures { IfErr result (IsOfPicture (string_bytes path)) }
 {
     let mut taken = Vec::new(rt.alloc());
-    for file in read {
-        if add_file(&mut taken, file_at(rt, file.as_str())).is_err() {
-            return Err(Fault::Run(RunFault::NoMemory));
-        }
+    match take_files(rt, read, &mut taken) {
+        Ok(()) => put_picture(rt, path, &taken, text),
+        Err(NoMemory) => Err(Fault::Run(RunFault::NoMemory)),
     }
-    put_picture(rt, path, &taken, text)
+}
+
+/// A picture that was made of some files, for standard output, whose path is `-`. `File` of it where it goes into one of them.
+pub fn picture_apart<H: AllocGlobal + Files>(
+    rt: &H,
+    read: &[String],
+    text: String,
+) -> Result<String, Fault>
+    ensures { IfErr result (IsOfPicture (codes "-")) }
+{
+    let mut taken = Vec::new(rt.alloc());
+    match take_files(rt, read, &mut taken) {
+        Ok(()) => apart(rt, text, &taken),
+        Err(NoMemory) => Err(Fault::Run(RunFault::NoMemory)),
+    }
 }
 
 /// Draws what a run told into the file of a sketch, which is none of those taken.

@@ -3,8 +3,8 @@ ghost use Rattle.bridge_cli.specs.CommandLine.{HasRoom};
 
 use crate::ending::{Ending, refused};
 use bridge_app::{
-    Strict, picture_part_job, run_with_tables, said_of_accepted, strict_check_job, strict_run_job,
-    write_picture,
+    Strict, picture_apart, picture_part_job, picture_text, run_with_tables, said_of_accepted,
+    strict_check_job, strict_run_job, write_picture,
 };
 use bridge_cli::{
     Job, PictureRequest, TableRequest, help_of, job_of, picture_request_of, table_request_of,
@@ -14,8 +14,8 @@ use bridge_files::{Said, is_standard, wire_files};
 use bridge_jobs::{Fault, NoMemory, check_job, text_job};
 use bridge_net_app::{RoundsJob, RoundsSaid, rounds_job};
 use bridge_planning::{
-    NetworkSaid, TrafficReport, bounds_job, is_network, memory_fault, network_job, network_picture,
-    traffic_job,
+    NetworkPicture, NetworkSaid, TrafficReport, bounds_job, is_network, memory_fault, network_job,
+    network_picture, traffic_job,
 };
 use std::alloc::Global;
 use std::fs;
@@ -47,8 +47,8 @@ struct Beside {
 /// The status is 0 where the job is done, that of the fault where it isn't, and 1 where a frame of the traffic that is asked
 /// about may be refused or late, or where something is told that the words, as they want strictness, take for a fault.
 ///
-/// A capture or a picture that is written to standard output goes there at once. Where it is watched, a long job says on
-/// standard error how far it is.
+/// A capture that is written to standard output goes there at once. Where it is watched, a long job says on standard error how
+/// far it is.
 pub fn perform<H: Input + AllocGlobal + Print + Eprint + Files>(
     rt: &H,
     words: &[String],
@@ -306,38 +306,28 @@ fn run_bridge(
     accepted(rt, words, line, explained)
 }
 
-/// How the drawing of the network or of the plan of a file ends, or of the part of a plan that the words ask for.
+/// How the drawing of the network or of the plan of a file ends, or of the part of a plan that the words ask for: into another
+/// file, or for `-` in what is printed. `Words` for a part of a network.
 fn draw(
     rt: &(impl AllocGlobal + Files),
     words: &[String],
     path: String,
     file: String,
 ) -> Result<Ending, Fault> {
-    let drawn = match picture_request_of(rt.alloc(), words) {
-        Ok(sketch) => draw_file(rt, path, file, sketch),
-        Err(fault) => Err(fault),
+    let sketch = match picture_request_of(rt.alloc(), words) {
+        Ok(sketch) => sketch,
+        Err(fault) => return Err(fault),
     };
-    match drawn {
+    if is_standard(file.as_str()) {
+        return said(rt.alloc(), drawn(rt, path, sketch));
+    }
+    match draw_into(rt, path, file, sketch) {
         Ok(()) => Ok(printed(rt.alloc(), String::new(rt.alloc()), true)),
         Err(fault) => Err(fault),
     }
 }
 
-/// Draws the network or the plan of a file, or a part of a plan, into another file, or to standard output for `-`. `Words` for
-/// a part of a network.
-fn draw_file(
-    rt: &(impl AllocGlobal + Files),
-    path: String,
-    file: String,
-    sketch: Option<PictureRequest>,
-) -> Result<(), Fault> {
-    match path_or(rt.alloc(), file, "/dev/stdout") {
-        Ok(file) => draw_into(rt, path, file, sketch),
-        Err(fault) => Err(fault),
-    }
-}
-
-/// The same into a file.
+/// Draws into a file.
 fn draw_into(
     rt: &(impl AllocGlobal + Files),
     path: String,
@@ -347,18 +337,37 @@ fn draw_into(
     if !is_network(rt, path.as_str()) {
         return picture_part_job(rt, path, file, sketch);
     }
-    if sketch.is_some() {
-        return Err(Fault::Words);
-    }
-    draw_network(rt, path.as_str(), file)
-}
-
-/// Draws the network of a file into another file.
-fn draw_network(rt: &(impl AllocGlobal + Files), path: &str, file: String) -> Result<(), Fault> {
-    match network_picture(rt, path) {
+    match network_drawn(rt, path.as_str(), sketch) {
         Ok(picture) => write_picture(rt, file, &picture.read, picture.text.as_str()),
         Err(fault) => Err(fault),
     }
+}
+
+/// Draws for standard output.
+fn drawn(
+    rt: &(impl AllocGlobal + Files),
+    path: String,
+    sketch: Option<PictureRequest>,
+) -> Result<String, Fault> {
+    if !is_network(rt, path.as_str()) {
+        return picture_text(rt, path, sketch);
+    }
+    match network_drawn(rt, path.as_str(), sketch) {
+        Ok(NetworkPicture { text, read }) => picture_apart(rt, &read, text),
+        Err(fault) => Err(fault),
+    }
+}
+
+/// The picture of the network of a file, of which no part may be asked for.
+fn network_drawn(
+    rt: &(impl AllocGlobal + Files),
+    path: &str,
+    sketch: Option<PictureRequest>,
+) -> Result<NetworkPicture, Fault> {
+    if sketch.is_some() {
+        return Err(Fault::Words);
+    }
+    network_picture(rt, path)
 }
 
 /// How the bounds of the plan of a file end, or of the traffic of another one.
