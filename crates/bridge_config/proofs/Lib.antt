@@ -5,3 +5,4 @@ pub mod Listed
 mod Examples
 pub mod PlanPorts
 pub mod InOrder
+pub mod Sorted

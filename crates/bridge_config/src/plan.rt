@@ -1,6 +1,8 @@
 //! A plan, and how it is made of a text.
-ghost use Rattle.std.specs.Prelude.{◌≡◌, ◌<◌, ◌≤◌, ◌↔◌, ℕ, Some, true, false, IfOk, map, option_map};
+ghost use Rattle.std.specs.Prelude.{◌≡◌, ◌<◌, ◌≤◌, ◌↔◌, ℕ, Some, true, false, IfOk, map, nat_eq, option_map};
+ghost use Rattle.std.specs.Map.{lookup};
 ghost use Rattle.toml.specs.View.{table_view};
+ghost use Rattle.bridge_limits.specs.Members.{Rising};
 ghost use Rattle.bridge_forward.specs.Forward.{forward};
 ghost use Rattle.bridge_forward.specs.Ports.{has, IsEmpty};
 ghost use Rattle.bridge_schema.specs.Readers.{Gives, GivesAs};
@@ -122,6 +124,19 @@ impl<A: Allocator + Copy> Plan<A> {
         ensures rules { rules.IsPlan self.now }
     {
         &self.filters
+    }
+
+    /// The stream filters with their numbers, by rising number.
+    pub fn filters_in_order<B: Allocator + Copy>(
+        &self,
+        alloc: B,
+    ) -> Result<Vec<(u32, FilterPlan), B>, NoMemory>
+        ensures rises { IfOk result (λ v. Rising (λ x y. x.0 < y.0) v.items) }
+        ensures same { IfOk result (λ v. (n : ℕ) → lookup (nat_eq n) v.items ≡ lookup (nat_eq n) self.now.filters) }
+    {
+        let mut filters = Vec::from_slice(alloc, &self.filters)?;
+        filters.sort_by_key(|filter| filter.0)?;
+        Ok(filters)
     }
 
     /// The ports to which a frame to `da` goes that came on `port`, 1 to 16, and was classified in the VLAN `vid`

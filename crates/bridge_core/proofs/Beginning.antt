@@ -18,7 +18,7 @@ use Rattle.bridge_config.specs.Rules.{port_at}
 use Rattle.bridge_semantics.proofs.Views.{rising_one}
 use Rattle.bridge_inputs.specs.Lanes.{Finds}
 use Rattle.bridge_core.specs.Simulated.{AreNumbers}
-use Rattle.bridge_core.proofs.Sorted.{rising_numbers}
+use Rattle.bridge_config.proofs.Sorted.{rising_numbers}
 
 contains_in : {X : Type 0} (xs : List X) (x : X) → Contains xs x → In x xs
 contains_in [] x c = absurd (let l = c.1 in omega (arith, l))

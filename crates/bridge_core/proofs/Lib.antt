@@ -1,7 +1,6 @@
 pub mod Places
 pub mod Order
 pub mod Steps
-pub mod Sorted
 pub mod Beginning
 pub mod Simulating
 pub mod Giving

@@ -24,7 +24,7 @@ use Rattle.bridge_semantics.specs.Outputs.{Ends}
 use Rattle.bridge_semantics.proofs.Headline.{protected_alone, two_runs}
 use Rattle.bridge_semantics.proofs.Merging.{own_ports}
 use Rattle.bridge_core.proofs.Beginning.{covered, gave_none, known}
-use Rattle.bridge_core.proofs.Sorted.{rising_numbers}
+use Rattle.bridge_config.proofs.Sorted.{rising_numbers}
 use Rattle.bridge_core.proofs.Steps.{lane_at, number_at, source_of}
 use Rattle.bridge_inputs.specs.declared.lane.CaptureReader.{CaptureReader}
 use Rattle.bridge_inputs.specs.Lanes.{AreAheadOf, AreLanes, AreRests, AreTexts, BeginsWell, FailsLook, Finds, numbers, room_of}

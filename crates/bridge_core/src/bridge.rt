@@ -20,7 +20,6 @@ ghost use Rattle.bridge_state.specs.Ports.{NotBefore, IsAfter};
 ghost use Rattle.bridge_relay.specs.Relays.{captured, one_more};
 ghost use Rattle.bridge_core.specs.Bridges.{arrived_in, earliest_in, IsReady, next_start, plan_in, queued_in, StandsAfter};
 
-use crate::simulation::filters_in_order;
 use bridge_capture::Packet;
 use bridge_check::Accepted;
 use bridge_config::Command;
@@ -64,7 +63,7 @@ impl<'a, G: Agenda + Drop, A: Allocator + Copy> Bridge<'a, G, A> {
         ensures start { IfOk result (λ b. (plan_in b ≡ accepted.now) × (arrived_in b ≡ 0) × (earliest_in b ≡ 0) × (b.command ≡ 0)) }
         ensures none_due { IfOk result (λ b. (q : ℕ) → next_start G.held b q ≡ None) }
     {
-        let order = filters_in_order(alloc, accepted.plan())?;
+        let order = accepted.plan().filters_in_order(alloc)?;
         let views = Vec::with_capacity(alloc, order.len())?;
         let counts = Vec::with_capacity(alloc, 16)?;
         let relay = Relay::<G, A>::new(alloc, accepted)?;

@@ -13,4 +13,4 @@ pub use bridge_inputs::RunFault;
 pub use bridge_relay::{NoMemory, Sent};
 pub use bridge_semantics::{Departure, Dropped, Outcome, PortCount, View};
 pub use bridge_wire::{WireCount, wire};
-pub use simulation::{filters_in_order, simulate, simulate_over};
+pub use simulation::{simulate, simulate_over};

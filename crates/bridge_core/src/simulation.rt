@@ -1,7 +1,5 @@
 //! Captures through a bridge, from their texts to what is written.
-ghost use Rattle.std.specs.Prelude.{◌≡◌, ◌≢◌, ℕ, ◌<◌, List, [], Some, None, Option, length, nat_eq, map, true, Err, IfOk, IfErr};
-ghost use Rattle.std.specs.Map.{lookup};
-ghost use Rattle.bridge_limits.specs.Members.{Rising};
+ghost use Rattle.std.specs.Prelude.{◌≡◌, ◌≢◌, ℕ, ◌<◌, List, [], Some, None, Option, length, map, true, Err, IfOk, IfErr};
 ghost use Rattle.bridge_config.specs.Commands.{AreCommands};
 ghost use Rattle.bridge_inputs.specs.Devices.{HasFailed, NeverFail};
 ghost use Rattle.bridge_inputs.specs.Lanes.{AreRests, AreTexts};
@@ -21,19 +19,6 @@ use bridge_relay::Relay;
 use bridge_semantics::{Outcome, PortCount, View};
 use std::alloc::Allocator;
 
-/// The filters of a plan by rising number.
-pub fn filters_in_order<A: Allocator + Copy>(
-    alloc: A,
-    plan: &Plan<A>,
-) -> Result<Vec<(u32, FilterPlan), A>, NoMemory>
-    ensures rises { IfOk result (λ v. Rising (λ x y. x.0 < y.0) v.items) }
-    ensures same { IfOk result (λ v. (n : ℕ) → lookup (nat_eq n) v.items ≡ lookup (nat_eq n) plan.now.filters) }
-{
-    let mut filters = Vec::from_slice(alloc, plan.filters())?;
-    filters.sort_by_key(|filter| filter.0)?;
-    Ok(filters)
-}
-
 /// What a run needs beside the bridge itself: the numbers of the ports and the filters in their order, and room for the
 /// captures that are written and for what is told of filters and ports.
 #[derive(Drop)]
@@ -50,7 +35,7 @@ fn lists_of<A: Allocator + Copy>(alloc: A, plan: &Plan<A>) -> Result<Lists<A>, N
     ensures { IfOk result (AreListsOf plan.now) }
 {
     let ports = plan.port_numbers(alloc)?;
-    let order = filters_in_order(alloc, plan)?;
+    let order = plan.filters_in_order(alloc)?;
     let lines = Vec::with_capacity(alloc, ports.len())?;
     let views = Vec::with_capacity(alloc, order.len())?;
     let counts = Vec::with_capacity(alloc, 16)?;

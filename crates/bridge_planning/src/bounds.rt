@@ -10,7 +10,6 @@ ghost use Rattle.bridge_planning.specs.Bounds.{AreBounds, AreUpTo, IsPlaced, IsR
 use bridge_bounds::bound_of;
 use bridge_check::{Accepted, Reach, may_wait_at, reach_of};
 use bridge_config::Plan;
-use bridge_core::filters_in_order;
 use bridge_filter::FilterPlan;
 use bridge_limits::NoMemory;
 use std::alloc::Allocator;
@@ -152,7 +151,7 @@ pub fn bounds_of<A: Allocator + Copy>(
     ensures bounds { IfOk result (λ rows. AreBounds accepted.now rows.items) }
     ensures placed { IfOk result (λ rows. All IsPlaced rows.items) }
 {
-    let order = filters_in_order(alloc, accepted.plan())?;
+    let order = accepted.plan().filters_in_order(alloc)?;
     let mut rows = Vec::new(alloc);
     put_all(accepted, &order, &mut rows)?;
     Ok(rows)

@@ -20,7 +20,7 @@ use Rattle.bridge_semantics.specs.declared.outcome.Outcome.{Outcome}
 use Rattle.bridge_core.specs.Simulated.{AreNumbers, Runs, Stops}
 use Rattle.bridge_core.proofs.Beginning.{known}
 use Rattle.bridge_core.proofs.Simulating.{ports_many}
-use Rattle.bridge_core.proofs.Sorted.{rising_numbers}
+use Rattle.bridge_config.proofs.Sorted.{rising_numbers}
 use Rattle.bridge_network.specs.Networks.{Sender}
 use Rattle.bridge_rounds.specs.Stations.{IsStation, RunsBridge, StopsBridge, of_memory, taps_in, text_by, texts_in}
 

@@ -12,7 +12,7 @@ use Rattle.bridge_core.specs.Simulated.{AreListsOf, AreNumbers}
 use Rattle.bridge_core.specs.Taking.{first_of_commands, StopsAmong}
 use Rattle.bridge_core.proofs.Beginning.{one_order}
 use Rattle.bridge_core.proofs.Simulating.{begin_well, has_run, isolates, lanes_many, may_take, others_change_nothing, ports_many, stops_among, stops_header, stops_look, under_first, wants_first}
-use Rattle.bridge_core.proofs.Sorted.{rising_numbers}
+use Rattle.bridge_config.proofs.Sorted.{rising_numbers}
 use Rattle.bridge_core.proofs.Taken.{err_is}
 use Rattle.bridge_core.proofs.Written.{numbers_length, stop_failed}
 use Rattle.bridge_core.proofs.simulation.simulate_over.Goals as goal

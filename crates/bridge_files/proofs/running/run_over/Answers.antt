@@ -3,7 +3,7 @@ use Rattle.bridge_config.specs.Model.{Plan}
 use Rattle.bridge_core.specs.Simulated.{AreNumbers}
 use Rattle.bridge_core.proofs.Beginning.{one_order}
 use Rattle.bridge_core.proofs.Simulating.{isolates, others_change_nothing, ports_many}
-use Rattle.bridge_core.proofs.Sorted.{rising_numbers}
+use Rattle.bridge_config.proofs.Sorted.{rising_numbers}
 use Rattle.std.proofs.lemmas.Option.{slice_get_within}
 use Rattle.bridge_files.specs.Flushed.{AllKept, NoneFailed}
 use Rattle.bridge_files.proofs.Devices.{asked, broken, sunk}

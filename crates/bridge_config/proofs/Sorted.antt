@@ -1,4 +1,4 @@
--- Ports and filters by rising number.
+-- Filters by rising number.
 use Rattle.std.proofs.Common.{◌≡◌, ℕ, ◌<◌, true, List, [], ◌∷◌, map, nat_eq, arith, refl, Option, Some, None, AllPairs}
 use Rattle.std.specs.List.{IsDistinct}
 use Rattle.std.specs.List.Sorted.{IsPermutation, IsStrictlyIncreasing, IsNonDecreasingBy}
@@ -10,11 +10,11 @@ use Rattle.std.proofs.lemmas.Map.Views.{Contains-from_lookup, lookup-from_Contai
 use Rattle.bridge_limits.specs.Members.{AllAfter, Rising}
 use Rattle.bridge_config.proofs.InOrder.{numbers_differ}
 use Rattle.bridge_filter.specs.Plans.{are_distinct}
-use Rattle.bridge_state.proofs.Porting.{none_some}
 use Rattle.std.proofs.Common.{suc, length, slice_index_or}
 use Rattle.std.proofs.lemmas.Cmp.{nat_eq_equiv}
 use Rattle.std.proofs.lemmas.List.{get_or-map, length-map}
 use Rattle.std.proofs.lemmas.Bool.{eqb-true}
+use Rattle.std.proofs.lemmas.Option.{none-some}
 
 after_from : (x : ℕ) (xs : List ℕ) → ((j d : ℕ) → j < length xs → x < slice_index_or xs j d) → AllAfter (λ a b. a < b) x xs
 after_from x [] h = tt
@@ -58,7 +58,7 @@ kept {X} n v xs ys p d e = lookup-from_Contains nat_eq_equiv n v ys d (Contains-
 
 no_other : {X : Type 0} (n : ℕ) (xs ys : List (ℕ × X)) (o : Option X) → IsPermutation xs ys → IsDistinct nat_eq (map (λ y. y.0) xs) → lookup (nat_eq n) xs ≡ None → lookup (nat_eq n) ys ≡ o → o ≡ None
 no_other n xs ys None p d e f = refl
-no_other n xs ys (Some v) p d e f = absurd (none_some (lookup (nat_eq n) xs) v e (kept n v ys xs (IsPermutation-sym xs ys p) d f))
+no_other n xs ys (Some v) p d e f = absurd (none-some e (kept n v ys xs (IsPermutation-sym xs ys p) d f))
 
 same_by : {X : Type 0} (n : ℕ) (xs ys : List (ℕ × X)) (o : Option X) → are_distinct xs ≡ true → IsPermutation xs ys → lookup (nat_eq n) xs ≡ o → lookup (nat_eq n) ys ≡ o
 same_by n xs ys None d p e = no_other n xs ys (lookup (nat_eq n) ys) p (numbers_differ xs d) e refl
