@@ -1,5 +1,5 @@
 -- Filters by rising number.
-use Rattle.std.proofs.Common.{◌≡◌, ℕ, ◌<◌, true, List, [], ◌∷◌, map, nat_eq, arith, refl, Option, Some, None, AllPairs}
+use Rattle.std.proofs.Common.{◌≡◌, ◌∙◌, sym, ℕ, ◌<◌, true, List, [], ◌∷◌, map, nat_eq, arith, refl, Option, Some, None, AllPairs}
 use Rattle.std.specs.List.{IsDistinct}
 use Rattle.std.specs.List.Sorted.{IsPermutation, IsStrictlyIncreasing, IsNonDecreasingBy}
 use Rattle.std.specs.Map.{lookup}
@@ -58,7 +58,7 @@ kept {X} n v xs ys p d e = lookup-from_Contains nat_eq_equiv n v ys d (Contains-
 
 no_other : {X : Type 0} (n : ℕ) (xs ys : List (ℕ × X)) (o : Option X) → IsPermutation xs ys → IsDistinct nat_eq (map (λ y. y.0) xs) → lookup (nat_eq n) xs ≡ None → lookup (nat_eq n) ys ≡ o → o ≡ None
 no_other n xs ys None p d e f = refl
-no_other n xs ys (Some v) p d e f = absurd (none-some e (kept n v ys xs (IsPermutation-sym xs ys p) d f))
+no_other n xs ys (Some v) p d e f = absurd (none-some v (sym e ∙ kept n v ys xs (IsPermutation-sym xs ys p) d f))
 
 same_by : {X : Type 0} (n : ℕ) (xs ys : List (ℕ × X)) (o : Option X) → are_distinct xs ≡ true → IsPermutation xs ys → lookup (nat_eq n) xs ≡ o → lookup (nat_eq n) ys ≡ o
 same_by n xs ys None d p e = no_other n xs ys (lookup (nat_eq n) ys) p (numbers_differ xs d) e refl
