@@ -158,12 +158,7 @@ impl<A: Allocator + Copy> StreamGate<A> {
         ensures reply { result ≡ reply self.old turn sdu }
         ensures after { self.new ≡ after self.old t turn sdu result }
     {
-        let count = if self.start == turn.start {
-            self.count
-        } else {
-            0
-        };
-        let total = count + sdu as u64;
+        let total = self.used_in(turn.start) + sdu as u64;
         let answer = self.reply(&turn, total);
         self.earliest = t;
         match answer {
@@ -178,6 +173,14 @@ impl<A: Allocator + Copy> StreamGate<A> {
             GateAnswer::ShutByRx | GateAnswer::ShutByOctets => {}
         }
         answer
+    }
+
+    /// The octets that went through in the turn that begins at `start`.
+    fn used_in(&self, start: i64) -> u64
+        ensures used { result ≡ count_in self.now start }
+        ensures few { result < 2 ^ 32 }
+    {
+        if self.start == start { self.count } else { 0 }
     }
 
     /// The answer in a turn, where `total` octets go through with this frame.
