@@ -6,3 +6,4 @@ mod Examples
 pub mod PlanPorts
 pub mod InOrder
 pub mod Sorted
+mod InTurn

@@ -1,8 +1,7 @@
 -- The ports of a plan: what the port of a number is, and that frames go to ports of the plan alone.
-use Rattle.std.proofs.Common.{◌≡◌, ◌≢◌, ℕ, suc, zero, Bool, true, false, not, ◌&&◌, ◌+◌, ◌-◌, ◌^◌, ◌<◌, ◌≤◌, ◌⊎◌, List, [], ◌∷◌, All, Option, Some, None, length, map, max, nat_eq, nat_le, cond, bit_and, bit_or, arith, refl, sym, subst, ap, ◌∙◌, inl, inr}
+use Rattle.std.proofs.Common.{◌≡◌, ◌≢◌, ℕ, suc, zero, Bool, true, false, ◌&&◌, ◌-◌, ◌^◌, ◌<◌, ◌≤◌, ◌⊎◌, List, [], ◌∷◌, All, Some, length, map, max, nat_eq, nat_le, cond, bit_and, bit_or, arith, refl, sym, subst, ap, ◌∙◌, inl, inr}
 use Rattle.std.specs.Prelude.{slice_index, slice_index_or}
 use Rattle.std.specs.Int.{bit_at}
-use Rattle.std.specs.List.{list_any}
 use Rattle.std.proofs.lemmas.Bool.{and_parts, cases_Bool, eqb-true, eq-eqb, false≢true}
 use Rattle.std.proofs.lemmas.Bool.Decides.{nat_tests}
 use Rattle.std.proofs.lemmas.List.Sums.{AllPass-from_list_all}
@@ -18,7 +17,7 @@ use Rattle.bridge_forward.proofs.Memberships.{has_both, has_none, members_only}
 use Rattle.bridge_schema.specs.Readers.{are_within, is_subset, set_with}
 use Rattle.bridge_config.specs.declared.ports.PortPlan.{PortPlan}
 use Rattle.bridge_config.specs.Model.{Plan}
-use Rattle.bridge_config.specs.Rules.{ArePorts, AreVlans, IsPlan, IsPort, IsVlan, port_at, port_set}
+use Rattle.bridge_config.specs.Rules.{ArePorts, IsPlan, IsPort, IsVlan, port_at, port_set}
 
 -- THE PORT OF A NUMBER
 

@@ -28,7 +28,7 @@ use bridge_ident::StreamEntry;
 use bridge_limits::NoMemory;
 use bridge_meter::MeterPlan;
 use bridge_schema::{PlanFault, read_instances, with_bit};
-use std::alloc::{AllocError, Allocator, Global};
+use std::alloc::{Allocator, Global};
 use std::marker::Model;
 use toml::Table;
 
@@ -175,12 +175,14 @@ fn port_in<A: Allocator + Copy>(ports: &[PortPlan<A>], number: u8) -> Option<&Po
 fn numbers_of_ports<A: Allocator + Copy, B: Allocator + Copy>(
     alloc: B,
     ports: &[PortPlan<A>],
-) -> Result<Vec<u8, B>, AllocError>
+) -> Result<Vec<u8, B>, NoMemory>
     ensures { IfOk result (λ v. v.items ≡ map (λ p. p.number) ports.now) }
 {
     let mut numbers = Vec::with_capacity(alloc, ports.len())?;
     for port in ports {
-        numbers.push(port.number).map_err(AllocError::from)?;
+        let Ok(()) = numbers.push(port.number) else {
+            return Err(NoMemory);
+        };
     }
     Ok(numbers)
 }

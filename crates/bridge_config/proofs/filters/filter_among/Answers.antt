@@ -1,4 +1,4 @@
-use Rattle.std.proofs.Common.{◌≡◌, ◌∙◌, sym}
+use Rattle.std.proofs.Common.{◌∙◌, sym}
 use Rattle.bridge_config.proofs.filters.filter_among.Goals as goal
 
 pub in_32_bits-requires-3 : goal.in_32_bits-requires-3

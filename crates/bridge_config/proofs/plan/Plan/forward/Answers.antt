@@ -1,8 +1,8 @@
-use Rattle.std.proofs.Common.{◌≡◌, true, false, subst, sym, ap, ◌∙◌}
+use Rattle.std.proofs.Common.{◌≡◌, subst, sym, ap, ◌∙◌}
 use Rattle.bridge_forward.specs.Forward.{forward}
 use Rattle.bridge_forward.specs.Ports.{has, IsEmpty}
 use Rattle.bridge_config.specs.Model.{Plan}
-use Rattle.bridge_config.specs.Rules.{IsPlan, port_at}
+use Rattle.bridge_config.specs.Rules.{IsPlan}
 use Rattle.bridge_config.proofs.PlanPorts.{goes_to_a_port, goes_nowhere, number_is}
 use Rattle.bridge_config.proofs.plan.Plan.forward.Goals as goal
 
