@@ -1,6 +1,5 @@
-//! The text of the base plan, and its changes.
+//! The text of the base plan.
 use std::alloc::{AllocError, Allocator};
-use std::test::Fail;
 
 /// Filter 10 is protected: its frames come in on port 1 in the window of gate 1, and go out of port 3 in class 7. Filter 99
 /// takes all others, in class 0.
@@ -51,24 +50,6 @@ protected = true
 number = 99
 gate = 99
 "#;
-
-/// Lines of the plan, and what stands in their place.
-pub type Change = (&'static str, &'static str);
-
-/// A text with what stands in the place of a part of it.
-pub fn changed<A: Allocator + Copy>(
-    alloc: A,
-    text: &str,
-    change: Change,
-) -> Result<String<A>, Fail> {
-    match text.split_once(change.0) {
-        Some((before, after)) => {
-            let put = change.1;
-            Ok(format!(in alloc; "{before}{put}{after}")?)
-        }
-        None => Err(Fail::from("a plan without the line")),
-    }
-}
 
 /// The text of the plan, and more lines behind it.
 pub fn text_with<A: Allocator + Copy>(alloc: A, more: &str) -> Result<String<A>, AllocError> {

@@ -1,4 +1,5 @@
 //! The parts of a file, and the case of a part.
+use bridge_text::Text;
 use std::alloc::{AllocError, Global};
 use std::str::Split;
 
@@ -42,63 +43,62 @@ pub fn case_of(part: &str) -> Option<Case<'_>> {
 
 /// Lines in which `<80 [>` stands for 80 times `[`, and `<3..5 n#>` for `n3n4n5`; none where such a form is not whole.
 pub fn written_out(alloc: Global, lines: &str) -> Result<Option<String>, AllocError> {
-    let mut text = String::new(alloc);
+    let mut text = Text::new(alloc);
     let mut pieces = lines.split('<');
     if let Some(front) = pieces.next() {
-        text.push_str(front)?;
+        text.put(front);
     }
     for piece in pieces {
-        let Some((times, repeated, rest)) = form_of(piece) else {
-            return Ok(None);
-        };
-        if !put_form(alloc, &mut text, times, repeated)? {
+        if !put_piece(&mut text, piece) {
             return Ok(None);
         }
-        text.push_str(rest)?;
     }
-    Ok(Some(text))
+    match text.done() {
+        Ok(text) => Ok(Some(text)),
+        Err(_) => Err(AllocError),
+    }
 }
 
-/// How often something is repeated, what it is, and what follows the form's end.
-fn form_of(piece: &str) -> Option<(&str, &str, &str)> {
-    let (form, rest) = piece.split_once('>')?;
-    let (times, repeated) = form.split_once(' ')?;
-    Some((times, repeated, rest))
+/// Puts a form and what follows its end; says whether it is whole.
+fn put_piece(text: &mut Text<Global>, piece: &str) -> bool {
+    let Some((form, rest)) = piece.split_once('>') else {
+        return false;
+    };
+    let (times, repeated) = form.split_once(' ').unwrap_or((form, ""));
+    let is_whole = put_form(text, times, repeated);
+    text.put(rest);
+    is_whole
 }
 
 /// Puts a text as often as a number says, or once for each number of a range; says whether there is one.
-fn put_form(
-    alloc: Global,
-    text: &mut String,
-    times: &str,
-    repeated: &str,
-) -> Result<bool, AllocError> {
-    if let Some((first, last)) = times.split_once("..") {
-        return put_each(text, first, last, repeated);
+fn put_form(text: &mut Text<Global>, times: &str, repeated: &str) -> bool {
+    match times.split_once("..") {
+        Some((first, last)) => put_range(text, first, last, repeated),
+        None => put_times(text, times, repeated),
     }
+}
+
+/// Puts a text as often as a number says; says whether it is one.
+fn put_times(text: &mut Text<Global>, times: &str, repeated: &str) -> bool {
     let Ok(times) = times.parse::<usize>() else {
-        return Ok(false);
+        return false;
     };
-    let written = repeated.repeat(alloc, times)?;
-    text.push_str(written.as_str())?;
-    Ok(true)
+    for _ in 0..times {
+        text.put(repeated);
+    }
+    true
 }
 
 /// Puts a text once for each number of a range, with the number in the place of its `#`; says whether it has one.
-fn put_each(
-    text: &mut String,
-    first: &str,
-    last: &str,
-    repeated: &str,
-) -> Result<bool, AllocError> {
+fn put_range(text: &mut Text<Global>, first: &str, last: &str, repeated: &str) -> bool {
     let (Ok(first), Ok(last)) = (first.parse::<u32>(), last.parse::<u32>()) else {
-        return Ok(false);
+        return false;
     };
-    let Some((front, back)) = repeated.split_once('#') else {
-        return Ok(false);
-    };
+    let (front, back) = repeated.split_once('#').unwrap_or((repeated, ""));
     for number in first..last.saturating_add(1) {
-        write!(text, "{front}{number}{back}")?;
+        text.put(front);
+        text.put_number(u64::from(number));
+        text.put(back);
     }
-    Ok(true)
+    repeated.contains('#')
 }

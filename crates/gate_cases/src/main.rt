@@ -7,14 +7,19 @@
 //! The words name the files of both, with `told` between them. `data/README.md` says how they are written.
 
 mod bases;
+mod captures;
 mod case;
 mod command_lines;
 mod fault_lines;
 mod growths;
+mod hexadecimal;
 mod judging;
 mod networks;
 mod outcome;
+mod parts;
 mod reading;
+mod sinks;
+mod sources;
 mod telling;
 mod told_cases;
 mod told_faults;

@@ -1,6 +1,8 @@
 //! A case of a file, and what is told of it.
 
+use crate::captures::told_of_captures;
 use crate::command_lines::words_in;
+use crate::parts::told_of_parts;
 use crate::told_jobs::told_of_job;
 use bridge_check::{Accepted, CheckFault, check};
 use bridge_cli::job_of;
@@ -30,7 +32,8 @@ fn lines_of(part: &str) -> &str {
 }
 
 /// What is told of a case: by the first word of its heading its lines are a plan, commands to the bridge of a plan, the
-/// hexadecimal text of a capture, words of the command line, or the files of a job.
+/// hexadecimal text of a capture, words of the command line, the files of a job, a plan whose parts are shown, or a capture
+/// that is read, sent or written.
 pub fn told(alloc: Global, plan: &str, part: &str) -> Result<String, AllocError> {
     let lines = lines_of(part);
     if part.starts_with("plan") {
@@ -43,8 +46,10 @@ pub fn told(alloc: Global, plan: &str, part: &str) -> Result<String, AllocError>
         told_of_words(alloc, lines)
     } else if is_job(part) {
         told_of_job(alloc, part, lines)
+    } else if part.starts_with("parts") {
+        told_of_parts(alloc, lines)
     } else {
-        String::from_str(alloc, "no case\n")
+        told_of_captures(alloc, part, lines)
     }
 }
 
