@@ -1,3 +1,5 @@
 pub mod Counts
+pub mod Named
 pub mod Numerals
 pub mod Own
+pub mod Passing

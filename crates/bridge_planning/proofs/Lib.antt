@@ -1,5 +1,6 @@
 pub mod Bounded
 pub mod Gathered
+pub mod Lined
 pub mod Named
 pub mod Phased
 pub mod Placed

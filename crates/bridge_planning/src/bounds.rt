@@ -120,7 +120,9 @@ fn put_filter<A: Allocator + Copy>(
 {
     let reach = reach_of(accepted.plan(), &order[at].1);
     for place in 0..QUEUES {
-        put_bound(accepted, order, at, &reach, place, rows)?;
+        let Ok(()) = put_bound(accepted, order, at, &reach, place, rows) else {
+            return Err(NoMemory);
+        };
     }
     Ok(())
 }
@@ -137,7 +139,9 @@ fn put_all<A: Allocator + Copy>(
     ensures all { OnOk result (AreBounds accepted.now rows.new.items) }
 {
     for at in 0..order.len() {
-        put_filter(accepted, order, at, rows)?;
+        let Ok(()) = put_filter(accepted, order, at, rows) else {
+            return Err(NoMemory);
+        };
     }
     Ok(())
 }
@@ -151,8 +155,12 @@ pub fn bounds_of<A: Allocator + Copy>(
     ensures bounds { IfOk result (λ rows. AreBounds accepted.now rows.items) }
     ensures placed { IfOk result (λ rows. All IsPlaced rows.items) }
 {
-    let order = accepted.plan().filters_in_order(alloc)?;
+    let Ok(order) = accepted.plan().filters_in_order(alloc) else {
+        return Err(NoMemory);
+    };
     let mut rows = Vec::new(alloc);
-    put_all(accepted, &order, &mut rows)?;
+    let Ok(()) = put_all(accepted, &order, &mut rows) else {
+        return Err(NoMemory);
+    };
     Ok(rows)
 }

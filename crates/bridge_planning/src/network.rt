@@ -42,17 +42,18 @@ pub(crate) fn links_of<A: Allocator + Copy>(
 {
     let mut links = Vec::new(alloc);
     for row in rows {
-        links.push(Link {
-            one: End {
-                bridge: row.one.0,
-                port: row.one.1,
-            },
-            other: End {
-                bridge: row.other.0,
-                port: row.other.1,
-            },
-            delay: row.delay,
-        })?;
+        let one = End {
+            bridge: row.one.0,
+            port: row.one.1,
+        };
+        let other = End {
+            bridge: row.other.0,
+            port: row.other.1,
+        };
+        let delay = row.delay;
+        let Ok(()) = links.push(Link { one, other, delay }) else {
+            return Err(NoMemory);
+        };
     }
     Ok(links)
 }
@@ -66,10 +67,13 @@ pub(crate) fn hops_of<A: Allocator + Copy>(
 {
     let mut hops = Vec::new(alloc);
     for row in rows {
-        hops.push(StreamHop {
+        let hop = StreamHop {
             bridge: row.0,
             filter: row.1,
-        })?;
+        };
+        let Ok(()) = hops.push(hop) else {
+            return Err(NoMemory);
+        };
     }
     Ok(hops)
 }
@@ -83,8 +87,12 @@ pub(crate) fn streams_of<A: Allocator + Copy>(
 {
     let mut streams = Vec::new(alloc);
     for row in rows {
-        let hops = hops_of(alloc, row.hops())?;
-        streams.push(hops)?;
+        let Ok(hops) = hops_of(alloc, row.hops()) else {
+            return Err(NoMemory);
+        };
+        let Ok(()) = streams.push(hops) else {
+            return Err(NoMemory);
+        };
     }
     Ok(streams)
 }
@@ -194,17 +202,19 @@ fn lines_of<A: Allocator + Copy>(
 ) -> Result<StreamLines<Global>, NoMemory>
     ensures { IfOk result (λ x. AreLinesOfNetwork file.now network.now (string_bytes x.text) x.kept) }
 {
-    let line = accepted_line(heap, file)?;
-    let bounds = bounds_of_all(alloc, network.plans())?;
-    let StreamLines { text, kept } = stream_lines(
-        alloc,
-        heap,
-        network,
-        &bounds,
-        file.links(),
-        file.streams(),
-    )?;
-    let text = format!(in heap; "{line}{text}")?;
+    let Ok(line) = accepted_line(heap, file) else {
+        return Err(NoMemory);
+    };
+    let Ok(bounds) = bounds_of_all(alloc, network.plans()) else {
+        return Err(NoMemory);
+    };
+    let Ok(lines) = stream_lines(alloc, heap, network, &bounds, file.links(), file.streams()) else {
+        return Err(NoMemory);
+    };
+    let StreamLines { text, kept } = lines;
+    let Ok(text) = format!(in heap; "{line}{text}") else {
+        return Err(NoMemory);
+    };
     Ok(StreamLines { text, kept })
 }
 
@@ -334,8 +344,13 @@ fn said_of<A: Allocator + Copy>(
     ensures lines { IfOk result (λ said. AreLinesOfNetwork file.now network.now (string_bytes said.lines) said.kept) }
     ensures told { IfOk result (λ said. AreTold file.now network.now (string_bytes said.told)) }
 {
-    let StreamLines { text, kept } = lines_of(alloc, heap, file, network)?;
-    let told = told_of(alloc, heap, file, network)?;
+    let Ok(lines) = lines_of(alloc, heap, file, network) else {
+        return Err(NoMemory);
+    };
+    let StreamLines { text, kept } = lines;
+    let Ok(told) = told_of(alloc, heap, file, network) else {
+        return Err(NoMemory);
+    };
     Ok(NetworkSaid {
         lines: text,
         told,

@@ -38,7 +38,9 @@ pub fn bounds_text<A: Allocator + Copy>(
 {
     let mut text = String::new(alloc);
     for row in rows {
-        push_line(&mut text, row)?;
+        let Ok(()) = push_line(&mut text, row) else {
+            return Err(NoMemory);
+        };
     }
     Ok(text)
 }
@@ -50,7 +52,9 @@ pub(crate) fn lines_of<A: Allocator + Copy>(
 ) -> Result<String<A>, NoMemory>
     ensures { IfOk result (λ lines. AreLinesOf accepted.now (string_bytes lines)) }
 {
-    let rows = tight_bounds_of(alloc, accepted)?;
+    let Ok(rows) = tight_bounds_of(alloc, accepted) else {
+        return Err(NoMemory);
+    };
     bounds_text(alloc, &rows)
 }
 

@@ -87,10 +87,16 @@ fn report_in<A: Allocator + Copy>(
     requires suit { first_fault_from accepted.now 1 rows.now ≡ None }
     ensures { IfOk result (λ r. AreLinesOfTraffic accepted.now rows.now (string_bytes r.text) r.kept) }
 {
-    let bounds = lines_of(alloc, accepted)?;
-    let timings = timings_of(alloc, accepted, rows)?;
+    let Ok(bounds) = lines_of(alloc, accepted) else {
+        return Err(NoMemory);
+    };
+    let Ok(timings) = timings_of(alloc, accepted, rows) else {
+        return Err(NoMemory);
+    };
     let kept = are_kept(&timings);
-    let lines = timings_text(alloc, &timings)?;
+    let Ok(lines) = timings_text(alloc, &timings) else {
+        return Err(NoMemory);
+    };
     let text = format!(in alloc; "{bounds}{lines}")?;
     Ok(TrafficReport { text, kept })
 }

@@ -1,11 +1,11 @@
 //! How long frames of the streams of a network take, from talker to listener.
-ghost use Rattle.std.specs.Prelude.{All, ◌≡◌, ◌&&◌, ◌++◌, ◌≤◌, ◌*◌, ◌^◌, length, map, nat_eq, sum_by, IfOk, OnOk, string_bytes};
+ghost use Rattle.std.specs.Prelude.{All, ◌≡◌, ◌&&◌, ◌++◌, ◌≤◌, ◌*◌, ◌^◌, length, map, nat_eq, slice_get, sum_by, IfOk, OnOk, string_bytes};
 ghost use Rattle.std.specs.Option.{ForSome};
 ghost use Rattle.bridge_netfile.specs.Model.{Stream};
 ghost use Rattle.bridge_netfile.specs.Rules.{IsTalker};
 ghost use Rattle.bridge_planning.specs.Bounds.{IsPlaced};
 ghost use Rattle.bridge_planning.specs.Streams as spec;
-ghost use Rattle.bridge_planning.specs.Streams.{AreBoundsOf, filter_bound, greater_bound, greater_delay, hop_bound, hop_delay, is_at, joins, link_delay, stream_bound};
+ghost use Rattle.bridge_planning.specs.Streams.{AreBoundsOf, filter_bound, greater_bound, greater_delay, hop_bound, hop_delay, is_at, joins, link_delay, rows_if, stream_bound};
 ghost use Rattle.bridge_planning.specs.Talkers.{AreStreamLines};
 ghost use Rattle.bridge_planning.specs.Traffic.{is_met};
 
@@ -30,8 +30,12 @@ pub fn bounds_of_all<A: Allocator + Copy>(
 {
     let mut bounds = Vec::new(alloc);
     for accepted in plans {
-        let rows = bounds_of(alloc, accepted)?;
-        bounds.push(rows)?;
+        let Ok(rows) = bounds_of(alloc, accepted) else {
+            return Err(NoMemory);
+        };
+        let Ok(()) = bounds.push(rows) else {
+            return Err(NoMemory);
+        };
     }
     Ok(bounds)
 }
@@ -58,16 +62,24 @@ fn filter_bound(filter: u32, rows: &[QueueBound]) -> u64
     greatest
 }
 
+/// The bounds of the plan at a place, none where there is no plan.
+pub(crate) fn rows_at<'a, A: Allocator + Copy>(
+    bounds: &'a [Vec<QueueBound, A>],
+    bridge: u16,
+) -> &'a [QueueBound]
+    ensures { result.now ≡ rows_if (slice_get bounds.now bridge) }
+{
+    match bounds.get(bridge as usize) {
+        Some(rows) => rows,
+        None => &[],
+    }
+}
+
 /// The greatest bound of the queues of a hop.
 fn hop_bound<A: Allocator + Copy>(bounds: &[Vec<QueueBound, A>], hop: (u16, u32)) -> u64
     ensures { result ≡ hop_bound bounds.now hop }
 {
-    let place = hop.0 as usize;
-    if place < bounds.len() {
-        filter_bound(hop.1, &bounds[place])
-    } else {
-        filter_bound(hop.1, &[])
-    }
+    filter_bound(hop.1, rows_at(bounds, hop.0))
 }
 
 /// Whether one of some hops is at a bridge.
@@ -169,7 +181,9 @@ pub fn bounds_of_streams<A: Allocator + Copy>(
 {
     let mut rows = Vec::new(alloc);
     for stream in streams {
-        rows.push(stream_bound(bounds, links, stream.hops()))?;
+        let Ok(()) = rows.push(stream_bound(bounds, links, stream.hops())) else {
+            return Err(NoMemory);
+        };
     }
     Ok(rows)
 }
@@ -275,8 +289,12 @@ pub fn stream_lines<A: Allocator + Copy, B: Allocator + Copy>(
     let mut text = String::new(heap);
     let mut kept = true;
     for stream in streams {
-        let course = course_for(alloc, network.plans(), network.links(), bounds, stream)?;
-        let here = push_stream(heap, &mut text, bounds, links, stream, course)?;
+        let Ok(course) = course_for(alloc, network.plans(), network.links(), bounds, stream) else {
+            return Err(NoMemory);
+        };
+        let Ok(here) = push_stream(heap, &mut text, bounds, links, stream, course) else {
+            return Err(NoMemory);
+        };
         kept = both(kept, here);
     }
     Ok(StreamLines { text, kept })

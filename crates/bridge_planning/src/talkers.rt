@@ -3,7 +3,7 @@ ghost use Rattle.std.specs.Prelude.{◌≡◌, ◌++◌, ◌∷◌, ◌≤◌, A
 ghost use Rattle.std.specs.List.{list_all};
 ghost use Rattle.std.specs.Map.{lookup};
 ghost use Rattle.std.specs.Option.{ForSome};
-ghost use Rattle.bridge_courses.specs.Courses.{IsQueue};
+ghost use Rattle.bridge_courses.specs.Courses.{IsCourse, IsQueue};
 ghost use Rattle.bridge_netfile.specs.Rules.{IsTalker};
 ghost use Rattle.bridge_periods.specs.Traffic.{IsTraffic};
 ghost use Rattle.bridge_planning.specs.Streams.{hop_in};
@@ -13,6 +13,7 @@ ghost use Rattle.bridge_planning.specs.Talkers.{IsCourseOf};
 
 use crate::bounds::QueueBound;
 use crate::network::hops_of;
+use crate::streams::rows_at;
 use crate::traffic::suits;
 use bridge_bounds::filter_at;
 use bridge_check::Accepted;
@@ -145,7 +146,9 @@ fn put_among<A: Allocator + Copy>(
     ensures queues { OnOk result (All IsQueue queues.new.items) }
 {
     for row in rows {
-        put_row(row, hop, queues)?;
+        let Ok(()) = put_row(row, hop, queues) else {
+            return Err(NoMemory);
+        };
     }
     Ok(())
 }
@@ -161,12 +164,7 @@ fn put_queues<A: Allocator + Copy>(
     ensures more { OnOk result (queues.new.items ≡ queues.old.items ++ spec.queues_at bounds.now hop) }
     ensures queues { OnOk result (All IsQueue queues.new.items) }
 {
-    let place = hop.bridge as usize;
-    if place < bounds.len() {
-        put_among(&bounds[place], hop, queues)
-    } else {
-        put_among(&[], hop, queues)
-    }
+    put_among(rows_at(bounds, hop.bridge), hop, queues)
 }
 
 /// The queues of all hops, by the bounds of the plans.
@@ -181,9 +179,32 @@ fn queues_of<A: Allocator + Copy>(
 {
     let mut queues = Vec::new(alloc);
     for hop in hops {
-        put_queues(bounds, *hop, &mut queues)?;
+        let Ok(()) = put_queues(bounds, *hop, &mut queues) else {
+            return Err(NoMemory);
+        };
     }
     Ok(queues)
+}
+
+/// How long the frames of a talker take through some hops.
+fn course_over<A: Allocator + Copy>(
+    alloc: A,
+    plans: &[Accepted<A>],
+    links: &[Link],
+    bounds: &[Vec<QueueBound, A>],
+    hops: &[StreamHop],
+    talker: &Talker,
+) -> Result<Option<Course>, NoMemory>
+    requires rows { All (λ v. All IsPlaced v.items) bounds.now }
+    requires few { length hops.now ≤ 64 }
+    requires talker { IsTalker talker.now }
+    ensures { IfOk result (IsCourse plans.now links.now hops.now (spec.queues_of bounds.now hops.now) (spec.traffic_of talker.now)) }
+{
+    let Ok(queues) = queues_of(alloc, bounds, hops) else {
+        return Err(NoMemory);
+    };
+    let traffic = traffic_of(talker);
+    Ok(course_of(plans, links, hops, &queues, &traffic))
 }
 
 /// How long the frames of a stream take, where its talker keeps a period.
@@ -202,8 +223,8 @@ pub(crate) fn course_for<A: Allocator + Copy>(
     let Some(talker) = stream.talker() else {
         return Ok(None);
     };
-    let hops = hops_of(alloc, stream.hops())?;
-    let queues = queues_of(alloc, bounds, &hops)?;
-    let traffic = traffic_of(&talker);
-    Ok(course_of(plans, links, &hops, &queues, &traffic))
+    let Ok(hops) = hops_of(alloc, stream.hops()) else {
+        return Err(NoMemory);
+    };
+    course_over(alloc, plans, links, bounds, &hops, &talker)
 }

@@ -90,7 +90,9 @@ fn push_rounds<A: Allocator + Copy>(
     ensures { OnOk result (string_bytes text.new ≡ string_bytes text.old ++ flat_map (round_line bridges.now) rows.now) }
 {
     for row in rows {
-        push_round(heap, text, bridges, row)?;
+        let Ok(()) = push_round(heap, text, bridges, row) else {
+            return Err(AllocError);
+        };
     }
     Ok(())
 }
@@ -200,7 +202,9 @@ fn push_left_of<A: Allocator + Copy>(
     ensures { OnOk result (string_bytes text.new ≡ string_bytes text.old ++ left_of file.now bridge plan.now) }
 {
     for filter in plan.filters() {
-        push_left(text, file, bridge, plan, filter)?;
+        let Ok(()) = push_left(text, file, bridge, plan, filter) else {
+            return Err(AllocError);
+        };
     }
     Ok(())
 }
@@ -215,7 +219,9 @@ fn push_left_out<A: Allocator + Copy>(
     ensures { OnOk result (string_bytes text.new ≡ string_bytes text.old ++ left_from file.now 0 plans.now) }
 {
     for b in 0..plans.len() {
-        push_left_of(text, file, b as u16, plans[b].plan())?;
+        let Ok(()) = push_left_of(text, file, b as u16, plans[b].plan()) else {
+            return Err(AllocError);
+        };
     }
     Ok(())
 }
@@ -341,7 +347,9 @@ fn push_falls_of<A: Allocator + Copy>(
     ensures { OnOk result (string_bytes text.new ≡ string_bytes text.old ++ falls_of plans.now i hops.now) }
 {
     for k in 0..hops.len() {
-        push_fall(text, plans, i, hops, k)?;
+        let Ok(()) = push_fall(text, plans, i, hops, k) else {
+            return Err(AllocError);
+        };
     }
     Ok(())
 }
@@ -357,7 +365,9 @@ fn push_falls<A: Allocator + Copy>(
     ensures { OnOk result (string_bytes text.new ≡ string_bytes text.old ++ falls_from plans.now 0 streams.now) }
 {
     for i in 0..streams.len() {
-        push_falls_of(text, plans, i, streams[i].hops())?;
+        let Ok(()) = push_falls_of(text, plans, i, streams[i].hops()) else {
+            return Err(AllocError);
+        };
     }
     Ok(())
 }
@@ -385,10 +395,18 @@ pub fn told_of<A: Allocator + Copy>(
     requires few { length network.now.plans ≤ 64 }
     ensures { IfOk result (λ text. AreTold file.now network.now (string_bytes text)) }
 {
-    let rows = circulations_in(alloc, network.plans(), network.links())?;
+    let Ok(rows) = circulations_in(alloc, network.plans(), network.links()) else {
+        return Err(NoMemory);
+    };
     let mut text = String::new(heap);
-    push_rounds(heap, &mut text, file.bridges(), &rows)?;
-    push_left_out(&mut text, file, network.plans())?;
-    push_falls_in(&mut text, file, network.plans())?;
+    let Ok(()) = push_rounds(heap, &mut text, file.bridges(), &rows) else {
+        return Err(NoMemory);
+    };
+    let Ok(()) = push_left_out(&mut text, file, network.plans()) else {
+        return Err(NoMemory);
+    };
+    let Ok(()) = push_falls_in(&mut text, file, network.plans()) else {
+        return Err(NoMemory);
+    };
     Ok(text)
 }

@@ -41,7 +41,9 @@ fn tightened<A: Allocator + Copy>(
 {
     let mut made = Vec::new(alloc);
     for bound in bounds {
-        put_tight(accepted, bound, &mut made)?;
+        let Ok(()) = put_tight(accepted, bound, &mut made) else {
+            return Err(NoMemory);
+        };
     }
     Ok(made)
 }
@@ -53,7 +55,8 @@ pub fn tight_bounds_of<A: Allocator + Copy>(
 ) -> Result<Vec<QueueBound, A>, NoMemory>
     ensures { IfOk result (λ rows. AreTightBounds accepted.now rows.items) }
 {
-    let bounds = bounds_of(alloc, accepted)?;
-    let tight = tightened(alloc, accepted, &bounds)?;
-    Ok(tight)
+    let Ok(bounds) = bounds_of(alloc, accepted) else {
+        return Err(NoMemory);
+    };
+    tightened(alloc, accepted, &bounds)
 }

@@ -99,7 +99,9 @@ fn row_timings<A: Allocator + Copy>(
     let passes = row_passes(accepted, row);
     let mut made = Vec::new(alloc);
     for bound in bounds {
-        put_timing(accepted, bound, index, row, passes, &mut made)?;
+        let Ok(()) = put_timing(accepted, bound, index, row, passes, &mut made) else {
+            return Err(NoMemory);
+        };
     }
     Ok(made)
 }
@@ -114,12 +116,18 @@ pub fn timings_of<A: Allocator + Copy>(
     requires rows { All IsRow rows.now }
     ensures { IfOk result (λ v. AreTimings accepted.now rows.now v.items) }
 {
-    let bounds = bounds_of(alloc, accepted)?;
+    let Ok(bounds) = bounds_of(alloc, accepted) else {
+        return Err(NoMemory);
+    };
     let mut made = Vec::new(alloc);
     let mut index: u32 = 1;
     for row in rows {
-        let more = row_timings(alloc, accepted, &bounds, index, row)?;
-        made.extend_from_slice(&more)?;
+        let Ok(more) = row_timings(alloc, accepted, &bounds, index, row) else {
+            return Err(NoMemory);
+        };
+        let Ok(()) = made.extend_from_slice(&more) else {
+            return Err(NoMemory);
+        };
         index += 1;
     }
     Ok(made)
@@ -204,7 +212,9 @@ pub fn timings_text<A: Allocator + Copy>(
 {
     let mut text = String::new(alloc);
     for timing in timings {
-        push_timing(alloc, &mut text, timing)?;
+        let Ok(()) = push_timing(alloc, &mut text, timing) else {
+            return Err(NoMemory);
+        };
     }
     Ok(text)
 }

@@ -11,11 +11,11 @@ loop-accepted-preserved g c =
     let plans = c.args.plans.now in
     let i = c.loop-accepted.accepted-index in
     let olds = c.loop-accepted.bounds.items in
-    let rows = c.in_ok-rows.rows in
-    let more = more_bounds (take i plans) olds _ rows c.loop-accepted.invariant.are_bounds (subst (λ p. AreBounds p rows.items) c.accepted-item.is c.in_ok-rows.ensures.bounds) in
+    let rows = c.in-Ok.rows in
+    let more = more_bounds (take i plans) olds _ rows c.loop-accepted.invariant.are_bounds (subst (λ p. AreBounds p rows.items) c.accepted-item.is c.in-Ok.ensures.bounds) in
     record {
-      are_bounds = subst (λ vs. AreBoundsOf (take (i + 1) plans) vs) (sym c.in_ok-push.ensures.items)
+      are_bounds = subst (λ vs. AreBoundsOf (take (i + 1) plans) vs) (sym c.in-Ok-push.ensures.items)
           (subst (λ ps. AreBoundsOf ps (olds ++ rows ∷ [])) (sym (take_more plans i _ c.loop-accepted-test.true)) more);
-      placed = subst (λ vs. All (λ v. All IsPlaced v.items) vs) (sym c.in_ok-push.ensures.items)
-          (All-push (λ v. All IsPlaced v.items) olds rows c.loop-accepted.invariant.placed c.in_ok-rows.ensures.placed);
+      placed = subst (λ vs. All (λ v. All IsPlaced v.items) vs) (sym c.in-Ok-push.ensures.items)
+          (All-push (λ v. All IsPlaced v.items) olds rows c.loop-accepted.invariant.placed c.in-Ok.ensures.placed);
     }

@@ -1,6 +1,7 @@
-use Rattle.std.proofs.Common.{◌≤◌, ◌∙◌, List, ap, length, map, subst, sym, take_all, ℕ}
+use Rattle.std.proofs.Common.{◌≤◌, ◌++◌, ◌∷◌, [], ◌∙◌, List, ap, length, map, subst, sym, take_all, ℕ}
 use Rattle.bridge_netfile.specs.Model.{Stream}
 use Rattle.bridge_planning.specs.Streams.{stream_bound}
+use Rattle.bridge_planning.proofs.Lined.{one_more}
 use Rattle.bridge_planning.proofs.streams.bounds_of_streams.Goals as goal
 
 pub stream_bound-requires-clause-few : goal.stream_bound-requires-clause-few
@@ -12,3 +13,9 @@ pub returns : goal.returns
 returns g c =
     let end : length c.args.streams.now ≤ c.loop-stream.stream-index = c.loop-stream-test.false in
     c.loop-stream.invariant ∙ ap (map (λ (s : Stream). stream_bound c.args.bounds.now c.args.links.now s.hops)) (take_all c.loop-stream.stream-index c.args.streams.now end)
+
+pub loop-stream-preserved : goal.loop-stream-preserved
+loop-stream-preserved g c =
+    let now = c.loop-stream.rows.items in
+    one_more (λ (s : Stream). stream_bound c.args.bounds.now c.args.links.now s.hops) c.args.streams.now c.loop-stream.stream-index c.stream-item.result now c.push.new.self.items c.loop-stream-test.true c.loop-stream.invariant
+    (c.in-Ok.ensures.items ∙ ap (λ n. now ++ n ∷ []) (c.stream_bound.ensures ∙ ap (stream_bound c.args.bounds.now c.args.links.now) (c.hops.ensures ∙ ap (λ (s : Stream). s.hops) c.stream-item.is)))

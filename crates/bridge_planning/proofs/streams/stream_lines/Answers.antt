@@ -24,8 +24,8 @@ pub loop-stream-preserved : goal.loop-stream-preserved
 loop-stream-preserved g c =
     let s = c.stream-item.result in
     let hops = map hop_in s.hops in
-    let by_links = subst (λ (ls : List Link). IsCourseOf c.plans.result.now ls c.args.bounds.now s.talker hops c.in_ok-course.course) c.links.ensures c.in_ok-course.ensures in
-    let course : IsCourseOf c.args.network.now.plans c.args.network.now.links c.args.bounds.now s.talker hops c.in_ok-course.course =
-    subst (λ ps. IsCourseOf ps c.args.network.now.links c.args.bounds.now s.talker hops c.in_ok-course.course) c.plans.ensures.plans by_links in
-    next_line c.args.network.now.plans c.args.network.now.links c.args.bounds.now c.args.links.now c.args.streams.now c.loop-stream.stream-index _ s _ _ c.loop-stream.kept _ _ c.in_ok-course.course
-    c.loop-stream-test.true c.stream-item.is c.loop-stream.invariant course c.in_ok-here.ensures.text c.in_ok-here.ensures.kept c.both-kept.ensures
+    let by_links = subst (λ (ls : List Link). IsCourseOf c.plans.result.now ls c.args.bounds.now s.talker hops c.in-Ok.course) c.links.ensures c.in-Ok.ensures in
+    let course : IsCourseOf c.args.network.now.plans c.args.network.now.links c.args.bounds.now s.talker hops c.in-Ok.course =
+    subst (λ ps. IsCourseOf ps c.args.network.now.links c.args.bounds.now s.talker hops c.in-Ok.course) c.plans.ensures.plans by_links in
+    next_line c.args.network.now.plans c.args.network.now.links c.args.bounds.now c.args.links.now c.args.streams.now c.loop-stream.stream-index _ s _ _ c.loop-stream.kept _ _ c.in-Ok.course
+    c.loop-stream-test.true c.stream-item.is c.loop-stream.invariant course c.in-Ok-push_stream.ensures.text c.in-Ok-push_stream.ensures.kept c.both-kept.ensures

@@ -5,7 +5,7 @@ use Rattle.bridge_planning.specs.Telling.{fall_text}
 use Rattle.bridge_planning.proofs.telling.push_falls_of.Goals as goal
 
 pub loop-k-preserved : goal.loop-k-preserved
-loop-k-preserved g c = next_below (fall_text c.args.plans.now c.args.i c.args.hops.now) c.loop-k.k (string_bytes c.args.text.now) (string_bytes c.loop-k.text) _ c.loop-k.invariant c.in_ok-push_fall.ensures
+loop-k-preserved g c = next_below (fall_text c.args.plans.now c.args.i c.args.hops.now) c.loop-k.k (string_bytes c.args.text.now) (string_bytes c.loop-k.text) _ c.loop-k.invariant c.in-Ok.ensures
 
 pub returns : goal.returns
 returns g c =

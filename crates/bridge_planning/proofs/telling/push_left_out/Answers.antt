@@ -7,4 +7,4 @@ pub loop-b-preserved : goal.loop-b-preserved
 loop-b-preserved g c =
     let same : c.plan.result.now ≡ get_or c.args.plans.now c.loop-b.b c.index-plans-b.result = c.plan.ensures.plan ∙ c.index-plans-b.is in
     left_next c.args.file.now c.args.plans.now c.loop-b.b c.index-plans-b.result _ _ _ c.loop-b-test.true c.loop-b.invariant
-    (subst (λ p. string_bytes c.push_left_of.new.text ≡ string_bytes c.loop-b.text ++ left_of c.args.file.now c.loop-b.b p) same c.in_ok-push_left_of.ensures)
+    (subst (λ p. string_bytes c.push_left_of.new.text ≡ string_bytes c.loop-b.text ++ left_of c.args.file.now c.loop-b.b p) same c.in-Ok.ensures)
