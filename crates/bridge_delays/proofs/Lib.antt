@@ -1,2 +1,3 @@
-pub mod Traced
 pub mod Counted
+pub mod Puts
+pub mod Ways

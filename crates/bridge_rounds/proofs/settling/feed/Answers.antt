@@ -1,8 +1,9 @@
 use Rattle.std.proofs.Common.{Option, Some, slice_index_or, sym, ap, ◌∙◌}
 use Rattle.std.specs.Prelude.{slice_get, option_map}
 use Rattle.std.proofs.lemmas.Option.{slice_get-get_or}
-use Rattle.bridge_rounds.specs.Stations.{StationState, sender_value}
-use Rattle.bridge_rounds.specs.declared.station.Sender.{Sender}
+use Rattle.bridge_rounds.specs.Stations.{StationState}
+use Rattle.bridge_network.specs.Wiring.{sender_value}
+use Rattle.bridge_network.specs.declared.senders.Sender.{Sender}
 use Rattle.bridge_rounds.proofs.Handing.{fed_open, handed_same}
 use Rattle.bridge_rounds.proofs.Turns.{at_place}
 use Rattle.bridge_rounds.proofs.settling.feed.Goals as goal

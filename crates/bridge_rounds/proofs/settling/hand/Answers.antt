@@ -1,7 +1,8 @@
 use Rattle.std.proofs.Common.{ℕ, List, Some, refl, sym, ap, slice_index_or, ◌∙◌}
 use Rattle.std.specs.Prelude.{slice_get}
 use Rattle.std.proofs.lemmas.Option.{slice_get-get_or}
-use Rattle.bridge_rounds.specs.Stations.{StationState, sender_value}
+use Rattle.bridge_rounds.specs.Stations.{StationState}
+use Rattle.bridge_network.specs.Wiring.{sender_value}
 use Rattle.bridge_rounds.proofs.Handing.{handed_other, handed_same}
 use Rattle.bridge_rounds.proofs.Turns.{at_place, fed_one}
 use Rattle.bridge_rounds.proofs.settling.hand.Goals as goal

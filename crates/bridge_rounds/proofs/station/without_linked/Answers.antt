@@ -1,7 +1,8 @@
 use Rattle.std.proofs.Common.{arith}
 use Rattle.std.specs.Prelude.{option_map}
 use Rattle.std.proofs.lemmas.List.{length-map}
-use Rattle.bridge_rounds.specs.Stations.{sender_value, senders_in, texts_in}
+use Rattle.bridge_rounds.specs.Stations.{senders_in, texts_in}
+use Rattle.bridge_network.specs.Wiring.{sender_value}
 use Rattle.bridge_rounds.proofs.Begun.{none_all}
 use Rattle.bridge_rounds.proofs.station.without_linked.Goals as goal
 
