@@ -1,4 +1,4 @@
-use Rattle.std.proofs.Common.{◌++◌, ◌-◌, refl, ap}
+use Rattle.std.proofs.Common.{◌++◌, refl, ap}
 use Rattle.std.specs.Prelude.{codes, decimal}
 use Rattle.bridge_delays.specs.Streams.{stream_start}
 use Rattle.bridge_delays.proofs.Puts.{put_as, put_count, put_piece}
