@@ -50,3 +50,12 @@ returns g c =
       later = c.in_ok-text.ensures;
       other = λ same. here.2 (same ∙ sym c.deref.ensures.value);
     })
+
+pub bounds-stations-bridge : goal.bounds-stations-bridge
+bounds-stations-bridge g c = c.requires.bridge
+
+pub bounds-stations-bridge-2 : goal.bounds-stations-bridge-2
+bounds-stations-bridge-2 g c = c.requires.bridge
+
+pub bounds-stations-bridge-3 : goal.bounds-stations-bridge-3
+bounds-stations-bridge-3 g c = c.requires.bridge
