@@ -4,9 +4,9 @@ use Rattle.std.specs.Prelude.{false, nat_eq, slice_get, Vec}
 use Rattle.std.proofs.lemmas.Option.{get_or_from_slice_get, slice_get_within}
 use Rattle.std.proofs.lemmas.Bool.{ne_eqb}
 use Rattle.bridge_network.specs.declared.links.Link.{Link}
-use Rattle.bridge_delays.specs.declared.hops.HopRun.{HopRun}
-use Rattle.bridge_delays.specs.declared.tallies.Tally.{Tally}
-use Rattle.bridge_delays.specs.declared.tracing.Root.{Root}
+use Rattle.bridge_tracing.specs.declared.hops.HopRun.{HopRun}
+use Rattle.bridge_tracing.specs.declared.tallies.Tally.{Tally}
+use Rattle.bridge_tracing.specs.declared.tracing.Root.{Root}
 use Rattle.bridge_delays.specs.Counting.{AreCounted, with_hop}
 use Rattle.bridge_delays.specs.Hops.{AreWays}
 

@@ -1,2 +1,4 @@
-pub mod Traced
 pub mod Counted
+pub mod Gathered
+pub mod Puts
+pub mod Ways

@@ -7,12 +7,12 @@ use Rattle.bridge_semantics.specs.declared.outcome.Dropped.{Dropped}
 use Rattle.bridge_semantics.specs.declared.outcome.View.{View}
 use Rattle.bridge_delays.specs.declared.counting.Fate.{Fate}
 use Rattle.bridge_delays.specs.declared.counting.Fate.TheVariants as fate
-use Rattle.bridge_delays.specs.declared.hops.HopRun.{HopRun}
-use Rattle.bridge_delays.specs.declared.tallies.Tally.{Tally}
-use Rattle.bridge_delays.specs.declared.tracing.Root.{Root}
+use Rattle.bridge_tracing.specs.declared.hops.HopRun.{HopRun}
+use Rattle.bridge_tracing.specs.declared.tallies.Tally.{Tally}
+use Rattle.bridge_tracing.specs.declared.tracing.Root.{Root}
 use Rattle.bridge_delays.specs.Hops.{AreWays, is_on}
 use Rattle.bridge_delays.specs.Tallies.{passes}
-use Rattle.bridge_delays.specs.Tracing.{root_at}
+use Rattle.bridge_tracing.specs.Tracing.{root_at}
 
 -- one more, as far as a count goes
 abbrev pub more : ℕ → ℕ

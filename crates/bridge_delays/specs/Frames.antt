@@ -7,11 +7,11 @@ use Rattle.bridge_semantics.specs.declared.outcome.Origin.{Origin}
 use Rattle.bridge_report.specs.Words.{verdict_word, refusal_word}
 use Rattle.bridge_semantics.specs.declared.outcome.View.{View}
 use Rattle.bridge_network.specs.declared.links.Link.{Link}
-use Rattle.bridge_delays.specs.declared.hops.HopRun.{HopRun}
-use Rattle.bridge_delays.specs.declared.tracing.Root.{Root}
+use Rattle.bridge_tracing.specs.declared.hops.HopRun.{HopRun}
+use Rattle.bridge_tracing.specs.declared.tracing.Root.{Root}
 use Rattle.bridge_delays.specs.Hops.{AreWays, is_on}
 use Rattle.bridge_delays.specs.Tallies.{passes}
-use Rattle.bridge_delays.specs.Tracing.{root_at}
+use Rattle.bridge_tracing.specs.Tracing.{root_at}
 
 -- the moment at which a frame of a hop came, by its number there, from 1; 0 of one that isn't there
 abbrev pub at_if : Option Origin → ℕ

@@ -4,7 +4,7 @@ use Rattle.std.specs.List.{list_any}
 use Rattle.bridge_network.specs.Networks.{Sender, sender}
 use Rattle.bridge_network.specs.Wiring.{link_of}
 use Rattle.bridge_network.specs.declared.links.Link.{Link}
-use Rattle.bridge_delays.specs.declared.hops.HopRun.{HopRun}
+use Rattle.bridge_tracing.specs.declared.hops.HopRun.{HopRun}
 
 -- whether one of some hops is at a bridge
 abbrev pub is_at : {A : Type 0} → List (HopRun A) → ℕ → Bool

@@ -1,5 +1,4 @@
 pub mod Hops
-pub mod Tracing
 pub mod Tallies
 pub mod Counting
 pub mod Figures

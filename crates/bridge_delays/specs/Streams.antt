@@ -2,8 +2,8 @@
 use Rattle.std.specs.Prelude.{ℕ, ◌+◌, ◌-◌, Bool, true, false, ◌&&◌, nat_eq, nat_le, Option, Some, None, List, ◌++◌, count_by, length, sum_by, codes, decimal}
 use Rattle.bridge_delays.specs.declared.figures.Figures.{Figures}
 use Rattle.bridge_delays.specs.declared.tallies.HopCounts.{HopCounts}
-use Rattle.bridge_delays.specs.declared.tallies.Tally.{Tally}
-use Rattle.bridge_delays.specs.Tallies.{astray, is_delivered}
+use Rattle.bridge_tracing.specs.declared.tallies.Tally.{Tally}
+use Rattle.bridge_tracing.specs.Tallies.{astray, is_delivered}
 
 -- figures, or empty fields
 abbrev pub figure_words : Option Figures → List ℕ

@@ -1,5 +1,5 @@
--- How often copies of frames were delivered and lost.
-use Rattle.std.specs.Prelude.{ℕ, ◌-◌, Bool, true, false, not, ◌&&◌, nat_eq, nat_le, nat_lt, Option, Some, None, List, [], ◌∷◌, length, count_by, flat_map}
+-- How often copies of frames were delivered and lost at a hop.
+use Rattle.std.specs.Prelude.{ℕ, ◌-◌, Bool, true, false, not, Option, Some, None, List, [], ◌∷◌, length, count_by, flat_map}
 use Rattle.bridge_filter.specs.declared.Verdict.{Verdict}
 use Rattle.bridge_filter.specs.declared.Verdict.TheVariants as verdict
 use Rattle.bridge_port.specs.declared.item.Refusal.{Refusal}
@@ -7,25 +7,15 @@ use Rattle.bridge_port.specs.declared.item.Refusal.TheVariants as refusal
 use Rattle.bridge_semantics.specs.declared.outcome.Departure.{Departure}
 use Rattle.bridge_semantics.specs.declared.outcome.Dropped.{Dropped}
 use Rattle.bridge_semantics.specs.declared.outcome.View.{View}
-use Rattle.bridge_delays.specs.declared.tallies.Tally.{Tally}
 use Rattle.bridge_delays.specs.declared.tallies.HopCounts.{HopCounts}
-use Rattle.bridge_delays.specs.declared.tracing.Root.{Root}
+use Rattle.bridge_tracing.specs.declared.tracing.Root.{Root}
 use Rattle.bridge_delays.specs.Hops.{is_on}
-use Rattle.bridge_delays.specs.Tracing.{root_at}
+use Rattle.bridge_tracing.specs.Tracing.{root_at}
 
 -- whether a frame passes
 abbrev pub passes : Verdict → Bool
 passes (verdict.Pass ipv eligible) = true
 passes v = false
-
--- whether a frame of the first hop was delivered: some copy was, none was refused or dropped, and none went to a bridge with a hop without being
--- a frame of one
-abbrev pub is_delivered : Tally → Bool
-is_delivered t = nat_lt 0 t.delivered && (nat_eq t.refused 0 && nat_le t.sent_on t.taken)
-
--- how many copies went to a bridge with a hop without being a frame of one
-abbrev pub astray : Tally → ℕ
-astray t = t.sent_on - t.taken
 
 -- the reasons for which a frame is refused
 abbrev pub is_blocked : Verdict → Bool

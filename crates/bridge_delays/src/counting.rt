@@ -3,17 +3,17 @@ ghost use Rattle.std.specs.Prelude.{◌≡◌, Bool, true, List, IfOk, OnOk};
 ghost use Rattle.bridge_delays.specs.Counting as spec;
 ghost use Rattle.bridge_delays.specs.Hops.{AreWays};
 
-use crate::hops::{HopRun, is_on, ways_of};
-use crate::tallies::{Tally, passes};
-use crate::tracing::{Root, root_at};
+use crate::hops::{is_on, ways_of};
+use crate::tallies::passes;
 use bridge_filter::Verdict;
 use bridge_limits::NoMemory;
 use bridge_network::Link;
 use bridge_semantics::{Departure, Dropped, View};
+use bridge_tracing::{HopRun, Root, Tally, root_at};
 use std::alloc::Allocator;
 
 /// What becomes of a copy of a frame, or of a frame at a hop.
-#[derive(Clone, Copy, Debug, PartialEq, Eq)]
+#[derive(Clone, Copy)]
 pub enum Fate {
     /// It left by a port that leads on to no hop.
     Delivered,

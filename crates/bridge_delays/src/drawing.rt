@@ -1,14 +1,13 @@
 //! A picture of how the frames of streams went through a run of a network.
 ghost use Rattle.std.specs.Prelude.{◌<◌};
 
-use crate::hops::HopRun;
 use crate::tallies::passes;
 use bridge_cycle::{END_OF_TURNS, Egress, Timeline, is_open};
 use bridge_limits::NoMemory;
-use bridge_network::Link;
-use bridge_rounds::sender_of;
+use bridge_network::{Link, sender_of};
 use bridge_semantics::{Departure, Origin, View};
 use bridge_text::Text;
+use bridge_tracing::HopRun;
 use std::alloc::{Allocator, Global};
 
 /// The most octets of a picture.

@@ -3,7 +3,7 @@ ghost use Rattle.std.specs.Prelude.{◌≡◌, ◌≤◌, ◌*◌, ◌^◌, ◌-
 ghost use Rattle.bridge_delays.specs.Figures as spec;
 
 /// Figures of delays in ns: the least, the mean rounded down, the greatest, and how far these differ.
-#[derive(Clone, Copy, Debug, PartialEq, Eq)]
+#[derive(Clone, Copy)]
 pub struct Figures {
     pub least: u64,
     pub mean: u128,

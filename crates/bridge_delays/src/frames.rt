@@ -1,17 +1,19 @@
 //! The table of frames: what became of each frame of a stream at each hop.
-ghost use Rattle.std.specs.Prelude.{◌≡◌, ◌++◌, IfOk, OnOk, codes, decimal, string_bytes};
+ghost use Rattle.std.specs.Prelude.{◌≡◌, ◌++◌, IfOk, codes, string_bytes};
+ghost use Rattle.bridge_text.specs.Growth.{HasGrown};
 ghost use Rattle.bridge_delays.specs.Frames as spec;
 
-use crate::hops::{HopRun, is_on, ways_of};
+use crate::hops::{is_on, ways_of};
+use crate::pieces::put_ended;
 use crate::tallies::passes;
-use crate::tracing::{Root, root_at};
 use bridge_filter::Verdict;
 use bridge_limits::NoMemory;
 use bridge_network::Link;
 use bridge_report::{refusal_word, verdict_word};
 use bridge_semantics::{Departure, Dropped, Origin, View};
-use itoa::Buffer;
-use std::alloc::{AllocError, Allocator};
+use bridge_text::Text;
+use bridge_tracing::{HopRun, Root, root_at};
+use std::alloc::Allocator;
 
 /// The first line of the table: stream, hop, the number of the frame at the first hop and the moment at which it came there,
 /// the moment at which it came to this hop, what became of it or of a copy of it here, the port of the copy, when that
@@ -31,98 +33,71 @@ fn at_of(origins: &[Origin], own: u64) -> u64
     }
 }
 
-/// Adds a number, and a piece behind it.
-fn push_number<A: Allocator>(text: &mut String<A>, number: u64, end: &str) -> Result<(), AllocError>
-    ensures { OnOk result (string_bytes text.new ≡ string_bytes text.old ++ (decimal number ++ end.now)) }
-{
-    let mut buffer = Buffer::new();
-    text.push_str(buffer.format(number))?;
-    text.push_str(end)
-}
-
-/// Adds the number of a frame at the first hop and the moment at which it came there, where they are known.
-fn push_root<A: Allocator>(text: &mut String<A>, root: Option<Root>) -> Result<(), AllocError>
-    ensures { OnOk result (string_bytes text.new ≡ string_bytes text.old ++ spec.root_words root) }
+/// Puts the number of a frame at the first hop and the moment at which it came there, where they are known.
+fn put_root<A: Allocator>(text: &mut Text<A>, root: Option<Root>)
+    ensures { HasGrown text.old (spec.root_words root) text.new }
 {
     match root {
         Some(Root { number, came }) => {
-            push_number(text, number, ",")?;
-            push_number(text, came, ",")
+            put_ended(text, number, ",");
+            put_ended(text, came, ",");
         }
-        None => text.push_str(",,"),
+        None => text.put(",,"),
     }
 }
 
-/// Adds a name, and a comma behind it.
-fn push_name<A: Allocator>(text: &mut String<A>, name: &str) -> Result<(), AllocError>
-    ensures { OnOk result (string_bytes text.new ≡ string_bytes text.old ++ (name.now ++ codes ",")) }
+/// Puts the beginning of a line: up to what became of a frame.
+fn put_start<A: Allocator>(text: &mut Text<A>, stream: &str, hop: &str, root: Option<Root>, at: u64)
+    ensures { HasGrown text.old (spec.line_start stream.now hop.now root at) text.new }
 {
-    text.push_str(name)?;
-    text.push_str(",")
+    text.put(stream);
+    text.put(",");
+    text.put(hop);
+    text.put(",");
+    put_root(text, root);
+    put_ended(text, at, ",");
 }
 
-/// Adds the beginning of a line: up to what became of a frame.
-#[tactic(auto, unfolding(crate::specs::Frames::line_start))]
-fn push_start<A: Allocator>(
-    text: &mut String<A>,
-    stream: &str,
-    hop: &str,
-    root: Option<Root>,
-    at: u64,
-) -> Result<(), AllocError>
-    ensures { OnOk result (string_bytes text.new ≡ string_bytes text.old ++ spec.line_start stream.now hop.now root at) }
-{
-    push_name(text, stream)?;
-    push_name(text, hop)?;
-    push_root(text, root)?;
-    push_number(text, at, ",")
-}
-
-/// Adds the line of a frame that was refused.
-#[tactic(auto, unfolding(crate::specs::Frames::refused_line))]
-fn push_refused<A: Allocator>(
-    text: &mut String<A>,
+/// Puts the line of a frame that was refused.
+fn put_refused<A: Allocator>(
+    text: &mut Text<A>,
     stream: &str,
     hop: &str,
     root: Option<Root>,
     at: u64,
     verdict: Verdict,
-) -> Result<(), AllocError>
-    ensures { OnOk result (string_bytes text.new ≡ string_bytes text.old ++ spec.refused_line stream.now hop.now root at verdict) }
+)
+    ensures { HasGrown text.old (spec.refused_line stream.now hop.now root at verdict) text.new }
 {
-    push_start(text, stream, hop, root, at)?;
-    text.push_str(verdict_word(verdict))?;
-    text.push_str(",,,,\n")
+    put_start(text, stream, hop, root, at);
+    text.put(verdict_word(verdict));
+    text.put(",,,,\n");
 }
 
-/// Adds the line of a copy that was dropped.
-#[tactic(auto, unfolding(crate::specs::Frames::drop_line))]
-fn push_drop<A: Allocator>(
-    text: &mut String<A>,
+/// Puts the line of a copy that was dropped.
+fn put_drop<A: Allocator>(
+    text: &mut Text<A>,
     stream: &str,
     hop: &str,
     root: Option<Root>,
     at: u64,
     dropped: &Dropped,
-) -> Result<(), AllocError>
-    ensures { OnOk result (string_bytes text.new ≡ string_bytes text.old ++ spec.drop_line stream.now hop.now root at dropped.now) }
+)
+    ensures { HasGrown text.old (spec.drop_line stream.now hop.now root at dropped.now) text.new }
 {
-    push_start(text, stream, hop, root, at)?;
-    push_name(text, refusal_word(dropped.refusal))?;
-    push_number(text, u64::from(dropped.port), ",,,\n")
+    put_start(text, stream, hop, root, at);
+    text.put(refusal_word(dropped.refusal));
+    text.put(",");
+    put_ended(text, dropped.port as u64, ",,,\n");
 }
 
-/// Adds how long a copy took that was done at a moment, where it is known from when on, and the end of its line.
-fn push_delay<A: Allocator>(
-    text: &mut String<A>,
-    done: u64,
-    root: Option<Root>,
-) -> Result<(), AllocError>
-    ensures { OnOk result (string_bytes text.new ≡ string_bytes text.old ++ (spec.delay_word done root ++ codes "\n")) }
+/// Puts how long a copy took that was done at a moment, where it is known from when on, and the end of its line.
+fn put_delay<A: Allocator>(text: &mut Text<A>, done: u64, root: Option<Root>)
+    ensures { HasGrown text.old (spec.delay_word done root ++ codes "\n") text.new }
 {
     match root {
-        Some(root) => push_number(text, done.saturating_sub(root.came), "\n"),
-        None => text.push_str("\n"),
+        Some(root) => put_ended(text, done.saturating_sub(root.came), "\n"),
+        None => text.put("\n"),
     }
 }
 
@@ -133,116 +108,107 @@ fn way_word(on: bool) -> &'static str
     if on { "sent" } else { "delivered" }
 }
 
-/// Adds the line of a copy that left.
-#[tactic(auto, unfolding(crate::specs::Frames::departure_line))]
-fn push_departure<A: Allocator>(
-    text: &mut String<A>,
+/// Puts the line of a copy that left.
+fn put_departure<A: Allocator>(
+    text: &mut Text<A>,
     stream: &str,
     hop: &str,
     root: Option<Root>,
     at: u64,
     departure: &Departure,
     on: bool,
-) -> Result<(), AllocError>
-    ensures { OnOk result (string_bytes text.new ≡ string_bytes text.old ++ spec.departure_line stream.now hop.now root at departure.now on) }
+)
+    ensures { HasGrown text.old (spec.departure_line stream.now hop.now root at departure.now on) text.new }
 {
-    let Departure {
-        own: _,
-        port,
-        start,
-        done,
-    } = *departure;
-    push_start(text, stream, hop, root, at)?;
-    push_name(text, way_word(on))?;
-    push_number(text, u64::from(port), ",")?;
-    push_number(text, start, ",")?;
-    push_number(text, done, ",")?;
-    push_delay(text, done, root)
+    put_start(text, stream, hop, root, at);
+    text.put(way_word(on));
+    text.put(",");
+    put_ended(text, departure.port as u64, ",");
+    put_ended(text, departure.start, ",");
+    put_ended(text, departure.done, ",");
+    put_delay(text, departure.done, root);
 }
 
-/// Adds the line of a frame of a hop, if it was refused.
-fn push_verdict<A: Allocator>(
-    text: &mut String<A>,
+/// Puts the line of a frame of a hop, if it was refused.
+fn put_verdict<A: Allocator>(
+    text: &mut Text<A>,
     stream: &str,
     hop: &str,
     root: Option<Root>,
     at: u64,
     verdict: Verdict,
-) -> Result<(), AllocError>
-    ensures { OnOk result (string_bytes text.new ≡ string_bytes text.old ++ spec.verdict_line stream.now hop.now root at verdict) }
+)
+    ensures { HasGrown text.old (spec.verdict_line stream.now hop.now root at verdict) text.new }
 {
-    if passes(verdict) {
-        return Ok(());
+    if !passes(verdict) {
+        put_refused(text, stream, hop, root, at, verdict);
     }
-    push_refused(text, stream, hop, root, at, verdict)
 }
 
-/// Adds the lines of the frames that a hop refused, which are numbered from 1.
-fn push_verdicts<A: Allocator>(
-    text: &mut String<A>,
+/// Puts the lines of the frames that a hop refused, which are numbered from 1.
+fn put_verdicts<A: Allocator>(
+    text: &mut Text<A>,
     stream: &str,
     hop: &str,
     roots: &[Option<Root>],
     origins: &[Origin],
     verdicts: &[Verdict],
-) -> Result<(), AllocError>
-    ensures { OnOk result (string_bytes text.new ≡ string_bytes text.old ++ spec.verdict_lines stream.now hop.now roots.now origins.now 1 verdicts.now) }
+)
+    ensures { HasGrown text.old (spec.verdict_lines stream.now hop.now roots.now origins.now 1 verdicts.now) text.new }
 {
     let mut left = verdicts;
     let mut own = 1u64;
     while let Some((first, rest)) = left.split_first() {
-        push_verdict(
+        put_verdict(
             text,
             stream,
             hop,
             root_at(roots, own),
             at_of(origins, own),
             *first,
-        )?;
+        );
         own += 1;
         left = rest;
     }
-    Ok(())
 }
 
-/// Adds the lines of the copies that a hop dropped.
-fn push_drops<A: Allocator>(
-    text: &mut String<A>,
+/// Puts the lines of the copies that a hop dropped.
+fn put_drops<A: Allocator>(
+    text: &mut Text<A>,
     stream: &str,
     hop: &str,
     roots: &[Option<Root>],
     origins: &[Origin],
     drops: &[Dropped],
-) -> Result<(), AllocError>
-    ensures { OnOk result (string_bytes text.new ≡ string_bytes text.old ++ spec.drop_lines stream.now hop.now roots.now origins.now drops.now) }
+)
+    ensures { HasGrown text.old (spec.drop_lines stream.now hop.now roots.now origins.now drops.now) text.new }
 {
     for dropped in drops {
-        push_drop(
+        put_drop(
             text,
             stream,
             hop,
             root_at(roots, dropped.own),
             at_of(origins, dropped.own),
             dropped,
-        )?;
+        );
     }
-    Ok(())
 }
 
-/// Adds the lines of the copies that left a hop.
-fn push_departures<A: Allocator>(
-    text: &mut String<A>,
+/// Puts the lines of the copies that left a hop.
+fn put_departures<A: Allocator>(
+    text: &mut Text<A>,
     stream: &str,
     hop: &str,
     roots: &[Option<Root>],
     origins: &[Origin],
     departures: &[Departure],
     ways: &[bool],
-) -> Result<(), AllocError>
-    ensures { OnOk result (string_bytes text.new ≡ string_bytes text.old ++ spec.departure_lines stream.now hop.now roots.now origins.now ways.now departures.now) }
+)
+    ensures { HasGrown text.old (spec.departure_lines stream.now hop.now roots.now origins.now ways.now departures.now) text.new }
 {
     for departure in departures {
-        push_departure(
+        put_departure(
             text,
             stream,
             hop,
@@ -250,25 +216,24 @@ fn push_departures<A: Allocator>(
             at_of(origins, departure.own),
             departure,
             is_on(ways, departure.port),
-        )?;
+        );
     }
-    Ok(())
 }
 
-/// Adds the lines of what a run tells of a hop.
-fn push_view<A: Allocator + Copy>(
-    text: &mut String<A>,
+/// Puts the lines of what a run tells of a hop.
+fn put_view<A: Allocator + Copy>(
+    text: &mut Text<A>,
     stream: &str,
     hop: &str,
     roots: &[Option<Root>],
     ways: &[bool],
     view: &View<A>,
-) -> Result<(), AllocError>
-    ensures { OnOk result (string_bytes text.new ≡ string_bytes text.old ++ spec.view_lines stream.now hop.now roots.now ways.now view.now) }
+)
+    ensures { HasGrown text.old (spec.view_lines stream.now hop.now roots.now ways.now view.now) text.new }
 {
-    push_verdicts(text, stream, hop, roots, &view.origins, &view.verdicts)?;
-    push_drops(text, stream, hop, roots, &view.origins, &view.drops)?;
-    push_departures(
+    put_verdicts(text, stream, hop, roots, &view.origins, &view.verdicts);
+    put_drops(text, stream, hop, roots, &view.origins, &view.drops);
+    put_departures(
         text,
         stream,
         hop,
@@ -276,7 +241,7 @@ fn push_view<A: Allocator + Copy>(
         &view.origins,
         &view.departures,
         ways,
-    )
+    );
 }
 
 /// The lines of a hop: frames that it refused, copies that it dropped, then copies that left it, each in the order of the run.
@@ -292,7 +257,7 @@ pub fn frame_lines<A: Allocator + Copy>(
     ensures { IfOk result (λ text. spec.AreFrameLines links.now hops.now run.now.bridge roots.now stream.now hop.now run.now.view.now (string_bytes text)) }
 {
     let ways = ways_of(alloc, links, hops, run.bridge)?;
-    let mut text = String::new(alloc);
-    push_view(&mut text, stream, hop, roots, &ways, run.view)?;
-    Ok(text)
+    let mut text = Text::new(alloc);
+    put_view(&mut text, stream, hop, roots, &ways, run.view);
+    text.done()
 }

@@ -3,17 +3,9 @@ ghost use Rattle.std.specs.Prelude.{◌≡◌, IfOk, slice_get, Some, ◌+◌, �
 ghost use Rattle.bridge_delays.specs.Hops as spec;
 
 use bridge_limits::NoMemory;
-use bridge_network::Link;
-use bridge_rounds::sender_of;
-use bridge_semantics::View;
+use bridge_network::{Link, sender_of};
+use bridge_tracing::HopRun;
 use std::alloc::Allocator;
-
-/// A hop of a stream: the place of its bridge in the network, from 0, and what the run tells of its filter.
-#[derive(Drop)]
-pub struct HopRun<'a, A: Allocator> {
-    pub bridge: usize,
-    pub view: &'a View<A>,
-}
 
 /// Whether one of some hops is at a bridge.
 fn is_at<A: Allocator>(hops: &[HopRun<'_, A>], bridge: usize) -> bool

@@ -1,12 +1,16 @@
 //! The table of streams: how each stream and each of its hops fared.
-ghost use Rattle.std.specs.Prelude.{◌≡◌, ◌++◌, IfOk, OnOk, string_bytes, sum_by};
+ghost use Rattle.std.specs.Prelude.{◌≡◌, IfOk, string_bytes, sum_by};
+ghost use Rattle.bridge_text.specs.Growth.{HasGrown};
 ghost use Rattle.bridge_delays.specs.Streams as spec;
-ghost use Rattle.bridge_delays.specs.Tallies.{astray};
+ghost use Rattle.bridge_tracing.specs.Tallies.{astray};
 
 use crate::figures::Figures;
-use crate::tallies::{HopCounts, Tally};
+use crate::pieces::{put_ended, put_wide};
+use crate::tallies::HopCounts;
 use bridge_limits::NoMemory;
-use std::alloc::{AllocError, Allocator};
+use bridge_text::Text;
+use bridge_tracing::Tally;
+use std::alloc::Allocator;
 
 /// The first line of the table. Of a stream as a whole, whose hop is `all`: the frames of its first hop, how many of them
 /// were delivered and lost, and how many copies went astray; of a hop: its frames, the copies that it delivered and lost,
@@ -16,9 +20,9 @@ use std::alloc::{AllocError, Allocator};
 pub const STREAMS_HEADER: &str =
     "stream,hop,frames,delivered,lost,blocked,oversize,gate-closed,shut-rx,shut-octets,octets-exceeded,red,yellow-dropped,full,never,astray,least,mean,greatest,jitter,bound,deadline,met\n";
 
-/// Figures, or empty fields where there are none.
-fn figure_words<A: Allocator>(alloc: A, figures: Option<Figures>) -> Result<String<A>, AllocError>
-    ensures { IfOk result (λ words. string_bytes words ≡ spec.figure_words figures) }
+/// Puts figures, or empty fields where there are none.
+fn put_figures<A: Allocator>(text: &mut Text<A>, figures: Option<Figures>)
+    ensures { HasGrown text.old (spec.figure_words figures) text.new }
 {
     match figures {
         Some(
@@ -28,8 +32,13 @@ fn figure_words<A: Allocator>(alloc: A, figures: Option<Figures>) -> Result<Stri
                 greatest,
                 jitter,
             },
-        ) => format!(in alloc; "{least},{mean},{greatest},{jitter},"),
-        None => String::from_str(alloc, ",,,,"),
+        ) => {
+            put_ended(text, least, ",");
+            put_wide(text, mean, ",");
+            put_ended(text, greatest, ",");
+            put_ended(text, jitter, ",");
+        }
+        None => text.put(",,,,"),
     }
 }
 
@@ -44,60 +53,36 @@ fn lost_at(counts: &HopCounts) -> u128
     refused + shut + metered + dropped
 }
 
-/// Adds how many copies a hop lost, by each reason.
-#[tactic(auto, unfolding(crate::specs::Streams::reason_words))]
-fn push_reasons<A: Allocator>(text: &mut String<A>, counts: &HopCounts) -> Result<(), AllocError>
-    ensures { OnOk result (string_bytes text.new ≡ string_bytes text.old ++ spec.reason_words counts.now) }
+/// Puts how many copies a hop lost, by each reason.
+fn put_reasons<A: Allocator>(text: &mut Text<A>, counts: &HopCounts)
+    ensures { HasGrown text.old (spec.reason_words counts.now) text.new }
 {
-    let HopCounts {
-        frames: _,
-        delivered: _,
-        blocked,
-        oversize,
-        gate_closed,
-        shut_rx,
-        shut_octets,
-        octets_exceeded,
-        red,
-        yellow_dropped,
-        full,
-        never,
-    } = *counts;
-    write!(
-        text,
-        "{blocked},{oversize},{gate_closed},{shut_rx},{shut_octets},{octets_exceeded},{red},{yellow_dropped},{full},{never},"
-    )
+    put_ended(text, counts.blocked, ",");
+    put_ended(text, counts.oversize, ",");
+    put_ended(text, counts.gate_closed, ",");
+    put_ended(text, counts.shut_rx, ",");
+    put_ended(text, counts.shut_octets, ",");
+    put_ended(text, counts.octets_exceeded, ",");
+    put_ended(text, counts.red, ",");
+    put_ended(text, counts.yellow_dropped, ",");
+    put_ended(text, counts.full, ",");
+    put_ended(text, counts.never, ",");
 }
 
-/// The same as a text.
-fn reason_words<A: Allocator>(alloc: A, counts: &HopCounts) -> Result<String<A>, AllocError>
-    ensures { IfOk result (λ words. string_bytes words ≡ spec.reason_words counts.now) }
+/// Puts the beginning of the line of a hop.
+fn put_hop_start<A: Allocator>(text: &mut Text<A>, stream: &str, hop: &str, counts: &HopCounts)
+    ensures { HasGrown text.old (spec.hop_start stream.now hop.now counts.now) text.new }
 {
-    let mut text = String::new(alloc);
-    push_reasons(&mut text, counts)?;
-    Ok(text)
-}
-
-/// The beginning of the line of a hop.
-#[tactic(auto, unfolding(crate::specs::Streams::hop_start))]
-fn hop_start<A: Allocator>(
-    alloc: A,
-    stream: &str,
-    hop: &str,
-    counts: &HopCounts,
-) -> Result<String<A>, AllocError>
-    ensures { IfOk result (λ words. string_bytes words ≡ spec.hop_start stream.now hop.now counts.now) }
-{
-    let mut text = String::new(alloc);
-    let frames = counts.frames;
-    let delivered = counts.delivered;
-    let lost = lost_at(counts);
-    write!(text, "{stream},{hop},{frames},{delivered},{lost},")?;
-    Ok(text)
+    text.put(stream);
+    text.put(",");
+    text.put(hop);
+    text.put(",");
+    put_ended(text, counts.frames, ",");
+    put_ended(text, counts.delivered, ",");
+    put_wide(text, lost_at(counts), ",");
 }
 
 /// The line of a hop.
-#[tactic(auto, unfolding(crate::specs::Streams::hop_line))]
 pub fn hop_line<A: Allocator + Copy>(
     alloc: A,
     stream: &str,
@@ -107,12 +92,13 @@ pub fn hop_line<A: Allocator + Copy>(
 ) -> Result<String<A>, NoMemory>
     ensures { IfOk result (λ text. string_bytes text ≡ spec.hop_line stream.now hop.now counts.now figures) }
 {
-    let start = hop_start(alloc, stream, hop, counts)?;
-    let reasons = reason_words(alloc, counts)?;
-    let times = figure_words(alloc, figures)?;
-    let mut text = String::new(alloc);
-    write!(text, "{start}{reasons},{times},,\n")?;
-    Ok(text)
+    let mut text = Text::new(alloc);
+    put_hop_start(&mut text, stream, hop, counts);
+    put_reasons(&mut text, counts);
+    text.put(",");
+    put_figures(&mut text, figures);
+    text.put(",,\n");
+    text.done()
 }
 
 /// How many frames were delivered.
@@ -129,25 +115,18 @@ fn astray_of(tallies: &[Tally]) -> u128
     tallies.iter().map(|tally| u128::from(tally.astray())).sum()
 }
 
-/// The beginning of the line of a stream.
-#[tactic(auto, unfolding(crate::specs::Streams::stream_start))]
-fn stream_start<A: Allocator>(
-    alloc: A,
-    stream: &str,
-    tallies: &[Tally],
-) -> Result<String<A>, AllocError>
-    ensures { IfOk result (λ words. string_bytes words ≡ spec.stream_start stream.now tallies.now) }
+/// Puts the beginning of the line of a stream.
+fn put_stream_start<A: Allocator>(text: &mut Text<A>, stream: &str, tallies: &[Tally])
+    ensures { HasGrown text.old (spec.stream_start stream.now tallies.now) text.new }
 {
-    let mut text = String::new(alloc);
     let frames = tallies.len();
     let delivered = delivered_of(tallies);
-    let lost = frames.saturating_sub(delivered);
-    let astray = astray_of(tallies);
-    write!(
-        text,
-        "{stream},all,{frames},{delivered},{lost},,,,,,,,,,,{astray},"
-    )?;
-    Ok(text)
+    text.put(stream);
+    text.put(",all,");
+    put_ended(text, frames as u64, ",");
+    put_ended(text, delivered as u64, ",");
+    put_ended(text, frames.saturating_sub(delivered) as u64, ",,,,,,,,,,,");
+    put_wide(text, astray_of(tallies), ",");
 }
 
 /// Whether no copy took longer than a deadline.
@@ -167,27 +146,29 @@ fn is_met(tallies: &[Tally], figures: Option<Figures>, deadline: u64) -> bool
     delivered_of(tallies) == tallies.len() && is_within(figures, deadline)
 }
 
-/// A deadline and whether it was met, or empty fields where there is none.
-fn deadline_words<A: Allocator>(
-    alloc: A,
+/// Whether a deadline was met, behind a comma.
+fn met_word(met: bool) -> &'static str
+    ensures { result.now ≡ spec.met_word met }
+{
+    if met { ",met" } else { ",missed" }
+}
+
+/// Puts a deadline and whether it was met, or empty fields where there is none.
+fn put_deadline<A: Allocator>(
+    text: &mut Text<A>,
     tallies: &[Tally],
     figures: Option<Figures>,
     deadline: Option<u64>,
-) -> Result<String<A>, AllocError>
-    ensures { IfOk result (λ words. string_bytes words ≡ spec.deadline_words tallies.now figures deadline) }
+)
+    ensures { HasGrown text.old (spec.deadline_words tallies.now figures deadline) text.new }
 {
-    let Some(deadline) = deadline else {
-        return String::from_str(alloc, ",");
-    };
-    if is_met(tallies, figures, deadline) {
-        format!(in alloc; "{deadline},met")
-    } else {
-        format!(in alloc; "{deadline},missed")
+    match deadline {
+        Some(deadline) => put_ended(text, deadline, met_word(is_met(tallies, figures, deadline))),
+        None => text.put(","),
     }
 }
 
 /// The line of a stream as a whole.
-#[tactic(auto, unfolding(crate::specs::Streams::stream_line))]
 pub fn stream_line<A: Allocator + Copy>(
     alloc: A,
     stream: &str,
@@ -198,10 +179,11 @@ pub fn stream_line<A: Allocator + Copy>(
 ) -> Result<String<A>, NoMemory>
     ensures { IfOk result (λ text. string_bytes text ≡ spec.stream_line stream.now tallies.now figures bound deadline) }
 {
-    let start = stream_start(alloc, stream, tallies)?;
-    let times = figure_words(alloc, figures)?;
-    let kept = deadline_words(alloc, tallies, figures, deadline)?;
-    let mut text = String::new(alloc);
-    write!(text, "{start}{times}{bound},{kept}\n")?;
-    Ok(text)
+    let mut text = Text::new(alloc);
+    put_stream_start(&mut text, stream, tallies);
+    put_figures(&mut text, figures);
+    put_wide(&mut text, bound, ",");
+    put_deadline(&mut text, tallies, figures, deadline);
+    text.put("\n");
+    text.done()
 }

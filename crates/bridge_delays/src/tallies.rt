@@ -1,45 +1,16 @@
-//! How often copies of frames of a stream were delivered and lost.
+//! How often copies of frames of a stream were delivered and lost at a hop.
 ghost use Rattle.std.specs.Prelude.{◌≡◌, ◌++◌, Bool, List, count_by, IfOk, OnOk};
 ghost use Rattle.bridge_delays.specs.Hops.{AreWays};
 ghost use Rattle.bridge_delays.specs.Tallies as spec;
 
-use crate::hops::{HopRun, is_on, ways_of};
-use crate::tracing::{Root, root_at};
+use crate::hops::{is_on, ways_of};
 use bridge_filter::Verdict;
 use bridge_limits::NoMemory;
 use bridge_network::Link;
 use bridge_port::Refusal;
 use bridge_semantics::{Departure, Dropped, View};
+use bridge_tracing::{HopRun, Root, root_at};
 use std::alloc::Allocator;
-
-/// What became of the copies of a frame of the first hop: how many were delivered, how many were refused or dropped at some
-/// hop, how many left to a bridge with a hop, and how many of these came to one.
-#[derive(Clone, Copy, Debug, PartialEq, Eq)]
-pub struct Tally {
-    pub delivered: u64,
-    pub refused: u64,
-    pub sent_on: u64,
-    pub taken: u64,
-}
-
-impl Tally {
-    ghost use Rattle.std.specs.Prelude.{◌≡◌};
-    ghost use Rattle.bridge_delays.specs.Tallies as spec;
-
-    /// How many copies went to a bridge with a hop, and were none of its frames.
-    pub fn astray(&self) -> u64
-        ensures { result ≡ spec.astray self.now }
-    {
-        self.sent_on.saturating_sub(self.taken)
-    }
-
-    /// Whether it was delivered, and no copy of it was lost.
-    pub fn is_delivered(&self) -> bool
-        ensures { result ≡ spec.is_delivered self.now }
-    {
-        0 < self.delivered && self.refused == 0 && self.sent_on <= self.taken
-    }
-}
 
 /// Whether a frame passes.
 pub(crate) fn passes(verdict: Verdict) -> bool
@@ -49,7 +20,7 @@ pub(crate) fn passes(verdict: Verdict) -> bool
 }
 
 /// What a hop counts: its frames, the copies that it delivered, and those that it refused or dropped, by the reason.
-#[derive(Clone, Copy, Debug, PartialEq, Eq)]
+#[derive(Clone, Copy)]
 pub struct HopCounts {
     pub frames: u64,
     pub delivered: u64,

@@ -18,9 +18,9 @@ use Rattle.bridge_semantics.proofs.Headline.{as_offer, in_offered}
 use Rattle.bridge_bounds.proofs.Whole.{in_bound}
 use Rattle.bridge_network.specs.Networks.{IsNetwork, IsNetworkRun, Network}
 use Rattle.bridge_network.specs.declared.links.Link.{Link}
-use Rattle.bridge_delays.specs.declared.hops.HopRun.{HopRun}
-use Rattle.bridge_delays.specs.declared.tracing.Root.{Root}
-use Rattle.bridge_delays.specs.Tracing.{IsBehind, IsFrom}
+use Rattle.bridge_tracing.specs.declared.hops.HopRun.{HopRun}
+use Rattle.bridge_tracing.specs.declared.tracing.Root.{Root}
+use Rattle.bridge_tracing.specs.Tracing.{IsBehind, IsFrom}
 use Rattle.bridge_net_app.specs.InTime.{AreRunsOf, AreWithin, ComeOnward, GoesOnce, IsFromOver, IsRunOf, IsWithin, took_most}
 use Rattle.bridge_net_app.proofs.Accepted.{listed_at}
 use Rattle.bridge_net_app.proofs.Origins.{came_as}

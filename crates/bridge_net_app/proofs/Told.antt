@@ -7,12 +7,12 @@ use Rattle.bridge_netfile.specs.Model.{Stream}
 use Rattle.bridge_network.specs.declared.links.Link.{Link}
 use Rattle.bridge_rounds.specs.declared.settling.Settled.{Settled}
 use Rattle.bridge_rounds.specs.Rounds.{AreOutcomes}
-use Rattle.bridge_delays.specs.declared.hops.HopRun.{HopRun}
-use Rattle.bridge_delays.specs.declared.tallies.Tally.{Tally}
-use Rattle.bridge_delays.specs.declared.tracing.Root.{Root}
+use Rattle.bridge_tracing.specs.declared.hops.HopRun.{HopRun}
+use Rattle.bridge_tracing.specs.declared.tallies.Tally.{Tally}
+use Rattle.bridge_tracing.specs.declared.tracing.Root.{Root}
 use Rattle.bridge_delays.specs.Counting.{AreTallies}
 use Rattle.bridge_delays.specs.Streams.{delivered_of}
-use Rattle.bridge_delays.specs.Tracing.{AreExhausted, AreFirstKnown, AreFrom}
+use Rattle.bridge_tracing.specs.Tracing.{AreExhausted, AreFirstKnown, AreFrom}
 use Rattle.bridge_net_app.specs.Counted.{CountsTo, IsCountOf, with_more}
 use Rattle.bridge_net_app.specs.InTime.{AreRunsOf, IsRunOf}
 

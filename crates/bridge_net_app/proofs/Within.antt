@@ -33,12 +33,12 @@ use Rattle.bridge_planning.specs.declared.bounds.QueueBound.{QueueBound}
 use Rattle.bridge_rounds.specs.Rounds.{AreOutcomes, RunsNetwork, commands_in}
 use Rattle.bridge_rounds.specs.declared.settling.Settled.{Settled}
 use Rattle.bridge_rounds.specs.declared.station.Incoming.{Incoming}
-use Rattle.bridge_delays.specs.declared.hops.HopRun.{HopRun}
-use Rattle.bridge_delays.specs.declared.tracing.Root.{Root}
+use Rattle.bridge_tracing.specs.declared.hops.HopRun.{HopRun}
+use Rattle.bridge_tracing.specs.declared.tracing.Root.{Root}
 use Rattle.bridge_delays.specs.Hops.{is_on}
 use Rattle.bridge_delays.specs.Tallies.{delay_from, delay_of, delays_of, if_delivered}
-use Rattle.bridge_delays.specs.Tracing.{AreFrom, root_at}
-use Rattle.bridge_delays.proofs.Traced.{root_there}
+use Rattle.bridge_tracing.specs.Tracing.{AreFrom, root_at}
+use Rattle.bridge_tracing.proofs.Traced.{root_there}
 use Rattle.bridge_net_app.specs.InTime.{AreRunsOf, AreWithin, GoOnce, GoesOnce, IsFromOver, IsWithin, places_of, took_most}
 use Rattle.bridge_net_app.proofs.Accepted.{IsOfPlan, hop_protected, listed_at}
 use Rattle.bridge_net_app.proofs.Measured.{in_time, over_legs}

@@ -11,9 +11,9 @@ use Rattle.bridge_semantics.specs.declared.outcome.Outcome.{Outcome}
 use Rattle.bridge_bounds.specs.Bounds.{IsBound}
 use Rattle.bridge_network.specs.Networks.{Network}
 use Rattle.bridge_network.specs.declared.links.Link.{Link}
-use Rattle.bridge_delays.specs.declared.hops.HopRun.{HopRun}
-use Rattle.bridge_delays.specs.declared.tracing.Root.{Root}
-use Rattle.bridge_delays.specs.Tracing.{CameOver, IsBehind, IsFirst}
+use Rattle.bridge_tracing.specs.declared.hops.HopRun.{HopRun}
+use Rattle.bridge_tracing.specs.declared.tracing.Root.{Root}
+use Rattle.bridge_tracing.specs.Tracing.{CameOver, IsBehind, IsFirst}
 
 -- THE WAY OF A FRAME
 

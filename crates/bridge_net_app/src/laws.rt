@@ -18,10 +18,10 @@ ghost use Rattle.bridge_planning.specs.declared.bounds.QueueBound.{QueueBound};
 ghost use Rattle.bridge_rounds.specs.Rounds.{AreOutcomes, RunsNetwork};
 ghost use Rattle.bridge_rounds.specs.declared.settling.Settled.{Settled};
 ghost use Rattle.bridge_rounds.specs.declared.station.Incoming.{Incoming};
-ghost use Rattle.bridge_delays.specs.declared.hops.HopRun.{HopRun};
-ghost use Rattle.bridge_delays.specs.declared.tracing.Root.{Root};
+ghost use Rattle.bridge_tracing.specs.declared.hops.HopRun.{HopRun};
+ghost use Rattle.bridge_tracing.specs.declared.tracing.Root.{Root};
 ghost use Rattle.bridge_delays.specs.Tallies.{delays_of};
-ghost use Rattle.bridge_delays.specs.Tracing.{AreFrom, IsFrom};
+ghost use Rattle.bridge_tracing.specs.Tracing.{AreFrom, IsFrom};
 ghost use Rattle.bridge_net_app.specs.InTime.{AreRunsOf, AreWithin, ComeOnward, GoOnce, GoesOnce, IsFromOver, took_most};
 
 use std::alloc::Allocator;

@@ -7,8 +7,8 @@ ghost use Rattle.bridge_net_app.specs.Folders.{EndsFiles};
 ghost use Rattle.bridge_net_app.specs.InTime.{AreRunsOf, IsRunOf};
 
 use bridge_delays::{
-    FRAMES_HEADER, HopRun, Root, STREAMS_HEADER, Tally, counts_of, delays_of, delivered_of,
-    figures_of, frame_lines, hop_line, roots_of, stream_line, tallies_of,
+    FRAMES_HEADER, STREAMS_HEADER, counts_of, delays_of, delivered_of, figures_of, frame_lines,
+    hop_line, stream_line, tallies_of,
 };
 use bridge_files::Output;
 use bridge_jobs::Fault;
@@ -18,6 +18,7 @@ use bridge_network::Link;
 use bridge_planning::memory_fault;
 use bridge_report::view_of;
 use bridge_rounds::Settled;
+use bridge_tracing::{HopRun, Root, Tally, roots_of};
 use std::alloc::Global;
 use std::fs::OpenFile;
 use std::io;

@@ -16,3 +16,4 @@ pub mod Straying
 pub mod Sound
 pub mod Reaching
 pub mod Sampled
+pub mod Walked

@@ -5,6 +5,7 @@ use Rattle.bridge_config.specs.Model.{Plan}
 use Rattle.bridge_network.specs.declared.links.End.{End}
 use Rattle.bridge_network.specs.declared.links.Link.{Link}
 use Rattle.bridge_network.specs.declared.links.StreamHop.{StreamHop}
+use Rattle.bridge_network.specs.declared.senders.Sender.{Sender}
 use Rattle.bridge_network.specs.Networks as networks
 
 -- an end of a link
@@ -47,3 +48,7 @@ network_of n = record { bridges = n.plans; links = map link_of n.links }
 -- the port at the other end of the first link that a port has
 abbrev pub peer : List Link → ℕ → ℕ → Option networks.End
 peer links b q = option_map (λ (s : networks.Sender). s.from) (networks.sender (map link_of links) b q)
+
+-- what sends to a port
+abbrev pub sender_value : Sender → networks.Sender
+sender_value s = record { from = end_of s.from; delay = s.delay }

@@ -13,7 +13,7 @@ pub struct End {
 }
 
 /// A full-duplex link of two ports.
-#[derive(Clone, Copy, Debug, PartialEq, Eq)]
+#[derive(Clone, Copy)]
 pub struct Link {
     pub one: End,
     pub other: End,

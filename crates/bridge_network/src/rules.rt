@@ -183,7 +183,7 @@ fn has_entry<A: Allocator + Copy>(plan: &Plan<A>, port: u8, handle: u32) -> bool
 }
 
 /// A hop that is tested.
-#[derive(Clone, Copy)]
+#[derive(Drop)]
 pub(crate) struct HopCase<'a, A: Allocator + Copy> {
     pub case: Case<'a, A>,
     /// Its stream.

@@ -17,7 +17,7 @@ use bridge_ident::StreamEntry;
 use std::alloc::Allocator;
 
 /// Frames that come over a link: those that an entry of the port names there, with this tag or none.
-#[derive(Clone, Copy, Debug, PartialEq, Eq)]
+#[derive(Clone, Copy)]
 pub struct Stray {
     pub entry: StreamEntry,
     pub tag: Option<Tag>,

@@ -40,7 +40,7 @@ pub(crate) struct Found {
 }
 
 /// A port of a bridge that sends over a link.
-#[derive(Clone, Copy)]
+#[derive(Drop)]
 pub(crate) struct Sending<'a, A: Allocator + Copy> {
     pub plan: &'a Plan<A>,
     pub end: End,

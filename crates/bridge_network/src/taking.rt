@@ -13,7 +13,7 @@ use bridge_ident::StreamEntry;
 use std::alloc::Allocator;
 
 /// The filter of a hop at a port with a link.
-#[derive(Clone, Copy)]
+#[derive(Drop)]
 pub(crate) struct Taking<'a, A: Allocator + Copy> {
     /// The port at the other end.
     pub sending: Sending<'a, A>,

@@ -8,3 +8,4 @@ pub mod Told
 pub mod Feeding
 pub mod Stopped
 pub mod Handing
+pub mod Made

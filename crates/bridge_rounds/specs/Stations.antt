@@ -15,10 +15,10 @@ use Rattle.bridge_semantics.specs.Outputs.{Ends}
 use Rattle.bridge_core.specs.Lines.{FitsRecord}
 use Rattle.bridge_core.specs.Simulated.{AreNumbers, Stops}
 use Rattle.bridge_network.specs.Networks as networks
-use Rattle.bridge_network.specs.Wiring.{end_of, link_of}
+use Rattle.bridge_network.specs.Wiring.{link_of, sender_value}
 use Rattle.bridge_network.specs.declared.links.Link.{Link}
 use Rattle.bridge_rounds.specs.declared.station.Incoming.{Incoming}
-use Rattle.bridge_rounds.specs.declared.station.Sender.{Sender}
+use Rattle.bridge_network.specs.declared.senders.Sender.{Sender}
 use Rattle.bridge_rounds.specs.Delaying.{delayed}
 
 -- a text is the capture of these frames, each of which fits its record
@@ -64,10 +64,6 @@ texts_in {A} texts = map (λ (v : Vec ℕ A). v.items) texts
 -- what sinks in memory hold
 abbrev pub taps_in : List MemoryDevice → List (List ℕ)
 taps_in taps = map (λ (d : MemoryDevice). d.octets) taps
-
--- what sends to a port
-abbrev pub sender_value : Sender → networks.Sender
-sender_value s = record { from = end_of s.from; delay = s.delay }
 
 -- what sends to ports, as the definitions have it
 abbrev pub senders_in : List (Option Sender) → List (Option networks.Sender)

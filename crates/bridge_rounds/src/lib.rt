@@ -7,4 +7,4 @@ mod station;
 
 pub use delaying::later_text;
 pub use settling::{Nobody, RoundsFault, Settled, Watch, settle};
-pub use station::{Incoming, Sender, is_linked, sender_of};
+pub use station::{Incoming, is_linked};

@@ -2,17 +2,17 @@
 ghost use Rattle.std.specs.Prelude.{◌≡◌, ◌<◌, ℕ, All, List, Some, None, false, true, length, map, option_map, slice_get, IfOk, IfErr, OnErr, OnOk, Ok, Err};
 ghost use Rattle.bridge_network.specs.Checked.{AreClosed};
 ghost use Rattle.bridge_network.specs.Networks.{IsNetwork};
-ghost use Rattle.bridge_network.specs.Wiring.{network_of};
-ghost use Rattle.bridge_rounds.specs.Stations.{AreFed, GoesOn, HasRun, IsLaterText, IsStation, StationState, ground, sender_value, tap_of, texts_of};
+ghost use Rattle.bridge_network.specs.Wiring.{network_of, sender_value};
+ghost use Rattle.bridge_rounds.specs.Stations.{AreFed, GoesOn, HasRun, IsLaterText, IsStation, StationState, ground, tap_of, texts_of};
 ghost use Rattle.bridge_rounds.specs.Feeding.{AreAllHanded, AreFedBut, AreFedByRun, AreHanded, AreKept, IsHanded};
 ghost use Rattle.bridge_rounds.specs.Rounds.{AreBegun, AreIncoming, AreSettled, IsolatesStreams, OthersChangeNothing, RunsNetwork, StopsRound, StopsSettling};
 
 use crate::delaying::later_text;
-use crate::station::{Incoming, Sender, Station};
+use crate::station::{Incoming, Station};
 use bridge_capture::VecSink;
 use bridge_inputs::RunFault;
 use bridge_limits::NoMemory;
-use bridge_network::Network;
+use bridge_network::{Network, Sender};
 use bridge_semantics::Outcome;
 use std::alloc::Allocator;
 
@@ -23,7 +23,7 @@ pub trait Watch {
 }
 
 /// Nobody, who is told nothing.
-#[derive(Clone, Copy, Debug, PartialEq, Eq)]
+#[derive(Clone, Copy)]
 pub struct Nobody;
 
 impl Watch for Nobody {

@@ -4,8 +4,8 @@ ghost use Rattle.bridge_capture.specs.Memory.{is_sure};
 ghost use Rattle.bridge_config.specs.Commands.{AreCommands};
 ghost use Rattle.bridge_core.specs.Simulated.{AreNumbers};
 ghost use Rattle.bridge_network.specs.Networks as networks;
-ghost use Rattle.bridge_rounds.specs.Stations.{HasRun, IsBegun, IsIncoming, IsStation, NoneCame, NoneCameBefore, RunsBridge, StopsBridge, ground, of_memory, open_texts, sender_value, senders_in, taps_in, text_by, texts_in};
-ghost use Rattle.bridge_network.specs.Wiring.{end_of, link_of};
+ghost use Rattle.bridge_rounds.specs.Stations.{HasRun, IsBegun, IsIncoming, IsStation, NoneCame, NoneCameBefore, RunsBridge, StopsBridge, ground, of_memory, open_texts, senders_in, taps_in, text_by, texts_in};
+ghost use Rattle.bridge_network.specs.Wiring.{link_of, sender_value};
 
 use bridge_capture::{SliceSource, VecSink};
 use bridge_check::Accepted;
@@ -13,7 +13,7 @@ use bridge_config::Command;
 use bridge_core::simulate;
 use bridge_inputs::RunFault;
 use bridge_limits::NoMemory;
-use bridge_network::{End, Link};
+use bridge_network::{Link, Sender, sender_of};
 use bridge_semantics::Outcome;
 use std::alloc::Allocator;
 use std::marker::Model;
@@ -115,7 +115,7 @@ fn tap_in<'a, A: Allocator + Copy>(ports: &[u8], taps: &'a [VecSink<A>], port: u
 }
 
 /// What comes to a bridge of a network from outside.
-#[derive(Debug, Drop)]
+#[derive(Drop)]
 pub struct Incoming<A: Allocator> {
     /// Its commands, by rising moment.
     pub commands: Vec<Command, A>,
@@ -123,47 +123,11 @@ pub struct Incoming<A: Allocator> {
     pub captures: Vec<Vec<u8, A>, A>,
 }
 
-/// What sends to a port: the port at the other end of its link, and for how long a frame is under way, in ns.
-#[derive(Clone, Copy, Debug, PartialEq, Eq)]
-pub struct Sender {
-    pub from: End,
-    pub delay: u64,
-}
-
-/// What sends to a port of a bridge: the other end of the first link that has this port. A bridge is named by its place,
-/// from 0.
-pub fn sender_of(links: &[Link], bridge: usize, port: u8) -> Option<Sender>
-    ensures { option_map sender_value result ≡ networks.sender (map link_of links.now) bridge port }
-{
-    for link in links {
-        if is_at(link.one, bridge, port) {
-            return Some(Sender {
-                from: link.other,
-                delay: link.delay,
-            });
-        }
-        if is_at(link.other, bridge, port) {
-            return Some(Sender {
-                from: link.one,
-                delay: link.delay,
-            });
-        }
-    }
-    None
-}
-
 /// Whether a port of a bridge has a link. A bridge is named by its place, from 0.
 pub fn is_linked(links: &[Link], bridge: usize, port: u8) -> bool
     ensures { result ≡ is_some (networks.sender (map link_of links.now) bridge port) }
 {
     sender_of(links, bridge, port).is_some()
-}
-
-/// Whether an end is a port of a bridge.
-fn is_at(end: End, bridge: usize, port: u8) -> bool
-    ensures { result ≡ networks.is_at (end_of end) bridge port }
-{
-    end.bridge as usize == bridge && end.port == port
 }
 
 /// What sends to each port of a bridge.

@@ -1,7 +1,7 @@
 use Rattle.std.proofs.Common.{List, Option, Some, drop, nat_eq, sym, ap, ◌∙◌, arith}
 use Rattle.std.specs.Prelude.{Vec}
-use Rattle.bridge_delays.specs.declared.hops.HopRun.{HopRun}
-use Rattle.bridge_delays.specs.declared.tracing.Root.{Root}
+use Rattle.bridge_tracing.specs.declared.hops.HopRun.{HopRun}
+use Rattle.bridge_tracing.specs.declared.tracing.Root.{Root}
 use Rattle.std.proofs.lemmas.Option.{slice_get-get_or}
 use Rattle.bridge_delays.specs.Counting.{with_hop}
 use Rattle.bridge_delays.proofs.Counted.{at_end, at_end_known, one_more}

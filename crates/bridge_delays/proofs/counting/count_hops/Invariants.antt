@@ -1,6 +1,6 @@
 use Rattle.std.proofs.Common.{List, drop, nat_eq, true}
 use Rattle.bridge_delays.specs.Counting.{AreCounted}
-use Rattle.bridge_delays.specs.declared.tallies.Tally.{Tally}
+use Rattle.bridge_tracing.specs.declared.tallies.Tally.{Tally}
 use Rattle.bridge_delays.proofs.counting.count_hops.Given as goal
 
 abbrev pub invariant-loop-place : goal.invariant-loop-place

@@ -1,7 +1,7 @@
 use Rattle.std.proofs.Common.{◌∷◌, ◌∙◌, [], ap, arith, length, subst, sym}
 use Rattle.std.proofs.lemmas.List.{length-append}
 use Rattle.bridge_delays.specs.Hops.{AreAnswers}
-use Rattle.bridge_delays.proofs.Traced.{answers_more}
+use Rattle.bridge_delays.proofs.Ways.{answers_more}
 use Rattle.bridge_delays.proofs.hops.ways_of.Goals as goal
 
 pub loop-port-preserved : goal.loop-port-preserved

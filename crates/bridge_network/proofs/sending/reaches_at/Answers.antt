@@ -1,4 +1,4 @@
-use Rattle.std.proofs.Common.{◌≡◌, ◌≤◌, ◌∙◌, ap, arith}
+use Rattle.std.proofs.Common.{◌≡◌, ◌∙◌, ap, arith}
 use Rattle.bridge_check.specs.Reach.{any_below, reaches}
 use Rattle.bridge_network.proofs.sending.reaches_at.Goals as goal
 

@@ -1,8 +1,9 @@
 use Rattle.std.proofs.Common.{Option, Some, slice_index_or, sym, ap, ◌∙◌}
 use Rattle.std.specs.Prelude.{slice_get, option_map}
 use Rattle.std.proofs.lemmas.Option.{slice_get-get_or}
-use Rattle.bridge_rounds.specs.Stations.{StationState, sender_value}
-use Rattle.bridge_rounds.specs.declared.station.Sender.{Sender}
+use Rattle.bridge_rounds.specs.Stations.{StationState}
+use Rattle.bridge_network.specs.Wiring.{sender_value}
+use Rattle.bridge_network.specs.declared.senders.Sender.{Sender}
 use Rattle.bridge_rounds.proofs.Handing.{fed_open, handed_same}
 use Rattle.bridge_rounds.proofs.Turns.{at_place}
 use Rattle.bridge_rounds.proofs.settling.feed.Goals as goal
@@ -27,3 +28,12 @@ returns-then-stood g c =
     let there = slice_get-get_or c.args.stations.now c.args.bridge c.index-stations-bridge.result c.requires.bridge in
     let linked = c.sender.ensures ∙ ap (λ (o : Option Sender). Some (option_map sender_value o)) c.in-Some.is in
     handed_same c.args.stations.now c.args.bridge c.args.place x there (c.requires.fed c.args.bridge c.args.place x (sender_value c.in-Some.sender) there (c.requires.place x there) linked (c.stood.ensures c.if-stood.true))
+
+pub bounds-stations-bridge : goal.bounds-stations-bridge
+bounds-stations-bridge g c = c.requires.bridge
+
+pub hand-requires-clause-bridge : goal.hand-requires-clause-bridge
+hand-requires-clause-bridge g c = c.requires.bridge
+
+pub hand-requires-clause-place : goal.hand-requires-clause-place
+hand-requires-clause-place g c = c.requires.place

@@ -1,7 +1,8 @@
 use Rattle.std.proofs.Common.{ℕ, List, Some, refl, sym, ap, slice_index_or, ◌∙◌}
 use Rattle.std.specs.Prelude.{slice_get}
 use Rattle.std.proofs.lemmas.Option.{slice_get-get_or}
-use Rattle.bridge_rounds.specs.Stations.{StationState, sender_value}
+use Rattle.bridge_rounds.specs.Stations.{StationState}
+use Rattle.bridge_network.specs.Wiring.{sender_value}
 use Rattle.bridge_rounds.proofs.Handing.{handed_other, handed_same}
 use Rattle.bridge_rounds.proofs.Turns.{at_place, fed_one}
 use Rattle.bridge_rounds.proofs.settling.hand.Goals as goal
@@ -49,3 +50,12 @@ returns g c =
       later = c.in_ok-text.ensures;
       other = λ same. here.2 (same ∙ sym c.deref.ensures.value);
     })
+
+pub bounds-stations-bridge : goal.bounds-stations-bridge
+bounds-stations-bridge g c = c.requires.bridge
+
+pub bounds-stations-bridge-2 : goal.bounds-stations-bridge-2
+bounds-stations-bridge-2 g c = c.requires.bridge
+
+pub bounds-stations-bridge-3 : goal.bounds-stations-bridge-3
+bounds-stations-bridge-3 g c = c.requires.bridge

@@ -1,8 +1,9 @@
 use Rattle.std.proofs.Common.{◌≡◌, ◌+◌, ℕ, Option, Some, None, option_map, sym, ap, subst, ◌∙◌}
 use Rattle.std.specs.Prelude.{Vec, slice_get}
 use Rattle.std.proofs.lemmas.Option.{slice_get-get_or, slice_get-map}
-use Rattle.bridge_rounds.specs.declared.station.Sender.{Sender}
-use Rattle.bridge_rounds.specs.Stations.{NoneCameBefore, open_texts, sender_value, senders_in, texts_in}
+use Rattle.bridge_network.specs.declared.senders.Sender.{Sender}
+use Rattle.bridge_rounds.specs.Stations.{NoneCameBefore, open_texts, senders_in, texts_in}
+use Rattle.bridge_network.specs.Wiring.{sender_value}
 use Rattle.bridge_rounds.proofs.Begun.{none_more, none_open}
 use Rattle.bridge_rounds.proofs.Turns.{map_of_set, open_set}
 use Rattle.bridge_rounds.proofs.station.without_at.Goals as goal

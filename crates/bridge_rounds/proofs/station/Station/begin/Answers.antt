@@ -5,9 +5,9 @@ use Rattle.bridge_config.specs.Model.{Plan}
 use Rattle.bridge_core.specs.Simulated.{AreNumbers}
 use Rattle.bridge_core.proofs.Simulating.{ports_many}
 use Rattle.bridge_network.specs.Networks as networks
-use Rattle.bridge_network.specs.Wiring.{link_of}
-use Rattle.bridge_rounds.specs.declared.station.Sender.{Sender}
-use Rattle.bridge_rounds.specs.Stations.{NoneCame, open_texts, sender_value, senders_in, taps_in, texts_in}
+use Rattle.bridge_network.specs.Wiring.{link_of, sender_value}
+use Rattle.bridge_network.specs.declared.senders.Sender.{Sender}
+use Rattle.bridge_rounds.specs.Stations.{NoneCame, open_texts, senders_in, taps_in, texts_in}
 use Rattle.bridge_rounds.proofs.Over.{kept_begun}
 use Rattle.bridge_rounds.proofs.station.Station.begin.Goals as goal
 

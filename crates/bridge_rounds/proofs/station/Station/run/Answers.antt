@@ -1,6 +1,6 @@
 use Rattle.std.proofs.Common.{ℕ, List, length, refl, sym, ap, subst, ◌∙◌}
 use Rattle.bridge_config.specs.declared.command.Command.{Command}
-use Rattle.bridge_rounds.specs.Stations.{RunsBridge, StationState, StopsBridge, senders_in, taps_in, texts_in}
+use Rattle.bridge_rounds.specs.Stations.{RunsBridge, StationState, StopsBridge, ground, senders_in, taps_in, texts_in}
 use Rattle.bridge_rounds.proofs.Over.{kept_ran, some_there}
 use Rattle.bridge_rounds.proofs.station.Station.run.Goals as goal
 
@@ -29,3 +29,12 @@ invariant_of-self g c =
 
 pub returns-clause-runs : goal.returns-clause-runs
 returns-clause-runs g c = (c.in-Ok.ran.outcome, refl)
+
+pub returns-clause-same : goal.returns-clause-same
+returns-clause-same g c = (ap (λ (s : StationState g.row.A.Denot). ground s) c.self.view_is, ap (λ (s : StationState g.row.A.Denot). s.texts) c.self.view_is)
+
+pub returns-then-is_some-clause-same : goal.returns-then-is_some-clause-same
+returns-then-is_some-clause-same g c = (refl, refl)
+
+pub returns-then-is_some-clause-kept : goal.returns-then-is_some-clause-kept
+returns-then-is_some-clause-kept g c = λ e. refl

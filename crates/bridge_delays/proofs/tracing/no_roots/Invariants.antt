@@ -1,5 +1,0 @@
-use Rattle.bridge_delays.specs.Tracing.{AreUnknown}
-use Rattle.bridge_delays.proofs.tracing.no_roots.Given as goal
-
-abbrev pub invariant-loop-origin : goal.invariant-loop-origin
-invariant-loop-origin g l = AreUnknown l.roots.items

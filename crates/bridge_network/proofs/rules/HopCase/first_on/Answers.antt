@@ -1,0 +1,10 @@
+use Rattle.std.proofs.Common.{Option, ap, ◌∙◌}
+use Rattle.bridge_network.specs.Finding.{taken_link}
+use Rattle.bridge_network.specs.Networks.{End}
+use Rattle.bridge_network.specs.Wiring.{stream_of}
+use Rattle.bridge_network.proofs.rules.HopCase.first_on.Goals as goal
+
+pub returns-in-Some : goal.returns-in-Some
+returns-in-Some g c =
+    let h = c.args.self.now in
+    c.first_over.ensures ∙ ap (λ (e : Option End). taken_link c.args.question h.case.plans.now (stream_of h.stream.now) e h.next.now c.args.on.now h.hop.filter) c.in-Some.ensures

@@ -1,0 +1,10 @@
+use Rattle.std.proofs.Common.{◌≡◌, length}
+use Rattle.bridge_tracing.specs.Tracing.{AreBegun, AreFirstKnown}
+use Rattle.bridge_tracing.proofs.tracing.begun.Given as goal
+
+abbrev pub invariant-loop-place : goal.invariant-loop-place
+invariant-loop-place g l = record {
+  many : length l.all.items ≡ l.place;
+  begun : AreBegun l.hops l.all.items;
+  first : AreFirstKnown l.hops l.all.items;
+}

@@ -1,0 +1,33 @@
+use Rattle.std.proofs.Common.{Option, sym, subst}
+use Rattle.std.specs.Prelude.{Vec}
+use Rattle.bridge_tracing.specs.declared.tracing.Root.{Root}
+use Rattle.bridge_tracing.specs.Tracing.{AreExhausted}
+use Rattle.bridge_tracing.proofs.Traced.{begun_sound}
+use Rattle.bridge_tracing.proofs.tracing.roots_of.Goals as goal
+
+pub loop-init : goal.loop-init
+loop-init g c = record {
+  many = c.in_ok-all.ensures.many;
+  sound = begun_sound c.args.links.now c.args.hops.now c.in_ok-all.all.items c.in_ok-all.ensures.begun c.in_ok-all.ensures.first;
+}
+
+pub trace_all-requires : goal.trace_all-requires
+trace_all-requires g c = record { many = c.loop.invariant.many }
+
+pub loop-preserved : goal.loop-preserved
+loop-preserved g c = record {
+  many = c.in_ok-trace_all.ensures.many;
+  sound = c.in_ok-trace_all.ensures.sound c.loop.invariant.sound;
+}
+
+pub returns-then-not-branch : goal.returns-then-not-branch
+returns-then-not-branch g c =
+    let ensured = c.in_ok-trace_all.ensures in
+    let sound = ensured.sound c.loop.invariant.sound in
+    let none = c.if-not-branch.true in
+    record {
+      many = ensured.many;
+      from = sound.from;
+      first = sound.first;
+      exhausted = subst (λ (v : Vec (Vec (Option Root) g.row.A.Denot) g.row.A.Denot). AreExhausted c.args.links.now c.args.hops.now v.items) (sym (ensured.same none)) (ensured.exhausted none);
+    }

@@ -1,0 +1,11 @@
+use Rattle.std.proofs.Common.{◌≡◌, ◌<◌, ◌≤◌, ℕ, false, length}
+use Rattle.bridge_tracing.specs.Tracing.{AreSound, IsPortExhausted}
+use Rattle.bridge_tracing.proofs.tracing.trace_hop.Given as goal
+
+abbrev pub invariant-loop-port : goal.invariant-loop-port
+invariant-loop-port g l = record {
+  many : length l.all.items ≡ length l.hops;
+  sound : AreSound l.links l.hops l.initial.all.items → AreSound l.links l.hops l.all.items;
+  same : l.more ≡ false → l.all ≡ l.initial.all;
+  exhausted : l.more ≡ false → (q : ℕ) → 1 ≤ q → q < l.port → IsPortExhausted l.links l.hops l.initial.all.items l.place q;
+}

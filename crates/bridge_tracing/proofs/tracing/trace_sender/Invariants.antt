@@ -1,0 +1,13 @@
+use Rattle.std.proofs.Common.{◌≡◌, ◌<◌, ℕ, List, false, length}
+use Rattle.bridge_network.specs.declared.links.Link.{Link}
+use Rattle.bridge_network.specs.Wiring.{sender_value}
+use Rattle.bridge_tracing.specs.Tracing.{AreSound, IsPairExhausted, SenderIs}
+use Rattle.bridge_tracing.proofs.tracing.trace_sender.Given as goal
+
+abbrev pub invariant-loop-other : goal.invariant-loop-other
+invariant-loop-other g l = record {
+  many : length l.all.items ≡ length l.hops;
+  sound : (links : List Link) → SenderIs links l.hops l.place l.port (sender_value l.sender) → AreSound links l.hops l.initial.all.items → AreSound links l.hops l.all.items;
+  same : l.more ≡ false → l.all ≡ l.initial.all;
+  exhausted : l.more ≡ false → (j : ℕ) → j < l.other → IsPairExhausted l.hops l.initial.all.items (sender_value l.sender) l.place l.port j;
+}
