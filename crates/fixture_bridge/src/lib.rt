@@ -54,14 +54,9 @@ fn depart<G: Agenda + Drop>(
         let command = bridge.earliest_command();
         let sent = bridge.advance();
         same(
-            &(sent.port, sent.start),
-            &(port, start),
-            "the start that was due",
-        )?;
-        same(
-            &bridge.earliest_command(),
-            &command.max(start + 1),
-            "a command after a start",
+            &(sent.port as u64, sent.start, bridge.earliest_command()),
+            &(port as u64, start, command.max(start + 1)),
+            "the start that was due, and a command after it",
         )?;
         gone.push(sent)?;
     }
@@ -135,16 +130,15 @@ pub fn come<G: Agenda + Drop, A: Allocator + Copy>(
         return Err(Fail::from(why));
     }
     let time = frame.0;
+    let told = (
+        bridge.arrived(),
+        bridge.earliest(),
+        bridge.earliest_command(),
+    );
     same(
-        &bridge.arrived(),
-        &arrived.saturating_add(1),
-        "the frames that came",
-    )?;
-    same(&bridge.earliest(), &time, "the moment of the next frame")?;
-    same(
-        &bridge.earliest_command(),
-        &time.saturating_add(1),
-        "the moment of the next command",
+        &told,
+        &(arrived.saturating_add(1), time, time.saturating_add(1)),
+        "the frames that came, and the moments of the next frame and command",
     )
 }
 
@@ -190,17 +184,16 @@ pub fn obey<G: Agenda + Drop, A: Allocator + Copy>(
     let arrived = bridge.arrived();
     let due = bridge.due();
     bridge.command(command);
-    same(
-        &bridge.arrived(),
-        &arrived,
-        "the frames that came before a command",
-    )?;
     same(&bridge.due(), &due, "the start that is due after a command")?;
-    same(&bridge.earliest(), &command.at, "a frame after a command")?;
+    let told = (
+        bridge.arrived(),
+        bridge.earliest(),
+        bridge.earliest_command(),
+    );
     same(
-        &bridge.earliest_command(),
-        &command.at,
-        "a command after a command",
+        &told,
+        &(arrived, command.at, command.at),
+        "the frames that came before a command, and the moments of what may come behind it",
     )
 }
 
@@ -375,11 +368,10 @@ fn drive<G: Agenda + Drop>(
 ) -> Result<Vec<Sent<Global>>, Fail>
     requires plan { plan_in bridge.old ≡ accepted.now }
 {
-    same(&bridge.earliest(), &0, "the first moment of a frame")?;
     same(
-        &bridge.earliest_command(),
-        &0,
-        "the first moment of a command",
+        &(bridge.earliest(), bridge.earliest_command()),
+        &(0, 0),
+        "the first moments of a frame and of a command",
     )?;
     let mut gone = Vec::new(alloc);
     take_all(alloc, accepted, bridge, command, frames, &mut gone)?;
