@@ -1,4 +1,4 @@
-use Rattle.std.proofs.Common.{◌≡◌, ◌+◌, ◌<◌, length, ap, subst, sym}
+use Rattle.std.proofs.Common.{◌≡◌, ◌+◌, ◌<◌, length, ap, rules, subst, sym}
 use Rattle.bridge_port.specs.Standing.{limit}
 use Rattle.bridge_core.specs.Bridges.{StandsAfter}
 use Rattle.bridge_core.proofs.bridge.Bridge.advance.Goals as goal
@@ -9,3 +9,9 @@ returns-clause-bounded g c = λ p es left stands.
     let own = subst (λ b. StandsAfter p b es left) (sym c.self.view_is) stands in
     let many = (own.leaves c.advance-sent.result.port sent.slot c.advance-sent.ensures.port sent.there).many in
     subst (λ n. c.advance-sent.result.done < limit (n + 1)) many sent.bounded
+
+pub returns-clause-sends : goal.returns-clause-sends
+returns-clause-sends g c = search rules
+
+pub returns-clause-reaches : goal.returns-clause-reaches
+returns-clause-reaches g c = search rules
