@@ -2,4 +2,3 @@ pub mod Counts
 pub mod Named
 pub mod Numerals
 pub mod Own
-pub mod Passing

@@ -10,7 +10,7 @@ ghost use Rattle.bridge_netfile.specs.Sections as sections;
 use crate::fault::{NetFault, NetField, NetPlace, NetSection};
 use crate::reading::{are_known, name_at, text_at};
 use crate::rows::RowReader;
-use std::alloc::{AllocError, Allocator};
+use std::alloc::Allocator;
 use std::marker::Model;
 use toml::Table;
 
@@ -58,20 +58,6 @@ fn has_bridge<A: Allocator + Copy>(bridges: &[BridgeRow<A>], name: &str) -> bool
     false
 }
 
-/// A bridge of a name and a plan.
-fn bridge_row<A: Allocator + Copy>(
-    alloc: A,
-    name: &str,
-    plan: &str,
-) -> Result<BridgeRow<A>, AllocError>
-    ensures name { IfOk result (λ b. b.name ≡ name.now) }
-    ensures plan { IfOk result (λ b. b.plan ≡ plan.now) }
-{
-    let name = String::from_str(alloc, name)?;
-    let plan = String::from_str(alloc, plan)?;
-    Ok(BridgeRow { name, plan })
-}
-
 /// The bridge of a table, by those before it.
 #[tactic(auto, unfolding(crate::specs::Sections::bridge_at))]
 fn bridge_of<A: Allocator + Copy>(
@@ -84,41 +70,26 @@ fn bridge_of<A: Allocator + Copy>(
     ensures own { IfOk result (λ b. rules.has_bridge earlier.now b.name ≡ false) }
     ensures name { IfOk result (λ b. is_name b.name ≡ true) }
 {
+    let at = |field: NetField| -> NetPlace
+        ensures { result ≡ record { section = the_section.Bridge; index = index; field = field } }
+    {
+        NetPlace {
+            section: NetSection::Bridge,
+            index,
+            field,
+        }
+    };
     if !are_known(table, &[NetField::Name, NetField::Plan]) {
         return Err(NetFault::UnknownKey(NetSection::Bridge, index));
     }
-    let section = NetSection::Bridge;
-    let field = NetField::Name;
-    let name = match name_at(
-        table,
-        NetPlace {
-            section,
-            index,
-            field,
-        },
-    ) {
-        Ok(name) => name,
-        Err(fault) => return Err(fault),
-    };
-    let field = NetField::Plan;
-    let plan = match text_at(
-        table,
-        NetPlace {
-            section,
-            index,
-            field,
-        },
-    ) {
-        Ok(plan) => plan,
-        Err(fault) => return Err(fault),
-    };
+    let name = name_at(table, at(NetField::Name))?;
+    let plan = text_at(table, at(NetField::Plan))?;
     if has_bridge(earlier, name) {
         return Err(NetFault::Duplicate(NetSection::Bridge, index));
     }
-    match bridge_row(alloc, name, plan) {
-        Ok(row) => Ok(row),
-        Err(_) => Err(NetFault::NoMemory),
-    }
+    let name = String::from_str(alloc, name)?;
+    let plan = String::from_str(alloc, plan)?;
+    Ok(BridgeRow { name, plan })
 }
 
 /// The section of bridges.

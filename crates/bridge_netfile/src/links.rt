@@ -68,55 +68,26 @@ fn link_of<A: Allocator + Copy>(
     ensures link { IfOk result (rules.IsLink (length bridges.now)) }
     ensures takes_no_memory { IfErr result (λ e. ¬ (e ≡ NoMemory)) }
 {
+    let at = |field: NetField| -> NetPlace
+        ensures { result ≡ record { section = the_section.Link; index = index; field = field } }
+    {
+        NetPlace {
+            section: NetSection::Link,
+            index,
+            field,
+        }
+    };
     if !are_known(table, &[NetField::One, NetField::Other, NetField::Delay]) {
         return Err(NetFault::UnknownKey(NetSection::Link, index));
     }
     let ports = PortOf { bridges };
-    let section = NetSection::Link;
-    let field = NetField::One;
-    let one = match required(
-        table,
-        NetPlace {
-            section,
-            index,
-            field,
-        },
-        &ports,
-    ) {
-        Ok(one) => one,
-        Err(fault) => return Err(fault),
-    };
-    let field = NetField::Other;
-    let other = match required(
-        table,
-        NetPlace {
-            section,
-            index,
-            field,
-        },
-        &ports,
-    ) {
-        Ok(other) => other,
-        Err(fault) => return Err(fault),
-    };
+    let one = required(table, at(NetField::One), &ports)?;
+    let other = required(table, at(NetField::Other), &ports)?;
     let delays = Between {
         low: 0,
         high: LONGEST_DELAY,
     };
-    let field = NetField::Delay;
-    let delay = match default_to(
-        0,
-        table,
-        NetPlace {
-            section,
-            index,
-            field,
-        },
-        &delays,
-    ) {
-        Ok(delay) => delay,
-        Err(fault) => return Err(fault),
-    };
+    let delay = default_to(0, table, at(NetField::Delay), &delays)?;
     Ok(LinkRow { one, other, delay })
 }
 

@@ -111,10 +111,7 @@ fn first_pass<'a>(table: &'a Table) -> Result<Arrays<'a>, NetFault>
     if !are_sections(&sections, table) {
         return Err(NetFault::UnknownKey(NetSection::Top, 0));
     }
-    let bridges = match items_of(NetSection::Bridge, table) {
-        Ok(bridges) => bridges,
-        Err(fault) => return Err(fault),
-    };
+    let bridges = items_of(NetSection::Bridge, table)?;
     if is_empty(bridges) {
         return Err(NetFault::Missing(NetPlace {
             section: NetSection::Top,
@@ -122,14 +119,8 @@ fn first_pass<'a>(table: &'a Table) -> Result<Arrays<'a>, NetFault>
             field: NetField::Bridge,
         }));
     }
-    let links = match items_of(NetSection::Link, table) {
-        Ok(links) => links,
-        Err(fault) => return Err(fault),
-    };
-    let streams = match items_of(NetSection::Stream, table) {
-        Ok(streams) => streams,
-        Err(fault) => return Err(fault),
-    };
+    let links = items_of(NetSection::Link, table)?;
+    let streams = items_of(NetSection::Stream, table)?;
     Ok(Arrays {
         bridges,
         links,

@@ -110,19 +110,11 @@ where
     let mut made = Vec::new(alloc);
     let mut index: u32 = 1;
     'items: for item in items {
-        let place = index;
-        index += 1;
-        match item.as_table() {
-            None => continue,
-            Some(table) => match section.read(alloc, &made, place, table) {
-                Ok(row) => {
-                    if made.push(row).is_err() {
-                        return Err(NetFault::NoMemory);
-                    }
-                }
-                Err(fault) => return Err(fault),
-            },
+        if let Some(table) = item.as_table() {
+            let row = section.read(alloc, &made, index, table)?;
+            made.push(row)?;
         }
+        index += 1;
     }
     Ok(made)
 }

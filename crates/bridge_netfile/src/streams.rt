@@ -186,14 +186,8 @@ fn hops_of<A: Allocator + Copy>(
 {
     let mut hops = Vec::new(alloc);
     'items: for item in items {
-        match hop_of(bridges, place, item) {
-            Ok(hop) => {
-                if hops.push(hop).is_err() {
-                    return Err(NetFault::NoMemory);
-                }
-            }
-            Err(fault) => return Err(fault),
-        }
+        let hop = hop_of(bridges, place, item)?;
+        hops.push(hop)?;
     }
     Ok(hops)
 }
@@ -244,64 +238,31 @@ fn stream_of<A: Allocator + Copy>(
     ensures own { IfOk result (λ s. rules.has_stream earlier.now s.name ≡ false) }
     ensures stream { IfOk result (rules.IsStream (length bridges.now)) }
 {
+    let at = |field: NetField| -> NetPlace
+        ensures { result ≡ record { section = the_section.Stream; index = index; field = field } }
+    {
+        NetPlace {
+            section: NetSection::Stream,
+            index,
+            field,
+        }
+    };
     if !are_known(table, &KEYS) {
         return Err(NetFault::UnknownKey(NetSection::Stream, index));
     }
-    let section = NetSection::Stream;
-    let field = NetField::Name;
-    let name = match name_at(
-        table,
-        NetPlace {
-            section,
-            index,
-            field,
-        },
-    ) {
-        Ok(name) => name,
-        Err(fault) => return Err(fault),
-    };
-    let field = NetField::Hops;
-    let value = value_at(table, field.key());
-    let hops = match hops_in(
-        alloc,
-        bridges,
-        NetPlace {
-            section,
-            index,
-            field,
-        },
-        value,
-    ) {
-        Ok(hops) => hops,
-        Err(fault) => return Err(fault),
-    };
-    let talker = match talker_in(index, table) {
-        Ok(talker) => talker,
-        Err(fault) => return Err(fault),
-    };
+    let name = name_at(table, at(NetField::Name))?;
+    let value = value_at(table, NetField::Hops.key());
+    let hops = hops_in(alloc, bridges, at(NetField::Hops), value)?;
+    let talker = talker_in(index, table)?;
     let times = Between {
         low: 0,
         high: END_OF_TIME,
     };
-    let field = NetField::Deadline;
-    let deadline = match optional(
-        table,
-        NetPlace {
-            section,
-            index,
-            field,
-        },
-        &times,
-    ) {
-        Ok(deadline) => deadline,
-        Err(fault) => return Err(fault),
-    };
+    let deadline = optional(table, at(NetField::Deadline), &times)?;
     if has_stream(earlier, name) {
         return Err(NetFault::Duplicate(NetSection::Stream, index));
     }
-    let Ok(name) = String::from_str(alloc, name) else {
-        return Err(NetFault::NoMemory);
-    };
+    let name = String::from_str(alloc, name)?;
     Ok(StreamRow {
         name,
         hops,

@@ -63,90 +63,40 @@ fn talker_of(index: u32, table: &Table) -> Result<Talker, NetFault>
     ensures talker { IfOk result IsTalker }
     ensures takes_no_memory { IfErr result (λ e. ¬ (e ≡ NoMemory)) }
 {
-    let section = NetSection::Stream;
+    let at = |field: NetField| -> NetPlace
+        ensures { result ≡ record { section = the_section.Stream; index = index; field = field } }
+    {
+        NetPlace {
+            section: NetSection::Stream,
+            index,
+            field,
+        }
+    };
     let periods = Between {
         low: 1,
         high: END_OF_TIME,
     };
-    let field = NetField::Period;
-    let period = match required(
-        table,
-        NetPlace {
-            section,
-            index,
-            field,
-        },
-        &periods,
-    ) {
-        Ok(period) => period,
-        Err(fault) => return Err(fault),
-    };
+    let period = required(table, at(NetField::Period), &periods)?;
     let last = period - 1;
-    let phases = Between { low: 0, high: last };
-    let field = NetField::From;
-    let from = match required(
+    let from = required(table, at(NetField::From), &Between { low: 0, high: last })?;
+    let to = required(
         table,
-        NetPlace {
-            section,
-            index,
-            field,
+        at(NetField::To),
+        &Between {
+            low: from,
+            high: last,
         },
-        &phases,
-    ) {
-        Ok(from) => from,
-        Err(fault) => return Err(fault),
-    };
-    let later = Between {
-        low: from,
-        high: last,
-    };
-    let field = NetField::To;
-    let to = match required(
-        table,
-        NetPlace {
-            section,
-            index,
-            field,
-        },
-        &later,
-    ) {
-        Ok(to) => to,
-        Err(fault) => return Err(fault),
-    };
+    )?;
     let lengths = Between {
         low: 1,
         high: LONGEST_FRAME as u64,
     };
-    let field = NetField::Least;
-    let least = match required(
-        table,
-        NetPlace {
-            section,
-            index,
-            field,
-        },
-        &lengths,
-    ) {
-        Ok(least) => least,
-        Err(fault) => return Err(fault),
-    };
+    let least = required(table, at(NetField::Least), &lengths)?;
     let longer = Between {
         low: least,
         high: LONGEST_FRAME as u64,
     };
-    let field = NetField::Longest;
-    let longest = match required(
-        table,
-        NetPlace {
-            section,
-            index,
-            field,
-        },
-        &longer,
-    ) {
-        Ok(longest) => longest,
-        Err(fault) => return Err(fault),
-    };
+    let longest = required(table, at(NetField::Longest), &longer)?;
     Ok(Talker {
         period,
         from,
@@ -165,8 +115,6 @@ pub(crate) fn talker_in(index: u32, table: &Table) -> Result<Option<Talker>, Net
     if !has_any(table, &KEYS) {
         return Ok(None);
     }
-    match talker_of(index, table) {
-        Ok(talker) => Ok(Some(talker)),
-        Err(fault) => Err(fault),
-    }
+    let talker = talker_of(index, table)?;
+    Ok(Some(talker))
 }

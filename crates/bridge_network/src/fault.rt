@@ -6,7 +6,7 @@ use crate::links::End;
 use thiserror::Error;
 
 /// Why a network is refused, in the order of the tests. Links, streams and the hops of a stream are counted from 1.
-#[derive(Clone, Copy, Debug, Error)]
+#[derive(Clone, Copy, Debug, PartialEq, Eq, Error)]
 pub enum NetworkFault {
     /// The link names a bridge or a port that isn't there.
     #[error("a link of a bridge or a port that isn't there")]
