@@ -70,11 +70,10 @@ fn leave_first<G: Agenda + Drop, H: Allocator + Copy + Tells>(
     ensures plan { plan_in bridge.new ≡ plan_in bridge.old }
 {
     let came = heap.account();
-    assert!(rt; bridge.due() == Some((3, 100_000)));
-    assert!(rt; send(bridge) == 1);
+    let is_due = bridge.due() == Some((3, 100_000));
+    let starts = send(bridge);
     let sent = heap.account();
-    assert!(rt; sent.left == came.left);
-    assert!(rt; sent.used < came.used);
+    assert!(rt; is_due & (starts == 1) & (sent.left == came.left) & (sent.used < came.used));
 }
 
 /// A frame that goes to one port takes its octets and what the lists of its filter grow by, and what leaves gives its octets
@@ -106,11 +105,15 @@ fn come_second<G: Agenda + Drop, H: Allocator + Copy + Tells>(
 {
     let sent = heap.account();
     obey(accepted, bridge, &UNBLOCK)?;
-    assert!(rt; heap.account() == sent);
+    let obeyed = heap.account();
     come(heap, accepted, bridge, 1, LATER)?;
-    assert!(rt; sent.left.saturating_sub(heap.account().left) == 1);
-    assert!(rt; send(bridge) == 1);
-    assert!(rt; heap.account().used == sent.used);
+    let came = heap.account();
+    let starts = send(bridge);
+    let is_so = (obeyed == sent)
+        & (sent.left.saturating_sub(came.left) == 1)
+        & (starts == 1)
+        & (heap.account().used == sent.used);
+    assert!(rt; is_so);
     Ok(())
 }
 
@@ -127,9 +130,11 @@ fn is_idle<G: Agenda + Drop, H: Allocator + Copy + Tells>(
     bridge: &Bridge<'_, G, H>,
 ) {
     let made = heap.account();
-    assert!(rt; bridge.due() == None);
-    assert!(rt; bridge.arrived() == 0 && bridge.earliest() == 0);
-    assert!(rt; bridge.earliest_command() == 0);
+    let is_so = (bridge.due() == None)
+        & (bridge.arrived() == 0)
+        & (bridge.earliest() == 0)
+        & (bridge.earliest_command() == 0);
+    assert!(rt; is_so);
     is_untouched(rt, heap, made);
 }
 
@@ -161,8 +166,7 @@ fn end<G: Agenda + Drop, H: Allocator + Copy + Tells>(
         }
         None => {
             let outcome = bridge.finish();
-            assert!(rt; heap.account().left == before.left);
-            assert!(rt; outcome.filters.len() == 2);
+            assert!(rt; (heap.account().left == before.left) & (outcome.filters.len() == 2));
             Ok(())
         }
     }

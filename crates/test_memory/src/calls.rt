@@ -28,10 +28,12 @@ fn begins(rt: &impl Abort, made: Account) {
 
 /// Turns, fits and runs of a list.
 fn ask_list<A: Allocator + Copy>(rt: &impl Abort, list: &CyclicList<u8, A>) {
-    assert!(rt; list.turn(600_000).end == 1_000_000);
-    assert!(rt; (list.base(), list.cycle()) == (0, 1_000_000));
-    assert!(rt; list.entries().len() == 2);
-    assert!(rt; fit_of(rt, list, 7, 672, 499_329) == 1_000_000);
+    let is_so = (list.turn(600_000).end == 1_000_000)
+        & (list.base() == 0)
+        & (list.cycle() == 1_000_000)
+        & (list.entries().len() == 2)
+        & (fit_of(rt, list, 7, 672, 499_329) == 1_000_000);
+    assert!(rt; is_so);
 }
 
 /// The first fit of a class that is open for `occ` ns or more, and not always.
@@ -69,9 +71,11 @@ pub(crate) fn use_list<H: Allocator + Copy + Tells>(
 
 /// Turns and fits of lists that are exchanged at 2,000,000.
 fn ask_joined<A: Allocator + Copy>(rt: &impl Abort, joined: &Joined<u8, A>) {
-    assert!(rt; joined.turn(1_700_000).end == 2_000_000);
-    assert!(rt; (joined.at(), joined.cycle()) == (2_000_000, 1_000_000));
-    assert!(rt; fit_of_both(rt, joined, 7, 672, 1_499_329) == 2_000_000);
+    let is_so = (joined.turn(1_700_000).end == 2_000_000)
+        & (joined.at() == 2_000_000)
+        & (joined.cycle() == 1_000_000)
+        & (fit_of_both(rt, joined, 7, 672, 1_499_329) == 2_000_000);
+    assert!(rt; is_so);
 }
 
 /// The first fit of a class that both lists open for `occ` ns or more.
@@ -113,14 +117,15 @@ pub(crate) fn use_joined<H: Allocator + Copy + Tells>(
 /// Frames at an open and at a closed gate, and each clear.
 fn ask_gate<A: Allocator + Copy>(rt: &impl Abort, gate: &mut StreamGate<A>) {
     assert!(rt; gate.earliest() == 0);
-    assert!(rt; gate.ask(299_999, 64) == Through(Some(7)));
-    assert!(rt; gate.ask(300_000, 64) == Closed);
-    assert!(rt; gate.ask(1_000_000, 64) == ShutByRx);
-    assert!(rt; gate.flags() == (true, false));
+    let is_so = (gate.ask(299_999, 64) == Through(Some(7)))
+        & (gate.ask(300_000, 64) == Closed)
+        & (gate.ask(1_000_000, 64) == ShutByRx)
+        & (gate.flags() == (true, false));
+    assert!(rt; is_so);
     gate.clear_rx();
     gate.clear_octets();
-    assert!(rt; gate.ask(1_000_000, 64) == Through(Some(7)));
-    assert!(rt; gate.earliest() == 1_000_000);
+    let is_so = (gate.ask(1_000_000, 64) == Through(Some(7))) & (gate.earliest() == 1_000_000);
+    assert!(rt; is_so);
 }
 
 /// Makes a gate and asks it.
@@ -171,9 +176,10 @@ fn head() -> Head {
 }
 
 fn ask_ident<A: Allocator + Copy>(rt: &impl Abort, table: &Ident<A>) {
-    assert!(rt; table.entries().len() == 1);
-    assert!(rt; table.handle_of(1, &head(), 10) == Some(1));
-    assert!(rt; table.handle_of(2, &head(), 10) == None);
+    let is_so = (table.entries().len() == 1)
+        & (table.handle_of(1, &head(), 10) == Some(1))
+        & (table.handle_of(2, &head(), 10) == None);
+    assert!(rt; is_so);
 }
 
 /// Makes a table of streams and asks it.
@@ -191,22 +197,12 @@ pub(crate) fn use_ident<H: Allocator + Copy + Tells>(
 }
 
 fn ask_database<A: Allocator + Copy>(rt: &impl Abort, database: &Forwarding<A>) {
-    assert!(rt; database.vlans().len() == 1);
-    assert!(rt; database.statics().len() == 1);
-    goes_to(rt, database, 10, &LISTENER, 0b100);
-    goes_to(rt, database, 10, &TALKER, 0b110);
-    goes_to(rt, database, 20, &TALKER, 0);
-}
-
-/// A frame that came on port 1 goes to these ports.
-fn goes_to<A: Allocator + Copy>(
-    rt: &impl Abort,
-    database: &Forwarding<A>,
-    vid: u16,
-    address: &[u8; 6],
-    ports: u16,
-) {
-    assert!(rt; database.forward(1, vid, address).bits() == ports);
+    let is_so = (database.vlans().len() == 1)
+        & (database.statics().len() == 1)
+        & (database.forward(1, 10, &LISTENER).bits() == 0b100)
+        & (database.forward(1, 10, &TALKER).bits() == 0b110)
+        & (database.forward(1, 20, &TALKER).bits() == 0);
+    assert!(rt; is_so);
 }
 
 /// Makes the tables of addresses and asks them.
@@ -243,13 +239,16 @@ fn start<A: Allocator + Copy>(port: &mut Port<u32, A>) -> Option<u64> {
 }
 
 fn use_port<A: Allocator + Copy>(rt: &impl Abort, port: &mut Port<u32, A>) {
-    assert!(rt; start(port) == None);
-    assert!(rt; offer(rt, port));
-    assert!(rt; !offer(rt, port), "its queue is full");
-    assert!(rt; start(port) == Some(0));
-    assert!(rt; offer(rt, port));
-    assert!(rt; start(port) == Some(672));
-    assert!(rt; (port.offered(), port.started()) == (3, 2));
+    // The second offer is refused, since the queue is full.
+    let is_so = (start(port) == None)
+        & offer(rt, port)
+        & !offer(rt, port)
+        & (start(port) == Some(0))
+        & offer(rt, port)
+        & (start(port) == Some(672))
+        & (port.offered() == 3)
+        & (port.started() == 2);
+    assert!(rt; is_so);
 }
 
 /// Makes a port and uses it.
@@ -268,21 +267,23 @@ pub(crate) fn have_port<H: Allocator + Copy + Tells>(
 
 /// The readers of gates, meters and filters.
 fn read_sections<A: Allocator + Copy>(rt: &impl Abort, plan: &Plan<A>) {
-    assert!(rt; plan.gates().len() == 2);
-    assert!(rt; plan.meters().len() == 1);
-    assert!(rt; plan.filters().len() == 2);
+    let are_so = (plan.gates().len() == 2)
+        & (plan.meters().len() == 1)
+        & (plan.filters().len() == 2);
+    assert!(rt; are_so);
 }
 
 /// Each reader of a plan.
 fn read_plan<A: Allocator + Copy>(rt: &impl Abort, plan: &Plan<A>) {
-    assert!(rt; plan.ports().len() == 3);
-    assert!(rt; plan.port(3).is_some());
-    assert!(rt; plan.vlans().len() == 1);
-    assert!(rt; plan.statics().len() == 1);
-    assert!(rt; plan.streams().len() == 1);
+    let are_so = (plan.ports().len() == 3)
+        & plan.port(3).is_some()
+        & (plan.vlans().len() == 1)
+        & (plan.statics().len() == 1)
+        & (plan.streams().len() == 1)
+        & (plan.forward(1, 10, &LISTENER).bits() == 0b100)
+        & (plan.forward(1, 10, &TALKER).bits() == 0b110);
+    assert!(rt; are_so);
     read_sections(rt, plan);
-    assert!(rt; plan.forward(1, 10, &LISTENER).bits() == 0b100);
-    assert!(rt; plan.forward(1, 10, &TALKER).bits() == 0b110);
 }
 
 /// An accepted plan that is read takes no memory, and what its check took was given back.

@@ -68,12 +68,13 @@ fn clear_all<A: Allocator + Copy>(police: &mut Police<A>)
 fn show<A: Allocator + Copy>(rt: &impl Abort, police: &Police<A>, wanted: Flags, frames: u64)
     requires { IsTrue (is_there 10 police.now.filters) }
 {
-    assert!(rt; police.flags(10) == wanted);
-    assert!(rt; police.counters(10).matching == frames);
-    assert!(rt; police.buckets(10).is_some());
-    assert!(rt; police.calls() == frames);
-    assert!(rt; police.filter_of(Some(1), 0) == Some(10));
-    assert!(rt; police.filter_of(None, 0) == None);
+    let is_so = (police.flags(10) == wanted)
+        & (police.counters(10).matching == frames)
+        & police.buckets(10).is_some()
+        & (police.calls() == frames)
+        & (police.filter_of(Some(1), 0) == Some(10))
+        & (police.filter_of(None, 0) == None);
+    assert!(rt; is_so);
 }
 
 const FIRST: [(u64, u32, Verdict); 6] = [
