@@ -1,8 +1,8 @@
 #![tactic(auto)]
 //! Files of cases: texts of plans, of commands, of networks and of traffic, and what is to become of each; then the
 //! help of the program and of each of its commands, as docs/COMMANDS.md has it, what is read of command lines, what
-//! is told beside the line of each kind of fault, and of plans that are accepted, what jobs over files say, and the
-//! line and the status of faults.
+//! is told beside the line of each kind of fault, and of plans that are accepted, what jobs over files say, what plans
+//! show of their parts, what becomes of captures that are read, sent and written, and the line and the status of faults.
 //!
 //! The words name the files of both, with `told` between them. `data/README.md` says how they are written.
 
