@@ -40,7 +40,7 @@ fn has_keys(table: &Table) -> bool
 
 /// The filter of a table with its number, by what finds the numbers of gates, meters and the filters before it.
 #[tactic(auto, unfolding(crate::specs::Sections::filter_among))]
-fn filter_among<G: Finds + Drop, M: Finds + Drop, F: Finds + Drop>(
+fn filter_among<G: Finds + Copy, M: Finds + Copy, F: Finds + Copy>(
     gates: G,
     meters: M,
     filters: F,

@@ -4,6 +4,7 @@ ghost use Rattle.std.specs.Option.{ForSome};
 ghost use Rattle.bridge_config.specs.Sections as sections;
 
 use bridge_schema::Finds;
+use std::alloc::AllocError;
 
 /// Whether an instance has a number.
 pub(crate) fn has_number<X>(instances: &[(u32, X)], number: u64) -> bool
@@ -18,10 +19,21 @@ pub(crate) fn has_number<X>(instances: &[(u32, X)], number: u64) -> bool
 }
 
 /// The numbers of the instances of a section.
-#[derive(Clone, Copy)]
 pub(crate) struct NumbersOf<'a, X> {
     pub instances: &'a [(u32, X)],
 }
+
+impl<'a, X> Clone for NumbersOf<'a, X> {
+    ghost is_clone = { λ x y. y ≡ x };
+
+    ghost is_infallible = { λ _. Unit {0} };
+
+    fn clone(&self) -> Result<NumbersOf<'a, X>, AllocError> {
+        Ok(*self)
+    }
+}
+
+impl<'a, X> Copy for NumbersOf<'a, X> {}
 
 impl<'a, X> Finds for NumbersOf<'a, X> {
     ghost among = { λ s. sections.has_number s.instances.now };

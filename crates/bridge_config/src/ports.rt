@@ -215,7 +215,7 @@ fn port_list<A: Allocator + Copy>(
 
 /// The port of a table, by the moment of the change of schedules and what finds the numbers of the ports before it.
 #[tactic(auto, unfolding(crate::specs::Sections::port_among))]
-fn port_among<A: Allocator + Copy, P: Finds + Drop>(
+fn port_among<A: Allocator + Copy, P: Finds + Copy>(
     alloc: A,
     change: Option<u64>,
     ports: P,

@@ -77,7 +77,7 @@ fn has_keys(table: &Table) -> bool
 
 /// The stream identification of a table, by what finds the numbers of ports.
 #[tactic(auto, unfolding(crate::specs::Sections::stream_among))]
-fn stream_among<P: Finds + Drop>(
+fn stream_among<P: Finds + Copy>(
     ports: P,
     index: u32,
     table: &Table,
