@@ -11,7 +11,7 @@ use std::time::{Duration, Instant};
 const ROOM: u16 = 64;
 
 /// How often something was done, and for how long.
-#[derive(Clone, Copy, Debug)]
+#[derive(Clone, Copy)]
 struct Tally {
     count: u64,
     time: Duration,

@@ -14,7 +14,7 @@ use bridge_walks::{Place, round_in};
 use std::alloc::Allocator;
 
 /// Frames that may go round, and a port to which they come again and again.
-#[derive(Clone, Copy, Debug, PartialEq, Eq)]
+#[derive(Clone, Copy)]
 pub struct Circulation {
     pub group: Group,
     pub at: Place,

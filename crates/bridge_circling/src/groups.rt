@@ -10,7 +10,7 @@ use bridge_limits::NoMemory;
 use std::alloc::Allocator;
 
 /// Frames that go one way: a bridge changes neither the VLAN that their tag names nor where they are to go.
-#[derive(Clone, Copy, Debug, PartialEq, Eq)]
+#[derive(Clone, Copy)]
 pub struct Group {
     /// The VLAN that their tag names. Frames without one are classified by the port on which they come.
     pub vlan: Option<u16>,

@@ -13,7 +13,7 @@ use std::alloc::Allocator;
 
 /// How long the frames of a stream take whose talker keeps a period, in ns, from when they came to the first hop until they
 /// are done at a last one.
-#[derive(Clone, Copy, Debug, PartialEq, Eq)]
+#[derive(Clone, Copy)]
 pub struct Course {
     /// Whether each passes the filters of all hops.
     pub passes: bool,

@@ -6,7 +6,7 @@ use crate::leading::{far_end, hop_at};
 use bridge_network::{Link, StreamHop};
 
 /// A queue to which frames of a hop of a stream may come.
-#[derive(Clone, Copy, Debug, PartialEq, Eq)]
+#[derive(Clone, Copy)]
 pub struct HopQueue {
     /// The hop.
     pub hop: StreamHop,

@@ -8,7 +8,7 @@ use bridge_text::Text;
 use std::alloc::{Allocator, Global};
 
 /// What is found of a file that can't be opened, made, read or written.
-#[derive(Clone, Copy, Debug, PartialEq, Eq)]
+#[derive(Clone, Copy)]
 pub enum Cause {
     /// There is no file of this name.
     NotFound,

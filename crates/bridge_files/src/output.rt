@@ -10,7 +10,7 @@ use std::rt::Files;
 use std::{fs, io};
 
 /// A file by what it is, whatever its path is called: the inode of a device.
-#[derive(Clone, Copy, Debug, PartialEq, Eq)]
+#[derive(Clone, Copy, PartialEq, Eq)]
 pub struct FileId {
     device: u64,
     inode: u64,

@@ -18,7 +18,7 @@ use std::{fs, io};
 const STANDARD_INPUT: &str = "/dev/stdin";
 
 /// What a job says once it is done.
-#[derive(Debug, Drop)]
+#[derive(Drop)]
 pub enum Said {
     /// On standard output.
     Printed(String),

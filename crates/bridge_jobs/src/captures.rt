@@ -10,7 +10,7 @@ use std::alloc::Allocator;
 use std::io::{Read, Write};
 
 /// Why a run into a writer stopped, with the writer where all that was held back has come to it.
-#[derive(Debug, Drop)]
+#[derive(Drop)]
 pub struct Halted<W> {
     pub fault: RunFault,
     pub writer: Option<W>,

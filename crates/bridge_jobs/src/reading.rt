@@ -7,7 +7,7 @@ use std::alloc::Allocator;
 use std::io::{Error, ErrorKind, Read};
 
 /// Why the octets of a reader are not there.
-#[derive(Clone, Copy, Debug, PartialEq, Eq)]
+#[derive(Clone, Copy)]
 pub enum ReadFault {
     /// The reader failed.
     Broken,

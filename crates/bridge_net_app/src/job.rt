@@ -213,7 +213,7 @@ fn run_network<H: AllocGlobal + Eprint + Files>(
 }
 
 /// What is said of a run of a network.
-#[derive(Debug, Drop)]
+#[derive(Drop)]
 pub struct RoundsSaid {
     /// The line that is printed.
     pub line: String,
@@ -290,7 +290,7 @@ fn run_accepted<H: AllocGlobal + Eprint + Files>(
 }
 
 /// A run of a network that is asked for.
-#[derive(Debug, Drop)]
+#[derive(Drop)]
 pub struct RoundsJob {
     /// The path of the network.
     pub network: String,

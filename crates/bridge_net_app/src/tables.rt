@@ -25,7 +25,7 @@ use std::io;
 use std::io::Write;
 
 /// How many frames of all streams came to their first hops, and how many of them were delivered.
-#[derive(Clone, Copy, Debug, PartialEq, Eq)]
+#[derive(Clone, Copy)]
 pub(crate) struct Totals {
     pub(crate) frames: u64,
     pub(crate) delivered: u64,
@@ -171,14 +171,14 @@ fn put_stream<F: Write + OpenFile + Drop>(
 }
 
 /// A table.
-#[derive(Clone, Copy, Debug, PartialEq, Eq)]
+#[derive(Clone, Copy)]
 enum Table {
     Streams,
     Frames,
 }
 
 /// Why the tables aren't written.
-#[derive(Clone, Copy, Debug, PartialEq, Eq)]
+#[derive(Clone, Copy)]
 enum TableFault {
     Broken(Table),
     NoMemory,

@@ -7,7 +7,7 @@ use std::alloc::{AllocError, AllocFailed};
 use thiserror::Error;
 
 /// The top of a text, the sections of a network in the order in which they are read, and the section of traffic.
-#[derive(Clone, Copy, Debug, PartialEq, Eq)]
+#[derive(Clone, Copy, Debug)]
 pub enum NetSection {
     /// The top of the text.
     Top,
@@ -94,7 +94,7 @@ impl NetField {
 }
 
 /// A key of one instance of a section.
-#[derive(Clone, Copy, Debug, PartialEq, Eq)]
+#[derive(Clone, Copy, Debug)]
 pub struct NetPlace {
     /// The section.
     pub section: NetSection,
@@ -105,7 +105,7 @@ pub struct NetPlace {
 }
 
 /// Why a text is no network, or no traffic. An index is the place of an instance in its section, from 1, and 0 at the top.
-#[derive(Clone, Copy, Debug, PartialEq, Eq, Error)]
+#[derive(Clone, Copy, Debug, Error)]
 pub enum NetFault {
     /// The text is no TOML document in UTF-8.
     #[error("the text is no TOML document")]

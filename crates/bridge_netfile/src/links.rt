@@ -20,7 +20,7 @@ use toml::{Table, Value};
 const LONGEST_DELAY: u64 = 1_000_000_000;
 
 /// A full-duplex link between two ports.
-#[derive(Clone, Copy, Debug, PartialEq, Eq)]
+#[derive(Clone, Copy)]
 pub struct LinkRow {
     /// A port at one end: the place of its bridge, from 0, and its number.
     pub one: (u16, u8),

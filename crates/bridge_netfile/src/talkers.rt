@@ -16,7 +16,7 @@ use toml::{Table, Value};
 
 /// What a talker keeps to: its frames come once in each period, between two phases of it, each between two lengths. Periods
 /// begin at the multiples of the period.
-#[derive(Clone, Copy, Debug, PartialEq, Eq)]
+#[derive(Clone, Copy)]
 pub struct Talker {
     /// The period, in ns.
     pub period: u64,

@@ -15,7 +15,7 @@ use bridge_limits::NoMemory;
 use std::alloc::Allocator;
 
 /// How long a frame of a protected filter takes at most in a queue that its frames may come to.
-#[derive(Clone, Copy, Debug, PartialEq, Eq)]
+#[derive(Clone, Copy)]
 pub struct QueueBound {
     /// The number of the filter.
     pub filter: u32,

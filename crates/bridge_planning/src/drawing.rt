@@ -14,7 +14,7 @@ use std::fs;
 use std::rt::Files;
 
 /// The picture of a network, with the files that were read for it.
-#[derive(Debug, Drop)]
+#[derive(Drop)]
 pub struct NetworkPicture {
     /// The picture, an SVG text of at most 2,000,000 octets.
     pub text: String,

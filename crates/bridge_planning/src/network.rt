@@ -323,7 +323,7 @@ pub fn read_plans<H: AllocGlobal + Files>(
 }
 
 /// What is said of a network that is accepted.
-#[derive(Debug, Drop)]
+#[derive(Drop)]
 pub struct NetworkSaid {
     /// The lines that are printed: how many bridges, links, streams and hops it has, and how long each stream takes.
     pub lines: String,

@@ -16,7 +16,7 @@ use bridge_traffic::TrafficRow;
 use std::alloc::{AllocError, Allocator};
 
 /// How long the frames of a row of traffic take in a queue to which they may come.
-#[derive(Clone, Copy, Debug, PartialEq, Eq)]
+#[derive(Clone, Copy)]
 pub struct QueueTiming {
     /// The place of the row in the text, from 1.
     pub row: u32,

@@ -8,7 +8,7 @@ use std::alloc::Allocator;
 use thiserror::Error;
 
 /// Why a text is no traffic for a plan. An index is the place of a row in the text, from 1.
-#[derive(Clone, Copy, Debug, PartialEq, Eq, Error)]
+#[derive(Clone, Copy, Debug, Error)]
 pub enum TrafficFault {
     /// What is wrong with the text; by the plan also a filter that it doesn't have (`Unresolved`), and a period that is no
     /// multiple of each cycle on the way (`OutOfRange`).

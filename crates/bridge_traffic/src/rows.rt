@@ -17,7 +17,7 @@ use std::alloc::Allocator;
 use toml::Table;
 
 /// The frames of a filter that come once in each period.
-#[derive(Clone, Copy, Debug, PartialEq, Eq)]
+#[derive(Clone, Copy)]
 pub struct TrafficRow {
     /// The number of the filter.
     pub filter: u32,

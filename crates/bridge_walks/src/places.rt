@@ -4,7 +4,7 @@ ghost use Rattle.std.specs.List.{list_any};
 ghost use Rattle.bridge_walks.specs.Peeling as peeling;
 
 /// A port of a bridge. A bridge is named by its place among the bridges of a network, from 0.
-#[derive(Clone, Copy, Debug, PartialEq, Eq)]
+#[derive(Clone, Copy)]
 pub struct Place {
     pub bridge: u16,
     /// The number of the port.
@@ -12,7 +12,7 @@ pub struct Place {
 }
 
 /// A step from the port on which a frame comes to the port of a neighbour on which it comes next.
-#[derive(Clone, Copy, Debug, PartialEq, Eq)]
+#[derive(Clone, Copy)]
 pub struct Step {
     pub from: Place,
     pub to: Place,

@@ -14,7 +14,7 @@ pub(crate) const NEVER: u64 = 1_000_000;
 const ROOM: usize = 262_144;
 
 /// What a heap tells: the growths until the one that it refuses, and the octets in use.
-#[derive(Clone, Copy, Debug, PartialEq, Eq)]
+#[derive(Clone, Copy, PartialEq, Eq)]
 pub(crate) struct Account {
     pub(crate) left: u64,
     pub(crate) used: usize,

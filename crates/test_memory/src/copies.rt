@@ -7,7 +7,7 @@ use std::process::Abort;
 use std::test::Fail;
 
 /// What is made of something that lies in another heap.
-#[derive(Clone, Copy, Debug, PartialEq, Eq)]
+#[derive(Clone, Copy)]
 enum Made {
     List,
     ListCopy,
@@ -25,7 +25,7 @@ const MADE: [Made; 5] = [
 ];
 
 /// What the first heap tells before and after something of it is made in the second one, and the octets of that.
-#[derive(Clone, Copy, Debug, PartialEq, Eq)]
+#[derive(Clone, Copy)]
 struct Making {
     before: Account,
     after: Account,

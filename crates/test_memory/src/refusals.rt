@@ -11,7 +11,7 @@ use std::process::Abort;
 use std::test::Fail;
 
 /// What is made, of parts that are made before it.
-#[derive(Clone, Copy, Debug, PartialEq, Eq)]
+#[derive(Clone, Copy)]
 enum Made {
     List,
     WrongList,
