@@ -1,12 +1,12 @@
 use Rattle.bridge_tables.proofs.Rising.{reaches_end, reaches_first, reaches_more}
-use Rattle.bridge_tables.proofs.delays.push_filters.Goals as goal
+use Rattle.bridge_tables.proofs.delays.put_filters.Goals as goal
 
 pub loop-first-init : goal.loop-first-init
 loop-first-init g c = reaches_first c.args.accepted.now c.args.filters.now _
 
 pub loop-first-preserved : goal.loop-first-preserved
 loop-first-preserved g c =
-    let told = c.in_ok-push_filter.ensures in
+    let told = c.in_ok-put_filter.ensures in
     reaches_more c.args.accepted.now c.args.filters.now c.loop-first.left.now c.in-Some.rest.now c.in-Some.first.now _ _ _ told.0 c.in-Some.ensures.cases.0 c.loop-first.invariant told.1 told.2
 
 pub returns : goal.returns

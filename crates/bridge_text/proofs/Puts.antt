@@ -5,11 +5,11 @@ use Rattle.std.proofs.lemmas.Grind.{flat_map-append}
 use Rattle.std.proofs.lemmas.List.{append-nil, take_all, take_more}
 use Rattle.bridge_text.specs.Growth.{Grows, HasGrown}
 
-grows_none : (o : Option (List ℕ)) → Grows o [] o
+pub grows_none : (o : Option (List ℕ)) → Grows o [] o
 grows_none None = tt
 grows_none (Some x) = sym (append-nil x)
 
-grows_two : (o p q : Option (List ℕ)) (a b : List ℕ) → Grows o a p → Grows p b q → Grows o (a ++ b) q
+pub grows_two : (o p q : Option (List ℕ)) (a b : List ℕ) → Grows o a p → Grows p b q → Grows o (a ++ b) q
 grows_two o p None a b first second = tt
 grows_two o None (Some z) a b first second = absurd second
 grows_two None (Some y) (Some z) a b first second = absurd first
@@ -23,7 +23,7 @@ pub put_piece : (o p q : Option (List ℕ)) (a b : List ℕ) → HasGrown o a p 
 put_piece o p q a b first second = record { grows = grows_two o p q a b first.grows second.grows }
 
 -- two pieces that were put at once, and what is behind them
-put_pair : (o p q : Option (List ℕ)) (a b c : List ℕ) → HasGrown o (a ++ b) p → HasGrown p c q → HasGrown o (a ++ (b ++ c)) q
+pub put_pair : (o p q : Option (List ℕ)) (a b c : List ℕ) → HasGrown o (a ++ b) p → HasGrown p c q → HasGrown o (a ++ (b ++ c)) q
 put_pair o p q a b c first second = record { grows = subst (λ l. Grows o l q) (append_assoc a b c) (grows_two o p q (a ++ b) c first.grows second.grows) }
 
 -- a number with what stands behind it, and what is behind both
