@@ -1,4 +1,3 @@
 pub mod Counted
 pub mod Gathered
-pub mod Puts
 pub mod Ways

@@ -1,5 +1,5 @@
 -- The words of a plan's fault, behind what is refused.
-use Rattle.std.proofs.Common.{◌≡◌, ◌∙◌, ◌++◌, ◌⊎◌, ℕ, List, inl, inr, codes, refl, sym}
+use Rattle.std.proofs.Common.{◌≡◌, ◌∙◌, ◌++◌, ◌⊎◌, ℕ, List, ap, inl, inr, codes, drop, length, refl, sym}
 use Rattle.std.specs.Str.Pattern.{LacksTextAt}
 use Rattle.bridge_cycle.specs.declared.cyclic.ListFault.TheVariants as list
 use Rattle.bridge_schema.specs.declared.fault.PlanFault.{PlanFault}
@@ -39,4 +39,11 @@ pub kept : (f : PlanFault) (line : List ℕ) → line ≡ line_of_plan f → Lac
 kept f line told lacks = elim (worded f) [
   | inl none ↦ told ∙ none.0 ∙ sym none.1
   | inr has ↦ absurd (lacks (words_of_plan f) (told ∙ has.0))
+]
+
+-- the words behind what is refused are the same for both
+pub said : (f : PlanFault) (line words : List ℕ) → line ≡ line_of_plan f → line ≡ codes "plan refused: " ++ words → codes "commands refused: " ++ words ≡ line_of_commands f
+said f line words told is = elim (worded f) [
+  | inl none ↦ absurd (let both = sym is ∙ (told ∙ none.0) in cc)
+  | inr has ↦ ap (λ l. codes "commands refused: " ++ drop (length (codes "plan refused: ")) l) (sym is ∙ told) ∙ sym has.1
 ]

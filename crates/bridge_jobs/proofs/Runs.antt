@@ -15,7 +15,7 @@ use Rattle.bridge_inputs.specs.Lanes.{FailsFirst}
 use Rattle.bridge_wire.specs.declared.count.WireCount.{WireCount}
 use Rattle.bridge_inputs.specs.declared.fault.RunFault.{RunFault}
 use Rattle.bridge_inputs.specs.declared.fault.RunFault.TheVariants as run
-use Rattle.bridge_wire.specs.Wire.{IsShort, IsOfCapture, IsOfPortOne, IsUpTo, RefusesFirst, Stops, StopsBehind, Wires}
+use Rattle.bridge_wire.specs.Wire.{IsShort, IsOfCapture, IsOfPortOne, RefusesFirst, Stops, StopsBehind, Wires}
 use Rattle.bridge_jobs.specs.Jobs.{EndsWire}
 use Rattle.bridge_jobs.specs.declared.fault.Fault.TheVariants as fault
 use Rattle.bridge_jobs.specs.Text.{HasFault, IsTextRun, StopsText}

@@ -1,5 +1,5 @@
 -- What is looked at of commands decides as the whole of it, and which fault a plan has with its commands.
-use Rattle.std.proofs.Common.{◌≡◌, ◌<◌, ℕ, List, length, take, Option, None, Some, Result, Ok, Err, sym, ap, subst, ◌∙◌, refl, rules, IfOk, IfErr, option_map, string_bytes}
+use Rattle.std.proofs.Common.{◌≡◌, ◌<◌, ℕ, List, length, take, Option, None, Some, Result, Ok, Err, sym, ap, subst, ◌∙◌, refl, IfOk, IfErr}
 use Rattle.std.proofs.lemmas.Bool.{lt-ltb}
 use Rattle.bridge_schema.specs.declared.fault.PlanFault.{PlanFault}
 use Rattle.bridge_schema.specs.declared.fault.PlanFault.TheVariants as plan
@@ -9,7 +9,7 @@ use Rattle.bridge_config.specs.Document.{commands_of_text, document_of}
 use Rattle.bridge_config.specs.Model.{Plan}
 use Rattle.bridge_jobs.specs.declared.fault.Fault.{Fault}
 use Rattle.bridge_jobs.specs.declared.fault.Fault.TheVariants as fault
-use Rattle.bridge_jobs.specs.Commanding.{EndsCommanded, EndsCommands, TellsText, commands_for}
+use Rattle.bridge_jobs.specs.Commanding.{EndsCommanded, EndsCommands, commands_for}
 use Rattle.bridge_jobs.specs.Jobs.{RefusesCheck}
 use Rattle.bridge_jobs.specs.Reading.{IsOfFile}
 use Rattle.bridge_jobs.proofs.Looks.{front_as_whole}

@@ -56,6 +56,10 @@ line_of_text text.NotHex = codes "text refused: NotHex"
 line_of_text text.TooLong = codes "text refused: TooLong"
 line_of_text (text.Run f) = line_of_run f
 
+-- a file that can't be opened, made, read or written
+abbrev pub not_there : List ℕ → List ℕ
+not_there path = codes "file " ++ path
+
 -- the line of a fault
 abbrev pub line_of : Fault → List ℕ
 line_of (fault.Text f) = line_of_text f
@@ -66,4 +70,4 @@ line_of (fault.Commands f) = line_of_commands f
 line_of (fault.Network line) = string_bytes line
 line_of (fault.Rounds line) = string_bytes line
 line_of fault.Words = codes "command line refused"
-line_of (fault.File path) = codes "file " ++ string_bytes path
+line_of (fault.File path) = not_there (string_bytes path)

@@ -1,15 +1,17 @@
 //! The line and the status of each fault.
-ghost use Rattle.std.specs.Prelude.{◌≡◌, ◌++◌, IfOk, string_bytes, codes};
-ghost use Rattle.bridge_jobs.specs.Lines.{line_of, line_of_capture, line_of_run, line_of_text, not_read, not_written, refused, refused_at};
+ghost use Rattle.std.specs.Prelude.{◌≡◌, IfOk, string_bytes};
+ghost use Rattle.bridge_text.specs.Growth.{HasGrown};
+ghost use Rattle.bridge_jobs.specs.Lines.{line_of, line_of_capture, line_of_run, line_of_text, not_read, not_written, not_there, refused, refused_at};
 ghost use Rattle.bridge_jobs.specs.Status.{status_of};
 
 use crate::fault::{Fault, TextFault};
-use crate::isolation_line::said_of_check;
-use crate::plan_line::said_of_plan;
-use crate::refused_commands::said_of_commands;
+use crate::isolation_line::put_check;
+use crate::plan_line::put_plan;
+use crate::refused_commands::put_commands;
 use crate::status::ending;
 use bridge_capture::CaptureFault;
 use bridge_limits::NoMemory;
+use bridge_text::Text;
 use bridge_wire::RunFault;
 use std::alloc::Allocator;
 
@@ -20,117 +22,118 @@ pub fn fault_line<A: Allocator + Copy>(alloc: A, fault: &Fault) -> Result<(Strin
     ensures line { IfOk result (λ said. string_bytes said.0 ≡ line_of fault.now) }
     ensures status { IfOk result (λ said. said.1 ≡ status_of fault.now) }
 {
-    let line = said(alloc, fault)?;
-    Ok((line, ending(fault)))
-}
-
-/// The line of a fault.
-fn said<A: Allocator + Copy>(alloc: A, fault: &Fault) -> Result<String<A>, NoMemory>
-    ensures { IfOk result (λ line. string_bytes line ≡ line_of fault.now) }
-{
-    match fault {
-        Fault::Text(fault) => said_of_text(alloc, fault),
-        Fault::Run(fault) => said_of_run(alloc, fault),
-        Fault::Plan(fault) => said_of_plan(alloc, fault),
-        Fault::Check(fault) => said_of_check(alloc, fault),
-        Fault::Commands(fault) => said_of_commands(alloc, fault),
-        Fault::Network(line) => Ok(String::from_str(alloc, line.as_str())?),
-        Fault::Rounds(line) => Ok(String::from_str(alloc, line.as_str())?),
-        Fault::Words => Ok(String::from_str(alloc, "command line refused")?),
-        Fault::File(path) => file_fault(alloc, path.as_str()),
+    let mut text = Text::new(alloc);
+    put_fault(alloc, &mut text, fault);
+    match text.done() {
+        Ok(line) => Ok((line, ending(fault))),
+        Err(fault) => Err(fault),
     }
 }
 
-/// The line of a text that is refused, or whose run stopped.
-fn said_of_text<A: Allocator + Copy>(alloc: A, fault: &TextFault) -> Result<String<A>, NoMemory>
-    ensures { IfOk result (λ line. string_bytes line ≡ line_of_text fault.now) }
+/// Puts the line of a fault.
+fn put_fault<A: Allocator + Copy>(alloc: A, text: &mut Text<A>, fault: &Fault)
+    ensures { HasGrown text.old (line_of fault.now) text.new }
 {
     match fault {
-        TextFault::NotHex => Ok(String::from_str(alloc, "text refused: NotHex")?),
-        TextFault::TooLong => Ok(String::from_str(alloc, "text refused: TooLong")?),
-        TextFault::Run(fault) => said_of_run(alloc, fault),
+        Fault::Text(fault) => put_text(text, fault),
+        Fault::Run(fault) => put_run(text, fault),
+        Fault::Plan(fault) => put_plan(text, fault),
+        Fault::Check(fault) => put_check(text, fault),
+        Fault::Commands(fault) => put_commands(alloc, text, fault),
+        Fault::Network(line) => text.put(line.as_str()),
+        Fault::Rounds(line) => text.put(line.as_str()),
+        Fault::Words => text.put("command line refused"),
+        Fault::File(path) => put_file(text, path.as_str()),
     }
 }
 
-/// The line of a run that stopped.
-fn said_of_run<A: Allocator + Copy>(alloc: A, fault: &RunFault) -> Result<String<A>, NoMemory>
-    ensures { IfOk result (λ line. string_bytes line ≡ line_of_run fault.now) }
+/// Puts the line of a text that is refused, or whose run stopped.
+fn put_text<A: Allocator>(text: &mut Text<A>, fault: &TextFault)
+    ensures { HasGrown text.old (line_of_text fault.now) text.new }
 {
     match fault {
-        RunFault::Capture { port, fault } => said_of_capture(alloc, *port, fault),
-        RunFault::Write { port } => write_fault(alloc, *port),
-        RunFault::NoMemory => memory_fault(alloc),
+        TextFault::NotHex => text.put("text refused: NotHex"),
+        TextFault::TooLong => text.put("text refused: TooLong"),
+        TextFault::Run(fault) => put_run(text, fault),
     }
 }
 
-/// The line of a capture of a port that is refused, or that can't be read or written.
-fn said_of_capture<A: Allocator + Copy>(
-    alloc: A,
-    port: u8,
-    fault: &CaptureFault,
-) -> Result<String<A>, NoMemory>
-    ensures { IfOk result (λ line. string_bytes line ≡ line_of_capture port fault.now) }
+/// Puts the line of a run that stopped.
+fn put_run<A: Allocator>(text: &mut Text<A>, fault: &RunFault)
+    ensures { HasGrown text.old (line_of_run fault.now) text.new }
 {
     match fault {
-        CaptureFault::BadMagic => refusal(alloc, port, "BadMagic"),
-        CaptureFault::BadVersion => refusal(alloc, port, "BadVersion"),
-        CaptureFault::BadLinkType => refusal(alloc, port, "BadLinkType"),
-        CaptureFault::HeaderCut => refusal(alloc, port, "HeaderCut"),
-        CaptureFault::RecordCut(n) => refusal_at(alloc, port, "RecordCut", *n),
-        CaptureFault::LengthsCross(n) => refusal_at(alloc, port, "LengthsCross", *n),
-        CaptureFault::RecordTooLarge(n) => refusal_at(alloc, port, "RecordTooLarge", *n),
-        CaptureFault::TimeBack(n) => refusal_at(alloc, port, "TimeBack", *n),
-        CaptureFault::TimeTooLate(n) => refusal_at(alloc, port, "TimeTooLate", *n),
-        CaptureFault::TooManyRecords => refusal(alloc, port, "TooManyRecords"),
-        CaptureFault::Read => read_fault(alloc, port),
-        CaptureFault::Write => write_fault(alloc, port),
-        CaptureFault::NoMemory => memory_fault(alloc),
+        RunFault::Capture { port, fault } => put_capture(text, *port, fault),
+        RunFault::Write { port } => put_unwritten(text, *port),
+        RunFault::NoMemory => text.put("no memory"),
     }
 }
 
-/// The capture of a port is refused, by the name of its fault.
-fn refusal<A: Allocator + Copy>(alloc: A, port: u8, name: &str) -> Result<String<A>, NoMemory>
-    ensures { IfOk result (λ line. string_bytes line ≡ refused port name.now) }
+/// Puts the line of a capture of a port that is refused, or that can't be read or written.
+fn put_capture<A: Allocator>(text: &mut Text<A>, port: u8, fault: &CaptureFault)
+    ensures { HasGrown text.old (line_of_capture port fault.now) text.new }
 {
-    Ok(format!(in alloc; "capture {port} refused: {name}")?)
+    match fault {
+        CaptureFault::BadMagic => put_refused(text, port, "BadMagic"),
+        CaptureFault::BadVersion => put_refused(text, port, "BadVersion"),
+        CaptureFault::BadLinkType => put_refused(text, port, "BadLinkType"),
+        CaptureFault::HeaderCut => put_refused(text, port, "HeaderCut"),
+        CaptureFault::RecordCut(n) => put_refused_at(text, port, "RecordCut", *n),
+        CaptureFault::LengthsCross(n) => put_refused_at(text, port, "LengthsCross", *n),
+        CaptureFault::RecordTooLarge(n) => put_refused_at(text, port, "RecordTooLarge", *n),
+        CaptureFault::TimeBack(n) => put_refused_at(text, port, "TimeBack", *n),
+        CaptureFault::TimeTooLate(n) => put_refused_at(text, port, "TimeTooLate", *n),
+        CaptureFault::TooManyRecords => put_refused(text, port, "TooManyRecords"),
+        CaptureFault::Read => put_unread(text, port),
+        CaptureFault::Write => put_unwritten(text, port),
+        CaptureFault::NoMemory => text.put("no memory"),
+    }
 }
 
-/// The capture of a port is refused at a record, by the name of its fault.
-fn refusal_at<A: Allocator + Copy>(
-    alloc: A,
-    port: u8,
-    name: &str,
-    number: u32,
-) -> Result<String<A>, NoMemory>
-    ensures { IfOk result (λ line. string_bytes line ≡ refused_at port name.now number) }
+/// Puts that the capture of a port is refused, by the name of its fault.
+fn put_refused<A: Allocator>(text: &mut Text<A>, port: u8, name: &str)
+    ensures { HasGrown text.old (refused port name.now) text.new }
 {
-    Ok(format!(in alloc; "capture {port} refused: {name} {number}")?)
+    text.put("capture ");
+    text.put_number(u64::from(port));
+    text.put(" refused: ");
+    text.put(name);
 }
 
-/// The capture of a port can't be read.
-fn read_fault<A: Allocator + Copy>(alloc: A, port: u8) -> Result<String<A>, NoMemory>
-    ensures { IfOk result (λ line. string_bytes line ≡ not_read port) }
+/// Puts that the capture of a port is refused at a record, by the name of its fault.
+fn put_refused_at<A: Allocator>(text: &mut Text<A>, port: u8, name: &str, number: u32)
+    ensures { HasGrown text.old (refused_at port name.now number) text.new }
 {
-    Ok(format!(in alloc; "capture {port} not read")?)
+    text.put("capture ");
+    text.put_number(u64::from(port));
+    text.put(" refused: ");
+    text.put(name);
+    text.put(" ");
+    text.put_number(u64::from(number));
 }
 
-/// The capture of a port can't be written.
-fn write_fault<A: Allocator + Copy>(alloc: A, port: u8) -> Result<String<A>, NoMemory>
-    ensures { IfOk result (λ line. string_bytes line ≡ not_written port) }
+/// Puts that the capture of a port can't be read.
+fn put_unread<A: Allocator>(text: &mut Text<A>, port: u8)
+    ensures { HasGrown text.old (not_read port) text.new }
 {
-    Ok(format!(in alloc; "capture {port} not written")?)
+    text.put("capture ");
+    text.put_number(u64::from(port));
+    text.put(" not read");
 }
 
-/// A growth was refused.
-pub fn memory_fault<A: Allocator + Copy>(alloc: A) -> Result<String<A>, NoMemory>
-    ensures { IfOk result (λ line. string_bytes line ≡ codes "no memory") }
+/// Puts that the capture of a port can't be written.
+fn put_unwritten<A: Allocator>(text: &mut Text<A>, port: u8)
+    ensures { HasGrown text.old (not_written port) text.new }
 {
-    Ok(String::from_str(alloc, "no memory")?)
+    text.put("capture ");
+    text.put_number(u64::from(port));
+    text.put(" not written");
 }
 
-/// A file can't be opened, made, read or written.
-fn file_fault<A: Allocator + Copy>(alloc: A, path: &str) -> Result<String<A>, NoMemory>
-    ensures { IfOk result (λ line. string_bytes line ≡ codes "file " ++ path.now) }
+/// Puts that a file can't be opened, made, read or written.
+fn put_file<A: Allocator>(text: &mut Text<A>, path: &str)
+    ensures { HasGrown text.old (not_there path.now) text.new }
 {
-    Ok(format!(in alloc; "file {path}")?)
+    text.put("file ");
+    text.put(path);
 }

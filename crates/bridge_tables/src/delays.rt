@@ -1,16 +1,18 @@
 //! The table of delays: how long the frames of each filter took that left by each port, and how many were lost.
-ghost use Rattle.std.specs.Prelude.{◌≡◌, ◌++◌, IfOk, OnOk, List, ℕ, string_bytes};
+ghost use Rattle.std.specs.Prelude.{IfOk, OnOk, List, ℕ, string_bytes};
+ghost use Rattle.bridge_text.specs.Growth.{HasGrown};
 ghost use Rattle.bridge_tables.specs.Delays as spec;
 ghost use Rattle.bridge_tables.specs.PortBounds.{ArePortBounds};
 
 use crate::bounds::{bound_at, port_bounds};
-use crate::figures::{delays_at, push_figures};
-use crate::losses::{full_at, full_in, never_at, never_in, push_losses};
-use crate::rows::push_field;
+use crate::figures::{delays_at, put_figures};
+use crate::losses::{full_at, full_in, never_at, never_in, put_losses};
+use crate::rows::put_field;
 use bridge_check::Accepted;
 use bridge_limits::NoMemory;
 use bridge_semantics::{Outcome, View};
-use std::alloc::{AllocError, Allocator};
+use bridge_text::Text;
+use std::alloc::Allocator;
 
 /// The first line of the table: the filter, the port out of which its frames left, how many copies left there, how long they
 /// took at least, in the mean (rounded down) and at most, how far these differ, and the bound of that port; then the
@@ -19,150 +21,143 @@ use std::alloc::{AllocError, Allocator};
 pub const DELAYS_HEADER: &str =
     "filter,port,frames,least,mean,greatest,jitter,bound,blocked,oversize,gate-closed,shut-rx,shut-octets,octets-exceeded,red,yellow-dropped,full,never\n";
 
-/// Adds a bound, or an empty field.
-fn push_bound<A: Allocator>(text: &mut String<A>, bound: Option<u64>) -> Result<(), AllocError>
-    ensures { OnOk result (string_bytes text.new ≡ string_bytes text.old ++ spec.bound_field bound) }
+/// Puts a bound, or an empty field.
+fn put_bound<A: Allocator>(text: &mut Text<A>, bound: Option<u64>)
+    ensures { HasGrown text.old (spec.bound_field bound) text.new }
 {
     match bound {
-        Some(bound) => push_field(text, bound),
-        None => text.push_str(","),
+        Some(bound) => put_field(text, bound),
+        None => text.put(","),
     }
 }
 
-/// Adds the row of a filter and a port, of how long the copies took that left there.
-#[tactic(auto, unfolding(crate::specs::Delays::port_row))]
-fn push_row<A: Allocator>(
-    text: &mut String<A>,
+/// Puts the row of a filter and a port, of how long the copies took that left there.
+fn put_row<A: Allocator>(
+    text: &mut Text<A>,
     filter: u32,
     view: &View<A>,
     port: u8,
     bound: Option<u64>,
     delays: &[u64],
-) -> Result<(), AllocError>
-    ensures { OnOk result (string_bytes text.new ≡ string_bytes text.old ++ spec.port_row filter view.now port bound delays.now) }
+)
+    ensures { HasGrown text.old (spec.port_row filter view.now port bound delays.now) text.new }
 {
-    push_field(text, u64::from(filter))?;
-    push_field(text, u64::from(port))?;
-    push_field(text, delays.len() as u64)?;
-    push_figures(text, delays)?;
-    push_bound(text, bound)?;
+    put_field(text, u64::from(filter));
+    put_field(text, u64::from(port));
+    put_field(text, delays.len() as u64);
+    put_figures(text, delays);
+    put_bound(text, bound);
     let drops = &view.drops;
-    push_losses(
+    put_losses(
         text,
         &view.verdicts,
         full_at(port, drops),
         never_at(port, drops),
-    )
+    );
 }
 
-/// Adds the row of a filter of which no copy left.
-#[tactic(auto, unfolding(crate::specs::Delays::unsent_row))]
-fn push_unsent<A: Allocator>(
-    text: &mut String<A>,
-    filter: u32,
-    view: &View<A>,
-) -> Result<(), AllocError>
-    ensures { OnOk result (string_bytes text.new ≡ string_bytes text.old ++ spec.unsent_row filter view.now) }
+/// Puts the row of a filter of which no copy left.
+fn put_unsent<A: Allocator>(text: &mut Text<A>, filter: u32, view: &View<A>)
+    ensures { HasGrown text.old (spec.unsent_row filter view.now) text.new }
 {
-    push_field(text, u64::from(filter))?;
-    text.push_str(",0,,,,,,")?;
+    put_field(text, u64::from(filter));
+    text.put(",0,,,,,,");
     let drops = &view.drops;
-    push_losses(text, &view.verdicts, full_in(drops), never_in(drops))
+    put_losses(text, &view.verdicts, full_in(drops), never_in(drops));
 }
 
-/// Adds the row of a filter and a port, if copies left there.
-fn push_if<A: Allocator>(
-    text: &mut String<A>,
+/// Puts the row of a filter and a port, if copies left there.
+fn put_if<A: Allocator>(
+    text: &mut Text<A>,
     filter: u32,
     view: &View<A>,
     port: u8,
     bound: Option<u64>,
     delays: &[u64],
-) -> Result<(), AllocError>
-    ensures { OnOk result (string_bytes text.new ≡ string_bytes text.old ++ spec.row_if filter view.now port bound delays.now) }
+)
+    ensures { HasGrown text.old (spec.row_if filter view.now port bound delays.now) text.new }
 {
-    if delays.is_empty() {
-        return Ok(());
+    if !delays.is_empty() {
+        put_row(text, filter, view, port, bound, delays);
     }
-    push_row(text, filter, view, port, bound, delays)
 }
 
-/// Adds the row of a filter at a port, if copies of its frames left there.
-fn push_port<A: Allocator + Copy>(
+/// Puts the row of a filter at a port, if copies of its frames left there.
+fn put_port<A: Allocator + Copy>(
     alloc: A,
-    text: &mut String<A>,
+    text: &mut Text<A>,
     filter: u32,
     view: &View<A>,
     bounds: &[Option<u64>],
     port: u8,
-) -> Result<(), NoMemory>
-    ensures { OnOk result (string_bytes text.new ≡ string_bytes text.old ++ spec.row_at filter view.now bounds.now port) }
+)
+    ensures { HasGrown text.old (spec.row_at filter view.now bounds.now port) text.new }
 {
-    let delays = delays_at(alloc, &view.origins, port, &view.departures)?;
-    push_if(text, filter, view, port, bound_at(bounds, port), &delays)?;
-    Ok(())
+    match delays_at(alloc, &view.origins, port, &view.departures) {
+        Ok(delays) => put_if(text, filter, view, port, bound_at(bounds, port), &delays),
+        Err(_) => text.give_up(),
+    }
 }
 
-/// Adds the rows of a filter, by rising port.
-fn push_ports<A: Allocator + Copy>(
+/// Puts the rows of a filter, by rising port.
+fn put_ports<A: Allocator + Copy>(
     alloc: A,
-    text: &mut String<A>,
+    text: &mut Text<A>,
     filter: u32,
     view: &View<A>,
     bounds: &[Option<u64>],
-) -> Result<(), NoMemory>
-    ensures { OnOk result (string_bytes text.new ≡ string_bytes text.old ++ spec.port_rows filter view.now bounds.now) }
+)
+    ensures { HasGrown text.old (spec.port_rows filter view.now bounds.now) text.new }
 {
     for port in 1..17u8 {
-        push_port(alloc, text, filter, view, bounds, port)?;
+        put_port(alloc, text, filter, view, bounds, port);
     }
-    Ok(())
 }
 
-/// Adds the rows of a filter, or where no copy of its frames left the row that says so.
-fn push_rows<A: Allocator + Copy>(
+/// Puts the rows of a filter, or where no copy of its frames left the row that says so.
+fn put_rows<A: Allocator + Copy>(
     alloc: A,
-    text: &mut String<A>,
+    text: &mut Text<A>,
     filter: u32,
     view: &View<A>,
     bounds: &[Option<u64>],
-) -> Result<(), NoMemory>
-    ensures { OnOk result (string_bytes text.new ≡ string_bytes text.old ++ spec.or_unsent filter view.now (spec.port_rows filter view.now bounds.now)) }
+)
+    ensures { HasGrown text.old (spec.or_unsent filter view.now (spec.port_rows filter view.now bounds.now)) text.new }
 {
     let before = text.len();
-    push_ports(alloc, text, filter, view, bounds)?;
+    put_ports(alloc, text, filter, view, bounds);
     if text.len() == before && !view.verdicts.is_empty() {
-        push_unsent(text, filter, view)?;
+        put_unsent(text, filter, view);
     }
-    Ok(())
 }
 
-/// Adds the rows of a filter, with the bounds of its ports.
-fn push_filter<A: Allocator + Copy>(
+/// Puts the rows of a filter, with the bounds of its ports.
+fn put_filter<A: Allocator + Copy>(
     alloc: A,
     accepted: &Accepted<A>,
-    text: &mut String<A>,
+    text: &mut Text<A>,
     filter: u32,
     view: &View<A>,
 ) -> Result<(), NoMemory>
-    ensures { OnOk result ((rows : List ℕ) × spec.AreRowsOf accepted.now filter view.now rows × (string_bytes text.new ≡ string_bytes text.old ++ rows)) }
+    ensures { OnOk result ((rows : List ℕ) × spec.AreRowsOf accepted.now filter view.now rows × HasGrown text.old rows text.new) }
 {
     let bounds = port_bounds(alloc, accepted, filter)?;
-    push_rows(alloc, text, filter, view, &bounds)
+    put_rows(alloc, text, filter, view, &bounds);
+    Ok(())
 }
 
-/// Adds the rows of some filters.
-fn push_filters<A: Allocator + Copy>(
+/// Puts the rows of some filters.
+fn put_filters<A: Allocator + Copy>(
     alloc: A,
     accepted: &Accepted<A>,
-    text: &mut String<A>,
+    text: &mut Text<A>,
     filters: &[(u32, View<A>)],
 ) -> Result<(), NoMemory>
-    ensures { OnOk result ((rows : List ℕ) × spec.AreRows accepted.now filters.now rows × (string_bytes text.new ≡ string_bytes text.old ++ rows)) }
+    ensures { OnOk result ((rows : List ℕ) × spec.AreRows accepted.now filters.now rows × HasGrown text.old rows text.new) }
 {
     let mut left = filters;
     while let Some((first, rest)) = left.split_first() {
-        push_filter(alloc, accepted, text, first.0, &first.1)?;
+        put_filter(alloc, accepted, text, first.0, &first.1)?;
         left = rest;
     }
     Ok(())
@@ -178,7 +173,8 @@ pub fn delay_table<A: Allocator + Copy>(
 ) -> Result<String<A>, NoMemory>
     ensures { IfOk result (λ table. spec.IsDelayTable accepted.now outcome.now.filters.items (string_bytes table)) }
 {
-    let mut text = String::from_str(alloc, DELAYS_HEADER)?;
-    push_filters(alloc, accepted, &mut text, &outcome.filters)?;
-    Ok(text)
+    let mut text = Text::new(alloc);
+    text.put(DELAYS_HEADER);
+    put_filters(alloc, accepted, &mut text, &outcome.filters)?;
+    text.done()
 }

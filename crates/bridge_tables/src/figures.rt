@@ -1,10 +1,13 @@
 //! How long the copies took that left by a port, and the figures of these times.
-ghost use Rattle.std.specs.Prelude.{◌≡◌, ◌++◌, IfOk, OnOk, string_bytes, sum};
+ghost use Rattle.std.specs.Prelude.{◌≡◌, ◌++◌, IfOk, OnOk, sum};
+ghost use Rattle.bridge_text.specs.Growth.{HasGrown};
 ghost use Rattle.bridge_tables.specs.Delays as spec;
 
+use crate::rows::put_field;
 use bridge_limits::NoMemory;
 use bridge_semantics::{Departure, Origin};
-use std::alloc::{AllocError, Allocator};
+use bridge_text::Text;
+use std::alloc::Allocator;
 
 /// The moment at which a frame came, by its number.
 fn at_of(origins: &[Origin], own: u64) -> u64
@@ -84,19 +87,19 @@ fn sum_of(delays: &[u64]) -> u128
     sum
 }
 
-/// Adds the figures of some times, or empty fields where there are none.
-pub(crate) fn push_figures<A: Allocator>(
-    text: &mut String<A>,
-    delays: &[u64],
-) -> Result<(), AllocError>
-    ensures { OnOk result (string_bytes text.new ≡ string_bytes text.old ++ spec.figure_fields delays.now) }
+/// Puts the figures of some times, or empty fields where there are none.
+pub(crate) fn put_figures<A: Allocator>(text: &mut Text<A>, delays: &[u64])
+    ensures { HasGrown text.old (spec.figure_fields delays.now) text.new }
 {
     if delays.is_empty() {
-        return text.push_str(",,,,");
+        text.put(",,,,");
+        return;
     }
     let least = least_of(delays);
     let greatest = greatest_of(delays);
-    let mean = sum_of(delays) / delays.len() as u128;
-    let jitter = greatest.saturating_sub(least);
-    write!(text, "{least},{mean},{greatest},{jitter},")
+    put_field(text, least);
+    text.put_integer(sum_of(delays) / delays.len() as u128);
+    text.put(",");
+    put_field(text, greatest);
+    put_field(text, greatest.saturating_sub(least));
 }

@@ -1,70 +1,71 @@
 //! The table of frames: what became of each frame of each filter, and of its copies.
-ghost use Rattle.std.specs.Prelude.{◌≡◌, ◌++◌, ◌≤◌, IfOk, OnOk, length, string_bytes};
+ghost use Rattle.std.specs.Prelude.{◌≡◌, IfOk, string_bytes};
+ghost use Rattle.bridge_text.specs.Growth.{HasGrown};
 ghost use Rattle.std.specs.List.Sorted.{IsNonDecreasingBy};
 ghost use Rattle.bridge_tables.specs.Frames as spec;
 
 use crate::copies::{departures_by_frame, departures_of, drops_by_frame, drops_of};
-use crate::rows::{FRAMES_HEADER, Frame, push_copies, push_lone};
+use crate::rows::{FRAMES_HEADER, Frame, put_copies, put_lone};
 use bridge_filter::Verdict;
 use bridge_limits::NoMemory;
 use bridge_semantics::{Departure, Dropped, Origin, Outcome, View};
-use std::alloc::{AllocError, Allocator};
+use bridge_text::Text;
+use std::alloc::Allocator;
 
-/// Adds the rows of a frame, of which these copies left and were dropped.
-fn push_frame<A: Allocator>(
-    text: &mut String<A>,
+/// Puts the rows of a frame, of which these copies left and were dropped.
+fn put_frame<A: Allocator>(
+    text: &mut Text<A>,
     frame: &Frame,
     departures: &[Departure],
     drops: &[Dropped],
-) -> Result<(), AllocError>
-    ensures { OnOk result (string_bytes text.new ≡ string_bytes text.old ++ spec.rows_of frame.now departures.now drops.now) }
+)
+    ensures { HasGrown text.old (spec.rows_of frame.now departures.now drops.now) text.new }
 {
     let before = text.len();
-    push_copies(text, frame, departures, drops)?;
+    put_copies(text, frame, departures, drops);
     if text.len() == before {
-        return push_lone(text, frame);
+        put_lone(text, frame);
     }
-    Ok(())
 }
 
-/// Adds the rows of a frame, of copies by rising number of their frames.
-fn push_own<A: Allocator>(
-    text: &mut String<A>,
+/// Puts the rows of a frame, of copies by rising number of their frames.
+fn put_own<A: Allocator>(
+    text: &mut Text<A>,
     frame: &Frame,
     departures: &[Departure],
     drops: &[Dropped],
-) -> Result<(), AllocError>
+)
     requires departures { IsNonDecreasingBy (λ (d : Departure). d.own) departures.now }
     requires drops { IsNonDecreasingBy (λ (d : Dropped). d.own) drops.now }
-    ensures { OnOk result (string_bytes text.new ≡ string_bytes text.old ++ spec.frame_rows frame.now departures.now drops.now) }
+    ensures { HasGrown text.old (spec.frame_rows frame.now departures.now drops.now) text.new }
 {
-    push_frame(
+    put_frame(
         text,
         frame,
         departures_of(departures, frame.own),
         drops_of(drops, frame.own),
-    )
+    );
 }
 
-/// Adds the rows of the frames of a filter, which are numbered from 1, of copies by rising number of their frames.
-fn push_frames<A: Allocator>(
-    text: &mut String<A>,
+/// Puts the rows of the frames of a filter, which are numbered from 1, of copies by rising number of their frames.
+fn put_frames<A: Allocator>(
+    text: &mut Text<A>,
     filter: u32,
     origins: &[Origin],
     verdicts: &[Verdict],
     departures: &[Departure],
     drops: &[Dropped],
-) -> Result<(), AllocError>
+)
     requires departures { IsNonDecreasingBy (λ (d : Departure). d.own) departures.now }
     requires drops { IsNonDecreasingBy (λ (d : Dropped). d.own) drops.now }
-    ensures { OnOk result (string_bytes text.new ≡ string_bytes text.old ++ spec.rows_from filter departures.now drops.now 1 origins.now verdicts.now) }
+    ensures { HasGrown text.old (spec.rows_from filter departures.now drops.now 1 origins.now verdicts.now) text.new }
 {
     let mut came = origins;
     let mut judged = verdicts;
     let mut own = 1u64;
     while let Some((origin, behind)) = came.split_first() {
         let Some((verdict, rest)) = judged.split_first() else {
-            return Ok(());
+            return;
         };
         let frame = Frame {
             filter,
@@ -72,34 +73,33 @@ fn push_frames<A: Allocator>(
             origin: *origin,
             verdict: *verdict,
         };
-        push_own(text, &frame, departures, drops)?;
+        put_own(text, &frame, departures, drops);
         own += 1;
         came = behind;
         judged = rest;
     }
-    Ok(())
 }
 
-/// Adds the rows of a filter.
-fn push_filter<A: Allocator + Copy>(
-    alloc: A,
-    text: &mut String<A>,
-    filter: u32,
-    view: &View<A>,
-) -> Result<(), NoMemory>
-    ensures { OnOk result (string_bytes text.new ≡ string_bytes text.old ++ spec.filter_rows filter view.now) }
+/// Puts the rows of a filter.
+fn put_filter<A: Allocator + Copy>(alloc: A, text: &mut Text<A>, filter: u32, view: &View<A>)
+    ensures { HasGrown text.old (spec.filter_rows filter view.now) text.new }
 {
-    let departures = departures_by_frame(alloc, &view.departures)?;
-    let drops = drops_by_frame(alloc, &view.drops)?;
-    push_frames(
+    let Ok(departures) = departures_by_frame(alloc, &view.departures) else {
+        text.give_up();
+        return;
+    };
+    let Ok(drops) = drops_by_frame(alloc, &view.drops) else {
+        text.give_up();
+        return;
+    };
+    put_frames(
         text,
         filter,
         &view.origins,
         &view.verdicts,
         &departures,
         &drops,
-    )?;
-    Ok(())
+    );
 }
 
 /// The table of frames of a run, as CSV: the line that names its columns, then for each filter, by rising number, each of
@@ -111,9 +111,10 @@ pub fn frame_table<A: Allocator + Copy>(
 ) -> Result<String<A>, NoMemory>
     ensures { IfOk result (λ table. string_bytes table ≡ spec.frame_table outcome.now.filters.items) }
 {
-    let mut text = String::from_str(alloc, FRAMES_HEADER)?;
+    let mut text = Text::new(alloc);
+    text.put(FRAMES_HEADER);
     for (filter, view) in &outcome.filters {
-        push_filter(alloc, &mut text, *filter, view)?;
+        put_filter(alloc, &mut text, *filter, view);
     }
-    Ok(text)
+    text.done()
 }

@@ -1,14 +1,16 @@
 //! How many frames of a filter were refused, and how many copies of them were dropped.
-ghost use Rattle.std.specs.Prelude.{◌≡◌, ◌++◌, OnOk, string_bytes};
+ghost use Rattle.std.specs.Prelude.{◌≡◌};
+ghost use Rattle.bridge_text.specs.Growth.{HasGrown};
 ghost use Rattle.bridge_report.specs.Section.{full_in, never_in};
 ghost use Rattle.bridge_tables.specs.Frames.{field};
 ghost use Rattle.bridge_tables.specs.Losses as spec;
 
-use crate::rows::{push_field, push_last};
+use crate::rows::{put_field, put_last};
 use bridge_filter::Verdict;
 use bridge_port::Refusal;
 use bridge_semantics::Dropped;
-use std::alloc::{AllocError, Allocator};
+use bridge_text::Text;
+use std::alloc::Allocator;
 
 /// Why a frame is refused.
 #[derive(Clone, Copy)]
@@ -86,59 +88,51 @@ pub(crate) fn never_in(drops: &[Dropped]) -> usize
         .count()
 }
 
-/// Adds how many frames were refused for a reason.
-fn push_refused<A: Allocator>(
-    text: &mut String<A>,
-    reason: Reason,
-    verdicts: &[Verdict],
-) -> Result<(), AllocError>
-    ensures { OnOk result (string_bytes text.new ≡ string_bytes text.old ++ field (spec.refused_for reason verdicts.now)) }
+/// Puts how many frames were refused for a reason.
+fn put_refused<A: Allocator>(text: &mut Text<A>, reason: Reason, verdicts: &[Verdict])
+    ensures { HasGrown text.old (field (spec.refused_for reason verdicts.now)) text.new }
 {
-    push_field(text, refused_for(reason, verdicts) as u64)
+    put_field(text, refused_for(reason, verdicts) as u64);
 }
 
-/// Adds how many frames the filter itself refused, by each reason.
-#[tactic(auto, unfolding(crate::specs::Losses::filter_fields))]
-fn push_filter<A: Allocator>(text: &mut String<A>, verdicts: &[Verdict]) -> Result<(), AllocError>
-    ensures { OnOk result (string_bytes text.new ≡ string_bytes text.old ++ spec.filter_fields verdicts.now) }
+/// Puts how many frames the filter itself refused, by each reason.
+fn put_filter<A: Allocator>(text: &mut Text<A>, verdicts: &[Verdict])
+    ensures { HasGrown text.old (spec.filter_fields verdicts.now) text.new }
 {
-    push_refused(text, Reason::Blocked, verdicts)?;
-    push_refused(text, Reason::Oversize, verdicts)
+    put_refused(text, Reason::Blocked, verdicts);
+    put_refused(text, Reason::Oversize, verdicts);
 }
 
-/// Adds how many frames the gate refused, by each reason.
-#[tactic(auto, unfolding(crate::specs::Losses::gate_fields))]
-fn push_gate<A: Allocator>(text: &mut String<A>, verdicts: &[Verdict]) -> Result<(), AllocError>
-    ensures { OnOk result (string_bytes text.new ≡ string_bytes text.old ++ spec.gate_fields verdicts.now) }
+/// Puts how many frames the gate refused, by each reason.
+fn put_gate<A: Allocator>(text: &mut Text<A>, verdicts: &[Verdict])
+    ensures { HasGrown text.old (spec.gate_fields verdicts.now) text.new }
 {
-    push_refused(text, Reason::GateClosed, verdicts)?;
-    push_refused(text, Reason::ShutByRx, verdicts)?;
-    push_refused(text, Reason::ShutByOctets, verdicts)?;
-    push_refused(text, Reason::OctetsExceeded, verdicts)
+    put_refused(text, Reason::GateClosed, verdicts);
+    put_refused(text, Reason::ShutByRx, verdicts);
+    put_refused(text, Reason::ShutByOctets, verdicts);
+    put_refused(text, Reason::OctetsExceeded, verdicts);
 }
 
-/// Adds how many frames the meter discarded, by each reason.
-#[tactic(auto, unfolding(crate::specs::Losses::meter_fields))]
-fn push_meter<A: Allocator>(text: &mut String<A>, verdicts: &[Verdict]) -> Result<(), AllocError>
-    ensures { OnOk result (string_bytes text.new ≡ string_bytes text.old ++ spec.meter_fields verdicts.now) }
+/// Puts how many frames the meter discarded, by each reason.
+fn put_meter<A: Allocator>(text: &mut Text<A>, verdicts: &[Verdict])
+    ensures { HasGrown text.old (spec.meter_fields verdicts.now) text.new }
 {
-    push_refused(text, Reason::Red, verdicts)?;
-    push_refused(text, Reason::YellowDropped, verdicts)
+    put_refused(text, Reason::Red, verdicts);
+    put_refused(text, Reason::YellowDropped, verdicts);
 }
 
-/// Adds the end of a row: how many frames were refused and how many copies dropped.
-#[tactic(auto, unfolding(crate::specs::Losses::loss_fields))]
-pub(crate) fn push_losses<A: Allocator>(
-    text: &mut String<A>,
+/// Puts the end of a row: how many frames were refused and how many copies dropped.
+pub(crate) fn put_losses<A: Allocator>(
+    text: &mut Text<A>,
     verdicts: &[Verdict],
     full: usize,
     never: usize,
-) -> Result<(), AllocError>
-    ensures { OnOk result (string_bytes text.new ≡ string_bytes text.old ++ spec.loss_fields verdicts.now full never) }
+)
+    ensures { HasGrown text.old (spec.loss_fields verdicts.now full never) text.new }
 {
-    push_filter(text, verdicts)?;
-    push_gate(text, verdicts)?;
-    push_meter(text, verdicts)?;
-    push_field(text, full as u64)?;
-    push_last(text, never as u64)
+    put_filter(text, verdicts);
+    put_gate(text, verdicts);
+    put_meter(text, verdicts);
+    put_field(text, full as u64);
+    put_last(text, never as u64);
 }

@@ -1,16 +1,7 @@
 -- Texts that grow step by step.
-use Rattle.std.proofs.Common.{ℕ, List, [], ◌++◌, Option, Some, None, sym, ap, ◌∙◌, append_assoc, append-nil}
+use Rattle.std.proofs.Common.{ℕ, List, [], ◌++◌, Option, None}
 use Rattle.bridge_text.specs.Growth.{Grows, HasGrown, IsLonger}
-
-grows_none : (o : Option (List ℕ)) → Grows o [] o
-grows_none None = tt
-grows_none (Some x) = sym (append-nil x)
-
-grows_two : (o p q : Option (List ℕ)) (a b : List ℕ) → Grows o a p → Grows p b q → Grows o (a ++ b) q
-grows_two o p None a b first second = tt
-grows_two o None (Some z) a b first second = absurd second
-grows_two None (Some y) (Some z) a b first second = absurd first
-grows_two (Some x) (Some y) (Some z) a b first second = second ∙ ap (λ l. l ++ b) first ∙ append_assoc x a b
+use Rattle.bridge_text.proofs.Puts.{grows_none, grows_two}
 
 pub stays : (o : Option (List ℕ)) → IsLonger o o
 stays o = record { more = ([], grows_none o) }

@@ -2,7 +2,7 @@ use Rattle.std.proofs.Common.{Bool, List, ap}
 use Rattle.std.specs.Prelude.{string_bytes}
 use Rattle.bridge_delays.specs.Frames.{view_lines}
 use Rattle.bridge_delays.specs.Hops.{AreWays}
-use Rattle.bridge_delays.proofs.Puts.{put_as, whole_if}
+use Rattle.bridge_text.proofs.Puts.{put_as, whole_if}
 use Rattle.bridge_delays.proofs.Ways.{lines_if}
 use Rattle.bridge_delays.proofs.frames.frame_lines.Goals as goal
 

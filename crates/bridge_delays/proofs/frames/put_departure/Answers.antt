@@ -1,6 +1,6 @@
 use Rattle.std.specs.Prelude.{codes}
 use Rattle.bridge_delays.specs.Frames.{departure_line}
-use Rattle.bridge_delays.proofs.Puts.{put_as, put_count, put_piece}
+use Rattle.bridge_text.proofs.Puts.{put_as, put_count, put_piece}
 use Rattle.bridge_delays.proofs.frames.put_departure.Goals as goal
 
 pub returns : goal.returns

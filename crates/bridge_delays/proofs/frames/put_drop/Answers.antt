@@ -1,5 +1,5 @@
 use Rattle.bridge_delays.specs.Frames.{drop_line}
-use Rattle.bridge_delays.proofs.Puts.{put_as, put_piece}
+use Rattle.bridge_text.proofs.Puts.{put_as, put_piece}
 use Rattle.bridge_delays.proofs.frames.put_drop.Goals as goal
 
 pub returns : goal.returns

@@ -1,5 +1,5 @@
 use Rattle.bridge_delays.specs.Frames.{line_start}
-use Rattle.bridge_delays.proofs.Puts.{put_piece}
+use Rattle.bridge_text.proofs.Puts.{put_piece}
 use Rattle.bridge_delays.proofs.frames.put_start.Goals as goal
 
 pub returns : goal.returns

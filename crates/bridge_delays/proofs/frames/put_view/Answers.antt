@@ -1,6 +1,6 @@
 use Rattle.std.proofs.Common.{ap, ◌∙◌}
 use Rattle.bridge_delays.specs.Frames.{departure_lines, drop_lines, verdict_lines}
-use Rattle.bridge_delays.proofs.Puts.{put_as, put_piece}
+use Rattle.bridge_text.proofs.Puts.{put_as, put_piece}
 use Rattle.bridge_delays.proofs.frames.put_view.Goals as goal
 
 pub returns : goal.returns

@@ -1,6 +1,6 @@
 use Rattle.std.specs.Prelude.{string_bytes}
 use Rattle.bridge_delays.specs.Streams.{hop_line}
-use Rattle.bridge_delays.proofs.Puts.{put_piece, whole_if}
+use Rattle.bridge_text.proofs.Puts.{put_piece, whole_if}
 use Rattle.bridge_delays.proofs.lines.hop_line.Goals as goal
 
 pub returns : goal.returns

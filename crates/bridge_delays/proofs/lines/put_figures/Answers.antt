@@ -1,7 +1,7 @@
 use Rattle.std.proofs.Common.{ap, sym}
 use Rattle.std.specs.Prelude.{codes}
 use Rattle.bridge_delays.specs.Streams.{figure_words}
-use Rattle.bridge_delays.proofs.Puts.{put_as, put_count}
+use Rattle.bridge_text.proofs.Puts.{put_as, put_count}
 use Rattle.bridge_delays.proofs.lines.put_figures.Goals as goal
 
 pub returns-in-Some : goal.returns-in-Some

@@ -1,6 +1,6 @@
 use Rattle.std.specs.Prelude.{codes}
 use Rattle.bridge_delays.specs.Streams.{reason_words}
-use Rattle.bridge_delays.proofs.Puts.{put_count}
+use Rattle.bridge_text.proofs.Puts.{put_count}
 use Rattle.bridge_delays.proofs.lines.put_reasons.Goals as goal
 
 pub returns : goal.returns

@@ -1,7 +1,7 @@
 use Rattle.std.proofs.Common.{◌++◌, refl, ap}
 use Rattle.std.specs.Prelude.{codes, decimal}
 use Rattle.bridge_delays.specs.Streams.{stream_start}
-use Rattle.bridge_delays.proofs.Puts.{put_as, put_count, put_piece}
+use Rattle.bridge_text.proofs.Puts.{put_as, put_count, put_piece}
 use Rattle.bridge_delays.proofs.lines.put_stream_start.Goals as goal
 
 pub returns : goal.returns

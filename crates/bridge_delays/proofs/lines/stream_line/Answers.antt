@@ -1,6 +1,6 @@
 use Rattle.std.specs.Prelude.{codes, string_bytes}
 use Rattle.bridge_delays.specs.Streams.{stream_line}
-use Rattle.bridge_delays.proofs.Puts.{put_count, put_piece, whole_if}
+use Rattle.bridge_text.proofs.Puts.{put_count, put_piece, whole_if}
 use Rattle.bridge_delays.proofs.lines.stream_line.Goals as goal
 
 pub returns : goal.returns

@@ -1,4 +1,4 @@
-use Rattle.bridge_delays.proofs.Puts.{put_piece}
+use Rattle.bridge_text.proofs.Puts.{put_piece}
 use Rattle.bridge_delays.proofs.pieces.put_wide.Goals as goal
 
 pub returns : goal.returns
