@@ -54,8 +54,8 @@ filter_text None = codes "none"
 filter_text (Some n) = decimal n
 
 -- what comes to a port: the frames of a filter, or of none, that came in on a port of the sender
-abbrev pub sends_text : List ℕ → Option ℕ → ℕ → List ℕ
-sends_text end filter from = end ++ (codes " sends " ++ (filter_text filter ++ (codes " from " ++ decimal from)))
+abbrev pub sent_text : Option ℕ → ℕ → List ℕ
+sent_text filter from = codes " sends " ++ (filter_text filter ++ (codes " from " ++ decimal from))
 
 -- what is refused about a link
 abbrev pub of_link : List ℕ → ℕ → List ℕ
@@ -73,7 +73,7 @@ line_of bridges (network.SpeedsDiffer link) = of_link (codes "SpeedsDiffer") lin
 line_of bridges (network.NotProtected stream hop) = of_hop (codes "NotProtected") stream hop
 line_of bridges (network.HopTwice stream hop) = of_hop (codes "HopTwice") stream hop
 line_of bridges (network.NotClosed stream hop bridge port filter from) =
-    of_hop (codes "NotClosed") stream hop ++ (codes " " ++ sends_text (port_text bridges bridge port) filter from)
+    of_hop (codes "NotClosed") stream hop ++ (codes " " ++ (port_text bridges bridge port ++ sent_text filter from))
 line_of bridges (network.NotFed stream hop) = of_hop (codes "NotFed") stream hop
 
 -- the fault of a network of these plans whose talkers' periods don't suit them: the first that doesn't, by its line, or want of

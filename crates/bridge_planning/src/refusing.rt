@@ -1,16 +1,17 @@
 //! The line of a network that is refused.
-ghost use Rattle.std.specs.Prelude.{◌≡◌, ◌++◌, codes, decimal, IfOk, string_bytes};
-ghost use Rattle.bridge_planning.specs.Networks.{filter_text, line_of, of_hop, of_link, port_text, sends_text};
+ghost use Rattle.std.specs.Prelude.{◌≡◌, IfOk, string_bytes};
+ghost use Rattle.bridge_text.specs.Growth.{HasGrown};
+ghost use Rattle.bridge_planning.specs.Networks.{line_of, of_hop, of_link, port_text, sent_text};
 ghost use Rattle.bridge_planning.specs.Naming.{name_at};
 
 use bridge_limits::NoMemory;
 use bridge_netfile::BridgeRow;
 use bridge_network::NetworkFault;
+use bridge_text::Text;
 use std::alloc::Allocator;
 
 /// The line of a network that a test refuses, without a line feed: `network refused: NotFed stream 1 hop 2`. Bridges have
 /// their names, filters and ports their numbers.
-#[tactic(auto, unfolding(crate::specs::Networks::line_of))]
 pub fn said_of_network<A: Allocator + Copy, B: Allocator + Copy>(
     alloc: A,
     bridges: &[BridgeRow<B>],
@@ -18,16 +19,29 @@ pub fn said_of_network<A: Allocator + Copy, B: Allocator + Copy>(
 ) -> Result<String<A>, NoMemory>
     ensures { IfOk result (λ line. string_bytes line ≡ line_of bridges.now fault.now) }
 {
+    let mut text = Text::new(alloc);
+    put_fault(&mut text, bridges, fault);
+    text.done()
+}
+
+/// Puts the line of a network that a test refuses.
+fn put_fault<A: Allocator, B: Allocator + Copy>(
+    text: &mut Text<A>,
+    bridges: &[BridgeRow<B>],
+    fault: &NetworkFault,
+)
+    ensures { HasGrown text.old (line_of bridges.now fault.now) text.new }
+{
     match fault {
-        NetworkFault::Unresolved { link } => of_link(alloc, "Unresolved", *link),
+        NetworkFault::Unresolved { link } => put_link(text, "Unresolved", *link),
         NetworkFault::LinkTwice { link, end } => {
-            let front = of_link(alloc, "LinkTwice", *link)?;
-            let port = port_words(alloc, bridges, end.bridge, end.port)?;
-            Ok(format!(in alloc; "{front} {port}")?)
+            put_link(text, "LinkTwice", *link);
+            text.put(" ");
+            put_port(text, bridges, end.bridge, end.port);
         }
-        NetworkFault::SpeedsDiffer { link } => of_link(alloc, "SpeedsDiffer", *link),
-        NetworkFault::NotProtected { stream, hop } => of_hop(alloc, "NotProtected", *stream, *hop),
-        NetworkFault::HopTwice { stream, hop } => of_hop(alloc, "HopTwice", *stream, *hop),
+        NetworkFault::SpeedsDiffer { link } => put_link(text, "SpeedsDiffer", *link),
+        NetworkFault::NotProtected { stream, hop } => put_hop(text, "NotProtected", *stream, *hop),
+        NetworkFault::HopTwice { stream, hop } => put_hop(text, "HopTwice", *stream, *hop),
         NetworkFault::NotClosed {
             stream,
             hop,
@@ -36,58 +50,62 @@ pub fn said_of_network<A: Allocator + Copy, B: Allocator + Copy>(
             filter,
             from,
         } => {
-            let front = of_hop(alloc, "NotClosed", *stream, *hop)?;
-            let end = port_words(alloc, bridges, *bridge, *port)?;
-            let rest = sends_words(alloc, end.as_str(), filter, *from)?;
-            Ok(format!(in alloc; "{front} {rest}")?)
+            put_hop(text, "NotClosed", *stream, *hop);
+            text.put(" ");
+            put_port(text, bridges, *bridge, *port);
+            put_sent(text, filter, *from);
         }
-        NetworkFault::NotFed { stream, hop } => of_hop(alloc, "NotFed", *stream, *hop),
+        NetworkFault::NotFed { stream, hop } => put_hop(text, "NotFed", *stream, *hop),
     }
 }
 
-/// What is refused about a link.
-fn of_link<A: Allocator + Copy>(alloc: A, name: &str, link: usize) -> Result<String<A>, NoMemory>
-    ensures { IfOk result (λ line. string_bytes line ≡ of_link name.now link) }
+/// Puts what is refused about a link.
+fn put_link<A: Allocator>(text: &mut Text<A>, name: &str, link: usize)
+    ensures { HasGrown text.old (of_link name.now link) text.new }
 {
-    Ok(format!(in alloc; "network refused: {name} link {link}")?)
+    text.put("network refused: ");
+    text.put(name);
+    text.put(" link ");
+    text.put_number(link as u64);
 }
 
-/// What is refused about a hop.
-fn of_hop<A: Allocator + Copy>(
-    alloc: A,
-    name: &str,
-    stream: usize,
-    hop: usize,
-) -> Result<String<A>, NoMemory>
-    ensures { IfOk result (λ line. string_bytes line ≡ of_hop name.now stream hop) }
+/// Puts what is refused about a hop.
+fn put_hop<A: Allocator>(text: &mut Text<A>, name: &str, stream: usize, hop: usize)
+    ensures { HasGrown text.old (of_hop name.now stream hop) text.new }
 {
-    Ok(format!(in alloc; "network refused: {name} stream {stream} hop {hop}")?)
+    text.put("network refused: ");
+    text.put(name);
+    text.put(" stream ");
+    text.put_number(stream as u64);
+    text.put(" hop ");
+    text.put_number(hop as u64);
 }
 
-/// A port of a bridge by its name.
-fn port_words<A: Allocator + Copy, B: Allocator + Copy>(
-    alloc: A,
+/// Puts a port of a bridge by its name.
+fn put_port<A: Allocator, B: Allocator + Copy>(
+    text: &mut Text<A>,
     bridges: &[BridgeRow<B>],
     bridge: u16,
     port: u8,
-) -> Result<String<A>, NoMemory>
-    ensures { IfOk result (λ words. string_bytes words ≡ port_text bridges.now bridge port) }
+)
+    ensures { HasGrown text.old (port_text bridges.now bridge port) text.new }
 {
-    let name = name_of(bridges, bridge);
-    Ok(format!(in alloc; "{name}.{port}")?)
+    text.put(name_of(bridges, bridge));
+    text.put(".");
+    text.put_number(u64::from(port));
 }
 
-/// What comes to a port: the frames of a filter, or of none, that came in on a port of the sender.
-fn sends_words<A: Allocator + Copy>(
-    alloc: A,
-    end: &str,
-    filter: &Option<u32>,
-    from: u8,
-) -> Result<String<A>, NoMemory>
-    ensures { IfOk result (λ words. string_bytes words ≡ sends_text end.now filter.now from) }
+/// Puts what comes to a port: the frames of a filter, or of none, that came in on a port of the sender.
+fn put_sent<A: Allocator>(text: &mut Text<A>, filter: &Option<u32>, from: u8)
+    ensures { HasGrown text.old (sent_text filter.now from) text.new }
 {
-    let number = filter_words(alloc, filter)?;
-    Ok(format!(in alloc; "{end} sends {number} from {from}")?)
+    text.put(" sends ");
+    match filter {
+        Some(number) => text.put_number(u64::from(*number)),
+        None => text.put("none"),
+    }
+    text.put(" from ");
+    text.put_number(u64::from(from));
 }
 
 /// The name of the bridge at a place.
@@ -99,15 +117,5 @@ pub(crate) fn name_of<'a, A: Allocator + Copy>(bridges: &'a [BridgeRow<A>], brid
         bridges[place].name()
     } else {
         ""
-    }
-}
-
-/// The number of a filter, or that there is none.
-fn filter_words<A: Allocator + Copy>(alloc: A, filter: &Option<u32>) -> Result<String<A>, NoMemory>
-    ensures { IfOk result (λ words. string_bytes words ≡ filter_text filter.now) }
-{
-    match filter {
-        Some(number) => Ok(format!(in alloc; "{number}")?),
-        None => Ok(String::from_str(alloc, "none")?),
     }
 }

@@ -1,4 +1,4 @@
-use Rattle.std.proofs.Common.{List, inr, string_bytes, subst}
+use Rattle.std.proofs.Common.{List, inl, inr, string_bytes, subst}
 use Rattle.bridge_traffic.specs.declared.rows.TrafficRow.{TrafficRow}
 use Rattle.bridge_planning.specs.TrafficText.{AreLinesOfTraffic, RefusesTimings}
 use Rattle.bridge_planning.proofs.Gathered.{err_as, ok_as}
@@ -21,3 +21,12 @@ returns-clause-err g c = λ input words told heard.
     err_as c.report_of-told.result (RefusesTimings c.in-Ok.accepted c.deref.result.now) _
     (λ f h. inr (inr (inr (c.in-Ok.accepted, c.in-Ok-rows_from.rows.items, c.in-Ok.ensures.ok input told, c.in-Ok-rows_from.ensures.ok words heard, subst (λ (rows : List TrafficRow). RefusesTimings c.in-Ok.accepted rows f) c.deref.ensures.value h))))
     c.report_of-told.ensures.err
+
+pub returns-in-Err-clause-err : goal.returns-in-Err-clause-err
+returns-in-Err-clause-err g c = λ input words told heard. inl (c.in-Err.ensures.err input told)
+
+pub returns-in-Err-rows_from-clause-err : goal.returns-in-Err-rows_from-clause-err
+returns-in-Err-rows_from-clause-err g c = λ input words told heard. elim (c.in-Err-rows_from.ensures.err words heard) [
+  | inl file ↦ inr (inl file)
+  | inr rows ↦ inr (inr (inl rows))
+]
