@@ -1,5 +1,6 @@
 //! How long frames of the streams of a network take, from talker to listener.
 ghost use Rattle.std.specs.Prelude.{All, ◌≡◌, ◌&&◌, ◌++◌, ◌≤◌, ◌*◌, ◌^◌, length, map, nat_eq, slice_get, sum_by, IfOk, OnOk, string_bytes};
+ghost use Rattle.bridge_text.specs.Growth.{HasGrown};
 ghost use Rattle.std.specs.Option.{ForSome};
 ghost use Rattle.bridge_netfile.specs.Model.{Stream};
 ghost use Rattle.bridge_netfile.specs.Rules.{IsTalker};
@@ -12,13 +13,14 @@ ghost use Rattle.bridge_planning.specs.Traffic.{is_met};
 use crate::bounds::{QueueBound, bounds_of};
 use crate::talkers::course_for;
 use crate::timings;
-use crate::timings::deadline_words;
+use crate::timings::put_deadline;
 use bridge_check::Accepted;
 use bridge_courses::Course;
 use bridge_limits::NoMemory;
 use bridge_netfile::{LinkRow, StreamRow};
 use bridge_network::Network;
-use std::alloc::{AllocError, Allocator};
+use bridge_text::Text;
+use std::alloc::Allocator;
 
 /// The bounds of the queues of each plan.
 pub fn bounds_of_all<A: Allocator + Copy>(
@@ -198,25 +200,29 @@ fn worst_of(course: Option<Course>, bound: u128) -> u128
     }
 }
 
-/// The words of its figures.
-fn course_words<B: Allocator + Copy>(
-    alloc: B,
-    course: Option<Course>,
-    bound: u128,
-) -> Result<String<B>, AllocError>
-    ensures { IfOk result (λ words. string_bytes words ≡ spec.course_words course bound) }
+/// Puts the figures of a stream, or its bound where there are none.
+fn put_course<B: Allocator>(text: &mut Text<B>, course: Option<Course>, bound: u128)
+    ensures { HasGrown text.old (spec.course_words course bound) text.new }
 {
     let Some(course) = course else {
-        return format!(in alloc; " bound {bound}");
+        text.put(" bound ");
+        text.put_integer(bound);
+        return;
     };
-    let Course {
-        passes,
-        worst,
-        best,
-        jitter,
-    } = course;
-    let word = if passes { "" } else { " refusable" };
-    format!(in alloc; "{word} worst {worst} best {best} jitter {jitter}")
+    text.put(refusal_word(course.passes));
+    text.put(" worst ");
+    text.put_integer(course.worst);
+    text.put(" best ");
+    text.put_integer(course.best);
+    text.put(" jitter ");
+    text.put_integer(course.jitter);
+}
+
+/// What is said of a stream of which a frame may be refused.
+fn refusal_word(passes: bool) -> &'static str
+    ensures { result.now ≡ spec.refusal_word passes }
+{
+    if passes { "" } else { " refusable" }
 }
 
 /// Whether each frame of a stream passes, where that is asked, and meets its deadline.
@@ -239,28 +245,27 @@ pub struct StreamLines<B: Allocator> {
     pub kept: bool,
 }
 
-/// Adds the line of a stream with its figures; answers whether it is kept.
-#[tactic(auto, unfolding(crate::specs::Streams::stream_line))]
-fn push_stream<A: Allocator + Copy, B: Allocator + Copy>(
-    alloc: B,
-    text: &mut String<B>,
+/// Puts the line of a stream with its figures; answers whether it is kept.
+fn put_stream<A: Allocator + Copy, B: Allocator>(
+    text: &mut Text<B>,
     bounds: &[Vec<QueueBound, A>],
     links: &[LinkRow],
     stream: &StreamRow<A>,
     course: Option<Course>,
-) -> Result<bool, AllocError>
+) -> bool
     requires some { 1 ≤ length stream.now.hops }
     requires few { length stream.now.hops ≤ 64 }
-    ensures text { OnOk result (string_bytes text.new ≡ string_bytes text.old ++ spec.stream_line bounds.now links.now (stream.now, course)) }
-    ensures kept { IfOk result (λ kept. kept ≡ spec.is_kept bounds.now links.now (stream.now, course)) }
+    ensures text { HasGrown text.old (spec.stream_line bounds.now links.now (stream.now, course)) text.new }
+    ensures kept { result ≡ spec.is_kept bounds.now links.now (stream.now, course) }
 {
-    let name = stream.name();
     let bound = stream_bound(bounds, links, stream.hops());
     let deadline = stream.deadline();
-    let words = course_words(alloc, course, bound)?;
-    let end = deadline_words(alloc, deadline, worst_of(course, bound))?;
-    write!(text, "stream {name}{words}{end}\n")?;
-    Ok(is_kept(course, deadline, bound))
+    text.put("stream ");
+    text.put(stream.name());
+    put_course(text, course, bound);
+    put_deadline(text, deadline, worst_of(course, bound));
+    text.put("\n");
+    is_kept(course, deadline, bound)
 }
 
 /// Whether both hold.
@@ -271,7 +276,6 @@ fn both(a: bool, b: bool) -> bool
 }
 
 /// The lines of all streams of a network, by the bounds of the plans of its bridges, and whether each is kept.
-#[tactic(auto, using(crate::proofs::Queued::next_line, crate::proofs::Queued::no_lines))]
 pub fn stream_lines<A: Allocator + Copy, B: Allocator + Copy>(
     alloc: A,
     heap: B,
@@ -286,16 +290,17 @@ pub fn stream_lines<A: Allocator + Copy, B: Allocator + Copy>(
     requires talkers { All (λ s. ForSome s.talker IsTalker) streams.now }
     ensures { IfOk result (λ x. AreStreamLines network.now.plans network.now.links bounds.now links.now streams.now (string_bytes x.text) x.kept) }
 {
-    let mut text = String::new(heap);
+    let mut text = Text::new(heap);
     let mut kept = true;
     for stream in streams {
         let Ok(course) = course_for(alloc, network.plans(), network.links(), bounds, stream) else {
             return Err(NoMemory);
         };
-        let Ok(here) = push_stream(heap, &mut text, bounds, links, stream, course) else {
-            return Err(NoMemory);
-        };
+        let here = put_stream(&mut text, bounds, links, stream, course);
         kept = both(kept, here);
     }
-    Ok(StreamLines { text, kept })
+    match text.done() {
+        Ok(text) => Ok(StreamLines { text, kept }),
+        Err(fault) => Err(fault),
+    }
 }

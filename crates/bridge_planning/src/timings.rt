@@ -1,5 +1,6 @@
 //! How long the frames of traffic take, in each queue of their filters, and what is printed of it.
-ghost use Rattle.std.specs.Prelude.{◌≡◌, ◌↔◌, ◌++◌, ◌∷◌, ◌≤◌, All, IfOk, List, OnOk, [], length, string_bytes, true};
+ghost use Rattle.std.specs.Prelude.{◌≡◌, ◌↔◌, ◌++◌, ◌∷◌, ◌≤◌, All, IfOk, List, OnOk, Some, [], length, string_bytes, true};
+ghost use Rattle.bridge_text.specs.Growth.{HasGrown};
 ghost use Rattle.bridge_bounds.specs.Bounds.{IsBound};
 ghost use Rattle.bridge_traffic.specs.Rows.{IsRow};
 ghost use Rattle.bridge_planning.specs.Bounds.{AreBounds};
@@ -12,8 +13,9 @@ use bridge_bounds::filter_at;
 use bridge_check::Accepted;
 use bridge_limits::NoMemory;
 use bridge_periods::{Timing, passes, timing_of};
+use bridge_text::Text;
 use bridge_traffic::TrafficRow;
-use std::alloc::{AllocError, Allocator};
+use std::alloc::Allocator;
 
 /// How long the frames of a row of traffic take in a queue to which they may come.
 #[derive(Clone, Copy)]
@@ -152,55 +154,72 @@ pub fn are_kept(timings: &[QueueTiming]) -> bool
         .all(|x| x.passes && is_met(x.deadline, x.timing.worst as u128))
 }
 
-/// What is said of a deadline, where there is one.
-pub(crate) fn deadline_words<A: Allocator + Copy>(
-    alloc: A,
-    deadline: Option<u64>,
-    worst: u128,
-) -> Result<String<A>, AllocError>
-    ensures { IfOk result (λ words. string_bytes words ≡ printing.deadline_words deadline worst) }
+/// Whether a deadline is met.
+fn deadline_word(limit: u64, worst: u128) -> &'static str
+    ensures { result.now ≡ printing.deadline_word (spec.is_met (Some limit) worst) }
 {
-    let Some(limit) = deadline else {
-        return String::from_str(alloc, "");
-    };
-    let word = if worst <= limit as u128 {
+    if worst <= limit as u128 {
         "met"
     } else {
         "missed"
-    };
-    format!(in alloc; " deadline {limit} {word}")
+    }
 }
 
-/// Adds the line of a queue.
-#[tactic(auto, unfolding(crate::specs::TrafficText::timing_line))]
-fn push_timing<A: Allocator + Copy>(
-    alloc: A,
-    text: &mut String<A>,
-    x: &QueueTiming,
-) -> Result<(), AllocError>
-    ensures { OnOk result (string_bytes text.new ≡ string_bytes text.old ++ printing.timing_line x.now) }
+/// Puts what is said of a deadline, where there is one.
+pub(crate) fn put_deadline<A: Allocator>(text: &mut Text<A>, deadline: Option<u64>, worst: u128)
+    ensures { HasGrown text.old (printing.deadline_words deadline worst) text.new }
 {
-    let end = deadline_words(alloc, x.deadline, x.timing.worst as u128)?;
-    let QueueTiming {
-        row,
-        filter,
-        port,
-        class,
-        passes,
-        timing,
-        deadline: _,
-    } = *x;
-    let word = if passes { "passes" } else { "refusable" };
-    let Timing {
-        worst,
-        best,
-        jitter,
-        phases: _,
-    } = timing;
-    write!(
-        text,
-        "traffic {row} filter {filter} port {port} class {class} {word} worst {worst} best {best} jitter {jitter}{end}\n"
-    )
+    if let Some(limit) = deadline {
+        text.put(" deadline ");
+        text.put_number(limit);
+        text.put(" ");
+        text.put(deadline_word(limit, worst));
+    }
+}
+
+/// Puts the row, the filter, the port and the class of a queue.
+fn put_queue<A: Allocator>(text: &mut Text<A>, x: &QueueTiming)
+    ensures { HasGrown text.old (printing.queue_words x.now) text.new }
+{
+    text.put("traffic ");
+    text.put_number(u64::from(x.row));
+    text.put(" filter ");
+    text.put_number(u64::from(x.filter));
+    text.put(" port ");
+    text.put_number(u64::from(x.port));
+    text.put(" class ");
+    text.put_number(u64::from(x.class));
+}
+
+/// Puts the figures of a queue.
+fn put_figures<A: Allocator>(text: &mut Text<A>, x: &QueueTiming)
+    ensures { HasGrown text.old (printing.figure_words x.now) text.new }
+{
+    text.put(" worst ");
+    text.put_number(x.timing.worst);
+    text.put(" best ");
+    text.put_number(x.timing.best);
+    text.put(" jitter ");
+    text.put_number(x.timing.jitter);
+}
+
+/// Puts the line of a queue.
+fn put_line<A: Allocator>(text: &mut Text<A>, x: &QueueTiming)
+    ensures { HasGrown text.old (printing.timing_line x.now) text.new }
+{
+    put_queue(text, x);
+    text.put(" ");
+    text.put(passing_word(x.passes));
+    put_figures(text, x);
+    put_deadline(text, x.deadline, x.timing.worst as u128);
+    text.put("\n");
+}
+
+/// Whether each frame passes.
+fn passing_word(passes: bool) -> &'static str
+    ensures { result.now ≡ printing.passing_word passes }
+{
+    if passes { "passes" } else { "refusable" }
 }
 
 /// The lines of some queues, one for each.
@@ -210,11 +229,9 @@ pub fn timings_text<A: Allocator + Copy>(
 ) -> Result<String<A>, NoMemory>
     ensures { IfOk result (λ text. string_bytes text ≡ printing.timings_text timings.now) }
 {
-    let mut text = String::new(alloc);
+    let mut text = Text::new(alloc);
     for timing in timings {
-        let Ok(()) = push_timing(alloc, &mut text, timing) else {
-            return Err(NoMemory);
-        };
+        put_line(&mut text, timing);
     }
-    Ok(text)
+    text.done()
 }

@@ -1,6 +1,7 @@
-use Rattle.std.proofs.Common.{take, string_bytes}
+use Rattle.std.proofs.Common.{List, ℕ, take}
+use Rattle.bridge_text.specs.Growth.{HasGrown}
 use Rattle.bridge_planning.specs.Talkers.{AreStreamLines}
 use Rattle.bridge_planning.proofs.streams.stream_lines.Given as goal
 
 abbrev pub invariant-loop-stream : goal.invariant-loop-stream
-invariant-loop-stream g l = AreStreamLines l.network.plans l.network.links l.bounds l.links (take l.stream-index l.streams) (string_bytes l.text) l.kept
+invariant-loop-stream g l = (octets : List ℕ) × HasGrown l.initial.text octets l.text × AreStreamLines l.network.plans l.network.links l.bounds l.links (take l.stream-index l.streams) octets l.kept
