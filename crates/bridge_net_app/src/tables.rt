@@ -121,6 +121,77 @@ fn delays_of_all(
     Ok(delays)
 }
 
+/// Writes the line of a stream as a whole.
+fn put_whole<F: Write + OpenFile + Drop>(
+    alloc: Global,
+    links: &[Link],
+    stream: &StreamRow<Global>,
+    bound: u128,
+    runs: &[HopRun<'_, Global>],
+    all: &[Vec<Option<Root>>],
+    tallies: &[Tally],
+    streams: &mut Output<F>,
+) -> Result<(), TableFault> {
+    let delays = delays_of_all(alloc, links, runs, all)?;
+    let line = stream_line(
+        alloc,
+        stream.name(),
+        tallies,
+        figures_of(&delays),
+        bound,
+        stream.deadline(),
+    )?;
+    put_text(streams, line.as_str(), Table::Streams)
+}
+
+/// Writes the lines of a hop of a stream into both tables.
+fn put_hop<F: Write + OpenFile + Drop>(
+    alloc: Global,
+    links: &[Link],
+    runs: &[HopRun<'_, Global>],
+    run: &HopRun<'_, Global>,
+    roots: &[Option<Root>],
+    stream: &str,
+    name: &str,
+    streams: &mut Output<F>,
+    frames: &mut Output<F>,
+) -> Result<(), TableFault> {
+    let lines = lines_of_hop(alloc, links, runs, run, roots, stream, name)?;
+    put_text(streams, lines.streams.as_str(), Table::Streams)?;
+    put_text(frames, lines.frames.as_str(), Table::Frames)
+}
+
+/// Writes the lines of the hops of a stream into both tables.
+fn put_hops<F: Write + OpenFile + Drop>(
+    alloc: Global,
+    bridges: &[BridgeRow<Global>],
+    links: &[Link],
+    stream: &StreamRow<Global>,
+    runs: &[HopRun<'_, Global>],
+    all: &[Vec<Option<Root>>],
+    streams: &mut Output<F>,
+    frames: &mut Output<F>,
+) -> Result<(), TableFault> {
+    for (place, hop) in stream.hops().iter().enumerate() {
+        let (Some(run), Some(roots)) = (runs.get(place), all.get(place)) else {
+            return Err(TableFault::NoMemory);
+        };
+        let name = hop_name(alloc, bridges, *hop)?;
+        put_hop(
+            alloc,
+            links,
+            runs,
+            run,
+            roots,
+            stream.name(),
+            name.as_str(),
+            streams,
+            frames,
+        )?;
+    }
+    Ok(())
+}
+
 /// Writes the lines of a stream into both tables, and adds its frames to the totals.
 fn put_stream<F: Write + OpenFile + Drop>(
     alloc: Global,
@@ -137,33 +208,17 @@ fn put_stream<F: Write + OpenFile + Drop>(
     let runs = runs_of(alloc, settled, stream.hops())?;
     let all = roots_of(alloc, links, &runs)?;
     let tallies = tallies_of(alloc, links, &runs, &all)?;
-    let delays = delays_of_all(alloc, links, &runs, &all)?;
-    let line = stream_line(
+    put_whole(alloc, links, stream, bound, &runs, &all, &tallies, streams)?;
+    put_hops(
         alloc,
-        stream.name(),
-        &tallies,
-        figures_of(&delays),
-        bound,
-        stream.deadline(),
+        file.bridges(),
+        links,
+        stream,
+        &runs,
+        &all,
+        streams,
+        frames,
     )?;
-    put_text(streams, line.as_str(), Table::Streams)?;
-    for (place, hop) in stream.hops().iter().enumerate() {
-        if place >= runs.len() || place >= all.len() {
-            return Err(TableFault::NoMemory);
-        }
-        let name = hop_name(alloc, file.bridges(), *hop)?;
-        let lines = lines_of_hop(
-            alloc,
-            links,
-            &runs,
-            &runs[place],
-            &all[place],
-            stream.name(),
-            name.as_str(),
-        )?;
-        put_text(streams, lines.streams.as_str(), Table::Streams)?;
-        put_text(frames, lines.frames.as_str(), Table::Frames)?;
-    }
     Ok(Totals {
         frames: tallies.len() as u64,
         delivered: delivered_of(&tallies) as u64,
