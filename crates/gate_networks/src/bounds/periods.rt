@@ -93,11 +93,19 @@ fn tell_talker(
     said: &mut Text<Global>,
     talker: &Talker,
 ) -> Result<bool, Fault> {
+    let accepted = plan_at(rt, talker.plan)?;
+    tell_traffic(rt, said, talker, &accepted)
+}
+
+/// Tells of the traffic of a talker.
+fn tell_traffic(
+    rt: &(impl AllocGlobal + Files),
+    said: &mut Text<Global>,
+    talker: &Talker,
+    accepted: &Accepted<Global>,
+) -> Result<bool, Fault> {
     let rows = rows_of(rt, talker.traffic)?;
-    match plan_at(rt, talker.plan) {
-        Ok(accepted) => of_run(tell_rows(rt.alloc(), said, talker, &accepted, &rows)),
-        Err(fault) => Err(fault),
-    }
+    of_run(tell_rows(rt.alloc(), said, talker, accepted, &rows))
 }
 
 /// Tells of rows of traffic.
@@ -111,30 +119,44 @@ fn tell_rows(
     requires few { length rows.now ≤ 1024 }
     requires rows { All IsRow rows.now }
 {
-    let Ok(timings) = timings_of(alloc, accepted, rows) else {
-        return Err(RunFault::NoMemory);
-    };
-    let mut are_so = !timings.is_empty();
-    for timing in &timings {
-        are_so = tell_timing(alloc, said, talker, accepted, rows, timing)? && are_so;
+    match timings_of(alloc, accepted, rows) {
+        Ok(timings) => tell_timings(alloc, said, talker, accepted, rows, &timings),
+        Err(_) => Err(RunFault::NoMemory),
     }
-    Ok(are_so)
 }
 
-/// Tells of a row of traffic in a queue; whether a run reaches both phases.
-fn tell_timing(
+/// Tells of rows of traffic in their queues.
+fn tell_timings(
     alloc: Global,
     said: &mut Text<Global>,
     talker: &Talker,
     accepted: &Accepted<Global>,
     rows: &[TrafficRow],
-    timing: &QueueTiming,
+    timings: &[QueueTiming],
 ) -> Result<bool, RunFault> {
-    let place = timing.row.saturating_sub(1) as usize;
-    let (Some(row), Some(phases)) = (rows.get(place), timing.timing.phases) else {
-        return Ok(false);
-    };
-    let reached = reached_by(alloc, talker, accepted, row, timing.port)?;
+    let mut are_so = !timings.is_empty();
+    for timing in timings {
+        let place = timing.row.saturating_sub(1) as usize;
+        are_so = match (rows.get(place), timing.timing.phases) {
+            (Some(row), Some(phases)) => {
+                let reached = reached_by(alloc, talker, accepted, row, timing.port)?;
+                tell_reached(said, talker, timing, phases, reached);
+                reached == phases && are_so
+            }
+            _ => false,
+        };
+    }
+    Ok(are_so)
+}
+
+/// Tells of a row of traffic in a queue, and which phases a run reaches.
+fn tell_reached(
+    said: &mut Text<Global>,
+    talker: &Talker,
+    timing: &QueueTiming,
+    phases: Phases,
+    reached: Phases,
+) {
     said.fill(
         "{a} traffic {0} filter {1} port {2} class {3} done from {4} to {5} reached {6} and {7}\n",
         &[
@@ -149,7 +171,6 @@ fn tell_timing(
         ],
         &[talker.plan],
     );
-    Ok(reached == phases)
 }
 
 /// The phases at which the two frames of a run are done at a port.

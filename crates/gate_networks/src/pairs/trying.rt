@@ -14,18 +14,18 @@ use std::alloc::Global;
 /// The captures of all sorts of frames on each port, and that of none.
 #[derive(Drop)]
 pub struct Sorts {
-    ports: [Recording; 3],
+    one: Recording,
+    two: Recording,
+    three: Recording,
     none: Recording,
 }
 
 /// The captures that are sent to each bridge.
 pub fn sorts_of(alloc: Global) -> Sorts {
     Sorts {
-        ports: [
-            capture_of(alloc, 0),
-            capture_of(alloc, 1),
-            capture_of(alloc, 2),
-        ],
+        one: capture_of(alloc, 0),
+        two: capture_of(alloc, 1),
+        three: capture_of(alloc, 2),
         none: Recording::new(alloc),
     }
 }
@@ -168,11 +168,7 @@ fn run_all(
     let Some(accepted) = plans.get(bridge as usize) else {
         return Err(RunFault::NoMemory);
     };
-    let captures = [
-        sorts.ports[0].octets(),
-        sorts.ports[1].octets(),
-        sorts.ports[2].octets(),
-    ];
+    let captures = [sorts.one.octets(), sorts.two.octets(), sorts.three.octets()];
     ran_without(alloc, accepted, &captures)
 }
 

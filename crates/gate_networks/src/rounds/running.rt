@@ -1,8 +1,7 @@
 //! Runs of networks by rounds, and the run of each bridge over what came to it.
 use crate::rounds::coming::{Case, commands_in, port_capture};
 use crate::rounds::meeting::{Meetings, meetings_at};
-use crate::runs::{ran_over, tap_of};
-use bridge_capture::VecSink;
+use crate::runs::{ran_over, tap_of, view_of};
 use bridge_check::Accepted;
 use bridge_core::{Outcome, View};
 use bridge_inputs::RunFault;
@@ -66,27 +65,26 @@ fn is_same(alloc: Global, told: &Settled<Global>, ran: &Settled<Global>) -> Resu
     Ok(
         one.as_str() == other.as_str()
             && have_same_counts(&told.outcome, &ran.outcome)
-            && have_same_origins(&told.outcome, &ran.outcome)
-            && have_same_taps(&told.taps, &ran.taps),
+            && have_same_origins(told, ran)
+            && have_same_taps(told, ran),
     )
 }
 
-/// Whether the frames of a filter came at the same moments to the same ports.
-fn came_so(one: &View<Global>, other: &View<Global>) -> bool {
-    one.origins.as_slice() == other.origins.as_slice()
+/// Whether the frames of a filter came at the same moments to the same ports in another run.
+fn came_so(ran: &Settled<Global>, filter: u32, one: &View<Global>) -> bool {
+    match view_of(ran, filter) {
+        Some(other) => one.origins.as_slice() == other.origins.as_slice(),
+        None => false,
+    }
 }
 
 /// Whether the frames of each filter came at the same moments to the same ports, which no report tells.
-fn have_same_origins(one: &Outcome<Global>, other: &Outcome<Global>) -> bool {
-    if one.filters.len() != other.filters.len() {
-        return false;
+fn have_same_origins(told: &Settled<Global>, ran: &Settled<Global>) -> bool {
+    let mut are_same = told.outcome.filters.len() == ran.outcome.filters.len();
+    for (filter, view) in &told.outcome.filters {
+        are_same = came_so(ran, *filter, view) && are_same;
     }
-    for ((_, one), (_, other)) in one.filters.iter().zip(&other.filters) {
-        if !came_so(one, other) {
-            return false;
-        }
-    }
-    true
+    are_same
 }
 
 /// Whether two runs count the same at each port.
@@ -94,17 +92,13 @@ fn have_same_counts(one: &Outcome<Global>, other: &Outcome<Global>) -> bool {
     one.ports.as_slice() == other.ports.as_slice()
 }
 
-/// Whether the same left each port.
-fn have_same_taps(one: &[VecSink<Global>], other: &[VecSink<Global>]) -> bool {
-    if one.len() != other.len() {
-        return false;
+/// Whether the same left each of the ports 1 to 4.
+fn have_same_taps(told: &Settled<Global>, ran: &Settled<Global>) -> bool {
+    let mut are_same = told.taps.len() == ran.taps.len();
+    for port in 1..5u8 {
+        are_same = tap_of(told, port) == tap_of(ran, port) && are_same;
     }
-    for (one, other) in one.iter().zip(other) {
-        if one.octets() != other.octets() {
-            return false;
-        }
-    }
-    true
+    are_same
 }
 
 /// The run of a bridge over what came to it, a capture for each of the ports 1 to 4.
@@ -178,7 +172,10 @@ pub fn meetings_in(
 ) -> Result<Meetings, RunFault> {
     let mut meetings = Meetings::default();
     let mut bridge = 0u16;
-    for (accepted, told) in network.plans().iter().zip(settled) {
+    for told in settled {
+        let Some(accepted) = network.plans().get(bridge as usize) else {
+            return Ok(meetings);
+        };
         let Ok(commands) = commands_in(alloc, accepted, case, bridge) else {
             return Err(RunFault::NoMemory);
         };
