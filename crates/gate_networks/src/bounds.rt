@@ -6,10 +6,12 @@ mod captures;
 mod periods;
 mod running;
 
+use crate::of_run;
 use bridge_check::Accepted;
 use bridge_inputs::RunFault;
-use bridge_jobs::{Fault, planned, print};
+use bridge_jobs::{Fault, planned};
 use bridge_planning::{QueueBound, bounds_of};
+use bridge_text::Text;
 use captures::Near;
 use periods::tell_talkers;
 use running::{drawn_delay, made_delay};
@@ -94,57 +96,78 @@ const ROWS: [Row; 7] = [
 ];
 
 /// Tells of all plans and of all talkers; whether all is as it is to be.
-pub fn run(rt: &(impl AllocGlobal + Print + Files)) -> Result<bool, Fault> {
+pub fn run(rt: &(impl AllocGlobal + Files), said: &mut Text<Global>) -> Result<bool, Fault> {
     let mut are_so = true;
     for row in &ROWS {
-        are_so = tell_plan(rt, row)? && are_so;
+        are_so = tell_plan(rt, said, row)? && are_so;
     }
-    are_so = tell_talkers(rt)? && are_so;
+    are_so = tell_talkers(rt, said)? && are_so;
     Ok(are_so)
 }
 
-/// Prints the bounds of a plan with the delays beside them; whether these are as they are to be.
-fn tell_plan(rt: &(impl AllocGlobal + Print + Files), row: &Row) -> Result<bool, Fault> {
-    let path = String::from_str(rt.alloc(), row.path)?;
-    let Ok(reader) = fs::open(rt, row.path) else {
-        return Err(Fault::File(path));
-    };
-    let accepted = planned(rt.alloc(), rt.alloc(), path, reader)?;
-    let Ok(bounds) = bounds_of(rt.alloc(), &accepted) else {
-        return Err(Fault::Run(RunFault::NoMemory));
+/// The plan of a file.
+fn plan_at(rt: &(impl AllocGlobal + Files), file: &str) -> Result<Accepted<Global>, Fault> {
+    let path = String::from_str(rt.alloc(), file)?;
+    match fs::open(rt, file) {
+        Ok(reader) => planned(rt.alloc(), rt.alloc(), path, reader),
+        Err(_) => Err(Fault::File(path)),
+    }
+}
+
+/// Tells of the bounds of a plan with the delays beside them; whether these are as they are to be.
+fn tell_plan(
+    rt: &(impl AllocGlobal + Files),
+    said: &mut Text<Global>,
+    row: &Row,
+) -> Result<bool, Fault> {
+    let accepted = plan_at(rt, row.path)?;
+    of_run(tell_bounds(rt.alloc(), said, row, &accepted))
+}
+
+/// Tells of the bounds of an accepted plan.
+fn tell_bounds(
+    alloc: Global,
+    said: &mut Text<Global>,
+    row: &Row,
+    accepted: &Accepted<Global>,
+) -> Result<bool, RunFault> {
+    let Ok(bounds) = bounds_of(alloc, accepted) else {
+        return Err(RunFault::NoMemory);
     };
     let mut are_so = !bounds.is_empty();
     for bound in &bounds {
-        are_so = tell_bound(rt, row, &accepted, bound)? && are_so;
+        are_so = tell_bound(alloc, said, row, accepted, bound)? && are_so;
     }
     Ok(are_so)
 }
 
-/// Prints a bound with the delays beside it; whether none exceeds it and the one that was made comes near it.
+/// Tells of a bound with the delays beside it; whether none exceeds it and the one that was made comes near it.
 fn tell_bound(
-    rt: &(impl AllocGlobal + Print),
+    alloc: Global,
+    said: &mut Text<Global>,
     row: &Row,
     accepted: &Accepted<Global>,
     queue: &QueueBound,
-) -> Result<bool, Fault> {
-    let made = match made_delay(rt.alloc(), accepted, row.near, queue.filter, queue.port) {
-        Ok(made) => made,
-        Err(fault) => return Err(Fault::Run(fault)),
-    };
-    let drawn = match drawn_delay(rt.alloc(), accepted, queue.filter, queue.port) {
-        Ok(drawn) => drawn,
-        Err(fault) => return Err(Fault::Run(fault)),
-    };
+) -> Result<bool, RunFault> {
     let QueueBound {
         filter,
         port,
         class,
         bound,
     } = *queue;
-    let path = row.path;
-    let line = format!(in rt.alloc();
-        "{path} filter {filter} port {port} class {class} bound {bound} made {made} drawn {drawn}\n"
-    )?;
-    print(rt, line.as_str())?;
+    let made = made_delay(alloc, accepted, row.near, filter, port)?;
+    let drawn = drawn_delay(alloc, accepted, filter, port)?;
+    said.fill(
+        "{a} filter {0} port {1} class {2} bound {3} made {4} drawn {5}\n",
+        &[
+            u64::from(filter),
+            u64::from(port),
+            u64::from(class),
+            bound,
+            made,
+            drawn,
+        ],
+        &[row.path],
+    );
     Ok(made <= bound && bound - made <= row.short && drawn <= bound)
 }

@@ -3,12 +3,13 @@
 
 mod drawing;
 mod frames;
-mod numbers;
 mod running;
 mod trying;
 
-use bridge_jobs::{Fault, print};
-use trying::{Said, Seen, Sorts, seen_of, sorts_of};
+use bridge_inputs::RunFault;
+use bridge_text::Text;
+use std::alloc::Global;
+use trying::{Said, Seen, seen_of, sorts_of};
 
 /// How many pairs are drawn.
 const PAIRS: u64 = 500;
@@ -17,7 +18,7 @@ const PAIRS: u64 = 500;
 const FIFTH: u64 = 100;
 
 /// What is counted over all pairs.
-#[derive(Clone, Copy, Debug, Default)]
+#[derive(Clone, Copy, Default)]
 struct Counts {
     accepted: u64,
     not_closed: u64,
@@ -64,65 +65,52 @@ fn are_right(counts: &Counts) -> bool {
     counts.wrong == 0 && counts.accepted >= FIFTH && counts.not_closed >= FIFTH
 }
 
-/// Prints the pairs that are wrong, and the counts; whether these are as they are to be.
-pub fn run(rt: &(impl AllocGlobal + Print)) -> Result<bool, Fault> {
-    let sorts = match sorts_of(rt.alloc()) {
-        Ok(sorts) => sorts,
-        Err(fault) => return Err(Fault::Run(fault)),
-    };
-    let told = tell_pairs(rt, &sorts);
-    drop(sorts);
-    let counts = told?;
-    tell_said(rt, &counts)?;
-    tell_seen(rt, &counts)?;
+/// Tells of the pairs that are wrong, and what is counted; whether this is as it is to be.
+pub fn run(alloc: Global, said: &mut Text<Global>) -> Result<bool, RunFault> {
+    let sorts = sorts_of(alloc);
+    let mut counts = Counts::default();
+    for seed in 1..=PAIRS {
+        let seen = seen_of(alloc, &sorts, seed)?;
+        counts = counted(counts, &seen);
+        if !is_right(&seen) {
+            tell_wrong(said, seed, &seen);
+        }
+    }
+    tell_counts(said, &counts);
     Ok(are_right(&counts))
 }
 
-/// Prints what the test says of the pairs.
-fn tell_said(rt: &(impl AllocGlobal + Print), counts: &Counts) -> Result<(), Fault> {
-    let Counts {
-        accepted,
-        not_closed,
-        not_fed,
-        other,
-        ..
-    } = *counts;
-    let line = format!(in rt.alloc();
-        "pairs {PAIRS} accepted {accepted} not closed {not_closed} not fed {not_fed} other {other}\n"
-    )?;
-    print(rt, line.as_str())?;
-    Ok(())
+/// Tells of a pair that is wrong.
+fn tell_wrong(said: &mut Text<Global>, seed: u64, seen: &Seen) {
+    let word = match seen.said {
+        Said::Accepted => "accepted",
+        Said::NotClosed => "not closed",
+        Said::NotFed => "not fed",
+        Said::Other => "other",
+    };
+    said.fill(
+        "WRONG seed {0} {a} strays {1} foreign {2} taken {3} wrong {4}\n",
+        &[seed, seen.strays, seen.foreign, seen.taken, seen.wrong],
+        &[word],
+    );
 }
 
-/// Prints what is seen of the frames that came over the links.
-fn tell_seen(rt: &(impl AllocGlobal + Print), counts: &Counts) -> Result<(), Fault> {
-    let Counts {
-        foreign,
-        taken,
-        only_said,
-        wrong,
-        ..
-    } = *counts;
-    let lines = format!(in rt.alloc();
-        "frames of no hop over the links {foreign} taken by a hop {taken}\nnot closed though none was taken {only_said}\nwrong {wrong}\n"
-    )?;
-    print(rt, lines.as_str())?;
-    Ok(())
-}
-
-/// Prints the pairs that are wrong; what is counted.
-fn tell_pairs(rt: &(impl AllocGlobal + Print), sorts: &Sorts) -> Result<Counts, Fault> {
-    let mut counts = Counts::default();
-    for seed in 1..=PAIRS {
-        let seen = match seen_of(rt.alloc(), sorts, seed) {
-            Ok(seen) => seen,
-            Err(fault) => return Err(Fault::Run(fault)),
-        };
-        counts = counted(counts, &seen);
-        if !is_right(&seen) {
-            let line = format!(in rt.alloc(); "WRONG seed {seed} {seen:?}\n")?;
-            print(rt, line.as_str())?;
-        }
-    }
-    Ok(counts)
+/// Tells what the test says of the pairs, and what is seen of the frames that came over the links.
+fn tell_counts(said: &mut Text<Global>, counts: &Counts) {
+    said.fill(
+        "pairs {0} accepted {1} not closed {2} not fed {3} other {4}\n",
+        &[
+            PAIRS,
+            counts.accepted,
+            counts.not_closed,
+            counts.not_fed,
+            counts.other,
+        ],
+        &[],
+    );
+    said.fill(
+        "frames of no hop over the links {0} taken by a hop {1}\nnot closed though none was taken {2}\nwrong {3}\n",
+        &[counts.foreign, counts.taken, counts.only_said, counts.wrong],
+        &[],
+    );
 }

@@ -5,15 +5,16 @@
 mod coming;
 mod drawing;
 mod meeting;
-mod numbers;
 mod refusals;
 mod running;
 mod shape;
 mod traffic;
 mod trying;
 
-use bridge_jobs::{Fault, print};
+use bridge_inputs::RunFault;
+use bridge_text::Text;
 use refusals::growths_refused;
+use std::alloc::Global;
 use trying::{Seen, seen_of};
 
 /// How many networks run.
@@ -29,7 +30,7 @@ const SEEDS: u64 = 400;
 const GROWTHS: u64 = 51;
 
 /// What is counted over all networks.
-#[derive(Clone, Copy, Debug, Default)]
+#[derive(Clone, Copy, Default)]
 struct Counts {
     accepted: u64,
     rings: u64,
@@ -94,98 +95,61 @@ fn are_right(counts: &Counts) -> bool {
         && are_met(counts)
 }
 
-/// Prints the networks in which something differs, and the counts; whether these are as they are to be.
-pub fn run(rt: &(impl AllocGlobal + Print)) -> Result<bool, Fault> {
+/// Tells of the networks in which something differs, and what is counted; whether this is as it is to be.
+pub fn run(alloc: Global, said: &mut Text<Global>) -> Result<bool, RunFault> {
     let mut counts = Counts::default();
     for seed in 1..=SEEDS {
         if counts.accepted < NETWORKS {
-            counts = counted(counts, &tell_network(rt, seed)?);
+            let seen = seen_of(alloc, seed)?;
+            counts = counted(counts, &seen);
+            if !is_right(&seen) {
+                tell_wrong(said, seed, &seen);
+            }
         }
     }
-    tell_networks(rt, &counts)?;
-    tell_moments(rt, &counts)?;
-    tell_compared(rt, &counts)?;
-    let are_answered = tell_refusals(rt)?;
-    Ok(are_right(&counts) && are_answered)
+    tell_counts(said, &counts);
+    let growths = growths_refused(alloc, said);
+    Ok(are_right(&counts) && growths >= GROWTHS)
 }
 
-/// Prints what became of the networks.
-fn tell_networks(rt: &(impl AllocGlobal + Print), counts: &Counts) -> Result<(), Fault> {
-    let Counts {
-        accepted,
-        rings,
-        settled,
-        unsettled,
-        restless,
-        failed,
-        ..
-    } = *counts;
-    let lines = format!(in rt.alloc();
-        "networks {accepted} rings {rings}\nsettled {settled} not settled {unsettled} failed {failed}\nnot settled where nothing goes round {restless}\n"
-    )?;
-    print(rt, lines.as_str())?;
-    Ok(())
+/// Tells of a network in which something differs, or which stopped otherwise than it had to.
+fn tell_wrong(said: &mut Text<Global>, seed: u64, seen: &Seen) {
+    let word = if seen.wrong { ", ended otherwise" } else { "" };
+    said.fill(
+        "WRONG seed {0} differing {1} disturbed {2} of {3}{a}\n",
+        &[seed, seen.differing, seen.disturbed, seen.compared],
+        &[word],
+    );
 }
 
-/// Prints in how many networks a frame came over a link at the moment of something else.
-fn tell_moments(rt: &(impl AllocGlobal + Print), counts: &Counts) -> Result<(), Fault> {
-    let Counts {
-        frames,
-        starts,
-        commands,
-        arrivals,
-        ..
-    } = *counts;
-    let lines = format!(in rt.alloc();
-        "frames {frames}\nover a link at the moment of a start {starts} of a command {commands} of another frame {arrivals}\n"
-    )?;
-    print(rt, lines.as_str())?;
-    Ok(())
-}
-
-/// Prints how many hops were compared beside other traffic, and how many networks are wrong.
-fn tell_compared(rt: &(impl AllocGlobal + Print), counts: &Counts) -> Result<(), Fault> {
-    let Counts {
-        pairs,
-        compared,
-        wrong,
-        ..
-    } = *counts;
-    let lines = format!(in rt.alloc();
-        "compared beside other traffic: networks {pairs} hops {compared}\nwrong {wrong}\n"
-    )?;
-    print(rt, lines.as_str())?;
-    Ok(())
-}
-
-/// What is seen of the network of a seed; it is printed where something differs.
-fn tell_network(rt: &(impl AllocGlobal + Print), seed: u64) -> Result<Seen, Fault> {
-    let seen = match seen_of(rt.alloc(), seed) {
-        Ok(seen) => seen,
-        Err(fault) => return Err(Fault::Run(fault)),
-    };
-    if !is_right(&seen) {
-        let line = format!(in rt.alloc(); "WRONG seed {seed} {seen:?}\n")?;
-        print(rt, line.as_str())?;
-    }
-    Ok(seen)
-}
-
-/// Prints how many growths of a run there are; whether each that was refused was answered, and there were as many as there
-/// are to be.
-fn tell_refusals(rt: &(impl AllocGlobal + Print)) -> Result<bool, Fault> {
-    match growths_refused(rt.alloc()) {
-        Ok(growths) => {
-            let line = format!(in rt.alloc();
-                "growths of settle {growths}, each refused: no memory\n"
-            )?;
-            print(rt, line.as_str())?;
-            Ok(growths >= GROWTHS)
-        }
-        Err(wrong) => {
-            let line = format!(in rt.alloc(); "WRONG {wrong:?}\n")?;
-            print(rt, line.as_str())?;
-            Ok(false)
-        }
-    }
+/// Tells what became of the networks, in how many a frame came over a link at the moment of something else, how many hops were
+/// compared beside other traffic, and how many networks are wrong.
+fn tell_counts(said: &mut Text<Global>, counts: &Counts) {
+    said.fill(
+        "networks {0} rings {1}\nsettled {2} not settled {3} failed {4}\nnot settled where nothing goes round {5}\n",
+        &[
+            counts.accepted,
+            counts.rings,
+            counts.settled,
+            counts.unsettled,
+            counts.failed,
+            counts.restless,
+        ],
+        &[],
+    );
+    said.fill(
+        "frames {0}\nover a link at the moment of a start {1} of a command {2} of another frame {3}\n",
+        &[
+            counts.frames,
+            counts.starts,
+            counts.commands,
+            counts.arrivals,
+        ],
+        &[],
+    );
+    said.fill(
+        "compared beside other traffic: networks {0} hops {1}\nwrong {2}\n",
+        &[counts.pairs, counts.compared, counts.wrong],
+        &[],
+    );
 }

@@ -1,9 +1,7 @@
 //! Captures of frames of the stream and of others.
-ghost use Rattle.std.specs.Prelude.{◌<◌};
-
-use bridge_capture::{VecSink, Writer};
-use bridge_inputs::RunFault;
-use std::alloc::Allocator;
+use crate::captures::Recording;
+use crate::numbers::Numbers;
+use std::alloc::Global;
 
 /// The first octets of a frame of the stream.
 const STREAM: [u8; 18] = [
@@ -17,9 +15,6 @@ const OTHER: [u8; 18] = [
 
 /// The octets of the longest frame that the filter lets through: 500 of service data unit, 16 of addresses and tag.
 const LONGEST: u32 = 516;
-
-/// The latest moment of a frame, in ns.
-const LATEST: u64 = 1_000_000_000_000;
 
 /// The frames of a capture that is drawn.
 const DRAWN: u32 = 40;
@@ -42,82 +37,24 @@ pub struct Ends {
     pub longest: u32,
 }
 
-/// Numbers one after another, the same ones for the same seed.
-#[derive(Drop)]
-pub struct Numbers(u64);
-
-impl Numbers {
-    /// The numbers of a seed.
-    pub fn of(seed: u64) -> Numbers {
-        Numbers(seed)
-    }
-
-    /// The next number below a bound.
-    fn below(&mut self, bound: u32) -> u32
-        requires { 0 < bound }
-        ensures { result < bound }
-    {
-        self.0 = self
-            .0
-            .wrapping_mul(6_364_136_223_846_793_005)
-            .wrapping_add(1_442_695_040_888_963_407);
-        ((self.0 >> 33) % bound as u64) as u32
-    }
-}
-
-/// Adds a frame that comes at a moment.
-fn put<A: Allocator + Copy>(
-    writer: &mut Writer,
-    sink: &mut VecSink<A>,
-    at: u64,
-    len: u32,
-    octets: &[u8; 18],
-) -> Result<(), RunFault> {
-    match writer.put(sink, at.min(LATEST), len.max(18), octets) {
-        Ok(()) => Ok(()),
-        Err(_) => Err(RunFault::NoMemory),
-    }
-}
-
-/// Begins a capture.
-fn begun<A: Allocator + Copy>(sink: &mut VecSink<A>) -> Result<Writer, RunFault> {
-    match Writer::begin(sink) {
-        Ok(writer) => Ok(writer),
-        Err(_) => Err(RunFault::NoMemory),
-    }
-}
-
-/// A capture of no frame.
-pub fn none<A: Allocator + Copy>(alloc: A) -> Result<VecSink<A>, RunFault> {
-    let mut sink = VecSink::new(alloc);
-    let _writer = begun(&mut sink)?;
-    Ok(sink)
-}
-
 /// The capture of frames that come near a bound.
-pub fn near_capture<A: Allocator + Copy>(alloc: A, near: Near) -> Result<VecSink<A>, RunFault> {
-    let mut sink = VecSink::new(alloc);
-    let mut writer = begun(&mut sink)?;
+pub fn near_capture(alloc: Global, near: Near) -> Recording {
+    let mut capture = Recording::new(alloc);
     if let Some(before) = near.before {
-        put(&mut writer, &mut sink, before as u64, LONGEST, &STREAM)?;
+        capture.put(before as u64, LONGEST, &STREAM);
     }
     for _ in 0..near.count {
-        put(&mut writer, &mut sink, near.at as u64, LONGEST, &STREAM)?;
+        capture.put(near.at as u64, LONGEST, &STREAM);
     }
-    Ok(sink)
+    capture
 }
 
 /// The capture of a shortest frame and then a longest one of a talker, by how its frames begin.
-pub fn ends_capture<A: Allocator + Copy>(
-    alloc: A,
-    head: &[u8; 18],
-    ends: Ends,
-) -> Result<VecSink<A>, RunFault> {
-    let mut sink = VecSink::new(alloc);
-    let mut writer = begun(&mut sink)?;
-    put(&mut writer, &mut sink, ends.first, ends.least, head)?;
-    put(&mut writer, &mut sink, ends.last, ends.longest, head)?;
-    Ok(sink)
+pub fn ends_capture(alloc: Global, head: &[u8; 18], ends: Ends) -> Recording {
+    let mut capture = Recording::new(alloc);
+    capture.put(ends.first, ends.least, head);
+    capture.put(ends.last, ends.longest, head);
+    capture
 }
 
 /// The time from one frame to the next: none, a short one or a long one.
@@ -131,9 +68,8 @@ fn gap(numbers: &mut Numbers) -> u32 {
 }
 
 /// A capture of 40 frames of 60 to 516 octets, three of four of them of the stream, at times that do not fall.
-pub fn drawn<A: Allocator + Copy>(alloc: A, numbers: &mut Numbers) -> Result<VecSink<A>, RunFault> {
-    let mut sink = VecSink::new(alloc);
-    let mut writer = begun(&mut sink)?;
+pub fn drawn(alloc: Global, numbers: &mut Numbers) -> Recording {
+    let mut capture = Recording::new(alloc);
     let mut at = 0u32;
     for _ in 0..DRAWN {
         at = at.saturating_add(gap(numbers));
@@ -143,7 +79,7 @@ pub fn drawn<A: Allocator + Copy>(alloc: A, numbers: &mut Numbers) -> Result<Vec
         } else {
             &STREAM
         };
-        put(&mut writer, &mut sink, at as u64, len, octets)?;
+        capture.put(at as u64, len, octets);
     }
-    Ok(sink)
+    capture
 }

@@ -4,12 +4,15 @@ ghost use Rattle.std.specs.Prelude.{◌≤◌, All, IfOk, length};
 ghost use Rattle.bridge_traffic.specs.Rows.{IsRow};
 
 use crate::bounds::captures::{Ends, ends_capture};
-use crate::bounds::running::{done_of, outcome_at};
+use crate::bounds::plan_at;
+use crate::bounds::running::{done_in, ran_at};
+use crate::of_run;
 use bridge_check::Accepted;
 use bridge_inputs::RunFault;
-use bridge_jobs::{Fault, planned, print, read_at_most};
+use bridge_jobs::{Fault, read_at_most};
 use bridge_periods::Phases;
 use bridge_planning::{QueueTiming, timings_of};
+use bridge_text::Text;
 use bridge_traffic::{TrafficRow, traffic_of};
 use std::alloc::Global;
 use std::fs;
@@ -55,10 +58,13 @@ const TALKERS: [Talker; 3] = [
 ];
 
 /// Tells of all talkers; whether both phases of each queue are reached.
-pub fn tell_talkers(rt: &(impl AllocGlobal + Print + Files)) -> Result<bool, Fault> {
+pub fn tell_talkers(
+    rt: &(impl AllocGlobal + Files),
+    said: &mut Text<Global>,
+) -> Result<bool, Fault> {
     let mut are_so = true;
     for talker in &TALKERS {
-        are_so = tell_talker(rt, talker)? && are_so;
+        are_so = tell_talker(rt, said, talker)? && are_so;
     }
     Ok(are_so)
 }
@@ -82,77 +88,89 @@ fn rows_of(rt: &(impl AllocGlobal + Files), file: &str) -> Result<Vec<TrafficRow
 }
 
 /// Tells of a talker; whether both phases are reached in each of its queues.
-fn tell_talker(rt: &(impl AllocGlobal + Print + Files), talker: &Talker) -> Result<bool, Fault> {
-    let path = String::from_str(rt.alloc(), talker.plan)?;
-    let Ok(reader) = fs::open(rt, talker.plan) else {
-        return Err(Fault::File(path));
-    };
-    let accepted = planned(rt.alloc(), rt.alloc(), path, reader)?;
-    let rows = match rows_of(rt, talker.traffic) {
-        Ok(rows) => rows,
-        Err(fault) => {
-            drop(accepted);
-            return Err(fault);
-        }
-    };
-    let told = tell_rows(rt, talker, &accepted, &rows);
-    drop(accepted);
-    told
+fn tell_talker(
+    rt: &(impl AllocGlobal + Files),
+    said: &mut Text<Global>,
+    talker: &Talker,
+) -> Result<bool, Fault> {
+    let accepted = plan_at(rt, talker.plan)?;
+    tell_traffic(rt, said, talker, &accepted)
+}
+
+/// Tells of the traffic of a talker.
+fn tell_traffic(
+    rt: &(impl AllocGlobal + Files),
+    said: &mut Text<Global>,
+    talker: &Talker,
+    accepted: &Accepted<Global>,
+) -> Result<bool, Fault> {
+    let rows = rows_of(rt, talker.traffic)?;
+    of_run(tell_rows(rt.alloc(), said, talker, accepted, &rows))
 }
 
 /// Tells of rows of traffic.
 fn tell_rows(
-    rt: &(impl AllocGlobal + Print + Files),
+    alloc: Global,
+    said: &mut Text<Global>,
     talker: &Talker,
     accepted: &Accepted<Global>,
     rows: &[TrafficRow],
-) -> Result<bool, Fault>
+) -> Result<bool, RunFault>
     requires few { length rows.now ≤ 1024 }
     requires rows { All IsRow rows.now }
 {
-    let Ok(timings) = timings_of(rt.alloc(), accepted, rows) else {
-        return Err(Fault::Run(RunFault::NoMemory));
-    };
+    match timings_of(alloc, accepted, rows) {
+        Ok(timings) => tell_timings(alloc, said, talker, accepted, rows, &timings),
+        Err(_) => Err(RunFault::NoMemory),
+    }
+}
+
+/// Tells of rows of traffic in their queues.
+fn tell_timings(
+    alloc: Global,
+    said: &mut Text<Global>,
+    talker: &Talker,
+    accepted: &Accepted<Global>,
+    rows: &[TrafficRow],
+    timings: &[QueueTiming],
+) -> Result<bool, RunFault> {
     let mut are_so = !timings.is_empty();
-    for timing in &timings {
-        are_so = tell_timing(rt, talker, accepted, rows, timing)? && are_so;
+    for timing in timings {
+        let place = timing.row.saturating_sub(1) as usize;
+        are_so = match (rows.get(place), timing.timing.phases) {
+            (Some(row), Some(phases)) => {
+                let reached = reached_by(alloc, talker, accepted, row, timing.port)?;
+                tell_reached(said, talker, timing, phases, reached);
+                reached == phases && are_so
+            }
+            _ => false,
+        };
     }
     Ok(are_so)
 }
 
-/// Tells of a row of traffic in a queue; whether a run reaches both phases.
-fn tell_timing(
-    rt: &(impl AllocGlobal + Print + Files),
+/// Tells of a row of traffic in a queue, and which phases a run reaches.
+fn tell_reached(
+    said: &mut Text<Global>,
     talker: &Talker,
-    accepted: &Accepted<Global>,
-    rows: &[TrafficRow],
     timing: &QueueTiming,
-) -> Result<bool, Fault> {
-    let place = timing.row.saturating_sub(1) as usize;
-    let (Some(row), Some(phases)) = (rows.get(place), timing.timing.phases) else {
-        return Ok(false);
-    };
-    let reached = match reached_by(rt.alloc(), talker, accepted, row, timing.port) {
-        Ok(reached) => reached,
-        Err(fault) => return Err(Fault::Run(fault)),
-    };
-    let QueueTiming {
-        row,
-        filter,
-        port,
-        class,
-        ..
-    } = *timing;
-    let path = talker.plan;
-    let (first, last) = (phases.from, phases.to);
-    let (from, to) = (reached.from, reached.to);
-    let line = format!(in rt.alloc();
-        "{path} traffic {row} filter {filter} port {port} class {class} done from {first} to {last}"
-    )?;
-    let rest = format!(in rt.alloc(); " reached {from} and {to}\n")?;
-    print(rt, line.as_str())?;
-    print(rt, rest.as_str())?;
-    Ok(reached == phases)
+    phases: Phases,
+    reached: Phases,
+) {
+    said.fill(
+        "{a} traffic {0} filter {1} port {2} class {3} done from {4} to {5} reached {6} and {7}\n",
+        &[
+            u64::from(timing.row),
+            u64::from(timing.filter),
+            u64::from(timing.port),
+            u64::from(timing.class),
+            phases.from,
+            phases.to,
+            reached.from,
+            reached.to,
+        ],
+        &[talker.plan],
+    );
 }
 
 /// The phases at which the two frames of a run are done at a port.
@@ -171,9 +189,9 @@ fn reached_by(
         least: traffic.least,
         longest: traffic.longest,
     };
-    let capture = ends_capture(alloc, &talker.head, ends)?;
-    let outcome = outcome_at(alloc, accepted, talker.port, &capture)?;
-    let (one, other) = done_of(&outcome, row.filter, port);
+    let capture = ends_capture(alloc, &talker.head, ends);
+    let ran = ran_at(alloc, accepted, talker.port, &capture)?;
+    let (one, other) = done_in(&ran, row.filter, port);
     Ok(Phases {
         from: one.saturating_sub(traffic.period),
         to: other.saturating_sub(second),

@@ -1,7 +1,7 @@
 //! The frames that are sent to each bridge, and the captures of them.
 ghost use Rattle.std.specs.Prelude.{◌<◌, ◌≤◌};
 
-use bridge_capture::{VecSink, Writer};
+use crate::captures::Recording;
 use bridge_inputs::RunFault;
 use std::alloc::Global;
 
@@ -10,7 +10,7 @@ use std::alloc::Global;
 const OF_PORT: u32 = 594;
 
 /// The frames of all three ports.
-pub const FRAMES: u32 = 1_782;
+pub const FRAMES: usize = 1_782;
 
 /// The ns from one frame to the next, one and a half cycles.
 const GAP: u64 = 60_000;
@@ -82,31 +82,13 @@ pub fn number_at(moment: u64) -> u64 {
 }
 
 /// The capture of the frames of a port, 0 to 2.
-pub fn capture_of(alloc: Global, port: u32) -> Result<VecSink<Global>, RunFault> {
-    let mut sink = VecSink::new(alloc);
-    let Ok(mut writer) = Writer::begin(&mut sink) else {
-        return Err(RunFault::NoMemory);
-    };
+pub fn capture_of(alloc: Global, port: u32) -> Recording {
+    let mut capture = Recording::new(alloc);
     for i in 0..OF_PORT {
         let number = (port % 3) * OF_PORT + i;
-        let octets = octets_of(number);
-        if writer
-            .put(&mut sink, moment_of(number), 60, &octets)
-            .is_err()
-        {
-            return Err(RunFault::NoMemory);
-        }
+        capture.put(moment_of(number), 60, &octets_of(number));
     }
-    Ok(sink)
-}
-
-/// The capture of no frame.
-pub fn no_frame(alloc: Global) -> Result<VecSink<Global>, RunFault> {
-    let mut sink = VecSink::new(alloc);
-    if Writer::begin(&mut sink).is_err() {
-        return Err(RunFault::NoMemory);
-    }
-    Ok(sink)
+    capture
 }
 
 /// A frame that left: when it was done, and its number.

@@ -1,68 +1,16 @@
 //! What a bridge sends over its link of all sorts of frames, and what a hop takes of it.
 use crate::pairs::frames::{FRAMES, Left, number_at};
-use bridge_capture::{SliceSource, VecSink};
-use bridge_check::Accepted;
-use bridge_core::{Outcome, View, simulate};
-use bridge_inputs::RunFault;
+use crate::runs::view_of;
 use bridge_network::StreamHop;
+use bridge_rounds::Settled;
 use std::alloc::Global;
 
-/// What a run tells, and the captures of what left the ports 1 to 3.
-#[derive(Drop)]
-pub struct Ran {
-    outcome: Outcome<Global>,
-    taps: [VecSink<Global>; 3],
-}
-
-/// A run of three captures, those of the ports 1 to 3.
-#[tactic(auto, using(crate::proofs::NoCommands::none))]
-pub fn ran_over(
-    alloc: Global,
-    accepted: &Accepted<Global>,
-    captures: [&[u8]; 3],
-) -> Result<Ran, RunFault> {
-    let mut sources = [
-        SliceSource::new(captures[0]),
-        SliceSource::new(captures[1]),
-        SliceSource::new(captures[2]),
-    ];
-    let mut taps = [
-        VecSink::new(alloc),
-        VecSink::new(alloc),
-        VecSink::new(alloc),
-    ];
-    if accepted.plan().ports().len() != 3 {
-        return Err(RunFault::NoMemory);
-    }
-    match simulate(alloc, accepted, &[], &mut sources, &mut taps) {
-        Ok(outcome) => Ok(Ran { outcome, taps }),
-        Err(fault) => Err(fault),
-    }
-}
-
-impl Ran {
-    /// The capture of what left a port, 1 to 3.
-    pub fn tap(&self, port: u8) -> &[u8] {
-        match self.taps.get((port as usize).saturating_sub(1)) {
-            Some(tap) => tap.octets(),
-            None => &[],
-        }
-    }
-
-    /// What it tells of a filter.
-    fn view(&self, filter: u32) -> Option<&View<Global>> {
-        for (number, view) in &self.outcome.filters {
-            if *number == filter {
-                return Some(view);
-            }
-        }
-        None
-    }
-}
+/// Of each frame by its number whether it was of hops of the stream.
+pub type Own = [bool; FRAMES];
 
 /// Notes which frames were of a filter, by their numbers.
-fn note(own: &mut Vec<bool>, ran: &Ran, filter: u32) {
-    let Some(view) = ran.view(filter) else {
+fn note(own: &mut Own, ran: &Settled<Global>, filter: u32) {
+    let Some(view) = view_of(ran, filter) else {
         return;
     };
     for origin in &view.origins {
@@ -72,29 +20,19 @@ fn note(own: &mut Vec<bool>, ran: &Ran, filter: u32) {
     }
 }
 
-/// Which of all frames were of hops of the stream at a bridge, by their numbers.
-pub fn own_in(
-    alloc: Global,
-    ran: &Ran,
-    bridge: u16,
-    hops: &[StreamHop],
-) -> Result<Vec<bool>, RunFault> {
-    let mut own = Vec::new(alloc);
-    for _ in 0..FRAMES {
-        if own.push(false).is_err() {
-            return Err(RunFault::NoMemory);
-        }
-    }
+/// Which of all frames were of hops of the stream at a bridge.
+pub fn own_in(ran: &Settled<Global>, bridge: u16, hops: &[StreamHop]) -> Own {
+    let mut own = [false; FRAMES];
     for hop in hops {
         if hop.bridge == bridge {
             note(&mut own, ran, hop.filter);
         }
     }
-    Ok(own)
+    own
 }
 
 /// Whether the frame of a number is of none of the stream's filters.
-pub fn is_foreign(own: &[bool], number: u32) -> bool {
+pub fn is_foreign(own: &Own, number: u32) -> bool {
     !own.get(number as usize).copied().unwrap_or(false)
 }
 
@@ -109,7 +47,7 @@ fn left_at(sent: &[Left], moment: u64) -> Option<Left> {
 }
 
 /// Whether the frame that was done at a moment is of none of the stream's filters.
-fn is_strange(sent: &[Left], moment: u64, own: &[bool]) -> bool {
+fn is_strange(sent: &[Left], moment: u64, own: &Own) -> bool {
     match left_at(sent, moment) {
         Some(left) => is_foreign(own, left.number),
         None => true,
@@ -117,8 +55,8 @@ fn is_strange(sent: &[Left], moment: u64, own: &[bool]) -> bool {
 }
 
 /// How many of the frames that came over a link are of a filter of the hop though they are of none of the stream's filters.
-pub fn taken(hop: &Ran, port: u8, filter: u32, sent: &[Left], own: &[bool]) -> u64 {
-    let Some(view) = hop.view(filter) else {
+pub fn taken(hop: &Settled<Global>, port: u8, filter: u32, sent: &[Left], own: &Own) -> u64 {
+    let Some(view) = view_of(hop, filter) else {
         return 0;
     };
     let mut count = 0u64;

@@ -1,31 +1,33 @@
 //! One pair of bridges: what the test says of it, and what is seen where all sorts of frames are sent.
+use crate::captures::Recording;
+use crate::numbers::Numbers;
 use crate::pairs::drawing::{Side, drawn};
-use crate::pairs::frames::{Left, capture_of, frames_in, no_frame};
-use crate::pairs::numbers::Numbers;
-use crate::pairs::running::{Ran, is_foreign, own_in, ran_over, taken};
-use bridge_capture::VecSink;
+use crate::pairs::frames::{Left, capture_of, frames_in};
+use crate::pairs::running::{Own, is_foreign, own_in, taken};
+use crate::runs::{ran_without, tap_of};
 use bridge_check::Accepted;
 use bridge_inputs::RunFault;
 use bridge_network::{End, Link, NetworkFault, StreamHop, check_network, stray_at};
-use std::alloc::{AllocError, Global};
+use bridge_rounds::Settled;
+use std::alloc::Global;
 
 /// The captures of all sorts of frames on each port, and that of none.
 #[derive(Drop)]
 pub struct Sorts {
-    ports: [VecSink<Global>; 3],
-    none: VecSink<Global>,
+    one: Recording,
+    two: Recording,
+    three: Recording,
+    none: Recording,
 }
 
 /// The captures that are sent to each bridge.
-pub fn sorts_of(alloc: Global) -> Result<Sorts, RunFault> {
-    Ok(Sorts {
-        ports: [
-            capture_of(alloc, 0)?,
-            capture_of(alloc, 1)?,
-            capture_of(alloc, 2)?,
-        ],
-        none: no_frame(alloc)?,
-    })
+pub fn sorts_of(alloc: Global) -> Sorts {
+    Sorts {
+        one: capture_of(alloc, 0),
+        two: capture_of(alloc, 1),
+        three: capture_of(alloc, 2),
+        none: Recording::new(alloc),
+    }
 }
 
 /// The link of each pair: port 3 of the first bridge with port 1 of the second.
@@ -45,7 +47,7 @@ struct Pair {
 }
 
 /// What the test of a network says.
-#[derive(Clone, Copy, Debug, PartialEq, Eq)]
+#[derive(Clone, Copy, PartialEq, Eq)]
 pub enum Said {
     /// It accepts the network.
     Accepted,
@@ -58,7 +60,7 @@ pub enum Said {
 }
 
 /// What is seen of a pair.
-#[derive(Clone, Copy, Debug)]
+#[derive(Clone, Copy)]
 pub struct Seen {
     pub said: Said,
     /// How many hops have a stray, by the test of each.
@@ -95,70 +97,35 @@ fn second_side(numbers: &mut Numbers, first: Side) -> Side {
     }
 }
 
-/// Adds the hops of a bridge.
-fn add_hops(hops: &mut Vec<StreamHop>, bridge: u16, side: Side) -> Result<(), AllocError> {
+/// Adds the hops of a bridge; whether there was memory for them.
+fn add_hops(hops: &mut Vec<StreamHop>, bridge: u16, side: Side) -> bool {
+    let mut are_added = true;
     for (is_hop, filter) in [(side.hop, 10u32), (side.second, 11u32)] {
         if is_hop {
-            hops.push(StreamHop { bridge, filter })?;
+            are_added = hops.push(StreamHop { bridge, filter }).is_ok() && are_added;
         }
     }
-    Ok(())
+    are_added
 }
 
-/// The hops of a stream, those of the first bridge before those of the second.
-fn hops_of(alloc: Global, first: Side, second: Side) -> Result<Vec<StreamHop>, AllocError> {
-    let mut hops = Vec::new(alloc);
-    add_hops(&mut hops, 0, first)?;
-    add_hops(&mut hops, 1, second)?;
-    Ok(hops)
-}
-
-/// One stream of these hops.
-fn streams_of(alloc: Global, hops: &[StreamHop]) -> Result<Vec<Vec<StreamHop>>, AllocError> {
-    let mut streams = Vec::new(alloc);
-    streams.push(Vec::from_slice(alloc, hops)?)?;
-    Ok(streams)
-}
-
-/// A list of two plans.
-fn both(
-    alloc: Global,
-    first: Accepted<Global>,
-    second: Accepted<Global>,
-) -> Option<Vec<Accepted<Global>>> {
-    let Ok(mut plans) = Vec::with_capacity(alloc, 2) else {
-        drop(first);
-        drop(second);
-        return None;
-    };
-    if plans.push(first).is_err() {
-        drop(second);
-        drop(plans);
-        return None;
-    }
-    if plans.push(second).is_err() {
-        drop(plans);
-        return None;
-    }
-    Some(plans)
-}
-
-/// Plans of two bridges.
-fn plans_of(
+/// Adds the next plan of a bridge; whether there is one.
+fn add_plan(
     alloc: Global,
     numbers: &mut Numbers,
-    first: Side,
-    second: Side,
-) -> Option<Vec<Accepted<Global>>> {
-    let Some(one) = drawn(alloc, numbers, first) else {
-        return None;
-    };
-    match drawn(alloc, numbers, second) {
-        Some(other) => both(alloc, one, other),
-        None => {
-            drop(one);
-            None
-        }
+    side: Side,
+    plans: &mut Vec<Accepted<Global>>,
+) -> bool {
+    match drawn(alloc, numbers, side) {
+        Some(accepted) => plans.push(accepted).is_ok(),
+        None => false,
+    }
+}
+
+/// Adds one stream of these hops; whether there was memory for it.
+fn add_stream(alloc: Global, hops: &[StreamHop], streams: &mut Vec<Vec<StreamHop>>) -> bool {
+    match Vec::from_slice(alloc, hops) {
+        Ok(hops) => streams.push(hops).is_ok(),
+        Err(_) => false,
     }
 }
 
@@ -167,24 +134,19 @@ fn pair_of(alloc: Global, seed: u64) -> Option<Pair> {
     let mut numbers = Numbers::of(seed);
     let first = first_side(&mut numbers);
     let second = second_side(&mut numbers, first);
-    let Ok(hops) = hops_of(alloc, first, second) else {
-        return None;
+    let mut pair = Pair {
+        plans: Vec::new(alloc),
+        hops: Vec::new(alloc),
+        links: Vec::new(alloc),
+        streams: Vec::new(alloc),
     };
-    let Ok(streams) = streams_of(alloc, &hops) else {
-        return None;
-    };
-    let Ok(links) = Vec::from_slice(alloc, &[LINK]) else {
-        return None;
-    };
-    match plans_of(alloc, &mut numbers, first, second) {
-        Some(plans) => Some(Pair {
-            plans,
-            hops,
-            links,
-            streams,
-        }),
-        None => None,
-    }
+    let is_made = add_plan(alloc, &mut numbers, first, &mut pair.plans)
+        && add_plan(alloc, &mut numbers, second, &mut pair.plans)
+        && add_hops(&mut pair.hops, 0, first)
+        && add_hops(&mut pair.hops, 1, second)
+        && pair.links.push(LINK).is_ok()
+        && add_stream(alloc, &pair.hops, &mut pair.streams);
+    if is_made { Some(pair) } else { None }
 }
 
 /// The port with the link of a bridge, 0 or 1.
@@ -202,16 +164,12 @@ fn run_all(
     sorts: &Sorts,
     plans: &[Accepted<Global>],
     bridge: u16,
-) -> Result<Ran, RunFault> {
+) -> Result<Settled<Global>, RunFault> {
     let Some(accepted) = plans.get(bridge as usize) else {
         return Err(RunFault::NoMemory);
     };
-    let captures = [
-        sorts.ports[0].octets(),
-        sorts.ports[1].octets(),
-        sorts.ports[2].octets(),
-    ];
-    ran_over(alloc, accepted, captures)
+    let captures = [sorts.one.octets(), sorts.two.octets(), sorts.three.octets()];
+    ran_without(alloc, accepted, &captures)
 }
 
 /// A run of a bridge to which a capture comes on the port with its link, and nothing else.
@@ -221,20 +179,28 @@ fn run_link(
     plans: &[Accepted<Global>],
     bridge: u16,
     tap: &[u8],
-) -> Result<Ran, RunFault> {
+) -> Result<Settled<Global>, RunFault> {
     let Some(accepted) = plans.get(bridge as usize) else {
         return Err(RunFault::NoMemory);
     };
     let none = sorts.none.octets();
-    if bridge == 0 {
-        ran_over(alloc, accepted, [none, none, tap])
+    let captures = if bridge == 0 {
+        [none, none, tap]
     } else {
-        ran_over(alloc, accepted, [tap, none, none])
-    }
+        [tap, none, none]
+    };
+    ran_without(alloc, accepted, &captures)
 }
 
 /// Adds what the hops of a bridge, 0 or 1, took of frames that came over its link.
-fn see_hops(pair: &Pair, hop_run: &Ran, to: u16, sent: &[Left], own: &[bool], seen: &mut Seen) {
+fn see_hops(
+    pair: &Pair,
+    hop_run: &Settled<Global>,
+    to: u16,
+    sent: &[Left],
+    own: &Own,
+    seen: &mut Seen,
+) {
     let port = link_port(to);
     for hop in &pair.hops {
         if hop.bridge == to {
@@ -251,7 +217,7 @@ fn see_hops(pair: &Pair, hop_run: &Ran, to: u16, sent: &[Left], own: &[bool], se
 }
 
 /// How many frames are of no hop.
-fn foreign_in(sent: &[Left], own: &[bool]) -> u64 {
+fn foreign_in(sent: &[Left], own: &Own) -> u64 {
     let mut count = 0u64;
     for left in sent {
         if is_foreign(own, left.number) {
@@ -266,18 +232,17 @@ fn see_sent(
     alloc: Global,
     sorts: &Sorts,
     pair: &Pair,
-    sender: &Ran,
+    sender: &Settled<Global>,
     to: u16,
     seen: &mut Seen,
 ) -> Result<(), RunFault> {
     let from = 1u16.saturating_sub(to);
-    let own = own_in(alloc, sender, from, &pair.hops)?;
-    let tap = sender.tap(link_port(from));
+    let tap = tap_of(sender, link_port(from));
     let sent = frames_in(alloc, tap)?;
+    let own = own_in(sender, from, &pair.hops);
     seen.foreign = seen.foreign.saturating_add(foreign_in(&sent, &own));
     let hop_run = run_link(alloc, sorts, &pair.plans, to, tap)?;
     see_hops(pair, &hop_run, to, &sent, &own, seen);
-    drop(hop_run);
     Ok(())
 }
 

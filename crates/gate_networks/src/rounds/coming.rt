@@ -5,12 +5,12 @@ ghost use Rattle.bridge_rounds.specs.Stations.{IsIncoming};
 ghost use Rattle.bridge_rounds.specs.Rounds.{AreIncoming};
 ghost use Rattle.gate_networks.specs.Coming.{AllIncoming};
 
+use crate::numbers::Numbers;
 use crate::rounds::drawing::commands_text;
-use crate::rounds::numbers::Numbers;
 use crate::rounds::traffic::{Comer, Spoilt, capture_of, spoil};
 use bridge_check::Accepted;
 use bridge_config::{Command, commands_of};
-use bridge_inputs::RunFault;
+use bridge_limits::NoMemory;
 use bridge_network::Link;
 use bridge_rounds::{Incoming, is_linked};
 use std::alloc::Global;
@@ -29,7 +29,7 @@ pub struct Case {
 
 /// The numbers of a port.
 fn numbers_at(seed: u64, bridge: u16, port: u8) -> Numbers {
-    Numbers::of(
+    Numbers::of_mixed(
         seed.wrapping_mul(1_000)
             .wrapping_add(bridge as u64 * 20)
             .wrapping_add(port as u64),
@@ -37,7 +37,7 @@ fn numbers_at(seed: u64, bridge: u16, port: u8) -> Numbers {
 }
 
 /// The capture of an open port.
-fn open_capture(alloc: Global, case: &Case, bridge: u16, port: u8) -> Result<Vec<u8>, RunFault> {
+fn open_capture(alloc: Global, case: &Case, bridge: u16, port: u8) -> Result<Vec<u8>, NoMemory> {
     let talker = bridge == 0 && port == 4;
     let (seed, most) = if talker {
         (case.talker, 30)
@@ -51,10 +51,19 @@ fn open_capture(alloc: Global, case: &Case, bridge: u16, port: u8) -> Result<Vec
         talker,
         most,
     };
-    let text = capture_of(alloc, &mut numbers, comer)?;
+    let mut text = capture_of(alloc, &mut numbers, comer)?;
+    if spoils(case, bridge, port, &mut text) {
+        Ok(text)
+    } else {
+        Err(NoMemory)
+    }
+}
+
+/// Spoils the capture of a port where it is to be; whether there was memory for it.
+fn spoils(case: &Case, bridge: u16, port: u8, text: &mut Vec<u8>) -> bool {
     match case.spoilt {
         Some((there, spoilt)) if there == bridge && port == 4 => spoil(text, spoilt),
-        _ => Ok(text),
+        _ => true,
     }
 }
 
@@ -65,7 +74,7 @@ pub fn port_capture(
     case: &Case,
     bridge: u16,
     port: u8,
-) -> Result<Vec<u8>, RunFault> {
+) -> Result<Vec<u8>, NoMemory> {
     if is_linked(links, bridge as usize, port) {
         return Ok(Vec::new(alloc));
     }
@@ -78,13 +87,10 @@ fn captures_of(
     links: &[Link],
     case: &Case,
     bridge: u16,
-) -> Result<Vec<Vec<u8>>, RunFault> {
+) -> Result<Vec<Vec<u8>>, NoMemory> {
     let mut captures = Vec::new(alloc);
     for port in 1..5u8 {
-        let text = port_capture(alloc, links, case, bridge, port)?;
-        if captures.push(text).is_err() {
-            return Err(RunFault::NoMemory);
-        }
+        captures.push(port_capture(alloc, links, case, bridge, port)?)?;
     }
     Ok(captures)
 }
@@ -95,16 +101,16 @@ pub fn commands_in(
     accepted: &Accepted<Global>,
     case: &Case,
     bridge: u16,
-) -> Result<Vec<Command>, RunFault>
+) -> Result<Vec<Command>, NoMemory>
     ensures { IfOk result (λ v. AreCommands accepted.now v.items) }
 {
     let mut numbers = numbers_at(case.others, bridge, 9);
     let Ok(text) = commands_text(alloc, &mut numbers) else {
-        return Err(RunFault::NoMemory);
+        return Err(NoMemory);
     };
     match commands_of(alloc, alloc, text.as_bytes(), accepted.plan()) {
         Ok(commands) => Ok(commands),
-        Err(_) => Err(RunFault::NoMemory),
+        Err(_) => Err(NoMemory),
     }
 }
 
@@ -115,13 +121,13 @@ pub fn coming(
     accepted: &Accepted<Global>,
     case: &Case,
     bridge: u16,
-) -> Result<Incoming<Global>, RunFault>
+) -> Result<Incoming<Global>, NoMemory>
     ensures { IfOk result (IsIncoming accepted.now) }
 {
     let commands = commands_in(alloc, accepted, case, bridge)?;
     let captures = captures_of(alloc, links, case, bridge)?;
     if captures.len() != accepted.plan().ports().len() {
-        return Err(RunFault::NoMemory);
+        return Err(NoMemory);
     }
     Ok(Incoming { commands, captures })
 }
@@ -132,7 +138,7 @@ fn each_coming(
     plans: &[Accepted<Global>],
     links: &[Link],
     case: &Case,
-) -> Result<Vec<Incoming<Global>>, RunFault>
+) -> Result<Vec<Incoming<Global>>, NoMemory>
     ensures { IfOk result (λ all. AllIncoming plans.now all.items) }
 {
     let mut all = Vec::new(alloc);
@@ -140,7 +146,7 @@ fn each_coming(
     for accepted in plans {
         let came = coming(alloc, links, accepted, case, bridge)?;
         let Ok(()) = all.push(came) else {
-            return Err(RunFault::NoMemory);
+            return Err(NoMemory);
         };
         bridge = bridge.saturating_add(1);
     }
@@ -153,7 +159,7 @@ pub fn all_coming(
     plans: &[Accepted<Global>],
     links: &[Link],
     case: &Case,
-) -> Result<Vec<Incoming<Global>>, RunFault>
+) -> Result<Vec<Incoming<Global>>, NoMemory>
     ensures { IfOk result (λ all. AreIncoming plans.now all.items) }
 {
     let all = each_coming(alloc, plans, links, case)?;

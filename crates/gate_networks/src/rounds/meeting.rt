@@ -7,7 +7,7 @@ use bridge_semantics::Origin;
 use std::alloc::Global;
 
 /// Whether frames came over links at such moments.
-#[derive(Clone, Copy, Debug, Default)]
+#[derive(Clone, Copy, Default)]
 pub struct Meetings {
     /// Whether one came as a copy of a frame started that had come before.
     pub start: bool,

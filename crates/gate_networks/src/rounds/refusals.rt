@@ -5,17 +5,16 @@ ghost use Rattle.bridge_rounds.specs.Stations.{IsIncoming};
 ghost use Rattle.bridge_rounds.specs.Rounds.{AreIncoming};
 ghost use Rattle.gate_networks.specs.Coming.{AllIncoming};
 
-use bridge_capture::{VecSink, Writer};
-use bridge_check::{Accepted, check};
-use bridge_config::{Command, commands_of, plan_of};
+use crate::captures::Recording;
+use crate::plans::accepted_of;
+use bridge_check::Accepted;
+use bridge_config::{Command, commands_of};
 use bridge_limits::NoMemory;
 use bridge_network::{End, Link, Network, StreamHop, check_network};
 use bridge_rounds::{Incoming, Nobody, RoundsFault, Settled, settle};
+use bridge_text::Text;
 use fixture_alloc::{Ending, RefusesOne};
 use std::alloc::{Allocator, Global};
-
-/// How many bridges there are.
-const BRIDGES: u16 = 2;
 
 /// The plan of each bridge: the stream comes to port 1 and leaves by port 2.
 const PLAN: &str = "
@@ -107,80 +106,44 @@ const ROUNDS: u32 = 8;
 /// More growths than are asked for.
 const NEVER: u64 = 100_000;
 
-/// An allocator that tells whether it refused a growth.
-trait Refuses {
-    /// Whether a growth was refused.
-    fn has_refused(&self) -> bool;
-}
-
-impl<A: Allocator> Refuses for &RefusesOne<A> {
-    fn has_refused(&self) -> bool {
-        self.refused()
-    }
-}
-
-/// How the run ended where it mustn't have: the growth that was to be refused, of all from the first plan on, how the run
-/// ended, if there was one, and whether the growth was refused.
-#[derive(Clone, Copy, Debug)]
-pub struct Wrong {
-    growth: u64,
-    ending: Option<Ending>,
-    refused: bool,
-}
-
-/// The plan of a bridge, where it is accepted.
-fn accepted_in<A: Allocator + Copy>(alloc: A, heap: Global) -> Option<Accepted<A>> {
-    let Ok(plan) = plan_of(alloc, heap, PLAN.as_bytes()) else {
-        return None;
-    };
-    check(alloc, plan).ok()
-}
-
-/// The plans of both bridges, where they are accepted.
-fn plans_in<A: Allocator + Copy>(alloc: A, heap: Global) -> Option<Vec<Accepted<A>, A>> {
-    let mut plans = Vec::new(alloc);
-    for _ in 0..BRIDGES {
-        let accepted = accepted_in(alloc, heap)?;
-        plans.push(accepted).ok()?;
-    }
-    Some(plans)
-}
-
 /// The link of both bridges.
-fn links_in<A: Allocator + Copy>(alloc: A) -> Result<Vec<Link, A>, NoMemory> {
-    let one = End { bridge: 0, port: 2 };
-    let other = End { bridge: 1, port: 1 };
-    let mut links = Vec::new(alloc);
-    links.push(Link {
-        one,
-        other,
-        delay: 50,
-    })?;
-    Ok(links)
-}
+const LINK: Link = Link {
+    one: End { bridge: 0, port: 2 },
+    other: End { bridge: 1, port: 1 },
+    delay: 50,
+};
 
-/// The hops of the stream.
-fn hops_in<A: Allocator + Copy>(alloc: A) -> Result<Vec<StreamHop, A>, NoMemory> {
-    let mut hops = Vec::new(alloc);
-    for bridge in 0..BRIDGES {
-        hops.push(StreamHop { bridge, filter: 10 })?;
+/// Adds a bridge: its plan and its hop of the stream; whether there was memory for both.
+fn add_bridge<A: Allocator + Copy>(
+    alloc: A,
+    heap: Global,
+    bridge: u16,
+    plans: &mut Vec<Accepted<A>, A>,
+    hops: &mut Vec<StreamHop, A>,
+) -> bool {
+    match accepted_of(alloc, heap, PLAN) {
+        Some(accepted) => {
+            plans.push(accepted).is_ok() && hops.push(StreamHop { bridge, filter: 10 }).is_ok()
+        }
+        None => false,
     }
-    Ok(hops)
-}
-
-/// The streams: one.
-fn streams_in<A: Allocator + Copy>(alloc: A) -> Result<Vec<Vec<StreamHop, A>, A>, NoMemory> {
-    let mut streams = Vec::new(alloc);
-    streams.push(hops_in(alloc)?)?;
-    Ok(streams)
 }
 
 /// The network, where it is accepted.
 fn network_in<A: Allocator + Copy>(alloc: A, heap: Global) -> Option<Network<A>> {
-    let plans = plans_in(alloc, heap)?;
-    let links = links_in(alloc).ok()?;
-    let streams = streams_in(alloc).ok()?;
-    check_network(plans, links, streams).ok()
+    let mut plans = Vec::new(alloc);
+    let mut links = Vec::new(alloc);
+    let mut hops = Vec::new(alloc);
+    let mut streams = Vec::new(alloc);
+    let are_made = add_bridge(alloc, heap, 0, &mut plans, &mut hops)
+        && add_bridge(alloc, heap, 1, &mut plans, &mut hops)
+        && links.push(LINK).is_ok()
+        && streams.push(hops).is_ok();
+    if are_made {
+        check_network(plans, links, streams).ok()
+    } else {
+        None
+    }
 }
 
 /// The capture of frames.
@@ -189,16 +152,11 @@ fn capture_of<A: Allocator + Copy>(
     heap: Global,
     frames: &[Frame],
 ) -> Result<Vec<u8, A>, NoMemory> {
-    let mut sink = VecSink::new(heap);
-    let Ok(mut writer) = Writer::begin(&mut sink) else {
-        return Err(NoMemory);
-    };
+    let mut capture = Recording::new(heap);
     for (at, octets) in frames {
-        if *at < 1_000_000 && writer.put(&mut sink, *at, 60, octets).is_err() {
-            return Err(NoMemory);
-        }
+        capture.put(*at, 60, octets);
     }
-    Ok(Vec::from_slice(alloc, sink.octets())?)
+    Ok(Vec::from_slice(alloc, capture.octets())?)
 }
 
 /// The captures of the ports of a bridge: of those with a link, and where nothing comes, of no frame.
@@ -207,11 +165,15 @@ fn captures_in<A: Allocator + Copy>(
     heap: Global,
     bridge: usize,
 ) -> Result<Vec<Vec<u8, A>, A>, NoMemory> {
-    let frames: &[Frame] = if bridge == 0 { &COMING } else { &[] };
     let mut captures = Vec::new(alloc);
-    captures.push(capture_of(alloc, heap, frames)?)?;
-    captures.push(capture_of(alloc, heap, &[])?)?;
-    captures.push(capture_of(alloc, heap, &[])?)?;
+    for port in 1..4u8 {
+        let frames: &[Frame] = if bridge == 0 && port == 1 {
+            &COMING
+        } else {
+            &[]
+        };
+        captures.push(capture_of(alloc, heap, frames)?)?;
+    }
     Ok(captures)
 }
 
@@ -305,52 +267,58 @@ fn ending_of<A: Allocator + Copy>(
 }
 
 /// How the run of the network ends; none where what comes to it can't be made, or a growth was refused before the run.
-fn ending_over<A: Allocator + Copy + Refuses>(
-    gate: A,
+fn ending_over<'a>(
+    gate: &'a RefusesOne<Global>,
     heap: Global,
-    network: &Network<A>,
+    network: &Network<&'a RefusesOne<Global>>,
 ) -> Option<Ending> {
     let Ok(came) = all_coming(gate, heap, network.plans()) else {
         return None;
     };
-    if gate.has_refused() {
-        drop(came);
+    if gate.refused() {
         return None;
     }
     Some(ending_of(gate, network, came))
 }
 
 /// How the run ends; none where the network or what comes to it can't be made, or a growth was refused before the run.
-fn ending_in<A: Allocator + Copy + Refuses>(gate: A, heap: Global) -> Option<Ending> {
-    let network = network_in(gate, heap)?;
-    let ending = ending_over(gate, heap, &network);
-    drop(network);
-    ending
+fn ending_in(gate: &RefusesOne<Global>, heap: Global) -> Option<Ending> {
+    match network_in(gate, heap) {
+        Some(network) => ending_over(gate, heap, &network),
+        None => None,
+    }
 }
 
 /// Makes the network and what comes to it and runs it over and over, the growths from the first on refused in turn, until it
 /// asks for fewer. Each that falls within the run has to be answered with want of memory, and the run has to be whole where
-/// none is refused. Says how many growths the run has.
-pub fn growths_refused(heap: Global) -> Result<u64, Wrong> {
+/// none is refused. Gives how many growths the run has, or 0 where it ended as it mustn't have, and tells of it: the growth
+/// that was to be refused, of all from the first plan on, and whether it was.
+pub fn growths_refused(heap: Global, said: &mut Text<Global>) -> u64 {
     let mut growths = 0u64;
     for growth in 1..=NEVER {
         let gate = RefusesOne::new(heap, growth);
         let ending = ending_in(&gate, heap);
-        let refused = gate.refused();
-        match (ending, refused) {
+        match (ending, gate.refused()) {
             (None, true) if growths == 0 => {}
             (Some(Ending::NoMemory), true) => growths = growths.saturating_add(1),
-            (Some(Ending::Whole), false) => return Ok(growths),
-            (ending, refused) => return Err(Wrong {
-                growth,
-                ending,
-                refused,
-            }),
+            (Some(Ending::Whole), false) => {
+                said.fill(
+                    "growths of settle {0}, each refused: no memory\n",
+                    &[growths],
+                    &[],
+                );
+                return growths;
+            }
+            (_, refused) => {
+                said.fill(
+                    "WRONG growth {0} refused {1}\n",
+                    &[growth, u64::from(refused)],
+                    &[],
+                );
+                return 0;
+            }
         }
     }
-    Err(Wrong {
-        growth: NEVER,
-        ending: None,
-        refused: true,
-    })
+    said.put("WRONG some growth is always refused\n");
+    0
 }

@@ -1,7 +1,6 @@
 //! Networks of two to five bridges that are drawn: how they are joined, and the way of their stream.
-use crate::rounds::numbers::Numbers;
+use crate::numbers::Numbers;
 use bridge_network::{End, Link, StreamHop};
-use std::alloc::{AllocError, Global};
 
 /// The most bridges of a network.
 pub const MOST: usize = 5;
@@ -96,36 +95,38 @@ fn delay_of(numbers: &mut Numbers, kind: u32) -> u64 {
     }
 }
 
-/// The links.
-pub fn links_of(
-    alloc: Global,
-    numbers: &mut Numbers,
-    shape: &Shape,
-) -> Result<Vec<Link>, AllocError> {
-    let mut links = Vec::new(alloc);
-    for bridge in 1..shape.bridges {
+/// Adds a link between two ports; whether there was memory for it.
+fn add_link(links: &mut Vec<Link>, numbers: &mut Numbers, kind: u32, one: End, to: u16) -> bool {
+    let other = End {
+        bridge: to,
+        port: 1,
+    };
+    let delay = delay_of(numbers, kind);
+    links.push(Link { one, other, delay }).is_ok()
+}
+
+/// Adds the links; whether there was memory for them.
+pub fn add_links(links: &mut Vec<Link>, numbers: &mut Numbers, shape: &Shape) -> bool {
+    let mut are_added = true;
+    for to in 1..shape.bridges {
         let one = End {
-            bridge: bridge_at(&shape.before, bridge),
-            port: port_at(&shape.port, bridge),
+            bridge: bridge_at(&shape.before, to),
+            port: port_at(&shape.port, to),
         };
-        let other = End { bridge, port: 1 };
-        let delay = delay_of(numbers, shape.delays);
-        links.push(Link { one, other, delay })?;
+        are_added = add_link(links, numbers, shape.delays, one, to) && are_added;
     }
     if shape.ring {
         let one = End {
             bridge: shape.bridges.saturating_sub(1),
             port: 2,
         };
-        let other = End { bridge: 0, port: 1 };
-        let delay = delay_of(numbers, shape.delays);
-        links.push(Link { one, other, delay })?;
+        are_added = add_link(links, numbers, shape.delays, one, 0) && are_added;
     }
-    Ok(links)
+    are_added
 }
 
 /// The ports by which the stream comes to a bridge and leaves it.
-#[derive(Clone, Copy, Debug, PartialEq, Eq)]
+#[derive(Clone, Copy)]
 pub struct Way {
     pub comes: u8,
     pub leaves: u8,
@@ -149,15 +150,15 @@ pub fn ways_of(shape: &Shape) -> [Option<Way>; MOST] {
     ways
 }
 
-/// The hops of the stream, filter 10 of each bridge on its way.
-pub fn hops_of(alloc: Global, shape: &Shape) -> Result<Vec<StreamHop>, AllocError> {
-    let mut hops = Vec::new(alloc);
+/// Adds the hops of the stream, filter 10 of each bridge on its way; whether there was memory for them.
+pub fn add_hops(hops: &mut Vec<StreamHop>, shape: &Shape) -> bool {
+    let mut are_added = true;
     let mut bridge = 0u16;
     for way in ways_of(shape) {
         if way.is_some() {
-            hops.push(StreamHop { bridge, filter: 10 })?;
+            are_added = hops.push(StreamHop { bridge, filter: 10 }).is_ok() && are_added;
         }
         bridge = bridge.saturating_add(1);
     }
-    Ok(hops)
+    are_added
 }

@@ -1,9 +1,9 @@
 //! Captures that are drawn.
 ghost use Rattle.std.specs.Prelude.{◌≤◌};
 
-use crate::rounds::numbers::Numbers;
-use bridge_capture::{VecSink, Writer};
-use bridge_inputs::RunFault;
+use crate::captures::Recording;
+use crate::numbers::Numbers;
+use bridge_limits::NoMemory;
 use std::alloc::Global;
 
 /// What comes to a port.
@@ -109,41 +109,22 @@ fn gap(numbers: &mut Numbers) -> u32 {
     }
 }
 
-/// Adds a frame.
-fn put(
-    writer: &mut Writer,
-    sink: &mut VecSink<Global>,
-    at: u32,
-    frame: &Frame,
-) -> Result<(), RunFault> {
-    let octets = frame.octets.get(..frame.captured).unwrap_or(&[]);
-    match writer.put(sink, at as u64, frame.len.max(18), octets) {
-        Ok(()) => Ok(()),
-        Err(_) => Err(RunFault::NoMemory),
-    }
-}
-
 /// The capture of what comes to a port.
-pub fn capture_of(alloc: Global, numbers: &mut Numbers, comer: Comer) -> Result<Vec<u8>, RunFault> {
-    let mut sink = VecSink::new(alloc);
-    let Ok(mut writer) = Writer::begin(&mut sink) else {
-        return Err(RunFault::NoMemory);
-    };
+pub fn capture_of(alloc: Global, numbers: &mut Numbers, comer: Comer) -> Result<Vec<u8>, NoMemory> {
+    let mut capture = Recording::new(alloc);
     let mut at = 0u32;
     let count = numbers.below(comer.most.saturating_add(1).max(1));
     for _ in 0..count {
         at = at.saturating_add(gap(numbers));
         let frame = next_frame(numbers, comer);
-        put(&mut writer, &mut sink, at, &frame)?;
+        let octets = frame.octets.get(..frame.captured).unwrap_or(&[]);
+        capture.put(at as u64, frame.len.max(18), octets);
     }
-    match Vec::from_slice(alloc, sink.octets()) {
-        Ok(text) => Ok(text),
-        Err(_) => Err(RunFault::NoMemory),
-    }
+    Ok(Vec::from_slice(alloc, capture.octets())?)
 }
 
 /// How a capture is spoilt.
-#[derive(Clone, Copy, Debug, PartialEq, Eq)]
+#[derive(Clone, Copy)]
 pub enum Spoilt {
     /// Its header is cut.
     Header,
@@ -153,9 +134,8 @@ pub enum Spoilt {
     Record,
 }
 
-/// A capture that is spoilt.
-pub fn spoil(text: Vec<u8>, spoilt: Spoilt) -> Result<Vec<u8>, RunFault> {
-    let mut text = text;
+/// Spoils a capture; whether there was memory for it.
+pub fn spoil(text: &mut Vec<u8>, spoilt: Spoilt) -> bool {
     match spoilt {
         Spoilt::Header => text.truncate(10),
         Spoilt::Magic => {
@@ -163,11 +143,7 @@ pub fn spoil(text: Vec<u8>, spoilt: Spoilt) -> Result<Vec<u8>, RunFault> {
                 *octet = 1;
             }
         }
-        Spoilt::Record => {
-            if text.extend_from_slice(&[0xff, 0, 0, 0, 0]).is_err() {
-                return Err(RunFault::NoMemory);
-            }
-        }
+        Spoilt::Record => return text.extend_from_slice(&[0xff, 0, 0, 0, 0]).is_ok(),
     }
-    Ok(text)
+    true
 }

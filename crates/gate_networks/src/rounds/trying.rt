@@ -1,24 +1,25 @@
 //! One network: what becomes of it, and whether that is right.
+use crate::numbers::Numbers;
 use crate::rounds::coming::{Case, all_coming};
 use crate::rounds::drawing::next_plan;
 use crate::rounds::meeting::Meetings;
-use crate::rounds::numbers::Numbers;
 use crate::rounds::running::{differing, frames_in, meetings_in};
-use crate::rounds::shape::{Shape, Way, hops_of, links_of, next_shape, ways_of};
+use crate::rounds::shape::{Shape, Way, add_hops, add_links, next_shape, ways_of};
 use crate::rounds::traffic::Spoilt;
 use bridge_capture::CaptureFault;
 use bridge_check::Accepted;
 use bridge_inputs::RunFault;
+use bridge_limits::NoMemory;
 use bridge_network::{Network, StreamHop, check_network};
 use bridge_report::{has_section, section};
 use bridge_rounds::{Nobody, RoundsFault, Settled, settle};
-use std::alloc::{AllocError, Global};
+use std::alloc::Global;
 
 /// How many rounds a network may take.
 const ROUNDS: u32 = 64;
 
 /// What is seen of a network.
-#[derive(Clone, Copy, Debug, Default)]
+#[derive(Clone, Copy, Default)]
 pub struct Seen {
     /// Whether the network is accepted, and its run settled, or was stopped as it had to be.
     pub accepted: bool,
@@ -56,48 +57,42 @@ fn add_plan(
     }
 }
 
-/// The plans of all bridges, where each is accepted.
-fn plans_of(alloc: Global, numbers: &mut Numbers, shape: &Shape) -> Option<Vec<Accepted<Global>>> {
-    let mut plans = Vec::new(alloc);
+/// Adds the plans of all bridges; whether each is accepted.
+fn add_plans(
+    alloc: Global,
+    numbers: &mut Numbers,
+    shape: &Shape,
+    plans: &mut Vec<Accepted<Global>>,
+) -> bool {
     let mut bridge = 0u16;
-    let mut all = true;
+    let mut are_added = true;
     for way in ways_of(shape) {
         if bridge < shape.bridges {
-            all = add_plan(alloc, numbers, shape, bridge, way, &mut plans) && all;
+            are_added = add_plan(alloc, numbers, shape, bridge, way, plans) && are_added;
         }
         bridge = bridge.saturating_add(1);
     }
-    if all {
-        return Some(plans);
-    }
-    drop(plans);
-    None
+    are_added
 }
 
-/// The streams of a shape: one.
-fn streams_of(alloc: Global, shape: &Shape) -> Result<Vec<Vec<StreamHop>>, AllocError> {
-    let mut streams = Vec::new(alloc);
-    streams.push(hops_of(alloc, shape)?)?;
-    Ok(streams)
+/// Adds the stream of a shape; whether there was memory for it.
+fn add_stream(alloc: Global, shape: &Shape, streams: &mut Vec<Vec<StreamHop>>) -> bool {
+    let mut hops = Vec::new(alloc);
+    add_hops(&mut hops, shape) && streams.push(hops).is_ok()
 }
 
 /// The network of a shape, where it is accepted.
 fn network_of(alloc: Global, numbers: &mut Numbers, shape: &Shape) -> Option<Network<Global>> {
-    let Ok(links) = links_of(alloc, numbers, shape) else {
-        return None;
-    };
-    let Ok(streams) = streams_of(alloc, shape) else {
-        return None;
-    };
-    let Some(plans) = plans_of(alloc, numbers, shape) else {
-        return None;
-    };
-    match check_network(plans, links, streams) {
-        Ok(network) => Some(network),
-        Err(refused) => {
-            drop(refused);
-            None
-        }
+    let mut plans = Vec::new(alloc);
+    let mut links = Vec::new(alloc);
+    let mut streams = Vec::new(alloc);
+    let are_made = add_links(&mut links, numbers, shape)
+        && add_stream(alloc, shape, &mut streams)
+        && add_plans(alloc, numbers, shape, &mut plans);
+    if are_made {
+        check_network(plans, links, streams).ok()
+    } else {
+        None
     }
 }
 
@@ -131,7 +126,7 @@ fn is_due(case: &Case, bridge: usize, fault: RunFault) -> bool {
 
 /// What is seen of the network of a seed.
 pub fn seen_of(alloc: Global, seed: u64) -> Result<Seen, RunFault> {
-    let mut numbers = Numbers::of(seed);
+    let mut numbers = Numbers::of_mixed(seed);
     let shape = next_shape(&mut numbers);
     let case = Case {
         talker: seed,
@@ -140,11 +135,7 @@ pub fn seen_of(alloc: Global, seed: u64) -> Result<Seen, RunFault> {
         spoilt: spoilt_of(&mut numbers, &shape),
     };
     match network_of(alloc, &mut numbers, &shape) {
-        Some(network) => {
-            let seen = seen_in(alloc, &network, &shape, &case);
-            drop(network);
-            seen
-        }
+        Some(network) => { seen_in(alloc, &network, &shape, &case) }
         None => Ok(Seen::default()),
     }
 }
@@ -162,12 +153,12 @@ fn seen_in(
         calm: !shape.circling,
         ..Seen::default()
     };
-    let came = all_coming(alloc, network.plans(), network.links(), case)?;
+    let Ok(came) = all_coming(alloc, network.plans(), network.links(), case) else {
+        return Err(RunFault::NoMemory);
+    };
     match settle(alloc, network, came, ROUNDS, &mut Nobody) {
         Ok(settled) => {
-            let done = judge(alloc, network, case, &settled, &mut seen);
-            drop(settled);
-            done?;
+            judge(alloc, network, case, &settled, &mut seen)?;
         }
         Err(RoundsFault::NotSettled { .. }) => {
             seen.unsettled = true;
@@ -212,7 +203,9 @@ fn compare(
         most: 80,
         spoilt: None,
     };
-    let came = all_coming(alloc, network.plans(), network.links(), &loud)?;
+    let Ok(came) = all_coming(alloc, network.plans(), network.links(), &loud) else {
+        return Err(RunFault::NoMemory);
+    };
     let Ok(other) = settle(alloc, network, came, ROUNDS, &mut Nobody) else {
         return Ok(());
     };
@@ -231,7 +224,9 @@ fn compare_hops(
 ) -> Result<(), RunFault> {
     for stream in network.streams() {
         for hop in stream {
-            let same = tell_the_same(alloc, one, other, *hop)?;
+            let Ok(same) = tell_the_same(alloc, one, other, *hop) else {
+                return Err(RunFault::NoMemory);
+            };
             seen.compared = seen.compared.saturating_add(1);
             if !same {
                 seen.disturbed = seen.disturbed.saturating_add(1);
@@ -246,18 +241,15 @@ fn section_of(
     alloc: Global,
     settled: &[Settled<Global>],
     hop: StreamHop,
-) -> Result<String, RunFault> {
+) -> Result<String, NoMemory> {
     let StreamHop { bridge, filter } = hop;
     let Some(told) = settled.get(bridge as usize) else {
-        return Err(RunFault::NoMemory);
+        return Err(NoMemory);
     };
     if !has_section(&told.outcome, filter) {
-        return Err(RunFault::NoMemory);
+        return Err(NoMemory);
     }
-    match section(alloc, &told.outcome, filter) {
-        Ok(text) => Ok(text),
-        Err(_) => Err(RunFault::NoMemory),
-    }
+    section(alloc, &told.outcome, filter)
 }
 
 /// Whether two runs tell the same of a hop.
@@ -266,7 +258,7 @@ fn tell_the_same(
     one: &[Settled<Global>],
     other: &[Settled<Global>],
     hop: StreamHop,
-) -> Result<bool, RunFault> {
+) -> Result<bool, NoMemory> {
     let one = section_of(alloc, one, hop)?;
     let other = section_of(alloc, other, hop)?;
     Ok(one.as_str() == other.as_str())

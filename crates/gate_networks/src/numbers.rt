@@ -6,8 +6,18 @@ ghost use Rattle.std.specs.Prelude.{◌<◌};
 pub struct Numbers(u64);
 
 impl Numbers {
+    /// The numbers behind a number.
+    pub fn at(number: u64) -> Numbers {
+        Numbers(number)
+    }
+
     /// The numbers of a seed.
     pub fn of(seed: u64) -> Numbers {
+        Numbers(seed.wrapping_mul(11_400_714_819_323_198_485))
+    }
+
+    /// The numbers of a seed that are nothing like those of the seeds beside it.
+    pub fn of_mixed(seed: u64) -> Numbers {
         let first = seed.wrapping_mul(11_400_714_819_323_198_485);
         let second = (first ^ (first >> 30)).wrapping_mul(13_787_848_793_156_543_929);
         let third = (second ^ (second >> 27)).wrapping_mul(10_723_151_780_598_845_931);
