@@ -2,11 +2,10 @@
 
 use crate::parts::{Part, ask_made, collected};
 use crate::words::{
-    Fault, address_in, first_word, has_line, number, number_at, parted, show, tell, word_at,
+    Fault, Said, address_in, first_word, has_line, number, number_at, parted, show, tell, word_at,
 };
 use bridge_forward::{Forwarding, PortSet, StaticEntry, Vlan, laws};
 use std::alloc::{AllocError, Allocator, Global};
-use std::io;
 
 /// How many static entries the line `many` makes.
 const MANY: u16 = 4096;
@@ -78,33 +77,33 @@ pub fn database_in<A: Allocator + Copy>(alloc: A, lines: &str) -> Result<Forward
 }
 
 /// Asks a database.
-pub fn database<H: AllocGlobal + Print>(rt: &H, text: &str) -> io::Result<()> {
+pub fn database(said: &mut Said, text: &str) {
     let (head, lines) = parted(text);
-    ask_made(rt, database_in(rt.alloc(), lines), head, lines)
+    ask_made(said, database_in(said.alloc, lines), head, lines)
 }
 
 impl Part for Forwarding<Global> {
-    fn ask<H: AllocGlobal + Print>(&mut self, rt: &H, line: &str) -> io::Result<()> {
+    fn ask(&mut self, said: &mut Said, line: &str) {
         match first_word(line) {
-            "frame" => frame(rt, self, line),
-            "vlans" => tell(rt, line, &self.vlans().len()),
-            "statics" => tell(rt, line, &self.statics().len()),
-            "each" => tell(rt, line, &found(self)),
-            "laws" => name_laws(rt, line),
-            _ => show(rt, line),
+            "frame" => frame(said, self, line),
+            "vlans" => tell(said, line, &self.vlans().len()),
+            "statics" => tell(said, line, &self.statics().len()),
+            "each" => tell(said, line, &found(self)),
+            "laws" => name_laws(said, line),
+            _ => show(said, line),
         }
     }
 }
 
-/// Prints where a frame goes, and whether that has port 3: `frame PORT VLAN ADDRESS`.
-fn frame<H: Print>(rt: &H, database: &Forwarding<Global>, line: &str) -> io::Result<()> {
+/// Tells where a frame goes, and whether that has port 3: `frame PORT VLAN ADDRESS`.
+fn frame(said: &mut Said, database: &Forwarding<Global>, line: &str) {
     let port = number_at(line, 1);
     if port < 1 || port > 16 {
-        return tell(rt, line, &Fault::NotAllowed);
+        return tell(said, line, &Fault::NotAllowed);
     }
     let address = address_in(word_at(line, 3));
     let ports = database.forward(port as u8, short_at(line, 2), &address);
-    tell(rt, line, &(ports.bits(), ports.has(3)))
+    tell(said, line, &(ports.bits(), ports.has(3)))
 }
 
 /// For how many of many entries a frame goes where it says.
@@ -120,11 +119,11 @@ fn found(database: &Forwarding<Global>) -> u64 {
 }
 
 /// The laws can be named.
-fn name_laws<H: Print>(rt: &H, line: &str) -> io::Result<()> {
+fn name_laws(said: &mut Said, line: &str) {
     laws::forward_is_goes_out();
     laws::outputs_are_members();
     laws::none_goes_back();
     laws::no_vlan_no_outputs();
     laws::outputs_fit();
-    println!(rt; "{line} -> named")
+    said.text.fill("{a} -> named\n", &[], &[line]);
 }

@@ -2,13 +2,12 @@
 
 use crate::parts::{Part, ask_made, collected};
 use crate::words::{
-    Fault, first_word, has, number, number_after, number_at, parted, show, small_at, tell,
+    Fault, Said, first_word, has, number, number_after, number_at, parted, show, small_at, tell,
 };
 use bridge_cycle::CyclicList;
 use bridge_gate::{GateEntry, GatePlan, Schedule, StreamGate};
 use bridge_limits::END_OF_TIME;
 use std::alloc::{Allocator, Global};
-use std::io;
 use std::str::FromStr;
 
 /// The number at a place among parts, which commas part.
@@ -62,9 +61,9 @@ pub fn gate_plan_in<A: Allocator + Copy>(alloc: A, line: &str) -> Result<GatePla
 }
 
 /// Asks a gate.
-pub fn gate<H: AllocGlobal + Print>(rt: &H, text: &str) -> io::Result<()> {
+pub fn gate(said: &mut Said, text: &str) {
     let (head, lines) = parted(text);
-    ask_made(rt, gate_in(rt.alloc(), head), head, lines)
+    ask_made(said, gate_in(said.alloc, head), head, lines)
 }
 
 /// The gate of a line, if the priorities of its plan are some.
@@ -78,33 +77,33 @@ fn gate_in(alloc: Global, line: &str) -> Result<StreamGate<Global>, Fault> {
 }
 
 impl Part for StreamGate<Global> {
-    fn ask<H: AllocGlobal + Print>(&mut self, rt: &H, line: &str) -> io::Result<()> {
+    fn ask(&mut self, said: &mut Said, line: &str) {
         match first_word(line) {
-            "frame" => frame(rt, self, line),
-            "earliest" => tell(rt, line, &self.earliest()),
-            "flags" => tell(rt, line, &self.flags()),
-            "clear" => clear(rt, self, line),
-            _ => show(rt, line),
+            "frame" => frame(said, self, line),
+            "earliest" => tell(said, line, &self.earliest()),
+            "flags" => tell(said, line, &self.flags()),
+            "clear" => clear(said, self, line),
+            _ => show(said, line),
         }
     }
 }
 
-/// Prints the answer to a frame, and the least moment of the next one: `frame MOMENT OCTETS`.
-fn frame<H: Print>(rt: &H, gate: &mut StreamGate<Global>, line: &str) -> io::Result<()> {
+/// Tells the answer to a frame, and the least moment of the next one: `frame MOMENT OCTETS`.
+fn frame(said: &mut Said, gate: &mut StreamGate<Global>, line: &str) {
     let t = number_at(line, 1);
     if t < gate.earliest() || t >= END_OF_TIME {
-        return tell(rt, line, &Fault::NotAllowed);
+        return tell(said, line, &Fault::NotAllowed);
     }
     let answer = gate.ask(t, small_at(line, 2));
-    tell(rt, line, &(answer, gate.earliest()))
+    tell(said, line, &(answer, gate.earliest()))
 }
 
 /// Clears the flag that a line names, `rx` or else `octets`.
-fn clear<H: Print>(rt: &H, gate: &mut StreamGate<Global>, line: &str) -> io::Result<()> {
+fn clear(said: &mut Said, gate: &mut StreamGate<Global>, line: &str) {
     if has(line, "rx") {
         gate.clear_rx();
     } else {
         gate.clear_octets();
     }
-    show(rt, line)
+    show(said, line)
 }

@@ -6,10 +6,9 @@ use crate::lists::lists_in;
 use crate::police::made_in;
 use crate::ports::port_in;
 use crate::streams::table_in;
-use crate::words::{Fault, first_word, parted, tell};
+use crate::words::{Fault, Said, first_word, parted, show, tell};
 use fixture_alloc::{Ending, RefusesOne};
 use std::alloc::Allocator;
-use std::io;
 
 /// More growths than any part asks for.
 const NEVER: u64 = 100_000;
@@ -40,23 +39,23 @@ fn making<A: Allocator + Copy>(alloc: A, text: &str) -> Ending {
 }
 
 /// Makes the part behind the first line over and over, its growths from the first on refused in turn, until it asks for fewer.
-/// Prints how many there are, or the one that wasn't answered by want of memory.
-pub fn refuse<H: AllocGlobal + Print>(rt: &H, text: &str) -> io::Result<()> {
+/// Tells how many there are, or the one that wasn't answered by want of memory.
+pub fn refuse(said: &mut Said, text: &str) {
     let (line, part) = parted(text);
     for n in 1..NEVER {
-        let gate = RefusesOne::new(rt.alloc(), n);
+        let gate = RefusesOne::new(said.alloc, n);
         let ending = making(&gate, part);
         match (ending, gate.refused()) {
             (Ending::Whole, false) => {
-                tell(rt, line, &(n - 1))?;
+                tell(said, line, &(n - 1));
                 break;
             }
             (Ending::NoMemory, true) => {}
             (ending, refused) => {
-                tell(rt, line, &(n, ending, refused))?;
+                tell(said, line, &(n, ending, refused));
                 break;
             }
         }
     }
-    println!(rt; "{part}")
+    show(said, part);
 }

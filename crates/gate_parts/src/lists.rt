@@ -2,14 +2,15 @@
 ghost use Rattle.std.specs.Prelude.{◌<◌, ◌≤◌, IfSome};
 
 use crate::parts::{Part, ask_made, push_each};
-use crate::words::{Fault, first_word, has, number, number_after, number_at, parted, show, tell};
+use crate::words::{
+    Fault, Said, first_word, has, number, number_after, number_at, parted, show, tell,
+};
 use bridge_cycle::{
     CyclicList, END_OF_SEARCHES, END_OF_TURNS, Egress, Joined, LONGEST_CYCLE, Run, Timeline,
     first_fit, longest_run,
 };
 use bridge_limits::END_OF_TIME;
 use std::alloc::{AllocError, Allocator, Global};
-use std::io;
 
 /// An entry of the form STATE:INTERVAL.
 fn entry_in(word: &str) -> Option<(u8, u64)> {
@@ -68,64 +69,64 @@ pub fn lists_in<A: Allocator + Copy>(alloc: A, text: &str) -> Result<Egress<A>, 
 }
 
 /// Asks lists.
-pub fn lists<H: AllocGlobal + Print>(rt: &H, text: &str) -> io::Result<()> {
+pub fn lists(said: &mut Said, text: &str) {
     let (head, lines) = parted(text);
-    ask_made(rt, lists_in(rt.alloc(), head), head, lines)
+    ask_made(said, lists_in(said.alloc, head), head, lines)
 }
 
 impl Part for Egress<Global> {
-    fn ask<H: AllocGlobal + Print>(&mut self, rt: &H, line: &str) -> io::Result<()> {
+    fn ask(&mut self, said: &mut Said, line: &str) {
         match first_word(line) {
-            "turn" => turn(rt, self, line),
-            "cycle" => tell(rt, line, &self.cycle()),
-            "fit" => fit(rt, self, line),
-            _ => ask_one(rt, self, line),
+            "turn" => turn(said, self, line),
+            "cycle" => tell(said, line, &self.cycle()),
+            "fit" => fit(said, self, line),
+            _ => ask_one(said, self, line),
         }
     }
 }
 
-/// Prints the turn at a moment: its state, its start and its end.
-fn turn<H: Print>(rt: &H, lists: &Egress<Global>, line: &str) -> io::Result<()> {
+/// Tells the turn at a moment: its state, its start and its end.
+fn turn(said: &mut Said, lists: &Egress<Global>, line: &str) {
     let t = number_at(line, 1);
     if t >= END_OF_TURNS {
-        return tell(rt, line, &Fault::NotAllowed);
+        return tell(said, line, &Fault::NotAllowed);
     }
     let turn = lists.turn(t);
-    tell(rt, line, &(turn.state, turn.start, turn.end))
+    tell(said, line, &(turn.state, turn.start, turn.end))
 }
 
-/// Prints what is asked of one list, or of two.
-fn ask_one<H: Print>(rt: &H, lists: &Egress<Global>, line: &str) -> io::Result<()> {
+/// Tells what is asked of one list, or of two.
+fn ask_one(said: &mut Said, lists: &Egress<Global>, line: &str) {
     match lists {
-        Egress::Cyclic(list) => ask_list(rt, list, line),
-        Egress::Joined(joined) => ask_joined(rt, joined, line),
+        Egress::Cyclic(list) => ask_list(said, list, line),
+        Egress::Joined(joined) => ask_joined(said, joined, line),
     }
 }
 
-fn ask_list<H: Print>(rt: &H, list: &CyclicList<u8, Global>, line: &str) -> io::Result<()> {
+fn ask_list(said: &mut Said, list: &CyclicList<u8, Global>, line: &str) {
     match first_word(line) {
-        "entries" => tell(rt, line, &list.entries()),
-        "base" => tell(rt, line, &list.base()),
-        "run" => run(rt, list, line),
-        _ => show(rt, line),
+        "entries" => tell(said, line, &list.entries()),
+        "base" => tell(said, line, &list.base()),
+        "run" => run(said, list, line),
+        _ => show(said, line),
     }
 }
 
-/// Prints the longest run of a class.
-fn run<H: Print>(rt: &H, list: &CyclicList<u8, Global>, line: &str) -> io::Result<()> {
+/// Tells the longest run of a class.
+fn run(said: &mut Said, list: &CyclicList<u8, Global>, line: &str) {
     let class = number_at(line, 1);
     if class >= 8 {
-        return tell(rt, line, &Fault::NotAllowed);
+        return tell(said, line, &Fault::NotAllowed);
     }
-    tell(rt, line, &longest_run(list, class as u8))
+    tell(said, line, &longest_run(list, class as u8))
 }
 
-fn ask_joined<H: Print>(rt: &H, joined: &Joined<u8, Global>, line: &str) -> io::Result<()> {
+fn ask_joined(said: &mut Said, joined: &Joined<u8, Global>, line: &str) {
     let (before, after) = joined.lists();
     match first_word(line) {
-        "at" => tell(rt, line, &joined.at()),
-        "cycles" => tell(rt, line, &(before.cycle(), after.cycle())),
-        _ => show(rt, line),
+        "at" => tell(said, line, &joined.at()),
+        "cycles" => tell(said, line, &(before.cycle(), after.cycle())),
+        _ => show(said, line),
     }
 }
 
@@ -155,14 +156,14 @@ fn asked_in(line: &str) -> Option<Asked>
     }
 }
 
-/// Prints the first fit of a class that each list opens long enough, one list alone not always.
-fn fit<H: Print>(rt: &H, lists: &Egress<Global>, line: &str) -> io::Result<()> {
+/// Tells the first fit of a class that each list opens long enough, one list alone not always.
+fn fit(said: &mut Said, lists: &Egress<Global>, line: &str) {
     let Some(asked) = asked_in(line) else {
-        return tell(rt, line, &Fault::NotAllowed);
+        return tell(said, line, &Fault::NotAllowed);
     };
     match lists {
-        Egress::Cyclic(list) => tell(rt, line, &fit_of(list, asked)),
-        Egress::Joined(joined) => tell(rt, line, &fit_of_both(joined, asked)),
+        Egress::Cyclic(list) => tell(said, line, &fit_of(list, asked)),
+        Egress::Joined(joined) => tell(said, line, &fit_of_both(joined, asked)),
     }
 }
 

@@ -17,6 +17,7 @@ mod streams;
 mod together;
 mod words;
 
+use bridge_text::Text;
 use databases::database;
 use frames::frames;
 use gates::gate;
@@ -28,7 +29,7 @@ use ports::port;
 use std::rt::{Env, Files};
 use std::{env, fs, io};
 use streams::streams;
-use words::{first_word, parted, show};
+use words::{Said, first_word, parted, show};
 
 fn main(rt: HostRuntime) -> io::Result<()> {
     run(&rt)
@@ -42,34 +43,41 @@ fn run<H: AllocGlobal + Print + Env + Files>(rt: &H) -> io::Result<()> {
     Ok(())
 }
 
-/// Plays a script, a paragraph after the other.
+/// Plays a script, and prints what is told of it.
 fn play<H: AllocGlobal + Print + Files>(rt: &H, path: &str) -> io::Result<()> {
+    let alloc = rt.alloc();
     let script = fs::read_to_string(rt, path)?;
-    let done = paragraphs(rt, script.as_str());
-    drop(script);
-    done
+    let mut said = Said {
+        alloc,
+        text: Text::new(alloc),
+    };
+    paragraphs(&mut said, script.as_str());
+    match said.text.done() {
+        Ok(text) => rt.print(text.as_str()),
+        Err(_) => Err(io::Error::from(io::ErrorKind::OutOfMemory)),
+    }
 }
 
-fn paragraphs<H: AllocGlobal + Print>(rt: &H, script: &str) -> io::Result<()> {
+/// Tells a script, a paragraph after the other.
+fn paragraphs(said: &mut Said, script: &str) {
     for part in script.split("\n\n") {
-        paragraph(rt, part)?;
-        show(rt, "")?;
+        paragraph(said, part);
+        show(said, "");
     }
-    Ok(())
 }
 
 /// Makes what the first line of a paragraph says, and asks it.
-fn paragraph<H: AllocGlobal + Print>(rt: &H, text: &str) -> io::Result<()> {
+fn paragraph(said: &mut Said, text: &str) {
     match first_word(parted(text).0) {
-        "list" => lists(rt, text),
-        "meter" => meter(rt, text),
-        "gate" => gate(rt, text),
-        "frames" => frames(rt, text),
-        "streams" => streams(rt, text),
-        "database" => database(rt, text),
-        "police" => police(rt, text),
-        "port" => port(rt, text),
-        "refuse" => refuse(rt, text),
-        _ => show(rt, text),
+        "list" => lists(said, text),
+        "meter" => meter(said, text),
+        "gate" => gate(said, text),
+        "frames" => frames(said, text),
+        "streams" => streams(said, text),
+        "database" => database(said, text),
+        "police" => police(said, text),
+        "port" => port(said, text),
+        "refuse" => refuse(said, text),
+        _ => show(said, text),
     }
 }

@@ -1,9 +1,10 @@
 //! Meters: colours, and what the buckets hold.
 
 use crate::parts::{Part, ask_made};
-use crate::words::{Fault, first_word, has, number_after, number_at, parted, show, small_at, tell};
+use crate::words::{
+    Fault, Said, first_word, has, number_after, number_at, parted, show, small_at, tell,
+};
 use bridge_meter::{Meter, MeterPlan};
-use std::io;
 
 /// The plan of a line `.. cir NUMBER cbs NUMBER eir NUMBER ebs NUMBER`, 0 where one is missing, with its switches by name.
 pub fn meter_plan_in(line: &str) -> MeterPlan {
@@ -20,9 +21,9 @@ pub fn meter_plan_in(line: &str) -> MeterPlan {
 }
 
 /// Asks a meter.
-pub fn meter<H: AllocGlobal + Print>(rt: &H, text: &str) -> io::Result<()> {
+pub fn meter(said: &mut Said, text: &str) {
     let (head, lines) = parted(text);
-    ask_made(rt, meter_in(head), head, lines)
+    ask_made(said, meter_in(head), head, lines)
 }
 
 /// The meter of a line, if its plan is within the limits.
@@ -36,25 +37,25 @@ fn meter_in(line: &str) -> Result<Meter, Fault> {
 }
 
 impl Part for Meter {
-    fn ask<H: AllocGlobal + Print>(&mut self, rt: &H, line: &str) -> io::Result<()> {
+    fn ask(&mut self, said: &mut Said, line: &str) {
         match first_word(line) {
-            "frame" => frame(rt, self, line),
-            "holds" => tell(rt, line, &self.state()),
+            "frame" => frame(said, self, line),
+            "holds" => tell(said, line, &self.state()),
             "clear" => {
                 self.clear_red();
-                show(rt, line)
+                show(said, line)
             }
-            _ => show(rt, line),
+            _ => show(said, line),
         }
     }
 }
 
-/// Prints the colour of a frame: `frame MOMENT OCTETS`, with the word `eligible` of one that is drop eligible.
-fn frame<H: Print>(rt: &H, meter: &mut Meter, line: &str) -> io::Result<()> {
+/// Tells the colour of a frame: `frame MOMENT OCTETS`, with the word `eligible` of one that is drop eligible.
+fn frame(said: &mut Said, meter: &mut Meter, line: &str) {
     let t = number_at(line, 1);
     if t < meter.state().at {
-        return tell(rt, line, &Fault::NotAllowed);
+        return tell(said, line, &Fault::NotAllowed);
     }
     let colour = meter.colour(t, small_at(line, 2), has(line, "eligible"));
-    tell(rt, line, &colour)
+    tell(said, line, &colour)
 }

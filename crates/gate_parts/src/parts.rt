@@ -1,52 +1,30 @@
 //! Parts that are asked line by line, and lists that are made of lines.
 
-use crate::words::{Fault, tell};
+use crate::words::{Fault, Said, tell};
 use std::alloc::{AllocError, Allocator};
-use std::io;
 
 /// What a line asks.
 pub trait Part {
-    /// Does what a line says, and prints the line with the answer.
-    fn ask<H: AllocGlobal + Print>(&mut self, rt: &H, line: &str) -> io::Result<()>;
+    /// Does what a line says, and tells the line with the answer.
+    fn ask(&mut self, said: &mut Said, line: &str);
 }
 
 /// Asks a part, a line after the other.
-pub fn ask_each<H: AllocGlobal + Print, P: Part>(
-    rt: &H,
-    part: &mut P,
-    lines: &str,
-) -> io::Result<()> {
+pub fn ask_each<P: Part>(said: &mut Said, part: &mut P, lines: &str) {
     for line in lines.lines() {
-        part.ask(rt, line)?;
+        part.ask(said, line);
     }
-    Ok(())
 }
 
-/// Asks a part that was made of a line, or prints why none was made.
-pub fn ask_made<H: AllocGlobal + Print, P: Part + Drop>(
-    rt: &H,
-    made: Result<P, Fault>,
-    head: &str,
-    lines: &str,
-) -> io::Result<()> {
+/// Asks a part that was made of a line, or tells why none was made.
+pub fn ask_made<P: Part + Drop>(said: &mut Said, made: Result<P, Fault>, head: &str, lines: &str) {
     match made {
         Ok(mut part) => {
-            let done = begin(rt, &mut part, head, lines);
-            drop(part);
-            done
+            said.text.fill("{a} -> made\n", &[], &[head]);
+            ask_each(said, &mut part, lines);
         }
-        Err(fault) => tell(rt, head, &fault),
+        Err(fault) => tell(said, head, &fault),
     }
-}
-
-fn begin<H: AllocGlobal + Print, P: Part>(
-    rt: &H,
-    part: &mut P,
-    head: &str,
-    lines: &str,
-) -> io::Result<()> {
-    println!(rt; "{head} -> made")?;
-    ask_each(rt, part, lines)
 }
 
 /// What a function makes of the parts of a text, which a separator divides, of each one value at most.

@@ -7,14 +7,14 @@ use crate::meters::meter_plan_in;
 use crate::parts::collected;
 use crate::together::{go_together, is_listed};
 use crate::words::{
-    Fault, answer, first_word, has, number_after, number_at, parted, show, small_at, tell, word_at,
+    Fault, Said, answer, first_word, has, number_after, number_at, parted, show, small_at, tell,
+    word_at,
 };
 use bridge_filter::{Clear, FilterPlan, Police, Ruling};
 use bridge_gate::GatePlan;
 use bridge_limits::END_OF_TIME;
 use bridge_meter::MeterPlan;
 use std::alloc::{AllocError, Allocator, Global};
-use std::io;
 
 /// The number and the plan of a line `filter NUMBER gate NUMBER ..`.
 fn filter_in(line: &str) -> Option<(u32, FilterPlan)> {
@@ -116,49 +116,40 @@ fn police_of<A: Allocator + Copy>(
 }
 
 /// Asks a police.
-pub fn police<H: AllocGlobal + Print>(rt: &H, text: &str) -> io::Result<()> {
+pub fn police(said: &mut Said, text: &str) {
     let (head, lines) = parted(text);
-    match made_in(rt.alloc(), lines) {
+    match made_in(said.alloc, lines) {
         Ok(made) => {
             let Made {
                 mut police,
                 has_both,
             } = made;
-            let done = ask_all(rt, &mut police, has_both, head, lines);
-            drop(police);
-            done
+            ask_all(said, &mut police, has_both, head, lines);
         }
-        Err(fault) => tell(rt, head, &fault),
+        Err(fault) => tell(said, head, &fault),
     }
 }
 
-fn ask_all<H: Print>(
-    rt: &H,
-    police: &mut Police<Global>,
-    has_both: bool,
-    head: &str,
-    lines: &str,
-) -> io::Result<()>
+fn ask_all(said: &mut Said, police: &mut Police<Global>, has_both: bool, head: &str, lines: &str)
     requires gate { has_both ≡ true → is_there 1 police.old.gates ≡ true }
     requires meter { has_both ≡ true → is_there 5 police.old.meters ≡ true }
 {
-    println!(rt; "{head} -> made")?;
+    said.text.fill("{a} -> made\n", &[], &[head]);
     for line in lines.lines() {
-        ask(rt, police, has_both, line)?;
+        ask(said, police, has_both, line);
     }
-    Ok(())
 }
 
-fn ask<H: Print>(rt: &H, police: &mut Police<Global>, has_both: bool, line: &str) -> io::Result<()>
+fn ask(said: &mut Said, police: &mut Police<Global>, has_both: bool, line: &str)
     requires gate { has_both ≡ true → is_there 1 police.old.gates ≡ true }
     requires meter { has_both ≡ true → is_there 5 police.old.meters ≡ true }
     ensures gates { KeepsNumbers police.old.gates police.new.gates }
     ensures meters { KeepsNumbers police.old.meters police.new.meters }
 {
     match first_word(line) {
-        "frame" => answer(rt, line, ruling_of(police, line)),
-        "clear" => clear(rt, police, has_both, line),
-        _ => look(rt, police, line),
+        "frame" => answer(said, line, ruling_of(police, line)),
+        "clear" => clear(said, police, has_both, line),
+        _ => look(said, police, line),
     }
 }
 
@@ -178,22 +169,17 @@ fn ruling_of(police: &mut Police<Global>, line: &str) -> Result<Option<Ruling>, 
 }
 
 /// Clears a flag, if the police has what a line may name: `clear blocked|rx|octets|red`.
-fn clear<H: Print>(
-    rt: &H,
-    police: &mut Police<Global>,
-    has_both: bool,
-    line: &str,
-) -> io::Result<()>
+fn clear(said: &mut Said, police: &mut Police<Global>, has_both: bool, line: &str)
     requires gate { has_both ≡ true → is_there 1 police.old.gates ≡ true }
     requires meter { has_both ≡ true → is_there 5 police.old.meters ≡ true }
     ensures gates { KeepsNumbers police.old.gates police.new.gates }
     ensures meters { KeepsNumbers police.old.meters police.new.meters }
 {
     if !has_both {
-        return tell(rt, line, &Fault::NotAllowed);
+        return tell(said, line, &Fault::NotAllowed);
     }
     clear_flag(police, word_at(line, 1));
-    show(rt, line)
+    show(said, line)
 }
 
 /// Clears a flag of gate 1, of meter 5 or of the filter of the stream.
@@ -220,13 +206,13 @@ fn clear_blocked(police: &mut Police<Global>)
     }
 }
 
-/// Prints what is seen of the police, or of the filter of the frames of stream 1, with its number.
-fn look<H: Print>(rt: &H, police: &Police<Global>, line: &str) -> io::Result<()> {
+/// Tells what is seen of the police, or of the filter of the frames of stream 1, with its number.
+fn look(said: &mut Said, police: &Police<Global>, line: &str) {
     match (first_word(line), police.filter_of(Some(1), 0)) {
-        ("came", _) => tell(rt, line, &(police.earliest(), police.calls())),
-        ("flags", Some(filter)) => tell(rt, line, &(filter, police.flags(filter))),
-        ("counts", Some(filter)) => tell(rt, line, &(filter, police.counters(filter))),
-        ("holds", Some(filter)) => tell(rt, line, &(filter, police.buckets(filter))),
-        _ => show(rt, line),
+        ("came", _) => tell(said, line, &(police.earliest(), police.calls())),
+        ("flags", Some(filter)) => tell(said, line, &(filter, police.flags(filter))),
+        ("counts", Some(filter)) => tell(said, line, &(filter, police.counters(filter))),
+        ("holds", Some(filter)) => tell(said, line, &(filter, police.buckets(filter))),
+        _ => show(said, line),
     }
 }

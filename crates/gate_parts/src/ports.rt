@@ -5,7 +5,7 @@ ghost use Rattle.bridge_port.specs.Standing.{NoStartBefore};
 use crate::lists::lists_in;
 use crate::parts::{Part, ask_made};
 use crate::words::{
-    Fault, answer, first_word, has, number_after, number_at, parted, show, small_at, tell,
+    Fault, Said, answer, first_word, has, number_after, number_at, parted, show, small_at, tell,
 };
 use bridge_frame::{Speed, occupation};
 use bridge_limits::{END_OF_TIME, LONGEST_FRAME, MOST_ARRIVALS};
@@ -14,7 +14,6 @@ use bridge_port::{
     own_windows_isolate,
 };
 use std::alloc::{Allocator, Global};
-use std::io;
 
 /// What starts: the class, the length, the moment and when it is done.
 type Start = (u8, u32, u64, u64);
@@ -57,9 +56,9 @@ struct Sending {
 }
 
 /// Asks a port.
-pub fn port<H: AllocGlobal + Print>(rt: &H, text: &str) -> io::Result<()> {
+pub fn port(said: &mut Said, text: &str) {
     let (head, lines) = parted(text);
-    ask_made(rt, sending_in(rt.alloc(), head), head, lines)
+    ask_made(said, sending_in(said.alloc, head), head, lines)
 }
 
 fn sending_in(alloc: Global, line: &str) -> Result<Sending, Fault> {
@@ -71,14 +70,14 @@ fn sending_in(alloc: Global, line: &str) -> Result<Sending, Fault> {
 }
 
 impl Part for Sending {
-    fn ask<H: AllocGlobal + Print>(&mut self, rt: &H, line: &str) -> io::Result<()> {
+    fn ask(&mut self, said: &mut Said, line: &str) {
         match first_word(line) {
-            "offer" => offer(rt, &mut self.port, line, self.speed),
-            "starts" => starts(rt, &mut self.port, line, self.speed),
-            "next" => tell(rt, line, &self.port.next_start()),
-            "counts" => tell(rt, line, &counts(&self.port)),
-            "laws" => name_laws(rt, line),
-            _ => show(rt, line),
+            "offer" => offer(said, &mut self.port, line, self.speed),
+            "starts" => starts(said, &mut self.port, line, self.speed),
+            "next" => tell(said, line, &self.port.next_start()),
+            "counts" => tell(said, line, &counts(&self.port)),
+            "laws" => name_laws(said, line),
+            _ => show(said, line),
         }
     }
 }
@@ -89,16 +88,11 @@ fn counts(port: &Port<u32, Global>) -> (u64, u64, u64) {
 }
 
 /// Makes the starts that are due before an offer, and prints why it is refused: `offer MOMENT CLASS LENGTH`.
-fn offer<H: Print>(
-    rt: &H,
-    port: &mut Port<u32, Global>,
-    line: &str,
-    speed: Speed,
-) -> io::Result<()> {
+fn offer(said: &mut Said, port: &mut Port<u32, Global>, line: &str, speed: Speed) {
     let t = number_at(line, 1);
-    starts_before(rt, port, speed, t)?;
+    starts_before(said, port, speed, t);
     answer(
-        rt,
+        said,
         line,
         offered(port, t, number_at(line, 2), small_at(line, 3)),
     )
@@ -132,30 +126,19 @@ fn is_calm(port: &Port<u32, Global>, t: u64) -> bool
 }
 
 /// Makes all starts that are left.
-fn starts<H: Print>(
-    rt: &H,
-    port: &mut Port<u32, Global>,
-    line: &str,
-    speed: Speed,
-) -> io::Result<()> {
-    show(rt, line)?;
-    starts_before(rt, port, speed, u64::MAX)
+fn starts(said: &mut Said, port: &mut Port<u32, Global>, line: &str, speed: Speed) {
+    show(said, line);
+    starts_before(said, port, speed, u64::MAX)
 }
 
 /// Makes the starts that are due before a moment, and prints each.
-fn starts_before<H: Print>(
-    rt: &H,
-    port: &mut Port<u32, Global>,
-    speed: Speed,
-    t: u64,
-) -> io::Result<()> {
+fn starts_before(said: &mut Said, port: &mut Port<u32, Global>, speed: Speed, t: u64) {
     for _ in 0..1_000 {
         match start_before(port, speed, t) {
-            Some(start) => tell(rt, "start", &start)?,
+            Some(start) => tell(said, "start", &start),
             None => break,
         }
     }
-    Ok(())
 }
 
 /// Makes the next start, if it is due before a moment.
@@ -172,10 +155,10 @@ fn start_before(port: &mut Port<u32, Global>, speed: Speed, t: u64) -> Option<St
 }
 
 /// The laws can be named.
-fn name_laws<H: Print>(rt: &H, line: &str) -> io::Result<()> {
+fn name_laws(said: &mut Said, line: &str) {
     ever_is_fitting();
     ever_fits_soon();
     alone_follows::<u32>();
     own_windows_isolate::<u32>();
-    println!(rt; "{line} -> named")
+    said.text.fill("{a} -> named\n", &[], &[line]);
 }

@@ -2,12 +2,12 @@
 
 use crate::parts::{Part, ask_each, collected};
 use crate::words::{
-    Fault, address_in, first_word, has, has_line, number, parted, show, small_at, tell, word_at,
+    Fault, Said, address_in, first_word, has, has_line, number, parted, show, small_at, tell,
+    word_at,
 };
 use bridge_frame::{Head, Tag};
 use bridge_ident::{Ident, Kind, StreamEntry, TagKind};
 use std::alloc::{AllocError, Allocator, Global};
-use std::io;
 
 /// How many entries the line `many` makes.
 const MANY: u16 = 4096;
@@ -90,51 +90,41 @@ pub fn table_in<A: Allocator + Copy>(
 }
 
 /// Asks a table without an index, then one with an index.
-pub fn streams<H: AllocGlobal + Print>(rt: &H, text: &str) -> io::Result<()> {
-    table(rt, text, false)?;
-    table(rt, text, true)
+pub fn streams(said: &mut Said, text: &str) {
+    table(said, text, false);
+    table(said, text, true);
 }
 
-fn table<H: AllocGlobal + Print>(rt: &H, text: &str, has_index: bool) -> io::Result<()> {
+fn table(said: &mut Said, text: &str, has_index: bool) {
     let (head, lines) = parted(text);
-    match table_in(rt.alloc(), lines, has_index) {
+    match table_in(said.alloc, lines, has_index) {
         Ok(mut table) => {
-            let done = begin(rt, &mut table, head, has_index, lines);
-            drop(table);
-            done
+            let word = if has_index { "true" } else { "false" };
+            let form = "{a}, with an index: {b}\n";
+            said.text.fill(form, &[], &[head, word]);
+            ask_each(said, &mut table, lines);
         }
-        Err(fault) => tell(rt, head, &fault),
+        Err(fault) => tell(said, head, &fault),
     }
-}
-
-fn begin<H: AllocGlobal + Print>(
-    rt: &H,
-    table: &mut Ident<Global>,
-    head: &str,
-    has_index: bool,
-    lines: &str,
-) -> io::Result<()> {
-    println!(rt; "{head}, with an index: {has_index}")?;
-    ask_each(rt, table, lines)
 }
 
 impl Part for Ident<Global> {
-    fn ask<H: AllocGlobal + Print>(&mut self, rt: &H, line: &str) -> io::Result<()> {
+    fn ask(&mut self, said: &mut Said, line: &str) {
         match first_word(line) {
-            "frame" => frame(rt, self, line),
-            "entries" => tell(rt, line, &self.entries().len()),
-            "each" => tell(rt, line, &found(self)),
-            _ => show(rt, line),
+            "frame" => frame(said, self, line),
+            "entries" => tell(said, line, &self.entries().len()),
+            "each" => tell(said, line, &found(self)),
+            _ => show(said, line),
         }
     }
 }
 
-/// Prints the handle of a frame to the listener that has a tag of a VLAN, or none: `frame PORT TAG VLAN`.
-fn frame<H: Print>(rt: &H, table: &Ident<Global>, line: &str) -> io::Result<()> {
+/// Tells the handle of a frame to the listener that has a tag of a VLAN, or none: `frame PORT TAG VLAN`.
+fn frame(said: &mut Said, table: &Ident<Global>, line: &str) {
     let port = number(word_at(line, 1)).unwrap_or(0);
     let head = head_of(number(word_at(line, 2)));
     let vid = number(word_at(line, 3)).unwrap_or(0);
-    tell(rt, line, &table.handle_of(port, &head, vid))
+    tell(said, line, &table.handle_of(port, &head, vid))
 }
 
 /// The head of a frame from the talker to the listener.

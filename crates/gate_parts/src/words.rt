@@ -2,9 +2,9 @@
 
 use bridge_cycle::ListFault;
 use bridge_limits::NoMemory;
-use std::alloc::AllocError;
+use bridge_text::Text;
+use std::alloc::{AllocError, Global};
 use std::fmt::Debug;
-use std::io;
 use std::str::{FromStr, Split};
 
 /// Why nothing is made of a line, or asked.
@@ -37,6 +37,13 @@ impl From<ListFault> for Fault {
             fault => Fault::Refused(fault),
         }
     }
+}
+
+/// What is told of a script.
+#[derive(Drop)]
+pub struct Said {
+    pub alloc: Global,
+    pub text: Text<Global>,
 }
 
 /// The first word of a line.
@@ -139,24 +146,24 @@ fn next_octet(parts: &mut Split<'_, char>) -> u8 {
     }
 }
 
-/// Prints a line that asks for nothing.
-pub fn show<H: Print>(rt: &H, line: &str) -> io::Result<()> {
-    println!(rt; "{line}")
+/// Tells a line that asks for nothing.
+pub fn show(said: &mut Said, line: &str) {
+    said.text.fill("{a}\n", &[], &[line]);
 }
 
-/// Prints a line with the answer behind it, or with why there is none.
-pub fn answer<H: Print, T: Debug + Drop>(
-    rt: &H,
-    line: &str,
-    answer: Result<T, Fault>,
-) -> io::Result<()> {
+/// Tells a line with the answer behind it, or with why there is none.
+pub fn answer<T: Debug + Drop>(said: &mut Said, line: &str, answer: Result<T, Fault>) {
     match answer {
-        Ok(answer) => tell(rt, line, &answer),
-        Err(fault) => tell(rt, line, &fault),
+        Ok(answer) => tell(said, line, &answer),
+        Err(fault) => tell(said, line, &fault),
     }
 }
 
-/// Prints a line with the answer behind it.
-pub fn tell<H: Print, T: Debug>(rt: &H, line: &str, answer: &T) -> io::Result<()> {
-    println!(rt; "{line} -> {answer:?}")
+/// Tells a line with the answer behind it.
+pub fn tell<T: Debug>(said: &mut Said, line: &str, answer: &T) {
+    let alloc = said.alloc;
+    match format!(in alloc; "{line} -> {answer:?}\n") {
+        Ok(told) => said.text.put(told.as_str()),
+        Err(_) => said.text.give_up(),
+    }
 }
