@@ -1,13 +1,16 @@
 //! The base plan in pieces, and the plan that takes the commands.
-ghost use Rattle.std.specs.Prelude.{◌≡◌, ◌++◌, OnOk, codes, string_bytes};
+ghost use Rattle.std.specs.Prelude.{◌++◌, codes};
+ghost use Rattle.bridge_text.specs.Growth.{HasGrown};
 
-use crate::case::{halves, parts_of};
+use crate::case::halves;
 use bridge_config::{Plan, plan_of};
+use bridge_inputs::RunFault;
 use bridge_jobs::Fault;
-use std::alloc::{AllocError, Global};
+use bridge_text::Text;
+use std::alloc::Global;
 
-/// The place behind all pieces of the base plan.
-const END: &str = "end";
+/// The place behind all pieces of the base plan, as a heading has it.
+const END: &str = " end";
 
 /// What the cases change.
 #[derive(Drop)]
@@ -19,8 +22,10 @@ pub struct Bases {
 
 /// The base plan by the text of its pieces, and the same with more lines behind it, which takes the commands.
 pub fn bases_of(alloc: Global, pieces: String, more: &str) -> Result<Bases, Fault> {
-    let Some(text) = changed(alloc, pieces.as_str(), END, more)? else {
-        return Err(Fault::Words);
+    let mut text = Text::new(alloc);
+    put_changed(&mut text, pieces.as_str(), END, more);
+    let Ok(text) = text.done() else {
+        return Err(Fault::Run(RunFault::NoMemory));
     };
     match plan_of(alloc, alloc, text.as_bytes()) {
         Ok(plan) => Ok(Bases { pieces, plan }),
@@ -29,46 +34,32 @@ pub fn bases_of(alloc: Global, pieces: String, more: &str) -> Result<Bases, Faul
 }
 
 impl Bases {
-    /// The base plan with these lines in the place of a piece, or behind all at `end`; none where there is no such
+    /// Puts the base plan with these lines in the place of a piece, or behind all at `end`; says whether there is such a
     /// place.
-    pub fn with(
-        &self,
-        alloc: Global,
-        place: &str,
-        lines: &str,
-    ) -> Result<Option<String>, AllocError> {
-        changed(alloc, self.pieces.as_str(), place, lines)
+    pub fn put_with(&self, text: &mut Text<Global>, place: &str, lines: &str) -> bool {
+        put_changed(text, self.pieces.as_str(), place, lines)
     }
 }
 
-/// The pieces with these lines in the place of one, or behind all at `end`; none where there is no such place.
-fn changed(
-    alloc: Global,
-    pieces: &str,
-    place: &str,
-    lines: &str,
-) -> Result<Option<String>, AllocError> {
-    let mut text = String::new(alloc);
+/// Puts the pieces with these lines in the place of one, or behind all at `end`; says whether there is such a place.
+fn put_changed(text: &mut Text<Global>, pieces: &str, place: &str, lines: &str) -> bool {
     let mut is_there = place == END;
-    for part in parts_of(pieces).skip(1) {
+    for part in pieces.trim_end().split("\n==").skip(1) {
         let (name, piece) = halves(part);
-        if name.strip_prefix(' ') == Some(place) {
-            is_there = true;
-            put(&mut text, lines)?;
-        } else {
-            put(&mut text, piece)?;
-        }
+        let is_here = name == place;
+        is_there |= is_here;
+        put(text, if is_here { lines } else { piece });
     }
     if place == END {
-        put(&mut text, lines)?;
+        put(text, lines);
     }
-    if is_there { Ok(Some(text)) } else { Ok(None) }
+    is_there
 }
 
 /// Puts lines, and the line feed of the last.
-fn put(text: &mut String, lines: &str) -> Result<(), AllocError>
-    ensures { OnOk result (string_bytes text.new ≡ string_bytes text.old ++ (lines.now ++ codes "\n")) }
+fn put(text: &mut Text<Global>, lines: &str)
+    ensures { HasGrown text.old (lines.now ++ codes "\n") text.new }
 {
-    text.push_str(lines)?;
-    text.push_str("\n")
+    text.put(lines);
+    text.put("\n");
 }

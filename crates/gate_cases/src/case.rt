@@ -1,69 +1,31 @@
-//! The parts of a file, and the case of a part.
+//! The parts of a file, and the lines of a case written out.
 use bridge_text::Text;
-use std::alloc::{AllocError, Global};
-use std::str::Split;
-
-/// A text, and what is to become of it.
-#[derive(Clone, Copy)]
-pub struct Case<'a> {
-    /// The piece of the base plan that the lines stand for, or `end`, `alone` or `commands`.
-    pub place: &'a str,
-    /// What is wanted of the text: `accepted`, a number of commands or the words of a fault.
-    pub wanted: &'a str,
-    /// The lines, without the line feed of the last.
-    pub lines: &'a str,
-}
-
-/// What stands before the first heading of a file, then each heading, without its mark, and the lines below it.
-pub fn parts_of(text: &str) -> Split<'_, &str> {
-    text.strip_suffix('\n').unwrap_or(text).split("\n==")
-}
-
-/// The number of the line behind a part that begins at this one.
-pub fn after(line: usize, part: &str) -> usize {
-    let feeds = part.as_bytes().iter().filter(|b| **b == b'\n').count();
-    line.saturating_add(feeds).saturating_add(1)
-}
+use std::alloc::Global;
 
 /// A heading and the lines below it.
 pub fn halves(part: &str) -> (&str, &str) {
     part.split_once('\n').unwrap_or((part, ""))
 }
 
-/// The case of a part, unless its heading is none of a case.
-pub fn case_of(part: &str) -> Option<Case<'_>> {
-    let (heading, lines) = halves(part);
-    let (place, wanted) = heading.strip_prefix(' ')?.split_once(": ")?;
-    Some(Case {
-        place,
-        wanted,
-        lines,
-    })
-}
-
-/// Lines in which `<80 [>` stands for 80 times `[`, and `<3..5 n#>` for `n3n4n5`; none where such a form is not whole.
-pub fn written_out(alloc: Global, lines: &str) -> Result<Option<String>, AllocError> {
+/// Lines in which `<80 [>` stands for 80 times `[`, and `<3..5 n#>` for `n3n4n5`; none where such a form is not whole, or
+/// where memory was refused, with what is said then let go of.
+pub fn written_out(alloc: Global, said: &mut Text<Global>, lines: &str) -> Option<String> {
     let mut text = Text::new(alloc);
-    let mut pieces = lines.split('<');
-    if let Some(front) = pieces.next() {
-        text.put(front);
+    text.put(lines.split_once('<').unwrap_or((lines, "")).0);
+    let mut is_whole = true;
+    for piece in lines.split('<').skip(1) {
+        is_whole &= put_piece(&mut text, piece);
     }
-    for piece in pieces {
-        if !put_piece(&mut text, piece) {
-            return Ok(None);
-        }
+    let text = text.done();
+    if text.is_err() {
+        said.give_up();
     }
-    match text.done() {
-        Ok(text) => Ok(Some(text)),
-        Err(_) => Err(AllocError),
-    }
+    if is_whole { text.ok() } else { None }
 }
 
 /// Puts a form and what follows its end; says whether it is whole.
 fn put_piece(text: &mut Text<Global>, piece: &str) -> bool {
-    let Some((form, rest)) = piece.split_once('>') else {
-        return false;
-    };
+    let (form, rest) = piece.split_once('>').unwrap_or(("", ""));
     let (times, repeated) = form.split_once(' ').unwrap_or((form, ""));
     let is_whole = put_form(text, times, repeated);
     text.put(rest);
@@ -91,14 +53,12 @@ fn put_times(text: &mut Text<Global>, times: &str, repeated: &str) -> bool {
 
 /// Puts a text once for each number of a range, with the number in the place of its `#`; says whether it has one.
 fn put_range(text: &mut Text<Global>, first: &str, last: &str, repeated: &str) -> bool {
-    let (Ok(first), Ok(last)) = (first.parse::<u32>(), last.parse::<u32>()) else {
-        return false;
-    };
+    let (first, last) = (first.parse::<u32>().ok(), last.parse::<u32>().ok());
     let (front, back) = repeated.split_once('#').unwrap_or((repeated, ""));
-    for number in first..last.saturating_add(1) {
+    for number in first.unwrap_or(1)..last.unwrap_or(0).saturating_add(1) {
         text.put(front);
         text.put_number(u64::from(number));
         text.put(back);
     }
-    repeated.contains('#')
+    first.is_some() && last.is_some() && repeated.contains('#')
 }

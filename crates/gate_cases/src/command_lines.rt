@@ -1,31 +1,24 @@
 //! Command lines, and what is read of each.
 
-use crate::fault_lines::with_status;
+use crate::adding::add_debug;
+use crate::fault_lines::put_status;
 use bridge_cli::{
     Job, TableRequest, job_of, picture_request_of, table_request_of, wants_explanation,
     wants_strictness,
 };
-use bridge_jobs::{Fault, print};
+use bridge_text::Text;
 use std::alloc::{AllocError, Global};
 
-/// Prints each line of a file, and below one that begins with `$` what is read of the words behind it.
-pub fn tell_command_lines(rt: &(impl AllocGlobal + Print), text: &str) -> Result<(), Fault> {
+/// Puts each line of a file, and below one that begins with `$` what is read of the words behind it.
+pub fn put_command_lines(alloc: Global, said: &mut Text<Global>, text: &str) {
     for line in text.lines() {
-        let said = read_of_line(rt.alloc(), line)?;
-        print(rt, said.as_str())?;
-    }
-    Ok(())
-}
-
-/// A line, and below it what is read of its words, where it begins with `$`.
-fn read_of_line(alloc: Global, line: &str) -> Result<String, AllocError> {
-    match line.strip_prefix('$') {
-        Some(words) => {
-            let words = words_in(alloc, words)?;
-            let said = read_of(alloc, &words)?;
-            format!(in alloc; "{line}\n{said}")
+        said.fill("{a}\n", &[], &[line]);
+        if let Some(words) = line.strip_prefix('$') {
+            match words_in(alloc, words) {
+                Ok(words) => put_read(alloc, said, &words),
+                Err(_) => said.give_up(),
+            }
         }
-        None => format!(in alloc; "{line}\n"),
     }
 }
 
@@ -33,66 +26,77 @@ fn read_of_line(alloc: Global, line: &str) -> Result<String, AllocError> {
 pub fn words_in(alloc: Global, line: &str) -> Result<Vec<String>, AllocError> {
     let mut words = Vec::new(alloc);
     let mut is_one = false;
+    let mut is_whole = true;
     for piece in line.split('\'') {
         if is_one {
-            words.push(String::from_str(alloc, piece)?)?;
+            is_whole &= push(alloc, &mut words, piece);
         } else {
-            put_words(alloc, &mut words, piece)?;
+            for word in piece.split_whitespace() {
+                is_whole &= push(alloc, &mut words, word);
+            }
         }
         is_one = !is_one;
     }
-    Ok(words)
+    if is_whole { Ok(words) } else { Err(AllocError) }
 }
 
-/// Adds the words of a text, with blanks between them.
-fn put_words(alloc: Global, words: &mut Vec<String>, text: &str) -> Result<(), AllocError> {
-    for word in text.split_whitespace() {
-        words.push(String::from_str(alloc, word)?)?;
+/// Adds a word; says whether memory was granted.
+fn push(alloc: Global, words: &mut Vec<String>, word: &str) -> bool {
+    match String::from_str(alloc, word) {
+        Ok(word) => words.push(word).is_ok(),
+        Err(_) => false,
     }
-    Ok(())
 }
 
-/// The job that words ask for, and what they ask for beside it, or the line and the status of their fault.
-fn read_of(alloc: Global, words: &[String]) -> Result<String, AllocError> {
+/// Puts the job that words ask for, and what they ask for beside it, or the line and the status of their fault.
+fn put_read(alloc: Global, said: &mut Text<Global>, words: &[String]) {
     match job_of(alloc, words) {
-        Ok(job) => taken(alloc, words, &job),
-        Err(fault) => with_status(alloc, &fault),
+        Ok(job) => {
+            put_job(alloc, said, words, &job);
+            put_picture(alloc, said, words);
+            put_tables(alloc, said, words);
+        }
+        Err(fault) => put_status(alloc, said, &fault),
     }
 }
 
-/// A job, and what its words ask for beside it.
-fn taken(alloc: Global, words: &[String], job: &Job) -> Result<String, AllocError> {
-    let explained = word_where(wants_explanation(words), ", explained");
-    let strict = word_where(wants_strictness(words), ", strict");
-    let picture = picture_of(alloc, words)?;
-    let tables = tables_of(alloc, words)?;
-    format!(in alloc; "{job:?}{explained}{strict}\n{picture}{tables}")
+/// Puts a job, and whether its words ask for an explanation and for strictness.
+fn put_job(alloc: Global, said: &mut Text<Global>, words: &[String], job: &Job) {
+    add_debug(alloc, said, job);
+    if wants_explanation(words) {
+        said.put(", explained");
+    }
+    if wants_strictness(words) {
+        said.put(", strict");
+    }
+    said.put("\n");
 }
 
-/// A word where something holds, else none.
-fn word_where(holds: bool, word: &str) -> &str {
-    if holds { word } else { "" }
-}
-
-/// The line of the picture that words ask for beside a job, if they do.
-fn picture_of(alloc: Global, words: &[String]) -> Result<String, AllocError> {
+/// Puts the line of the picture that words ask for beside a job, if they do.
+fn put_picture(alloc: Global, said: &mut Text<Global>, words: &[String]) {
     match picture_request_of(alloc, words) {
-        Ok(Some(picture)) => format!(in alloc; "{picture:?}\n"),
-        Ok(None) => Ok(String::new(alloc)),
-        Err(fault) => with_status(alloc, &fault),
+        Ok(Some(picture)) => {
+            add_debug(alloc, said, &picture);
+            said.put("\n");
+        }
+        Ok(None) => {}
+        Err(fault) => put_status(alloc, said, &fault),
     }
 }
 
-/// The line of the tables that words ask for beside a job, if they do.
-fn tables_of(alloc: Global, words: &[String]) -> Result<String, AllocError> {
+/// Puts the line of the tables that words ask for beside a job, if they do.
+fn put_tables(alloc: Global, said: &mut Text<Global>, words: &[String]) {
     match table_request_of(alloc, words) {
         Ok(
             TableRequest {
                 delays: None,
                 frames: None,
             },
-        ) => Ok(String::new(alloc)),
-        Ok(tables) => format!(in alloc; "{tables:?}\n"),
-        Err(fault) => with_status(alloc, &fault),
+        ) => {}
+        Ok(tables) => {
+            add_debug(alloc, said, &tables);
+            said.put("\n");
+        }
+        Err(fault) => put_status(alloc, said, &fault),
     }
 }

@@ -1,15 +1,15 @@
 //! The line and the status of faults of each kind.
 
-use crate::growths::{OTHERWISE, growths_of_count, growths_of_line};
+use crate::growths::{growths_of_count, growths_of_line, put_growths};
 use bridge_capture::CaptureFault;
 use bridge_check::CheckFault;
 use bridge_cycle::ListFault;
 use bridge_inputs::RunFault;
-use bridge_jobs::{Fault, NoMemory, TextFault, fault_line, wire_line};
+use bridge_jobs::{Fault, TextFault, fault_line, wire_line};
 use bridge_schema::{Field, Place, PlanFault, Section};
 use bridge_text::Text;
 use bridge_wire::WireCount;
-use std::alloc::{AllocError, Global};
+use std::alloc::Global;
 
 /// Faults of captures, by the ports of these.
 const CAPTURES: &[(u8, CaptureFault)] = &[
@@ -144,28 +144,29 @@ const COUNT: WireCount = WireCount {
     full: 999_991,
 };
 
-/// The line of a fault and its status.
-pub fn with_status(alloc: Global, fault: &Fault) -> Result<String, AllocError> {
+/// Puts the line of a fault and its status.
+pub fn put_status(alloc: Global, said: &mut Text<Global>, fault: &Fault) {
     match fault_line(alloc, fault) {
-        Ok((line, status)) => format!(in alloc; "{line} (status {status})\n"),
-        Err(_) => Err(AllocError),
+        Ok((line, status)) => {
+            let status = u64::from(status);
+            said.fill("{a} (status {0})\n", &[status], &[line.as_str()]);
+        }
+        Err(_) => said.give_up(),
     }
 }
 
-/// The line and the status of each fault and the line of a count, and how many growths each line has, each of which is
+/// Puts the line and the status of each fault and the line of a count, and how many growths each line has, each of which is
 /// refused in turn.
-pub fn lines_of_faults(alloc: Global) -> Result<String, NoMemory> {
-    let mut said = Text::new(alloc);
+pub fn put_lines_of_faults(alloc: Global, said: &mut Text<Global>) {
     said.put("== lines and statuses\n");
-    put_runs(alloc, &mut said);
-    put_plans(alloc, &mut said);
-    put(alloc, &mut said, &Fault::Words);
-    put_named(alloc, &mut said)?;
-    put_count(alloc, &mut said);
-    said.done()
+    put_runs(alloc, said);
+    put_plans(alloc, said);
+    put(alloc, said, &Fault::Words);
+    put_named(alloc, said);
+    put_count(alloc, said);
 }
 
-/// Adds the faults of texts and of runs.
+/// Puts the faults of texts and of runs.
 fn put_runs(alloc: Global, said: &mut Text<Global>) {
     for fault in TEXTS {
         put(alloc, said, &Fault::Text(*fault));
@@ -182,7 +183,7 @@ fn put_runs(alloc: Global, said: &mut Text<Global>) {
     }
 }
 
-/// Adds the faults of plans, of commands and of checks.
+/// Puts the faults of plans, of commands and of checks.
 fn put_plans(alloc: Global, said: &mut Text<Global>) {
     for fault in PLANS {
         put(alloc, said, &Fault::Plan(*fault));
@@ -195,44 +196,41 @@ fn put_plans(alloc: Global, said: &mut Text<Global>) {
     }
 }
 
-/// Adds the faults that have a path or a line of their own.
-fn put_named(alloc: Global, said: &mut Text<Global>) -> Result<(), NoMemory> {
-    let path = String::from_str(alloc, "a/b.pcap")?;
-    put(alloc, said, &Fault::File(path));
-    let line = String::from_str(alloc, "network refused: LinkTwice link 2 a.1")?;
-    put(alloc, said, &Fault::Network(line));
-    let line = String::from_str(alloc, "network not settled a.3")?;
-    put(alloc, said, &Fault::Rounds(line));
-    Ok(())
+/// Puts the faults that have a path or a line of their own.
+fn put_named(alloc: Global, said: &mut Text<Global>) {
+    match String::from_str(alloc, "a/b.pcap") {
+        Ok(path) => put(alloc, said, &Fault::File(path)),
+        Err(_) => said.give_up(),
+    }
+    match String::from_str(alloc, "network refused: LinkTwice link 2 a.1") {
+        Ok(line) => put(alloc, said, &Fault::Network(line)),
+        Err(_) => said.give_up(),
+    }
+    match String::from_str(alloc, "network not settled a.3") {
+        Ok(line) => put(alloc, said, &Fault::Rounds(line)),
+        Err(_) => said.give_up(),
+    }
 }
 
-/// Adds the line of a count.
+/// Puts the line of a count.
 fn put_count(alloc: Global, said: &mut Text<Global>) {
     match wire_line(alloc, &COUNT) {
         Ok(line) => {
-            said.put(line.as_str().trim_end());
+            said.fill("{a}, ", &[], &[line.as_str().trim_end()]);
             put_growths(said, growths_of_count(alloc, &COUNT, line.as_str()));
         }
         Err(_) => said.give_up(),
     }
 }
 
-/// Adds the line and the status of a fault, and how many growths the line has.
+/// Puts the line and the status of a fault, and how many growths the line has.
 fn put(alloc: Global, said: &mut Text<Global>, fault: &Fault) {
     match fault_line(alloc, fault) {
         Ok((line, status)) => {
-            said.put(line.as_str());
-            said.fill(" (status {0})", &[u64::from(status)], &[]);
-            put_growths(said, growths_of_line(alloc, fault, line.as_str(), status));
+            let line = line.as_str();
+            said.fill("{a} (status {0}), ", &[u64::from(status)], &[line]);
+            put_growths(said, growths_of_line(alloc, fault, line, status));
         }
         Err(_) => said.give_up(),
-    }
-}
-
-/// Adds how many growths were refused in turn.
-fn put_growths(said: &mut Text<Global>, growths: Option<u64>) {
-    match growths {
-        Some(growths) => said.fill(", growths refused: {0}\n", &[growths], &[]),
-        None => said.put(OTHERWISE),
     }
 }

@@ -1,12 +1,10 @@
 //! Calls of which each growth is refused in turn: each has to answer want of memory then, and in full where none is.
 
 use bridge_jobs::{Fault, NoMemory, fault_line, wire_line};
+use bridge_text::Text;
 use bridge_wire::WireCount;
 use fixture_alloc::{Ending, RefusesOne};
 use std::alloc::{Allocator, Global};
-
-/// What is told where a refused growth is answered by something else than want of memory.
-pub const OTHERWISE: &str = "a refused growth is answered otherwise\n";
 
 /// How many growths a call has, each of which is refused in turn; none where one is answered otherwise.
 pub fn growths_of<F: FnMut(&RefusesOne<Global>) -> Ending>(
@@ -17,13 +15,23 @@ pub fn growths_of<F: FnMut(&RefusesOne<Global>) -> Ending>(
 {
     for n in 1..100_000u64 {
         let gate = RefusesOne::new(alloc, n);
-        match (call(&gate), gate.refused()) {
+        let ended = (call(&gate), gate.refused());
+        drop(gate);
+        match ended {
             (Ending::NoMemory, true) => {}
             (Ending::Whole, false) => return Some(n - 1),
             _ => return None,
         }
     }
     None
+}
+
+/// Puts how many growths were refused in turn, or that one was answered by something else than want of memory.
+pub fn put_growths(said: &mut Text<Global>, growths: Option<u64>) {
+    match growths {
+        Some(growths) => said.fill("growths refused: {0}\n", &[growths], &[]),
+        None => said.put("a refused growth is answered otherwise\n"),
+    }
 }
 
 /// How the line and the status of a fault are told.

@@ -1,34 +1,38 @@
 //! The octets that a text spells, and the text of these.
 
+use crate::adding::add_debug;
 use bridge_hex::{lines_of, octets_of};
-use std::alloc::{AllocError, Allocator, Global};
+use bridge_text::Text;
+use std::alloc::{Allocator, Global};
 
-/// How many octets a text spells, their sum and, where they are few, their lines.
-pub fn spelled<A: Allocator + Copy>(
+/// Puts how many octets a text spells, their sum and, where they are few, their lines.
+pub fn put_spelled<A: Allocator + Copy>(
     alloc: A,
     heap: Global,
+    said: &mut Text<Global>,
     text: &[u8],
-) -> Result<String, AllocError> {
+) {
     match octets_of(alloc, text) {
-        Ok(octets) => with_lines(alloc, heap, &octets),
-        Err(fault) => format!(in heap; "no octets: {fault:?}"),
+        Ok(octets) => put_lines(alloc, said, &octets),
+        Err(fault) => {
+            said.put("no octets: ");
+            add_debug(heap, said, &fault);
+        }
     }
 }
 
-/// How many octets there are, their sum and, where they are few, their lines.
-fn with_lines<A: Allocator + Copy>(
-    alloc: A,
-    heap: Global,
-    octets: &[u8],
-) -> Result<String, AllocError> {
-    let count = octets.len();
-    let sum = sum_of(octets);
-    if count > 1_000 {
-        return format!(in heap; "{count} octets, sum {sum}");
-    }
-    match lines_of(alloc, octets) {
-        Ok(lines) => format!(in heap; "{count} octets, sum {sum}\n{lines}"),
-        Err(_) => String::from_str(heap, "no lines"),
+/// Puts how many octets there are, their sum and, where they are few, their lines, or that there is no memory for these.
+fn put_lines<A: Allocator + Copy>(alloc: A, said: &mut Text<Global>, octets: &[u8]) {
+    let count = octets.len() as u64;
+    said.fill("{0} octets, sum {1}", &[count, sum_of(octets)], &[]);
+    if count <= 1_000 {
+        match lines_of(alloc, octets) {
+            Ok(lines) => {
+                said.put("\n");
+                said.put(lines.as_str());
+            }
+            Err(_) => said.put(", no lines"),
+        }
     }
 }
 

@@ -1,9 +1,12 @@
 //! Cases of texts of plans and of commands: whether what becomes of each is what is wanted.
+use crate::adding::add;
 use crate::bases::{Bases, bases_of};
-use crate::case::{after, parts_of};
 use crate::outcome::{Finding, found};
 use crate::reading::text_in;
+use bridge_inputs::RunFault;
 use bridge_jobs::{Fault, print};
+use bridge_text::Text;
+use std::alloc::Global;
 use std::rt::Files;
 
 /// Judges the files of cases behind the file of the base plan's pieces and that of what the plan of the commands has
@@ -26,36 +29,53 @@ fn judge_all(
 ) -> Result<bool, Fault> {
     let mut all = !files.is_empty();
     for file in files {
-        let text = text_in(rt, file.as_str())?;
-        let holds = judge(rt, bases, file.as_str(), text.as_str())?;
-        all = all && holds;
+        all &= judge_file(rt, bases, file.as_str())?;
     }
     Ok(all)
 }
 
-/// Judges the cases of a file, and prints a line for each that differs, then how many there are.
-fn judge(
-    rt: &(impl AllocGlobal + Print),
+/// Judges the cases of a file, and prints what is said of them.
+fn judge_file(
+    rt: &(impl AllocGlobal + Print + Files),
     bases: &Bases,
     file: &str,
-    text: &str,
 ) -> Result<bool, Fault> {
-    let mut line = 1usize;
-    let mut cases = 0usize;
-    let mut differ = 0usize;
-    for part in parts_of(text) {
-        match found(rt.alloc(), bases, part)? {
+    let text = text_in(rt, file)?;
+    let mut said = Text::new(rt.alloc());
+    let holds = judge(rt.alloc(), &mut said, bases, file, text.as_str());
+    print_text(rt, said)?;
+    Ok(holds)
+}
+
+/// Prints a text.
+pub fn print_text(rt: &(impl AllocGlobal + Print), said: Text<Global>) -> Result<(), Fault> {
+    match said.done() {
+        Ok(said) => print(rt, said.as_str()),
+        Err(_) => Err(Fault::Run(RunFault::NoMemory)),
+    }
+}
+
+/// Judges the cases of a file: puts a line for each that differs, then how many there are.
+fn judge(alloc: Global, said: &mut Text<Global>, bases: &Bases, file: &str, text: &str) -> bool {
+    let (mut line, mut cases, mut differ) = (1u64, 0u64, 0u64);
+    let text = text.strip_suffix('\n').unwrap_or(text);
+    for part in text.split("\n==") {
+        match found(alloc, bases, part) {
             Finding::Remark => {}
             Finding::Holds => cases = cases.saturating_add(1),
-            Finding::Differs(said) => {
+            Finding::Differs(what) => {
                 differ = differ.saturating_add(1);
-                let said = format!(in rt.alloc(); "{file}:{line}: {said}\n")?;
-                print(rt, said.as_str())?;
+                said.fill("{a}:{0}: ", &[line], &[file]);
+                add(said, what);
+                said.put("\n");
             }
         }
-        line = after(line, part);
+        line = line.saturating_add(part.split('\n').count() as u64);
     }
-    let said = format!(in rt.alloc(); "{file}: {cases} cases hold, {differ} differ\n")?;
-    print(rt, said.as_str())?;
-    Ok(cases > 0 && differ == 0)
+    said.fill(
+        "{a}: {0} cases hold, {1} differ\n",
+        &[cases, differ],
+        &[file],
+    );
+    cases > 0 && differ == 0
 }

@@ -6,6 +6,7 @@
 //!
 //! The words name the files of both, with `told` between them. `data/README.md` says how they are written.
 
+mod adding;
 mod bases;
 mod captures;
 mod case;

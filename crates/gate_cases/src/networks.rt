@@ -2,7 +2,9 @@
 ghost use Rattle.std.specs.Prelude.{◌≡◌, IfOk, string_bytes};
 ghost use Rattle.gate_cases.specs.Outcomes.{IsNetworkLine, IsTrafficLine, counts_words};
 
+use crate::adding::add;
 use bridge_netfile::{fault_line, network_of, refusal_line};
+use bridge_text::Text;
 use bridge_traffic::traffic_of;
 use std::alloc::{AllocError, Global};
 
@@ -18,28 +20,25 @@ const STREAMS: &str =
 const ROWS: &str =
     "[[traffic]]\nfilter = 10\nperiod = 1000000\nfrom = 1\nto = 2\nleast = 60\nlongest = 516\n[[traffic]]\n";
 
-/// The line of what becomes of a text of a network or of traffic, of which these lines stand at a place; none where there is
-/// no such place.
-pub fn line_at(alloc: Global, place: &str, lines: &str) -> Result<Option<String>, AllocError> {
-    if place == "network" {
-        return Ok(Some(networked(alloc, lines)?));
+/// Puts the line of what becomes of a text of a network or of traffic, of which these lines stand at a place; says whether
+/// there is such a place.
+pub fn put_line_at(alloc: Global, line: &mut Text<Global>, place: &str, lines: &str) -> bool {
+    let (form, is_traffic) = match place {
+        " network" => ("{a}", false),
+        " links" => ("{a}\n{b}", false),
+        " talker" => ("{b}{c}{a}", false),
+        " traffic" => ("{a}", true),
+        " row" => ("{d}{a}", true),
+        _ => return false,
+    };
+    let mut text = Text::new(alloc);
+    text.fill(form, &[], &[lines, TWO, STREAMS, ROWS]);
+    match text.done() {
+        Ok(text) if is_traffic => add(line, rows_in(alloc, text.as_str())),
+        Ok(text) => add(line, networked(alloc, text.as_str())),
+        Err(_) => line.give_up(),
     }
-    if place == "links" {
-        let text = format!(in alloc; "{lines}\n{TWO}")?;
-        return Ok(Some(networked(alloc, text.as_str())?));
-    }
-    if place == "talker" {
-        let text = format!(in alloc; "{TWO}{STREAMS}{lines}")?;
-        return Ok(Some(networked(alloc, text.as_str())?));
-    }
-    if place == "traffic" {
-        return Ok(Some(rows_in(alloc, lines)?));
-    }
-    if place == "row" {
-        let text = format!(in alloc; "{ROWS}{lines}")?;
-        return Ok(Some(rows_in(alloc, text.as_str())?));
-    }
-    Ok(None)
+    true
 }
 
 /// How many bridges, links and streams there are.

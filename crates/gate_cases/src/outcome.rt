@@ -3,11 +3,13 @@ ghost use Rattle.std.specs.Prelude.{◌≡◌, IfOk, string_bytes};
 ghost use Rattle.bridge_jobs.specs.Lines.{line_of};
 ghost use Rattle.gate_cases.specs.Outcomes.{IsCommandsLine, IsPlanLine};
 
+use crate::adding::add;
 use crate::bases::Bases;
-use crate::case::{Case, case_of, written_out};
-use crate::networks::line_at;
+use crate::case::{halves, written_out};
+use crate::networks::put_line_at;
 use bridge_config::{Plan, commands_of, plan_of};
 use bridge_jobs::{Fault, fault_line};
+use bridge_text::Text;
 use std::alloc::{AllocError, Allocator, Global};
 
 /// What is found of a part of a file.
@@ -18,30 +20,42 @@ pub enum Finding {
     /// The part is a case, and its text becomes what is wanted.
     Holds,
     /// Another thing becomes of it, or the part is no case: what is to be said.
-    Differs(String),
+    Differs(Result<String, AllocError>),
 }
 
 /// What is found of a part of a file.
-pub fn found(alloc: Global, bases: &Bases, part: &str) -> Result<Finding, AllocError> {
-    if part.strip_prefix(' ').unwrap_or(part).starts_with('#') {
-        return Ok(Finding::Remark);
+pub fn found(alloc: Global, bases: &Bases, part: &str) -> Finding {
+    if part.starts_with('#') || part.starts_with(" #") {
+        return Finding::Remark;
     }
-    let Some(case) = case_of(part) else {
-        return differs(alloc, "the heading is none of a case");
-    };
-    let Some(line) = outcome(alloc, bases, &case)? else {
-        return differs(alloc, "no such place, or what is repeated has no end");
-    };
-    let (got, wanted) = (words_of(line.as_str()), case.wanted);
-    if got == wanted {
-        return Ok(Finding::Holds);
+    let (heading, lines) = halves(part);
+    match heading.split_once(": ") {
+        Some((place, wanted)) => found_of(alloc, bases, place, wanted, lines),
+        None => differs(alloc, "the heading is none of a case"),
     }
-    let said = format!(in alloc; "got {got}, wanted {wanted}")?;
-    Ok(Finding::Differs(said))
 }
 
-fn differs(alloc: Global, said: &str) -> Result<Finding, AllocError> {
-    Ok(Finding::Differs(String::from_str(alloc, said)?))
+fn differs(alloc: Global, said: &str) -> Finding {
+    Finding::Differs(String::from_str(alloc, said))
+}
+
+/// What is found of a case: of lines at a place, and what is wanted of them.
+fn found_of(alloc: Global, bases: &Bases, place: &str, wanted: &str, lines: &str) -> Finding {
+    let mut line = Text::new(alloc);
+    let has_text = put_outcome(alloc, &mut line, bases, place, lines);
+    match line.done() {
+        Ok(line) if has_text => compared(alloc, words_of(line.as_str()), wanted),
+        Ok(_) => differs(alloc, "no such place, or what is repeated has no end"),
+        Err(_) => Finding::Differs(Err(AllocError)),
+    }
+}
+
+/// What is found where this is got.
+fn compared(alloc: Global, got: &str, wanted: &str) -> Finding {
+    if got == wanted {
+        return Finding::Holds;
+    }
+    Finding::Differs(format!(in alloc; "got {got}, wanted {wanted}"))
 }
 
 /// What the line of a fault says, behind what is refused.
@@ -52,24 +66,54 @@ fn words_of(line: &str) -> &str {
     }
 }
 
-/// The line of what becomes of the text of a case; none where it has no text.
-fn outcome(alloc: Global, bases: &Bases, case: &Case<'_>) -> Result<Option<String>, AllocError> {
-    let Some(lines) = written_out(alloc, case.lines)? else {
-        return Ok(None);
-    };
-    if case.place == "commands" {
-        return Ok(Some(commanded(alloc, lines.as_str(), &bases.plan)?));
+/// Puts the line of what becomes of lines at a place; says whether they have a text, and there is such a place.
+fn put_outcome(
+    alloc: Global,
+    line: &mut Text<Global>,
+    bases: &Bases,
+    place: &str,
+    lines: &str,
+) -> bool {
+    match written_out(alloc, line, lines) {
+        Some(lines) => put_becoming(alloc, line, bases, place, lines.as_str()),
+        None => false,
     }
-    if case.place == "alone" {
-        return Ok(Some(planned(alloc, alloc, lines.as_str())?));
+}
+
+/// Puts the line of what becomes of a text at a place; says whether there is such a place.
+fn put_becoming(
+    alloc: Global,
+    line: &mut Text<Global>,
+    bases: &Bases,
+    place: &str,
+    lines: &str,
+) -> bool {
+    if place == " commands" {
+        add(line, commanded(alloc, lines, &bases.plan));
+        true
+    } else if place == " alone" {
+        add(line, planned(alloc, alloc, lines));
+        true
+    } else {
+        put_line_at(alloc, line, place, lines) || put_changed(alloc, line, bases, place, lines)
     }
-    if let Some(line) = line_at(alloc, case.place, lines.as_str())? {
-        return Ok(Some(line));
+}
+
+/// Puts the line of what becomes of the base plan with lines at a place; says whether there is such a place.
+fn put_changed(
+    alloc: Global,
+    line: &mut Text<Global>,
+    bases: &Bases,
+    place: &str,
+    lines: &str,
+) -> bool {
+    let mut text = Text::new(alloc);
+    let is_there = bases.put_with(&mut text, place, lines);
+    match text.done() {
+        Ok(text) => add(line, planned(alloc, alloc, text.as_str())),
+        Err(_) => line.give_up(),
     }
-    match bases.with(alloc, case.place, lines.as_str())? {
-        Some(text) => Ok(Some(planned(alloc, alloc, text.as_str())?)),
-        None => Ok(None),
-    }
+    is_there
 }
 
 /// What becomes of a text of a plan: `accepted`, or the line of its fault.

@@ -1,84 +1,90 @@
 //! What a plan shows of its parts, and what becomes of what stands behind it: frames, octets and commands.
 
+use crate::adding::{add, add_debug};
 use crate::captures::parted;
-use bridge_config::{Plan, PortPlan, commands_of, plan_of};
+use bridge_config::{Plan, commands_of, plan_of};
 use bridge_gate::{GatePlan, Schedule};
 use bridge_hex::octets_of;
-use std::alloc::{AllocError, Global};
+use bridge_text::Text;
+use std::alloc::Global;
+use std::fmt::Debug;
 
-/// What is shown of the plan before a line `--`, and of what stands behind that: commands to its bridge, or a line for each
-/// frame (`PORT VLAN ADDRESS`) and for octets that are to be a plan or commands (`octets`).
-pub fn told_of_parts(alloc: Global, text: &str) -> Result<String, AllocError> {
+/// Puts what is shown of the plan before a line `--`, and of what stands behind that: commands to its bridge, or a line for
+/// each frame (`PORT VLAN ADDRESS`) and for octets that are to be a plan or commands (`octets`).
+pub fn put_of_parts(alloc: Global, said: &mut Text<Global>, text: &str) {
     let (text, behind) = parted(text, "\n--\n");
     match plan_of(alloc, alloc, text.as_bytes()) {
         Ok(plan) => {
-            let said = shown(alloc, &plan, behind);
+            put_shown(alloc, said, &plan, behind);
             drop(plan);
-            said
         }
-        Err(fault) => format!(in alloc; "{fault:?}\n"),
+        Err(fault) => put_shape(alloc, said, &fault),
     }
 }
 
-/// What is shown of a plan, and of what stands behind it.
-fn shown(alloc: Global, plan: &Plan<Global>, behind: &str) -> Result<String, AllocError> {
+/// Puts a value as its `Debug` writes it, on a line.
+fn put_shape<T: Debug>(alloc: Global, said: &mut Text<Global>, value: &T) {
+    add_debug(alloc, said, value);
+    said.put("\n");
+}
+
+/// Puts what is shown of a plan, and of what stands behind it.
+fn put_shown(alloc: Global, said: &mut Text<Global>, plan: &Plan<Global>, behind: &str) {
     if behind.starts_with("[[command]]") {
-        return ordered(alloc, plan, behind.as_bytes());
+        put_ordered(alloc, said, plan, behind.as_bytes());
+    } else if behind.is_empty() {
+        put_parts(alloc, said, plan);
+    } else {
+        for line in behind.lines() {
+            put_line(alloc, said, plan, line);
+        }
     }
-    let mut said = String::new(alloc);
-    if behind.is_empty() {
-        put_parts(&mut said, plan)?;
-    }
-    for line in behind.lines() {
-        put_line(alloc, &mut said, plan, line)?;
-    }
-    Ok(said)
 }
 
-/// The commands that a text gives to the bridge of a plan, or why it gives none.
-fn ordered(alloc: Global, plan: &Plan<Global>, text: &[u8]) -> Result<String, AllocError> {
+/// Puts the commands that a text gives to the bridge of a plan, or why it gives none.
+fn put_ordered(alloc: Global, said: &mut Text<Global>, plan: &Plan<Global>, text: &[u8]) {
     match commands_of(alloc, alloc, text, plan) {
-        Ok(commands) => format!(in alloc; "{:?}\n", commands.as_slice()),
-        Err(fault) => format!(in alloc; "{fault:?}\n"),
+        Ok(commands) => put_shape(alloc, said, &commands.as_slice()),
+        Err(fault) => put_shape(alloc, said, &fault),
     }
 }
 
-/// Adds the parts of a plan.
-fn put_parts(said: &mut String, plan: &Plan<Global>) -> Result<(), AllocError> {
-    put_ports(said, plan)?;
-    write!(
-        said,
-        "{:?}\n{:?}\n{:?}\n",
-        plan.vlans(),
-        plan.statics(),
-        plan.streams()
-    )?;
+/// Puts the parts of a plan.
+fn put_parts(alloc: Global, said: &mut Text<Global>, plan: &Plan<Global>) {
+    put_ports(alloc, said, plan);
+    put_shape(alloc, said, &plan.vlans());
+    put_shape(alloc, said, &plan.statics());
+    put_shape(alloc, said, &plan.streams());
     for (number, gate) in plan.gates() {
-        put_gate(said, *number, gate)?;
+        put_gate(said, *number, gate);
     }
-    write!(said, "{:?}\n{:?}\n", plan.meters(), plan.filters())
+    put_shape(alloc, said, &plan.meters());
+    put_shape(alloc, said, &plan.filters());
 }
 
-/// Adds the ports of a plan, and which of the first numbers are those of a port.
-fn put_ports(said: &mut String, plan: &Plan<Global>) -> Result<(), AllocError> {
+/// Puts the ports of a plan, and which of the first numbers are those of a port.
+fn put_ports(alloc: Global, said: &mut Text<Global>, plan: &Plan<Global>) {
     for port in plan.ports() {
-        put_port(said, port)?;
+        let numbers = (port.number, port.speed, port.vid, port.priority);
+        put_shape(
+            alloc,
+            said,
+            &(numbers, port.classes, port.rooms, port.list.is_some()),
+        );
     }
     let (zero, first) = (plan.port(0).is_some(), plan.port(1).is_some());
     let (third, fourth) = (plan.port(3).is_some(), plan.port(4).is_some());
-    write!(said, "{:?}\n", (zero, first, third, fourth))
+    put_shape(alloc, said, &(zero, first, third, fourth));
 }
 
-/// Adds a port of a plan.
-fn put_port(said: &mut String, port: &PortPlan<Global>) -> Result<(), AllocError> {
-    let numbers = (port.number, port.speed, port.vid, port.priority);
-    let parts = (numbers, port.classes, port.rooms, port.list.is_some());
-    write!(said, "{parts:?}\n")
+/// Whether something holds, as a word.
+fn word_of(holds: bool) -> &'static str {
+    if holds { "true" } else { "false" }
 }
 
-/// Adds a gate of a plan.
-fn put_gate(said: &mut String, number: u32, gate: &GatePlan<Global>) -> Result<(), AllocError> {
-    let (on_rx, on_octets) = (gate.shut_on_rx, gate.shut_on_octets);
+/// Puts a gate of a plan.
+fn put_gate(said: &mut Text<Global>, number: u32, gate: &GatePlan<Global>) {
+    let (on_rx, on_octets) = (word_of(gate.shut_on_rx), word_of(gate.shut_on_octets));
     let schedule = match gate.schedule {
         Schedule::Cyclic(_) => "by a list",
         Schedule::Fixed {
@@ -88,16 +94,15 @@ fn put_gate(said: &mut String, number: u32, gate: &GatePlan<Global>) -> Result<(
         Schedule::Fixed { .. } => "in another state",
         Schedule::Joined(_) => "by two lists",
     };
-    write!(said, "gate {number}: {on_rx} {on_octets} {schedule}\n")
+    said.fill(
+        "gate {0}: {a} {b} {c}\n",
+        &[u64::from(number)],
+        &[on_rx, on_octets, schedule],
+    );
 }
 
-/// Adds a line that stands behind a plan, and what becomes of it.
-fn put_line(
-    alloc: Global,
-    said: &mut String,
-    plan: &Plan<Global>,
-    line: &str,
-) -> Result<(), AllocError> {
+/// Puts a line that stands behind a plan, and what becomes of it.
+fn put_line(alloc: Global, said: &mut Text<Global>, plan: &Plan<Global>, line: &str) {
     let (first, rest) = parted(line, " ");
     let (second, third) = parted(rest, " ");
     if first == "octets" {
@@ -106,8 +111,9 @@ fn put_line(
     let port = first.parse::<u8>().unwrap_or(1).clamp(1, 16);
     let vid = second.parse::<u16>().unwrap_or(0);
     let ports = plan.forward(port, vid, &address_in(alloc, third));
-    let (bits, has_second) = (ports.bits(), ports.has(2));
-    write!(said, "{line}: {bits:b}, port 2: {has_second}\n")
+    said.fill("{a}: ", &[], &[line]);
+    add(said, format!(in alloc; "{:b}", ports.bits()));
+    said.fill(", port 2: {a}\n", &[], &[word_of(ports.has(2))]);
 }
 
 /// The six octets of a hexadecimal word; zeros where there are not as many.
@@ -121,17 +127,15 @@ fn address_in(alloc: Global, word: &str) -> [u8; 6] {
     }
 }
 
-/// Adds why octets of a hexadecimal word are no plan, and no commands to the bridge of a plan.
-fn put_octets(
-    alloc: Global,
-    said: &mut String,
-    plan: &Plan<Global>,
-    word: &str,
-) -> Result<(), AllocError> {
-    let Ok(octets) = octets_of(alloc, word.as_bytes()) else {
-        return said.push_str("no octets\n");
-    };
-    let fault = plan_of(alloc, alloc, &octets).err();
-    let of_commands = commands_of(alloc, alloc, &octets, plan).err();
-    write!(said, "{word}: {fault:?}, {of_commands:?}\n")
+/// Puts why octets of a hexadecimal word are no plan, and no commands to the bridge of a plan.
+fn put_octets(alloc: Global, said: &mut Text<Global>, plan: &Plan<Global>, word: &str) {
+    match octets_of(alloc, word.as_bytes()) {
+        Ok(octets) => {
+            said.fill("{a}: ", &[], &[word]);
+            add_debug(alloc, said, &plan_of(alloc, alloc, &octets).err());
+            said.put(", ");
+            put_shape(alloc, said, &commands_of(alloc, alloc, &octets, plan).err());
+        }
+        Err(_) => said.put("no octets\n"),
+    }
 }

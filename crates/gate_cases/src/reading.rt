@@ -5,15 +5,15 @@ use std::rt::Files;
 
 /// The text of a file.
 pub fn text_in(rt: &(impl AllocGlobal + Files), path: &str) -> Result<String, Fault> {
-    let path = String::from_str(rt.alloc(), path)?;
-    let Ok(reader) = fs::open(rt, path.as_str()) else {
-        return Err(Fault::File(path));
-    };
-    let Ok(octets) = read_at_most(rt.alloc(), reader, u64::MAX) else {
-        return Err(Fault::File(path));
-    };
-    match String::from_utf8(octets) {
-        Ok(text) => Ok(text),
-        Err(_) => Err(Fault::File(path)),
+    match read(rt, path) {
+        Some(text) => Ok(text),
+        None => Err(Fault::File(String::from_str(rt.alloc(), path)?)),
     }
+}
+
+/// The text of a file, if it can be read and is one.
+fn read(rt: &(impl AllocGlobal + Files), path: &str) -> Option<String> {
+    let reader = fs::open(rt, path).ok()?;
+    let octets = read_at_most(rt.alloc(), reader, u64::MAX).ok()?;
+    String::from_utf8(octets).ok()
 }

@@ -1,13 +1,13 @@
 //! Captures that are read from sources of each kind, and sent through a queue.
 
+use crate::adding::add_debug;
 use crate::captures::{Row, front, number_in};
-use crate::sinks::{left_of, sink_of};
-use crate::told_cases::plain;
+use crate::sinks::{put_left, sink_of};
 use bridge_capture::{ByteSource, Capture, CaptureFault, FromRead, ReadAhead, SliceSource};
 use bridge_frame::Speed;
 use bridge_text::Text;
 use bridge_wire::wire;
-use std::alloc::{AllocError, Allocator, Global};
+use std::alloc::{Allocator, Global};
 use std::io::{self, Cursor, ErrorKind, Read};
 
 /// The octets of a row as a source: cut or failing behind a number of them, or an octet a call.
@@ -39,55 +39,58 @@ impl Read for ErrsOnce {
     }
 }
 
-/// What is read of a row's octets.
-pub fn reading<A: Allocator + Copy>(
+/// Puts what is read of a row's octets.
+pub fn put_reading<A: Allocator + Copy>(
     alloc: A,
     heap: Global,
+    said: &mut Text<Global>,
     row: &Row<'_>,
-) -> Result<String, AllocError> {
+) {
     if row.words.contains("erring") {
-        through(alloc, heap, row.words, ErrsOnce { has_erred: false })
+        put_through(alloc, heap, said, row.words, ErrsOnce { has_erred: false });
     } else if row.words.contains("reader") {
-        through(alloc, heap, row.words, Cursor::new(row.octets))
+        put_through(alloc, heap, said, row.words, Cursor::new(row.octets));
     } else {
-        read_of(alloc, heap, &mut source_of(row))
+        put_read(alloc, heap, said, &mut source_of(row));
     }
 }
 
-/// What is read of a reader, or through a buffer before it.
-fn through<R: Read + Drop, A: Allocator + Copy>(
+/// Puts what is read of a reader, or through a buffer before it.
+fn put_through<R: Read + Drop, A: Allocator + Copy>(
     alloc: A,
     heap: Global,
+    said: &mut Text<Global>,
     words: &str,
     reader: R,
-) -> Result<String, AllocError> {
-    if !words.contains("buffer") {
-        return read_of(alloc, heap, &mut FromRead::new(reader));
-    }
-    match ReadAhead::new(alloc, reader) {
-        Ok(mut source) => {
-            let said = read_of(alloc, heap, &mut source);
-            drop(source);
-            said
+) {
+    if words.contains("buffer") {
+        match ReadAhead::new(alloc, reader) {
+            Ok(mut source) => {
+                put_read(alloc, heap, said, &mut source);
+                drop(source);
+            }
+            Err(_) => said.put("no buffer"),
         }
-        Err(_) => String::from_str(heap, "no buffer"),
+    } else {
+        put_read(alloc, heap, said, &mut FromRead::new(reader));
     }
 }
 
-/// What is read of a source: its first two packets, how many there are, what comes behind them, and how the source is then.
-fn read_of<R: ByteSource, A: Allocator + Copy>(
+/// Puts what is read of a source: its first two packets, how many there are, what comes behind them, and how the source is then.
+fn put_read<R: ByteSource, A: Allocator + Copy>(
     alloc: A,
     heap: Global,
+    said: &mut Text<Global>,
     source: &mut R,
-) -> Result<String, AllocError> {
-    let mut said = Text::new(heap);
+) {
     let (count, ended) = match Capture::begin(source) {
-        Ok(mut capture) => ending_of(alloc, &mut said, &mut capture, source),
+        Ok(mut capture) => ending_of(alloc, said, &mut capture, source),
         Err(fault) => (0, Err(fault)),
     };
-    let state = state_of(source);
-    let said = plain(said.done())?;
-    format!(in heap; "{said}{count} packets, {ended:?}, {state}")
+    said.fill("{0} packets, ", &[count], &[]);
+    add_debug(heap, said, &ended);
+    said.put(", ");
+    said.put(state_of(source));
 }
 
 /// How many packets a capture has, the first two of which are put, and what it gives behind them again and again: a fault, or
@@ -170,13 +173,14 @@ fn state_of<R: ByteSource>(source: &mut R) -> &'static str {
     "failed"
 }
 
-/// What leaves of a row's octets through a queue of so many places before a link of 1,000 Mb/s.
-pub fn sending<A: Allocator + Copy>(
+/// Puts what leaves of a row's octets through a queue of so many places before a link of 1,000 Mb/s.
+pub fn put_sending<A: Allocator + Copy>(
     alloc: A,
     heap: Global,
+    said: &mut Text<Global>,
     row: &Row<'_>,
-) -> Result<String, AllocError> {
-    let places = number_in(row.words, "places ").unwrap_or(4).clamp(1, 4_096);
+) {
+    let places = number_in(row.words, "places ", 4).clamp(1, 4_096);
     let mut sink = sink_of(alloc, row);
     let mut source = source_of(row);
     let ended = wire(
@@ -186,6 +190,6 @@ pub fn sending<A: Allocator + Copy>(
         &mut source,
         &mut sink,
     );
-    let (left, what) = left_of(sink.octets(), row);
-    format!(in heap; "{ended:?}, {left} {what}")
+    add_debug(heap, said, &ended);
+    put_left(said, sink.octets(), row);
 }

@@ -1,11 +1,15 @@
 //! What is told beside the line of each kind of fault, and of plans that are accepted.
-use crate::command_lines::tell_command_lines;
-use crate::fault_lines::lines_of_faults;
+use crate::adding::add;
+use crate::command_lines::put_command_lines;
+use crate::fault_lines::put_lines_of_faults;
+use crate::judging::print_text;
 use crate::reading::text_in;
-use crate::told_cases::{heading_of, plain, told};
-use crate::told_faults::{told_of_causes, told_of_faults};
+use crate::told_cases::put_cases;
+use crate::told_faults::{put_causes, put_faults};
 use bridge_cli::manual_of;
-use bridge_jobs::{Fault, print};
+use bridge_jobs::Fault;
+use bridge_text::Text;
+use std::alloc::Global;
 use std::rt::Files;
 
 /// Prints the help of the program and of each of its commands, and what is read of each line of a file of command
@@ -15,31 +19,29 @@ pub fn tell_all(rt: &(impl AllocGlobal + Print + Files), words: &[String]) -> Re
     let [lines, plan, files @ ..] = words else {
         return Err(Fault::Words);
     };
-    let manual = manual_of(rt.alloc())?;
-    print(rt, manual.as_str())?;
-    let lines = text_in(rt, lines.as_str())?;
-    tell_command_lines(rt, lines.as_str())?;
-    let plan = text_in(rt, plan.as_str())?;
-    for file in files {
-        let text = text_in(rt, file.as_str())?;
-        tell(rt, plan.as_str(), text.as_str())?;
-    }
-    let said = told_of_faults(rt.alloc())?;
-    print(rt, said.as_str())?;
-    let said = told_of_causes(rt.alloc())?;
-    print(rt, said.as_str())?;
-    let said = plain(lines_of_faults(rt.alloc()))?;
-    print(rt, said.as_str())
+    let mut said = Text::new(rt.alloc());
+    add(&mut said, manual_of(rt.alloc()));
+    put_told(rt, &mut said, lines.as_str(), plan.as_str(), files)?;
+    put_faults(rt.alloc(), &mut said);
+    put_causes(rt.alloc(), &mut said);
+    put_lines_of_faults(rt.alloc(), &mut said);
+    print_text(rt, said)
 }
 
-/// Tells of each case of a file.
-fn tell(rt: &(impl AllocGlobal + Print), plan: &str, text: &str) -> Result<(), Fault> {
-    for part in text.split("\n== ").skip(1) {
-        let said = told(rt.alloc(), plan, part)?;
-        print(rt, "== ")?;
-        print(rt, heading_of(part))?;
-        print(rt, "\n")?;
-        print(rt, said.as_str())?;
+/// Puts what is read of the lines of a file of command lines, and what is told of the cases of files.
+fn put_told(
+    rt: &(impl AllocGlobal + Files),
+    said: &mut Text<Global>,
+    lines: &str,
+    plan: &str,
+    files: &[String],
+) -> Result<(), Fault> {
+    let lines = text_in(rt, lines)?;
+    put_command_lines(rt.alloc(), said, lines.as_str());
+    let plan = text_in(rt, plan)?;
+    for file in files {
+        let text = text_in(rt, file.as_str())?;
+        put_cases(rt.alloc(), said, plan.as_str(), text.as_str());
     }
     Ok(())
 }

@@ -1,31 +1,37 @@
 //! Cases of jobs over files: what the program says, and how many growths that has, each of which is refused in turn.
 
 use crate::case::written_out;
-use crate::fault_lines::with_status;
-use crate::growths::{OTHERWISE, growths_of};
+use crate::fault_lines::put_status;
+use crate::growths::{growths_of, put_growths};
 use bridge_check::Accepted;
 use bridge_config::Command;
-use bridge_jobs::{Fault, check_job, commanded, plan_from, wire_text};
+use bridge_jobs::{Fault, NoMemory, check_job, commanded, plan_from, wire_text};
+use bridge_text::Text;
 use fixture_alloc::Ending;
-use std::alloc::{AllocError, Allocator, Global};
+use std::alloc::{Allocator, Global};
 
 /// What is said where a growth was refused.
 const NO_MEMORY: &str = "no memory (status 3)\n";
 
-/// What the program says of a case by its heading, and how many growths that has.
-pub fn told_of_job(alloc: Global, heading: &str, lines: &str) -> Result<String, AllocError> {
-    let Some(text) = written_out(alloc, lines)? else {
-        return String::from_str(alloc, "no case\n");
-    };
-    let (text, whole) = (text.as_str(), said(alloc, alloc, heading, text.as_str())?);
-    let calls = growths_of(
-        alloc,
-        |gate| ending(gate, alloc, heading, text, whole.as_str()),
-    );
-    let Some(growths) = calls else {
-        return String::from_str(alloc, OTHERWISE);
-    };
-    format!(in alloc; "{whole}growths refused: {growths}\n")
+/// Puts what the program says of a case by its heading, and how many growths that has.
+pub fn put_of_job(alloc: Global, said: &mut Text<Global>, heading: &str, lines: &str) {
+    match written_out(alloc, said, lines) {
+        Some(text) => put_with_growths(alloc, said, heading, text.as_str()),
+        None => said.put("no case\n"),
+    }
+}
+
+/// Puts what a job over a text says, and how many growths that has.
+fn put_with_growths(alloc: Global, said: &mut Text<Global>, heading: &str, text: &str) {
+    match said_of(alloc, alloc, heading, text) {
+        Ok(whole) => {
+            let whole = whole.as_str();
+            said.put(whole);
+            let growths = growths_of(alloc, |gate| ending(gate, alloc, heading, text, whole));
+            put_growths(said, growths);
+        }
+        Err(_) => said.give_up(),
+    }
 }
 
 /// How a job ends that says this with ample memory.
@@ -36,23 +42,25 @@ fn ending<A: Allocator + Copy>(
     text: &str,
     whole: &str,
 ) -> Ending {
-    match said(alloc, heap, heading, text) {
+    match said_of(alloc, heap, heading, text) {
         Ok(said) => Ending::of(said.as_str() == whole, said.as_str() == NO_MEMORY),
         Err(_) => Ending::Wrong,
     }
 }
 
 /// What a job says: what it prints, or the line and the status of its fault.
-fn said<A: Allocator + Copy>(
+fn said_of<A: Allocator + Copy>(
     alloc: A,
     heap: Global,
     heading: &str,
     text: &str,
-) -> Result<String, AllocError> {
+) -> Result<String, NoMemory> {
+    let mut said = Text::new(heap);
     match done(alloc, heap, heading, text) {
-        Ok(printed) => String::from_str(heap, printed.as_str()),
-        Err(fault) => with_status(heap, &fault),
+        Ok(printed) => said.put(printed.as_str()),
+        Err(fault) => put_status(heap, &mut said, &fault),
     }
+    said.done()
 }
 
 /// What a job prints: the check of a plan (`check`), a plan with commands (`run`), or a text (any other heading).
