@@ -25,6 +25,25 @@ const MOST_CAPTURE: u64 = 65_552_065_576;
 /// The most octets of commands that are read: one more than they may have.
 const MOST_COMMANDS: u64 = 1_048_577;
 
+/// What a file holds, of which no more is read than so many octets; the file is added to those that are taken.
+fn read_taken<H: AllocGlobal + Files>(
+    rt: &H,
+    path: String,
+    most: u64,
+    taken: &mut Vec<FileId>,
+) -> Result<Vec<u8>, Fault>
+    ensures { IfErr result EndsFiles }
+{
+    let reader = match open_taken(rt, path.as_str(), taken) {
+        Ok(reader) => reader,
+        Err(fault) => return Err(fault_of_file(path, fault)),
+    };
+    match read_at_most(rt.alloc(), reader, most) {
+        Ok(text) => Ok(text),
+        Err(fault) => Err(fault_of_file(path, fault)),
+    }
+}
+
 /// The capture of a port in a folder, read.
 fn read_capture<H: AllocGlobal + Files>(
     rt: &H,
@@ -34,17 +53,9 @@ fn read_capture<H: AllocGlobal + Files>(
 ) -> Result<Vec<u8>, Fault>
     ensures { IfErr result EndsFiles }
 {
-    let alloc = rt.alloc();
-    let Ok(path) = capture_path(alloc, folder, port) else {
-        return Err(memory_fault());
-    };
-    let reader = match open_taken(rt, path.as_str(), taken) {
-        Ok(reader) => reader,
-        Err(fault) => return Err(fault_of_file(path, fault)),
-    };
-    match read_at_most(alloc, reader, MOST_CAPTURE) {
-        Ok(text) => Ok(text),
-        Err(fault) => Err(fault_of_file(path, fault)),
+    match capture_path(rt.alloc(), folder, port) {
+        Ok(path) => read_taken(rt, path, MOST_CAPTURE, taken),
+        Err(_) => Err(memory_fault()),
     }
 }
 
@@ -86,17 +97,15 @@ fn read_commands<H: AllocGlobal + Files>(
     ensures ends { IfErr result EndsReading }
 {
     let alloc = rt.alloc();
-    let path = format!(in alloc; "{folder}/commands.toml")?;
+    let Ok(path) = format!(in alloc; "{folder}/commands.toml") else {
+        return Err(memory_fault());
+    };
     if file_at(rt, path.as_str()).is_none() {
         return Ok(Vec::new(alloc));
     }
-    let reader = match open_taken(rt, path.as_str(), taken) {
-        Ok(reader) => reader,
-        Err(fault) => return Err(fault_of_file(path, fault)),
-    };
-    let text = match read_at_most(alloc, reader, MOST_COMMANDS) {
+    let text = match read_taken(rt, path, MOST_COMMANDS, taken) {
         Ok(text) => text,
-        Err(fault) => return Err(fault_of_file(path, fault)),
+        Err(fault) => return Err(fault),
     };
     match commands_of(alloc, alloc, &text, accepted.plan()) {
         Ok(commands) => Ok(commands),
