@@ -12,24 +12,30 @@ use bridge_limits::NoMemory;
 use bridge_text::Text;
 use std::alloc::{Allocator, Global};
 
-/// Why a plan isn't accepted: what is wrong with a filter, a queue that two filters reach, a window that two classes share, or a
-/// frame that is too long. The filter is 0, the other one 1, the class 2 and the port 3.
-const FAULTS: [&str; 4] = [
-    "refused: filter {0}: {a}",
-    "refused: frames of filters {0} and {1} may wait in class {2} of port {3}",
-    "refused: port {3} opens class {2}, where frames of filter {0} wait, beside another class",
-    "refused: the longest frame of filter {0} never fits in class {2} of port {3}",
-];
-
 /// What is said of a port or filter that the plan doesn't have, and how many lanes are bands.
 const MISSING: &str = " (not in the plan)";
 
 const BANDS: &str = "lanes hatched for their many windows: {0}";
 
-/// What is said of a fault: which of `FAULTS`, and the filter, the other one, the class and the port that it names, 0 where it
-/// names none.
-fn told_of(fault: CheckFault) -> (usize, u32, u32, u8, u8) {
-    let kind = usize::from(fault.number()).saturating_sub(5);
+/// Why a plan isn't accepted: what is wrong with a queue that two filters reach, a window that two classes share, a frame that
+/// is too long, or a filter. The filter is 0, the other one 1, the class 2 and the port 3.
+fn template_of(fault: CheckFault) -> &'static str {
+    match fault {
+        CheckFault::QueueShared { .. } => {
+            "refused: frames of filters {0} and {1} may wait in class {2} of port {3}"
+        }
+        CheckFault::WindowShared { .. } => {
+            "refused: port {3} opens class {2}, where frames of filter {0} wait, beside another class"
+        }
+        CheckFault::MaxSduNeverFits { .. } => {
+            "refused: the longest frame of filter {0} never fits in class {2} of port {3}"
+        }
+        _ => "refused: filter {0}: {a}",
+    }
+}
+
+/// The filter, the other one, the class and the port that a fault names, 0 where it names none.
+fn named_by(fault: CheckFault) -> (u32, u32, u8, u8) {
     let other = match fault {
         CheckFault::QueueShared { other, .. } => other,
         _ => 0,
@@ -48,8 +54,8 @@ fn told_of(fault: CheckFault) -> (usize, u32, u32, u8, u8) {
         | CheckFault::NoMaxSdu { filter }
         | CheckFault::GateShared { filter }
         | CheckFault::MeterShared { filter }
-        | CheckFault::NoCatchAll { filter } => (kind, filter, other, class, port),
-        CheckFault::NoMemory => (0, 0, 0, 0, 0),
+        | CheckFault::NoCatchAll { filter } => (filter, other, class, port),
+        CheckFault::NoMemory => (0, 0, 0, 0),
     }
 }
 
@@ -141,12 +147,16 @@ impl<'a, 'b, A: Allocator + Copy> Picture<'a, 'b, A> {
 
     /// Says why a plan isn't accepted, also by the words of the fault, and keeps which class of a port is at fault.
     fn put_fault(&mut self, fault: CheckFault, words: &str) {
-        let (kind, filter, other, class, port) = told_of(fault);
-        self.fault = (port, class, kind == 2);
+        let (filter, other, class, port) = named_by(fault);
+        self.fault = (
+            port,
+            class,
+            matches!(fault, CheckFault::WindowShared { .. }),
+        );
         let (filter, other) = (u64::from(filter), u64::from(other));
         let numbers = [filter, other, u64::from(class), u64::from(port)];
         self.begin_line("b c1", 190);
-        self.add(FAULTS[kind % 4], &numbers, words);
+        self.add(template_of(fault), &numbers, words);
         self.end();
     }
 
