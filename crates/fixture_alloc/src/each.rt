@@ -4,7 +4,7 @@ use std::alloc::Allocator;
 use std::test::Fail;
 
 /// How a call ended.
-#[derive(Clone, Copy)]
+#[derive(Clone, Copy, Debug)]
 pub enum Ending {
     /// It gave all that it gives with ample memory.
     Whole,

@@ -1,6 +1,32 @@
-use Rattle.std.proofs.Common.{◌<◌, length, arith}
+use Rattle.std.proofs.Common.{◌≡◌, ◌<◌, ◌∙◌, arith, get_or, length, refl, subst, sym, true}
+use Rattle.std.proofs.lemmas.Option.{same_Some, slice_get-get_or}
 use Rattle.bridge_inputs.proofs.Looks.{lasts_set, sure_next}
+use Rattle.bridge_core.proofs.Places.{set_here}
 use Rattle.bridge_core.proofs.taking.look_at.Goals as goal
+
+pub returns-clause-looked : goal.returns-clause-looked
+returns-clause-looked g c =
+    let within : c.args.place < length c.args.sources.now = (let place = c.requires.place in let size = c.requires.size in omega arith) in
+    record {
+      was = get_or c.args.lanes.now c.args.place c.index-lanes-place.result;
+      source = get_or c.args.sources.now c.args.place c.index-sources-place.result;
+      lane = c.look.new.self;
+      rest = c.look.new.source;
+      there = slice_get-get_or c.args.lanes.now c.args.place _ c.requires.place;
+      lent = slice_get-get_or c.args.sources.now c.args.place _ within;
+      lanes = refl;
+      sources = refl;
+      number = c.look.ensures.number;
+      looks = c.look.ensures.looks;
+      is_lane = c.look.ensures.lane;
+      onward = c.look.ensures.onward;
+      fewer = c.look.ensures.fewer;
+    }
+
+pub returns-clause-read : goal.returns-clause-read
+returns-clause-read g c = λ is source there.
+    let within : c.args.place < length c.args.sources.now = (let place = c.requires.place in let size = c.requires.size in omega arith) in
+    subst (λ s. g.R.ByteSource.has_failed s ≡ true) (same_Some c.look.new.source source (sym (set_here c.args.sources.now c.args.place c.look.new.source within) ∙ there)) (c.look.ensures.read is)
 
 pub returns-clause-sure : goal.returns-clause-sure
 returns-clause-sure g c = λ sure is.

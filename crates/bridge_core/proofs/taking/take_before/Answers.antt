@@ -40,3 +40,57 @@ returns-in-Err-clause-sound g c = λ sure port e i w k m. c.in-Err.ensures.sound
 
 pub returns-clause-later : goal.returns-clause-later
 returns-clause-later g c = c.in_default.ensures.later refl
+
+pub take-requires-clause-place : goal.take-requires-clause-place
+take-requires-clause-place g c = c.in-Some.ensures.place
+
+pub take-requires-clause-first : goal.take-requires-clause-first
+take-requires-clause-first g c = c.in-Some.ensures.first
+
+pub take-requires-clause-may : goal.take-requires-clause-may
+take-requires-clause-may g c = c.loop-place.invariant.may
+
+pub take-requires-clause-lines : goal.take-requires-clause-lines
+take-requires-clause-lines g c = c.loop-place.invariant.lines
+
+pub take-requires-clause-sources : goal.take-requires-clause-sources
+take-requires-clause-sources g c = c.loop-place.invariant.sources
+
+pub take-requires-clause-sinks : goal.take-requires-clause-sinks
+take-requires-clause-sinks g c = c.loop-place.invariant.sinks
+
+pub take-requires-clause-waits : goal.take-requires-clause-waits
+take-requires-clause-waits g c = c.loop-place.invariant.waits
+
+pub loop-place-smaller : goal.loop-place-smaller
+loop-place-smaller g c = c.in_default-take.ensures.fewer
+
+pub returns-in-Err-clause-same : goal.returns-in-Err-clause-same
+returns-in-Err-clause-same g c = let (plan, numbers, written) = c.take.ensures.same in (plan ∙ c.loop-place.invariant.plan, numbers ∙ c.loop-place.invariant.numbers, written ∙ c.loop-place.invariant.written)
+
+pub returns-in-Err-clause-lasts : goal.returns-in-Err-clause-lasts
+returns-in-Err-clause-lasts g c = λ sure. c.take.ensures.lasts (c.loop-place.invariant.lasts sure)
+
+pub returns-in-Err-clause-holds : goal.returns-in-Err-clause-holds
+returns-in-Err-clause-holds g c = λ sure. c.take.ensures.holds (c.loop-place.invariant.holds sure)
+
+pub returns-clause-goes : goal.returns-clause-goes
+returns-clause-goes g c = c.loop-place.invariant.goes
+
+pub returns-clause-may : goal.returns-clause-may
+returns-clause-may g c = c.loop-place.invariant.may
+
+pub returns-clause-waits : goal.returns-clause-waits
+returns-clause-waits g c = c.loop-place.invariant.waits
+
+pub returns-clause-early : goal.returns-clause-early
+returns-clause-early g c = c.loop-place.invariant.early
+
+pub returns-clause-same : goal.returns-clause-same
+returns-clause-same g c = (c.loop-place.invariant.plan, c.loop-place.invariant.numbers, c.loop-place.invariant.written)
+
+pub returns-clause-lasts : goal.returns-clause-lasts
+returns-clause-lasts g c = c.loop-place.invariant.lasts
+
+pub returns-clause-holds : goal.returns-clause-holds
+returns-clause-holds g c = c.loop-place.invariant.holds
