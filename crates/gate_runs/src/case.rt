@@ -2,11 +2,9 @@
 
 use crate::captures::{capture_of, header};
 use crate::drawing::{Numbers, drawn};
-use crate::reading::{first_of, named, number};
-use bridge_hex::octets_of;
+use crate::reading::{first_of, named, number, spelled};
+use crate::said::Said;
 use fixture_text::base::BASE;
-use std::alloc::{AllocError, Global};
-use std::test::Fail;
 
 /// The texts of a plan and of commands, and the captures of the ports 1, 2 and 3.
 #[derive(Drop)]
@@ -20,30 +18,25 @@ pub struct Case {
 
 impl Case {
     /// The base plan, to which nothing comes.
-    pub fn new(alloc: Global) -> Result<Case, AllocError> {
-        let plan = String::from_str(alloc, BASE)?;
-        let first = header(alloc)?;
-        let second = header(alloc)?;
-        let third = header(alloc)?;
-        Ok(Case {
-            plan,
+    pub fn new(said: &mut Said) -> Case {
+        let alloc = said.alloc;
+        Case {
+            plan: said.made(String::from_str(alloc, BASE)),
             commands: String::new(alloc),
-            first,
-            second,
-            third,
-        })
+            first: header(said),
+            second: header(said),
+            third: header(said),
+        }
     }
 
     /// The base plan in place of any other, to which nothing comes.
-    pub fn begin(&mut self, alloc: Global) -> Result<(), Fail> {
-        *self = Case::new(alloc)?;
-        Ok(())
+    pub fn begin(&mut self, said: &mut Said) {
+        *self = Case::new(said);
     }
 
     /// A command in place of any other, or none.
-    pub fn command(&mut self, alloc: Global, rest: &str) -> Result<(), Fail> {
-        self.commands = command_text(alloc, rest)?;
-        Ok(())
+    pub fn command(&mut self, said: &mut Said, rest: &str) {
+        self.commands = command_text(said, rest);
     }
 
     /// The captures of the ports 1, 2 and 3.
@@ -56,75 +49,79 @@ impl Case {
     }
 
     /// The capture of a port.
-    fn text(&mut self, port: &str) -> Result<&mut Vec<u8>, Fail> {
+    fn text(&mut self, said: &mut Said, port: &str) -> &mut Vec<u8> {
         match port {
-            "1" => Ok(&mut self.first),
-            "2" => Ok(&mut self.second),
-            "3" => Ok(&mut self.third),
-            _ => Err(Fail::from("no such port")),
+            "1" => &mut self.first,
+            "2" => &mut self.second,
+            "3" => &mut self.third,
+            _ => {
+                said.stop("no such port");
+                &mut self.third
+            }
         }
     }
 
     /// The base plan after changes by their names.
-    pub fn change(&mut self, alloc: Global, names: &str, changes: &str) -> Result<(), Fail> {
-        self.plan = String::from_str(alloc, BASE)?;
+    pub fn change(&mut self, said: &mut Said, names: &str, changes: &str) {
+        let alloc = said.alloc;
+        self.plan = said.made(String::from_str(alloc, BASE));
         for name in changes.split_whitespace() {
-            self.plan = changed(alloc, self.plan.as_str(), named(names, name)?)?;
+            let change = named(said, names, name);
+            self.plan = changed(said, self.plan.as_str(), change);
         }
-        Ok(())
     }
 
     /// The frames of a port in place of any that came to it.
-    pub fn come(&mut self, alloc: Global, names: &str, rest: &str) -> Result<(), Fail> {
+    pub fn come(&mut self, said: &mut Said, names: &str, rest: &str) {
         let (port, frames) = first_of(rest);
-        *self.text(port)? = capture_of(alloc, names, frames)?;
-        Ok(())
+        let octets = capture_of(said, names, frames);
+        *self.text(said, port) = octets;
     }
 
     /// Any octets in place of the capture of a port.
-    pub fn spell(&mut self, alloc: Global, rest: &str) -> Result<(), Fail> {
+    pub fn spell(&mut self, said: &mut Said, rest: &str) {
         let (port, octets) = first_of(rest);
-        *self.text(port)? = octets_of(alloc, octets.as_bytes())?;
-        Ok(())
+        let octets = spelled(said, octets);
+        *self.text(said, port) = octets;
     }
 
     /// The first octets of the capture of a port.
-    pub fn cut(&mut self, rest: &str) -> Result<(), Fail> {
+    pub fn cut(&mut self, said: &mut Said, rest: &str) {
         let (port, count) = first_of(rest);
-        let count = number(count)?;
-        let text = self.text(port)?;
+        let count = number(said, count);
+        let text = self.text(said, port);
         for _ in count..text.len() as u64 {
             let _ = text.pop();
         }
-        Ok(())
     }
 
     /// Any frames on the ports 2 and 3, from a moment on.
-    pub fn draw(&mut self, alloc: Global, numbers: &mut Numbers, from: &str) -> Result<(), Fail> {
-        let from = number(from)?;
-        self.second = drawn(alloc, numbers, from)?;
-        self.third = drawn(alloc, numbers, from)?;
-        Ok(())
+    pub fn draw(&mut self, said: &mut Said, numbers: &mut Numbers, from: &str) {
+        let from = number(said, from);
+        self.second = drawn(said, numbers, from);
+        self.third = drawn(said, numbers, from);
     }
 }
 
 /// A text after a change: the lines to be found, and behind a line `--` those that come in their place.
-fn changed(alloc: Global, text: &str, change: &str) -> Result<String, Fail> {
-    let Some((old, new)) = change.split_once("--\n") else {
-        return Err(Fail::from("no change"));
-    };
-    match text.split_once(old) {
-        Some((before, behind)) => Ok(format!(in alloc; "{before}{new}{behind}")?),
-        None => Err(Fail::from("a plan without the lines")),
+fn changed(said: &mut Said, text: &str, change: &str) -> String {
+    let alloc = said.alloc;
+    if let Some((old, new)) = change.split_once("--\n")
+        && let Some((before, behind)) = text.split_once(old)
+    {
+        return said.made(format!(in alloc; "{before}{new}{behind}"));
     }
+    said.stop("a change without lines, or a plan without them");
+    String::new(alloc)
 }
 
 /// The text of a command, `MOMENT FLAG NUMBER`, or of none.
-fn command_text(alloc: Global, rest: &str) -> Result<String, AllocError> {
+fn command_text(said: &mut Said, rest: &str) -> String {
+    let alloc = said.alloc;
     let (at, rest) = first_of(rest);
     let (clear, number) = first_of(rest);
     if number.is_empty() {
-        return Ok(String::new(alloc));
+        return String::new(alloc);
     }
-    format!(in alloc; "[[command]]\nat = {at}\nclear = \"{clear}\"\nnumber = {number}\n")
+    said.made(format!(in alloc; "[[command]]\nat = {at}\nclear = \"{clear}\"\nnumber = {number}\n"))
 }

@@ -2,7 +2,7 @@
 ghost use Rattle.std.specs.Prelude.{◌<◌, ◌≤◌};
 
 use crate::captures::{header, push_frame};
-use std::alloc::{AllocError, Global};
+use crate::said::Said;
 
 /// Numbers one after another, the same ones for the same seed.
 #[derive(Drop)]
@@ -76,15 +76,15 @@ fn captured(numbers: &mut Numbers, len: u64) -> usize
 }
 
 /// A capture of thirty frames, of 14 to 9,217 octets each, some of them cut, at times from one on that do not fall.
-pub fn drawn(alloc: Global, numbers: &mut Numbers, from: u64) -> Result<Vec<u8>, AllocError> {
-    let mut text = header(alloc)?;
+pub fn drawn(said: &mut Said, numbers: &mut Numbers, from: u64) -> Vec<u8> {
+    let mut text = header(said);
     let mut at = from;
     for _ in 0..30 {
         at = at.saturating_add(numbers.below(9_000));
         let len = 14 + numbers.below(9_204);
         let octets = octets(numbers);
         let captured = captured(numbers, len);
-        push_frame(&mut text, at, len, &octets[..captured])?;
+        push_frame(said, &mut text, at, len, &octets[..captured]);
     }
-    Ok(text)
+    text
 }

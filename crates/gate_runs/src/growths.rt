@@ -2,13 +2,13 @@
 
 use crate::case::Case;
 use crate::failing::{are_fronts, whole_of};
-use crate::ways::{Form, Moves, accepted_of, held, ran_into, ran_over, sinks_of, three_of};
+use crate::said::{Said, add};
+use crate::ways::{Form, Moves, accepted_of, held, ran_into, ran_through, sinks_of};
 use bridge_check::Accepted;
 use bridge_core::{Outcome, RunFault};
 use bridge_report::{ReportFault, has_section, report, section, summary, write_report};
 use fixture_alloc::{Ending, RefusesOne};
 use std::alloc::{Allocator, Global};
-use std::test::Fail;
 
 /// How a report into a writer ends.
 fn written_ending<A: Allocator + Copy>(gate: A, heap: Global, outcome: &Outcome<A>) -> Ending {
@@ -44,28 +44,27 @@ fn told_ending<A: Allocator + Copy>(
 /// without memory where they hold a front of it.
 fn run_ending<A: Allocator + Copy>(
     gate: A,
-    heap: Global,
+    said: &mut Said,
     accepted: &Accepted<A>,
     case: &Case,
     what: &str,
     whole: [&[u8]; 3],
-) -> Result<Ending, Fail> {
-    let moves = Moves::AtOnce;
+) -> Ending {
+    let (heap, moves) = (said.alloc, Moves::AtOnce);
     let mut sinks = sinks_of(heap, moves);
-    let ended = ran_into(gate, heap, accepted, case, Form::Plain, moves, &mut sinks)?;
-    match ended {
+    match ran_into(gate, said, accepted, case, Form::Plain, moves, &mut sinks) {
         Ok(outcome) => {
             let ending = told_ending(gate, heap, &outcome, what);
             drop(outcome);
             if held(&sinks) == whole {
-                Ok(ending)
+                ending
             } else {
-                Ok(Ending::Wrong)
+                Ending::Wrong
             }
         }
         Err(fault) => {
             let is_front = are_fronts(held(&sinks), whole);
-            Ok(Ending::of(false, is_front && fault == RunFault::NoMemory))
+            Ending::of(false, is_front && fault == RunFault::NoMemory)
         }
     }
 }
@@ -73,70 +72,75 @@ fn run_ending<A: Allocator + Copy>(
 /// How a run from readers to writers ends, where these may grow too.
 fn over_ending<A: Allocator + Copy>(
     gate: A,
-    heap: Global,
+    said: &mut Said,
     accepted: &Accepted<A>,
     case: &Case,
-) -> Result<Ending, Fail> {
-    let [first, second, third] = case.texts();
-    let Ok(readers) = three_of(gate, first, second, third) else {
-        return Ok(Ending::NoMemory);
-    };
-    let empty = Vec::<u8, A>::new(gate);
-    let Ok(writers) = three_of(gate, empty, Vec::new(gate), Vec::new(gate)) else {
-        return Ok(Ending::NoMemory);
-    };
-    match ran_over(gate, heap, accepted, case, readers, writers)? {
-        Ok(_) => Ok(Ending::Whole),
+) -> Ending {
+    match ran_through(gate, said, accepted, case) {
+        Ok(_) => Ending::Whole,
         Err(halted) => match halted.fault {
-            RunFault::NoMemory | RunFault::Write { .. } => Ok(Ending::NoMemory),
-            RunFault::Capture { .. } => Ok(Ending::Wrong),
+            RunFault::NoMemory | RunFault::Write { .. } => Ending::NoMemory,
+            RunFault::Capture { .. } => Ending::Wrong,
         },
+    }
+}
+
+/// How what is made under an accepted plan ends.
+fn ending_under<A: Allocator + Copy>(
+    gate: A,
+    said: &mut Said,
+    accepted: &Accepted<A>,
+    case: &Case,
+    what: &str,
+    whole: [&[u8]; 3],
+) -> Ending {
+    match what {
+        "plan" => Ending::Whole,
+        "over" => over_ending(gate, said, accepted, case),
+        _ => run_ending(gate, said, accepted, case, what, whole),
     }
 }
 
 /// How a plan and what is made under it ends.
 fn ending_in<A: Allocator + Copy>(
     gate: A,
-    heap: Global,
+    said: &mut Said,
     case: &Case,
     what: &str,
     whole: [&[u8]; 3],
-) -> Result<Ending, Fail> {
-    let Some(accepted) = accepted_of(gate, heap, case.plan.as_str()) else {
-        return Ok(Ending::NoMemory);
-    };
-    let ending = match what {
-        "plan" => Ok(Ending::Whole),
-        "over" => over_ending(gate, heap, &accepted, case),
-        _ => run_ending(gate, heap, &accepted, case, what, whole),
-    };
-    drop(accepted);
-    ending
+) -> Ending {
+    match accepted_of(gate, said.alloc, case.plan.as_str()) {
+        Some(accepted) => ending_under(gate, said, &accepted, case, what, whole),
+        None => Ending::NoMemory,
+    }
 }
 
-/// How many growths a plan and what is made under it have, each of which is refused once, and has to be answered with want of
-/// memory.
-fn refused_in_turn(heap: Global, case: &Case, what: &str, whole: [&[u8]; 3]) -> Result<u64, Fail> {
+/// Tells how many growths a plan and what is made under it have, each of which is refused once, and has to be answered with want
+/// of memory.
+fn refuse_each(said: &mut Said, case: &Case, what: &str, whole: [&[u8]; 3]) {
+    let alloc = said.alloc;
     for n in 1..100_000u64 {
-        let gate = RefusesOne::new(heap, n);
-        match (ending_in(&gate, heap, case, what, whole)?, gate.refused()) {
+        let gate = RefusesOne::new(alloc, n);
+        match (ending_in(&gate, said, case, what, whole), gate.refused()) {
             (Ending::NoMemory, true) => {}
-            (Ending::Whole, false) => return Ok(n - 1),
-            (ending, _) => return Err(Fail::new(format_args!("growth {n}: {ending:?}"))),
+            (Ending::Whole, false) => {
+                let form = "{0} growths, each refused: no memory\n";
+                return said.text.fill(form, &[n - 1], &[]);
+            }
+            (ending, _) => {
+                add(
+                    &mut said.text,
+                    format!(in alloc; "growth {n}: {ending:?}\n"),
+                );
+                return said.stop("a growth that is answered otherwise");
+            }
         }
     }
-    Err(Fail::from("some growth was always refused"))
+    said.stop("some growth was always refused")
 }
 
-/// Prints how many growths there are: `plan`, `run`, `over`, `section`, `report`, `line` or `written`.
-pub fn refuse(
-    rt: &(impl AllocGlobal + Print),
-    accepted: &Accepted<Global>,
-    case: &Case,
-    what: &str,
-) -> Result<(), Fail> {
-    let sinks = whole_of(rt.alloc(), accepted, case)?;
-    let growths = refused_in_turn(rt.alloc(), case, what, held(&sinks))?;
-    println!(rt; "{growths} growths, each refused: no memory")?;
-    Ok(())
+/// Tells how many growths there are: `plan`, `run`, `over`, `section`, `report`, `line` or `written`.
+pub fn refuse(said: &mut Said, accepted: &Accepted<Global>, case: &Case, what: &str) {
+    let sinks = whole_of(said, accepted, case);
+    refuse_each(said, case, what, held(&sinks));
 }

@@ -11,6 +11,7 @@ mod failing;
 mod growths;
 mod reading;
 mod reports;
+mod said;
 mod seeing;
 mod telling;
 mod verbs;
@@ -18,7 +19,8 @@ mod ways;
 
 use bridge_jobs::words_of;
 use case::Case;
-use reading::text_in;
+use said::Said;
+use std::fs;
 use std::rt::{Env, Files};
 use std::test::Fail;
 use verbs::step;
@@ -35,7 +37,7 @@ fn run(rt: &(impl AllocGlobal + Print + Env + Files)) -> Result<(), Fail> {
     let [names, scripts @ ..] = words.as_slice() else {
         return Err(Fail::from("no names"));
     };
-    let names = text_in(rt, names.as_str())?;
+    let names = fs::read_to_string(rt, names.as_str())?;
     play_all(rt, names.as_str(), scripts)
 }
 
@@ -46,34 +48,35 @@ fn play_all(
     scripts: &[String],
 ) -> Result<(), Fail> {
     for path in scripts {
-        play(rt, names, path.as_str())?;
+        let script = fs::read_to_string(rt, path.as_str())?;
+        play(rt, names, script.as_str())?;
     }
     Ok(())
 }
 
 /// Does a script.
-fn play(rt: &(impl AllocGlobal + Print + Files), names: &str, path: &str) -> Result<(), Fail> {
-    let script = text_in(rt, path)?;
-    play_text(rt, names, script.as_str())
+fn play(rt: &(impl AllocGlobal + Print), names: &str, script: &str) -> Result<(), Fail> {
+    let mut said = Said::new(rt.alloc());
+    let mut case = Case::new(&mut said);
+    play_lines(rt, &mut said, &mut case, names, script)
 }
 
-fn play_text(rt: &(impl AllocGlobal + Print), names: &str, script: &str) -> Result<(), Fail> {
-    let mut case = Case::new(rt.alloc())?;
-    let done = play_lines(rt, names, script, &mut case);
-    drop(case);
-    done
-}
-
-/// Prints and does what a script says, line by line.
+/// Does what a script says, line by line, and prints each with what comes of it.
 fn play_lines(
-    rt: &(impl AllocGlobal + Print),
+    rt: &impl Print,
+    said: &mut Said,
+    case: &mut Case,
     names: &str,
     script: &str,
-    case: &mut Case,
 ) -> Result<(), Fail> {
     for line in script.lines() {
-        println!(rt; "{line}")?;
-        step(rt, names, case, line)?;
+        said.text.fill("{a}\n", &[], &[line]);
+        let done = step(said, names, case, line);
+        let why = said.print(rt);
+        done?;
+        if let Some(why) = why {
+            return Err(Fail::from(why));
+        }
     }
     Ok(())
 }

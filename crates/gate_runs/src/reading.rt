@@ -1,43 +1,44 @@
-//! Files as texts, and parts of a line of a script.
+//! Parts of a line of a script.
 
-use bridge_jobs::read_at_most;
-use std::fs;
-use std::rt::Files;
-use std::test::Fail;
-
-/// The text of a file.
-pub fn text_in(rt: &(impl AllocGlobal + Files), path: &str) -> Result<String, Fail> {
-    let reader = fs::open(rt, path)?;
-    let Ok(octets) = read_at_most(rt.alloc(), reader, u64::MAX) else {
-        return Err(Fail::from("a file that can't be read"));
-    };
-    match String::from_utf8(octets) {
-        Ok(text) => Ok(text),
-        Err(_) => Err(Fail::from("a file that is no text")),
-    }
-}
+use crate::said::Said;
+use bridge_hex::octets_of;
 
 /// The first word of a text, and what is behind the space that ends it.
 pub fn first_of(text: &str) -> (&str, &str) {
     text.split_once(' ').unwrap_or((text, ""))
 }
 
-/// A number.
-pub fn number(word: &str) -> Result<u64, Fail> {
+/// A number; 0 where the word is none, which can't be done.
+pub fn number(said: &mut Said, word: &str) -> u64 {
     match word.parse::<u64>() {
-        Ok(number) => Ok(number),
-        Err(_) => Err(Fail::from("no number")),
+        Ok(number) => number,
+        Err(_) => {
+            said.stop("no number");
+            0
+        }
     }
 }
 
-/// What stands below a name in the file of names.
-pub fn named<'a>(names: &'a str, name: &str) -> Result<&'a str, Fail> {
+/// The octets that hexadecimals spell; none where they spell none, which can't be done.
+pub fn spelled(said: &mut Said, word: &str) -> Vec<u8> {
+    match octets_of(said.alloc, word.as_bytes()) {
+        Ok(octets) => octets,
+        Err(_) => {
+            said.stop("no hexadecimals");
+            Vec::new(said.alloc)
+        }
+    }
+}
+
+/// What stands below a name in the file of names; nothing where the name is not there, which can't be done.
+pub fn named<'a>(said: &mut Said, names: &'a str, name: &str) -> &'a str {
     for part in names.split("== ") {
         if let Some((first, rest)) = part.split_once(": ")
             && first == name
         {
-            return Ok(rest.split_once('\n').unwrap_or((rest, "")).1);
+            return rest.split_once('\n').unwrap_or((rest, "")).1;
         }
     }
-    Err(Fail::from("no such name"))
+    said.stop("no such name");
+    ""
 }

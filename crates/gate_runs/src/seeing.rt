@@ -2,27 +2,28 @@
 
 use crate::captures::{header, push_frame};
 use crate::case::Case;
+use crate::said::Said;
 use crate::telling::seen_of;
-use crate::ways::{
-    FORMS, Form, MOVES, Moves, commands_in, held, ran_into, ran_over, sinks_of, three_of,
-};
+use crate::ways::{FORMS, Form, MOVES, Moves, commands_in, held, ran_into, ran_through, sinks_of};
 use bridge_check::Accepted;
+use bridge_config::Command;
 use bridge_core::{Agenda, Outcome, RowAgenda, RunFault, Sent, TreeAgenda};
 use fixture_bridge::driven;
-use std::alloc::{AllocError, Global};
+use std::alloc::Global;
 use std::test::Fail;
 
 /// What is seen of a run from sources to sinks.
 fn seen_by(
-    alloc: Global,
+    said: &mut Said,
     accepted: &Accepted<Global>,
     case: &Case,
     form: Form,
     moves: Moves,
-) -> Result<String, Fail> {
+) -> String {
+    let alloc = said.alloc;
     let mut sinks = sinks_of(alloc, moves);
-    let ended = ran_into(alloc, alloc, accepted, case, form, moves, &mut sinks)?;
-    seen_of(alloc, &ended, held(&sinks))
+    let ended = ran_into(alloc, said, accepted, case, form, moves, &mut sinks);
+    seen_of(said, &ended, held(&sinks))
 }
 
 /// What three writers hold.
@@ -34,142 +35,92 @@ fn written_in(writers: &[Vec<u8>]) -> [&[u8]; 3] {
 }
 
 /// What is seen of a run from readers to writers.
-fn seen_over(alloc: Global, accepted: &Accepted<Global>, case: &Case) -> Result<String, Fail> {
-    let [first, second, third] = case.texts();
-    let readers = three_of(alloc, first, second, third)?;
-    let empty = Vec::<u8>::new(alloc);
-    let writers = three_of(alloc, empty, Vec::new(alloc), Vec::new(alloc))?;
-    match ran_over(alloc, alloc, accepted, case, readers, writers)? {
-        Ok((outcome, written)) => seen_of(alloc, &Ok(outcome), written_in(&written)),
-        Err(halted) => seen_of(alloc, &Err(halted.fault), written_in(&halted.writers)),
+fn seen_over(said: &mut Said, accepted: &Accepted<Global>, case: &Case) -> String {
+    match ran_through(said.alloc, said, accepted, case) {
+        Ok((outcome, written)) => seen_of(said, &Ok(outcome), written_in(&written)),
+        Err(halted) => seen_of(said, &Err(halted.fault), written_in(&halted.writers)),
     }
 }
 
 /// The capture of the frames that left a port.
-fn capture_left(alloc: Global, gone: &[Sent<Global>], port: u8) -> Result<Vec<u8>, AllocError> {
-    let mut text = header(alloc)?;
+fn capture_left(said: &mut Said, gone: &[Sent<Global>], port: u8) -> Vec<u8> {
+    let mut text = header(said);
     for sent in gone {
         if sent.port == port {
-            push_frame(&mut text, sent.done, sent.len as u64, &sent.octets)?;
+            push_frame(said, &mut text, sent.done, sent.len as u64, &sent.octets);
         }
     }
-    Ok(text)
+    text
 }
 
 /// What is seen of a run of which these frames left.
 fn seen_beside(
-    alloc: Global,
+    said: &mut Said,
     ended: &Result<Outcome<Global>, RunFault>,
     gone: &[Sent<Global>],
-) -> Result<String, Fail> {
-    let first = capture_left(alloc, gone, 1)?;
-    let second = capture_left(alloc, gone, 2)?;
-    let third = capture_left(alloc, gone, 3)?;
-    seen_of(alloc, ended, [&first, &second, &third])
+) -> String {
+    let first = capture_left(said, gone, 1);
+    let second = capture_left(said, gone, 2);
+    let third = capture_left(said, gone, 3);
+    seen_of(said, ended, [&first, &second, &third])
 }
 
-/// What is seen of a bridge over an agenda to which the frames and the command come one by one.
-fn seen_driven<G: Agenda + Drop>(
-    alloc: Global,
-    accepted: &Accepted<Global>,
-    case: &Case,
-) -> Result<String, Fail> {
-    let commands = commands_in(alloc, accepted, case.commands.as_str())?;
-    let (outcome, gone) = driven::<G>(alloc, accepted, commands.first().copied(), case.texts())?;
-    seen_beside(alloc, &Ok(outcome), &gone)
-}
-
-/// Prints a way in which something else is seen, unless what is seen is the same.
-fn compare(rt: &impl Print, is_same: bool, way: &str) -> Result<(), Fail> {
-    if is_same {
-        Ok(())
-    } else {
-        Ok(println!(rt; "differs: {way}")?)
+/// The first command of a case, if it has one.
+fn command_of(said: &mut Said, accepted: &Accepted<Global>, case: &Case) -> Option<Command> {
+    match commands_in(said, accepted, case) {
+        Some(commands) => commands.first().copied(),
+        None => None,
     }
 }
 
-/// Prints the call and the moves by which something else is seen, unless what is seen is the same.
-fn compare_form(rt: &impl Print, is_same: bool, form: Form, moves: Moves) -> Result<(), Fail> {
-    if is_same {
-        Ok(())
-    } else {
-        Ok(println!(rt; "differs: {form:?} {moves:?}")?)
-    }
-}
-
-/// Makes a run by each call, at once and octet by octet; prints the ways in which something else is seen.
-fn compare_forms(
-    rt: &(impl AllocGlobal + Print),
-    accepted: &Accepted<Global>,
-    case: &Case,
-    first: &str,
-) -> Result<(), Fail> {
-    for form in FORMS {
-        compare_moves(rt, accepted, case, first, *form)?;
-    }
-    Ok(())
-}
-
-fn compare_moves(
-    rt: &(impl AllocGlobal + Print),
-    accepted: &Accepted<Global>,
-    case: &Case,
-    first: &str,
-    form: Form,
-) -> Result<(), Fail> {
-    for moves in MOVES {
-        let seen = seen_by(rt.alloc(), accepted, case, form, *moves)?;
-        compare_form(rt, seen.as_str() == first, form, *moves)?;
-    }
-    Ok(())
-}
-
-/// Makes a run from readers to writers; says if something else is seen.
-fn compare_over(
-    rt: &(impl AllocGlobal + Print),
-    accepted: &Accepted<Global>,
-    case: &Case,
-    first: &str,
-) -> Result<(), Fail> {
-    let over = seen_over(rt.alloc(), accepted, case)?;
-    compare(rt, over.as_str() == first, "readers to writers")
-}
-
-/// Drives a bridge over an agenda; says if something else is seen.
+/// Drives a bridge over an agenda, to which the frames and the command come one by one; tells if something else is seen.
 fn compare_driven<G: Agenda + Drop>(
-    rt: &(impl AllocGlobal + Print),
+    said: &mut Said,
     accepted: &Accepted<Global>,
     case: &Case,
     first: &str,
     way: &str,
 ) -> Result<(), Fail> {
-    let driven = seen_driven::<G>(rt.alloc(), accepted, case)?;
-    compare(rt, driven.as_str() == first, way)
+    let command = command_of(said, accepted, case);
+    let (outcome, gone) = driven::<G>(said.alloc, accepted, command, case.texts())?;
+    let seen = seen_beside(said, &Ok(outcome), &gone);
+    said.compare(seen.as_str() == first, way, "");
+    Ok(())
 }
 
-/// Makes a run in each way but the first, and prints those in which something else is seen.
+/// Makes a run by each call, at once and octet by octet, and from readers to writers; tells the ways in which something else is
+/// seen.
+fn compare_runs(said: &mut Said, accepted: &Accepted<Global>, case: &Case, first: &str) {
+    for (form, way) in FORMS {
+        for (moves, how) in MOVES {
+            let seen = seen_by(said, accepted, case, *form, *moves);
+            said.compare(seen.as_str() == first, way, how);
+        }
+    }
+    let over = seen_over(said, accepted, case);
+    said.compare(over.as_str() == first, "readers to writers", "");
+}
+
+/// Makes a run in each way but the first, and tells those in which something else is seen.
 fn compare_all(
-    rt: &(impl AllocGlobal + Print),
+    said: &mut Said,
     accepted: &Accepted<Global>,
     case: &Case,
     first: &str,
 ) -> Result<(), Fail> {
-    compare_forms(rt, accepted, case, first)?;
-    compare_over(rt, accepted, case, first)?;
+    compare_runs(said, accepted, case, first);
     if first.starts_with("stops") {
         return Ok(());
     }
-    compare_driven::<RowAgenda>(rt, accepted, case, first, "single calls over a row")?;
-    compare_driven::<TreeAgenda>(rt, accepted, case, first, "single calls over a tree")
+    compare_driven::<RowAgenda>(said, accepted, case, first, "single calls over a row")?;
+    compare_driven::<TreeAgenda>(said, accepted, case, first, "single calls over a tree")
 }
 
-/// What is seen of a run, which is made in each way; prints the ways in which something else is.
-pub fn seen(
-    rt: &(impl AllocGlobal + Print),
-    accepted: &Accepted<Global>,
-    case: &Case,
-) -> Result<String, Fail> {
-    let first = seen_by(rt.alloc(), accepted, case, Form::Plain, Moves::AtOnce)?;
-    compare_all(rt, accepted, case, first.as_str())?;
-    Ok(first)
+/// What is seen of a run, which is made in each way; tells the ways in which something else is.
+pub fn seen(said: &mut Said, accepted: &Accepted<Global>, case: &Case) -> Result<String, Fail> {
+    let first = seen_by(said, accepted, case, Form::Plain, Moves::AtOnce);
+    match compare_all(said, accepted, case, first.as_str()) {
+        Ok(()) => Ok(first),
+        Err(fail) => Err(fail),
+    }
 }

@@ -1,8 +1,9 @@
 //! The calls by which a run is made.
-ghost use Rattle.std.specs.Prelude.{◌≡◌, IfOk, length};
+ghost use Rattle.std.specs.Prelude.{◌≡◌, IfSome, length};
 ghost use Rattle.bridge_config.specs.Commands.{AreCommands};
 
 use crate::case::Case;
+use crate::said::Said;
 use bridge_capture::{ByteSink, ByteSource, SliceSource, VecSink};
 use bridge_check::{Accepted, check};
 use bridge_config::{Command, commands_of, plan_of};
@@ -10,10 +11,9 @@ use bridge_core::{Outcome, RowAgenda, RunFault, TreeAgenda, simulate, simulate_o
 use bridge_files::{Halted, run_over};
 use std::alloc::{AllocError, Allocator, Global};
 use std::io::{Read, Write};
-use std::test::Fail;
 
 /// By which call a run is made from sources to sinks.
-#[derive(Clone, Copy, Debug)]
+#[derive(Clone, Copy)]
 pub enum Form {
     /// The run that the program makes.
     Plain,
@@ -23,11 +23,15 @@ pub enum Form {
     Tree,
 }
 
-/// Each of them.
-pub const FORMS: &[Form] = &[Form::Plain, Form::Row, Form::Tree];
+/// Each of them, with its name.
+pub const FORMS: &[(Form, &str)] = &[
+    (Form::Plain, "Plain"),
+    (Form::Row, "Row"),
+    (Form::Tree, "Tree"),
+];
 
 /// How the octets of sources and sinks move.
-#[derive(Clone, Copy, Debug)]
+#[derive(Clone, Copy)]
 pub enum Moves {
     /// As many as are asked for.
     AtOnce,
@@ -39,8 +43,8 @@ pub enum Moves {
     UntilSink { port: u64, count: usize },
 }
 
-/// Those in which nothing fails.
-pub const MOVES: &[Moves] = &[Moves::AtOnce, Moves::ByOctets];
+/// Those in which nothing fails, with what is told of them behind a call.
+pub const MOVES: &[(Moves, &str)] = &[(Moves::AtOnce, " AtOnce"), (Moves::ByOctets, " ByOctets")];
 
 /// The plan of a text, where it is accepted.
 pub fn accepted_of<A: Allocator + Copy>(alloc: A, heap: Global, text: &str) -> Option<Accepted<A>> {
@@ -50,17 +54,21 @@ pub fn accepted_of<A: Allocator + Copy>(alloc: A, heap: Global, text: &str) -> O
     check(alloc, plan).ok()
 }
 
-/// The commands of a text to a plan.
+/// The commands of a case to a plan; none at all where one is refused, which can't be done.
 pub fn commands_in<A: Allocator + Copy>(
-    heap: Global,
+    said: &mut Said,
     accepted: &Accepted<A>,
-    text: &str,
-) -> Result<Vec<Command>, Fail>
-    ensures { IfOk result (λ all. AreCommands accepted.now all.items) }
+    case: &Case,
+) -> Option<Vec<Command>>
+    ensures { IfSome result (λ all. AreCommands accepted.now all.items) }
 {
-    match commands_of(heap, heap, text.as_bytes(), accepted.plan()) {
-        Ok(commands) => Ok(commands),
-        Err(_) => Err(Fail::from("a command that is refused")),
+    let heap = said.alloc;
+    match commands_of(heap, heap, case.commands.as_bytes(), accepted.plan()) {
+        Ok(commands) => Some(commands),
+        Err(_) => {
+            said.stop("a command that is refused");
+            None
+        }
     }
 }
 
@@ -118,17 +126,20 @@ fn ran<R: ByteSource, W: ByteSink, A: Allocator + Copy>(
     }
 }
 
-/// A run of what comes to three ports into sinks, where the plan has as many.
+/// A run of what comes to three ports into sinks; one without memory where the plan has other ports, or refuses a command, which
+/// can't be done.
 pub fn ran_into<A: Allocator + Copy>(
     alloc: A,
-    heap: Global,
+    said: &mut Said,
     accepted: &Accepted<A>,
     case: &Case,
     form: Form,
     moves: Moves,
     sinks: &mut [VecSink<Global>],
-) -> Result<Result<Outcome<A>, RunFault>, Fail> {
-    let commands = commands_in(heap, accepted, case.commands.as_str())?;
+) -> Result<Outcome<A>, RunFault> {
+    let Some(commands) = commands_in(said, accepted, case) else {
+        return Err(RunFault::NoMemory);
+    };
     let [first, second, third] = case.texts();
     let mut sources = [
         source_of(first, 1, moves),
@@ -137,9 +148,32 @@ pub fn ran_into<A: Allocator + Copy>(
     ];
     let ports = accepted.plan().ports().len();
     if ports != sources.len() || ports != sinks.len() {
-        return Err(Fail::from("a plan of other ports"));
+        said.stop("a plan of other ports");
+        return Err(RunFault::NoMemory);
     }
-    Ok(ran(alloc, accepted, &commands, form, &mut sources, sinks))
+    ran(alloc, accepted, &commands, form, &mut sources, sinks)
+}
+
+/// A run from readers to writers, as the program makes it over files; one without memory where there is not one of each for each
+/// port, or the plan refuses a command, which can't be done.
+pub fn ran_over<R: Read + Drop, W: Write + Drop, A: Allocator + Copy>(
+    alloc: A,
+    said: &mut Said,
+    accepted: &Accepted<A>,
+    case: &Case,
+    readers: Vec<R, A>,
+    writers: Vec<W, A>,
+) -> Result<(Outcome<A>, Vec<W, A>), Halted<W, A>> {
+    let fault = RunFault::NoMemory;
+    let Some(commands) = commands_in(said, accepted, case) else {
+        return Err(Halted { fault, writers });
+    };
+    let ports = accepted.plan().ports().len();
+    if readers.len() != ports || writers.len() != ports {
+        said.stop("a plan of other ports");
+        return Err(Halted { fault, writers });
+    }
+    run_over(alloc, accepted, &commands, readers, writers)
 }
 
 /// Three readers or writers, by rising port.
@@ -156,19 +190,24 @@ pub fn three_of<T: Drop, A: Allocator + Copy>(
     Ok(all)
 }
 
-/// A run from readers to writers, as the program makes it over files, where there is one of each for each port.
-pub fn ran_over<R: Read + Drop, W: Write + Drop, A: Allocator + Copy>(
+/// A run from readers of what comes to three ports to writers that grow; one without memory where these can't be made.
+pub fn ran_through<A: Allocator + Copy>(
     alloc: A,
-    heap: Global,
+    said: &mut Said,
     accepted: &Accepted<A>,
     case: &Case,
-    readers: Vec<R, A>,
-    writers: Vec<W, A>,
-) -> Result<Result<(Outcome<A>, Vec<W, A>), Halted<W, A>>, Fail> {
-    let commands = commands_in(heap, accepted, case.commands.as_str())?;
-    let ports = accepted.plan().ports().len();
-    if readers.len() != ports || writers.len() != ports {
-        return Err(Fail::from("a plan of other ports"));
-    }
-    Ok(run_over(alloc, accepted, &commands, readers, writers))
+) -> Result<(Outcome<A>, Vec<Vec<u8, A>, A>), Halted<Vec<u8, A>, A>> {
+    let fault = RunFault::NoMemory;
+    let empty = Vec::<u8, A>::new(alloc);
+    let Ok(writers) = three_of(alloc, empty, Vec::new(alloc), Vec::new(alloc)) else {
+        return Err(Halted {
+            fault,
+            writers: Vec::new(alloc),
+        });
+    };
+    let [first, second, third] = case.texts();
+    let Ok(readers) = three_of(alloc, first, second, third) else {
+        return Err(Halted { fault, writers });
+    };
+    ran_over(alloc, said, accepted, case, readers, writers)
 }

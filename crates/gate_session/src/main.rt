@@ -11,133 +11,131 @@ mod sections;
 
 use bridge_jobs::words_of;
 use bridge_program::{Ending, perform};
-use files::{copy, count, first, folder, holding, link, octets, remove, same, show, text_of};
+use bridge_text::Text;
+use files::{change, count, double, first, holding, octets, octets_of, pair_of, same, show};
 use pipes::put_pipe;
 use sections::compare;
-use std::alloc::{AllocError, Global};
-use std::io::Error;
+use std::alloc::Global;
+use std::fs;
 use std::process::ExitCode;
 use std::rt::{Env, Files};
 
-/// A script isn't done whole.
-#[derive(Clone, Copy)]
-pub(crate) struct Stop;
-
-impl From<Error> for Stop {
-    fn from(_: Error) -> Stop {
-        Stop
-    }
-}
-
-impl From<AllocError> for Stop {
-    fn from(_: AllocError) -> Stop {
-        Stop
-    }
-}
-
 fn main(rt: HostRuntime) -> ExitCode {
-    match run(&rt) {
-        Ok(()) => ExitCode::from(0),
-        Err(Stop) => ExitCode::from(1),
-    }
+    ExitCode::from(if run(&rt) { 0 } else { 1 })
 }
 
-/// Does the scripts of the words.
-fn run<H: Input + AllocGlobal + Print + Eprint + Env + Files>(rt: &H) -> Result<(), Stop> {
+/// Does the scripts of the words; whether all was done.
+fn run<H: Input + AllocGlobal + Print + Eprint + Env + Files>(rt: &H) -> bool {
     let Ok(words) = words_of(rt) else {
-        return Err(Stop);
+        return false;
     };
     for path in &words {
-        play(rt, path.as_str())?;
+        if !play(rt, path.as_str()) {
+            return false;
+        }
     }
-    Ok(())
+    true
 }
 
 /// Does a script line by line; where it can't, the line is told.
-fn play<H: Input + AllocGlobal + Print + Eprint + Files>(rt: &H, path: &str) -> Result<(), Stop> {
-    let script = text_of(rt, path)?;
+fn play<H: Input + AllocGlobal + Print + Eprint + Files>(rt: &H, path: &str) -> bool {
+    let Ok(script) = fs::read_to_string(rt, path) else {
+        return false;
+    };
     for line in script.as_str().lines() {
-        if step(rt, line).is_err() {
+        if !step(rt, line) {
             let _ = eprintln!(rt; "{path}: {line}");
-            return Err(Stop);
+            return false;
         }
     }
-    Ok(())
+    true
 }
 
-/// Prints a line of a script, and does what it says.
-fn step<H: Input + AllocGlobal + Print + Eprint + Files>(rt: &H, line: &str) -> Result<(), Stop> {
-    println!(rt; "{line}")?;
-    let (word, rest) = match line.split_once(' ') {
-        Some(parts) => parts,
-        None => (line, ""),
-    };
+/// Prints a line of a script, does what it says, and prints what is told of it, unless it can't be done.
+fn step<H: Input + AllocGlobal + Print + Eprint + Files>(rt: &H, line: &str) -> bool {
+    let is_begun = println!(rt; "{line}").is_ok();
+    let mut said = Text::new(rt.alloc());
+    let (word, rest) = line.split_once(' ').unwrap_or((line, ""));
+    look(rt, &mut said, word, rest);
+    match said.done() {
+        Ok(text) => is_begun & rt.print(text.as_str()).is_ok(),
+        Err(_) => false,
+    }
+}
+
+/// Does what a line of a script says, and tells what comes of it.
+fn look<H: Input + AllocGlobal + Print + Eprint + Files>(
+    rt: &H,
+    said: &mut Text<Global>,
+    word: &str,
+    rest: &str,
+) {
     match word {
-        "" | "#" => Ok(()),
-        "$" => job(rt, rest),
-        "show" => show(rt, rest),
-        "first" => first(rt, rest),
-        "octets" => octets(rt, rest),
-        "count" => count(rt, rest),
-        "same" => same(rt, rest),
-        "holding" => holding(rt, rest),
-        "compare" => compare(rt, rest),
-        "folder" => folder(rt, rest),
-        "link" => link(rt, rest),
-        "copy" => copy(rt, rest),
-        "remove" => remove(rt, rest),
-        "pipe" => pipe(rt, rest),
-        _ => Err(Stop),
+        "" | "#" => {}
+        "$" => job(rt, said, rest),
+        "show" => show(rt, said, rest),
+        "first" => first(rt, said, rest),
+        "octets" => octets(rt, said, rest),
+        "count" => count(rt, said, rest),
+        "same" => same(rt, said, rest),
+        "holding" => holding(rt, said, rest),
+        "compare" => compare(rt, said, rest),
+        "folder" | "remove" => change(rt, said, word, rest),
+        "link" | "copy" => double(rt, said, word, rest),
+        "pipe" => pipe(rt, said, rest),
+        _ => said.give_up(),
     }
 }
 
 /// The words of a line, which single spaces part.
-fn words_in(alloc: Global, line: &str) -> Result<Vec<String>, Stop> {
+fn words_in(alloc: Global, said: &mut Text<Global>, line: &str) -> Vec<String> {
     let mut words = Vec::new(alloc);
     for word in line.split(' ') {
-        if words.push(String::from_str(alloc, word)?).is_err() {
-            return Err(Stop);
+        let is_added = match String::from_str(alloc, word) {
+            Ok(word) => words.push(word).is_ok(),
+            Err(_) => false,
+        };
+        if !is_added {
+            said.give_up();
         }
     }
-    Ok(words)
+    words
 }
 
-/// Does the job of the words of a line, and prints what is said.
-fn job<H: Input + AllocGlobal + Print + Eprint + Files>(rt: &H, line: &str) -> Result<(), Stop> {
-    let words = words_in(rt.alloc(), line)?;
+/// Does the job of the words of a line, and tells what is said.
+fn job<H: Input + AllocGlobal + Print + Eprint + Files>(
+    rt: &H,
+    said: &mut Text<Global>,
+    line: &str,
+) {
+    let words = words_in(rt.alloc(), said, line);
     match perform(rt, &words, false) {
-        Ok(ending) => tell(rt, &ending),
-        Err(_) => Err(Stop),
+        Ok(ending) => tell(said, &ending),
+        Err(_) => said.give_up(),
     }
 }
 
-/// Prints what is said of a job.
-fn tell<H: Print>(rt: &H, ending: &Ending) -> Result<(), Stop> {
-    rt.print(ending.printed.as_str())?;
+/// Tells what is said of a job.
+fn tell(said: &mut Text<Global>, ending: &Ending) {
+    said.put(ending.printed.as_str());
     for line in ending.told.as_str().lines() {
-        println!(rt; "! {line}")?;
+        said.fill("! {a}\n", &[], &[line]);
     }
-    let status = ending.status;
-    if status != 0 {
-        println!(rt; "status {status}")?;
+    if ending.status != 0 {
+        said.fill("status {0}\n", &[ending.status as u64], &[]);
     }
-    Ok(())
 }
 
 /// Does a job while a path leads to a pipe that gives what a file holds, once: `pipe FILE PATH WORDS`.
-fn pipe<H: Input + AllocGlobal + Print + Eprint + Files>(rt: &H, rest: &str) -> Result<(), Stop> {
-    let Some((file, rest)) = rest.split_once(' ') else {
-        return Err(Stop);
-    };
-    let Some((path, words)) = rest.split_once(' ') else {
-        return Err(Stop);
-    };
-    match put_pipe(rt, file, path) {
-        Ok(end) => {
-            let done = job(rt, words);
-            drop(end);
-            done
-        }
-        Err(stop) => Err(stop),
-    }
+fn pipe<H: Input + AllocGlobal + Print + Eprint + Files>(
+    rt: &H,
+    said: &mut Text<Global>,
+    rest: &str,
+) {
+    let (file, rest) = pair_of(said, rest);
+    let (path, words) = pair_of(said, rest);
+    let octets = octets_of(rt, said, file);
+    let end = put_pipe(rt, said, &octets, path);
+    job(rt, said, words);
+    drop(end);
 }

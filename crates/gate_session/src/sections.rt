@@ -2,8 +2,9 @@
 ghost use Rattle.std.specs.Prelude.{◌≡◌, ◌≢◌};
 ghost use Rattle.gate_session.specs.declared.sections.Finding.TheVariants as finding;
 
-use crate::Stop;
-use crate::files::text_of;
+use crate::files::{pair_of, text_of};
+use bridge_text::Text;
+use std::alloc::Global;
 use std::rt::Files;
 
 /// The last line of a section, with the line feeds around it.
@@ -25,34 +26,27 @@ pub enum Finding {
 /// How many sections were found to be what.
 #[derive(Clone, Copy)]
 struct Findings {
-    kept: usize,
-    broken: usize,
-    moved: usize,
+    kept: u64,
+    broken: u64,
+    moved: u64,
 }
 
-/// Compares two reports, and prints a line for each filter, then how many were found to be what: `compare NAME FILE FILE`.
-pub fn compare<H: AllocGlobal + Print + Files>(rt: &H, rest: &str) -> Result<(), Stop> {
-    let Some((name, pair)) = rest.split_once(' ') else {
-        return Err(Stop);
-    };
-    let Some((one, other)) = pair.split_once(' ') else {
-        return Err(Stop);
-    };
-    let one = text_of(rt, one)?;
-    let other = text_of(rt, other)?;
-    let Findings {
-        kept,
-        broken,
-        moved,
-    } = compare_all(rt, one.as_str(), other.as_str())?;
-    println!(rt;
-        "{name}: {kept} protected sections are the same, {broken} differ; {moved} others changed"
-    )?;
-    Ok(())
+/// Compares two reports, and tells a line for each filter, then how many were found to be what: `compare NAME FILE FILE`.
+pub fn compare<H: AllocGlobal + Files>(rt: &H, said: &mut Text<Global>, rest: &str) {
+    let (name, pair) = pair_of(said, rest);
+    let (one, other) = pair_of(said, pair);
+    let one = text_of(rt, said, one);
+    let other = text_of(rt, said, other);
+    let found = compare_all(said, one.as_str(), other.as_str());
+    said.fill(
+        "{a}: {0} protected sections are the same, {1} differ; {2} others changed\n",
+        &[found.kept, found.broken, found.moved],
+        &[name],
+    );
 }
 
-/// Prints a line for each section of two reports, and counts what was found.
-fn compare_all<H: Print>(rt: &H, one: &str, other: &str) -> Result<Findings, Stop> {
+/// Tells a line for each section of two reports, and counts what was found.
+fn compare_all(said: &mut Text<Global>, one: &str, other: &str) -> Findings {
     let mut found = Findings {
         kept: 0,
         broken: 0,
@@ -60,11 +54,11 @@ fn compare_all<H: Print>(rt: &H, one: &str, other: &str) -> Result<Findings, Sto
     };
     for (one, other) in one.split(END).zip(other.split(END)) {
         if !one.is_empty() || !other.is_empty() {
-            print_compared(rt, one, other)?;
+            put_compared(said, one, other);
             found = with_found(found, compared(one, other));
         }
     }
-    Ok(found)
+    found
 }
 
 /// The counts with one more.
@@ -101,30 +95,26 @@ fn compared(one: &str, other: &str) -> Finding
     }
 }
 
-/// Prints how many octets of two sections are the same, or the counters of both.
-fn print_compared<H: Print>(rt: &H, one: &str, other: &str) -> Result<(), Stop> {
+/// Tells how many octets of two sections are the same, or the counters of both.
+fn put_compared(said: &mut Text<Global>, one: &str, other: &str) {
     let filter = heading(one);
     if one == other {
-        let length = one.len().saturating_add(END.len());
-        println!(rt; "{filter}: the same {length} octets")?;
-        return Ok(());
+        let length = one.len().saturating_add(END.len()) as u64;
+        return said.fill("{a}: the same {0} octets\n", &[length], &[filter]);
     }
-    rt.print(filter)?;
-    rt.print(":")?;
-    print_counters(rt, one)?;
-    rt.print("; then")?;
-    print_counters(rt, other)?;
-    rt.print("\n")?;
-    Ok(())
+    said.fill("{a}:", &[], &[filter]);
+    put_counters(said, one);
+    said.put("; then");
+    put_counters(said, other);
+    said.put("\n");
 }
 
-/// Prints the counters of a section that show what else came.
-fn print_counters<H: Print>(rt: &H, section: &str) -> Result<(), Stop> {
+/// Tells the counters of a section that show what else came.
+fn put_counters(said: &mut Text<Global>, section: &str) {
     let matching = line_of(section, "matching ");
     let red = line_of(section, "red ");
     let queued = line_of(section, "queued ");
-    print!(rt; " {matching}, {red}, {queued}")?;
-    Ok(())
+    said.fill(" {a}, {b}, {c}", &[], &[matching, red, queued]);
 }
 
 /// The first line of a section.
