@@ -7,7 +7,7 @@ use std::process::Abort;
 use std::test::Fail;
 
 /// What is made of something that lies in another heap.
-#[derive(Clone, Copy)]
+#[derive(Clone, Copy, Debug)]
 enum Made {
     List,
     ListCopy,

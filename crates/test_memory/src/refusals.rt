@@ -11,7 +11,7 @@ use std::process::Abort;
 use std::test::Fail;
 
 /// What is made, of parts that are made before it.
-#[derive(Clone, Copy)]
+#[derive(Clone, Copy, Debug)]
 enum Made {
     List,
     WrongList,
