@@ -37,30 +37,63 @@ fn is_calm<G: Agenda + Drop, A: Allocator + Copy>(bridge: &Bridge<'_, G, A>, t: 
     }
 }
 
-/// Makes all starts before a moment, or all where there is none, and keeps what leaves.
+/// Makes all starts before a moment, and keeps what leaves.
 fn depart<G: Agenda + Drop>(
     bridge: &mut Bridge<'_, G, Global>,
-    until: Option<u64>,
+    until: u64,
     gone: &mut Vec<Sent<Global>>,
 ) -> Result<(), Fail>
     ensures plan { plan_in bridge.new ≡ plan_in bridge.old }
 {
     while let Some((port, start)) = bridge.due() {
-        if let Some(t) = until
-            && start >= t
-        {
+        if start >= until {
             return Ok(());
         }
-        let command = bridge.earliest_command();
+        let wanted = (port as u64, start, bridge.earliest_command().max(start + 1));
         let sent = bridge.advance();
-        same(
-            &(sent.port as u64, sent.start, bridge.earliest_command()),
-            &(port as u64, start, command.max(start + 1)),
-            "the start that was due, and a command after it",
-        )?;
-        gone.push(sent)?;
+        let told = (sent.port as u64, sent.start, bridge.earliest_command());
+        keep(gone, sent, told, wanted)?;
     }
     Ok(())
+}
+
+/// Keeps what left, if the bridge told the start that was due.
+fn keep(
+    gone: &mut Vec<Sent<Global>>,
+    sent: Sent<Global>,
+    told: (u64, u64, u64),
+    wanted: (u64, u64, u64),
+) -> Result<(), Fail> {
+    let what = "the start that was due, and a command after it";
+    match same(&told, &wanted, what) {
+        Ok(()) => kept(gone.push(sent)),
+        Err(fail) => {
+            drop(sent);
+            Err(fail)
+        }
+    }
+}
+
+/// Whether there was memory.
+fn kept<E: Drop>(pushed: Result<(), E>) -> Result<(), Fail> {
+    match pushed {
+        Ok(()) => Ok(()),
+        Err(_) => Err(Fail::from("no memory")),
+    }
+}
+
+/// Tests how many frames came to a bridge, and the moments of the next frame and of the next command.
+fn tells<G: Agenda + Drop, A: Allocator + Copy>(
+    bridge: &Bridge<'_, G, A>,
+    wanted: (u64, u64, u64),
+    what: &str,
+) -> Result<(), Fail> {
+    let told = (
+        bridge.arrived(),
+        bridge.earliest(),
+        bridge.earliest_command(),
+    );
+    same(&told, &wanted, what)
 }
 
 /// Hands a frame to a bridge on a port, behind all starts before it, and gives it back where memory runs out; else says why
@@ -78,14 +111,14 @@ pub fn hand<G: Agenda + Drop, A: Allocator + Copy>(
         return Err("a frame on a port that is not there");
     };
     let time = packet.time;
-    if time < bridge.earliest() || time >= END_OF_TIME || !is_calm(bridge, time) {
-        return Err("a frame at a wrong moment");
-    }
-    if packet.octets.len() as u64 > MOST_CAPTURED as u64
+    if time < bridge.earliest()
+        || time >= END_OF_TIME
+        || !is_calm(bridge, time)
+        || packet.octets.len() as u64 > MOST_CAPTURED as u64
         || packet.octets.len() as u64 > packet.len as u64
         || bridge.arrived() >= MOST_ARRIVALS
     {
-        return Err("a frame too long, or too many");
+        return Err("a frame at a wrong moment, or too long, or too many");
     }
     match bridge.arrive(port, packet) {
         Ok(()) => Ok(Ok(())),
@@ -126,20 +159,18 @@ pub fn come<G: Agenda + Drop, A: Allocator + Copy>(
     ensures plan { plan_in bridge.new ≡ plan_in bridge.old }
 {
     let arrived = bridge.arrived();
-    if let Err(why) = bring(alloc, accepted, bridge, port, frame) {
-        return Err(Fail::from(why));
+    match bring(alloc, accepted, bridge, port, frame) {
+        Ok(()) => tells(
+            bridge,
+            (
+                arrived.saturating_add(1),
+                frame.0,
+                frame.0.saturating_add(1),
+            ),
+            "the frames that came, and the moments of the next frame and command",
+        ),
+        Err(why) => Err(Fail::from(why)),
     }
-    let time = frame.0;
-    let told = (
-        bridge.arrived(),
-        bridge.earliest(),
-        bridge.earliest_command(),
-    );
-    same(
-        &told,
-        &(arrived.saturating_add(1), time, time.saturating_add(1)),
-        "the frames that came, and the moments of the next frame and command",
-    )
 }
 
 /// Whether a number is in a list.
@@ -184,15 +215,20 @@ pub fn obey<G: Agenda + Drop, A: Allocator + Copy>(
     let arrived = bridge.arrived();
     let due = bridge.due();
     bridge.command(command);
+    has_obeyed(bridge, arrived, due, command.at)
+}
+
+/// Tests what a bridge tells behind a command.
+fn has_obeyed<G: Agenda + Drop, A: Allocator + Copy>(
+    bridge: &Bridge<'_, G, A>,
+    arrived: u64,
+    due: Option<(u8, u64)>,
+    at: u64,
+) -> Result<(), Fail> {
     same(&bridge.due(), &due, "the start that is due after a command")?;
-    let told = (
-        bridge.arrived(),
-        bridge.earliest(),
-        bridge.earliest_command(),
-    );
-    same(
-        &told,
-        &(arrived, command.at, command.at),
+    tells(
+        bridge,
+        (arrived, at, at),
         "the frames that came before a command, and the moments of what may come behind it",
     )
 }
@@ -321,7 +357,7 @@ fn take_all<G: Agenda + Drop>(
 {
     let order = order_of(alloc, command, frames)?;
     for (moment, port, place) in &order {
-        depart(bridge, Some(*moment), gone)?;
+        depart(bridge, *moment, gone)?;
         take(alloc, accepted, bridge, command, frames, *port, *place)?;
     }
     Ok(())
@@ -368,18 +404,45 @@ fn drive<G: Agenda + Drop>(
 ) -> Result<Vec<Sent<Global>>, Fail>
     requires plan { plan_in bridge.old ≡ accepted.now }
 {
-    same(
-        &(bridge.earliest(), bridge.earliest_command()),
-        &(0, 0),
-        "the first moments of a frame and of a command",
-    )?;
     let mut gone = Vec::new(alloc);
-    take_all(alloc, accepted, bridge, command, frames, &mut gone)?;
-    depart(bridge, None, &mut gone)?;
-    has_started(accepted, bridge, 1, &gone)?;
-    has_started(accepted, bridge, 2, &gone)?;
-    has_started(accepted, bridge, 3, &gone)?;
-    Ok(gone)
+    match drive_into(alloc, accepted, bridge, command, frames, &mut gone) {
+        Ok(()) => Ok(gone),
+        Err(fail) => {
+            drop(gone);
+            Err(fail)
+        }
+    }
+}
+
+/// Drives a new bridge until nothing waits in it, and keeps what leaves.
+fn drive_into<G: Agenda + Drop>(
+    alloc: Global,
+    accepted: &Accepted<Global>,
+    bridge: &mut Bridge<'_, G, Global>,
+    command: Option<Command>,
+    frames: &Frames,
+    gone: &mut Vec<Sent<Global>>,
+) -> Result<(), Fail>
+    requires plan { plan_in bridge.old ≡ accepted.now }
+{
+    let what = "no frame, and the first moments of a frame and of a command";
+    tells(bridge, (0, 0, 0), what)?;
+    take_all(alloc, accepted, bridge, command, frames, gone)?;
+    depart(bridge, u64::MAX, gone)?;
+    have_started(accepted, bridge, gone)
+}
+
+/// Tests the starts of each port against the frames that left it.
+fn have_started<G: Agenda + Drop>(
+    accepted: &Accepted<Global>,
+    bridge: &Bridge<'_, G, Global>,
+    gone: &[Sent<Global>],
+) -> Result<(), Fail>
+    requires plan { plan_in bridge.now ≡ accepted.now }
+{
+    has_started(accepted, bridge, 1, gone)?;
+    has_started(accepted, bridge, 2, gone)?;
+    has_started(accepted, bridge, 3, gone)
 }
 
 /// Ends a bridge at which no start is due, with the frames that left.

@@ -6,8 +6,8 @@ use crate::words::{
     Fault, Said, first_word, has, number, number_after, number_at, parted, show, tell,
 };
 use bridge_cycle::{
-    CyclicList, END_OF_SEARCHES, END_OF_TURNS, Egress, Joined, LONGEST_CYCLE, Run, Timeline,
-    first_fit, longest_run,
+    CyclicList, END_OF_SEARCHES, END_OF_TURNS, Egress, Joined, LONGEST_CYCLE, ListFault, Run,
+    Timeline, first_fit, longest_run,
 };
 use bridge_limits::END_OF_TIME;
 use std::alloc::{AllocError, Allocator, Global};
@@ -23,10 +23,22 @@ fn entries_in<A: Allocator>(alloc: A, text: &str) -> Result<Vec<(u8, u64), A>, A
     let times: usize = number_after(text, "times").unwrap_or(1);
     let words = text.split(' ').count();
     let mut entries = Vec::with_capacity(alloc, words.saturating_mul(times))?;
-    for _ in 0..times {
-        push_each(&mut entries, text, ' ', entry_in)?;
+    match push_times(&mut entries, text, times) {
+        Ok(()) => Ok(entries),
+        Err(_) => Err(AllocError),
     }
-    Ok(entries)
+}
+
+/// Adds the entries of a text so often.
+fn push_times<A: Allocator>(
+    entries: &mut Vec<(u8, u64), A>,
+    text: &str,
+    times: usize,
+) -> Result<(), AllocError> {
+    for _ in 0..times {
+        push_each(entries, text, ' ', entry_in)?;
+    }
+    Ok(())
 }
 
 /// The list of a text `base NUMBER cycle NUMBER STATE:INTERVAL ..`.
@@ -36,36 +48,90 @@ fn list_in<A: Allocator + Copy>(alloc: A, text: &str) -> Result<CyclicList<u8, A
     if base >= END_OF_TIME {
         return Err(Fault::NotAllowed);
     }
-    Ok(CyclicList::new(alloc, base, cycle, entries_in(alloc, text)?)?)
+    match entries_in(alloc, text) {
+        Ok(entries) => list_of(CyclicList::new(alloc, base, cycle, entries)),
+        Err(_) => Err(Fault::NoMemory),
+    }
+}
+
+/// A list, or why there is none.
+fn list_of<A: Allocator + Copy>(
+    made: Result<CyclicList<u8, A>, ListFault>,
+) -> Result<CyclicList<u8, A>, Fault> {
+    match made {
+        Ok(list) => Ok(list),
+        Err(fault) => Err(Fault::from(fault)),
+    }
 }
 
 /// The lists of a text `LIST then LIST at NUMBER`.
-fn joined_in<A: Allocator + Copy>(
-    alloc: A,
-    before: &str,
-    after: &str,
-) -> Result<Joined<u8, A>, Fault> {
+fn joined_in<A: Allocator + Copy>(alloc: A, before: &str, after: &str) -> Result<Egress<A>, Fault> {
     let at = number_after(after, "at").unwrap_or(END_OF_TIME);
     if at >= END_OF_TIME {
         return Err(Fault::NotAllowed);
     }
-    let old = list_in(alloc, before)?;
-    let new = list_in(alloc, after)?;
-    Ok(Joined::new(old, new, at))
+    match list_in(alloc, before) {
+        Ok(old) => joined_with(old, list_in(alloc, after), at),
+        Err(fault) => Err(fault),
+    }
+}
+
+/// A list that another one follows at a moment, if there is one.
+fn joined_with<A: Allocator + Copy>(
+    old: CyclicList<u8, A>,
+    new: Result<CyclicList<u8, A>, Fault>,
+    at: u64,
+) -> Result<Egress<A>, Fault>
+    requires { at < END_OF_TIME }
+{
+    match new {
+        Ok(new) => Ok(Egress::Joined(Joined::new(old, new, at))),
+        Err(fault) => {
+            drop(old);
+            Err(fault)
+        }
+    }
 }
 
 /// The lists of a text: one, or two with `then` between them; with the word `copied` their copy.
 pub fn lists_in<A: Allocator + Copy>(alloc: A, text: &str) -> Result<Egress<A>, Fault> {
-    let lists = match text.split_once(" then ") {
-        Some((before, after)) => Egress::Joined(joined_in(alloc, before, after)?),
-        None => Egress::Cyclic(list_in(alloc, text)?),
+    let made = match text.split_once(" then ") {
+        Some((before, after)) => joined_in(alloc, before, after),
+        None => single(list_in(alloc, text)),
     };
-    if !has(text, "copied") {
-        return Ok(lists);
+    if has(text, "copied") {
+        copied(alloc, made)
+    } else {
+        made
     }
+}
+
+/// A list alone.
+fn single<A: Allocator + Copy>(made: Result<CyclicList<u8, A>, Fault>) -> Result<Egress<A>, Fault> {
+    match made {
+        Ok(list) => Ok(Egress::Cyclic(list)),
+        Err(fault) => Err(fault),
+    }
+}
+
+/// The copy of lists that were made.
+fn copied<A: Allocator + Copy>(
+    alloc: A,
+    made: Result<Egress<A>, Fault>,
+) -> Result<Egress<A>, Fault> {
+    match made {
+        Ok(lists) => copy_of(alloc, lists),
+        Err(fault) => Err(fault),
+    }
+}
+
+fn copy_of<A: Allocator + Copy>(alloc: A, lists: Egress<A>) -> Result<Egress<A>, Fault> {
     let copied = lists.copy(alloc);
     drop(lists);
-    Ok(copied?)
+    match copied {
+        Ok(copied) => Ok(copied),
+        Err(_) => Err(Fault::NoMemory),
+    }
 }
 
 /// Asks lists.

@@ -1,9 +1,13 @@
 #![tactic(auto)]
 //! The worked examples of the parts of a bridge: scripts whose lines make a part and ask it, each printed with the answer.
 //!
-//! The words are the paths of the scripts. A script consists of paragraphs. The first word of one says what is made of its
-//! lines; those that define nothing ask it. A line that is neither is printed as it is.
+//! The words are the paths of the scripts. In place of one the word `measure` has printed what calls of a port, a meter and
+//! filters cost; `few` makes a few of each, and prints nothing.
+//!
+//! A script consists of paragraphs. The first word of one says what is made of its lines; those that define nothing ask it. A
+//! line that is neither is printed as it is.
 
+mod benches;
 mod databases;
 mod frames;
 mod gates;
@@ -26,7 +30,8 @@ use lists::lists;
 use meters::meter;
 use police::police;
 use ports::port;
-use std::rt::{Env, Files};
+use std::alloc::Global;
+use std::rt::{Clock, Env, Files};
 use std::{env, fs, io};
 use streams::streams;
 use words::{Said, first_word, parted, show};
@@ -35,25 +40,61 @@ fn main(rt: HostRuntime) -> io::Result<()> {
     run(&rt)
 }
 
-/// Plays the scripts of the words.
-fn run<H: AllocGlobal + Print + Env + Files>(rt: &H) -> io::Result<()> {
-    for path in env::args(rt)?.skip(1) {
-        play(rt, path.as_str())?;
+/// Does what the words say, one after the other.
+fn run<H: AllocGlobal + Print + Clock + Env + Files>(rt: &H) -> io::Result<()> {
+    for word in env::args(rt)?.skip(1) {
+        obey(rt, word.as_str())?;
     }
     Ok(())
 }
 
+/// Plays the script of a word, or measures.
+fn obey<H: AllocGlobal + Print + Clock + Files>(rt: &H, word: &str) -> io::Result<()> {
+    match word {
+        "few" => measured(rt, false),
+        "measure" => measured(rt, true),
+        path => play(rt, path),
+    }
+}
+
+/// Measures, and prints what it took where that is asked for.
+fn measured<H: AllocGlobal + Print + Clock>(rt: &H, measures: bool) -> io::Result<()> {
+    let mut said = said_over(rt.alloc());
+    match benches::measure(rt, &mut said, measures) {
+        Ok(()) => print(rt, said, measures),
+        Err(fault) => {
+            drop(said);
+            Err(fault)
+        }
+    }
+}
+
 /// Plays a script, and prints what is told of it.
 fn play<H: AllocGlobal + Print + Files>(rt: &H, path: &str) -> io::Result<()> {
-    let alloc = rt.alloc();
     let script = fs::read_to_string(rt, path)?;
-    let mut said = Said {
+    let mut said = said_over(rt.alloc());
+    paragraphs(&mut said, script.as_str());
+    print(rt, said, true)
+}
+
+/// Nothing is told yet.
+fn said_over(alloc: Global) -> Said {
+    Said {
         alloc,
         text: Text::new(alloc),
-    };
-    paragraphs(&mut said, script.as_str());
+    }
+}
+
+/// Prints what was told, where it is wanted.
+fn print<H: Print>(rt: &H, said: Said, is_wanted: bool) -> io::Result<()> {
     match said.text.done() {
-        Ok(text) => rt.print(text.as_str()),
+        Ok(text) => {
+            if is_wanted {
+                rt.print(text.as_str())
+            } else {
+                Ok(())
+            }
+        }
         Err(_) => Err(io::Error::from(io::ErrorKind::OutOfMemory)),
     }
 }

@@ -18,9 +18,20 @@ pub fn ask_each<P: Part>(said: &mut Said, part: &mut P, lines: &str) {
 
 /// Asks a part that was made of a line, or tells why none was made.
 pub fn ask_made<P: Part + Drop>(said: &mut Said, made: Result<P, Fault>, head: &str, lines: &str) {
+    ask_told(said, made, "{a} -> made\n", head, lines)
+}
+
+/// Asks a part that was made of a line, which is told in a form, or tells why none was made.
+pub fn ask_told<P: Part + Drop>(
+    said: &mut Said,
+    made: Result<P, Fault>,
+    form: &str,
+    head: &str,
+    lines: &str,
+) {
     match made {
         Ok(mut part) => {
-            said.text.fill("{a} -> made\n", &[], &[head]);
+            said.text.fill(form, &[], &[head]);
             ask_each(said, &mut part, lines);
         }
         Err(fault) => tell(said, head, &fault),

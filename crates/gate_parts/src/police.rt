@@ -42,11 +42,17 @@ fn meter_in(line: &str) -> Option<(u32, MeterPlan)> {
 }
 
 /// The gates of lines `gate NUMBER ..`.
-type Gates<A> = Vec<(u32, GatePlan<A>), A>;
+pub type Gates<A> = Vec<(u32, GatePlan<A>), A>;
 
-fn push_gate<A: Allocator + Copy>(alloc: A, gates: &mut Gates<A>, line: &str) -> Result<(), Fault> {
+/// Adds the gate of a line under a number.
+pub fn push_gate<A: Allocator + Copy>(
+    alloc: A,
+    gates: &mut Gates<A>,
+    number: u32,
+    line: &str,
+) -> Result<(), Fault> {
     let plan = gate_plan_in(alloc, line)?;
-    match gates.push((small_at(line, 1), plan)) {
+    match gates.push((number, plan)) {
         Ok(()) => Ok(()),
         Err(_) => Err(Fault::NoMemory),
     }
@@ -59,7 +65,7 @@ fn push_gates<A: Allocator + Copy>(
 ) -> Result<(), Fault> {
     for line in lines.lines() {
         if first_word(line) == "gate" {
-            push_gate(alloc, gates, line)?;
+            push_gate(alloc, gates, small_at(line, 1), line)?;
         }
     }
     Ok(())
@@ -96,7 +102,7 @@ pub fn made_in<A: Allocator + Copy>(alloc: A, lines: &str) -> Result<Made<A>, Fa
 }
 
 /// The police of filters, gates and meters, if they go together.
-fn police_of<A: Allocator + Copy>(
+pub fn police_of<A: Allocator + Copy>(
     alloc: A,
     filters: Vec<(u32, FilterPlan), A>,
     gates: Gates<A>,
@@ -104,6 +110,7 @@ fn police_of<A: Allocator + Copy>(
 ) -> Result<Police<A>, Fault>
     ensures gates { IfOk result (λ p. KeepsNumbers gates.items p.gates) }
     ensures meters { IfOk result (λ p. KeepsNumbers meters.items p.meters) }
+    ensures fresh { IfOk result (λ p. (p.calls ≡ 0) × (p.earliest ≡ 0)) }
 {
     if go_together(&filters, &gates, &meters) {
         match Police::new(alloc, filters, gates, meters) {
@@ -119,15 +126,17 @@ fn police_of<A: Allocator + Copy>(
 pub fn police(said: &mut Said, text: &str) {
     let (head, lines) = parted(text);
     match made_in(said.alloc, lines) {
-        Ok(made) => {
-            let Made {
-                mut police,
-                has_both,
-            } = made;
-            ask_all(said, &mut police, has_both, head, lines);
-        }
+        Ok(made) => ask_made(said, made, head, lines),
         Err(fault) => tell(said, head, &fault),
     }
+}
+
+fn ask_made(said: &mut Said, mut made: Made<Global>, head: &str, lines: &str)
+    requires gate { made.has_both ≡ true → is_there 1 made.police.gates ≡ true }
+    requires meter { made.has_both ≡ true → is_there 5 made.police.meters ≡ true }
+{
+    ask_all(said, &mut made.police, made.has_both, head, lines);
+    drop(made)
 }
 
 fn ask_all(said: &mut Said, police: &mut Police<Global>, has_both: bool, head: &str, lines: &str)

@@ -1,6 +1,6 @@
 //! Stream identification: handles.
 
-use crate::parts::{Part, ask_each, collected};
+use crate::parts::{Part, ask_told, collected};
 use crate::words::{
     Fault, Said, address_in, first_word, has, has_line, number, parted, show, small_at, tell,
     word_at,
@@ -97,15 +97,13 @@ pub fn streams(said: &mut Said, text: &str) {
 
 fn table(said: &mut Said, text: &str, has_index: bool) {
     let (head, lines) = parted(text);
-    match table_in(said.alloc, lines, has_index) {
-        Ok(mut table) => {
-            let word = if has_index { "true" } else { "false" };
-            let form = "{a}, with an index: {b}\n";
-            said.text.fill(form, &[], &[head, word]);
-            ask_each(said, &mut table, lines);
-        }
-        Err(fault) => tell(said, head, &fault),
-    }
+    let form = if has_index {
+        "{a}, with an index: true\n"
+    } else {
+        "{a}, with an index: false\n"
+    };
+    let table = table_in(said.alloc, lines, has_index);
+    ask_told(said, table, form, head, lines)
 }
 
 impl Part for Ident<Global> {

@@ -165,11 +165,22 @@ fn end<G: Agenda + Drop, H: Allocator + Copy + Tells>(
             Err(Fail::from("a start that is still due"))
         }
         None => {
-            let outcome = bridge.finish();
-            assert!(rt; (heap.account().left == before.left) & (outcome.filters.len() == 2));
+            has_ended(rt, heap, before.left, bridge.finish());
             Ok(())
         }
     }
+}
+
+/// Tests what a bridge tells at its end, which took no growth.
+fn has_ended<H: Allocator + Copy + Tells>(
+    rt: &impl Abort,
+    heap: H,
+    left: u64,
+    outcome: Outcome<H>,
+) {
+    let is_so = (heap.account().left == left) & (outcome.filters.len() == 2);
+    drop(outcome);
+    assert!(rt; is_so);
 }
 
 /// Drives a bridge over an agenda.
@@ -304,9 +315,11 @@ fn is_as_before<G: Agenda + Drop, A: Allocator + Copy>(
         "the frame that came back",
     )?;
     same(&back.octets.as_slice(), &captured, "its octets")?;
-    same(&bridge.due(), &None, "the start that is due")?;
-    same(&bridge.arrived(), &0, "the frames that came")?;
-    same(&bridge.earliest(), &0, "the moment of the next frame")
+    same(
+        &(bridge.due(), bridge.arrived(), bridge.earliest()),
+        &(None, 0, 0),
+        "the start that is due, the frames that came, and the moment of the next frame",
+    )
 }
 
 /// Hands a frame to a bridge, and again where it comes back and is to; says whether it came back.
@@ -323,13 +336,34 @@ fn comes_back<G: Agenda + Drop, A: Allocator + Copy>(
         Ok(Err(back)) => back,
         Err(why) => return Err(Fail::from(why)),
     };
-    is_as_before(bridge, &back)?;
+    match is_as_before(bridge, &back) {
+        Ok(()) => comes_again(accepted, bridge, back, again),
+        Err(fail) => {
+            drop(back);
+            Err(fail)
+        }
+    }
+}
+
+/// Hands a frame that came back to a bridge again, if it is to come again.
+fn comes_again<G: Agenda + Drop, A: Allocator + Copy>(
+    accepted: &Accepted<A>,
+    bridge: &mut Bridge<'_, G, A>,
+    back: Packet<A>,
+    again: bool,
+) -> Result<bool, Fail>
+    requires plan { plan_in bridge.old ≡ accepted.now }
+{
     if !again {
+        drop(back);
         return Ok(true);
     }
     match hand(accepted, bridge, 1, back) {
         Ok(Ok(())) => Ok(true),
-        Ok(Err(_)) => Err(Fail::from("a second growth that is refused")),
+        Ok(Err(back)) => {
+            drop(back);
+            Err(Fail::from("a second growth that is refused"))
+        }
         Err(why) => Err(Fail::from(why)),
     }
 }
@@ -340,10 +374,17 @@ fn tells_of<A: Allocator + Copy>(outcome: &Outcome<A>, frames: u64) -> Result<()
         return Err(Fail::from("other filters"));
     };
     let copies = frames.saturating_mul(2);
-    same(&own.1.counters.matching, &0, "frames of filter 10")?;
-    same(&others.1.counters.matching, &frames, "frames of filter 99")?;
-    same(&(others.1.verdicts.len() as u64), &frames, "verdicts")?;
-    same(&(others.1.departures.len() as u64), &copies, "departures")?;
+    let told = (
+        own.1.counters.matching,
+        others.1.counters.matching,
+        others.1.verdicts.len() as u64,
+        others.1.departures.len() as u64,
+    );
+    same(
+        &told,
+        &(0, frames, frames, copies),
+        "frames of filter 10, frames, verdicts and departures of filter 99",
+    )?;
     let mut sums = [0u64; 3];
     for (_, count) in &outcome.ports {
         let [came, sent, other] = sums;
@@ -367,12 +408,22 @@ fn ends_with<G: Agenda + Drop, A: Allocator + Copy>(
             drop(bridge);
             Err(Fail::from("a start that is still due"))
         }
-        None => {
-            let outcome = bridge.finish();
-            same(&starts, &frames.saturating_mul(2), "starts")?;
-            tells_of(&outcome, frames)
-        }
+        None => ended_with(bridge.finish(), starts, frames),
     }
+}
+
+/// Tests how many starts a run had, and what it tells, of so many frames.
+fn ended_with<A: Allocator + Copy>(
+    outcome: Outcome<A>,
+    starts: u64,
+    frames: u64,
+) -> Result<(), Fail> {
+    let told = match same(&starts, &frames.saturating_mul(2), "starts") {
+        Ok(()) => tells_of(&outcome, frames),
+        Err(fail) => Err(fail),
+    };
+    drop(outcome);
+    told
 }
 
 /// Tests a bridge to which a frame comes that goes to two ports, and comes again where it comes back and is to; says whether
@@ -385,14 +436,29 @@ fn takes_back<G: Agenda + Drop, A: Allocator + Copy>(
     let Some(packet) = packet_to_two(heap) else {
         return Ok(false);
     };
-    let Ok(mut bridge) = Bridge::<G, A>::new(heap, accepted) else {
-        return Ok(false);
-    };
-    match comes_back(accepted, &mut bridge, packet, again) {
-        Ok(back) => {
-            ends_with(bridge, if back && !again { 0 } else { 1 })?;
-            Ok(back)
+    match Bridge::<G, A>::new(heap, accepted) {
+        Ok(bridge) => takes_back_of(accepted, bridge, packet, again),
+        Err(_) => {
+            drop(packet);
+            Ok(false)
         }
+    }
+}
+
+/// Tests a bridge to which a frame comes, and again where it comes back and is to; says whether it came back.
+fn takes_back_of<G: Agenda + Drop, A: Allocator + Copy>(
+    accepted: &Accepted<A>,
+    mut bridge: Bridge<'_, G, A>,
+    packet: Packet<A>,
+    again: bool,
+) -> Result<bool, Fail>
+    requires plan { plan_in bridge ≡ accepted.now }
+{
+    match comes_back(accepted, &mut bridge, packet, again) {
+        Ok(back) => match ends_with(bridge, if back && !again { 0 } else { 1 }) {
+            Ok(()) => Ok(back),
+            Err(fail) => Err(fail),
+        },
         Err(fail) => {
             drop(bridge);
             Err(fail)

@@ -54,8 +54,10 @@ fn making_of<T: Drop, E>(made: Result<T, E>, making: Making) -> Result<Making, E
 fn new_list<H: Allocator + Copy + Tells>(from: H, to: H) -> Result<Making, Fail> {
     let entries = Vec::from_slice(from, &HALVES)?;
     let before = from.account();
-    let _list = CyclicList::new(to, 0, 1_000_000, entries)?;
-    Ok(made_in(from, to, before))
+    let list = CyclicList::new(to, 0, 1_000_000, entries)?;
+    let making = made_in(from, to, before);
+    drop(list);
+    Ok(making)
 }
 
 fn list_copy<H: Allocator + Copy + Tells>(from: H, to: H) -> Result<Making, Fail> {
@@ -118,12 +120,13 @@ fn lies_apart(rt: &impl Abort, document: Global, made: Made) -> Result<(), Fail>
     let from = counting(document, NEVER)?;
     let to = counting(document, NEVER)?;
     let making = make(made, &from, &to, document)?;
-    assert!(rt; making.after == making.before, "{made:?}");
-    assert!(rt; making.made > 0, "{made:?}");
-    assert!(rt;
-        from.inner().used() == 0 && to.inner().used() == 0,
-        "{made:?}"
-    );
+    let is_so = (making.after == making.before)
+        & (making.made > 0)
+        & (from.inner().used() == 0)
+        & (to.inner().used() == 0);
+    drop(from);
+    drop(to);
+    assert!(rt; is_so, "{made:?}");
     Ok(())
 }
 

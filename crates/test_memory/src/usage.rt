@@ -29,15 +29,23 @@ fn use_made<H: Allocator + Copy + Tells>(
     made: Made,
 ) -> Result<(), Fail> {
     match made {
-        Made::List => Ok(use_list(rt, heap)?),
-        Made::Change => Ok(use_joined(rt, heap)?),
-        Made::Gate => Ok(use_gate(rt, heap)?),
-        Made::Identification => Ok(use_ident(rt, heap)?),
-        Made::Database => Ok(use_database(rt, heap)?),
-        Made::Police => Ok(use_police(rt, heap)?),
-        Made::Port => Ok(have_port(rt, heap)?),
+        Made::List => done(use_list(rt, heap)),
+        Made::Change => done(use_joined(rt, heap)),
+        Made::Gate => done(use_gate(rt, heap)),
+        Made::Identification => done(use_ident(rt, heap)),
+        Made::Database => done(use_database(rt, heap)),
+        Made::Police => done(use_police(rt, heap)),
+        Made::Port => done(have_port(rt, heap)),
         Made::Plan => use_plan(rt, heap, document),
         Made::Bridge => gives_all_back(rt, heap, document),
+    }
+}
+
+/// Whether a part was made and used.
+fn done<E: Drop>(used: Result<(), E>) -> Result<(), Fail> {
+    match used {
+        Ok(()) => Ok(()),
+        Err(_) => Err(Fail::from("a part that is not made")),
     }
 }
 

@@ -47,3 +47,6 @@ returns-in-Ok-clause-gates g c = c.in-Ok.ensures.gates
 
 pub returns-in-Ok-clause-meters : goal.returns-in-Ok-clause-meters
 returns-in-Ok-clause-meters g c = c.in-Ok.ensures.meters
+
+pub returns-in-Ok-clause-fresh : goal.returns-in-Ok-clause-fresh
+returns-in-Ok-clause-fresh g c = (c.in-Ok.ensures.stands.calls, c.in-Ok.ensures.stands.earliest)

@@ -1,5 +1,5 @@
 use Rattle.std.proofs.Common.{◌≤◌, ◌*◌}
-use Rattle.bench_parts.proofs.meter.judged.Given as goal
+use Rattle.gate_parts.proofs.benches.meter.judged.Given as goal
 
 -- the meter's moment is that of no later frame
 abbrev pub invariant-loop-call : goal.invariant-loop-call

@@ -1,14 +1,12 @@
 //! What a call of `colour` costs, beside an empty loop of as many calls.
-
 ghost use Rattle.std.specs.Prelude.{◌≡◌, ◌≤◌};
 
+use super::{nanos, next};
+use crate::words::Said;
 use bridge_meter::{Colour, Meter, MeterPlan};
 use std::io;
 use std::rt::Clock;
-use std::time::Instant;
-
-/// How many frames the meter judges.
-const CALLS: u64 = 10_000_000;
+use std::time::{Duration, Instant};
 
 /// The nanoseconds from one frame to the next.
 const STEP: u64 = 700;
@@ -25,28 +23,34 @@ const PLAN: MeterPlan = MeterPlan {
     mark_all_red: false,
 };
 
-/// Has a meter judge frames, a few or enough to be measured, and prints what it took where they are.
-pub(crate) fn measure(rt: &(impl Clock + Print), measures: bool) -> io::Result<()> {
-    let calls = if measures { CALLS } else { 100 };
-    let start = Instant::now(rt)?;
-    let sum = empty(calls);
-    let without = start.elapsed(rt)?;
-    let mut meter = Meter::new(PLAN);
-    let start = Instant::now(rt)?;
-    let greens = judged(&mut meter, calls);
-    let with = start.elapsed(rt)?;
-    if measures {
-        println!(rt;
-            "{calls} calls of colour: {with:?}, {greens} green; an empty loop: {without:?}, sum {sum}"
-        )?;
-    }
+/// Has a meter judge frames, and tells what it took.
+pub fn measure(clock: &impl Clock, said: &mut Said, calls: u64) -> io::Result<()>
+    requires few { calls ≤ 10_000_000 }
+{
+    let (without, sum) = time_empty(clock, calls)?;
+    let (with, greens) = time_judged(clock, calls)?;
+    let numbers = [calls, nanos(with), greens, nanos(without), sum];
+    said.text.fill(
+        "{0} calls of colour: {1} ns, {2} green; an empty loop: {3} ns, sum {4}\n",
+        &numbers,
+        &[],
+    );
     Ok(())
 }
 
-/// The next number of a sequence without a pattern that a processor would learn.
-fn next(seed: u64) -> u64 {
-    seed.wrapping_mul(6_364_136_223_846_793_005)
-        .wrapping_add(1_442_695_040_888_963_407)
+fn time_empty(clock: &impl Clock, calls: u64) -> io::Result<(Duration, u64)> {
+    let start = Instant::now(clock)?;
+    let sum = empty(calls);
+    Ok((start.elapsed(clock)?, sum))
+}
+
+fn time_judged(clock: &impl Clock, calls: u64) -> io::Result<(Duration, u64)>
+    requires few { calls ≤ 10_000_000 }
+{
+    let mut meter = Meter::new(PLAN);
+    let start = Instant::now(clock)?;
+    let greens = judged(&mut meter, calls);
+    Ok((start.elapsed(clock)?, greens))
 }
 
 /// The loop without a meter: it draws the octets of as many frames, and adds those of even length.
