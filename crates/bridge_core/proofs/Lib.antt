@@ -7,5 +7,6 @@ pub mod Giving
 pub mod Taken
 pub mod Written
 pub mod Departing
+pub mod Faults
 pub mod Commanded
 pub mod Running

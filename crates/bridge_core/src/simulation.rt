@@ -34,11 +34,21 @@ struct Lists<A: Allocator + Copy> {
 fn lists_of<A: Allocator + Copy>(alloc: A, plan: &Plan<A>) -> Result<Lists<A>, NoMemory>
     ensures { IfOk result (AreListsOf plan.now) }
 {
-    let ports = plan.port_numbers(alloc)?;
-    let order = plan.filters_in_order(alloc)?;
-    let lines = Vec::with_capacity(alloc, ports.len())?;
-    let views = Vec::with_capacity(alloc, order.len())?;
-    let counts = Vec::with_capacity(alloc, 16)?;
+    let Ok(ports) = plan.port_numbers(alloc) else {
+        return Err(NoMemory);
+    };
+    let Ok(order) = plan.filters_in_order(alloc) else {
+        return Err(NoMemory);
+    };
+    let Ok(lines) = Vec::with_capacity(alloc, ports.len()) else {
+        return Err(NoMemory);
+    };
+    let Ok(views) = Vec::with_capacity(alloc, order.len()) else {
+        return Err(NoMemory);
+    };
+    let Ok(counts) = Vec::with_capacity(alloc, 16) else {
+        return Err(NoMemory);
+    };
     Ok(Lists {
         ports,
         order,

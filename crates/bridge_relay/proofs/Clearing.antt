@@ -1,7 +1,6 @@
 -- A command clears a flag.
-use Rattle.std.proofs.Common.{◌≡◌, ℕ, ◌≤◌, ◌<◌, List, ◌∷◌, arith, refl, ap, ◌∙◌, sym, subst}
+use Rattle.std.proofs.Common.{◌≡◌, ℕ, ◌≤◌, List, ◌∷◌, arith, ◌∙◌, sym, subst}
 use Rattle.std.specs.Prelude.{IsTrue}
-use Rattle.std.specs.Map.{lookup}
 use Rattle.bridge_capture.specs.Grammar.{Captured}
 use Rattle.bridge_filter.specs.declared.Clear.{Clear}
 use Rattle.bridge_filter.specs.declared.Clear.TheVariants as clear
@@ -12,7 +11,7 @@ use Rattle.bridge_filter.specs.Verdicts as verdicts
 use Rattle.bridge_config.specs.Model.{Plan}
 use Rattle.bridge_config.specs.Commands.{has_instance}
 use Rattle.bridge_semantics.specs.Events.{Event, Cleared, calls, police_of}
-use Rattle.bridge_relay.specs.Relays.{RelayState, IsSound, IsKept, Stands}
+use Rattle.bridge_relay.specs.Relays.{RelayState, IsSound, Stands}
 
 -- what the plan has the filters have
 pub instance_there : {G A : Type 0} (held : G → ℕ → _) (b : RelayState G A) (c : Clear) (n : ℕ) → IsSound held b → IsTrue (has_instance b.plan c n) → IsTrue (filter.has_instance c n b.police)

@@ -11,7 +11,7 @@ use Rattle.bridge_forward.specs.Ports.{has}
 use Rattle.bridge_port.specs.declared.item.Item.{Item}
 use Rattle.bridge_port.specs.declared.item.Refusal.{Refusal}
 use Rattle.bridge_port.specs.declared.item.Refusal.TheVariants as refusal
-use Rattle.bridge_port.specs.Schedule.{Fate, Full, Queued, Started, Copy, is_accepted}
+use Rattle.bridge_port.specs.Schedule.{Fate, Queued, Started, Copy, is_accepted}
 use Rattle.bridge_port.specs.Standing.{StandsFor, copy_of, fate_of, refusal_of}
 use Rattle.bridge_port.specs.Seen.{all_seen}
 use Rattle.bridge_port.proofs.Keeping.{count_cons}

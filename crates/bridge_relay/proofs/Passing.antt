@@ -21,7 +21,6 @@ use Rattle.bridge_filter.specs.Own.{is_number}
 use Rattle.bridge_semantics.specs.declared.outcome.Origin.{Origin}
 use Rattle.bridge_semantics.specs.declared.outcome.PortCount.{PortCount}
 use Rattle.bridge_semantics.specs.declared.way.Way.{Way}
-use Rattle.bridge_semantics.specs.declared.way.Way.TheVariants.{Malformed, Nowhere}
 use Rattle.bridge_semantics.specs.Events.{Arrival, Event, Arrived, arrivals, way_of, call_by, calls, and_call, flow_by, flow_of, origin, origins_of, police_of, steps}
 use Rattle.bridge_semantics.specs.Offers.{Carried, offers, offer_on}
 use Rattle.bridge_port.specs.Schedule.{Copy}

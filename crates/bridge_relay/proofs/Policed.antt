@@ -1,5 +1,5 @@
 -- A frame that is policed, as an event.
-use Rattle.std.proofs.Common.{◌≡◌, ℕ, Bool, true, false, ◌+◌, ◌-◌, ◌≤◌, List, [], ◌∷◌, ◌++◌, length, arith, refl, ap, ◌∙◌, sym, subst, Option, Some, None, append-nil}
+use Rattle.std.proofs.Common.{◌≡◌, ℕ, Bool, true, false, ◌+◌, ◌≤◌, List, [], ◌∷◌, ◌++◌, length, arith, refl, ap, ◌∙◌, sym, subst, Option, Some, None, append-nil}
 use Rattle.std.specs.Prelude.{nat_eq, not, count_by, is_none, if◌then◌else◌, ◌&&◌}
 use Rattle.std.specs.Map.{lookup}
 use Rattle.std.proofs.lemmas.Bool.Decides.{nat_tests}

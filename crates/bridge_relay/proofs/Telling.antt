@@ -9,7 +9,7 @@ use Rattle.bridge_filter.specs.Verdicts as verdicts
 use Rattle.bridge_forward.specs.Ports.{has}
 use Rattle.bridge_port.specs.declared.item.Refusal.{Refusal}
 use Rattle.bridge_port.specs.declared.item.Refusal.TheVariants as refusal
-use Rattle.bridge_port.specs.Schedule.{Fate, Full, Queued, Started, Copy, Begun, here, there, is_accepted, StartsFit, IsStart, Rules}
+use Rattle.bridge_port.specs.Schedule.{Fate, Queued, Started, Copy, Begun, here, there, is_accepted, StartsFit, IsStart, Rules}
 use Rattle.bridge_port.specs.Seen.{seen, all_seen}
 use Rattle.bridge_port.proofs.Keeping.{count_cons}
 use Rattle.bridge_port.proofs.Members.{begun_to, begun_kept, begun_there}

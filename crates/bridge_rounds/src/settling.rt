@@ -88,11 +88,12 @@ fn hand<A: Allocator + Copy>(
     ensures { IfOk result (λ found. IsHanded stations.old stations.new bridge place found) }
 {
     let text = sent_over(alloc, stations, sender)?;
-    if stations[bridge].has(place, &text) {
+    let station = &mut stations[bridge];
+    if station.has(place, &text) {
         return Ok(None);
     }
-    let port = stations[bridge].port(place);
-    stations[bridge].give(place, text);
+    let port = station.port(place);
+    station.give(place, text);
     Ok(Some(port))
 }
 

@@ -1,4 +1,4 @@
-use Rattle.std.proofs.Common.{◌<◌, ◌≤◌, length, refl, arith}
+use Rattle.std.proofs.Common.{◌≤◌, length, refl, arith}
 use Rattle.std.proofs.lemmas.Option.{slice_get_within}
 use Rattle.bridge_core.specs.Lines.{numbers}
 use Rattle.bridge_core.proofs.Written.{numbers_length, number_found, none_more}

@@ -1,16 +1,17 @@
-use Rattle.std.proofs.Common.{◌≡◌, ℕ, ◌<◌, ◌≤◌, List, [], Some, None, length, nat_eq, arith, Err, inl, inr, refl, ap, sym, subst, ◌∙◌, slice_get}
+use Rattle.std.proofs.Common.{◌≡◌, ◌<◌, ◌≤◌, [], Some, length, nat_eq, arith, Err, inl, inr, refl, ap, sym, subst, ◌∙◌, slice_get}
 use Rattle.std.specs.Map.{lookup}
 use Rattle.bridge_limits.specs.Members.{Rising}
 use Rattle.bridge_inputs.specs.declared.fault.RunFault.TheVariants as run
-use Rattle.bridge_config.specs.Model.{Plan}
+use Rattle.std.specs.Prelude.{vec_capacity}
+use Rattle.bridge_config.specs.Commands.{AreCommands}
 use Rattle.bridge_semantics.specs.Merge.{events}
 use Rattle.bridge_semantics.proofs.Few.{few_leave}
-use Rattle.bridge_relay.specs.Relays.{Stands}
 use Rattle.bridge_inputs.specs.Lanes.{AreAheadOf, AreLanes, AreRests, AreTexts, FailsLook, numbers, room_of}
 use Rattle.bridge_core.specs.Lines.{AreWritten, HeadersStop, numbers as written_numbers}
 use Rattle.bridge_core.specs.Simulated.{AreListsOf, AreNumbers}
 use Rattle.bridge_core.specs.Taking.{first_of_commands, StopsAmong}
 use Rattle.bridge_core.proofs.Beginning.{one_order}
+use Rattle.bridge_core.proofs.Faults.{memory_read, memory_written, ok_err}
 use Rattle.bridge_core.proofs.Simulating.{begin_well, has_run, isolates, lanes_many, may_take, others_change_nothing, ports_many, stops_among, stops_header, stops_look, under_first, wants_first}
 use Rattle.bridge_config.proofs.Sorted.{rising_numbers}
 use Rattle.bridge_core.proofs.Taken.{err_is}
@@ -237,3 +238,100 @@ returns-clause-sound g c = λ ports port are sure e i w at lent.
 
 pub returns-clause-sure : goal.returns-clause-sure
 returns-clause-sure g c = λ sure port e. c.run-done.ensures.sure (c.look_at_all.ensures.lasts sure) port (c.in-Err-done.is ∙ ap Err (err_is _ _ e))
+
+pub returns-in_default-clause-read : goal.returns-in_default-clause-read
+returns-in_default-clause-read g c = λ ports port are e. absurd (memory_read _ _ e)
+
+pub returns-in_default-clause-sure : goal.returns-in_default-clause-sure
+returns-in_default-clause-sure g c = λ sure port e. memory_read _ _ e
+
+pub returns-in_default-clause-wrote : goal.returns-in_default-clause-wrote
+returns-in_default-clause-wrote g c = λ ports port are e. absurd (memory_written _ e)
+
+pub returns-in_default-clause-sound : goal.returns-in_default-clause-sound
+returns-in_default-clause-sound g c = λ ports port are sure e. absurd (memory_written _ e)
+
+pub returns-in_default-spares_in-clause-read : goal.returns-in_default-spares_in-clause-read
+returns-in_default-spares_in-clause-read g c = λ ports port are e. absurd (memory_read _ _ e)
+
+pub returns-in_default-spares_in-clause-sure : goal.returns-in_default-spares_in-clause-sure
+returns-in_default-spares_in-clause-sure g c = λ sure port e. memory_read _ _ e
+
+pub returns-in_default-spares_in-clause-wrote : goal.returns-in_default-spares_in-clause-wrote
+returns-in_default-spares_in-clause-wrote g c = λ ports port are e. absurd (memory_written _ e)
+
+pub returns-in_default-spares_in-clause-sound : goal.returns-in_default-spares_in-clause-sound
+returns-in_default-spares_in-clause-sound g c = λ ports port are sure e. absurd (memory_written _ e)
+
+pub returns-in-Err-clause-sure : goal.returns-in-Err-clause-sure
+returns-in-Err-clause-sure g c = λ sure port e. c.in-Err.ensures.sure sure port (ap (λ f. Err f) (err_is _ _ e))
+
+pub returns-in-Err-clause-wrote : goal.returns-in-Err-clause-wrote
+returns-in-Err-clause-wrote g c = λ ports port are e. absurd (c.in-Err.ensures.no_write port (ap (λ f. Err f) (err_is _ _ e)))
+
+pub returns-in-Err-clause-sound : goal.returns-in-Err-clause-sound
+returns-in-Err-clause-sound g c = λ ports port are sure e. absurd (c.in-Err.ensures.no_write port (ap (λ f. Err f) (err_is _ _ e)))
+
+pub returns-in_default-new-clause-read : goal.returns-in_default-new-clause-read
+returns-in_default-new-clause-read g c = λ ports port are e. absurd (memory_read _ _ e)
+
+pub returns-in_default-new-clause-sure : goal.returns-in_default-new-clause-sure
+returns-in_default-new-clause-sure g c = λ sure port e. memory_read _ _ e
+
+pub returns-in_default-new-clause-wrote : goal.returns-in_default-new-clause-wrote
+returns-in_default-new-clause-wrote g c = λ ports port are e. absurd (memory_written _ e)
+
+pub returns-in_default-new-clause-sound : goal.returns-in_default-new-clause-sound
+returns-in_default-new-clause-sound g c = λ ports port are sure e. absurd (memory_written _ e)
+
+pub begin_all-requires-clause-none : goal.begin_all-requires-clause-none
+begin_all-requires-clause-none g c = (subst (λ z. AreListsOf z c.in-Ok.lists) c.plan.ensures.plan c.in-Ok.ensures).no_lines
+
+pub begin_all-requires-clause-room : goal.begin_all-requires-clause-room
+begin_all-requires-clause-room g c = subst (λ ns. length ns ≤ vec_capacity c.in-Ok.lists.lines) (sym c.deref-2.ensures.value) (subst (λ z. AreListsOf z c.in-Ok.lists) c.plan.ensures.plan c.in-Ok.ensures).lines_room
+
+pub returns-in-Err-begin_all-clause-read : goal.returns-in-Err-begin_all-clause-read
+returns-in-Err-begin_all-clause-read g c = λ ports port are e.
+    absurd (subst (λ f. HeadersStop g.W.ByteSink.contents g.W.ByteSink.has_failed c.deref-2.result.now c.args.sinks.now c.begin_all.new.sinks f) (err_is c.in-Err-begin_all.fault _ e) c.in-Err-begin_all.ensures.stops)
+
+pub returns-in-Err-begin_all-clause-sure : goal.returns-in-Err-begin_all-clause-sure
+returns-in-Err-begin_all-clause-sure g c = λ sure port e.
+    subst (λ f. HeadersStop g.W.ByteSink.contents g.W.ByteSink.has_failed c.deref-2.result.now c.args.sinks.now c.begin_all.new.sinks f) (err_is c.in-Err-begin_all.fault _ e) c.in-Err-begin_all.ensures.stops
+
+pub run-done-requires-clause-new : goal.run-done-requires-clause-new
+run-done-requires-clause-new g c = c.in-Ok-new.ensures.start.2
+
+pub run-done-requires-clause-commands : goal.run-done-requires-clause-commands
+run-done-requires-clause-commands g c = subst (λ p. AreCommands p c.args.commands.now) (sym c.in-Ok-new.ensures.start.0) c.requires.commands
+
+pub run-done-requires-clause-lines : goal.run-done-requires-clause-lines
+run-done-requires-clause-lines g c =
+    ap written_numbers c.deref_mut-2.ensures.value ∙ c.in-Ok-begin_all.ensures.lines ∙ c.deref-2.ensures.value
+    ∙ sym (ap numbers c.deref_mut.ensures.value ∙ c.in-Ok-look_at_all.ensures.numbers ∙ c.deref.ensures.value)
+
+pub finish-requires-clause-idle : goal.finish-requires-clause-idle
+finish-requires-clause-idle g c = c.in-Ok-done.ensures.idle
+
+pub finish-requires-clause-no_filters : goal.finish-requires-clause-no_filters
+finish-requires-clause-no_filters g c = (subst (λ z. AreListsOf z c.in-Ok.lists) c.plan.ensures.plan c.in-Ok.ensures).no_views
+
+pub finish-requires-clause-no_ports : goal.finish-requires-clause-no_ports
+finish-requires-clause-no_ports g c = (subst (λ z. AreListsOf z c.in-Ok.lists) c.plan.ensures.plan c.in-Ok.ensures).no_counts
+
+pub finish-requires-clause-filter_room : goal.finish-requires-clause-filter_room
+finish-requires-clause-filter_room g c = subst (λ xs. length xs ≤ vec_capacity c.in-Ok.lists.views) (sym c.deref-in-Ok-done.ensures.value) (subst (λ z. AreListsOf z c.in-Ok.lists) c.plan.ensures.plan c.in-Ok.ensures).views_room
+
+pub finish-requires-clause-port_room : goal.finish-requires-clause-port_room
+finish-requires-clause-port_room g c = (subst (λ z. AreListsOf z c.in-Ok.lists) c.plan.ensures.plan c.in-Ok.ensures).counts_room
+
+pub returns-in-Ok-done-clause-read : goal.returns-in-Ok-done-clause-read
+returns-in-Ok-done-clause-read g c = λ ports port are e. absurd (ok_err _ _ e)
+
+pub returns-in-Ok-done-clause-sure : goal.returns-in-Ok-done-clause-sure
+returns-in-Ok-done-clause-sure g c = λ sure port e. ok_err _ _ e
+
+pub returns-in-Ok-done-clause-wrote : goal.returns-in-Ok-done-clause-wrote
+returns-in-Ok-done-clause-wrote g c = λ ports port are e. absurd (ok_err _ _ e)
+
+pub returns-in-Ok-done-clause-sound : goal.returns-in-Ok-done-clause-sound
+returns-in-Ok-done-clause-sound g c = λ ports port are sure e. absurd (ok_err _ _ e)

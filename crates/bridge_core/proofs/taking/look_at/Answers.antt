@@ -37,3 +37,9 @@ pub returns-clause-lasts : goal.returns-clause-lasts
 returns-clause-lasts g c = λ sure.
     let within : c.args.place < length c.args.sources.now = (let place = c.requires.place in let size = c.requires.size in omega arith) in
     lasts_set g.R.ByteSource.never_fails c.args.sources.now c.args.place c.index-sources-place.result c.look.new.source within c.look.ensures.lasts sure
+
+pub look-requires : goal.look-requires
+look-requires g c = record { reading = c.requires.reading _ (slice_get-get_or c.args.lanes.now c.args.place _ c.requires.place) }
+
+pub returns-clause-no_write : goal.returns-clause-no_write
+returns-clause-no_write g c = c.look.ensures.no_write

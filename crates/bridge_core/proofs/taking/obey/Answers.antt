@@ -1,9 +1,13 @@
-use Rattle.std.proofs.Common.{rules, ◌≡◌, ℕ, ◌<◌, ◌≤◌, List, length, arith, refl, ap, sym, subst, ◌∙◌, Option, Some, None, Ok, Err, slice_get}
+use Rattle.std.proofs.Common.{◌≡◌, ◌<◌, length, arith, refl, sym, subst, ◌∙◌, Some, slice_get}
+use Rattle.std.specs.Prelude.{IsTrue}
+use Rattle.bridge_limits.specs.Members.{Rising}
+use Rattle.bridge_config.specs.Commands.{has_instance}
 use Rattle.bridge_state.specs.Ports.{NotBefore}
 use Rattle.bridge_semantics.specs.Merge.{events, asked}
 use Rattle.bridge_inputs.specs.Lanes.{numbers}
 use Rattle.bridge_core.specs.Lines.{AreWritten, numbers as written_numbers}
 use Rattle.bridge_core.proofs.Commanded.{command_next, may_still}
+use Rattle.bridge_core.proofs.Faults.{ok_err, written_read}
 use Rattle.bridge_core.proofs.Steps.{depart_stops, written_so}
 use Rattle.bridge_core.proofs.taking.obey.Goals as goal
 
@@ -14,7 +18,7 @@ pub returns-in-Err-depart_before-clause-goes : goal.returns-in-Err-depart_before
 returns-in-Err-depart_before-clause-goes g c = λ p texts commanded next olds after u rests are.
     let at = Some c.args.command.at in
     let v = c.in_default.ensures.goes p texts commanded (Some (asked c.args.command)) olds refl u in
-    let size : length c.take_before.new.sources ≡ length c.take_before.new.lanes = search rules in
+    let size : length c.take_before.new.sources ≡ length c.take_before.new.lanes = (let s = c.take_before.auto.sources in let l = c.take_before.auto.lanes in let asked = c.requires.sources in omega (arith, s, l, asked)) in
     let same : written_numbers c.take_before.new.lines ≡ numbers c.take_before.new.lanes = let z = c.take_before.ensures.same in z.2 ∙ c.requires.lines ∙ sym z.1 in
     depart_stops g.R.ByteSource.remaining g.W.ByteSink.contents p texts commanded (Some (asked c.args.command)) olds c.take_before.new.relay c.take_before.new.lanes c.take_before.new.sources c.take_before.new.sinks v size rests
     at c.depart_before.new.relay (written_numbers c.take_before.new.lines) c.depart_before.new.sinks c.in-Err-depart_before.fault same c.in_default.ensures.later (c.args.command.at, refl, omega arith)
@@ -36,7 +40,7 @@ returns-clause-holds g c = λ sure. c.depart_before.ensures.holds (c.take_before
 pub returns-clause-goes : goal.returns-clause-goes
 returns-clause-goes g c = λ p texts commanded next olds after u.
     let v = c.in_default.ensures.goes p texts commanded (Some (asked c.args.command)) olds refl u in
-    let size : length c.take_before.new.sources ≡ length c.take_before.new.lanes = search rules in
+    let size : length c.take_before.new.sources ≡ length c.take_before.new.lanes = (let s = c.take_before.auto.sources in let l = c.take_before.auto.lanes in let asked = c.requires.sources in omega (arith, s, l, asked)) in
     let same : written_numbers c.take_before.new.lines ≡ numbers c.take_before.new.lanes = let z = c.take_before.ensures.same in z.2 ∙ c.requires.lines ∙ sym z.1 in
     let d = c.in_default-depart_before.ensures.departs p (events v.inputs) olds v.left v.stands
     (written_so g.R.ByteSource.remaining g.W.ByteSink.contents p texts commanded (Some (asked c.args.command)) olds c.take_before.new.relay c.take_before.new.lanes c.take_before.new.sources c.take_before.new.sinks v size (written_numbers c.take_before.new.lines) same) in
@@ -53,3 +57,93 @@ pub returns-clause-may : goal.returns-clause-may
 returns-clause-may g c =
     let moved = c.clear.ensures.moved in
     may_still c.take_before.new.relay c.clear.new.self c.take_before.new.lanes c.args.command.at c.in_default.ensures.may (moved.2 ∙ c.depart_before.ensures.same.0) (moved.1 ∙ c.depart_before.ensures.same.1) moved.0 c.in_default.ensures.later
+
+pub take_before-requires-clause-may : goal.take_before-requires-clause-may
+take_before-requires-clause-may g c = c.requires.may
+
+pub take_before-requires-clause-lines : goal.take_before-requires-clause-lines
+take_before-requires-clause-lines g c = c.requires.lines
+
+pub take_before-requires-clause-sources : goal.take_before-requires-clause-sources
+take_before-requires-clause-sources g c = c.requires.sources
+
+pub take_before-requires-clause-sinks : goal.take_before-requires-clause-sinks
+take_before-requires-clause-sinks g c = c.requires.sinks
+
+pub take_before-requires-clause-waits : goal.take_before-requires-clause-waits
+take_before-requires-clause-waits g c = c.requires.waits
+
+pub take_before-requires-clause-early : goal.take_before-requires-clause-early
+take_before-requires-clause-early g c = c.requires.time
+
+pub returns-in-Err-clause-same : goal.returns-in-Err-clause-same
+returns-in-Err-clause-same g c = c.take_before.ensures.same
+
+pub returns-in-Err-clause-read : goal.returns-in-Err-clause-read
+returns-in-Err-clause-read g c = c.in-Err.ensures.read
+
+pub returns-in-Err-clause-sure : goal.returns-in-Err-clause-sure
+returns-in-Err-clause-sure g c = c.in-Err.ensures.sure
+
+pub returns-in-Err-clause-lasts : goal.returns-in-Err-clause-lasts
+returns-in-Err-clause-lasts g c = c.take_before.ensures.lasts
+
+pub returns-in-Err-clause-wrote : goal.returns-in-Err-clause-wrote
+returns-in-Err-clause-wrote g c = c.in-Err.ensures.wrote
+
+pub returns-in-Err-clause-sound : goal.returns-in-Err-clause-sound
+returns-in-Err-clause-sound g c = c.in-Err.ensures.sound
+
+pub returns-in-Err-clause-holds : goal.returns-in-Err-clause-holds
+returns-in-Err-clause-holds g c = c.take_before.ensures.holds
+
+pub depart_before-requires-clause-rises : goal.depart_before-requires-clause-rises
+depart_before-requires-clause-rises g c = subst (Rising (λ a b. a < b)) (sym (c.take_before.ensures.same.2 ∙ c.requires.lines)) c.requires.may.rises
+
+pub depart_before-requires-clause-early : goal.depart_before-requires-clause-early
+depart_before-requires-clause-early g c = c.in_default.ensures.early
+
+pub depart_before-requires-clause-waits : goal.depart_before-requires-clause-waits
+depart_before-requires-clause-waits g c = c.in_default.ensures.waits
+
+pub returns-in-Err-depart_before-clause-same : goal.returns-in-Err-depart_before-clause-same
+returns-in-Err-depart_before-clause-same g c = let z = c.take_before.ensures.same in (c.depart_before.ensures.same.0 ∙ z.0, z.1, c.depart_before.ensures.numbers ∙ z.2)
+
+pub returns-in-Err-depart_before-clause-lasts : goal.returns-in-Err-depart_before-clause-lasts
+returns-in-Err-depart_before-clause-lasts g c = c.take_before.ensures.lasts
+
+pub returns-clause-same : goal.returns-clause-same
+returns-clause-same g c = let z = c.take_before.ensures.same in (c.clear.ensures.moved.2 ∙ c.depart_before.ensures.same.0 ∙ z.0, z.1, c.depart_before.ensures.numbers ∙ z.2)
+
+pub returns-clause-lasts : goal.returns-clause-lasts
+returns-clause-lasts g c = c.take_before.ensures.lasts
+
+pub returns-clause-moved : goal.returns-clause-moved
+returns-clause-moved g c = c.clear.ensures.moved.0
+
+pub clear-requires-clause-time : goal.clear-requires-clause-time
+clear-requires-clause-time g c = c.depart_before.ensures.early
+
+pub clear-requires-clause-instance : goal.clear-requires-clause-instance
+clear-requires-clause-instance g c = subst (λ p. IsTrue (has_instance p c.args.command.clear c.args.command.number)) (sym (c.depart_before.ensures.same.0 ∙ c.take_before.ensures.same.0)) c.requires.instance
+
+pub depart_before-requires-clause-size : goal.depart_before-requires-clause-size
+depart_before-requires-clause-size g c = let s = c.take_before.auto.sinks in let l = c.take_before.auto.lines in let asked = c.requires.sinks in omega (arith, s, l, asked)
+
+pub returns-in-Err-depart_before-clause-read : goal.returns-in-Err-depart_before-clause-read
+returns-in-Err-depart_before-clause-read g c = λ port e. absurd (written_read _ _ _ _ c.in-Err-depart_before.ensures.only.1 e)
+
+pub returns-in-Err-depart_before-clause-sure : goal.returns-in-Err-depart_before-clause-sure
+returns-in-Err-depart_before-clause-sure g c = λ sure port e. written_read _ _ _ _ c.in-Err-depart_before.ensures.only.1 e
+
+pub returns-clause-read : goal.returns-clause-read
+returns-clause-read g c = λ port e. absurd (ok_err _ _ e)
+
+pub returns-clause-sure : goal.returns-clause-sure
+returns-clause-sure g c = λ sure port e. ok_err _ _ e
+
+pub returns-clause-wrote : goal.returns-clause-wrote
+returns-clause-wrote g c = λ port e. absurd (ok_err _ _ e)
+
+pub returns-clause-sound : goal.returns-clause-sound
+returns-clause-sound g c = λ sure port e. absurd (ok_err _ _ e)

@@ -1,10 +1,13 @@
-use Rattle.std.proofs.Common.{rules, ◌≡◌, ℕ, ◌+◌, ◌<◌, ◌≤◌, ◌∷◌, List, length, take, drop, get_or, arith, refl, ap, sym, subst, ◌∙◌, Option, Some, None, Ok, Err, slice_get}
+use Rattle.std.proofs.Common.{◌≡◌, ◌+◌, ◌<◌, ◌≤◌, length, take, drop, arith, refl, sym, subst, ◌∙◌, Some, None, slice_get}
 use Rattle.bridge_filter.specs.declared.Clear.TheVariants.{Blocked}
-use Rattle.bridge_semantics.specs.Merge.{events, asked, commands_of}
+use Rattle.bridge_limits.specs.Members.{Rising}
+use Rattle.bridge_state.specs.Ports.{NotBefore}
+use Rattle.bridge_semantics.specs.Merge.{events, commands_of}
 use Rattle.bridge_inputs.specs.Lanes.{numbers}
 use Rattle.bridge_core.specs.Lines.{numbers as written_numbers}
 use Rattle.bridge_core.specs.Taking.{first_of_commands, IsUnderWay}
-use Rattle.bridge_core.proofs.Running.{all_done, first_is, gone, has_it, idle_at, next_later, rises_behind, stops_at, stops_behind, with_it}
+use Rattle.bridge_core.proofs.Faults.{only_read}
+use Rattle.bridge_core.proofs.Running.{all_done, behind_it, first_is, gone, has_it, idle_at, next_later, rises_behind, stops_at, stops_behind, with_it}
 use Rattle.bridge_core.proofs.Steps.{written_so}
 use Rattle.bridge_core.proofs.taking.run.Goals as goal
 
@@ -41,8 +44,8 @@ loop-command-preserved g c =
     record {
       may = c.in_default.ensures.may;
       lines = same.2 ∙ i.lines ∙ sym same.1;
-      sources = search rules;
-      sinks = search rules;
+      sources = let s = c.obey.auto.sources in let l = c.obey.auto.lanes in let was = i.sources in omega (arith, s, l, was);
+      sinks = let s = c.obey.auto.sinks in let l = c.obey.auto.lines in let was = i.sinks in omega (arith, s, l, was);
       early = λ d rest e. let moved = c.in_default.ensures.moved in let z = rises_behind c.args.relay.now.plan c.args.commands.now at (record { at = 0; clear = Blocked; number = 0 }) c.requires.commands l d rest e in omega (arith, moved, z);
       plan = same.0 ∙ i.plan;
       numbers = same.1 ∙ i.numbers;
@@ -85,7 +88,7 @@ returns-clause-goes g c = λ p texts olds u.
     let i = c.loop-command.invariant in
     let v = all_done g.R.ByteSource.remaining g.W.ByteSink.contents p texts c.args.commands.now c.loop-command.command-index olds c.loop-command.relay c.loop-command.lanes c.loop-command.sources c.loop-command.sinks (omega (arith, c.loop-command-test.false)) (i.goes p texts olds u) in
     let w = c.in_default-take_before.ensures.goes p texts (commands_of c.args.commands.now) None olds tt v in
-    let size : length c.take_before.new.sources ≡ length c.take_before.new.lanes = search rules in
+    let size : length c.take_before.new.sources ≡ length c.take_before.new.lanes = (let s = c.take_before.auto.sources in let l = c.take_before.auto.lanes in let asked = i.sources in omega (arith, s, l, asked)) in
     let z = c.take_before.ensures.same in
     let same : written_numbers c.take_before.new.lines ≡ numbers c.take_before.new.lanes = z.2 ∙ i.lines ∙ sym z.1 in
     gone g.R.ByteSource.remaining g.W.ByteSink.contents p texts c.args.commands.now olds c.take_before.new.relay c.depart_before.new.relay c.take_before.new.lanes c.take_before.new.sources c.take_before.new.sinks c.depart_before.new.sinks (written_numbers c.take_before.new.lines) c.depart_before.result w size same c.in_default-take_before.ensures.later c.depart_before.ensures.onward
@@ -98,3 +101,81 @@ pub returns-clause-wrote : goal.returns-clause-wrote
 returns-clause-wrote g c = λ port e i w k m.
     let v = c.loop-command.invariant in
     c.depart_before.ensures.failed port e i w (subst (λ ns. slice_get ns i ≡ Some port) (sym (c.take_before.ensures.same.2 ∙ v.lines ∙ v.numbers)) k) m
+
+pub loop-command-init : goal.loop-command-init
+loop-command-init g c = record {
+  may = c.requires.may;
+  lines = c.requires.lines;
+  sources = c.requires.sources;
+  sinks = c.requires.sinks;
+  early = λ d rest e. subst (λ n. n ≤ d.at) (sym c.requires.new) (omega arith);
+  plan = refl;
+  numbers = refl;
+  written = refl;
+  lasts = λ sure. sure;
+  waits = subst (NotBefore (g.G.Agenda.held c.args.relay.now.ports.agenda)) (sym c.requires.new) (λ q t h. omega arith);
+  holds = λ sure. sure;
+  goes = λ p texts olds u. u;
+}
+
+pub obey-requires-clause-may : goal.obey-requires-clause-may
+obey-requires-clause-may g c = c.loop-command.invariant.may
+
+pub obey-requires-clause-lines : goal.obey-requires-clause-lines
+obey-requires-clause-lines g c = c.loop-command.invariant.lines
+
+pub obey-requires-clause-sources : goal.obey-requires-clause-sources
+obey-requires-clause-sources g c = c.loop-command.invariant.sources
+
+pub obey-requires-clause-sinks : goal.obey-requires-clause-sinks
+obey-requires-clause-sinks g c = c.loop-command.invariant.sinks
+
+pub obey-requires-clause-waits : goal.obey-requires-clause-waits
+obey-requires-clause-waits g c = c.loop-command.invariant.waits
+
+pub returns-in-Err-clause-same : goal.returns-in-Err-clause-same
+returns-in-Err-clause-same g c = let z = c.obey.ensures.same in let i = c.loop-command.invariant in (z.0 ∙ i.plan, z.1 ∙ i.numbers, z.2 ∙ i.written)
+
+pub take_before-requires-clause-may : goal.take_before-requires-clause-may
+take_before-requires-clause-may g c = c.loop-command.invariant.may
+
+pub take_before-requires-clause-lines : goal.take_before-requires-clause-lines
+take_before-requires-clause-lines g c = c.loop-command.invariant.lines
+
+pub take_before-requires-clause-sources : goal.take_before-requires-clause-sources
+take_before-requires-clause-sources g c = c.loop-command.invariant.sources
+
+pub take_before-requires-clause-sinks : goal.take_before-requires-clause-sinks
+take_before-requires-clause-sinks g c = c.loop-command.invariant.sinks
+
+pub take_before-requires-clause-waits : goal.take_before-requires-clause-waits
+take_before-requires-clause-waits g c = c.loop-command.invariant.waits
+
+pub returns-in-Err-take_before-clause-same : goal.returns-in-Err-take_before-clause-same
+returns-in-Err-take_before-clause-same g c = let z = c.take_before.ensures.same in let i = c.loop-command.invariant in (z.0 ∙ i.plan, z.1 ∙ i.numbers, z.2 ∙ i.written)
+
+pub depart_before-requires-clause-rises : goal.depart_before-requires-clause-rises
+depart_before-requires-clause-rises g c = let i = c.loop-command.invariant in subst (Rising (λ a b. a < b)) (sym (c.take_before.ensures.same.2 ∙ i.lines)) i.may.rises
+
+pub depart_before-requires-clause-waits : goal.depart_before-requires-clause-waits
+depart_before-requires-clause-waits g c = c.in_default-take_before.ensures.waits
+
+pub returns-clause-same : goal.returns-clause-same
+returns-clause-same g c = let z = c.take_before.ensures.same in let i = c.loop-command.invariant in (c.depart_before.ensures.same.0 ∙ z.0 ∙ i.plan, z.1 ∙ i.numbers, c.depart_before.ensures.numbers ∙ z.2 ∙ i.written)
+
+pub obey-requires-clause-time : goal.obey-requires-clause-time
+obey-requires-clause-time g c =
+    let at = c.loop-command.command-index in
+    c.loop-command.invariant.early _ (drop (at + 1) c.args.commands.now) (behind_it c.args.commands.now at _ c.loop-command-test.true)
+
+pub depart_before-requires-clause-early : goal.depart_before-requires-clause-early
+depart_before-requires-clause-early g c = tt
+
+pub returns-clause-read : goal.returns-clause-read
+returns-clause-read g c = λ port e. absurd (only_read c.depart_before.result port _ c.depart_before.ensures.only e)
+
+pub returns-clause-sure : goal.returns-clause-sure
+returns-clause-sure g c = λ sure port e. only_read c.depart_before.result port _ c.depart_before.ensures.only e
+
+pub depart_before-requires-clause-size : goal.depart_before-requires-clause-size
+depart_before-requires-clause-size g c = let s = c.take_before.auto.sinks in let l = c.take_before.auto.lines in let was = c.loop-command.invariant.sinks in omega (arith, s, l, was)

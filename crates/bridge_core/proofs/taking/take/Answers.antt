@@ -1,14 +1,15 @@
-use Rattle.std.proofs.Common.{◌≡◌, ℕ, ◌+◌, ◌<◌, ◌≤◌, ◌∷◌, ◌++◌, [], List, arith, refl, ap, sym, subst, ◌∙◌, Option, Some, None, Result, Ok, Err, slice_get, slice_set}
-use Rattle.bridge_config.specs.Model.{Plan}
+use Rattle.std.proofs.Common.{◌≡◌, ℕ, ◌+◌, ◌<◌, ◌≤◌, ◌∷◌, ◌++◌, [], arith, ap, sym, subst, ◌∙◌, Some, Ok, Err, slice_get, slice_set}
+use Rattle.std.proofs.lemmas.Option.{same_Some}
 use Rattle.bridge_capture.specs.Reading.{view}
 use Rattle.bridge_capture.specs.Standing.{RefusedSo}
 use Rattle.bridge_state.specs.Ports.{NotBefore}
 use Rattle.bridge_semantics.specs.Events.{arrival, Arrived}
 use Rattle.bridge_semantics.specs.Merge.{events, frame}
-use Rattle.bridge_relay.specs.Relays.{RelayState, Stands}
+use Rattle.bridge_relay.specs.Relays.{Stands}
 use Rattle.bridge_inputs.specs.Lanes.{fault_at, numbers, room_of}
 use Rattle.bridge_core.specs.Lines.{AreWritten, numbers as written_numbers}
 use Rattle.bridge_core.specs.Taking.{IsUnderWay, MayTake, StopsForMemory, StopsSo}
+use Rattle.bridge_core.proofs.Faults.{at_written, memory_read, memory_written, ok_err, written_read}
 use Rattle.bridge_core.proofs.Steps.{all_later, depart_stops, look_stops, memory_before, newest_late, number_at, one_place, stood, waits_of, went_on, written_so}
 use Rattle.bridge_core.proofs.Taken.{again, err_is, fewer_room, may_again, more_may_come, numbers_given, numbers_renewed, port_known, read_at, renewed, rest_left, still_reading}
 use Rattle.bridge_core.proofs.taking.take.Goals as goal
@@ -152,3 +153,75 @@ returns-in-Err-look_at-clause-read g c = λ port e i w k m.
     let here : slice_get (numbers c.args.lanes.now) c.args.place ≡ Some port = number_at c.args.lanes.now c.args.place h.lane h.there ∙ ap (λ n. Some n) (h.number ∙ sym z.1) in
     let same = one_place c.args.lanes.now i c.args.place port c.requires.may.rises k here in
     c.in-Err-look_at.ensures.read (ap (λ f. Err f) z.0) w (subst (λ n. slice_get c.look_at.new.sources n ≡ Some w) same m)
+
+pub depart_before-requires-clause-size : goal.depart_before-requires-clause-size
+depart_before-requires-clause-size g c = c.requires.sinks
+
+pub depart_before-requires-clause-waits : goal.depart_before-requires-clause-waits
+depart_before-requires-clause-waits g c = c.requires.waits
+
+pub returns-in-Err-clause-read : goal.returns-in-Err-clause-read
+returns-in-Err-clause-read g c = λ port e. absurd (written_read _ _ _ _ c.in-Err.ensures.only.1 e)
+
+pub returns-in-Err-clause-sure : goal.returns-in-Err-clause-sure
+returns-in-Err-clause-sure g c = λ sure port e. written_read _ _ _ _ c.in-Err.ensures.only.1 e
+
+pub arrive-requires-clause-due : goal.arrive-requires-clause-due
+arrive-requires-clause-due g c = c.in_default.ensures.waits
+
+pub returns-in-Err-arrive-clause-read : goal.returns-in-Err-arrive-clause-read
+returns-in-Err-arrive-clause-read g c = λ port e. absurd (memory_read _ _ e)
+
+pub returns-in-Err-arrive-clause-sure : goal.returns-in-Err-arrive-clause-sure
+returns-in-Err-arrive-clause-sure g c = λ sure port e. memory_read _ _ e
+
+pub returns-in-Err-arrive-clause-holds : goal.returns-in-Err-arrive-clause-holds
+returns-in-Err-arrive-clause-holds g c = c.depart_before.ensures.holds
+
+pub returns-in-Err-arrive-clause-wrote : goal.returns-in-Err-arrive-clause-wrote
+returns-in-Err-arrive-clause-wrote g c = λ port e. absurd (memory_written _ e)
+
+pub returns-in-Err-arrive-clause-sound : goal.returns-in-Err-arrive-clause-sound
+returns-in-Err-arrive-clause-sound g c = λ sure port e. absurd (memory_written _ e)
+
+pub returns-in-Ok-look_at-clause-moved : goal.returns-in-Ok-look_at-clause-moved
+returns-in-Ok-look_at-clause-moved g c = λ l p there ahead.
+    let h = c.give-number.ensures.given in
+    let same : h.lane.ahead ≡ l.ahead = ap (λ z. z.ahead) (same_Some h.lane l (sym h.there ∙ there)) in
+    let one : c.give-number.result.1 ≡ p = same_Some c.give-number.result.1 p (sym h.ahead ∙ same ∙ ahead) in
+    subst (λ q. c.arrive.new.self.earliest ≡ q.time) one c.in-Ok.ensures.moved.1
+
+pub returns-in-Ok-look_at-clause-read : goal.returns-in-Ok-look_at-clause-read
+returns-in-Ok-look_at-clause-read g c = λ port e. absurd (ok_err _ _ e)
+
+pub returns-in-Ok-look_at-clause-sure : goal.returns-in-Ok-look_at-clause-sure
+returns-in-Ok-look_at-clause-sure g c = λ sure port e. ok_err _ _ e
+
+pub returns-in-Ok-look_at-clause-lasts : goal.returns-in-Ok-look_at-clause-lasts
+returns-in-Ok-look_at-clause-lasts g c = c.look_at.ensures.lasts
+
+pub returns-in-Ok-look_at-clause-wrote : goal.returns-in-Ok-look_at-clause-wrote
+returns-in-Ok-look_at-clause-wrote g c = λ port e. absurd (ok_err _ _ e)
+
+pub returns-in-Ok-look_at-clause-sound : goal.returns-in-Ok-look_at-clause-sound
+returns-in-Ok-look_at-clause-sound g c = λ sure port e. absurd (ok_err _ _ e)
+
+pub returns-in-Ok-look_at-clause-holds : goal.returns-in-Ok-look_at-clause-holds
+returns-in-Ok-look_at-clause-holds g c = c.depart_before.ensures.holds
+
+pub returns-in-Err-look_at-clause-sure : goal.returns-in-Err-look_at-clause-sure
+returns-in-Err-look_at-clause-sure g c = λ sure port e.
+    let z = read_at c.give-number.result.0 port c.in-Err-look_at.fault (sym c.fault_of.ensures ∙ err_is _ _ e) in
+    c.in-Err-look_at.ensures.sure sure (ap (λ f. Err f) z.0)
+
+pub returns-in-Err-look_at-clause-lasts : goal.returns-in-Err-look_at-clause-lasts
+returns-in-Err-look_at-clause-lasts g c = c.look_at.ensures.lasts
+
+pub returns-in-Err-look_at-clause-wrote : goal.returns-in-Err-look_at-clause-wrote
+returns-in-Err-look_at-clause-wrote g c = λ port e. absurd (at_written c.give-number.result.0 port c.in-Err-look_at.fault (ap (λ f. Err f) (sym c.fault_of.ensures) ∙ e))
+
+pub returns-in-Err-look_at-clause-sound : goal.returns-in-Err-look_at-clause-sound
+returns-in-Err-look_at-clause-sound g c = λ sure port e. absurd (at_written c.give-number.result.0 port c.in-Err-look_at.fault (ap (λ f. Err f) (sym c.fault_of.ensures) ∙ e))
+
+pub returns-in-Err-look_at-clause-holds : goal.returns-in-Err-look_at-clause-holds
+returns-in-Err-look_at-clause-holds g c = c.depart_before.ensures.holds

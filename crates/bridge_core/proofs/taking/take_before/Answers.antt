@@ -1,6 +1,6 @@
-use Rattle.std.proofs.Common.{rules, ◌≡◌, ℕ, ◌<◌, ◌≤◌, List, length, arith, refl, ap, sym, subst, ◌∙◌, Option, Some, None, Ok, Err, slice_get}
+use Rattle.std.proofs.Common.{◌≡◌, arith, refl, sym, subst, ◌∙◌, Some, slice_get}
 use Rattle.bridge_core.proofs.Steps.{before_next, early_next}
-use Rattle.bridge_inputs.specs.Lanes.{IsFirstAt, numbers}
+use Rattle.bridge_inputs.specs.Lanes.{numbers}
 use Rattle.bridge_core.proofs.taking.take_before.Goals as goal
 
 pub loop-place-preserved : goal.loop-place-preserved
@@ -10,8 +10,8 @@ loop-place-preserved g c =
     record {
       may = c.in_default-take.ensures.may;
       lines = same.2 ∙ i.lines ∙ sym same.1;
-      sources = search rules;
-      sinks = search rules;
+      sources = let s = c.take.auto.sources in let l = c.take.auto.lanes in let was = i.sources in omega (arith, s, l, was);
+      sinks = let s = c.take.auto.sinks in let l = c.take.auto.lines in let was = i.sinks in omega (arith, s, l, was);
       until = refl;
       early = early_next c.args.until c.loop-place.lanes c.in-Some.place c.take.new.relay.earliest c.in-Some.ensures.first c.in-Some.ensures.before c.in_default-take.ensures.moved;
       plan = same.0 ∙ i.plan;

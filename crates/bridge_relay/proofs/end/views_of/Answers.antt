@@ -1,4 +1,5 @@
-use Rattle.std.proofs.Common.{◌≡◌, ℕ, ◌<◌, ◌≤◌, ◌+◌, false, None, length, arith, refl, slice_index_or}
+use contract.BorrowLft.{⊑_meet, ⊑_static}
+use Rattle.std.proofs.Common.{ℕ, false, None, arith, refl, true≢false, sym, slice_index_or}
 use Rattle.std.proofs.lemmas.Grind.{common_steps}
 use Rattle.bridge_filter.specs.declared.FilterPlan.{FilterPlan}
 use Rattle.bridge_relay.proofs.Viewing.{there_at, table_next, viewing_start, viewing_next, viewing_end}
@@ -40,3 +41,38 @@ loop-entry-preserved g c =
       few = grind (arith, common_steps);
       room = grind (arith, common_steps);
     }
+
+pub bounds-order-entry-index : goal.bounds-order-entry-index
+bounds-order-entry-index g c = c.loop-entry-test.true
+
+pub unreachable-requires : goal.unreachable-requires
+unreachable-requires g c =
+    let few = c.loop-entry.invariant.few in
+    let room = c.loop-entry.invariant.room in
+    let more = c.loop-entry-test.true in
+    true≢false (sym (c.in-Err.ensures.succeeds (omega arith)))
+
+pub returns : goal.returns
+returns g c = viewing_end c.args.police.now c.args.tables.entries c.loop-entry.tables.entries c.args.order.now c.loop-entry.entry-index c.loop-entry.views.items c.loop-entry-test.false c.loop-entry.invariant.viewing
+
+pub drop-tables-inside-requires : goal.drop-tables-inside-requires
+drop-tables-inside-requires g c κs h = (⊑_static _, h)
+
+pub drop-tables-inside-requires-2 : goal.drop-tables-inside-requires-2
+drop-tables-inside-requires-2 g c κs h =
+    let l1 = ⊑_meet _ _ _ h.0 (⊑_static _) in
+    let l2 = ⊑_meet _ _ _ l1 l1 in
+    (⊑_meet _ _ _ l1 (⊑_meet _ _ _ l2 (⊑_meet _ _ _ l2 (⊑_meet _ _ _ l2 (⊑_meet _ _ _ l2 (⊑_static _))))), h.1)
+
+pub drop-tables-inside-requires-3 : goal.drop-tables-inside-requires-3
+drop-tables-inside-requires-3 g c κs h = (⊑_static _, h)
+
+pub drop-tables-inside-requires-4 : goal.drop-tables-inside-requires-4
+drop-tables-inside-requires-4 g c κs h = (⊑_static _, h)
+
+pub push-requires : goal.push-requires
+push-requires g c κs h =
+    let l1 = ⊑_meet _ _ _ h.0 (⊑_static _) in
+    let l2 = ⊑_meet _ _ _ l1 l1 in
+    let l3 = ⊑_meet _ _ _ (⊑_meet _ _ _ l1 (⊑_meet _ _ _ l2 (⊑_meet _ _ _ l2 (⊑_meet _ _ _ l2 (⊑_meet _ _ _ l2 (⊑_static _)))))) (⊑_static _) in
+    (⊑_meet _ _ _ l3 l3, h.1)

@@ -1,26 +1,27 @@
-use Rattle.std.proofs.Common.{ℕ, List, Some, refl, sym, ap, slice_index_or, ◌∙◌}
-use Rattle.std.specs.Prelude.{slice_get}
+use Rattle.std.proofs.Common.{ℕ, List, Some, None, refl, sym, ap, subst, slice_index_or, ◌∙◌}
+use Rattle.std.proofs.lemmas.List.{set-get_or}
 use Rattle.std.proofs.lemmas.Option.{slice_get-get_or}
+use Rattle.bridge_rounds.specs.Feeding.{IsHanded}
 use Rattle.bridge_rounds.specs.Stations.{StationState}
 use Rattle.bridge_network.specs.Wiring.{sender_value}
 use Rattle.bridge_rounds.proofs.Handing.{handed_other, handed_same}
-use Rattle.bridge_rounds.proofs.Turns.{at_place, fed_one}
+use Rattle.bridge_rounds.proofs.Turns.{fed_one}
 use Rattle.bridge_rounds.proofs.settling.hand.Goals as goal
 
 pub has-requires : goal.has-requires
 has-requires g c = c.requires.place (slice_index_or c.args.stations.now c.args.bridge c.index-stations-bridge.result) (slice_get-get_or c.args.stations.now c.args.bridge c.index-stations-bridge.result c.requires.bridge)
 
 pub port-port-requires : goal.port-port-requires
-port-port-requires g c = c.requires.place (slice_index_or c.args.stations.now c.args.bridge c.index-stations-bridge-2.result) (slice_get-get_or c.args.stations.now c.args.bridge c.index-stations-bridge-2.result c.requires.bridge)
+port-port-requires g c = c.requires.place (slice_index_or c.args.stations.now c.args.bridge c.index-stations-bridge.result) (slice_get-get_or c.args.stations.now c.args.bridge c.index-stations-bridge.result c.requires.bridge)
 
 pub give-requires-clause-place : goal.give-requires-clause-place
 give-requires-clause-place g c =
-    c.requires.place (slice_index_or c.args.stations.now c.args.bridge c.index-stations-bridge-3.result) (slice_get-get_or c.args.stations.now c.args.bridge c.index-stations-bridge-3.result c.requires.bridge)
+    c.requires.place (slice_index_or c.args.stations.now c.args.bridge c.index-stations-bridge.result) (slice_get-get_or c.args.stations.now c.args.bridge c.index-stations-bridge.result c.requires.bridge)
 
 pub give-requires-clause-linked : goal.give-requires-clause-linked
 give-requires-clause-linked g c = (
   sender_value c.args.sender,
-  c.requires.linked (slice_index_or c.args.stations.now c.args.bridge c.index-stations-bridge-3.result) (slice_get-get_or c.args.stations.now c.args.bridge c.index-stations-bridge-3.result c.requires.bridge),
+  c.requires.linked (slice_index_or c.args.stations.now c.args.bridge c.index-stations-bridge.result) (slice_get-get_or c.args.stations.now c.args.bridge c.index-stations-bridge.result c.requires.bridge),
 )
 
 pub returns-then-has : goal.returns-then-has
@@ -28,24 +29,23 @@ returns-then-has g c =
     let x = slice_index_or c.args.stations.now c.args.bridge c.index-stations-bridge.result in
     let there = slice_get-get_or c.args.stations.now c.args.bridge c.index-stations-bridge.result c.requires.bridge in
     let came = c.has.ensures.same c.if-has.true ∙ ap (λ (t : List ℕ). Some t) c.deref.ensures.value in
-    handed_same c.args.stations.now c.args.bridge c.args.place x there
-    (fed_one c.args.stations.now c.args.bridge c.args.place x x (sender_value c.args.sender) c.in_ok-text.text.items refl (c.requires.linked x there) came c.in_ok-text.ensures)
+    subst (λ (ss : List (StationState g.row.A.Denot)). IsHanded c.args.stations.now ss c.args.bridge c.args.place None) (sym (set-get_or c.args.stations.now c.args.bridge c.index-stations-bridge.result))
+    (handed_same c.args.stations.now c.args.bridge c.args.place x there
+    (fed_one c.args.stations.now c.args.bridge c.args.place x x (sender_value c.args.sender) c.in_ok-text.text.items refl (c.requires.linked x there) came c.in_ok-text.ensures))
 
 pub returns : goal.returns
 returns g c =
-    let x = slice_index_or c.args.stations.now c.args.bridge c.index-stations-bridge-3.result in
-    let there = slice_get-get_or c.args.stations.now c.args.bridge c.index-stations-bridge-3.result c.requires.bridge in
-    let one = at_place c.args.stations.now c.args.bridge c.index-stations-bridge.result x c.requires.bridge there in
-    let two = at_place c.args.stations.now c.args.bridge c.index-stations-bridge-2.result x c.requires.bridge there in
+    let x = slice_index_or c.args.stations.now c.args.bridge c.index-stations-bridge.result in
+    let there = slice_get-get_or c.args.stations.now c.args.bridge c.index-stations-bridge.result c.requires.bridge in
     let here = c.has.ensures.other c.if-has.false in
     let linked = c.requires.linked x there in
     handed_other c.args.stations.now c.args.bridge c.args.place c.port-port.result x c.give.new.self (sender_value c.args.sender) c.in_ok-text.text.items there c.give.ensures.ground c.give.ensures.taps c.give.ensures.texts linked c.in_ok-text.ensures
-    (ap (λ (z : StationState g.row.A.Denot). slice_get z.ports c.args.place) (sym two) ∙ c.port-port.ensures)
+    c.port-port.ensures
     (record {
       sender = sender_value c.args.sender;
       linked = linked;
       text = here.0;
-      came = ap (λ (z : StationState g.row.A.Denot). slice_get z.texts c.args.place) (sym one) ∙ here.1;
+      came = here.1;
       sent = c.in_ok-text.text.items;
       later = c.in_ok-text.ensures;
       other = λ same. here.2 (same ∙ sym c.deref.ensures.value);
@@ -53,9 +53,3 @@ returns g c =
 
 pub bounds-stations-bridge : goal.bounds-stations-bridge
 bounds-stations-bridge g c = c.requires.bridge
-
-pub bounds-stations-bridge-2 : goal.bounds-stations-bridge-2
-bounds-stations-bridge-2 g c = c.requires.bridge
-
-pub bounds-stations-bridge-3 : goal.bounds-stations-bridge-3
-bounds-stations-bridge-3 g c = c.requires.bridge

@@ -1,4 +1,4 @@
-use Rattle.std.proofs.Common.{◌≡◌, ◌+◌, ◌<◌, length, ap, rules, subst, sym}
+use Rattle.std.proofs.Common.{◌+◌, ◌<◌, rules, subst, sym}
 use Rattle.bridge_port.specs.Standing.{limit}
 use Rattle.bridge_core.specs.Bridges.{StandsAfter}
 use Rattle.bridge_core.proofs.bridge.Bridge.advance.Goals as goal

@@ -1,4 +1,4 @@
-use Rattle.std.proofs.Common.{◌≡◌, subst, sym}
+use Rattle.std.proofs.Common.{subst, sym}
 use Rattle.bridge_core.specs.Bridges.{StandsAfter}
 use Rattle.bridge_core.proofs.bridge.Bridge.started.Goals as goal
 

@@ -1,8 +1,8 @@
-use Rattle.std.proofs.Common.{rules, ◌≡◌, ℕ, List, [], ◌∷◌, ◌++◌, ◌+◌, ◌≤◌, ◌<◌, arith, sym, subst, ap, ◌∙◌, refl, inl, inr, Option, Some, true}
-use Rattle.std.specs.Prelude.{max, nat_eq, if◌then◌else◌}
+use Rattle.bridge_events.specs.Least.{IsLeast}
+use Rattle.std.proofs.Common.{◌≡◌, ℕ, [], ◌∷◌, ◌++◌, ◌+◌, arith, sym, subst, ap, ◌∙◌, refl, Some, true}
+use Rattle.std.specs.Prelude.{nat_eq, if◌then◌else◌}
 use Rattle.bridge_relay.specs.Relays.{RelayState, count_all, one_more, waiting, IsSent, Stands}
 use Rattle.bridge_relay.specs.declared.relay.Sent.{Sent}
-use Rattle.bridge_state.specs.Ports.{PortsState}
 use Rattle.bridge_relay.proofs.Advancing.{count_started, right_item, short_item, owes_by, is_sent}
 use Rattle.bridge_semantics.specs.declared.outcome.Departure.{Departure}
 use Rattle.bridge_relay.proofs.Sound.{sound_started}
@@ -82,3 +82,15 @@ returns-clause-writable g c =
     let right = right_item b.plan.now.filters b.ports c.start-port.new.self c.start-port.result.0 s.0 c.start-port.result.1 c.start-port.result.2 s.1 c.self.invariant.right in
     let early = s.1.early in
     (omega arith, short_item b.plan.now.filters c.start-port.result.2.item right, s.1.short)
+
+pub returns-clause-later : goal.returns-clause-later
+returns-clause-later g c = c.start-port.ensures.later
+
+pub returns-clause-same : goal.returns-clause-same
+returns-clause-same g c = (ap (λ (v : RelayState _ _). v.plan) c.self.view_is, ap (λ (v : RelayState _ _). v.arrived) c.self.view_is)
+
+pub returns-clause-which : goal.returns-clause-which
+returns-clause-which g c = subst (λ (v : RelayState _ _). IsLeast (g.G.Agenda.held v.ports.agenda) (Some (c.start-port.result.0, c.start-port.result.1))) c.self.view_is c.start-port.ensures.which
+
+pub start-port-requires : goal.start-port-requires
+start-port-requires g c = (c.requires.0, c.requires.1, ap (λ (v : RelayState _ _). g.G.Agenda.held v.ports.agenda c.requires.0) c.self.view_is ∙ c.requires.2)

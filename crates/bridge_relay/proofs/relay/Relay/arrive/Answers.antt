@@ -1,13 +1,14 @@
-use Rattle.std.proofs.Common.{rules, ◌≡◌, ℕ, ◌+◌, ◌-◌, ◌≤◌, ◌<◌, List, ◌∷◌, length, arith, sym, subst, ap, ◌∙◌, refl, Option, Some, None, false}
-use Rattle.std.specs.Prelude.{IfSome, IsTrue, Vec, max}
+use Rattle.bridge_limits.specs.declared.TheConstants.{MOST_CAPTURED}
+use contract.BorrowLft.{⊑_static}
+use Rattle.std.proofs.Common.{◌≡◌, ℕ, ◌+◌, ◌≤◌, List, ◌∷◌, length, arith, sym, subst, ap, ◌∙◌, refl, Option, Some, false}
+use Rattle.std.specs.Prelude.{IfSome, IsTrue, Vec}
 use Rattle.std.specs.Option.{option_map}
 use Rattle.bridge_filter.specs.declared.FilterPlan.{FilterPlan}
 use Rattle.bridge_filter.specs.Plans.{is_there}
 use Rattle.bridge_filter.specs.Finding.{IsFound}
 use Rattle.bridge_filter.specs.Verdicts.{flow}
 use Rattle.bridge_config.specs.Rules.{port_at}
-use Rattle.bridge_semantics.specs.declared.way.Way.{Way}
-use Rattle.bridge_semantics.specs.Events.{Arrival, Arrived, arrival, metered, way_of}
+use Rattle.bridge_semantics.specs.Events.{Arrived, arrival, metered, way_of}
 use Rattle.bridge_state.specs.declared.slot.Slot.{Slot}
 use Rattle.bridge_state.specs.Tables.{IsOpen}
 use Rattle.bridge_state.specs.Ports.{slot_at, outs, NotBefore}
@@ -281,3 +282,60 @@ returns-clause-moved g c =
           let moved = w.relay.ensures.moved in
           subst (λ (v : RelayState _ _). (v.arrived ≡ now.arrived + 1) × (v.earliest ≡ c.args.packet.time) × (v.plan ≡ now.plan)) (sym w.self-is) (moved.0 ∙ ap (λ (v : RelayState _ _). v.arrived) same, moved.2, moved.1 ∙ ap (λ (v : RelayState _ _). v.plan) same)
     ]
+
+pub same-self : goal.same-self
+same-self g c = refl
+
+pub same-self-in-Goes : goal.same-self-in-Goes
+same-self-in-Goes g c = refl
+
+pub same-self-in-Nowhere : goal.same-self-in-Nowhere
+same-self-in-Nowhere g c = refl
+
+pub returns-in-Err-clause-err : goal.returns-in-Err-clause-err
+returns-in-Err-clause-err g c = (c.in-Err.ensures.err, refl)
+
+pub deref-requires : goal.deref-requires
+deref-requires g c κs h = (⊑_static _, h)
+
+pub deref-requires-in-Goes : goal.deref-requires-in-Goes
+deref-requires-in-Goes g c κs h = (⊑_static _, h)
+
+pub find-found-requires : goal.find-found-requires
+find-found-requires g c κs h = h
+
+pub put-requires : goal.put-requires
+put-requires g c κs h = h
+
+pub put-requires-in-Nowhere : goal.put-requires-in-Nowhere
+put-requires-in-Nowhere g c κs h = h
+
+pub pass_over-requires-clause-few : goal.pass_over-requires-clause-few
+pass_over-requires-clause-few g c = c.requires.few
+
+pub pass_over-requires-clause-time : goal.pass_over-requires-clause-time
+pass_over-requires-clause-time g c = c.requires.time.0
+
+pub pass_over-requires-in-Nowhere-clause-few : goal.pass_over-requires-in-Nowhere-clause-few
+pass_over-requires-in-Nowhere-clause-few g c = c.requires.few
+
+pub pass_over-requires-in-Nowhere-clause-time : goal.pass_over-requires-in-Nowhere-clause-time
+pass_over-requires-in-Nowhere-clause-time g c = c.requires.time.0
+
+pub prepare-requires-clause-few : goal.prepare-requires-clause-few
+prepare-requires-clause-few g c = c.requires.few
+
+pub relay-requires-clause-length : goal.relay-requires-clause-length
+relay-requires-clause-length g c = (c.in-Goes.ensures.length tt, c.requires.octets.1)
+
+pub relay-requires-clause-priority : goal.relay-requires-clause-priority
+relay-requires-clause-priority g c = c.in-Goes.ensures.priority
+
+pub relay-requires-clause-sound : goal.relay-requires-clause-sound
+relay-requires-clause-sound g c = c.in-Ok.ensures.sound
+
+pub relay-requires-clause-time : goal.relay-requires-clause-time
+relay-requires-clause-time g c = (subst (λ (v : RelayState _ _). v.earliest ≤ c.args.packet.time) (sym c.in-Ok.ensures.ok) c.requires.time.0, c.requires.time.1)
+
+pub way_of-requires-clause-captured : goal.way_of-requires-clause-captured
+way_of-requires-clause-captured g c = subst (λ (l : List ℕ). (length l ≤ MOST_CAPTURED) × (length l ≤ c.args.packet.len)) (sym c.deref.ensures.value) c.requires.octets

@@ -1,7 +1,6 @@
-use Rattle.std.proofs.Common.{rules, ◌≡◌, ℕ, ◌≤◌, sym, subst, ◌∷◌}
+use Rattle.std.proofs.Common.{◌≤◌, sym, subst}
 use Rattle.std.specs.Prelude.{IsTrue}
 use Rattle.bridge_config.specs.Commands.{has_instance}
-use Rattle.bridge_semantics.specs.Events.{Cleared}
 use Rattle.bridge_relay.specs.Relays.{RelayState, Stands}
 use Rattle.bridge_relay.proofs.Clearing.{instance_there, sound_cleared, stands_cleared}
 use Rattle.bridge_relay.proofs.relay.Relay.clear.Goals as goal

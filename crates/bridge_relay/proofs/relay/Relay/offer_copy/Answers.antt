@@ -1,11 +1,9 @@
-use Rattle.std.proofs.Common.{rules, ◌≡◌, ℕ, ◌≤◌, ◌<◌, List, length, arith, sym, subst, ap, ◌∙◌, refl, Some, false, true}
-use Rattle.std.specs.Prelude.{IfSome, slice_index, ◌&&◌, Vec}
+use Rattle.std.proofs.Common.{◌≡◌, ℕ, ◌≤◌, List, length, arith, sym, subst, ap, ◌∙◌}
 use Rattle.bridge_forward.specs.Ports.{has}
 use Rattle.bridge_port.specs.declared.item.Item.{Item}
 use Rattle.bridge_semantics.specs.declared.load.Load.{Load}
-use Rattle.bridge_semantics.specs.Offers.{carried, Carried}
+use Rattle.bridge_semantics.specs.Offers.{carried}
 use Rattle.bridge_config.specs.Model as config
-use Rattle.bridge_state.specs.declared.slot.Slot.{Slot}
 use Rattle.bridge_state.specs.Ports.{slot_at, is_there}
 use Rattle.bridge_relay.specs.Relays.{is_flow_stray}
 use Rattle.bridge_relay.specs.Relaying.{leaves}

@@ -1,7 +1,4 @@
-use Rattle.std.proofs.Common.{rules, ◌≡◌, ℕ, ◌+◌, ◌≤◌, ◌<◌, List, length, arith, sym, subst, ap, ◌∙◌, refl, Some, false, true, Bool}
-use Rattle.std.specs.Prelude.{◌&&◌, Vec}
-use Rattle.bridge_forward.specs.Ports.{has}
-use Rattle.bridge_semantics.specs.declared.load.Load.{Load}
+use Rattle.std.proofs.Common.{◌≡◌, ◌+◌, length, arith, sym, subst, ◌∙◌, false, true}
 use Rattle.bridge_semantics.specs.Offers.{Carried}
 use Rattle.bridge_state.specs.Ports.{slot_at, is_there, goes_out}
 use Rattle.bridge_relay.specs.Relays.{RelayState}

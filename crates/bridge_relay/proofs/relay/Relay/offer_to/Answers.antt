@@ -1,4 +1,4 @@
-use Rattle.std.proofs.Common.{rules, ◌≡◌, ℕ, ◌≤◌, ◌<◌, arith, sym, subst, ap, ◌∙◌, refl, Some, false}
+use Rattle.std.proofs.Common.{◌≡◌, ◌≤◌, ◌<◌, arith, sym, subst, Some, false}
 use Rattle.std.specs.Prelude.{IfSome, slice_index}
 use Rattle.bridge_port.specs.declared.item.Item.{Item}
 use Rattle.bridge_semantics.specs.declared.load.Load.{Load}

@@ -1,4 +1,4 @@
-use Rattle.std.proofs.Common.{◌≡◌, ℕ, ◌≤◌, sym, subst, Some}
+use Rattle.std.proofs.Common.{◌≤◌, sym, subst}
 use Rattle.bridge_state.specs.Ports.{NotBefore}
 use Rattle.bridge_relay.specs.Relays.{RelayState, Stands}
 use Rattle.bridge_relay.proofs.Ending.{ran_of, reaches_of}

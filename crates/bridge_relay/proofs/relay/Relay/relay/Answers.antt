@@ -1,17 +1,13 @@
-use Rattle.std.proofs.Common.{rules, ◌≡◌, ℕ, Bool, ◌+◌, ◌-◌, ◌≤◌, ◌<◌, List, [], ◌∷◌, length, arith, sym, subst, ap, ◌∙◌, refl, Option, Some, None, true, false}
-use Rattle.std.specs.Prelude.{IfSome, nat_eq, unwrap_or}
-use Rattle.std.specs.Map.{lookup}
-use Rattle.std.specs.Option.{option_map}
+use Rattle.std.proofs.Common.{◌≡◌, ℕ, Bool, ◌≤◌, List, [], ◌∷◌, length, arith, sym, subst, ap, ◌∙◌, refl, Option, Some, None, false}
+use Rattle.std.specs.Prelude.{IfSome}
 use Rattle.bridge_filter.specs.declared.Ruling.{Ruling}
 use Rattle.bridge_filter.specs.declared.Verdict.{Verdict}
 use Rattle.bridge_filter.specs.declared.Verdict.TheVariants as verdict
-use Rattle.bridge_semantics.specs.Events.{Arrival, Arrived, arrival, calls, police_of}
-use Rattle.bridge_semantics.specs.Offers.{Carried, leaving}
-use Rattle.bridge_state.specs.declared.slot.Slot.{Slot}
-use Rattle.bridge_state.specs.Tables.{TableState}
-use Rattle.bridge_state.specs.Ports.{slot_at, outs, NotBefore}
-use Rattle.bridge_relay.specs.Relays.{RelayState, IsSound, HasSpare, Stands, is_flow_stray}
-use Rattle.bridge_relay.specs.Relaying.{HasRuled, HasCopies, IsNumbered, IsOffering, IsPending, MayRelay, called, filter_number, goes, leaves, offer_to, one_less, releasing}
+use Rattle.bridge_semantics.specs.Events.{Arrived, arrival, calls, police_of}
+use Rattle.bridge_semantics.specs.Offers.{leaving}
+use Rattle.bridge_state.specs.Ports.{outs, NotBefore}
+use Rattle.bridge_relay.specs.Relays.{RelayState, HasSpare, Stands, is_flow_stray}
+use Rattle.bridge_relay.specs.Relaying.{HasRuled, IsPending, called, leaves, offer_to, releasing}
 use Rattle.bridge_relay.proofs.Offered.{leaving_length, refused_by, may_offer, numbered_none, numbered_some, offers_passed, offers_refused, offers_unfiltered, own_is, stands_let_go, stands_offered}
 use Rattle.bridge_relay.proofs.Policed.{IsPoliced}
 use Rattle.bridge_relay.proofs.Spares.{copies_ruled, outs_ruled, pending_ruled}
@@ -155,3 +151,54 @@ returns-in_default g c =
       moved = (ap (λ (v : RelayState _ _). v.arrived) state ∙ h.arrived, ap (λ (v : RelayState _ _). v.plan) state ∙ h.plan, ap (λ (v : RelayState _ _). v.earliest) state ∙ h.earliest);
       sound = c.forget.ensures.sound;
     }
+
+pub way_copy_out-filter : goal.way_copy_out-filter
+way_copy_out-filter g c = refl
+
+pub way_copy_out-own : goal.way_copy_out-own
+way_copy_out-own g c = refl
+
+pub way_copy_out-verdict : goal.way_copy_out-verdict
+way_copy_out-verdict g c = refl
+
+pub returns-in-None-clause-due : goal.returns-in-None-clause-due
+returns-in-None-clause-due g c = c.offer_all.ensures.offered.due
+
+pub put-requires : goal.put-requires
+put-requires g c κs h = h
+
+pub spare_all-requires : goal.spare_all-requires
+spare_all-requires g c κs h = h
+
+pub returns-in-None-clause-sound : goal.returns-in-None-clause-sound
+returns-in-None-clause-sound g c = c.offer_all.ensures.offered.sound
+
+pub returns-in-Pass-clause-due : goal.returns-in-Pass-clause-due
+returns-in-Pass-clause-due g c = c.offer_all-in-Pass.ensures.offered.due
+
+pub returns-in-Pass-clause-sound : goal.returns-in-Pass-clause-sound
+returns-in-Pass-clause-sound g c = c.offer_all-in-Pass.ensures.offered.sound
+
+pub offer_all-requires-clause-priority : goal.offer_all-requires-clause-priority
+offer_all-requires-clause-priority g c = c.requires.priority
+
+pub rule-requires-clause-found : goal.rule-requires-clause-found
+rule-requires-clause-found g c = c.requires.found
+
+pub rule-requires-clause-fresh : goal.rule-requires-clause-fresh
+rule-requires-clause-fresh g c = c.requires.fresh
+
+pub rule-requires-clause-from : goal.rule-requires-clause-from
+rule-requires-clause-from g c = c.requires.from
+
+pub rule-requires-clause-known : goal.rule-requires-clause-known
+rule-requires-clause-known g c = c.requires.known
+
+pub rule-requires-clause-length : goal.rule-requires-clause-length
+rule-requires-clause-length g c = c.requires.length.0
+
+pub rule-requires-clause-open : goal.rule-requires-clause-open
+rule-requires-clause-open g c = c.requires.open
+
+pub rule-requires-clause-time : goal.rule-requires-clause-time
+rule-requires-clause-time g c = c.requires.time

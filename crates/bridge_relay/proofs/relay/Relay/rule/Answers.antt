@@ -1,4 +1,4 @@
-use Rattle.std.proofs.Common.{rules, ◌≡◌, ℕ, ◌+◌, ◌-◌, ◌≤◌, ◌<◌, List, ◌∷◌, length, arith, sym, subst, ap, ◌∙◌, refl, Option, Some, None, true, false}
+use Rattle.std.proofs.Common.{◌≡◌, ℕ, ◌+◌, ◌≤◌, sym, subst, ap, ◌∙◌, refl, Option, Some, None}
 use Rattle.std.specs.Option.{option_map}
 use Rattle.bridge_filter.specs.declared.Ruling.{Ruling}
 use Rattle.bridge_filter.specs.Finding.{IsFound}
@@ -80,3 +80,15 @@ returns-in-Some-clause-sound g c =
 
 pub pass_by-ruling-requires-clause-found : goal.pass_by-ruling-requires-clause-found
 pass_by-ruling-requires-clause-found g c = subst (λ (v : RelayState _ _). IsFound v.police c.args.seen.handle c.args.seen.priority c.args.found) (sym c.self.view_is) c.requires.found
+
+pub returns-in-Some-clause-priority : goal.returns-in-Some-clause-priority
+returns-in-Some-clause-priority g c = c.in-Some.ensures.priority
+
+pub count-requires-clause-from : goal.count-requires-clause-from
+count-requires-clause-from g c = c.requires.from
+
+pub count-requires-in-Some-clause-from : goal.count-requires-in-Some-clause-from
+count-requires-in-Some-clause-from g c = c.requires.from
+
+pub pass_by-ruling-requires-clause-range : goal.pass_by-ruling-requires-clause-range
+pass_by-ruling-requires-clause-range g c = c.requires.time.1

@@ -1,4 +1,4 @@
-use Rattle.std.proofs.Common.{rules, ◌≡◌, ℕ, Bool, ◌≤◌, arith, sym, subst, ap, ◌∙◌, refl, true, false}
+use Rattle.std.proofs.Common.{◌≡◌, ℕ, Bool, arith, sym, subst, ap, ◌∙◌, true, false}
 use Rattle.std.specs.Prelude.{nat_eq}
 use Rattle.std.proofs.lemmas.Bool.Decides.{nat_tests}
 use Rattle.bridge_ident.specs.Identification.{handle_in}
@@ -65,3 +65,6 @@ returns-clause-priority g c =
     let priority : c.classified-vid.result.1 ≡ priority_of out head.tag = ap (λ (z : ℕ × ℕ × Bool). z.1) class in
     let few = priority_few out head.tag is_port.0 c.in-Ok.ensures.priority in
     omega (arith, priority, few)
+
+pub handle_of-requires : goal.handle_of-requires
+handle_of-requires g c κs h = h

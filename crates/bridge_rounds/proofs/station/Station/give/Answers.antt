@@ -1,6 +1,8 @@
-use Rattle.std.proofs.Common.{ℕ, List, None, slice_set, ap, ◌∙◌}
+use Rattle.std.proofs.Common.{ℕ, List, None, length, refl, slice_set, ap, ◌∙◌}
 use Rattle.std.specs.Prelude.{Vec}
-use Rattle.bridge_rounds.specs.Stations.{StationState, senders_in, taps_in}
+use Rattle.std.proofs.lemmas.List.{length-set}
+use Rattle.bridge_state.proofs.Porting.{none_some}
+use Rattle.bridge_rounds.specs.Stations.{StationState, senders_in, taps_in, texts_in}
 use Rattle.bridge_rounds.proofs.Turns.{ground_given, map_of_set}
 use Rattle.bridge_rounds.proofs.station.Station.give.Goals as goal
 
@@ -14,3 +16,16 @@ returns-clause-ground g c =
 
 pub returns-clause-texts : goal.returns-clause-texts
 returns-clause-texts g c = map_of_set (λ (v : Vec ℕ g.row.A.Denot). v.items) c.self.inside.texts.items c.args.place c.args.text ∙ ap (λ (s : StationState g.row.A.Denot). slice_set s.texts c.args.place c.args.text.items) c.self.view_is
+
+pub invariant_of-self : goal.invariant_of-self
+invariant_of-self g c =
+    let all = c.self.invariant in
+    let set = map_of_set (λ (v : Vec ℕ g.row.A.Denot). v.items) c.self.inside.texts.items c.args.place c.args.text in
+    record {
+      numbers = all.numbers;
+      commands = all.commands;
+      sent = all.sent;
+      texts = ap length set ∙ length-set (texts_in c.self.inside.texts.items) c.args.place c.args.text.items ∙ all.texts;
+      tapped = λ o is. absurd (none_some None o refl is);
+      runs = λ o is. absurd (none_some None o refl is);
+    }

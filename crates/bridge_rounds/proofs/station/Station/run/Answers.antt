@@ -1,5 +1,8 @@
 use Rattle.std.proofs.Common.{ℕ, List, length, refl, sym, ap, subst, ◌∙◌}
+use Rattle.std.proofs.lemmas.List.{length-map}
 use Rattle.bridge_config.specs.declared.command.Command.{Command}
+use Rattle.bridge_config.specs.Commands.{AreCommands}
+use Rattle.bridge_core.specs.Simulated.{AreNumbers}
 use Rattle.bridge_rounds.specs.Stations.{RunsBridge, StationState, StopsBridge, ground, senders_in, taps_in, texts_in}
 use Rattle.bridge_rounds.proofs.Over.{kept_ran, some_there}
 use Rattle.bridge_rounds.proofs.station.Station.run.Goals as goal
@@ -38,3 +41,12 @@ returns-then-is_some-clause-same g c = (refl, refl)
 
 pub returns-then-is_some-clause-kept : goal.returns-then-is_some-clause-kept
 returns-then-is_some-clause-kept g c = λ e. refl
+
+pub ran_over-requires-clause-numbers : goal.ran_over-requires-clause-numbers
+ran_over-requires-clause-numbers g c = subst (λ (ns : List ℕ). AreNumbers c.self.inside.accepted.now ns) (sym c.deref.ensures.value) c.self.invariant.numbers
+
+pub ran_over-requires-clause-commands : goal.ran_over-requires-clause-commands
+ran_over-requires-clause-commands g c = subst (λ (cs : List Command). AreCommands c.self.inside.accepted.now cs) (sym c.deref-2.ensures.value) c.self.invariant.commands
+
+pub ran_over-requires-clause-texts : goal.ran_over-requires-clause-texts
+ran_over-requires-clause-texts g c = ap length c.deref-3.ensures.value ∙ sym (length-map c.self.inside.texts.items _) ∙ c.self.invariant.texts ∙ ap length (sym c.deref.ensures.value)
