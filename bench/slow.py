@@ -5,8 +5,9 @@
     slow.py CRATE FUNCTION  seconds of each goal of a function, named as module::Type::function; a goal without an answer is
                             left to `search rules`, which takes about as long as the kit's own search
 
-The seconds are gaps between the times of the files that a check leaves. While the second form runs, the function's answers
-stand apart; an interrupt puts them back.
+The seconds are gaps between the times of the files that a check leaves; the first goal, before which there is none, may be
+missing. While the second form runs, each answer is a module of its own, so one that cites another is told as an error; an
+interrupt puts them back.
 """
 import collections, glob, os, re, shutil, subprocess, sys, time
 
