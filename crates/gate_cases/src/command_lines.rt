@@ -2,12 +2,23 @@
 
 use crate::adding::add_debug;
 use crate::fault_lines::put_status;
+use crate::short::{is_refused, put_refused};
 use bridge_cli::{
     Job, TableRequest, job_of, picture_request_of, table_request_of, wants_explanation,
     wants_strictness,
 };
+use bridge_inputs::RunFault;
+use bridge_jobs::Fault;
 use bridge_text::Text;
+use fixture_alloc::Ending;
 use std::alloc::{AllocError, Global};
+
+/// Command lines that are read with less memory than that takes too.
+const SHORT: &[&str] = &[
+    "wire 10 1 IN OUT",
+    "run PLAN IN OUT --commands COMMANDS --delays DELAYS",
+    "net NET IN OUT",
+];
 
 /// Puts each line of a file, and below one that begins with `$` what is read of the words behind it.
 pub fn put_command_lines(alloc: Global, said: &mut Text<Global>, text: &str) {
@@ -98,5 +109,25 @@ fn put_tables(alloc: Global, said: &mut Text<Global>, words: &[String]) {
             said.put("\n");
         }
         Err(fault) => put_status(alloc, said, &fault),
+    }
+}
+
+/// Puts some command lines, and how each is read with less memory than that takes.
+pub fn put_short_lines(alloc: Global, said: &mut Text<Global>) {
+    for line in SHORT {
+        said.fill("$ {a}\n", &[], &[*line]);
+        match words_in(alloc, line) {
+            Ok(words) => put_refused(said, is_refused(alloc, || job_ending(alloc, &words))),
+            Err(_) => said.give_up(),
+        }
+    }
+}
+
+/// How the words of a job are read.
+fn job_ending(alloc: Global, words: &[String]) -> Ending {
+    match job_of(alloc, words) {
+        Ok(_) => Ending::Whole,
+        Err(Fault::Run(RunFault::NoMemory)) => Ending::NoMemory,
+        Err(_) => Ending::Wrong,
     }
 }

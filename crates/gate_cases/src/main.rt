@@ -19,6 +19,7 @@ mod networks;
 mod outcome;
 mod parts;
 mod reading;
+mod short;
 mod sinks;
 mod sources;
 mod telling;

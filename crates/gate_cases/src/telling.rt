@@ -1,6 +1,6 @@
 //! What is told beside the line of each kind of fault, and of plans that are accepted.
 use crate::adding::add;
-use crate::command_lines::put_command_lines;
+use crate::command_lines::{put_command_lines, put_short_lines};
 use crate::fault_lines::put_lines_of_faults;
 use crate::judging::print_text;
 use crate::reading::text_in;
@@ -25,6 +25,7 @@ pub fn tell_all(rt: &(impl AllocGlobal + Print + Files), words: &[String]) -> Re
     put_faults(rt.alloc(), &mut said);
     put_causes(rt.alloc(), &mut said);
     put_lines_of_faults(rt.alloc(), &mut said);
+    put_short_lines(rt.alloc(), &mut said);
     print_text(rt, said)
 }
 

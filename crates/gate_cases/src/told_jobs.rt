@@ -3,6 +3,7 @@
 use crate::case::written_out;
 use crate::fault_lines::put_status;
 use crate::growths::{growths_of, put_growths};
+use crate::short::{is_refused, put_refused};
 use bridge_check::Accepted;
 use bridge_config::Command;
 use bridge_jobs::{Fault, NoMemory, check_job, commanded, plan_from, wire_text};
@@ -29,8 +30,20 @@ fn put_with_growths(alloc: Global, said: &mut Text<Global>, heading: &str, text:
             said.put(whole);
             let growths = growths_of(alloc, |gate| ending(gate, alloc, heading, text, whole));
             put_growths(said, growths);
+            if heading.ends_with(", also without memory") {
+                let refused = is_refused(alloc, || ending_when_short(alloc, heading, text, whole));
+                put_refused(said, refused);
+            }
         }
         Err(_) => said.give_up(),
+    }
+}
+
+/// How a job ends that finds less memory than it takes, and says this with ample memory.
+fn ending_when_short(heap: Global, heading: &str, text: &str, whole: &str) -> Ending {
+    match said_of(heap, heap, heading, text) {
+        Ok(said) => Ending::of(said.as_str() == whole, said.as_str() == NO_MEMORY),
+        Err(NoMemory) => Ending::NoMemory,
     }
 }
 
