@@ -20,7 +20,7 @@ use std::io::{Error, ErrorKind};
 use std::rt::Files;
 
 /// The most octets of a plan or of commands that are read: one more than they may have.
-const MOST_TEXT: u64 = 1_048_577;
+pub(crate) const MOST_TEXT: u64 = 1_048_577;
 
 /// The octets of a capture that are looked at.
 const FRONT: u64 = 64;
@@ -46,8 +46,7 @@ fn said_of_job<H: AllocGlobal + Files>(
     match fault {
         Fault::Text(fault) => explain_text(rt.alloc(), fault).ok(),
         Fault::Run(fault) => said_of_run(rt, job, fault),
-        Fault::Plan(fault) => said_of_plan(rt, plan_path(job)?, fault),
-        Fault::Check(fault) => said_of_check(rt, plan_path(job)?, fault),
+        Fault::Plan(_) | Fault::Check(_) => said_of_plan(rt, plan_path(job)?, fault),
         Fault::Commands(fault) => {
             said_of_commands(rt, plan_path(job)?, commands_path(job)?, fault)
         }
@@ -60,10 +59,9 @@ fn said_of_job<H: AllocGlobal + Files>(
     }
 }
 
-/// The path of the plan of a job.
+/// The path of the plan of a job. The text of one that is checked was told of as it was read.
 fn plan_path(job: &Job) -> Option<&str> {
     match job {
-        Job::Check { plan } => Some(plan.as_str()),
         Job::Bounds { plan, .. } => Some(plan.as_str()),
         Job::Run { plan, .. } => Some(plan.as_str()),
         Job::Picture { plan, .. } => Some(plan.as_str()),
@@ -92,10 +90,24 @@ fn front_of<H: AllocGlobal + Files>(rt: &H, path: &str, most: u64) -> Option<Vec
     read_at_most(rt.alloc(), reader, most).ok()
 }
 
-/// What is told of a plan whose text is refused.
-fn said_of_plan<H: AllocGlobal + Files>(rt: &H, path: &str, fault: &PlanFault) -> Option<String> {
+/// What is told of the plan of a file that is refused.
+fn said_of_plan<H: AllocGlobal + Files>(rt: &H, path: &str, fault: &Fault) -> Option<String> {
     let text = front_of(rt, path, MOST_TEXT)?;
-    explain_plan(rt.alloc(), path, &text, fault).ok()
+    said_of_text(rt.alloc(), path, &text, fault)
+}
+
+/// What is told of the text of a plan that is refused, by the path of its file.
+pub(crate) fn said_of_text(
+    alloc: Global,
+    path: &str,
+    text: &[u8],
+    fault: &Fault,
+) -> Option<String> {
+    match fault {
+        Fault::Plan(fault) => explain_plan(alloc, path, text, fault).ok(),
+        Fault::Check(fault) => said_of_check(alloc, path, text, fault),
+        _ => None,
+    }
 }
 
 /// What is told of commands whose text is refused.
@@ -111,34 +123,27 @@ fn said_of_commands<H: AllocGlobal + Files>(
 }
 
 /// What is told of a plan that doesn't isolate a protected filter.
-fn said_of_check<H: AllocGlobal + Files>(rt: &H, path: &str, fault: &CheckFault) -> Option<String> {
-    let text = front_of(rt, path, MOST_TEXT)?;
-    let Ok(plan) = plan_of(rt.alloc(), rt.alloc(), &text) else {
+fn said_of_check(alloc: Global, path: &str, text: &[u8], fault: &CheckFault) -> Option<String> {
+    let Ok(plan) = plan_of(alloc, alloc, text) else {
         return None;
     };
-    let said = explain_check(rt.alloc(), path, &text, &plan, fault);
+    let said = explain_check(alloc, path, text, &plan, fault);
     drop(plan);
     said.ok()
 }
 
-/// What is told of the plan that these words check or run, where it is accepted: where the frames of its protected filters may
-/// wait and how long they take there at most, and what of it is likely a mistake.
+/// What is told of the plan that these words run, which is accepted: where the frames of its protected filters may wait and how
+/// long they take there at most, and what of it, and of the folder of captures that is sent through its bridge, is likely a
+/// mistake.
 pub fn said_of_accepted<H: AllocGlobal + Files>(rt: &H, words: &[String]) -> Option<String> {
     match job_of(rt.alloc(), words) {
-        Ok(Job::Check { plan }) => said_of_warnings(rt, plan.as_str(), None),
-        Ok(Job::Run { plan, input, .. }) => {
-            said_of_warnings(rt, plan.as_str(), Some(input.as_str()))
-        }
+        Ok(Job::Run { plan, input, .. }) => said_of_run_plan(rt, plan.as_str(), input.as_str()),
         _ => None,
     }
 }
 
-/// What is told of the plan of a file that is accepted, and of the folder of captures that is sent through its bridge.
-fn said_of_warnings<H: AllocGlobal + Files>(
-    rt: &H,
-    path: &str,
-    input: Option<&str>,
-) -> Option<String> {
+/// What is told of the plan of a file that is accepted, and of a folder of captures.
+fn said_of_run_plan<H: AllocGlobal + Files>(rt: &H, path: &str, input: &str) -> Option<String> {
     let text = front_of(rt, path, MOST_TEXT)?;
     let Ok(plan) = plan_of(rt.alloc(), rt.alloc(), &text) else {
         return None;
@@ -153,16 +158,14 @@ fn said_of_warnings<H: AllocGlobal + Files>(
 fn warned_of<H: AllocGlobal + Files>(
     rt: &H,
     accepted: &Accepted<Global>,
-    input: Option<&str>,
+    folder: &str,
 ) -> Option<String> {
     let warned = warn_of_plan(rt.alloc(), accepted).ok()?;
     let mut said = Text::new(rt.alloc());
     said.put(warned.as_str());
-    if let Some(folder) = input {
-        for port in 1..=16u8 {
-            if accepted.plan().port(port).is_none() {
-                put_capture(rt, &mut said, folder, port);
-            }
+    for port in 1..=16u8 {
+        if accepted.plan().port(port).is_none() {
+            put_capture(rt, &mut said, folder, port);
         }
     }
     said.done().ok()

@@ -38,7 +38,8 @@ pub fn run_job<H: AllocGlobal + Files>(
     commands: Option<String>,
 ) -> Result<String, Fault>
     ensures ok { IfOk result (λ line. PrintsRun Global (string_bytes line)) }
-    ensures err { IfErr result (EndsRun Global (string_bytes plan) (option_map string_bytes commands) (string_bytes input) (string_bytes output)) }
+    ensures err { IfErr result (EndsRun Global (string_bytes plan) (option_map string_bytes commands)
+        (string_bytes input) (string_bytes output)) }
 {
     run_with_picture(rt, plan, input, output, commands, None)
 }
@@ -54,7 +55,8 @@ pub fn run_with_picture<H: AllocGlobal + Files>(
     sketch: Option<PictureRequest>,
 ) -> Result<String, Fault>
     ensures ok { IfOk result (λ line. PrintsRun Global (string_bytes line)) }
-    ensures err { IfErr result (EndsDrawn Global (string_bytes plan) (option_map string_bytes commands) (string_bytes input) (string_bytes output) (option_map (λ s. string_bytes s.file) sketch)) }
+    ensures err { IfErr result (EndsDrawn Global (string_bytes plan) (option_map string_bytes commands)
+        (string_bytes input) (string_bytes output) (option_map (λ s. string_bytes s.file) sketch)) }
 {
     let none = TableRequest {
         delays: None,
@@ -77,7 +79,9 @@ pub fn run_with_tables<H: AllocGlobal + Files>(
     sketch: Option<PictureRequest>,
 ) -> Result<String, Fault>
     ensures ok { IfOk result (λ line. PrintsRun Global (string_bytes line)) }
-    ensures err { IfErr result (EndsTold Global (string_bytes plan) (option_map string_bytes commands) (string_bytes input) (string_bytes output) (option_map string_bytes tables.delays) (option_map string_bytes tables.frames) (option_map (λ s. string_bytes s.file) sketch)) }
+    ensures err { IfErr result (EndsTold Global (string_bytes plan) (option_map string_bytes commands)
+        (string_bytes input) (string_bytes output) (option_map string_bytes tables.delays)
+        (option_map string_bytes tables.frames) (option_map (λ s. string_bytes s.file) sketch)) }
 {
     let mut taken = Vec::new(rt.alloc());
     let (accepted, orders) = match read_job(rt, plan, commands, &mut taken) {
@@ -104,7 +108,9 @@ pub(crate) fn send_told<H: AllocGlobal + Files>(
 ) -> Result<String, Fault>
     requires commands { AreCommands accepted.now orders.now }
     ensures ok { IfOk result (λ line. PrintsRun Global (string_bytes line)) }
-    ensures err { IfErr result (EndsTabled accepted.now (string_bytes input) (string_bytes output) (option_map string_bytes tables.delays) (option_map string_bytes tables.frames) (option_map (λ s. string_bytes s.file) sketch)) }
+    ensures err { IfErr result (EndsTabled accepted.now (string_bytes input) (string_bytes output)
+        (option_map string_bytes tables.delays) (option_map string_bytes tables.frames)
+        (option_map (λ s. string_bytes s.file) sketch)) }
 {
     let mut taken = taken;
     if take_standard(rt, &mut taken).is_err() {
@@ -140,7 +146,8 @@ fn tell<H: AllocGlobal + Files>(
     taken: Vec<FileId>,
 ) -> Result<String, Fault>
     ensures ok { IfOk result (λ line. PrintsRun Global (string_bytes line)) }
-    ensures err { IfErr result (λ f. IsOfShowing (option_map (λ s. string_bytes s.file) sketch) f ⊎ IsOfTables (option_map string_bytes tables.delays) (option_map string_bytes tables.frames) f) }
+    ensures err { IfErr result (λ f. IsOfShowing (option_map (λ s. string_bytes s.file) sketch) f
+        ⊎ IsOfTables (option_map string_bytes tables.delays) (option_map string_bytes tables.frames) f) }
 {
     let mut taken = taken;
     if let Err(fault) = put_tables(rt, accepted, outcome, tables, &mut taken) {

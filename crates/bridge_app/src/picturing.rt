@@ -1,5 +1,5 @@
 //! Pictures as files.
-ghost use Rattle.std.specs.Prelude.{◌≤◌, ℕ, IfErr, List, codes, string_bytes};
+ghost use Rattle.std.specs.Prelude.{ℕ, IfErr, List, codes, string_bytes};
 ghost use Rattle.bridge_app.specs.Files.{EndsPicture, IsOfPicture};
 
 use bridge_check::{Accepted, CheckFault, Refused, check};

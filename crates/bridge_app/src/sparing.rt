@@ -145,7 +145,8 @@ fn spare_each<H: AllocGlobal + Files>(
     sketch: &Option<PictureRequest>,
     files: &[FileId],
 ) -> Result<(), Fault>
-    ensures { IfErr result (λ f. IsOfShowing (option_map (λ s. string_bytes s.file) sketch.now) f ⊎ IsOfTables (option_map string_bytes tables.now.delays) (option_map string_bytes tables.now.frames) f) }
+    ensures { IfErr result (λ f. IsOfShowing (option_map (λ s. string_bytes s.file) sketch.now) f
+        ⊎ IsOfTables (option_map string_bytes tables.now.delays) (option_map string_bytes tables.now.frames) f) }
 {
     if let Err(fault) = spare_table(rt, &tables.delays, files) {
         return Err(fault);
@@ -167,7 +168,8 @@ pub(crate) fn spare_files<H: AllocGlobal + Files>(
     sketch: &Option<PictureRequest>,
     taken: &[FileId],
 ) -> Result<(), Fault>
-    ensures { IfErr result (λ f. IsOfShowing (option_map (λ s. string_bytes s.file) sketch.now) f ⊎ IsOfTables (option_map string_bytes tables.now.delays) (option_map string_bytes tables.now.frames) f) }
+    ensures { IfErr result (λ f. IsOfShowing (option_map (λ s. string_bytes s.file) sketch.now) f
+        ⊎ IsOfTables (option_map string_bytes tables.now.delays) (option_map string_bytes tables.now.frames) f) }
 {
     let Ok(files) = files_of_run(rt, accepted, input, output, taken) else {
         return Err(Fault::Run(RunFault::NoMemory));

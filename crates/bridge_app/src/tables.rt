@@ -24,7 +24,8 @@ pub(crate) fn put_tables<H: AllocGlobal + Files>(
     tables: TableRequest,
     taken: &mut Vec<FileId>,
 ) -> Result<(), Fault>
-    ensures { IfErr result (IsOfTables (option_map string_bytes tables.delays) (option_map string_bytes tables.frames)) }
+    ensures { IfErr result (IsOfTables (option_map string_bytes tables.delays)
+        (option_map string_bytes tables.frames)) }
 {
     let TableRequest { delays, frames } = tables;
     if let Err(fault) = put_delays(rt, accepted, outcome, delays, taken) {

@@ -32,9 +32,21 @@ pub fn refused(
     ensures status { IfOk result (λ ending. ending.status ≡ status_of fault.now) }
     ensures printed { IfOk result (λ ending. string_bytes ending.printed ≡ []) }
 {
-    let (line, status) = fault_line(rt.alloc(), fault)?;
-    let told = lines_of(line, explanation_of(rt, words, fault))?;
-    let printed = String::new(rt.alloc());
+    refused_and_told(rt.alloc(), fault, explanation_of(rt, words, fault))
+}
+
+/// How a job ends with a fault, with this told behind its line.
+pub fn refused_and_told(
+    alloc: Global,
+    fault: &Fault,
+    said: Option<String>,
+) -> Result<Ending, NoMemory>
+    ensures status { IfOk result (λ ending. ending.status ≡ status_of fault.now) }
+    ensures printed { IfOk result (λ ending. string_bytes ending.printed ≡ []) }
+{
+    let (line, status) = fault_line(alloc, fault)?;
+    let told = lines_of(line, said)?;
+    let printed = String::new(alloc);
     Ok(Ending {
         printed,
         told,

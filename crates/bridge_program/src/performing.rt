@@ -1,10 +1,10 @@
 //! The job of the words, done over standard input and output and the files that it names.
 ghost use Rattle.bridge_cli.specs.CommandLine.{HasRoom};
 
-use crate::ending::{Ending, refused};
+use crate::ending::{Ending, refused, refused_and_told};
 use bridge_app::{
-    Strict, picture_apart, picture_part_job, picture_text, run_with_tables, said_of_accepted,
-    strict_check_job, strict_run_job, write_picture,
+    Checked, Strict, picture_apart, picture_part_job, picture_text, run_with_tables,
+    said_of_accepted, strict_run_job, told_check_job, write_picture,
 };
 use bridge_cli::{
     Job, PictureRequest, TableRequest, help_of, job_of, picture_request_of, table_request_of,
@@ -122,7 +122,7 @@ fn done_job<H: Input + AllocGlobal + Print + Eprint + Files>(
             input,
             output,
         } => wired(rt.alloc(), wire_files(rt, speed, room, input, output)),
-        Job::Check { plan } => check_at(rt, words, plan, wishes),
+        Job::Check { plan } => check_at(rt, plan, wishes),
         Job::Run {
             plan,
             input,
@@ -212,7 +212,7 @@ fn text_or_none(alloc: Global, text: Option<String>) -> String {
     }
 }
 
-/// How a job over a plan that is accepted ends, with what is told of it where that is asked for.
+/// How a run that is done ends, with what is told of its plan where that is asked for.
 fn accepted(
     rt: &(impl AllocGlobal + Files),
     words: &[String],
@@ -240,38 +240,52 @@ fn path_or(alloc: Global, path: String, device: &str) -> Result<String, Fault> {
     }
 }
 
-/// How the check of the plan of a file, or of standard input for `-`, ends. What is told of the latter comes from one reading,
-/// as nothing of it is left then.
+/// How the check of the plan of a file, or of standard input for `-`, ends.
 fn check_at(
     rt: &(impl AllocGlobal + Files),
-    words: &[String],
     plan: String,
     wishes: Wishes,
 ) -> Result<Ending, Fault> {
-    let is_told_at_once = wishes.is_explained && is_standard(plan.as_str());
+    if wishes.is_explained || wishes.is_strict {
+        return check_and_tell(rt, plan.as_str(), wishes);
+    }
     match path_or(rt.alloc(), plan, "/dev/stdin") {
-        Ok(plan) if is_told_at_once || wishes.is_strict => strictly(
-            rt.alloc(),
-            strict_check_job(rt, plan, wishes.is_explained),
-            wishes.is_strict,
-        ),
-        Ok(plan) => check(rt, words, plan, wishes.is_explained),
+        Ok(plan) => said(rt.alloc(), check(rt, plan)),
         Err(fault) => Err(fault),
     }
 }
 
-/// How the check of the plan of a file ends for which a warning is no fault.
-fn check(
-    rt: &(impl AllocGlobal + Files),
-    words: &[String],
-    plan: String,
-    is_explained: bool,
-) -> Result<Ending, Fault> {
+/// What is printed for the plan of a file.
+fn check(rt: &(impl AllocGlobal + Files), plan: String) -> Result<String, Fault> {
     let Ok(reader) = fs::open(rt, plan.as_str()) else {
         return Err(Fault::File(plan));
     };
-    let line = check_job(rt.alloc(), rt.alloc(), plan, reader);
-    accepted(rt, words, line, is_explained)
+    check_job(rt.alloc(), rt.alloc(), plan, reader)
+}
+
+/// How a check ends of which more is told, all of one reading: the warnings of the plan, or what is to be said of it or of its
+/// fault.
+fn check_and_tell(
+    rt: &(impl AllocGlobal + Files),
+    plan: &str,
+    wishes: Wishes,
+) -> Result<Ending, Fault> {
+    let Checked { strict, said } = told_check_job(rt, plan, wishes.is_explained);
+    match strict {
+        Ok(strict) => strictly(rt.alloc(), Ok(strict), wishes.is_strict),
+        Err(fault) => told(rt.alloc(), fault, said),
+    }
+}
+
+/// How a job ends with a fault of which this is told, if anything.
+fn told(alloc: Global, fault: Fault, said: Option<String>) -> Result<Ending, Fault> {
+    if said.is_none() {
+        return Err(fault);
+    }
+    match refused_and_told(alloc, &fault, said) {
+        Ok(ending) => Ok(ending),
+        Err(NoMemory) => Err(memory_fault()),
+    }
 }
 
 /// What the words ask for beside the report of a run.
