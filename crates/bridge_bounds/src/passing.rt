@@ -67,7 +67,8 @@ fn is_shut_behind<A: Allocator + Copy>(
     requires end { turn.now.end ≤ 2_000_000_000 }
     requires apart { apart ≤ 1_000_000_000_000_000_000 }
     requires lawful { IsLawful list.now }
-    ensures { (result ≡ true) ↔ (turn.now.state.lets ≡ true → IsShut (turn_at list.now) turn.now.end (turn.now.end + apart - 1)) }
+    ensures { (result ≡ true) ↔ (turn.now.state.lets ≡ true
+        → IsShut (turn_at list.now) turn.now.end (turn.now.end + apart - 1)) }
 {
     if !turn.state.lets {
         return true;

@@ -105,7 +105,8 @@ pub fn tight_bound_of<A: Allocator + Copy>(
     requires from { 1 ≤ port }
     requires to { port ≤ 16 }
     requires class { class < 8 }
-    ensures { MatchOption result (HasNoBound accepted.now number port class) (IsTightBound accepted.now number port class) }
+    ensures { MatchOption result (HasNoBound accepted.now number port class)
+        (IsTightBound accepted.now number port class) }
 {
     let plan = accepted.plan();
     let filter = filter_at(plan.filters(), number)?;

@@ -46,7 +46,8 @@ impl Capture {
 
     /// Reads the header of a capture. Takes no memory.
     pub fn begin<R: ByteSource>(source: &mut R) -> Result<Capture, CaptureFault>
-        ensures stands { (text : List ℕ) → R.remaining source.old ≡ Some text → Begins text (R.remaining source.new) result }
+        ensures stands { (text : List ℕ) → R.remaining source.old ≡ Some text
+            → Begins text (R.remaining source.new) result }
         ensures taken { IfErr result (TakesOfHeader (R.remaining source.old) (R.remaining source.new)) }
 
         // A new capture is being read, and has given no record.
@@ -90,7 +91,8 @@ impl Capture {
     ) -> Result<Option<Packet<A>>, CaptureFault>
         ensures stands { (text : List ℕ) (given : List Captured) → StandsFor self.old (R.remaining source.old) text given →
             Answers self.new (R.remaining source.new) text given result }
-        ensures taken { IfErr result (λ fault. IsReading self.old → TakesFor self.old (R.remaining source.old) (R.remaining source.new) fault) }
+        ensures taken { IfErr result (λ fault. IsReading self.old
+            → TakesFor self.old (R.remaining source.old) (R.remaining source.new) fault) }
         ensures untouched { ¬ IsReading self.old → source.new ≡ source.old }
 
         // What holds of a packet, whatever the source tells.
@@ -133,7 +135,8 @@ impl Capture {
     ) -> Result<Option<Stamp>, CaptureFault>
         ensures stands { (text : List ℕ) (given : List Captured) → StandsFor self.old (R.remaining source.old) text given →
             Answers self.new (R.remaining source.new) text given (packet_in octets.new result) }
-        ensures taken { IfErr result (λ fault. IsReading self.old → TakesFor self.old (R.remaining source.old) (R.remaining source.new) fault) }
+        ensures taken { IfErr result (λ fault. IsReading self.old
+            → TakesFor self.old (R.remaining source.old) (R.remaining source.new) fault) }
         ensures untouched { ¬ IsReading self.old → source.new ≡ source.old }
 
         // What holds of a packet, whatever the source tells.
@@ -142,7 +145,8 @@ impl Capture {
         ensures latest { IfPacket (packet_in octets.new result) (λ packet. self.new.latest ≡ packet.time) }
         ensures small { IfPacket (packet_in octets.new result) (λ packet. length packet.octets.items ≤ MOST_CAPTURED) }
         ensures within { IfPacket (packet_in octets.new result) (λ packet. length packet.octets.items ≤ packet.len) }
-        ensures fewer { IfPacket (packet_in octets.new result) (λ _. records_left self.old ≡ records_left self.new + 1) }
+        ensures fewer { IfPacket (packet_in octets.new result) (λ _. records_left self.old
+            ≡ records_left self.new + 1) }
         ensures reading { IfPacket (packet_in octets.new result) (λ _. IsReading self.new) }
 
         // Its end and its refusal are for good.

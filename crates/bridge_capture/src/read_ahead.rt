@@ -24,7 +24,8 @@ pub struct ReadAhead<R: Read, A: Allocator> {
 impl<R: Read + Drop, A: Allocator> ReadAhead<R, A> {
     /// A source of what the reader gives. One growth of memory; where it is refused, the reader is let go.
     pub fn new(alloc: A, reader: R) -> Result<ReadAhead<R, A>, NoMemory>
-        ensures remaining { IfOk result (λ source. ⟦<ReadAhead<R, A> as ByteSource>⟧.remaining source ≡ R.remaining reader) }
+        ensures remaining { IfOk result (λ source. ⟦<ReadAhead<R, A> as ByteSource>⟧.remaining source
+            ≡ R.remaining reader) }
         ensures sound { IfOk result (λ source. ⟦<ReadAhead<R, A> as ByteSource>⟧.has_failed source ≡ false) }
     {
         ReadAhead::with_width(alloc, reader, MOST_AT_ONCE)
@@ -33,7 +34,8 @@ impl<R: Read + Drop, A: Allocator> ReadAhead<R, A> {
     /// The same, asking for so many octets at once, 1 at least: many sources that are read in turn are faster with less.
     pub fn with_width(alloc: A, reader: R, width: usize) -> Result<ReadAhead<R, A>, NoMemory>
         requires { 0 < width }
-        ensures remaining { IfOk result (λ source. ⟦<ReadAhead<R, A> as ByteSource>⟧.remaining source ≡ R.remaining reader) }
+        ensures remaining { IfOk result (λ source. ⟦<ReadAhead<R, A> as ByteSource>⟧.remaining source
+            ≡ R.remaining reader) }
         ensures sound { IfOk result (λ source. ⟦<ReadAhead<R, A> as ByteSource>⟧.has_failed source ≡ false) }
     {
         match Window::new(alloc, width) {
@@ -52,7 +54,8 @@ impl<R: Read, A: Allocator> ReadAhead<R, A> {
     #[inline(never)]
     fn read_on(&mut self, buf: &mut [u8]) -> Result<usize, Broken>
         ensures count { IfOk result (λ n. n ≤ length buf.new) }
-        ensures bytes { ReadConsumes (ahead_remaining R.remaining self.old) (ahead_remaining R.remaining self.new) result buf.new }
+        ensures bytes { ReadConsumes (ahead_remaining R.remaining self.old)
+            (ahead_remaining R.remaining self.new) result buf.new }
         ensures fails { OnErr result (self.new.source.is_broken ≡ true) }
         ensures works { OnOk result (self.new.source.is_broken ≡ false) }
         ensures stays { self.old.source.is_broken ≡ true → IsErr result }

@@ -1,5 +1,5 @@
 //! One record of a capture.
-ghost use Rattle.std.specs.Prelude.{◌≡◌, ◌≢◌, ◌≤◌, ◌<◌, ◌+◌, ◌*◌, ◌^◌, Some, None, Err, true, length, take, IfSome, IfErr, MatchResult};
+ghost use Rattle.std.specs.Prelude.{◌≡◌, ◌≢◌, ◌≤◌, ◌<◌, ◌+◌, ◌*◌, Some, None, Err, true, length, take, IfSome, IfErr, MatchResult};
 ghost use Rattle.bridge_capture.specs.Grammar.{time_of, captured_of, original_of, head_fault, front_of};
 ghost use Rattle.bridge_capture.specs.Reading.{Takes, TakesOctets, IfPacket, IsOfWords, packet_in};
 ghost use Rattle.bridge_capture.specs.Taken.{TakesOfRecord, IsSound};
@@ -79,7 +79,8 @@ fn take_octets<R: ByteSource, A: Allocator>(
     octets: &mut Vec<u8, A>,
     source: &mut R,
 ) -> Result<(), CaptureFault>
-    ensures octets { TakesOctets number captured (R.remaining source.old) (R.remaining source.new) octets.new.items result }
+    ensures octets { TakesOctets number captured (R.remaining source.old)
+        (R.remaining source.new) octets.new.items result }
     ensures failed { result ≡ Err CaptureFault.Read → R.has_failed source.new ≡ true }
     ensures sure { R.never_fails source.old ≡ true → result ≢ Err CaptureFault.Read }
     ensures lasts { R.never_fails source.old ≡ true → R.never_fails source.new ≡ true }
@@ -106,7 +107,8 @@ fn head_at_hand(form: Form, number: u32, earliest: u64, lent: &[u8]) -> Option<H
     ensures time { IfSome result (λ head. head.time ≡ time_of form (take 16 lent.now)) }
     ensures captured { IfSome result (λ head. head.captured ≡ captured_of form (take 16 lent.now)) }
     ensures original { IfSome result (λ head. head.original ≡ original_of form (take 16 lent.now)) }
-    ensures sound { IfSome result (λ _. IsSound form (record { number = number; earliest = earliest }) (take 16 lent.now)) }
+    ensures sound { IfSome result (λ _. IsSound form (record
+        { number = number; earliest = earliest }) (take 16 lent.now)) }
     ensures early { IfSome result (λ head. head.time < END_OF_TIME) }
     ensures onward { IfSome result (λ head. earliest ≤ head.time) }
     ensures small { IfSome result (λ head. head.captured ≤ MOST_CAPTURED) }
@@ -134,7 +136,8 @@ pub fn front_record<R: ByteSource, A: Allocator>(
 ) -> Result<Option<Stamp>, CaptureFault>
     ensures record { IfSome (R.remaining source.old) (λ text.
         Takes (front_of form (record { number = number; earliest = earliest }) text) (R.remaining source.new) (packet_in octets.new result)) }
-    ensures taken { IfErr result (TakesOfRecord form (record { number = number; earliest = earliest }) (R.remaining source.old) (R.remaining source.new)) }
+    ensures taken { IfErr result (TakesOfRecord form (record
+        { number = number; earliest = earliest }) (R.remaining source.old) (R.remaining source.new)) }
     ensures few { IfPacket (packet_in octets.new result) (λ _. number ≤ MAX_RECORDS) }
     ensures early { IfPacket (packet_in octets.new result) (λ packet. packet.time < END_OF_TIME) }
     ensures onward { IfPacket (packet_in octets.new result) (λ packet. earliest ≤ packet.time) }
@@ -180,7 +183,8 @@ fn read_record<R: ByteSource, A: Allocator>(
 ) -> Result<Option<Stamp>, CaptureFault>
     ensures record { IfSome (R.remaining source.old) (λ text.
         Takes (front_of form (record { number = number; earliest = earliest }) text) (R.remaining source.new) (packet_in octets.new result)) }
-    ensures taken { IfErr result (TakesOfRecord form (record { number = number; earliest = earliest }) (R.remaining source.old) (R.remaining source.new)) }
+    ensures taken { IfErr result (TakesOfRecord form (record
+        { number = number; earliest = earliest }) (R.remaining source.old) (R.remaining source.new)) }
     ensures few { IfPacket (packet_in octets.new result) (λ _. number ≤ MAX_RECORDS) }
     ensures early { IfPacket (packet_in octets.new result) (λ packet. packet.time < END_OF_TIME) }
     ensures onward { IfPacket (packet_in octets.new result) (λ packet. earliest ≤ packet.time) }

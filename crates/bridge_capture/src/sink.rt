@@ -33,7 +33,9 @@ pub trait ByteSink {
     /// May take two numbers, each in eight octets of little order, and the octets behind them, all at once, and says whether it
     /// did; else it takes nothing, and they are to be written one after the other.
     fn write_words(&mut self, first: u64, second: u64, octets: &[u8]) -> bool
-        ensures bytes { result ≡ true → Appends (contents self.old) (contents self.new) ((to_le_bytes w64 first ++ to_le_bytes w64 second) ++ octets.now) }
+        ensures bytes { result ≡ true
+            → Appends (contents self.old) (contents self.new) ((to_le_bytes w64 first ++ to_le_bytes w64 second)
+            ++ octets.now) }
         ensures fresh { result ≡ true → has_failed self.old ≡ false }
         ensures works { result ≡ true → has_failed self.new ≡ false }
         ensures lasts { never_fails self.old ≡ true → never_fails self.new ≡ true }

@@ -61,7 +61,13 @@ impl<'a> SliceSource<'a> {
 
     fn with(octets: &'a [u8], allowance: Option<usize>, step: usize) -> SliceSource<'a>
         requires { 0 < step }
-        ensures { result ≡ record { octets = octets.entry.now; allowance = allowance; step = step; is_broken = false; ran_out = false } }
+        ensures { result ≡ record {
+          octets = octets.entry.now;
+          allowance = allowance;
+          step = step;
+          is_broken = false;
+          ran_out = false;
+        } }
     {
         SliceSource {
             rest: octets,

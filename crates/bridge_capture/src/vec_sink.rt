@@ -69,7 +69,13 @@ impl<A: Allocator> VecSink<A> {
 
     fn with(alloc: A, allowance: Option<usize>, step: usize) -> VecSink<A>
         requires { 0 < step }
-        ensures { result ≡ record { octets = []; allowance = allowance; step = step; is_broken = false; ran_out = false } }
+        ensures { result ≡ record {
+          octets = [];
+          allowance = allowance;
+          step = step;
+          is_broken = false;
+          ran_out = false;
+        } }
     {
         VecSink {
             octets: Vec::new(alloc),
@@ -115,7 +121,8 @@ impl<A: Allocator> ByteSink for VecSink<A> {
         ensures stays { self.old.is_broken ≡ true → IsErr result }
 
         // It fails only where it had failed, was to fail, or ran out of memory, and counts what it takes.
-        ensures fault { OnErr result ((self.old.is_broken ≡ true) ⊎ (self.old.allowance ≡ Some 0) ⊎ (self.new.ran_out ≡ true)) }
+        ensures fault { OnErr result ((self.old.is_broken ≡ true) ⊎ (self.old.allowance ≡ Some 0)
+            ⊎ (self.new.ran_out ≡ true)) }
         ensures room { OnOk result (self.new.ran_out ≡ self.old.ran_out) }
         ensures counted { IfOk result (λ n. self.new.allowance ≡ option_map (λ left. left - n) self.old.allowance) }
         ensures step { IfOk result (λ n. n ≤ self.old.step) }

@@ -53,7 +53,8 @@ impl<A: Allocator> Window<A> {
     #[inline(always)]
     pub fn give(&mut self, buf: &mut [u8])
         requires { length buf.old ≤ self.old.end - self.old.start }
-        ensures given { slice_range self.old.octets.items self.old.start self.old.end ≡ buf.new ++ slice_range self.new.octets.items self.new.start self.new.end }
+        ensures given { slice_range self.old.octets.items self.old.start self.old.end ≡ buf.new
+            ++ slice_range self.new.octets.items self.new.start self.new.end }
         ensures length { length buf.new ≡ length buf.old }
     {
         let from = self.start;
@@ -74,7 +75,9 @@ impl<A: Allocator> Window<A> {
     #[inline(always)]
     pub fn skip(&mut self, count: usize)
         requires { count ≤ self.old.end - self.old.start }
-        ensures { slice_range self.old.octets.items self.old.start self.old.end ≡ take count (slice_range self.old.octets.items self.old.start self.old.end) ++ slice_range self.new.octets.items self.new.start self.new.end }
+        ensures { slice_range self.old.octets.items self.old.start self.old.end
+            ≡ take count (slice_range self.old.octets.items self.old.start self.old.end)
+            ++ slice_range self.new.octets.items self.new.start self.new.end }
     {
         self.start += count;
     }
@@ -82,7 +85,8 @@ impl<A: Allocator> Window<A> {
     /// Asks the source for as many octets as there is room for, where it holds none.
     pub fn refill<R: ByteSource>(&mut self, source: &mut R) -> Result<(), Broken>
         requires { self.old.start ≡ self.old.end }
-        ensures kept { Keeps (R.remaining source.old) (prepend_known (slice_range self.new.octets.items self.new.start self.new.end) (R.remaining source.new)) }
+        ensures kept { Keeps (R.remaining source.old)
+            (prepend_known (slice_range self.new.octets.items self.new.start self.new.end) (R.remaining source.new)) }
         ensures end { OnOk result (self.new.end ≡ self.new.start → IsAtEnd (R.remaining source.new)) }
         ensures none { OnErr result (self.new.end ≡ self.new.start) }
         ensures fails { OnErr result (R.has_failed source.new ≡ true) }
@@ -107,7 +111,8 @@ fn read_over<R: ByteSource, A: Allocator>(
 ) -> Result<usize, Broken>
     ensures length { vec_len octets.new ≡ vec_len octets.old }
     ensures count { IfOk result (λ n. n ≤ vec_len octets.new) }
-    ensures bytes { IfOk result (λ n. Consumes (R.remaining source.old) (R.remaining source.new) (take n octets.new.items)) }
+    ensures bytes { IfOk result (λ n. Consumes (R.remaining source.old) (R.remaining source.new)
+        (take n octets.new.items)) }
     ensures end { IfOk result (λ n. n ≡ 0 → 0 < vec_len octets.old → IsAtEnd (R.remaining source.new)) }
     ensures kept { OnErr result (Keeps (R.remaining source.old) (R.remaining source.new)) }
     ensures fails { OnErr result (R.has_failed source.new ≡ true) }

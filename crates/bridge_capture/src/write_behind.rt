@@ -24,7 +24,8 @@ pub struct WriteBehind<W: Write + Drop, A: Allocator> {
 impl<W: Write + Drop, A: Allocator> WriteBehind<W, A> {
     /// A sink into the writer, in blocks of 131,072 octets. One growth of memory; where it is refused, the writer is let go.
     pub fn new(alloc: A, writer: W) -> Result<WriteBehind<W, A>, NoMemory>
-        ensures contents { IfOk result (λ sink. Keeps (W.contents writer) (⟦<WriteBehind<W, A> as ByteSink>⟧.contents sink)) }
+        ensures contents { IfOk result (λ sink. Keeps (W.contents writer)
+            (⟦<WriteBehind<W, A> as ByteSink>⟧.contents sink)) }
         ensures sound { IfOk result (λ sink. ⟦<WriteBehind<W, A> as ByteSink>⟧.has_failed sink ≡ false) }
     {
         WriteBehind::with_block(alloc, writer, BLOCK)
@@ -34,7 +35,8 @@ impl<W: Write + Drop, A: Allocator> WriteBehind<W, A> {
     pub fn with_block(alloc: A, writer: W, block: usize) -> Result<WriteBehind<W, A>, NoMemory>
         requires some { 0 < block }
         requires most { block ≤ 131_072 }
-        ensures contents { IfOk result (λ sink. Keeps (W.contents writer) (⟦<WriteBehind<W, A> as ByteSink>⟧.contents sink)) }
+        ensures contents { IfOk result (λ sink. Keeps (W.contents writer)
+            (⟦<WriteBehind<W, A> as ByteSink>⟧.contents sink)) }
         ensures sound { IfOk result (λ sink. ⟦<WriteBehind<W, A> as ByteSink>⟧.has_failed sink ≡ false) }
     {
         match Held::new(alloc, block) {
@@ -48,7 +50,8 @@ impl<W: Write + Drop, A: Allocator> WriteBehind<W, A> {
 
     /// The writer, once it has all that the sink took. A writer that has failed is not asked again, here or when it is let go.
     pub fn finish(mut self) -> Result<W, Broken>
-        ensures contents { IfOk result (λ writer. Keeps (⟦<WriteBehind<W, A> as ByteSink>⟧.contents self) (W.contents writer)) }
+        ensures contents { IfOk result (λ writer. Keeps (⟦<WriteBehind<W, A> as ByteSink>⟧.contents self)
+            (W.contents writer)) }
         ensures failed { ⟦<WriteBehind<W, A> as ByteSink>⟧.has_failed self ≡ true → IsErr result }
     {
         let held = self.held.len();
@@ -94,7 +97,8 @@ impl<W: Write + Drop, A: Allocator> WriteBehind<W, A> {
     fn write_on(&mut self, octets: &[u8]) -> Result<usize, Broken>
         ensures count { IfOk result (λ n. n ≤ length octets.now) }
         ensures some { IfOk result (λ n. 0 < length octets.now → 0 < n) }
-        ensures bytes { WriteAppends (behind_contents W.contents self.old) (behind_contents W.contents self.new) result octets.now }
+        ensures bytes { WriteAppends (behind_contents W.contents self.old)
+            (behind_contents W.contents self.new) result octets.now }
         ensures fails { OnErr result (self.new.sink.is_broken ≡ true) }
         ensures works { OnOk result (self.new.sink.is_broken ≡ false) }
         ensures stays { self.old.sink.is_broken ≡ true → IsErr result }

@@ -52,8 +52,10 @@ impl Writer {
         requires seconds { done < 2 ^ 32 * 10 ^ 9 }
         requires captured { length octets.now ≤ SNAP_LENGTH }
         requires original { length octets.now ≤ len }
-        ensures ok { OnOk result (Appends (W.contents sink.old) (W.contents sink.new) (written_record done len octets.now)) }
-        ensures err { OnErr result (AppendsFront (W.contents sink.old) (W.contents sink.new) (written_record done len octets.now)) }
+        ensures ok { OnOk result (Appends (W.contents sink.old) (W.contents sink.new)
+            (written_record done len octets.now)) }
+        ensures err { OnErr result (AppendsFront (W.contents sink.old) (W.contents sink.new)
+            (written_record done len octets.now)) }
         ensures only { OnErr result (result ≡ Err CaptureFault.Write) }
         ensures fails { OnErr result (W.has_failed sink.new ≡ true) }
         ensures sure { W.never_fails sink.old ≡ true → OnErr result (W.ran_out sink.new ≡ true) }

@@ -122,7 +122,8 @@ fn fault_in<A: Allocator + Copy>(alloc: A, plan: &Plan<A>) -> Result<Option<Chec
 pub fn check<A: Allocator + Copy>(alloc: A, plan: Plan<A>) -> Result<Accepted<A>, Refused<A>>
     ensures accepted { IfOk result (λ a. (a ≡ plan) × (first_fault plan ≡ None)) }
     ensures acceptable { IfOk result IsAcceptable }
-    ensures refused { IfErr result (λ r. (r.plan ≡ plan) × ((r.fault ≡ the_fault.NoMemory) ⊎ (first_fault plan ≡ Some r.fault))) }
+    ensures refused { IfErr result (λ r. (r.plan ≡ plan)
+        × ((r.fault ≡ the_fault.NoMemory) ⊎ (first_fault plan ≡ Some r.fault))) }
 {
     let _ = plan.ports();
     match fault_in(alloc, &plan) {

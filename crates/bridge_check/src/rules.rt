@@ -182,7 +182,8 @@ impl<'a, A: Allocator + Copy> Case<'a, A> {
         requires to { q ≤ 16 }
         requires class { class < 8 }
         requires case { reached.IsCase self.now }
-        ensures { result ≡ spec.first_of before (reached.told_in_reach self.now.plan.now self.now.number self.now.filter test q class) }
+        ensures { result ≡ spec.first_of before (reached.told_in_reach self.now.plan.now self.now.number self.now.filter
+            test q class) }
     {
         if before.is_some() {
             return before;
@@ -197,7 +198,8 @@ impl<'a, A: Allocator + Copy> Case<'a, A> {
         requires from { 1 ≤ q }
         requires to { q ≤ 16 }
         requires case { reached.IsCase self.now }
-        ensures { result ≡ spec.first_below 8 (reached.told_in_reach self.now.plan.now self.now.number self.now.filter test q) }
+        ensures { result ≡ spec.first_below 8 (reached.told_in_reach self.now.plan.now self.now.number self.now.filter
+            test q) }
     {
         let mut first = None;
         for class in 0..8u8 {
@@ -211,7 +213,8 @@ impl<'a, A: Allocator + Copy> Case<'a, A> {
         requires from { 1 ≤ q }
         requires to { q ≤ 16 }
         requires case { reached.IsCase self.now }
-        ensures { result ≡ spec.first_below 8 (reached.told_in_reach self.now.plan.now self.now.number self.now.filter test q) }
+        ensures { result ≡ spec.first_below 8 (reached.told_in_reach self.now.plan.now self.now.number self.now.filter
+            test q) }
     {
         match self.plan.port(q) {
             Some(port) => self.first_on(test, port, q),
@@ -224,7 +227,8 @@ impl<'a, A: Allocator + Copy> Case<'a, A> {
         requires from { 1 ≤ q }
         requires to { q ≤ 16 }
         requires case { reached.IsCase self.now }
-        ensures { result ≡ spec.first_of before (spec.first_below 8 (reached.told_in_reach self.now.plan.now self.now.number self.now.filter test q)) }
+        ensures { result ≡ spec.first_of before (spec.first_below 8
+            (reached.told_in_reach self.now.plan.now self.now.number self.now.filter test q)) }
     {
         if before.is_some() {
             return before;
@@ -236,7 +240,8 @@ impl<'a, A: Allocator + Copy> Case<'a, A> {
     #[tactic(auto, using(crate::proofs::Told::first_none, crate::proofs::Told::first_more))]
     fn first_in_reach(&self, test: QueueTest) -> Option<CheckFault>
         requires { reached.IsCase self.now }
-        ensures { result ≡ spec.first_below 16 (λ i. spec.first_below 8 (reached.told_in_reach self.now.plan.now self.now.number self.now.filter test (i + 1))) }
+        ensures { result ≡ spec.first_below 16 (λ i. spec.first_below 8
+            (reached.told_in_reach self.now.plan.now self.now.number self.now.filter test (i + 1))) }
     {
         let mut first = None;
         for i in 0..16u8 {

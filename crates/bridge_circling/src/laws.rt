@@ -1,6 +1,5 @@
 //! What follows from the definitions of this crate.
 ghost use Rattle.std.specs.Prelude.{◌≡◌, ℕ, List, Option, None, Some, false};
-ghost use Rattle.bridge_forward.specs.Database.{entry_at};
 ghost use Rattle.bridge_forward.specs.Forward.{is_reserved};
 ghost use Rattle.bridge_config.specs.Model.{Plan};
 ghost use Rattle.bridge_network.specs.declared.links.Link.{Link};

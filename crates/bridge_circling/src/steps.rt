@@ -145,7 +145,8 @@ fn push_if<A: Allocator + Copy>(
 ) -> Result<(), NoMemory>
     requires from { 1 ≤ port }
     requires to { port ≤ 16 }
-    ensures { OnOk result (steps.new.items ≡ steps.old.items ++ steps_if links.now group.now bridge plan.now port (port_at plan.now.ports port)) }
+    ensures { OnOk result (steps.new.items ≡ steps.old.items
+        ++ steps_if links.now group.now bridge plan.now port (port_at plan.now.ports port)) }
 {
     match plan.port(port) {
         Some(on) => {

@@ -1,8 +1,8 @@
 //! The commands and their words: one table, by which `clap` reads the words and writes the help.
-ghost use Rattle.std.specs.Prelude.{◌≡◌, ◌≢◌, [], IfOk, IfErr, false, map, string_bytes, codes, fold};
+ghost use Rattle.std.specs.Prelude.{◌≡◌, ◌≢◌, [], IfOk, IfErr, false, map, string_bytes, fold};
 ghost use Rattle.clap.specs.Words.{FailsBy, app_of, fault_of, kind_of, rule_of, subcommand_of, subcommand_rows_of, with_subcommand};
 ghost use Rattle.clap.specs.declared.builder.command.Command.TheViews.{out-Command as fields_of};
-ghost use Rattle.bridge_cli.specs.CommandLine.{bounds_command, bridge_jobs, check_command, commands, described, drawing_jobs, jobs, net_command, picture_command, plain_jobs, program, rule_in, run_command, wire_command, wiring, with_word};
+ghost use Rattle.bridge_cli.specs.CommandLine.{bridge_jobs, commands, described, drawing_jobs, jobs, plain_jobs, program, rule_in, wiring, with_word};
 
 use clap::error::ErrorKind;
 use clap::{Arg, ArgAction, ArgMatches, Command, Error};
@@ -367,8 +367,10 @@ const VERSION: &str = "1.0.0";
 pub fn matches_of<'a>(alloc: Global, words: &'a [String]) -> Result<ArgMatches<'a>, Error>
     ensures taken { IfOk result (λ _. fault_of commands (map string_bytes words.entry.now) ≡ []) }
     ensures kinds { FailsBy (fault_of commands (map string_bytes words.entry.now)) result }
-    ensures values { IfOk result (λ m. subcommand_rows_of m ≡ subcommand_of commands (map string_bytes words.entry.now)) }
-    ensures refused { IfErr result (λ e. kind_of e ≢ ErrorKind.OutOfMemory → fault_of commands (map string_bytes words.entry.now) ≢ []) }
+    ensures values { IfOk result (λ m. subcommand_rows_of m
+        ≡ subcommand_of commands (map string_bytes words.entry.now)) }
+    ensures refused { IfErr result (λ e. kind_of e ≢ ErrorKind.OutOfMemory
+        → fault_of commands (map string_bytes words.entry.now) ≢ []) }
 {
     let command = commands_of(alloc)?;
     command.try_get_matches_from(words)
@@ -469,7 +471,8 @@ fn with_words<'a>(
     words: &[Word],
 ) -> Result<Command<'a>, AllocError>
     ensures command { IfOk result (λ c. app_of c ≡ fold with_word (app_of command.entry) words.now) }
-    ensures local { (fields_of command.entry).has_globals ≡ false → IfOk result (λ c. (fields_of c).has_globals ≡ false) }
+    ensures local { (fields_of command.entry).has_globals ≡ false
+        → IfOk result (λ c. (fields_of c).has_globals ≡ false) }
 {
     let mut grown = command;
     for word in words {

@@ -22,7 +22,8 @@ use std::alloc::{AllocError, Global};
 #[tactic(auto, using(crate::proofs::Asked::no_job))]
 pub fn help_of(alloc: Global, words: &[String]) -> Result<Option<String>, Fault>
     ensures asked { IfOk result (λ text. IfSome text (λ _. IsHelp (fault_of commands (map string_bytes words.now)))) }
-    ensures missed { result ≡ Ok None → list_any is_help_word (map string_bytes words.now) ≡ true → ¬ AsksForHelp (fault_of commands (map string_bytes words.now)) }
+    ensures missed { result ≡ Ok None → list_any is_help_word (map string_bytes words.now) ≡ true
+        → ¬ AsksForHelp (fault_of commands (map string_bytes words.now)) }
     ensures job { IfOk result (λ text. IfSome text (λ _. (job : Job) → ¬ AsksFor (map string_bytes words.now) job)) }
     ensures plain { list_any is_help_word (map string_bytes words.now) ≡ false → result ≡ Ok None }
     ensures only { IfErr result (λ fault. fault ≡ Fault.Run RunFault.NoMemory) }

@@ -1,8 +1,8 @@
 //! The job that the words of the command line ask for.
-ghost use Rattle.std.specs.Prelude.{◌≡◌, ◌⊎◌, Err, IfOk, IfErr, None, Option, Some, ℕ, codes, map, option_map, string_bytes};
+ghost use Rattle.std.specs.Prelude.{◌≡◌, Err, IfOk, IfErr, None, Option, Some, ℕ, codes, map, option_map, string_bytes};
 ghost use Rattle.bridge_frame.specs.declared.Speed.{Speed};
-ghost use Rattle.bridge_inputs.specs.declared.fault.RunFault.{RunFault};
 ghost use Rattle.clap.specs.Words.{Text, first_of, found_of, kind_of, rows_of};
+ghost use Rattle.bridge_jobs.specs.Reading.{IsOfWords};
 ghost use Rattle.bridge_cli.specs.declared.job.Job.{Job};
 ghost use Rattle.bridge_cli.specs.CommandLine.{AsksFor, AsksForBounds, AsksForCheck, AsksForNetwork, AsksForNetworkRun, AsksForPicture, AsksForRun, AsksForWire, HasRoom, IsBoundsJob, IsCheckJob, IsNetworkJob, IsPictureJob, IsRunJob, IsWireJob, fault_of_kind};
 
@@ -90,7 +90,7 @@ pub fn job_of(alloc: Global, words: &[String]) -> Result<Job, Fault>
     ensures ok { IfOk result (AsksFor (map string_bytes words.now)) }
     ensures room { IfOk result HasRoom }
     ensures words { result ≡ Err Fault.Words → (job : Job) → ¬ AsksFor (map string_bytes words.now) job }
-    ensures only { IfErr result (λ fault. (fault ≡ Fault.Words) ⊎ (fault ≡ Fault.Run RunFault.NoMemory)) }
+    ensures only { IfErr result IsOfWords }
 {
     if words.is_empty() {
         return Ok(Job::Text);
@@ -124,8 +124,9 @@ pub fn job_of(alloc: Global, words: &[String]) -> Result<Job, Fault>
 fn wire_job(alloc: Global, values: &ArgMatches) -> Result<Job, Fault>
     ensures ok { IfOk result (IsWireJob (rows_of (found_of values.now))) }
     ensures room { IfOk result HasRoom }
-    ensures words { result ≡ Err Fault.Words → (speed : Speed) (room : ℕ) (input output : Text) → ¬ AsksForWire (rows_of (found_of values.now)) speed room input output }
-    ensures only { IfErr result (λ fault. (fault ≡ Fault.Words) ⊎ (fault ≡ Fault.Run RunFault.NoMemory)) }
+    ensures words { result ≡ Err Fault.Words → (speed : Speed) (room : ℕ) (input output : Text)
+        → ¬ AsksForWire (rows_of (found_of values.now)) speed room input output }
+    ensures only { IfErr result IsOfWords }
 {
     let Some(mbps) = value_of(values, "mbps") else {
         return Err(Fault::Words);
@@ -160,7 +161,7 @@ fn check_job(alloc: Global, values: &ArgMatches) -> Result<Job, Fault>
     ensures ok { IfOk result (IsCheckJob (rows_of (found_of values.now))) }
     ensures room { IfOk result HasRoom }
     ensures words { result ≡ Err Fault.Words → (plan : Text) → ¬ AsksForCheck (rows_of (found_of values.now)) plan }
-    ensures only { IfErr result (λ fault. (fault ≡ Fault.Words) ⊎ (fault ≡ Fault.Run RunFault.NoMemory)) }
+    ensures only { IfErr result IsOfWords }
 {
     let Some(path) = value_of(values, "plan") else {
         return Err(Fault::Words);
@@ -173,8 +174,9 @@ fn check_job(alloc: Global, values: &ArgMatches) -> Result<Job, Fault>
 fn run_job(alloc: Global, values: &ArgMatches) -> Result<Job, Fault>
     ensures ok { IfOk result (IsRunJob (rows_of (found_of values.now))) }
     ensures room { IfOk result HasRoom }
-    ensures words { result ≡ Err Fault.Words → (plan input output : Text) (commands : Option Text) → ¬ AsksForRun (rows_of (found_of values.now)) plan input output commands }
-    ensures only { IfErr result (λ fault. (fault ≡ Fault.Words) ⊎ (fault ≡ Fault.Run RunFault.NoMemory)) }
+    ensures words { result ≡ Err Fault.Words → (plan input output : Text) (commands : Option Text)
+        → ¬ AsksForRun (rows_of (found_of values.now)) plan input output commands }
+    ensures only { IfErr result IsOfWords }
 {
     let Some(path) = value_of(values, "plan") else {
         return Err(Fault::Words);
@@ -204,8 +206,9 @@ fn run_job(alloc: Global, values: &ArgMatches) -> Result<Job, Fault>
 fn picture_job(alloc: Global, values: &ArgMatches) -> Result<Job, Fault>
     ensures ok { IfOk result (IsPictureJob (rows_of (found_of values.now))) }
     ensures room { IfOk result HasRoom }
-    ensures words { result ≡ Err Fault.Words → (plan file : Text) → ¬ AsksForPicture (rows_of (found_of values.now)) plan file }
-    ensures only { IfErr result (λ fault. (fault ≡ Fault.Words) ⊎ (fault ≡ Fault.Run RunFault.NoMemory)) }
+    ensures words { result ≡ Err Fault.Words → (plan file : Text)
+        → ¬ AsksForPicture (rows_of (found_of values.now)) plan file }
+    ensures only { IfErr result IsOfWords }
 {
     let Some(path) = value_of(values, "plan") else {
         return Err(Fault::Words);
@@ -222,8 +225,9 @@ fn picture_job(alloc: Global, values: &ArgMatches) -> Result<Job, Fault>
 fn bounds_job(alloc: Global, values: &ArgMatches) -> Result<Job, Fault>
     ensures ok { IfOk result (IsBoundsJob (rows_of (found_of values.now))) }
     ensures room { IfOk result HasRoom }
-    ensures words { result ≡ Err Fault.Words → (plan : Text) (traffic : Option Text) → ¬ AsksForBounds (rows_of (found_of values.now)) plan traffic }
-    ensures only { IfErr result (λ fault. (fault ≡ Fault.Words) ⊎ (fault ≡ Fault.Run RunFault.NoMemory)) }
+    ensures words { result ≡ Err Fault.Words → (plan : Text) (traffic : Option Text)
+        → ¬ AsksForBounds (rows_of (found_of values.now)) plan traffic }
+    ensures only { IfErr result IsOfWords }
 {
     let Some(path) = value_of(values, "plan") else {
         return Err(Fault::Words);
@@ -240,9 +244,11 @@ fn bounds_job(alloc: Global, values: &ArgMatches) -> Result<Job, Fault>
 fn network_job(alloc: Global, values: &ArgMatches) -> Result<Job, Fault>
     ensures ok { IfOk result (IsNetworkJob (rows_of (found_of values.now))) }
     ensures room { IfOk result HasRoom }
-    ensures checks { result ≡ Err Fault.Words → (network : Text) → ¬ AsksForNetwork (rows_of (found_of values.now)) network }
-    ensures runs { result ≡ Err Fault.Words → (network input output : Text) (picture : Option Text) → ¬ AsksForNetworkRun (rows_of (found_of values.now)) network input output picture }
-    ensures only { IfErr result (λ fault. (fault ≡ Fault.Words) ⊎ (fault ≡ Fault.Run RunFault.NoMemory)) }
+    ensures checks { result ≡ Err Fault.Words → (network : Text)
+        → ¬ AsksForNetwork (rows_of (found_of values.now)) network }
+    ensures runs { result ≡ Err Fault.Words → (network input output : Text) (picture : Option Text)
+        → ¬ AsksForNetworkRun (rows_of (found_of values.now)) network input output picture }
+    ensures only { IfErr result IsOfWords }
 {
     match value_of(values, "output") {
         Some(to_folder) => network_run_job(alloc, values, to_folder),
@@ -255,8 +261,9 @@ fn network_check_job(alloc: Global, values: &ArgMatches) -> Result<Job, Fault>
     requires { first_of (codes "output") (rows_of (found_of values.now)) ≡ None }
     ensures ok { IfOk result (IsNetworkJob (rows_of (found_of values.now))) }
     ensures room { IfOk result HasRoom }
-    ensures words { result ≡ Err Fault.Words → (network : Text) → ¬ AsksForNetwork (rows_of (found_of values.now)) network }
-    ensures only { IfErr result (λ fault. (fault ≡ Fault.Words) ⊎ (fault ≡ Fault.Run RunFault.NoMemory)) }
+    ensures words { result ≡ Err Fault.Words → (network : Text)
+        → ¬ AsksForNetwork (rows_of (found_of values.now)) network }
+    ensures only { IfErr result IsOfWords }
 {
     let Some(task) = value_of(values, "first") else {
         return Err(Fault::Words);
@@ -279,8 +286,9 @@ fn network_run_job(alloc: Global, values: &ArgMatches, to_folder: &str) -> Resul
     requires { first_of (codes "output") (rows_of (found_of values.now)) ≡ Some to_folder.now }
     ensures ok { IfOk result (IsNetworkJob (rows_of (found_of values.now))) }
     ensures room { IfOk result HasRoom }
-    ensures words { result ≡ Err Fault.Words → (network input output : Text) (picture : Option Text) → ¬ AsksForNetworkRun (rows_of (found_of values.now)) network input output picture }
-    ensures only { IfErr result (λ fault. (fault ≡ Fault.Words) ⊎ (fault ≡ Fault.Run RunFault.NoMemory)) }
+    ensures words { result ≡ Err Fault.Words → (network input output : Text) (picture : Option Text)
+        → ¬ AsksForNetworkRun (rows_of (found_of values.now)) network input output picture }
+    ensures only { IfErr result IsOfWords }
 {
     let Some(path) = value_of(values, "first") else {
         return Err(Fault::Words);

@@ -1,7 +1,7 @@
 //! The picture of a run, or the part of a plan, that the words of the command line ask for.
-ghost use Rattle.std.specs.Prelude.{◌≡◌, ◌⊎◌, Some, IfOk, IfErr, IsTrue, List, codes, map, option_map, string_bytes};
-ghost use Rattle.bridge_inputs.specs.declared.fault.RunFault.{RunFault};
+ghost use Rattle.std.specs.Prelude.{◌≡◌, Some, IfOk, IfErr, IsTrue, List, codes, map, option_map, string_bytes};
 ghost use Rattle.clap.specs.Words.{Row, first_of, found_of, rows_of, subcommand_of};
+ghost use Rattle.bridge_jobs.specs.Reading.{IsOfWords};
 ghost use Rattle.bridge_cli.specs.CommandLine.{commands};
 ghost use Rattle.bridge_cli.specs.Sketching.{AreInOrder, AsksForPart, AsksForSketch, HasNoPart, IsBound, IsSketch};
 
@@ -34,9 +34,13 @@ pub struct PictureRequest {
 /// `Words` for a moment or a list that isn't one, for moments that aren't in order, and for either without a picture; `Run` with
 /// `NoMemory` where a growth was refused.
 pub fn picture_request_of(alloc: Global, words: &[String]) -> Result<Option<PictureRequest>, Fault>
-    ensures ok { IfOk result (λ sketch. (values : List Row) → subcommand_of commands (map string_bytes words.now) ≡ Some (codes "run", values) → AsksForSketch values sketch) }
-    ensures part { IfOk result (λ sketch. (values : List Row) → subcommand_of commands (map string_bytes words.now) ≡ Some (codes "picture", values) → AsksForPart values sketch) }
-    ensures only { IfErr result (λ fault. (fault ≡ Fault.Words) ⊎ (fault ≡ Fault.Run RunFault.NoMemory)) }
+    ensures ok { IfOk result (λ sketch. (values : List Row)
+        → subcommand_of commands (map string_bytes words.now) ≡ Some (codes "run", values)
+        → AsksForSketch values sketch) }
+    ensures part { IfOk result (λ sketch. (values : List Row)
+        → subcommand_of commands (map string_bytes words.now) ≡ Some (codes "picture", values)
+        → AsksForPart values sketch) }
+    ensures only { IfErr result IsOfWords }
 {
     let matches = match matches_of(alloc, words) {
         Ok(matches) => matches,
@@ -68,7 +72,7 @@ fn has_no_part(values: &ArgMatches) -> bool
 /// The picture of a run that these values ask for.
 fn sketch_in(alloc: Global, values: &ArgMatches) -> Result<Option<PictureRequest>, Fault>
     ensures ok { IfOk result (AsksForSketch (rows_of (found_of values.now))) }
-    ensures only { IfErr result (λ fault. (fault ≡ Fault.Words) ⊎ (fault ≡ Fault.Run RunFault.NoMemory)) }
+    ensures only { IfErr result IsOfWords }
 {
     let Some(path) = value_of(values, "picture") else {
         if has_no_part(values) {
@@ -85,7 +89,7 @@ fn sketch_in(alloc: Global, values: &ArgMatches) -> Result<Option<PictureRequest
 /// The picture of a part of a plan that these values ask for, where they ask for a part.
 fn part_in(alloc: Global, values: &ArgMatches) -> Result<Option<PictureRequest>, Fault>
     ensures ok { IfOk result (AsksForPart (rows_of (found_of values.now))) }
-    ensures only { IfErr result (λ fault. (fault ≡ Fault.Words) ⊎ (fault ≡ Fault.Run RunFault.NoMemory)) }
+    ensures only { IfErr result IsOfWords }
 {
     if has_no_part(values) {
         return Ok(None);
@@ -108,7 +112,7 @@ fn sketch_into(
 ) -> Result<PictureRequest, Fault>
     requires { first_of name.now (rows_of (found_of values.now)) ≡ Some path.now }
     ensures ok { IfOk result (IsSketch name.now (rows_of (found_of values.now))) }
-    ensures only { IfErr result (λ fault. (fault ≡ Fault.Words) ⊎ (fault ≡ Fault.Run RunFault.NoMemory)) }
+    ensures only { IfErr result IsOfWords }
 {
     let Some(from) = bound_of(values, "from") else {
         return Err(Fault::Words);

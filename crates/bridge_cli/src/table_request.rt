@@ -1,7 +1,7 @@
 //! The tables of a run that the words of the command line ask for.
-ghost use Rattle.std.specs.Prelude.{◌≡◌, ◌⊎◌, Some, IfOk, IfErr, List, codes, map, option_map, string_bytes};
-ghost use Rattle.bridge_inputs.specs.declared.fault.RunFault.{RunFault};
+ghost use Rattle.std.specs.Prelude.{◌≡◌, Some, IfOk, IfErr, List, codes, map, option_map, string_bytes};
 ghost use Rattle.clap.specs.Words.{Row, first_of, found_of, rows_of, subcommand_of};
+ghost use Rattle.bridge_jobs.specs.Reading.{IsOfWords};
 ghost use Rattle.bridge_cli.specs.CommandLine.{commands};
 ghost use Rattle.bridge_cli.specs.Tabling.{AsksForTables};
 
@@ -25,8 +25,10 @@ pub struct TableRequest {
 ///
 /// `Words` for words that `clap` refuses; `Run` with `NoMemory` where a growth was refused.
 pub fn table_request_of(alloc: Global, words: &[String]) -> Result<TableRequest, Fault>
-    ensures ok { IfOk result (λ tables. (values : List Row) → subcommand_of commands (map string_bytes words.now) ≡ Some (codes "run", values) → AsksForTables values tables) }
-    ensures only { IfErr result (λ fault. (fault ≡ Fault.Words) ⊎ (fault ≡ Fault.Run RunFault.NoMemory)) }
+    ensures ok { IfOk result (λ tables. (values : List Row)
+        → subcommand_of commands (map string_bytes words.now) ≡ Some (codes "run", values)
+        → AsksForTables values tables) }
+    ensures only { IfErr result IsOfWords }
 {
     match matches_of(alloc, words) {
         Ok(matches) => match matches.subcommand_matches("run") {
@@ -43,7 +45,7 @@ pub fn table_request_of(alloc: Global, words: &[String]) -> Result<TableRequest,
 /// The tables that these values ask for.
 fn tables_in(alloc: Global, values: &ArgMatches) -> Result<TableRequest, Fault>
     ensures ok { IfOk result (AsksForTables (rows_of (found_of values.now))) }
-    ensures only { IfErr result (λ fault. (fault ≡ Fault.Words) ⊎ (fault ≡ Fault.Run RunFault.NoMemory)) }
+    ensures only { IfErr result IsOfWords }
 {
     let delays = path_of(alloc, values, "delays")?;
     let frames = path_of(alloc, values, "frames")?;

@@ -1,5 +1,5 @@
 //! The sections of a document, as arrays of tables.
-ghost use Rattle.std.specs.Prelude.{◌≡◌, ◌<◌, ◌≤◌, ◌^◌, IfErr, IfOk, length, nat_le, option_map, true, false};
+ghost use Rattle.std.specs.Prelude.{◌≡◌, ◌<◌, ◌≤◌, IfErr, IfOk, length, nat_le, option_map, true, false};
 ghost use Rattle.toml.specs.View.{view, table_view, items_view};
 ghost use Rattle.bridge_schema.specs.declared.fault.PlanFault.TheVariants.{NoMemory};
 ghost use Rattle.bridge_schema.specs.Readers as spec;
@@ -53,7 +53,8 @@ fn are_few(items: &[Value], section: Section) -> bool
 /// The items of a section, where it is an array of tables that are few enough; an absent one has none. Takes
 /// no memory.
 fn items_in<'a>(section: Section, value: Option<&'a Value>) -> Result<&'a [Value], PlanFault>
-    ensures reads { GivesAs (λ x. items_view x.now) result (doc.items_in section (option_map (λ v. view v.now) value.entry)) }
+    ensures reads { GivesAs (λ x. items_view x.now) result
+        (doc.items_in section (option_map (λ v. view v.now) value.entry)) }
     ensures few { IfOk result (λ x. length x.now ≤ doc.limit_of section) }
     ensures tables { IfOk result (λ x. spec.are_tables (items_view x.now) ≡ true) }
     ensures takes_no_memory { IfErr result (λ e. ¬ (e ≡ NoMemory)) }

@@ -47,7 +47,8 @@ fn filter_among<G: Finds + Copy, M: Finds + Copy, F: Finds + Copy>(
     index: u32,
     table: &Table,
 ) -> Result<(u32, FilterPlan), PlanFault>
-    ensures reads { Gives result (sections.filter_among (G.among gates) (M.among meters) (F.among filters) index (table_view table.now)) }
+    ensures reads { Gives result (sections.filter_among (G.among gates) (M.among meters) (F.among filters) index
+        (table_view table.now)) }
     ensures own { IfOk result (λ f. F.among filters f.0 ≡ false) }
     ensures filter { IfOk result (λ f. rules.IsFilter f) }
     ensures gate { IfOk result (λ f. G.among gates f.1.gate ≡ true) }
@@ -151,7 +152,8 @@ pub(crate) fn filters_of<A: Allocator + Copy>(
     items: &[Value],
 ) -> Result<Vec<(u32, FilterPlan), A>, PlanFault>
     requires { length items.now ≤ 1024 }
-    ensures reads { GivesAs (λ v. v.items) result (instances (sections.filter_at gates.now meters.now) (items_view items.now)) }
+    ensures reads { GivesAs (λ v. v.items) result
+        (instances (sections.filter_at gates.now meters.now) (items_view items.now)) }
     ensures keeps { IfOk result (λ v. rules.AreFilters gates.now meters.now v.items) }
     ensures few { IfOk result (λ v. length v.items ≤ 1024) }
 {

@@ -129,9 +129,11 @@ fn gate_parts<A: Allocator + Copy>(
     keys: ListKeys,
     table: &Table,
 ) -> Result<Parts<(GateEntry, u64), A>, PlanFault>
-    ensures reads { GivesAs parts_in result (sections.gate_parts index keys.base keys.cycle keys.entries (table_view table.now)) }
+    ensures reads { GivesAs parts_in result (sections.gate_parts index keys.base keys.cycle keys.entries
+        (table_view table.now)) }
     ensures base { IfOk result (λ p. p.base < END_OF_TIME) }
-    ensures priorities { IfOk result (λ p. ForSome p.entries (λ v. All (λ e. schedules.is_priority e.0.ipv ≡ true) v.items)) }
+    ensures priorities { IfOk result (λ p. ForSome p.entries (λ v. All (λ e. schedules.is_priority e.0.ipv
+        ≡ true) v.items)) }
 {
     let place = Place {
         section: Section::Gate,

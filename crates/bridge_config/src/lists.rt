@@ -48,7 +48,8 @@ pub(crate) fn parts_of<A: Allocator + Copy, E: Entry>(
 ) -> Result<Parts<E::Out, A>, PlanFault>
 where
     E::Out: Drop,
-    ensures reads { GivesAs parts_in result (sections.list_parts section index keys.base keys.cycle keys.entries (E.reading entry.now) (table_view table.now)) }
+    ensures reads { GivesAs parts_in result (sections.list_parts section index keys.base keys.cycle keys.entries
+        (E.reading entry.now) (table_view table.now)) }
     ensures base { IfOk result (λ p. p.base < END_OF_TIME) }
     ensures entries { IfOk result (λ p. ForSome p.entries (λ v. All (E.Fits entry.now) v.items)) }
 {

@@ -151,7 +151,8 @@ fn port_parts<A: Allocator + Copy>(
     keys: ListKeys,
     table: &Table,
 ) -> Result<Parts<(u8, u64), A>, PlanFault>
-    ensures reads { GivesAs parts_in result (sections.port_parts index keys.base keys.cycle keys.entries (table_view table.now)) }
+    ensures reads { GivesAs parts_in result (sections.port_parts index keys.base keys.cycle keys.entries
+        (table_view table.now)) }
     ensures base { IfOk result (λ p. p.base < END_OF_TIME) }
     ensures classes { IfOk result (λ p. ForSome p.entries (λ v. All (λ e. e.0 < 256) v.items)) }
 {

@@ -1,5 +1,5 @@
 -- Frames and commands that are taken one by one.
-use Rattle.std.specs.Prelude.{◌≡◌, ◌≢◌, ℕ, ◌+◌, ◌<◌, ◌≤◌, ◌⊎◌, nat_eq, Option, Some, None, IfSome, OnOk, List, [], ◌∷◌, ◌++◌, slice_get, slice_set, Result, Ok, Err, if◌then◌else◌}
+use Rattle.std.specs.Prelude.{◌≡◌, ◌≢◌, ℕ, Bool, ◌+◌, ◌<◌, ◌≤◌, ◌⊎◌, nat_eq, Option, Some, None, IfSome, OnOk, List, [], ◌∷◌, ◌++◌, slice_get, slice_set, Result, Ok, Err, if◌then◌else◌}
 use Rattle.bridge_limits.specs.Members.{Rising}
 use Rattle.bridge_limits.specs.declared.TheConstants.{MOST_ARRIVALS}
 use Rattle.bridge_capture.specs.declared.fault.CaptureFault.{CaptureFault}
@@ -18,8 +18,9 @@ use Rattle.bridge_semantics.specs.Merge.{Input, frame, command, NotBefore, IsMer
 use Rattle.bridge_semantics.specs.Outputs.{Reaches}
 use Rattle.bridge_relay.specs.Relays.{RelayState, Stands}
 use Rattle.bridge_inputs.specs.declared.lane.CaptureReader.{CaptureReader}
+use Rattle.bridge_inputs.specs.Devices.{HasFailed, NeverFail}
 use Rattle.bridge_inputs.specs.Lanes.{AreAheadOf, AreRests, IsLane, Looks, numbers, room, room_of}
-use Rattle.bridge_core.specs.Lines.{AreWritten, AreWrittenBut, MakesStart}
+use Rattle.bridge_core.specs.Lines.{AreWritten, AreWrittenBut, HasRunOut, MakesStart}
 
 -- an input does not come before the newest of these
 abbrev pub Follows : Input → List Input → Type 0
@@ -158,6 +159,15 @@ abbrev pub GoesOn : {R W G A : Type 0} → (R → Option (List ℕ)) → (W → 
 GoesOn remaining contents p texts commanded next olds b lanes sources sinks (Ok u) = IsUnderWay remaining contents p texts commanded next olds b lanes sources sinks
 GoesOn remaining contents p texts commanded next olds b lanes sources sinks (Err fault) =
     (rests : ℕ → Option (List ℕ)) → AreRests remaining (numbers lanes) rests sources → StopsSo p texts rests commanded next contents (numbers lanes) olds sinks fault
+
+-- what a fault of a run says of its sources and sinks: the source or the sink of the port that is named failed; of sources that never fail no read fails, and of sinks that never fail but for memory the one that is named ran out of it; both stay as they are
+pub record TellsOfDevices {R W X : Type 0} (failed_read never_read : R → Bool) (failed_write never_write ran_out : W → Bool) (ports : List ℕ) (before after : List R) (olds news : List W) (result : Result X RunFault) : Type 0 where
+  pub read : (port : ℕ) → result ≡ Err (run.Capture port faults.Read) → HasFailed failed_read ports port after
+  pub sure : NeverFail never_read before → (port : ℕ) → result ≢ Err (run.Capture port faults.Read)
+  pub lasts : NeverFail never_read before → NeverFail never_read after
+  pub wrote : (port : ℕ) → result ≡ Err (run.Write port) → HasFailed failed_write ports port news
+  pub sound : NeverFail never_write olds → (port : ℕ) → result ≡ Err (run.Write port) → HasRunOut ran_out ports port news
+  pub holds : NeverFail never_write olds → NeverFail never_write news
 
 -- no frame ahead comes before this moment, or none at all
 abbrev pub AreLater : {A : Type 0} → Option ℕ → List (CaptureReader A) → Type 0

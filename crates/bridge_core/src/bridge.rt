@@ -60,7 +60,8 @@ impl<'a, G: Agenda + Drop, A: Allocator + Copy> Bridge<'a, G, A> {
     /// A bridge of an accepted plan, to which nothing has come.
     pub fn new(alloc: A, accepted: &'a Accepted<A>) -> Result<Bridge<'a, G, A>, NoMemory>
         ensures stands { IfOk result (λ b. StandsAfter accepted.now b [] (λ _. [])) }
-        ensures start { IfOk result (λ b. (plan_in b ≡ accepted.now) × (arrived_in b ≡ 0) × (earliest_in b ≡ 0) × (b.command ≡ 0)) }
+        ensures start { IfOk result (λ b. (plan_in b ≡ accepted.now) × (arrived_in b ≡ 0) × (earliest_in b ≡ 0)
+            × (b.command ≡ 0)) }
         ensures none_due { IfOk result (λ b. (q : ℕ) → next_start G.held b q ≡ None) }
     {
         let order = accepted.plan().filters_in_order(alloc)?;
@@ -85,8 +86,12 @@ impl<'a, G: Agenda + Drop, A: Allocator + Copy> Bridge<'a, G, A> {
         requires due { NotBefore (next_start G.held self.old) packet.time }
         requires octets { (length packet.octets.items ≤ MOST_CAPTURED) × (length packet.octets.items ≤ packet.len) }
         requires few { arrived_in self.old < MOST_ARRIVALS }
-        ensures stands { OnOk result ((p : config.Plan A) (es : List Event) (left : ℕ → List Captured) → StandsAfter p self.old es left → StandsAfter p self.new (Arrived (arrival packet.time port packet.octets.items packet.len) ∷ es) left) }
-        ensures moved { OnOk result ((arrived_in self.new ≡ arrived_in self.old + 1) × (earliest_in self.new ≡ packet.time) × (self.new.command ≡ packet.time + 1) × (plan_in self.new ≡ plan_in self.old)) }
+        ensures stands { OnOk result ((p : config.Plan A) (es : List Event) (left : ℕ → List Captured)
+            → StandsAfter p self.old es left
+            → StandsAfter p self.new (Arrived (arrival packet.time port packet.octets.items packet.len) ∷ es) left) }
+        ensures moved { OnOk result ((arrived_in self.new ≡ arrived_in self.old + 1)
+            × (earliest_in self.new ≡ packet.time) × (self.new.command ≡ packet.time + 1)
+            × (plan_in self.new ≡ plan_in self.old)) }
         ensures waits { OnOk result (NotBefore (next_start G.held self.new) packet.time) }
         ensures err { IfErr result (λ e. (self.new ≡ self.old) × (e.0 ≡ packet)) }
     {
@@ -104,8 +109,11 @@ impl<'a, G: Agenda + Drop, A: Allocator + Copy> Bridge<'a, G, A> {
     pub fn command(&mut self, command: &Command)
         requires time { self.old.command ≤ command.now.at }
         requires instance { IsTrue (has_instance (plan_in self.old) command.now.clear command.now.number) }
-        ensures stands { (p : config.Plan A) (es : List Event) (left : ℕ → List Captured) → StandsAfter p self.old es left → StandsAfter p self.new (Cleared command.now.clear command.now.number ∷ es) left }
-        ensures moved { (arrived_in self.new ≡ arrived_in self.old) × (earliest_in self.new ≡ command.now.at) × (self.new.command ≡ command.now.at) × (plan_in self.new ≡ plan_in self.old) }
+        ensures stands { (p : config.Plan A) (es : List Event) (left : ℕ → List Captured)
+            → StandsAfter p self.old es left
+            → StandsAfter p self.new (Cleared command.now.clear command.now.number ∷ es) left }
+        ensures moved { (arrived_in self.new ≡ arrived_in self.old) × (earliest_in self.new ≡ command.now.at)
+            × (self.new.command ≡ command.now.at) × (plan_in self.new ≡ plan_in self.old) }
         ensures same { (q : ℕ) → next_start G.held self.new q ≡ next_start G.held self.old q }
     {
         self.relay.clear(command.at, command.clear, command.number);
@@ -137,13 +145,18 @@ impl<'a, G: Agenda + Drop, A: Allocator + Copy> Bridge<'a, G, A> {
         ensures reaches { (p : config.Plan A) (es : List Event) (left : ℕ → List Captured)
             → StandsAfter p self.old es left
             → ReachesStart p es result.start result.port (one_more left result) }
-        ensures stands { (p : config.Plan A) (es : List Event) (left : ℕ → List Captured) → StandsAfter p self.old es left → StandsAfter p self.new es (one_more left result) }
+        ensures stands { (p : config.Plan A) (es : List Event) (left : ℕ → List Captured)
+            → StandsAfter p self.old es left → StandsAfter p self.new es (one_more left result) }
         ensures which { IsLeast (next_start G.held self.old) (Some (result.port, result.start)) }
         ensures later { IsAfter (next_start G.held self.new) result.port result.start }
-        ensures bounded { (p : config.Plan A) (es : List Event) (left : ℕ → List Captured) → StandsAfter p self.old es left → result.done < limit (length (left result.port) + 1) }
+        ensures bounded { (p : config.Plan A) (es : List Event) (left : ℕ → List Captured)
+            → StandsAfter p self.old es left → result.done < limit (length (left result.port) + 1) }
         ensures fewer { queued_in self.new + 1 ≡ queued_in self.old }
-        ensures moved { (arrived_in self.new ≡ arrived_in self.old) × (earliest_in self.new ≡ max (earliest_in self.old) (result.start + 1)) × (self.new.command ≡ max self.old.command (result.start + 1)) × (plan_in self.new ≡ plan_in self.old) }
-        ensures writable { (result.done < 2 ^ 32 * 10 ^ 9) × (length result.octets.items ≤ result.len) × (result.len ≤ LONGEST_FRAME) }
+        ensures moved { (arrived_in self.new ≡ arrived_in self.old)
+            × (earliest_in self.new ≡ max (earliest_in self.old) (result.start + 1))
+            × (self.new.command ≡ max self.old.command (result.start + 1)) × (plan_in self.new ≡ plan_in self.old) }
+        ensures writable { (result.done < 2 ^ 32 * 10 ^ 9) × (length result.octets.items ≤ result.len)
+            × (result.len ≤ LONGEST_FRAME) }
     {
         let sent = self.relay.advance();
         self.command = self.command.max(sent.start + 1);
@@ -160,7 +173,8 @@ impl<'a, G: Agenda + Drop, A: Allocator + Copy> Bridge<'a, G, A> {
     /// The starts of a port of the plan.
     pub fn started(&self, port: u8) -> u64
         requires { (out : PortPlan A) × (port_at (plan_in self.now).ports port ≡ Some out) }
-        ensures { (p : config.Plan A) (es : List Event) (left : ℕ → List Captured) → StandsAfter p self.now es left → result ≡ length (left port) }
+        ensures { (p : config.Plan A) (es : List Event) (left : ℕ → List Captured) → StandsAfter p self.now es left
+            → result ≡ length (left port) }
     {
         self.relay.started(port)
     }
@@ -183,8 +197,12 @@ impl<'a, G: Agenda + Drop, A: Allocator + Copy> Bridge<'a, G, A> {
     /// What the bridge stands for is a run: up to each moment before which no start is due, and each port up to a moment
     /// of its own whatever is due. What is due of each port is the next start of its schedule (`next`).
     pub fn reached(&self)
-        ensures reaches { (p : config.Plan A) (es : List Event) (left : ℕ → List Captured) (h : ℕ) → StandsAfter p self.now es left → earliest_in self.now ≤ h → NotBefore (next_start G.held self.now) h → Reaches p es h left }
-        ensures ran { (p : config.Plan A) (es : List Event) (left : ℕ → List Captured) (until : Option ℕ) → StandsAfter p self.now es left → ((t : ℕ) → until ≡ Some t → earliest_in self.now ≤ t) → HasRun p es until left }
+        ensures reaches { (p : config.Plan A) (es : List Event) (left : ℕ → List Captured) (h : ℕ)
+            → StandsAfter p self.now es left → earliest_in self.now ≤ h → NotBefore (next_start G.held self.now) h
+            → Reaches p es h left }
+        ensures ran { (p : config.Plan A) (es : List Event) (left : ℕ → List Captured) (until : Option ℕ)
+            → StandsAfter p self.now es left → ((t : ℕ) → until ≡ Some t → earliest_in self.now ≤ t)
+            → HasRun p es until left }
         ensures next { (p : config.Plan A) (es : List Event) (left : ℕ → List Captured)
             → StandsAfter p self.now es left
             → AreNext p es left (next_start G.held self.now) }
@@ -199,9 +217,17 @@ impl<'a, G: Agenda + Drop, A: Allocator + Copy> Bridge<'a, G, A> {
     /// bridge; so a run in which the filter's own events are the same tells the same of it, whatever else came.
     pub fn finish(self) -> Outcome<A>
         requires idle { (q : ℕ) → next_start G.held self q ≡ None }
-        ensures ends { (p : config.Plan A) (es : List Event) (left : ℕ → List Captured) → StandsAfter p self.entry es left → Ends p es left result }
-        ensures isolated { (p : config.Plan A) (es : List Event) (left : ℕ → List Captured) (n : ℕ) (f : FilterPlan) (v : View A) → StandsAfter p self.entry es left → In (n, f) p.filters → f.protected ≡ true → lookup (nat_eq n) result.filters.items ≡ Some v → IsSoloView p n f (own p n f es) v }
-        ensures others_change_nothing { (p : config.Plan A) (es others : List Event) (left : ℕ → List Captured) (n : ℕ) (f : FilterPlan) (lists : ℕ → List (Copy Carried)) (o : Outcome A) (u v : View A) → StandsAfter p self.entry es left → In (n, f) p.filters → f.protected ≡ true → own p n f es ≡ own p n f others → IsOutcome p others lists o → lookup (nat_eq n) result.filters.items ≡ Some u → lookup (nat_eq n) o.filters.items ≡ Some v → TellTheSame u v }
+        ensures ends { (p : config.Plan A) (es : List Event) (left : ℕ → List Captured)
+            → StandsAfter p self.entry es left → Ends p es left result }
+        ensures isolated { (p : config.Plan A) (es : List Event) (left : ℕ → List Captured) (n : ℕ) (f : FilterPlan)
+            (v : View A) → StandsAfter p self.entry es left → In (n, f) p.filters → f.protected ≡ true
+            → lookup (nat_eq n) result.filters.items ≡ Some v → IsSoloView p n f (own p n f es) v }
+        ensures others_change_nothing { (p : config.Plan A) (es others : List Event) (left : ℕ → List Captured) (n : ℕ)
+            (f : FilterPlan) (lists : ℕ → List (Copy Carried)) (o : Outcome A) (u v : View A)
+            → StandsAfter p self.entry es left → In (n, f) p.filters → f.protected ≡ true
+            → own p n f es ≡ own p n f others → IsOutcome p others lists o
+            → lookup (nat_eq n) result.filters.items ≡ Some u → lookup (nat_eq n) o.filters.items ≡ Some v
+            → TellTheSame u v }
     {
         let Bridge {
             relay,

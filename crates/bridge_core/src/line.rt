@@ -1,5 +1,5 @@
 //! Captures that are written, one of each port.
-ghost use Rattle.std.specs.Prelude.{◌≡◌, ◌≢◌, ℕ, ◌<◌, ◌≤◌, ◌*◌, ◌^◌, List, [], Some, None, Option, length, slice_get, Err, true, IfOk, IfErr, IfSome, OnOk, OnErr, vec_capacity};
+ghost use Rattle.std.specs.Prelude.{◌≡◌, ◌≢◌, ℕ, ◌<◌, ◌≤◌, ◌*◌, ◌^◌, List, [], Some, None, Option, length, slice_get, Err, IfOk, IfErr, IfSome, OnOk, OnErr, vec_capacity};
 ghost use Rattle.bridge_limits.specs.Members.{Rising};
 ghost use Rattle.bridge_capture.specs.Grammar.{Captured};
 ghost use Rattle.bridge_config.specs.Model as config;
@@ -35,7 +35,8 @@ pub fn begin_all<W: ByteSink, A: Allocator + Copy>(
     ensures lines { IfOk result (λ lines. numbers lines.items ≡ ports.now) }
     ensures headers { IfOk result (λ _. AreWritten W.contents ports.now sinks.old sinks.new (λ _. [])) }
     ensures stops { IfErr result (HeadersStop W.contents W.has_failed ports.now sinks.old sinks.new) }
-    ensures sound { NeverFail W.never_fails sinks.old → IfErr result (HeadersStop W.contents W.ran_out ports.now sinks.old sinks.new) }
+    ensures sound { NeverFail W.never_fails sinks.old
+        → IfErr result (HeadersStop W.contents W.ran_out ports.now sinks.old sinks.new) }
     ensures holds { NeverFail W.never_fails sinks.old → NeverFail W.never_fails sinks.new }
 {
     let mut lines = lines;
@@ -79,12 +80,16 @@ pub fn write<W: ByteSink, A: Allocator + Copy>(
 ) -> Result<(), RunFault>
     requires size { length sinks.old ≡ length lines.old }
     requires rises { Rising (λ a b. a < b) (numbers lines.old) }
-    requires writable { (sent.now.done < 2 ^ 32 * 10 ^ 9) × (length sent.now.octets.items ≤ sent.now.len) × (sent.now.len ≤ LONGEST_FRAME) }
-    ensures writes { (olds : List W) (left : ℕ → List Captured) → AreWritten W.contents (numbers lines.old) olds sinks.old left → Writes W.contents sent.now.port (numbers lines.old) olds sinks.new (one_more left sent.now) result }
+    requires writable { (sent.now.done < 2 ^ 32 * 10 ^ 9) × (length sent.now.octets.items ≤ sent.now.len)
+        × (sent.now.len ≤ LONGEST_FRAME) }
+    ensures writes { (olds : List W) (left : ℕ → List Captured)
+        → AreWritten W.contents (numbers lines.old) olds sinks.old left
+        → Writes W.contents sent.now.port (numbers lines.old) olds sinks.new (one_more left sent.now) result }
     ensures numbers { numbers lines.new ≡ numbers lines.old }
     ensures only { OnErr result (result ≡ Err (RunFault.Write sent.now.port)) }
     ensures failed { OnErr result (HasFailed W.has_failed (numbers lines.old) sent.now.port sinks.new) }
-    ensures sound { NeverFail W.never_fails sinks.old → OnErr result (HasRunOut W.ran_out (numbers lines.old) sent.now.port sinks.new) }
+    ensures sound { NeverFail W.never_fails sinks.old
+        → OnErr result (HasRunOut W.ran_out (numbers lines.old) sent.now.port sinks.new) }
     ensures holds { NeverFail W.never_fails sinks.old → NeverFail W.never_fails sinks.new }
 {
     let Some(place) = place_of(lines, sent.port) else {
@@ -110,15 +115,19 @@ pub fn depart_before<W: ByteSink, G: Agenda + Drop, A: Allocator + Copy>(
     requires rises { Rising (λ a b. a < b) (numbers lines.old) }
     requires early { IfSome until (λ t. relay.old.earliest ≤ t) }
     requires waits { NotBefore (G.held relay.old.ports.agenda) relay.old.earliest }
-    ensures departs { (p : config.Plan A) (es : List Event) (olds : List W) (left : ℕ → List Captured) → Stands p relay.old es left → AreWritten W.contents (numbers lines.old) olds sinks.old left → Departs W.contents p es relay.old.earliest until relay.new (numbers lines.old) olds sinks.new result }
+    ensures departs { (p : config.Plan A) (es : List Event) (olds : List W) (left : ℕ → List Captured)
+        → Stands p relay.old es left → AreWritten W.contents (numbers lines.old) olds sinks.old left
+        → Departs W.contents p es relay.old.earliest until relay.new (numbers lines.old) olds sinks.new result }
     ensures waits { OnOk result (IfSome until (NotBefore (G.held relay.new.ports.agenda))) }
     ensures idle { OnOk result (until ≡ None → (q : ℕ) → G.held relay.new.ports.agenda q ≡ None) }
     ensures early { IfSome until (λ t. relay.new.earliest ≤ t) }
     ensures onward { relay.old.earliest ≤ relay.new.earliest }
     ensures same { (relay.new.plan ≡ relay.old.plan) × (relay.new.arrived ≡ relay.old.arrived) }
     ensures numbers { numbers lines.new ≡ numbers lines.old }
-    ensures failed { (port : ℕ) → result ≡ Err (RunFault.Write port) → HasFailed W.has_failed (numbers lines.old) port sinks.new }
-    ensures sound { NeverFail W.never_fails sinks.old → (port : ℕ) → result ≡ Err (RunFault.Write port) → HasRunOut W.ran_out (numbers lines.old) port sinks.new }
+    ensures failed { (port : ℕ) → result ≡ Err (RunFault.Write port)
+        → HasFailed W.has_failed (numbers lines.old) port sinks.new }
+    ensures sound { NeverFail W.never_fails sinks.old → (port : ℕ) → result ≡ Err (RunFault.Write port)
+        → HasRunOut W.ran_out (numbers lines.old) port sinks.new }
     ensures holds { NeverFail W.never_fails sinks.old → NeverFail W.never_fails sinks.new }
     ensures only { OnErr result ((port : ℕ) × (result ≡ Err (RunFault.Write port))) }
 {

@@ -1,5 +1,5 @@
 //! Captures through a bridge, from their texts to what is written.
-ghost use Rattle.std.specs.Prelude.{◌≡◌, ◌≢◌, ℕ, ◌<◌, List, [], Some, None, Option, length, map, true, Err, IfOk, IfErr};
+ghost use Rattle.std.specs.Prelude.{◌≡◌, ◌≢◌, ℕ, ◌<◌, List, Option, length, Err, IfOk, IfErr};
 ghost use Rattle.bridge_config.specs.Commands.{AreCommands};
 ghost use Rattle.bridge_inputs.specs.Devices.{HasFailed, NeverFail};
 ghost use Rattle.bridge_inputs.specs.Lanes.{AreRests, AreTexts};
@@ -91,7 +91,8 @@ pub fn simulate_over<R: ByteSource, W: ByteSink, G: Agenda + Drop, A: Allocator 
         IfOk result (WritesFew accepted.now ports commands.now texts W.contents sinks.old sinks.new) }
     ensures read { (ports : List ℕ) (port : ℕ) → AreNumbers accepted.now ports →
         result ≡ Err (RunFault.Capture port CaptureFault.Read) → HasFailed R.has_failed ports port sources.new }
-    ensures sure { NeverFail R.never_fails sources.old → (port : ℕ) → result ≢ Err (RunFault.Capture port CaptureFault.Read) }
+    ensures sure { NeverFail R.never_fails sources.old → (port : ℕ)
+        → result ≢ Err (RunFault.Capture port CaptureFault.Read) }
     ensures wrote { (ports : List ℕ) (port : ℕ) → AreNumbers accepted.now ports →
         result ≡ Err (RunFault.Write port) → HasFailed W.has_failed ports port sinks.new }
     ensures sound { (ports : List ℕ) (port : ℕ) → AreNumbers accepted.now ports → NeverFail W.never_fails sinks.old →
@@ -179,7 +180,8 @@ pub fn simulate<R: ByteSource, W: ByteSink, A: Allocator + Copy>(
         IfOk result (WritesFew accepted.now ports commands.now texts W.contents sinks.old sinks.new) }
     ensures read { (ports : List ℕ) (port : ℕ) → AreNumbers accepted.now ports →
         result ≡ Err (RunFault.Capture port CaptureFault.Read) → HasFailed R.has_failed ports port sources.new }
-    ensures sure { NeverFail R.never_fails sources.old → (port : ℕ) → result ≢ Err (RunFault.Capture port CaptureFault.Read) }
+    ensures sure { NeverFail R.never_fails sources.old → (port : ℕ)
+        → result ≢ Err (RunFault.Capture port CaptureFault.Read) }
     ensures wrote { (ports : List ℕ) (port : ℕ) → AreNumbers accepted.now ports →
         result ≡ Err (RunFault.Write port) → HasFailed W.has_failed ports port sinks.new }
     ensures sound { (ports : List ℕ) (port : ℕ) → AreNumbers accepted.now ports → NeverFail W.never_fails sinks.old →

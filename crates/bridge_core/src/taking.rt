@@ -1,14 +1,14 @@
 //! Frames and commands are taken one by one, in their order.
-ghost use Rattle.std.specs.Prelude.{◌≡◌, ◌≢◌, ℕ, ◌<◌, ◌≤◌, List, [], ◌∷◌, Some, None, Option, length, slice_get, Err, true, false, IfSome, IsTrue, OnOk};
+ghost use Rattle.std.specs.Prelude.{◌≡◌, ◌≢◌, ℕ, ◌<◌, ◌≤◌, List, [], Some, None, Option, length, slice_get, Err, true, false, IfSome, IsTrue, OnOk};
 ghost use Rattle.bridge_config.specs.Model as config;
 ghost use Rattle.bridge_config.specs.Commands.{has_instance, AreCommands};
 ghost use Rattle.bridge_capture.specs.Standing.{IsReading};
 ghost use Rattle.bridge_state.specs.Ports.{NotBefore};
 ghost use Rattle.bridge_semantics.specs.Merge.{Input, asked};
-ghost use Rattle.bridge_inputs.specs.Devices.{HasFailed, NeverFail};
+ghost use Rattle.bridge_inputs.specs.Devices.{NeverFail};
 ghost use Rattle.bridge_inputs.specs.Lanes.{IsFirstAt, numbers, room_of};
-ghost use Rattle.bridge_core.specs.Lines.{HasRunOut, numbers as written_numbers};
-ghost use Rattle.bridge_core.specs.Taking.{AreLater, first_of_commands, GoesOn, HasGone, Obeys, HasGiven, HasLooked, IsBefore, IsUnderWay, MayTake, TakesBefore};
+ghost use Rattle.bridge_core.specs.Lines.{numbers as written_numbers};
+ghost use Rattle.bridge_core.specs.Taking.{AreLater, first_of_commands, GoesOn, HasGone, Obeys, HasGiven, HasLooked, IsBefore, IsUnderWay, MayTake, TakesBefore, TellsOfDevices};
 
 use crate::line::{Line, depart_before};
 use bridge_capture::{ByteSink, ByteSource, CaptureFault, Packet};
@@ -42,7 +42,8 @@ fn look_at<R: ByteSource, A: Allocator + Copy>(
     requires size { length sources.old ≡ length lanes.old }
     requires reading { (lane : CaptureReader A) → slice_get lanes.old place ≡ Some lane → IsReading lane.capture }
     ensures looked { HasLooked R.remaining lanes.old lanes.new sources.old sources.new place result }
-    ensures read { result ≡ Err CaptureFault.Read → (source : R) → slice_get sources.new place ≡ Some source → R.has_failed source ≡ true }
+    ensures read { result ≡ Err CaptureFault.Read → (source : R) → slice_get sources.new place ≡ Some source
+        → R.has_failed source ≡ true }
     ensures sure { NeverFail R.never_fails sources.old → result ≢ Err CaptureFault.Read }
     ensures lasts { NeverFail R.never_fails sources.old → NeverFail R.never_fails sources.new }
     ensures no_write { result ≢ Err CaptureFault.Write }
@@ -68,18 +69,19 @@ fn take<R: ByteSource, W: ByteSink, G: Agenda + Drop, A: Allocator + Copy>(
     requires sources { length sources.old ≡ length lanes.old }
     requires sinks { length sinks.old ≡ length lines.old }
     requires waits { NotBefore (G.held relay.old.ports.agenda) relay.old.earliest }
-    ensures goes { (p : config.Plan A) (texts : ℕ → List ℕ) (commanded : List Input) (next : Option Input) (olds : List W) → TakesBefore lanes.old place next → IsUnderWay R.remaining W.contents p texts commanded next olds relay.old lanes.old sources.old sinks.old → GoesOn R.remaining W.contents p texts commanded next olds relay.new lanes.new sources.new sinks.new result }
+    ensures goes { (p : config.Plan A) (texts : ℕ → List ℕ) (commanded : List Input) (next : Option Input)
+        (olds : List W) → TakesBefore lanes.old place next
+        → IsUnderWay R.remaining W.contents p texts commanded next olds relay.old lanes.old sources.old sinks.old
+        → GoesOn R.remaining W.contents p texts commanded next olds relay.new lanes.new sources.new sinks.new result }
     ensures may { OnOk result (MayTake relay.new lanes.new) }
     ensures waits { OnOk result (NotBefore (G.held relay.new.ports.agenda) relay.new.earliest) }
     ensures fewer { OnOk result (room_of lanes.new < room_of lanes.old) }
-    ensures moved { OnOk result ((l : CaptureReader A) (c : Packet A) → slice_get lanes.old place ≡ Some l → l.ahead ≡ Some c → relay.new.earliest ≡ c.time) }
-    ensures same { (relay.new.plan ≡ relay.old.plan) × (numbers lanes.new ≡ numbers lanes.old) × (written_numbers lines.new ≡ written_numbers lines.old) }
-    ensures read { (port : ℕ) → result ≡ Err (RunFault.Capture port CaptureFault.Read) → HasFailed R.has_failed (numbers lanes.old) port sources.new }
-    ensures sure { NeverFail R.never_fails sources.old → (port : ℕ) → result ≢ Err (RunFault.Capture port CaptureFault.Read) }
-    ensures lasts { NeverFail R.never_fails sources.old → NeverFail R.never_fails sources.new }
-    ensures wrote { (port : ℕ) → result ≡ Err (RunFault.Write port) → HasFailed W.has_failed (numbers lanes.old) port sinks.new }
-    ensures sound { NeverFail W.never_fails sinks.old → (port : ℕ) → result ≡ Err (RunFault.Write port) → HasRunOut W.ran_out (numbers lanes.old) port sinks.new }
-    ensures holds { NeverFail W.never_fails sinks.old → NeverFail W.never_fails sinks.new }
+    ensures moved { OnOk result ((l : CaptureReader A) (c : Packet A) → slice_get lanes.old place ≡ Some l
+        → l.ahead ≡ Some c → relay.new.earliest ≡ c.time) }
+    ensures same { (relay.new.plan ≡ relay.old.plan) × (numbers lanes.new ≡ numbers lanes.old)
+        × (written_numbers lines.new ≡ written_numbers lines.old) }
+    ensures devices { TellsOfDevices R.has_failed R.never_fails W.has_failed W.never_fails W.ran_out (numbers lanes.old)
+        sources.old sources.new sinks.old sinks.new result }
 {
     let (number, packet) = give(lanes, place);
     if let Err(fault) = depart_before(Some(packet.time), relay, lines, sinks, spares) {
@@ -104,7 +106,8 @@ fn take<R: ByteSource, W: ByteSink, G: Agenda + Drop, A: Allocator + Copy>(
 /// Whether the frame ahead comes before a moment, where there is one.
 fn is_before<A: Allocator + Copy>(lane: &CaptureReader<A>, until: Option<u64>) -> bool
     ensures before { result ≡ true → (p : Packet A) → lane.now.ahead ≡ Some p → IfSome until (λ t. p.time < t) }
-    ensures later { result ≡ false → (p : Packet A) → lane.now.ahead ≡ Some p → (t : ℕ) × (until ≡ Some t) × (t ≤ p.time) }
+    ensures later { result ≡ false → (p : Packet A) → lane.now.ahead ≡ Some p → (t : ℕ) × (until ≡ Some t)
+        × (t ≤ p.time) }
 {
     match (until, &lane.ahead) {
         (Some(t), Some(packet)) => packet.time < t,
@@ -144,18 +147,18 @@ fn take_before<R: ByteSource, W: ByteSink, G: Agenda + Drop, A: Allocator + Copy
     requires sinks { length sinks.old ≡ length lines.old }
     requires waits { NotBefore (G.held relay.old.ports.agenda) relay.old.earliest }
     requires early { IfSome until (λ t. relay.old.earliest ≤ t) }
-    ensures goes { (p : config.Plan A) (texts : ℕ → List ℕ) (commanded : List Input) (next : Option Input) (olds : List W) → IfSome next (λ y. until ≡ Some y.at) → IsUnderWay R.remaining W.contents p texts commanded next olds relay.old lanes.old sources.old sinks.old → GoesOn R.remaining W.contents p texts commanded next olds relay.new lanes.new sources.new sinks.new result }
+    ensures goes { (p : config.Plan A) (texts : ℕ → List ℕ) (commanded : List Input) (next : Option Input)
+        (olds : List W) → IfSome next (λ y. until ≡ Some y.at)
+        → IsUnderWay R.remaining W.contents p texts commanded next olds relay.old lanes.old sources.old sinks.old
+        → GoesOn R.remaining W.contents p texts commanded next olds relay.new lanes.new sources.new sinks.new result }
     ensures may { OnOk result (MayTake relay.new lanes.new) }
     ensures waits { OnOk result (NotBefore (G.held relay.new.ports.agenda) relay.new.earliest) }
     ensures later { OnOk result (AreLater until lanes.new) }
     ensures early { OnOk result (IfSome until (λ t. relay.new.earliest ≤ t)) }
-    ensures same { (relay.new.plan ≡ relay.old.plan) × (numbers lanes.new ≡ numbers lanes.old) × (written_numbers lines.new ≡ written_numbers lines.old) }
-    ensures read { (port : ℕ) → result ≡ Err (RunFault.Capture port CaptureFault.Read) → HasFailed R.has_failed (numbers lanes.old) port sources.new }
-    ensures sure { NeverFail R.never_fails sources.old → (port : ℕ) → result ≢ Err (RunFault.Capture port CaptureFault.Read) }
-    ensures lasts { NeverFail R.never_fails sources.old → NeverFail R.never_fails sources.new }
-    ensures wrote { (port : ℕ) → result ≡ Err (RunFault.Write port) → HasFailed W.has_failed (numbers lanes.old) port sinks.new }
-    ensures sound { NeverFail W.never_fails sinks.old → (port : ℕ) → result ≡ Err (RunFault.Write port) → HasRunOut W.ran_out (numbers lanes.old) port sinks.new }
-    ensures holds { NeverFail W.never_fails sinks.old → NeverFail W.never_fails sinks.new }
+    ensures same { (relay.new.plan ≡ relay.old.plan) × (numbers lanes.new ≡ numbers lanes.old)
+        × (written_numbers lines.new ≡ written_numbers lines.old) }
+    ensures devices { TellsOfDevices R.has_failed R.never_fails W.has_failed W.never_fails W.ran_out (numbers lanes.old)
+        sources.old sources.new sinks.old sinks.new result }
 {
     while let Some(place) = next_before(lanes, until) {
         if let Err(fault) = take(place, relay, lanes, lines, sources, sinks, spares) {
@@ -182,17 +185,19 @@ fn obey<R: ByteSource, W: ByteSink, G: Agenda + Drop, A: Allocator + Copy>(
     requires waits { NotBefore (G.held relay.old.ports.agenda) relay.old.earliest }
     requires time { relay.old.earliest ≤ command.at }
     requires instance { IsTrue (has_instance relay.old.plan command.clear command.number) }
-    ensures goes { (p : config.Plan A) (texts : ℕ → List ℕ) (commanded : List Input) (next : Option Input) (olds : List W) → IfSome next (λ y. command.at ≤ y.at) → IsUnderWay R.remaining W.contents p texts commanded (Some (asked command)) olds relay.old lanes.old sources.old sinks.old → Obeys R.remaining W.contents p texts commanded command next olds relay.new lanes.new sources.new sinks.new result }
+    ensures goes { (p : config.Plan A) (texts : ℕ → List ℕ) (commanded : List Input) (next : Option Input)
+        (olds : List W) → IfSome next (λ y. command.at ≤ y.at)
+        → IsUnderWay R.remaining W.contents p texts commanded
+        (Some (asked command)) olds relay.old lanes.old sources.old sinks.old
+        → Obeys R.remaining W.contents p texts commanded command next olds relay.new lanes.new sources.new sinks.new
+        result }
     ensures may { OnOk result (MayTake relay.new lanes.new) }
     ensures waits { OnOk result (NotBefore (G.held relay.new.ports.agenda) relay.new.earliest) }
     ensures moved { OnOk result (relay.new.earliest ≡ command.at) }
-    ensures same { (relay.new.plan ≡ relay.old.plan) × (numbers lanes.new ≡ numbers lanes.old) × (written_numbers lines.new ≡ written_numbers lines.old) }
-    ensures read { (port : ℕ) → result ≡ Err (RunFault.Capture port CaptureFault.Read) → HasFailed R.has_failed (numbers lanes.old) port sources.new }
-    ensures sure { NeverFail R.never_fails sources.old → (port : ℕ) → result ≢ Err (RunFault.Capture port CaptureFault.Read) }
-    ensures lasts { NeverFail R.never_fails sources.old → NeverFail R.never_fails sources.new }
-    ensures wrote { (port : ℕ) → result ≡ Err (RunFault.Write port) → HasFailed W.has_failed (numbers lanes.old) port sinks.new }
-    ensures sound { NeverFail W.never_fails sinks.old → (port : ℕ) → result ≡ Err (RunFault.Write port) → HasRunOut W.ran_out (numbers lanes.old) port sinks.new }
-    ensures holds { NeverFail W.never_fails sinks.old → NeverFail W.never_fails sinks.new }
+    ensures same { (relay.new.plan ≡ relay.old.plan) × (numbers lanes.new ≡ numbers lanes.old)
+        × (written_numbers lines.new ≡ written_numbers lines.old) }
+    ensures devices { TellsOfDevices R.has_failed R.never_fails W.has_failed W.never_fails W.ran_out (numbers lanes.old)
+        sources.old sources.new sinks.old sinks.new result }
 {
     let at = Some(command.at);
     if let Err(fault) = take_before(at, relay, lanes, lines, sources, sinks, spares) {
@@ -221,13 +226,15 @@ pub fn run<R: ByteSource, W: ByteSink, G: Agenda + Drop, A: Allocator + Copy>(
     requires lines { written_numbers lines.old ≡ numbers lanes.old }
     requires sources { length sources.old ≡ length lanes.old }
     requires sinks { length sinks.old ≡ length lines.old }
-    ensures goes { (p : config.Plan A) (texts : ℕ → List ℕ) (olds : List W) → IsUnderWay R.remaining W.contents p texts [] (first_of_commands commands.now) olds relay.old lanes.old sources.old sinks.old → HasGone R.remaining W.contents p texts commands.now olds relay.new lanes.new sources.new sinks.new result }
+    ensures goes { (p : config.Plan A) (texts : ℕ → List ℕ) (olds : List W)
+        → IsUnderWay R.remaining W.contents p texts []
+        (first_of_commands commands.now) olds relay.old lanes.old sources.old sinks.old
+        → HasGone R.remaining W.contents p texts commands.now olds relay.new lanes.new sources.new sinks.new result }
     ensures idle { OnOk result ((q : ℕ) → G.held relay.new.ports.agenda q ≡ None) }
-    ensures same { (relay.new.plan ≡ relay.old.plan) × (numbers lanes.new ≡ numbers lanes.old) × (written_numbers lines.new ≡ written_numbers lines.old) }
-    ensures read { (port : ℕ) → result ≡ Err (RunFault.Capture port CaptureFault.Read) → HasFailed R.has_failed (numbers lanes.old) port sources.new }
-    ensures sure { NeverFail R.never_fails sources.old → (port : ℕ) → result ≢ Err (RunFault.Capture port CaptureFault.Read) }
-    ensures wrote { (port : ℕ) → result ≡ Err (RunFault.Write port) → HasFailed W.has_failed (numbers lanes.old) port sinks.new }
-    ensures sound { NeverFail W.never_fails sinks.old → (port : ℕ) → result ≡ Err (RunFault.Write port) → HasRunOut W.ran_out (numbers lanes.old) port sinks.new }
+    ensures same { (relay.new.plan ≡ relay.old.plan) × (numbers lanes.new ≡ numbers lanes.old)
+        × (written_numbers lines.new ≡ written_numbers lines.old) }
+    ensures devices { TellsOfDevices R.has_failed R.never_fails W.has_failed W.never_fails W.ran_out (numbers lanes.old)
+        sources.old sources.new sinks.old sinks.new result }
 {
     for command in commands {
         if let Err(fault) = obey(*command, relay, lanes, lines, sources, sinks, spares) {

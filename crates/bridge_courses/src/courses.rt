@@ -120,7 +120,8 @@ fn with_queue<A: Allocator + Copy>(
     requires queue { IsQueue queue.now }
     requires traffic { IsTraffic came.now.traffic }
     requires room { HasRoom (depth + 1) came.now }
-    ensures { GathersOne (Tells (parts_of case.now) depth) (parts_of case.now) hop came.now passes queue.now gathered result }
+    ensures { GathersOne (Tells (parts_of case.now) depth)
+        (parts_of case.now) hop came.now passes queue.now gathered result }
 {
     if !is_of(hop, queue) {
         return gathered;

@@ -290,7 +290,8 @@ fn interval_of<S: Copy>(
 ) -> (S, u64, u64)
     requires some { 0 < length entries.now }
     requires ends { running.AreEnds entries.now ends.now }
-    ensures { cyclic.place entries.now 0 cycle phase ≡ Some (record { state = result.0; start = result.1; end = result.2 }) }
+    ensures { cyclic.place entries.now 0 cycle phase
+        ≡ Some (record { state = result.0; start = result.1; end = result.2 }) }
 {
     let place = place_of(ends, density, phase);
     let start = if place == 0 { 0 } else { ends[place - 1] };

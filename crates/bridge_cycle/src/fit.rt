@@ -1,4 +1,4 @@
-ghost use Rattle.std.specs.Prelude.{◌≡◌, ℕ, ◌+◌, ◌*◌, ◌^◌, ◌<◌, ◌≤◌};
+ghost use Rattle.std.specs.Prelude.{◌≡◌, ℕ, ◌+◌, ◌*◌, ◌<◌, ◌≤◌};
 ghost use Rattle.bridge_cycle.specs.Moments.{Fits, IsFirst};
 ghost use Rattle.bridge_cycle.specs.Moments as moments;
 ghost use Rattle.bridge_cycle.specs.Opens.{opens_in};
@@ -24,7 +24,8 @@ pub fn first_fit<L: Timeline<State = u8>>(timeline: &L, class: u8, occ: u64, fro
     requires class { class < 8 }
     requires occ { occ ≤ LONGEST_CYCLE }
     requires from { from < END_OF_SEARCHES }
-    requires some { (u : ℕ) × (from ≤ u) × (u ≤ from + 3 * LONGEST_CYCLE) × Fits (λ v. opens_in (L.turn_at timeline.now v) class) occ u }
+    requires some { (u : ℕ) × (from ≤ u) × (u ≤ from + 3 * LONGEST_CYCLE)
+        × Fits (λ v. opens_in (L.turn_at timeline.now v) class) occ u }
     ensures { IsFirst (λ v. opens_in (L.turn_at timeline.now v) class) occ from result }
 {
     let mut start = from;

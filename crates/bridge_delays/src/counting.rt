@@ -211,7 +211,8 @@ fn count_hop<A: Allocator + Copy>(
     roots: &[Option<Root>],
     tallies: &mut [Tally],
 ) -> Result<(), NoMemory>
-    ensures { OnOk result ((ways : List Bool) × AreWays links.now hops.now hop.now.bridge ways × (tallies.new ≡ spec.with_hop is_first ways roots.now tallies.old hop.now.view.now)) }
+    ensures { OnOk result ((ways : List Bool) × AreWays links.now hops.now hop.now.bridge ways
+        × (tallies.new ≡ spec.with_hop is_first ways roots.now tallies.old hop.now.view.now)) }
 {
     let ways = ways_of(alloc, links, hops, hop.bridge)?;
     let view = hop.view;

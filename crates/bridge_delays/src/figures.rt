@@ -1,5 +1,5 @@
 //! The least, the mean and the greatest of some delays.
-ghost use Rattle.std.specs.Prelude.{◌≡◌, ◌≤◌, ◌*◌, ◌^◌, ◌-◌, length, sum};
+ghost use Rattle.std.specs.Prelude.{◌≡◌, ◌*◌, ◌-◌, sum};
 ghost use Rattle.bridge_delays.specs.Figures as spec;
 
 /// Figures of delays in ns: the least, the mean rounded down, the greatest, and how far these differ.

@@ -205,7 +205,8 @@ fn put_departures<A: Allocator>(
     departures: &[Departure],
     ways: &[bool],
 )
-    ensures { HasGrown text.old (spec.departure_lines stream.now hop.now roots.now origins.now ways.now departures.now) text.new }
+    ensures { HasGrown text.old (spec.departure_lines stream.now hop.now roots.now origins.now ways.now departures.now)
+        text.new }
 {
     for departure in departures {
         put_departure(
@@ -254,7 +255,8 @@ pub fn frame_lines<A: Allocator + Copy>(
     stream: &str,
     hop: &str,
 ) -> Result<String<A>, NoMemory>
-    ensures { IfOk result (λ text. spec.AreFrameLines links.now hops.now run.now.bridge roots.now stream.now hop.now run.now.view.now (string_bytes text)) }
+    ensures { IfOk result (λ text. spec.AreFrameLines links.now hops.now run.now.bridge roots.now stream.now hop.now
+        run.now.view.now (string_bytes text)) }
 {
     let ways = ways_of(alloc, links, hops, run.bridge)?;
     let mut text = Text::new(alloc);

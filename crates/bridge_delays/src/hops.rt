@@ -1,5 +1,5 @@
 //! Hops of a stream in a run of a network, and where their frames go on.
-ghost use Rattle.std.specs.Prelude.{◌≡◌, IfOk, slice_get, Some, ◌+◌, ◌<◌};
+ghost use Rattle.std.specs.Prelude.{◌≡◌, IfOk, Some, ◌+◌, ◌<◌};
 ghost use Rattle.bridge_delays.specs.Hops as spec;
 
 use bridge_limits::NoMemory;

@@ -205,7 +205,8 @@ pub fn counts_of<A: Allocator + Copy>(
     hops: &[HopRun<'_, A>],
     hop: &HopRun<'_, A>,
 ) -> Result<HopCounts, NoMemory>
-    ensures { IfOk result (λ counts. (ways : List Bool) × AreWays links.now hops.now hop.now.bridge ways × (counts ≡ spec.counts_of ways hop.now.view.now)) }
+    ensures { IfOk result (λ counts. (ways : List Bool) × AreWays links.now hops.now hop.now.bridge ways
+        × (counts ≡ spec.counts_of ways hop.now.view.now)) }
 {
     let ways = ways_of(alloc, links, hops, hop.bridge)?;
     Ok(counted_of(&ways, hop.view))
@@ -254,7 +255,8 @@ pub fn delays_of<A: Allocator + Copy>(
     hop: &HopRun<'_, A>,
     roots: &[Option<Root>],
 ) -> Result<Vec<u64, A>, NoMemory>
-    ensures { IfOk result (λ delays. (ways : List Bool) × AreWays links.now hops.now hop.now.bridge ways × (delays.items ≡ spec.delays_of ways roots.now hop.now.view.now.departures.items)) }
+    ensures { IfOk result (λ delays. (ways : List Bool) × AreWays links.now hops.now hop.now.bridge ways
+        × (delays.items ≡ spec.delays_of ways roots.now hop.now.view.now.departures.items)) }
 {
     let ways = ways_of(alloc, links, hops, hop.bridge)?;
     let delays = delays_in(alloc, &ways, roots, &hop.view.departures)?;

@@ -16,7 +16,8 @@ pub fn sources_of<R: Read + Drop, A: Allocator + Copy>(
     alloc: A,
     readers: Vec<R, A>,
 ) -> Result<Vec<ReadAhead<R, A>, A>, NoMemory>
-    ensures { IfOk result (λ sources. map ⟦<ReadAhead<R, A> as ByteSource>⟧.remaining sources.items ≡ map R.remaining readers.items) }
+    ensures { IfOk result (λ sources. map ⟦<ReadAhead<R, A> as ByteSource>⟧.remaining sources.items
+        ≡ map R.remaining readers.items) }
 {
     let mut sources = Vec::with_capacity(alloc, readers.len())?;
     for reader in readers {
@@ -33,7 +34,8 @@ pub fn sinks_of<W: Write + Drop, A: Allocator + Copy>(
     alloc: A,
     writers: Vec<W, A>,
 ) -> Result<Vec<WriteBehind<W, A>, A>, NoMemory>
-    ensures { IfOk result (λ sinks. AllKept W.contents ⟦<WriteBehind<W, A> as ByteSink>⟧.contents writers.items sinks.items) }
+    ensures { IfOk result (λ sinks. AllKept W.contents ⟦<WriteBehind<W, A> as ByteSink>⟧.contents writers.items
+        sinks.items) }
 {
     let mut sinks = Vec::with_capacity(alloc, writers.len())?;
     for writer in writers {
@@ -53,7 +55,8 @@ pub fn finish_all<W: Write + Drop, A: Allocator + Copy>(
     requires none { flushed.items ≡ [] }
     requires room { length sinks.items ≤ vec_capacity flushed }
     ensures few { length result.items ≤ length sinks.items }
-    ensures kept { AllKept ⟦<WriteBehind<W, A> as ByteSink>⟧.contents W.contents (take (length result.items) sinks.items) result.items }
+    ensures kept { AllKept ⟦<WriteBehind<W, A> as ByteSink>⟧.contents W.contents
+        (take (length result.items) sinks.items) result.items }
     ensures sound { NoneFailed ⟦<WriteBehind<W, A> as ByteSink>⟧.has_failed (take (length result.items) sinks.items) }
 {
     let mut flushed = flushed;

@@ -120,7 +120,8 @@ pub fn wire_over<R: Read + Drop, W: Write + Drop>(
     ensures ok { (input : List ℕ) → R.remaining reader ≡ Some input →
         IfOk result (λ done. PrintsCounts speed room input (W.contents writer) (W.contents done.1) (line_of done.0)) }
     ensures place { IfOk result (λ done. SaysCounts (string_bytes output) done.0) }
-    ensures err { (input : List ℕ) → R.remaining reader ≡ Some input → IfErr result (EndsOver (string_bytes output) input) }
+    ensures err { (input : List ℕ) → R.remaining reader ≡ Some input
+        → IfErr result (EndsOver (string_bytes output) input) }
     ensures only { IfErr result (EndsInto (string_bytes output)) }
 {
     match wire_job(alloc, speed, room, reader, writer) {

@@ -19,7 +19,8 @@ use std::alloc::Allocator;
 /// Clears the blocked flag of the filter with that number.
 pub(crate) fn clear_blocked<A: Allocator + Copy>(filters: &mut Numbered<Filter, A>, number: u32)
     requires { IsSome (lookup (nat_eq number) filters.old.entries) }
-    ensures kept { (ss : List Step) → AreKept filters.old.entries ss → AreKept filters.new.entries (Commanded Clear.Blocked number ∷ ss) }
+    ensures kept { (ss : List Step) → AreKept filters.old.entries ss
+        → AreKept filters.new.entries (Commanded Clear.Blocked number ∷ ss) }
     ensures plans { plans_in filters.new.entries ≡ plans_in filters.old.entries }
     ensures instances { InstancesStay filters.old.entries filters.new.entries }
 {
@@ -32,7 +33,8 @@ pub(crate) fn clear_blocked<A: Allocator + Copy>(filters: &mut Numbered<Filter, 
 /// Clears the receive flag of the gate with that number.
 pub(crate) fn clear_rx<A: Allocator + Copy>(gates: &mut Numbered<StreamGate<A>, A>, number: u32)
     requires { IsSome (lookup (nat_eq number) gates.old.entries) }
-    ensures stand { (rules : ℕ → GateRules) (share : ℕ → List GateEvent) → GatesStand rules gates.old.entries share → GatesStand rules gates.new.entries (λ n. if nat_eq number n then ClearedRx ∷ share n else share n) }
+    ensures stand { (rules : ℕ → GateRules) (share : ℕ → List GateEvent) → GatesStand rules gates.old.entries share
+        → GatesStand rules gates.new.entries (λ n. if nat_eq number n then ClearedRx ∷ share n else share n) }
     ensures before { (t : ℕ) → GatesBefore gates.old.entries t → GatesBefore gates.new.entries t }
     ensures same { keys_of gates.new.entries ≡ keys_of gates.old.entries }
 {
@@ -45,7 +47,8 @@ pub(crate) fn clear_rx<A: Allocator + Copy>(gates: &mut Numbered<StreamGate<A>, 
 /// Clears the octets flag of the gate with that number.
 pub(crate) fn clear_octets<A: Allocator + Copy>(gates: &mut Numbered<StreamGate<A>, A>, number: u32)
     requires { IsSome (lookup (nat_eq number) gates.old.entries) }
-    ensures stand { (rules : ℕ → GateRules) (share : ℕ → List GateEvent) → GatesStand rules gates.old.entries share → GatesStand rules gates.new.entries (λ n. if nat_eq number n then ClearedOctets ∷ share n else share n) }
+    ensures stand { (rules : ℕ → GateRules) (share : ℕ → List GateEvent) → GatesStand rules gates.old.entries share
+        → GatesStand rules gates.new.entries (λ n. if nat_eq number n then ClearedOctets ∷ share n else share n) }
     ensures before { (t : ℕ) → GatesBefore gates.old.entries t → GatesBefore gates.new.entries t }
     ensures same { keys_of gates.new.entries ≡ keys_of gates.old.entries }
 {
@@ -58,7 +61,9 @@ pub(crate) fn clear_octets<A: Allocator + Copy>(gates: &mut Numbered<StreamGate<
 /// Clears the red flag of the meter with that number.
 pub(crate) fn clear_red<A: Allocator + Copy>(meters: &mut Numbered<Meter, A>, number: u32)
     requires { IsSome (lookup (nat_eq number) meters.old.entries) }
-    ensures stand { (plans : ℕ → MeterPlan) (share : ℕ → List colours.MeterEvent) → MetersStand plans meters.old.entries share → MetersStand plans meters.new.entries (λ n. if nat_eq number n then colours.Cleared ∷ share n else share n) }
+    ensures stand { (plans : ℕ → MeterPlan) (share : ℕ → List colours.MeterEvent)
+        → MetersStand plans meters.old.entries share
+        → MetersStand plans meters.new.entries (λ n. if nat_eq number n then colours.Cleared ∷ share n else share n) }
     ensures before { (t : ℕ) → MetersBefore meters.old.entries t → MetersBefore meters.new.entries t }
     ensures same { keys_of meters.new.entries ≡ keys_of meters.old.entries }
 {

@@ -141,7 +141,8 @@ pub(crate) fn filter_at<A: Allocator + Copy>(
     requires gates { HaveGates filters.now.entries gates.now.entries }
     requires meters { HaveMeters filters.now.entries meters.now.entries }
     ensures plan { slice_get (plans_in filters.now.entries) place ≡ Some (result.1.number, result.0) }
-    ensures route { finding.IsRoute (plans_in filters.now.entries) (keys_of gates.now.entries) (keys_of meters.now.entries) result.1 }
+    ensures route { finding.IsRoute (plans_in filters.now.entries) (keys_of gates.now.entries)
+        (keys_of meters.now.entries) result.1 }
 {
     let Some((number, filter)) = filters.get_index(place) else {
         unreachable!()
@@ -165,7 +166,8 @@ fn least_with(
     handle: Option<u32>,
     priority: u8,
 ) -> Option<Route>
-    ensures { result ≡ (if verdicts.takes_handle plan.now.handle handle && verdicts.takes_priority plan.now.priority priority then finding.lesser route least else least) }
+    ensures { result ≡ (if verdicts.takes_handle plan.now.handle handle && verdicts.takes_priority plan.now.priority
+        priority then finding.lesser route least else least) }
 {
     if takes_handle(plan.handle, handle) && takes_priority(plan.priority, priority) {
         lesser(route, least)
@@ -186,8 +188,10 @@ fn route_among<A: Allocator + Copy>(
 ) -> Option<Route>
     requires gates { HaveGates filters.now.entries gates.now.entries }
     requires meters { HaveMeters filters.now.entries meters.now.entries }
-    ensures number { option_map (λ r. r.number) result ≡ finding.least_for handle priority (plans_in filters.now.entries) }
-    ensures route { IfSome result (finding.IsRoute (plans_in filters.now.entries) (keys_of gates.now.entries) (keys_of meters.now.entries)) }
+    ensures number { option_map (λ r. r.number) result
+        ≡ finding.least_for handle priority (plans_in filters.now.entries) }
+    ensures route { IfSome result (finding.IsRoute (plans_in filters.now.entries) (keys_of gates.now.entries)
+        (keys_of meters.now.entries)) }
 {
     let mut least = None;
     for place in 0..filters.len() {
@@ -209,11 +213,15 @@ pub(crate) fn route_of<A: Allocator + Copy>(
     priority: u8,
 ) -> Option<Route>
     requires rows { finding.AreRows rows.now.entries any.now (plans_in filters.now.entries) }
-    requires routes { finding.HaveRoutes rows.now.entries any.now (plans_in filters.now.entries) (keys_of gates.now.entries) (keys_of meters.now.entries) }
+    requires routes { finding.HaveRoutes rows.now.entries any.now (plans_in filters.now.entries)
+        (keys_of gates.now.entries) (keys_of meters.now.entries) }
     requires gates { HaveGates filters.now.entries gates.now.entries }
     requires meters { HaveMeters filters.now.entries meters.now.entries }
-    ensures number { (at sdu octets : ℕ) (dei : Bool) → option_map (λ r. r.number) result ≡ option_map (λ f. f.0) (verdicts.flow (plans_in filters.now.entries) (verdicts.call at handle priority dei sdu octets)) }
-    ensures route { IfSome result (finding.IsRoute (plans_in filters.now.entries) (keys_of gates.now.entries) (keys_of meters.now.entries)) }
+    ensures number { (at sdu octets : ℕ) (dei : Bool)
+        → option_map (λ r. r.number) result ≡ option_map (λ f. f.0)
+        (verdicts.flow (plans_in filters.now.entries) (verdicts.call at handle priority dei sdu octets)) }
+    ensures route { IfSome result (finding.IsRoute (plans_in filters.now.entries) (keys_of gates.now.entries)
+        (keys_of meters.now.entries)) }
 {
     if priority < 8 {
         row_of(rows, any, handle)[priority as usize]

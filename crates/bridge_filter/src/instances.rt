@@ -1,6 +1,6 @@
 //! Gates and meters by number, and what they say to a frame.
 
-ghost use Rattle.std.specs.Prelude.{◌≡◌, ℕ, ◌<◌, ◌≤◌, ◌&&◌, nat_eq, IsSome, IfSome, Some, true, Bool, Option, List, ◌∷◌, length, slice_get, if◌then◌else◌};
+ghost use Rattle.std.specs.Prelude.{◌≡◌, ℕ, ◌<◌, ◌≤◌, ◌&&◌, nat_eq, IsSome, IfSome, Some, true, Option, List, ◌∷◌, length, slice_get, if◌then◌else◌};
 ghost use Rattle.std.specs.Option.{option_map};
 ghost use Rattle.std.specs.Map.{keys_of, lookup};
 ghost use Rattle.bridge_meter.specs.declared.MeterPlan.{MeterPlan};
@@ -9,7 +9,7 @@ ghost use Rattle.bridge_gate.specs.declared.gate.GateAnswer.TheVariants as gate;
 ghost use Rattle.bridge_gate.specs.Gates.{GateRules, GateEvent, Asked, answer, steps, is_shut_by_rx, is_shut_by_octets};
 ghost use Rattle.bridge_filter.specs.declared.FilterPlan.{FilterPlan};
 ghost use Rattle.bridge_filter.specs.Finding.{IsPlaceIfAny, IsServed};
-ghost use Rattle.bridge_filter.specs.Verdicts.{Plans, Step, Judged, call, by_answer, by_colour, gate_answer, gate_share, meter_share, passed_gate, reached_gate, HasPriority};
+ghost use Rattle.bridge_filter.specs.Verdicts.{Plans, Step, Judged, call, by_answer, by_colour, gate_answer, meter_share, passed_gate, reached_gate, HasPriority};
 ghost use Rattle.bridge_filter.specs.Standing.{GatesStand, MetersStand, shown_rx, shown_octets};
 ghost use Rattle.bridge_filter.specs.Steps.{GatesBefore, MetersBefore, ArePoliced};
 
@@ -44,8 +44,12 @@ fn ask<A: Allocator + Copy>(
     requires within { place < length gates.old.entries }
     requires before { GatesBefore gates.old.entries at }
     requires range { at < END_OF_TIME }
-    ensures stand { (number : ℕ) (rules : ℕ → GateRules) (share : ℕ → List GateEvent) → slice_get (keys_of gates.old.entries) place ≡ Some number → GatesStand rules gates.old.entries share → GatesStand rules gates.new.entries (λ n. if nat_eq number n then Asked at sdu ∷ share n else share n) }
-    ensures answer { (number : ℕ) (rules : ℕ → GateRules) (share : ℕ → List GateEvent) → slice_get (keys_of gates.old.entries) place ≡ Some number → GatesStand rules gates.old.entries share → result ≡ answer (rules number) (steps (rules number) (share number)) at sdu }
+    ensures stand { (number : ℕ) (rules : ℕ → GateRules) (share : ℕ → List GateEvent)
+        → slice_get (keys_of gates.old.entries) place ≡ Some number → GatesStand rules gates.old.entries share
+        → GatesStand rules gates.new.entries (λ n. if nat_eq number n then Asked at sdu ∷ share n else share n) }
+    ensures answer { (number : ℕ) (rules : ℕ → GateRules) (share : ℕ → List GateEvent)
+        → slice_get (keys_of gates.old.entries) place ≡ Some number → GatesStand rules gates.old.entries share
+        → result ≡ answer (rules number) (steps (rules number) (share number)) at sdu }
     ensures priority { (ipv : ℕ) → result ≡ gate.Through (Some ipv) → ipv ≤ 7 }
     ensures before { GatesBefore gates.new.entries at }
     ensures same { keys_of gates.new.entries ≡ keys_of gates.old.entries }
@@ -63,8 +67,14 @@ fn metered<A: Allocator + Copy>(
 ) -> Verdict
     requires within { place < length meters.old.entries }
     requires before { MetersBefore meters.old.entries frame.at }
-    ensures stand { (number : ℕ) (plans : ℕ → MeterPlan) (share : ℕ → List colours.MeterEvent) → slice_get (keys_of meters.old.entries) place ≡ Some number → MetersStand plans meters.old.entries share → MetersStand plans meters.new.entries (λ n. if nat_eq number n then colours.Came frame.at frame.octets frame.dei ∷ share n else share n) }
-    ensures verdict { (number : ℕ) (plans : ℕ → MeterPlan) (share : ℕ → List colours.MeterEvent) → slice_get (keys_of meters.old.entries) place ≡ Some number → MetersStand plans meters.old.entries share → result ≡ by_colour (plans number) ipv (colours.colour_of (plans number) (colours.past (plans number) (share number)) frame.at frame.octets frame.dei) }
+    ensures stand { (number : ℕ) (plans : ℕ → MeterPlan) (share : ℕ → List colours.MeterEvent)
+        → slice_get (keys_of meters.old.entries) place ≡ Some number → MetersStand plans meters.old.entries share
+        → MetersStand plans meters.new.entries (λ n. if nat_eq number n
+        then colours.Came frame.at frame.octets frame.dei ∷ share n else share n) }
+    ensures verdict { (number : ℕ) (plans : ℕ → MeterPlan) (share : ℕ → List colours.MeterEvent)
+        → slice_get (keys_of meters.old.entries) place ≡ Some number → MetersStand plans meters.old.entries share
+        → result ≡ by_colour (plans number) ipv (colours.colour_of (plans number)
+        (colours.past (plans number) (share number)) frame.at frame.octets frame.dei) }
     ensures passed { passed_gate result ≡ true }
     ensures priority { ((i : ℕ) → ipv ≡ Some i → i ≤ 7) → HasPriority result }
     ensures before { MetersBefore meters.new.entries frame.at }
@@ -106,8 +116,15 @@ fn answered<A: Allocator + Copy>(
     requires within { IfSome place (λ i. i < length meters.old.entries) }
     requires before { MetersBefore meters.old.entries frame.at }
     requires priority { (ipv : ℕ) → answer ≡ gate.Through (Some ipv) → ipv ≤ 7 }
-    ensures verdict { (p : Plans) (ss : List Step) (f : FilterPlan) (handle : Option ℕ) (priority : ℕ) → IsPlaceIfAny (keys_of meters.old.entries) f.meter place → MetersStand p.meters meters.old.entries (λ n. meter_share n ss) → result ≡ by_answer p ss (call frame.at handle priority frame.dei frame.sdu frame.octets) f answer }
-    ensures stand { (plans : ℕ → MeterPlan) (ss : List Step) (k : ℕ) (f : FilterPlan) (handle : Option ℕ) (priority : ℕ) → IsPlaceIfAny (keys_of meters.old.entries) f.meter place → MetersStand plans meters.old.entries (λ n. meter_share n ss) → MetersStand plans meters.new.entries (λ n. meter_share n (Judged (call frame.at handle priority frame.dei frame.sdu frame.octets) k f result ∷ ss)) }
+    ensures verdict { (p : Plans) (ss : List Step) (f : FilterPlan) (handle : Option ℕ) (priority : ℕ)
+        → IsPlaceIfAny (keys_of meters.old.entries) f.meter place
+        → MetersStand p.meters meters.old.entries (λ n. meter_share n ss)
+        → result ≡ by_answer p ss (call frame.at handle priority frame.dei frame.sdu frame.octets) f answer }
+    ensures stand { (plans : ℕ → MeterPlan) (ss : List Step) (k : ℕ) (f : FilterPlan) (handle : Option ℕ) (priority : ℕ)
+        → IsPlaceIfAny (keys_of meters.old.entries) f.meter place
+        → MetersStand plans meters.old.entries (λ n. meter_share n ss)
+        → MetersStand plans meters.new.entries (λ n. meter_share n
+        (Judged (call frame.at handle priority frame.dei frame.sdu frame.octets) k f result ∷ ss)) }
     ensures reached { reached_gate result ≡ true }
     ensures priority { HasPriority result }
     ensures before { MetersBefore meters.new.entries frame.at }
@@ -140,9 +157,17 @@ pub(crate) fn policed<A: Allocator + Copy>(
     requires asked { GatesBefore gates.old.entries frame.at }
     requires judged { MetersBefore meters.old.entries frame.at }
     requires range { frame.at < END_OF_TIME }
-    ensures verdict { (p : Plans) (ss : List Step) (f : FilterPlan) (handle : Option ℕ) (priority : ℕ) → IsServed f (keys_of gates.old.entries) (keys_of meters.old.entries) route → ArePoliced p gates.old.entries meters.old.entries ss → result ≡ by_answer p ss (call frame.at handle priority frame.dei frame.sdu frame.octets) f (gate_answer p ss (call frame.at handle priority frame.dei frame.sdu frame.octets) f.gate) }
+    ensures verdict { (p : Plans) (ss : List Step) (f : FilterPlan) (handle : Option ℕ) (priority : ℕ)
+        → IsServed f (keys_of gates.old.entries) (keys_of meters.old.entries) route
+        → ArePoliced p gates.old.entries meters.old.entries ss
+        → result ≡ by_answer p ss (call frame.at handle priority frame.dei frame.sdu frame.octets) f
+        (gate_answer p ss (call frame.at handle priority frame.dei frame.sdu frame.octets) f.gate) }
     ensures reached { reached_gate result ≡ true }
-    ensures gates { (p : Plans) (ss : List Step) (n : ℕ) (f : FilterPlan) (handle : Option ℕ) (priority : ℕ) → IsServed f (keys_of gates.old.entries) (keys_of meters.old.entries) route → ArePoliced p gates.old.entries meters.old.entries ss → ArePoliced p gates.new.entries meters.new.entries (Judged (call frame.at handle priority frame.dei frame.sdu frame.octets) n f result ∷ ss) }
+    ensures gates { (p : Plans) (ss : List Step) (n : ℕ) (f : FilterPlan) (handle : Option ℕ) (priority : ℕ)
+        → IsServed f (keys_of gates.old.entries) (keys_of meters.old.entries) route
+        → ArePoliced p gates.old.entries meters.old.entries ss
+        → ArePoliced p gates.new.entries meters.new.entries
+        (Judged (call frame.at handle priority frame.dei frame.sdu frame.octets) n f result ∷ ss) }
     ensures priority { HasPriority result }
     ensures asked { GatesBefore gates.new.entries frame.at }
     ensures judged { MetersBefore meters.new.entries frame.at }
@@ -161,8 +186,10 @@ pub(crate) fn gate_flags<A: Allocator + Copy>(
     requires { IsSome (lookup (nat_eq number) gates.now.entries) }
     ensures shown_rx { result.0 ≡ shown_rx (lookup (nat_eq number) gates.now.entries) }
     ensures shown_octets { result.1 ≡ shown_octets (lookup (nat_eq number) gates.now.entries) }
-    ensures rx { (rules : ℕ → GateRules) (share : ℕ → List GateEvent) → GatesStand rules gates.now.entries share → result.0 ≡ (rules number).shut_on_rx && is_shut_by_rx (steps (rules number) (share number)) }
-    ensures octets { (rules : ℕ → GateRules) (share : ℕ → List GateEvent) → GatesStand rules gates.now.entries share → result.1 ≡ (rules number).shut_on_octets && is_shut_by_octets (steps (rules number) (share number)) }
+    ensures rx { (rules : ℕ → GateRules) (share : ℕ → List GateEvent) → GatesStand rules gates.now.entries share
+        → result.0 ≡ (rules number).shut_on_rx && is_shut_by_rx (steps (rules number) (share number)) }
+    ensures octets { (rules : ℕ → GateRules) (share : ℕ → List GateEvent) → GatesStand rules gates.now.entries share
+        → result.1 ≡ (rules number).shut_on_octets && is_shut_by_octets (steps (rules number) (share number)) }
 {
     match gates.get(&number) {
         Some(gate) => gate.flags(),
@@ -174,7 +201,9 @@ pub(crate) fn gate_flags<A: Allocator + Copy>(
 pub(crate) fn meter_state<A: Allocator + Copy>(meters: &Numbered<Meter, A>, number: u32) -> Buckets
     requires { IsSome (lookup (nat_eq number) meters.now.entries) }
     ensures shown { Some result ≡ option_map (λ m. m.buckets) (lookup (nat_eq number) meters.now.entries) }
-    ensures after { (plans : ℕ → MeterPlan) (share : ℕ → List colours.MeterEvent) → MetersStand plans meters.now.entries share → result ≡ colours.buckets_after (plans number) (colours.past (plans number) (share number)) }
+    ensures after { (plans : ℕ → MeterPlan) (share : ℕ → List colours.MeterEvent)
+        → MetersStand plans meters.now.entries share
+        → result ≡ colours.buckets_after (plans number) (colours.past (plans number) (share number)) }
 {
     match meters.get(&number) {
         Some(meter) => meter.state(),

@@ -1,6 +1,6 @@
 //! The verdict of a frame that has a filter, and what the filter keeps of it.
 
-ghost use Rattle.std.specs.Prelude.{◌≡◌, ℕ, ◌<◌, ◌+◌, nat_eq, Some, true, Bool, Option, List, ◌∷◌};
+ghost use Rattle.std.specs.Prelude.{◌≡◌, ℕ, ◌<◌, ◌+◌, nat_eq, Some, Option, List, ◌∷◌};
 ghost use Rattle.std.specs.Map.{keys_of, lookup};
 ghost use Rattle.bridge_filter.specs.Finding.{IsRoute, IsServed};
 ghost use Rattle.bridge_filter.specs.declared.FilterPlan.{FilterPlan};
@@ -29,8 +29,13 @@ fn verdict_for<A: Allocator + Copy>(
     requires asked { GatesBefore gates.old.entries frame.at }
     requires judged { MetersBefore meters.old.entries frame.at }
     requires range { frame.at < END_OF_TIME }
-    ensures verdict { (p : Plans) (ss : List Step) (n : ℕ) (handle : Option ℕ) (priority : ℕ) → ArePoliced p gates.old.entries meters.old.entries ss → IsKept n filter.now ss → result ≡ verdict_of p ss (call frame.at handle priority frame.dei frame.sdu frame.octets) n filter.now.plan }
-    ensures policed { (p : Plans) (ss : List Step) (n : ℕ) (handle : Option ℕ) (priority : ℕ) → ArePoliced p gates.old.entries meters.old.entries ss → ArePoliced p gates.new.entries meters.new.entries (Judged (call frame.at handle priority frame.dei frame.sdu frame.octets) n filter.now.plan result ∷ ss) }
+    ensures verdict { (p : Plans) (ss : List Step) (n : ℕ) (handle : Option ℕ) (priority : ℕ)
+        → ArePoliced p gates.old.entries meters.old.entries ss → IsKept n filter.now ss
+        → result ≡ verdict_of p ss (call frame.at handle priority frame.dei frame.sdu frame.octets) n filter.now.plan }
+    ensures policed { (p : Plans) (ss : List Step) (n : ℕ) (handle : Option ℕ) (priority : ℕ)
+        → ArePoliced p gates.old.entries meters.old.entries ss
+        → ArePoliced p gates.new.entries meters.new.entries
+        (Judged (call frame.at handle priority frame.dei frame.sdu frame.octets) n filter.now.plan result ∷ ss) }
     ensures priority { HasPriority result }
     ensures asked { GatesBefore gates.new.entries frame.at }
     ensures judged { MetersBefore meters.new.entries frame.at }
@@ -51,17 +56,29 @@ pub(crate) fn judge<A: Allocator + Copy>(
     route: Route,
     frame: Frame,
 ) -> Verdict
-    requires route { IsRoute (plans_in filters.old.entries) (keys_of gates.old.entries) (keys_of meters.old.entries) route }
+    requires route { IsRoute (plans_in filters.old.entries) (keys_of gates.old.entries)
+        (keys_of meters.old.entries) route }
     requires instances { HaveInstances filters.old.entries gates.old.entries meters.old.entries 9223372036854775807 }
     requires asked { GatesBefore gates.old.entries frame.at }
     requires judged { MetersBefore meters.old.entries frame.at }
     requires range { frame.at < END_OF_TIME }
-    ensures verdict { (p : Plans) (ss : List Step) (f : FilterPlan) (handle : Option ℕ) (priority : ℕ) → lookup (nat_eq route.number) (plans_in filters.old.entries) ≡ Some f → AreKept filters.old.entries ss → ArePoliced p gates.old.entries meters.old.entries ss → result ≡ verdict_of p ss (call frame.at handle priority frame.dei frame.sdu frame.octets) route.number f }
-    ensures kept { (ss : List Step) (f : FilterPlan) (handle : Option ℕ) (priority : ℕ) → lookup (nat_eq route.number) (plans_in filters.old.entries) ≡ Some f → AreKept filters.old.entries ss → AreKept filters.new.entries (Judged (call frame.at handle priority frame.dei frame.sdu frame.octets) route.number f result ∷ ss) }
-    ensures policed { (p : Plans) (ss : List Step) (f : FilterPlan) (handle : Option ℕ) (priority : ℕ) → lookup (nat_eq route.number) (plans_in filters.old.entries) ≡ Some f → ArePoliced p gates.old.entries meters.old.entries ss → ArePoliced p gates.new.entries meters.new.entries (Judged (call frame.at handle priority frame.dei frame.sdu frame.octets) route.number f result ∷ ss) }
+    ensures verdict { (p : Plans) (ss : List Step) (f : FilterPlan) (handle : Option ℕ) (priority : ℕ)
+        → lookup (nat_eq route.number) (plans_in filters.old.entries) ≡ Some f → AreKept filters.old.entries ss
+        → ArePoliced p gates.old.entries meters.old.entries ss
+        → result ≡ verdict_of p ss (call frame.at handle priority frame.dei frame.sdu frame.octets) route.number f }
+    ensures kept { (ss : List Step) (f : FilterPlan) (handle : Option ℕ) (priority : ℕ)
+        → lookup (nat_eq route.number) (plans_in filters.old.entries) ≡ Some f → AreKept filters.old.entries ss
+        → AreKept filters.new.entries (Judged (call frame.at handle priority frame.dei frame.sdu frame.octets)
+        route.number f result ∷ ss) }
+    ensures policed { (p : Plans) (ss : List Step) (f : FilterPlan) (handle : Option ℕ) (priority : ℕ)
+        → lookup (nat_eq route.number) (plans_in filters.old.entries) ≡ Some f
+        → ArePoliced p gates.old.entries meters.old.entries ss
+        → ArePoliced p gates.new.entries meters.new.entries
+        (Judged (call frame.at handle priority frame.dei frame.sdu frame.octets) route.number f result ∷ ss) }
     ensures priority { HasPriority result }
     ensures plans { plans_in filters.new.entries ≡ plans_in filters.old.entries }
-    ensures instances { (calls : ℕ) → HaveInstances filters.old.entries gates.old.entries meters.old.entries calls → HaveInstances filters.new.entries gates.new.entries meters.new.entries (calls + 1) }
+    ensures instances { (calls : ℕ) → HaveInstances filters.old.entries gates.old.entries meters.old.entries calls
+        → HaveInstances filters.new.entries gates.new.entries meters.new.entries (calls + 1) }
     ensures asked { GatesBefore gates.new.entries frame.at }
     ensures judged { MetersBefore meters.new.entries frame.at }
     ensures same_gates { keys_of gates.new.entries ≡ keys_of gates.old.entries }

@@ -115,9 +115,13 @@ impl<A: Allocator + Copy> Police<A> {
         requires time { self.old.earliest ≤ t }
         requires range { t < END_OF_TIME }
         requires few { self.old.calls < 2 ^ 63 }
-        ensures stands { (p : Plans) (es : List Event) → Stands p self.old es → Stands p self.new (Came (call t handle priority dei sdu octets) ∷ es) }
-        ensures answer { (p : Plans) (es : List Event) → Stands p self.old es → result ≡ ruled (judged p (told p es) (call t handle priority dei sdu octets) (flow p.filters (call t handle priority dei sdu octets))) }
-        ensures filter { option_map (λ r. r.filter) result ≡ option_map (λ f. f.0) (flow self.old.filters (call t handle priority dei sdu octets)) }
+        ensures stands { (p : Plans) (es : List Event) → Stands p self.old es
+            → Stands p self.new (Came (call t handle priority dei sdu octets) ∷ es) }
+        ensures answer { (p : Plans) (es : List Event) → Stands p self.old es
+            → result ≡ ruled (judged p (told p es) (call t handle priority dei sdu octets)
+            (flow p.filters (call t handle priority dei sdu octets))) }
+        ensures filter { option_map (λ r. r.filter) result
+            ≡ option_map (λ f. f.0) (flow self.old.filters (call t handle priority dei sdu octets)) }
         ensures priority { IfSome result (λ r. HasPriority r.verdict) }
         ensures filters { self.new.filters ≡ self.old.filters }
         ensures gates { KeepsNumbers self.old.gates self.new.gates }
@@ -163,9 +167,13 @@ impl<A: Allocator + Copy> Police<A> {
         requires time { self.old.earliest ≤ t }
         requires range { t < END_OF_TIME }
         requires few { self.old.calls < 2 ^ 63 }
-        ensures stands { (p : Plans) (es : List Event) → Stands p self.old es → Stands p self.new (Came (call t handle priority dei sdu octets) ∷ es) }
-        ensures answer { (p : Plans) (es : List Event) → Stands p self.old es → result ≡ ruled (judged p (told p es) (call t handle priority dei sdu octets) (flow p.filters (call t handle priority dei sdu octets))) }
-        ensures filter { option_map (λ r. r.filter) result ≡ option_map (λ f. f.0) (flow self.old.filters (call t handle priority dei sdu octets)) }
+        ensures stands { (p : Plans) (es : List Event) → Stands p self.old es
+            → Stands p self.new (Came (call t handle priority dei sdu octets) ∷ es) }
+        ensures answer { (p : Plans) (es : List Event) → Stands p self.old es
+            → result ≡ ruled (judged p (told p es) (call t handle priority dei sdu octets)
+            (flow p.filters (call t handle priority dei sdu octets))) }
+        ensures filter { option_map (λ r. r.filter) result
+            ≡ option_map (λ f. f.0) (flow self.old.filters (call t handle priority dei sdu octets)) }
         ensures priority { IfSome result (λ r. HasPriority r.verdict) }
         ensures filters { self.new.filters ≡ self.old.filters }
         ensures gates { KeepsNumbers self.old.gates self.new.gates }
@@ -198,7 +206,8 @@ impl<A: Allocator + Copy> Police<A> {
     /// The number of the filter of a frame with this stream handle and priority (0 to 7), where one matches: the one that
     /// `pass` gives.
     pub fn filter_of(&self, handle: Option<u32>, priority: u8) -> Option<u32>
-        ensures filter { (at sdu octets : ℕ) (dei : Bool) → result ≡ option_map (λ f. f.0) (flow self.now.filters (call at handle priority dei sdu octets)) }
+        ensures filter { (at sdu octets : ℕ) (dei : Bool)
+            → result ≡ option_map (λ f. f.0) (flow self.now.filters (call at handle priority dei sdu octets)) }
         ensures there { IfSome result (λ n. is_there n self.now.filters ≡ true) }
     {
         match self.find(handle, priority) {
@@ -212,7 +221,8 @@ impl<A: Allocator + Copy> Police<A> {
     /// Counters, the octets used in a turn and the buckets stay, and clearing a flag that isn't set changes nothing.
     pub fn clear(&mut self, clear: Clear, number: u32)
         requires { has_instance clear number self.old ≡ true }
-        ensures stands { (p : Plans) (es : List Event) → Stands p self.old es → Stands p self.new (Cleared clear number ∷ es) }
+        ensures stands { (p : Plans) (es : List Event) → Stands p self.old es
+            → Stands p self.new (Cleared clear number ∷ es) }
         ensures filters { self.new.filters ≡ self.old.filters }
         ensures gates { KeepsNumbers self.old.gates self.new.gates }
         ensures meters { KeepsNumbers self.old.meters self.new.meters }
@@ -247,7 +257,8 @@ impl<A: Allocator + Copy> Police<A> {
     pub fn counters(&self, filter: u32) -> Counters
         requires { is_there filter self.now.filters ≡ true }
         ensures shown { shown_counters filter self.now ≡ Some result }
-        ensures counters { (p : Plans) (es : List Event) → Stands p self.now es → result ≡ counters_of (verdicts_of filter (told p es)) }
+        ensures counters { (p : Plans) (es : List Event) → Stands p self.now es
+            → result ≡ counters_of (verdicts_of filter (told p es)) }
     {
         self.kept(filter).counters
     }
@@ -256,7 +267,8 @@ impl<A: Allocator + Copy> Police<A> {
     pub fn flags(&self, filter: u32) -> Flags
         requires { is_there filter self.now.filters ≡ true }
         ensures shown { shown_flags filter self.now ≡ Some result }
-        ensures flags { (p : Plans) (es : List Event) (f : FilterPlan) → Stands p self.now es → lookup (nat_eq filter) p.filters ≡ Some f → result ≡ flags_of p filter f (told p es) }
+        ensures flags { (p : Plans) (es : List Event) (f : FilterPlan) → Stands p self.now es
+            → lookup (nat_eq filter) p.filters ≡ Some f → result ≡ flags_of p filter f (told p es) }
     {
         let kept = self.kept(filter);
         let (rx, octets) = gate_flags(&self.gates, kept.plan.gate);
@@ -276,7 +288,8 @@ impl<A: Allocator + Copy> Police<A> {
     pub fn buckets(&self, filter: u32) -> Option<Buckets>
         requires { is_there filter self.now.filters ≡ true }
         ensures shown { result ≡ shown_buckets filter self.now }
-        ensures buckets { (p : Plans) (es : List Event) (f : FilterPlan) → Stands p self.now es → lookup (nat_eq filter) p.filters ≡ Some f → result ≡ buckets_by p f.meter (told p es) }
+        ensures buckets { (p : Plans) (es : List Event) (f : FilterPlan) → Stands p self.now es
+            → lookup (nat_eq filter) p.filters ≡ Some f → result ≡ buckets_by p f.meter (told p es) }
     {
         match self.kept(filter).plan.meter {
             Some(meter) => Some(meter_state(&self.meters, meter)),

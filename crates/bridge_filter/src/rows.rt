@@ -36,7 +36,9 @@ fn put(row: &mut Row, asked: Option<u8>, route: Route)
 
 /// Puts a filter that names no handle into the row of the frames whose handle no filter names.
 fn put_any(any: &mut Row, plan: &FilterPlan, route: Route)
-    ensures { (k : ℕ) → k < 8 → finding.slot any.new k ≡ (if is_none plan.now.handle then finding.slot_with (finding.slot any.old k) plan.now.priority route k else finding.slot any.old k) }
+    ensures { (k : ℕ) → k < 8
+        → finding.slot any.new k ≡ (if is_none plan.now.handle
+        then finding.slot_with (finding.slot any.old k) plan.now.priority route k else finding.slot any.old k) }
 {
     if plan.handle.is_none() {
         put(any, plan.priority, route);
@@ -52,7 +54,8 @@ pub(crate) fn any_of<A: Allocator + Copy>(
     requires gates { HaveGates filters.now.entries gates.now.entries }
     requires meters { HaveMeters filters.now.entries meters.now.entries }
     ensures numbers { finding.IsAnyRow result (plans_in filters.now.entries) }
-    ensures routes { finding.HasRoutes result (plans_in filters.now.entries) (keys_of gates.now.entries) (keys_of meters.now.entries) }
+    ensures routes { finding.HasRoutes result (plans_in filters.now.entries) (keys_of gates.now.entries)
+        (keys_of meters.now.entries) }
 {
     let mut any = [None; 8];
     for place in 0..filters.len() {
@@ -69,7 +72,11 @@ fn put_own<A: Allocator + Copy>(
     plan: &FilterPlan,
     route: Route,
 ) -> Result<(), AllocError>
-    ensures { OnOk result ((h k : ℕ) → k < 8 → finding.slot (finding.row_of rows.new.entries any.now (Some h)) k ≡ (if finding.names_handle h plan.now.handle then finding.slot_with (finding.slot (finding.row_of rows.old.entries any.now (Some h)) k) plan.now.priority route k else finding.slot (finding.row_of rows.old.entries any.now (Some h)) k)) }
+    ensures { OnOk result ((h k : ℕ) → k < 8
+        → finding.slot (finding.row_of rows.new.entries any.now (Some h)) k
+        ≡ (if finding.names_handle h plan.now.handle then finding.slot_with
+        (finding.slot (finding.row_of rows.old.entries any.now (Some h)) k) plan.now.priority route k
+        else finding.slot (finding.row_of rows.old.entries any.now (Some h)) k)) }
 {
     if let Some(handle) = plan.handle {
         let mut row = *row_of(rows, any, Some(handle));
@@ -89,9 +96,11 @@ pub(crate) fn rows_of<A: Allocator + Copy>(
 ) -> Result<Rows<A>, AllocError>
     requires gates { HaveGates filters.now.entries gates.now.entries }
     requires meters { HaveMeters filters.now.entries meters.now.entries }
-    requires any { finding.HasRoutes any.now (plans_in filters.now.entries) (keys_of gates.now.entries) (keys_of meters.now.entries) }
+    requires any { finding.HasRoutes any.now (plans_in filters.now.entries) (keys_of gates.now.entries)
+        (keys_of meters.now.entries) }
     ensures numbers { IfOk result (λ m. finding.AreOwnRows m.entries any.now (plans_in filters.now.entries)) }
-    ensures routes { IfOk result (λ m. finding.HaveRoutes m.entries any.now (plans_in filters.now.entries) (keys_of gates.now.entries) (keys_of meters.now.entries)) }
+    ensures routes { IfOk result (λ m. finding.HaveRoutes m.entries any.now (plans_in filters.now.entries)
+        (keys_of gates.now.entries) (keys_of meters.now.entries)) }
 {
     let mut rows = IndexMap::with_capacity(alloc, filters.len())?;
     for place in 0..filters.len() {

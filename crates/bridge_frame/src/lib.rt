@@ -168,8 +168,10 @@ pub fn mark_drop_eligible(octets: &mut [u8]) -> bool
 /// What is read of a frame that was marked drop eligible: the head that it had before, with its tag drop eligible, or the same
 /// fault.
 pub fn marked_head()
-    ensures head { (octets : List ℕ) (len : ℕ) (h : Head) → head octets len ≡ Ok h → head (drop_eligible octets) len ≡ Ok (marked h) }
-    ensures fault { (octets : List ℕ) (len : ℕ) (e : FrameFault) → head octets len ≡ Err e → head (drop_eligible octets) len ≡ Err e }
+    ensures head { (octets : List ℕ) (len : ℕ) (h : Head) → head octets len ≡ Ok h
+        → head (drop_eligible octets) len ≡ Ok (marked h) }
+    ensures fault { (octets : List ℕ) (len : ℕ) (e : FrameFault) → head octets len ≡ Err e
+        → head (drop_eligible octets) len ≡ Err e }
 {}
 
 /// How long a frame of this length occupies a link, in nanoseconds, rounded up: padded to 60 octets, with frame check

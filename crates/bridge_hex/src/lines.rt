@@ -4,7 +4,7 @@ ghost use Rattle.std.specs.String.{string_bytes};
 ghost use Rattle.std.specs.Char.{digit_char};
 ghost use Rattle.bridge_capture.specs.Grammar.{Captured, captured_of};
 ghost use Rattle.bridge_capture.specs.Written.{written_form, written_text};
-ghost use Rattle.bridge_hex.specs.Lines.{hex_of, line_of, text_of};
+ghost use Rattle.bridge_hex.specs.Lines.{line_of, text_of};
 
 use bridge_limits::NoMemory;
 use std::alloc::{AllocError, Allocator};

@@ -1,6 +1,6 @@
 //! Look-ups of the first entries that match, made from the list of entries.
 
-ghost use Rattle.std.specs.Prelude.{◌≡◌, ℕ, Bool, List, [], ◌∷◌, IfOk, IfSome, OnOk, Some, None, true, false, nat_eq, if◌then◌else◌};
+ghost use Rattle.std.specs.Prelude.{◌≡◌, ℕ, List, [], ◌∷◌, IfOk, IfSome, OnOk, Some, None, true, false, nat_eq, if◌then◌else◌};
 ghost use Rattle.std.specs.Option.{option_map, option_or};
 ghost use Rattle.indexmap.specs.IndexMap.{get};
 ghost use Rattle.bridge_ident.specs.declared.Kind.TheVariants.{Null, Source};
@@ -271,8 +271,10 @@ impl<A: Allocator + Copy> ByAddress<A> {
 impl<A: Allocator + Copy> Index<A> {
     /// The first entries of a list.
     pub(crate) fn new(alloc: A, entries: &[StreamEntry]) -> Result<Index<A>, AllocError>
-        ensures tagged { IfOk result (λ index. AreByAddress true entries.now index.tagged.destinations index.tagged.sources) }
-        ensures others { IfOk result (λ index. AreByAddress false entries.now index.others.destinations index.others.sources) }
+        ensures tagged { IfOk result (λ index. AreByAddress true entries.now index.tagged.destinations
+            index.tagged.sources) }
+        ensures others { IfOk result (λ index. AreByAddress false entries.now index.others.destinations
+            index.others.sources) }
     {
         let tagged = by_address_of(alloc, entries, true)?;
         let others = by_address_of(alloc, entries, false)?;

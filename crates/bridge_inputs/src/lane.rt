@@ -27,7 +27,8 @@ impl<A: Allocator + Copy> CaptureReader<A> {
         number: u8,
         source: &mut R,
     ) -> Result<CaptureReader<A>, CaptureFault>
-        ensures begins { (text : List ℕ) → R.remaining source.old ≡ Some text → Begins (R.remaining source.new) text result }
+        ensures begins { (text : List ℕ) → R.remaining source.old ≡ Some text
+            → Begins (R.remaining source.new) text result }
         ensures lane { IfOk result IsLane }
         ensures number { IfOk result (λ lane. lane.number ≡ number) }
         ensures room { IfOk result (λ lane. room lane ≤ MAX_RECORDS) }
@@ -156,11 +157,14 @@ pub fn look_at_all<R: ByteSource, A: Allocator + Copy>(
         IfOk result (λ lanes. AreAheadOf R.remaining texts (λ _. []) lanes.items sources.new) }
     ensures fails { (texts : ℕ → List ℕ) (rests : ℕ → Option (List ℕ)) → AreTexts R.remaining ports.now texts sources.old →
         AreRests R.remaining ports.now rests sources.new → IfErr result (FailsLook texts rests ports.now) }
-    ensures read { (port : ℕ) → result ≡ Err (RunFault.Capture port CaptureFault.Read) → HasFailed R.has_failed ports.now port sources.new }
-    ensures sure { NeverFail R.never_fails sources.old → (port : ℕ) → result ≢ Err (RunFault.Capture port CaptureFault.Read) }
+    ensures read { (port : ℕ) → result ≡ Err (RunFault.Capture port CaptureFault.Read)
+        → HasFailed R.has_failed ports.now port sources.new }
+    ensures sure { NeverFail R.never_fails sources.old → (port : ℕ)
+        → result ≢ Err (RunFault.Capture port CaptureFault.Read) }
     ensures lasts { NeverFail R.never_fails sources.old → NeverFail R.never_fails sources.new }
     ensures no_write { (port : ℕ) → result ≢ Err (RunFault.Write port) }
-    ensures own { (port : ℕ) (fault : _) → result ≡ Err (RunFault.Capture port fault) → (fault ≢ CaptureFault.NoMemory) × (fault ≢ CaptureFault.Write) }
+    ensures own { (port : ℕ) (fault : _) → result ≡ Err (RunFault.Capture port fault) → (fault ≢ CaptureFault.NoMemory)
+        × (fault ≢ CaptureFault.Write) }
 {
     let mut lanes = match Vec::with_capacity(alloc, ports.len()) {
         Ok(lanes) => lanes,

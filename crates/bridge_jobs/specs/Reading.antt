@@ -1,5 +1,5 @@
 -- What an error of a reader is, and which fault of the program.
-use Rattle.std.specs.Prelude.{◌≡◌, ℕ, List, codes, string_bytes}
+use Rattle.std.specs.Prelude.{◌≡◌, ◌⊎◌, ℕ, List, codes, string_bytes}
 use Rattle.std.specs.declared.io.ErrorKind.{ErrorKind}
 use Rattle.std.specs.declared.io.ErrorKind.TheVariants as kind
 use Rattle.bridge_inputs.specs.declared.fault.RunFault.TheVariants as run
@@ -12,6 +12,10 @@ use Rattle.bridge_jobs.specs.declared.reading.ReadFault.TheVariants.{Broken, NoM
 abbrev pub read_fault_of : ErrorKind → ReadFault
 read_fault_of kind.OutOfMemory = NoMemory
 read_fault_of _ = Broken
+
+-- words were refused, or memory for them
+abbrev pub IsOfWords : Fault → Type 0
+IsOfWords f = (f ≡ fault.Words) ⊎ (f ≡ fault.Run run.NoMemory)
 
 -- standard input or output failed, or memory was refused
 abbrev pub IsOfStandardFile : Fault → Type 0

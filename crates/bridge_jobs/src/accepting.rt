@@ -1,5 +1,5 @@
 //! Plans that are accepted, and their line.
-ghost use Rattle.std.specs.Prelude.{◌≡◌, ◌+◌, IfOk, IfErr, None, drop, length, string_bytes};
+ghost use Rattle.std.specs.Prelude.{◌≡◌, ◌+◌, IfOk, IfErr, None, string_bytes};
 ghost use Rattle.bridge_jobs.specs.Accepting.{accepted_line, protected_in};
 ghost use Rattle.bridge_check.specs.Faults.{first_fault};
 ghost use Rattle.bridge_jobs.specs.Jobs.{Accepts, RefusesCheck, RefusesPlan};

@@ -35,7 +35,8 @@ pub fn through<R: Read + Drop, W: Write + Drop, A: Allocator + Copy>(
     ensures err { (text : List ℕ) → R.remaining reader ≡ Some text →
         IfErr result (λ halted. IfSome halted.writer (λ w.
         (rest : Option (List ℕ)) × Stops speed room text rest (W.contents writer) (W.contents w) halted.fault)) }
-    ensures lost { IfErr result (λ halted. halted.writer ≡ None → (halted.fault ≡ RunFault.Write 1) ⊎ (halted.fault ≡ RunFault.NoMemory)) }
+    ensures lost { IfErr result (λ halted. halted.writer ≡ None
+        → (halted.fault ≡ RunFault.Write 1) ⊎ (halted.fault ≡ RunFault.NoMemory)) }
     ensures sums { IfOk result (λ done. done.0.malformed + done.0.sent + done.0.full ≡ done.0.frames) }
     ensures few { IfOk result (λ done. done.0.frames ≤ MAX_RECORDS) }
     ensures one { IfErr result (λ halted. IsOfPortOne halted.fault) }

@@ -30,9 +30,12 @@ pub fn commanded<R: Read + Drop, A: Allocator + Copy>(
 ) -> Result<(Accepted<A>, Vec<Command, A>), Fault>
     ensures plan { IfOk result (λ done. (done.0 ≡ plan) × (first_fault plan ≡ None)) }
     ensures commands { IfOk result (λ done. AreCommands done.0 done.1.items) }
-    ensures ok { (text : Option (List ℕ)) → TellsText R.remaining file text → IfOk result (λ done. commands_for plan text ≡ Ok done.1.items) }
-    ensures err { (text : Option (List ℕ)) → TellsText R.remaining file text → IfErr result (EndsCommanded plan (option_map (λ f. string_bytes f.0) file) text) }
-    ensures only { IfErr result (λ fault. (text : Option (List ℕ)) × EndsCommanded plan (option_map (λ f. string_bytes f.0) file) text fault) }
+    ensures ok { (text : Option (List ℕ)) → TellsText R.remaining file text
+        → IfOk result (λ done. commands_for plan text ≡ Ok done.1.items) }
+    ensures err { (text : Option (List ℕ)) → TellsText R.remaining file text
+        → IfErr result (EndsCommanded plan (option_map (λ f. string_bytes f.0) file) text) }
+    ensures only { IfErr result (λ fault. (text : Option (List ℕ))
+        × EndsCommanded plan (option_map (λ f. string_bytes f.0) file) text fault) }
 {
     let commands = match commands_in(alloc, heap, &plan, file) {
         Ok(commands) => commands,
@@ -53,9 +56,12 @@ fn commands_in<R: Read + Drop, A: Allocator + Copy>(
 ) -> Result<Vec<Command, A>, Fault>
     ensures commands { IfOk result (λ v. AreCommands plan.now v.items) }
     ensures some { IfOk result (λ v. (text : Option (List ℕ)) × (commands_for plan.now text ≡ Ok v.items)) }
-    ensures ok { (text : Option (List ℕ)) → TellsText R.remaining file text → IfOk result (λ v. commands_for plan.now text ≡ Ok v.items) }
-    ensures err { (text : Option (List ℕ)) → TellsText R.remaining file text → IfErr result (EndsCommanded plan.now (option_map (λ f. string_bytes f.0) file) text) }
-    ensures only { IfErr result (λ fault. (text : Option (List ℕ)) × EndsCommanded plan.now (option_map (λ f. string_bytes f.0) file) text fault) }
+    ensures ok { (text : Option (List ℕ)) → TellsText R.remaining file text
+        → IfOk result (λ v. commands_for plan.now text ≡ Ok v.items) }
+    ensures err { (text : Option (List ℕ)) → TellsText R.remaining file text
+        → IfErr result (EndsCommanded plan.now (option_map (λ f. string_bytes f.0) file) text) }
+    ensures only { IfErr result (λ fault. (text : Option (List ℕ))
+        × EndsCommanded plan.now (option_map (λ f. string_bytes f.0) file) text fault) }
 {
     match file {
         None => Ok(Vec::new(alloc)),
@@ -73,8 +79,10 @@ fn commands_from<R: Read + Drop, A: Allocator + Copy>(
 ) -> Result<Vec<Command, A>, Fault>
     ensures commands { IfOk result (λ v. AreCommands plan.now v.items) }
     ensures some { IfOk result (λ v. (input : List ℕ) × (commands_of_text plan.now input ≡ Ok v.items)) }
-    ensures ok { (input : List ℕ) → R.remaining reader ≡ Some input → IfOk result (λ v. commands_of_text plan.now input ≡ Ok v.items) }
-    ensures err { (input : List ℕ) → R.remaining reader ≡ Some input → IfErr result (EndsCommands plan.now (string_bytes path) input) }
+    ensures ok { (input : List ℕ) → R.remaining reader ≡ Some input
+        → IfOk result (λ v. commands_of_text plan.now input ≡ Ok v.items) }
+    ensures err { (input : List ℕ) → R.remaining reader ≡ Some input
+        → IfErr result (EndsCommands plan.now (string_bytes path) input) }
     ensures only { IfErr result (λ fault. (input : List ℕ) × EndsCommands plan.now (string_bytes path) input fault) }
 {
     match read_at_most(alloc, reader, MOST_COMMANDS) {

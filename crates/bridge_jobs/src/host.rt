@@ -1,7 +1,7 @@
 //! The program's words, what it prints, and with what it ends.
 ghost use Rattle.std.specs.Prelude.{◌≡◌, ◌⊎◌, IfErr};
 ghost use Rattle.std.specs.Process.{exit_status};
-ghost use Rattle.bridge_jobs.specs.Reading.{IsOfStandardFile};
+ghost use Rattle.bridge_jobs.specs.Reading.{IsOfStandardFile, IsOfWords};
 ghost use Rattle.bridge_jobs.specs.Status.{status_of};
 
 use crate::fault::Fault;
@@ -15,7 +15,7 @@ use std::rt::Env;
 
 /// The words after the program's name. A word that isn't UTF-8 is no word of a command: `Words`.
 pub fn words_of(rt: &(impl AllocGlobal + Env)) -> Result<Vec<String>, Fault>
-    ensures { IfErr result (λ fault. (fault ≡ Fault.Words) ⊎ (fault ≡ Fault.Run RunFault.NoMemory)) }
+    ensures { IfErr result IsOfWords }
 {
     let words = match env::args(rt) {
         Ok(words) => words,

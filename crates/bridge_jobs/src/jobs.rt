@@ -26,7 +26,8 @@ const MOST_PLAN: u64 = 1_048_577;
 
 /// What is printed for the hexadecimal text of standard input: the lines of what left one queue.
 pub fn text_job<R: Read + Drop>(alloc: Global, reader: R) -> Result<String, Fault>
-    ensures ok { (input : List ℕ) → R.remaining reader ≡ Some input → IfOk result (λ lines. PrintsText input (string_bytes lines)) }
+    ensures ok { (input : List ℕ) → R.remaining reader ≡ Some input
+        → IfOk result (λ lines. PrintsText input (string_bytes lines)) }
     ensures err { (input : List ℕ) → R.remaining reader ≡ Some input → IfErr result (EndsText input) }
 {
     let text = match read_at_most(alloc, reader, MOST_INPUT) {
@@ -74,7 +75,8 @@ pub fn planned<R: Read + Drop, A: Allocator + Copy>(
     reader: R,
 ) -> Result<Accepted<A>, Fault>
     ensures ok { (input : List ℕ) → R.remaining reader ≡ Some input → IfOk result (λ accepted. Accepts input accepted) }
-    ensures err { (input : List ℕ) → R.remaining reader ≡ Some input → IfErr result (EndsCheck A (string_bytes path) input) }
+    ensures err { (input : List ℕ) → R.remaining reader ≡ Some input
+        → IfErr result (EndsCheck A (string_bytes path) input) }
 {
     let plan = match plan_from(alloc, heap, path, reader) {
         Ok(plan) => plan,
@@ -93,8 +95,10 @@ pub fn plan_from<R: Read + Drop, A: Allocator + Copy>(
     path: String,
     reader: R,
 ) -> Result<Plan<A>, Fault>
-    ensures ok { (input : List ℕ) → R.remaining reader ≡ Some input → IfOk result (λ plan. plan_of_text input ≡ Ok plan) }
-    ensures err { (input : List ℕ) → R.remaining reader ≡ Some input → IfErr result (EndsPlan A (string_bytes path) input) }
+    ensures ok { (input : List ℕ) → R.remaining reader ≡ Some input
+        → IfOk result (λ plan. plan_of_text input ≡ Ok plan) }
+    ensures err { (input : List ℕ) → R.remaining reader ≡ Some input
+        → IfErr result (EndsPlan A (string_bytes path) input) }
     ensures read { IfOk result (λ plan. (input : List ℕ) × (plan_of_text input ≡ Ok plan)) }
     ensures only { IfErr result (λ fault. (input : List ℕ) × EndsPlan A (string_bytes path) input fault) }
 {
@@ -114,8 +118,10 @@ pub fn check_job<R: Read + Drop, A: Allocator + Copy>(
     path: String,
     reader: R,
 ) -> Result<String<A>, Fault>
-    ensures ok { (input : List ℕ) → R.remaining reader ≡ Some input → IfOk result (λ line. PrintsAccepted A input (string_bytes line)) }
-    ensures err { (input : List ℕ) → R.remaining reader ≡ Some input → IfErr result (EndsCheck A (string_bytes path) input) }
+    ensures ok { (input : List ℕ) → R.remaining reader ≡ Some input
+        → IfOk result (λ line. PrintsAccepted A input (string_bytes line)) }
+    ensures err { (input : List ℕ) → R.remaining reader ≡ Some input
+        → IfErr result (EndsCheck A (string_bytes path) input) }
 {
     let accepted = match planned(alloc, heap, path, reader) {
         Ok(accepted) => accepted,

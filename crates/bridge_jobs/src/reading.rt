@@ -21,7 +21,8 @@ pub fn read_at_most<R: Read + Drop, A: Allocator>(
     reader: R,
     most: u64,
 ) -> Result<Vec<u8, A>, ReadFault>
-    ensures { (octets : List ℕ) → R.remaining reader ≡ Some octets → IfOk result (λ text. text.items ≡ take most octets) }
+    ensures { (octets : List ℕ) → R.remaining reader ≡ Some octets
+        → IfOk result (λ text. text.items ≡ take most octets) }
 {
     let mut text = Vec::new(alloc);
     match reader.take(most).read_to_end(&mut text) {

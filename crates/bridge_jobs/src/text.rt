@@ -23,13 +23,16 @@ const ROOM: u16 = 4;
 /// `NotHex` and `TooLong` where the text has them as its first fault from the left, else `Run` with the fault of the run,
 /// also for want of memory.
 pub fn wire_text<A: Allocator + Copy>(alloc: A, text: &[u8]) -> Result<String<A>, TextFault>
-    ensures ok { IfOk result (λ lines. (octets : List ℕ) × (octets_spelled text.now ≡ Ok octets) × IsTextRun octets (string_bytes lines)) }
+    ensures ok { IfOk result (λ lines. (octets : List ℕ) × (octets_spelled text.now ≡ Ok octets)
+        × IsTextRun octets (string_bytes lines)) }
     ensures not_hex { result ≡ Err TextFault.NotHex → octets_spelled text.now ≡ Err hex.NotHex }
     ensures too_long { result ≡ Err TextFault.TooLong → octets_spelled text.now ≡ Err hex.TooLong }
-    ensures run { (fault : RunFault) (octets : List ℕ) → result ≡ Err (TextFault.Run fault) → octets_spelled text.now ≡ Ok octets → StopsText octets fault }
+    ensures run { (fault : RunFault) (octets : List ℕ) → result ≡ Err (TextFault.Run fault)
+        → octets_spelled text.now ≡ Ok octets → StopsText octets fault }
     ensures sure { (port : ℕ) → result ≢ Err (TextFault.Run (RunFault.Capture port capture_faults.Read)) }
     ensures whole { (port : ℕ) → result ≢ Err (TextFault.Run (RunFault.Write port)) }
-    ensures spelled { (fault : RunFault) → result ≡ Err (TextFault.Run fault) → (fault ≡ RunFault.NoMemory) ⊎ ((octets : List ℕ) × (octets_spelled text.now ≡ Ok octets)) }
+    ensures spelled { (fault : RunFault) → result ≡ Err (TextFault.Run fault)
+        → (fault ≡ RunFault.NoMemory) ⊎ ((octets : List ℕ) × (octets_spelled text.now ≡ Ok octets)) }
 {
     let octets = octets_of(alloc, text)?;
     let mut source = SliceSource::new(&octets);

@@ -2,7 +2,7 @@
 //! Two-rate, three-colour meters of streams, in the manner of the bandwidth profiles of MEF
 //! (IEEE 802.1Q-2018, 8.6.5.1.3: flow meters).
 
-ghost use Rattle.std.specs.Prelude.{◌≡◌, ℕ, ◌≤◌, ◌+◌, ◌-◌, ◌*◌, ◌^◌, ◌↔◌, ◌&&◌, true, false, min, List, ◌∷◌, [], if◌then◌else◌};
+ghost use Rattle.std.specs.Prelude.{◌≡◌, ℕ, ◌≤◌, ◌+◌, ◌-◌, ◌*◌, ◌^◌, ◌&&◌, true, false, min, List, ◌∷◌, [], if◌then◌else◌};
 ghost use Rattle.bridge_meter.specs.declared.MeterPlan.{MeterPlan};
 ghost use Rattle.bridge_meter.specs.Bounds as bounds;
 ghost use Rattle.bridge_meter.specs.Colours.{MeterEvent, Came, Cleared, past, colour_of, buckets_after, limits, unit, is_red, is_within_limits};
@@ -117,7 +117,8 @@ impl Meter {
     /// The rates, sizes and switches.
     pub fn plan(&self) -> MeterPlan
         ensures plan { result ≡ self.now.plan }
-        ensures stands { (plan : MeterPlan) (events : List MeterEvent) → StandsFor plan self.now events → result ≡ plan }
+        ensures stands { (plan : MeterPlan) (events : List MeterEvent) → StandsFor plan self.now events
+            → result ≡ plan }
     {
         self.plan
     }
@@ -129,8 +130,10 @@ impl Meter {
         requires { self.old.buckets.at ≤ t }
         ensures plan { self.new.plan ≡ self.old.plan }
         ensures at { self.new.buckets.at ≡ (if self.old.buckets.all_red then self.old.buckets.at else t) }
-        ensures stands { (plan : MeterPlan) (events : List MeterEvent) → StandsFor plan self.old events → StandsFor plan self.new (Came t octets dei ∷ events) }
-        ensures colour { (plan : MeterPlan) (events : List MeterEvent) → StandsFor plan self.old events → result ≡ colour_of plan (past plan events) t octets dei }
+        ensures stands { (plan : MeterPlan) (events : List MeterEvent) → StandsFor plan self.old events
+            → StandsFor plan self.new (Came t octets dei ∷ events) }
+        ensures colour { (plan : MeterPlan) (events : List MeterEvent) → StandsFor plan self.old events
+            → result ≡ colour_of plan (past plan events) t octets dei }
     {
         self.judge(t, octets, dei)
     }
@@ -140,7 +143,8 @@ impl Meter {
         ensures state { result ≡ self.now.buckets }
         ensures committed { result.committed ≤ self.now.plan.cbs * unit }
         ensures excess { result.excess ≤ self.now.plan.ebs * unit }
-        ensures after { (plan : MeterPlan) (events : List MeterEvent) → StandsFor plan self.now events → result ≡ buckets_after plan (past plan events) }
+        ensures after { (plan : MeterPlan) (events : List MeterEvent) → StandsFor plan self.now events
+            → result ≡ buckets_after plan (past plan events) }
     {
         self.buckets
     }
@@ -149,7 +153,8 @@ impl Meter {
     pub fn clear_red(&mut self)
         ensures plan { self.new.plan ≡ self.old.plan }
         ensures buckets { self.new.buckets ≡ record self.old.buckets { all_red = false } }
-        ensures stands { (plan : MeterPlan) (events : List MeterEvent) → StandsFor plan self.old events → StandsFor plan self.new (Cleared ∷ events) }
+        ensures stands { (plan : MeterPlan) (events : List MeterEvent) → StandsFor plan self.old events
+            → StandsFor plan self.new (Cleared ∷ events) }
     {
         self.buckets.all_red = false;
     }
@@ -232,15 +237,23 @@ fn judged(plan: &MeterPlan, buckets: Buckets, octets: u32, dei: bool) -> (Colour
 /// judged frame left of both, and what flowed over since an earlier frame grows by an amount that
 /// doesn't depend on that frame.
 pub fn buckets_step()
-    ensures committed { (l : bounds.Limits) (f : bounds.Judged) (fs : List bounds.Judged) (d : ℕ) → IsCovered l (f ∷ fs) → bounds.committed l (f.at + d) (f ∷ fs) ≡ min l.cbs (bounds.committed l f.at fs - f.green + l.cir * d) }
-    ensures overflow { (l : bounds.Limits) (at then_held green now held d taken later_held : ℕ) → at ≤ now → green + held ≤ then_held + l.cir * (now - at) → taken + later_held ≤ held + l.cir * d → bounds.overflow l at then_held (taken + green) (now + d) later_held ≡ bounds.overflow l at then_held green now held + (held + l.cir * d - taken - later_held) }
-    ensures excess { (l : bounds.Limits) (f : bounds.Judged) (fs : List bounds.Judged) (d : ℕ) → IsCovered l (f ∷ fs) → bounds.excess l (f.at + d) (f ∷ fs) ≡ min l.ebs (bounds.excess l f.at fs - f.yellow + l.eir * d + bounds.coupled l (bounds.committed l f.at fs - f.green + l.cir * d - bounds.committed l (f.at + d) (f ∷ fs))) }
+    ensures committed { (l : bounds.Limits) (f : bounds.Judged) (fs : List bounds.Judged) (d : ℕ) → IsCovered l (f ∷ fs)
+        → bounds.committed l (f.at + d) (f ∷ fs) ≡ min l.cbs (bounds.committed l f.at fs - f.green + l.cir * d) }
+    ensures overflow { (l : bounds.Limits) (at then_held green now held d taken later_held : ℕ) → at ≤ now
+        → green + held ≤ then_held + l.cir * (now - at) → taken + later_held ≤ held + l.cir * d
+        → bounds.overflow l at then_held (taken + green) (now + d) later_held
+        ≡ bounds.overflow l at then_held green now held + (held + l.cir * d - taken - later_held) }
+    ensures excess { (l : bounds.Limits) (f : bounds.Judged) (fs : List bounds.Judged) (d : ℕ) → IsCovered l (f ∷ fs)
+        → bounds.excess l (f.at + d) (f ∷ fs) ≡ min l.ebs
+        (bounds.excess l f.at fs - f.yellow + l.eir * d + bounds.coupled l
+        (bounds.committed l f.at fs - f.green + l.cir * d - bounds.committed l (f.at + d) (f ∷ fs))) }
 {}
 
 /// The law that the definitions are exact: in a history whose moments don't fall none of their
 /// subtractions stops at 0.
 pub fn bounds_are_covered()
-    ensures { (plan : MeterPlan) (events : List MeterEvent) → InOrder (past plan events).judged → IsCovered (limits plan) (past plan events).judged }
+    ensures { (plan : MeterPlan) (events : List MeterEvent) → InOrder (past plan events).judged
+        → IsCovered (limits plan) (past plan events).judged }
 {}
 
 /// The figures of the limits: an octet is 8*10^9 units, so that a bit/s is one unit a nanosecond; rates are at most 10^11 bit/s

@@ -58,7 +58,8 @@ pub(crate) fn runs_of<'a>(
     hops: &[(u16, u32)],
 ) -> Result<Vec<HopRun<'a, Global>>, NoMemory>
     ensures many { IfOk result (λ runs. length runs.items ≡ length hops.now) }
-    ensures told { IfOk result (λ runs. (o : ℕ → Outcome Global) → AreOutcomes settled.now o → AreRunsOf o hops.now runs.items) }
+    ensures told { IfOk result (λ runs. (o : ℕ → Outcome Global) → AreOutcomes settled.now o
+        → AreRunsOf o hops.now runs.items) }
 {
     let mut runs = Vec::with_capacity(alloc, hops.len())?;
     for hop in hops {

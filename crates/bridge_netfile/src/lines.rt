@@ -1,5 +1,5 @@
 //! The line of a text that is refused.
-ghost use Rattle.std.specs.Prelude.{◌≡◌, IfOk, codes, string_bytes};
+ghost use Rattle.std.specs.Prelude.{◌≡◌, IfOk, string_bytes};
 ghost use Rattle.bridge_netfile.specs.Lines.{instance, key_at, line_for, line_of, refused, refused_at};
 
 use crate::fault::{NetFault, NetPlace, NetSection};

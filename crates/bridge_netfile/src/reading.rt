@@ -29,7 +29,8 @@ fn required_in<K: Kind>(
     kind: &K,
     value: Option<&Value>,
 ) -> Result<K::Out, NetFault>
-    ensures reads { Gives result (spec.required_in place (K.reading kind.now) (option_map (λ v. view v.now) value.entry)) }
+    ensures reads { Gives result (spec.required_in place (K.reading kind.now)
+        (option_map (λ v. view v.now) value.entry)) }
     ensures fits { IfOk result (K.Fits kind.now) }
     ensures takes_no_memory { IfErr result (λ e. ¬ (e ≡ NoMemory)) }
 {
@@ -57,7 +58,8 @@ fn optional_in<K: Kind>(
     kind: &K,
     value: Option<&Value>,
 ) -> Result<Option<K::Out>, NetFault>
-    ensures reads { Gives result (spec.optional_in place (K.reading kind.now) (option_map (λ v. view v.now) value.entry)) }
+    ensures reads { Gives result (spec.optional_in place (K.reading kind.now)
+        (option_map (λ v. view v.now) value.entry)) }
     ensures fits { IfOk result (λ x. ForSome x (K.Fits kind.now)) }
     ensures takes_no_memory { IfErr result (λ e. ¬ (e ≡ NoMemory)) }
 {
@@ -93,7 +95,8 @@ fn default_in<K: Kind>(
 where
     K::Out: Drop,
     requires { K.Fits kind.now default }
-    ensures reads { Gives result (spec.default_in default place (K.reading kind.now) (option_map (λ v. view v.now) value.entry)) }
+    ensures reads { Gives result (spec.default_in default place (K.reading kind.now)
+        (option_map (λ v. view v.now) value.entry)) }
     ensures fits { IfOk result (K.Fits kind.now) }
     ensures takes_no_memory { IfErr result (λ e. ¬ (e ≡ NoMemory)) }
 {
@@ -126,7 +129,8 @@ where
 
 #[tactic(auto, unfolding(crate::specs::Reading::any_text))]
 fn text_in<'a>(place: NetPlace, value: Option<&'a Value>) -> Result<&'a str, NetFault>
-    ensures reads { GivesAs (λ x. x.now) result (spec.required_in place spec.any_text (option_map (λ v. view v.now) value.entry)) }
+    ensures reads { GivesAs (λ x. x.now) result (spec.required_in place spec.any_text
+        (option_map (λ v. view v.now) value.entry)) }
     ensures takes_no_memory { IfErr result (λ e. ¬ (e ≡ NoMemory)) }
 {
     match value {
@@ -147,7 +151,8 @@ pub(crate) fn text_at<'a>(table: &'a Table, place: NetPlace) -> Result<&'a str, 
 
 #[tactic(auto, unfolding(crate::specs::Reading::name_text))]
 fn name_in<'a>(place: NetPlace, value: Option<&'a Value>) -> Result<&'a str, NetFault>
-    ensures reads { GivesAs (λ x. x.now) result (spec.required_in place spec.name_text (option_map (λ v. view v.now) value.entry)) }
+    ensures reads { GivesAs (λ x. x.now) result (spec.required_in place spec.name_text
+        (option_map (λ v. view v.now) value.entry)) }
     ensures name { IfOk result (λ x. is_name x.now ≡ true) }
     ensures takes_no_memory { IfErr result (λ e. ¬ (e ≡ NoMemory)) }
 {

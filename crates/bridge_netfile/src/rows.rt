@@ -38,7 +38,8 @@ fn are_few(items: &[Value], section: NetSection) -> bool
 
 /// The items of a section, where it is an array of tables that are few enough; an absent one has none. Takes no memory.
 fn items_in<'a>(section: NetSection, value: Option<&'a Value>) -> Result<&'a [Value], NetFault>
-    ensures reads { GivesAs (λ x. items_view x.now) result (spec.items_in section (option_map (λ v. view v.now) value.entry)) }
+    ensures reads { GivesAs (λ x. items_view x.now) result
+        (spec.items_in section (option_map (λ v. view v.now) value.entry)) }
     ensures few { IfOk result (λ x. length x.now ≤ spec.limit_of section) }
     ensures tables { IfOk result (λ x. all_tables (items_view x.now) ≡ true) }
     ensures takes_no_memory { IfErr result (λ e. ¬ (e ≡ NoMemory)) }

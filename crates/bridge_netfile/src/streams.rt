@@ -3,7 +3,6 @@ ghost use Rattle.std.specs.Prelude.{◌≡◌, ◌&&◌, [], ◌^◌, ◌<◌, �
 ghost use Rattle.toml.specs.View.{view, table_view, items_view};
 ghost use Rattle.bridge_netfile.specs.declared.fault.NetFault.TheVariants.{NoMemory};
 ghost use Rattle.bridge_netfile.specs.declared.fault.NetSection.TheVariants as the_section;
-ghost use Rattle.bridge_netfile.specs.Names.{is_name};
 ghost use Rattle.bridge_netfile.specs.Reading.{Gives, GivesAs, at_place, count_of};
 ghost use Rattle.bridge_netfile.specs.Rules as rules;
 ghost use Rattle.bridge_netfile.specs.Sections as sections;
@@ -130,7 +129,8 @@ fn are_in_form(items: &[Value]) -> bool
 /// Whether there are as many items as a stream has hops.
 #[tactic(auto, using(crate::proofs::Counts::count_of_view))]
 fn are_counted(items: &[Value]) -> bool
-    ensures count { result ≡ (nat_le 1 (count_of (items_view items.now)) && nat_le (count_of (items_view items.now)) 64) }
+    ensures count { result ≡ (nat_le 1 (count_of (items_view items.now)) && nat_le
+        (count_of (items_view items.now)) 64) }
     ensures some { result ≡ true → 1 ≤ length items.now }
     ensures few { result ≡ true → length items.now ≤ 64 }
 {
@@ -200,7 +200,8 @@ fn hops_in<A: Allocator + Copy>(
     value: Option<&Value>,
 ) -> Result<Vec<(u16, u32), A>, NetFault>
     requires { length bridges.now ≤ 64 }
-    ensures reads { GivesAs (λ v. v.items) result (sections.hops_in place bridges.now (option_map (λ v. view v.now) value.entry)) }
+    ensures reads { GivesAs (λ v. v.items) result
+        (sections.hops_in place bridges.now (option_map (λ v. view v.now) value.entry)) }
     ensures some { IfOk result (λ v. 1 ≤ length v.items) }
     ensures few { IfOk result (λ v. length v.items ≤ 64) }
     ensures there { IfOk result (λ v. All (λ h. h.0 < length bridges.now) v.items) }

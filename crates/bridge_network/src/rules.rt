@@ -118,7 +118,8 @@ fn mbps_of(speed: Speed) -> u32
 
 /// Whether the ports of a link, where they are there, have one speed.
 fn has_one_speed<A: Allocator + Copy>(plans: &[Accepted<A>], link: &Link) -> bool
-    ensures { result ≡ spec.is_one_speed (spec.end_port plans.now link.now.one) (spec.end_port plans.now link.now.other) }
+    ensures { result ≡ spec.is_one_speed (spec.end_port plans.now link.now.one)
+        (spec.end_port plans.now link.now.other) }
 {
     match (end_port(plans, link.one), end_port(plans, link.other)) {
         (Some(one), Some(other)) => mbps_of(one.speed) == mbps_of(other.speed),
@@ -205,7 +206,8 @@ impl<'a, A: Allocator + Copy> HopCase<'a, A> {
         plan: &Plan<A>,
     ) -> Option<Found>
         requires { IsHopCase self.now }
-        ensures { result ≡ taken_over question (Some plan.now) (stream_of self.now.stream.now) (end_of end) self.now.next.now on.now self.now.hop.filter }
+        ensures { result ≡ taken_over question (Some plan.now) (stream_of self.now.stream.now)
+            (end_of end) self.now.next.now on.now self.now.hop.filter }
     {
         match plan.port(end.port) {
             Some(_) => {
@@ -242,7 +244,8 @@ impl<'a, A: Allocator + Copy> HopCase<'a, A> {
     /// The first of those that come over the link of a port, where it has one.
     fn first_on(&self, question: Question, on: &PortPlan<A>) -> Option<Found>
         requires { IsHopCase self.now }
-        ensures { result ≡ spec.taken_on question (parts_of self.now.case) self.now.stream.now self.now.hop self.now.next.now (Some on.now) }
+        ensures { result ≡ spec.taken_on question (parts_of self.now.case) self.now.stream.now self.now.hop
+            self.now.next.now (Some on.now) }
     {
         match peer_of(self.case.links, self.hop.bridge, on.number) {
             Some(end) => self.first_over(question, on, end),
@@ -253,7 +256,8 @@ impl<'a, A: Allocator + Copy> HopCase<'a, A> {
     /// The first of those at the port of a number, with the number.
     fn first_at(&self, question: Question, port: u8) -> Option<(u8, Found)>
         requires { IsHopCase self.now }
-        ensures { result ≡ spec.taken_at question (parts_of self.now.case) self.now.stream.now self.now.hop self.now.next.now port }
+        ensures { result ≡ spec.taken_at question (parts_of self.now.case) self.now.stream.now self.now.hop
+            self.now.next.now port }
     {
         match self.next.port(port) {
             Some(on) => {
@@ -272,7 +276,8 @@ impl<'a, A: Allocator + Copy> HopCase<'a, A> {
         port: u8,
     ) -> Option<(u8, Found)>
         requires { IsHopCase self.now }
-        ensures { result ≡ first_of before (spec.taken_at question (parts_of self.now.case) self.now.stream.now self.now.hop self.now.next.now port) }
+        ensures { result ≡ first_of before (spec.taken_at question
+            (parts_of self.now.case) self.now.stream.now self.now.hop self.now.next.now port) }
     {
         if before.is_some() {
             return before;
@@ -284,7 +289,8 @@ impl<'a, A: Allocator + Copy> HopCase<'a, A> {
     #[tactic(auto, using(bridge_check::proofs::Told::first_none, bridge_check::proofs::Told::first_more))]
     fn first(&self, question: Question) -> Option<(u8, Found)>
         requires { IsHopCase self.now }
-        ensures { result ≡ spec.taken_hop question (parts_of self.now.case) self.now.stream.now self.now.hop self.now.next.now }
+        ensures { result ≡ spec.taken_hop question (parts_of self.now.case) self.now.stream.now self.now.hop
+            self.now.next.now }
     {
         let mut first = None;
         for j in 0..16u8 {
@@ -295,7 +301,8 @@ impl<'a, A: Allocator + Copy> HopCase<'a, A> {
 
     /// Whether a port has no link, and an entry of it gives the handle.
     fn enters(&self, on: &PortPlan<A>) -> bool
-        ensures { result ≡ spec.enters self.now.case.links.now self.now.hop.bridge self.now.next.now self.now.handle on.now }
+        ensures { result ≡ spec.enters self.now.case.links.now self.now.hop.bridge self.now.next.now self.now.handle
+            on.now }
     {
         let bridge = self.hop.bridge;
         let port = on.number;
@@ -307,7 +314,8 @@ impl<'a, A: Allocator + Copy> HopCase<'a, A> {
 
     /// Whether an entry of a port without a link gives the handle.
     fn is_entered(&self) -> bool
-        ensures { result ≡ spec.is_entered self.now.case.links.now self.now.hop.bridge self.now.next.now self.now.handle }
+        ensures { result ≡ spec.is_entered self.now.case.links.now self.now.hop.bridge self.now.next.now
+            self.now.handle }
     {
         for on in self.next.ports() {
             if self.enters(on) {
@@ -320,7 +328,8 @@ impl<'a, A: Allocator + Copy> HopCase<'a, A> {
     /// Whether frames of the stream come to the hop, with its place in the stream.
     fn is_reached(&self, place: usize) -> bool
         requires { IsHopCase self.now }
-        ensures { result ≡ spec.is_reached (parts_of self.now.case) self.now.stream.now place self.now.hop self.now.next.now self.now.handle }
+        ensures { result ≡ spec.is_reached (parts_of self.now.case) self.now.stream.now place self.now.hop
+            self.now.next.now self.now.handle }
     {
         if place == 0 {
             self.is_entered()
@@ -334,7 +343,8 @@ impl<'a, A: Allocator + Copy> HopCase<'a, A> {
         requires case { IsHopCase self.now }
         requires stream { i < 18446744073709551615 }
         requires hop { k < 18446744073709551615 }
-        ensures { result ≡ spec.told_at (parts_of self.now.case) test i self.now.stream.now k self.now.hop self.now.next.now self.now.handle }
+        ensures { result ≡ spec.told_at (parts_of self.now.case) test i self.now.stream.now k self.now.hop
+            self.now.next.now self.now.handle }
     {
         match test {
             HopTest::Protected => None,
@@ -400,7 +410,8 @@ impl<'a, A: Allocator + Copy> Case<'a, A> {
         i: usize,
     ) -> Option<NetworkFault>
         requires { i < length self.now.links.now }
-        ensures { result ≡ first_of before (spec.of_some (spec.told_link (parts_of self.now) test i) (slice_get self.now.links.now i)) }
+        ensures { result ≡ first_of before (spec.of_some (spec.told_link (parts_of self.now) test i)
+            (slice_get self.now.links.now i)) }
     {
         if before.is_some() {
             return before;
@@ -463,7 +474,8 @@ impl<'a, A: Allocator + Copy> Case<'a, A> {
     ) -> Option<NetworkFault>
         requires stream { i < 18446744073709551615 }
         requires hop { k < 18446744073709551615 }
-        ensures { result ≡ spec.told_by (parts_of self.now) test i stream.now k hop (slice_get self.now.plans.now hop.bridge) }
+        ensures { result ≡ spec.told_by (parts_of self.now) test i stream.now k hop
+            (slice_get self.now.plans.now hop.bridge) }
     {
         match plan_at(self.plans, hop.bridge) {
             Some(next) => self.tell_at(test, i, stream, k, hop, next),
@@ -520,7 +532,8 @@ impl<'a, A: Allocator + Copy> Case<'a, A> {
     ) -> Option<NetworkFault>
         requires stream { i < length self.now.streams.now }
         requires hop { k < length stream.now }
-        ensures { result ≡ first_of before (spec.of_some (spec.told_hop (parts_of self.now) test i stream.now k) (slice_get stream.now k)) }
+        ensures { result ≡ first_of before (spec.of_some (spec.told_hop (parts_of self.now) test i stream.now k)
+            (slice_get stream.now k)) }
     {
         if before.is_some() {
             return before;
@@ -550,7 +563,8 @@ impl<'a, A: Allocator + Copy> Case<'a, A> {
         i: usize,
     ) -> Option<NetworkFault>
         requires { i < length self.now.streams.now }
-        ensures { result ≡ first_of before (spec.of_some (λ s. spec.told_stream (parts_of self.now) test i s.items) (slice_get self.now.streams.now i)) }
+        ensures { result ≡ first_of before (spec.of_some (λ s. spec.told_stream (parts_of self.now) test i s.items)
+            (slice_get self.now.streams.now i)) }
     {
         if before.is_some() {
             return before;

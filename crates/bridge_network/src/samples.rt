@@ -122,7 +122,8 @@ fn stray_over<A: Allocator + Copy>(
     end: End,
 ) -> Option<Stray>
     requires { (h k : ℕ) → is_number hop.filter (flow_for next.now (Some h) k) ≡ true → h ≡ handle }
-    ensures { IfSome result (IsStrayOver stream.now (end_of end) next.now on.now hop.filter (slice_get plans.now end.bridge)) }
+    ensures { IfSome result (IsStrayOver stream.now (end_of end) next.now on.now hop.filter
+        (slice_get plans.now end.bridge)) }
 {
     match plan_at(plans, end.bridge) {
         Some(plan) => stray_from(stream, hop, next, on, handle, end, plan),

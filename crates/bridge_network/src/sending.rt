@@ -274,7 +274,8 @@ impl<'a, A: Allocator + Copy> Sending<'a, A> {
         priority: u8,
     ) -> Option<Found>
         requires { IsSending self.now }
-        ensures { result ≡ first_in (found_at self.now port priority) (handles_of self.now.plan.now.streams port vid (sort_by named.now tag)) }
+        ensures { result ≡ first_in (found_at self.now port priority)
+            (handles_of self.now.plan.now.streams port vid (sort_by named.now tag)) }
     {
         for entry in self.plan.streams() {
             if may_match(entry, port, vid, named, tag) {
@@ -292,7 +293,8 @@ impl<'a, A: Allocator + Copy> Sending<'a, A> {
         requires sending { IsSending self.now }
         requires from { 1 ≤ on.now.number }
         requires to { on.now.number ≤ 16 }
-        ensures { result ≡ feeding.may_go self.now.plan.now.database on.now.number (classified.vid_of on.now tag) (sort_by named.now tag) self.now.end.port }
+        ensures { result ≡ feeding.may_go self.now.plan.now.database on.now.number (classified.vid_of on.now tag)
+            (sort_by named.now tag) self.now.end.port }
     {
         match named.kind {
             Kind::Source => true,
@@ -310,7 +312,8 @@ impl<'a, A: Allocator + Copy> Sending<'a, A> {
         requires sending { IsSending self.now }
         requires from { 1 ≤ on.now.number }
         requires to { on.now.number ≤ 16 }
-        ensures { result ≡ sent_from self.now.question self.now.plan.now (hops self.now) self.now.end.port (sort_by named.now tag) on.now }
+        ensures { result ≡ sent_from self.now.question self.now.plan.now (hops self.now) self.now.end.port
+            (sort_by named.now tag) on.now }
     {
         if !self.may_go(on, named, tag) {
             return None;
@@ -350,7 +353,8 @@ impl<'a, A: Allocator + Copy> Sending<'a, A> {
     #[tactic(auto, using(bridge_check::proofs::Told::first_none, bridge_check::proofs::Told::first_more))]
     pub(crate) fn first(&self, named: &StreamEntry, tag: Option<Tag>) -> Option<Found>
         requires { IsSending self.now }
-        ensures { result ≡ sent self.now.question self.now.plan.now (hops self.now) self.now.end.port (sort_by named.now tag) }
+        ensures { result ≡ sent self.now.question self.now.plan.now (hops self.now) self.now.end.port
+            (sort_by named.now tag) }
     {
         let mut first = None;
         for i in 0..16u8 {

@@ -1,5 +1,5 @@
 //! What the filter of a hop takes at a port, of all that comes there over a link.
-ghost use Rattle.std.specs.Prelude.{◌≡◌, ◌≢◌, ℕ};
+ghost use Rattle.std.specs.Prelude.{◌≡◌};
 ghost use Rattle.bridge_check.specs.Faults.{first_of};
 ghost use Rattle.bridge_network.specs.Feeding as feeding;
 ghost use Rattle.bridge_network.specs.Feeding.{tags_of, tags_with};

@@ -73,7 +73,8 @@ fn figures<A: Allocator + Copy>(
     requires bound { short ≤ bound }
     requires traffic { IsTraffic traffic.now }
     requires ever { ever (opening_of lists.now) class long ≡ true }
-    ensures { MatchOption result.phases (IsUntimed (opening_of lists.now) class short long bound traffic.now result) (IsTimed (opening_of lists.now) class short long bound traffic.now result) }
+    ensures { MatchOption result.phases (IsUntimed (opening_of lists.now) class short long bound traffic.now result)
+        (IsTimed (opening_of lists.now) class short long bound traffic.now result) }
 {
     let Some(waits) = waits_of(lists, class, short, long, traffic) else {
         return untimed(bound, short);
@@ -153,7 +154,8 @@ pub fn timing_of<A: Allocator + Copy>(
     requires to { port ≤ 16 }
     requires class { class < 8 }
     requires traffic { IsTraffic traffic.now }
-    ensures { MatchOption result (HasNoBound accepted.now number port class) (IsTiming accepted.now number port class traffic.now) }
+    ensures { MatchOption result (HasNoBound accepted.now number port class)
+        (IsTiming accepted.now number port class traffic.now) }
 {
     let bound = bound_of(accepted, number, port, class)?;
     timing_in(accepted.plan(), number, port, class, bound, traffic)

@@ -3,7 +3,7 @@ ghost use Rattle.std.specs.Prelude.{◌≡◌, ◌+◌, ◌<◌, ◌≤◌, Matc
 ghost use Rattle.bridge_limits.specs.declared.TheConstants.{END_OF_TIME};
 ghost use Rattle.bridge_cycle.specs.Cyclic.{IsLawful};
 ghost use Rattle.bridge_cycle.specs.Moments.{IsFirst};
-ghost use Rattle.bridge_port.specs.Opening.{Always, One, ever, list_ever, list_opens, opening_of};
+ghost use Rattle.bridge_port.specs.Opening.{One, ever, list_ever, list_opens, opening_of};
 ghost use Rattle.bridge_periods.specs.Traffic.{IsTraffic};
 ghost use Rattle.bridge_periods.specs.Waits.{AreWaits, IsLongestWait, repeats_with};
 
@@ -107,10 +107,14 @@ pub(crate) fn waits_of<A: Allocator + Copy>(
     requires long { long ≤ LONGEST_CYCLE }
     requires traffic { IsTraffic traffic.now }
     requires ever { ever (opening_of lists.now) class long ≡ true }
-    ensures waits { MatchOption result (repeats_with traffic.now.period (opening_of lists.now) ≡ false) (AreWaits (opening_of lists.now) class short long traffic.now) }
-    ensures repeats { MatchOption result (repeats_with traffic.now.period (opening_of lists.now) ≡ false) (λ _. repeats_with traffic.now.period (opening_of lists.now) ≡ true) }
-    ensures last { MatchOption result (repeats_with traffic.now.period (opening_of lists.now) ≡ false) (λ w. w.last ≤ traffic.now.to + LONGEST_CYCLE) }
-    ensures longest { MatchOption result (repeats_with traffic.now.period (opening_of lists.now) ≡ false) (λ w. w.longest ≤ LONGEST_CYCLE) }
+    ensures waits { MatchOption result (repeats_with traffic.now.period (opening_of lists.now)
+        ≡ false) (AreWaits (opening_of lists.now) class short long traffic.now) }
+    ensures repeats { MatchOption result (repeats_with traffic.now.period (opening_of lists.now)
+        ≡ false) (λ _. repeats_with traffic.now.period (opening_of lists.now) ≡ true) }
+    ensures last { MatchOption result (repeats_with traffic.now.period (opening_of lists.now) ≡ false) (λ w. w.last
+        ≤ traffic.now.to + LONGEST_CYCLE) }
+    ensures longest { MatchOption result (repeats_with traffic.now.period (opening_of lists.now)
+        ≡ false) (λ w. w.longest ≤ LONGEST_CYCLE) }
 {
     match lists {
         None => Some(Waits {

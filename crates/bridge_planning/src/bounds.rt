@@ -63,7 +63,8 @@ fn bound_by<A: Allocator + Copy>(
     requires from { 1 ≤ port }
     requires to { port ≤ 16 }
     requires class { class < 8 }
-    ensures { MatchOption result (HasNoBound accepted.now filter.0 port class) (IsBound accepted.now filter.0 port class) }
+    ensures { MatchOption result (HasNoBound accepted.now filter.0 port class)
+        (IsBound accepted.now filter.0 port class) }
 {
     if !filter.1.protected {
         return None;

@@ -1,7 +1,6 @@
 //! Networks of files, from their text to their line.
 ghost use Rattle.std.specs.Prelude.{◌≡◌, ◌≤◌, All, None, Vec, length, map, IfOk, IfErr, string_bytes};
 ghost use Rattle.bridge_netfile.specs.Model.{Stream};
-ghost use Rattle.bridge_netfile.specs.Rules.{IsNetwork};
 ghost use Rattle.bridge_network.specs.declared.links.StreamHop.{StreamHop as Hop};
 ghost use Rattle.bridge_network.specs.Refusing.{first_fault};
 ghost use Rattle.bridge_inputs.specs.declared.fault.RunFault.{RunFault};
@@ -83,7 +82,8 @@ pub(crate) fn streams_of<A: Allocator + Copy>(
     alloc: A,
     rows: &[StreamRow<A>],
 ) -> Result<Vec<Vec<StreamHop, A>, A>, NoMemory>
-    ensures { IfOk result (λ streams. map (λ (v : Vec Hop A). v.items) streams.items ≡ map (λ (s : Stream). map hop_in s.hops) rows.now) }
+    ensures { IfOk result (λ streams. map (λ (v : Vec Hop A). v.items) streams.items
+        ≡ map (λ (s : Stream). map hop_in s.hops) rows.now) }
 {
     let mut streams = Vec::new(alloc);
     for row in rows {
@@ -367,7 +367,8 @@ fn said_of<A: Allocator + Copy>(
 /// text, its check; then the tests on the network, and the periods of its talkers by its plans. `File` of a file, `Network`
 /// with the line of a refusal, and `Run` with `NoMemory`.
 pub fn network_job<H: AllocGlobal + Files>(rt: &H, path: String) -> Result<NetworkSaid, Fault>
-    ensures ok { IfOk result (λ said. PrintsNetwork Global (string_bytes said.lines) (string_bytes said.told) said.kept) }
+    ensures ok { IfOk result (λ said. PrintsNetwork Global (string_bytes said.lines)
+        (string_bytes said.told) said.kept) }
     ensures err { IfErr result EndsNetwork }
 {
     let alloc = rt.alloc();

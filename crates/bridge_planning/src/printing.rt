@@ -68,8 +68,10 @@ pub fn bounds_job<R: Read + Drop, A: Allocator + Copy>(
     path: String,
     reader: R,
 ) -> Result<String<A>, Fault>
-    ensures ok { (input : List ℕ) → R.remaining reader ≡ Some input → IfOk result (λ lines. PrintsBounds A input (string_bytes lines)) }
-    ensures err { (input : List ℕ) → R.remaining reader ≡ Some input → IfErr result (EndsCheck A (string_bytes path) input) }
+    ensures ok { (input : List ℕ) → R.remaining reader ≡ Some input
+        → IfOk result (λ lines. PrintsBounds A input (string_bytes lines)) }
+    ensures err { (input : List ℕ) → R.remaining reader ≡ Some input
+        → IfErr result (EndsCheck A (string_bytes path) input) }
 {
     let accepted = match planned(alloc, heap, path, reader) {
         Ok(accepted) => accepted,

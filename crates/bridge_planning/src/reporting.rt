@@ -1,7 +1,6 @@
 //! The job over a plan and the traffic that its talkers send.
 ghost use Rattle.std.specs.Prelude.{◌≡◌, ◌⊎◌, ◌≤◌, All, IfErr, IfOk, List, Some, length, string_bytes, take, ℕ, None};
 ghost use Rattle.bridge_jobs.specs.Reading.{IsOfFile};
-ghost use Rattle.bridge_traffic.specs.Document.{rows_of_text};
 ghost use Rattle.bridge_traffic.specs.Rows.{IsRow};
 ghost use Rattle.bridge_planning.specs.Traffic.{first_fault_from};
 ghost use Rattle.bridge_planning.specs.TrafficText.{AreLinesOfTraffic, EndsTraffic, IsSaid, PrintsTraffic, ReadsRows, RefusesRows, RefusesTimings};
@@ -68,7 +67,8 @@ pub(crate) fn rows_from<R: Read + Drop, A: Allocator + Copy>(
     ensures ok { (words : List ℕ) → R.remaining reader ≡ Some words → IfOk result (λ rows. ReadsRows words rows.items) }
     ensures rows { IfOk result (λ rows. All IsRow rows.items) }
     ensures few { IfOk result (λ rows. length rows.items ≤ 1024) }
-    ensures err { (words : List ℕ) → R.remaining reader ≡ Some words → IfErr result (λ f. IsOfFile (string_bytes path) f ⊎ RefusesRows words f) }
+    ensures err { (words : List ℕ) → R.remaining reader ≡ Some words
+        → IfErr result (λ f. IsOfFile (string_bytes path) f ⊎ RefusesRows words f) }
 {
     match read_at_most(heap, reader, MOST_TEXT) {
         Ok(text) => rows_in(alloc, heap, &text),
@@ -135,8 +135,10 @@ pub fn traffic_job<R: Read + Drop, S: Read + Drop, A: Allocator + Copy>(
     file: String,
     traffic: S,
 ) -> Result<TrafficReport<A>, Fault>
-    ensures ok { (input words : List ℕ) → R.remaining reader ≡ Some input → S.remaining traffic ≡ Some words → IfOk result (λ r. PrintsTraffic A input words (string_bytes r.text) r.kept) }
-    ensures err { (input words : List ℕ) → R.remaining reader ≡ Some input → S.remaining traffic ≡ Some words → IfErr result (EndsTraffic A (string_bytes path) input (string_bytes file) words) }
+    ensures ok { (input words : List ℕ) → R.remaining reader ≡ Some input → S.remaining traffic ≡ Some words
+        → IfOk result (λ r. PrintsTraffic A input words (string_bytes r.text) r.kept) }
+    ensures err { (input words : List ℕ) → R.remaining reader ≡ Some input → S.remaining traffic ≡ Some words
+        → IfErr result (EndsTraffic A (string_bytes path) input (string_bytes file) words) }
 {
     let accepted = match planned(alloc, heap, path, reader) {
         Ok(accepted) => accepted,

@@ -1,5 +1,5 @@
 //! How long frames of the streams of a network take, from talker to listener.
-ghost use Rattle.std.specs.Prelude.{All, ◌≡◌, ◌&&◌, ◌++◌, ◌≤◌, ◌*◌, ◌^◌, length, map, nat_eq, slice_get, sum_by, IfOk, OnOk, string_bytes};
+ghost use Rattle.std.specs.Prelude.{All, ◌≡◌, ◌&&◌, ◌≤◌, ◌*◌, ◌^◌, length, map, slice_get, sum_by, IfOk, string_bytes};
 ghost use Rattle.bridge_text.specs.Growth.{HasGrown};
 ghost use Rattle.std.specs.Option.{ForSome};
 ghost use Rattle.bridge_netfile.specs.Model.{Stream};
@@ -179,7 +179,8 @@ pub fn bounds_of_streams<A: Allocator + Copy>(
 ) -> Result<Vec<u128, A>, NoMemory>
     requires some { All (λ s. 1 ≤ length s.hops) streams.now }
     requires few { All (λ s. length s.hops ≤ 64) streams.now }
-    ensures { IfOk result (λ rows. rows.items ≡ map (λ (s : Stream). stream_bound bounds.now links.now s.hops) streams.now) }
+    ensures { IfOk result (λ rows. rows.items ≡ map
+        (λ (s : Stream). stream_bound bounds.now links.now s.hops) streams.now) }
 {
     let mut rows = Vec::new(alloc);
     for stream in streams {
@@ -288,7 +289,8 @@ pub fn stream_lines<A: Allocator + Copy, B: Allocator + Copy>(
     requires some { All (λ s. 1 ≤ length s.hops) streams.now }
     requires few { All (λ s. length s.hops ≤ 64) streams.now }
     requires talkers { All (λ s. ForSome s.talker IsTalker) streams.now }
-    ensures { IfOk result (λ x. AreStreamLines network.now.plans network.now.links bounds.now links.now streams.now (string_bytes x.text) x.kept) }
+    ensures { IfOk result (λ x. AreStreamLines network.now.plans network.now.links bounds.now links.now streams.now
+        (string_bytes x.text) x.kept) }
 {
     let mut text = Text::new(heap);
     let mut kept = true;

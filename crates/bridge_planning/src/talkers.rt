@@ -198,7 +198,8 @@ fn course_over<A: Allocator + Copy>(
     requires rows { All (λ v. All IsPlaced v.items) bounds.now }
     requires few { length hops.now ≤ 64 }
     requires talker { IsTalker talker.now }
-    ensures { IfOk result (IsCourse plans.now links.now hops.now (spec.queues_of bounds.now hops.now) (spec.traffic_of talker.now)) }
+    ensures { IfOk result (IsCourse plans.now links.now hops.now (spec.queues_of bounds.now hops.now)
+        (spec.traffic_of talker.now)) }
 {
     let Ok(queues) = queues_of(alloc, bounds, hops) else {
         return Err(NoMemory);

@@ -1,7 +1,6 @@
 //! What is told of a network that is accepted, and not refused: frames that may go round, and what is of no use.
-ghost use Rattle.std.specs.Prelude.{◌≡◌, ◌<◌, ◌≤◌, ◌+◌, ◌++◌, All, IfOk, OnOk, codes, decimal, flat_map, length, option_map, slice_get, string_bytes};
+ghost use Rattle.std.specs.Prelude.{◌≡◌, ◌<◌, ◌≤◌, ◌+◌, ◌++◌, All, IfOk, OnOk, flat_map, length, option_map, slice_get, string_bytes};
 ghost use Rattle.bridge_netfile.specs.Model as file;
-ghost use Rattle.bridge_network.specs.Wiring.{Parts};
 ghost use Rattle.bridge_planning.specs.Telling as spec;
 ghost use Rattle.bridge_planning.specs.Telling.{AreTold, address_text, destination_text, fall_line, fall_text, falls_from, falls_of, left_from, left_of, left_text, left_words, round_line, round_words, vlan_text};
 
@@ -57,7 +56,8 @@ fn push_words(
     name: &str,
     port: u8,
 ) -> Result<(), AllocError>
-    ensures { OnOk result (string_bytes text.new ≡ string_bytes text.old ++ round_words vlan.now destination.now name.now port) }
+    ensures { OnOk result (string_bytes text.new ≡ string_bytes text.old
+        ++ round_words vlan.now destination.now name.now port) }
 {
     write!(
         text,
@@ -87,7 +87,8 @@ fn push_rounds<A: Allocator + Copy>(
     bridges: &[BridgeRow<A>],
     rows: &[Circulation],
 ) -> Result<(), AllocError>
-    ensures { OnOk result (string_bytes text.new ≡ string_bytes text.old ++ flat_map (round_line bridges.now) rows.now) }
+    ensures { OnOk result (string_bytes text.new ≡ string_bytes text.old
+        ++ flat_map (round_line bridges.now) rows.now) }
 {
     for row in rows {
         let Ok(()) = push_round(heap, text, bridges, row) else {
@@ -183,7 +184,8 @@ fn push_left<A: Allocator + Copy>(
     plan: &Plan<A>,
     filter: &(u32, FilterPlan),
 ) -> Result<(), AllocError>
-    ensures { OnOk result (string_bytes text.new ≡ string_bytes text.old ++ left_text file.now bridge plan.now filter.now) }
+    ensures { OnOk result (string_bytes text.new ≡ string_bytes text.old
+        ++ left_text file.now bridge plan.now filter.now) }
 {
     if !is_left_out(file.links(), file.streams(), bridge, plan, filter) {
         return Ok(());

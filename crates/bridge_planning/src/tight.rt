@@ -16,7 +16,8 @@ fn put_tight<A: Allocator + Copy>(
     made: &mut Vec<QueueBound, A>,
 ) -> Result<(), NoMemory>
     requires bound { IsBound accepted.now bound.now.filter bound.now.port bound.now.class bound.now.bound }
-    ensures one_more { OnOk result ((bounds : List QueueBound) → AreTightened accepted.now bounds made.old.items → AreTightened accepted.now (bounds ++ bound.now ∷ []) made.new.items) }
+    ensures one_more { OnOk result ((bounds : List QueueBound) → AreTightened accepted.now bounds made.old.items
+        → AreTightened accepted.now (bounds ++ bound.now ∷ []) made.new.items) }
 {
     let _ = accepted.plan();
     if let Some(tight) = tight_bound_of(accepted, bound.filter, bound.port, bound.class) {

@@ -60,7 +60,9 @@ fn put_timing<A: Allocator + Copy>(
     requires bound { IsBound accepted.now bound.now.filter bound.now.port bound.now.class bound.now.bound }
     requires row { IsRow row.now }
     requires passes { (passes ≡ true) ↔ RowPasses accepted.now row.now }
-    ensures one_more { OnOk result ((bounds : List QueueBound) → AreRowTimings accepted.now index row.now bounds made.old.items → AreRowTimings accepted.now index row.now (bounds ++ bound.now ∷ []) made.new.items) }
+    ensures one_more { OnOk result ((bounds : List QueueBound)
+        → AreRowTimings accepted.now index row.now bounds made.old.items
+        → AreRowTimings accepted.now index row.now (bounds ++ bound.now ∷ []) made.new.items) }
 {
     let _ = accepted.plan();
     if bound.filter != row.filter {

@@ -1,7 +1,6 @@
 //! What is wrong with traffic by the plan for which it is.
 ghost use Rattle.std.specs.Prelude.{◌≡◌, ◌||◌, ◌+◌, ◌<◌, ◌≤◌, length, nat_eq, option_map};
 ghost use Rattle.std.specs.Map.{lookup};
-ghost use Rattle.bridge_config.specs.Rules.{port_at};
 ghost use Rattle.bridge_check.specs.Reach.{any_below, reaches};
 ghost use Rattle.bridge_check.specs.Reached.{reach_of};
 ghost use Rattle.bridge_planning.specs.Traffic as spec;

@@ -10,7 +10,7 @@ use Rattle.bridge_frame.specs.declared.Speed.{Speed}
 use Rattle.bridge_cycle.specs.Moments.{IsFirst}
 use Rattle.bridge_port.specs.declared.item.Item.{Item}
 use Rattle.bridge_port.specs.Heads.{IsFit, is_past, IsBest, sooner, GainsHead, AreFits, KeepsHeads, StartsNext}
-use Rattle.bridge_port.specs.Standing.{State, count_queued, queue_of, queues_with, IsKept, IsNext, NoStartBefore, started_state}
+use Rattle.bridge_port.specs.Standing.{limit, State, count_queued, queue_of, queues_with, IsKept, IsNext, NoStartBefore, started_state}
 use Rattle.bridge_port.specs.Opening.{Opening, opens}
 use Rattle.bridge_port.proofs.Best.{fit_is, fit_none, fit_later, fit_ahead, fit_behind, nothing_queued, fit_of_head, best_put, head_some}
 use Rattle.bridge_port.proofs.Keeping.{by_class, count_popped, count_pushed, kept_refused, kept_started, next_short}
@@ -181,3 +181,23 @@ heads_started {T} p k c occ from queued x others after kept all s h exact short 
           subst P behind (fits d);
       is_best = best;
     }
+
+-- the frame that starts next is done within the limit of a start more
+pub done_soon : {T : Type 0} (p : State T) (k c occ : ℕ) → IsKept p → StartsNext p k c → occ ≤ 7392000 → k + occ < limit (p.started + 1)
+done_soon p k c occ kept s short =
+    let soon = s.soon in
+    let free = kept.free in
+    let early = kept.earliest in
+    omega (arith, soon, free, early, short)
+
+-- its class is one of eight
+pub class_below : {T : Type 0} (p : State T) (k c : ℕ) → IsKept p → StartsNext p k c → c < 8
+class_below p k c kept s = subst (λ n. c < n) kept.queues s.below
+
+-- and far below what a word holds
+pub done_fits : {T : Type 0} (p : State T) (k c occ : ℕ) → IsKept p → StartsNext p k c → occ ≤ 7392000 → k + occ < 9 * 10 ^ 18
+done_fits p k c occ kept s short =
+    let soon = done_soon p k c occ kept s short in
+    let counted = kept.counted in
+    let few = kept.few in
+    omega (arith, soon, counted, few)

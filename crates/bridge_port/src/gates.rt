@@ -128,7 +128,8 @@ fn fit_by_spans<A: Allocator + Copy>(
     requires class { class < 8 }
     requires occ { occ ≤ LONGEST_CYCLE }
     requires from { from < END_OF_SEARCHES }
-    requires kept { AreOfLists list.now kept.now.old.runs kept.now.old.each.items kept.now.new.runs kept.now.new.each.items }
+    requires kept { AreOfLists list.now kept.now.old.runs kept.now.old.each.items kept.now.new.runs
+        kept.now.new.each.items }
     ensures { IfSome result (λ t. IsFirst (λ v. opens_in (egress.turn_at list.now v) class) occ from t) }
 {
     match list {
@@ -151,9 +152,11 @@ fn fit_in<A: Allocator + Copy>(
     requires occ { occ ≤ LONGEST_CYCLE }
     requires from { from < END_OF_SEARCHES }
     requires lawful { egress.IsLawful list.now }
-    requires kept { AreOfLists list.now kept.now.old.runs kept.now.old.each.items kept.now.new.runs kept.now.new.each.items }
+    requires kept { AreOfLists list.now kept.now.old.runs kept.now.old.each.items kept.now.new.runs
+        kept.now.new.each.items }
     requires turn { egress.turn_at list.now from ≡ Some turn }
-    requires some { (u : ℕ) × (from ≤ u) × (u ≤ from + 2 * LONGEST_CYCLE) × Fits (λ v. opens_in (egress.turn_at list.now v) class) occ u }
+    requires some { (u : ℕ) × (from ≤ u) × (u ≤ from + 2 * LONGEST_CYCLE)
+        × Fits (λ v. opens_in (egress.turn_at list.now v) class) occ u }
     ensures { IsFirst (λ v. opens_in (egress.turn_at list.now v) class) occ from result }
 {
     if is_open(turn.state, class as u8) && from + occ <= turn.end {

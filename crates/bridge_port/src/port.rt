@@ -1,5 +1,5 @@
 //! The port.
-ghost use Rattle.std.specs.Prelude.{◌≡◌, ◌<◌, ◌≤◌, ◌+◌, ◌-◌, ◌*◌, ◌^◌, ◌&&◌, ℕ, Bool, true, Option, Some, None, IfOk, IfSome, IfNone, List, [], ◌∷◌, length, map, max, replicate, is_none, MatchOption, if◌then◌else◌};
+ghost use Rattle.std.specs.Prelude.{◌≡◌, ◌<◌, ◌≤◌, ◌+◌, ◌-◌, ◌&&◌, ℕ, Bool, true, Option, Some, None, IfOk, IfSome, IfNone, List, [], ◌∷◌, length, max, replicate, is_none, MatchOption, if◌then◌else◌};
 
 use crate::gates::Gates;
 use crate::heads::{renew_left, with_item};
@@ -190,7 +190,8 @@ impl<T: Drop, A: Allocator + Copy> Port<T, A> {
         ensures stands { (xs : List (Copy (Item T)))
             → StandsFor self.old xs
             → IsBegun self.new result.1 (self.new.earliest - 1) result.0 xs }
-        ensures counts { (f : Item T → Bool) → count_queued f self.old ≡ (if f result.0 then 1 else 0) + count_queued f self.new }
+        ensures counts { (f : Item T → Bool)
+            → count_queued f self.old ≡ (if f result.0 then 1 else 0) + count_queued f self.new }
         ensures bounded { self.new.free < limit (self.old.started + 1) }
         ensures early { self.new.free < END_OF_SENDING }
         ensures length { result.0.len ≤ LONGEST_FRAME }

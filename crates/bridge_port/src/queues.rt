@@ -1,5 +1,5 @@
 //! The rings of a port, one for each class.
-ghost use Rattle.std.specs.Prelude.{◌≡◌, nat_le, ◌<◌, ◌≤◌, ℕ, [], ◌∷◌, ◌++◌, List, Option, Some, None, length, map, replicate, IfOk, slice_get, slice_index_or, slice_set, drop, vec_len};
+ghost use Rattle.std.specs.Prelude.{◌≡◌, nat_le, ◌<◌, [], ◌∷◌, ◌++◌, Option, length, replicate, IfOk, slice_get, slice_index_or, slice_set, drop, vec_len};
 ghost use Rattle.std.specs.Option.{option_copied};
 ghost use Rattle.bridge_port.specs.Opening.{are_rooms};
 ghost use Rattle.bridge_port.specs.Rings.{queues_of, rooms_of};
@@ -52,7 +52,8 @@ pub fn is_full<T, A: Allocator + Copy>(
     class: usize,
 ) -> bool
     requires { class < vec_len rings.now }
-    ensures { result ≡ nat_le (slice_index_or (rooms_of rings.now.items) class 0) (length (slice_index_or (queues_of rings.now.items) class [])) }
+    ensures { result ≡ nat_le (slice_index_or (rooms_of rings.now.items) class 0)
+        (length (slice_index_or (queues_of rings.now.items) class [])) }
 {
     rings[class].len() >= rings[class].capacity()
 }
@@ -64,8 +65,10 @@ pub fn push_at<T: Drop, A: Allocator + Copy>(
     item: Item<T>,
 )
     requires class { class < vec_len rings.old }
-    requires room { length (slice_index_or (queues_of rings.old.items) class []) < slice_index_or (rooms_of rings.old.items) class 0 }
-    ensures queues { queues_of rings.new.items ≡ slice_set (queues_of rings.old.items) class (slice_index_or (queues_of rings.old.items) class [] ++ item ∷ []) }
+    requires room { length (slice_index_or (queues_of rings.old.items) class [])
+        < slice_index_or (rooms_of rings.old.items) class 0 }
+    ensures queues { queues_of rings.new.items ≡ slice_set (queues_of rings.old.items) class
+        (slice_index_or (queues_of rings.old.items) class [] ++ item ∷ []) }
     ensures rooms { rooms_of rings.new.items ≡ rooms_of rings.old.items }
 {
     let ring = &mut rings[class];
@@ -82,7 +85,8 @@ pub fn pop_at<T: Drop, A: Allocator + Copy>(
 ) -> Option<Item<T>>
     requires { class < vec_len rings.old }
     ensures head { result ≡ slice_get (slice_index_or (queues_of rings.old.items) class []) 0 }
-    ensures queues { queues_of rings.new.items ≡ slice_set (queues_of rings.old.items) class (drop 1 (slice_index_or (queues_of rings.old.items) class [])) }
+    ensures queues { queues_of rings.new.items ≡ slice_set (queues_of rings.old.items) class
+        (drop 1 (slice_index_or (queues_of rings.old.items) class [])) }
     ensures rooms { rooms_of rings.new.items ≡ rooms_of rings.old.items }
 {
     let ring = &mut rings[class];

@@ -1,5 +1,5 @@
 //! For how long a list opens a class without a break, and the first fits by that.
-ghost use Rattle.std.specs.Prelude.{◌≡◌, ◌<◌, ◌≤◌, ◌+◌, ◌-◌, ◌*◌, ◌^◌, ℕ, length, IfOk, IfSome};
+ghost use Rattle.std.specs.Prelude.{◌≡◌, ◌<◌, ◌≤◌, ◌+◌, ◌-◌, ◌*◌, ◌^◌, length, IfOk, IfSome};
 ghost use Rattle.bridge_cycle.specs.Cyclic.{IsLawful};
 ghost use Rattle.bridge_cycle.specs.Moments.{IsFirst};
 ghost use Rattle.bridge_port.specs.Opening.{AreRuns, Exchanged, list_ever, list_opens, opens};

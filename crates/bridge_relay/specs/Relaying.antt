@@ -5,9 +5,12 @@ use Rattle.bridge_limits.specs.Members.{In}
 use Rattle.bridge_limits.specs.declared.TheConstants.{END_OF_TIME, LONGEST_FRAME, MOST_ARRIVALS}
 use Rattle.std.specs.Option.{option_map}
 use Rattle.bridge_filter.specs.declared.Ruling.{Ruling}
+use Rattle.bridge_filter.specs.declared.find.Route.{Route}
+use Rattle.bridge_filter.specs.Finding.{IsFound}
 use Rattle.bridge_filter.specs.Plans.{KeepsNumbers}
 use Rattle.bridge_filter.specs.Standing as filter
 use Rattle.bridge_filter.specs.Verdicts as verdicts
+use Rattle.bridge_capture.specs.declared.packet.Packet.{Packet}
 use Rattle.bridge_capture.specs.Grammar.{Captured}
 use Rattle.bridge_forward.specs.Ports.{has}
 use Rattle.bridge_frame.specs.declared.Tag.{Tag}
@@ -31,11 +34,11 @@ use Rattle.bridge_state.specs.declared.slot.Came.{Came}
 use Rattle.bridge_state.specs.declared.slot.Came.TheVariants as came
 use Rattle.bridge_state.specs.declared.slot.Slot.{Slot}
 use Rattle.bridge_state.specs.Slots.{offered_slot, refusal_to, counted_frame}
-use Rattle.bridge_state.specs.Tables.{TableState, after_answer, change, judged, released}
+use Rattle.bridge_state.specs.Tables.{IsOpen, TableState, after_answer, change, judged, released}
 use Rattle.bridge_semantics.specs.Events.{metered}
 use Rattle.bridge_relay.specs.declared.relay.Seen.{Seen}
 use Rattle.bridge_state.specs.Ports.{PortsState, slot_in, slot_at, goes_out, outs, is_there, NotBefore}
-use Rattle.bridge_relay.specs.Relays.{RelayState, HasLeft, IsSound, written, count_all, is_of, is_flow_stray, seen}
+use Rattle.bridge_relay.specs.Relays.{RelayState, HasLeft, HasSpare, IsSound, written, count_all, is_of, is_flow_stray, seen}
 
 -- a frame that goes somewhere has a priority, 0 to 7
 abbrev pub HasWayPriority : Way → Type 0
@@ -194,6 +197,22 @@ pub record HasRuled {G A : Type 0} (old new : RelayState G A) (q : ℕ) (s : Slo
   pub asked : new.police.earliest ≡ c.at
   pub arrived : new.arrived ≡ old.arrived
   pub earliest : new.earliest ≡ c.at
+
+-- a frame may be policed and offered to a set of ports: it was counted, its filter was found, and there is room for what it and its copies tell, and a copy for each port but the last
+pub record IsPrepared {G A : Type 0} (held : G → ℕ → Option ℕ) (b : RelayState G A) (port : ℕ) (packet : Packet A) (set : ℕ) (s : Seen) (route : Option Route) (made : List (Vec ℕ A)) : Type 0 where
+  pub known : (slot : Slot A) × (slot_at b.ports port ≡ Some slot)
+  pub from : 1 ≤ port
+  pub time : (b.earliest ≤ packet.time) × (packet.time < END_OF_TIME)
+  pub due : NotBefore (held b.ports.agenda) packet.time
+  pub sound : IsSound held b
+  pub fresh : IsFresh b
+  pub awaited : IfSome (filter_number b.plan (called packet.time packet.len s)) (IsOpen b.tables)
+  pub spare : IfSome (filter_number b.plan (called packet.time packet.len s)) (HasSpare b (outs b.ports.slots set 16))
+  pub right : is_flow_stray b.plan.filters (filter_number b.plan (called packet.time packet.len s)) ≡ false
+  pub short : (packet.len ≤ LONGEST_FRAME) × (length packet.octets.items ≤ packet.len)
+  pub priority : s.priority ≤ 7
+  pub found : IsFound b.police s.handle s.priority route
+  pub copies : HasCopies b.ports.slots set 1 packet.octets.items made
 
 -- a filter's table no longer owes so many copies
 abbrev pub releasing : {G A : Type 0} → RelayState G A → ℕ → ℕ → RelayState G A

@@ -92,8 +92,11 @@ impl<'a, G: Agenda + Drop, A: Allocator + Copy> Relay<'a, G, A> {
     /// Up to each moment before which no start is due, the ports have done what they had to do; and each port has up to a
     /// moment of its own, whatever is due. What is due of each port is its next start.
     pub fn reached(&self)
-        ensures reaches { (p : config.Plan A) (es : List Event) (left : ℕ → List Captured) (h : ℕ) → Stands p self.now es left → self.now.earliest ≤ h → NotBefore (G.held self.now.ports.agenda) h → Reaches p es h left }
-        ensures ran { (p : config.Plan A) (es : List Event) (left : ℕ → List Captured) (until : Option ℕ) → Stands p self.now es left → ((t : ℕ) → until ≡ Some t → self.now.earliest ≤ t) → HasRun p es until left }
+        ensures reaches { (p : config.Plan A) (es : List Event) (left : ℕ → List Captured) (h : ℕ)
+            → Stands p self.now es left → self.now.earliest ≤ h → NotBefore (G.held self.now.ports.agenda) h
+            → Reaches p es h left }
+        ensures ran { (p : config.Plan A) (es : List Event) (left : ℕ → List Captured) (until : Option ℕ)
+            → Stands p self.now es left → ((t : ℕ) → until ≡ Some t → self.now.earliest ≤ t) → HasRun p es until left }
         ensures each_next { (p : config.Plan A) (es : List Event) (left : ℕ → List Captured)
             → Stands p self.now es left
             → AreNext p es left (G.held self.now.ports.agenda) }
@@ -123,9 +126,16 @@ impl<'a, G: Agenda + Drop, A: Allocator + Copy> Relay<'a, G, A> {
         requires no_ports { ports.items ≡ [] }
         requires filter_room { length order.now ≤ vec_capacity filters }
         requires port_room { 16 ≤ vec_capacity ports }
-        ensures ends { (p : config.Plan A) (es : List Event) (left : ℕ → List Captured) → Stands p self.entry es left → Ends p es left result }
-        ensures isolated { (p : config.Plan A) (es : List Event) (left : ℕ → List Captured) (n : ℕ) (f : FilterPlan) (v : View A) → Stands p self.entry es left → In (n, f) p.filters → f.protected ≡ true → lookup (nat_eq n) result.filters.items ≡ Some v → IsSoloView p n f (own p n f es) v }
-        ensures others_change_nothing { (p : config.Plan A) (es others : List Event) (left : ℕ → List Captured) (n : ℕ) (f : FilterPlan) (lists : ℕ → List (Copy Carried)) (o : Outcome A) (u v : View A) → Stands p self.entry es left → In (n, f) p.filters → f.protected ≡ true → own p n f es ≡ own p n f others → IsOutcome p others lists o → lookup (nat_eq n) result.filters.items ≡ Some u → lookup (nat_eq n) o.filters.items ≡ Some v → TellTheSame u v }
+        ensures ends { (p : config.Plan A) (es : List Event) (left : ℕ → List Captured) → Stands p self.entry es left
+            → Ends p es left result }
+        ensures isolated { (p : config.Plan A) (es : List Event) (left : ℕ → List Captured) (n : ℕ) (f : FilterPlan)
+            (v : View A) → Stands p self.entry es left → In (n, f) p.filters → f.protected ≡ true
+            → lookup (nat_eq n) result.filters.items ≡ Some v → IsSoloView p n f (own p n f es) v }
+        ensures others_change_nothing { (p : config.Plan A) (es others : List Event) (left : ℕ → List Captured) (n : ℕ)
+            (f : FilterPlan) (lists : ℕ → List (Copy Carried)) (o : Outcome A) (u v : View A)
+            → Stands p self.entry es left → In (n, f) p.filters → f.protected ≡ true → own p n f es ≡ own p n f others
+            → IsOutcome p others lists o → lookup (nat_eq n) result.filters.items ≡ Some u
+            → lookup (nat_eq n) o.filters.items ≡ Some v → TellTheSame u v }
     {
         let Relay {
             alloc,

@@ -1,6 +1,6 @@
 //! The bridge.
 ghost use Rattle.std.specs.Option.{option_map};
-ghost use Rattle.bridge_filter.specs.Verdicts.{flow, call};
+ghost use Rattle.bridge_filter.specs.Verdicts.{flow};
 ghost use Rattle.bridge_config.specs.declared.ports.PortPlan.{PortPlan};
 ghost use Rattle.bridge_state.specs.declared.slot.Slot.{Slot};
 ghost use Rattle.bridge_filter.specs.Plans.{is_there};
@@ -11,19 +11,17 @@ ghost use Rattle.bridge_state.specs.Ports.{outs, slot_at, goes_out};
 ghost use Rattle.bridge_filter.specs.Verdicts.{HasPriority};
 ghost use Rattle.bridge_filter.specs.declared.Ruling.{Ruling};
 ghost use Rattle.bridge_state.specs.Tables.{IsOpen};
-ghost use Rattle.bridge_relay.specs.Relaying.{called, classified, filter_number, goes, one_less, releasing, HasRuled, IsFresh, IsNumbered, IsPending, HasWayPriority, IsRelayed, HasOfferedTo, MayRelay, IsOffering, HasCopies, HasPassed, IsOver, leaves};
-ghost use Rattle.std.specs.Prelude.{Bool, true, false, IfSome, IsTrue, All, OnErr, max, slice_index, ◌≡◌, ℕ, ◌<◌, ◌≤◌, ◌+◌, ◌*◌, ◌^◌, List, [], ◌∷◌, Some, None, Option, length, nat_eq, OnOk, IfErr, IfOk};
+ghost use Rattle.bridge_relay.specs.Relaying.{called, classified, filter_number, goes, one_less, releasing, HasRuled, IsFresh, IsNumbered, IsPending, HasWayPriority, IsRelayed, HasOfferedTo, IsPrepared, MayRelay, IsOffering, HasCopies, HasPassed, IsOver, leaves};
+ghost use Rattle.std.specs.Prelude.{true, false, IfSome, IsTrue, All, OnErr, max, slice_index, ◌≡◌, ℕ, ◌<◌, ◌≤◌, ◌+◌, ◌*◌, ◌^◌, List, ◌∷◌, Some, None, Option, length, OnOk, IfErr, IfOk};
 ghost use Rattle.bridge_config.specs.Model as config;
-ghost use Rattle.bridge_config.specs.Rules.{port_at, has_port};
+ghost use Rattle.bridge_config.specs.Rules.{port_at};
 ghost use Rattle.bridge_config.specs.Commands.{has_instance};
 ghost use Rattle.bridge_capture.specs.Grammar.{Captured};
 ghost use Rattle.bridge_events.specs.Least.{IsLeast};
-ghost use Rattle.bridge_port.specs.Standing.{limit};
 ghost use Rattle.bridge_semantics.specs.Events.{Arrival, Event, Arrived, Cleared, arrival};
 ghost use Rattle.bridge_semantics.specs.Next.{ReachesStart, SendsHead};
-ghost use Rattle.bridge_semantics.specs.Runs.{IsOutcome};
 ghost use Rattle.bridge_state.specs.Ports.{NotBefore, IsAfter};
-ghost use Rattle.bridge_relay.specs.Relays.{captured, one_more, RelayState, Stands, IsSent, waiting, HasSpare, IsAwaited, IsSound, is_flow_stray};
+ghost use Rattle.bridge_relay.specs.Relays.{captured, one_more, RelayState, Stands, IsSent, waiting, IsAwaited, IsSound, is_flow_stray};
 
 use bridge_capture::Packet;
 use bridge_config::Plan;
@@ -101,7 +99,8 @@ impl<'a, G: Agenda + Drop, A: Allocator + Copy> Relay<'a, G, A> {
     /// The starts of a port of the plan.
     pub fn started(&self, port: u8) -> u64
         requires known { (out : PortPlan A) × (port_at self.now.plan.ports port ≡ Some out) }
-        ensures { (p : config.Plan A) (es : List Event) (left : ℕ → List Captured) → Stands p self.now es left → result ≡ length (left port) }
+        ensures { (p : config.Plan A) (es : List Event) (left : ℕ → List Captured) → Stands p self.now es left
+            → result ≡ length (left port) }
     {
         let _plan = self.plan;
         self.ports.started(port)
@@ -118,7 +117,8 @@ impl<'a, G: Agenda + Drop, A: Allocator + Copy> Relay<'a, G, A> {
     #[inline(always)]
     pub fn advance(&mut self) -> Sent<A>
         requires { (q k : ℕ) × (G.held self.old.ports.agenda q ≡ Some k) }
-        ensures stands { (p : config.Plan A) (es : List Event) (left : ℕ → List Captured) → Stands p self.old es left → Stands p self.new es (one_more left result) }
+        ensures stands { (p : config.Plan A) (es : List Event) (left : ℕ → List Captured) → Stands p self.old es left
+            → Stands p self.new es (one_more left result) }
         ensures sends { (p : config.Plan A) (es : List Event) (left : ℕ → List Captured)
             → Stands p self.old es left
             → SendsHead p es left result.port result.class result.start (captured result) }
@@ -131,7 +131,8 @@ impl<'a, G: Agenda + Drop, A: Allocator + Copy> Relay<'a, G, A> {
         ensures fewer { waiting self.new + 1 ≡ waiting self.old }
         ensures same { (self.new.plan ≡ self.old.plan) × (self.new.arrived ≡ self.old.arrived) }
         ensures port { 1 ≤ result.port }
-        ensures writable { (result.done < 2 ^ 32 * 10 ^ 9) × (length result.octets.items ≤ result.len) × (result.len ≤ LONGEST_FRAME) }
+        ensures writable { (result.done < 2 ^ 32 * 10 ^ 9) × (length result.octets.items ≤ result.len)
+            × (result.len ≤ LONGEST_FRAME) }
     {
         let (port, start, begun) = self.ports.start();
         let Begun { class, done, item } = begun;
@@ -164,8 +165,10 @@ impl<'a, G: Agenda + Drop, A: Allocator + Copy> Relay<'a, G, A> {
     pub fn clear(&mut self, t: u64, clear: Clear, number: u32)
         requires time { self.old.earliest ≤ t }
         requires instance { IsTrue (has_instance self.old.plan clear number) }
-        ensures stands { (p : config.Plan A) (es : List Event) (left : ℕ → List Captured) → Stands p self.old es left → Stands p self.new (Cleared clear number ∷ es) left }
-        ensures moved { (self.new.earliest ≡ t) × (self.new.arrived ≡ self.old.arrived) × (self.new.plan ≡ self.old.plan) × (self.new.ports ≡ self.old.ports) }
+        ensures stands { (p : config.Plan A) (es : List Event) (left : ℕ → List Captured) → Stands p self.old es left
+            → Stands p self.new (Cleared clear number ∷ es) left }
+        ensures moved { (self.new.earliest ≡ t) × (self.new.arrived ≡ self.old.arrived)
+            × (self.new.plan ≡ self.old.plan) × (self.new.ports ≡ self.old.ports) }
     {
         self.police.clear(clear, number);
         self.earliest = t;
@@ -213,8 +216,13 @@ impl<'a, G: Agenda + Drop, A: Allocator + Copy> Relay<'a, G, A> {
     ) -> Result<Vec<Vec<u8, A>, A>, NoMemory>
         requires there { IfSome filter (λ n. IsTrue (is_there n self.old.plan.filters)) }
         requires few { self.old.arrived < MOST_ARRIVALS }
-        ensures copies { IfOk result (λ copies. (length copies.items + 1 ≡ max 1 (outs self.old.ports.slots set 16)) × All (λ v. v.items ≡ octets.now) copies.items) }
-        ensures ok { OnOk result (self.new ≡ record self.old { arrived = self.old.arrived + 1; tables = change_if filter (λ t. promised t (outs self.old.ports.slots set 16)) self.old.tables }) }
+        ensures copies { IfOk result (λ copies. (length copies.items + 1 ≡ max 1 (outs self.old.ports.slots set 16))
+            × All (λ v. v.items ≡ octets.now) copies.items) }
+        ensures ok { OnOk result (self.new ≡ record self.old {
+          arrived = self.old.arrived + 1;
+          tables = change_if filter
+              (λ t. promised t (outs self.old.ports.slots set 16)) self.old.tables;
+        }) }
         ensures err { OnErr result (self.new ≡ self.old) }
         ensures sound { OnOk result (IsSound G.held self.new) }
     {
@@ -245,7 +253,9 @@ impl<'a, G: Agenda + Drop, A: Allocator + Copy> Relay<'a, G, A> {
         requires length { (len ≤ LONGEST_FRAME) × (length load.octets.items ≤ len) }
         requires priority { priority ≤ 7 }
         requires few { self.old.arrived ≤ MOST_ARRIVALS }
-        ensures offered { (s : Slot A) → slot_at self.old.ports number ≡ Some s → HasOfferedTo self.old self.new number s (slice_index s.classes priority) (record { len = len; load = load }) }
+        ensures offered { (s : Slot A) → slot_at self.old.ports number ≡ Some s
+            → HasOfferedTo self.old self.new number s (slice_index s.classes priority) (record
+            { len = len; load = load }) }
         ensures due { NotBefore (G.held self.new.ports.agenda) load.at }
         ensures sound { IsSound G.held self.new }
     {
@@ -277,9 +287,12 @@ impl<'a, G: Agenda + Drop, A: Allocator + Copy> Relay<'a, G, A> {
         requires from { 1 ≤ number }
         requires to { number ≤ 16 }
         requires priority { priority ≤ 7 }
-        requires along { (b : RelayState G A) × MayRelay b (leaves load len eligible) × IsOffering G.held b self.old set priority (leaves load len eligible) number }
+        requires along { (b : RelayState G A) × MayRelay b (leaves load len eligible)
+            × IsOffering G.held b self.old set priority (leaves load len eligible) number }
         requires goes { goes_out self.old.ports.slots set number ≡ true }
-        ensures next { (b : RelayState G A) → IsOffering G.held b self.old set priority (leaves load len eligible) number → IsOffering G.held b self.new set priority (leaves load len eligible) (number + 1) }
+        ensures next { (b : RelayState G A)
+            → IsOffering G.held b self.old set priority (leaves load len eligible) number
+            → IsOffering G.held b self.new set priority (leaves load len eligible) (number + 1) }
     {
         let Load {
             at,
@@ -317,8 +330,15 @@ impl<'a, G: Agenda + Drop, A: Allocator + Copy> Relay<'a, G, A> {
         requires from { 1 ≤ number }
         requires to { number ≤ 16 }
         requires priority { priority ≤ 7 }
-        requires along { (b : RelayState G A) × MayRelay b (leaves first.now len eligible) × IsOffering G.held b self.old set priority (leaves first.now len eligible) number × HasCopies b.ports.slots set number first.now.octets.items copies.old.items × (outs b.ports.slots set number < outs b.ports.slots set 16) }
-        ensures next { (b : RelayState G A) → IsOffering G.held b self.old set priority (leaves first.now len eligible) number → HasCopies b.ports.slots set number first.now.octets.items copies.old.items → IsOffering G.held b self.new set priority (leaves first.now len eligible) (number + 1) × HasCopies b.ports.slots set (number + 1) first.now.octets.items copies.new.items }
+        requires along { (b : RelayState G A) × MayRelay b (leaves first.now len eligible)
+            × IsOffering G.held b self.old set priority (leaves first.now len eligible) number
+            × HasCopies b.ports.slots set number first.now.octets.items copies.old.items
+            × (outs b.ports.slots set number < outs b.ports.slots set 16) }
+        ensures next { (b : RelayState G A)
+            → IsOffering G.held b self.old set priority (leaves first.now len eligible) number
+            → HasCopies b.ports.slots set number first.now.octets.items copies.old.items
+            → IsOffering G.held b self.new set priority (leaves first.now len eligible) (number + 1)
+            × HasCopies b.ports.slots set (number + 1) first.now.octets.items copies.new.items }
     {
         if !set.has(number) || !self.ports.has(number) {
             return;
@@ -351,7 +371,8 @@ impl<'a, G: Agenda + Drop, A: Allocator + Copy> Relay<'a, G, A> {
         spares: &mut Spares<A>,
     )
         requires priority { priority ≤ 7 }
-        requires along { MayRelay self.old (leaves first len eligible) × IsOffering G.held self.old self.old set priority (leaves first len eligible) 1 }
+        requires along { MayRelay self.old (leaves first len eligible)
+            × IsOffering G.held self.old self.old set priority (leaves first len eligible) 1 }
         requires copies { HasCopies self.old.ports.slots set 1 first.octets.items copies.items }
         ensures offered { IsOffering G.held self.old self.new set priority (leaves first len eligible) 17 }
     {
@@ -381,8 +402,10 @@ impl<'a, G: Agenda + Drop, A: Allocator + Copy> Relay<'a, G, A> {
         requires from { 1 ≤ port }
         requires time { self.old.earliest ≤ t }
         requires few { self.old.arrived < MOST_ARRIVALS }
-        ensures passed { (s : Slot A) × (slot_at self.old.ports port ≡ Some s) × HasPassed self.old self.new port s t came }
-        ensures stands { (p : config.Plan A) (es : List Event) (a : Arrival) (left : ℕ → List Captured) → a.port ≡ port → IsOver came (way_of p a) → Stands p self.old es left → Stands p self.new (Arrived a ∷ es) left }
+        ensures passed { (s : Slot A) × (slot_at self.old.ports port ≡ Some s)
+            × HasPassed self.old self.new port s t came }
+        ensures stands { (p : config.Plan A) (es : List Event) (a : Arrival) (left : ℕ → List Captured) → a.port ≡ port
+            → IsOver came (way_of p a) → Stands p self.old es left → Stands p self.new (Arrived a ∷ es) left }
     {
         self.ports.count(port, came);
         self.arrived += 1;
@@ -407,7 +430,9 @@ impl<'a, G: Agenda + Drop, A: Allocator + Copy> Relay<'a, G, A> {
         requires open { IfSome (filter_number self.old.plan (called time len seen)) (IsOpen self.old.tables) }
         requires found { IsFound self.old.police seen.handle seen.priority found }
         requires length { len ≤ LONGEST_FRAME }
-        ensures ruled { (s : Slot A) × (slot_at self.old.ports port ≡ Some s) × ((r : Option Ruling) × HasRuled self.old self.new port s (called time len seen) r × IsNumbered self.old.tables r result) }
+        ensures ruled { (s : Slot A) × (slot_at self.old.ports port ≡ Some s)
+            × ((r : Option Ruling) × HasRuled self.old self.new port s (called time len seen) r
+            × IsNumbered self.old.tables r result) }
         ensures priority { IfSome result (λ j. HasPriority j.0.verdict) }
         ensures sound { IsSound G.held self.new }
     {
@@ -459,22 +484,14 @@ impl<'a, G: Agenda + Drop, A: Allocator + Copy> Relay<'a, G, A> {
         copies: Vec<Vec<u8, A>, A>,
         spares: &mut Spares<A>,
     )
-        requires known { (s : Slot A) × (slot_at self.old.ports port ≡ Some s) }
-        requires from { 1 ≤ port }
-        requires time { (self.old.earliest ≤ packet.time) × (packet.time < END_OF_TIME) }
-        requires due { NotBefore (G.held self.old.ports.agenda) packet.time }
-        requires sound { IsSound G.held self.old }
-        requires fresh { IsFresh self.old }
-        requires open { IfSome (filter_number self.old.plan (called packet.time packet.len seen)) (IsOpen self.old.tables) }
-        requires spare { IfSome (filter_number self.old.plan (called packet.time packet.len seen)) (HasSpare self.old (outs self.old.ports.slots set 16)) }
-        requires right { is_flow_stray self.old.plan.filters (filter_number self.old.plan (called packet.time packet.len seen)) ≡ false }
-        requires length { (packet.len ≤ LONGEST_FRAME) × (length packet.octets.items ≤ packet.len) }
-        requires priority { seen.priority ≤ 7 }
-        requires found { IsFound self.old.police seen.handle seen.priority found }
-        requires copies { HasCopies self.old.ports.slots set 1 packet.octets.items copies.items }
-        ensures stands { (p : config.Plan A) (es : List Event) (left : ℕ → List Captured) → way_of p (arrival packet.time port packet.octets.items packet.len) ≡ goes set seen → Stands p (one_less self.old) es left → Stands p self.new (Arrived (arrival packet.time port packet.octets.items packet.len) ∷ es) left }
+        requires { IsPrepared G.held self.old port packet set seen found copies.items }
+        ensures stands { (p : config.Plan A) (es : List Event) (left : ℕ → List Captured)
+            → way_of p (arrival packet.time port packet.octets.items packet.len) ≡ goes set seen
+            → Stands p (one_less self.old) es left
+            → Stands p self.new (Arrived (arrival packet.time port packet.octets.items packet.len) ∷ es) left }
         ensures due { NotBefore (G.held self.new.ports.agenda) packet.time }
-        ensures moved { (self.new.arrived ≡ self.old.arrived) × (self.new.plan ≡ self.old.plan) × (self.new.earliest ≡ packet.time) }
+        ensures moved { (self.new.arrived ≡ self.old.arrived) × (self.new.plan ≡ self.old.plan)
+            × (self.new.earliest ≡ packet.time) }
         ensures sound { IsSound G.held self.new }
     {
         let Packet { time, len, octets } = packet;
@@ -529,8 +546,11 @@ impl<'a, G: Agenda + Drop, A: Allocator + Copy> Relay<'a, G, A> {
         requires due { NotBefore (G.held self.old.ports.agenda) packet.time }
         requires octets { (length packet.octets.items ≤ MOST_CAPTURED) × (length packet.octets.items ≤ packet.len) }
         requires few { self.old.arrived < MOST_ARRIVALS }
-        ensures stands { OnOk result ((p : config.Plan A) (es : List Event) (left : ℕ → List Captured) → Stands p self.old es left → Stands p self.new (Arrived (arrival packet.time port packet.octets.items packet.len) ∷ es) left) }
-        ensures moved { OnOk result ((self.new.arrived ≡ self.old.arrived + 1) × (self.new.earliest ≡ packet.time) × (self.new.plan ≡ self.old.plan)) }
+        ensures stands { OnOk result ((p : config.Plan A) (es : List Event) (left : ℕ → List Captured)
+            → Stands p self.old es left
+            → Stands p self.new (Arrived (arrival packet.time port packet.octets.items packet.len) ∷ es) left) }
+        ensures moved { OnOk result ((self.new.arrived ≡ self.old.arrived + 1) × (self.new.earliest ≡ packet.time)
+            × (self.new.plan ≡ self.old.plan)) }
         ensures waits { OnOk result (NotBefore (G.held self.new.ports.agenda) packet.time) }
         ensures err { IfErr result (λ e. (self.new ≡ self.old) × (e.0 ≡ packet)) }
     {

@@ -1,7 +1,7 @@
 //! A writer behind octets that are held back.
 ghost use Rattle.std.specs.Prelude.{◌≡◌, ◌++◌, ◌≤◌, [], OnOk, IfOk, None, decimal, length};
 ghost use Rattle.std.specs.Io.KnownBytes.{Appends, Keeps, append_known};
-ghost use Rattle.bridge_report.specs.Growth.{HasGrown, unless};
+ghost use Rattle.bridge_report.specs.Growth.{unless};
 
 use crate::fault::ReportFault;
 use crate::line::Line;
@@ -25,7 +25,8 @@ impl<W: Write + Drop, A: Allocator> Held<W, A> {
     #[cold]
     #[inline(never)]
     fn hand_on(&mut self) -> Result<(), ReportFault>
-        ensures text { OnOk result (Keeps (append_known (W.contents self.old.writer) self.old.octets.items) (append_known (W.contents self.new.writer) self.new.octets.items)) }
+        ensures text { OnOk result (Keeps (append_known (W.contents self.old.writer) self.old.octets.items)
+            (append_known (W.contents self.new.writer) self.new.octets.items)) }
         ensures empty { OnOk result (self.new.octets.items ≡ []) }
     {
         if self.writer.write_all(&self.octets).is_err() {
@@ -38,7 +39,8 @@ impl<W: Write + Drop, A: Allocator> Held<W, A> {
     /// Hands the octets on where so many more have no room.
     #[inline(always)]
     fn make_room(&mut self, more: usize) -> Result<(), ReportFault>
-        ensures text { OnOk result (Keeps (append_known (W.contents self.old.writer) self.old.octets.items) (append_known (W.contents self.new.writer) self.new.octets.items)) }
+        ensures text { OnOk result (Keeps (append_known (W.contents self.old.writer) self.old.octets.items)
+            (append_known (W.contents self.new.writer) self.new.octets.items)) }
     {
         if self.octets.capacity() - self.octets.len() < more {
             return self.hand_on();
@@ -48,7 +50,8 @@ impl<W: Write + Drop, A: Allocator> Held<W, A> {
 
     /// Hands the octets on, and gives the writer back flushed.
     fn end(mut self) -> Result<W, ReportFault>
-        ensures { IfOk result (λ writer. Keeps (append_known (W.contents self.writer) self.octets.items) (W.contents writer)) }
+        ensures { IfOk result (λ writer. Keeps (append_known (W.contents self.writer) self.octets.items)
+            (W.contents writer)) }
     {
         self.hand_on()?;
         let Held {
@@ -102,7 +105,8 @@ impl<W: Write + Drop, A: Allocator> Held<W, A> {
     /// Puts a piece behind the octets.
     #[inline(always)]
     fn put(&mut self, piece: &str) -> Result<(), ReportFault>
-        ensures { OnOk result (Appends (append_known (W.contents self.old.writer) self.old.octets.items) (append_known (W.contents self.new.writer) self.new.octets.items) piece.now) }
+        ensures { OnOk result (Appends (append_known (W.contents self.old.writer) self.old.octets.items)
+            (append_known (W.contents self.new.writer) self.new.octets.items) piece.now) }
     {
         self.make_room(piece.len())?;
         extend(&mut self.octets, piece.as_bytes())
@@ -111,7 +115,8 @@ impl<W: Write + Drop, A: Allocator> Held<W, A> {
     /// Puts a number behind the octets, and a piece in front of it.
     #[inline(always)]
     fn put_number(&mut self, piece: &str, number: u64) -> Result<(), ReportFault>
-        ensures { OnOk result (Appends (append_known (W.contents self.old.writer) self.old.octets.items) (append_known (W.contents self.new.writer) self.new.octets.items) (piece.now ++ decimal number)) }
+        ensures { OnOk result (Appends (append_known (W.contents self.old.writer) self.old.octets.items)
+            (append_known (W.contents self.new.writer) self.new.octets.items) (piece.now ++ decimal number)) }
     {
         self.make_room(piece.len() + LONGEST)?;
         extend(&mut self.octets, piece.as_bytes())?;
@@ -121,7 +126,8 @@ impl<W: Write + Drop, A: Allocator> Held<W, A> {
     /// Puts a line behind the octets.
     #[inline(always)]
     fn put_line(&mut self, line: &Line) -> Result<(), ReportFault>
-        ensures { OnOk result (Appends (append_known (W.contents self.old.writer) self.old.octets.items) (append_known (W.contents self.new.writer) self.new.octets.items) line.now) }
+        ensures { OnOk result (Appends (append_known (W.contents self.old.writer) self.old.octets.items)
+            (append_known (W.contents self.new.writer) self.new.octets.items) line.now) }
     {
         let octets = line.octets();
         self.make_room(octets.len())?;
@@ -140,7 +146,8 @@ impl<W: Write + Drop, A: Allocator> Written<W, A> {
     /// Hands the octets on and gives the writer back flushed, or why not all was written.
     pub fn end(self) -> Result<W, ReportFault>
         ensures whole { IfOk result (λ _. self.fault ≡ None) }
-        ensures text { IfOk result (λ writer. Keeps (append_known (W.contents self.held.writer) self.held.octets.items) (W.contents writer)) }
+        ensures text { IfOk result (λ writer. Keeps (append_known (W.contents self.held.writer) self.held.octets.items)
+            (W.contents writer)) }
     {
         let Written { held, fault } = self;
         match fault {

@@ -43,7 +43,8 @@ pub fn section<A: Allocator + Copy>(
     filter: u32,
 ) -> Result<String<A>, NoMemory>
     requires there { is_some (lookup (nat_eq filter) outcome.now.filters.items) ≡ true }
-    ensures { (view : View A) → lookup (nat_eq filter) outcome.now.filters.items ≡ Some view → IfOk result (λ text. string_bytes text ≡ section_of filter view) }
+    ensures { (view : View A) → lookup (nat_eq filter) outcome.now.filters.items ≡ Some view
+        → IfOk result (λ text. string_bytes text ≡ section_of filter view) }
 {
     let Some(view) = view_of(outcome, filter) else {
         unreachable!();
@@ -69,7 +70,8 @@ pub fn write_report<W: Write + Drop, A: Allocator + Copy>(
     outcome: &Outcome<A>,
     writer: W,
 ) -> Result<W, ReportFault>
-    ensures { IfOk result (λ done. Appends (W.contents writer) (W.contents done) (report_of outcome.now.filters.items)) }
+    ensures { IfOk result (λ done. Appends (W.contents writer) (W.contents done)
+        (report_of outcome.now.filters.items)) }
 {
     let Ok(octets) = Vec::with_capacity(alloc, MOST_AT_ONCE) else {
         return Err(ReportFault::NoMemory);

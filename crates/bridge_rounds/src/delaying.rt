@@ -1,6 +1,6 @@
 //! What comes over a link: what was sent, so much later.
 ghost use Rattle.std.specs.Prelude.{◌≡◌, ℕ, ◌≤◌, ◌<◌, ◌+◌, ◌*◌, ◌^◌, ◌++◌, All, List, Some, None, flat_map, length, map, option_map, IfOk};
-ghost use Rattle.std.specs.Int.{w32, to_le_bytes};
+ghost use Rattle.std.specs.Int.{to_le_bytes};
 ghost use Rattle.bridge_capture.specs.Grammar.{Captured};
 ghost use Rattle.bridge_capture.specs.Written.{written_item, written_text};
 ghost use Rattle.bridge_core.specs.Lines.{FitsRecord};
@@ -58,9 +58,11 @@ fn add_later<'a, A: Allocator>(
     delay: u64,
     text: &mut Vec<u8, A>,
 ) -> Result<Option<&'a [u8]>, NoMemory>
-    ensures adds { IfOk result (λ rest. AddsLater delay octets.entry.now text.old.items text.new.items (option_map (λ s. s.now) rest)) }
+    ensures adds { IfOk result (λ rest. AddsLater delay octets.entry.now text.old.items text.new.items
+        (option_map (λ s. s.now) rest)) }
     ensures kept { IfOk result (λ rest. option_map (λ s. s.now) rest ≡ None → text.new ≡ text.old) }
-    ensures fewer { IfOk result (λ rest. (more : List ℕ) → option_map (λ s. s.now) rest ≡ Some more → length more < length octets.entry.now) }
+    ensures fewer { IfOk result (λ rest. (more : List ℕ) → option_map (λ s. s.now) rest ≡ Some more
+        → length more < length octets.entry.now) }
 {
     if octets.len() < WORDS {
         return Ok(None);

@@ -1,5 +1,5 @@
 //! Whole runs of networks by rounds.
-ghost use Rattle.std.specs.Prelude.{◌≡◌, ◌<◌, ℕ, All, List, Some, None, false, true, length, map, option_map, slice_get, IfOk, IfErr, OnErr, OnOk, Ok, Err};
+ghost use Rattle.std.specs.Prelude.{◌≡◌, ◌<◌, ℕ, All, Some, None, false, true, length, map, option_map, slice_get, IfOk, IfErr, OnErr, OnOk, Ok, Err};
 ghost use Rattle.bridge_network.specs.Checked.{AreClosed};
 ghost use Rattle.bridge_network.specs.Networks.{IsNetwork};
 ghost use Rattle.bridge_network.specs.Wiring.{network_of, sender_value};
@@ -56,7 +56,8 @@ fn sent_over<A: Allocator + Copy>(
     stations: &[Station<'_, A>],
     sender: Sender,
 ) -> Result<Vec<u8, A>, NoMemory>
-    ensures { IfOk result (λ text. IsLaterText sender.delay (tap_of (slice_get stations.now sender.from.bridge) sender.from.port) text.items) }
+    ensures { IfOk result (λ text. IsLaterText sender.delay
+        (tap_of (slice_get stations.now sender.from.bridge) sender.from.port) text.items) }
 {
     let Some(station) = stations.get(sender.from.bridge as usize) else {
         return later_text(alloc, &[], sender.delay);
@@ -84,7 +85,8 @@ fn hand<A: Allocator + Copy>(
 ) -> Result<Option<u8>, NoMemory>
     requires bridge { bridge < length stations.old }
     requires place { (x : StationState A) → slice_get stations.old bridge ≡ Some x → place < length x.ports }
-    requires linked { (x : StationState A) → slice_get stations.old bridge ≡ Some x → slice_get x.senders place ≡ Some (Some (sender_value sender)) }
+    requires linked { (x : StationState A) → slice_get stations.old bridge ≡ Some x
+        → slice_get x.senders place ≡ Some (Some (sender_value sender)) }
     ensures { IfOk result (λ found. IsHanded stations.old stations.new bridge place found) }
 {
     let text = sent_over(alloc, stations, sender)?;
@@ -311,7 +313,8 @@ pub fn settle<A: Allocator + Copy, W: Watch>(
     requires { AreIncoming network.now.plans incoming.items }
     ensures ok { IfOk result (λ settled. RunsNetwork network.now incoming.items settled.items) }
     ensures alone { IfOk result (λ settled. IsolatesStreams network.now incoming.items settled.items) }
-    ensures others_change_nothing { IfOk result (λ settled. OthersChangeNothing network.now incoming.items settled.items) }
+    ensures others_change_nothing { IfOk result (λ settled. OthersChangeNothing network.now incoming.items
+        settled.items) }
     ensures stops { IfErr result (StopsSettling network.now incoming.items rounds) }
 {
     keep_network(network);

@@ -64,7 +64,8 @@ pub(crate) fn ran_over<A: Allocator + Copy>(
     requires numbers { AreNumbers accepted.now ports.now }
     requires commands { AreCommands accepted.now commands.now }
     requires texts { length texts.now ≡ length ports.now }
-    ensures runs { IfOk result (λ ran. RunsBridge accepted.now ports.now commands.now (texts_in texts.now) (taps_in ran.taps.items) ran.outcome) }
+    ensures runs { IfOk result (λ ran. RunsBridge accepted.now ports.now commands.now (texts_in texts.now)
+        (taps_in ran.taps.items) ran.outcome) }
     ensures many { IfOk result (λ ran. length ran.taps.items ≡ length ports.now) }
     ensures stops { IfErr result (StopsBridge accepted.now ports.now commands.now (texts_in texts.now)) }
 {
@@ -137,7 +138,8 @@ fn senders_of<A: Allocator + Copy>(
     bridge: usize,
     ports: &[u8],
 ) -> Result<Vec<Option<Sender>, A>, NoMemory>
-    ensures { IfOk result (λ senders. senders_in senders.items ≡ map (networks.sender (map link_of links.now) bridge) ports.now) }
+    ensures { IfOk result (λ senders. senders_in senders.items
+        ≡ map (networks.sender (map link_of links.now) bridge) ports.now) }
 {
     let mut senders = Vec::with_capacity(alloc, ports.len())?;
     for port in ports {
@@ -161,8 +163,10 @@ fn without_at<A: Allocator + Copy>(
     requires place { place < length senders.now }
     requires many { length texts.items ≡ length senders.now }
     ensures many { IfOk result (λ new. length new.items ≡ length senders.now) }
-    ensures from_outside { IfOk result (λ new. open_texts (senders_in senders.now) (texts_in new.items) ≡ open_texts (senders_in senders.now) (texts_in texts.items)) }
-    ensures empty { IfOk result (λ new. NoneCameBefore place (senders_in senders.now) (texts_in texts.items) → NoneCameBefore (place + 1) (senders_in senders.now) (texts_in new.items)) }
+    ensures from_outside { IfOk result (λ new. open_texts (senders_in senders.now) (texts_in new.items)
+        ≡ open_texts (senders_in senders.now) (texts_in texts.items)) }
+    ensures empty { IfOk result (λ new. NoneCameBefore place (senders_in senders.now) (texts_in texts.items)
+        → NoneCameBefore (place + 1) (senders_in senders.now) (texts_in new.items)) }
 {
     let Some(_) = senders[place] else {
         return Ok(texts);
@@ -180,7 +184,8 @@ fn without_linked<A: Allocator + Copy>(
 ) -> Result<Vec<Vec<u8, A>, A>, NoMemory>
     requires { length texts.items ≡ length senders.now }
     ensures many { IfOk result (λ new. length new.items ≡ length senders.now) }
-    ensures from_outside { IfOk result (λ new. open_texts (senders_in senders.now) (texts_in new.items) ≡ open_texts (senders_in senders.now) (texts_in texts.items)) }
+    ensures from_outside { IfOk result (λ new. open_texts (senders_in senders.now) (texts_in new.items)
+        ≡ open_texts (senders_in senders.now) (texts_in texts.items)) }
     ensures empty { IfOk result (λ new. NoneCame (senders_in senders.now) (texts_in new.items)) }
 {
     let mut texts = texts;
@@ -311,7 +316,8 @@ impl<'a, A: Allocator + Copy> Station<'a, A> {
     pub(crate) fn has(&self, place: usize, text: &[u8]) -> bool
         requires { place < length self.now.ports }
         ensures same { result ≡ true → slice_get self.now.texts place ≡ Some text.now }
-        ensures other { result ≡ false → (here : List ℕ) × (slice_get self.now.texts place ≡ Some here) × (here ≢ text.now) }
+        ensures other { result ≡ false → (here : List ℕ) × (slice_get self.now.texts place ≡ Some here)
+            × (here ≢ text.now) }
     {
         self.text(place) == text
     }

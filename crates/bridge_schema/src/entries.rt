@@ -62,7 +62,8 @@ pub fn list_at<A: Allocator + Copy, E: Entry>(
 ) -> Result<Option<Vec<E::Out, A>>, PlanFault>
 where
     E::Out: Drop,
-    ensures reads { GivesAs (λ x. option_map (λ v. v.items) x) result (spec.list_at place (E.reading entry.now) (option_map (λ v. view v.now) value.entry)) }
+    ensures reads { GivesAs (λ x. option_map (λ v. v.items) x) result
+        (spec.list_at place (E.reading entry.now) (option_map (λ v. view v.now) value.entry)) }
     ensures fits { IfOk result (λ x. ForSome x (λ v. All (E.Fits entry.now) v.items)) }
 {
     match value {

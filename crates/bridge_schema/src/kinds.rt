@@ -1,6 +1,5 @@
 //! The kinds of values that may stand at a key.
-ghost use Rattle.std.specs.Prelude.{◌≡◌, ◌≤◌, ℕ, Bool, true, nat_eq, Result, Ok, IfOk, ⊤};
-ghost use Rattle.std.specs.List.{list_any};
+ghost use Rattle.std.specs.Prelude.{◌≡◌, ◌≤◌, ℕ, Bool, true, Result, Ok, IfOk, ⊤};
 ghost use Rattle.toml.specs.Data.{Data};
 ghost use Rattle.toml.specs.View.{view};
 ghost use Rattle.bridge_schema.specs.declared.fault.Flaw.{Flaw};

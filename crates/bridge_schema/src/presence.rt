@@ -37,7 +37,8 @@ fn flawed(place: Place, flaw: Flaw) -> PlanFault
 }
 
 fn required_in<K: Kind>(place: Place, kind: &K, value: Option<&Value>) -> Result<K::Out, PlanFault>
-    ensures reads { Gives result (spec.required_in place (K.reading kind.now) (option_map (λ v. view v.now) value.entry)) }
+    ensures reads { Gives result (spec.required_in place (K.reading kind.now)
+        (option_map (λ v. view v.now) value.entry)) }
     ensures fits { IfOk result (K.Fits kind.now) }
     ensures takes_no_memory { IfErr result (λ e. ¬ (e ≡ NoMemory)) }
 {
@@ -70,7 +71,8 @@ fn optional_in<K: Kind>(
     kind: &K,
     value: Option<&Value>,
 ) -> Result<Option<K::Out>, PlanFault>
-    ensures reads { Gives result (spec.optional_in place (K.reading kind.now) (option_map (λ v. view v.now) value.entry)) }
+    ensures reads { Gives result (spec.optional_in place (K.reading kind.now)
+        (option_map (λ v. view v.now) value.entry)) }
     ensures fits { IfOk result (λ x. ForSome x (K.Fits kind.now)) }
     ensures takes_no_memory { IfErr result (λ e. ¬ (e ≡ NoMemory)) }
 {
@@ -107,7 +109,8 @@ fn default_in<K: Kind>(
 where
     K::Out: Drop,
     requires { K.Fits kind.now default }
-    ensures reads { Gives result (spec.default_in default place (K.reading kind.now) (option_map (λ v. view v.now) value.entry)) }
+    ensures reads { Gives result (spec.default_in default place (K.reading kind.now)
+        (option_map (λ v. view v.now) value.entry)) }
     ensures fits { IfOk result (K.Fits kind.now) }
     ensures takes_no_memory { IfErr result (λ e. ¬ (e ≡ NoMemory)) }
 {
@@ -153,7 +156,8 @@ pub fn required_with<K: Kind>(
 where
     K::Out: Drop,
     requires fits { K.Fits kind.now absent }
-    ensures reads { Gives result (spec.only_with other absent (spec.required place key (K.reading kind.now) (table_view table.now)) (table_view table.now)) }
+    ensures reads { Gives result (spec.only_with other absent
+        (spec.required place key (K.reading kind.now) (table_view table.now)) (table_view table.now)) }
     ensures fits { IfOk result (K.Fits kind.now) }
     ensures takes_no_memory { IfErr result (λ e. ¬ (e ≡ NoMemory)) }
 {
@@ -177,7 +181,8 @@ pub fn required_without<K: Kind>(
 where
     K::Out: Drop,
     requires fits { K.Fits kind.now absent }
-    ensures reads { Gives result (spec.only_without other absent (spec.required place key (K.reading kind.now) (table_view table.now)) (table_view table.now)) }
+    ensures reads { Gives result (spec.only_without other absent
+        (spec.required place key (K.reading kind.now) (table_view table.now)) (table_view table.now)) }
     ensures fits { IfOk result (K.Fits kind.now) }
     ensures takes_no_memory { IfErr result (λ e. ¬ (e ≡ NoMemory)) }
 {

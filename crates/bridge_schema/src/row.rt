@@ -36,7 +36,11 @@ impl<'t> Row<'t> {
 
     /// The value of a key that must be there, or the fault of its place. Takes no memory.
     pub fn required<K: Kind>(&self, key: Field, kind: &K) -> Result<K::Out, PlanFault>
-        ensures reads { Gives result (spec.required (record { section = self.now.section; index = self.now.index; field = key }) key (K.reading kind.now) (table_view self.now.table.now)) }
+        ensures reads { Gives result (spec.required (record {
+          section = self.now.section;
+          index = self.now.index;
+          field = key;
+        }) key (K.reading kind.now) (table_view self.now.table.now)) }
         ensures fits { IfOk result (K.Fits kind.now) }
         ensures takes_no_memory { IfErr result (λ e. ¬ (e ≡ NoMemory)) }
     {
@@ -45,7 +49,11 @@ impl<'t> Row<'t> {
 
     /// The value of a key that may be absent, or the fault of its place. Takes no memory.
     pub fn optional<K: Kind>(&self, key: Field, kind: &K) -> Result<Option<K::Out>, PlanFault>
-        ensures reads { Gives result (spec.optional (record { section = self.now.section; index = self.now.index; field = key }) key (K.reading kind.now) (table_view self.now.table.now)) }
+        ensures reads { Gives result (spec.optional (record {
+          section = self.now.section;
+          index = self.now.index;
+          field = key;
+        }) key (K.reading kind.now) (table_view self.now.table.now)) }
         ensures fits { IfOk result (λ x. ForSome x (K.Fits kind.now)) }
         ensures takes_no_memory { IfErr result (λ e. ¬ (e ≡ NoMemory)) }
     {
@@ -62,7 +70,11 @@ impl<'t> Row<'t> {
     where
         K::Out: Drop,
         requires fits { K.Fits kind.now default }
-        ensures reads { Gives result (spec.default_to default (record { section = self.now.section; index = self.now.index; field = key }) key (K.reading kind.now) (table_view self.now.table.now)) }
+        ensures reads { Gives result (spec.default_to default (record {
+          section = self.now.section;
+          index = self.now.index;
+          field = key;
+        }) key (K.reading kind.now) (table_view self.now.table.now)) }
         ensures fits { IfOk result (K.Fits kind.now) }
         ensures takes_no_memory { IfErr result (λ e. ¬ (e ≡ NoMemory)) }
     {
@@ -81,7 +93,11 @@ impl<'t> Row<'t> {
     where
         K::Out: Drop,
         requires fits { K.Fits kind.now absent }
-        ensures reads { Gives result (spec.only_with other absent (spec.required (record { section = self.now.section; index = self.now.index; field = key }) key (K.reading kind.now) (table_view self.now.table.now)) (table_view self.now.table.now)) }
+        ensures reads { Gives result (spec.only_with other absent (spec.required (record {
+          section = self.now.section;
+          index = self.now.index;
+          field = key;
+        }) key (K.reading kind.now) (table_view self.now.table.now)) (table_view self.now.table.now)) }
         ensures fits { IfOk result (K.Fits kind.now) }
         ensures takes_no_memory { IfErr result (λ e. ¬ (e ≡ NoMemory)) }
     {
@@ -100,7 +116,11 @@ impl<'t> Row<'t> {
     where
         K::Out: Drop,
         requires fits { K.Fits kind.now absent }
-        ensures reads { Gives result (spec.only_without other absent (spec.required (record { section = self.now.section; index = self.now.index; field = key }) key (K.reading kind.now) (table_view self.now.table.now)) (table_view self.now.table.now)) }
+        ensures reads { Gives result (spec.only_without other absent (spec.required (record {
+          section = self.now.section;
+          index = self.now.index;
+          field = key;
+        }) key (K.reading kind.now) (table_view self.now.table.now)) (table_view self.now.table.now)) }
         ensures fits { IfOk result (K.Fits kind.now) }
         ensures takes_no_memory { IfErr result (λ e. ¬ (e ≡ NoMemory)) }
     {

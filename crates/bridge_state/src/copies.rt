@@ -1,5 +1,5 @@
 //! Copies of a frame's octets.
-ghost use Rattle.std.specs.Prelude.{◌≡◌, ◌≤◌, length, IfOk, All};
+ghost use Rattle.std.specs.Prelude.{◌≡◌, length, IfOk, All};
 ghost use Rattle.bridge_semantics.specs.Offers.{leaving};
 
 use bridge_cycle::NoMemory;

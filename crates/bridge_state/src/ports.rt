@@ -1,9 +1,8 @@
 //! The ports of a bridge, and which of them starts next.
-ghost use Rattle.std.specs.Prelude.{◌≡◌, ℕ, false, ◌<◌, ◌≤◌, ◌+◌, ◌-◌, List, [], ◌∷◌, Some, None, Option, length, nat_eq, if◌then◌else◌, slice_set, slice_index, IfOk, vec_capacity};
+ghost use Rattle.std.specs.Prelude.{◌≡◌, ℕ, false, ◌<◌, ◌≤◌, ◌+◌, ◌-◌, [], Some, None, Option, length, nat_eq, if◌then◌else◌, slice_set, slice_index, IfOk, vec_capacity};
 ghost use Rattle.bridge_events.specs.Least.{IsLeast};
 ghost use Rattle.bridge_forward.specs.Ports.{has};
 ghost use Rattle.bridge_config.specs.Rules.{port_at};
-ghost use Rattle.bridge_port.specs.Standing.{IsDue};
 ghost use Rattle.bridge_state.specs.declared.slot.Slot.{Slot};
 ghost use Rattle.bridge_state.specs.Slots.{counted_frame};
 ghost use Rattle.bridge_state.specs.Counting.{counts_to};
@@ -138,7 +137,8 @@ impl<G: Agenda + Drop, A: Allocator + Copy> Ports<G, A> {
         requires range { t < END_OF_TIME }
         requires length { item.len ≤ LONGEST_FRAME }
         requires priority { priority ≤ 7 }
-        ensures offered { (s : Slot A) → slot_at self.old number ≡ Some s → HasOffered self.old self.new number s t (slice_index s.classes priority) item result }
+        ensures offered { (s : Slot A) → slot_at self.old number ≡ Some s
+            → HasOffered self.old self.new number s t (slice_index s.classes priority) item result }
         ensures due { NotBefore (G.held self.new.agenda) t }
     {
         match &mut self.slots[number as usize - 1] {
@@ -242,7 +242,9 @@ impl<G: Agenda + Drop, A: Allocator + Copy> Ports<G, A> {
         requires from { 1 ≤ number }
         requires there { (s : Slot A) × (slot_at self.old number ≡ Some s) × (s.count.frames < MOST_ARRIVALS) }
         ensures agenda { self.new.agenda ≡ self.old.agenda }
-        ensures slots { (s : Slot A) → slot_at self.old number ≡ Some s → self.new.slots ≡ slice_set self.old.slots (number - 1) (Some (record s { count = counted_frame s.count came })) }
+        ensures slots { (s : Slot A) → slot_at self.old number ≡ Some s
+            → self.new.slots ≡ slice_set self.old.slots (number - 1) (Some (record s
+            { count = counted_frame s.count came })) }
     {
         match &mut self.slots[number as usize - 1] {
             Some(slot) => slot.count_frame(came),

@@ -1,9 +1,9 @@
 //! A port of a bridge.
-ghost use Rattle.std.specs.Prelude.{◌≡◌, ℕ, Bool, true, IfOk, ◌<◌, ◌≤◌, ◌+◌, ◌-◌, ◌&&◌, List, ◌∷◌, Some, is_none, slice_index, if◌then◌else◌};
+ghost use Rattle.std.specs.Prelude.{◌≡◌, Bool, true, IfOk, ◌<◌, ◌≤◌, ◌+◌, ◌-◌, ◌&&◌, List, ◌∷◌, Some, is_none, slice_index, if◌then◌else◌};
 ghost use Rattle.bridge_frame.specs.Link.{occupied};
 ghost use Rattle.bridge_port.specs.declared.item.Item.{Item};
 ghost use Rattle.bridge_port.specs.Schedule.{Copy};
-ghost use Rattle.bridge_port.specs.Standing.{refusal_of, offered_state, copy_of, started_state, count_queued, IsDue, IsNext, IsBegun, NoStartBefore, StandsFor, limit};
+ghost use Rattle.bridge_port.specs.Standing.{refusal_of, copy_of, count_queued, IsDue, IsNext, IsBegun, NoStartBefore, StandsFor, limit};
 ghost use Rattle.bridge_port.specs.Opening.{are_rooms};
 ghost use Rattle.bridge_semantics.specs.declared.load.Load.{Load};
 
@@ -80,7 +80,8 @@ impl<A: Allocator + Copy> Slot<A> {
     #[inline(always)]
     pub fn count_frame(&mut self, came: Came)
         requires few { self.old.count.frames < MOST_ARRIVALS }
-        requires counted { self.old.count.malformed + self.old.count.nowhere + self.old.count.unfiltered ≤ self.old.count.frames }
+        requires counted { self.old.count.malformed + self.old.count.nowhere + self.old.count.unfiltered
+            ≤ self.old.count.frames }
         ensures { self.new ≡ record self.old { count = counted_frame self.old.count came } }
     {
         self.count.frames += 1;
@@ -110,8 +111,11 @@ impl<A: Allocator + Copy> Slot<A> {
         requires class { slice_index self.old.classes priority < 8 }
         ensures moved { self.new ≡ offered_slot self.old t (slice_index self.old.classes priority) item }
         ensures answer { result ≡ refusal_to self.old (slice_index self.old.classes priority) item }
-        ensures stands { (xs : List (Copy (Item (Load A)))) → StandsFor self.old.port xs → StandsFor self.new.port (copy_of self.old.port t (slice_index self.old.classes priority) item ∷ xs) }
-        ensures counts { (f : Item (Load A) → Bool) → count_queued f self.new.port ≡ (if is_none (refusal_of self.old.port (slice_index self.old.classes priority) item) && f item then 1 else 0) + count_queued f self.old.port }
+        ensures stands { (xs : List (Copy (Item (Load A)))) → StandsFor self.old.port xs
+            → StandsFor self.new.port (copy_of self.old.port t (slice_index self.old.classes priority) item ∷ xs) }
+        ensures counts { (f : Item (Load A) → Bool)
+            → count_queued f self.new.port ≡ (if is_none (refusal_of self.old.port
+            (slice_index self.old.classes priority) item) && f item then 1 else 0) + count_queued f self.old.port }
     {
         let class = self.classes[priority as usize];
         match self.port.offer(t, class, item) {
@@ -134,8 +138,10 @@ impl<A: Allocator + Copy> Slot<A> {
         requires speed { self.old.port.speed ≡ self.old.speed }
         ensures next { IsNext self.old.port start result.class result.item }
         ensures moved { self.new ≡ started_slot self.old start result.class result.item }
-        ensures stands { (xs : List (Copy (Item (Load A)))) → StandsFor self.old.port xs → IsBegun self.new.port result.class start result.item xs }
-        ensures counts { (f : Item (Load A) → Bool) → count_queued f self.old.port ≡ (if f result.item then 1 else 0) + count_queued f self.new.port }
+        ensures stands { (xs : List (Copy (Item (Load A)))) → StandsFor self.old.port xs
+            → IsBegun self.new.port result.class start result.item xs }
+        ensures counts { (f : Item (Load A) → Bool)
+            → count_queued f self.old.port ≡ (if f result.item then 1 else 0) + count_queued f self.new.port }
         ensures done { result.done ≡ start + occupied result.item.len self.old.speed }
         ensures bounded { result.done < limit (self.old.port.started + 1) }
         ensures early { result.done < END_OF_SENDING }

@@ -1,5 +1,5 @@
 //! What is told of a filter so far.
-ghost use Rattle.std.specs.Prelude.{◌≡◌, ℕ, Bool, true, false, ◌<◌, ◌≤◌, ◌+◌, ◌-◌, ◌^◌, ◌++◌, ◌∷◌, [], Option, None, OnErr, OnOk, length};
+ghost use Rattle.std.specs.Prelude.{◌≡◌, true, false, ◌<◌, ◌≤◌, ◌+◌, ◌-◌, ◌^◌, ◌++◌, ◌∷◌, [], Option, None, OnErr, OnOk, length};
 ghost use Rattle.bridge_state.specs.Tables.{TableState, longer};
 ghost use Rattle.bridge_state.specs.Told.{fresh, HasTold};
 
@@ -35,7 +35,7 @@ pub struct Table<A: Allocator + Copy> {
 }
 
 impl<A: Allocator + Copy> Model for Table<A> {
-    ghost use Rattle.std.specs.Prelude.{◌≤◌, ◌+◌, vec_capacity, vec_len, if◌then◌else◌};
+    ghost use Rattle.std.specs.Prelude.{◌≤◌, ◌+◌, if◌then◌else◌};
     ghost use Rattle.bridge_state.specs.Tables.{TableState, HasRoom};
 
     ghost Value = { TableState };
@@ -48,7 +48,15 @@ impl<A: Allocator + Copy> Model for Table<A> {
 impl<A: Allocator + Copy> Table<A> {
     /// Nothing is told.
     pub fn new(alloc: A) -> Table<A>
-        ensures { result ≡ record { verdicts = []; origins = []; departures = []; drops = []; delay = None; owed = 0; is_open = false } }
+        ensures { result ≡ record {
+          verdicts = [];
+          origins = [];
+          departures = [];
+          drops = [];
+          delay = None;
+          owed = 0;
+          is_open = false;
+        } }
     {
         Table {
             verdicts: Vec::new(alloc),
@@ -82,7 +90,11 @@ impl<A: Allocator + Copy> Table<A> {
     #[inline(always)]
     pub fn judge(&mut self, verdict: Verdict, origin: Origin) -> u64
         requires { self.old.is_open ≡ true }
-        ensures told { self.new ≡ record self.old { verdicts = self.old.verdicts ++ verdict ∷ []; origins = self.old.origins ++ origin ∷ []; is_open = false } }
+        ensures told { self.new ≡ record self.old {
+          verdicts = self.old.verdicts ++ verdict ∷ [];
+          origins = self.old.origins ++ origin ∷ [];
+          is_open = false;
+        } }
         ensures own { result ≡ length self.old.verdicts + 1 }
     {
         self.is_open = false;
@@ -121,7 +133,11 @@ impl<A: Allocator + Copy> Table<A> {
     #[inline(always)]
     pub fn depart(&mut self, departure: Departure, delay: u64)
         requires { 0 < self.old.owed }
-        ensures { self.new ≡ record self.old { departures = self.old.departures ++ departure ∷ []; delay = longer self.old.delay delay; owed = self.old.owed - 1 } }
+        ensures { self.new ≡ record self.old {
+          departures = self.old.departures ++ departure ∷ [];
+          delay = longer self.old.delay delay;
+          owed = self.old.owed - 1;
+        } }
     {
         self.owed -= 1;
         match self.departures.push(departure) {

@@ -1,5 +1,5 @@
 //! The tables of all filters, by number.
-ghost use Rattle.std.specs.Prelude.{◌≡◌, ◌<◌, ℕ, true, ◌+◌, nat_eq, Some, OnOk, OnErr, IfOk, IfSome, IsSome, length, slice_get};
+ghost use Rattle.std.specs.Prelude.{◌≡◌, ◌<◌, true, ◌+◌, nat_eq, Some, OnOk, OnErr, IfOk, IfSome, IsSome, length, slice_get};
 ghost use Rattle.std.specs.Map.{keys_of, lookup};
 ghost use Rattle.bridge_filter.specs.Plans.{are_distinct, is_there};
 ghost use Rattle.bridge_state.specs.Told.{fresh, fresh_tables, HasTold};
@@ -179,7 +179,8 @@ pub fn judge<A: Allocator + Copy>(
 ) -> u64
     requires { IsOpen tables.old.entries number }
     ensures told { tables.new.entries ≡ change number (λ t. judged t verdict origin) tables.old.entries }
-    ensures own { (t : TableState) → lookup (nat_eq number) tables.old.entries ≡ Some t → result ≡ length t.verdicts + 1 }
+    ensures own { (t : TableState) → lookup (nat_eq number) tables.old.entries ≡ Some t
+        → result ≡ length t.verdicts + 1 }
 {
     let place = place_of(tables, number);
     let (_, table) = tables.pair_mut(place);

@@ -56,7 +56,8 @@ fn push_arrivals<A: Allocator>(
     nowhere: u128,
     policed: u128,
 ) -> Result<(), AllocError>
-    ensures { OnOk result (string_bytes text.new ≡ string_bytes text.old ++ arrivals_text frames malformed nowhere policed) }
+    ensures { OnOk result (string_bytes text.new ≡ string_bytes text.old
+        ++ arrivals_text frames malformed nowhere policed) }
 {
     write!(
         text,

@@ -1,5 +1,5 @@
 //! The bounds of the ports by which the frames of a filter may leave.
-ghost use Rattle.std.specs.Prelude.{◌≡◌, ◌≤◌, IfOk, IfSome, string_bytes};
+ghost use Rattle.std.specs.Prelude.{◌≡◌, ◌≤◌, IfOk};
 ghost use Rattle.bridge_tables.specs.PortBounds as spec;
 
 use bridge_bounds::tight_bound_of;

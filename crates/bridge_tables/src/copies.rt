@@ -1,5 +1,5 @@
 //! The copies of the frames of a filter, by rising number of their frames.
-ghost use Rattle.std.specs.Prelude.{◌≡◌, ◌≤◌, ℕ, IfOk, OnOk, List, filter};
+ghost use Rattle.std.specs.Prelude.{◌≡◌, ℕ, IfOk};
 ghost use Rattle.std.specs.List.Sorted.{IsNonDecreasingBy};
 ghost use Rattle.bridge_tables.specs.Frames.{dropped_of, left_of};
 

@@ -2,7 +2,6 @@
 ghost use Rattle.std.specs.Prelude.{IfOk, OnOk, List, ℕ, string_bytes};
 ghost use Rattle.bridge_text.specs.Growth.{HasGrown};
 ghost use Rattle.bridge_tables.specs.Delays as spec;
-ghost use Rattle.bridge_tables.specs.PortBounds.{ArePortBounds};
 
 use crate::bounds::{bound_at, port_bounds};
 use crate::figures::{delays_at, put_figures};
@@ -139,7 +138,8 @@ fn put_filter<A: Allocator + Copy>(
     filter: u32,
     view: &View<A>,
 ) -> Result<(), NoMemory>
-    ensures { OnOk result ((rows : List ℕ) × spec.AreRowsOf accepted.now filter view.now rows × HasGrown text.old rows text.new) }
+    ensures { OnOk result ((rows : List ℕ) × spec.AreRowsOf accepted.now filter view.now rows
+        × HasGrown text.old rows text.new) }
 {
     let bounds = port_bounds(alloc, accepted, filter)?;
     put_rows(alloc, text, filter, view, &bounds);
@@ -153,7 +153,8 @@ fn put_filters<A: Allocator + Copy>(
     text: &mut Text<A>,
     filters: &[(u32, View<A>)],
 ) -> Result<(), NoMemory>
-    ensures { OnOk result ((rows : List ℕ) × spec.AreRows accepted.now filters.now rows × HasGrown text.old rows text.new) }
+    ensures { OnOk result ((rows : List ℕ) × spec.AreRows accepted.now filters.now rows
+        × HasGrown text.old rows text.new) }
 {
     let mut left = filters;
     while let Some((first, rest)) = left.split_first() {

@@ -191,7 +191,8 @@ fn traced<A: Allocator + Copy>(
     origins: &[Origin],
     roots: &[Option<Root>],
 ) -> Result<Vec<Option<Root>, A>, NoMemory>
-    ensures { IfOk result (λ made. spec.AreTraced (sender_value sender) sent.now sent_roots.now port origins.now roots.now made.items) }
+    ensures { IfOk result (λ made. spec.AreTraced
+        (sender_value sender) sent.now sent_roots.now port origins.now roots.now made.items) }
 {
     let mut made = Vec::with_capacity(alloc, roots.len())?;
     let mut left = sent;
@@ -243,9 +244,11 @@ fn trace_pair<A: Allocator + Copy>(
     requires other { other < length hops.now }
     requires many { length all.old.items ≡ length hops.now }
     ensures many { OnOk result (length all.new.items ≡ length hops.now) }
-    ensures sound { OnOk result ((links : List Link) → spec.SenderIs links hops.now place port (sender_value sender) → spec.AreSound links hops.now all.old.items → spec.AreSound links hops.now all.new.items) }
+    ensures sound { OnOk result ((links : List Link) → spec.SenderIs links hops.now place port (sender_value sender)
+        → spec.AreSound links hops.now all.old.items → spec.AreSound links hops.now all.new.items) }
     ensures same { IfOk result (λ more. more ≡ false → all.new ≡ all.old) }
-    ensures exhausted { IfOk result (λ more. more ≡ false → spec.IsPairExhausted hops.now all.old.items (sender_value sender) place port other) }
+    ensures exhausted { IfOk result (λ more. more ≡ false
+        → spec.IsPairExhausted hops.now all.old.items (sender_value sender) place port other) }
 {
     if hops[other].bridge != sender.from.bridge as usize {
         return Ok(false);
@@ -289,9 +292,11 @@ fn trace_sender<A: Allocator + Copy>(
     requires place { place < length hops.now }
     requires many { length all.old.items ≡ length hops.now }
     ensures many { OnOk result (length all.new.items ≡ length hops.now) }
-    ensures sound { OnOk result ((links : List Link) → spec.SenderIs links hops.now place port (sender_value sender) → spec.AreSound links hops.now all.old.items → spec.AreSound links hops.now all.new.items) }
+    ensures sound { OnOk result ((links : List Link) → spec.SenderIs links hops.now place port (sender_value sender)
+        → spec.AreSound links hops.now all.old.items → spec.AreSound links hops.now all.new.items) }
     ensures same { IfOk result (λ more. more ≡ false → all.new ≡ all.old) }
-    ensures exhausted { IfOk result (λ more. more ≡ false → (j : ℕ) → j < length hops.now → spec.IsPairExhausted hops.now all.old.items (sender_value sender) place port j) }
+    ensures exhausted { IfOk result (λ more. more ≡ false → (j : ℕ) → j < length hops.now
+        → spec.IsPairExhausted hops.now all.old.items (sender_value sender) place port j) }
 {
     let mut more = false;
     for other in 0..hops.len() {
@@ -313,9 +318,11 @@ fn trace_port<A: Allocator + Copy>(
     requires place { place < length hops.now }
     requires many { length all.old.items ≡ length hops.now }
     ensures many { OnOk result (length all.new.items ≡ length hops.now) }
-    ensures sound { OnOk result (spec.AreSound links.now hops.now all.old.items → spec.AreSound links.now hops.now all.new.items) }
+    ensures sound { OnOk result (spec.AreSound links.now hops.now all.old.items
+        → spec.AreSound links.now hops.now all.new.items) }
     ensures same { IfOk result (λ more. more ≡ false → all.new ≡ all.old) }
-    ensures exhausted { IfOk result (λ more. more ≡ false → spec.IsPortExhausted links.now hops.now all.old.items place port) }
+    ensures exhausted { IfOk result (λ more. more ≡ false
+        → spec.IsPortExhausted links.now hops.now all.old.items place port) }
 {
     match sender_of(links, hops[place].bridge, port) {
         Some(sender) => {
@@ -337,9 +344,11 @@ fn trace_hop<A: Allocator + Copy>(
     requires place { place < length hops.now }
     requires many { length all.old.items ≡ length hops.now }
     ensures many { OnOk result (length all.new.items ≡ length hops.now) }
-    ensures sound { OnOk result (spec.AreSound links.now hops.now all.old.items → spec.AreSound links.now hops.now all.new.items) }
+    ensures sound { OnOk result (spec.AreSound links.now hops.now all.old.items
+        → spec.AreSound links.now hops.now all.new.items) }
     ensures same { IfOk result (λ more. more ≡ false → all.new ≡ all.old) }
-    ensures exhausted { IfOk result (λ more. more ≡ false → (q : ℕ) → 1 ≤ q → q < 17 → spec.IsPortExhausted links.now hops.now all.old.items place q) }
+    ensures exhausted { IfOk result (λ more. more ≡ false → (q : ℕ) → 1 ≤ q → q < 17
+        → spec.IsPortExhausted links.now hops.now all.old.items place q) }
 {
     let mut more = false;
     for port in 1..17u8 {
@@ -358,7 +367,8 @@ fn trace_all<A: Allocator + Copy>(
 ) -> Result<bool, NoMemory>
     requires many { length all.old.items ≡ length hops.now }
     ensures many { OnOk result (length all.new.items ≡ length hops.now) }
-    ensures sound { OnOk result (spec.AreSound links.now hops.now all.old.items → spec.AreSound links.now hops.now all.new.items) }
+    ensures sound { OnOk result (spec.AreSound links.now hops.now all.old.items
+        → spec.AreSound links.now hops.now all.new.items) }
     ensures same { IfOk result (λ more. more ≡ false → all.new ≡ all.old) }
     ensures exhausted { IfOk result (λ more. more ≡ false → spec.AreExhausted links.now hops.now all.old.items) }
 {

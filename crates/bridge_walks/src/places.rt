@@ -1,6 +1,5 @@
 //! Ports of bridges, and steps between them.
 ghost use Rattle.std.specs.Prelude.{◌≡◌};
-ghost use Rattle.std.specs.List.{list_any};
 ghost use Rattle.bridge_walks.specs.Peeling as peeling;
 
 /// A port of a bridge. A bridge is named by its place among the bridges of a network, from 0.

@@ -1,5 +1,5 @@
 //! Which ports steps lead to from one.
-ghost use Rattle.std.specs.Prelude.{◌≡◌, ◌++◌, ◌↔◌, IfOk, IsTrue, map, not};
+ghost use Rattle.std.specs.Prelude.{◌≡◌, ◌++◌, ◌↔◌, IfOk, IsTrue};
 ghost use Rattle.std.specs.List.{filter};
 ghost use Rattle.bridge_walks.specs.Walks.{GoesRound};
 ghost use Rattle.bridge_walks.specs.Searching as searching;

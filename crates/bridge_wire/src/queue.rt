@@ -3,7 +3,7 @@ ghost use Rattle.std.specs.Prelude.{◌≡◌, ◌≢◌, ◌≤◌, ◌<◌, �
 ghost use Rattle.bridge_capture.specs.Grammar.{Captured};
 ghost use Rattle.bridge_capture.specs.Reading.{view};
 ghost use Rattle.bridge_capture.specs.Standing.{Gave, IsReading, records_left, StandsFor};
-ghost use Rattle.bridge_port.specs.Standing.{count_queued, State};
+ghost use Rattle.bridge_port.specs.Standing.{count_queued};
 ghost use Rattle.bridge_inputs.specs.Lanes.{IsLane, room as room_ahead};
 ghost use Rattle.bridge_wire.specs.Wire.{IsOfPortOne, Stops, Wires};
 ghost use Rattle.bridge_wire.specs.Sending.{Continues, EndsSo, GoesOn, is_overlong, IsRunning, IsUnderWay, no_count};
@@ -35,10 +35,13 @@ fn take<W: ByteSink, A: Allocator + Copy>(
     requires offered { port.old.offered ≤ count.old.frames }
     requires few { count.old.frames < MAX_RECORDS }
     requires sums { count.old.malformed + count.old.sent + count.old.full ≡ count.old.frames }
-    ensures continues { (room : ℕ) (frames : List Captured) (began : Option (List ℕ)) → IsRunning speed room frames port.old count.old began (W.contents sink.old) → Continues speed room frames (view packet) port.new count.new began (W.contents sink.new) result }
+    ensures continues { (room : ℕ) (frames : List Captured) (began : Option (List ℕ))
+        → IsRunning speed room frames port.old count.old began (W.contents sink.old)
+        → Continues speed room frames (view packet) port.new count.new began (W.contents sink.new) result }
     ensures same { OnOk result ((port.new.speed ≡ speed) × (count_queued is_overlong port.new ≡ 0)) }
     ensures early { OnOk result (port.new.earliest ≤ packet.time) }
-    ensures counts { OnOk result ((count.new.frames ≡ count.old.frames + 1) × (port.new.offered ≤ count.new.frames) × (count.new.malformed + count.new.sent + count.new.full ≡ count.new.frames)) }
+    ensures counts { OnOk result ((count.new.frames ≡ count.old.frames + 1) × (port.new.offered ≤ count.new.frames)
+        × (count.new.malformed + count.new.sent + count.new.full ≡ count.new.frames)) }
     ensures only { OnErr result (result ≡ Err (RunFault.Write 1)) }
     ensures fails { OnErr result (W.has_failed sink.new ≡ true) }
     ensures sound { W.never_fails sink.old ≡ true → OnErr result (W.ran_out sink.new ≡ true) }
@@ -91,18 +94,27 @@ fn take_next<R: ByteSource, W: ByteSink, A: Allocator + Copy>(
     requires sums { count.old.malformed + count.old.sent + count.old.full ≡ count.old.frames }
     requires reading { IsReading lane.old.capture }
     requires latest { lane.old.capture.latest ≡ packet.time }
-    ensures goes { (room : ℕ) (text : List ℕ) (frames : List Captured) (began : Option (List ℕ)) → StandsFor lane.old.capture (R.remaining source.old) text (frames ++ view packet ∷ []) → Gave text (frames ++ view packet ∷ []) → IsRunning speed room frames port.old count.old began (W.contents sink.old) → GoesOn speed room text (R.remaining source.new) lane.new port.new count.new began (W.contents sink.new) result }
+    ensures goes { (room : ℕ) (text : List ℕ) (frames : List Captured) (began : Option (List ℕ))
+        → StandsFor lane.old.capture (R.remaining source.old) text (frames ++ view packet ∷ [])
+        → Gave text (frames ++ view packet ∷ [])
+        → IsRunning speed room frames port.old count.old began (W.contents sink.old)
+        → GoesOn speed room text (R.remaining source.new) lane.new port.new count.new began
+        (W.contents sink.new) result }
     ensures same { OnOk result ((port.new.speed ≡ speed) × (count_queued is_overlong port.new ≡ 0)) }
     ensures lane { OnOk result (IsLane lane.new) }
     ensures onward { OnOk result ((p : Packet A) → lane.new.ahead ≡ Some p → port.new.earliest ≤ p.time) }
     ensures fewer { OnOk result (room_ahead lane.new ≤ records_left lane.old.capture) }
-    ensures counts { OnOk result ((count.new.frames ≡ count.old.frames + 1) × (port.new.offered ≤ count.new.frames) × (count.new.malformed + count.new.sent + count.new.full ≡ count.new.frames)) }
+    ensures counts { OnOk result ((count.new.frames ≡ count.old.frames + 1) × (port.new.offered ≤ count.new.frames)
+        × (count.new.malformed + count.new.sent + count.new.full ≡ count.new.frames)) }
     ensures one { IfErr result IsOfPortOne }
-    ensures read { (number : ℕ) → result ≡ Err (RunFault.Capture number CaptureFault.Read) → R.has_failed source.new ≡ true }
-    ensures sure { (number : ℕ) → R.never_fails source.old ≡ true → result ≢ Err (RunFault.Capture number CaptureFault.Read) }
+    ensures read { (number : ℕ) → result ≡ Err (RunFault.Capture number CaptureFault.Read)
+        → R.has_failed source.new ≡ true }
+    ensures sure { (number : ℕ) → R.never_fails source.old ≡ true
+        → result ≢ Err (RunFault.Capture number CaptureFault.Read) }
     ensures lasts { R.never_fails source.old ≡ true → R.never_fails source.new ≡ true }
     ensures write { (number : ℕ) → result ≡ Err (RunFault.Write number) → W.has_failed sink.new ≡ true }
-    ensures sound { (number : ℕ) → W.never_fails sink.old ≡ true → result ≡ Err (RunFault.Write number) → W.ran_out sink.new ≡ true }
+    ensures sound { (number : ℕ) → W.never_fails sink.old ≡ true → result ≡ Err (RunFault.Write number)
+        → W.ran_out sink.new ≡ true }
     ensures holds { W.never_fails sink.old ≡ true → W.never_fails sink.new ≡ true }
 {
     if let Err(fault) = take(speed, port, writer, sink, count, packet, spares) {
@@ -129,14 +141,19 @@ fn run_through<R: ByteSource, W: ByteSink, A: Allocator + Copy>(
     requires within { count_queued is_overlong port.old ≡ 0 }
     requires lane { IsLane lane.old }
     requires few { room_ahead lane.old ≤ MAX_RECORDS }
-    ensures ends { (room : ℕ) (text : List ℕ) (began : Option (List ℕ)) → IsUnderWay speed room text (R.remaining source.old) lane.old port.old no_count began (W.contents sink.old) → EndsSo speed room text (R.remaining source.new) began (W.contents sink.new) result }
+    ensures ends { (room : ℕ) (text : List ℕ) (began : Option (List ℕ))
+        → IsUnderWay speed room text (R.remaining source.old) lane.old port.old no_count began (W.contents sink.old)
+        → EndsSo speed room text (R.remaining source.new) began (W.contents sink.new) result }
     ensures sums { IfOk result (λ count. count.malformed + count.sent + count.full ≡ count.frames) }
     ensures few { IfOk result (λ count. count.frames ≤ MAX_RECORDS) }
     ensures one { IfErr result IsOfPortOne }
-    ensures read { (number : ℕ) → result ≡ Err (RunFault.Capture number CaptureFault.Read) → R.has_failed source.new ≡ true }
-    ensures sure { (number : ℕ) → R.never_fails source.old ≡ true → result ≢ Err (RunFault.Capture number CaptureFault.Read) }
+    ensures read { (number : ℕ) → result ≡ Err (RunFault.Capture number CaptureFault.Read)
+        → R.has_failed source.new ≡ true }
+    ensures sure { (number : ℕ) → R.never_fails source.old ≡ true
+        → result ≢ Err (RunFault.Capture number CaptureFault.Read) }
     ensures write { (number : ℕ) → result ≡ Err (RunFault.Write number) → W.has_failed sink.new ≡ true }
-    ensures sound { (number : ℕ) → W.never_fails sink.old ≡ true → result ≡ Err (RunFault.Write number) → W.ran_out sink.new ≡ true }
+    ensures sound { (number : ℕ) → W.never_fails sink.old ≡ true → result ≡ Err (RunFault.Write number)
+        → W.ran_out sink.new ≡ true }
 {
     let mut count = WireCount {
         frames: 0,
@@ -172,7 +189,8 @@ pub fn wire<R: ByteSource, W: ByteSink, A: Allocator + Copy>(
     sink: &mut W,
 ) -> Result<WireCount, RunFault>
     requires room { (1 ≤ room) × (room ≤ LARGEST_ROOM) }
-    ensures ok { (text : List ℕ) → R.remaining source.old ≡ Some text → IfOk result (Wires speed room text (W.contents sink.old) (W.contents sink.new)) }
+    ensures ok { (text : List ℕ) → R.remaining source.old ≡ Some text
+        → IfOk result (Wires speed room text (W.contents sink.old) (W.contents sink.new)) }
     ensures err { (text : List ℕ) → R.remaining source.old ≡ Some text →
         IfErr result (Stops speed room text (R.remaining source.new) (W.contents sink.old) (W.contents sink.new)) }
 
@@ -180,10 +198,13 @@ pub fn wire<R: ByteSource, W: ByteSink, A: Allocator + Copy>(
     ensures sums { IfOk result (λ count. count.malformed + count.sent + count.full ≡ count.frames) }
     ensures few { IfOk result (λ count. count.frames ≤ MAX_RECORDS) }
     ensures one { IfErr result IsOfPortOne }
-    ensures read { (port : ℕ) → result ≡ Err (RunFault.Capture port CaptureFault.Read) → R.has_failed source.new ≡ true }
-    ensures sure { (port : ℕ) → R.never_fails source.old ≡ true → result ≢ Err (RunFault.Capture port CaptureFault.Read) }
+    ensures read { (port : ℕ) → result ≡ Err (RunFault.Capture port CaptureFault.Read)
+        → R.has_failed source.new ≡ true }
+    ensures sure { (port : ℕ) → R.never_fails source.old ≡ true
+        → result ≢ Err (RunFault.Capture port CaptureFault.Read) }
     ensures write { (port : ℕ) → result ≡ Err (RunFault.Write port) → W.has_failed sink.new ≡ true }
-    ensures sound { (port : ℕ) → W.never_fails sink.old ≡ true → result ≡ Err (RunFault.Write port) → W.ran_out sink.new ≡ true }
+    ensures sound { (port : ℕ) → W.never_fails sink.old ≡ true → result ≡ Err (RunFault.Write port)
+        → W.ran_out sink.new ≡ true }
 {
     let mut lane = match CaptureReader::begin(alloc, 1, source) {
         Ok(lane) => lane,

@@ -1,7 +1,7 @@
 //! Frames that leave a port, into a capture.
-ghost use Rattle.std.specs.Prelude.{◌≡◌, ◌≤◌, ◌<◌, ◌+◌, ℕ, Bool, true, Some, Err, List, Option, OnOk, OnErr, Vec};
+ghost use Rattle.std.specs.Prelude.{◌≡◌, ◌≤◌, ◌<◌, ◌+◌, ℕ, true, Some, Err, List, Option, OnOk, OnErr, Vec};
 ghost use Rattle.bridge_capture.specs.Grammar.{Captured};
-ghost use Rattle.bridge_port.specs.Standing.{count_queued, IsDue, NoStartBefore, State};
+ghost use Rattle.bridge_port.specs.Standing.{count_queued, IsDue, NoStartBefore};
 ghost use Rattle.bridge_wire.specs.Wire.{Offer};
 ghost use Rattle.bridge_wire.specs.Sending.{Goes, is_overlong, NotBefore, Sends};
 
@@ -20,8 +20,10 @@ pub fn depart<W: ByteSink, A: Allocator + Copy>(
 ) -> Result<(), RunFault>
     requires due { (k : ℕ) × IsDue port.old (Some k) }
     requires within { count_queued is_overlong port.old ≡ 0 }
-    ensures goes { (offers : List Offer) (sent full : ℕ) (left : List Captured) → Sends port.old offers sent full left → Goes port.new offers sent full left (W.contents sink.old) (W.contents sink.new) result }
-    ensures same { (port.new.list ≡ port.old.list) × (port.new.speed ≡ port.old.speed) × (port.new.rooms ≡ port.old.rooms) × (port.new.offered ≡ port.old.offered) }
+    ensures goes { (offers : List Offer) (sent full : ℕ) (left : List Captured) → Sends port.old offers sent full left
+        → Goes port.new offers sent full left (W.contents sink.old) (W.contents sink.new) result }
+    ensures same { (port.new.list ≡ port.old.list) × (port.new.speed ≡ port.old.speed)
+        × (port.new.rooms ≡ port.old.rooms) × (port.new.offered ≡ port.old.offered) }
     ensures within { count_queued is_overlong port.new ≡ 0 }
     ensures fewer { count_queued (λ x. true) port.new < count_queued (λ x. true) port.old }
     ensures moment { (k : ℕ) → IsDue port.old (Some k) → port.new.earliest ≡ k + 1 }
@@ -52,8 +54,10 @@ pub fn depart_before<W: ByteSink, A: Allocator + Copy>(
     spares: &mut Spares<A>,
 ) -> Result<(), RunFault>
     requires within { count_queued is_overlong port.old ≡ 0 }
-    ensures goes { (offers : List Offer) (sent full : ℕ) (left : List Captured) → Sends port.old offers sent full left → Goes port.new offers sent full left (W.contents sink.old) (W.contents sink.new) result }
-    ensures same { (port.new.list ≡ port.old.list) × (port.new.speed ≡ port.old.speed) × (port.new.rooms ≡ port.old.rooms) × (port.new.offered ≡ port.old.offered) }
+    ensures goes { (offers : List Offer) (sent full : ℕ) (left : List Captured) → Sends port.old offers sent full left
+        → Goes port.new offers sent full left (W.contents sink.old) (W.contents sink.new) result }
+    ensures same { (port.new.list ≡ port.old.list) × (port.new.speed ≡ port.old.speed)
+        × (port.new.rooms ≡ port.old.rooms) × (port.new.offered ≡ port.old.offered) }
     ensures within { count_queued is_overlong port.new ≡ 0 }
     ensures earliest { port.old.earliest ≤ t → port.new.earliest ≤ t }
     ensures due { OnOk result ((next : Option ℕ) × IsDue port.new next × NotBefore t next) }

@@ -1,6 +1,6 @@
 #![tactic(auto)]
 //! A bridge for tests, to which frames and a command come one by one, each call with what it tells afterwards tested.
-ghost use Rattle.std.specs.Prelude.{◌≡◌, ℕ, true, Option};
+ghost use Rattle.std.specs.Prelude.{◌≡◌, true, Option};
 ghost use Rattle.bridge_filter.specs.Plans.{is_there};
 ghost use Rattle.bridge_config.specs.Commands.{has_instance};
 ghost use Rattle.bridge_state.specs.Ports.{NotBefore};

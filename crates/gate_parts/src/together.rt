@@ -85,7 +85,8 @@ pub fn go_together<A: Allocator + Copy>(
     gates: &[(u32, GatePlan<A>)],
     meters: &[(u32, MeterPlan)],
 ) -> bool
-    ensures { result ≡ (are_distinct filters.now && are_distinct gates.now && are_distinct meters.now && have_instances filters.now gates.now meters.now && all_have_priorities gates.now && all_within_limits meters.now) }
+    ensures { result ≡ (are_distinct filters.now && are_distinct gates.now && are_distinct meters.now && have_instances
+        filters.now gates.now meters.now && all_have_priorities gates.now && all_within_limits meters.now) }
 {
     are_all_distinct(filters)
         & are_all_distinct(gates)

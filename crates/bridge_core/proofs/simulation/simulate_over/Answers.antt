@@ -218,7 +218,7 @@ returns-clause-read g c = λ ports port are e i w at lent.
     let lists = subst (λ z. AreListsOf z c.in-Ok.lists) c.plan.ensures.plan c.in-Ok.ensures in
     let same = one_order p ports c.in-Ok.lists.ports.items are lists.ports ∙ sym c.deref.ensures.value in
     let named = ap numbers c.deref_mut.ensures.value ∙ c.in-Ok-look_at_all.ensures.numbers ∙ sym same in
-    c.in-Err-done.ensures.read port (ap (λ f. Err f) (err_is c.in-Err-done.fault _ e)) i w (subst (λ ns. slice_get ns i ≡ Some port) (sym named) at) lent
+    c.in-Err-done.ensures.devices.read port (ap (λ f. Err f) (err_is c.in-Err-done.fault _ e)) i w (subst (λ ns. slice_get ns i ≡ Some port) (sym named) at) lent
 
 pub returns-clause-wrote : goal.returns-clause-wrote
 returns-clause-wrote g c = λ ports port are e i w at lent.
@@ -226,7 +226,7 @@ returns-clause-wrote g c = λ ports port are e i w at lent.
     let lists = subst (λ z. AreListsOf z c.in-Ok.lists) c.plan.ensures.plan c.in-Ok.ensures in
     let same = one_order p ports c.in-Ok.lists.ports.items are lists.ports ∙ sym c.deref.ensures.value in
     let named = ap numbers c.deref_mut.ensures.value ∙ c.in-Ok-look_at_all.ensures.numbers ∙ sym same in
-    c.in-Err-done.ensures.wrote port (ap (λ f. Err f) (err_is c.in-Err-done.fault _ e)) i w (subst (λ ns. slice_get ns i ≡ Some port) (sym named) at) lent
+    c.in-Err-done.ensures.devices.wrote port (ap (λ f. Err f) (err_is c.in-Err-done.fault _ e)) i w (subst (λ ns. slice_get ns i ≡ Some port) (sym named) at) lent
 
 pub returns-clause-sound : goal.returns-clause-sound
 returns-clause-sound g c = λ ports port are sure e i w at lent.
@@ -234,10 +234,10 @@ returns-clause-sound g c = λ ports port are sure e i w at lent.
     let lists = subst (λ z. AreListsOf z c.in-Ok.lists) c.plan.ensures.plan c.in-Ok.ensures in
     let same = one_order p ports c.in-Ok.lists.ports.items are lists.ports ∙ sym c.deref.ensures.value in
     let named = ap numbers c.deref_mut.ensures.value ∙ c.in-Ok-look_at_all.ensures.numbers ∙ sym same in
-    c.in-Err-done.ensures.sound (c.begin_all.ensures.holds sure) port (ap (λ f. Err f) (err_is c.in-Err-done.fault _ e)) i w (subst (λ ns. slice_get ns i ≡ Some port) (sym named) at) lent
+    c.in-Err-done.ensures.devices.sound (c.begin_all.ensures.holds sure) port (ap (λ f. Err f) (err_is c.in-Err-done.fault _ e)) i w (subst (λ ns. slice_get ns i ≡ Some port) (sym named) at) lent
 
 pub returns-clause-sure : goal.returns-clause-sure
-returns-clause-sure g c = λ sure port e. c.run-done.ensures.sure (c.look_at_all.ensures.lasts sure) port (c.in-Err-done.is ∙ ap Err (err_is _ _ e))
+returns-clause-sure g c = λ sure port e. c.run-done.ensures.devices.sure (c.look_at_all.ensures.lasts sure) port (c.in-Err-done.is ∙ ap Err (err_is _ _ e))
 
 pub returns-in_default-clause-read : goal.returns-in_default-clause-read
 returns-in_default-clause-read g c = λ ports port are e. absurd (memory_read _ _ e)

@@ -25,17 +25,25 @@ returns-in-Err-depart_before-clause-goes g c = λ p texts commanded next olds af
     (c.in-Err-depart_before.ensures.departs p (events v.inputs) olds v.left v.stands
     (written_so g.R.ByteSource.remaining g.W.ByteSink.contents p texts commanded (Some (asked c.args.command)) olds c.take_before.new.relay c.take_before.new.lanes c.take_before.new.sources c.take_before.new.sinks v size (written_numbers c.take_before.new.lines) same))
 
-pub returns-in-Err-depart_before-clause-wrote : goal.returns-in-Err-depart_before-clause-wrote
-returns-in-Err-depart_before-clause-wrote g c = λ port e i w h k. c.in-Err-depart_before.ensures.failed port e i w (subst (λ ns. slice_get ns i ≡ Some port) (sym (c.take_before.ensures.same.2 ∙ c.requires.lines)) h) k
+pub returns-in-Err-depart_before-clause-devices : goal.returns-in-Err-depart_before-clause-devices
+returns-in-Err-depart_before-clause-devices g c = record {
+  read = λ port e. absurd (written_read _ _ _ _ c.in-Err-depart_before.ensures.only.1 e);
+  sure = λ sure port e. written_read _ _ _ _ c.in-Err-depart_before.ensures.only.1 e;
+  lasts = c.take_before.ensures.devices.lasts;
+  wrote = λ port e i w h k. c.in-Err-depart_before.ensures.failed port e i w (subst (λ ns. slice_get ns i ≡ Some port) (sym (c.take_before.ensures.same.2 ∙ c.requires.lines)) h) k;
+  sound = λ sure port e i w h k. c.in-Err-depart_before.ensures.sound (c.take_before.ensures.devices.holds sure) port e i w (subst (λ ns. slice_get ns i ≡ Some port) (sym (c.take_before.ensures.same.2 ∙ c.requires.lines)) h) k;
+  holds = λ sure. c.depart_before.ensures.holds (c.take_before.ensures.devices.holds sure);
+}
 
-pub returns-in-Err-depart_before-clause-sound : goal.returns-in-Err-depart_before-clause-sound
-returns-in-Err-depart_before-clause-sound g c = λ sure port e i w h k. c.in-Err-depart_before.ensures.sound (c.take_before.ensures.holds sure) port e i w (subst (λ ns. slice_get ns i ≡ Some port) (sym (c.take_before.ensures.same.2 ∙ c.requires.lines)) h) k
-
-pub returns-in-Err-depart_before-clause-holds : goal.returns-in-Err-depart_before-clause-holds
-returns-in-Err-depart_before-clause-holds g c = λ sure. c.depart_before.ensures.holds (c.take_before.ensures.holds sure)
-
-pub returns-clause-holds : goal.returns-clause-holds
-returns-clause-holds g c = λ sure. c.depart_before.ensures.holds (c.take_before.ensures.holds sure)
+pub returns-clause-devices : goal.returns-clause-devices
+returns-clause-devices g c = record {
+  read = λ port e. absurd (ok_err _ _ e);
+  sure = λ sure port e. ok_err _ _ e;
+  lasts = c.take_before.ensures.devices.lasts;
+  wrote = λ port e. absurd (ok_err _ _ e);
+  sound = λ sure port e. absurd (ok_err _ _ e);
+  holds = λ sure. c.depart_before.ensures.holds (c.take_before.ensures.devices.holds sure);
+}
 
 pub returns-clause-goes : goal.returns-clause-goes
 returns-clause-goes g c = λ p texts commanded next olds after u.
@@ -79,23 +87,15 @@ take_before-requires-clause-early g c = c.requires.time
 pub returns-in-Err-clause-same : goal.returns-in-Err-clause-same
 returns-in-Err-clause-same g c = c.take_before.ensures.same
 
-pub returns-in-Err-clause-read : goal.returns-in-Err-clause-read
-returns-in-Err-clause-read g c = c.in-Err.ensures.read
-
-pub returns-in-Err-clause-sure : goal.returns-in-Err-clause-sure
-returns-in-Err-clause-sure g c = c.in-Err.ensures.sure
-
-pub returns-in-Err-clause-lasts : goal.returns-in-Err-clause-lasts
-returns-in-Err-clause-lasts g c = c.take_before.ensures.lasts
-
-pub returns-in-Err-clause-wrote : goal.returns-in-Err-clause-wrote
-returns-in-Err-clause-wrote g c = c.in-Err.ensures.wrote
-
-pub returns-in-Err-clause-sound : goal.returns-in-Err-clause-sound
-returns-in-Err-clause-sound g c = c.in-Err.ensures.sound
-
-pub returns-in-Err-clause-holds : goal.returns-in-Err-clause-holds
-returns-in-Err-clause-holds g c = c.take_before.ensures.holds
+pub returns-in-Err-clause-devices : goal.returns-in-Err-clause-devices
+returns-in-Err-clause-devices g c = record {
+  read = c.in-Err.ensures.devices.read;
+  sure = c.in-Err.ensures.devices.sure;
+  lasts = c.take_before.ensures.devices.lasts;
+  wrote = c.in-Err.ensures.devices.wrote;
+  sound = c.in-Err.ensures.devices.sound;
+  holds = c.take_before.ensures.devices.holds;
+}
 
 pub depart_before-requires-clause-rises : goal.depart_before-requires-clause-rises
 depart_before-requires-clause-rises g c = subst (Rising (λ a b. a < b)) (sym (c.take_before.ensures.same.2 ∙ c.requires.lines)) c.requires.may.rises
@@ -109,14 +109,8 @@ depart_before-requires-clause-waits g c = c.in_default.ensures.waits
 pub returns-in-Err-depart_before-clause-same : goal.returns-in-Err-depart_before-clause-same
 returns-in-Err-depart_before-clause-same g c = let z = c.take_before.ensures.same in (c.depart_before.ensures.same.0 ∙ z.0, z.1, c.depart_before.ensures.numbers ∙ z.2)
 
-pub returns-in-Err-depart_before-clause-lasts : goal.returns-in-Err-depart_before-clause-lasts
-returns-in-Err-depart_before-clause-lasts g c = c.take_before.ensures.lasts
-
 pub returns-clause-same : goal.returns-clause-same
 returns-clause-same g c = let z = c.take_before.ensures.same in (c.clear.ensures.moved.2 ∙ c.depart_before.ensures.same.0 ∙ z.0, z.1, c.depart_before.ensures.numbers ∙ z.2)
-
-pub returns-clause-lasts : goal.returns-clause-lasts
-returns-clause-lasts g c = c.take_before.ensures.lasts
 
 pub returns-clause-moved : goal.returns-clause-moved
 returns-clause-moved g c = c.clear.ensures.moved.0
@@ -129,21 +123,3 @@ clear-requires-clause-instance g c = subst (λ p. IsTrue (has_instance p c.args.
 
 pub depart_before-requires-clause-size : goal.depart_before-requires-clause-size
 depart_before-requires-clause-size g c = let s = c.take_before.auto.sinks in let l = c.take_before.auto.lines in let asked = c.requires.sinks in omega (arith, s, l, asked)
-
-pub returns-in-Err-depart_before-clause-read : goal.returns-in-Err-depart_before-clause-read
-returns-in-Err-depart_before-clause-read g c = λ port e. absurd (written_read _ _ _ _ c.in-Err-depart_before.ensures.only.1 e)
-
-pub returns-in-Err-depart_before-clause-sure : goal.returns-in-Err-depart_before-clause-sure
-returns-in-Err-depart_before-clause-sure g c = λ sure port e. written_read _ _ _ _ c.in-Err-depart_before.ensures.only.1 e
-
-pub returns-clause-read : goal.returns-clause-read
-returns-clause-read g c = λ port e. absurd (ok_err _ _ e)
-
-pub returns-clause-sure : goal.returns-clause-sure
-returns-clause-sure g c = λ sure port e. ok_err _ _ e
-
-pub returns-clause-wrote : goal.returns-clause-wrote
-returns-clause-wrote g c = λ port e. absurd (ok_err _ _ e)
-
-pub returns-clause-sound : goal.returns-clause-sound
-returns-clause-sound g c = λ sure port e. absurd (ok_err _ _ e)

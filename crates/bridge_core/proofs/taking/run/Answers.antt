@@ -23,17 +23,15 @@ returns-in-Err-clause-goes g c = λ p texts olds u rests are.
     stops_at p texts rests c.args.commands.now at _ g.W.ByteSink.contents (numbers c.obey.new.lanes) olds c.obey.new.sinks c.in-Err.fault l
     (c.in-Err.ensures.goes p texts (commands_of (take at c.args.commands.now)) (first_of_commands (drop (at + 1) c.args.commands.now)) olds (next_later c.args.relay.now.plan c.args.commands.now at _ c.requires.commands l) v rests are)
 
-pub returns-in-Err-clause-read : goal.returns-in-Err-clause-read
-returns-in-Err-clause-read g c = λ port e i w k m. c.in-Err.ensures.read port e i w (subst (λ ns. slice_get ns i ≡ Some port) (sym c.loop-command.invariant.numbers) k) m
-
-pub returns-in-Err-clause-sure : goal.returns-in-Err-clause-sure
-returns-in-Err-clause-sure g c = λ sure port e. c.obey.ensures.sure (c.loop-command.invariant.lasts sure) port (c.in-Err.is ∙ e)
-
-pub returns-in-Err-clause-wrote : goal.returns-in-Err-clause-wrote
-returns-in-Err-clause-wrote g c = λ port e i w k m. c.in-Err.ensures.wrote port e i w (subst (λ ns. slice_get ns i ≡ Some port) (sym c.loop-command.invariant.numbers) k) m
-
-pub returns-in-Err-clause-sound : goal.returns-in-Err-clause-sound
-returns-in-Err-clause-sound g c = λ sure port e i w k m. c.in-Err.ensures.sound (c.loop-command.invariant.holds sure) port e i w (subst (λ ns. slice_get ns i ≡ Some port) (sym c.loop-command.invariant.numbers) k) m
+pub returns-in-Err-clause-devices : goal.returns-in-Err-clause-devices
+returns-in-Err-clause-devices g c = record {
+  read = λ port e i w k m. c.in-Err.ensures.devices.read port e i w (subst (λ ns. slice_get ns i ≡ Some port) (sym c.loop-command.invariant.numbers) k) m;
+  sure = λ sure port e. c.obey.ensures.devices.sure (c.loop-command.invariant.lasts sure) port (c.in-Err.is ∙ e);
+  lasts = λ sure. c.obey.ensures.devices.lasts (c.loop-command.invariant.lasts sure);
+  wrote = λ port e i w k m. c.in-Err.ensures.devices.wrote port e i w (subst (λ ns. slice_get ns i ≡ Some port) (sym c.loop-command.invariant.numbers) k) m;
+  sound = λ sure port e i w k m. c.in-Err.ensures.devices.sound (c.loop-command.invariant.holds sure) port e i w (subst (λ ns. slice_get ns i ≡ Some port) (sym c.loop-command.invariant.numbers) k) m;
+  holds = λ sure. c.obey.ensures.devices.holds (c.loop-command.invariant.holds sure);
+}
 
 pub loop-command-preserved : goal.loop-command-preserved
 loop-command-preserved g c =
@@ -50,9 +48,9 @@ loop-command-preserved g c =
       plan = same.0 ∙ i.plan;
       numbers = same.1 ∙ i.numbers;
       written = same.2 ∙ i.written;
-      lasts = λ sure. c.obey.ensures.lasts (i.lasts sure);
+      lasts = λ sure. c.obey.ensures.devices.lasts (i.lasts sure);
       waits = c.in_default.ensures.waits;
-      holds = λ sure. c.obey.ensures.holds (i.holds sure);
+      holds = λ sure. c.obey.ensures.devices.holds (i.holds sure);
       goes = λ p texts olds u.
           let v = subst (λ o. IsUnderWay g.R.ByteSource.remaining g.W.ByteSink.contents p texts (commands_of (take at c.args.commands.now)) o olds c.loop-command.relay c.loop-command.lanes c.loop-command.sources c.loop-command.sinks)
           (first_is c.args.commands.now at _ l) (i.goes p texts olds u) in
@@ -66,22 +64,29 @@ returns-in-Err-take_before-clause-goes g c = λ p texts olds u rests are.
     let v = all_done g.R.ByteSource.remaining g.W.ByteSink.contents p texts c.args.commands.now c.loop-command.command-index olds c.loop-command.relay c.loop-command.lanes c.loop-command.sources c.loop-command.sinks (omega (arith, c.loop-command-test.false)) (i.goes p texts olds u) in
     stops_behind p texts rests c.args.commands.now g.W.ByteSink.contents (numbers c.take_before.new.lanes) olds c.take_before.new.sinks c.in-Err-take_before.fault (c.in-Err-take_before.ensures.goes p texts (commands_of c.args.commands.now) None olds tt v rests are)
 
-pub returns-in-Err-take_before-clause-read : goal.returns-in-Err-take_before-clause-read
-returns-in-Err-take_before-clause-read g c = λ port e i w k m. c.in-Err-take_before.ensures.read port e i w (subst (λ ns. slice_get ns i ≡ Some port) (sym c.loop-command.invariant.numbers) k) m
+pub returns-in-Err-take_before-clause-devices : goal.returns-in-Err-take_before-clause-devices
+returns-in-Err-take_before-clause-devices g c = record {
+  read = λ port e i w k m. c.in-Err-take_before.ensures.devices.read port e i w (subst (λ ns. slice_get ns i ≡ Some port) (sym c.loop-command.invariant.numbers) k) m;
+  sure = λ sure port e. c.take_before.ensures.devices.sure (c.loop-command.invariant.lasts sure) port (c.in-Err-take_before.is ∙ e);
+  lasts = λ sure. c.take_before.ensures.devices.lasts (c.loop-command.invariant.lasts sure);
+  wrote = λ port e i w k m. c.in-Err-take_before.ensures.devices.wrote port e i w (subst (λ ns. slice_get ns i ≡ Some port) (sym c.loop-command.invariant.numbers) k) m;
+  sound = λ sure port e i w k m. c.in-Err-take_before.ensures.devices.sound (c.loop-command.invariant.holds sure) port e i w (subst (λ ns. slice_get ns i ≡ Some port) (sym c.loop-command.invariant.numbers) k) m;
+  holds = λ sure. c.take_before.ensures.devices.holds (c.loop-command.invariant.holds sure);
+}
 
-pub returns-in-Err-take_before-clause-sure : goal.returns-in-Err-take_before-clause-sure
-returns-in-Err-take_before-clause-sure g c = λ sure port e. c.take_before.ensures.sure (c.loop-command.invariant.lasts sure) port (c.in-Err-take_before.is ∙ e)
-
-pub returns-in-Err-take_before-clause-wrote : goal.returns-in-Err-take_before-clause-wrote
-returns-in-Err-take_before-clause-wrote g c = λ port e i w k m. c.in-Err-take_before.ensures.wrote port e i w (subst (λ ns. slice_get ns i ≡ Some port) (sym c.loop-command.invariant.numbers) k) m
-
-pub returns-in-Err-take_before-clause-sound : goal.returns-in-Err-take_before-clause-sound
-returns-in-Err-take_before-clause-sound g c = λ sure port e i w k m. c.in-Err-take_before.ensures.sound (c.loop-command.invariant.holds sure) port e i w (subst (λ ns. slice_get ns i ≡ Some port) (sym c.loop-command.invariant.numbers) k) m
-
-pub returns-clause-sound : goal.returns-clause-sound
-returns-clause-sound g c = λ sure port e i w k m.
-    let v = c.loop-command.invariant in
-    c.depart_before.ensures.sound (c.take_before.ensures.holds (v.holds sure)) port e i w (subst (λ ns. slice_get ns i ≡ Some port) (sym (c.take_before.ensures.same.2 ∙ v.lines ∙ v.numbers)) k) m
+pub returns-clause-devices : goal.returns-clause-devices
+returns-clause-devices g c = record {
+  read = λ port e. absurd (only_read c.depart_before.result port _ c.depart_before.ensures.only e);
+  sure = λ sure port e. only_read c.depart_before.result port _ c.depart_before.ensures.only e;
+  lasts = λ sure. c.take_before.ensures.devices.lasts (c.loop-command.invariant.lasts sure);
+  wrote = λ port e i w k m.
+      let v = c.loop-command.invariant in
+      c.depart_before.ensures.failed port e i w (subst (λ ns. slice_get ns i ≡ Some port) (sym (c.take_before.ensures.same.2 ∙ v.lines ∙ v.numbers)) k) m;
+  sound = λ sure port e i w k m.
+      let v = c.loop-command.invariant in
+      c.depart_before.ensures.sound (c.take_before.ensures.devices.holds (v.holds sure)) port e i w (subst (λ ns. slice_get ns i ≡ Some port) (sym (c.take_before.ensures.same.2 ∙ v.lines ∙ v.numbers)) k) m;
+  holds = λ sure. c.depart_before.ensures.holds (c.take_before.ensures.devices.holds (c.loop-command.invariant.holds sure));
+}
 
 pub returns-clause-goes : goal.returns-clause-goes
 returns-clause-goes g c = λ p texts olds u.
@@ -96,11 +101,6 @@ returns-clause-goes g c = λ p texts olds u.
 
 pub returns-clause-idle : goal.returns-clause-idle
 returns-clause-idle g c = idle_at _ c.depart_before.result c.depart_before.ensures.idle
-
-pub returns-clause-wrote : goal.returns-clause-wrote
-returns-clause-wrote g c = λ port e i w k m.
-    let v = c.loop-command.invariant in
-    c.depart_before.ensures.failed port e i w (subst (λ ns. slice_get ns i ≡ Some port) (sym (c.take_before.ensures.same.2 ∙ v.lines ∙ v.numbers)) k) m
 
 pub loop-command-init : goal.loop-command-init
 loop-command-init g c = record {
@@ -170,12 +170,6 @@ obey-requires-clause-time g c =
 
 pub depart_before-requires-clause-early : goal.depart_before-requires-clause-early
 depart_before-requires-clause-early g c = tt
-
-pub returns-clause-read : goal.returns-clause-read
-returns-clause-read g c = λ port e. absurd (only_read c.depart_before.result port _ c.depart_before.ensures.only e)
-
-pub returns-clause-sure : goal.returns-clause-sure
-returns-clause-sure g c = λ sure port e. only_read c.depart_before.result port _ c.depart_before.ensures.only e
 
 pub depart_before-requires-clause-size : goal.depart_before-requires-clause-size
 depart_before-requires-clause-size g c = let s = c.take_before.auto.sinks in let l = c.take_before.auto.lines in let was = c.loop-command.invariant.sinks in omega (arith, s, l, was)

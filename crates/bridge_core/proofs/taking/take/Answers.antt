@@ -33,11 +33,15 @@ returns-in-Err-clause-goes g c = λ p texts commanded next olds before u rests a
 pub returns-in-Err-clause-same : goal.returns-in-Err-clause-same
 returns-in-Err-clause-same g c = (c.depart_before.ensures.same.0, numbers_given c.args.lanes.now c.give-number.new.lanes c.args.place c.give-number.result c.give-number.ensures.given, c.depart_before.ensures.numbers)
 
-pub returns-in-Err-clause-wrote : goal.returns-in-Err-clause-wrote
-returns-in-Err-clause-wrote g c = λ port e i w h k. c.in-Err.ensures.failed port e i w (subst (λ ns. slice_get ns i ≡ Some port) (sym c.requires.lines) h) k
-
-pub returns-in-Err-clause-sound : goal.returns-in-Err-clause-sound
-returns-in-Err-clause-sound g c = λ sure port e i w h k. c.in-Err.ensures.sound sure port e i w (subst (λ ns. slice_get ns i ≡ Some port) (sym c.requires.lines) h) k
+pub returns-in-Err-clause-devices : goal.returns-in-Err-clause-devices
+returns-in-Err-clause-devices g c = record {
+  read = λ port e. absurd (written_read _ _ _ _ c.in-Err.ensures.only.1 e);
+  sure = λ sure port e. written_read _ _ _ _ c.in-Err.ensures.only.1 e;
+  lasts = λ sure. sure;
+  wrote = λ port e i w h k. c.in-Err.ensures.failed port e i w (subst (λ ns. slice_get ns i ≡ Some port) (sym c.requires.lines) h) k;
+  sound = λ sure port e i w h k. c.in-Err.ensures.sound sure port e i w (subst (λ ns. slice_get ns i ≡ Some port) (sym c.requires.lines) h) k;
+  holds = c.depart_before.ensures.holds;
+}
 
 pub arrive-requires-clause-known : goal.arrive-requires-clause-known
 arrive-requires-clause-known g c = port_known c.args.relay.now c.depart_before.new.relay c.args.lanes.now c.give-number.new.lanes c.args.place c.give-number.result c.requires.may c.give-number.ensures.given c.depart_before.ensures.same.0
@@ -146,13 +150,22 @@ returns-in-Err-look_at-clause-same g c =
     let r = renewed g.R.ByteSource.remaining c.args.lanes.now c.give-number.new.lanes c.look_at.new.lanes c.args.sources.now c.look_at.new.sources c.args.place c.give-number.result (Err c.in-Err-look_at.fault) h c.in-Err-look_at.ensures.looked in
     (c.in-Ok.ensures.moved.2 ∙ c.depart_before.ensures.same.0, numbers_renewed g.R.ByteSource.remaining h.lane c.args.lanes.now c.look_at.new.lanes c.args.sources.now c.look_at.new.sources c.args.place (Err c.in-Err-look_at.fault) h.there r, c.depart_before.ensures.numbers)
 
-pub returns-in-Err-look_at-clause-read : goal.returns-in-Err-look_at-clause-read
-returns-in-Err-look_at-clause-read g c = λ port e i w k m.
-    let h = c.give-number.ensures.given in
-    let z = read_at c.give-number.result.0 port c.in-Err-look_at.fault (sym c.fault_of.ensures ∙ err_is _ _ e) in
-    let here : slice_get (numbers c.args.lanes.now) c.args.place ≡ Some port = number_at c.args.lanes.now c.args.place h.lane h.there ∙ ap (λ n. Some n) (h.number ∙ sym z.1) in
-    let same = one_place c.args.lanes.now i c.args.place port c.requires.may.rises k here in
-    c.in-Err-look_at.ensures.read (ap (λ f. Err f) z.0) w (subst (λ n. slice_get c.look_at.new.sources n ≡ Some w) same m)
+pub returns-in-Err-look_at-clause-devices : goal.returns-in-Err-look_at-clause-devices
+returns-in-Err-look_at-clause-devices g c = record {
+  read = λ port e i w k m.
+      let h = c.give-number.ensures.given in
+      let z = read_at c.give-number.result.0 port c.in-Err-look_at.fault (sym c.fault_of.ensures ∙ err_is _ _ e) in
+      let here : slice_get (numbers c.args.lanes.now) c.args.place ≡ Some port = number_at c.args.lanes.now c.args.place h.lane h.there ∙ ap (λ n. Some n) (h.number ∙ sym z.1) in
+      let same = one_place c.args.lanes.now i c.args.place port c.requires.may.rises k here in
+      c.in-Err-look_at.ensures.read (ap (λ f. Err f) z.0) w (subst (λ n. slice_get c.look_at.new.sources n ≡ Some w) same m);
+  sure = λ sure port e.
+      let z = read_at c.give-number.result.0 port c.in-Err-look_at.fault (sym c.fault_of.ensures ∙ err_is _ _ e) in
+      c.in-Err-look_at.ensures.sure sure (ap (λ f. Err f) z.0);
+  lasts = c.look_at.ensures.lasts;
+  wrote = λ port e. absurd (at_written c.give-number.result.0 port c.in-Err-look_at.fault (ap (λ f. Err f) (sym c.fault_of.ensures) ∙ e));
+  sound = λ sure port e. absurd (at_written c.give-number.result.0 port c.in-Err-look_at.fault (ap (λ f. Err f) (sym c.fault_of.ensures) ∙ e));
+  holds = c.depart_before.ensures.holds;
+}
 
 pub depart_before-requires-clause-size : goal.depart_before-requires-clause-size
 depart_before-requires-clause-size g c = c.requires.sinks
@@ -160,29 +173,18 @@ depart_before-requires-clause-size g c = c.requires.sinks
 pub depart_before-requires-clause-waits : goal.depart_before-requires-clause-waits
 depart_before-requires-clause-waits g c = c.requires.waits
 
-pub returns-in-Err-clause-read : goal.returns-in-Err-clause-read
-returns-in-Err-clause-read g c = λ port e. absurd (written_read _ _ _ _ c.in-Err.ensures.only.1 e)
-
-pub returns-in-Err-clause-sure : goal.returns-in-Err-clause-sure
-returns-in-Err-clause-sure g c = λ sure port e. written_read _ _ _ _ c.in-Err.ensures.only.1 e
-
 pub arrive-requires-clause-due : goal.arrive-requires-clause-due
 arrive-requires-clause-due g c = c.in_default.ensures.waits
 
-pub returns-in-Err-arrive-clause-read : goal.returns-in-Err-arrive-clause-read
-returns-in-Err-arrive-clause-read g c = λ port e. absurd (memory_read _ _ e)
-
-pub returns-in-Err-arrive-clause-sure : goal.returns-in-Err-arrive-clause-sure
-returns-in-Err-arrive-clause-sure g c = λ sure port e. memory_read _ _ e
-
-pub returns-in-Err-arrive-clause-holds : goal.returns-in-Err-arrive-clause-holds
-returns-in-Err-arrive-clause-holds g c = c.depart_before.ensures.holds
-
-pub returns-in-Err-arrive-clause-wrote : goal.returns-in-Err-arrive-clause-wrote
-returns-in-Err-arrive-clause-wrote g c = λ port e. absurd (memory_written _ e)
-
-pub returns-in-Err-arrive-clause-sound : goal.returns-in-Err-arrive-clause-sound
-returns-in-Err-arrive-clause-sound g c = λ sure port e. absurd (memory_written _ e)
+pub returns-in-Err-arrive-clause-devices : goal.returns-in-Err-arrive-clause-devices
+returns-in-Err-arrive-clause-devices g c = record {
+  read = λ port e. absurd (memory_read _ _ e);
+  sure = λ sure port e. memory_read _ _ e;
+  lasts = λ sure. sure;
+  wrote = λ port e. absurd (memory_written _ e);
+  sound = λ sure port e. absurd (memory_written _ e);
+  holds = c.depart_before.ensures.holds;
+}
 
 pub returns-in-Ok-look_at-clause-moved : goal.returns-in-Ok-look_at-clause-moved
 returns-in-Ok-look_at-clause-moved g c = λ l p there ahead.
@@ -191,37 +193,12 @@ returns-in-Ok-look_at-clause-moved g c = λ l p there ahead.
     let one : c.give-number.result.1 ≡ p = same_Some c.give-number.result.1 p (sym h.ahead ∙ same ∙ ahead) in
     subst (λ q. c.arrive.new.self.earliest ≡ q.time) one c.in-Ok.ensures.moved.1
 
-pub returns-in-Ok-look_at-clause-read : goal.returns-in-Ok-look_at-clause-read
-returns-in-Ok-look_at-clause-read g c = λ port e. absurd (ok_err _ _ e)
-
-pub returns-in-Ok-look_at-clause-sure : goal.returns-in-Ok-look_at-clause-sure
-returns-in-Ok-look_at-clause-sure g c = λ sure port e. ok_err _ _ e
-
-pub returns-in-Ok-look_at-clause-lasts : goal.returns-in-Ok-look_at-clause-lasts
-returns-in-Ok-look_at-clause-lasts g c = c.look_at.ensures.lasts
-
-pub returns-in-Ok-look_at-clause-wrote : goal.returns-in-Ok-look_at-clause-wrote
-returns-in-Ok-look_at-clause-wrote g c = λ port e. absurd (ok_err _ _ e)
-
-pub returns-in-Ok-look_at-clause-sound : goal.returns-in-Ok-look_at-clause-sound
-returns-in-Ok-look_at-clause-sound g c = λ sure port e. absurd (ok_err _ _ e)
-
-pub returns-in-Ok-look_at-clause-holds : goal.returns-in-Ok-look_at-clause-holds
-returns-in-Ok-look_at-clause-holds g c = c.depart_before.ensures.holds
-
-pub returns-in-Err-look_at-clause-sure : goal.returns-in-Err-look_at-clause-sure
-returns-in-Err-look_at-clause-sure g c = λ sure port e.
-    let z = read_at c.give-number.result.0 port c.in-Err-look_at.fault (sym c.fault_of.ensures ∙ err_is _ _ e) in
-    c.in-Err-look_at.ensures.sure sure (ap (λ f. Err f) z.0)
-
-pub returns-in-Err-look_at-clause-lasts : goal.returns-in-Err-look_at-clause-lasts
-returns-in-Err-look_at-clause-lasts g c = c.look_at.ensures.lasts
-
-pub returns-in-Err-look_at-clause-wrote : goal.returns-in-Err-look_at-clause-wrote
-returns-in-Err-look_at-clause-wrote g c = λ port e. absurd (at_written c.give-number.result.0 port c.in-Err-look_at.fault (ap (λ f. Err f) (sym c.fault_of.ensures) ∙ e))
-
-pub returns-in-Err-look_at-clause-sound : goal.returns-in-Err-look_at-clause-sound
-returns-in-Err-look_at-clause-sound g c = λ sure port e. absurd (at_written c.give-number.result.0 port c.in-Err-look_at.fault (ap (λ f. Err f) (sym c.fault_of.ensures) ∙ e))
-
-pub returns-in-Err-look_at-clause-holds : goal.returns-in-Err-look_at-clause-holds
-returns-in-Err-look_at-clause-holds g c = c.depart_before.ensures.holds
+pub returns-in-Ok-look_at-clause-devices : goal.returns-in-Ok-look_at-clause-devices
+returns-in-Ok-look_at-clause-devices g c = record {
+  read = λ port e. absurd (ok_err _ _ e);
+  sure = λ sure port e. ok_err _ _ e;
+  lasts = c.look_at.ensures.lasts;
+  wrote = λ port e. absurd (ok_err _ _ e);
+  sound = λ sure port e. absurd (ok_err _ _ e);
+  holds = c.depart_before.ensures.holds;
+}

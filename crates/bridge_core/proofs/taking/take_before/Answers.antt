@@ -1,4 +1,5 @@
 use Rattle.std.proofs.Common.{◌≡◌, arith, refl, sym, subst, ◌∙◌, Some, slice_get}
+use Rattle.bridge_core.proofs.Faults.{ok_err}
 use Rattle.bridge_core.proofs.Steps.{before_next, early_next}
 use Rattle.bridge_inputs.specs.Lanes.{numbers}
 use Rattle.bridge_core.proofs.taking.take_before.Goals as goal
@@ -17,26 +18,24 @@ loop-place-preserved g c =
       plan = same.0 ∙ i.plan;
       numbers = same.1 ∙ i.numbers;
       written = same.2 ∙ i.written;
-      lasts = λ sure. c.take.ensures.lasts (i.lasts sure);
+      lasts = λ sure. c.take.ensures.devices.lasts (i.lasts sure);
       waits = c.in_default-take.ensures.waits;
-      holds = λ sure. c.take.ensures.holds (i.holds sure);
+      holds = λ sure. c.take.ensures.devices.holds (i.holds sure);
       goes = λ p texts commanded next olds now u. c.in_default-take.ensures.goes p texts commanded next olds (before_next c.args.until next c.loop-place.lanes c.in-Some.place now c.in-Some.ensures.before) (i.goes p texts commanded next olds now u);
     }
 
 pub returns-in-Err-clause-goes : goal.returns-in-Err-clause-goes
 returns-in-Err-clause-goes g c = λ p texts commanded next olds now u. c.in-Err.ensures.goes p texts commanded next olds (before_next c.args.until next c.loop-place.lanes c.in-Some.place now c.in-Some.ensures.before) (c.loop-place.invariant.goes p texts commanded next olds now u)
 
-pub returns-in-Err-clause-read : goal.returns-in-Err-clause-read
-returns-in-Err-clause-read g c = λ port e i w k m. c.in-Err.ensures.read port e i w (subst (λ ns. slice_get ns i ≡ Some port) (sym c.loop-place.invariant.numbers) k) m
-
-pub returns-in-Err-clause-sure : goal.returns-in-Err-clause-sure
-returns-in-Err-clause-sure g c = λ sure port e. c.take.ensures.sure (c.loop-place.invariant.lasts sure) port (c.in-Err.is ∙ e)
-
-pub returns-in-Err-clause-wrote : goal.returns-in-Err-clause-wrote
-returns-in-Err-clause-wrote g c = λ port e i w k m. c.in-Err.ensures.wrote port e i w (subst (λ ns. slice_get ns i ≡ Some port) (sym c.loop-place.invariant.numbers) k) m
-
-pub returns-in-Err-clause-sound : goal.returns-in-Err-clause-sound
-returns-in-Err-clause-sound g c = λ sure port e i w k m. c.in-Err.ensures.sound (c.loop-place.invariant.holds sure) port e i w (subst (λ ns. slice_get ns i ≡ Some port) (sym c.loop-place.invariant.numbers) k) m
+pub returns-in-Err-clause-devices : goal.returns-in-Err-clause-devices
+returns-in-Err-clause-devices g c = record {
+  read = λ port e i w k m. c.in-Err.ensures.devices.read port e i w (subst (λ ns. slice_get ns i ≡ Some port) (sym c.loop-place.invariant.numbers) k) m;
+  sure = λ sure port e. c.take.ensures.devices.sure (c.loop-place.invariant.lasts sure) port (c.in-Err.is ∙ e);
+  lasts = λ sure. c.take.ensures.devices.lasts (c.loop-place.invariant.lasts sure);
+  wrote = λ port e i w k m. c.in-Err.ensures.devices.wrote port e i w (subst (λ ns. slice_get ns i ≡ Some port) (sym c.loop-place.invariant.numbers) k) m;
+  sound = λ sure port e i w k m. c.in-Err.ensures.devices.sound (c.loop-place.invariant.holds sure) port e i w (subst (λ ns. slice_get ns i ≡ Some port) (sym c.loop-place.invariant.numbers) k) m;
+  holds = λ sure. c.take.ensures.devices.holds (c.loop-place.invariant.holds sure);
+}
 
 pub returns-clause-later : goal.returns-clause-later
 returns-clause-later g c = c.in_default.ensures.later refl
@@ -68,12 +67,6 @@ loop-place-smaller g c = c.in_default-take.ensures.fewer
 pub returns-in-Err-clause-same : goal.returns-in-Err-clause-same
 returns-in-Err-clause-same g c = let (plan, numbers, written) = c.take.ensures.same in (plan ∙ c.loop-place.invariant.plan, numbers ∙ c.loop-place.invariant.numbers, written ∙ c.loop-place.invariant.written)
 
-pub returns-in-Err-clause-lasts : goal.returns-in-Err-clause-lasts
-returns-in-Err-clause-lasts g c = λ sure. c.take.ensures.lasts (c.loop-place.invariant.lasts sure)
-
-pub returns-in-Err-clause-holds : goal.returns-in-Err-clause-holds
-returns-in-Err-clause-holds g c = λ sure. c.take.ensures.holds (c.loop-place.invariant.holds sure)
-
 pub returns-clause-goes : goal.returns-clause-goes
 returns-clause-goes g c = c.loop-place.invariant.goes
 
@@ -89,8 +82,12 @@ returns-clause-early g c = c.loop-place.invariant.early
 pub returns-clause-same : goal.returns-clause-same
 returns-clause-same g c = (c.loop-place.invariant.plan, c.loop-place.invariant.numbers, c.loop-place.invariant.written)
 
-pub returns-clause-lasts : goal.returns-clause-lasts
-returns-clause-lasts g c = c.loop-place.invariant.lasts
-
-pub returns-clause-holds : goal.returns-clause-holds
-returns-clause-holds g c = c.loop-place.invariant.holds
+pub returns-clause-devices : goal.returns-clause-devices
+returns-clause-devices g c = record {
+  read = λ port e. absurd (ok_err _ _ e);
+  sure = λ sure port e. ok_err _ _ e;
+  lasts = c.loop-place.invariant.lasts;
+  wrote = λ port e. absurd (ok_err _ _ e);
+  sound = λ sure port e. absurd (ok_err _ _ e);
+  holds = c.loop-place.invariant.holds;
+}

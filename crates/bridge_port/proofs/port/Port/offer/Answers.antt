@@ -1,8 +1,8 @@
-use Rattle.std.proofs.Common.{◌≡◌, sym, None, subst, rules, ◌<◌, ◌≤◌}
+use Rattle.std.proofs.Common.{◌≡◌, ◌∙◌, ◌+◌, ap, sym, None, subst, rules, ◌<◌, ◌≤◌}
 use Rattle.std.specs.Prelude.{length, slice_index_or}
 use Rattle.bridge_limits.specs.declared.TheConstants.{MOST_ARRIVALS}
 use Rattle.bridge_frame.specs.Link.{occupied}
-use Rattle.bridge_port.specs.Standing.{State, state, refusal_of, IsKept, queue_of, NoStartBefore}
+use Rattle.bridge_port.specs.Standing.{State, state, refusal_of, IsKept, queue_of, queues_with, NoStartBefore}
 use Rattle.bridge_port.proofs.Keeping.{admitted, kept_offered, offered_stands, offered_counts}
 use Rattle.bridge_port.proofs.Renewing.{heads_offered, heads_refused}
 use Rattle.bridge_port.proofs.port.Port.offer.Goals as goal
@@ -41,10 +41,23 @@ invariant_of-self g c =
     heads_refused p c.args.t f.queued f.fits f.best c.self.invariant (subst E (sym c.self.view_is) c.requires.time.0) (subst N (sym c.self.view_is) c.requires.not_late) c.requires.time.1 (subst Q (sym c.self.view_is) c.requires.few)
 
 pub returns-in-Some-clause-moved : goal.returns-in-Some-clause-moved
-returns-in-Some-clause-moved g c = search rules
+returns-in-Some-clause-moved g c =
+    let now = c.args.self.now in
+    let S : State _ → Type 0 = λ q. c.occupation-occ.result ≡ occupied c.args.item.len q.speed in
+    let exact : c.occupation-occ.result ≡ occupied c.args.item.len now.speed = subst S c.self.view_is c.occupation-occ.ensures.exact in
+    let some = c.in-Some.ensures c.args.item exact in
+    ap (λ (q : State _). record q { earliest = c.args.t; offered = q.offered + 1 }) c.self.view_is
+    ∙ ap (λ r. record now { queues = queues_with r now.queues c.args.class c.args.item; earliest = c.args.t; offered = now.offered + 1 }) some
 
 pub returns-in-None-clause-moved : goal.returns-in-None-clause-moved
-returns-in-None-clause-moved g c = search rules
+returns-in-None-clause-moved g c =
+    let now = c.args.self.now in
+    let S : State _ → Type 0 = λ q. c.occupation-occ.result ≡ occupied c.args.item.len q.speed in
+    let exact : c.occupation-occ.result ≡ occupied c.args.item.len now.speed = subst S c.self.view_is c.occupation-occ.ensures.exact in
+    let none = c.in-None.ensures c.args.item exact in
+    rw (c.with_item-self-inside.ensures.same, c.push_at.ensures.queues, c.push_at.ensures.rooms)
+    (ap (λ (q : State _). record q { queues = queues_with None q.queues c.args.class c.args.item; earliest = c.args.t; offered = q.offered + 1 }) c.self.view_is
+    ∙ ap (λ r. record now { queues = queues_with r now.queues c.args.class c.args.item; earliest = c.args.t; offered = now.offered + 1 }) none)
 
 pub returns-in-Some-clause-stands : goal.returns-in-Some-clause-stands
 returns-in-Some-clause-stands g c =

@@ -1,8 +1,8 @@
-use Rattle.std.proofs.Common.{sym, subst, rules, arith}
+use Rattle.std.proofs.Common.{◌≡◌, ℕ, ◌+◌, ◌-◌, ap, sym, subst, rules, arith}
 use Rattle.bridge_port.specs.Heads.{StartsNext}
-use Rattle.bridge_port.specs.Standing.{State, state}
+use Rattle.bridge_port.specs.Standing.{IsNext, State, started_state, state}
 use Rattle.bridge_port.proofs.Keeping.{started_stands, started_counts, started_which, next_short}
-use Rattle.bridge_port.proofs.Renewing.{emptied, next_fit, fits_empty, fits_emptied, fits_started, heads_started}
+use Rattle.bridge_port.proofs.Renewing.{class_below, done_fits, done_soon, emptied, next_fit, next_item, fits_empty, fits_emptied, fits_started, heads_started}
 use Rattle.bridge_port.proofs.port.Port.start.Goals as goal
 
 pub renew_left-self-inside-requires-clause-kept : goal.renew_left-self-inside-requires-clause-kept
@@ -46,10 +46,21 @@ invariant_of-self g c =
     rw (c.renew_left-self-inside.ensures.same, queues, c.pop_at-taken.ensures.rooms, c.occupation-occ.ensures.exact) kept
 
 pub returns-clause-next : goal.returns-clause-next
-returns-clause-next g c = search rules
+returns-clause-next g c =
+    let f = c.self.inside in
+    let p = state f.speed f.gates f.rings.items f.free f.earliest f.offered f.started in
+    let S : State _ → Type 0 = λ q. StartsNext q c.in-Some.k c.in-Some.class in
+    let starts : StartsNext p c.in-Some.k c.in-Some.class = subst S (sym c.self.view_is) c.in-Some.ensures.next in
+    let back : c.in-Some.k + 1 - 1 ≡ c.in-Some.k = omega arith in
+    subst (λ (k : ℕ). IsNext c.args.self.now k c.in-Some.class c.in-Some-taken.item) (sym back)
+    (subst (λ (q : State _). IsNext q c.in-Some.k c.in-Some.class c.in-Some-taken.item) c.self.view_is
+    (next_item p c.in-Some.k c.in-Some.class c.in-Some-taken.item starts c.in-Some-taken.ensures.head))
 
 pub returns-clause-moved : goal.returns-clause-moved
-returns-clause-moved g c = search rules
+returns-clause-moved g c =
+    let back : c.in-Some.k + 1 - 1 ≡ c.in-Some.k = omega arith in
+    rw (back, c.renew_left-self-inside.ensures.same, c.pop_at-taken.ensures.queues, c.pop_at-taken.ensures.rooms, c.occupation-occ.ensures.exact)
+    (ap (λ (q : State _). started_state q c.in-Some.k c.in-Some.class c.in-Some-taken.item) c.self.view_is)
 
 pub returns-clause-which : goal.returns-clause-which
 returns-clause-which g c = started_which _ _ _ _ _ (returns-clause-next g c) (returns-clause-moved g c)
@@ -62,3 +73,34 @@ returns-clause-counts g c = started_counts _ _ _ _ _ (returns-clause-next g c) (
 
 pub returns-clause-length : goal.returns-clause-length
 returns-clause-length g c = next_short _ _ _ _ c.in-Some.ensures.kept (returns-clause-next g c)
+
+pub returns-clause-bounded : goal.returns-clause-bounded
+returns-clause-bounded g c =
+    let kept = c.in-Some.ensures.kept in
+    let len = next_short _ _ _ _ kept (returns-clause-next g c) in
+    done_soon c.args.self.now c.in-Some.k c.in-Some.class c.occupation-occ.result kept c.in-Some.ensures.next (c.occupation-occ.ensures.bounded len)
+
+pub returns-clause-class : goal.returns-clause-class
+returns-clause-class g c = class_below c.args.self.now c.in-Some.k c.in-Some.class c.in-Some.ensures.kept c.in-Some.ensures.next
+
+pub overflow_cast-result : goal.overflow_cast-result
+overflow_cast-result g c = let few = class_below c.args.self.now c.in-Some.k c.in-Some.class c.in-Some.ensures.kept c.in-Some.ensures.next in omega (arith, few)
+
+pub overflow_add-self : goal.overflow_add-self
+overflow_add-self g c =
+    let f = c.self.inside in
+    let p = state f.speed f.gates f.rings.items f.free f.earliest f.offered f.started in
+    let S : State _ → Type 0 = λ q. StartsNext q c.in-Some.k c.in-Some.class in
+    let starts : StartsNext p c.in-Some.k c.in-Some.class = subst S (sym c.self.view_is) c.in-Some.ensures.next in
+    let len = next_short p _ _ _ c.self.invariant.kept (next_item p c.in-Some.k c.in-Some.class c.in-Some-taken.item starts c.in-Some-taken.ensures.head) in
+    let few = done_fits p c.in-Some.k c.in-Some.class c.occupation-occ.result c.self.invariant.kept starts (c.occupation-occ.ensures.bounded len) in
+    omega (arith, few)
+
+pub renew_left-self-inside-requires-clause-from : goal.renew_left-self-inside-requires-clause-from
+renew_left-self-inside-requires-clause-from g c =
+    let f = c.self.inside in
+    let p = state f.speed f.gates f.rings.items f.free f.earliest f.offered f.started in
+    let S : State _ → Type 0 = λ q. StartsNext q c.in-Some.k c.in-Some.class in
+    let starts : StartsNext p c.in-Some.k c.in-Some.class = subst S (sym c.self.view_is) c.in-Some.ensures.next in
+    let len = next_short p _ _ _ c.self.invariant.kept (next_item p c.in-Some.k c.in-Some.class c.in-Some-taken.item starts c.in-Some-taken.ensures.head) in
+    done_fits p c.in-Some.k c.in-Some.class c.occupation-occ.result c.self.invariant.kept starts (c.occupation-occ.ensures.bounded len)

@@ -99,65 +99,8 @@ pass_over-requires-in-Nowhere-clause-from g c =
     let low : 1 ≤ port = omega (arith, from, number) in
     low
 
-pub relay-requires-clause-known : goal.relay-requires-clause-known
-relay-requires-clause-known g c =
-    let b = c.self.inside in
-    let port = c.args.port in
-    let now = c.args.self.now in
-    let sound : IsSound g.G.Agenda.held now = subst (IsSound g.G.Agenda.held) c.self.view_is c.self.invariant in
-    let is = port_is now.plan.ports port c.requires.known.0 sound.rules.ports.each c.requires.known.1 in
-    let from = is.0.number_from in
-    let number = is.1 in
-    let low : 1 ≤ port = omega (arith, from, number) in
-    let slot = slot_of (port_at now.plan.ports port) (slot_at now.ports port) c.requires.known.0 (sound.alike port low) c.requires.known.1 in
-    let filter = c.number_of-filter.result in
-    let set = c.in-Goes.set in
-    let k = outs now.ports.slots set 16 in
-    let sees : Seen = record { handle = c.in-Goes.handle; priority = c.in-Goes.priority; dei = c.in-Goes.dei; sdu = c.in-Goes.sdu } in
-    let same : c.prepare.new.self ≡ promising now filter k = c.in-Ok.ensures.ok in
-    subst (λ (v : RelayState _ _). (s : Slot _) × (slot_at v.ports port ≡ Some s)) (sym same) slot
-
-pub relay-requires-clause-from : goal.relay-requires-clause-from
-relay-requires-clause-from g c =
-    let b = c.self.inside in
-    let port = c.args.port in
-    let now = c.args.self.now in
-    let sound : IsSound g.G.Agenda.held now = subst (IsSound g.G.Agenda.held) c.self.view_is c.self.invariant in
-    let is = port_is now.plan.ports port c.requires.known.0 sound.rules.ports.each c.requires.known.1 in
-    let from = is.0.number_from in
-    let number = is.1 in
-    let low : 1 ≤ port = omega (arith, from, number) in
-    low
-
-pub relay-requires-clause-due : goal.relay-requires-clause-due
-relay-requires-clause-due g c =
-    let now = c.args.self.now in
-    let filter = c.number_of-filter.result in
-    let set = c.in-Goes.set in
-    let k = outs now.ports.slots set 16 in
-    let sees : Seen = record { handle = c.in-Goes.handle; priority = c.in-Goes.priority; dei = c.in-Goes.dei; sdu = c.in-Goes.sdu } in
-    let same : c.prepare.new.self ≡ promising now filter k = c.in-Ok.ensures.ok in
-    subst (λ (v : RelayState _ _). NotBefore (g.G.Agenda.held v.ports.agenda) c.args.packet.time) (sym same) c.requires.due
-
-pub relay-requires-clause-fresh : goal.relay-requires-clause-fresh
-relay-requires-clause-fresh g c =
-    let b = c.self.inside in
-    let port = c.args.port in
-    let now = c.args.self.now in
-    let sound : IsSound g.G.Agenda.held now = subst (IsSound g.G.Agenda.held) c.self.view_is c.self.invariant in
-    let is = port_is now.plan.ports port c.requires.known.0 sound.rules.ports.each c.requires.known.1 in
-    let from = is.0.number_from in
-    let number = is.1 in
-    let low : 1 ≤ port = omega (arith, from, number) in
-    let filter = c.number_of-filter.result in
-    let set = c.in-Goes.set in
-    let k = outs now.ports.slots set 16 in
-    let sees : Seen = record { handle = c.in-Goes.handle; priority = c.in-Goes.priority; dei = c.in-Goes.dei; sdu = c.in-Goes.sdu } in
-    let same : c.prepare.new.self ≡ promising now filter k = c.in-Ok.ensures.ok in
-    subst (λ (v : RelayState _ _). IsFresh v) (sym same) (fresh_promised g.G.Agenda.held now filter k sound)
-
-pub relay-requires-clause-open : goal.relay-requires-clause-open
-relay-requires-clause-open g c =
+pub relay-requires : goal.relay-requires
+relay-requires g c =
     let b = c.self.inside in
     let port = c.args.port in
     let now = c.args.self.now in
@@ -173,66 +116,25 @@ relay-requires-clause-open g c =
     let same : c.prepare.new.self ≡ promising now filter k = c.in-Ok.ensures.ok in
     let there : IfSome filter (λ n. IsTrue (is_there n now.plan.filters)) = subst (λ (v : RelayState _ _). IfSome filter (λ n. IsTrue (is_there n v.plan.filters))) c.self.view_is (subst (λ (fs : _). IfSome filter (λ n. IsTrue (is_there n fs))) c.self.invariant.filters (number_there _ _ _ c.number_of-filter.ensures c.find-found.ensures.there)) in
     let numbered : filter ≡ filter_number now.plan (called c.args.packet.time c.args.packet.len sees) = (c.number_of-filter.ensures ∙ c.find-found.ensures.found.number c.args.packet.time sees.sdu (metered c.args.packet.len) sees.dei) ∙ (ap (λ (fs : _). option_map (λ (f : ℕ × FilterPlan). f.0) (flow fs (called c.args.packet.time c.args.packet.len sees))) c.self.invariant.filters ∙ ap (λ (v : RelayState _ _). filter_number v.plan (called c.args.packet.time c.args.packet.len sees)) c.self.view_is) in
-    subst (λ (v : RelayState _ _). IfSome (filter_number v.plan (called c.args.packet.time c.args.packet.len sees)) (IsOpen v.tables)) (sym same) (subst (λ (o : Option ℕ). IfSome o (IsOpen (promising now filter k).tables)) numbered (open_promised g.G.Agenda.held now filter k sound there))
-
-pub relay-requires-clause-spare : goal.relay-requires-clause-spare
-relay-requires-clause-spare g c =
-    let b = c.self.inside in
-    let port = c.args.port in
-    let now = c.args.self.now in
-    let sound : IsSound g.G.Agenda.held now = subst (IsSound g.G.Agenda.held) c.self.view_is c.self.invariant in
-    let is = port_is now.plan.ports port c.requires.known.0 sound.rules.ports.each c.requires.known.1 in
-    let from = is.0.number_from in
-    let number = is.1 in
-    let low : 1 ≤ port = omega (arith, from, number) in
-    let filter = c.number_of-filter.result in
-    let set = c.in-Goes.set in
-    let k = outs now.ports.slots set 16 in
-    let sees : Seen = record { handle = c.in-Goes.handle; priority = c.in-Goes.priority; dei = c.in-Goes.dei; sdu = c.in-Goes.sdu } in
-    let same : c.prepare.new.self ≡ promising now filter k = c.in-Ok.ensures.ok in
-    let there : IfSome filter (λ n. IsTrue (is_there n now.plan.filters)) = subst (λ (v : RelayState _ _). IfSome filter (λ n. IsTrue (is_there n v.plan.filters))) c.self.view_is (subst (λ (fs : _). IfSome filter (λ n. IsTrue (is_there n fs))) c.self.invariant.filters (number_there _ _ _ c.number_of-filter.ensures c.find-found.ensures.there)) in
-    let numbered : filter ≡ filter_number now.plan (called c.args.packet.time c.args.packet.len sees) = (c.number_of-filter.ensures ∙ c.find-found.ensures.found.number c.args.packet.time sees.sdu (metered c.args.packet.len) sees.dei) ∙ (ap (λ (fs : _). option_map (λ (f : ℕ × FilterPlan). f.0) (flow fs (called c.args.packet.time c.args.packet.len sees))) c.self.invariant.filters ∙ ap (λ (v : RelayState _ _). filter_number v.plan (called c.args.packet.time c.args.packet.len sees)) c.self.view_is) in
-    subst (λ (v : RelayState _ _). IfSome (filter_number v.plan (called c.args.packet.time c.args.packet.len sees)) (HasSpare v (outs v.ports.slots set 16))) (sym same) (subst (λ (o : Option ℕ). IfSome o (HasSpare (promising now filter k) k)) numbered (spare_promised g.G.Agenda.held now filter k sound there))
-
-pub relay-requires-clause-right : goal.relay-requires-clause-right
-relay-requires-clause-right g c =
-    let b = c.self.inside in
-    let port = c.args.port in
-    let now = c.args.self.now in
-    let sound : IsSound g.G.Agenda.held now = subst (IsSound g.G.Agenda.held) c.self.view_is c.self.invariant in
-    let is = port_is now.plan.ports port c.requires.known.0 sound.rules.ports.each c.requires.known.1 in
-    let from = is.0.number_from in
-    let number = is.1 in
-    let low : 1 ≤ port = omega (arith, from, number) in
-    let filter = c.number_of-filter.result in
-    let set = c.in-Goes.set in
-    let k = outs now.ports.slots set 16 in
-    let sees : Seen = record { handle = c.in-Goes.handle; priority = c.in-Goes.priority; dei = c.in-Goes.dei; sdu = c.in-Goes.sdu } in
-    let same : c.prepare.new.self ≡ promising now filter k = c.in-Ok.ensures.ok in
-    let there : IfSome filter (λ n. IsTrue (is_there n now.plan.filters)) = subst (λ (v : RelayState _ _). IfSome filter (λ n. IsTrue (is_there n v.plan.filters))) c.self.view_is (subst (λ (fs : _). IfSome filter (λ n. IsTrue (is_there n fs))) c.self.invariant.filters (number_there _ _ _ c.number_of-filter.ensures c.find-found.ensures.there)) in
-    let numbered : filter ≡ filter_number now.plan (called c.args.packet.time c.args.packet.len sees) = (c.number_of-filter.ensures ∙ c.find-found.ensures.found.number c.args.packet.time sees.sdu (metered c.args.packet.len) sees.dei) ∙ (ap (λ (fs : _). option_map (λ (f : ℕ × FilterPlan). f.0) (flow fs (called c.args.packet.time c.args.packet.len sees))) c.self.invariant.filters ∙ ap (λ (v : RelayState _ _). filter_number v.plan (called c.args.packet.time c.args.packet.len sees)) c.self.view_is) in
-    subst (λ (v : RelayState _ _). is_flow_stray v.plan.filters (filter_number v.plan (called c.args.packet.time c.args.packet.len sees)) ≡ false) (sym same) (subst (λ (o : Option ℕ). is_flow_stray now.plan.filters o ≡ false) numbered (stray_not now.plan.filters filter there))
-
-pub relay-requires-clause-found : goal.relay-requires-clause-found
-relay-requires-clause-found g c =
-    let now = c.args.self.now in
-    let filter = c.number_of-filter.result in
-    let k = outs now.ports.slots c.in-Goes.set 16 in
-    let same : c.prepare.new.self ≡ promising now filter k = c.in-Ok.ensures.ok in
-    subst (λ (v : RelayState _ _). IsFound v.police c.in-Goes.handle c.in-Goes.priority c.find-found.result) (sym same) (subst (λ (v : RelayState _ _). IsFound v.police c.in-Goes.handle c.in-Goes.priority c.find-found.result) c.self.view_is c.find-found.ensures.found)
-
-pub relay-requires-clause-copies : goal.relay-requires-clause-copies
-relay-requires-clause-copies g c =
-    let now = c.args.self.now in
-    let filter = c.number_of-filter.result in
-    let set = c.in-Goes.set in
-    let k = outs now.ports.slots set 16 in
-    let sees : Seen = record { handle = c.in-Goes.handle; priority = c.in-Goes.priority; dei = c.in-Goes.dei; sdu = c.in-Goes.sdu } in
-    let same : c.prepare.new.self ≡ promising now filter k = c.in-Ok.ensures.ok in
     let made = c.in-Ok.ensures.copies in
     let count = made.0 in
-    subst (λ (v : RelayState _ _). HasCopies v.ports.slots set 1 c.args.packet.octets.items c.in-Ok.copies.items) (sym same)
-    (record { count = omega (arith, count); alike = λ v i. all_in (λ (w : Vec ℕ _). w.items ≡ c.deref-in-Goes.result.now) c.in-Ok.copies.items v made.1 i ∙ c.deref-in-Goes.ensures.value })
+    let slot = slot_of (port_at now.plan.ports port) (slot_at now.ports port) c.requires.known.0 (sound.alike port low) c.requires.known.1 in
+    record {
+      known = subst (λ (v : RelayState _ _). (s : Slot _) × (slot_at v.ports port ≡ Some s)) (sym same) slot;
+      from = low;
+      time = (subst (λ (v : RelayState _ _). v.earliest ≤ c.args.packet.time) (sym c.in-Ok.ensures.ok) c.requires.time.0, c.requires.time.1);
+      due = subst (λ (v : RelayState _ _). NotBefore (g.G.Agenda.held v.ports.agenda) c.args.packet.time) (sym same) c.requires.due;
+      sound = c.in-Ok.ensures.sound;
+      fresh = subst (λ (v : RelayState _ _). IsFresh v) (sym same) (fresh_promised g.G.Agenda.held now filter k sound);
+      awaited = subst (λ (v : RelayState _ _). IfSome (filter_number v.plan (called c.args.packet.time c.args.packet.len sees)) (IsOpen v.tables)) (sym same) (subst (λ (o : Option ℕ). IfSome o (IsOpen (promising now filter k).tables)) numbered (open_promised g.G.Agenda.held now filter k sound there));
+      spare = subst (λ (v : RelayState _ _). IfSome (filter_number v.plan (called c.args.packet.time c.args.packet.len sees)) (HasSpare v (outs v.ports.slots set 16))) (sym same) (subst (λ (o : Option ℕ). IfSome o (HasSpare (promising now filter k) k)) numbered (spare_promised g.G.Agenda.held now filter k sound there));
+      right = subst (λ (v : RelayState _ _). is_flow_stray v.plan.filters (filter_number v.plan (called c.args.packet.time c.args.packet.len sees)) ≡ false) (sym same) (subst (λ (o : Option ℕ). is_flow_stray now.plan.filters o ≡ false) numbered (stray_not now.plan.filters filter there));
+      short = (c.in-Goes.ensures.length tt, c.requires.octets.1);
+      priority = c.in-Goes.ensures.priority;
+      found = subst (λ (v : RelayState _ _). IsFound v.police c.in-Goes.handle c.in-Goes.priority c.find-found.result) (sym same) (subst (λ (v : RelayState _ _). IsFound v.police c.in-Goes.handle c.in-Goes.priority c.find-found.result) c.self.view_is c.find-found.ensures.found);
+      copies = subst (λ (v : RelayState _ _). HasCopies v.ports.slots set 1 c.args.packet.octets.items c.in-Ok.copies.items) (sym same)
+          (record { count = omega (arith, count); alike = λ v i. all_in (λ (w : Vec ℕ _). w.items ≡ c.deref-in-Goes.result.now) c.in-Ok.copies.items v made.1 i ∙ c.deref-in-Goes.ensures.value });
+    }
 
 pub returns-clause-stands : goal.returns-clause-stands
 returns-clause-stands g c = λ p es left st.
@@ -324,18 +226,6 @@ pass_over-requires-in-Nowhere-clause-time g c = c.requires.time.0
 
 pub prepare-requires-clause-few : goal.prepare-requires-clause-few
 prepare-requires-clause-few g c = c.requires.few
-
-pub relay-requires-clause-length : goal.relay-requires-clause-length
-relay-requires-clause-length g c = (c.in-Goes.ensures.length tt, c.requires.octets.1)
-
-pub relay-requires-clause-priority : goal.relay-requires-clause-priority
-relay-requires-clause-priority g c = c.in-Goes.ensures.priority
-
-pub relay-requires-clause-sound : goal.relay-requires-clause-sound
-relay-requires-clause-sound g c = c.in-Ok.ensures.sound
-
-pub relay-requires-clause-time : goal.relay-requires-clause-time
-relay-requires-clause-time g c = (subst (λ (v : RelayState _ _). v.earliest ≤ c.args.packet.time) (sym c.in-Ok.ensures.ok) c.requires.time.0, c.requires.time.1)
 
 pub way_of-requires-clause-captured : goal.way_of-requires-clause-captured
 way_of-requires-clause-captured g c = subst (λ (l : List ℕ). (length l ≤ MOST_CAPTURED) × (length l ≤ c.args.packet.len)) (sym c.deref.ensures.value) c.requires.octets

@@ -1,5 +1,4 @@
-use contract.BorrowLft.{⊑_meet, ⊑_static}
-use Rattle.std.proofs.Common.{◌≡◌, ℕ, List, ◌∙◌, ap, sym, subst, None}
+use Rattle.std.proofs.Common.{◌≡◌, ℕ, true, List, ◌∙◌, ap, sym, subst, Option, None}
 use Rattle.std.specs.Prelude.{nat_eq}
 use Rattle.std.specs.Map.{lookup}
 use Rattle.std.specs.Option.{is_some}
@@ -51,25 +50,3 @@ returns g c =
           let e = ends p es left stood in
           two_runs p n f es others e.lists lists outcome o u v (rules p stood.plan) (acceptable p stood.plan) listed protected same e.outcome run here there;
     }
-
-pub drop-requires : goal.drop-requires
-drop-requires g c κs h =
-    let l1 = ⊑_meet _ _ _ h (⊑_static _) in
-    let l2 = ⊑_meet _ _ _ l1 l1 in
-    let l3 = ⊑_meet _ _ _ l2 (⊑_static _) in
-    let l4 = ⊑_meet _ _ _ l1 (⊑_meet _ _ _ l2 l3) in
-    let l5 = ⊑_meet _ _ _ l1 (⊑_meet _ _ _ l4 (⊑_meet _ _ _ l4 (⊑_static _))) in
-    let l6 = ⊑_meet _ _ _ l1 (⊑_meet _ _ _ l5 (⊑_meet _ _ _ l5 l3)) in
-    let l7 = ⊑_meet _ _ _ (⊑_meet _ _ _ l1 (⊑_meet _ _ _ l6 (⊑_meet _ _ _ l6 (⊑_static _)))) (⊑_static _) in
-    ⊑_meet _ _ _ l1 (⊑_meet _ _ _ l2 (⊑_meet _ _ _ (⊑_meet _ _ _ l7 (⊑_meet _ _ _ l7 (⊑_static _))) (⊑_static _)))
-
-pub drop-requires-2 : goal.drop-requires-2
-drop-requires-2 g c κs h =
-    let l1 = ⊑_meet _ _ _ h (⊑_static _) in
-    let l2 = ⊑_meet _ _ _ l1 l1 in
-    let l3 = ⊑_meet _ _ _ l1 (⊑_meet _ _ _ l2 (⊑_meet _ _ _ l2 (⊑_static _))) in
-    let l4 = ⊑_meet _ _ _ l3 (⊑_static _) in
-    let l5 = ⊑_meet _ _ _ l1 (⊑_meet _ _ _ l3 l4) in
-    let l6 = ⊑_meet _ _ _ l5 (⊑_static _) in
-    let l7 = ⊑_meet _ _ _ (⊑_meet _ _ _ l1 (⊑_meet _ _ _ (⊑_meet _ _ _ l1 (⊑_meet _ _ _ (⊑_meet _ _ _ l1 (⊑_meet _ _ _ l4 (⊑_meet _ _ _ l6 (⊑_static _)))) (⊑_static _))) (⊑_static _))) l1 in
-    ⊑_meet _ _ _ l1 (⊑_meet _ _ _ l5 (⊑_meet _ _ _ l5 (⊑_meet _ _ _ (⊑_meet _ _ _ l7 (⊑_meet _ _ _ (⊑_meet _ _ _ l7 (⊑_meet _ _ _ l2 (⊑_meet _ _ _ (⊑_meet _ _ _ l7 l1) (⊑_static _)))) l4)) l6)))

@@ -22,7 +22,7 @@ offer_all-requires-clause-along g c =
     let call = called c.args.packet.time c.args.packet.len c.args.seen in
     let none = numbered_none old.tables z.2.0 z.2.2 in
     let h : HasRuled old now c.args.port s call None = subst (HasRuled old now c.args.port s call) none z.2.1 in
-    may_offer g.G.Agenda.held old now c.args.port s call None c.args.set c.args.seen.priority (leaves (record { at = c.args.packet.time; flow = None; own = 0; octets = c.args.packet.octets }) c.args.packet.len false) c.requires.sound c.rule.ensures.sound c.requires.fresh h z.1 c.requires.from refl c.requires.length.0 c.requires.length.1 c.requires.time.1 refl c.requires.due tt
+    may_offer g.G.Agenda.held old now c.args.port s call None c.args.set c.args.seen.priority (leaves (record { at = c.args.packet.time; flow = None; own = 0; octets = c.args.packet.octets }) c.args.packet.len false) c.requires.sound c.rule.ensures.sound c.requires.fresh h z.1 c.requires.from refl c.requires.short.0 c.requires.short.1 c.requires.time.1 refl c.requires.due tt
 
 pub offer_all-requires-clause-copies : goal.offer_all-requires-clause-copies
 offer_all-requires-clause-copies g c =
@@ -63,7 +63,7 @@ offer_all-requires-in-Pass-clause-along g c =
     let outward = outs old.ports.slots c.args.set 16 in
     let spare : HasSpare old outward r.filter = subst (λ (o : Option ℕ). IfSome o (HasSpare old outward)) (sym h.number) c.requires.spare in
     let right : is_flow_stray old.plan.filters (Some r.filter) ≡ false = subst (λ (o : Option ℕ). is_flow_stray old.plan.filters o ≡ false) (sym h.number) c.requires.right in
-    may_offer g.G.Agenda.held old now c.args.port s call (Some r) c.args.set c.unwrap_or.result (leaves (record { at = c.args.packet.time; flow = Some r.filter; own = own; octets = c.args.packet.octets }) c.args.packet.len c.in-Pass.eligible) c.requires.sound c.rule.ensures.sound c.requires.fresh h z.1 c.requires.from right c.requires.length.0 (within c.in-Pass.eligible c.args.packet.octets.items c.args.packet.len c.requires.length.1) c.requires.time.1 refl c.requires.due
+    may_offer g.G.Agenda.held old now c.args.port s call (Some r) c.args.set c.unwrap_or.result (leaves (record { at = c.args.packet.time; flow = Some r.filter; own = own; octets = c.args.packet.octets }) c.args.packet.len c.in-Pass.eligible) c.requires.sound c.rule.ensures.sound c.requires.fresh h z.1 c.requires.from right c.requires.short.0 (within c.in-Pass.eligible c.args.packet.octets.items c.args.packet.len c.requires.short.1) c.requires.time.1 refl c.requires.due
     (pending_ruled g.G.Agenda.held old now c.args.port s call r outward own c.requires.sound h z.1 spare j.1) where
       within : (b : Bool) (octets : List ℕ) (len : ℕ) → length octets ≤ len → length (leaving b octets) ≤ len
       within b octets len l = let e = leaving_length b octets in omega (arith, l, e)
@@ -195,10 +195,10 @@ pub rule-requires-clause-known : goal.rule-requires-clause-known
 rule-requires-clause-known g c = c.requires.known
 
 pub rule-requires-clause-length : goal.rule-requires-clause-length
-rule-requires-clause-length g c = c.requires.length.0
+rule-requires-clause-length g c = c.requires.short.0
 
 pub rule-requires-clause-open : goal.rule-requires-clause-open
-rule-requires-clause-open g c = c.requires.open
+rule-requires-clause-open g c = c.requires.awaited
 
 pub rule-requires-clause-time : goal.rule-requires-clause-time
 rule-requires-clause-time g c = c.requires.time
