@@ -6,6 +6,9 @@
 
 Crates come in the order of crates.txt, files in that of specs/Lib.antt, definitions as they stand. docs/clauses.txt
 names the clause of a standard for some of them. Both calls fail where a line of it names none, or not just one.
+
+--check also fails where docs/PLANS.md (Key by key) or docs/SPECIFICATION.md (Plans) tells of a section other keys than
+the table of keys in crates/bridge_schema/src/keys.rt.
 """
 import collections
 import itertools
@@ -225,6 +228,37 @@ def page():
     return "\n".join(made).rstrip("\n") + "\n"
 
 
+def keys_of_sections():
+    """The keys of each section of a plan, by the table of keys."""
+    spelling = dict(re.findall(r'Field::(\w+) => "(\w+)"', read(TOP / "crates/bridge_schema/src/fault.rt")))
+    table = read(TOP / "crates/bridge_schema/src/keys.rt")
+    rows = re.findall(r"pub const (\w+)_KEYS: \[Key; \d+\] = \[(.*?)\];", table, re.S)
+    keys = {name.lower(): {spelling[it] for it in re.findall(r"Key\(\s*Field::(\w+)", row)} for name, row in rows}
+    return {name: own | keys.get(f"{name}_entry", set()) for name, own in keys.items() if not name.endswith("_entry")}
+
+
+def check_keys():
+    """Fails where a page tells of a section other keys than the table of keys."""
+    plans = read(TOP / "docs/PLANS.md").split("\n## Key by key\n")[1].split("\n## ")[0]
+    rules = read(TOP / "docs/SPECIFICATION.md").split("\n## Plans\n")[1].split("\n## ")[0]
+    every = set().union(*keys_of_sections().values())
+    for name, keys in keys_of_sections().items():
+        if name == "command":
+            continue
+        for page, parts in (
+            ("PLANS", re.split(r"^(?=\*\*`\[\[)", plans, flags=re.M)),
+            ("SPECIFICATION", re.split(r"^(?=- )", rules, flags=re.M)),
+        ):
+            own = [it for it in parts if it.startswith((f"**`[[{name}]]`", f"- {name},"))]
+            if len(own) != 1:
+                fail(f"docs/{page}.md has {len(own)} parts on the keys of {name}")
+            leads = set(re.findall(r"`(\w+)`", " ".join(re.findall(r"^ *- ((?:`\w+`,? ?)+)", own[0], re.M)))) & every
+            words = set(re.findall(r"`(\w+)`", own[0]))
+            for wrong, what in ((keys - words, "lacks"), (leads - keys, "has")):
+                if wrong:
+                    fail(f"docs/{page}.md {what} of the keys of {name}: {', '.join(sorted(wrong))}")
+
+
 def main():
     if sys.argv[1:] not in ([], ["--check"]):
         fail("takes nothing, or --check")
@@ -232,6 +266,7 @@ def main():
     if not sys.argv[1:]:
         PAGE.write_text(made, encoding="utf-8")
         return
+    check_keys()
     there = read(PAGE) if PAGE.exists() else ""
     for number, (is_so, should) in enumerate(itertools.zip_longest(there.split("\n"), made.split("\n")), 1):
         if is_so != should:

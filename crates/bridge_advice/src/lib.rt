@@ -1,21 +1,29 @@
 #![tactic(auto)]
-//! What of a plan that is accepted is likely a mistake, as data, and the sentence of each finding: what is of no use,
-//! which frames of protected filters leave nowhere, which of them are lost, and which wait although their ways are
-//! free.
+//! What a planner is told of a plan: of one that is refused which tests it fails and what to change; of one that is accepted
+//! where its protected frames wait and for how long, and what of it is likely a mistake, as data, and the sentence of each
+//! finding: what is of no use, which frames of protected filters leave nowhere, which of them are lost, and which wait although
+//! their ways are free; and after how long its lists begin together again.
 
+mod accepted;
 mod advice;
 mod finding;
 mod hidden;
+mod hypercycle;
 mod lost;
 mod meeting;
 mod meters;
 mod nowhere;
 mod queues;
+mod refused;
+mod saying;
 mod sentence;
 mod telling;
 mod turns;
 mod useless;
+mod ways;
+mod windows;
 
+pub use accepted::{warn_of_plan, warnings_of};
 pub use advice::{
     Advice, AllTaken, Burst, Cycles, Flood, Hidden, LimitBelow, Nowhere, Outside, OwnPort, Pause,
     Rate, Rooms, Spot, Stage, Stuck,
@@ -23,5 +31,7 @@ pub use advice::{
 pub use bridge_limits::NoMemory;
 pub use finding::advice_of;
 pub use hidden::hides;
+pub use hypercycle::Hypercycle;
 pub use nowhere::leads_nowhere;
+pub use refused::explain_check;
 pub use sentence::put_advice;

@@ -1,9 +1,10 @@
-//! How long frames wait that come as a gate opens, and after how long two cycles begin together again.
+//! How long frames wait that come as a gate opens.
 ghost use Rattle.std.specs.Prelude.{◌≤◌, ◌<◌, ◌+◌};
 ghost use Rattle.bridge_cycle.specs.Moments.{IsFirst};
 ghost use Rattle.bridge_cycle.specs.Runs.{Allows, FitsSoon};
 ghost use Rattle.bridge_port.specs.Opening.{list_opens};
 
+use crate::hypercycle::turns_of;
 use bridge_cycle::{CyclicList, LONGEST_CYCLE, Run, Timeline, first_fit, longest_run};
 use std::alloc::Allocator;
 
@@ -12,35 +13,6 @@ const MOST_TURNS: u64 = 16;
 
 /// The last moment, in ns, from which on a wait is looked for.
 const LAST: u64 = 8_000_000_000_000_000_000;
-
-/// The greatest common divisor of two cycles, each at most 10^9 ns: 64 steps are more than it takes.
-fn divisor_of(one: u64, other: u64) -> u64 {
-    let mut larger = one;
-    let mut smaller = other;
-    for _step in 0..64u8 {
-        if smaller == 0 {
-            return larger;
-        }
-        let rest = larger % smaller;
-        larger = smaller;
-        smaller = rest;
-    }
-    larger
-}
-
-/// After how many of the second cycle both begin together again.
-pub(crate) fn turns_of(round: u64, cycle: u64) -> u64 {
-    let divisor = divisor_of(round, cycle);
-    if divisor == 0 { 0 } else { round / divisor }
-}
-
-/// After how many ns two cycles begin together again, where neither is a multiple of the other.
-pub(crate) fn hypercycle_of(cycle: u64, round: u64) -> Option<u64> {
-    if cycle == 0 || round == 0 || cycle % round == 0 || round % cycle == 0 {
-        return None;
-    }
-    Some(turns_of(round, cycle).saturating_mul(cycle))
-}
 
 /// How long frames wait that come as the turns of a gate begin, in ns.
 #[derive(Clone, Copy)]

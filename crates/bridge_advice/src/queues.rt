@@ -3,8 +3,8 @@ ghost use Rattle.std.specs.Prelude.{◌<◌, ◌≤◌};
 
 use crate::advice::{Advice, Cycles, Spot, Stage};
 use crate::finding::add;
+use crate::hypercycle::hypercycle_of;
 use crate::lost::{Queue, find_flood, find_pause, find_rooms};
-use crate::meeting::hypercycle_of;
 use crate::turns::{
     Feed, Opening, feed_of, gate_at, gate_list, is_changed, is_changed_at, openings_of, port_list,
     stages_of,

@@ -1,14 +1,16 @@
 -- Which fault ends a run over files.
-use Rattle.std.proofs.Common.{◌≡◌, ◌⊎◌, ℕ, List, [], Option, Some, None, Result, Ok, Err, IfErr, inl, inr, ap, sym, subst, refl, ◌∙◌}
+use Rattle.std.proofs.Common.{◌≡◌, ◌⊎◌, ℕ, List, [], Option, Some, None, Result, Ok, Err, IfErr, inl, inr, ap, codes, sym, subst, refl, ◌∙◌}
 use Rattle.bridge_config.specs.Model.{Plan}
 use Rattle.bridge_jobs.specs.declared.fault.Fault.{Fault}
 use Rattle.bridge_inputs.specs.declared.fault.RunFault.TheVariants as run
 use Rattle.bridge_jobs.specs.declared.fault.Fault.TheVariants as fault
 use Rattle.bridge_core.specs.Simulated.{AreNumbers}
 use Rattle.bridge_jobs.specs.Commanding.{EndsCommanded}
+use Rattle.bridge_jobs.specs.Jobs.{EndsCheck}
 use Rattle.bridge_jobs.specs.Reading.{IsOfFile}
-use Rattle.bridge_app.specs.Files.{EndsDrawn, EndsPicture, EndsReading, EndsRun, EndsSending, EndsShown, EndsTabled, EndsTold, IsAcceptedPlan, IsOfOutputs, IsOfPicture, IsOfReport, IsOfShowing, IsOfTable, IsOfTables, IsPlanOfText}
+use Rattle.bridge_app.specs.Files.{EndsChecked, EndsDrawn, EndsPicture, EndsReading, EndsRun, EndsSending, EndsShown, EndsTabled, EndsTold, IsAcceptedPlan, IsOfOutputs, IsOfPicture, IsOfReport, IsOfShowing, IsOfTable, IsOfTables, IsPlanOfText}
 use Rattle.bridge_files.specs.Files.{IsOfCaptures}
+use Rattle.bridge_files.specs.Wiring.{IsStandard}
 
 -- a capture or the report that failed is an output
 pub capture_told : (folder ports : List ℕ) (f : Fault) → IsOfCaptures folder ports f → IsOfOutputs folder ports f
@@ -122,6 +124,16 @@ none_told A plan commands input output file (Ok line) h = tt
 none_told A plan commands input output file (Err f) (inl h) = h
 none_told A plan commands input output file (Err f) (inr (inl h)) = absurd h
 none_told A plan commands input output file (Err f) (inr (inr h)) = absurd h
+
+of_file : (A : Type 0) (plan : List ℕ) (f : Fault) → IsOfFile plan f → EndsCheck A plan [] f
+of_file A plan (fault.File path) h = h
+of_file A plan (fault.Run f) h = h
+of_file A plan f h = absurd h
+
+-- a plan that can't be read, by the path that is read for its own
+pub not_checked : (A : Type 0) (plan path : List ℕ) (f : Fault) → (path ≡ plan) ⊎ (IsStandard plan × (path ≡ codes "/dev/stdin")) → IsOfFile path f → EndsChecked A plan f
+not_checked A plan path f (inl same) h = inl ([], of_file A plan f (subst (λ p. IsOfFile p f) same h))
+not_checked A plan path f (inr standard) h = inr (standard.0, subst (λ p. IsOfFile p f) standard.1 h)
 
 -- a plan, or commands, that can't be opened
 pub plan_not_opened : (A : Type 0) (plan : List ℕ) (commands : Option (List ℕ)) (f : Fault) → IsOfFile plan f → EndsReading A plan commands f

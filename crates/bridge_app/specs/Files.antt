@@ -1,17 +1,19 @@
 -- The files of a run that fail, and what a run over them prints.
-use Rattle.std.specs.Prelude.{◌≡◌, ◌⊎◌, ℕ, List, Option, None, Some, Ok, string_bytes}
+use Rattle.std.specs.Prelude.{◌≡◌, ◌⊎◌, ℕ, List, Option, None, Some, Ok, codes, string_bytes}
 use Rattle.bridge_config.specs.Document.{plan_of_text}
 use Rattle.bridge_config.specs.Model.{Plan}
 use Rattle.bridge_inputs.specs.declared.fault.RunFault.TheVariants as run
 use Rattle.bridge_jobs.specs.declared.fault.Fault.{Fault}
 use Rattle.bridge_jobs.specs.declared.fault.Fault.TheVariants as fault
 use Rattle.bridge_jobs.specs.Commanding.{EndsCommanded}
-use Rattle.bridge_jobs.specs.Jobs.{Accepts, EndsPlan}
+use Rattle.bridge_jobs.specs.Jobs.{Accepts, EndsCheck, EndsPlan}
+use Rattle.bridge_jobs.specs.Reading.{IsOfFile}
 use Rattle.bridge_summary.specs.Summary.{summary_of}
 use Rattle.bridge_semantics.specs.declared.outcome.Outcome.{Outcome}
 use Rattle.bridge_core.specs.Simulated.{AreNumbers}
 use Rattle.bridge_files.specs.Files.{IsCapture}
 use Rattle.bridge_files.specs.Paths.{report_path}
+use Rattle.bridge_files.specs.Wiring.{IsStandard}
 
 -- the report of a folder failed, or memory was refused
 abbrev pub IsOfReport : List ℕ → Fault → Type 0
@@ -24,6 +26,11 @@ abbrev pub IsOfOutputs : List ℕ → List ℕ → Fault → Type 0
 IsOfOutputs folder ports (fault.File path) = IsCapture folder ports (string_bytes path) ⊎ (string_bytes path ≡ report_path folder)
 IsOfOutputs folder ports (fault.Run f) = f ≡ run.NoMemory
 IsOfOutputs folder ports f = ⊥
+
+-- which fault ends the check of a plan, by the path of its file: that of the plan for some text, or of standard input, for which `-`
+-- stands
+abbrev pub EndsChecked : (A : Type 0) → List ℕ → Fault → Type 0
+EndsChecked A plan f = ((text : List ℕ) × EndsCheck A plan text f) ⊎ (IsStandard plan × IsOfFile (codes "/dev/stdin") f)
 
 -- the plan of some text
 abbrev pub IsPlanOfText : {A : Type 0} → Plan A → Type 0

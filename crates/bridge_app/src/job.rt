@@ -3,6 +3,7 @@ ghost use Rattle.std.specs.Prelude.{◌≡◌, ◌⊎◌, IfOk, IfErr, length, o
 ghost use Rattle.bridge_config.specs.Commands.{AreCommands};
 ghost use Rattle.bridge_app.specs.Files.{EndsDrawn, EndsReading, EndsRun, EndsSending, EndsTabled, EndsTold, IsAcceptedPlan, IsOfOutputs, IsOfReport, IsOfShowing, IsOfTables, PrintsRun};
 
+use crate::noting::Noted;
 use crate::picturing::put_sketch;
 use crate::sparing::{spare_files, take_outputs, take_standard};
 use crate::tables::put_tables;
@@ -11,10 +12,10 @@ use bridge_cli::{PictureRequest, TableRequest};
 use bridge_config::Command;
 use bridge_files::{
     FileId, Output, add_file, add_files, create_all, file_at, is_one_of, is_same_folder, open_all,
-    open_taken, output_at, report_path, run_over,
+    output_apart, report_path, run_over, take_text,
 };
 use bridge_inputs::RunFault;
-use bridge_jobs::{Fault, commanded, fault_of_file, plan_from};
+use bridge_jobs::{Cause, Fault, commanded, fault_of_file, plan_from};
 use bridge_report::{ReportFault, summary, write_report};
 use bridge_semantics::Outcome;
 use std::alloc::Global;
@@ -84,17 +85,20 @@ pub fn run_with_tables<H: AllocGlobal + Files>(
         (option_map string_bytes tables.frames) (option_map (λ s. string_bytes s.file) sketch)) }
 {
     let mut taken = Vec::new(rt.alloc());
-    let (accepted, orders) = match read_job(rt, plan, commands, &mut taken) {
+    let mut noted = Noted::new(rt.alloc());
+    let (accepted, orders) = match read_job(rt, plan, commands, &mut taken, &mut noted) {
         Ok(read) => read,
         Err(fault) => return Err(fault),
     };
-    let told = send_told(rt, &accepted, &orders, input, output, taken, tables, sketch);
+    let told = send_told(
+        rt, &accepted, &orders, input, output, taken, tables, sketch, &mut None,
+    );
     drop(accepted);
     told
 }
 
 /// What is printed for a run under an accepted plan from one folder into another, with the tables and the picture that are
-/// asked for. No output is one of the files that are taken.
+/// asked for. No output is one of the files that are taken. The cause of a file that fails is noted.
 #[tactic(auto, using(crate::proofs::Ended::memory_ends))]
 pub(crate) fn send_told<H: AllocGlobal + Files>(
     rt: &H,
@@ -105,6 +109,7 @@ pub(crate) fn send_told<H: AllocGlobal + Files>(
     taken: Vec<FileId>,
     tables: TableRequest,
     sketch: Option<PictureRequest>,
+    cause: &mut Option<Cause>,
 ) -> Result<String, Fault>
     requires commands { AreCommands accepted.now orders.now }
     ensures ok { IfOk result (λ line. PrintsRun Global (string_bytes line)) }
@@ -124,14 +129,23 @@ pub(crate) fn send_told<H: AllocGlobal + Files>(
         &tables,
         &sketch,
         &taken,
+        cause,
     ) {
         return Err(fault);
     }
-    let outcome = match send(rt, accepted, orders, input.as_str(), output, &mut taken) {
+    let outcome = match send(
+        rt,
+        accepted,
+        orders,
+        input.as_str(),
+        output,
+        &mut taken,
+        cause,
+    ) {
         Ok(outcome) => outcome,
         Err(fault) => return Err(fault),
     };
-    let told = tell(rt, accepted, &outcome, tables, sketch, taken);
+    let told = tell(rt, accepted, &outcome, tables, sketch, taken, cause);
     drop(outcome);
     told
 }
@@ -144,16 +158,17 @@ fn tell<H: AllocGlobal + Files>(
     tables: TableRequest,
     sketch: Option<PictureRequest>,
     taken: Vec<FileId>,
+    cause: &mut Option<Cause>,
 ) -> Result<String, Fault>
     ensures ok { IfOk result (λ line. PrintsRun Global (string_bytes line)) }
     ensures err { IfErr result (λ f. IsOfShowing (option_map (λ s. string_bytes s.file) sketch) f
         ⊎ IsOfTables (option_map string_bytes tables.delays) (option_map string_bytes tables.frames) f) }
 {
     let mut taken = taken;
-    if let Err(fault) = put_tables(rt, accepted, outcome, tables, &mut taken) {
+    if let Err(fault) = put_tables(rt, accepted, outcome, tables, &mut taken, cause) {
         return Err(fault);
     }
-    show(rt, accepted, outcome, sketch, &taken)
+    show(rt, accepted, outcome, sketch, &taken, cause)
 }
 
 /// What is printed of what a run told, once its picture is made where one is asked for.
@@ -163,12 +178,13 @@ fn show<H: AllocGlobal + Files>(
     outcome: &Outcome<Global>,
     sketch: Option<PictureRequest>,
     taken: &[FileId],
+    cause: &mut Option<Cause>,
 ) -> Result<String, Fault>
     ensures ok { IfOk result (λ line. PrintsRun Global (string_bytes line)) }
     ensures err { IfErr result (IsOfShowing (option_map (λ s. string_bytes s.file) sketch)) }
 {
     if let Some(sketch) = sketch {
-        if let Err(fault) = put_sketch(rt, accepted, outcome, sketch, taken) {
+        if let Err(fault) = put_sketch(rt, accepted, outcome, sketch, taken, cause) {
             return Err(fault);
         }
     }
@@ -187,6 +203,7 @@ fn send<H: AllocGlobal + Files>(
     input: &str,
     output: String,
     taken: &mut Vec<FileId>,
+    cause: &mut Option<Cause>,
 ) -> Result<Outcome<Global>, Fault>
     requires commands { AreCommands accepted.now orders.now }
     ensures { IfErr result (EndsSending accepted.now input.now (string_bytes output)) }
@@ -194,14 +211,15 @@ fn send<H: AllocGlobal + Files>(
     let Ok(ports) = accepted.plan().port_numbers(rt.alloc()) else {
         return Err(Fault::Run(RunFault::NoMemory));
     };
-    let readers = match open_all(rt, input, &ports) {
+    let readers = match open_all(rt, input, &ports, cause) {
         Ok(readers) => readers,
         Err(fault) => return Err(fault),
     };
     if is_same_folder(rt, input, output.as_str()) {
+        *cause = Some(Cause::SameFolder);
         return Err(Fault::File(output));
     }
-    let writers = match outputs_of(rt, output.as_str(), &ports, &readers, taken) {
+    let writers = match outputs_of(rt, output.as_str(), &ports, &readers, taken, cause) {
         Ok(writers) => writers,
         Err(fault) => return Err(fault),
     };
@@ -209,7 +227,7 @@ fn send<H: AllocGlobal + Files>(
         Ok((outcome, _)) => outcome,
         Err(halted) => return Err(Fault::Run(halted.fault)),
     };
-    if let Err(fault) = put_report(rt, &outcome, output.as_str(), taken) {
+    if let Err(fault) = put_report(rt, &outcome, output.as_str(), taken, cause) {
         drop(outcome);
         return Err(fault);
     }
@@ -224,6 +242,7 @@ fn outputs_of<H: AllocGlobal + Files>(
     ports: &[u8],
     readers: &[H::File],
     taken: &mut Vec<FileId>,
+    cause: &mut Option<Cause>,
 ) -> Result<Vec<Output<H::File>>, Fault>
     ensures all { IfOk result (λ outputs. length outputs.items ≡ length ports.now) }
     ensures only { IfErr result (IsOfOutputs folder.now ports.now) }
@@ -231,61 +250,83 @@ fn outputs_of<H: AllocGlobal + Files>(
     if add_files(taken, readers).is_err() {
         return Err(Fault::Run(RunFault::NoMemory));
     }
-    let outputs = match create_all(rt, folder, ports, taken) {
+    let outputs = match create_all(rt, folder, ports, taken, cause) {
         Ok(outputs) => outputs,
         Err(fault) => return Err(fault),
     };
-    if let Err(fault) = take_outputs(rt, folder, ports, taken) {
+    if let Err(fault) = take_outputs(rt, folder, ports, taken, cause) {
         return Err(fault);
     }
-    if let Err(fault) = spare_report(rt, folder, taken) {
+    if let Err(fault) = spare_report(rt, folder, taken, cause) {
         return Err(fault);
     }
     Ok(outputs)
 }
 
 /// `File` of the report of a folder where it is one of the files that are taken.
-fn spare_report<H: AllocGlobal + Files>(rt: &H, folder: &str, taken: &[FileId]) -> Result<(), Fault>
+fn spare_report<H: AllocGlobal + Files>(
+    rt: &H,
+    folder: &str,
+    taken: &[FileId],
+    cause: &mut Option<Cause>,
+) -> Result<(), Fault>
     ensures { IfErr result (IsOfReport folder.now) }
 {
     let Ok(path) = report_path(rt.alloc(), folder) else {
         return Err(Fault::Run(RunFault::NoMemory));
     };
     if is_one_of(taken, file_at(rt, path.as_str())) {
+        *cause = Some(Cause::Taken);
         return Err(Fault::File(path));
     }
     Ok(())
 }
 
 /// The plan of a file, where it is accepted, with the commands of another file, if there is one. Both files are added to
-/// those that are taken.
+/// those that are taken, their texts are noted, and the cause of one that can't be read.
 pub(crate) fn read_job<H: AllocGlobal + Files>(
     rt: &H,
     plan: String,
     commands: Option<String>,
     taken: &mut Vec<FileId>,
+    noted: &mut Noted,
 ) -> Result<(Accepted<Global>, Vec<Command>), Fault>
     ensures accepted { IfOk result (λ read. IsAcceptedPlan read.0) }
     ensures commands { IfOk result (λ read. AreCommands read.0 read.1.items) }
     ensures err { IfErr result (EndsReading Global (string_bytes plan) (option_map string_bytes commands)) }
 {
     let alloc = rt.alloc();
-    let reader = match open_taken(rt, plan.as_str(), taken) {
-        Ok(reader) => reader,
+    let text = match take_text(rt, plan.as_str(), taken, &mut noted.cause) {
+        Ok(text) => text,
         Err(fault) => return Err(fault_of_file(plan, fault)),
     };
-    let read = match plan_from(alloc, alloc, plan, reader) {
+    noted.plan = text;
+    let read = match plan_from(alloc, alloc, plan, noted.plan.as_slice()) {
         Ok(read) => read,
         Err(fault) => return Err(fault),
     };
-    let file = match commands {
+    let path = match commands {
         None => None,
-        Some(path) => match open_taken(rt, path.as_str(), taken) {
-            Ok(reader) => Some((path, reader)),
+        Some(path) => match take_text(rt, path.as_str(), taken, &mut noted.cause) {
+            Ok(text) => {
+                noted.commands = text;
+                Some(path)
+            }
             Err(fault) => return Err(fault_of_file(path, fault)),
         },
     };
+    let file = with_text(path, noted.commands.as_slice());
     commanded(alloc, alloc, read, file)
+}
+
+/// The path of a file, if there is one, with its text.
+fn with_text<'t>(path: Option<String>, text: &'t [u8]) -> Option<(String, &'t [u8])>
+    ensures { option_map (λ f. string_bytes f.0) result ≡ option_map string_bytes path }
+{
+    match path {
+        None => None,
+        Some(path) => Some((path, text)),
+    }
 }
 
 /// Makes the report in a folder, and adds its file to those that are taken.
@@ -294,18 +335,20 @@ fn put_report<H: AllocGlobal + Files>(
     outcome: &Outcome<Global>,
     folder: &str,
     taken: &mut Vec<FileId>,
+    cause: &mut Option<Cause>,
 ) -> Result<(), Fault>
     ensures { IfErr result (IsOfReport folder.now) }
 {
     let Ok(path) = report_path(rt.alloc(), folder) else {
         return Err(Fault::Run(RunFault::NoMemory));
     };
-    let Ok(output) = output_at(rt, path.as_str()) else {
+    let Some(output) = output_apart(rt, path.as_str(), &[], cause) else {
         return Err(Fault::File(path));
     };
     if add_file(taken, output.id()).is_err() {
         return Err(Fault::Run(RunFault::NoMemory));
     }
+    *cause = Some(Cause::NotWritable);
     match write_report(rt.alloc(), outcome, output) {
         Ok(output) => match output.finish() {
             Ok(()) => Ok(()),

@@ -3,12 +3,19 @@
 
 mod explaining;
 mod job;
+mod noting;
 mod picturing;
 mod sparing;
 mod strict;
 mod tables;
+mod wiring;
 
-pub use explaining::{said_of, said_of_accepted};
+pub use explaining::{said_of_file, said_of_plan, said_of_unread, said_of_words};
 pub use job::{run_job, run_with_picture, run_with_tables};
-pub use picturing::{picture_apart, picture_job, picture_part_job, picture_text, write_picture};
-pub use strict::{Checked, Strict, strict_run_job, told_check_job};
+pub use noting::Refusal;
+pub use picturing::{
+    picture_apart, picture_job, picture_part_job, picture_text, told_picture_job,
+    told_picture_text, write_picture,
+};
+pub use strict::{Strict, strict_run_job, told_check_job, told_run_job};
+pub use wiring::told_wire_job;

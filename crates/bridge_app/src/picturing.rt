@@ -2,11 +2,13 @@
 ghost use Rattle.std.specs.Prelude.{ℕ, IfErr, List, codes, string_bytes};
 ghost use Rattle.bridge_app.specs.Files.{EndsPicture, IsOfPicture};
 
+use crate::explaining::{kept_path, refusal_of};
+use crate::noting::{Noted, Refusal};
 use bridge_check::{Accepted, CheckFault, Refused, check};
 use bridge_cli::{PictureRequest, numbers_of};
-use bridge_files::{FileId, Output, add_file, file_at, is_one_of, open_taken, output_at};
+use bridge_files::{FileId, Output, add_file, file_at, is_one_of, output_apart, take_text};
 use bridge_inputs::RunFault;
-use bridge_jobs::{Fault, fault_of_file, plan_from};
+use bridge_jobs::{Cause, Fault, fault_of_file, plan_from};
 use bridge_picture::{NoMemory, Part, draw_plan, draw_run};
 use bridge_semantics::Outcome;
 use std::alloc::Global;
@@ -34,12 +36,44 @@ pub fn picture_part_job<H: AllocGlobal + Files>(
 ) -> Result<(), Fault>
     ensures { IfErr result (EndsPicture Global (string_bytes plan) (string_bytes file)) }
 {
+    let mut noted = Noted::new(rt.alloc());
+    draw_noted(rt, plan, file, sketch, &mut noted)
+}
+
+/// The same, with what is told of a fault, where that is asked for.
+pub fn told_picture_job<H: AllocGlobal + Files>(
+    rt: &H,
+    plan: String,
+    file: String,
+    sketch: Option<PictureRequest>,
+    is_explained: bool,
+) -> Result<(), Refusal>
+    ensures { IfErr result (λ refusal. EndsPicture Global (string_bytes plan) (string_bytes file) refusal.fault) }
+{
+    let path = kept_path(rt.alloc(), plan.as_str(), is_explained);
+    let mut noted = Noted::new(rt.alloc());
+    match draw_noted(rt, plan, file, sketch, &mut noted) {
+        Ok(()) => Ok(()),
+        Err(fault) => Err(refusal_of(rt.alloc(), &path, &noted, fault)),
+    }
+}
+
+/// Draws the plan of a file, or the part of it that is asked for, into another file, with what is noted of both.
+fn draw_noted<H: AllocGlobal + Files>(
+    rt: &H,
+    plan: String,
+    file: String,
+    sketch: Option<PictureRequest>,
+    noted: &mut Noted,
+) -> Result<(), Fault>
+    ensures { IfErr result (EndsPicture Global (string_bytes plan) (string_bytes file)) }
+{
     let mut taken = Vec::new(rt.alloc());
-    let text = match text_taken(rt, plan, sketch, &mut taken) {
+    let text = match text_taken(rt, plan, sketch, &mut taken, noted) {
         Ok(text) => text,
         Err(fault) => return Err(fault),
     };
-    put_picture(rt, file, &taken, text.as_str())
+    put_picture(rt, file, &taken, &mut noted.cause, text.as_str())
 }
 
 /// The picture of the plan of a file, or of the part of it that is asked for, for standard output, whose path is `-`.
@@ -52,20 +86,56 @@ pub fn picture_text<H: AllocGlobal + Files>(
 ) -> Result<String, Fault>
     ensures { IfErr result (EndsPicture Global (string_bytes plan) (codes "-")) }
 {
+    let mut noted = Noted::new(rt.alloc());
+    text_noted(rt, plan, sketch, &mut noted)
+}
+
+/// The same, with what is told of a fault, where that is asked for.
+pub fn told_picture_text<H: AllocGlobal + Files>(
+    rt: &H,
+    plan: String,
+    sketch: Option<PictureRequest>,
+    is_explained: bool,
+) -> Result<String, Refusal>
+    ensures { IfErr result (λ refusal. EndsPicture Global (string_bytes plan) (codes "-") refusal.fault) }
+{
+    let path = kept_path(rt.alloc(), plan.as_str(), is_explained);
+    let mut noted = Noted::new(rt.alloc());
+    match text_noted(rt, plan, sketch, &mut noted) {
+        Ok(text) => Ok(text),
+        Err(fault) => Err(refusal_of(rt.alloc(), &path, &noted, fault)),
+    }
+}
+
+/// The picture of the plan of a file, or of the part of it that is asked for, for standard output, with what is noted of both.
+fn text_noted<H: AllocGlobal + Files>(
+    rt: &H,
+    plan: String,
+    sketch: Option<PictureRequest>,
+    noted: &mut Noted,
+) -> Result<String, Fault>
+    ensures { IfErr result (EndsPicture Global (string_bytes plan) (codes "-")) }
+{
     let mut taken = Vec::new(rt.alloc());
-    match text_taken(rt, plan, sketch, &mut taken) {
-        Ok(text) => apart(rt, text, &taken),
+    match text_taken(rt, plan, sketch, &mut taken, noted) {
+        Ok(text) => apart(rt, text, &taken, &mut noted.cause),
         Err(fault) => Err(fault),
     }
 }
 
 /// A text that goes to standard output, unless that goes into one of some files.
-fn apart<H: AllocGlobal + Files>(rt: &H, text: String, taken: &[FileId]) -> Result<String, Fault>
+fn apart<H: AllocGlobal + Files>(
+    rt: &H,
+    text: String,
+    taken: &[FileId],
+    cause: &mut Option<Cause>,
+) -> Result<String, Fault>
     ensures { IfErr result (IsOfPicture (codes "-")) }
 {
     if !is_one_of(taken, file_at(rt, "/dev/stdout")) {
         return Ok(text);
     }
+    *cause = Some(Cause::Taken);
     match String::from_str(rt.alloc(), "-") {
         Ok(path) => Err(Fault::File(path)),
         Err(_) => Err(Fault::Run(RunFault::NoMemory)),
@@ -78,14 +148,16 @@ fn text_taken<H: AllocGlobal + Files>(
     plan: String,
     sketch: Option<PictureRequest>,
     taken: &mut Vec<FileId>,
+    noted: &mut Noted,
 ) -> Result<String, Fault>
     ensures { (file : List ℕ) → IfErr result (EndsPicture Global (string_bytes plan) file) }
 {
-    let reader = match open_taken(rt, plan.as_str(), taken) {
-        Ok(reader) => reader,
+    let text = match take_text(rt, plan.as_str(), taken, &mut noted.cause) {
+        Ok(text) => text,
         Err(fault) => return Err(fault_of_file(plan, fault)),
     };
-    let read = match plan_from(rt.alloc(), rt.alloc(), plan, reader) {
+    noted.plan = text;
+    let read = match plan_from(rt.alloc(), rt.alloc(), plan, noted.plan.as_slice()) {
         Ok(read) => read,
         Err(fault) => return Err(fault),
     };
@@ -184,33 +256,36 @@ fn take_files<H: AllocGlobal + Files>(
 
 /// Writes a picture that was made of some files into the file of a path, which is written anew and is none of them.
 ///
-/// `File` of the path where it can't be opened, made or written, or is one of them.
+/// `File` of the path where it can't be opened, made or written, or is one of them; its cause is noted.
 pub fn write_picture<H: AllocGlobal + Files>(
     rt: &H,
     path: String,
     read: &[String],
     text: &str,
+    cause: &mut Option<Cause>,
 ) -> Result<(), Fault>
     ensures { IfErr result (IsOfPicture (string_bytes path)) }
 {
     let mut taken = Vec::new(rt.alloc());
     match take_files(rt, read, &mut taken) {
-        Ok(()) => put_picture(rt, path, &taken, text),
+        Ok(()) => put_picture(rt, path, &taken, cause, text),
         Err(NoMemory) => Err(Fault::Run(RunFault::NoMemory)),
     }
 }
 
-/// A picture that was made of some files, for standard output, whose path is `-`. `File` of it where it goes into one of them.
+/// A picture that was made of some files, for standard output, whose path is `-`. `File` of it where it goes into one of them;
+/// its cause is noted.
 pub fn picture_apart<H: AllocGlobal + Files>(
     rt: &H,
     read: &[String],
     text: String,
+    cause: &mut Option<Cause>,
 ) -> Result<String, Fault>
     ensures { IfErr result (IsOfPicture (codes "-")) }
 {
     let mut taken = Vec::new(rt.alloc());
     match take_files(rt, read, &mut taken) {
-        Ok(()) => apart(rt, text, &taken),
+        Ok(()) => apart(rt, text, &taken, cause),
         Err(NoMemory) => Err(Fault::Run(RunFault::NoMemory)),
     }
 }
@@ -222,13 +297,14 @@ pub(crate) fn put_sketch<H: AllocGlobal + Files>(
     outcome: &Outcome<Global>,
     sketch: PictureRequest,
     taken: &[FileId],
+    cause: &mut Option<Cause>,
 ) -> Result<(), Fault>
     ensures { IfErr result (IsOfPicture (string_bytes sketch.file)) }
 {
     let Ok(text) = run_drawn(rt.alloc(), accepted, outcome, &sketch) else {
         return Err(Fault::Run(RunFault::NoMemory));
     };
-    put_picture(rt, sketch.file, taken, text.as_str())
+    put_picture(rt, sketch.file, taken, cause, text.as_str())
 }
 
 /// Writes a picture into the file of a path, which is none of those taken.
@@ -236,16 +312,15 @@ fn put_picture<H: AllocGlobal + Files>(
     rt: &H,
     path: String,
     taken: &[FileId],
+    cause: &mut Option<Cause>,
     text: &str,
 ) -> Result<(), Fault>
     ensures { IfErr result (IsOfPicture (string_bytes path)) }
 {
-    let Ok(output) = output_at(rt, path.as_str()) else {
+    let Some(output) = output_apart(rt, path.as_str(), taken, cause) else {
         return Err(Fault::File(path));
     };
-    if is_one_of(taken, output.id()) {
-        return Err(Fault::File(path));
-    }
+    *cause = Some(Cause::NotWritable);
     match write_text(output, text) {
         Ok(()) => Ok(()),
         Err(_) => Err(Fault::File(path)),

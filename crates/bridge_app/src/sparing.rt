@@ -8,7 +8,7 @@ use bridge_check::Accepted;
 use bridge_cli::{PictureRequest, TableRequest};
 use bridge_files::{FileId, add_file, capture_path, file_at, is_one_of, report_path};
 use bridge_inputs::RunFault;
-use bridge_jobs::{Fault, NoMemory};
+use bridge_jobs::{Cause, Fault, NoMemory};
 use std::alloc::Global;
 use std::fs;
 use std::rt::Files;
@@ -50,6 +50,7 @@ pub(crate) fn take_outputs<H: AllocGlobal + Files>(
     folder: &str,
     ports: &[u8],
     taken: &mut Vec<FileId>,
+    cause: &mut Option<Cause>,
 ) -> Result<(), Fault>
     ensures { IfErr result (IsOfCaptures folder.now ports.now) }
 {
@@ -61,6 +62,7 @@ pub(crate) fn take_outputs<H: AllocGlobal + Files>(
             return Err(Fault::Run(RunFault::NoMemory));
         };
         if !is_new {
+            *cause = Some(Cause::Taken);
             return Err(Fault::File(path));
         }
     }
@@ -98,12 +100,18 @@ fn files_of_run<H: AllocGlobal + Files>(
 }
 
 /// `File` of a path that leads to one of some files.
-fn spare<H: AllocGlobal + Files>(rt: &H, path: &str, files: &[FileId]) -> Result<(), Fault>
+fn spare<H: AllocGlobal + Files>(
+    rt: &H,
+    path: &str,
+    files: &[FileId],
+    cause: &mut Option<Cause>,
+) -> Result<(), Fault>
     ensures { IfErr result (IsOfTable (Some path.now)) }
 {
     if !is_one_of(files, regular_at(rt, path)) {
         return Ok(());
     }
+    *cause = Some(Cause::Taken);
     match String::from_str(rt.alloc(), path) {
         Ok(path) => Err(Fault::File(path)),
         Err(_) => Err(Fault::Run(RunFault::NoMemory)),
@@ -115,11 +123,12 @@ fn spare_table<H: AllocGlobal + Files>(
     rt: &H,
     path: &Option<String>,
     files: &[FileId],
+    cause: &mut Option<Cause>,
 ) -> Result<(), Fault>
     ensures { IfErr result (IsOfTable (option_map string_bytes path.now)) }
 {
     match path {
-        Some(path) => spare(rt, path.as_str(), files),
+        Some(path) => spare(rt, path.as_str(), files, cause),
         None => Ok(()),
     }
 }
@@ -129,11 +138,12 @@ fn spare_picture<H: AllocGlobal + Files>(
     rt: &H,
     sketch: &Option<PictureRequest>,
     files: &[FileId],
+    cause: &mut Option<Cause>,
 ) -> Result<(), Fault>
     ensures { IfErr result (IsOfShowing (option_map (λ s. string_bytes s.file) sketch.now)) }
 {
     match sketch {
-        Some(sketch) => spare(rt, sketch.file.as_str(), files),
+        Some(sketch) => spare(rt, sketch.file.as_str(), files, cause),
         None => Ok(()),
     }
 }
@@ -144,17 +154,18 @@ fn spare_each<H: AllocGlobal + Files>(
     tables: &TableRequest,
     sketch: &Option<PictureRequest>,
     files: &[FileId],
+    cause: &mut Option<Cause>,
 ) -> Result<(), Fault>
     ensures { IfErr result (λ f. IsOfShowing (option_map (λ s. string_bytes s.file) sketch.now) f
         ⊎ IsOfTables (option_map string_bytes tables.now.delays) (option_map string_bytes tables.now.frames) f) }
 {
-    if let Err(fault) = spare_table(rt, &tables.delays, files) {
+    if let Err(fault) = spare_table(rt, &tables.delays, files, cause) {
         return Err(fault);
     }
-    if let Err(fault) = spare_table(rt, &tables.frames, files) {
+    if let Err(fault) = spare_table(rt, &tables.frames, files, cause) {
         return Err(fault);
     }
-    spare_picture(rt, sketch, files)
+    spare_picture(rt, sketch, files, cause)
 }
 
 /// `File` of the first table, or else of the picture, that is asked for beside a run from one folder into another and would be
@@ -167,6 +178,7 @@ pub(crate) fn spare_files<H: AllocGlobal + Files>(
     tables: &TableRequest,
     sketch: &Option<PictureRequest>,
     taken: &[FileId],
+    cause: &mut Option<Cause>,
 ) -> Result<(), Fault>
     ensures { IfErr result (λ f. IsOfShowing (option_map (λ s. string_bytes s.file) sketch.now) f
         ⊎ IsOfTables (option_map string_bytes tables.now.delays) (option_map string_bytes tables.now.frames) f) }
@@ -174,5 +186,5 @@ pub(crate) fn spare_files<H: AllocGlobal + Files>(
     let Ok(files) = files_of_run(rt, accepted, input, output, taken) else {
         return Err(Fault::Run(RunFault::NoMemory));
     };
-    spare_each(rt, tables, sketch, &files)
+    spare_each(rt, tables, sketch, &files, cause)
 }

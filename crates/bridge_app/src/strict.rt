@@ -1,22 +1,22 @@
-//! Jobs over a plan for which a warning of it is a fault.
-ghost use Rattle.std.specs.Prelude.{◌≡◌, IfOk, IfErr, IfSome, None, option_map, string_bytes, true};
+//! Jobs over a plan of which more is told than their line: its warnings, which may be a fault, or what there is to say of a fault.
+ghost use Rattle.std.specs.Prelude.{◌≡◌, ◌⊎◌, ℕ, IfOk, IfErr, IfSome, List, None, codes, option_map, string_bytes, true};
 ghost use Rattle.bridge_config.specs.Commands.{AreCommands};
 ghost use Rattle.bridge_jobs.specs.Accepting.{accepted_line};
 ghost use Rattle.bridge_jobs.specs.Jobs.{EndsCheck, PrintsAccepted};
-ghost use Rattle.bridge_jobs.specs.Reading.{IsOfFile};
-ghost use Rattle.bridge_app.specs.Files.{EndsTabled, EndsTold, PrintsRun};
+ghost use Rattle.bridge_files.specs.Wiring.{IsStandard};
+ghost use Rattle.bridge_app.specs.Files.{EndsChecked, EndsTabled, EndsTold, PrintsRun};
 
-use crate::explaining::{MOST_TEXT, said_of_text};
+use crate::explaining::{kept_path, kept_paths, refusal_of_run, said_of_plan, warned_of};
 use crate::job::{read_job, send_told};
+use crate::noting::{Noted, Refusal};
+use bridge_advice::{warn_of_plan, warnings_of};
 use bridge_check::Accepted;
 use bridge_cli::{PictureRequest, TableRequest};
 use bridge_config::Command;
-use bridge_explain::{warn_of_plan, warnings_of};
-use bridge_files::{FileId, is_standard};
+use bridge_files::{FileId, is_standard, text_at};
 use bridge_inputs::RunFault;
-use bridge_jobs::{Fault, NoMemory, check_line, fault_of_file, planned, read_at_most};
+use bridge_jobs::{Cause, Fault, NoMemory, check_line, planned};
 use std::alloc::Global;
-use std::fs;
 use std::rt::Files;
 
 /// What a job over a plan comes to for which a warning is a fault.
@@ -64,62 +64,57 @@ fn checked_strictly(
     })
 }
 
-/// What the check of the plan of a file comes to, and what more is to be told of its fault.
-#[derive(Drop)]
-pub struct Checked {
-    /// What it comes to, or its fault.
-    pub strict: Result<Strict, Fault>,
-    /// What is told beside the line of the fault of a text that was read.
-    pub said: Option<String>,
-}
-
 /// What is printed and told for the plan of a file, or of standard input for `-`, as by `check_job`, with its warnings. All of it
 /// comes of one reading, so the file may be a pipe.
 ///
 /// Faults in the order of `check_job`: the file opened and read, its text, the check of the plan.
-pub fn told_check_job<H: AllocGlobal + Files>(rt: &H, plan: &str, is_explained: bool) -> Checked {
-    match text_at(rt, path_of(plan)) {
-        Ok(text) => checked_text(rt.alloc(), plan, &text, is_explained),
-        Err(fault) => Checked {
-            strict: Err(fault),
-            said: None,
+pub fn told_check_job<H: AllocGlobal + Files>(
+    rt: &H,
+    plan: &str,
+    is_explained: bool,
+) -> Result<Strict, Refusal>
+    ensures ok { IfOk result (λ strict. IfSome strict.line (λ line. (text : List ℕ)
+        × PrintsAccepted Global text (string_bytes line))) }
+    ensures err { IfErr result (λ refusal. EndsChecked Global plan.now refusal.fault) }
+{
+    let mut cause = None;
+    match text_at(rt, path_of(plan), &mut cause) {
+        Ok(text) => match strict_check(rt.alloc(), plan, &text, is_explained) {
+            Ok(strict) => Ok(strict),
+            Err(fault) => Err(refused(rt.alloc(), plan, &text, cause, fault, is_explained)),
         },
+        Err(fault) => Err(refused(rt.alloc(), plan, &[], cause, fault, is_explained)),
     }
 }
 
+/// A fault of a check, with what is told of it, where that is asked for.
+fn refused(
+    alloc: Global,
+    path: &str,
+    text: &[u8],
+    cause: Option<Cause>,
+    fault: Fault,
+    is_explained: bool,
+) -> Refusal
+    ensures { result.fault ≡ fault }
+{
+    let said = if is_explained {
+        said_of_plan(alloc, path, text, cause, &fault)
+    } else {
+        None
+    };
+    Refusal { fault, said }
+}
+
 /// The path of a file of the words, where `-` is standard input.
-fn path_of(file: &str) -> &str {
+fn path_of(file: &str) -> &str
+    ensures { (result.now ≡ file.now) ⊎ (IsStandard file.now × (result.now ≡ codes "/dev/stdin")) }
+{
     if is_standard(file) {
         "/dev/stdin"
     } else {
         file
     }
-}
-
-/// The text of a file.
-fn text_at<H: AllocGlobal + Files>(rt: &H, path: &str) -> Result<Vec<u8>, Fault>
-    ensures { IfErr result (IsOfFile path.now) }
-{
-    let Ok(path) = String::from_str(rt.alloc(), path) else {
-        return Err(Fault::Run(RunFault::NoMemory));
-    };
-    let Ok(reader) = fs::open(rt, path.as_str()) else {
-        return Err(Fault::File(path));
-    };
-    match read_at_most(rt.alloc(), reader, MOST_TEXT) {
-        Ok(text) => Ok(text),
-        Err(fault) => Err(fault_of_file(path, fault)),
-    }
-}
-
-/// What the check of a text comes to, by the path of its file.
-fn checked_text(alloc: Global, path: &str, text: &[u8], is_explained: bool) -> Checked {
-    let strict = strict_check(alloc, path, text, is_explained);
-    let said = match &strict {
-        Err(fault) if is_explained => said_of_text(alloc, path, text, fault),
-        _ => None,
-    };
-    Checked { strict, said }
 }
 
 /// What is printed and told for the plan of a text, by the path of its file.
@@ -163,12 +158,98 @@ pub fn strict_run_job<H: AllocGlobal + Files>(
         (string_bytes input) (string_bytes output) (option_map string_bytes tables.delays)
         (option_map string_bytes tables.frames) (option_map (λ s. string_bytes s.file) sketch)) }
 {
+    match told_run_job(
+        rt,
+        plan,
+        input,
+        output,
+        commands,
+        tables,
+        sketch,
+        true,
+        is_explained,
+    ) {
+        Ok(strict) => Ok(strict),
+        Err(refusal) => Err(refusal.fault),
+    }
+}
+
+/// What a run under the plan of a file comes to: as by `strict_run_job` where a warning is a fault, else as by `run_with_tables`,
+/// with what there is to say of the plan and of the folder that is read. What is told of it, or of its fault, comes of the one
+/// reading of the plan and of the commands, which may be pipes.
+pub fn told_run_job<H: AllocGlobal + Files>(
+    rt: &H,
+    plan: String,
+    input: String,
+    output: String,
+    commands: Option<String>,
+    tables: TableRequest,
+    sketch: Option<PictureRequest>,
+    is_strict: bool,
+    is_explained: bool,
+) -> Result<Strict, Refusal>
+    ensures ok { IfOk result (λ strict. IfSome strict.line (λ line. PrintsRun Global (string_bytes line))) }
+    ensures warned { IfOk result (λ strict. strict.is_warned ≡ true → strict.line ≡ None) }
+    ensures err { IfErr result (λ refusal. EndsTold Global (string_bytes plan) (option_map string_bytes commands)
+        (string_bytes input) (string_bytes output) (option_map string_bytes tables.delays)
+        (option_map string_bytes tables.frames) (option_map (λ s. string_bytes s.file) sketch) refusal.fault) }
+{
+    let paths = kept_paths(
+        rt.alloc(),
+        plan.as_str(),
+        input.as_str(),
+        output.as_str(),
+        &commands,
+        is_explained,
+    );
+    let mut noted = Noted::new(rt.alloc());
+    let wishes = Wishes {
+        is_strict,
+        is_explained,
+    };
+    match run_noted(
+        rt, plan, input, output, commands, tables, sketch, wishes, &mut noted,
+    ) {
+        Ok(strict) => Ok(strict),
+        Err(fault) => Err(refusal_of_run(rt, &paths, &noted, fault)),
+    }
+}
+
+/// What is wanted of a run beside its line.
+#[derive(Clone, Copy)]
+struct Wishes {
+    /// Whether a warning is a fault.
+    is_strict: bool,
+    /// Whether all is told that is to be said of the plan.
+    is_explained: bool,
+}
+
+/// What a run comes to, with what it noted of its files.
+fn run_noted<H: AllocGlobal + Files>(
+    rt: &H,
+    plan: String,
+    input: String,
+    output: String,
+    commands: Option<String>,
+    tables: TableRequest,
+    sketch: Option<PictureRequest>,
+    wishes: Wishes,
+    noted: &mut Noted,
+) -> Result<Strict, Fault>
+    ensures ok { IfOk result (λ strict. IfSome strict.line (λ line. PrintsRun Global (string_bytes line))) }
+    ensures warned { IfOk result (λ strict. strict.is_warned ≡ true → strict.line ≡ None) }
+    ensures err { IfErr result (EndsTold Global (string_bytes plan) (option_map string_bytes commands)
+        (string_bytes input) (string_bytes output) (option_map string_bytes tables.delays)
+        (option_map string_bytes tables.frames) (option_map (λ s. string_bytes s.file) sketch)) }
+{
     let mut taken = Vec::new(rt.alloc());
-    let (accepted, orders) = match read_job(rt, plan, commands, &mut taken) {
+    let (accepted, orders) = match read_job(rt, plan, commands, &mut taken, noted) {
         Ok(read) => read,
         Err(fault) => return Err(fault),
     };
-    let told = send_strictly(
+    noted.plan = Vec::new(rt.alloc());
+    noted.commands = Vec::new(rt.alloc());
+    let told = send_by(
         rt,
         &accepted,
         &orders,
@@ -177,10 +258,75 @@ pub fn strict_run_job<H: AllocGlobal + Files>(
         taken,
         tables,
         sketch,
-        is_explained,
+        wishes,
+        &mut noted.cause,
     );
     drop(accepted);
     told
+}
+
+/// What a run under an accepted plan comes to.
+fn send_by<H: AllocGlobal + Files>(
+    rt: &H,
+    accepted: &Accepted<Global>,
+    orders: &[Command],
+    input: String,
+    output: String,
+    taken: Vec<FileId>,
+    tables: TableRequest,
+    sketch: Option<PictureRequest>,
+    wishes: Wishes,
+    cause: &mut Option<Cause>,
+) -> Result<Strict, Fault>
+    requires commands { AreCommands accepted.now orders.now }
+    ensures ok { IfOk result (λ strict. IfSome strict.line (λ line. PrintsRun Global (string_bytes line))) }
+    ensures warned { IfOk result (λ strict. strict.is_warned ≡ true → strict.line ≡ None) }
+    ensures err { IfErr result (EndsTabled accepted.now (string_bytes input) (string_bytes output)
+        (option_map string_bytes tables.delays) (option_map string_bytes tables.frames)
+        (option_map (λ s. string_bytes s.file) sketch)) }
+{
+    if wishes.is_strict {
+        let is_explained = wishes.is_explained;
+        return send_strictly(
+            rt,
+            accepted,
+            orders,
+            input,
+            output,
+            taken,
+            tables,
+            sketch,
+            is_explained,
+            cause,
+        );
+    }
+    let folder = kept_path(rt.alloc(), input.as_str(), wishes.is_explained);
+    match send_told(
+        rt, accepted, orders, input, output, taken, tables, sketch, cause,
+    ) {
+        Ok(line) => Ok(Strict {
+            line: Some(line),
+            told: told_behind(rt, accepted, &folder),
+            is_warned: false,
+        }),
+        Err(fault) => Err(fault),
+    }
+}
+
+/// What is told of an accepted plan behind its run, and of the folder that was read, where there is its path.
+fn told_behind(
+    rt: &(impl AllocGlobal + Files),
+    accepted: &Accepted<Global>,
+    folder: &Option<String>,
+) -> String {
+    let told = match folder {
+        Some(folder) => warned_of(rt, accepted, folder.as_str()),
+        None => None,
+    };
+    match told {
+        Some(told) => told,
+        None => String::new(rt.alloc()),
+    }
 }
 
 /// What a run under an accepted plan comes to, where there is no warning of the plan.
@@ -195,6 +341,7 @@ fn send_strictly<H: AllocGlobal + Files>(
     tables: TableRequest,
     sketch: Option<PictureRequest>,
     is_explained: bool,
+    cause: &mut Option<Cause>,
 ) -> Result<Strict, Fault>
     requires commands { AreCommands accepted.now orders.now }
     ensures ok { IfOk result (λ strict. IfSome strict.line (λ line. PrintsRun Global (string_bytes line))) }
@@ -213,7 +360,9 @@ fn send_strictly<H: AllocGlobal + Files>(
             is_warned,
         });
     }
-    match send_told(rt, accepted, orders, input, output, taken, tables, sketch) {
+    match send_told(
+        rt, accepted, orders, input, output, taken, tables, sketch, cause,
+    ) {
         Ok(line) => Ok(Strict {
             line: Some(line),
             told,

@@ -4,9 +4,9 @@ ghost use Rattle.bridge_app.specs.Files.{IsOfTable, IsOfTables};
 
 use bridge_check::Accepted;
 use bridge_cli::TableRequest;
-use bridge_files::{FileId, Output, add_file, is_one_of, output_at};
+use bridge_files::{FileId, Output, add_file, output_apart};
 use bridge_inputs::RunFault;
-use bridge_jobs::Fault;
+use bridge_jobs::{Cause, Fault};
 use bridge_semantics::Outcome;
 use bridge_tables::{delay_table, frame_table};
 use std::alloc::Global;
@@ -16,22 +16,23 @@ use std::io::Write;
 use std::rt::Files;
 
 /// Writes the tables of what a run told that are asked for, each into a file that is none of those taken and is one of them
-/// then: that of delays, then that of frames.
+/// then: that of delays, then that of frames. The cause of one that fails is noted.
 pub(crate) fn put_tables<H: AllocGlobal + Files>(
     rt: &H,
     accepted: &Accepted<Global>,
     outcome: &Outcome<Global>,
     tables: TableRequest,
     taken: &mut Vec<FileId>,
+    cause: &mut Option<Cause>,
 ) -> Result<(), Fault>
     ensures { IfErr result (IsOfTables (option_map string_bytes tables.delays)
         (option_map string_bytes tables.frames)) }
 {
     let TableRequest { delays, frames } = tables;
-    if let Err(fault) = put_delays(rt, accepted, outcome, delays, taken) {
+    if let Err(fault) = put_delays(rt, accepted, outcome, delays, taken, cause) {
         return Err(fault);
     }
-    put_frames(rt, outcome, frames, taken)
+    put_frames(rt, outcome, frames, taken, cause)
 }
 
 /// Writes the table of delays, if it is asked for.
@@ -41,6 +42,7 @@ fn put_delays<H: AllocGlobal + Files>(
     outcome: &Outcome<Global>,
     path: Option<String>,
     taken: &mut Vec<FileId>,
+    cause: &mut Option<Cause>,
 ) -> Result<(), Fault>
     ensures { IfErr result (IsOfTable (option_map string_bytes path)) }
 {
@@ -50,7 +52,7 @@ fn put_delays<H: AllocGlobal + Files>(
     let Ok(text) = delay_table(rt.alloc(), accepted, outcome) else {
         return Err(Fault::Run(RunFault::NoMemory));
     };
-    put_table(rt, path, taken, text.as_str())
+    put_table(rt, path, taken, cause, text.as_str())
 }
 
 /// Writes the table of frames, if it is asked for.
@@ -59,6 +61,7 @@ fn put_frames<H: AllocGlobal + Files>(
     outcome: &Outcome<Global>,
     path: Option<String>,
     taken: &mut Vec<FileId>,
+    cause: &mut Option<Cause>,
 ) -> Result<(), Fault>
     ensures { IfErr result (IsOfTable (option_map string_bytes path)) }
 {
@@ -68,7 +71,7 @@ fn put_frames<H: AllocGlobal + Files>(
     let Ok(text) = frame_table(rt.alloc(), outcome) else {
         return Err(Fault::Run(RunFault::NoMemory));
     };
-    put_table(rt, path, taken, text.as_str())
+    put_table(rt, path, taken, cause, text.as_str())
 }
 
 /// Writes a table into the file of a path, which is none of those taken and is one of them then.
@@ -76,19 +79,18 @@ fn put_table<H: AllocGlobal + Files>(
     rt: &H,
     path: String,
     taken: &mut Vec<FileId>,
+    cause: &mut Option<Cause>,
     text: &str,
 ) -> Result<(), Fault>
     ensures { IfErr result (IsOfTable (Some (string_bytes path))) }
 {
-    let Ok(output) = output_at(rt, path.as_str()) else {
+    let Some(output) = output_apart(rt, path.as_str(), taken, cause) else {
         return Err(Fault::File(path));
     };
-    if is_one_of(taken, output.id()) {
-        return Err(Fault::File(path));
-    }
     if add_file(taken, output.id()).is_err() {
         return Err(Fault::Run(RunFault::NoMemory));
     }
+    *cause = Some(Cause::NotWritable);
     match write_whole(output, text) {
         Ok(()) => Ok(()),
         Err(_) => Err(Fault::File(path)),

@@ -13,13 +13,14 @@ use Rattle.bridge_gate.specs.declared.gate.GateAnswer.{GateAnswer}
 use Rattle.bridge_gate.specs.declared.gate.GateAnswer.TheVariants as gate
 use Rattle.bridge_gate.specs.Gates as gates
 use Rattle.bridge_gate.specs.Gates.{GateStep, Told, answer}
+use Rattle.bridge_filter.specs.declared.Call.{Call}
 use Rattle.bridge_filter.specs.declared.Clear.{Clear}
 use Rattle.bridge_filter.specs.declared.Clear.TheVariants as clear
 use Rattle.bridge_filter.specs.declared.FilterPlan.{FilterPlan}
 use Rattle.bridge_filter.specs.declared.Verdict.{Verdict}
 use Rattle.bridge_filter.specs.declared.Verdict.TheVariants as verdict
 use Rattle.bridge_filter.specs.Verdicts as verdicts
-use Rattle.bridge_filter.specs.Verdicts.{Call, Commanded, Judged, Plans, Step, by_answer, gate_answer, gate_share, is_above, is_blocked, judged, reached_gate, told, verdict_of}
+use Rattle.bridge_filter.specs.Verdicts.{Commanded, Judged, Plans, Step, by_answer, gate_answer, gate_share, is_above, is_blocked, judged, reached_gate, told, verdict_of}
 use Rattle.bridge_filter.proofs.Members.{one_number}
 use Rattle.bridge_filter.proofs.Numbered.{same_eq}
 use Rattle.bridge_filter.proofs.Owned.{flow_listed}
@@ -32,12 +33,12 @@ use Rattle.bridge_check.specs.Acceptable.{IsAcceptable}
 use Rattle.bridge_check.specs.Reach.{reaches}
 use Rattle.bridge_semantics.specs.declared.way.Way.{Way}
 use Rattle.bridge_semantics.specs.declared.way.Way.TheVariants as way
-use Rattle.bridge_semantics.specs.Events.{Arrival, Arrived, Cleared, Event, and_call, call_by, call_of, calls, metered, police_of, steps, way_of}
+use Rattle.bridge_semantics.specs.Events.{Arrival, Arrived, Cleared, Event, and_call, call_by, call_of, calls, police_of, steps, way_of}
 use Rattle.bridge_semantics.specs.Offers.{Carried, Offer, in_class, offer, offer_by, offer_of_step, offer_on, offered, offers}
 use Rattle.bridge_semantics.specs.Runs.{IsRun}
 use Rattle.bridge_semantics.proofs.Facts.{own_queues}
 use Rattle.bridge_semantics.proofs.Headline.{as_offer}
-use Rattle.bridge_semantics.proofs.Offering.{going_if}
+use Rattle.bridge_semantics.proofs.Offering.{going}
 use Rattle.bridge_bounds.specs.Passing.{AreSeldom, AreWithinLengths, HaveTypes, LetsFew, recent, started_at, through_at}
 use Rattle.bridge_bounds.proofs.Let.{seldom}
 use Rattle.bridge_bounds.proofs.Sizes.{head_read}
@@ -223,16 +224,15 @@ module _ {A : Type 0} (p : Plan A) (n : ℕ) (f : FilterPlan) (plan : IsPlan p) 
         (λ k. rw k before)
     step_among a es priority cl (Some x) at is flows before = verdict_among a es priority _ x.0 x.1 (verdict_of (police_of p) (steps p es) cl x.0 x.1) cl at (flow_listed p.filters cl x is) refl flows before
 
-    way_among : (a : Arrival) (es : List Event) (w : Way) → AreOwn (offer_on p out a es w) → IsAmong (offered_at c (offers p out es)) (let_at (steps p es))
-        → IsAmong (offered_at c (offer_on p out a es w ++ offers p out es)) (let_at (told (police_of p) (and_call (call_by a w) (calls p es))))
-    way_among a es way.Malformed flows before = before
-    way_among a es way.Nowhere flows before = before
-    way_among a es (way.Goes set handle priority dei sdu) flows before =
-        let cl : Call = verdicts.call a.at handle priority dei sdu (metered a.len) in
-        by_bool (has set out.number)
+    way_among : (a : Arrival) (es : List Event) (w : Way) → way_of p a ≡ w → AreOwn (offer_on p out a es w) → IsAmong (offered_at c (offers p out es)) (let_at (steps p es))
+        → IsAmong (offered_at c (offer_on p out a es w ++ offers p out es)) (let_at (told (police_of p) (and_call (call_by w) (calls p es))))
+    way_among a es way.Malformed w flows before = before
+    way_among a es way.Nowhere w flows before = before
+    way_among a es (way.Goes set cl) w flows before = by_bool (has set out.number)
         (λ k.
-        let own : AreOwn (offer_of_step p out a es priority (judged (police_of p) (steps p es) cl (verdicts.flow p.filters cl))) = rw k at flows in
-        rw k (step_among a es priority cl (verdicts.flow p.filters cl) refl refl own before))
+        let own : AreOwn (offer_of_step p out a es cl.priority (judged (police_of p) (steps p es) cl (verdicts.flow p.filters cl))) = rw k at flows in
+        let at : cl.at ≡ a.at = sym (ap (λ (z : Call). z.at) (going p a set cl w).call_is) in
+        rw k (step_among a es cl.priority cl (verdicts.flow p.filters cl) at refl own before))
         (λ k. rw k (frame_skips (offered_at c (offers p out es)) (steps p es) cl (verdicts.flow p.filters cl) before))
 
     -- the offers of the class were made when the gate let a frame through
@@ -240,20 +240,17 @@ module _ {A : Type 0} (p : Plan A) (n : ℕ) (f : FilterPlan) (plan : IsPlan p) 
     offers_among [] flows = tt
     offers_among (Cleared d m ∷ es) flows = commanded_same (offered_at c (offers p out es)) (steps p es) d m (offers_among es flows)
     offers_among (Arrived a ∷ es) flows =
-        way_among a es (way_of p a)
+        way_among a es (way_of p a) refl
         (λ o i. flows o (in_left o (offer_on p out a es (way_of p a)) (offers p out es) i))
         (offers_among es (λ o i. flows o (in_right o (offer_on p out a es (way_of p a)) (offers p out es) i)))
 
   -- each frame that reaches a gate has an EtherType
-  call_types : (a : Arrival) (cl : Call) (w : Way) → length a.octets ≤ a.len → way_of p a ≡ w → call_by a w ≡ Some cl → 2 ≤ cl.sdu
+  call_types : (a : Arrival) (cl : Call) (w : Way) → length a.octets ≤ a.len → way_of p a ≡ w → call_by w ≡ Some cl → 2 ≤ cl.sdu
   call_types a cl way.Malformed within w h = absurd (cc)
   call_types a cl way.Nowhere within w h = absurd (cc)
-  call_types a cl (way.Goes set handle priority dei sdu) within w h =
-      let made : Call = verdicts.call a.at handle priority dei sdu (metered a.len) in
-      let same : made ≡ cl = same_Some made cl h in
-      let going = going_if p a.at a.port set handle priority dei sdu (port_at p.ports a.port) (head a.octets a.len) refl w in
-      let some : 2 ≤ sdu = subst (λ (k : ℕ). 2 ≤ k) going.sdu_is (head_some a.octets a.len going.parsed within going.is) in
-      subst (λ (z : Call). 2 ≤ z.sdu) same some
+  call_types a cl (way.Goes set made) within w h =
+      let g = going p a set made w in
+      subst (λ (z : Call). 2 ≤ z.sdu) (g.call_is ∙ same_Some made cl h) (head_some a.octets a.len g.parsed within g.is)
 
   judged_types : (ss : List Step) (cl : Call) (x : Option (ℕ × FilterPlan)) → 2 ≤ cl.sdu → HaveTypes (gate_share f.gate ss) → HaveTypes (gate_share f.gate (judged (police_of p) ss cl x ∷ ss))
   judged_types ss cl None some before = before

@@ -15,6 +15,7 @@ use Rattle.bridge_frame.specs.declared.Speed.TheVariants.{Mbps10, Mbps100, Mbps1
 use Rattle.bridge_frame.specs.Frames.{head, head_octets, is_tagged, sdu_octets}
 use Rattle.bridge_frame.specs.Link.{occupied}
 use Rattle.bridge_forward.specs.Ports.{has}
+use Rattle.bridge_filter.specs.declared.Call.{Call}
 use Rattle.bridge_filter.specs.declared.FilterPlan.{FilterPlan}
 use Rattle.bridge_filter.specs.declared.Verdict.{Verdict}
 use Rattle.bridge_filter.specs.declared.Verdict.TheVariants as verdict
@@ -24,13 +25,13 @@ use Rattle.bridge_filter.proofs.Members.{one_number}
 use Rattle.bridge_filter.proofs.Owned.{flow_listed}
 use Rattle.bridge_config.specs.declared.ports.PortPlan.{PortPlan}
 use Rattle.bridge_config.specs.Model.{Plan}
-use Rattle.bridge_config.specs.Rules.{IsPlan, port_at}
+use Rattle.bridge_config.specs.Rules.{IsPlan}
 use Rattle.bridge_check.specs.Windows.{longest_frame}
 use Rattle.bridge_semantics.specs.declared.way.Way.{Way}
 use Rattle.bridge_semantics.specs.declared.way.Way.TheVariants.{Malformed, Nowhere, Goes}
-use Rattle.bridge_semantics.specs.Events.{Arrival, Event, Arrived, Cleared, way_of, metered, police_of, steps, count}
+use Rattle.bridge_semantics.specs.Events.{Arrival, Event, Arrived, Cleared, way_of, police_of, steps, count}
 use Rattle.bridge_semantics.specs.Offers.{Offer, offer_by, offer_of_step, offer_on, offer_of, offers}
-use Rattle.bridge_semantics.proofs.Offering.{going_if}
+use Rattle.bridge_semantics.proofs.Offering.{going}
 
 -- THE TIME OF A LENGTH
 
@@ -120,7 +121,7 @@ record IsWithin (a : Arrival) (sdu m : ℕ) (o : Offer) : Type 0 where
   len : o.item.len ≡ a.len
   few : sdu ≤ m
 
-within_by : {A : Type 0} (p : Plan A) (n m : ℕ) (f : FilterPlan) (out : PortPlan A) (a : Arrival) (es : List Event) (priority : ℕ) (c : verdicts.Call) (o : Offer) (x : Option (ℕ × FilterPlan)) → IsPlan p → In (n, f) p.filters → f.max_sdu ≡ Some m → o.item.flow ≡ Some n → verdicts.flow p.filters c ≡ x → In o (offer_of_step p out a es priority (verdicts.judged (police_of p) (steps p es) c x)) → IsWithin a c.sdu m o
+within_by : {A : Type 0} (p : Plan A) (n m : ℕ) (f : FilterPlan) (out : PortPlan A) (a : Arrival) (es : List Event) (priority : ℕ) (c : Call) (o : Offer) (x : Option (ℕ × FilterPlan)) → IsPlan p → In (n, f) p.filters → f.max_sdu ≡ Some m → o.item.flow ≡ Some n → verdicts.flow p.filters c ≡ x → In o (offer_of_step p out a es priority (verdicts.judged (police_of p) (steps p es) c x)) → IsWithin a c.sdu m o
 within_by p n m f out a es priority c o None plan listed size flow fl (inl same) = let none : o.item.flow ≡ None = ap (λ z. z.item.flow) same in absurd (cc)
 within_by p n m f out a es priority c o None plan listed size flow fl (inr i) = absurd i
 within_by p n m f out a es priority c o (Some x) plan listed size flow fl i =
@@ -135,16 +136,15 @@ within_by p n m f out a es priority c o (Some x) plan listed size flow fl i =
 within_way : {A : Type 0} (p : Plan A) (n m : ℕ) (f : FilterPlan) (out : PortPlan A) (a : Arrival) (es : List Event) (o : Offer) (w : Way) → IsPlan p → In (n, f) p.filters → f.max_sdu ≡ Some m → o.item.flow ≡ Some n → way_of p a ≡ w → In o (offer_on p out a es w) → o.item.len ≤ longest_frame m
 within_way p n m f out a es o Malformed plan listed size flow w i = absurd i
 within_way p n m f out a es o Nowhere plan listed size flow w i = absurd i
-within_way {A} p n m f out a es o (Goes set handle priority dei sdu) plan listed size flow w i = by_bool (has set out.number)
+within_way {A} p n m f out a es o (Goes set made) plan listed size flow w i = by_bool (has set out.number)
     (λ k.
-    let made : verdicts.Call = verdicts.call a.at handle priority dei sdu (metered a.len) in
-    let j : In o (offer_of_step p out a es priority (verdicts.judged (police_of p) (steps p es) made (verdicts.flow p.filters made))) = rw k at i in
-    let within = within_by p n m f out a es priority made o (verdicts.flow p.filters made) plan listed size flow refl j in
-    let g = going_if p a.at a.port set handle priority dei sdu (port_at p.ports a.port) (head a.octets a.len) refl w in
+    let j : In o (offer_of_step p out a es made.priority (verdicts.judged (police_of p) (steps p es) made (verdicts.flow p.filters made))) = rw k at i in
+    let within = within_by p n m f out a es made.priority made o (verdicts.flow p.filters made) plan listed size flow refl j in
+    let g = going p a set made w in
     let short = head_len a.octets a.len g.parsed g.is in
-    let more = longest_rises sdu m within.few in
-    let own : a.len ≤ longest_frame sdu = subst (λ (z : ℕ). a.len ≤ longest_frame z) g.sdu_is short in
-    subst (λ (z : ℕ). z ≤ longest_frame m) (sym within.len) (le-trans a.len (longest_frame sdu) (longest_frame m) own more))
+    let more = longest_rises made.sdu m within.few in
+    let own : a.len ≤ longest_frame made.sdu = subst (λ (z : Call). a.len ≤ longest_frame z.sdu) g.call_is short in
+    subst (λ (z : ℕ). z ≤ longest_frame m) (sym within.len) (le-trans a.len (longest_frame made.sdu) (longest_frame m) own more))
     (λ k. let j : ⊥ = rw k at i in absurd j)
   where
     le-trans : (x y z : ℕ) → x ≤ y → y ≤ z → x ≤ z

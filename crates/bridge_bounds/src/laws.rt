@@ -115,7 +115,8 @@ pub fn in_time<A: Allocator + Copy>()
         → x.fate ≡ Started s
         → IsLongest (opens_of out.list x.class) (occupied (longest_frame m) out.speed) ((egress out).room x.class) d
         → s + occupied x.item.len out.speed ≤ x.at + (occupied (longest_frame m) out.speed - 1) + d }
-    ensures bound { (p : Plan A) (n b : ℕ) (es : List Event) (moments : ℕ → ℕ) (lists : ℕ → List (Copy Carried)) (q s : ℕ)
+    ensures bound { (p : Plan A) (n b : ℕ) (es : List Event) (moments : ℕ → ℕ) (lists : ℕ → List (Copy Carried))
+        (q s : ℕ)
         (out : PortPlan A) (x : Copy Carried)
         → IsPlan p
         → IsAcceptable p

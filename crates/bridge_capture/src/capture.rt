@@ -89,7 +89,8 @@ impl Capture {
         alloc: A,
         source: &mut R,
     ) -> Result<Option<Packet<A>>, CaptureFault>
-        ensures stands { (text : List ℕ) (given : List Captured) → StandsFor self.old (R.remaining source.old) text given →
+        ensures stands { (text : List ℕ) (given : List Captured)
+            → StandsFor self.old (R.remaining source.old) text given →
             Answers self.new (R.remaining source.new) text given result }
         ensures taken { IfErr result (λ fault. IsReading self.old
             → TakesFor self.old (R.remaining source.old) (R.remaining source.new) fault) }
@@ -133,7 +134,8 @@ impl Capture {
         octets: &mut Vec<u8, A>,
         source: &mut R,
     ) -> Result<Option<Stamp>, CaptureFault>
-        ensures stands { (text : List ℕ) (given : List Captured) → StandsFor self.old (R.remaining source.old) text given →
+        ensures stands { (text : List ℕ) (given : List Captured)
+            → StandsFor self.old (R.remaining source.old) text given →
             Answers self.new (R.remaining source.new) text given (packet_in octets.new result) }
         ensures taken { IfErr result (λ fault. IsReading self.old
             → TakesFor self.old (R.remaining source.old) (R.remaining source.new) fault) }

@@ -52,7 +52,8 @@ fn head_of(form: Form, octets: &[u8]) -> Head
 /// Whether record `number`, after one at `earliest`, may have these words; else their first fault.
 #[inline(always)]
 fn judge_head(number: u32, earliest: u64, head: Head) -> Result<(), CaptureFault>
-    ensures judged { let fault = head_fault (record { number = number; earliest = earliest }) head.time head.captured head.original in
+    ensures judged { let fault = head_fault (record { number = number; earliest = earliest })
+        head.time head.captured head.original in
         MatchResult result (λ _. fault ≡ None) (λ f. fault ≡ Some f) }
     ensures only { IfErr result IsOfWords }
 {
@@ -135,7 +136,8 @@ pub fn front_record<R: ByteSource, A: Allocator>(
     source: &mut R,
 ) -> Result<Option<Stamp>, CaptureFault>
     ensures record { IfSome (R.remaining source.old) (λ text.
-        Takes (front_of form (record { number = number; earliest = earliest }) text) (R.remaining source.new) (packet_in octets.new result)) }
+        Takes (front_of form (record { number = number; earliest = earliest }) text) (R.remaining source.new)
+        (packet_in octets.new result)) }
     ensures taken { IfErr result (TakesOfRecord form (record
         { number = number; earliest = earliest }) (R.remaining source.old) (R.remaining source.new)) }
     ensures few { IfPacket (packet_in octets.new result) (λ _. number ≤ MAX_RECORDS) }
@@ -182,7 +184,8 @@ fn read_record<R: ByteSource, A: Allocator>(
     source: &mut R,
 ) -> Result<Option<Stamp>, CaptureFault>
     ensures record { IfSome (R.remaining source.old) (λ text.
-        Takes (front_of form (record { number = number; earliest = earliest }) text) (R.remaining source.new) (packet_in octets.new result)) }
+        Takes (front_of form (record { number = number; earliest = earliest }) text) (R.remaining source.new)
+        (packet_in octets.new result)) }
     ensures taken { IfErr result (TakesOfRecord form (record
         { number = number; earliest = earliest }) (R.remaining source.old) (R.remaining source.new)) }
     ensures few { IfPacket (packet_in octets.new result) (λ _. number ≤ MAX_RECORDS) }

@@ -23,7 +23,13 @@ impl<'a> Model for SliceSource<'a> {
 
     ghost Value = { MemoryDevice };
 
-    ghost view = { λ s. record { octets = s.rest.now; allowance = s.allowance; step = s.step; is_broken = s.is_broken; ran_out = false } };
+    ghost view = { λ s. record {
+      octets = s.rest.now;
+      allowance = s.allowance;
+      step = s.step;
+      is_broken = s.is_broken;
+      ran_out = false;
+    } };
 
     ghost invariant = { λ s. 0 < s.step };
 }

@@ -27,7 +27,13 @@ impl<A: Allocator> Model for VecSink<A> {
 
     ghost Value = { MemoryDevice };
 
-    ghost view = { λ s. record { octets = s.octets.items; allowance = s.allowance; step = s.step; is_broken = s.is_broken; ran_out = s.ran_out } };
+    ghost view = { λ s. record {
+      octets = s.octets.items;
+      allowance = s.allowance;
+      step = s.step;
+      is_broken = s.is_broken;
+      ran_out = s.ran_out;
+    } };
 
     ghost invariant = { λ s. 0 < s.step };
 }

@@ -31,11 +31,12 @@ use Rattle.bridge_ident.specs.Identification as ident
 use Rattle.bridge_meter.specs.declared.Colour.{Colour}
 use Rattle.bridge_meter.specs.declared.Colour.TheVariants as colour
 use Rattle.bridge_meter.specs.declared.MeterPlan.{MeterPlan}
+use Rattle.bridge_filter.specs.declared.Call.{Call}
 use Rattle.bridge_filter.specs.declared.FilterPlan.{FilterPlan}
 use Rattle.bridge_filter.specs.declared.Verdict.{Verdict}
 use Rattle.bridge_filter.specs.declared.Verdict.TheVariants as verdict
 use Rattle.bridge_filter.specs.Plans.{plans_of, gate_or_closed}
-use Rattle.bridge_filter.specs.Verdicts.{Call, Plans, Step, flow, lesser, is_match, takes_handle, takes_priority, verdict_of, by_answer, by_meter, by_colour, gate_answer, gate_share, is_blocked, is_above}
+use Rattle.bridge_filter.specs.Verdicts.{Plans, Step, flow, lesser, is_match, takes_handle, takes_priority, verdict_of, by_answer, by_meter, by_colour, gate_answer, gate_share, is_blocked, is_above}
 use Rattle.bridge_filter.proofs.Numbered.{same_eq}
 use Rattle.bridge_filter.proofs.Taken.{flow_matches, taken_handle}
 use Rattle.bridge_ident.proofs.Entries.{given}

@@ -3,7 +3,8 @@ use Rattle.std.specs.Prelude.{ℕ, Bool, false, Option, Some, None, nat_eq, slic
 use Rattle.bridge_frame.specs.declared.Head.{Head}
 use Rattle.bridge_frame.specs.declared.Tag.{Tag}
 use Rattle.bridge_ident.specs.Identification.{handle_in}
-use Rattle.bridge_filter.specs.Verdicts.{Call, call}
+use Rattle.bridge_filter.specs.declared.Call.{Call}
+use Rattle.bridge_filter.specs.Verdicts.{call}
 use Rattle.bridge_config.specs.declared.ports.PortPlan.{PortPlan}
 use Rattle.bridge_config.specs.Model.{Plan}
 

@@ -1,7 +1,7 @@
 //! Why a plan is refused.
 ghost use Rattle.std.specs.Prelude.{◌≡◌};
 ghost use Rattle.bridge_check.specs.declared.fault.CheckFault.TheVariants.{NoMemory};
-ghost use Rattle.bridge_check.specs.Numbers.{number_of};
+ghost use Rattle.bridge_check.specs.Numbers.{filter_of, number_of};
 
 use std::alloc::{AllocError, AllocFailed};
 use thiserror::Error;
@@ -79,6 +79,23 @@ impl CheckFault {
             CheckFault::WindowShared { .. } => 7,
             CheckFault::MaxSduNeverFits { .. } => 8,
             CheckFault::NoMemory => 9,
+        }
+    }
+
+    /// The number of the protected filter that fails its test; none where memory ran out.
+    pub fn filter(self) -> Option<u32>
+        ensures { result ≡ filter_of self }
+    {
+        match self {
+            CheckFault::ProtectedWildcard { filter }
+            | CheckFault::NoMaxSdu { filter }
+            | CheckFault::GateShared { filter }
+            | CheckFault::MeterShared { filter }
+            | CheckFault::NoCatchAll { filter }
+            | CheckFault::QueueShared { filter, .. }
+            | CheckFault::WindowShared { filter, .. }
+            | CheckFault::MaxSduNeverFits { filter, .. } => Some(filter),
+            CheckFault::NoMemory => None,
         }
     }
 }

@@ -3,11 +3,12 @@ ghost use Rattle.std.specs.Prelude.{◌≡◌, [], ℕ, Bool, List, Ok, Option, 
 ghost use Rattle.bridge_limits.specs.Members.{In};
 ghost use Rattle.bridge_frame.specs.declared.Head.{Head};
 ghost use Rattle.bridge_frame.specs.Frames as frames;
+ghost use Rattle.bridge_filter.specs.declared.Call.{Call};
 ghost use Rattle.bridge_filter.specs.declared.FilterPlan.{FilterPlan};
 ghost use Rattle.bridge_filter.specs.declared.Verdict.TheVariants as verdict;
 ghost use Rattle.bridge_filter.specs.Own.{IsApart};
 ghost use Rattle.bridge_filter.specs.Plans.{plans_of};
-ghost use Rattle.bridge_filter.specs.Verdicts.{Call, Step, flow, verdict_of};
+ghost use Rattle.bridge_filter.specs.Verdicts.{Step, flow, verdict_of};
 ghost use Rattle.bridge_forward.specs.Ports.{has};
 ghost use Rattle.bridge_forward.specs.Forward.{forward};
 ghost use Rattle.bridge_config.specs.declared.ports.PortPlan.{PortPlan};
@@ -42,7 +43,8 @@ pub fn reach_is_sound<A: Allocator + Copy>()
         → frames.head frame len ≡ Ok head
         → has (forward p.database port.number (vid_of port head.tag) head.da) out.number ≡ true
         → flow p.filters (call_of p port at head octets) ≡ Some (n, f)
-        → verdict_of (plans_of p.filters p.gates p.meters) ss (call_of p port at head octets) n f ≡ verdict.Pass ipv eligible
+        → verdict_of (plans_of p.filters p.gates p.meters) ss (call_of p port at head octets) n f
+        ≡ verdict.Pass ipv eligible
         → reaches p f out.number (class_of out ipv (priority_of port head.tag)) ≡ true }
 {}
 

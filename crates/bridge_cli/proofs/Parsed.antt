@@ -1,5 +1,5 @@
 -- What `clap` makes of the words.
-use Rattle.std.proofs.Common.{◌≡◌, ◌≢◌, ◌∙◌, List, [], ◌∷◌, Result, Ok, Err, IfOk, IfErr, ap, refl, subst, sym, true, inl, inr, rules}
+use Rattle.std.proofs.Common.{◌≡◌, ◌≢◌, ◌∙◌, List, None, [], ◌∷◌, Result, Ok, Err, IfOk, IfErr, ap, refl, subst, sym, true, inl, inr, rules}
 use Rattle.clap.specs.Words.{App, FailsBy, HasMatchesOf, Kinds, IsAmong, Text, fault_of, is_simple, is_simple_and_free, kind_of, subcommand_of, subcommand_rows_of}
 use Rattle.clap.specs.declared.error.Error.{Error}
 use Rattle.clap.specs.declared.error.kind.ErrorKind.TheVariants as kind
@@ -30,3 +30,7 @@ with_fault (k ∷ ks) (Err e) fails = λ other is. search rules
 pub its_values : (app : App) (words : List Text) (r : Result ArgMatches Error) → app ≡ commands → IfOk r (HasMatchesOf app words) → IfOk r (λ m. subcommand_rows_of m ≡ subcommand_of commands words)
 its_values app words (Ok m) is has = (subst (λ a. HasMatchesOf a words m) is has are_simple).1
 its_values app words (Err e) is has = tt
+
+-- no words name no command
+pub none_named : subcommand_of commands [] ≡ None
+none_named = refl

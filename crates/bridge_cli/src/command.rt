@@ -25,11 +25,11 @@ pub(crate) enum Form {
 #[derive(Clone, Copy)]
 pub(crate) struct Word {
     /// The name by which the value is read; an option is written by it, behind `--`.
-    id: &'static str,
+    pub id: &'static str,
     /// What the help calls the value.
     value: &'static str,
     /// How the word is written.
-    form: Form,
+    pub form: Form,
     /// What it is, and its range.
     help: &'static str,
 }
@@ -38,11 +38,15 @@ pub(crate) struct Word {
 #[derive(Clone, Copy)]
 pub(crate) struct Description {
     /// The word by which it is called.
-    name: &'static str,
+    pub name: &'static str,
+    /// How it is called: its words and its options, but for `--explain`.
+    pub call: &'static str,
     /// What it does.
     about: &'static str,
     /// Its words.
-    words: &'static [Word],
+    pub words: &'static [Word],
+    /// What may be wrong with its words where as many stand behind it as have to.
+    pub reason: &'static str,
     /// An example, and the statuses.
     after: &'static str,
 }
@@ -71,8 +75,12 @@ const STRICT: Word = Word {
     help: "end with status 1 where there is a warning of a plan that is accepted",
 };
 
+/// What may be wrong with the words of a command that has none of which more is to be said.
+const OPTIONS_ALONE: &str = "An option stands where it may not, twice, or without its value.\n";
+
 const WIRE: Description = Description {
     name: "wire",
+    call: "wire MBPS ROOM IN OUT",
     about: "Send a capture through one queue",
     words: &[
         Word {
@@ -101,6 +109,7 @@ const WIRE: Description = Description {
         },
         EXPLAIN,
     ],
+    reason: "MBPS must be 10, 100, 1000, 2500 or 10000, and ROOM a whole number from 1 to 4096.\n",
     after: "\
 Example:
   tsnbridge wire 1000 4 in.pcap out.pcap
@@ -114,8 +123,10 @@ Statuses:
 
 const CHECK: Description = Description {
     name: "check",
+    call: "check PLAN [--strict]",
     about: "Say whether a plan protects its streams",
     words: &[PLAN, STRICT, EXPLAIN],
+    reason: OPTIONS_ALONE,
     after: "\
 Example:
   tsnbridge check examples/base.toml
@@ -129,6 +140,7 @@ Statuses:
 
 const RUN: Description = Description {
     name: "run",
+    call: "run PLAN IN OUT [--commands FILE] [--delays FILE] [--frames FILE] [--picture FILE [--from NS] [--to NS] [--ports LIST] [--filters LIST]] [--strict]",
     about: "Send the captures of all ports through the bridge of a plan",
     words: &[
         PLAN,
@@ -200,6 +212,7 @@ const RUN: Description = Description {
         },
         EXPLAIN,
     ],
+    reason: "An option stands where it may not, twice, or without its value.\n--from, --to, --ports and --filters stand beside --picture. Moments are in ns below 4 * 10^18, the first before the second; lists are numbers joined by commas, as 1,3.\n",
     after: "\
 Example:
   mkdir out
@@ -215,6 +228,7 @@ Statuses:
 
 const PICTURE: Description = Description {
     name: "picture",
+    call: "picture PLAN FILE [--from NS] [--to NS] [--ports LIST]",
     about: "Draw the windows and the stream gates of a plan, or the streams of a network",
     words: &[
         Word {
@@ -249,6 +263,7 @@ const PICTURE: Description = Description {
         },
         EXPLAIN,
     ],
+    reason: "An option stands where it may not, twice, or without its value.\n--from and --to are moments in ns below 4 * 10^18, the first before the second, and --ports are numbers joined by commas, as 1,3.\n",
     after: "\
 Example:
   tsnbridge picture examples/base.toml base.svg
@@ -262,6 +277,7 @@ Statuses:
 
 const BOUNDS: Description = Description {
     name: "bounds",
+    call: "bounds PLAN [--traffic FILE]",
     about: "Say how long the frames of protected streams may take",
     words: &[
         PLAN,
@@ -273,6 +289,7 @@ const BOUNDS: Description = Description {
         },
         EXPLAIN,
     ],
+    reason: OPTIONS_ALONE,
     after: "\
 For each queue of each protected filter one line: the most ns from a frame's arrival until it is out,
 whatever its talker and all others do. With traffic, for each stream that has a period what its frames
@@ -290,6 +307,7 @@ Statuses:
 
 const NET: Description = Description {
     name: "net",
+    call: "net check NET [--strict]",
     about: "Say whether a network of bridges protects its streams, or run it",
     words: &[
         Word {
@@ -324,6 +342,7 @@ const NET: Description = Description {
         },
         EXPLAIN,
     ],
+    reason: "An option stands where it may not, twice, or without its value.\nThe first word behind `net` is `check`.\n",
     after: "\
 Examples:
   tsnbridge net check examples/line/network.toml
@@ -343,8 +362,10 @@ Statuses:
 
 const PROGRAM: Description = Description {
     name: "tsnbridge",
+    call: "",
     about: "Send captures of Ethernet frames through a time-aware bridge, exactly (IEEE 802.1Q-2018)",
     words: &[],
+    reason: "",
     after: "\
 Without words the program reads the hexadecimal text of a capture from standard input, sends it
 through one queue of 4 places at 1000 Mb/s, and prints the text of what left.
@@ -360,8 +381,17 @@ Statuses:
   4  the words are refused",
 };
 
+/// The options of all commands, with what has them.
+pub const OPTIONS: &str =
+    "The options are --commands FILE, --delays FILE, --frames FILE, --picture FILE and --filters LIST (of run), --from NS, --to NS and --ports LIST (of run and picture), --traffic FILE (of bounds), --strict (of check, run and net), and --explain.\n";
+
 /// The version of the program.
 const VERSION: &str = "1.0.0";
+
+/// The commands, in the order of their names.
+pub(crate) fn descriptions() -> &'static [&'static Description] {
+    &[&BOUNDS, &CHECK, &NET, &PICTURE, &RUN, &WIRE]
+}
 
 /// What the words after the program's name are to `clap`: a command with its values, or what is wrong with them.
 pub fn matches_of<'a>(alloc: Global, words: &'a [String]) -> Result<ArgMatches<'a>, Error>

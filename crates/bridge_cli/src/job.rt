@@ -1,10 +1,10 @@
 //! The job that the words of the command line ask for.
-ghost use Rattle.std.specs.Prelude.{◌≡◌, Err, IfOk, IfErr, None, Option, Some, ℕ, codes, map, option_map, string_bytes};
+ghost use Rattle.std.specs.Prelude.{◌≡◌, ◌≢◌, [], Err, IfOk, IfErr, None, Option, Some, ℕ, codes, map, option_map, string_bytes};
 ghost use Rattle.bridge_frame.specs.declared.Speed.{Speed};
-ghost use Rattle.clap.specs.Words.{Text, first_of, found_of, kind_of, rows_of};
+ghost use Rattle.clap.specs.Words.{Text, fault_of, first_of, found_of, kind_of, rows_of, subcommand_of, subcommand_rows_of};
 ghost use Rattle.bridge_jobs.specs.Reading.{IsOfWords};
 ghost use Rattle.bridge_cli.specs.declared.job.Job.{Job};
-ghost use Rattle.bridge_cli.specs.CommandLine.{AsksFor, AsksForBounds, AsksForCheck, AsksForNetwork, AsksForNetworkRun, AsksForPicture, AsksForRun, AsksForWire, HasRoom, IsBoundsJob, IsCheckJob, IsNetworkJob, IsPictureJob, IsRunJob, IsWireJob, fault_of_kind};
+ghost use Rattle.bridge_cli.specs.CommandLine.{AsksFor, AsksForBounds, AsksForCheck, AsksForNetwork, AsksForNetworkRun, AsksForPicture, AsksForRun, AsksForWire, HasRoom, IsBoundsJob, IsCheckJob, IsNetworkJob, IsPictureJob, IsRunJob, IsWireJob, commands, fault_of_kind};
 
 use crate::command::matches_of;
 use crate::number::{room_of, speed_of};
@@ -95,10 +95,22 @@ pub fn job_of(alloc: Global, words: &[String]) -> Result<Job, Fault>
     if words.is_empty() {
         return Ok(Job::Text);
     }
-    let matches = match matches_of(alloc, words) {
-        Ok(matches) => matches,
-        Err(error) => return Err(fault_of(&error)),
-    };
+    match matches_of(alloc, words) {
+        Ok(matches) => job_in(alloc, words, &matches),
+        Err(error) => Err(fault_of(&error)),
+    }
+}
+
+/// The job that words ask for, some at least, by what they are to `clap`.
+pub(crate) fn job_in(alloc: Global, words: &[String], matches: &ArgMatches) -> Result<Job, Fault>
+    requires some { words.now ≢ [] }
+    requires taken { fault_of commands (map string_bytes words.now) ≡ [] }
+    requires values { subcommand_rows_of matches.now ≡ subcommand_of commands (map string_bytes words.now) }
+    ensures ok { IfOk result (AsksFor (map string_bytes words.now)) }
+    ensures room { IfOk result HasRoom }
+    ensures words { result ≡ Err Fault.Words → (job : Job) → ¬ AsksFor (map string_bytes words.now) job }
+    ensures only { IfErr result IsOfWords }
+{
     if let Some(values) = matches.subcommand_matches("wire") {
         return wire_job(alloc, values);
     }

@@ -1,17 +1,22 @@
 #![tactic(auto)]
 //! The words of the command line: the job that they ask for, and what they ask for beside it.
 
+mod calls;
 mod command;
 mod explaining;
 mod helping;
 mod job;
 mod number;
 mod picture_request;
+mod request;
 mod table_request;
 
+pub use calls::{Call, call_of, command_names, has_value, option_names};
+pub use command::OPTIONS;
 pub use explaining::{wants_explanation, wants_strictness};
 pub use helping::{help_of, manual_of};
 pub use job::{Job, job_of};
 pub use number::numbers_of;
 pub use picture_request::{PictureRequest, picture_request_of};
+pub use request::{Request, request_of};
 pub use table_request::{TableRequest, table_request_of};

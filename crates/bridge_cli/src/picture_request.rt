@@ -1,6 +1,6 @@
 //! The picture of a run, or the part of a plan, that the words of the command line ask for.
 ghost use Rattle.std.specs.Prelude.{◌≡◌, Some, IfOk, IfErr, IsTrue, List, codes, map, option_map, string_bytes};
-ghost use Rattle.clap.specs.Words.{Row, first_of, found_of, rows_of, subcommand_of};
+ghost use Rattle.clap.specs.Words.{Row, first_of, found_of, rows_of, subcommand_of, subcommand_rows_of};
 ghost use Rattle.bridge_jobs.specs.Reading.{IsOfWords};
 ghost use Rattle.bridge_cli.specs.CommandLine.{commands};
 ghost use Rattle.bridge_cli.specs.Sketching.{AreInOrder, AsksForPart, AsksForSketch, HasNoPart, IsBound, IsSketch};
@@ -42,10 +42,27 @@ pub fn picture_request_of(alloc: Global, words: &[String]) -> Result<Option<Pict
         → AsksForPart values sketch) }
     ensures only { IfErr result IsOfWords }
 {
-    let matches = match matches_of(alloc, words) {
-        Ok(matches) => matches,
-        Err(error) => return Err(fault_of(&error)),
-    };
+    match matches_of(alloc, words) {
+        Ok(matches) => picture_in(alloc, words, &matches),
+        Err(error) => Err(fault_of(&error)),
+    }
+}
+
+/// The same by what the words are to `clap`.
+pub(crate) fn picture_in(
+    alloc: Global,
+    words: &[String],
+    matches: &ArgMatches,
+) -> Result<Option<PictureRequest>, Fault>
+    requires values { subcommand_rows_of matches.now ≡ subcommand_of commands (map string_bytes words.now) }
+    ensures ok { IfOk result (λ sketch. (values : List Row)
+        → subcommand_of commands (map string_bytes words.now) ≡ Some (codes "run", values)
+        → AsksForSketch values sketch) }
+    ensures part { IfOk result (λ sketch. (values : List Row)
+        → subcommand_of commands (map string_bytes words.now) ≡ Some (codes "picture", values)
+        → AsksForPart values sketch) }
+    ensures only { IfErr result IsOfWords }
+{
     if let Some(values) = matches.subcommand_matches("run") {
         return sketch_in(alloc, values);
     }

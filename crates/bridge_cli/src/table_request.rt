@@ -1,6 +1,6 @@
 //! The tables of a run that the words of the command line ask for.
 ghost use Rattle.std.specs.Prelude.{◌≡◌, Some, IfOk, IfErr, List, codes, map, option_map, string_bytes};
-ghost use Rattle.clap.specs.Words.{Row, first_of, found_of, rows_of, subcommand_of};
+ghost use Rattle.clap.specs.Words.{Row, first_of, found_of, rows_of, subcommand_of, subcommand_rows_of};
 ghost use Rattle.bridge_jobs.specs.Reading.{IsOfWords};
 ghost use Rattle.bridge_cli.specs.CommandLine.{commands};
 ghost use Rattle.bridge_cli.specs.Tabling.{AsksForTables};
@@ -31,19 +31,34 @@ pub fn table_request_of(alloc: Global, words: &[String]) -> Result<TableRequest,
     ensures only { IfErr result IsOfWords }
 {
     match matches_of(alloc, words) {
-        Ok(matches) => match matches.subcommand_matches("run") {
-            Some(values) => tables_in(alloc, values),
-            None => Ok(TableRequest {
-                delays: None,
-                frames: None,
-            }),
-        },
+        Ok(matches) => tables_in(alloc, words, &matches),
         Err(error) => Err(fault_of(&error)),
     }
 }
 
+/// The same by what the words are to `clap`.
+pub(crate) fn tables_in(
+    alloc: Global,
+    words: &[String],
+    matches: &ArgMatches,
+) -> Result<TableRequest, Fault>
+    requires values { subcommand_rows_of matches.now ≡ subcommand_of commands (map string_bytes words.now) }
+    ensures ok { IfOk result (λ tables. (values : List Row)
+        → subcommand_of commands (map string_bytes words.now) ≡ Some (codes "run", values)
+        → AsksForTables values tables) }
+    ensures only { IfErr result IsOfWords }
+{
+    match matches.subcommand_matches("run") {
+        Some(values) => tables_of(alloc, values),
+        None => Ok(TableRequest {
+            delays: None,
+            frames: None,
+        }),
+    }
+}
+
 /// The tables that these values ask for.
-fn tables_in(alloc: Global, values: &ArgMatches) -> Result<TableRequest, Fault>
+fn tables_of(alloc: Global, values: &ArgMatches) -> Result<TableRequest, Fault>
     ensures ok { IfOk result (AsksForTables (rows_of (found_of values.now))) }
     ensures only { IfErr result IsOfWords }
 {

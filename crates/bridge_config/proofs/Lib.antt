@@ -7,3 +7,4 @@ pub mod PlanPorts
 pub mod InOrder
 pub mod Sorted
 mod InTurn
+pub mod Tables

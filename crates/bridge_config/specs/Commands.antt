@@ -14,7 +14,7 @@ use Rattle.bridge_schema.specs.declared.fault.PlanFault.{PlanFault}
 use Rattle.bridge_schema.specs.declared.fault.PlanFault.TheVariants as fault
 use Rattle.bridge_schema.specs.Readers.{◌>>=◌, required, between, known, text, are_known}
 use Rattle.bridge_config.specs.declared.command.Command.{Command}
-use Rattle.bridge_config.specs.declared.ranges.TheConstants.{LARGEST_NUMBER}
+use Rattle.bridge_schema.specs.declared.ranges.TheConstants.{LARGEST_NUMBER}
 use Rattle.bridge_config.specs.Model.{Plan}
 use Rattle.bridge_config.specs.Sections.{provided}
 use Rattle.bridge_config.specs.Texts.{clear_of}

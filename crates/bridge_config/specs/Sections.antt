@@ -26,7 +26,7 @@ use Rattle.bridge_schema.specs.declared.fault.PlanFault.TheVariants as fault
 use Rattle.bridge_schema.specs.Keys.{key_of}
 use Rattle.bridge_schema.specs.Readers.{◌>>=◌, required, optional, default_to, only_with, only_without, between, switch, speed, known, text, set_of, ports_of, eight, list_at, are_known, are_known_at, with_key, without_key}
 use Rattle.bridge_schema.specs.Texts.{address_of, openness_of}
-use Rattle.bridge_config.specs.declared.ranges.TheConstants.{LARGEST_NUMBER}
+use Rattle.bridge_schema.specs.declared.ranges.TheConstants.{LARGEST_NUMBER}
 use Rattle.bridge_config.specs.Texts.{kind_of, tag_of, awareness_of}
 use Rattle.bridge_config.specs.Rules.{has_port, has_vlan, has_static}
 use Rattle.bridge_config.specs.declared.ports.PortPlan.{PortPlan}

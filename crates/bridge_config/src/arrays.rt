@@ -7,7 +7,7 @@ ghost use Rattle.bridge_schema.specs.Readers.{GivesAs};
 ghost use Rattle.bridge_config.specs.Document as doc;
 ghost use Rattle.bridge_config.specs.Arrays.{items_of_arrays, AreFew};
 
-use bridge_schema::{PlanFault, Section, are_tables, value_at};
+use bridge_schema::{PLAN_SECTIONS, PlanFault, Section, are_tables, value_at};
 use toml::{Table, Value};
 
 /// The items of all sections of a plan.
@@ -119,17 +119,7 @@ pub(crate) fn first_pass<'a>(table: &'a Table) -> Result<Arrays<'a>, PlanFault>
     ensures few { IfOk result AreFew }
     ensures takes_no_memory { IfErr result (λ e. ¬ (e ≡ NoMemory)) }
 {
-    let sections = [
-        Section::Change,
-        Section::Port,
-        Section::Vlan,
-        Section::Static,
-        Section::Stream,
-        Section::Gate,
-        Section::Meter,
-        Section::Filter,
-    ];
-    if !are_sections(&sections, table) {
+    if !are_sections(&PLAN_SECTIONS, table) {
         return Err(PlanFault::UnknownKey(Section::Top, 0));
     }
     let changes = items_of(Section::Change, table)?;

@@ -7,16 +7,15 @@ ghost use Rattle.bridge_config.specs.Document as doc;
 ghost use Rattle.bridge_config.specs.Rules as rules;
 ghost use Rattle.bridge_config.specs.Sections as sections;
 
-use crate::ranges::MOMENT;
 use bridge_limits::END_OF_TIME;
-use bridge_schema::{Field, PlanFault, Row, Section, are_known};
+use bridge_schema::{CHANGE_KEYS, Field, MOMENT, PlanFault, Row, Section, are_known};
 use toml::{Table, Value};
 
 /// Whether a table has the keys of a change of schedules alone.
 fn has_keys(table: &Table) -> bool
     ensures { result ≡ sections.has_change_keys (table_view table.now) }
 {
-    are_known(table, &[Field::At])
+    are_known(table, &CHANGE_KEYS, false)
 }
 
 /// The moment of the change of schedules of a table.

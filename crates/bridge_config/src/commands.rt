@@ -14,11 +14,10 @@ use crate::arrays::{are_sections, items_of};
 use crate::command::Command;
 use crate::numbers::has_number;
 use crate::plan::{Plan, document_of};
-use crate::ranges::{LAST_MOMENT, NUMBER};
 use bridge_filter::Clear;
 use bridge_schema::{
-    Between, Field, Finds, Known, Meaning, PlanFault, Row, Section, SectionReader, Text, are_known,
-    read_instances,
+    Between, COMMAND_KEYS, COMMAND_SECTIONS, Field, Finds, Known, LAST_MOMENT, Meaning, NUMBER,
+    PlanFault, Row, Section, SectionReader, Text, are_known, read_instances,
 };
 use std::alloc::{Allocator, Global};
 use toml::{Table, Value};
@@ -81,7 +80,7 @@ fn last_moment(commands: &[Command]) -> u64
 fn has_keys(table: &Table) -> bool
     ensures { result ≡ spec.has_command_keys (table_view table.now) }
 {
-    are_known(table, &[Field::At, Field::Clear, Field::Number])
+    are_known(table, &COMMAND_KEYS, false)
 }
 
 /// The command of a table, by those before it, where this is the plan.
@@ -160,7 +159,7 @@ fn command_items<'a>(table: &'a Table) -> Result<&'a [Value], PlanFault>
     ensures few { IfOk result (λ x. length x.now ≤ doc.limit_of the_section.Command) }
     ensures takes_no_memory { IfErr result (λ e. ¬ (e ≡ NoMemory)) }
 {
-    if !are_sections(&[Section::Command], table) {
+    if !are_sections(&COMMAND_SECTIONS, table) {
         return Err(PlanFault::UnknownKey(Section::Top, 0));
     }
     items_of(Section::Command, table)

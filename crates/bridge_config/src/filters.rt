@@ -9,12 +9,12 @@ ghost use Rattle.bridge_config.specs.Sections as sections;
 ghost use Rattle.bridge_config.specs.Rules as rules;
 
 use crate::numbers::{NumbersOf, in_8_bits, in_32_bits};
-use crate::ranges::{MAX_SDU, NUMBER, PRIORITY};
 use bridge_filter::FilterPlan;
 use bridge_gate::GatePlan;
 use bridge_meter::MeterPlan;
 use bridge_schema::{
-    Field, Finds, Known, PlanFault, Row, Section, SectionReader, Switch, are_known, read_instances,
+    FILTER_KEYS, Field, Finds, Known, MAX_SDU, NUMBER, PRIORITY, PlanFault, Row, Section,
+    SectionReader, Switch, are_known, read_instances,
 };
 use std::alloc::Allocator;
 use toml::{Table, Value};
@@ -23,19 +23,7 @@ use toml::{Table, Value};
 fn has_keys(table: &Table) -> bool
     ensures { result ≡ sections.has_filter_keys (table_view table.now) }
 {
-    are_known(
-        table,
-        &[
-            Field::Number,
-            Field::Handle,
-            Field::Priority,
-            Field::Gate,
-            Field::MaxSdu,
-            Field::Meter,
-            Field::BlockOversize,
-            Field::Protected,
-        ],
-    )
+    are_known(table, &FILTER_KEYS, false)
 }
 
 /// The filter of a table with its number, by what finds the numbers of gates, meters and the filters before it.

@@ -10,32 +10,18 @@ ghost use Rattle.bridge_config.specs.Lists.{parts_in};
 ghost use Rattle.bridge_config.specs.Sections as sections;
 ghost use Rattle.bridge_config.specs.Rules as rules;
 
-use crate::lists::{ListKeys, Parts, list_if, parts_of};
+use crate::lists::{Parts, list_if, parts_of};
 use crate::numbers::{has_number, in_8_bits, in_32_bits};
-use crate::ranges::{LENGTH, NUMBER, PRIORITY};
 use bridge_cycle::{CyclicList, Joined};
 use bridge_gate::{GateEntry, GatePlan, Schedule};
 use bridge_limits::END_OF_TIME;
 use bridge_schema::{
-    Entry, Field, Openness, Place, PlanFault, Row, Section, SectionReader, Switch, Text, are_known,
-    are_known_at, has_key, optional, required, value_at,
+    ENTRIES, Entry, Field, GATE_ENTRY_KEYS, GATE_KEYS, LENGTH, ListKeys, NEXT_ENTRIES, NUMBER,
+    Openness, PRIORITY, Place, PlanFault, Row, Section, SectionReader, Switch, Text, are_known,
+    are_known_at, optional, required, value_at,
 };
 use std::alloc::Allocator;
 use toml::Table;
-
-/// The keys of the first list of a gate.
-const ENTRIES: ListKeys = ListKeys {
-    base: Field::Base,
-    cycle: Field::Cycle,
-    entries: Field::Entries,
-};
-
-/// The keys of the list that takes over at the change of schedules.
-const NEXT_ENTRIES: ListKeys = ListKeys {
-    base: Field::NextBase,
-    cycle: Field::NextCycle,
-    entries: Field::NextEntries,
-};
 
 /// An entry of a gate's list, and its interval in ns.
 #[derive(Clone, Copy)]
@@ -64,53 +50,18 @@ impl Entry for Turns {
     }
 }
 
-/// The keys of a gate that has a list: 6, and those of the list that takes over at the change of schedules, of which 2
-/// stand beside `next_entries`.
-const KEYS: [Field; 9] = [
-    Field::Number,
-    Field::ShutOnRx,
-    Field::ShutOnOctets,
-    Field::Entries,
-    Field::Base,
-    Field::Cycle,
-    Field::NextEntries,
-    Field::NextBase,
-    Field::NextCycle,
-];
-
-/// The keys of a gate in one state for good.
-const FIXED_KEYS: [Field; 6] = [
-    Field::Number,
-    Field::ShutOnRx,
-    Field::ShutOnOctets,
-    Field::Entries,
-    Field::State,
-    Field::Ipv,
-];
-
 /// Whether a table has no key but those of a gate, where the plan may have a change of schedules.
 fn are_gate_keys(change: Option<u64>, table: &Table) -> bool
     ensures { result ≡ are_known (sections.gate_keys change (table_view table.now)) (table_view table.now) }
 {
-    if !has_key(table, Field::Entries) {
-        are_known(table, &FIXED_KEYS)
-    } else if change.is_none() {
-        are_known(table, &KEYS[..6])
-    } else if !has_key(table, Field::NextEntries) {
-        are_known(table, &KEYS[..7])
-    } else {
-        are_known(table, &KEYS)
-    }
+    are_known(table, &GATE_KEYS, change.is_some())
 }
 
 /// Whether no entry of a list has a key but its own.
 fn are_entry_keys(key: Field, table: &Table) -> bool
     ensures { result ≡ are_known_at sections.gate_entry_keys (get_member (key_of key) (table_view table.now)) }
 {
-    are_known_at(
-        value_at(table, key.key()),
-        &[Field::Open, Field::Ns, Field::Ipv, Field::Octets],
-    )
+    are_known_at(value_at(table, key.key()), &GATE_ENTRY_KEYS)
 }
 
 /// Whether a table has the keys of a gate alone.

@@ -7,23 +7,11 @@ ghost use Rattle.bridge_schema.specs.Readers.{Gives, GivesAs};
 ghost use Rattle.bridge_config.specs.Lists.{parts_in};
 ghost use Rattle.bridge_config.specs.Sections as sections;
 
-use crate::ranges::{LENGTH, MOMENT};
 use bridge_cycle::{CyclicList, ListFault};
 use bridge_limits::END_OF_TIME;
-use bridge_schema::{Entry, Field, PlanFault, Row, Section, list_at, value_at};
+use bridge_schema::{Entry, LENGTH, ListKeys, MOMENT, PlanFault, Row, Section, list_at, value_at};
 use std::alloc::Allocator;
 use toml::Table;
-
-/// The keys at which the parts of a list stand.
-#[derive(Clone, Copy)]
-pub(crate) struct ListKeys {
-    /// The moment at which a cycle begins.
-    pub base: Field,
-    /// The length of the cycle.
-    pub cycle: Field,
-    /// The entries.
-    pub entries: Field,
-}
 
 /// The parts of a list.
 #[derive(Drop)]

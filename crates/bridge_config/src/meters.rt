@@ -9,10 +9,10 @@ ghost use Rattle.bridge_config.specs.Texts as texts;
 ghost use Rattle.bridge_config.specs.Rules as rules;
 
 use crate::numbers::has_number;
-use crate::ranges::{BURST, NUMBER, RATE};
 use bridge_meter::MeterPlan;
 use bridge_schema::{
-    Field, Meaning, PlanFault, Row, Section, SectionReader, Switch, Text, are_known,
+    BURST, Field, METER_KEYS, Meaning, NUMBER, PlanFault, RATE, Row, Section, SectionReader,
+    Switch, Text, are_known,
 };
 use std::alloc::Allocator;
 use toml::Table;
@@ -41,20 +41,7 @@ impl Meaning for ColourText {
 fn has_keys(table: &Table) -> bool
     ensures { result ≡ sections.has_meter_keys (table_view table.now) }
 {
-    are_known(
-        table,
-        &[
-            Field::Number,
-            Field::Cir,
-            Field::Cbs,
-            Field::Eir,
-            Field::Ebs,
-            Field::Coupling,
-            Field::Colour,
-            Field::DropYellow,
-            Field::MarkAllRed,
-        ],
-    )
+    are_known(table, &METER_KEYS, false)
 }
 
 /// The meter of a table with its number, by those before it.

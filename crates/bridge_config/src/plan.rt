@@ -49,9 +49,23 @@ pub struct Plan<A: Allocator + Copy> {
 impl<A: Allocator + Copy> Model for Plan<A> {
     ghost Value = { model.Plan A };
 
-    ghost view = { λ p. record { ports = p.ports.items; database = p.forwarding; streams = p.streams.items; gates = p.gates.items; meters = p.meters.items; filters = p.filters.items } };
+    ghost view = { λ p. record {
+      ports = p.ports.items;
+      database = p.forwarding;
+      streams = p.streams.items;
+      gates = p.gates.items;
+      meters = p.meters.items;
+      filters = p.filters.items;
+    } };
 
-    ghost invariant = { λ p. rules.IsPlan {A = A} (record { ports = p.ports.items; database = p.forwarding; streams = p.streams.items; gates = p.gates.items; meters = p.meters.items; filters = p.filters.items }) };
+    ghost invariant = { λ p. rules.IsPlan {A = A} (record {
+      ports = p.ports.items;
+      database = p.forwarding;
+      streams = p.streams.items;
+      gates = p.gates.items;
+      meters = p.meters.items;
+      filters = p.filters.items;
+    }) };
 }
 
 impl<A: Allocator + Copy> Plan<A> {
@@ -212,7 +226,11 @@ impl<A: Allocator + Copy> Model for Policing<A> {
 
     ghost view = { λ p. record { gates = p.gates.items; meters = p.meters.items; filters = p.filters.items } };
 
-    ghost invariant = { λ p. rules.IsPolicing {A = A} (record { gates = p.gates.items; meters = p.meters.items; filters = p.filters.items }) };
+    ghost invariant = { λ p. rules.IsPolicing {A = A} (record {
+      gates = p.gates.items;
+      meters = p.meters.items;
+      filters = p.filters.items;
+    }) };
 }
 
 /// The gates, meters and filters of the arrays of a document, by the moment of the change of schedules.

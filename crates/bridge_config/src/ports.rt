@@ -9,14 +9,14 @@ ghost use Rattle.bridge_config.specs.Lists.{parts_in};
 ghost use Rattle.bridge_config.specs.Sections as sections;
 ghost use Rattle.bridge_config.specs.Rules as rules;
 
-use crate::lists::{ListKeys, Parts, list_if, parts_of};
-use crate::ranges::{LENGTH, PORT, PRIORITY, VID};
+use crate::lists::{Parts, list_if, parts_of};
 use bridge_cycle::{CyclicList, Egress, Joined};
 use bridge_frame::Speed;
 use bridge_limits::END_OF_TIME;
 use bridge_schema::{
-    Classes, Entry, Field, Finds, Mbps, Place, PlanFault, Rooms, Row, Section, SectionReader,
-    SetOf, are_known, are_known_at, has_key, required, value_at,
+    Classes, Entry, Field, Finds, GATES, LENGTH, ListKeys, Mbps, NEXT_GATES, PORT, PORT_ENTRY_KEYS,
+    PORT_KEYS, PRIORITY, Place, PlanFault, Rooms, Row, Section, SectionReader, SetOf, VID,
+    are_known, are_known_at, required, value_at,
 };
 use std::alloc::Allocator;
 use toml::Table;
@@ -41,20 +41,6 @@ pub struct PortPlan<A: Allocator + Copy> {
     pub list: Option<Egress<A>>,
 }
 
-/// The keys of the first list of a port.
-const GATES: ListKeys = ListKeys {
-    base: Field::Base,
-    cycle: Field::Cycle,
-    entries: Field::Gates,
-};
-
-/// The keys of the list that takes over at the change of schedules.
-const NEXT_GATES: ListKeys = ListKeys {
-    base: Field::NextBase,
-    cycle: Field::NextCycle,
-    entries: Field::NextGates,
-};
-
 /// An entry of a port's list: its open classes as bits, and its interval in ns.
 #[derive(Clone, Copy)]
 struct PortEntry {
@@ -75,43 +61,18 @@ impl Entry for PortEntry {
     }
 }
 
-/// The keys of a port: 7 that it may always have, 2 that stand beside `gates`, and those of the list that takes over at
-/// the change of schedules, of which 2 stand beside `next_gates`.
-const KEYS: [Field; 12] = [
-    Field::Number,
-    Field::Mbps,
-    Field::Vid,
-    Field::Priority,
-    Field::Classes,
-    Field::Rooms,
-    Field::Gates,
-    Field::Base,
-    Field::Cycle,
-    Field::NextGates,
-    Field::NextBase,
-    Field::NextCycle,
-];
-
 /// Whether a table has no key but those of a port, where the plan may have a change of schedules.
 fn are_port_keys(change: Option<u64>, table: &Table) -> bool
     ensures { result ≡ are_known (sections.port_keys change (table_view table.now)) (table_view table.now) }
 {
-    if !has_key(table, Field::Gates) {
-        are_known(table, &KEYS[..7])
-    } else if change.is_none() {
-        are_known(table, &KEYS[..9])
-    } else if !has_key(table, Field::NextGates) {
-        are_known(table, &KEYS[..10])
-    } else {
-        are_known(table, &KEYS)
-    }
+    are_known(table, &PORT_KEYS, change.is_some())
 }
 
 /// Whether no entry of a list has a key but its own.
 fn are_entry_keys(key: Field, table: &Table) -> bool
     ensures { result ≡ are_known_at sections.port_entry_keys (get_member (key_of key) (table_view table.now)) }
 {
-    are_known_at(value_at(table, key.key()), &[Field::Open, Field::Ns])
+    are_known_at(value_at(table, key.key()), &PORT_ENTRY_KEYS)
 }
 
 /// Whether a table has the keys of a port alone.

@@ -7,11 +7,11 @@ ghost use Rattle.bridge_schema.specs.Readers.{Gives};
 ghost use Rattle.bridge_config.specs.Sections as sections;
 ghost use Rattle.bridge_config.specs.Rules as rules;
 
-use crate::ranges::VID;
 use crate::vlans::VlanNumbers;
 use bridge_forward::{PortSet, StaticEntry, Vlan};
 use bridge_schema::{
-    Address, Field, Known, PlanFault, PortsOf, Row, Section, SectionReader, Text, are_known,
+    Address, Field, Known, PlanFault, PortsOf, Row, STATIC_KEYS, Section, SectionReader, Text, VID,
+    are_known,
 };
 use std::alloc::Allocator;
 use toml::Table;
@@ -38,7 +38,7 @@ fn has_static(statics: &[StaticEntry], vid: u64, address: &[u8; 6]) -> bool
 fn has_keys(table: &Table) -> bool
     ensures { result ≡ sections.has_static_keys (table_view table.now) }
 {
-    are_known(table, &[Field::Vid, Field::Address, Field::Ports])
+    are_known(table, &STATIC_KEYS, false)
 }
 
 /// The static entry of a table, by those before it, where these are all ports and VLANs.

@@ -8,10 +8,10 @@ ghost use Rattle.bridge_config.specs.Texts as texts;
 ghost use Rattle.bridge_config.specs.Rules as rules;
 
 use crate::ports::{PortNumbers, PortPlan};
-use crate::ranges::{NUMBER, PORT, VID};
 use bridge_ident::{Kind, StreamEntry, TagKind};
 use bridge_schema::{
-    Address, Field, Finds, Known, Meaning, PlanFault, Row, Section, SectionReader, Text, are_known,
+    Address, Field, Finds, Known, Meaning, NUMBER, PORT, PlanFault, Row, STREAM_KEYS, Section,
+    SectionReader, Text, VID, are_known,
 };
 use std::alloc::Allocator;
 use toml::Table;
@@ -62,17 +62,7 @@ impl Meaning for TagText {
 fn has_keys(table: &Table) -> bool
     ensures { result ≡ sections.has_stream_keys (table_view table.now) }
 {
-    are_known(
-        table,
-        &[
-            Field::Handle,
-            Field::Port,
-            Field::Kind,
-            Field::Address,
-            Field::Vid,
-            Field::Tag,
-        ],
-    )
+    are_known(table, &STREAM_KEYS, false)
 }
 
 /// The stream identification of a table, by what finds the numbers of ports.

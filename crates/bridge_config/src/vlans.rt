@@ -6,9 +6,10 @@ ghost use Rattle.bridge_schema.specs.Readers.{Gives};
 ghost use Rattle.bridge_config.specs.Sections as sections;
 ghost use Rattle.bridge_config.specs.Rules as rules;
 
-use crate::ranges::VID;
 use bridge_forward::{PortSet, Vlan};
-use bridge_schema::{Field, Finds, PlanFault, PortsOf, Row, Section, SectionReader, are_known};
+use bridge_schema::{
+    Field, Finds, PlanFault, PortsOf, Row, Section, SectionReader, VID, VLAN_KEYS, are_known,
+};
 use std::alloc::Allocator;
 use toml::Table;
 
@@ -37,7 +38,7 @@ impl<'a> Finds for VlanNumbers<'a> {
 fn has_keys(table: &Table) -> bool
     ensures { result ≡ sections.has_vlan_keys (table_view table.now) }
 {
-    are_known(table, &[Field::Vid, Field::Members])
+    are_known(table, &VLAN_KEYS, false)
 }
 
 /// The VLAN of a table, by those before it, where these are all ports.

@@ -78,7 +78,8 @@ pub fn simulate_over<R: ByteSource, W: ByteSink, G: Agenda + Drop, A: Allocator 
     requires sources { length sources.old ≡ length accepted.now.ports }
     requires sinks { length sinks.old ≡ length accepted.now.ports }
     requires commands { AreCommands accepted.now commands.now }
-    ensures ok { (ports : List ℕ) (texts : ℕ → List ℕ) → AreNumbers accepted.now ports → AreTexts R.remaining ports texts sources.old →
+    ensures ok { (ports : List ℕ) (texts : ℕ → List ℕ) → AreNumbers accepted.now ports
+        → AreTexts R.remaining ports texts sources.old →
         IfOk result (Runs accepted.now ports commands.now texts W.contents sinks.old sinks.new) }
     ensures err { (ports : List ℕ) (texts : ℕ → List ℕ) (rests : ℕ → Option (List ℕ)) → AreNumbers accepted.now ports →
         AreTexts R.remaining ports texts sources.old → AreRests R.remaining ports rests sources.new →
@@ -167,7 +168,8 @@ pub fn simulate<R: ByteSource, W: ByteSink, A: Allocator + Copy>(
     requires sources { length sources.old ≡ length accepted.now.ports }
     requires sinks { length sinks.old ≡ length accepted.now.ports }
     requires commands { AreCommands accepted.now commands.now }
-    ensures ok { (ports : List ℕ) (texts : ℕ → List ℕ) → AreNumbers accepted.now ports → AreTexts R.remaining ports texts sources.old →
+    ensures ok { (ports : List ℕ) (texts : ℕ → List ℕ) → AreNumbers accepted.now ports
+        → AreTexts R.remaining ports texts sources.old →
         IfOk result (Runs accepted.now ports commands.now texts W.contents sinks.old sinks.new) }
     ensures err { (ports : List ℕ) (texts : ℕ → List ℕ) (rests : ℕ → Option (List ℕ)) → AreNumbers accepted.now ports →
         AreTexts R.remaining ports texts sources.old → AreRests R.remaining ports rests sources.new →

@@ -86,7 +86,8 @@ impl<S, A: Allocator + Copy> Model for CyclicList<S, A> {
 
     ghost view = { λ l. record { base = l.base; cycle = l.cycle; entries = l.entries.items } };
 
-    ghost invariant = { λ l. cyclic.IsLawful (record { base = l.base; cycle = l.cycle; entries = l.entries.items }) × running.AreEnds l.entries.items l.ends.items × (l.shift ≡ l.cycle - l.base % l.cycle) };
+    ghost invariant = { λ l. cyclic.IsLawful (record { base = l.base; cycle = l.cycle; entries = l.entries.items })
+        × running.AreEnds l.entries.items l.ends.items × (l.shift ≡ l.cycle - l.base % l.cycle) };
 }
 
 impl<S: Copy, A: Allocator + Copy> CyclicList<S, A> {

@@ -27,7 +27,8 @@ impl<S, A: Allocator + Copy> Model for Joined<S, A> {
 
     ghost view = { λ j. record { old = j.old; new = j.new; at = j.at } };
 
-    ghost invariant = { λ j. joined.IsLawful (record { old = j.old; new = j.new; at = j.at }) × (j.at < END_OF_TIME) × (j.cycle ≡ joined.cycle_of (record { old = j.old; new = j.new; at = j.at })) };
+    ghost invariant = { λ j. joined.IsLawful (record { old = j.old; new = j.new; at = j.at }) × (j.at < END_OF_TIME)
+        × (j.cycle ≡ joined.cycle_of (record { old = j.old; new = j.new; at = j.at })) };
 }
 
 impl<S: Copy, A: Allocator + Copy> Joined<S, A> {

@@ -82,7 +82,8 @@ pub fn joined_fits_soon()
         → (occ from : ℕ)
         → Allows old occ
         → Allows new occ
-        → (u : ℕ) × (from ≤ u) × (u ≤ from + 2 * LONGEST_CYCLE) × Fits (λ v. opens_in (joined.turn_at j v) class) occ u }
+        → (u : ℕ) × (from ≤ u) × (u ≤ from + 2 * LONGEST_CYCLE)
+        × Fits (λ v. opens_in (joined.turn_at j v) class) occ u }
 {}
 
 /// The figures of the limits: a list has at most 256 entries and a cycle of at most 10^9 ns; turns are told below 9.1*10^18 ns,

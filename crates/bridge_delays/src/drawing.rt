@@ -6,15 +6,9 @@ use bridge_cycle::{END_OF_TURNS, Egress, Timeline, is_open};
 use bridge_limits::NoMemory;
 use bridge_network::{Link, sender_of};
 use bridge_semantics::{Departure, Origin, View};
-use bridge_text::Text;
+use bridge_svg::{Shapes, Span, form_of};
 use bridge_tracing::HopRun;
 use std::alloc::{Allocator, Global};
-
-/// The most octets of a picture.
-const MOST_OCTETS: usize = 2_000_000;
-
-/// The octets that are kept free for one shape and for what stands around the shapes.
-const FREE: usize = 20_000;
 
 /// Where moments begin, in pixels from the left.
 const LEFT: u64 = 220;
@@ -40,39 +34,39 @@ text{font:13px system-ui,sans-serif;fill:#222}.s{font-size:11px;fill:#666}.page{
 @media(prefers-color-scheme:dark){text{fill:#e6e6e6}.s{fill:#a0a0a0}.page{fill:#16181c}.row{stroke:#3a4048}.open{fill:#254d2b}}";
 
 /// What stands around the shapes of a picture.
-const HEAD: &str =
-    "<svg xmlns=\"http://www.w3.org/2000/svg\" viewBox=\"0 0 {0} {1}\">\n<style>{a}</style>\n<rect class=\"page\" width=\"100%\" height=\"100%\"/>\n<text class=\"s\" x=\"12\" y=\"24\">from {2} to {3} ns: yellow from a frame's coming to its start, blue on the link, red where it was refused; green while a queue is open";
+const HEAD: &str = r#"<svg xmlns="http://www.w3.org/2000/svg" viewBox="0 0 {0} {1}">
+<style>{a}</style>
+<rect class="page" width="100%" height="100%"/>
+<text class="s" x="12" y="24">from {2} to {3} ns: yellow from a frame's coming to its start, blue on the link, red where it was refused; green while a queue is open{b}</text>
+"#;
 
 const LEFT_OUT: &str = "; {0} shapes are left out";
 
 /// A bar of a copy that left, so far from the left and the top and so wide; one of a frame that was refused; a way over a link; the
 /// row of a hop with its name; a window of a queue.
 const LEFT_BAR: &str =
-    "<rect class=\"{a}\" x=\"{0}\" y=\"{1}\" width=\"{2}\" height=\"12\"><title>frame {3} came {4} started {5} done {6} ns, port {7}</title></rect>\n";
+    r#"<rect class="{a}" x="{0}" y="{1}" width="{2}" height="12"><title>frame {3} came {4} started {5} done {6} ns, port {7}</title></rect>"#;
 
 const LOST_BAR: &str =
-    "<rect class=\"lost\" x=\"{0}\" y=\"{1}\" width=\"{2}\" height=\"12\"><title>refused</title></rect>\n";
+    r#"<rect class="lost" x="{0}" y="{1}" width="{2}" height="12"><title>refused</title></rect>"#;
 
-const LINK: &str = "<path class=\"link\" d=\"M{0} {1}L{2} {3}\"/>\n";
+const LINK: &str = r#"<path class="link" d="M{0} {1}L{2} {3}"/>"#;
 
-const HOP: &str = "<text x=\"12\" y=\"{0}\">{a}</text><path class=\"row\" d=\"M{1} {2}H{3}\"/>\n";
+const HOP: &str = r#"<text x="12" y="{0}">{a}</text><path class="row" d="M{1} {2}H{3}"/>"#;
 
 const WINDOW: &str =
-    "<rect class=\"open\" x=\"{0}\" y=\"{1}\" width=\"{2}\" height=\"20\"><title>port {3} opens class {4}</title></rect>\n";
+    r#"<rect class="open" x="{0}" y="{1}" width="{2}" height="20"><title>port {3} opens class {4}</title></rect>"#;
 
-/// A picture under way: the first and the last moment that it shows, in ns, and the shapes so far.
+/// A picture under way: the stretch of time that it shows, its rows so far, and its shapes.
 #[derive(Drop)]
 pub struct RunPicture {
-    from: u64,
-    to: u64,
+    span: Span,
     rows: u64,
-    shapes: Text<Global>,
-    /// The shapes that had no room any more.
-    left_out: u64,
+    shapes: Shapes,
 }
 
-/// The first and the last moment of some hops, together with two moments.
-fn span_of<A: Allocator>(hops: &[HopRun<'_, A>], span: (u64, u64)) -> (u64, u64) {
+/// A stretch of time with all moments of some hops.
+fn span_of<A: Allocator>(hops: &[HopRun<'_, A>], span: Span) -> Span {
     let mut span = span;
     for hop in hops {
         span = span_of_view(hop.view, span);
@@ -80,9 +74,9 @@ fn span_of<A: Allocator>(hops: &[HopRun<'_, A>], span: (u64, u64)) -> (u64, u64)
     span
 }
 
-/// The same of what is told of a hop.
-fn span_of_view<A: Allocator>(view: &View<A>, span: (u64, u64)) -> (u64, u64) {
-    let (mut from, mut to) = span;
+/// The same with those of what is told of a hop.
+fn span_of_view<A: Allocator>(view: &View<A>, span: Span) -> Span {
+    let Span { mut from, mut to } = span;
     for origin in &view.origins {
         from = from.min(origin.at);
         to = to.max(origin.at);
@@ -90,24 +84,17 @@ fn span_of_view<A: Allocator>(view: &View<A>, span: (u64, u64)) -> (u64, u64) {
     for departure in &view.departures {
         to = to.max(departure.done);
     }
-    (from, to)
+    Span { from, to }
 }
 
 /// Where a moment is, in pixels from the left.
 fn place_of(picture: &RunPicture, moment: u64) -> u64 {
-    let behind = moment.saturating_sub(picture.from) as u128;
-    let all = picture.to.saturating_sub(picture.from).max(1) as u128;
-    let pixels = (behind * WIDTH as u128 / all).min(WIDTH as u128);
-    LEFT + pixels as u64
+    LEFT + picture.span.along(moment, WIDTH)
 }
 
 /// Adds a shape, where there is room for it.
 fn put(picture: &mut RunPicture, form: &str, numbers: &[u64], word: &str) {
-    if picture.shapes.len() > MOST_OCTETS - FREE || word.len() > FREE / 2 {
-        picture.left_out = picture.left_out.saturating_add(1);
-    } else {
-        picture.shapes.fill(form, numbers, &[word]);
-    }
+    picture.shapes.put(form, numbers, &[word]);
 }
 
 /// Where a row is, in pixels from the top.
@@ -242,8 +229,8 @@ fn put_window(picture: &mut RunPicture, y: u64, queue: (u8, u8), from: u64, to: 
 fn put_turns<L: Timeline<State = u8>>(picture: &mut RunPicture, y: u64, queue: (u8, u8), list: &L)
     requires { queue.1 < 8 }
 {
-    let end = picture.to.min(END_OF_TURNS);
-    let mut at = picture.from;
+    let end = picture.span.to.min(END_OF_TURNS);
+    let mut at = picture.span.from;
     let mut opened = None;
     let mut drawn: u32 = 0;
     for _ in 0..MOST_TURNS {
@@ -264,7 +251,7 @@ fn put_turns<L: Timeline<State = u8>>(picture: &mut RunPicture, y: u64, queue: (
         put_window(picture, y, queue, from, at.min(end));
     }
     if at < end {
-        picture.left_out = picture.left_out.saturating_add(1);
+        picture.shapes.leave_out();
     }
 }
 
@@ -272,20 +259,19 @@ impl RunPicture {
     /// A picture of nothing.
     pub fn new(alloc: Global) -> RunPicture {
         RunPicture {
-            from: u64::MAX,
-            to: 0,
+            span: Span {
+                from: u64::MAX,
+                to: 0,
+            },
             rows: 0,
-            shapes: Text::new(alloc),
-            left_out: 0,
+            shapes: Shapes::new(alloc),
         }
     }
 
     /// Makes room for the moments of the hops of a stream. All streams that are to be drawn are looked at before the first
     /// is.
     pub fn look_at<A: Allocator>(&mut self, hops: &[HopRun<'_, A>]) {
-        let (from, to) = span_of(hops, (self.from, self.to));
-        self.from = from;
-        self.to = to;
+        self.span = span_of(hops, self.span);
     }
 
     /// Adds when the port of a number opens a class, all the time where it has no list, to the row of the hop at a place of the
@@ -301,7 +287,7 @@ impl RunPicture {
         if class >= 8 {
             return;
         }
-        let (from, to) = (self.from, self.to);
+        let Span { from, to } = self.span;
         match list {
             Some(list) => put_turns(self, y, (port, class), list),
             None => put_window(self, y, (port, class), from, to),
@@ -323,24 +309,14 @@ impl RunPicture {
     /// The picture as an SVG text: a row for each hop, in which each copy that left waited (yellow) from when its frame came, and was
     /// then on the link (blue); red where a frame was refused; behind them (green) when its queues are open.
     pub fn finish(self, alloc: Global) -> Result<String, NoMemory> {
-        let RunPicture {
-            from,
-            to,
-            rows,
-            shapes,
-            left_out,
-        } = self;
-        let shapes = shapes.done()?;
+        let RunPicture { span, rows, shapes } = self;
         let height = height_of(rows).saturating_add(30);
-        let numbers = [LEFT + WIDTH + 30, height, from.min(to), to];
-        let mut text = Text::new(alloc);
-        text.fill(HEAD, &numbers, &[STYLES]);
-        if left_out > 0 {
-            text.fill(LEFT_OUT, &[left_out], &[]);
-        }
-        text.put("</text>\n");
-        text.put(shapes.as_str());
-        text.put("</svg>\n");
-        text.done()
+        let numbers = [LEFT + WIDTH + 30, height, span.from.min(span.to), span.to];
+        let note = match shapes.left_out() {
+            0 => String::new(alloc),
+            count => form_of(alloc, LEFT_OUT, &[count], &[])?,
+        };
+        let head = form_of(alloc, HEAD, &numbers, &[STYLES, note.as_str()])?;
+        shapes.done(alloc, head.as_str(), "")
     }
 }

@@ -1,11 +1,11 @@
 //! Why a file is no capture that is read.
 ghost use Rattle.std.specs.Prelude.{IfOk, string_bytes};
-ghost use Rattle.bridge_explain.specs.Said.{BeginsWith};
+ghost use Rattle.bridge_text.specs.Named.{BeginsWith};
 
-use crate::text::{Said, behind, fill_two};
+use crate::text::{Said, fill_two};
 use bridge_capture::CaptureFault;
 use bridge_limits::NoMemory;
-use bridge_text::Text;
+use bridge_text::{Text, behind};
 use std::alloc::Global;
 
 /// The octets of the header of a capture.
@@ -13,12 +13,9 @@ const HEADER: u64 = 24;
 
 /// Whether each octet is one of a text.
 fn is_text(octets: &[u8]) -> bool {
-    for octet in octets {
-        if !matches!(*octet, b' '..=b'~' | b'\n' | b'\r' | b'\t') {
-            return false;
-        }
-    }
-    true
+    octets
+        .iter()
+        .all(|it| matches!(*it, b' '..=b'~' | b'\n' | b'\r' | b'\t'))
 }
 
 /// What a file looks like by its first octets, where another program makes a capture of it.

@@ -1,10 +1,9 @@
 //! A text with its document, and where the instances of its sections stand.
 
-use crate::keys::own_key;
-use crate::position::{Position, key_position, table_position};
 use crate::text::Said;
 use crate::value::put_value_or;
-use bridge_schema::{Field, Section};
+use bridge_schema::{Field, Section, own_key};
+use bridge_text::{Position, key_position, put_position, table_position};
 use toml::{Table, Value};
 
 /// A text with its document.
@@ -20,12 +19,17 @@ pub(crate) struct Source<'a> {
     pub is_commands: bool,
 }
 
-/// The instances of a section of a document.
-pub(crate) fn items_of<'a>(document: &'a Table, section: Section) -> &'a [Value] {
-    match document.get(section.name()) {
+/// The items of an array; none where there is none.
+pub(crate) fn items_in<'a>(value: Option<&'a Value>) -> &'a [Value] {
+    match value {
         Some(Value::Array(items)) => items,
         _ => &[],
     }
+}
+
+/// The instances of a section of a document.
+pub(crate) fn items_of<'a>(document: &'a Table, section: Section) -> &'a [Value] {
+    items_in(document.get(section.name()))
 }
 
 /// The table of an instance, by its place from 1.
@@ -66,18 +70,6 @@ fn position_of(
     match key_position(source.text, name, header.line, key) {
         Some(position) => Some(position),
         None => Some(header),
-    }
-}
-
-/// Adds a place of a text, where it is known, behind the name of its file.
-pub(crate) fn put_position(said: &mut Said, position: Option<Position>) {
-    match position {
-        Some(Position { line, column }) => said.fill(
-            ", line {0}, column {1}: ",
-            &[line as u64, column as u64],
-            &[],
-        ),
-        None => said.put(": "),
     }
 }
 

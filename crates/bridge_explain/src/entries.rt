@@ -1,25 +1,21 @@
 //! The lists of ports and gates, entry by entry.
 
-use crate::document::{Source, number_in, put_place, table_of, value_of};
+use crate::document::{Source, items_in, number_in, put_place, table_of, value_of};
 use crate::faults::put_allowed;
-use crate::keys::{Allowed, Key, ListKeys, Presence, entry_keys, lists_of};
 use crate::text::{Said, fill_two};
 use crate::value::put_value_or;
-use bridge_config::LENGTH;
 use bridge_cycle::{CyclicList, LONGEST_CYCLE, ListFault, MOST_ENTRIES};
 use bridge_limits::NoMemory;
-use bridge_schema::{Between, Field, Kind, Section, Switch};
+use bridge_schema::{
+    Allowed, Between, Field, Key, Kind, LENGTH, ListKeys, Presence, Section, Switch, entry_keys,
+    lists_of,
+};
 use std::alloc::Global;
 use toml::{Table, Value};
 
 /// Whether each item is a number of a range.
 fn are_between(items: &[Value], range: &Between) -> bool {
-    for item in items {
-        if range.read(item).is_err() {
-            return false;
-        }
-    }
-    true
+    items.iter().all(|it| range.read(it).is_ok())
 }
 
 /// Whether a value may stand at a key of an entry.
@@ -105,14 +101,6 @@ fn put_flaw(
     put_allowed(said, allowed);
 }
 
-/// The entries at a key of an instance.
-fn entries_at<'a>(table: Option<&'a Table>, key: Field) -> &'a [Value] {
-    match value_of(table, key) {
-        Some(Value::Array(items)) => items,
-        _ => &[],
-    }
-}
-
 /// The interval of an entry; 0 where it has none.
 fn interval_of(entry: &Value) -> u64 {
     number_in(value_of(entry.as_table(), Field::Ns)).unwrap_or(0)
@@ -125,9 +113,10 @@ fn is_refused(
     keys: ListKeys,
     fault: ListFault,
 ) -> Result<bool, NoMemory> {
-    let cycle = number_in(value_of(table, keys.1)).unwrap_or(0);
+    let cycle = number_in(value_of(table, keys.cycle)).unwrap_or(0);
     let mut entries = Vec::new(alloc);
-    for item in entries_at(table, keys.0).iter().take(MOST_ENTRIES + 1) {
+    let items = items_in(value_of(table, keys.entries));
+    for item in items.iter().take(MOST_ENTRIES + 1) {
         entries.push(((), interval_of(item)))?;
     }
     match CyclicList::new(alloc, 0, cycle, entries) {
@@ -168,12 +157,18 @@ pub(crate) fn put_list(
         Err(_) => return said.give_up(),
     };
     let key = match fault {
-        ListFault::CycleOutOfRange => keys.1,
-        _ => keys.0,
+        ListFault::CycleOutOfRange => keys.cycle,
+        _ => keys.entries,
     };
     put_place(said, source, section, index, Some(key.key()));
-    let cycle = number_in(value_of(table, keys.1)).unwrap_or(0);
-    put_refused(said, keys, cycle, entries_at(table, keys.0), fault);
+    let cycle = number_in(value_of(table, keys.cycle)).unwrap_or(0);
+    put_refused(
+        said,
+        keys,
+        cycle,
+        items_in(value_of(table, keys.entries)),
+        fault,
+    );
 }
 
 /// The sentence on a list that is refused: its keys are `{a}` and that of its cycle `{b}`; it has so many entries `{0}` of at
@@ -205,5 +200,9 @@ fn put_refused(said: &mut Said, keys: ListKeys, cycle: u64, items: &[Value], fau
         }
     }
     let numbers = [place, MOST_ENTRIES as u64, cycle, LONGEST_CYCLE, zero, sum];
-    said.fill(refusal_of(fault), &numbers, &[keys.0.key(), keys.1.key()]);
+    said.fill(
+        refusal_of(fault),
+        &numbers,
+        &[keys.entries.key(), keys.cycle.key()],
+    );
 }

@@ -1,17 +1,14 @@
 //! The sentences on each fault of a plan or of commands.
 
-use crate::document::{
-    Source, items_of, number_in, put_place, put_position, put_too_many, table_of, value_of,
-};
+use crate::document::{Source, items_of, number_in, put_place, put_too_many, table_of, value_of};
 use crate::entries::{put_entries, put_list};
-use crate::keys::{Allowed, key_among, keys_of, own_key};
-use crate::position::top_position;
-use crate::strays::{put_stray, put_top_key};
+use crate::strays::{key_among, put_stray, put_top_key};
 use crate::text::Said;
-use crate::value::{put_comma, put_value_or};
+use crate::value::put_value_or;
 use bridge_config::limit_of;
 use bridge_cycle::LONGEST_CYCLE;
-use bridge_schema::{Between, Field, Place, PlanFault, Section};
+use bridge_schema::{Allowed, Between, Field, Place, PlanFault, Section, keys_of, own_key};
+use bridge_text::{put_position, top_position};
 use std::alloc::Global;
 use toml::{Table, Value};
 
@@ -60,17 +57,17 @@ fn put_at(said: &mut Said, source: Source<'_>, place: Place) {
     put_place(said, source, place.section, place.index, Some(key));
     let table = table_of(source.document, place.section, place.index);
     let value = value_of(table, place.field);
-    let allowed = match key_among(keys_of(place.section), key) {
-        Some(row) => allowed_there(source, place, table, row.1),
-        None => Allowed::Unknown,
-    };
-    if matches!(allowed, Allowed::Tables) {
+    let row = key_among(keys_of(place.section), key);
+    let allowed = row.map(|it| allowed_there(source, place, table, it.1));
+    if matches!(allowed, Some(Allowed::Tables)) {
         return put_entries(said, place.section, key, value);
     }
     said.fill("`{a}` is ", &[], &[key]);
     put_value_or(said, value, "missing");
     said.put(".\n");
-    put_may(said, source, allowed);
+    if let Some(allowed) = allowed {
+        put_may(said, source, allowed);
+    }
     if let (Section::Command, Field::At) = (place.section, place.field) {
         put_falling(said, source, place.index, number_in(value));
     }
@@ -137,7 +134,6 @@ fn sentence_of(allowed: Allowed) -> &'static str {
         Allowed::NumberOf(_) => "It must be the `{a}` of a `{b}` of the plan.\n",
         Allowed::Ports => "It must be an array of numbers of ports of the plan.\n",
         Allowed::Tables => "It must be an array of tables.\n",
-        Allowed::Unknown => "",
         Allowed::Length => "It must be a whole number from 1 to {2} (ns).\n",
         Allowed::Mbps => "It must be 10, 100, 1000, 2500 or 10000 (Mb/s).\n",
         Allowed::Switch => "It must be true or false.\n",
@@ -178,7 +174,7 @@ fn put_numbers(said: &mut Said, items: &[Value], own: Field) {
     let mut is_first = true;
     for item in items.iter().take(MOST_NUMBERS) {
         if let Some(number) = number_in(value_of(item.as_table(), own)) {
-            put_comma(said, is_first);
+            said.put_comma(is_first);
             said.put_number(number);
             is_first = false;
         }

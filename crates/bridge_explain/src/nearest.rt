@@ -12,19 +12,22 @@ const LONGEST_WORD: usize = 40;
 const MOST_EDITS: usize = 3;
 
 /// The one of some names that is nearest to a word, where one is near to it: at most three edits away, and at most one for
-/// each four octets of the word that have begun. Two characters that change places are one edit. The first of several.
+/// each four octets of the word that have begun. Two characters that change places are one edit. The first of several. A
+/// front that stands before the word and before each name counts as octets of the word.
 pub(crate) fn nearest_name(
     alloc: Global,
+    front: &str,
     word: &str,
     names: &[&'static str],
 ) -> Result<Option<&'static str>, AllocError>
     ensures known { IfOk result (λ found. ForSome found (Contains names.now)) }
 {
-    if word.len() > LONGEST_WORD {
+    let octets = front.len().saturating_add(word.len());
+    if octets > LONGEST_WORD {
         return Ok(None);
     }
     let mut found = None;
-    let mut least = word.len().div_ceil(4).min(MOST_EDITS) + 1;
+    let mut least = octets.div_ceil(4).min(MOST_EDITS) + 1;
     for name in names {
         let edits = osa_distance(alloc, word, *name)?;
         if edits < least {
@@ -33,14 +36,4 @@ pub(crate) fn nearest_name(
         }
     }
     Ok(found)
-}
-
-/// Whether a word is among some names.
-pub(crate) fn is_among(names: &[&str], word: &str) -> bool {
-    for name in names {
-        if *name == word {
-            return true;
-        }
-    }
-    false
 }

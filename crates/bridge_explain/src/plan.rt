@@ -1,14 +1,13 @@
 //! Why a text is no plan.
 ghost use Rattle.std.specs.Prelude.{IfOk, string_bytes};
-ghost use Rattle.bridge_explain.specs.Said.{BeginsWith};
+ghost use Rattle.bridge_text.specs.Named.{BeginsWith};
 
-use crate::document::{Source, put_position};
+use crate::document::Source;
 use crate::faults::put_fault;
-use crate::position::position_behind;
-use crate::text::{Said, behind};
+use crate::text::Said;
 use bridge_limits::NoMemory;
 use bridge_schema::PlanFault;
-use bridge_text::Text;
+use bridge_text::{Text, behind, position_behind, put_position};
 use std::alloc::Global;
 use toml::de::Error;
 

@@ -1,13 +1,13 @@
 //! Why a run stopped, or a text was not run.
 ghost use Rattle.std.specs.Prelude.{IfOk, codes, string_bytes};
-ghost use Rattle.bridge_explain.specs.Said.{BeginsWith};
+ghost use Rattle.bridge_text.specs.Named.{BeginsWith};
 
 use crate::capture::explain_capture;
-use crate::text::of_file;
 use bridge_capture::CaptureFault;
 use bridge_inputs::RunFault;
 use bridge_jobs::TextFault;
 use bridge_limits::NoMemory;
+use bridge_text::of_file;
 use std::alloc::Global;
 
 /// Why a run stopped, by the path of the capture and its first octets. It begins with the path.
@@ -30,17 +30,12 @@ pub fn explain_run(
 pub fn explain_text(alloc: Global, fault: &TextFault) -> Result<String, NoMemory>
     ensures { IfOk result (λ said. BeginsWith (codes "-") (string_bytes said)) }
 {
-    match fault {
-        TextFault::NotHex => of_file(
-            alloc,
-            "-",
+    let body = match fault {
+        TextFault::NotHex =>
             ": standard input must be hexadecimal digits in pairs, with blanks between pairs alone. The commands take files: check, run, wire.\n",
-        ),
-        TextFault::TooLong => of_file(
-            alloc,
-            "-",
+        TextFault::TooLong =>
             ": standard input may have at most 4194304 characters and 1048576 pairs of digits. Send a capture file: wire MBPS ROOM IN OUT.\n",
-        ),
-        TextFault::Run(fault) => explain_run(alloc, "-", &[], fault),
-    }
+        TextFault::Run(fault) => return explain_run(alloc, "-", &[], fault),
+    };
+    of_file(alloc, "-", body)
 }

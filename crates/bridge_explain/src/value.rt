@@ -52,18 +52,11 @@ fn put_item(said: &mut Said, item: &Value) {
     }
 }
 
-/// Adds a comma, unless nothing is listed before.
-pub(crate) fn put_comma(said: &mut Said, is_first: bool) {
-    if !is_first {
-        said.put(", ");
-    }
-}
-
 /// Adds the items of an array, the first sixteen of them.
 fn put_items(said: &mut Said, items: &[Value]) {
     let mut is_first = true;
     for item in items.iter().take(MOST_ITEMS) {
-        put_comma(said, is_first);
+        said.put_comma(is_first);
         put_item(said, item);
         is_first = false;
     }

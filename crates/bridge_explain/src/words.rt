@@ -1,68 +1,14 @@
 //! Why the words of the command line are refused.
 ghost use Rattle.std.specs.Prelude.{IfOk, codes, string_bytes};
-ghost use Rattle.bridge_explain.specs.Said.{BeginsWith};
+ghost use Rattle.bridge_text.specs.Named.{BeginsWith};
 
-use crate::nearest::{is_among, nearest_name};
-use crate::text::{Said, behind};
+use crate::nearest::nearest_name;
+use crate::text::Said;
 use crate::value::put_text;
+use bridge_cli::{Call, OPTIONS, call_of, command_names, has_value, option_names};
 use bridge_limits::NoMemory;
-use bridge_text::Text;
+use bridge_text::{Text, behind};
 use std::alloc::Global;
-
-/// The commands of the program.
-const COMMANDS: &[&str] = &["bounds", "check", "net", "picture", "run", "wire"];
-
-/// The options of the program.
-const OPTIONS: &[&str] = &[
-    "--commands",
-    "--delays",
-    "--explain",
-    "--filters",
-    "--frames",
-    "--from",
-    "--picture",
-    "--ports",
-    "--strict",
-    "--to",
-    "--traffic",
-];
-
-const THE_OPTIONS: &str =
-    "The options are --commands FILE, --delays FILE, --frames FILE, --picture FILE and --filters LIST (of run), --from NS, --to NS and --ports LIST (of run and picture), --traffic FILE (of bounds), --strict (of check, run and net), and --explain.\n";
-
-const OF_RUN: &str =
-    "An option stands where it may not, twice, or without its value.\n--from, --to, --ports and --filters stand beside --picture. Moments are in ns below 4 * 10^18, the first before the second; lists are numbers joined by commas, as 1,3.\n";
-
-const OF_PICTURE: &str =
-    "An option stands where it may not, twice, or without its value.\n--from and --to are moments in ns below 4 * 10^18, the first before the second, and --ports are numbers joined by commas, as 1,3.\n";
-
-/// How a command is called, and how many words it takes.
-fn call_of(command: &str) -> (&'static str, usize) {
-    match command {
-        "bounds" => ("bounds PLAN [--traffic FILE]", 1),
-        "check" => ("check PLAN [--strict]", 1),
-        "net" => ("net check NET [--strict]", 2),
-        "picture" => ("picture PLAN FILE [--from NS] [--to NS] [--ports LIST]", 2),
-        "run" => (
-            "run PLAN IN OUT [--commands FILE] [--delays FILE] [--frames FILE] [--picture FILE [--from NS] [--to NS] [--ports LIST] [--filters LIST]] [--strict]",
-            3,
-        ),
-        _ => ("wire MBPS ROOM IN OUT", 4),
-    }
-}
-
-/// What may be wrong with the words of a command that has as many as it takes.
-fn reason_of(command: &str) -> &'static str {
-    match command {
-        "wire" =>
-            "MBPS must be 10, 100, 1000, 2500 or 10000, and ROOM a whole number from 1 to 4096.\n",
-        "picture" => OF_PICTURE,
-        "run" => OF_RUN,
-        "net" =>
-            "An option stands where it may not, twice, or without its value.\nThe first word behind `net` is `check`.\n",
-        _ => "An option stands where it may not, twice, or without its value.\n",
-    }
-}
 
 /// Whether a word is an option, and of what name.
 fn option_of(word: &str) -> Option<&str> {
@@ -89,14 +35,19 @@ fn put_words(alloc: Global, said: &mut Said, words: &[String]) {
     if let Some(name) = unknown_option(words) {
         return put_option(alloc, said, name);
     }
-    match first_word(words) {
-        None => {
-            said.put("A command is missing.\n");
-            put_calls(said);
-        }
-        Some(word) if is_among(COMMANDS, word) => put_command(said, words, word),
-        Some(word) => put_unknown(alloc, said, word),
+    let Some(word) = first_word(words) else {
+        said.put("A command is missing.\n");
+        return put_calls(alloc, said);
+    };
+    match call_of(word) {
+        Some(call) => put_command(said, words, call),
+        None => put_unknown(alloc, said, word),
     }
+}
+
+/// Whether an option has a value behind it, by its name with the `--` before it; none where no command has it.
+fn takes_value(name: &str) -> Option<bool> {
+    has_value(name.strip_prefix("--")?)
 }
 
 /// The first option that is unknown.
@@ -106,7 +57,7 @@ fn unknown_option(words: &[String]) -> Option<&str> {
             return None;
         }
         if let Some(name) = option_of(word.as_str()) {
-            if !is_among(OPTIONS, name) {
+            if takes_value(name).is_none() {
                 return Some(name);
             }
         }
@@ -116,22 +67,34 @@ fn unknown_option(words: &[String]) -> Option<&str> {
 
 /// The first word that is no option.
 fn first_word(words: &[String]) -> Option<&str> {
-    for word in words {
-        if option_of(word.as_str()).is_none() {
-            return Some(word.as_str());
-        }
-    }
-    None
+    let mut plain = words.iter().filter(|it| option_of(it.as_str()).is_none());
+    Some(plain.next()?.as_str())
+}
+
+/// The name of an option that is nearest to a word, which begins with `--` as the options do.
+fn nearest_option(alloc: Global, word: &str) -> Result<Option<&'static str>, NoMemory> {
+    let names = option_names(alloc)?;
+    let found = nearest_name(alloc, "--", word.strip_prefix("--").unwrap_or(word), &names)?;
+    Ok(found)
 }
 
 /// Adds that an option is unknown, and the nearest.
 fn put_option(alloc: Global, said: &mut Said, name: &str) {
     put_text(said, name);
     said.put(" is no option.\n");
-    match nearest_name(alloc, name, OPTIONS) {
-        Ok(Some(found)) => said.fill("The nearest option is {a}.\n", &[], &[found]),
-        Ok(None) => said.put(THE_OPTIONS),
+    match nearest_option(alloc, name) {
+        Ok(Some(found)) => said.fill("The nearest option is --{a}.\n", &[], &[found]),
+        Ok(None) => said.put(OPTIONS),
         Err(_) => said.give_up(),
+    }
+}
+
+/// The call of the command whose name is nearest to a word.
+fn nearest_call(alloc: Global, word: &str) -> Result<Option<Call>, NoMemory> {
+    let names = command_names(alloc)?;
+    match nearest_name(alloc, "", word, &names)? {
+        Some(name) => Ok(call_of(name)),
+        None => Ok(None),
     }
 }
 
@@ -139,22 +102,27 @@ fn put_option(alloc: Global, said: &mut Said, name: &str) {
 fn put_unknown(alloc: Global, said: &mut Said, word: &str) {
     put_text(said, word);
     said.put(" is no command.\n");
-    match nearest_name(alloc, word, COMMANDS) {
-        Ok(Some(found)) => put_call(said, "The nearest command is: tsnbridge {a}\n", found),
-        Ok(None) => put_calls(said),
+    match nearest_call(alloc, word) {
+        Ok(Some(call)) => put_call(said, "The nearest command is: tsnbridge {a}\n", call),
+        Ok(None) => put_calls(alloc, said),
         Err(_) => said.give_up(),
     }
 }
 
 /// Adds how a command is called.
-fn put_call(said: &mut Said, template: &str, command: &str) {
-    said.fill(template, &[], &[call_of(command).0]);
+fn put_call(said: &mut Said, template: &str, call: Call) {
+    said.fill(template, &[], &[call.line]);
 }
 
 /// Adds how each command is called.
-fn put_calls(said: &mut Said) {
-    for command in COMMANDS {
-        put_call(said, "A command is: tsnbridge {a}\n", *command);
+fn put_calls(alloc: Global, said: &mut Said) {
+    let Ok(names) = command_names(alloc) else {
+        return said.give_up();
+    };
+    for name in &names {
+        if let Some(call) = call_of(*name) {
+            put_call(said, "A command is: tsnbridge {a}\n", call);
+        }
     }
 }
 
@@ -166,8 +134,8 @@ fn values_in(words: &[String]) -> usize {
         let word = word.as_str();
         if is_value {
             is_value = false;
-        } else if is_among(OPTIONS, word) {
-            is_value = word != "--explain" && word != "--strict";
+        } else if let Some(has_value) = takes_value(word) {
+            is_value = has_value;
         } else if option_of(word).is_none() && word != "--" {
             count = count.saturating_add(1);
         }
@@ -176,14 +144,13 @@ fn values_in(words: &[String]) -> usize {
 }
 
 /// Adds why the words of a command are refused.
-fn put_command(said: &mut Said, words: &[String], command: &str) {
-    let (_, wanted) = call_of(command);
+fn put_command(said: &mut Said, words: &[String], call: Call) {
     let count = values_in(words);
-    let reason = if count != wanted {
+    let reason = if count != call.places {
         "The words behind `{a}` must be {0}, and are {1}.\n"
     } else {
-        reason_of(command)
+        call.reason
     };
-    said.fill(reason, &[wanted as u64, count as u64], &[command]);
-    put_call(said, "It is called: tsnbridge {a}\n", command);
+    said.fill(reason, &[call.places as u64, count as u64], &[call.name]);
+    put_call(said, "It is called: tsnbridge {a}\n", call);
 }

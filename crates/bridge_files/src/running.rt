@@ -36,17 +36,23 @@ pub fn run_over<R: Read + Drop, W: Write + Drop, A: Allocator + Copy>(
     requires readers { length readers.items ≡ length accepted.now.ports }
     requires writers { length writers.items ≡ length accepted.now.ports }
     requires commands { AreCommands accepted.now commands.now }
-    ensures ok { (ports : List ℕ) (texts : ℕ → List ℕ) → AreNumbers accepted.now ports → AreTexts R.remaining ports texts readers.items →
+    ensures ok { (ports : List ℕ) (texts : ℕ → List ℕ) → AreNumbers accepted.now ports
+        → AreTexts R.remaining ports texts readers.items →
         IfOk result (λ done. Runs accepted.now ports commands.now texts W.contents writers.items done.1.items done.0) }
-    ensures err { (ports : List ℕ) (texts : ℕ → List ℕ) → AreNumbers accepted.now ports → AreTexts R.remaining ports texts readers.items →
+    ensures err { (ports : List ℕ) (texts : ℕ → List ℕ) → AreNumbers accepted.now ports
+        → AreTexts R.remaining ports texts readers.items →
         IfErr result (λ halted. length halted.writers.items ≡ length ports → (rests : ℕ → Option (List ℕ)) ×
-        StopsFlushed accepted.now ports commands.now texts rests W.contents writers.items halted.writers.items halted.fault) }
+        StopsFlushed accepted.now ports commands.now texts rests W.contents writers.items
+        halted.writers.items halted.fault) }
     ensures lost { (ports : List ℕ) (port : ℕ) → AreNumbers accepted.now ports →
-        IfErr result (λ halted. slice_get ports (length halted.writers.items) ≡ Some port → LosesOutput port (length halted.writers.items) halted.fault) }
+        IfErr result (λ halted. slice_get ports (length halted.writers.items) ≡ Some port
+        → LosesOutput port (length halted.writers.items) halted.fault) }
     ensures isolated { (ports : List ℕ) (texts : ℕ → List ℕ) →
-        IfOk result (λ done. Isolates accepted.now ports commands.now texts W.contents writers.items done.1.items done.0) }
+        IfOk result (λ done. Isolates accepted.now ports commands.now texts W.contents
+        writers.items done.1.items done.0) }
     ensures others_change_nothing { (ports : List ℕ) (texts : ℕ → List ℕ) →
-        IfOk result (λ done. OthersChangeNothing accepted.now ports commands.now texts W.contents writers.items done.1.items done.0) }
+        IfOk result (λ done. OthersChangeNothing accepted.now ports commands.now texts W.contents
+        writers.items done.1.items done.0) }
 {
     let Ok(ports) = accepted.plan().port_numbers(alloc) else {
         return Err(Halted {

@@ -4,9 +4,10 @@ ghost use Rattle.bridge_jobs.specs.Jobs.{EndsWire, IsOfRun, PrintsCounts};
 ghost use Rattle.bridge_jobs.specs.Reading.{IsOfStandardFile};
 ghost use Rattle.bridge_files.specs.Wiring.{EndsInto, EndsOver, EndsWiring, IsStandard, SaysCounts, is_noted, line_of};
 
+use crate::cause::{cause_of_capture, cause_of_write};
 use crate::output::{FileId, are_same, file_at, file_of, output_at};
 use bridge_frame::Speed;
-use bridge_jobs::{Fault, print, wire_job};
+use bridge_jobs::{Cause, Fault, print, wire_job};
 use bridge_port::LARGEST_ROOM;
 use bridge_wire::RunFault;
 use std::alloc::Global;
@@ -64,15 +65,35 @@ pub fn wire_files<H: Input + AllocGlobal + Print + Files>(
     ensures ok { IfOk result (SaysCounts (string_bytes output)) }
     ensures err { IfErr result (EndsWiring (string_bytes input) (string_bytes output)) }
 {
+    wire_noted(rt, speed, room, input, output, &mut None)
+}
+
+/// The same, and the cause of a file that fails is noted.
+pub fn wire_noted<H: Input + AllocGlobal + Print + Files>(
+    rt: &H,
+    speed: Speed,
+    room: u16,
+    input: String,
+    output: String,
+    cause: &mut Option<Cause>,
+) -> Result<Said, Fault>
+    requires room { (1 ≤ room) × (room ≤ LARGEST_ROOM) }
+    ensures ok { IfOk result (SaysCounts (string_bytes output)) }
+    ensures err { IfErr result (EndsWiring (string_bytes input) (string_bytes output)) }
+{
     if is_standard(input.as_str()) {
         let file = file_at(rt, STANDARD_INPUT);
-        return wire_into(rt, speed, room, rt.reader(), file, output);
+        return wire_into(rt, speed, room, rt.reader(), file, output, cause);
     }
-    let Ok(reader) = fs::open(rt, input.as_str()) else {
-        return Err(Fault::File(input));
+    let reader = match fs::open(rt, input.as_str()) {
+        Ok(reader) => reader,
+        Err(error) => {
+            *cause = Some(cause_of_capture(rt, input.as_str(), &error, Cause::NotFound));
+            return Err(Fault::File(input));
+        }
     };
     let file = file_of(&reader);
-    wire_into(rt, speed, room, reader, file, output)
+    wire_into(rt, speed, room, reader, file, output, cause)
 }
 
 /// The same of a reader, and of the file that it reads, where that is known.
@@ -83,6 +104,7 @@ fn wire_into<R: Read + Drop, H: AllocGlobal + Print + Files>(
     reader: R,
     file: Option<FileId>,
     output: String,
+    cause: &mut Option<Cause>,
 ) -> Result<Said, Fault>
     requires room { (1 ≤ room) × (room ≤ LARGEST_ROOM) }
     ensures ok { IfOk result (SaysCounts (string_bytes output)) }
@@ -91,13 +113,21 @@ fn wire_into<R: Read + Drop, H: AllocGlobal + Print + Files>(
     if is_standard(output.as_str()) {
         return match wire_over(rt.alloc(), speed, room, reader, io::writer(rt), output) {
             Ok((said, _)) => Ok(said),
-            Err(fault) => Err(fault),
+            Err(fault) => {
+                *cause = Some(Cause::Standard);
+                Err(fault)
+            }
         };
     }
-    let Ok(writer) = output_at(rt, output.as_str()) else {
-        return Err(Fault::File(output));
+    let writer = match output_at(rt, output.as_str()) {
+        Ok(writer) => writer,
+        Err(error) => {
+            *cause = Some(cause_of_write(rt, output.as_str(), &error));
+            return Err(Fault::File(output));
+        }
     };
     if are_same(file, writer.id()) {
+        *cause = Some(Cause::Taken);
         return Err(Fault::File(output));
     }
     match wire_over(rt.alloc(), speed, room, reader, writer, output) {

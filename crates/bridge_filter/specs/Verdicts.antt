@@ -7,6 +7,7 @@ use Rattle.bridge_meter.specs.Colours as meter
 use Rattle.bridge_gate.specs.declared.gate.GateAnswer.{GateAnswer}
 use Rattle.bridge_gate.specs.declared.gate.GateAnswer.TheVariants as gate
 use Rattle.bridge_gate.specs.Gates.{GateRules, GateEvent, Asked, ClearedRx, ClearedOctets, steps, answer}
+pub use Rattle.bridge_filter.specs.declared.Call.{Call}
 use Rattle.bridge_filter.specs.declared.Clear.{Clear}
 use Rattle.bridge_filter.specs.declared.Clear.TheVariants as clear
 use Rattle.bridge_filter.specs.declared.FilterPlan.{FilterPlan}
@@ -15,15 +16,6 @@ use Rattle.bridge_filter.specs.declared.Verdict.TheVariants as verdict
 use Rattle.bridge_filter.specs.declared.Ruling.{Ruling}
 
 -- A frame that reached the filters: its moment, its stream handle, its priority, its drop eligible indication, the octets of its service data unit and those that a meter counts.
-pub record Call : Type 0 where
-  pub at : ℕ
-  pub handle : Option ℕ
-  pub priority : ℕ
-  pub dei : Bool
-  pub sdu : ℕ
-  pub octets : ℕ
-
--- a frame as a filter sees it
 abbrev pub call : ℕ → Option ℕ → ℕ → Bool → ℕ → ℕ → Call
 call at handle priority dei sdu octets = record { at = at; handle = handle; priority = priority; dei = dei; sdu = sdu; octets = octets }
 

@@ -1,6 +1,6 @@
 //! Gates and meters by number, and what they say to a frame.
 
-ghost use Rattle.std.specs.Prelude.{◌≡◌, ℕ, ◌<◌, ◌≤◌, ◌&&◌, nat_eq, IsSome, IfSome, Some, true, Option, List, ◌∷◌, length, slice_get, if◌then◌else◌};
+ghost use Rattle.std.specs.Prelude.{◌≡◌, ℕ, ◌<◌, ◌≤◌, ◌&&◌, nat_eq, IsSome, IfSome, Some, true, List, ◌∷◌, length, slice_get, if◌then◌else◌};
 ghost use Rattle.std.specs.Option.{option_map};
 ghost use Rattle.std.specs.Map.{keys_of, lookup};
 ghost use Rattle.bridge_meter.specs.declared.MeterPlan.{MeterPlan};
@@ -9,12 +9,12 @@ ghost use Rattle.bridge_gate.specs.declared.gate.GateAnswer.TheVariants as gate;
 ghost use Rattle.bridge_gate.specs.Gates.{GateRules, GateEvent, Asked, answer, steps, is_shut_by_rx, is_shut_by_octets};
 ghost use Rattle.bridge_filter.specs.declared.FilterPlan.{FilterPlan};
 ghost use Rattle.bridge_filter.specs.Finding.{IsPlaceIfAny, IsServed};
-ghost use Rattle.bridge_filter.specs.Verdicts.{Plans, Step, Judged, call, by_answer, by_colour, gate_answer, meter_share, passed_gate, reached_gate, HasPriority};
+ghost use Rattle.bridge_filter.specs.Verdicts.{Plans, Step, Judged, by_answer, by_colour, gate_answer, meter_share, passed_gate, reached_gate, HasPriority};
 ghost use Rattle.bridge_filter.specs.Standing.{GatesStand, MetersStand, shown_rx, shown_octets};
 ghost use Rattle.bridge_filter.specs.Steps.{GatesBefore, MetersBefore, ArePoliced};
 
-use crate::Verdict;
 use crate::find::Route;
+use crate::{Call, Verdict};
 use bridge_gate::{GateAnswer, StreamGate};
 use bridge_limits::END_OF_TIME;
 use bridge_meter::{Buckets, Colour, Meter};
@@ -24,15 +24,6 @@ use std::hash::{BuildHasherDefault, FoldHasher};
 
 /// Things by number.
 pub(crate) type Numbered<T, A> = IndexMap<u32, T, BuildHasherDefault<FoldHasher>, A>;
-
-/// What gates and meters read of a frame.
-#[derive(Clone, Copy)]
-pub(crate) struct Frame {
-    pub at: u64,
-    pub dei: bool,
-    pub sdu: u32,
-    pub octets: u32,
-}
 
 /// Asks the gate at that place.
 fn ask<A: Allocator + Copy>(
@@ -62,27 +53,27 @@ fn ask<A: Allocator + Copy>(
 fn metered<A: Allocator + Copy>(
     meters: &mut Numbered<Meter, A>,
     place: usize,
-    frame: Frame,
+    call: Call,
     ipv: Option<u8>,
 ) -> Verdict
     requires within { place < length meters.old.entries }
-    requires before { MetersBefore meters.old.entries frame.at }
+    requires before { MetersBefore meters.old.entries call.at }
     ensures stand { (number : ℕ) (plans : ℕ → MeterPlan) (share : ℕ → List colours.MeterEvent)
         → slice_get (keys_of meters.old.entries) place ≡ Some number → MetersStand plans meters.old.entries share
         → MetersStand plans meters.new.entries (λ n. if nat_eq number n
-        then colours.Came frame.at frame.octets frame.dei ∷ share n else share n) }
+        then colours.Came call.at call.octets call.dei ∷ share n else share n) }
     ensures verdict { (number : ℕ) (plans : ℕ → MeterPlan) (share : ℕ → List colours.MeterEvent)
         → slice_get (keys_of meters.old.entries) place ≡ Some number → MetersStand plans meters.old.entries share
         → result ≡ by_colour (plans number) ipv (colours.colour_of (plans number)
-        (colours.past (plans number) (share number)) frame.at frame.octets frame.dei) }
+        (colours.past (plans number) (share number)) call.at call.octets call.dei) }
     ensures passed { passed_gate result ≡ true }
     ensures priority { ((i : ℕ) → ipv ≡ Some i → i ≤ 7) → HasPriority result }
-    ensures before { MetersBefore meters.new.entries frame.at }
+    ensures before { MetersBefore meters.new.entries call.at }
     ensures same { keys_of meters.new.entries ≡ keys_of meters.old.entries }
 {
     let (_, meter) = meters.pair_mut(place);
     let drop_yellow = meter.plan().drop_yellow;
-    let colour = meter.colour(frame.at, frame.octets, frame.dei);
+    let colour = meter.colour(call.at, call.octets, call.dei);
     verdict_by(colour, drop_yellow, ipv)
 }
 
@@ -111,28 +102,26 @@ fn answered<A: Allocator + Copy>(
     answer: GateAnswer,
     place: Option<usize>,
     meters: &mut Numbered<Meter, A>,
-    frame: Frame,
+    call: Call,
 ) -> Verdict
     requires within { IfSome place (λ i. i < length meters.old.entries) }
-    requires before { MetersBefore meters.old.entries frame.at }
+    requires before { MetersBefore meters.old.entries call.at }
     requires priority { (ipv : ℕ) → answer ≡ gate.Through (Some ipv) → ipv ≤ 7 }
-    ensures verdict { (p : Plans) (ss : List Step) (f : FilterPlan) (handle : Option ℕ) (priority : ℕ)
+    ensures verdict { (p : Plans) (ss : List Step) (f : FilterPlan)
         → IsPlaceIfAny (keys_of meters.old.entries) f.meter place
-        → MetersStand p.meters meters.old.entries (λ n. meter_share n ss)
-        → result ≡ by_answer p ss (call frame.at handle priority frame.dei frame.sdu frame.octets) f answer }
-    ensures stand { (plans : ℕ → MeterPlan) (ss : List Step) (k : ℕ) (f : FilterPlan) (handle : Option ℕ) (priority : ℕ)
+        → MetersStand p.meters meters.old.entries (λ n. meter_share n ss) → result ≡ by_answer p ss call f answer }
+    ensures stand { (plans : ℕ → MeterPlan) (ss : List Step) (k : ℕ) (f : FilterPlan)
         → IsPlaceIfAny (keys_of meters.old.entries) f.meter place
         → MetersStand plans meters.old.entries (λ n. meter_share n ss)
-        → MetersStand plans meters.new.entries (λ n. meter_share n
-        (Judged (call frame.at handle priority frame.dei frame.sdu frame.octets) k f result ∷ ss)) }
+        → MetersStand plans meters.new.entries (λ n. meter_share n (Judged call k f result ∷ ss)) }
     ensures reached { reached_gate result ≡ true }
     ensures priority { HasPriority result }
-    ensures before { MetersBefore meters.new.entries frame.at }
+    ensures before { MetersBefore meters.new.entries call.at }
     ensures same { keys_of meters.new.entries ≡ keys_of meters.old.entries }
 {
     match answer {
         GateAnswer::Through(ipv) => match place {
-            Some(place) => metered(meters, place, frame, ipv),
+            Some(place) => metered(meters, place, call, ipv),
             None => Verdict::Pass {
                 ipv,
                 eligible: false,
@@ -150,32 +139,30 @@ pub(crate) fn policed<A: Allocator + Copy>(
     route: Route,
     gates: &mut Numbered<StreamGate<A>, A>,
     meters: &mut Numbered<Meter, A>,
-    frame: Frame,
+    call: Call,
 ) -> Verdict
     requires gate { route.gate < length gates.old.entries }
     requires meter { IfSome route.meter (λ i. i < length meters.old.entries) }
-    requires asked { GatesBefore gates.old.entries frame.at }
-    requires judged { MetersBefore meters.old.entries frame.at }
-    requires range { frame.at < END_OF_TIME }
-    ensures verdict { (p : Plans) (ss : List Step) (f : FilterPlan) (handle : Option ℕ) (priority : ℕ)
+    requires asked { GatesBefore gates.old.entries call.at }
+    requires judged { MetersBefore meters.old.entries call.at }
+    requires range { call.at < END_OF_TIME }
+    ensures verdict { (p : Plans) (ss : List Step) (f : FilterPlan)
         → IsServed f (keys_of gates.old.entries) (keys_of meters.old.entries) route
         → ArePoliced p gates.old.entries meters.old.entries ss
-        → result ≡ by_answer p ss (call frame.at handle priority frame.dei frame.sdu frame.octets) f
-        (gate_answer p ss (call frame.at handle priority frame.dei frame.sdu frame.octets) f.gate) }
+        → result ≡ by_answer p ss call f (gate_answer p ss call f.gate) }
     ensures reached { reached_gate result ≡ true }
-    ensures gates { (p : Plans) (ss : List Step) (n : ℕ) (f : FilterPlan) (handle : Option ℕ) (priority : ℕ)
+    ensures gates { (p : Plans) (ss : List Step) (n : ℕ) (f : FilterPlan)
         → IsServed f (keys_of gates.old.entries) (keys_of meters.old.entries) route
         → ArePoliced p gates.old.entries meters.old.entries ss
-        → ArePoliced p gates.new.entries meters.new.entries
-        (Judged (call frame.at handle priority frame.dei frame.sdu frame.octets) n f result ∷ ss) }
+        → ArePoliced p gates.new.entries meters.new.entries (Judged call n f result ∷ ss) }
     ensures priority { HasPriority result }
-    ensures asked { GatesBefore gates.new.entries frame.at }
-    ensures judged { MetersBefore meters.new.entries frame.at }
+    ensures asked { GatesBefore gates.new.entries call.at }
+    ensures judged { MetersBefore meters.new.entries call.at }
     ensures same_gates { keys_of gates.new.entries ≡ keys_of gates.old.entries }
     ensures same_meters { keys_of meters.new.entries ≡ keys_of meters.old.entries }
 {
-    let answer = ask(gates, route.gate, frame.at, frame.sdu);
-    answered(answer, route.meter, meters, frame)
+    let answer = ask(gates, route.gate, call.at, call.sdu);
+    answered(answer, route.meter, meters, call)
 }
 
 /// The flags of the gate of that number.

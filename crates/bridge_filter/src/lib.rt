@@ -35,6 +35,23 @@ pub struct FilterPlan {
     pub protected: bool,
 }
 
+/// A frame that reached the stream filters (IEEE 802.1Q-2018, 8.6.5.1.1).
+#[derive(Clone, Copy, Debug, PartialEq, Eq)]
+pub struct Call {
+    /// When it came, in ns.
+    pub at: u64,
+    /// Its stream handle, where it has one.
+    pub handle: Option<u32>,
+    /// Its priority, 0 to 7.
+    pub priority: u8,
+    /// Its drop eligible indication.
+    pub dei: bool,
+    /// The octets of its service data unit.
+    pub sdu: u32,
+    /// The octets that a meter counts.
+    pub octets: u32,
+}
+
 /// What becomes of a frame that has a filter.
 #[derive(Clone, Copy, Debug, PartialEq, Eq)]
 pub enum Verdict {

@@ -15,11 +15,11 @@ ghost use Rattle.bridge_filter.specs.Finding.{IsFound};
 use crate::clearing::{clear_blocked, clear_octets, clear_red, clear_rx};
 use crate::filter::Filter;
 use crate::find::{Route, Row, Rows, route_of};
-use crate::instances::{Frame, Numbered, gate_flags, meter_state};
+use crate::instances::{Numbered, gate_flags, meter_state};
 use crate::judge::judge;
 use crate::making::{filters_of, gates_of, meters_of};
 use crate::rows::{any_of, rows_of};
-use crate::{Clear, Counters, FilterPlan, Flags, NoMemory, Ruling};
+use crate::{Call, Clear, Counters, FilterPlan, Flags, NoMemory, Ruling};
 use bridge_gate::{GatePlan, StreamGate};
 use bridge_limits::END_OF_TIME;
 use bridge_meter::{Buckets, Meter, MeterPlan};
@@ -44,9 +44,17 @@ impl<A: Allocator + Copy> Model for Police<A> {
 
     ghost Value = { PoliceState A };
 
-    ghost view = { λ p. record { filters = plans_in p.filters.entries; kept = p.filters.entries; gates = p.gates.entries; meters = p.meters.entries; calls = p.calls; earliest = p.earliest } };
+    ghost view = { λ p. record {
+      filters = plans_in p.filters.entries;
+      kept = p.filters.entries;
+      gates = p.gates.entries;
+      meters = p.meters.entries;
+      calls = p.calls;
+      earliest = p.earliest;
+    } };
 
-    ghost invariant = { λ p. IsSound p.filters.entries p.rows.entries p.any p.gates.entries p.meters.entries p.calls p.earliest };
+    ghost invariant = { λ p. IsSound p.filters.entries p.rows.entries p.any p.gates.entries p.meters.entries
+        p.calls p.earliest };
 }
 
 impl<A: Allocator + Copy> Police<A> {
@@ -130,7 +138,15 @@ impl<A: Allocator + Copy> Police<A> {
         ensures earliest { self.new.earliest ≡ t }
     {
         let found = self.find(handle, priority);
-        self.pass_by(t, handle, priority, dei, sdu, octets, found)
+        let call = Call {
+            at: t,
+            handle,
+            priority,
+            dei,
+            sdu,
+            octets,
+        };
+        self.pass_by(call, found)
     }
 
     /// The filter of frames with this stream handle and priority (0 to 7), where one matches, for `pass_by`.
@@ -153,49 +169,31 @@ impl<A: Allocator + Copy> Police<A> {
     /// What `pass` says of a frame whose filter was found by `find`. Frames and commands in between change nothing of that:
     /// which filter a frame has stays the same. It takes no memory.
     #[inline(always)]
-    pub fn pass_by(
-        &mut self,
-        t: u64,
-        handle: Option<u32>,
-        priority: u8,
-        dei: bool,
-        sdu: u32,
-        octets: u32,
-        found: Option<Route>,
-    ) -> Option<Ruling>
-        requires found { IsFound self.old handle priority found }
-        requires time { self.old.earliest ≤ t }
-        requires range { t < END_OF_TIME }
+    pub fn pass_by(&mut self, call: Call, found: Option<Route>) -> Option<Ruling>
+        requires found { IsFound self.old call.handle call.priority found }
+        requires time { self.old.earliest ≤ call.at }
+        requires range { call.at < END_OF_TIME }
         requires few { self.old.calls < 2 ^ 63 }
-        ensures stands { (p : Plans) (es : List Event) → Stands p self.old es
-            → Stands p self.new (Came (call t handle priority dei sdu octets) ∷ es) }
+        ensures stands { (p : Plans) (es : List Event) → Stands p self.old es → Stands p self.new (Came call ∷ es) }
         ensures answer { (p : Plans) (es : List Event) → Stands p self.old es
-            → result ≡ ruled (judged p (told p es) (call t handle priority dei sdu octets)
-            (flow p.filters (call t handle priority dei sdu octets))) }
-        ensures filter { option_map (λ r. r.filter) result
-            ≡ option_map (λ f. f.0) (flow self.old.filters (call t handle priority dei sdu octets)) }
+            → result ≡ ruled (judged p (told p es) call (flow p.filters call)) }
+        ensures filter { option_map (λ r. r.filter) result ≡ option_map (λ f. f.0) (flow self.old.filters call) }
         ensures priority { IfSome result (λ r. HasPriority r.verdict) }
         ensures filters { self.new.filters ≡ self.old.filters }
         ensures gates { KeepsNumbers self.old.gates self.new.gates }
         ensures meters { KeepsNumbers self.old.meters self.new.meters }
         ensures calls { self.new.calls ≡ self.old.calls + 1 }
-        ensures earliest { self.new.earliest ≡ t }
+        ensures earliest { self.new.earliest ≡ call.at }
     {
-        let frame = Frame {
-            at: t,
-            dei,
-            sdu,
-            octets,
-        };
         self.calls += 1;
-        self.earliest = t;
+        self.earliest = call.at;
         let route = found?;
         let verdict = judge(
             &mut self.filters,
             &mut self.gates,
             &mut self.meters,
             route,
-            frame,
+            call,
         );
         Some(Ruling {
             filter: route.number,

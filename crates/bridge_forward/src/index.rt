@@ -88,7 +88,8 @@ fn keep_entry<A: Allocator + Copy>(
 ) -> Result<(), AllocError>
     ensures { OnOk result ((vid : ℕ) (address : List ℕ)
         → IsKey vid address
-        → get nat_eq entries.new (key_of vid address) ≡ option_or (get nat_eq entries.old (key_of vid address)) (entry_at (entry ∷ []) vid address)) }
+        → get nat_eq entries.new (key_of vid address)
+        ≡ option_or (get nat_eq entries.old (key_of vid address)) (entry_at (entry ∷ []) vid address)) }
 {
     keep_first(entries, key_of(entry.vid, entry.address), entry.ports)
 }

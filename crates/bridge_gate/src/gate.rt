@@ -45,9 +45,20 @@ impl<A: Allocator + Copy> Model for StreamGate<A> {
 
     ghost Value = { Gate A };
 
-    ghost view = { λ g. record { plan = g.plan; rx = g.rx; octets = g.octets; start = g.start; count = g.count; earliest = g.earliest } };
+    ghost view = { λ g. record {
+      plan = g.plan;
+      rx = g.rx;
+      octets = g.octets;
+      start = g.start;
+      count = g.count;
+      earliest = g.earliest;
+    } };
 
-    ghost invariant = { λ g. record { priorities : has_priorities g.plan.schedule ≡ true; few : g.count < 2 ^ 32; kept : IsKept g.plan.schedule g.turn } };
+    ghost invariant = { λ g. record {
+      priorities : has_priorities g.plan.schedule ≡ true;
+      few : g.count < 2 ^ 32;
+      kept : IsKept g.plan.schedule g.turn;
+    } };
 }
 
 impl<A: Allocator + Copy> StreamGate<A> {

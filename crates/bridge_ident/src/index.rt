@@ -109,7 +109,9 @@ fn keep_entry<A: Allocator + Copy>(
 ) -> Result<(), AllocError>
     ensures { OnOk result ((port vid : ℕ) (address : List ℕ)
         → IsKey vid address
-        → get nat_eq firsts.new (key_of port vid address) ≡ option_or (get nat_eq firsts.old (key_of port vid address)) (first_from kind tagged place (entry.now ∷ []) port vid address)) }
+        → get nat_eq firsts.new (key_of port vid address)
+        ≡ option_or (get nat_eq firsts.old (key_of port vid address))
+        (first_from kind tagged place (entry.now ∷ []) port vid address)) }
 {
     if entry.is_for(kind, tagged) {
         let key = key_of(entry.port, entry.vid, entry.address);

@@ -110,7 +110,8 @@ impl<A: Allocator + Copy> Model for Ident<A> {
 
     ghost view = { λ t. t.entries.items };
 
-    ghost invariant = { λ t. IfSome t.index (λ i. (AreByAddress true t.entries.items i.tagged.destinations i.tagged.sources)
+    ghost invariant = { λ t. IfSome t.index (λ i.
+        (AreByAddress true t.entries.items i.tagged.destinations i.tagged.sources)
         × (AreByAddress false t.entries.items i.others.destinations i.others.sources)) };
 }
 

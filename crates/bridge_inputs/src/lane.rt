@@ -54,7 +54,8 @@ impl<A: Allocator + Copy> CaptureReader<A> {
         source: &mut R,
     ) -> Result<(), CaptureFault>
         requires reading { IsReading self.old.capture }
-        ensures looks { (text : List ℕ) (taken : List Captured) → StandsFor self.old.capture (R.remaining source.old) text taken →
+        ensures looks { (text : List ℕ) (taken : List Captured)
+            → StandsFor self.old.capture (R.remaining source.old) text taken →
             Looks self.new (R.remaining source.new) text taken result }
         ensures lane { OnOk result (IsLane self.new) }
         ensures onward { OnOk result ((p : Packet A) → self.new.ahead ≡ Some p → self.old.capture.latest ≤ p.time) }
@@ -155,7 +156,8 @@ pub fn look_at_all<R: ByteSource, A: Allocator + Copy>(
     ensures room { IfOk result (λ lanes. room_of lanes.items ≤ MOST_ARRIVALS) }
     ensures begins { (texts : ℕ → List ℕ) → AreTexts R.remaining ports.now texts sources.old →
         IfOk result (λ lanes. AreAheadOf R.remaining texts (λ _. []) lanes.items sources.new) }
-    ensures fails { (texts : ℕ → List ℕ) (rests : ℕ → Option (List ℕ)) → AreTexts R.remaining ports.now texts sources.old →
+    ensures fails { (texts : ℕ → List ℕ) (rests : ℕ → Option (List ℕ))
+        → AreTexts R.remaining ports.now texts sources.old →
         AreRests R.remaining ports.now rests sources.new → IfErr result (FailsLook texts rests ports.now) }
     ensures read { (port : ℕ) → result ≡ Err (RunFault.Capture port CaptureFault.Read)
         → HasFailed R.has_failed ports.now port sources.new }

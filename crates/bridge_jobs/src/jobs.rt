@@ -51,7 +51,8 @@ pub fn wire_job<R: Read + Drop, W: Write + Drop>(
 ) -> Result<(String, W), Fault>
     requires room { (1 ≤ room) × (room ≤ LARGEST_ROOM) }
     ensures ok { (input : List ℕ) → R.remaining reader ≡ Some input →
-        IfOk result (λ done. PrintsCounts speed room input (W.contents writer) (W.contents done.1) (string_bytes done.0)) }
+        IfOk result (λ done. PrintsCounts speed room input (W.contents writer) (W.contents done.1)
+        (string_bytes done.0)) }
     ensures line { IfOk result (λ done. IsCountsLine (string_bytes done.0)) }
     ensures err { (input : List ℕ) → R.remaining reader ≡ Some input → IfErr result (EndsWire input) }
     ensures one { IfErr result IsOfRun }

@@ -3,6 +3,7 @@
 
 mod accepting;
 mod captures;
+mod cause;
 mod commanding;
 mod counts;
 mod fault;
@@ -19,6 +20,7 @@ mod text;
 pub use accepting::{accepted_of, check_line, checked};
 pub use bridge_limits::NoMemory;
 pub use captures::{Halted, through};
+pub use cause::Cause;
 pub use commanding::commanded;
 pub use counts::wire_line;
 pub use fault::{Fault, TextFault};

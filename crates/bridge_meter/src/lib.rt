@@ -96,7 +96,8 @@ impl Model for Meter {
 
     ghost view = { λ m. record { plan = m.plan; buckets = m.buckets } };
 
-    ghost invariant = { λ m. IsWithinLimits m.plan × (m.buckets.committed ≤ m.plan.cbs * unit) × (m.buckets.excess ≤ m.plan.ebs * unit) };
+    ghost invariant = { λ m. IsWithinLimits m.plan × (m.buckets.committed ≤ m.plan.cbs * unit)
+        × (m.buckets.excess ≤ m.plan.ebs * unit) };
 }
 
 impl Meter {

@@ -15,7 +15,7 @@ use Rattle.bridge_config.specs.Model.{Plan}
 use Rattle.bridge_semantics.specs.declared.outcome.Origin.{Origin}
 use Rattle.bridge_semantics.specs.declared.way.Way.{Way}
 use Rattle.bridge_semantics.specs.declared.way.Way.TheVariants as way
-use Rattle.bridge_semantics.specs.Events.{Arrival, Arrived, Cleared, Event, count, flow_of, metered, origin, origins_of, way_of}
+use Rattle.bridge_semantics.specs.Events.{Arrival, Arrived, Cleared, Event, count, flow_of, origin, origins_of, way_of}
 use Rattle.bridge_semantics.specs.Offers.{Offer, offer_by, offer_of, offer_of_step, offer_on, offers, step_of}
 use Rattle.bridge_semantics.proofs.Numbers.{own_next}
 
@@ -42,10 +42,8 @@ moment_step p out a es priority (verdicts.Commanded v m) o i = absurd i
 moment_on : {A : Type 0} (p : Plan A) (out : PortPlan A) (a : Arrival) (es : List Event) (w : Way) (o : Offer) → In o (offer_on p out a es w) → o.at ≡ a.at
 moment_on p out a es way.Malformed o i = absurd i
 moment_on p out a es way.Nowhere o i = absurd i
-moment_on p out a es (way.Goes set handle priority dei sdu) o i =
-    let step = step_of p es (verdicts.call a.at handle priority dei sdu (metered a.len)) in
-    by_bool (has set out.number)
-    (λ k. let j : In o (offer_of_step p out a es priority step) = rw k at i in moment_step p out a es priority step o j)
+moment_on p out a es (way.Goes set c) o i = by_bool (has set out.number)
+    (λ k. let j : In o (offer_of_step p out a es c.priority (step_of p es c)) = rw k at i in moment_step p out a es c.priority (step_of p es c) o j)
     (λ k. let j : ⊥ = rw k at i in absurd j)
 
 -- ITS FRAME

@@ -9,8 +9,8 @@ use crate::outputs::folder_of;
 use crate::refusing::{name_at, said_of_commands};
 use bridge_check::Accepted;
 use bridge_config::{Command, commands_of};
-use bridge_files::{FileId, capture_path, file_at, open_taken};
-use bridge_jobs::{Fault, fault_of_file, read_at_most};
+use bridge_files::{FileId, MOST_TEXT, capture_path, file_at, open_taken, read_noted};
+use bridge_jobs::{Cause, Fault, fault_of_file};
 use bridge_netfile::BridgeRow;
 use bridge_network::{Link, Network};
 use bridge_planning::memory_fault;
@@ -22,23 +22,22 @@ use std::rt::Files;
 /// have.
 const MOST_CAPTURE: u64 = 65_552_065_576;
 
-/// The most octets of commands that are read: one more than they may have.
-const MOST_COMMANDS: u64 = 1_048_577;
-
-/// What a file holds, of which no more is read than so many octets; the file is added to those that are taken.
+/// What a file holds, of which no more is read than so many octets; the file is added to those that are taken. Where it can't be
+/// opened or read the cause is noted.
 fn read_taken<H: AllocGlobal + Files>(
     rt: &H,
     path: String,
     most: u64,
     taken: &mut Vec<FileId>,
+    cause: &mut Option<Cause>,
 ) -> Result<Vec<u8>, Fault>
     ensures { IfErr result EndsFiles }
 {
-    let reader = match open_taken(rt, path.as_str(), taken) {
+    let reader = match open_taken(rt, path.as_str(), taken, cause) {
         Ok(reader) => reader,
         Err(fault) => return Err(fault_of_file(path, fault)),
     };
-    match read_at_most(rt.alloc(), reader, most) {
+    match read_noted(rt, path.as_str(), reader, most, cause) {
         Ok(text) => Ok(text),
         Err(fault) => Err(fault_of_file(path, fault)),
     }
@@ -50,11 +49,12 @@ fn read_capture<H: AllocGlobal + Files>(
     folder: &str,
     port: u8,
     taken: &mut Vec<FileId>,
+    cause: &mut Option<Cause>,
 ) -> Result<Vec<u8>, Fault>
     ensures { IfErr result EndsFiles }
 {
     match capture_path(rt.alloc(), folder, port) {
-        Ok(path) => read_taken(rt, path, MOST_CAPTURE, taken),
+        Ok(path) => read_taken(rt, path, MOST_CAPTURE, taken, cause),
         Err(_) => Err(memory_fault()),
     }
 }
@@ -67,6 +67,7 @@ fn read_captures<H: AllocGlobal + Files>(
     ports: &[u8],
     folder: &str,
     taken: &mut Vec<FileId>,
+    cause: &mut Option<Cause>,
 ) -> Result<Vec<Vec<u8>>, Fault>
     ensures each { IfOk result (λ captures. length captures.items ≡ length ports.now) }
     ensures ends { IfErr result EndsFiles }
@@ -76,7 +77,7 @@ fn read_captures<H: AllocGlobal + Files>(
         let capture = if is_linked(links, bridge, *port) {
             Vec::new(rt.alloc())
         } else {
-            read_capture(rt, folder, *port, taken)?
+            read_capture(rt, folder, *port, taken, cause)?
         };
         if captures.push(capture).is_err() {
             return Err(memory_fault());
@@ -92,6 +93,7 @@ fn read_commands<H: AllocGlobal + Files>(
     name: &str,
     folder: &str,
     taken: &mut Vec<FileId>,
+    cause: &mut Option<Cause>,
 ) -> Result<Vec<Command>, Fault>
     ensures commands { IfOk result (λ commands. AreCommands accepted.now commands.items) }
     ensures ends { IfErr result EndsReading }
@@ -103,7 +105,7 @@ fn read_commands<H: AllocGlobal + Files>(
     if file_at(rt, path.as_str()).is_none() {
         return Ok(Vec::new(alloc));
     }
-    let text = match read_taken(rt, path, MOST_COMMANDS, taken) {
+    let text = match read_taken(rt, path, MOST_TEXT, taken, cause) {
         Ok(text) => text,
         Err(fault) => return Err(fault),
     };
@@ -122,6 +124,7 @@ fn read_bridge<H: AllocGlobal + Files>(
     name: &str,
     folder: &str,
     taken: &mut Vec<FileId>,
+    cause: &mut Option<Cause>,
 ) -> Result<Incoming<Global>, Fault>
     ensures came { IfOk result (IsIncoming accepted.now) }
     ensures ends { IfErr result EndsReading }
@@ -129,8 +132,8 @@ fn read_bridge<H: AllocGlobal + Files>(
     let Ok(ports) = accepted.plan().port_numbers(rt.alloc()) else {
         return Err(memory_fault());
     };
-    let captures = read_captures(rt, links, bridge, &ports, folder, taken)?;
-    let commands = read_commands(rt, accepted, name, folder, taken)?;
+    let captures = read_captures(rt, links, bridge, &ports, folder, taken, cause)?;
+    let commands = read_commands(rt, accepted, name, folder, taken, cause)?;
     Ok(Incoming { commands, captures })
 }
 
@@ -146,6 +149,7 @@ fn read_each<H: AllocGlobal + Files>(
     bridges: &[BridgeRow<Global>],
     input: &str,
     taken: &mut Vec<FileId>,
+    cause: &mut Option<Cause>,
 ) -> Result<Vec<Incoming<Global>>, Fault>
     ensures came { IfOk result (λ all. AllIncoming plans.now all.items) }
     ensures ends { IfErr result EndsReading }
@@ -157,7 +161,16 @@ fn read_each<H: AllocGlobal + Files>(
         let Ok(folder) = folder_of(rt.alloc(), input, name) else {
             return Err(memory_fault());
         };
-        let came = read_bridge(rt, links, bridge, accepted, name, folder.as_str(), taken)?;
+        let came = read_bridge(
+            rt,
+            links,
+            bridge,
+            accepted,
+            name,
+            folder.as_str(),
+            taken,
+            cause,
+        )?;
         let Ok(()) = all.push(came) else {
             return Err(memory_fault());
         };
@@ -172,10 +185,19 @@ pub(crate) fn read_all<H: AllocGlobal + Files>(
     bridges: &[BridgeRow<Global>],
     input: &str,
     taken: &mut Vec<FileId>,
+    cause: &mut Option<Cause>,
 ) -> Result<Vec<Incoming<Global>>, Fault>
     ensures came { IfOk result (λ all. AreIncoming network.now.plans all.items) }
     ensures ends { IfErr result EndsReading }
 {
-    let all = read_each(rt, network.plans(), network.links(), bridges, input, taken)?;
+    let all = read_each(
+        rt,
+        network.plans(),
+        network.links(),
+        bridges,
+        input,
+        taken,
+        cause,
+    )?;
     Ok(all)
 }

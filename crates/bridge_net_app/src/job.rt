@@ -10,7 +10,7 @@ use crate::tables::put_tables;
 use crate::watching::{Teller, is_long};
 use crate::writing::put_bridges;
 use bridge_files::{FileId, Output, add_file, file_at};
-use bridge_jobs::Fault;
+use bridge_jobs::{Cause, Fault};
 use bridge_limits::NoMemory;
 use bridge_netfile::NetworkFile;
 use bridge_network::Network;
@@ -167,12 +167,13 @@ fn run_network<H: AllocGlobal + Eprint + Files>(
     is_watched: bool,
     teller: &mut Teller<'_, H>,
     taken: Vec<FileId>,
+    cause: &mut Option<Cause>,
 ) -> Result<String, Fault>
     ensures ok { IfOk result (λ line. TellsRun network.now file.now (string_bytes line)) }
     ensures err { IfErr result EndsRounds }
 {
     let mut taken = taken;
-    let incoming = read_all(rt, network, file.bridges(), input, &mut taken)?;
+    let incoming = read_all(rt, network, file.bridges(), input, &mut taken, cause)?;
     let outputs = match open_outputs(
         rt,
         network.plans(),
@@ -180,6 +181,7 @@ fn run_network<H: AllocGlobal + Eprint + Files>(
         input,
         output,
         &mut taken,
+        cause,
     ) {
         Ok(outputs) => outputs,
         Err(fault) => {
@@ -187,7 +189,7 @@ fn run_network<H: AllocGlobal + Eprint + Files>(
             return Err(fault);
         }
     };
-    let drawing = match open_picture(rt, &picture, &mut taken) {
+    let drawing = match open_picture(rt, &picture, &mut taken, cause) {
         Ok(drawing) => drawing,
         Err(fault) => {
             drop(incoming);
@@ -198,6 +200,7 @@ fn run_network<H: AllocGlobal + Eprint + Files>(
     teller.is_wanted = is_watched && is_long(&incoming);
     match settle(rt.alloc(), network, incoming, MOST_ROUNDS, teller) {
         Ok(settled) => {
+            *cause = Some(Cause::NotWritable);
             let told = put_drawn(
                 rt, file, network, output, &settled, outputs, picture, drawing,
             );
@@ -242,6 +245,7 @@ fn run_accepted<H: AllocGlobal + Eprint + Files>(
     network: &Network<Global>,
     job: RoundsJob,
     taken: Vec<FileId>,
+    cause: &mut Option<Cause>,
 ) -> Result<RoundsSaid, Fault>
     requires few { length network.now.plans ≤ 64 }
     ensures ok { IfOk result (λ said. TellsRun network.now file.now (string_bytes said.line)) }
@@ -279,6 +283,7 @@ fn run_accepted<H: AllocGlobal + Eprint + Files>(
         is_watched,
         &mut teller,
         taken,
+        cause,
     ) {
         Ok(line) => Ok(RoundsSaid {
             line,
@@ -324,6 +329,18 @@ pub fn rounds_job<H: AllocGlobal + Eprint + Files>(
     ensures ok { IfOk result (λ said. PrintsRounds Global (string_bytes said.line)) }
     ensures err { IfErr result EndsRounds }
 {
+    rounds_noted(rt, job, &mut None)
+}
+
+/// The same, and the cause of a file that fails is noted, but for those of the network and of its plans.
+pub fn rounds_noted<H: AllocGlobal + Eprint + Files>(
+    rt: &H,
+    job: RoundsJob,
+    cause: &mut Option<Cause>,
+) -> Result<RoundsSaid, Fault>
+    ensures ok { IfOk result (λ said. PrintsRounds Global (string_bytes said.line)) }
+    ensures err { IfErr result EndsRounds }
+{
     let alloc = rt.alloc();
     let copy = String::from_str(alloc, job.network.as_str())?;
     let file = read_network(rt, copy)?;
@@ -338,7 +355,7 @@ pub fn rounds_job<H: AllocGlobal + Eprint + Files>(
     };
     match tested(alloc, alloc, &file, plans) {
         Ok(network) => {
-            let told = run_accepted(rt, &file, &network, job, taken);
+            let told = run_accepted(rt, &file, &network, job, taken, cause);
             drop(network);
             told
         }

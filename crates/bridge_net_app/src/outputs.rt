@@ -5,9 +5,10 @@ ghost use Rattle.bridge_net_app.specs.Folders.{EndsFiles};
 use crate::refusing::name_at;
 use bridge_check::Accepted;
 use bridge_files::{
-    FileId, Output, add_file, create_all, file_at, is_one_of, output_at, report_path,
+    FileId, Output, add_file, cause_of_write, create_all, file_at, is_one_of, output_apart,
+    report_path,
 };
-use bridge_jobs::Fault;
+use bridge_jobs::{Cause, Fault};
 use bridge_netfile::BridgeRow;
 use bridge_planning::memory_fault;
 use std::alloc::{AllocError, Global};
@@ -56,12 +57,22 @@ fn folders_read<H: AllocGlobal + Files>(
 }
 
 /// Makes a folder, and those above it, where it isn't there. It is `File` of its path where it can't be made, or is one of
-/// those that are read.
-fn make_folder<H: AllocGlobal + Files>(rt: &H, path: &str, read: &[FileId]) -> Result<(), Fault>
+/// those that are read, and its cause is noted.
+fn make_folder<H: AllocGlobal + Files>(
+    rt: &H,
+    path: &str,
+    read: &[FileId],
+    cause: &mut Option<Cause>,
+) -> Result<(), Fault>
     ensures { IfErr result EndsFiles }
 {
-    if !is_one_of(read, file_at(rt, path)) && fs::create_dir_all(rt, path).is_ok() {
-        return Ok(());
+    if is_one_of(read, file_at(rt, path)) {
+        *cause = Some(Cause::SameFolder);
+    } else {
+        match fs::create_dir_all(rt, path) {
+            Ok(()) => return Ok(()),
+            Err(error) => *cause = Some(cause_of_write(rt, path, &error)),
+        }
     }
     match String::from_str(rt.alloc(), path) {
         Ok(path) => Err(Fault::File(path)),
@@ -70,20 +81,18 @@ fn make_folder<H: AllocGlobal + Files>(rt: &H, path: &str, read: &[FileId]) -> R
 }
 
 /// Opens a file to be written anew, and adds it to those that are taken. It is `File` of its path where it can't be opened or
-/// made, or is one of those taken.
+/// made, or is one of those taken, and its cause is noted.
 pub(crate) fn open_output<H: AllocGlobal + Files>(
     rt: &H,
     path: String,
     taken: &mut Vec<FileId>,
+    cause: &mut Option<Cause>,
 ) -> Result<Output<H::File>, Fault>
     ensures { IfErr result EndsFiles }
 {
-    let Ok(output) = output_at(rt, path.as_str()) else {
+    let Some(output) = output_apart(rt, path.as_str(), taken, cause) else {
         return Err(Fault::File(path));
     };
-    if is_one_of(taken, output.id()) {
-        return Err(Fault::File(path));
-    }
     match add_file(taken, output.id()) {
         Ok(()) => Ok(output),
         Err(_) => Err(memory_fault()),
@@ -111,11 +120,12 @@ fn open_table<H: AllocGlobal + Files>(
     folder: &str,
     name: &str,
     taken: &mut Vec<FileId>,
+    cause: &mut Option<Cause>,
 ) -> Result<Output<H::File>, Fault>
     ensures { IfErr result EndsFiles }
 {
     match format!(in rt.alloc(); "{folder}/{name}.csv") {
-        Ok(path) => open_output(rt, path, taken),
+        Ok(path) => open_output(rt, path, taken, cause),
         Err(_) => Err(memory_fault()),
     }
 }
@@ -126,18 +136,19 @@ fn open_bridge<H: AllocGlobal + Files>(
     accepted: &Accepted<Global>,
     folder: &str,
     taken: &mut Vec<FileId>,
+    cause: &mut Option<Cause>,
 ) -> Result<BridgeOutputs<H::File>, Fault>
     ensures { IfErr result EndsFiles }
 {
     let Ok(ports) = accepted.plan().port_numbers(rt.alloc()) else {
         return Err(memory_fault());
     };
-    let taps = create_all(rt, folder, &ports, taken)?;
+    let taps = create_all(rt, folder, &ports, taken, cause)?;
     add_outputs(taken, &taps)?;
     let Ok(path) = report_path(rt.alloc(), folder) else {
         return Err(memory_fault());
     };
-    let report = open_output(rt, path, taken)?;
+    let report = open_output(rt, path, taken, cause)?;
     Ok(BridgeOutputs { taps, report })
 }
 
@@ -149,21 +160,22 @@ fn open_bridges<H: AllocGlobal + Files>(
     input: &str,
     output: &str,
     taken: &mut Vec<FileId>,
+    cause: &mut Option<Cause>,
 ) -> Result<Vec<BridgeOutputs<H::File>>, Fault>
     ensures { IfErr result EndsFiles }
 {
     let Ok(read) = folders_read(rt, bridges, input) else {
         return Err(memory_fault());
     };
-    make_folder(rt, output, &read)?;
+    make_folder(rt, output, &read, cause)?;
     let mut all = Vec::new(rt.alloc());
     for accepted in plans {
         let name = name_at(bridges, all.len());
         let Ok(folder) = folder_of(rt.alloc(), output, name) else {
             return Err(memory_fault());
         };
-        make_folder(rt, folder.as_str(), &read)?;
-        let outputs = open_bridge(rt, accepted, folder.as_str(), taken)?;
+        make_folder(rt, folder.as_str(), &read, cause)?;
+        let outputs = open_bridge(rt, accepted, folder.as_str(), taken, cause)?;
         if all.push(outputs).is_err() {
             return Err(memory_fault());
         }
@@ -184,12 +196,13 @@ pub(crate) fn open_outputs<H: AllocGlobal + Files>(
     input: &str,
     output: &str,
     taken: &mut Vec<FileId>,
+    cause: &mut Option<Cause>,
 ) -> Result<Outputs<H::File>, Fault>
     ensures { IfErr result EndsFiles }
 {
-    let opened = open_bridges(rt, plans, bridges, input, output, taken)?;
-    let streams = open_table(rt, output, "streams", taken)?;
-    let frames = open_table(rt, output, "frames", taken)?;
+    let opened = open_bridges(rt, plans, bridges, input, output, taken, cause)?;
+    let streams = open_table(rt, output, "streams", taken, cause)?;
+    let frames = open_table(rt, output, "frames", taken, cause)?;
     Ok(Outputs {
         bridges: opened,
         streams,

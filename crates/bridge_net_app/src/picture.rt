@@ -7,7 +7,7 @@ use crate::tables::{hop_name, runs_of};
 use crate::writing::write_whole;
 use bridge_delays::RunPicture;
 use bridge_files::{FileId, Output};
-use bridge_jobs::Fault;
+use bridge_jobs::{Cause, Fault};
 use bridge_limits::NoMemory;
 use bridge_netfile::{BridgeRow, NetworkFile, StreamRow};
 use bridge_network::Network;
@@ -23,6 +23,7 @@ pub(crate) fn open_picture<H: AllocGlobal + Files>(
     rt: &H,
     path: &Option<String>,
     taken: &mut Vec<FileId>,
+    cause: &mut Option<Cause>,
 ) -> Result<Option<Output<H::File>>, Fault>
     ensures { IfErr result EndsFiles }
 {
@@ -32,7 +33,7 @@ pub(crate) fn open_picture<H: AllocGlobal + Files>(
     let Ok(copy) = String::from_str(rt.alloc(), path.as_str()) else {
         return Err(memory_fault());
     };
-    match open_output(rt, copy, taken) {
+    match open_output(rt, copy, taken, cause) {
         Ok(output) => Ok(Some(output)),
         Err(fault) => Err(fault),
     }

@@ -35,7 +35,11 @@ impl<A: Allocator + Copy> Model for NetworkFile<A> {
 
     ghost view = { λ n. record { bridges = n.bridges.items; links = n.links.items; streams = n.streams.items } };
 
-    ghost invariant = { λ n. IsNetwork (record { bridges = n.bridges.items; links = n.links.items; streams = n.streams.items }) };
+    ghost invariant = { λ n. IsNetwork (record {
+      bridges = n.bridges.items;
+      links = n.links.items;
+      streams = n.streams.items;
+    }) };
 }
 
 impl<A: Allocator + Copy> NetworkFile<A> {

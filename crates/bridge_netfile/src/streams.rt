@@ -52,7 +52,12 @@ impl<A: Allocator + Copy> Model for StreamRow<A> {
 
     ghost Value = { Stream };
 
-    ghost view = { λ s. record { name = string_bytes s.name; hops = s.hops.items; talker = s.talker; deadline = s.deadline } };
+    ghost view = { λ s. record {
+      name = string_bytes s.name;
+      hops = s.hops.items;
+      talker = s.talker;
+      deadline = s.deadline;
+    } };
 }
 
 impl<A: Allocator + Copy> StreamRow<A> {

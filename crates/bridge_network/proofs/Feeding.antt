@@ -21,6 +21,7 @@ use Rattle.bridge_ident.specs.declared.TagKind.TheVariants as tags
 use Rattle.bridge_ident.specs.declared.StreamEntry.{StreamEntry}
 use Rattle.bridge_ident.specs.Identification.{compared_address, takes_tag, is_match, handle_in, HasEntry}
 use Rattle.bridge_ident.proofs.Entries.{given}
+use Rattle.bridge_filter.specs.declared.Call.{Call}
 use Rattle.bridge_filter.specs.declared.FilterPlan.{FilterPlan}
 use Rattle.bridge_filter.specs.declared.Verdict.{Verdict}
 use Rattle.bridge_filter.specs.declared.Verdict.TheVariants as verdict
@@ -42,10 +43,10 @@ use Rattle.bridge_check.proofs.Isolated.{each_passes}
 use Rattle.bridge_semantics.specs.declared.way.Way.{Way}
 use Rattle.bridge_semantics.specs.declared.way.Way.TheVariants as way
 use Rattle.bridge_semantics.specs.declared.way.Way.TheVariants.{Goes}
-use Rattle.bridge_semantics.specs.Events.{Arrival, arrival, Event, Arrived, Cleared, way_of, call_by, call_of, flow_of, flow_by, metered}
+use Rattle.bridge_semantics.specs.Events.{Arrival, arrival, Event, Arrived, Cleared, way_of, call_by, call_of, flow_of, flow_by}
 use Rattle.bridge_semantics.specs.Offers.{Offer, leaving, offer_by, offer_of_step, step_of, offer_on, offer_of, offers}
 use Rattle.bridge_semantics.proofs.Safe.{IsSafe, alone}
-use Rattle.bridge_semantics.proofs.Offering.{IsGoing, going_if, offered_by}
+use Rattle.bridge_semantics.proofs.Offering.{IsGoing, going, offered_by}
 use Rattle.bridge_network.specs.Feeding.{Sort, tag_of, is_kind, may_match, handles_of, flow_for, reaches_any, is_fed, may_go, sends_from, sends_only, tags_of, gives_to, sort_by, takes_by, takes_only}
 use Rattle.bridge_network.proofs.Members.{map_in}
 use Rattle.bridge_network.proofs.Marking.{plain, SameHead, leaving_head}
@@ -80,11 +81,8 @@ record IsFrom {A : Type 0} (p : Plan A) (out : PortPlan A) (o : Offer) : Type 0 
   frame : Arrival
   past : List Event
   set : ℕ
-  handle : Option ℕ
-  priority : ℕ
-  dei : Bool
-  sdu : ℕ
-  is : way_of p frame ≡ Goes set handle priority dei sdu
+  call : Call
+  is : way_of p frame ≡ Goes set call
   goes : has set out.number ≡ true
   offered : In o (offer_of p out frame past)
   leaves : IsLeaving frame o
@@ -92,12 +90,10 @@ record IsFrom {A : Type 0} (p : Plan A) (out : PortPlan A) (o : Offer) : Type 0 
 from_way : {A : Type 0} (p : Plan A) (out : PortPlan A) (a : Arrival) (es : List Event) (o : Offer) (w : Way) → way_of p a ≡ w → In o (offer_on p out a es w) → In o (offer_of p out a es) → IsFrom p out o
 from_way p out a es o way.Malformed e i j = absurd i
 from_way p out a es o way.Nowhere e i j = absurd i
-from_way p out a es o (way.Goes set handle priority dei sdu) e i j =
-    let step = step_of p es (verdicts.call a.at handle priority dei sdu (metered a.len)) in
-    by_bool (has set out.number)
+from_way p out a es o (way.Goes set c) e i j = by_bool (has set out.number)
     (λ k.
-    let m : In o (offer_of_step p out a es priority step) = rw k at i in
-    record { frame = a; past = es; set = set; handle = handle; priority = priority; dei = dei; sdu = sdu; is = e; goes = k; offered = j; leaves = leaving_step p out a es priority step o m })
+    let m : In o (offer_of_step p out a es c.priority (step_of p es c)) = rw k at i in
+    record { frame = a; past = es; set = set; call = c; is = e; goes = k; offered = j; leaves = leaving_step p out a es c.priority (step_of p es c) o m })
     (λ k. let m : ⊥ = rw k at i in absurd m)
 
 from_events : {A : Type 0} (p : Plan A) (out : PortPlan A) (es : List Event) (o : Offer) → In o (offers p out es) → IsFrom p out o
@@ -110,7 +106,7 @@ from_events p out (Arrived a ∷ es) o i = elim (in_either o (offer_of p out a e
 
 -- A FLOW BY HANDLE AND PRIORITY
 
-flow_same : (fs : List (ℕ × FilterPlan)) (c d : verdicts.Call) → c.handle ≡ d.handle → c.priority ≡ d.priority → verdicts.flow fs c ≡ verdicts.flow fs d
+flow_same : (fs : List (ℕ × FilterPlan)) (c d : Call) → c.handle ≡ d.handle → c.priority ≡ d.priority → verdicts.flow fs c ≡ verdicts.flow fs d
 flow_same [] c d h k = refl
 flow_same (f ∷ fs) c d h k =
     let same : verdicts.is_match f.1 c ≡ verdicts.is_match f.1 d = rw (h, k) refl in
@@ -297,7 +293,8 @@ sent_as {A} p is_of_stream q out o s plan at f sort only =
     let a = f.frame in
     let number : out.number ≡ q = (at_port p.ports q out at).number in
     let there = at_own p.ports q out at in
-    let g : IsGoing p a.at a.port f.set f.handle f.priority f.dei f.sdu (head a.octets a.len) = going_if p a.at a.port f.set f.handle f.priority f.dei f.sdu (port_at p.ports a.port) (head a.octets a.len) refl f.is in
+    let made : Call = f.call in
+    let g : IsGoing p a f.set made = going p a f.set made f.is in
     let on = g.on in
     let h = g.parsed in
     let is_sort : IsOfSort s h = sort h g.is in
@@ -306,12 +303,11 @@ sent_as {A} p is_of_stream q out o s plan at f sort only =
     let may : may_go p.database on.number (vid_of on s.tag) s q ≡ true = may_by p on h s q s.kind refl is_sort goes in
     let all : list_all (λ (z : Option ℕ). is_fed p is_of_stream q (flow_for p z (priority_of on s.tag))) (handles_of p.streams on.number (vid_of on s.tag) s) ≡ true = after_not (may_go p.database on.number (vid_of on s.tag) s q) (list_all (λ (z : Option ℕ). is_fed p is_of_stream q (flow_for p z (priority_of on s.tag))) (handles_of p.streams on.number (vid_of on s.tag) s)) may tested in
     let vid : vid_of on s.tag ≡ vid_of on h.tag = ap (vid_of on) (sym is_sort.tag) ∙ plain_vid on h.tag in
-    let priority : priority_of on s.tag ≡ f.priority = ap (priority_of on) (sym is_sort.tag) ∙ (plain_priority on h.tag ∙ g.priority_is) in
+    let priority : priority_of on s.tag ≡ made.priority = ap (priority_of on) (sym is_sort.tag) ∙ (plain_priority on h.tag ∙ ap (λ (z : Call). z.priority) g.call_is) in
     let among : In (handle_in p.streams on.number h (vid_of on s.tag)) (handles_of p.streams on.number (vid_of on s.tag) s) = handle_among p.streams on.number h (vid_of on s.tag) s is_sort in
-    let handle : handle_in p.streams on.number h (vid_of on s.tag) ≡ f.handle = ap (handle_in p.streams on.number h) vid ∙ g.handle_is in
+    let handle : handle_in p.streams on.number h (vid_of on s.tag) ≡ made.handle = ap (handle_in p.streams on.number h) vid ∙ ap (λ (z : Call). z.handle) g.call_is in
     let fed : is_fed p is_of_stream q (flow_for p (handle_in p.streams on.number h (vid_of on s.tag)) (priority_of on s.tag)) ≡ true = each_passes (λ (z : Option ℕ). is_fed p is_of_stream q (flow_for p z (priority_of on s.tag))) (handles_of p.streams on.number (vid_of on s.tag) s) (handle_in p.streams on.number h (vid_of on s.tag)) all among in
-    let made : verdicts.Call = verdicts.call a.at f.handle f.priority f.dei f.sdu (metered a.len) in
-    let called : call_of p a ≡ Some made = ap (call_by a) f.is in
+    let called : call_of p a ≡ Some made = ap call_by f.is in
     let same : flow_for p (handle_in p.streams on.number h (vid_of on s.tag)) (priority_of on s.tag) ≡ verdicts.flow p.filters made = flow_same p.filters (verdicts.call 0 (handle_in p.streams on.number h (vid_of on s.tag)) (priority_of on s.tag) false 0 0) made handle priority in
     by_flow p is_of_stream q out o (verdicts.flow p.filters made)
     (λ x fl.
@@ -330,12 +326,11 @@ record IsTaken {A : Type 0} (next : Plan A) (on : PortPlan A) (n : ℕ) (o : Off
   tag : In (plain parsed.tag) (tags_of entry.vid)
   gives : gives_to next on n entry (plain parsed.tag) ≡ true
 
-taken_way : {A : Type 0} (next : Plan A) (on : PortPlan A) (r n t : ℕ) (f : FilterPlan) (o : Offer) → IsSafe next n f → port_at next.ports r ≡ Some on → (w : Way) → way_of next (arrival t r o.item.octets o.item.len) ≡ w → is_number n (flow_by next (call_by (arrival t r o.item.octets o.item.len) w)) ≡ true → IsTaken next on n o
+taken_way : {A : Type 0} (next : Plan A) (on : PortPlan A) (r n t : ℕ) (f : FilterPlan) (o : Offer) → IsSafe next n f → port_at next.ports r ≡ Some on → (w : Way) → way_of next (arrival t r o.item.octets o.item.len) ≡ w → is_number n (flow_by next (call_by w)) ≡ true → IsTaken next on n o
 taken_way next on r n t f o safe at way.Malformed e k = absurd (false≢true k)
 taken_way next on r n t f o safe at way.Nowhere e k = absurd (false≢true k)
-taken_way {A} next on r n t f o safe at (way.Goes set handle priority dei sdu) e k =
-    let made : verdicts.Call = verdicts.call t handle priority dei sdu (metered o.item.len) in
-    let g : IsGoing next t r set handle priority dei sdu (head o.item.octets o.item.len) = going_if next t r set handle priority dei sdu (port_at next.ports r) (head o.item.octets o.item.len) refl e in
+taken_way {A} next on r n t f o safe at (way.Goes set made) e k =
+    let g : IsGoing next (arrival t r o.item.octets o.item.len) set made = going next (arrival t r o.item.octets o.item.len) set made e in
     let h = g.parsed in
     let here : g.on ≡ on = same_Some g.on on (sym g.at_port ∙ at) in
     let vid : vid_of g.on h.tag ≡ vid_of on h.tag = ap (λ (z : PortPlan A). vid_of z h.tag) here in
@@ -343,8 +338,8 @@ taken_way {A} next on r n t f o safe at (way.Goes set handle priority dei sdu) e
     let there : In x next.filters = flow_listed next.filters made x fl in
     let is_f : f ≡ x.1 = one_number next.filters n f x.1 safe.plan.filters.own safe.listed (subst (λ (m : ℕ). In (m, x.1) next.filters) own there) in
     let (m, has_handle) = (alone next n f safe).handle in
-    let is_m : handle ≡ Some m = flow_handle next.filters made x m fl (ap (λ (z : FilterPlan). z.handle) (sym is_f) ∙ has_handle) in
-    let by : HasEntry next.streams g.on.number h (vid_of g.on h.tag) m = given next.streams g.on.number h (vid_of g.on h.tag) m (g.handle_is ∙ is_m) in
+    let is_m : made.handle ≡ Some m = flow_handle next.filters made x m fl (ap (λ (z : FilterPlan). z.handle) (sym is_f) ∙ has_handle) in
+    let by : HasEntry next.streams g.on.number h (vid_of g.on h.tag) m = given next.streams g.on.number h (vid_of g.on h.tag) m (ap (λ (z : Call). z.handle) g.call_is ∙ is_m) in
     let entry = by.entry in
     let match = match_of entry g.on.number h (vid_of g.on h.tag) by.matches in
     let few = head_few o.item.octets o.item.len h g.is in
@@ -352,7 +347,7 @@ taken_way {A} next on r n t f o safe at (way.Goes set handle priority dei sdu) e
     let port : nat_eq entry.port on.number ≡ true = subst (λ (z : PortPlan A). nat_eq entry.port z.number ≡ true) here match.port in
     let in_vlan : nat_eq entry.vid (vid_of on (plain h.tag)) ≡ true = eq-eqb entry.vid (vid_of on (plain h.tag)) (sym vlan ∙ (vid ∙ sym (plain_vid on h.tag))) in
     let tag : takes_tag entry.tag (plain h.tag) ≡ true = plain_tag entry.tag h.tag ∙ match.tag in
-    let prio : priority_of on (plain h.tag) ≡ priority = plain_priority on h.tag ∙ (ap (λ (z : PortPlan A). priority_of z h.tag) (sym here) ∙ g.priority_is) in
+    let prio : priority_of on (plain h.tag) ≡ made.priority = plain_priority on h.tag ∙ (ap (λ (z : PortPlan A). priority_of z h.tag) (sym here) ∙ ap (λ (z : Call). z.priority) g.call_is) in
     let flow_is : flow_for next (Some entry.handle) (priority_of on (plain h.tag)) ≡ verdicts.flow next.filters made = flow_same next.filters (verdicts.call 0 (Some entry.handle) (priority_of on (plain h.tag)) false 0 0) made (ap Some by.handle ∙ sym is_m) prio in
     let number : is_number n (flow_for next (Some entry.handle) (priority_of on (plain h.tag))) ≡ true = ap (is_number n) flow_is ∙ k in
     record {

@@ -13,7 +13,7 @@ use Rattle.bridge_config.specs.declared.ports.PortPlan.{PortPlan}
 use Rattle.bridge_config.specs.Model.{Plan}
 use Rattle.bridge_semantics.specs.declared.way.Way.{Way}
 use Rattle.bridge_semantics.specs.declared.way.Way.TheVariants as way
-use Rattle.bridge_semantics.specs.Events.{Arrival, Event, Arrived, Cleared, way_of, metered}
+use Rattle.bridge_semantics.specs.Events.{Arrival, Event, Arrived, Cleared, way_of}
 use Rattle.bridge_semantics.specs.Offers.{Carried, Offer, offer_by, offer_of_step, step_of, offer_on, offer_of, offers, in_class}
 use Rattle.bridge_semantics.specs.Merge.{Input, events}
 use Rattle.bridge_semantics.proofs.Offering.{in_class_join}
@@ -143,7 +143,7 @@ one_if false t len os i = nothing
 one_on : {A : Type 0} (p : Plan A) (out : PortPlan A) (a : Arrival) (es : List Event) (w : Way) → IsOne a.at a.len (offer_on p out a es w)
 one_on p out a es way.Malformed = nothing
 one_on p out a es way.Nowhere = nothing
-one_on p out a es (way.Goes set handle priority dei sdu) = one_if (has set out.number) a.at a.len _ (one_step p out a es priority (step_of p es (verdicts.call a.at handle priority dei sdu (metered a.len))))
+one_on p out a es (way.Goes set c) = one_if (has set out.number) a.at a.len _ (one_step p out a es c.priority (step_of p es c))
 
 one_class : (c t len : ℕ) (os : List Offer) → IsOne t len os → IsOne t len (in_class c os)
 one_class c t len os nothing = nothing

@@ -21,7 +21,7 @@ use Rattle.bridge_config.specs.Rules.{port_at}
 use Rattle.bridge_semantics.specs.declared.way.Way.{Way}
 use Rattle.bridge_semantics.specs.declared.way.Way.TheVariants as way
 use Rattle.bridge_semantics.specs.declared.outcome.View.{View}
-use Rattle.bridge_semantics.specs.Events.{Arrival, Event, Arrived, Cleared, way_of, metered}
+use Rattle.bridge_semantics.specs.Events.{Arrival, Event, Arrived, Cleared, way_of}
 use Rattle.bridge_semantics.specs.Offers.{Carried, Offer, egress, offer_by, offer_of_step, step_of, offer_on, offer_of, offers, offered, in_class}
 use Rattle.bridge_semantics.specs.Merge.{Input, NotBefore, of_rank, events, newest}
 use Rattle.bridge_semantics.specs.Runs.{AreSolo, IsSoloView, TellTheSame}
@@ -149,10 +149,8 @@ moment_step p out a es priority (verdicts.Commanded v m) o i = absurd i
 moment_on : {A : Type 0} (p : Plan A) (out : PortPlan A) (a : Arrival) (es : List Event) (w : Way) (o : Offer) → In o (offer_on p out a es w) → o.at ≡ a.at
 moment_on p out a es way.Malformed o i = absurd i
 moment_on p out a es way.Nowhere o i = absurd i
-moment_on p out a es (way.Goes set handle priority dei sdu) o i =
-    let step = step_of p es (verdicts.call a.at handle priority dei sdu (metered a.len)) in
-    by_bool (has set out.number)
-    (λ k. let j : In o (offer_of_step p out a es priority step) = rw k at i in moment_step p out a es priority step o j)
+moment_on p out a es (way.Goes set c) o i = by_bool (has set out.number)
+    (λ k. let j : In o (offer_of_step p out a es c.priority (step_of p es c)) = rw k at i in moment_step p out a es c.priority (step_of p es c) o j)
     (λ k. let j : ⊥ = rw k at i in absurd j)
 
 moment_of : {A : Type 0} (p : Plan A) (out : PortPlan A) (a : Arrival) (es : List Event) (o : Offer) → In o (offer_of p out a es) → o.at ≡ a.at

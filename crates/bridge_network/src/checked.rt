@@ -28,7 +28,11 @@ impl<A: Allocator + Copy> Model for Network<A> {
 
     ghost view = { λ n. record { plans = n.plans.items; links = n.links.items; streams = n.streams.items } };
 
-    ghost invariant = { λ n. IsChecked {A = A} (record { plans = n.plans.items; links = n.links.items; streams = n.streams.items }) };
+    ghost invariant = { λ n. IsChecked {A = A} (record {
+      plans = n.plans.items;
+      links = n.links.items;
+      streams = n.streams.items;
+    }) };
 }
 
 impl<A: Allocator + Copy> Network<A> {

@@ -27,7 +27,7 @@ use Rattle.bridge_check.specs.Reach.{reaches}
 use Rattle.bridge_check.specs.Windows.{longest_frame}
 use Rattle.bridge_semantics.specs.declared.way.Way.{Way}
 use Rattle.bridge_semantics.specs.declared.way.Way.TheVariants as way
-use Rattle.bridge_semantics.specs.Events.{Arrival, Arrived, Cleared, Event, metered, own, way_of}
+use Rattle.bridge_semantics.specs.Events.{Arrival, Arrived, Cleared, Event, own, way_of}
 use Rattle.bridge_semantics.specs.Merge.{Input}
 use Rattle.bridge_semantics.specs.Offers.{Carried, Offer, egress, in_class, offer_by, offer_of, offer_of_step, offer_on, offers, step_of}
 use Rattle.bridge_semantics.specs.Runs.{AreOwnQueues, AreWhole, IsRun}
@@ -130,10 +130,10 @@ long_step p out a es priority (verdicts.Commanded v m) o i = absurd i
 long_on_way : {A : Type 0} (p : Plan A) (out : PortPlan A) (a : Arrival) (es : List Event) (o : Offer) (w : Way) → In o (offer_on p out a es w) → o.item.len ≡ a.len
 long_on_way p out a es o way.Malformed i = absurd i
 long_on_way p out a es o way.Nowhere i = absurd i
-long_on_way p out a es o (way.Goes set handle priority dei sdu) i = by_bool (has set out.number)
+long_on_way p out a es o (way.Goes set c) i = by_bool (has set out.number)
     (λ k.
-    let j : In o (offer_of_step p out a es priority (step_of p es (verdicts.call a.at handle priority dei sdu (metered a.len)))) = rw k at i in
-    long_step p out a es priority _ o j)
+    let j : In o (offer_of_step p out a es c.priority (step_of p es c)) = rw k at i in
+    long_step p out a es c.priority _ o j)
     (λ k. let j : ⊥ = rw k at i in absurd j)
 
 -- what frames of traffic offer has their lengths

@@ -31,6 +31,7 @@ use Rattle.bridge_ident.specs.declared.StreamEntry.{StreamEntry}
 use Rattle.bridge_ident.specs.declared.TagKind.{TagKind}
 use Rattle.bridge_ident.specs.declared.TagKind.TheVariants as tag
 use Rattle.bridge_ident.proofs.Entries.{given}
+use Rattle.bridge_filter.specs.declared.Call.{Call}
 use Rattle.bridge_filter.specs.declared.Clear.{Clear}
 use Rattle.bridge_filter.specs.declared.Clear.TheVariants as clear
 use Rattle.bridge_filter.specs.declared.FilterPlan.{FilterPlan}
@@ -40,14 +41,14 @@ use Rattle.bridge_filter.specs.Counts.{verdicts_of}
 use Rattle.bridge_filter.specs.Own.{is_named, is_number}
 use Rattle.bridge_filter.specs.Plans.{gate_or_closed}
 use Rattle.bridge_filter.specs.Verdicts as verdicts
-use Rattle.bridge_filter.specs.Verdicts.{Call, Commanded, Judged, Plans, Step, flow, gate_share, is_above, is_blocked, verdict_of}
+use Rattle.bridge_filter.specs.Verdicts.{Commanded, Judged, Plans, Step, flow, gate_share, is_above, is_blocked, verdict_of}
 use Rattle.bridge_filter.proofs.Members.{one_number}
 use Rattle.bridge_filter.proofs.Numbered.{same_eq}
 use Rattle.bridge_filter.proofs.Owned.{flow_listed}
 use Rattle.bridge_filter.proofs.Taken.{flow_handle}
 use Rattle.bridge_port.specs.Schedule.{Copy}
 use Rattle.bridge_config.specs.Model.{Plan}
-use Rattle.bridge_config.specs.Rules.{IsPlan, port_at}
+use Rattle.bridge_config.specs.Rules.{IsPlan}
 use Rattle.bridge_config.proofs.PlanPorts.{each_in}
 use Rattle.bridge_check.specs.Acceptable.{IsAcceptable}
 use Rattle.bridge_check.proofs.Isolated.{each_passes as one_of_all}
@@ -55,11 +56,11 @@ use Rattle.bridge_semantics.specs.declared.outcome.Outcome.{Outcome}
 use Rattle.bridge_semantics.specs.declared.outcome.View.{View}
 use Rattle.bridge_semantics.specs.declared.way.Way.{Way}
 use Rattle.bridge_semantics.specs.declared.way.Way.TheVariants as way
-use Rattle.bridge_semantics.specs.Events.{Arrival, Arrived, Cleared, Event, call_by, call_of, flow_by, flow_of, metered, own, police_of, steps, way_of}
+use Rattle.bridge_semantics.specs.Events.{Arrival, Arrived, Cleared, Event, call_by, call_of, flow_by, flow_of, own, police_of, steps, way_of}
 use Rattle.bridge_semantics.specs.Offers.{Carried}
 use Rattle.bridge_semantics.specs.Runs.{IsOutcome}
 use Rattle.bridge_semantics.proofs.Headline.{protected_alone}
-use Rattle.bridge_semantics.proofs.Offering.{going_if}
+use Rattle.bridge_semantics.proofs.Offering.{going}
 use Rattle.bridge_bounds.proofs.Reached.{found_in}
 use Rattle.bridge_network.specs.Latency.{IsMultiple}
 use Rattle.bridge_periods.specs.declared.traffic.Traffic.{Traffic}
@@ -201,16 +202,14 @@ few_by : {A : Type 0} (p : Plan A) (f : FilterPlan) (on vid len : ℕ) (octets :
 few_by p f on vid len octets x None handle is found asks = let r = read octets len x is in let sdu = r.sdu in let most = at_most (is_tagged octets) len in omega (arith, sdu, most)
 few_by p f on vid len octets x (Some h) handle is found asks = few_for p on vid h len octets x is (found ∙ asks h refl)
 
-seen_by : {A : Type 0} (p : Plan A) (n : ℕ) (f : FilterPlan) (a : Arrival) (c : Call) (w : Way) → way_of p a ≡ w → call_by a w ≡ Some c → flow p.filters c ≡ Some (n, f) → IsSeen p f a c
+seen_by : {A : Type 0} (p : Plan A) (n : ℕ) (f : FilterPlan) (a : Arrival) (c : Call) (w : Way) → way_of p a ≡ w → call_by w ≡ Some c → flow p.filters c ≡ Some (n, f) → IsSeen p f a c
 seen_by p n f a c way.Malformed w h fl = absurd (cc)
 seen_by p n f a c way.Nowhere w h fl = absurd (cc)
-seen_by p n f a c (way.Goes set handle priority dei sdu) w h fl =
-    let made : Call = verdicts.call a.at handle priority dei sdu (metered a.len) in
-    let same : made ≡ c = same_Some made c h in
-    let g = going_if p a.at a.port set handle priority dei sdu (port_at p.ports a.port) (head a.octets a.len) refl w in
-    let flows : flow p.filters made ≡ Some (n, f) = subst (λ (z : Call). flow p.filters z ≡ Some (n, f)) (sym same) fl in
-    let few : g.parsed.sdu ≤ most_octets p f.handle a.len = few_by p f _ _ a.len a.octets g.parsed f.handle handle g.is g.handle_is (λ k asks. flow_handle p.filters made (n, f) k flows asks) in
-    subst (IsSeen p f a) same (record { at = refl; few = subst (λ (z : ℕ). z ≤ most_octets p f.handle a.len) g.sdu_is few })
+seen_by p n f a c (way.Goes set made) w h fl =
+    let g = going p a set made w in
+    let is = g.call_is ∙ same_Some made c h in
+    let few : g.parsed.sdu ≤ most_octets p f.handle a.len = few_by p f _ _ a.len a.octets g.parsed f.handle c.handle g.is (ap (λ (z : Call). z.handle) is) (λ k asks. flow_handle p.filters c (n, f) k fl asks) in
+    record { at = sym (ap (λ (z : Call). z.at) is); few = subst (λ (z : Call). z.sdu ≤ most_octets p f.handle a.len) is few }
 
 -- THE VERDICT
 

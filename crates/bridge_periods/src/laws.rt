@@ -29,7 +29,8 @@ use std::alloc::Allocator;
 /// taken, and is done between these phases of the period in which its frame came (`phases`); and each copy that a queue takes
 /// is done no sooner than the best time after its frame came, and no later than the worst (`times`).
 pub fn in_periods<A: Allocator + Copy>()
-    ensures phases { (p : Plan A) (n : ℕ) (f : FilterPlan) (es : List Event) (moments : ℕ → ℕ) (lists : ℕ → List (Copy Carried))
+    ensures phases { (p : Plan A) (n : ℕ) (f : FilterPlan) (es : List Event) (moments : ℕ → ℕ)
+        (lists : ℕ → List (Copy Carried))
         (q : ℕ) (out : PortPlan A) (y : Copy Carried) (t : Traffic) (x : Timing) (done : Phases)
         → IsPlan p
         → IsAcceptable p
@@ -45,7 +46,8 @@ pub fn in_periods<A: Allocator + Copy>()
         → IsTiming p n q y.class t x
         → x.phases ≡ Some done
         → IsDoneBetween out t done y }
-    ensures times { (p : Plan A) (n : ℕ) (f : FilterPlan) (es : List Event) (moments : ℕ → ℕ) (lists : ℕ → List (Copy Carried))
+    ensures times { (p : Plan A) (n : ℕ) (f : FilterPlan) (es : List Event) (moments : ℕ → ℕ)
+        (lists : ℕ → List (Copy Carried))
         (q start : ℕ) (out : PortPlan A) (y : Copy Carried) (t : Traffic) (x : Timing)
         → IsPlan p
         → IsAcceptable p

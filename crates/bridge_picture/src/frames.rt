@@ -1,11 +1,12 @@
 //! The frames of a run that its picture draws, by what the run tells of each filter: those that left a port, and those that
 //! were not let on. Each port and each part of the time has its share of either.
-use crate::svg::{ACROSS, LEFT, Picture};
-use crate::time::{Part, Span};
+use crate::picture::Picture;
+use crate::time::Part;
 use bridge_filter::Verdict;
 use bridge_limits::NoMemory;
 use bridge_port::Refusal;
 use bridge_semantics::{Outcome, View};
+use bridge_svg::{ACROSS, LEFT, Span};
 use std::alloc::{Allocator, Global};
 
 /// The parts of the time of a port, and the width of one.
@@ -157,7 +158,7 @@ impl<A: Allocator + Copy> Picture<'_, '_, A> {
         let (first, mut x) = (usize::from(port) * PARTS, LEFT);
         for share in group.shares.iter().skip(first).take(PARTS) {
             if share.left > 0 {
-                self.bar("hatch", x, by, PART, high);
+                self.page.bar("hatch", x, by, PART, high);
             }
             x = x.saturating_add(PART);
         }

@@ -1,7 +1,7 @@
 //! The lanes of ports and of stream gates: bars for the stretches of time in which something is open.
 ghost use Rattle.std.specs.Prelude.{◌<◌};
 
-use crate::svg::{ACROSS, LEFT, Picture, either};
+use crate::picture::Picture;
 use crate::time::Part;
 use bridge_check::may_wait;
 use bridge_config::{Plan, PortPlan};
@@ -9,6 +9,7 @@ use bridge_cycle::{END_OF_TURNS, Egress, Timeline, is_open};
 use bridge_filter::FilterPlan;
 use bridge_frame::Speed;
 use bridge_gate::Schedule;
+use bridge_svg::{ACROSS, LEFT, either};
 use std::alloc::{AllocError, Allocator, Global};
 
 /// The gates that are drawn.
@@ -137,11 +138,11 @@ impl<A: Allocator + Copy> Picture<'_, '_, A> {
         let (is_at_fault, value) = window.open.unwrap_or((false, None));
         let (x, width) = self.span.extent(window.from, window.to);
         let style = if is_at_fault { "b c1" } else { style };
-        self.bar(style, x, 0, width, HEIGHT);
+        self.page.bar(style, x, 0, width, HEIGHT);
         if let Some(value) = value {
             if width >= 160 {
                 let middle = x.saturating_add(width / 2);
-                self.say("m", middle, 105, "{0}", &[u64::from(value)]);
+                self.page.say("m", middle, 105, "{0}", &[u64::from(value)]);
             }
         }
     }
@@ -186,16 +187,16 @@ impl<A: Allocator + Copy> Picture<'_, '_, A> {
     /// Draws the windows of a lane over the whole time, or a hatched band where there are more than it may have.
     fn put_windows(&mut self, lane: &Lane<A>, style: &str) {
         if !matches!(lane, Lane::Open(_)) {
-            self.bar("lane", LEFT, 0, ACROSS, HEIGHT);
+            self.page.bar("lane", LEFT, 0, ACROSS, HEIGHT);
         }
         if self.go_over(lane, None) {
             self.go_over(lane, Some(style));
         } else {
             self.bands = self.bands.saturating_add(1);
-            self.bar(style, LEFT, 0, ACROSS, HEIGHT);
-            self.bar("hatch", LEFT, 0, ACROSS, HEIGHT);
+            self.page.bar(style, LEFT, 0, ACROSS, HEIGHT);
+            self.page.bar("hatch", LEFT, 0, ACROSS, HEIGHT);
         }
-        self.go_down(HEIGHT + 20);
+        self.page.go_down(HEIGHT + 20);
     }
 
     /// Whether a lane names a filter: that of a gate those that use it, another one the protected ones whose frames may wait
@@ -226,13 +227,14 @@ impl<A: Allocator + Copy> Picture<'_, '_, A> {
                     more = more.saturating_add(1);
                 } else {
                     let gap = either(is_behind, " ", "");
-                    self.add("{a}{0}", &[u64::from(*number)], gap);
+                    self.page.add("{a}{0}", &[u64::from(*number)], gap);
                     (room, is_behind) = (room - wide, true);
                 }
             }
         }
         if more > 0 {
-            self.add("{a}+{0}", &[more], either(is_behind, " ", ""));
+            self.page
+                .add("{a}+{0}", &[more], either(is_behind, " ", ""));
         }
     }
 
@@ -243,11 +245,12 @@ impl<A: Allocator + Copy> Picture<'_, '_, A> {
         let first = filters.position(|it| self.is_named(&it.1, lane));
         let is_gate = matches!(lane, Lane::Gate(_, _));
         let is_bold = !is_gate && first.is_some();
-        self.say(either(is_bold, "b", "t"), 200, 115, name, &[number]);
+        self.page
+            .say(either(is_bold, "b", "t"), 200, 115, name, &[number]);
         if let Some(first) = first {
-            self.begin("s r", LEFT - 50, self.below(115));
+            self.page.begin("s r", LEFT - 50, self.page.below(115));
             self.put_numbers(lane, first, room);
-            self.end();
+            self.page.end();
         }
         let open = either(is_gate, "gate", "open");
         self.put_windows(lane, either(is_bold, "own", open));
@@ -255,10 +258,12 @@ impl<A: Allocator + Copy> Picture<'_, '_, A> {
 
     /// Draws the head and the lanes of a port, class 7 on top, or one lane where it is always open.
     pub(crate) fn put_port(&mut self, port: &PortPlan<A>) {
-        self.go_down(250);
-        self.say("h", 100, 0, "port {0}", &[u64::from(port.number)]);
-        self.say("s", LEFT, 0, "{0} Mb/s", &[megabits(port.speed)]);
-        self.go_down(60);
+        self.page.go_down(250);
+        self.page
+            .say("h", 100, 0, "port {0}", &[u64::from(port.number)]);
+        self.page
+            .say("s", LEFT, 0, "{0} Mb/s", &[megabits(port.speed)]);
+        self.page.go_down(60);
         match &port.list {
             Some(list) => {
                 for below in 0..8u8 {
@@ -281,14 +286,14 @@ impl<A: Allocator + Copy> Picture<'_, '_, A> {
             }
         }
         if further > 0 {
-            self.say(
+            self.page.say(
                 "b",
                 LEFT,
                 115,
                 "left out: {0} further stream gates",
                 &[further],
             );
-            self.go_down(150);
+            self.page.go_down(150);
         }
     }
 }

@@ -1,15 +1,15 @@
 #![tactic(auto)]
 //! Pictures: a plan's windows and gates by time, and what left each port in a run, as SVG texts.
 //!
-//! Layout gives shapes, each a form with its numbers and words, and one writer (`svg`) fills the forms and escapes each word. A
-//! picture has no script, and its colours follow the reader's light or dark scheme. Nothing here changes what it draws.
+//! Layout gives shapes, each a form with its numbers and words, to a page of `bridge_svg`, which writes them. The colours follow the
+//! reader's light or dark scheme. Nothing here changes what it draws.
 
 mod frames;
 mod lanes;
 mod legend;
+mod picture;
 mod plan;
 mod run;
-mod svg;
 mod time;
 
 pub use bridge_limits::NoMemory;

@@ -1,15 +1,16 @@
 //! The picture of a plan, and what it has alike with that of a run.
 ghost use Rattle.std.specs.Prelude.{◌≤◌, IfOk, length, string_bytes};
 
-use crate::lanes::{MOST_GATES, most_of};
+use crate::lanes::MOST_GATES;
 use crate::legend::{GATES, RUN};
+use crate::picture::Picture;
 use crate::run::Run;
-use crate::svg::{LEFT, Picture, either};
-use crate::time::{Part, Span, Times, put_length, put_moment, put_stretch, times_of};
+use crate::time::{Part, shown_of, span_of};
+use bridge_advice::Hypercycle;
 use bridge_check::{Accepted, CheckFault, Refused};
 use bridge_config::Plan;
 use bridge_limits::NoMemory;
-use bridge_text::Text;
+use bridge_svg::{LEFT, Page, either};
 use std::alloc::{Allocator, Global};
 
 /// What is said of a port or filter that the plan doesn't have, and how many lanes are bands.
@@ -34,74 +35,42 @@ fn template_of(fault: CheckFault) -> &'static str {
     }
 }
 
-/// The filter, the other one, the class and the port that a fault names, 0 where it names none.
-fn named_by(fault: CheckFault) -> (u32, u32, u8, u8) {
-    let other = match fault {
-        CheckFault::QueueShared { other, .. } => other,
-        _ => 0,
-    };
-    let (class, port) = match fault {
-        CheckFault::QueueShared { class, port, .. }
-        | CheckFault::WindowShared { class, port, .. }
-        | CheckFault::MaxSduNeverFits { class, port, .. } => (class, port),
-        _ => (0, 0),
-    };
+/// The other filter, the class and the port that a fault names, 0 where it names none.
+fn named_by(fault: CheckFault) -> (u32, u8, u8) {
     match fault {
-        CheckFault::QueueShared { filter, .. }
-        | CheckFault::WindowShared { filter, .. }
-        | CheckFault::MaxSduNeverFits { filter, .. }
-        | CheckFault::ProtectedWildcard { filter }
-        | CheckFault::NoMaxSdu { filter }
-        | CheckFault::GateShared { filter }
-        | CheckFault::MeterShared { filter }
-        | CheckFault::NoCatchAll { filter } => (filter, other, class, port),
-        CheckFault::NoMemory => (0, 0, 0, 0),
+        CheckFault::QueueShared {
+            other,
+            class,
+            port,
+            ..
+        } => (other, class, port),
+        CheckFault::WindowShared { class, port, .. }
+        | CheckFault::MaxSduNeverFits { class, port, .. } => (0, class, port),
+        _ => (0, 0, 0),
     }
 }
 
-/// Writes how much of the hypercycle is shown, or of a part of it how long it is.
-fn put_hypercycle(title: &mut Text<Global>, times: Times, is_part: bool) {
-    if times.cycle == 0 {
-        return title.put("no list");
+/// Adds how much of the hypercycle is shown, or of a part of it how long it is.
+fn put_hypercycle(page: &mut Page, times: Hypercycle, is_part: bool) {
+    if times.length == 0 {
+        return page.write("no list");
     }
-    let is_whole = times.cycle <= times.shown();
+    let is_whole = times.length <= shown_of(times);
     if !is_part && !is_whole {
-        put_length(title, times.shown());
-        title.put(" of a ");
+        page.put_length(shown_of(times));
+        page.write(" of a ");
     }
-    title.put(either(is_whole && !is_part, "one ", ""));
-    title.put("hypercycle of ");
-    title.put(either(times.cycle == u64::MAX, "more than ", ""));
-    put_length(title, times.cycle);
+    page.write(either(is_whole && !is_part, "one ", ""));
+    page.write("hypercycle of ");
+    page.write(either(times.length == u64::MAX, "more than ", ""));
+    page.put_length(times.length);
 }
 
 impl<'a, 'b, A: Allocator + Copy> Picture<'a, 'b, A> {
-    /// A picture of a plan with nothing in it, with so many gates.
-    pub(crate) fn new(
-        alloc: Global,
-        plan: &'a Plan<A>,
-        part: Part<'b>,
-        span: Span,
-        gates: usize,
-    ) -> Picture<'a, 'b, A> {
-        Picture {
-            plan,
-            part,
-            times: times_of(plan),
-            span,
-            shapes: Text::new(alloc),
-            down: 0,
-            right: LEFT,
-            most: most_of(plan, &part, gates),
-            bands: 0,
-            fault: (0, 0, false),
-        }
-    }
-
     /// Begins the head of a picture with what it is of; what it shows is to follow.
     pub(crate) fn begin_head(&mut self, name: &str) {
-        self.say("h", 100, 220, name, &[]);
-        self.begin_line("t", 220);
+        self.page.say("h", 100, 220, name, &[]);
+        self.page.begin_line("t", 220);
     }
 
     /// Says which ports and filters are shown, where it isn't all, and which of them the plan doesn't have.
@@ -110,22 +79,22 @@ impl<'a, 'b, A: Allocator + Copy> Picture<'a, 'b, A> {
         if part.ports.is_empty() && part.filters.is_empty() {
             return;
         }
-        self.begin_line("b", 190);
+        self.page.begin_line("b", 190);
         for (place, number) in part.ports.iter().enumerate() {
             let mut ports = plan.ports().iter();
             let is_there = ports.any(|it| u32::from(it.number) == *number);
             let lead = either(place == 0, "only ", ", ");
-            self.add("{a}port {0}", &[u64::from(*number)], lead);
-            self.shapes.put(either(is_there, "", MISSING));
+            self.page.add("{a}port {0}", &[u64::from(*number)], lead);
+            self.page.write(either(is_there, "", MISSING));
         }
         for (place, number) in part.filters.iter().enumerate() {
             let is_there = plan.filters().iter().any(|it| it.0 == *number);
             let is_first = place == 0 && part.ports.is_empty();
             let lead = either(is_first, "only ", ", ");
-            self.add("{a}filter {0}", &[u64::from(*number)], lead);
-            self.shapes.put(either(is_there, "", MISSING));
+            self.page.add("{a}filter {0}", &[u64::from(*number)], lead);
+            self.page.write(either(is_there, "", MISSING));
         }
-        self.end();
+        self.page.end();
     }
 
     /// Says what the picture of a plan shows.
@@ -133,40 +102,40 @@ impl<'a, 'b, A: Allocator + Copy> Picture<'a, 'b, A> {
         let (span, times) = (self.span, self.times);
         let is_part = self.part.from.is_some() || self.part.to.is_some();
         self.begin_head("plan");
-        let title = &mut self.shapes;
-        put_hypercycle(title, times, is_part);
+        let page = &mut self.page;
+        put_hypercycle(page, times, is_part);
         if let Some(at) = times.change {
-            title.put(either(is_part, ", ", ", at each side of the "));
-            title.put("change at ");
-            put_moment(title, span.clock(), at);
+            page.write(either(is_part, ", ", ", at each side of the "));
+            page.write("change at ");
+            page.put_moment(span.clock(), at);
         }
-        title.put(", ");
-        put_stretch(title, span);
-        self.end();
+        page.write(", ");
+        page.put_stretch(span);
+        page.end();
     }
 
     /// Says why a plan isn't accepted, also by the words of the fault, and keeps which class of a port is at fault.
     fn put_fault(&mut self, fault: CheckFault, words: &str) {
-        let (filter, other, class, port) = named_by(fault);
+        let (other, class, port) = named_by(fault);
         self.fault = (
             port,
             class,
             matches!(fault, CheckFault::WindowShared { .. }),
         );
-        let (filter, other) = (u64::from(filter), u64::from(other));
-        let numbers = [filter, other, u64::from(class), u64::from(port)];
-        self.begin_line("b c1", 190);
-        self.add(template_of(fault), &numbers, words);
-        self.end();
+        let filter = u64::from(fault.filter().unwrap_or(0));
+        let numbers = [filter, u64::from(other), u64::from(class), u64::from(port)];
+        self.page.begin_line("b c1", 190);
+        self.page.add(template_of(fault), &numbers, words);
+        self.page.end();
     }
 
     /// Lays out what is below the head: the legend, for each port its windows, and of a run what left its link and was not let
     /// on, and stream gates; and the axis of time.
     pub(crate) fn put_ports(&mut self, gates: &[(u8, u32)], run: Option<Run<'a, 'b, A>>) {
         self.put_legend(if run.is_some() { RUN } else { GATES });
-        let line = self.below(150);
-        self.go_down(350);
-        let (plan, part, top) = (self.plan, self.part, self.down);
+        let line = self.page.below(150);
+        self.page.go_down(350);
+        let (plan, part, top) = (self.plan, self.part, self.page.down());
         let most = MOST_GATES / plan.ports().len().max(1);
         for port in plan.ports() {
             if part.has_port(port.number) {
@@ -178,16 +147,16 @@ impl<'a, 'b, A: Allocator + Copy> Picture<'a, 'b, A> {
             }
         }
         if run.is_none() && part.ports.is_empty() {
-            self.say("h", 100, 250, "stream gates", &[]);
-            self.go_down(310);
+            self.page.say("h", 100, 250, "stream gates", &[]);
+            self.page.go_down(310);
             self.put_gates(gates, 0, MOST_GATES);
-            self.go_down(60);
+            self.page.go_down(60);
         }
-        self.put_axis(top);
+        self.page.put_axis(self.span, top, self.times.change);
         if self.bands > 0 {
-            self.begin("s", LEFT, line);
-            self.add(BANDS, &[self.bands], "");
-            self.end();
+            self.page.begin("s", LEFT, line);
+            self.page.add(BANDS, &[self.bands], "");
+            self.page.end();
         }
     }
 }
@@ -229,7 +198,7 @@ pub fn draw_plan<A: Allocator + Copy>(
             gates.push((0, gate.0))?;
         }
     }
-    let span = part.span(times_of(plan).span());
+    let span = part.span(span_of(Hypercycle::of(plan)));
     let mut picture = Picture::new(alloc, plan, *part, span, gates.len());
     picture.put_title();
     picture.put_part(part);

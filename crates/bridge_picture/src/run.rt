@@ -3,12 +3,13 @@ ghost use Rattle.std.specs.Prelude.{◌≤◌, IfOk, length, string_bytes};
 
 use crate::frames::{Choice, Frame, choice_of};
 use crate::lanes::gates_of;
-use crate::svg::{ACROSS, LEFT, Picture, either};
-use crate::time::{Part, Span, put_stretch};
+use crate::picture::Picture;
+use crate::time::Part;
 use bridge_bounds::bound_of;
 use bridge_check::Accepted;
 use bridge_limits::NoMemory;
 use bridge_semantics::{Outcome, View};
+use bridge_svg::{ACROSS, LEFT, Span, either};
 use std::alloc::{Allocator, Global};
 
 /// How many frames and marks aren't drawn.
@@ -60,11 +61,12 @@ impl<A: Allocator + Copy> Picture<'_, '_, A> {
         let (came, colour) = (frame.came, frame.colour);
         let (x, due) = self.span.extent(came, by);
         let (_, waited) = self.span.extent(came, frame.start);
-        self.bar("grey", x, 245, due, 10);
+        self.page.bar("grey", x, 245, due, 10);
         if self.span.has(came, came.saturating_add(1)) {
-            self.put(CAME, &[x, self.below(165), colour], "");
+            self.page.put(CAME, &[x, self.page.below(165), colour], "");
         }
-        self.put(WAITED, &[x, self.below(225), waited, colour], "");
+        self.page
+            .put(WAITED, &[x, self.page.below(225), waited, colour], "");
     }
 
     /// Draws a frame that left, higher where it is protected, with when it is done at the latest there, where that is known. Its
@@ -77,16 +79,16 @@ impl<A: Allocator + Copy> Picture<'_, '_, A> {
         let wide = width.saturating_sub(12);
         let width = if wide > 30 { wide } else { width.max(30) };
         let is_edged = frame.is_protected && width >= 70;
-        let y = self.below(if frame.is_protected { 15 } else { 55 });
+        let y = self.page.below(if frame.is_protected { 15 } else { 55 });
         let high = if frame.is_protected { 190 } else { 130 };
         let (filter, own, came) = (u64::from(frame.filter), frame.own, frame.came);
         let (colour, start, done) = (frame.colour, frame.start, frame.done);
         let numbers = [x, y, width, high, colour, filter, own, start, done, came];
-        self.add(FRAME, &numbers, either(is_edged, " e", ""));
+        self.page.add(FRAME, &numbers, either(is_edged, " e", ""));
         if let Some(by) = by {
-            self.add(", done by {0} ns at the latest", &[by], "");
+            self.page.add(", done by {0} ns at the latest", &[by], "");
         }
-        self.put("</title></rect>", &[], "");
+        self.page.put("</title></rect>", &[], "");
     }
 
     /// Draws a frame that was not let on, greater and with an edge where its filter is protected: with its tip above where its
@@ -98,18 +100,19 @@ impl<A: Allocator + Copy> Picture<'_, '_, A> {
         let base = if is_stopped { 10 + high } else { 130 - high };
         let (x, half) = (self.span.place(frame.came), high / 2);
         let (left, right) = (x.saturating_sub(half), x.saturating_add(half));
-        let (base, tip) = (self.below(base), self.below(tip));
+        let (base, tip) = (self.page.below(base), self.page.below(tip));
         let (filter, own, came) = (u64::from(frame.filter), frame.own, frame.came);
         let numbers = [left, base, right, x, tip, filter, own, came, frame.colour];
-        self.add(MARK, &numbers, either(frame.is_protected, " e", ""));
-        self.put("{a}</title></path>", &[], frame.why);
+        self.page
+            .add(MARK, &numbers, either(frame.is_protected, " e", ""));
+        self.page.put("{a}</title></path>", &[], frame.why);
     }
 
     /// Draws the link of a port with what left it, frames of each protected filter with when they are done at the latest, and
     /// below it what was not let on there, each with what of it is left out.
     pub(crate) fn put_link(&mut self, run: &Run<A>, port: u8) {
-        self.bar("lane", LEFT, 0, ACROSS, 280);
-        self.say("b", 200, 160, "link", &[]);
+        self.page.bar("lane", LEFT, 0, ACROSS, 280);
+        self.page.say("b", 200, 160, "link", &[]);
         let (mut known, mut longest) = (None, None);
         for frame in run.choice.left.frames.iter().filter(|it| it.port == port) {
             if known != Some(frame.filter) {
@@ -120,30 +123,31 @@ impl<A: Allocator + Copy> Picture<'_, '_, A> {
             self.put_frame(frame, by);
         }
         self.put_hatches(&run.choice.left, port, 55, 130);
-        self.go_down(300);
-        self.say("s", 200, 110, "not let on", &[]);
+        self.page.go_down(300);
+        self.page.say("s", 200, 110, "not let on", &[]);
         for frame in run.choice.marks.frames.iter().filter(|it| it.port == port) {
             self.put_mark(frame);
         }
         self.put_hatches(&run.choice.marks, port, 10, 120);
-        self.go_down(170);
+        self.page.go_down(170);
     }
 
     /// Says which stretch of time the picture of a run shows, of which part of the plan, how many frames and marks aren't drawn,
     /// where some aren't, and which filters are drawn.
     fn put_head<B: Allocator>(&mut self, outcome: &Outcome<B>, choice: &Choice, part: &Part) {
         self.begin_head("run");
-        put_stretch(&mut self.shapes, self.span);
-        self.end();
+        self.page.put_stretch(self.span);
+        self.page.end();
         self.put_part(part);
         let (no_frames, frames) = choice.left.left_out();
         let (no_marks, marks) = choice.marks.left_out();
         if no_frames > 0 || no_marks > 0 {
-            self.begin_line("b", 190);
-            self.add(LEFT_OUT, &[no_frames, frames, no_marks, marks], "");
-            self.end();
+            self.page.begin_line("b", 190);
+            self.page
+                .add(LEFT_OUT, &[no_frames, frames, no_marks, marks], "");
+            self.page.end();
         }
-        self.begin_legend();
+        self.page.begin_legend();
         for (place, (filter, view)) in outcome.filters.iter().enumerate() {
             if part.has_filter(*filter) && is_drawn(self.span, part, view) {
                 self.put_filter(*filter, view.protected, (place % 8) as u64);

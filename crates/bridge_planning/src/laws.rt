@@ -45,7 +45,8 @@ pub fn way_in_phases<A: Allocator + Copy>()
         → IsCourseOfWay t.from (coming_first t) leg more x done
         → IsInCourse t.period leg.copy.at (done_of (last_of leg more)) x done }
     ensures course { (n : Network A) (commands : ℕ → List Input) (captures : ℕ → ℕ → List Captured) (o : ℕ → Outcome A)
-        (run : IsNetworkRun n commands captures o) (leg : Leg A) (more : List (ℕ × Leg A)) (t : Traffic) (links : List Link)
+        (run : IsNetworkRun n commands captures o) (leg : Leg A) (more : List (ℕ × Leg A)) (t : Traffic)
+        (links : List Link)
         (hops : List StreamHop) (queues : List HopQueue) (r : Course)
         → IsNetwork n
         → IsWay n run.lists leg more

@@ -61,7 +61,8 @@ fn shorter(one: Run, other: Run) -> Run
 /// The shorter of two runs of each class.
 fn shorter_each(one: &[Run; 8], other: &[Run; 8]) -> [Run; 8]
     ensures { (c : ℕ) → c < 8 → (n : ℕ)
-        → Allows (slice_index_or result c Never) n ↔ (Allows (slice_index_or one.now c Never) n × Allows (slice_index_or other.now c Never) n) }
+        → Allows (slice_index_or result c Never) n
+        ↔ (Allows (slice_index_or one.now c Never) n × Allows (slice_index_or other.now c Never) n) }
 {
     let mut runs = [Run::Never; 8];
     for class in 0..8usize {

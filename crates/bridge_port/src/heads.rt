@@ -83,7 +83,8 @@ fn renewed<T: Drop, A: Allocator + Copy>(
     requires from { from < 9_000_000_000_000_000_000 }
     requires startable { AllStartable gates.old speed class (slice_index_or (queues_of rings.now.items) class []) }
     requires kept { heads.is_past (slice_index_or fits.old class None) from ≡ false
-        → heads.IsFit gates.old speed from class (slice_index_or (queues_of rings.now.items) class []) (slice_index_or fits.old class None) }
+        → heads.IsFit gates.old speed from class (slice_index_or (queues_of rings.now.items) class [])
+        (slice_index_or fits.old class None) }
     ensures fit { heads.IsFit gates.old speed from class (slice_index_or (queues_of rings.now.items) class []) result }
     ensures fits { fits.new ≡ slice_set fits.old class result }
     ensures same { gates.new ≡ gates.old }
@@ -109,9 +110,11 @@ pub fn renew<T: Drop, A: Allocator + Copy>(
     requires from { from < 9_000_000_000_000_000_000 }
     requires startable { (c : ℕ) → AllStartable gates.old speed c (slice_index_or (queues_of rings.now.items) c []) }
     requires kept { (c : ℕ) → heads.is_past (slice_index_or fits.old c None) from ≡ false
-        → heads.IsFit gates.old speed from c (slice_index_or (queues_of rings.now.items) c []) (slice_index_or fits.old c None) }
+        → heads.IsFit gates.old speed from c (slice_index_or (queues_of rings.now.items) c [])
+        (slice_index_or fits.old c None) }
     ensures fits { (c : ℕ)
-        → heads.IsFit gates.old speed from c (slice_index_or (queues_of rings.now.items) c []) (slice_index_or fits.new c None) }
+        → heads.IsFit gates.old speed from c (slice_index_or (queues_of rings.now.items) c [])
+        (slice_index_or fits.new c None) }
     ensures best { heads.IsBest fits.new 8 result }
     ensures same { gates.new ≡ gates.old }
 {
@@ -169,12 +172,15 @@ pub fn renew_left<T: Drop, A: Allocator + Copy>(
     requires from { from < 9_000_000_000_000_000_000 }
     requires startable { (c : ℕ) → AllStartable gates.old speed c (slice_index_or (queues_of rings.now.items) c []) }
     requires kept { (c : ℕ) → heads.is_past (slice_index_or fits.old c None) from ≡ false
-        → heads.IsFit gates.old speed from c (slice_index_or (queues_of rings.now.items) c []) (slice_index_or fits.old c None) }
+        → heads.IsFit gates.old speed from c (slice_index_or (queues_of rings.now.items) c [])
+        (slice_index_or fits.old c None) }
     requires none { left ≡ 0 → (c : ℕ)
-        → heads.IsFit gates.old speed from c (slice_index_or (queues_of rings.now.items) c []) (slice_index_or (slice_set fits.old class None) c None) }
+        → heads.IsFit gates.old speed from c (slice_index_or (queues_of rings.now.items) c [])
+        (slice_index_or (slice_set fits.old class None) c None) }
     requires no_head { left ≡ 0 → (c : ℕ) → slice_index_or (slice_set fits.old class None) c None ≡ None }
     ensures fits { (c : ℕ)
-        → heads.IsFit gates.old speed from c (slice_index_or (queues_of rings.now.items) c []) (slice_index_or fits.new c None) }
+        → heads.IsFit gates.old speed from c (slice_index_or (queues_of rings.now.items) c [])
+        (slice_index_or fits.new c None) }
     ensures best { heads.IsBest fits.new 8 result }
     ensures same { gates.new ≡ gates.old }
 {

@@ -27,7 +27,8 @@ pub fn lawful_up_to_a_later_moment<X: Drop>()
     ensures { (r : Rules X) (h k : ℕ) (xs : List (Copy X))
         → h ≤ k
         → IsLawful r h xs
-        → ((u : ℕ) → h ≤ u → u < k → is_free r u xs ≡ true → (c : ℕ) (p : ℕ × X) → head c u xs ≡ Some p → ¬ Fits (r.opens c) (r.occ p.1) u)
+        → ((u : ℕ) → h ≤ u → u < k → is_free r u xs ≡ true → (c : ℕ) (p : ℕ × X) → head c u xs ≡ Some p
+        → ¬ Fits (r.opens c) (r.occ p.1) u)
         → IsLawful r k xs }
 {}
 

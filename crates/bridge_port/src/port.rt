@@ -43,7 +43,8 @@ impl<T: Drop, A: Allocator + Copy> Model for Port<T, A> {
 
     ghost view = { λ p. state p.speed p.gates p.rings.items p.free p.earliest p.offered p.started };
 
-    ghost invariant = { λ p. KeepsHeads (state p.speed p.gates p.rings.items p.free p.earliest p.offered p.started) p.queued p.fits p.best };
+    ghost invariant = { λ p. KeepsHeads (state p.speed p.gates p.rings.items p.free p.earliest p.offered p.started)
+        p.queued p.fits p.best };
 }
 
 impl<T: Drop, A: Allocator + Copy> Port<T, A> {
@@ -131,7 +132,8 @@ impl<T: Drop, A: Allocator + Copy> Port<T, A> {
             → StandsFor self.old xs
             → StandsFor self.new (copy_of self.old t class item ∷ xs) }
         ensures counts { (f : Item T → Bool)
-            → count_queued f self.new ≡ (if is_none (refusal_of self.old class item) && f item then 1 else 0) + count_queued f self.old }
+            → count_queued f self.new
+            ≡ (if is_none (refusal_of self.old class item) && f item then 1 else 0) + count_queued f self.old }
     {
         let class = class as usize;
         let occ = occupation(item.len, self.speed);

@@ -2,14 +2,10 @@
 ghost use Rattle.std.specs.Prelude.{[], ◌≡◌, IfOk, string_bytes};
 ghost use Rattle.bridge_jobs.specs.Status.{status_of};
 
-use bridge_app::said_of;
-use bridge_cli::{Job, job_of, wants_explanation};
-use bridge_files::is_standard;
+use bridge_app::said_of_words;
+use bridge_cli::wants_explanation;
 use bridge_jobs::{Fault, NoMemory, fault_line};
-use bridge_net_app::explain_stopped;
-use bridge_planning::{explain_network, explain_traffic};
 use std::alloc::Global;
-use std::rt::Files;
 
 /// What is said of a job, and with what it ends.
 #[derive(Drop)]
@@ -22,17 +18,18 @@ pub struct Ending {
     pub status: u8,
 }
 
-/// How the job of these words ends with a fault: by its line on standard error, with more behind it where the words ask for
-/// that, and by its status.
-pub fn refused(
-    rt: &(impl AllocGlobal + Files),
-    words: &[String],
-    fault: &Fault,
-) -> Result<Ending, NoMemory>
+/// How words that are refused, or whose job can't be printed, end: by the line of the fault on standard error, with more behind it
+/// where the words ask for that, and by its status.
+pub fn refused(rt: &impl AllocGlobal, words: &[String], fault: &Fault) -> Result<Ending, NoMemory>
     ensures status { IfOk result (λ ending. ending.status ≡ status_of fault.now) }
     ensures printed { IfOk result (λ ending. string_bytes ending.printed ≡ []) }
 {
-    refused_and_told(rt.alloc(), fault, explanation_of(rt, words, fault))
+    let said = if wants_explanation(words) {
+        said_of_words(rt.alloc(), words, fault)
+    } else {
+        None
+    };
+    refused_and_told(rt.alloc(), fault, said)
 }
 
 /// How a job ends with a fault, with this told behind its line.
@@ -62,49 +59,4 @@ fn lines_of(line: String, told: Option<String>) -> Result<String, NoMemory> {
         let _ = lines.push_str(told.as_str());
     }
     Ok(lines)
-}
-
-/// What is told of a fault of the job of these words, where they ask for it.
-fn explanation_of(
-    rt: &(impl AllocGlobal + Files),
-    words: &[String],
-    fault: &Fault,
-) -> Option<String> {
-    if !wants_explanation(words) || is_of_standard_input(rt.alloc(), words) {
-        return None;
-    }
-    match fault {
-        Fault::Rounds(line) => explain_stopped(rt.alloc(), line.as_str()),
-        Fault::Network(_) => explanation_of_refusal(rt, words),
-        _ => said_of(rt, words, fault),
-    }
-}
-
-/// Whether these words check a plan of standard input, of which nothing is left then.
-fn is_of_standard_input(alloc: Global, words: &[String]) -> bool {
-    match job_of(alloc, words) {
-        Ok(Job::Check { plan }) => is_standard(plan.as_str()),
-        _ => false,
-    }
-}
-
-/// What is told of the network or of the traffic of these words, which is refused.
-fn explanation_of_refusal(rt: &(impl AllocGlobal + Files), words: &[String]) -> Option<String> {
-    match job_of(rt.alloc(), words) {
-        Ok(job) => explanation_of_job(rt, &job),
-        Err(_) => None,
-    }
-}
-
-/// What is told of the network or of the traffic of a job, which is refused.
-fn explanation_of_job(rt: &(impl AllocGlobal + Files), job: &Job) -> Option<String> {
-    match job {
-        Job::Network { network } => explain_network(rt, network.as_str()),
-        Job::RunNetwork { network, .. } => explain_network(rt, network.as_str()),
-        Job::Bounds {
-            plan,
-            traffic: Some(traffic),
-        } => explain_traffic(rt, plan.as_str(), traffic.as_str()),
-        _ => None,
-    }
 }

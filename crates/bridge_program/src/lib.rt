@@ -3,6 +3,7 @@
 
 mod ending;
 mod performing;
+mod refusing;
 
 pub use ending::{Ending, refused};
 pub use performing::perform;

@@ -2,34 +2,37 @@
 ghost use Rattle.bridge_cli.specs.CommandLine.{HasRoom};
 
 use crate::ending::{Ending, refused, refused_and_told};
+use crate::refusing::{
+    of_drawing, of_file, of_network, of_plan, of_traffic, of_words, unexplained,
+};
 use bridge_app::{
-    Checked, Strict, picture_apart, picture_part_job, picture_text, run_with_tables,
-    said_of_accepted, strict_run_job, told_check_job, write_picture,
+    Refusal, Strict, picture_apart, told_check_job, told_picture_job, told_picture_text,
+    told_run_job, told_wire_job, write_picture,
 };
 use bridge_cli::{
-    Job, PictureRequest, TableRequest, help_of, job_of, picture_request_of, table_request_of,
-    wants_explanation, wants_strictness,
+    Job, PictureRequest, Request, TableRequest, help_of, request_of, wants_explanation,
 };
-use bridge_files::{Said, is_standard, wire_files};
-use bridge_jobs::{Fault, NoMemory, check_job, text_job};
-use bridge_net_app::{RoundsJob, RoundsSaid, rounds_job};
+use bridge_files::{MOST_TEXT, Said, is_standard, open_noted, read_noted, text_at};
+use bridge_jobs::{Cause, Fault, NoMemory, check_job, fault_of_file, text_job};
+use bridge_net_app::{RoundsJob, RoundsSaid, rounds_noted};
 use bridge_planning::{
     NetworkPicture, NetworkSaid, TrafficReport, bounds_job, is_network, memory_fault, network_job,
     network_picture, traffic_job,
 };
 use std::alloc::Global;
 use std::fs;
+use std::io::Read;
 use std::rt::Files;
 
 /// What is wanted of a job beside it.
 #[derive(Clone, Copy)]
-struct Wishes {
+pub(crate) struct Wishes {
     /// Whether what is told is a fault.
-    is_strict: bool,
+    pub(crate) is_strict: bool,
     /// Whether more is to be told.
-    is_explained: bool,
+    pub(crate) is_explained: bool,
     /// Whether a long job says how far it is.
-    is_watched: bool,
+    pub(crate) is_watched: bool,
 }
 
 /// What is made beside the report of a run.
@@ -38,7 +41,7 @@ struct Beside {
     /// The tables that are asked for.
     tables: TableRequest,
     /// The picture that is asked for.
-    sketch: Option<PictureRequest>,
+    picture: Option<PictureRequest>,
 }
 
 /// Does the job of the words after the program's name, and gives what is to be said of it; where they ask for help or for the
@@ -62,11 +65,7 @@ pub fn perform<H: Input + AllocGlobal + Print + Eprint + Files>(
 }
 
 /// How words end that ask for a text.
-fn helped(
-    rt: &(impl AllocGlobal + Files),
-    words: &[String],
-    text: String,
-) -> Result<Ending, NoMemory> {
+fn helped(rt: &impl AllocGlobal, words: &[String], text: String) -> Result<Ending, NoMemory> {
     match refused(rt, words, &Fault::Words) {
         Ok(ending) => Ok(Ending {
             printed: text,
@@ -82,14 +81,9 @@ fn perform_job<H: Input + AllocGlobal + Print + Eprint + Files>(
     words: &[String],
     is_watched: bool,
 ) -> Result<Ending, NoMemory> {
-    let wishes = Wishes {
-        is_strict: wants_strictness(words),
-        is_explained: wants_explanation(words),
-        is_watched,
-    };
-    match done(rt, words, wishes) {
+    match done(rt, words, is_watched) {
         Ok(ending) => Ok(ending),
-        Err(fault) => refused(rt, words, &fault),
+        Err(Refusal { fault, said }) => refused_and_told(rt.alloc(), &fault, said),
     }
 }
 
@@ -97,12 +91,24 @@ fn perform_job<H: Input + AllocGlobal + Print + Eprint + Files>(
 fn done<H: Input + AllocGlobal + Print + Eprint + Files>(
     rt: &H,
     words: &[String],
-    wishes: Wishes,
-) -> Result<Ending, Fault> {
-    match job_of(rt.alloc(), words) {
-        Ok(job) => done_job(rt, words, job, wishes),
-        Err(fault) => Err(fault),
-    }
+    is_watched: bool,
+) -> Result<Ending, Refusal> {
+    let Request {
+        job,
+        picture,
+        tables,
+        is_explained,
+        is_strict,
+    } = match request_of(rt.alloc(), words) {
+        Ok(request) => request,
+        Err(fault) => return Err(of_words(rt.alloc(), words, wants_explanation(words), fault)),
+    };
+    let wishes = Wishes {
+        is_strict,
+        is_explained,
+        is_watched,
+    };
+    done_job(rt, words, job, Beside { tables, picture }, wishes)
 }
 
 /// How a job ends where it is done; a run with the tables and the picture that the words ask for beside it.
@@ -110,27 +116,31 @@ fn done_job<H: Input + AllocGlobal + Print + Eprint + Files>(
     rt: &H,
     words: &[String],
     job: Job,
+    beside: Beside,
     wishes: Wishes,
-) -> Result<Ending, Fault>
+) -> Result<Ending, Refusal>
     requires { HasRoom job }
 {
     match job {
-        Job::Text => said(rt.alloc(), text_job(rt.alloc(), rt.reader())),
+        Job::Text => of_text(rt, words, wishes),
         Job::Wire {
             speed,
             room,
             input,
             output,
-        } => wired(rt.alloc(), wire_files(rt, speed, room, input, output)),
+        } => wired(
+            rt.alloc(),
+            told_wire_job(rt, speed, room, input, output, wishes.is_explained),
+        ),
         Job::Check { plan } => check_at(rt, plan, wishes),
         Job::Run {
             plan,
             input,
             output,
             commands,
-        } => run_bridge(rt, words, plan, input, output, commands, wishes),
-        Job::Picture { plan, file } => draw(rt, words, plan, file),
-        Job::Bounds { plan, traffic } => bounds(rt, plan, traffic),
+        } => run_bridge(rt, plan, input, output, commands, beside, wishes),
+        Job::Picture { plan, file } => draw(rt, words, plan, file, beside.picture, wishes),
+        Job::Bounds { plan, traffic } => bounds(rt, plan, traffic, wishes),
         Job::Network { network } => check_network(rt, network, wishes),
         Job::RunNetwork {
             network,
@@ -151,6 +161,18 @@ fn done_job<H: Input + AllocGlobal + Print + Eprint + Files>(
     }
 }
 
+/// How the text of standard input ends.
+fn of_text<H: Input + AllocGlobal>(
+    rt: &H,
+    words: &[String],
+    wishes: Wishes,
+) -> Result<Ending, Refusal> {
+    match text_job(rt.alloc(), rt.reader()) {
+        Ok(lines) => Ok(printed(rt.alloc(), lines, true)),
+        Err(fault) => Err(of_words(rt.alloc(), words, wishes.is_explained, fault)),
+    }
+}
+
 /// The status of a job that is done, by whether all is well.
 fn status_of(is_well: bool) -> u8 {
     if is_well { 0 } else { 1 }
@@ -165,16 +187,8 @@ fn printed(alloc: Global, text: String, is_well: bool) -> Ending {
     }
 }
 
-/// How a job ends that prints a line, or has a fault.
-fn said(alloc: Global, line: Result<String, Fault>) -> Result<Ending, Fault> {
-    match line {
-        Ok(line) => Ok(printed(alloc, line, true)),
-        Err(fault) => Err(fault),
-    }
-}
-
-/// How `wire` ends: its line is told where standard output has the capture.
-fn wired(alloc: Global, line: Result<Said, Fault>) -> Result<Ending, Fault> {
+/// How a capture that went through one queue ends: its line is told where standard output has the capture.
+fn wired(alloc: Global, line: Result<Said, Refusal>) -> Result<Ending, Refusal> {
     match line {
         Ok(Said::Printed(line)) => Ok(printed(alloc, line, true)),
         Ok(Said::Noted(line)) => Ok(Ending {
@@ -182,12 +196,16 @@ fn wired(alloc: Global, line: Result<Said, Fault>) -> Result<Ending, Fault> {
             told: line,
             status: 0,
         }),
-        Err(fault) => Err(fault),
+        Err(refusal) => Err(refusal),
     }
 }
 
 /// How a job over a plan ends that tells its warnings, by whether one is a fault.
-fn strictly(alloc: Global, strict: Result<Strict, Fault>, is_fault: bool) -> Result<Ending, Fault> {
+fn strictly(
+    alloc: Global,
+    strict: Result<Strict, Refusal>,
+    is_fault: bool,
+) -> Result<Ending, Refusal> {
     match strict {
         Ok(
             Strict {
@@ -200,7 +218,7 @@ fn strictly(alloc: Global, strict: Result<Strict, Fault>, is_fault: bool) -> Res
             told,
             status: status_of(!(is_warned && is_fault)),
         }),
-        Err(fault) => Err(fault),
+        Err(refusal) => Err(refusal),
     }
 }
 
@@ -212,21 +230,32 @@ fn text_or_none(alloc: Global, text: Option<String>) -> String {
     }
 }
 
-/// How a run that is done ends, with what is told of its plan where that is asked for.
-fn accepted(
+/// How the check of the plan of a file, or of standard input for `-`, ends.
+fn check_at(
     rt: &(impl AllocGlobal + Files),
-    words: &[String],
-    line: Result<String, Fault>,
-    is_explained: bool,
-) -> Result<Ending, Fault> {
-    match line {
-        Ok(line) if is_explained => Ok(Ending {
-            printed: line,
-            told: text_or_none(rt.alloc(), said_of_accepted(rt, words)),
-            status: 0,
-        }),
-        line => said(rt.alloc(), line),
+    plan: String,
+    wishes: Wishes,
+) -> Result<Ending, Refusal> {
+    if wishes.is_explained || wishes.is_strict {
+        let strict = told_check_job(rt, plan.as_str(), wishes.is_explained);
+        return strictly(rt.alloc(), strict, wishes.is_strict);
     }
+    match check(rt, plan) {
+        Ok(line) => Ok(printed(rt.alloc(), line, true)),
+        Err(fault) => Err(unexplained(fault)),
+    }
+}
+
+/// What is printed for the plan of a file, or of standard input for `-`.
+fn check(rt: &(impl AllocGlobal + Files), plan: String) -> Result<String, Fault> {
+    let plan = match path_or(rt.alloc(), plan, "/dev/stdin") {
+        Ok(plan) => plan,
+        Err(fault) => return Err(fault),
+    };
+    let Ok(reader) = fs::open(rt, plan.as_str()) else {
+        return Err(Fault::File(plan));
+    };
+    check_job(rt.alloc(), rt.alloc(), plan, reader)
 }
 
 /// A path that the words name, where `-` stands for a device.
@@ -240,84 +269,34 @@ fn path_or(alloc: Global, path: String, device: &str) -> Result<String, Fault> {
     }
 }
 
-/// How the check of the plan of a file, or of standard input for `-`, ends.
-fn check_at(
-    rt: &(impl AllocGlobal + Files),
-    plan: String,
-    wishes: Wishes,
-) -> Result<Ending, Fault> {
-    if wishes.is_explained || wishes.is_strict {
-        return check_and_tell(rt, plan.as_str(), wishes);
-    }
-    match path_or(rt.alloc(), plan, "/dev/stdin") {
-        Ok(plan) => said(rt.alloc(), check(rt, plan)),
-        Err(fault) => Err(fault),
-    }
-}
-
-/// What is printed for the plan of a file.
-fn check(rt: &(impl AllocGlobal + Files), plan: String) -> Result<String, Fault> {
-    let Ok(reader) = fs::open(rt, plan.as_str()) else {
-        return Err(Fault::File(plan));
-    };
-    check_job(rt.alloc(), rt.alloc(), plan, reader)
-}
-
-/// How a check ends of which more is told, all of one reading: the warnings of the plan, or what is to be said of it or of its
-/// fault.
-fn check_and_tell(
-    rt: &(impl AllocGlobal + Files),
-    plan: &str,
-    wishes: Wishes,
-) -> Result<Ending, Fault> {
-    let Checked { strict, said } = told_check_job(rt, plan, wishes.is_explained);
-    match strict {
-        Ok(strict) => strictly(rt.alloc(), Ok(strict), wishes.is_strict),
-        Err(fault) => told(rt.alloc(), fault, said),
-    }
-}
-
-/// How a job ends with a fault of which this is told, if anything.
-fn told(alloc: Global, fault: Fault, said: Option<String>) -> Result<Ending, Fault> {
-    if said.is_none() {
-        return Err(fault);
-    }
-    match refused_and_told(alloc, &fault, said) {
-        Ok(ending) => Ok(ending),
-        Err(NoMemory) => Err(memory_fault()),
-    }
-}
-
-/// What the words ask for beside the report of a run.
-fn beside_of(alloc: Global, words: &[String]) -> Result<Beside, Fault> {
-    let sketch = picture_request_of(alloc, words)?;
-    match table_request_of(alloc, words) {
-        Ok(tables) => Ok(Beside { tables, sketch }),
-        Err(fault) => Err(fault),
-    }
-}
-
 /// How a run under the plan of a file ends, with the tables and the picture that the words ask for.
 fn run_bridge(
     rt: &(impl AllocGlobal + Files),
-    words: &[String],
     plan: String,
     input: String,
     output: String,
     commands: Option<String>,
+    beside: Beside,
     wishes: Wishes,
-) -> Result<Ending, Fault> {
-    let Beside { tables, sketch } = match beside_of(rt.alloc(), words) {
-        Ok(beside) => beside,
-        Err(fault) => return Err(fault),
-    };
-    let explained = wishes.is_explained;
-    if wishes.is_strict {
-        let strict = strict_run_job(rt, plan, input, output, commands, tables, sketch, explained);
-        return strictly(rt.alloc(), strict, true);
-    }
-    let line = run_with_tables(rt, plan, input, output, commands, tables, sketch);
-    accepted(rt, words, line, explained)
+) -> Result<Ending, Refusal> {
+    let Beside { tables, picture } = beside;
+    let Wishes {
+        is_strict,
+        is_explained,
+        ..
+    } = wishes;
+    let strict = told_run_job(
+        rt,
+        plan,
+        input,
+        output,
+        commands,
+        tables,
+        picture,
+        is_strict,
+        is_explained,
+    );
+    strictly(rt.alloc(), strict, true)
 }
 
 /// How the drawing of the network or of the plan of a file ends, or of the part of a plan that the words ask for: into another
@@ -327,61 +306,62 @@ fn draw(
     words: &[String],
     path: String,
     file: String,
-) -> Result<Ending, Fault> {
-    let sketch = match picture_request_of(rt.alloc(), words) {
-        Ok(sketch) => sketch,
-        Err(fault) => return Err(fault),
-    };
-    if is_standard(file.as_str()) {
-        return said(rt.alloc(), drawn(rt, path, sketch));
+    sketch: Option<PictureRequest>,
+    wishes: Wishes,
+) -> Result<Ending, Refusal> {
+    if is_network(rt, path.as_str()) {
+        return draw_network(rt, words, path, file, sketch, wishes);
     }
-    match draw_into(rt, path, file, sketch) {
+    if is_standard(file.as_str()) {
+        return match told_picture_text(rt, path, sketch, wishes.is_explained) {
+            Ok(text) => Ok(printed(rt.alloc(), text, true)),
+            Err(refusal) => Err(refusal),
+        };
+    }
+    match told_picture_job(rt, path, file, sketch, wishes.is_explained) {
         Ok(()) => Ok(printed(rt.alloc(), String::new(rt.alloc()), true)),
-        Err(fault) => Err(fault),
+        Err(refusal) => Err(refusal),
     }
 }
 
-/// Draws into a file.
-fn draw_into(
+/// How the drawing of the network of a file ends, of which no part may be asked for.
+fn draw_network(
     rt: &(impl AllocGlobal + Files),
+    words: &[String],
     path: String,
     file: String,
     sketch: Option<PictureRequest>,
-) -> Result<(), Fault> {
-    if !is_network(rt, path.as_str()) {
-        return picture_part_job(rt, path, file, sketch);
-    }
-    match network_drawn(rt, path.as_str(), sketch) {
-        Ok(picture) => write_picture(rt, file, &picture.read, picture.text.as_str()),
-        Err(fault) => Err(fault),
-    }
-}
-
-/// Draws for standard output.
-fn drawn(
-    rt: &(impl AllocGlobal + Files),
-    path: String,
-    sketch: Option<PictureRequest>,
-) -> Result<String, Fault> {
-    if !is_network(rt, path.as_str()) {
-        return picture_text(rt, path, sketch);
-    }
-    match network_drawn(rt, path.as_str(), sketch) {
-        Ok(NetworkPicture { text, read }) => picture_apart(rt, &read, text),
-        Err(fault) => Err(fault),
-    }
-}
-
-/// The picture of the network of a file, of which no part may be asked for.
-fn network_drawn(
-    rt: &(impl AllocGlobal + Files),
-    path: &str,
-    sketch: Option<PictureRequest>,
-) -> Result<NetworkPicture, Fault> {
+    wishes: Wishes,
+) -> Result<Ending, Refusal> {
     if sketch.is_some() {
-        return Err(Fault::Words);
+        return Err(of_words(rt.alloc(), words, wishes.is_explained, Fault::Words));
     }
-    network_picture(rt, path)
+    let picture = match network_picture(rt, path.as_str()) {
+        Ok(picture) => picture,
+        Err(fault) => return Err(of_drawing(rt, wishes, fault)),
+    };
+    let mut cause = None;
+    match put_network(rt, picture, file, &mut cause) {
+        Ok(text) => Ok(printed(rt.alloc(), text, true)),
+        Err(fault) => Err(of_file(rt.alloc(), cause, wishes, fault)),
+    }
+}
+
+/// Puts the picture of a network into a file, or for `-` into what is printed; the cause of a file that fails is noted.
+fn put_network(
+    rt: &(impl AllocGlobal + Files),
+    picture: NetworkPicture,
+    file: String,
+    cause: &mut Option<Cause>,
+) -> Result<String, Fault> {
+    let NetworkPicture { text, read } = picture;
+    if is_standard(file.as_str()) {
+        return picture_apart(rt, &read, text, cause);
+    }
+    match write_picture(rt, file, &read, text.as_str(), cause) {
+        Ok(()) => Ok(String::new(rt.alloc())),
+        Err(fault) => Err(fault),
+    }
 }
 
 /// How the bounds of the plan of a file end, or of the traffic of another one.
@@ -389,19 +369,33 @@ fn bounds(
     rt: &(impl AllocGlobal + Files),
     plan: String,
     traffic: Option<String>,
-) -> Result<Ending, Fault> {
+    wishes: Wishes,
+) -> Result<Ending, Refusal> {
     match traffic {
-        Some(file) => bounds_of_traffic(rt, plan, file),
-        None => said(rt.alloc(), bounds_of_plan(rt, plan)),
+        Some(file) => bounds_of_traffic(rt, plan, file, wishes),
+        None => bounds_of_plan(rt, plan, wishes),
     }
 }
 
-/// What is printed of the bounds of the plan of a file.
-fn bounds_of_plan(rt: &(impl AllocGlobal + Files), plan: String) -> Result<String, Fault> {
-    let Ok(reader) = fs::open(rt, plan.as_str()) else {
-        return Err(Fault::File(plan));
+/// How the bounds of the plan of a file end.
+fn bounds_of_plan(
+    rt: &(impl AllocGlobal + Files),
+    plan: String,
+    wishes: Wishes,
+) -> Result<Ending, Refusal> {
+    let alloc = rt.alloc();
+    let mut cause = None;
+    let text = match text_at(rt, plan.as_str(), &mut cause) {
+        Ok(text) => text,
+        Err(fault) => return Err(of_file(alloc, cause, wishes, fault)),
     };
-    bounds_job(rt.alloc(), rt.alloc(), plan, reader)
+    let Ok(path) = String::from_str(alloc, plan.as_str()) else {
+        return Err(unexplained(memory_fault()));
+    };
+    match bounds_job(alloc, alloc, path, text.as_slice()) {
+        Ok(text) => Ok(printed(alloc, text, true)),
+        Err(fault) => Err(of_plan(alloc, plan.as_str(), &text, wishes, fault)),
+    }
 }
 
 /// How the bounds of the plan of a file and of the traffic of another one end.
@@ -409,16 +403,44 @@ fn bounds_of_traffic(
     rt: &(impl AllocGlobal + Files),
     plan: String,
     file: String,
-) -> Result<Ending, Fault> {
-    let Ok(reader) = fs::open(rt, plan.as_str()) else {
-        return Err(Fault::File(plan));
+    wishes: Wishes,
+) -> Result<Ending, Refusal> {
+    let mut cause = None;
+    let Some(reader) = open_noted(rt, plan.as_str(), &mut cause) else {
+        return Err(of_file(rt.alloc(), cause, wishes, Fault::File(plan)));
     };
-    let Ok(rows) = fs::open(rt, file.as_str()) else {
-        return Err(Fault::File(file));
+    let Some(rows) = open_noted(rt, file.as_str(), &mut cause) else {
+        return Err(of_file(rt.alloc(), cause, wishes, Fault::File(file)));
     };
-    match traffic_job(rt.alloc(), rt.alloc(), plan, reader, file, rows) {
-        Ok(TrafficReport { text, kept }) => Ok(printed(rt.alloc(), text, kept)),
-        Err(fault) => Err(fault),
+    let text = match read_noted(rt, plan.as_str(), reader, MOST_TEXT, &mut cause) {
+        Ok(text) => text,
+        Err(fault) => {
+            let fault = fault_of_file(plan, fault);
+            return Err(of_file(rt.alloc(), cause, wishes, fault));
+        }
+    };
+    bounds_of_rows(rt, plan.as_str(), &text, file.as_str(), rows, wishes)
+}
+
+/// How the bounds of the plan of a text and of the traffic of a reader end, by the paths of their files.
+fn bounds_of_rows<R: Read + Drop>(
+    rt: &(impl AllocGlobal + Files),
+    plan: &str,
+    text: &[u8],
+    file: &str,
+    rows: R,
+    wishes: Wishes,
+) -> Result<Ending, Refusal> {
+    let alloc = rt.alloc();
+    let Ok(path) = String::from_str(alloc, plan) else {
+        return Err(unexplained(memory_fault()));
+    };
+    let Ok(place) = String::from_str(alloc, file) else {
+        return Err(unexplained(memory_fault()));
+    };
+    match traffic_job(alloc, alloc, path, text, place, rows) {
+        Ok(TrafficReport { text, kept }) => Ok(printed(alloc, text, kept)),
+        Err(fault) => Err(of_traffic(rt, plan, text, file, wishes, fault)),
     }
 }
 
@@ -427,10 +449,17 @@ fn check_network(
     rt: &(impl AllocGlobal + Files),
     path: String,
     wishes: Wishes,
-) -> Result<Ending, Fault> {
-    match network_job(rt, path) {
+) -> Result<Ending, Refusal> {
+    let Ok(copy) = String::from_str(rt.alloc(), path.as_str()) else {
+        return Err(unexplained(memory_fault()));
+    };
+    let said = match network_job(rt, copy) {
         Ok(said) => network_said(rt.alloc(), &said, wishes.is_strict),
         Err(fault) => Err(fault),
+    };
+    match said {
+        Ok(ending) => Ok(ending),
+        Err(fault) => Err(of_network(rt, path.as_str(), None, wishes, fault)),
     }
 }
 
@@ -448,10 +477,14 @@ fn run_network(
     rt: &(impl AllocGlobal + Eprint + Files),
     job: RoundsJob,
     wishes: Wishes,
-) -> Result<Ending, Fault> {
-    match rounds_job(rt, job) {
+) -> Result<Ending, Refusal> {
+    let Ok(path) = String::from_str(rt.alloc(), job.network.as_str()) else {
+        return Err(unexplained(memory_fault()));
+    };
+    let mut cause = None;
+    match rounds_noted(rt, job, &mut cause) {
         Ok(said) => Ok(rounds_said(rt.alloc(), said, wishes)),
-        Err(fault) => Err(fault),
+        Err(fault) => Err(of_network(rt, path.as_str(), cause, wishes, fault)),
     }
 }
 

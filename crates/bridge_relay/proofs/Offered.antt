@@ -5,6 +5,7 @@ use Rattle.std.specs.Map.{lookup}
 use Rattle.bridge_limits.proofs.Cases.{by_bool}
 use Rattle.bridge_capture.specs.Grammar.{Captured}
 use Rattle.bridge_frame.specs.Frames.{has_tag, with_drop_eligible}
+use Rattle.bridge_filter.specs.declared.Call.{Call}
 use Rattle.bridge_filter.specs.declared.FilterPlan.{FilterPlan}
 use Rattle.bridge_filter.specs.declared.Ruling.{Ruling}
 use Rattle.bridge_filter.specs.declared.Verdict.{Verdict}
@@ -20,9 +21,8 @@ use Rattle.bridge_semantics.specs.Offers.{Carried, Offer, offers, offer_of_step,
 use Rattle.bridge_state.specs.declared.slot.Slot.{Slot}
 use Rattle.bridge_state.specs.Tables.{TableState}
 use Rattle.bridge_state.specs.Ports.{slot_at, outs, NotBefore}
-use Rattle.bridge_relay.specs.declared.relay.Seen.{Seen}
 use Rattle.bridge_relay.specs.Relays.{RelayState, IsSound, HasSpare, Stands, is_flow_stray}
-use Rattle.bridge_relay.specs.Relaying.{Carries, HasRuled, IsFresh, IsNumbered, IsOffering, IsPending, MayRelay, called, offer_to, offers_to, one_less, releasing}
+use Rattle.bridge_relay.specs.Relaying.{Carries, HasRuled, IsFresh, IsNumbered, IsOffering, IsPending, MayRelay, offer_to, offers_to, one_less, releasing}
 use Rattle.bridge_relay.proofs.Relayed.{offering_start, offering_done, passed_offers, kept_offers, own_count, port_is}
 use Rattle.bridge_relay.proofs.Policed.{IsPoliced, carries_ruled, judged_step, stands_policed, unfiltered_step}
 use Rattle.bridge_relay.proofs.Spares.{after_offering, after_released, carries_released, may_relay_ruled, outs_ruled}
@@ -40,7 +40,7 @@ stray_not fs None h = refl
 stray_not fs (Some n) h = ap not h
 
 -- what a frame is offered as that is policed at ports that it may go to
-pub may_offer : {G A : Type 0} (held : G → ℕ → Option ℕ) (old new : RelayState G A) (q : ℕ) (s : Slot A) (c : verdicts.Call) (r : Option Ruling) (set priority : ℕ) (x : Carried) → IsSound held old → IsSound held new → IsFresh old → HasRuled old new q s c r → slot_at old.ports q ≡ Some s → 1 ≤ q → is_flow_stray old.plan.filters x.flow ≡ false → x.len ≤ 9216 → length x.octets ≤ x.len → x.at < 4000000000000000000 → c.at ≡ x.at → NotBefore (held old.ports.agenda) x.at → IfSome x.flow (IsPending new (outs old.ports.slots set 16) x.own 1) → MayRelay new x × IsOffering held new new set priority x 1
+pub may_offer : {G A : Type 0} (held : G → ℕ → Option ℕ) (old new : RelayState G A) (q : ℕ) (s : Slot A) (c : Call) (r : Option Ruling) (set priority : ℕ) (x : Carried) → IsSound held old → IsSound held new → IsFresh old → HasRuled old new q s c r → slot_at old.ports q ≡ Some s → 1 ≤ q → is_flow_stray old.plan.filters x.flow ≡ false → x.len ≤ 9216 → length x.octets ≤ x.len → x.at < 4000000000000000000 → c.at ≡ x.at → NotBefore (held old.ports.agenda) x.at → IfSome x.flow (IsPending new (outs old.ports.slots set 16) x.own 1) → MayRelay new x × IsOffering held new new set priority x 1
 may_offer {G} {A} held old new q s c r set priority x sound sound_new fresh h there low right short within range at due pending =
     let time = h.earliest in (
       may_relay_ruled held old new q s c r x sound fresh h there low right short within range,
@@ -49,37 +49,37 @@ may_offer {G} {A} held old new q s c r set priority x sound sound_new fresh h th
     )
 
 -- the relay stands for one event more, a frame that was offered
-pub stands_offered : {G A : Type 0} (held : G → ℕ → Option ℕ) (p : Plan A) (es : List Event) (left : ℕ → List Captured) (a : Arrival) (old ruled last : RelayState G A) (s : Slot A) (set : ℕ) (sees : Seen) (r : Option Ruling) (k : ℕ) (x : Carried) → IsSound held old → Stands p (one_less old) es left → IsPoliced p es a set sees r → HasRuled old ruled a.port s (called a.at a.len sees) r → slot_at old.ports a.port ≡ Some s → 1 ≤ a.port → 1 ≤ old.arrived → IsOffering held ruled last set k x 17 → ((out : PortPlan A) → offer_of_step p out a es sees.priority (step_of p es (called a.at a.len sees)) ≡ offer_to out k x ∷ []) → Stands p last (Arrived a ∷ es) left
-stands_offered {G} {A} held p es left a old ruled last s set sees r k x sound st po h there low came off is =
+pub stands_offered : {G A : Type 0} (held : G → ℕ → Option ℕ) (p : Plan A) (es : List Event) (left : ℕ → List Captured) (a : Arrival) (old ruled last : RelayState G A) (s : Slot A) (set : ℕ) (call : Call) (r : Option Ruling) (k : ℕ) (x : Carried) → IsSound held old → Stands p (one_less old) es left → IsPoliced p es a set call r → HasRuled old ruled a.port s call r → slot_at old.ports a.port ≡ Some s → 1 ≤ a.port → 1 ≤ old.arrived → IsOffering held ruled last set k x 17 → ((out : PortPlan A) → offer_of_step p out a es call.priority (step_of p es call) ≡ offer_to out k x ∷ []) → Stands p last (Arrived a ∷ es) left
+stands_offered {G} {A} held p es left a old ruled last s set call r k x sound st po h there low came off is =
     let plan : ruled.plan ≡ p = h.plan ∙ st.plan in
     let os : ℕ → PortPlan A → List Offer = λ q out. offers p out es in
-    let carried = carries_ruled p old ruled a.port s (called a.at a.len sees) r es left h there low st in
+    let carried = carries_ruled p old ruled a.port s call r es left h there low st in
     let done : Carries p last (offers_to set k x os) left = subst (λ (v : Plan A). Carries v last (offers_to set k x os) left) plan (offering_done held ruled last set k x off os left (subst (λ (v : Plan A). Carries v ruled os left) (sym plan) carried)) in
-    stands_policed p es left a old ruled last s set sees r (offers_to set k x os) st po h there low came (after_offering held ruled last set k x 17 off) done
-    (λ q out e. passed_offers p out q a es set sees.handle sees.priority sees.dei sees.sdu (step_of p es (called a.at a.len sees)) k x po.way (port_is p.ports q out (subst (λ (v : Plan A). All IsPort v.ports) st.plan sound.rules.ports.each) e).1 refl (is out))
+    stands_policed p es left a old ruled last s set call r (offers_to set k x os) st po h there low came (after_offering held ruled last set k x 17 off) done
+    (λ q out e. passed_offers p out q a es set call (step_of p es call) k x po.way (port_is p.ports q out (subst (λ (v : Plan A). All IsPort v.ports) st.plan sound.rules.ports.each) e).1 refl (is out))
 
 -- the relay stands for one event more, a frame that was let go
-pub stands_let_go : {G A : Type 0} (held : G → ℕ → Option ℕ) (p : Plan A) (es : List Event) (left : ℕ → List Captured) (a : Arrival) (old ruled : RelayState G A) (s : Slot A) (set : ℕ) (sees : Seen) (r : Option Ruling) (n k : ℕ) → IsSound held old → Stands p (one_less old) es left → IsPoliced p es a set sees r → HasRuled old ruled a.port s (called a.at a.len sees) r → slot_at old.ports a.port ≡ Some s → 1 ≤ a.port → 1 ≤ old.arrived → ((out : PortPlan A) → offer_of_step p out a es sees.priority (step_of p es (called a.at a.len sees)) ≡ []) → Stands p (releasing ruled n k) (Arrived a ∷ es) left
-stands_let_go {G} {A} held p es left a old ruled s set sees r n k sound st po h there low came is =
+pub stands_let_go : {G A : Type 0} (held : G → ℕ → Option ℕ) (p : Plan A) (es : List Event) (left : ℕ → List Captured) (a : Arrival) (old ruled : RelayState G A) (s : Slot A) (set : ℕ) (call : Call) (r : Option Ruling) (n k : ℕ) → IsSound held old → Stands p (one_less old) es left → IsPoliced p es a set call r → HasRuled old ruled a.port s call r → slot_at old.ports a.port ≡ Some s → 1 ≤ a.port → 1 ≤ old.arrived → ((out : PortPlan A) → offer_of_step p out a es call.priority (step_of p es call) ≡ []) → Stands p (releasing ruled n k) (Arrived a ∷ es) left
+stands_let_go {G} {A} held p es left a old ruled s set call r n k sound st po h there low came is =
     let os : ℕ → PortPlan A → List Offer = λ q out. offers p out es in
-    let carried = carries_ruled p old ruled a.port s (called a.at a.len sees) r es left h there low st in
-    stands_policed p es left a old ruled (releasing ruled n k) s set sees r os st po h there low came (after_released ruled n k) (carries_released p ruled n k os left carried)
-    (λ q out e. kept_offers p out q a es set sees.handle sees.priority sees.dei sees.sdu (step_of p es (called a.at a.len sees)) po.way (port_is p.ports q out (subst (λ (v : Plan A). All IsPort v.ports) st.plan sound.rules.ports.each) e).1 refl (is out))
+    let carried = carries_ruled p old ruled a.port s call r es left h there low st in
+    stands_policed p es left a old ruled (releasing ruled n k) s set call r os st po h there low came (after_released ruled n k) (carries_released p ruled n k os left carried)
+    (λ q out e. kept_offers p out q a es set call (step_of p es call) po.way (port_is p.ports q out (subst (λ (v : Plan A). All IsPort v.ports) st.plan sound.rules.ports.each) e).1 refl (is out))
 
 -- what a frame offers by what came of it
-pub offers_unfiltered : {A : Type 0} (p : Plan A) (out : PortPlan A) (a : Arrival) (es : List Event) (set : ℕ) (sees : Seen) → IsPoliced p es a set sees None → offer_of_step p out a es sees.priority (step_of p es (called a.at a.len sees)) ≡ offer_to out sees.priority (record { at = a.at; flow = None; own = 0; len = a.len; octets = leaving false a.octets }) ∷ []
-offers_unfiltered p out a es set sees po = ap (offer_of_step p out a es sees.priority) (unfiltered_step (police_of p) (steps p es) (called a.at a.len sees) (verdicts.flow p.filters (called a.at a.len sees)) po.answer)
+pub offers_unfiltered : {A : Type 0} (p : Plan A) (out : PortPlan A) (a : Arrival) (es : List Event) (set : ℕ) (call : Call) → IsPoliced p es a set call None → offer_of_step p out a es call.priority (step_of p es call) ≡ offer_to out call.priority (record { at = a.at; flow = None; own = 0; len = a.len; octets = leaving false a.octets }) ∷ []
+offers_unfiltered p out a es set call po = ap (offer_of_step p out a es call.priority) (unfiltered_step (police_of p) (steps p es) call (verdicts.flow p.filters call) po.answer)
 
-pub offers_passed : {A : Type 0} (p : Plan A) (out : PortPlan A) (a : Arrival) (es : List Event) (set : ℕ) (sees : Seen) (n own : ℕ) (ipv : Option ℕ) (eligible : Bool) → IsPoliced p es a set sees (Some (record { filter = n; verdict = verdict.Pass ipv eligible })) → own ≡ count p n es + 1 → offer_of_step p out a es sees.priority (step_of p es (called a.at a.len sees)) ≡ offer_to out (unwrap_or ipv sees.priority) (record { at = a.at; flow = Some n; own = own; len = a.len; octets = leaving eligible a.octets }) ∷ []
-offers_passed p out a es set sees n own ipv eligible po is =
-    let s = judged_step (police_of p) (steps p es) (called a.at a.len sees) (verdicts.flow p.filters (called a.at a.len sees)) (record { filter = n; verdict = verdict.Pass ipv eligible }) po.answer in
-    ap (offer_of_step p out a es sees.priority) s.1 ∙ ap (λ (m : ℕ). offer_to out (unwrap_or ipv sees.priority) (record { at = a.at; flow = Some n; own = m; len = a.len; octets = leaving eligible a.octets }) ∷ []) (sym is)
+pub offers_passed : {A : Type 0} (p : Plan A) (out : PortPlan A) (a : Arrival) (es : List Event) (set : ℕ) (call : Call) (n own : ℕ) (ipv : Option ℕ) (eligible : Bool) → IsPoliced p es a set call (Some (record { filter = n; verdict = verdict.Pass ipv eligible })) → own ≡ count p n es + 1 → offer_of_step p out a es call.priority (step_of p es call) ≡ offer_to out (unwrap_or ipv call.priority) (record { at = a.at; flow = Some n; own = own; len = a.len; octets = leaving eligible a.octets }) ∷ []
+offers_passed p out a es set call n own ipv eligible po is =
+    let s = judged_step (police_of p) (steps p es) call (verdicts.flow p.filters call) (record { filter = n; verdict = verdict.Pass ipv eligible }) po.answer in
+    ap (offer_of_step p out a es call.priority) s.1 ∙ ap (λ (m : ℕ). offer_to out (unwrap_or ipv call.priority) (record { at = a.at; flow = Some n; own = m; len = a.len; octets = leaving eligible a.octets }) ∷ []) (sym is)
 
 abbrev pub IsRefused : Verdict → Type 0
 IsRefused (verdict.Pass ipv eligible) = ⊥
 IsRefused v = Unit {0}
 
-offers_none_by : {A : Type 0} (p : Plan A) (out : PortPlan A) (a : Arrival) (es : List Event) (priority : ℕ) (c : verdicts.Call) (n : ℕ) (f : FilterPlan) (v : Verdict) → IsRefused v → offer_of_step p out a es priority (verdicts.Judged c n f v) ≡ []
+offers_none_by : {A : Type 0} (p : Plan A) (out : PortPlan A) (a : Arrival) (es : List Event) (priority : ℕ) (c : Call) (n : ℕ) (f : FilterPlan) (v : Verdict) → IsRefused v → offer_of_step p out a es priority (verdicts.Judged c n f v) ≡ []
 offers_none_by p out a es priority c n f verdict.Blocked h = refl
 offers_none_by p out a es priority c n f verdict.Oversize h = refl
 offers_none_by p out a es priority c n f verdict.GateClosed h = refl
@@ -90,10 +90,10 @@ offers_none_by p out a es priority c n f verdict.Red h = refl
 offers_none_by p out a es priority c n f verdict.YellowDropped h = refl
 offers_none_by p out a es priority c n f (verdict.Pass ipv eligible) h = absurd h
 
-pub offers_refused : {A : Type 0} (p : Plan A) (out : PortPlan A) (a : Arrival) (es : List Event) (set : ℕ) (sees : Seen) (r : Ruling) → IsRefused r.verdict → IsPoliced p es a set sees (Some r) → offer_of_step p out a es sees.priority (step_of p es (called a.at a.len sees)) ≡ []
-offers_refused p out a es set sees r none po =
-    let s = judged_step (police_of p) (steps p es) (called a.at a.len sees) (verdicts.flow p.filters (called a.at a.len sees)) r po.answer in
-    ap (offer_of_step p out a es sees.priority) s.1 ∙ offers_none_by p out a es sees.priority (called a.at a.len sees) r.filter s.0 r.verdict none
+pub offers_refused : {A : Type 0} (p : Plan A) (out : PortPlan A) (a : Arrival) (es : List Event) (set : ℕ) (call : Call) (r : Ruling) → IsRefused r.verdict → IsPoliced p es a set call (Some r) → offer_of_step p out a es call.priority (step_of p es call) ≡ []
+offers_refused p out a es set call r none po =
+    let s = judged_step (police_of p) (steps p es) call (verdicts.flow p.filters call) r po.answer in
+    ap (offer_of_step p out a es call.priority) s.1 ∙ offers_none_by p out a es call.priority call r.filter s.0 r.verdict none
 
 -- a frame's number among those of its filter
 pub own_is : {G A : Type 0} (p : Plan A) (b : RelayState G A) (es : List Event) (left : ℕ → List Captured) (n own : ℕ) (k : ℕ) → Stands p (one_less b) es left → HasSpare b k n → ((t : TableState) → lookup (nat_eq n) b.tables ≡ Some t → own ≡ length t.verdicts + 1) → own ≡ count p n es + 1

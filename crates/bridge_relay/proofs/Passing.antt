@@ -123,14 +123,14 @@ sound_passed {G} {A} held old new q s t v sound h there low onward few =
 -- A frame that goes no further, as an event.
 
 calls_over : {A : Type 0} (p : Plan A) (es : List Event) (a : Arrival) (v : Came) → IsOver v (way_of p a) → calls p (Arrived a ∷ es) ≡ calls p es
-calls_over p es a came.Malformed h = ap (λ (w : Way). and_call (call_by a w) (calls p es)) h
-calls_over p es a came.Nowhere h = ap (λ (w : Way). and_call (call_by a w) (calls p es)) h
+calls_over p es a came.Malformed h = ap (λ (w : Way). and_call (call_by w) (calls p es)) h
+calls_over p es a came.Nowhere h = ap (λ (w : Way). and_call (call_by w) (calls p es)) h
 calls_over p es a came.Unfiltered h = absurd h
 calls_over p es a came.Policed h = absurd h
 
 flow_over : {A : Type 0} (p : Plan A) (a : Arrival) (v : Came) (n : ℕ) → IsOver v (way_of p a) → is_number n (flow_of p a) ≡ false
-flow_over p a came.Malformed n h = ap (λ (w : Way). is_number n (flow_by p (call_by a w))) h
-flow_over p a came.Nowhere n h = ap (λ (w : Way). is_number n (flow_by p (call_by a w))) h
+flow_over p a came.Malformed n h = ap (λ (w : Way). is_number n (flow_by p (call_by w))) h
+flow_over p a came.Nowhere n h = ap (λ (w : Way). is_number n (flow_by p (call_by w))) h
 flow_over p a came.Unfiltered n h = absurd h
 flow_over p a came.Policed n h = absurd h
 

@@ -5,6 +5,7 @@ use Rattle.std.specs.Map.{lookup}
 use Rattle.std.proofs.lemmas.Bool.Decides.{nat_tests}
 use Rattle.bridge_limits.proofs.Cases.{by_bool}
 use Rattle.bridge_capture.specs.Grammar.{Captured}
+use Rattle.bridge_filter.specs.declared.Call.{Call}
 use Rattle.bridge_filter.specs.declared.FilterPlan.{FilterPlan}
 use Rattle.bridge_filter.specs.declared.Ruling.{Ruling}
 use Rattle.bridge_filter.specs.declared.Verdict.{Verdict}
@@ -20,8 +21,10 @@ use Rattle.bridge_filter.specs.Own.{is_number}
 use Rattle.bridge_semantics.specs.declared.outcome.Origin.{Origin}
 use Rattle.bridge_semantics.specs.declared.outcome.PortCount.{PortCount}
 use Rattle.bridge_semantics.specs.declared.way.Way.{Way}
+use Rattle.bridge_semantics.specs.declared.way.Way.TheVariants.{Goes}
 use Rattle.bridge_semantics.specs.Events.{Arrival, Event, Arrived, arrivals, and_call, call_by, call_of, calls, flow_by, flow_of, origin, origins_of, police_of, steps, way_of}
 use Rattle.bridge_semantics.specs.Offers.{Carried, Offer, offers}
+use Rattle.bridge_semantics.proofs.Offering.{going}
 use Rattle.bridge_semantics.specs.Runs.{IsTold, AtPort, IsCount, is_malformed, is_nowhere, is_relayed, is_unfiltered}
 use Rattle.bridge_state.specs.declared.slot.Slot.{Slot}
 use Rattle.bridge_state.specs.declared.slot.Came.{Came}
@@ -30,8 +33,7 @@ use Rattle.bridge_state.specs.Slots.{counted_frame}
 use Rattle.bridge_state.specs.Tables.{TableState, judged}
 use Rattle.bridge_state.specs.Ports.{slot_at}
 use Rattle.bridge_relay.specs.Relays.{RelayState, HasLeft, Stands, written, seen}
-use Rattle.bridge_relay.specs.declared.relay.Seen.{Seen}
-use Rattle.bridge_relay.specs.Relaying.{Carries, CountTheSame, HasRuled, called, came_as, came_on, goes, judged_by, one_less}
+use Rattle.bridge_relay.specs.Relaying.{Carries, CountTheSame, HasRuled, came_as, came_on, judged_by, one_less}
 use Rattle.bridge_relay.proofs.Sound.{changed}
 use Rattle.bridge_relay.proofs.Passing.{counting, passed_here, passed_there, counts_more, counts_same}
 use Rattle.bridge_relay.proofs.Leaving.{left_same}
@@ -39,11 +41,11 @@ use Rattle.bridge_relay.proofs.Relayed.{HasCounted, stands_of}
 
 -- What came of the frame.
 
-pub unfiltered_step : (p : verdicts.Plans) (ss : List verdicts.Step) (c : verdicts.Call) (o : Option (ℕ × FilterPlan)) → None ≡ verdicts.ruled (verdicts.judged p ss c o) → verdicts.judged p ss c o ≡ verdicts.Unfiltered c
+pub unfiltered_step : (p : verdicts.Plans) (ss : List verdicts.Step) (c : Call) (o : Option (ℕ × FilterPlan)) → None ≡ verdicts.ruled (verdicts.judged p ss c o) → verdicts.judged p ss c o ≡ verdicts.Unfiltered c
 unfiltered_step p ss c None h = refl
 unfiltered_step p ss c (Some f) h = absurd (cc)
 
-pub judged_step : (p : verdicts.Plans) (ss : List verdicts.Step) (c : verdicts.Call) (o : Option (ℕ × FilterPlan)) (r : Ruling) → Some r ≡ verdicts.ruled (verdicts.judged p ss c o) → (f : FilterPlan) × (verdicts.judged p ss c o ≡ verdicts.Judged c r.filter f r.verdict)
+pub judged_step : (p : verdicts.Plans) (ss : List verdicts.Step) (c : Call) (o : Option (ℕ × FilterPlan)) (r : Ruling) → Some r ≡ verdicts.ruled (verdicts.judged p ss c o) → (f : FilterPlan) × (verdicts.judged p ss c o ≡ verdicts.Judged c r.filter f r.verdict)
 judged_step p ss c None r h = absurd (cc)
 judged_step p ss c (Some f) r h =
     let is : r ≡ record { filter = f.0; verdict = verdicts.verdict_of p ss c f.0 f.1 } = same_ruling r (record { filter = f.0; verdict = verdicts.verdict_of p ss c f.0 f.1 }) h in
@@ -59,11 +61,11 @@ written_by false t v o = ap (λ (z : List Verdict). (z, t.origins)) (sym (append
 none_more : (vs : List Verdict) (os : List Origin) → ◌≡◌ {A = List Verdict × List Origin} (vs, os) (vs, os ++ [])
 none_more vs os = ap (λ (z : List Origin). (vs, z)) (sym (append-nil os))
 
-flow_ruled : (p : verdicts.Plans) (ss : List verdicts.Step) (c : verdicts.Call) (o : Option (ℕ × FilterPlan)) (n : ℕ) → None ≡ verdicts.ruled (verdicts.judged p ss c o) → is_number n o ≡ false
+flow_ruled : (p : verdicts.Plans) (ss : List verdicts.Step) (c : Call) (o : Option (ℕ × FilterPlan)) (n : ℕ) → None ≡ verdicts.ruled (verdicts.judged p ss c o) → is_number n o ≡ false
 flow_ruled p ss c None n h = refl
 flow_ruled p ss c (Some f) n h = absurd (cc)
 
-number_ruled : (p : verdicts.Plans) (ss : List verdicts.Step) (c : verdicts.Call) (o : Option (ℕ × FilterPlan)) (r : Ruling) (n : ℕ) → Some r ≡ verdicts.ruled (verdicts.judged p ss c o) → nat_eq r.filter n ≡ is_number n o
+number_ruled : (p : verdicts.Plans) (ss : List verdicts.Step) (c : Call) (o : Option (ℕ × FilterPlan)) (r : Ruling) (n : ℕ) → Some r ≡ verdicts.ruled (verdicts.judged p ss c o) → nat_eq r.filter n ≡ is_number n o
 number_ruled p ss c None r n h = absurd (cc)
 number_ruled p ss c (Some f) r n h =
     let is : r ≡ record { filter = f.0; verdict = verdicts.verdict_of p ss c f.0 f.1 } = same_ruling r (record { filter = f.0; verdict = verdicts.verdict_of p ss c f.0 f.1 }) h in
@@ -71,7 +73,7 @@ number_ruled p ss c (Some f) r n h =
       same_ruling : (a b : Ruling) → Some a ≡ Some b → a ≡ b
       same_ruling a b e = cc
 
-pub written_ruled : (p : verdicts.Plans) (ss : List verdicts.Step) (c : verdicts.Call) (o : Option (ℕ × FilterPlan)) (x : Origin) (os : List Origin) (r : Option Ruling) (old new : List (ℕ × TableState)) (n : ℕ) (t : TableState) → r ≡ verdicts.ruled (verdicts.judged p ss c o) → new ≡ judged_by x r old → lookup (nat_eq n) new ≡ Some t → ((w : TableState) → lookup (nat_eq n) old ≡ Some w → written w ≡ (verdicts_of n ss, os)) → written t ≡ (verdicts_of n (verdicts.judged p ss c o ∷ ss), os ++ (if is_number n o then x ∷ [] else []))
+pub written_ruled : (p : verdicts.Plans) (ss : List verdicts.Step) (c : Call) (o : Option (ℕ × FilterPlan)) (x : Origin) (os : List Origin) (r : Option Ruling) (old new : List (ℕ × TableState)) (n : ℕ) (t : TableState) → r ≡ verdicts.ruled (verdicts.judged p ss c o) → new ≡ judged_by x r old → lookup (nat_eq n) new ≡ Some t → ((w : TableState) → lookup (nat_eq n) old ≡ Some w → written w ≡ (verdicts_of n ss, os)) → written t ≡ (verdicts_of n (verdicts.judged p ss c o ∷ ss), os ++ (if is_number n o then x ∷ [] else []))
 written_ruled p ss c o x os None old new n t h tables found was =
     was t (subst (λ (z : List (ℕ × TableState)). lookup (nat_eq n) z ≡ Some t) tables found)
     ∙ (none_more (verdicts_of n ss) os
@@ -95,29 +97,32 @@ not_right : (a b : Bool) → b ≡ false → (a && b) ≡ false
 not_right true b h = h
 not_right false b h = refl
 
-none_ruled : (p : verdicts.Plans) (ss : List verdicts.Step) (c : verdicts.Call) (o : Option (ℕ × FilterPlan)) → is_none o ≡ is_none (verdicts.ruled (verdicts.judged p ss c o))
+none_ruled : (p : verdicts.Plans) (ss : List verdicts.Step) (c : Call) (o : Option (ℕ × FilterPlan)) → is_none o ≡ is_none (verdicts.ruled (verdicts.judged p ss c o))
 none_ruled p ss c None = refl
 none_ruled p ss c (Some f) = refl
 
 -- what is known of a frame that goes somewhere once it was policed
-pub record IsPoliced {A : Type 0} (p : Plan A) (es : List Event) (a : Arrival) (set : ℕ) (sees : Seen) (r : Option Ruling) : Type 0 where
-  pub way : way_of p a ≡ goes set sees
-  pub answer : r ≡ verdicts.ruled (verdicts.judged (police_of p) (steps p es) (called a.at a.len sees) (verdicts.flow p.filters (called a.at a.len sees)))
+pub record IsPoliced {A : Type 0} (p : Plan A) (es : List Event) (a : Arrival) (set : ℕ) (call : Call) (r : Option Ruling) : Type 0 where
+  pub way : way_of p a ≡ Goes set call
+  pub answer : r ≡ verdicts.ruled (verdicts.judged (police_of p) (steps p es) call (verdicts.flow p.filters call))
 
-call_is : {A : Type 0} (p : Plan A) (es : List Event) (a : Arrival) (set : ℕ) (sees : Seen) (r : Option Ruling) → IsPoliced p es a set sees r → call_of p a ≡ Some (called a.at a.len sees)
-call_is p es a set sees r h = ap (call_by a) h.way
+call_is : {A : Type 0} (p : Plan A) (es : List Event) (a : Arrival) (set : ℕ) (call : Call) (r : Option Ruling) → IsPoliced p es a set call r → call_of p a ≡ Some call
+call_is p es a set call r h = ap call_by h.way
 
-calls_are : {A : Type 0} (p : Plan A) (es : List Event) (a : Arrival) (set : ℕ) (sees : Seen) (r : Option Ruling) → IsPoliced p es a set sees r → calls p (Arrived a ∷ es) ≡ verdicts.Came (called a.at a.len sees) ∷ calls p es
-calls_are p es a set sees r h = ap (λ (o : Option verdicts.Call). and_call o (calls p es)) (call_is p es a set sees r h)
+calls_are : {A : Type 0} (p : Plan A) (es : List Event) (a : Arrival) (set : ℕ) (call : Call) (r : Option Ruling) → IsPoliced p es a set call r → calls p (Arrived a ∷ es) ≡ verdicts.Came call ∷ calls p es
+calls_are p es a set call r h = ap (λ (o : Option Call). and_call o (calls p es)) (call_is p es a set call r h)
 
-steps_are : {A : Type 0} (p : Plan A) (es : List Event) (a : Arrival) (set : ℕ) (sees : Seen) (r : Option Ruling) → IsPoliced p es a set sees r → steps p (Arrived a ∷ es) ≡ verdicts.judged (police_of p) (steps p es) (called a.at a.len sees) (verdicts.flow p.filters (called a.at a.len sees)) ∷ steps p es
-steps_are p es a set sees r h = ap (verdicts.told (police_of p)) (calls_are p es a set sees r h)
+steps_are : {A : Type 0} (p : Plan A) (es : List Event) (a : Arrival) (set : ℕ) (call : Call) (r : Option Ruling) → IsPoliced p es a set call r → steps p (Arrived a ∷ es) ≡ verdicts.judged (police_of p) (steps p es) call (verdicts.flow p.filters call) ∷ steps p es
+steps_are p es a set call r h = ap (verdicts.told (police_of p)) (calls_are p es a set call r h)
 
-unfiltered_is : {A : Type 0} (p : Plan A) (es : List Event) (a : Arrival) (set : ℕ) (sees : Seen) (r : Option Ruling) → IsPoliced p es a set sees r → is_unfiltered p a ≡ is_none r
-unfiltered_is p es a set sees r h =
+unfiltered_is : {A : Type 0} (p : Plan A) (es : List Event) (a : Arrival) (set : ℕ) (call : Call) (r : Option Ruling) → IsPoliced p es a set call r → is_unfiltered p a ≡ is_none r
+unfiltered_is p es a set call r h =
     ap (λ (w : Way). is_relayed w && is_none (flow_of p a)) h.way
-    ∙ (ap (λ (o : Option verdicts.Call). is_none (flow_by p o)) (call_is p es a set sees r h)
-    ∙ (none_ruled (police_of p) (steps p es) (called a.at a.len sees) (verdicts.flow p.filters (called a.at a.len sees)) ∙ ap is_none (sym h.answer)))
+    ∙ (ap (λ (o : Option Call). is_none (flow_by p o)) (call_is p es a set call r h)
+    ∙ (none_ruled (police_of p) (steps p es) call (verdicts.flow p.filters call) ∙ ap is_none (sym h.answer)))
+
+at_is : {A : Type 0} (p : Plan A) (es : List Event) (a : Arrival) (set : ℕ) (call : Call) (r : Option Ruling) → IsPoliced p es a set call r → call.at ≡ a.at
+at_is p es a set call r h = sym (ap (λ (z : Call). z.at) (going p a set call h.way).call_is)
 
 counted_elsewhere : {A : Type 0} (p : Plan A) (es : List Event) (a : Arrival) (q : ℕ) (c : PortCount) → nat_eq a.port q ≡ false → HasCounted p es q c → HasCounted p (Arrived a ∷ es) q c
 counted_elsewhere p es a q c other k = record {
@@ -127,18 +132,18 @@ counted_elsewhere p es a q c other k = record {
   unfiltered = k.unfiltered ∙ sym (counts_same q (is_unfiltered p) a es (not_left (nat_eq a.port q) (is_unfiltered p a) other));
 }
 
-counted_here : {A : Type 0} (p : Plan A) (es : List Event) (a : Arrival) (set : ℕ) (sees : Seen) (q : ℕ) (c : PortCount) (r : Option Ruling) → IsPoliced p es a set sees r → nat_eq a.port q ≡ true → HasCounted p es q c → HasCounted p (Arrived a ∷ es) q (counted_frame c (came_as r))
-counted_here p es a set sees q c None h here k = record {
+counted_here : {A : Type 0} (p : Plan A) (es : List Event) (a : Arrival) (set : ℕ) (call : Call) (q : ℕ) (c : PortCount) (r : Option Ruling) → IsPoliced p es a set call r → nat_eq a.port q ≡ true → HasCounted p es q c → HasCounted p (Arrived a ∷ es) q (counted_frame c (came_as r))
+counted_here p es a set call q c None h here k = record {
   frames = ap (λ (n : ℕ). n + 1) k.frames ∙ sym (counts_more q (λ b. true) a es here refl);
   malformed = k.malformed ∙ sym (counts_same q (λ b. is_malformed (way_of p b)) a es (not_right (nat_eq a.port q) (is_malformed (way_of p a)) (ap is_malformed h.way)));
   nowhere = k.nowhere ∙ sym (counts_same q (λ b. is_nowhere (way_of p b)) a es (not_right (nat_eq a.port q) (is_nowhere (way_of p a)) (ap is_nowhere h.way)));
-  unfiltered = ap (λ (n : ℕ). n + 1) k.unfiltered ∙ sym (counts_more q (is_unfiltered p) a es here (unfiltered_is p es a set sees None h));
+  unfiltered = ap (λ (n : ℕ). n + 1) k.unfiltered ∙ sym (counts_more q (is_unfiltered p) a es here (unfiltered_is p es a set call None h));
 }
-counted_here p es a set sees q c (Some r) h here k = record {
+counted_here p es a set call q c (Some r) h here k = record {
   frames = ap (λ (n : ℕ). n + 1) k.frames ∙ sym (counts_more q (λ b. true) a es here refl);
   malformed = k.malformed ∙ sym (counts_same q (λ b. is_malformed (way_of p b)) a es (not_right (nat_eq a.port q) (is_malformed (way_of p a)) (ap is_malformed h.way)));
   nowhere = k.nowhere ∙ sym (counts_same q (λ b. is_nowhere (way_of p b)) a es (not_right (nat_eq a.port q) (is_nowhere (way_of p a)) (ap is_nowhere h.way)));
-  unfiltered = k.unfiltered ∙ sym (counts_same q (is_unfiltered p) a es (not_right (nat_eq a.port q) (is_unfiltered p a) (unfiltered_is p es a set sees (Some r) h)));
+  unfiltered = k.unfiltered ∙ sym (counts_same q (is_unfiltered p) a es (not_right (nat_eq a.port q) (is_unfiltered p a) (unfiltered_is p es a set call (Some r) h)));
 }
 
 counted_same : {A : Type 0} (p : Plan A) (es : List Event) (q : ℕ) (c d : PortCount) → CountTheSame c d → HasCounted p es q d → HasCounted p es q c
@@ -172,7 +177,7 @@ told_ruled p lists o (Some r) old new n t tables found was =
     subst (λ (w : TableState). IsTold p n (AtPort lists) w.departures w.drops w.delay) (sym d.is) (told_judged p lists n (nat_eq r.filter n) d.was r.verdict o (was d.was d.there))
 
 -- the copies of the ports, and what they tell, stay where a frame is policed
-pub carries_ruled : {G A : Type 0} (p : Plan A) (old new : RelayState G A) (q : ℕ) (s : Slot A) (c : verdicts.Call) (r : Option Ruling) (es : List Event) (left : ℕ → List Captured) → HasRuled old new q s c r → slot_at old.ports q ≡ Some s → 1 ≤ q → Stands p (one_less old) es left → Carries p new (λ k out. offers p out es) left
+pub carries_ruled : {G A : Type 0} (p : Plan A) (old new : RelayState G A) (q : ℕ) (s : Slot A) (c : Call) (r : Option Ruling) (es : List Event) (left : ℕ → List Captured) → HasRuled old new q s c r → slot_at old.ports q ≡ Some s → 1 ≤ q → Stands p (one_less old) es left → Carries p new (λ k out. offers p out es) left
 carries_ruled {G} {A} p old new q s c r es left h there low st =
     let v = came_as r in
     let same : (k : ℕ) (w : Slot A) → nat_eq k q ≡ true → slot_at new.ports k ≡ Some w → counting s v ≡ w = λ k w y at. passed_here old new q s v h.slots there k w y at in
@@ -205,20 +210,21 @@ pub record IsAfter {G A : Type 0} (ruled last : RelayState G A) : Type 0 where
   pub counted : (q : ℕ) (s : Slot A) → 1 ≤ q → slot_at last.ports q ≡ Some s → (w : Slot A) × (slot_at ruled.ports q ≡ Some w) × CountTheSame s.count w.count
 
 -- the relay stands for one event more, a frame that was policed
-pub stands_policed : {G A : Type 0} (p : Plan A) (es : List Event) (left : ℕ → List Captured) (a : Arrival) (old ruled last : RelayState G A) (s : Slot A) (set : ℕ) (sees : Seen) (r : Option Ruling) (os : ℕ → PortPlan A → List Offer) → Stands p (one_less old) es left → IsPoliced p es a set sees r → HasRuled old ruled a.port s (called a.at a.len sees) r → slot_at old.ports a.port ≡ Some s → 1 ≤ a.port → 1 ≤ old.arrived → IsAfter ruled last → Carries p last os left → ((q : ℕ) (out : PortPlan A) → port_at p.ports q ≡ Some out → os q out ≡ offers p out (Arrived a ∷ es)) → Stands p last (Arrived a ∷ es) left
-stands_policed {G} {A} p es left a old ruled last s set sees r os st po h there low came after carries same =
+pub stands_policed : {G A : Type 0} (p : Plan A) (es : List Event) (left : ℕ → List Captured) (a : Arrival) (old ruled last : RelayState G A) (s : Slot A) (set : ℕ) (call : Call) (r : Option Ruling) (os : ℕ → PortPlan A → List Offer) → Stands p (one_less old) es left → IsPoliced p es a set call r → HasRuled old ruled a.port s call r → slot_at old.ports a.port ≡ Some s → 1 ≤ a.port → 1 ≤ old.arrived → IsAfter ruled last → Carries p last os left → ((q : ℕ) (out : PortPlan A) → port_at p.ports q ≡ Some out → os q out ≡ offers p out (Arrived a ∷ es)) → Stands p last (Arrived a ∷ es) left
+stands_policed {G} {A} p es left a old ruled last s set call r os st po h there low came after carries same =
     let v = came_as r in
-    let steps_now = steps_are p es a set sees r po in
+    let steps_now = steps_are p es a set call r po in
+    let tables = subst (λ (t : ℕ). ruled.tables ≡ judged_by (came_on a.port t) r old.tables) (at_is p es a set call r po) h.tables in
     stands_of p last (Arrived a ∷ es) os left
     (after.plan ∙ (h.plan ∙ st.plan))
-    (subst (λ (z : filter.PoliceState A). filter.Stands (police_of p) z (calls p (Arrived a ∷ es))) (sym after.police) (subst (filter.Stands (police_of p) ruled.police) (sym (calls_are p es a set sees r po)) (h.police (police_of p) (calls p es) st.police)))
+    (subst (λ (z : filter.PoliceState A). filter.Stands (police_of p) z (calls p (Arrived a ∷ es))) (sym after.police) (subst (filter.Stands (police_of p) ruled.police) (sym (calls_are p es a set call r po)) (h.police (police_of p) (calls p es) st.police)))
     carries same
     (λ n t found.
     let w = after.verdicts n t found in
     w.2
-    ∙ (written_ruled (police_of p) (steps p es) (called a.at a.len sees) (verdicts.flow p.filters (called a.at a.len sees)) (origin a) (origins_of p n es) r old.tables ruled.tables n w.0 po.answer h.tables w.1 (λ u e. st.verdicts n u e)
-    ∙ (ap (λ (ss : List verdicts.Step). (verdicts_of n ss, origins_of p n es ++ (if is_number n (verdicts.flow p.filters (called a.at a.len sees)) then origin a ∷ [] else []))) (sym steps_now)
-    ∙ ap (λ (o : Option verdicts.Call). (verdicts_of n (steps p (Arrived a ∷ es)), origins_of p n es ++ (if is_number n (flow_by p o) then origin a ∷ [] else []))) (sym (call_is p es a set sees r po)))))
+    ∙ (written_ruled (police_of p) (steps p es) call (verdicts.flow p.filters call) (origin a) (origins_of p n es) r old.tables ruled.tables n w.0 po.answer tables w.1 (λ u e. st.verdicts n u e)
+    ∙ (ap (λ (ss : List verdicts.Step). (verdicts_of n ss, origins_of p n es ++ (if is_number n (verdicts.flow p.filters call) then origin a ∷ [] else []))) (sym steps_now)
+    ∙ ap (λ (o : Option Call). (verdicts_of n (steps p (Arrived a ∷ es)), origins_of p n es ++ (if is_number n (flow_by p o) then origin a ∷ [] else []))) (sym (call_is p es a set call r po)))))
     (λ q u l at.
     let w = after.counted q u l at in
     counted_same p (Arrived a ∷ es) q u.count w.0.count w.2 (by_bool (nat_eq q a.port)
@@ -226,7 +232,7 @@ stands_policed {G} {A} p es left a old ruled last s set sees r os st po h there 
     let is : a.port ≡ q = grind (arith, nat_tests) in
     let here : nat_eq a.port q ≡ true = grind (arith, nat_tests) in
     subst (λ (z : Slot A). HasCounted p (Arrived a ∷ es) q z.count) (passed_here old ruled a.port s v h.slots there q w.0 y w.1)
-    (counted_here p es a set sees q s.count r po here (subst (λ (m : ℕ). HasCounted p es m s.count) is (counted_of p es a.port (seen st.lists a.port) s.count (st.counts a.port s low there)))))
+    (counted_here p es a set call q s.count r po here (subst (λ (m : ℕ). HasCounted p es m s.count) is (counted_of p es a.port (seen st.lists a.port) s.count (st.counts a.port s low there)))))
     (λ y.
     let other : nat_eq a.port q ≡ false = by_bool (nat_eq a.port q) (λ z. absurd (let k : nat_eq q a.port ≡ true = grind (arith, nat_tests) in let u : true ≡ false = sym k ∙ y in cc)) (λ z. z) in
     counted_elsewhere p es a q w.0.count other (counted_of p es q (seen st.lists q) w.0.count (st.counts q w.0 l (sym (passed_there old ruled a.port s v h.slots low q l y) ∙ w.1))))))

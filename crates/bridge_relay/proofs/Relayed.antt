@@ -5,6 +5,7 @@ use Rattle.std.specs.Map.{lookup}
 use Rattle.std.proofs.lemmas.Bool.Decides.{nat_tests}
 use Rattle.std.proofs.lemmas.Option.{same_Some}
 use Rattle.bridge_limits.proofs.Cases.{by_bool}
+use Rattle.bridge_filter.specs.declared.Call.{Call}
 use Rattle.bridge_filter.specs.declared.FilterPlan.{FilterPlan}
 use Rattle.bridge_filter.specs.Own.{is_number}
 use Rattle.bridge_filter.specs.Counts.{verdicts_of}
@@ -17,7 +18,7 @@ use Rattle.bridge_config.specs.Model.{Plan}
 use Rattle.bridge_config.specs.Rules.{port_at, IsPort, IsPlan}
 use Rattle.bridge_semantics.specs.declared.outcome.PortCount.{PortCount}
 use Rattle.bridge_semantics.specs.declared.way.Way.TheVariants.{Goes}
-use Rattle.bridge_semantics.specs.Events.{Arrival, Event, Arrived, Cleared, arrivals, and_call, call_of, calls, count, flow_by, flow_of, metered, police_of, steps, way_of}
+use Rattle.bridge_semantics.specs.Events.{Arrival, Event, Arrived, Cleared, arrivals, and_call, call_of, calls, count, flow_by, flow_of, police_of, steps, way_of}
 use Rattle.bridge_semantics.specs.Offers.{Carried, Offer, offers, offer_of, offer_on, offer_of_step, step_of}
 use Rattle.bridge_semantics.specs.Runs.{count_frames, is_malformed, is_nowhere, is_unfiltered}
 use Rattle.bridge_state.specs.declared.slot.Slot.{Slot}
@@ -107,23 +108,23 @@ stands_of p b es os left plan police st same verdicts counted arrived = record {
 }
 
 -- what a frame offers that goes to a set of ports
-pub offer_is : {A : Type 0} (p : Plan A) (out : PortPlan A) (q : ℕ) (a : Arrival) (es : List Event) (set : ℕ) (handle : Option ℕ) (priority : ℕ) (dei : Bool) (sdu : ℕ) (s : verdicts.Step) (os : List Offer) → way_of p a ≡ Goes set handle priority dei sdu → out.number ≡ q → step_of p es (verdicts.call a.at handle priority dei sdu (metered a.len)) ≡ s → offer_of_step p out a es priority s ≡ os → offer_of p out a es ≡ (if has set q then os else [])
-offer_is p out q a es set handle priority dei sdu s os way number step is =
+pub offer_is : {A : Type 0} (p : Plan A) (out : PortPlan A) (q : ℕ) (a : Arrival) (es : List Event) (set : ℕ) (call : Call) (s : verdicts.Step) (os : List Offer) → way_of p a ≡ Goes set call → out.number ≡ q → step_of p es call ≡ s → offer_of_step p out a es call.priority s ≡ os → offer_of p out a es ≡ (if has set q then os else [])
+offer_is p out q a es set call s os way number step is =
     ap (offer_on p out a es) way
-    ∙ (ap (λ (n : ℕ). if has set n then offer_of_step p out a es priority (step_of p es (verdicts.call a.at handle priority dei sdu (metered a.len))) else []) number
-    ∙ (ap (λ (v : verdicts.Step). if has set q then offer_of_step p out a es priority v else []) step
+    ∙ (ap (λ (n : ℕ). if has set n then offer_of_step p out a es call.priority (step_of p es call) else []) number
+    ∙ (ap (λ (v : verdicts.Step). if has set q then offer_of_step p out a es call.priority v else []) step
     ∙ ap (λ (v : List Offer). if has set q then v else []) is))
 
 -- a frame that passes: one more offer to each port of its set
-pub passed_offers : {A : Type 0} (p : Plan A) (out : PortPlan A) (q : ℕ) (a : Arrival) (es : List Event) (set : ℕ) (handle : Option ℕ) (priority : ℕ) (dei : Bool) (sdu : ℕ) (s : verdicts.Step) (k : ℕ) (x : Carried) → way_of p a ≡ Goes set handle priority dei sdu → out.number ≡ q → step_of p es (verdicts.call a.at handle priority dei sdu (metered a.len)) ≡ s → offer_of_step p out a es priority s ≡ offer_to out k x ∷ [] → offers_to set k x (λ r v. offers p v es) q out ≡ offers p out (Arrived a ∷ es)
-passed_offers p out q a es set handle priority dei sdu s k x way number step is = one_or_none (has set q) (offer_to out k x) (offers p out es) ∙ sym (ap (λ (v : List Offer). v ++ offers p out es) (offer_is p out q a es set handle priority dei sdu s (offer_to out k x ∷ []) way number step is)) where
+pub passed_offers : {A : Type 0} (p : Plan A) (out : PortPlan A) (q : ℕ) (a : Arrival) (es : List Event) (set : ℕ) (call : Call) (s : verdicts.Step) (k : ℕ) (x : Carried) → way_of p a ≡ Goes set call → out.number ≡ q → step_of p es call ≡ s → offer_of_step p out a es call.priority s ≡ offer_to out k x ∷ [] → offers_to set k x (λ r v. offers p v es) q out ≡ offers p out (Arrived a ∷ es)
+passed_offers p out q a es set call s k x way number step is = one_or_none (has set q) (offer_to out k x) (offers p out es) ∙ sym (ap (λ (v : List Offer). v ++ offers p out es) (offer_is p out q a es set call s (offer_to out k x ∷ []) way number step is)) where
   one_or_none : (b : Bool) (o : Offer) (os : List Offer) → (if b then o ∷ os else os) ≡ ((if b then o ∷ [] else []) ++ os)
   one_or_none true o os = refl
   one_or_none false o os = refl
 
 -- a frame that does not pass: no offer
-pub kept_offers : {A : Type 0} (p : Plan A) (out : PortPlan A) (q : ℕ) (a : Arrival) (es : List Event) (set : ℕ) (handle : Option ℕ) (priority : ℕ) (dei : Bool) (sdu : ℕ) (s : verdicts.Step) → way_of p a ≡ Goes set handle priority dei sdu → out.number ≡ q → step_of p es (verdicts.call a.at handle priority dei sdu (metered a.len)) ≡ s → offer_of_step p out a es priority s ≡ [] → offers p out es ≡ offers p out (Arrived a ∷ es)
-kept_offers p out q a es set handle priority dei sdu s way number step is = none_of (has set q) (offers p out es) ∙ sym (ap (λ (v : List Offer). v ++ offers p out es) (offer_is p out q a es set handle priority dei sdu s [] way number step is)) where
+pub kept_offers : {A : Type 0} (p : Plan A) (out : PortPlan A) (q : ℕ) (a : Arrival) (es : List Event) (set : ℕ) (call : Call) (s : verdicts.Step) → way_of p a ≡ Goes set call → out.number ≡ q → step_of p es call ≡ s → offer_of_step p out a es call.priority s ≡ [] → offers p out es ≡ offers p out (Arrived a ∷ es)
+kept_offers p out q a es set call s way number step is = none_of (has set q) (offers p out es) ∙ sym (ap (λ (v : List Offer). v ++ offers p out es) (offer_is p out q a es set call s [] way number step is)) where
   none_of : (b : Bool) (os : List Offer) → os ≡ ((if b then [] else []) ++ os)
   none_of true os = refl
   none_of false os = refl
@@ -139,11 +140,11 @@ length_plus (x ∷ xs) false y = let h = length_plus xs false y in omega (arith,
 none_more : (n : ℕ) → n ≡ 0 + n
 none_more n = omega arith
 
-judged_more : (p : verdicts.Plans) (n : ℕ) (ss : List verdicts.Step) (c : verdicts.Call) (o : Option (ℕ × FilterPlan)) → length (verdicts_of n (verdicts.judged p ss c o ∷ ss)) ≡ (if is_number n o then 1 else 0) + length (verdicts_of n ss)
+judged_more : (p : verdicts.Plans) (n : ℕ) (ss : List verdicts.Step) (c : Call) (o : Option (ℕ × FilterPlan)) → length (verdicts_of n (verdicts.judged p ss c o ∷ ss)) ≡ (if is_number n o then 1 else 0) + length (verdicts_of n ss)
 judged_more p n ss c None = none_more (length (verdicts_of n ss))
 judged_more p n ss c (Some f) = length_plus (verdicts_of n ss) (nat_eq f.0 n) (verdicts.verdict_of p ss c f.0 f.1)
 
-called_more : {A : Type 0} (p : Plan A) (n : ℕ) (cs : List verdicts.Event) (o : Option verdicts.Call) → length (verdicts_of n (verdicts.told (police_of p) (and_call o cs))) ≡ (if is_number n (flow_by p o) then 1 else 0) + length (verdicts_of n (verdicts.told (police_of p) cs))
+called_more : {A : Type 0} (p : Plan A) (n : ℕ) (cs : List verdicts.Event) (o : Option Call) → length (verdicts_of n (verdicts.told (police_of p) (and_call o cs))) ≡ (if is_number n (flow_by p o) then 1 else 0) + length (verdicts_of n (verdicts.told (police_of p) cs))
 called_more p n cs None = none_more (length (verdicts_of n (verdicts.told (police_of p) cs)))
 called_more p n cs (Some c) = judged_more (police_of p) n (verdicts.told (police_of p) cs) c (verdicts.flow p.filters c)
 

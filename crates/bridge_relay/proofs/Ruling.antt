@@ -5,6 +5,7 @@ use Rattle.std.specs.Map.{lookup}
 use Rattle.std.proofs.lemmas.Bool.Decides.{nat_tests}
 use Rattle.bridge_limits.specs.Members.{In}
 use Rattle.bridge_limits.proofs.Cases.{by_bool}
+use Rattle.bridge_filter.specs.declared.Call.{Call}
 use Rattle.bridge_filter.specs.declared.Ruling.{Ruling}
 use Rattle.bridge_filter.specs.declared.Verdict.{Verdict}
 use Rattle.bridge_filter.specs.declared.Verdict.TheVariants as verdict
@@ -12,8 +13,6 @@ use Rattle.std.specs.Option.{option_map}
 use Rattle.bridge_filter.specs.declared.FilterPlan.{FilterPlan}
 use Rattle.bridge_filter.specs.Plans.{is_there, KeepsNumbers}
 use Rattle.bridge_semantics.specs.declared.outcome.Origin.{Origin}
-use Rattle.bridge_semantics.specs.Events.{metered}
-use Rattle.bridge_relay.specs.declared.relay.Seen.{Seen}
 use Rattle.bridge_filter.specs.Standing as filter
 use Rattle.bridge_filter.specs.Verdicts as verdicts
 use Rattle.bridge_config.specs.Model.{Plan}
@@ -25,7 +24,7 @@ use Rattle.bridge_state.specs.Tables.{TableState, judged}
 use Rattle.bridge_state.specs.Ports.{PortsState, slot_in, slot_at}
 use Rattle.bridge_relay.specs.Relays.{RelayState, IsSound, IsKept, count_all, is_of, is_wrong}
 use Rattle.bridge_state.specs.Ports.{AreAlike}
-use Rattle.bridge_relay.specs.Relaying.{HasRuled, IsFresh, called, came_as, came_on, judged_by}
+use Rattle.bridge_relay.specs.Relaying.{HasRuled, IsFresh, came_as, came_on, judged_by}
 use Rattle.bridge_state.proofs.Porting.{below, set_here}
 use Rattle.bridge_relay.proofs.Sound.{changed, changed_there}
 use Rattle.bridge_relay.proofs.Passing.{counting, passed_here, passed_there, count_passed, frames_of, alike_passed}
@@ -58,7 +57,7 @@ there_judged o None tables n = refl
 there_judged o (Some r) tables n = changed_there (Some r.filter) (λ (t : TableState). judged t r.verdict o) tables n
 
 -- everything that a relay keeps it keeps where a frame is policed
-pub sound_ruled : {G A : Type 0} (held : G → ℕ → Option ℕ) (old new : RelayState G A) (q : ℕ) (s : Slot A) (c : verdicts.Call) (r : Option Ruling) → IsSound held old → IsFresh old → HasRuled old new q s c r → slot_at old.ports q ≡ Some s → 1 ≤ q → old.earliest ≤ c.at → IsSound held new
+pub sound_ruled : {G A : Type 0} (held : G → ℕ → Option ℕ) (old new : RelayState G A) (q : ℕ) (s : Slot A) (c : Call) (r : Option Ruling) → IsSound held old → IsFresh old → HasRuled old new q s c r → slot_at old.ports q ≡ Some s → 1 ≤ q → old.earliest ≤ c.at → IsSound held new
 sound_ruled {G} {A} held old new q s c r sound fresh h there low onward =
     let same = h.arrived in
     let time = h.earliest in
@@ -100,16 +99,16 @@ sound_ruled {G} {A} held old new q s c r sound fresh h there low onward =
     }
 
 -- a frame was policed, by the parts of the relay
-pub has_ruled : {G A : Type 0} (old : RelayState G A) (police : filter.PoliceState A) (ports : PortsState G A) (tables : List (ℕ × TableState)) (q : ℕ) (s : Slot A) (t len octets : ℕ) (sees : Seen) (r : Option Ruling) → octets ≡ metered len → ((p : verdicts.Plans) (es : List verdicts.Event) → filter.Stands p old.police es → filter.Stands p police (verdicts.Came (verdicts.call t sees.handle sees.priority sees.dei sees.sdu octets) ∷ es)) → ((p : verdicts.Plans) (es : List verdicts.Event) → filter.Stands p old.police es → r ≡ verdicts.ruled (verdicts.judged p (verdicts.told p es) (verdicts.call t sees.handle sees.priority sees.dei sees.sdu octets) (verdicts.flow p.filters (verdicts.call t sees.handle sees.priority sees.dei sees.sdu octets)))) → option_map (λ (x : Ruling). x.filter) r ≡ option_map (λ (f : ℕ × FilterPlan). f.0) (verdicts.flow old.police.filters (verdicts.call t sees.handle sees.priority sees.dei sees.sdu octets)) → old.police.filters ≡ old.plan.filters → police.filters ≡ old.police.filters → KeepsNumbers old.police.gates police.gates → KeepsNumbers old.police.meters police.meters → police.calls ≡ old.police.calls + 1 → police.earliest ≡ t → ports.slots ≡ slice_set old.ports.slots (q - 1) (Some (counting s (came_as r))) → ports.agenda ≡ old.ports.agenda → tables ≡ judged_by (came_on q t) r old.tables → HasRuled old (record old { police = police; ports = ports; tables = tables; earliest = t }) q s (called t len sees) r
-has_ruled {G} {A} old police ports tables q s t len octets sees r counted stands answer number listed filters gates meters calls earliest slots agenda told = record {
+pub has_ruled : {G A : Type 0} (old : RelayState G A) (police : filter.PoliceState A) (ports : PortsState G A) (tables : List (ℕ × TableState)) (q : ℕ) (s : Slot A) (c : Call) (r : Option Ruling) → ((p : verdicts.Plans) (es : List verdicts.Event) → filter.Stands p old.police es → filter.Stands p police (verdicts.Came c ∷ es)) → ((p : verdicts.Plans) (es : List verdicts.Event) → filter.Stands p old.police es → r ≡ verdicts.ruled (verdicts.judged p (verdicts.told p es) c (verdicts.flow p.filters c))) → option_map (λ (x : Ruling). x.filter) r ≡ option_map (λ (f : ℕ × FilterPlan). f.0) (verdicts.flow old.police.filters c) → old.police.filters ≡ old.plan.filters → police.filters ≡ old.police.filters → KeepsNumbers old.police.gates police.gates → KeepsNumbers old.police.meters police.meters → police.calls ≡ old.police.calls + 1 → police.earliest ≡ c.at → ports.slots ≡ slice_set old.ports.slots (q - 1) (Some (counting s (came_as r))) → ports.agenda ≡ old.ports.agenda → tables ≡ judged_by (came_on q c.at) r old.tables → HasRuled old (record old { police = police; ports = ports; tables = tables; earliest = c.at }) q s c r
+has_ruled {G} {A} old police ports tables q s c r stands answer number listed filters gates meters calls earliest slots agenda told = record {
   slots = slots;
   agenda = agenda;
   tables = told;
   plan = refl;
   streams = refl;
-  police = λ p es st. subst (λ (n : ℕ). filter.Stands p police (verdicts.Came (verdicts.call t sees.handle sees.priority sees.dei sees.sdu n) ∷ es)) counted (stands p es st);
-  answer = λ p es st. subst (λ (n : ℕ). r ≡ verdicts.ruled (verdicts.judged p (verdicts.told p es) (verdicts.call t sees.handle sees.priority sees.dei sees.sdu n) (verdicts.flow p.filters (verdicts.call t sees.handle sees.priority sees.dei sees.sdu n)))) counted (answer p es st);
-  number = number ∙ (ap (λ (n : ℕ). option_map (λ (f : ℕ × FilterPlan). f.0) (verdicts.flow old.police.filters (verdicts.call t sees.handle sees.priority sees.dei sees.sdu n))) counted ∙ ap (λ (fs : List (ℕ × FilterPlan)). option_map (λ (f : ℕ × FilterPlan). f.0) (verdicts.flow fs (called t len sees))) listed);
+  police = stands;
+  answer = answer;
+  number = number ∙ ap (λ (fs : List (ℕ × FilterPlan)). option_map (λ (f : ℕ × FilterPlan). f.0) (verdicts.flow fs c)) listed;
   filters = filters;
   gates = gates;
   meters = meters;

@@ -6,10 +6,10 @@ use Rattle.std.proofs.lemmas.Bool.Decides.{nat_tests}
 use Rattle.std.proofs.lemmas.Option.{same_Some}
 use Rattle.bridge_limits.proofs.Cases.{by_bool}
 use Rattle.bridge_capture.specs.Grammar.{Captured}
+use Rattle.bridge_filter.specs.declared.Call.{Call}
 use Rattle.bridge_filter.specs.declared.Ruling.{Ruling}
 use Rattle.bridge_filter.specs.declared.Verdict.{Verdict}
 use Rattle.bridge_filter.specs.Plans.{is_there}
-use Rattle.bridge_filter.specs.Verdicts as verdicts
 use Rattle.bridge_forward.specs.Ports.{has}
 use Rattle.bridge_port.specs.Schedule.{Copy}
 use Rattle.bridge_config.specs.declared.ports.PortPlan.{PortPlan}
@@ -93,20 +93,20 @@ outs_alike xs ys set (suc n) same =
     let e : goes_out xs set (n + 1) ≡ goes_out ys set (n + 1) = ap (λ (b : Bool). has set (n + 1) && b) (same (n + 1) (omega arith)) in
     ap (λ (m : ℕ). m + (if goes_out xs set (n + 1) then 1 else 0)) h ∙ ap (λ (b : Bool). outs ys set n + (if b then 1 else 0)) e
 
-at_now : {G A : Type 0} (old new : RelayState G A) (q : ℕ) (s : Slot A) (c : verdicts.Call) (r : Option Ruling) → HasRuled old new q s c r → slot_at old.ports q ≡ Some s → slot_at new.ports q ≡ Some (counting s (came_as r))
+at_now : {G A : Type 0} (old new : RelayState G A) (q : ℕ) (s : Slot A) (c : Call) (r : Option Ruling) → HasRuled old new q s c r → slot_at old.ports q ≡ Some s → slot_at new.ports q ≡ Some (counting s (came_as r))
 at_now {G} {A} old new q s c r h there = ap (λ (z : List (Option (Slot A))). slot_in z q) h.slots ∙ set_here old.ports.slots q (Some (counting s (came_as r))) (below old.ports.slots q s there)
 
-there_ruled : {G A : Type 0} (old new : RelayState G A) (q : ℕ) (s : Slot A) (c : verdicts.Call) (r : Option Ruling) → HasRuled old new q s c r → slot_at old.ports q ≡ Some s → 1 ≤ q → (k : ℕ) → 1 ≤ k → is_port (slot_at new.ports k) ≡ is_port (slot_at old.ports k)
+there_ruled : {G A : Type 0} (old new : RelayState G A) (q : ℕ) (s : Slot A) (c : Call) (r : Option Ruling) → HasRuled old new q s c r → slot_at old.ports q ≡ Some s → 1 ≤ q → (k : ℕ) → 1 ≤ k → is_port (slot_at new.ports k) ≡ is_port (slot_at old.ports k)
 there_ruled {G} {A} old new q s c r h there low k l = by_bool (nat_eq k q)
     (λ y.
     let is : q ≡ k = grind (arith, nat_tests) in
     subst (λ (m : ℕ). is_port (slot_at new.ports m) ≡ is_port (slot_at old.ports m)) is (ap is_port (at_now old new q s c r h there) ∙ sym (ap is_port there)))
     (λ y. ap is_port (passed_there old new q s (came_as r) h.slots low k l y))
 
-pub outs_ruled : {G A : Type 0} (old new : RelayState G A) (q : ℕ) (s : Slot A) (c : verdicts.Call) (r : Option Ruling) (set n : ℕ) → HasRuled old new q s c r → slot_at old.ports q ≡ Some s → 1 ≤ q → outs new.ports.slots set n ≡ outs old.ports.slots set n
+pub outs_ruled : {G A : Type 0} (old new : RelayState G A) (q : ℕ) (s : Slot A) (c : Call) (r : Option Ruling) (set n : ℕ) → HasRuled old new q s c r → slot_at old.ports q ≡ Some s → 1 ≤ q → outs new.ports.slots set n ≡ outs old.ports.slots set n
 outs_ruled old new q s c r set n h there low = outs_alike new.ports.slots old.ports.slots set n (there_ruled old new q s c r h there low)
 
-pub copies_ruled : {G A : Type 0} (old new : RelayState G A) (q : ℕ) (s : Slot A) (c : verdicts.Call) (r : Option Ruling) (set k : ℕ) (octets : List ℕ) (copies : List (Vec ℕ A)) → HasRuled old new q s c r → slot_at old.ports q ≡ Some s → 1 ≤ q → HasCopies old.ports.slots set k octets copies → HasCopies new.ports.slots set k octets copies
+pub copies_ruled : {G A : Type 0} (old new : RelayState G A) (q : ℕ) (s : Slot A) (c : Call) (r : Option Ruling) (set k : ℕ) (octets : List ℕ) (copies : List (Vec ℕ A)) → HasRuled old new q s c r → slot_at old.ports q ≡ Some s → 1 ≤ q → HasCopies old.ports.slots set k octets copies → HasCopies new.ports.slots set k octets copies
 copies_ruled old new q s c r set k octets copies h there low i =
     let a = outs_ruled old new q s c r set (k - 1) h there low in
     let b = outs_ruled old new q s c r set 16 h there low in
@@ -117,7 +117,7 @@ longer_end : (xs : List Verdict) (v : Verdict) → length (xs ++ v ∷ []) ≡ l
 longer_end [] v = refl
 longer_end (x ∷ xs) v = let h = longer_end xs v in omega arith
 
-pub pending_ruled : {G A : Type 0} (held : G → ℕ → Option ℕ) (old new : RelayState G A) (q : ℕ) (s : Slot A) (c : verdicts.Call) (r : Ruling) (k own : ℕ) → IsSound held old → HasRuled old new q s c (Some r) → slot_at old.ports q ≡ Some s → HasSpare old k r.filter → ((t : TableState) → lookup (nat_eq r.filter) old.tables ≡ Some t → own ≡ length t.verdicts + 1) → IsPending new k own 1 r.filter
+pub pending_ruled : {G A : Type 0} (held : G → ℕ → Option ℕ) (old new : RelayState G A) (q : ℕ) (s : Slot A) (c : Call) (r : Ruling) (k own : ℕ) → IsSound held old → HasRuled old new q s c (Some r) → slot_at old.ports q ≡ Some s → HasSpare old k r.filter → ((t : TableState) → lookup (nat_eq r.filter) old.tables ≡ Some t → own ≡ length t.verdicts + 1) → IsPending new k own 1 r.filter
 pending_ruled held old new q s c r k own sound h there spare numbered =
     let t = spare.0 in
     let is = numbered t spare.1 in
@@ -130,7 +130,7 @@ pending_ruled held old new q s c r k own sound h there spare numbered =
       later = λ d i. let z = (sound.each r.filter t spare.1).dropped d i in inl (omega (arith, z, is));
     }
 
-pub may_relay_ruled : {G A : Type 0} (held : G → ℕ → Option ℕ) (old new : RelayState G A) (q : ℕ) (s : Slot A) (c : verdicts.Call) (r : Option Ruling) (x : Carried) → IsSound held old → IsFresh old → HasRuled old new q s c r → slot_at old.ports q ≡ Some s → 1 ≤ q → is_flow_stray old.plan.filters x.flow ≡ false → x.len ≤ 9216 → length x.octets ≤ x.len → x.at < 4000000000000000000 → MayRelay new x
+pub may_relay_ruled : {G A : Type 0} (held : G → ℕ → Option ℕ) (old new : RelayState G A) (q : ℕ) (s : Slot A) (c : Call) (r : Option Ruling) (x : Carried) → IsSound held old → IsFresh old → HasRuled old new q s c r → slot_at old.ports q ≡ Some s → 1 ≤ q → is_flow_stray old.plan.filters x.flow ≡ false → x.len ≤ 9216 → length x.octets ≤ x.len → x.at < 4000000000000000000 → MayRelay new x
 may_relay_ruled {G} {A} held old new q s c r x sound fresh h there low right short within range = record {
   fresh = λ k w l at. by_bool (nat_eq k q)
       (λ y. let f = fresh.offered q s low there in let same = h.arrived in subst (λ (z : Slot A). z.port.offered < new.arrived) (passed_here old new q s (came_as r) h.slots there k w y at) (omega (arith, f, same)))

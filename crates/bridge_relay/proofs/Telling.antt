@@ -20,7 +20,7 @@ use Rattle.bridge_semantics.specs.declared.way.Way.{Way}
 use Rattle.bridge_semantics.specs.declared.way.Way.TheVariants as way
 use Rattle.bridge_semantics.specs.declared.outcome.Departure.{Departure}
 use Rattle.bridge_semantics.specs.declared.outcome.Dropped.{Dropped}
-use Rattle.bridge_semantics.specs.Events.{Arrival, Event, Arrived, Cleared, way_of, metered}
+use Rattle.bridge_semantics.specs.Events.{Arrival, Event, Arrived, Cleared, way_of}
 use Rattle.bridge_semantics.specs.Offers.{Carried, Offer, offers, offer_of, offer_on, offer_of_step, offered, step_of}
 use Rattle.bridge_limits.specs.Members.{Rising}
 use Rattle.bridge_limits.proofs.Members.{in_left, in_push, in_end, in_either}
@@ -50,7 +50,7 @@ dated_if p out a es k s o true i = dated_step p out a es k s o i
 dated_if p out a es k s o false i = absurd i
 
 dated_on : {A : Type 0} (p : Plan A) (out : PortPlan A) (a : Arrival) (es : List Event) (w : Way) (o : Offer) → In o (offer_on p out a es w) → o.at ≡ o.item.at
-dated_on p out a es (way.Goes set handle priority dei sdu) o i = dated_if p out a es priority (step_of p es (verdicts.call a.at handle priority dei sdu (metered a.len))) o (has set out.number) i
+dated_on p out a es (way.Goes set c) o i = dated_if p out a es c.priority (step_of p es c) o (has set out.number) i
 dated_on p out a es way.Malformed o i = absurd i
 dated_on p out a es way.Nowhere o i = absurd i
 

@@ -4,6 +4,7 @@ use Rattle.std.specs.Map.{lookup}
 use Rattle.bridge_limits.specs.Members.{In}
 use Rattle.bridge_limits.specs.declared.TheConstants.{END_OF_TIME, LONGEST_FRAME, MOST_ARRIVALS}
 use Rattle.std.specs.Option.{option_map}
+use Rattle.bridge_filter.specs.declared.Call.{Call}
 use Rattle.bridge_filter.specs.declared.Ruling.{Ruling}
 use Rattle.bridge_filter.specs.declared.find.Route.{Route}
 use Rattle.bridge_filter.specs.Finding.{IsFound}
@@ -35,19 +36,17 @@ use Rattle.bridge_state.specs.declared.slot.Came.TheVariants as came
 use Rattle.bridge_state.specs.declared.slot.Slot.{Slot}
 use Rattle.bridge_state.specs.Slots.{offered_slot, refusal_to, counted_frame}
 use Rattle.bridge_state.specs.Tables.{IsOpen, TableState, after_answer, change, judged, released}
-use Rattle.bridge_semantics.specs.Events.{metered}
-use Rattle.bridge_relay.specs.declared.relay.Seen.{Seen}
 use Rattle.bridge_state.specs.Ports.{PortsState, slot_in, slot_at, goes_out, outs, is_there, NotBefore}
 use Rattle.bridge_relay.specs.Relays.{RelayState, HasLeft, HasSpare, IsSound, written, count_all, is_of, is_flow_stray, seen}
 
 -- a frame that goes somewhere has a priority, 0 to 7
 abbrev pub HasWayPriority : Way → Type 0
-HasWayPriority (Goes set handle priority dei sdu) = priority ≤ 7
+HasWayPriority (Goes set c) = c.priority ≤ 7
 HasWayPriority w = Unit {0}
 
 -- a frame goes somewhere
 abbrev pub IsRelayed : Way → Type 0
-IsRelayed (Goes set handle priority dei sdu) = Unit {0}
+IsRelayed (Goes set c) = Unit {0}
 IsRelayed w = ⊥
 
 -- one port was offered an item, and the table of the item's filter has what became of it
@@ -142,16 +141,8 @@ abbrev pub classified : Option Tag → ℕ → ℕ → (ℕ × ℕ × Bool)
 classified None vid priority = (vid, priority, false)
 classified (Some tag) vid priority = ((if nat_eq tag.vid 0 then vid else tag.vid), tag.pcp, tag.dei)
 
--- what the filters see of a frame
-abbrev pub called : ℕ → ℕ → Seen → verdicts.Call
-called at len s = verdicts.call at s.handle s.priority s.dei s.sdu (metered len)
-
--- the way of a frame that goes to a set of ports
-abbrev pub goes : ℕ → Seen → Way
-goes set s = Goes set s.handle s.priority s.dei s.sdu
-
 -- the number of a frame's filter
-abbrev pub filter_number : {A : Type 0} → Plan A → verdicts.Call → Option ℕ
+abbrev pub filter_number : {A : Type 0} → Plan A → Call → Option ℕ
 filter_number p c = option_map (λ f. f.0) (verdicts.flow p.filters c)
 
 -- what the relay tells of a frame, by its verdict
@@ -181,7 +172,7 @@ pub record IsFresh {G A : Type 0} (b : RelayState G A) : Type 0 where
   pub offered : (q : ℕ) (s : Slot A) → 1 ≤ q → slot_at b.ports q ≡ Some s → s.port.offered < b.arrived
 
 -- a frame was policed: it was counted at its port, and its verdict was written down
-pub record HasRuled {G A : Type 0} (old new : RelayState G A) (q : ℕ) (s : Slot A) (c : verdicts.Call) (r : Option Ruling) : Type 0 where
+pub record HasRuled {G A : Type 0} (old new : RelayState G A) (q : ℕ) (s : Slot A) (c : Call) (r : Option Ruling) : Type 0 where
   pub slots : new.ports.slots ≡ slice_set old.ports.slots (q - 1) (Some (record s { count = counted_frame s.count (came_as r) }))
   pub agenda : new.ports.agenda ≡ old.ports.agenda
   pub tables : new.tables ≡ judged_by (came_on q c.at) r old.tables
@@ -199,19 +190,20 @@ pub record HasRuled {G A : Type 0} (old new : RelayState G A) (q : ℕ) (s : Slo
   pub earliest : new.earliest ≡ c.at
 
 -- a frame may be policed and offered to a set of ports: it was counted, its filter was found, and there is room for what it and its copies tell, and a copy for each port but the last
-pub record IsPrepared {G A : Type 0} (held : G → ℕ → Option ℕ) (b : RelayState G A) (port : ℕ) (packet : Packet A) (set : ℕ) (s : Seen) (route : Option Route) (made : List (Vec ℕ A)) : Type 0 where
+pub record IsPrepared {G A : Type 0} (held : G → ℕ → Option ℕ) (b : RelayState G A) (port : ℕ) (packet : Packet A) (set : ℕ) (c : Call) (route : Option Route) (made : List (Vec ℕ A)) : Type 0 where
   pub known : (slot : Slot A) × (slot_at b.ports port ≡ Some slot)
   pub from : 1 ≤ port
+  pub at : c.at ≡ packet.time
   pub time : (b.earliest ≤ packet.time) × (packet.time < END_OF_TIME)
   pub due : NotBefore (held b.ports.agenda) packet.time
   pub sound : IsSound held b
   pub fresh : IsFresh b
-  pub awaited : IfSome (filter_number b.plan (called packet.time packet.len s)) (IsOpen b.tables)
-  pub spare : IfSome (filter_number b.plan (called packet.time packet.len s)) (HasSpare b (outs b.ports.slots set 16))
-  pub right : is_flow_stray b.plan.filters (filter_number b.plan (called packet.time packet.len s)) ≡ false
+  pub awaited : IfSome (filter_number b.plan c) (IsOpen b.tables)
+  pub spare : IfSome (filter_number b.plan c) (HasSpare b (outs b.ports.slots set 16))
+  pub right : is_flow_stray b.plan.filters (filter_number b.plan c) ≡ false
   pub short : (packet.len ≤ LONGEST_FRAME) × (length packet.octets.items ≤ packet.len)
-  pub priority : s.priority ≤ 7
-  pub found : IsFound b.police s.handle s.priority route
+  pub priority : c.priority ≤ 7
+  pub found : IsFound b.police c.handle c.priority route
   pub copies : HasCopies b.ports.slots set 1 packet.octets.items made
 
 -- a filter's table no longer owes so many copies

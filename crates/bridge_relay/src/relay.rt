@@ -5,13 +5,14 @@ ghost use Rattle.bridge_config.specs.declared.ports.PortPlan.{PortPlan};
 ghost use Rattle.bridge_state.specs.declared.slot.Slot.{Slot};
 ghost use Rattle.bridge_filter.specs.Plans.{is_there};
 ghost use Rattle.bridge_filter.specs.Finding.{IsFound};
+ghost use Rattle.bridge_semantics.specs.declared.way.Way.TheVariants.{Goes};
 ghost use Rattle.bridge_semantics.specs.Events.{way_of};
 ghost use Rattle.bridge_state.specs.Tables.{change_if, promised};
 ghost use Rattle.bridge_state.specs.Ports.{outs, slot_at, goes_out};
 ghost use Rattle.bridge_filter.specs.Verdicts.{HasPriority};
 ghost use Rattle.bridge_filter.specs.declared.Ruling.{Ruling};
 ghost use Rattle.bridge_state.specs.Tables.{IsOpen};
-ghost use Rattle.bridge_relay.specs.Relaying.{called, classified, filter_number, goes, one_less, releasing, HasRuled, IsFresh, IsNumbered, IsPending, HasWayPriority, IsRelayed, HasOfferedTo, IsPrepared, MayRelay, IsOffering, HasCopies, HasPassed, IsOver, leaves};
+ghost use Rattle.bridge_relay.specs.Relaying.{classified, filter_number, one_less, releasing, HasRuled, IsFresh, IsNumbered, IsPending, HasWayPriority, IsRelayed, HasOfferedTo, IsPrepared, MayRelay, IsOffering, HasCopies, HasPassed, IsOver, leaves};
 ghost use Rattle.std.specs.Prelude.{true, false, IfSome, IsTrue, All, OnErr, max, slice_index, ◌≡◌, ℕ, ◌<◌, ◌≤◌, ◌+◌, ◌*◌, ◌^◌, List, ◌∷◌, Some, None, Option, length, OnOk, IfErr, IfOk};
 ghost use Rattle.bridge_config.specs.Model as config;
 ghost use Rattle.bridge_config.specs.Rules.{port_at};
@@ -27,7 +28,7 @@ use bridge_capture::Packet;
 use bridge_config::Plan;
 use bridge_cycle::NoMemory;
 use bridge_events::Agenda;
-use bridge_filter::{Clear, Police, Route, Ruling, Verdict};
+use bridge_filter::{Call, Clear, Police, Route, Ruling, Verdict};
 use bridge_forward::PortSet;
 use bridge_frame::{Tag, parse};
 use bridge_ident::Ident;
@@ -59,9 +60,25 @@ impl<'a, G: Agenda + Drop, A: Allocator + Copy> Model for Relay<'a, G, A> {
 
     ghost Value = { RelayState G A };
 
-    ghost view = { λ b. record { plan = b.plan.now; streams = b.ident; police = b.police; ports = b.ports; tables = b.tables.entries; arrived = b.arrived; earliest = b.earliest } };
+    ghost view = { λ b. record {
+      plan = b.plan.now;
+      streams = b.ident;
+      police = b.police;
+      ports = b.ports;
+      tables = b.tables.entries;
+      arrived = b.arrived;
+      earliest = b.earliest;
+    } };
 
-    ghost invariant = { λ b. IsSound G.held (record { plan = b.plan.now; streams = b.ident; police = b.police; ports = b.ports; tables = b.tables.entries; arrived = b.arrived; earliest = b.earliest }) };
+    ghost invariant = { λ b. IsSound G.held (record {
+      plan = b.plan.now;
+      streams = b.ident;
+      police = b.police;
+      ports = b.ports;
+      tables = b.tables.entries;
+      arrived = b.arrived;
+      earliest = b.earliest;
+    }) };
 }
 
 /// A frame that left.
@@ -176,11 +193,11 @@ impl<'a, G: Agenda + Drop, A: Allocator + Copy> Relay<'a, G, A> {
 
     /// Where a frame goes that came on a port, and what the filters see of it.
     #[inline(always)]
-    fn way_of(&self, port: u8, octets: &[u8], len: u32) -> Way
+    fn way_of(&self, at: u64, port: u8, octets: &[u8], len: u32) -> Way
         requires from { 1 ≤ port }
         requires to { port ≤ 16 }
         requires captured { (length octets.now ≤ MOST_CAPTURED) × (length octets.now ≤ len) }
-        ensures way { (at : ℕ) → result ≡ way_of self.now.plan (arrival at port octets.now len) }
+        ensures way { result ≡ way_of self.now.plan (arrival at port octets.now len) }
         ensures priority { HasWayPriority result }
         ensures length { IsRelayed result → len ≤ LONGEST_FRAME }
     {
@@ -195,13 +212,15 @@ impl<'a, G: Agenda + Drop, A: Allocator + Copy> Relay<'a, G, A> {
         if set.bits() == 0 {
             return Way::Nowhere;
         }
-        Way::Goes {
-            set,
+        let call = Call {
+            at,
             handle: self.ident.handle_of(port, &head, vid),
             priority,
             dei,
             sdu: head.sdu,
-        }
+            octets: len.max(60) + 4,
+        };
+        Way::Goes { set, call }
     }
 
     /// Makes copies of octets for all ports of a set but the last, and room for what these and the last will tell of the
@@ -415,37 +434,21 @@ impl<'a, G: Agenda + Drop, A: Allocator + Copy> Relay<'a, G, A> {
     /// Polices a frame that came on a port by the filter that was found for it, counts it there, and writes down its verdict
     /// and where it came: the answer of its filter and its number among that filter's frames.
     #[inline(always)]
-    fn rule(
-        &mut self,
-        port: u8,
-        time: u64,
-        len: u32,
-        seen: Seen,
-        found: Option<Route>,
-    ) -> Option<(Ruling, u64)>
+    fn rule(&mut self, port: u8, call: Call, found: Option<Route>) -> Option<(Ruling, u64)>
         requires known { (s : Slot A) × (slot_at self.old.ports port ≡ Some s) }
         requires from { 1 ≤ port }
-        requires time { (self.old.earliest ≤ time) × (time < END_OF_TIME) }
+        requires time { (self.old.earliest ≤ call.at) × (call.at < END_OF_TIME) }
         requires fresh { IsFresh self.old }
-        requires open { IfSome (filter_number self.old.plan (called time len seen)) (IsOpen self.old.tables) }
-        requires found { IsFound self.old.police seen.handle seen.priority found }
-        requires length { len ≤ LONGEST_FRAME }
+        requires open { IfSome (filter_number self.old.plan call) (IsOpen self.old.tables) }
+        requires found { IsFound self.old.police call.handle call.priority found }
         ensures ruled { (s : Slot A) × (slot_at self.old.ports port ≡ Some s)
-            × ((r : Option Ruling) × HasRuled self.old self.new port s (called time len seen) r
+            × ((r : Option Ruling) × HasRuled self.old self.new port s call r
             × IsNumbered self.old.tables r result) }
         ensures priority { IfSome result (λ j. HasPriority j.0.verdict) }
         ensures sound { IsSound G.held self.new }
     {
-        let Seen {
-            handle,
-            priority,
-            dei,
-            sdu,
-        } = seen;
-        let ruling = self
-            .police
-            .pass_by(time, handle, priority, dei, sdu, len.max(60) + 4, found);
-        self.earliest = time;
+        let ruling = self.police.pass_by(call, found);
+        self.earliest = call.at;
         match ruling {
             None => {
                 self.ports.count(port, Came::Unfiltered);
@@ -453,7 +456,7 @@ impl<'a, G: Agenda + Drop, A: Allocator + Copy> Relay<'a, G, A> {
             }
             Some(ruling) => {
                 self.ports.count(port, Came::Policed);
-                let origin = Origin { port, at: time };
+                let origin = Origin { port, at: call.at };
                 let own = judge(&mut self.tables, ruling.filter, ruling.verdict, origin);
                 Some((ruling, own))
             }
@@ -479,14 +482,14 @@ impl<'a, G: Agenda + Drop, A: Allocator + Copy> Relay<'a, G, A> {
         port: u8,
         packet: Packet<A>,
         set: PortSet,
-        seen: Seen,
+        call: Call,
         found: Option<Route>,
         copies: Vec<Vec<u8, A>, A>,
         spares: &mut Spares<A>,
     )
-        requires { IsPrepared G.held self.old port packet set seen found copies.items }
+        requires { IsPrepared G.held self.old port packet set call found copies.items }
         ensures stands { (p : config.Plan A) (es : List Event) (left : ℕ → List Captured)
-            → way_of p (arrival packet.time port packet.octets.items packet.len) ≡ goes set seen
+            → way_of p (arrival packet.time port packet.octets.items packet.len) ≡ Goes set call
             → Stands p (one_less self.old) es left
             → Stands p self.new (Arrived (arrival packet.time port packet.octets.items packet.len) ∷ es) left }
         ensures due { NotBefore (G.held self.new.ports.agenda) packet.time }
@@ -495,7 +498,7 @@ impl<'a, G: Agenda + Drop, A: Allocator + Copy> Relay<'a, G, A> {
         ensures sound { IsSound G.held self.new }
     {
         let Packet { time, len, octets } = packet;
-        match self.rule(port, time, len, seen, found) {
+        match self.rule(port, call, found) {
             None => {
                 let load = Load {
                     at: time,
@@ -503,7 +506,7 @@ impl<'a, G: Agenda + Drop, A: Allocator + Copy> Relay<'a, G, A> {
                     own: 0,
                     octets,
                 };
-                self.offer_all(set, seen.priority, len, false, load, copies, spares);
+                self.offer_all(set, call.priority, len, false, load, copies, spares);
             }
             Some((Ruling { filter, verdict }, own)) => match verdict {
                 Verdict::Pass { ipv, eligible } => {
@@ -515,7 +518,7 @@ impl<'a, G: Agenda + Drop, A: Allocator + Copy> Relay<'a, G, A> {
                     };
                     self.offer_all(
                         set,
-                        ipv.unwrap_or(seen.priority),
+                        ipv.unwrap_or(call.priority),
                         len,
                         eligible,
                         load,
@@ -555,7 +558,7 @@ impl<'a, G: Agenda + Drop, A: Allocator + Copy> Relay<'a, G, A> {
         ensures err { IfErr result (λ e. (self.new ≡ self.old) × (e.0 ≡ packet)) }
     {
         let _plan = self.plan;
-        match self.way_of(port, &packet.octets, packet.len) {
+        match self.way_of(packet.time, port, &packet.octets, packet.len) {
             Way::Malformed => {
                 self.pass_over(port, packet.time, Came::Malformed);
                 spares.put(packet.octets);
@@ -564,24 +567,12 @@ impl<'a, G: Agenda + Drop, A: Allocator + Copy> Relay<'a, G, A> {
                 self.pass_over(port, packet.time, Came::Nowhere);
                 spares.put(packet.octets);
             }
-            Way::Goes {
-                set,
-                handle,
-                priority,
-                dei,
-                sdu,
-            } => {
-                let found = self.police.find(handle, priority);
+            Way::Goes { set, call } => {
+                let found = self.police.find(call.handle, call.priority);
                 let filter = number_of(found);
                 match self.prepare(set, filter, &packet.octets, spares) {
                     Ok(copies) => {
-                        let seen = Seen {
-                            handle,
-                            priority,
-                            dei,
-                            sdu,
-                        };
-                        self.relay(port, packet, set, seen, found, copies, spares);
+                        self.relay(port, packet, set, call, found, copies, spares);
                     }
                     Err(refused) => return Err((packet, refused)),
                 }
@@ -629,13 +620,4 @@ fn classified(tag: Option<Tag>, vid: u16, priority: u8) -> (u16, u8, bool)
         Some(tag) => (if tag.vid == 0 { vid } else { tag.vid }, tag.pcp, tag.dei),
         None => (vid, priority, false),
     }
-}
-
-/// What the stream filters see of a frame beside its moment and its length.
-#[derive(Clone, Copy)]
-pub(crate) struct Seen {
-    pub handle: Option<u32>,
-    pub priority: u8,
-    pub dei: bool,
-    pub sdu: u32,
 }

@@ -212,9 +212,25 @@ impl<'a, A: Allocator + Copy> Model for Station<'a, A> {
 
     ghost Value = { StationState A };
 
-    ghost view = { λ s. record { plan = s.accepted.now; commands = s.commands.items; ports = s.ports.items; senders = senders_in s.senders.items; texts = texts_in s.texts.items; taps = taps_in s.taps.items; outcome = s.outcome } };
+    ghost view = { λ s. record {
+      plan = s.accepted.now;
+      commands = s.commands.items;
+      ports = s.ports.items;
+      senders = senders_in s.senders.items;
+      texts = texts_in s.texts.items;
+      taps = taps_in s.taps.items;
+      outcome = s.outcome;
+    } };
 
-    ghost invariant = { λ s. IsStation {A = A} (record { plan = s.accepted.now; commands = s.commands.items; ports = s.ports.items; senders = senders_in s.senders.items; texts = texts_in s.texts.items; taps = taps_in s.taps.items; outcome = s.outcome }) };
+    ghost invariant = { λ s. IsStation {A = A} (record {
+      plan = s.accepted.now;
+      commands = s.commands.items;
+      ports = s.ports.items;
+      senders = senders_in s.senders.items;
+      texts = texts_in s.texts.items;
+      taps = taps_in s.taps.items;
+      outcome = s.outcome;
+    }) };
 }
 
 impl<'a, A: Allocator + Copy> Station<'a, A> {

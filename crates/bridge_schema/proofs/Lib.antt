@@ -1,2 +1,3 @@
 pub mod Sets
 mod Lists
+pub mod Standing

@@ -1,5 +1,5 @@
 -- The kinds of values, the words of presence and the known keys, computed: the first and the last value, one past, another kind.
-use Rattle.std.specs.Prelude.{◌≡◌, ◌+◌, ℕ, Bool, true, false, nat_eq, List, [], ◌∷◌, codes, Option, Some, None, Result, Ok, Err, pos, negsuc, refl}
+use Rattle.std.specs.Prelude.{◌≡◌, ◌+◌, ℕ, true, false, nat_eq, List, [], ◌∷◌, codes, Some, None, Result, Ok, Err, pos, negsuc, refl}
 use Rattle.toml.specs.Data.{Data, string, integer, boolean, array, table, Items, no_items, item, Members, no_members, member}
 use Rattle.bridge_frame.specs.declared.Speed.TheVariants.{Mbps10, Mbps10000}
 use Rattle.bridge_schema.specs.declared.fault.Section.TheVariants as section
@@ -8,7 +8,11 @@ use Rattle.bridge_schema.specs.declared.fault.Flaw.TheVariants as flaw
 use Rattle.bridge_schema.specs.declared.fault.Place.{Place}
 use Rattle.bridge_schema.specs.declared.fault.PlanFault.{PlanFault}
 use Rattle.bridge_schema.specs.declared.fault.PlanFault.TheVariants as fault
+use Rattle.bridge_schema.specs.declared.keys.Allowed.TheVariants as allowed
+use Rattle.bridge_schema.specs.declared.keys.Key.{Key}
+use Rattle.bridge_schema.specs.declared.keys.Presence.TheVariants as presence
 use Rattle.bridge_schema.specs.Readers.{between, switch, speed, known, text, numbers, set_of, ports_of, eight, required, optional, default_to, only_with, only_without, are_known, are_known_at, with_key, without_key, list_of, list_at, instances}
+use Rattle.bridge_schema.specs.Standing.{standing, are_keys_of, are_keys_at}
 use Rattle.bridge_schema.specs.Texts.{address_of, openness_of}
 
 -- a number of TOML
@@ -296,6 +300,28 @@ allowed_beside_another_key = refl
 
 not_allowed_beside_another_key : without_key field.Gates (field.Base ∷ []) (one_key (codes "gates") (array no_items)) ≡ []
 not_allowed_beside_another_key = refl
+
+-- KEYS THAT MAY STAND
+
+-- a number, a list, and what may stand beside that list: always, in a plan with a change, and beside the next list there
+abbrev keys : List Key
+keys = record { 0 = field.Number; 1 = allowed.Switch; 2 = presence.Must } ∷ record { 0 = field.Gates; 1 = allowed.Tables; 2 = presence.May } ∷ record { 0 = field.Base; 1 = allowed.Length; 2 = presence.Beside field.Gates }
+    ∷ record { 0 = field.NextGates; 1 = allowed.Tables; 2 = presence.InChange field.Gates } ∷ record { 0 = field.NextBase; 1 = allowed.Length; 2 = presence.Next field.Gates field.NextGates } ∷ record { 0 = field.State; 1 = allowed.State; 2 = presence.Without field.Gates } ∷ []
+
+without_a_list : standing true (one_key (codes "number") (n 1)) keys ≡ field.Number ∷ field.Gates ∷ field.State ∷ []
+without_a_list = refl
+
+with_a_list : standing false (one_key (codes "gates") (array no_items)) keys ≡ field.Number ∷ field.Gates ∷ field.Base ∷ []
+with_a_list = refl
+
+with_a_change : standing true (one_key (codes "gates") (array no_items)) keys ≡ field.Number ∷ field.Gates ∷ field.Base ∷ field.NextGates ∷ []
+with_a_change = refl
+
+a_key_that_may_not_stand : are_keys_of true keys (one_key (codes "base") (n 1)) ≡ false
+a_key_that_may_not_stand = refl
+
+an_entry_with_its_key : are_keys_at keys (Some (array (item (table (one_key (codes "number") (n 1))) no_items))) ≡ true
+an_entry_with_its_key = refl
 
 -- ARRAYS OF TABLES
 

@@ -10,9 +10,11 @@ pub mod arrays;
 pub mod entries;
 pub mod fault;
 pub mod instances;
+pub mod keys;
 pub mod kinds;
 pub mod known;
 pub mod presence;
+pub mod ranges;
 pub mod row;
 pub mod texts;
 
@@ -20,10 +22,20 @@ pub use arrays::{Classes, PortsOf, Rooms, SetOf, are_tables, with_bit};
 pub use entries::{Entry, list_at};
 pub use fault::{Field, Flaw, Place, PlanFault, Section};
 pub use instances::{SectionReader, read_instances};
+pub use keys::{
+    Allowed, CHANGE_KEYS, COMMAND_KEYS, COMMAND_SECTIONS, ENTRIES, FILTER_KEYS, GATE_ENTRY_KEYS,
+    GATE_KEYS, GATES, Key, ListKeys, METER_KEYS, NEXT_ENTRIES, NEXT_GATES, PLAN_SECTIONS,
+    PORT_ENTRY_KEYS, PORT_KEYS, Presence, STATIC_KEYS, STREAM_KEYS, VLAN_KEYS, entry_keys, keys_of,
+    lists_of, own_key,
+};
 pub use kinds::{Between, Finds, Kind, Known, Mbps, Switch};
-pub use known::{are_known, are_known_at};
+pub use known::{Hindrance, are_known, are_known_at, hindrance_of};
 pub use presence::{
     default_to, has_key, optional, required, required_with, required_without, value_at,
+};
+pub use ranges::{
+    BURST, LARGEST_NUMBER, LAST_MOMENT, LENGTH, MAX_SDU, MOMENT, NUMBER, PORT, PRIORITY, RATE,
+    ROOM, VID, the_limit,
 };
 pub use row::Row;
 pub use texts::{Address, Meaning, Openness, Text};

@@ -23,7 +23,7 @@ use Rattle.bridge_config.specs.Rules.{port_at}
 use Rattle.bridge_semantics.specs.declared.outcome.Outcome.{Outcome}
 use Rattle.bridge_semantics.specs.declared.way.Way.{Way}
 use Rattle.bridge_semantics.specs.declared.way.Way.TheVariants as way
-use Rattle.bridge_semantics.specs.Events.{Arrival, Event, Arrived, Cleared, arrivals, way_of, metered}
+use Rattle.bridge_semantics.specs.Events.{Arrival, Event, Arrived, Cleared, arrivals, way_of}
 use Rattle.bridge_semantics.specs.Offers.{Carried, offer_by, offer_of, offer_of_step, offer_on, offered, offers, step_of}
 use Rattle.bridge_semantics.specs.Outputs.{Ends, IsOutput, Leaves, LeavesBefore}
 use Rattle.bridge_semantics.specs.Runs.{IsRun}
@@ -121,8 +121,7 @@ few_if false xs h = omega (arith)
 few_on : {A : Type 0} (p : Plan A) (out : PortPlan A) (a : Arrival) (es : List Event) (w : Way) → length (offer_on p out a es w) ≤ 1
 few_on p out a es way.Malformed = omega (arith)
 few_on p out a es way.Nowhere = omega (arith)
-few_on p out a es (way.Goes set handle priority dei sdu) =
-    few_if (has set out.number) _ (few_of_step p out a es priority (step_of p es (verdicts.call a.at handle priority dei sdu (metered a.len))))
+few_on p out a es (way.Goes set c) = few_if (has set out.number) _ (few_of_step p out a es c.priority (step_of p es c))
 
 few_offers : {A : Type 0} (p : Plan A) (out : PortPlan A) (es : List Event) → length (offers p out es) ≤ length (arrivals es)
 few_offers p out [] = omega (arith)

@@ -8,6 +8,7 @@ use Rattle.bridge_limits.specs.Members.{In}
 use Rattle.bridge_limits.proofs.Members.{in_either}
 use Rattle.bridge_limits.proofs.Cases.{by_bool}
 use Rattle.bridge_frame.proofs.Times.{occupied_some}
+use Rattle.bridge_filter.specs.declared.Call.{Call}
 use Rattle.bridge_filter.specs.declared.FilterPlan.{FilterPlan}
 use Rattle.bridge_filter.specs.Verdicts as verdicts
 use Rattle.bridge_filter.specs.Verdicts.{Step}
@@ -109,11 +110,11 @@ flow_reaches p s f out safe there es o i e =
     let g : f ≡ t.filter = one_number p.filters s f t.filter safe.plan.filters.own safe.listed (subst (λ (k : ℕ). In (k, t.filter) p.filters) n t.listed) in
     subst (λ (h : FilterPlan). reaches p h out.number o.class ≡ true) (sym g) t.reaches
 
-numbered_flow : {A : Type 0} (p : Plan A) (s : ℕ) (out : PortPlan A) → IsPlan p → port_at p.ports out.number ≡ Some out → (a : Arrival) (es : List Event) (o : Offer) (c : verdicts.Call) (m : Option (ℕ × FilterPlan)) → call_of p a ≡ Some c → verdicts.flow p.filters c ≡ m → is_number s m ≡ true → In o (offer_of p out a es) → o.item.flow ≡ Some s
+numbered_flow : {A : Type 0} (p : Plan A) (s : ℕ) (out : PortPlan A) → IsPlan p → port_at p.ports out.number ≡ Some out → (a : Arrival) (es : List Event) (o : Offer) (c : Call) (m : Option (ℕ × FilterPlan)) → call_of p a ≡ Some c → verdicts.flow p.filters c ≡ m → is_number s m ≡ true → In o (offer_of p out a es) → o.item.flow ≡ Some s
 numbered_flow p s out plan there a es o c None e fl k i = absurd (cc)
 numbered_flow p s out plan there a es o c (Some x) e fl k i = let t = offered_by p out a es c x o plan there e fl i in t.flow ∙ ap Some (eqb-true x.0 s k)
 
-arrived_flow : {A : Type 0} (p : Plan A) (s : ℕ) (out : PortPlan A) → IsPlan p → port_at p.ports out.number ≡ Some out → (a : Arrival) (es : List Event) (o : Offer) (m : Option verdicts.Call) → call_of p a ≡ m → is_number s (flow_of p a) ≡ true → In o (offer_of p out a es) → o.item.flow ≡ Some s
+arrived_flow : {A : Type 0} (p : Plan A) (s : ℕ) (out : PortPlan A) → IsPlan p → port_at p.ports out.number ≡ Some out → (a : Arrival) (es : List Event) (o : Offer) (m : Option Call) → call_of p a ≡ m → is_number s (flow_of p a) ≡ true → In o (offer_of p out a es) → o.item.flow ≡ Some s
 arrived_flow p s out plan there a es o None e k i = let z : ⊥ = subst (In o) (none_offered p out a es e) i in absurd z
 arrived_flow p s out plan there a es o (Some c) e k i = let z : is_number s (verdicts.flow p.filters c) ≡ true = rw e at k in numbered_flow p s out plan there a es o c (verdicts.flow p.filters c) e refl z i
 

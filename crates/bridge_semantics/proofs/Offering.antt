@@ -9,9 +9,9 @@ use Rattle.bridge_limits.proofs.Cases.{by_bool}
 use Rattle.bridge_frame.specs.declared.Head.{Head}
 use Rattle.bridge_frame.specs.declared.FrameFault.{FrameFault}
 use Rattle.bridge_frame.specs.Frames.{head}
-use Rattle.bridge_ident.specs.Identification.{handle_in}
 use Rattle.bridge_forward.specs.Ports.{has}
 use Rattle.bridge_forward.specs.Forward.{forward}
+use Rattle.bridge_filter.specs.declared.Call.{Call}
 use Rattle.bridge_filter.specs.declared.FilterPlan.{FilterPlan}
 use Rattle.bridge_filter.specs.declared.Verdict.{Verdict}
 use Rattle.bridge_filter.specs.declared.Verdict.TheVariants as verdict
@@ -23,7 +23,7 @@ use Rattle.bridge_config.specs.Model.{Plan}
 use Rattle.bridge_config.specs.Rules.{IsPlan, port_at}
 use Rattle.bridge_check.specs.Reach.{reaches}
 use Rattle.bridge_check.specs.Sending as sending
-use Rattle.bridge_check.specs.Sending.{vid_of, priority_of, is_eligible, class_of}
+use Rattle.bridge_check.specs.Sending.{vid_of, priority_of, class_of}
 use Rattle.bridge_check.proofs.Sound.{sound, filtered}
 use Rattle.bridge_semantics.specs.declared.way.Way.{Way}
 use Rattle.bridge_semantics.specs.declared.way.Way.TheVariants.{Malformed, Nowhere, Goes}
@@ -39,32 +39,32 @@ use Rattle.bridge_semantics.proofs.Steps.{steps_own, count_own}
 -- THE WAY OF A FRAME
 
 -- what a frame that goes somewhere was read as
-pub record IsGoing {A : Type 0} (p : Plan A) (at port set : ℕ) (handle : Option ℕ) (priority : ℕ) (dei : Bool) (sdu : ℕ) (r : Result Head FrameFault) : Type 0 where
+pub record IsGoing {A : Type 0} (p : Plan A) (a : Arrival) (set : ℕ) (c : Call) : Type 0 where
   pub on : PortPlan A
   pub parsed : Head
-  pub at_port : port_at p.ports port ≡ Some on
-  pub is : r ≡ Ok parsed
+  pub at_port : port_at p.ports a.port ≡ Some on
+  pub is : head a.octets a.len ≡ Ok parsed
   pub set_is : forward p.database on.number (vid_of on parsed.tag) parsed.da ≡ set
-  pub handle_is : handle_in p.streams on.number parsed (vid_of on parsed.tag) ≡ handle
-  pub priority_is : priority_of on parsed.tag ≡ priority
-  pub dei_is : is_eligible parsed.tag ≡ dei
-  pub sdu_is : parsed.sdu ≡ sdu
+  pub call_is : sending.call_of p on a.at parsed (metered a.len) ≡ c
 
-same_way : (s1 s2 : ℕ) (h1 h2 : Option ℕ) (k1 k2 : ℕ) (d1 d2 : Bool) (u1 u2 : ℕ) → Goes s1 h1 k1 d1 u1 ≡ Goes s2 h2 k2 d2 u2 → (s1 ≡ s2) × (h1 ≡ h2) × (k1 ≡ k2) × (d1 ≡ d2) × (u1 ≡ u2)
-same_way s1 s2 h1 h2 k1 k2 d1 d2 u1 u2 h = (cc, cc, cc, cc, cc)
+same_way : (s t : ℕ) (b c : Call) → Goes s b ≡ Goes t c → (s ≡ t) × (b ≡ c)
+same_way s t b c h = (cc, cc)
 
-going_on : {A : Type 0} (p : Plan A) (at port set : ℕ) (handle : Option ℕ) (priority : ℕ) (dei : Bool) (sdu : ℕ) (on : PortPlan A) (r : Result Head FrameFault) → port_at p.ports port ≡ Some on → way_on p on r ≡ Goes set handle priority dei sdu → IsGoing p at port set handle priority dei sdu r
-going_on p at port set handle priority dei sdu on (Err e) there w = absurd (cc)
-going_on p at port set handle priority dei sdu on (Ok h) there w = by_bool (nat_eq (forward p.database on.number (vid_of on h.tag) h.da) 0)
-    (λ k. let z : Nowhere ≡ Goes set handle priority dei sdu = rw k at w in absurd (cc))
+going_on : {A : Type 0} (p : Plan A) (a : Arrival) (set : ℕ) (c : Call) (on : PortPlan A) (r : Result Head FrameFault) → port_at p.ports a.port ≡ Some on → head a.octets a.len ≡ r → way_on p on a r ≡ Goes set c → IsGoing p a set c
+going_on p a set c on (Err e) there is w = absurd (cc)
+going_on p a set c on (Ok h) there is w = by_bool (nat_eq (forward p.database on.number (vid_of on h.tag) h.da) 0)
+    (λ k. let z : Nowhere ≡ Goes set c = rw k at w in absurd (cc))
     (λ k.
-    let z : Goes (forward p.database on.number (vid_of on h.tag) h.da) (handle_in p.streams on.number h (vid_of on h.tag)) (priority_of on h.tag) (is_eligible h.tag) h.sdu ≡ Goes set handle priority dei sdu = rw k at w in
-    let (a, b, c, d, e) = same_way _ _ _ _ _ _ _ _ _ _ z in
-    record { on = on; parsed = h; at_port = there; is = refl; set_is = a; handle_is = b; priority_is = c; dei_is = d; sdu_is = e })
+    let z : Goes (forward p.database on.number (vid_of on h.tag) h.da) (sending.call_of p on a.at h (metered a.len)) ≡ Goes set c = rw k at w in
+    let (goes, called) = same_way _ _ _ _ z in
+    record { on = on; parsed = h; at_port = there; is = is; set_is = goes; call_is = called })
 
-pub going_if : {A : Type 0} (p : Plan A) (at port set : ℕ) (handle : Option ℕ) (priority : ℕ) (dei : Bool) (sdu : ℕ) (o : Option (PortPlan A)) (r : Result Head FrameFault) → port_at p.ports port ≡ o → way_if p o r ≡ Goes set handle priority dei sdu → IsGoing p at port set handle priority dei sdu r
-going_if p at port set handle priority dei sdu None r there w = absurd (cc)
-going_if p at port set handle priority dei sdu (Some on) r there w = going_on p at port set handle priority dei sdu on r there w
+going_if : {A : Type 0} (p : Plan A) (a : Arrival) (set : ℕ) (c : Call) (o : Option (PortPlan A)) → port_at p.ports a.port ≡ o → way_if p o a (head a.octets a.len) ≡ Goes set c → IsGoing p a set c
+going_if p a set c None there w = absurd (cc)
+going_if p a set c (Some on) there w = going_on p a set c on (head a.octets a.len) there refl w
+
+pub going : {A : Type 0} (p : Plan A) (a : Arrival) (set : ℕ) (c : Call) → way_of p a ≡ Goes set c → IsGoing p a set c
+going p a set c w = going_if p a set c (port_at p.ports a.port) refl w
 
 -- THE OFFERS OF A FRAME
 
@@ -96,51 +96,43 @@ by_verdict out a priority n number verdict.Red o i = absurd i
 by_verdict out a priority n number verdict.YellowDropped o i = absurd i
 
 -- a passed frame is queued in the reach of its flow
-reached : {A : Type 0} (p : Plan A) (out on : PortPlan A) (h : Head) (at octets n : ℕ) (f : FilterPlan) (ss : List verdicts.Step) (ipv : Option ℕ) (eligible : Bool) (c : verdicts.Call) (priority set : ℕ)
+reached : {A : Type 0} (p : Plan A) (out on : PortPlan A) (h : Head) (at octets n : ℕ) (f : FilterPlan) (ss : List verdicts.Step) (ipv : Option ℕ) (eligible : Bool) (c : Call) (set : ℕ)
     → IsPlan p
     → port_at p.ports out.number ≡ Some out
     → priority_of on h.tag ≤ 7
     → forward p.database on.number (vid_of on h.tag) h.da ≡ set
     → has set out.number ≡ true
     → sending.call_of p on at h octets ≡ c
-    → priority_of on h.tag ≡ priority
     → verdicts.flow p.filters c ≡ Some (n, f)
     → verdicts.verdict_of (police_of p) ss c n f ≡ verdict.Pass ipv eligible
-    → reaches p f out.number (class_of out ipv priority) ≡ true
-reached p out on h at octets n f ss ipv eligible c priority set plan there few goes sent same k flows passes =
+    → reaches p f out.number (class_of out ipv c.priority) ≡ true
+reached p out on h at octets n f ss ipv eligible c set plan there few goes sent same =
     let going : has (forward p.database on.number (vid_of on h.tag) h.da) out.number ≡ true = subst (λ (z : ℕ). has z out.number ≡ true) (sym goes) sent in
-    let flow_is : verdicts.flow p.filters (sending.call_of p on at h octets) ≡ Some (n, f) = subst (λ (z : verdicts.Call). verdicts.flow p.filters z ≡ Some (n, f)) (sym same) flows in
-    let passed : verdicts.verdict_of (police_of p) ss (sending.call_of p on at h octets) n f ≡ verdict.Pass ipv eligible = subst (λ (z : verdicts.Call). verdicts.verdict_of (police_of p) ss z n f ≡ verdict.Pass ipv eligible) (sym same) passes in
-    subst (λ (z : ℕ). reaches p f out.number (class_of out ipv z) ≡ true) k (sound p on out h at octets n f ss ipv eligible plan there few going flow_is passed)
+    subst (λ (z : Call). verdicts.flow p.filters z ≡ Some (n, f) → verdicts.verdict_of (police_of p) ss z n f ≡ verdict.Pass ipv eligible → reaches p f out.number (class_of out ipv z.priority) ≡ true) same
+    (λ flows passes. sound p on out h at octets n f ss ipv eligible plan there few going flows passes)
 
-same_call : (at : ℕ) (h1 h2 : Option ℕ) (k1 k2 : ℕ) (d1 d2 : Bool) (u1 u2 octets : ℕ) → h1 ≡ h2 → k1 ≡ k2 → d1 ≡ d2 → u1 ≡ u2 → verdicts.call at h1 k1 d1 u1 octets ≡ verdicts.call at h2 k2 d2 u2 octets
-same_call at h1 h2 k1 k2 d1 d2 u1 u2 octets a b c d = rw (a, b, c, d) refl
-
-by_way : {A : Type 0} (p : Plan A) (out : PortPlan A) (a : Arrival) (es : List Event) (w : Way) (c : verdicts.Call) (x : ℕ × FilterPlan) (o : Offer) → IsPlan p → port_at p.ports out.number ≡ Some out → way_of p a ≡ w → call_by a w ≡ Some c → verdicts.flow p.filters c ≡ Some x → In o (offer_on p out a es w) → SentBy p out es x o
+by_way : {A : Type 0} (p : Plan A) (out : PortPlan A) (a : Arrival) (es : List Event) (w : Way) (c : Call) (x : ℕ × FilterPlan) (o : Offer) → IsPlan p → port_at p.ports out.number ≡ Some out → way_of p a ≡ w → call_by w ≡ Some c → verdicts.flow p.filters c ≡ Some x → In o (offer_on p out a es w) → SentBy p out es x o
 by_way p out a es Malformed c x o plan there w q fl i = absurd i
 by_way p out a es Nowhere c x o plan there w q fl i = absurd i
-by_way {A} p out a es (Goes set handle priority dei sdu) c x o plan there w q fl i = by_bool (has set out.number)
+by_way {A} p out a es (Goes set made) c x o plan there w q fl i = by_bool (has set out.number)
     (λ k.
-    let made : verdicts.Call = verdicts.call a.at handle priority dei sdu (metered a.len) in
-    let same : made ≡ c = same_Some made c q in
-    let flow_is : verdicts.flow p.filters made ≡ Some x = subst (λ (z : verdicts.Call). verdicts.flow p.filters z ≡ Some x) (sym same) fl in
-    let j : In o (offer_of_step p out a es priority (verdicts.judged (police_of p) (steps p es) made (verdicts.flow p.filters made))) = rw k at i in
-    let j2 : In o (offer_by out a priority x.0 (count p x.0 es + 1) (verdicts.verdict_of (police_of p) (steps p es) made x.0 x.1)) = subst (λ (z : Option (ℕ × FilterPlan)). In o (offer_of_step p out a es priority (verdicts.judged (police_of p) (steps p es) made z))) flow_is j in
-    let r = by_verdict out a priority x.0 (count p x.0 es + 1) (verdicts.verdict_of (police_of p) (steps p es) made x.0 x.1) o j2 in
-    let g = going_if p a.at a.port set handle priority dei sdu (port_at p.ports a.port) (head a.octets a.len) refl w in
+    let flow_is : verdicts.flow p.filters made ≡ Some x = subst (λ (z : Call). verdicts.flow p.filters z ≡ Some x) (sym (same_Some made c q)) fl in
+    let j : In o (offer_of_step p out a es made.priority (verdicts.judged (police_of p) (steps p es) made (verdicts.flow p.filters made))) = rw k at i in
+    let j2 : In o (offer_by out a made.priority x.0 (count p x.0 es + 1) (verdicts.verdict_of (police_of p) (steps p es) made x.0 x.1)) = subst (λ (z : Option (ℕ × FilterPlan)). In o (offer_of_step p out a es made.priority (verdicts.judged (police_of p) (steps p es) made z))) flow_is j in
+    let r = by_verdict out a made.priority x.0 (count p x.0 es + 1) (verdicts.verdict_of (police_of p) (steps p es) made x.0 x.1) o j2 in
+    let g = going p a set made w in
     let few : priority_of g.on g.parsed.tag ≤ 7 = priority_few g.on g.parsed.tag (port_is p.ports a.port g.on plan.ports g.at_port).0 (head_few a.octets a.len g.parsed g.is) in
-    let call_is : sending.call_of p g.on a.at g.parsed (metered a.len) ≡ made = same_call a.at _ _ _ _ _ _ _ _ (metered a.len) g.handle_is g.priority_is g.dei_is g.sdu_is in
-    let reach = reached p out g.on g.parsed a.at (metered a.len) x.0 x.1 (steps p es) r.ipv r.eligible made priority set plan there few g.set_is k call_is g.priority_is flow_is r.verdict in
+    let reach = reached p out g.on g.parsed a.at (metered a.len) x.0 x.1 (steps p es) r.ipv r.eligible made set plan there few g.set_is k g.call_is flow_is r.verdict in
     record { flow = r.flow; own = r.own; reaches = subst (λ (z : ℕ). reaches p x.1 out.number z ≡ true) (sym r.class) reach })
     (λ k. let j : ⊥ = rw k at i in absurd j)
 
-pub offered_by : {A : Type 0} (p : Plan A) (out : PortPlan A) (a : Arrival) (es : List Event) (c : verdicts.Call) (x : ℕ × FilterPlan) (o : Offer) → IsPlan p → port_at p.ports out.number ≡ Some out → call_of p a ≡ Some c → verdicts.flow p.filters c ≡ Some x → In o (offer_of p out a es) → SentBy p out es x o
+pub offered_by : {A : Type 0} (p : Plan A) (out : PortPlan A) (a : Arrival) (es : List Event) (c : Call) (x : ℕ × FilterPlan) (o : Offer) → IsPlan p → port_at p.ports out.number ≡ Some out → call_of p a ≡ Some c → verdicts.flow p.filters c ≡ Some x → In o (offer_of p out a es) → SentBy p out es x o
 offered_by p out a es c x o plan there q fl i = by_way p out a es (way_of p a) c x o plan there refl q fl i
 
-none_on : {A : Type 0} (p : Plan A) (out : PortPlan A) (a : Arrival) (es : List Event) (w : Way) → call_by a w ≡ None → offer_on p out a es w ≡ []
+none_on : {A : Type 0} (p : Plan A) (out : PortPlan A) (a : Arrival) (es : List Event) (w : Way) → call_by w ≡ None → offer_on p out a es w ≡ []
 none_on p out a es Malformed q = refl
 none_on p out a es Nowhere q = refl
-none_on p out a es (Goes set handle priority dei sdu) q = absurd (cc)
+none_on p out a es (Goes set c) q = absurd (cc)
 
 pub none_offered : {A : Type 0} (p : Plan A) (out : PortPlan A) (a : Arrival) (es : List Event) → call_of p a ≡ None → offer_of p out a es ≡ []
 none_offered p out a es q = none_on p out a es (way_of p a) q
@@ -155,7 +147,7 @@ pub record IsSent {A : Type 0} (p : Plan A) (out : PortPlan A) (o : Offer) : Typ
   pub listed : In (number, filter) p.filters
   pub reaches : reaches p filter out.number o.class ≡ true
 
-arrived_sent : {A : Type 0} (p : Plan A) (s : ℕ) (f : FilterPlan) (out : PortPlan A) → IsSafe p s f → port_at p.ports out.number ≡ Some out → (a : Arrival) (es : List Event) (o : Offer) (m : Option verdicts.Call) → call_of p a ≡ m → In o (offer_of p out a es) → IsSent p out o
+arrived_sent : {A : Type 0} (p : Plan A) (s : ℕ) (f : FilterPlan) (out : PortPlan A) → IsSafe p s f → port_at p.ports out.number ≡ Some out → (a : Arrival) (es : List Event) (o : Offer) (m : Option Call) → call_of p a ≡ m → In o (offer_of p out a es) → IsSent p out o
 arrived_sent p s f out safe there a es o None e i = let z : ⊥ = subst (In o) (none_offered p out a es e) i in absurd z
 arrived_sent p s f out safe there a es o (Some c) e i =
     let (x, fl) = filtered p s f c safe.plan safe.listed safe.passes in
@@ -185,7 +177,7 @@ by_count : {A : Type 0} (p : Plan A) (out : PortPlan A) (a : Arrival) (priority 
 by_count p out a priority n k m v u e d = ap (λ (z : ℕ). offer_by out a priority n z v) e ∙ ap (λ (z : Verdict). offer_by out a priority n m z) d
 
 -- a frame of the filter gets the same verdict and the same number after its own events alone
-step_same : {A : Type 0} (p : Plan A) (s : ℕ) (f : FilterPlan) (out : PortPlan A) → IsSafe p s f → (a : Arrival) (es : List Event) (priority : ℕ) (c : verdicts.Call) (x : ℕ × FilterPlan) → verdicts.flow p.filters c ≡ Some x → x.0 ≡ s → offer_of_step p out a (own p s f es) priority (step_of p (own p s f es) c) ≡ offer_of_step p out a es priority (step_of p es c)
+step_same : {A : Type 0} (p : Plan A) (s : ℕ) (f : FilterPlan) (out : PortPlan A) → IsSafe p s f → (a : Arrival) (es : List Event) (priority : ℕ) (c : Call) (x : ℕ × FilterPlan) → verdicts.flow p.filters c ≡ Some x → x.0 ≡ s → offer_of_step p out a (own p s f es) priority (step_of p (own p s f es) c) ≡ offer_of_step p out a es priority (step_of p es c)
 step_same {A} p s f out safe a es priority c x fl same =
     let there : In x p.filters = flow_listed p.filters c x fl in
     let g : f ≡ x.1 = one_number p.filters s f x.1 safe.plan.filters.own safe.listed (subst (λ (n : ℕ). In (n, x.1) p.filters) same there) in
@@ -197,16 +189,14 @@ step_same {A} p s f out safe a es priority c x fl same =
     let two : offer_of_step p out a es priority (step_of p es c) ≡ offer_by out a priority x.0 (count p x.0 es + 1) (verdicts.verdict_of (police_of p) (steps p es) c x.0 x.1) = ap (λ (z : Option (ℕ × FilterPlan)). offer_of_step p out a es priority (verdicts.judged (police_of p) (steps p es) c z)) fl in
     one ∙ (by_count p out a priority x.0 _ _ _ _ numbers (both x.0 x.1 (sym same) g) ∙ sym two)
 
-same_on : {A : Type 0} (p : Plan A) (s : ℕ) (f : FilterPlan) (out : PortPlan A) → IsSafe p s f → (a : Arrival) (es : List Event) (w : Way) (c : verdicts.Call) (x : ℕ × FilterPlan) → call_by a w ≡ Some c → verdicts.flow p.filters c ≡ Some x → x.0 ≡ s → offer_on p out a (own p s f es) w ≡ offer_on p out a es w
+same_on : {A : Type 0} (p : Plan A) (s : ℕ) (f : FilterPlan) (out : PortPlan A) → IsSafe p s f → (a : Arrival) (es : List Event) (w : Way) (c : Call) (x : ℕ × FilterPlan) → call_by w ≡ Some c → verdicts.flow p.filters c ≡ Some x → x.0 ≡ s → offer_on p out a (own p s f es) w ≡ offer_on p out a es w
 same_on p s f out safe a es Malformed c x q fl same = refl
 same_on p s f out safe a es Nowhere c x q fl same = refl
-same_on p s f out safe a es (Goes set handle priority dei sdu) c x q fl same =
-    let made : verdicts.Call = verdicts.call a.at handle priority dei sdu (metered a.len) in
-    let is : made ≡ c = same_Some made c q in
-    let flow_is : verdicts.flow p.filters made ≡ Some x = subst (λ (z : verdicts.Call). verdicts.flow p.filters z ≡ Some x) (sym is) fl in
-    ap (λ (os : List Offer). if has set out.number then os else []) (step_same p s f out safe a es priority made x flow_is same)
+same_on p s f out safe a es (Goes set made) c x q fl same =
+    let flow_is : verdicts.flow p.filters made ≡ Some x = subst (λ (z : Call). verdicts.flow p.filters z ≡ Some x) (sym (same_Some made c q)) fl in
+    ap (λ (os : List Offer). if has set out.number then os else []) (step_same p s f out safe a es made.priority made x flow_is same)
 
-arrived_own : {A : Type 0} (p : Plan A) (s : ℕ) (f : FilterPlan) (out : PortPlan A) → IsSafe p s f → port_at p.ports out.number ≡ Some out → (k : ℕ) → reaches p f out.number k ≡ true → (a : Arrival) (es : List Event) → in_class k (offers p out (own p s f es)) ≡ in_class k (offers p out es) → (m : Option verdicts.Call) → call_of p a ≡ m → in_class k (offers p out (own p s f (Arrived a ∷ es))) ≡ in_class k (offers p out (Arrived a ∷ es))
+arrived_own : {A : Type 0} (p : Plan A) (s : ℕ) (f : FilterPlan) (out : PortPlan A) → IsSafe p s f → port_at p.ports out.number ≡ Some out → (k : ℕ) → reaches p f out.number k ≡ true → (a : Arrival) (es : List Event) → in_class k (offers p out (own p s f es)) ≡ in_class k (offers p out es) → (m : Option Call) → call_of p a ≡ m → in_class k (offers p out (own p s f (Arrived a ∷ es))) ≡ in_class k (offers p out (Arrived a ∷ es))
 arrived_own p s f out safe there k r a es ih None e =
     let left : own p s f (Arrived a ∷ es) ≡ own p s f es = rw e refl in
     ap (λ (ds : List Event). in_class k (offers p out ds)) left ∙ (ih ∙ sym (ap (λ (os : List Offer). in_class k (os ++ offers p out es)) (none_offered p out a es e)))

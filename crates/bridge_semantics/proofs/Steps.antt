@@ -1,6 +1,7 @@
 -- What comes of a filter's own events.
 use Rattle.std.proofs.Common.{◌≡◌, ℕ, List, [], ◌∷◌, arith, refl, ap, ◌∙◌, Option, Some, None}
 use Rattle.bridge_limits.proofs.Cases.{by_bool}
+use Rattle.bridge_filter.specs.declared.Call.{Call}
 use Rattle.bridge_filter.specs.declared.FilterPlan.{FilterPlan}
 use Rattle.bridge_filter.specs.Verdicts as verdicts
 use Rattle.bridge_filter.specs.Own.{is_number, is_named, own_events, own_steps, IsApart}
@@ -9,7 +10,7 @@ use Rattle.bridge_config.specs.Model.{Plan}
 use Rattle.bridge_semantics.specs.Events.{Arrival, Event, Arrived, Cleared, call_of, calls, police_of, steps, flow_of, own, count}
 
 -- the calls of a filter's own events are its own among the calls of all
-came_own : {A : Type 0} (p : Plan A) (s : ℕ) (f : FilterPlan) (a : Arrival) (es : List Event) (o : Option verdicts.Call) → call_of p a ≡ o → calls p (own p s f es) ≡ own_events (police_of p) s f (calls p es) → calls p (own p s f (Arrived a ∷ es)) ≡ own_events (police_of p) s f (calls p (Arrived a ∷ es))
+came_own : {A : Type 0} (p : Plan A) (s : ℕ) (f : FilterPlan) (a : Arrival) (es : List Event) (o : Option Call) → call_of p a ≡ o → calls p (own p s f es) ≡ own_events (police_of p) s f (calls p es) → calls p (own p s f (Arrived a ∷ es)) ≡ own_events (police_of p) s f (calls p (Arrived a ∷ es))
 came_own p s f a es None q ih = rw q ih
 came_own p s f a es (Some c) q ih = by_bool (is_number s (verdicts.flow p.filters c))
     (λ k. rw (q, k, q, ih) refl)

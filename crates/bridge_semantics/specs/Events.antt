@@ -3,7 +3,7 @@ use Rattle.std.specs.Prelude.{ℕ, Bool, ◌+◌, ◌++◌, max, nat_eq, Option,
 use Rattle.bridge_frame.specs.declared.Head.{Head}
 use Rattle.bridge_frame.specs.declared.FrameFault.{FrameFault}
 use Rattle.bridge_frame.specs.Frames.{head}
-use Rattle.bridge_ident.specs.Identification.{handle_in}
+use Rattle.bridge_filter.specs.declared.Call.{Call}
 use Rattle.bridge_filter.specs.declared.Clear.{Clear}
 use Rattle.bridge_filter.specs.declared.FilterPlan.{FilterPlan}
 use Rattle.bridge_filter.specs.Plans.{plans_of}
@@ -13,7 +13,7 @@ use Rattle.bridge_forward.specs.Forward.{forward}
 use Rattle.bridge_config.specs.declared.ports.PortPlan.{PortPlan}
 use Rattle.bridge_config.specs.Model.{Plan}
 use Rattle.bridge_config.specs.Rules.{port_at}
-use Rattle.bridge_check.specs.Sending.{vid_of, priority_of, is_eligible}
+use Rattle.bridge_check.specs.Sending as sending
 use Rattle.bridge_semantics.specs.declared.outcome.Origin.{Origin}
 use Rattle.bridge_semantics.specs.declared.way.Way.{Way}
 use Rattle.bridge_semantics.specs.declared.way.Way.TheVariants.{Malformed, Nowhere, Goes}
@@ -34,39 +34,39 @@ pub data Event : Type 0 where
   Arrived : Arrival → Event
   Cleared : Clear → ℕ → Event
 
--- the way of a frame with a head that goes to these ports
-abbrev pub way_to : {A : Type 0} → Plan A → PortPlan A → Head → ℕ → Way
-way_to p port h set = if nat_eq set 0 then Nowhere else Goes set (handle_in p.streams port.number h (vid_of port h.tag)) (priority_of port h.tag) (is_eligible h.tag) h.sdu
-
--- the way of a frame that came on a port of the plan
-abbrev pub way_on : {A : Type 0} → Plan A → PortPlan A → Result Head FrameFault → Way
-way_on p port (Err e) = Malformed
-way_on p port (Ok h) = way_to p port h (forward p.database port.number (vid_of port h.tag) h.da)
-
--- where a frame goes, nowhere where its port isn't there
-abbrev pub way_if : {A : Type 0} → Plan A → Option (PortPlan A) → Result Head FrameFault → Way
-way_if p None h = Nowhere
-way_if p (Some port) h = way_on p port h
-
--- where a frame goes
-abbrev pub way_of : {A : Type 0} → Plan A → Arrival → Way
-way_of p a = way_if p (port_at p.ports a.port) (head a.octets a.len)
-
 -- the octets that a meter counts
 abbrev pub metered : ℕ → ℕ
 metered len = max len 60 + 4
 
+-- the way of a frame with a head that goes to these ports
+abbrev pub way_to : {A : Type 0} → Plan A → PortPlan A → Arrival → Head → ℕ → Way
+way_to p port a h set = if nat_eq set 0 then Nowhere else Goes set (sending.call_of p port a.at h (metered a.len))
+
+-- the way of a frame that came on a port of the plan
+abbrev pub way_on : {A : Type 0} → Plan A → PortPlan A → Arrival → Result Head FrameFault → Way
+way_on p port a (Err e) = Malformed
+way_on p port a (Ok h) = way_to p port a h (forward p.database port.number (sending.vid_of port h.tag) h.da)
+
+-- where a frame goes, nowhere where its port isn't there
+abbrev pub way_if : {A : Type 0} → Plan A → Option (PortPlan A) → Arrival → Result Head FrameFault → Way
+way_if p None a h = Nowhere
+way_if p (Some port) a h = way_on p port a h
+
+-- where a frame goes
+abbrev pub way_of : {A : Type 0} → Plan A → Arrival → Way
+way_of p a = way_if p (port_at p.ports a.port) a (head a.octets a.len)
+
 -- what the filters see of a frame
-abbrev pub call_by : Arrival → Way → Option verdicts.Call
-call_by a (Goes set handle priority dei sdu) = Some (verdicts.call a.at handle priority dei sdu (metered a.len))
-call_by a w = None
+abbrev pub call_by : Way → Option Call
+call_by (Goes set c) = Some c
+call_by w = None
 
 -- an arrival as a filter sees it, where it goes somewhere
-abbrev pub call_of : {A : Type 0} → Plan A → Arrival → Option verdicts.Call
-call_of p a = call_by a (way_of p a)
+abbrev pub call_of : {A : Type 0} → Plan A → Arrival → Option Call
+call_of p a = call_by (way_of p a)
 
 -- calls and one more, where there is one
-abbrev pub and_call : Option verdicts.Call → List verdicts.Event → List verdicts.Event
+abbrev pub and_call : Option Call → List verdicts.Event → List verdicts.Event
 and_call None es = es
 and_call (Some c) es = verdicts.Came c ∷ es
 
@@ -85,7 +85,7 @@ abbrev pub steps : {A : Type 0} → Plan A → List Event → List verdicts.Step
 steps p es = verdicts.told (police_of p) (calls p es)
 
 -- the filter that takes a call
-abbrev pub flow_by : {A : Type 0} → Plan A → Option verdicts.Call → Option (ℕ × FilterPlan)
+abbrev pub flow_by : {A : Type 0} → Plan A → Option Call → Option (ℕ × FilterPlan)
 flow_by p None = None
 flow_by p (Some c) = verdicts.flow p.filters c
 

@@ -2,6 +2,7 @@
 use Rattle.std.specs.Prelude.{ℕ, Bool, true, false, ◌+◌, nat_eq, Option, Some, None, List, [], ◌∷◌, ◌++◌, map, slice_index_or, if◌then◌else◌}
 use Rattle.bridge_frame.specs.Frames.{drop_eligible}
 use Rattle.bridge_frame.specs.Link.{occupied}
+use Rattle.bridge_filter.specs.declared.Call.{Call}
 use Rattle.bridge_filter.specs.declared.Verdict.{Verdict}
 use Rattle.bridge_filter.specs.declared.Verdict.TheVariants as verdict
 use Rattle.bridge_filter.specs.Verdicts as verdicts
@@ -15,7 +16,7 @@ use Rattle.bridge_check.specs.Sending.{class_of}
 use Rattle.bridge_semantics.specs.declared.load.Load.{Load}
 use Rattle.bridge_semantics.specs.declared.way.Way.{Way}
 use Rattle.bridge_semantics.specs.declared.way.Way.TheVariants.{Goes}
-use Rattle.bridge_semantics.specs.Events.{Arrival, Event, Arrived, Cleared, way_of, metered, police_of, steps, count}
+use Rattle.bridge_semantics.specs.Events.{Arrival, Event, Arrived, Cleared, way_of, police_of, steps, count}
 
 -- what a port carries: when the frame came, its filter and its number among that filter's frames, its length and the octets with which it leaves
 pub record Carried : Type 0 where
@@ -60,12 +61,12 @@ offer_of_step p out a es priority (verdicts.Judged c n f v) = offer_by out a pri
 offer_of_step p out a es priority (verdicts.Commanded v m) = []
 
 -- what came of a frame that goes somewhere
-abbrev pub step_of : {A : Type 0} → Plan A → List Event → verdicts.Call → verdicts.Step
+abbrev pub step_of : {A : Type 0} → Plan A → List Event → Call → verdicts.Step
 step_of p es c = verdicts.judged (police_of p) (steps p es) c (verdicts.flow p.filters c)
 
 -- the copy of a frame that is offered to a port, where it goes there
 abbrev pub offer_on : {A : Type 0} → Plan A → PortPlan A → Arrival → List Event → Way → List Offer
-offer_on p out a es (Goes set handle priority dei sdu) = if has set out.number then offer_of_step p out a es priority (step_of p es (verdicts.call a.at handle priority dei sdu (metered a.len))) else []
+offer_on p out a es (Goes set c) = if has set out.number then offer_of_step p out a es c.priority (step_of p es c) else []
 offer_on p out a es w = []
 
 -- what a frame offers to a port after these events: one copy or none

@@ -124,7 +124,7 @@ is_nowhere w = false
 
 -- a frame goes somewhere
 abbrev pub is_relayed : Way → Bool
-is_relayed (way.Goes set handle priority dei sdu) = true
+is_relayed (way.Goes set c) = true
 is_relayed w = false
 
 -- a frame goes somewhere, and no filter takes it

@@ -27,7 +27,8 @@ use std::alloc::Allocator;
 
 /// In a run of an accepted plan the queues of a protected filter's reach hold the copies of its frames and no others.
 pub fn own_queues<A: Allocator + Copy>()
-    ensures { (p : Plan A) (n : ℕ) (f : FilterPlan) (es : List Event) (moments : ℕ → ℕ) (lists : ℕ → List (Copy Carried)) (q : ℕ) (out : PortPlan A) (x : Copy Carried)
+    ensures { (p : Plan A) (n : ℕ) (f : FilterPlan) (es : List Event) (moments : ℕ → ℕ)
+        (lists : ℕ → List (Copy Carried)) (q : ℕ) (out : PortPlan A) (x : Copy Carried)
         → IsPlan p
         → IsAcceptable p
         → In (n, f) p.filters
@@ -41,7 +42,8 @@ pub fn own_queues<A: Allocator + Copy>()
 /// In a whole run of an accepted plan the copies of a protected filter's frames are those that its own events alone give,
 /// each of its queues alone on an idle bridge.
 pub fn own_queues_alone<A: Allocator + Copy>()
-    ensures { (p : Plan A) (n : ℕ) (f : FilterPlan) (es : List Event) (moments : ℕ → ℕ) (lists : ℕ → List (Copy Carried))
+    ensures { (p : Plan A) (n : ℕ) (f : FilterPlan) (es : List Event) (moments : ℕ → ℕ)
+        (lists : ℕ → List (Copy Carried))
         → IsPlan p
         → IsAcceptable p
         → In (n, f) p.filters
@@ -54,7 +56,8 @@ pub fn own_queues_alone<A: Allocator + Copy>()
 /// While a class of a protected filter's reach is open at its port, no copy of another class occupies the link, at any
 /// moment of any lawful schedule.
 pub fn no_other_class_occupies<A: Allocator + Copy>()
-    ensures { (p : Plan A) (n : ℕ) (f : FilterPlan) (q c h u : ℕ) (out : PortPlan A) (xs : List (Copy Carried)) (x : Copy Carried)
+    ensures { (p : Plan A) (n : ℕ) (f : FilterPlan) (q c h u : ℕ) (out : PortPlan A) (xs : List (Copy Carried))
+        (x : Copy Carried)
         → IsPlan p
         → IsAcceptable p
         → In (n, f) p.filters
@@ -83,7 +86,8 @@ pub fn starts_as_alone<A: Allocator + Copy>()
         → IsLawful (egress out) h xs
         → IsWhole xs
         → IsSolo (egress out) (only c xs) }
-    ensures at_once { (p : Plan A) (n : ℕ) (f : FilterPlan) (q c h s : ℕ) (out : PortPlan A) (newer : List (Copy Carried)) (x : Copy Carried) (older : List (Copy Carried))
+    ensures at_once { (p : Plan A) (n : ℕ) (f : FilterPlan) (q c h s : ℕ) (out : PortPlan A)
+        (newer : List (Copy Carried)) (x : Copy Carried) (older : List (Copy Carried))
         → IsPlan p
         → IsAcceptable p
         → In (n, f) p.filters
@@ -94,8 +98,11 @@ pub fn starts_as_alone<A: Allocator + Copy>()
         → IsWhole (newer ++ x ∷ older)
         → x.class ≡ c
         → x.fate ≡ Started s
-        → IsFirst (opens_of out.list c) (occupied x.item.len out.speed) (max x.at (last_done (egress out) (only c older))) s }
-    ensures own { (p : Plan A) (n : ℕ) (f : FilterPlan) (es : List Event) (moments : ℕ → ℕ) (lists : ℕ → List (Copy Carried)) (q s : ℕ) (out : PortPlan A) (newer : List (Copy Carried)) (x : Copy Carried) (older : List (Copy Carried))
+        → IsFirst (opens_of out.list c) (occupied x.item.len out.speed)
+        (max x.at (last_done (egress out) (only c older))) s }
+    ensures own { (p : Plan A) (n : ℕ) (f : FilterPlan) (es : List Event) (moments : ℕ → ℕ)
+        (lists : ℕ → List (Copy Carried)) (q s : ℕ) (out : PortPlan A) (newer : List (Copy Carried))
+        (x : Copy Carried) (older : List (Copy Carried))
         → IsPlan p
         → IsAcceptable p
         → In (n, f) p.filters
@@ -106,13 +113,15 @@ pub fn starts_as_alone<A: Allocator + Copy>()
         → lists q ≡ newer ++ x ∷ older
         → x.item.flow ≡ Some n
         → x.fate ≡ Started s
-        → IsFirst (opens_of out.list x.class) (occupied x.item.len out.speed) (max x.at (last_done (egress out) (only x.class older))) s }
+        → IsFirst (opens_of out.list x.class) (occupied x.item.len out.speed)
+        (max x.at (last_done (egress out) (only x.class older))) s }
 {}
 
 /// What a run of an accepted plan tells of a protected filter is what the filter's own events alone tell of it, each of
 /// its queues alone on an idle bridge.
 pub fn isolated<A: Allocator + Copy>()
-    ensures { (p : Plan A) (n : ℕ) (f : FilterPlan) (es : List Event) (lists : ℕ → List (Copy Carried)) (o : Outcome A) (v : View A)
+    ensures { (p : Plan A) (n : ℕ) (f : FilterPlan) (es : List Event) (lists : ℕ → List (Copy Carried))
+        (o : Outcome A) (v : View A)
         → IsPlan p
         → IsAcceptable p
         → In (n, f) p.filters
@@ -133,7 +142,8 @@ pub fn one_view<A: Allocator + Copy>()
 /// Two runs of an accepted plan in which a protected filter has the same own events tell the same of it, whatever else
 /// came.
 pub fn others_change_nothing<A: Allocator + Copy>()
-    ensures { (p : Plan A) (n : ℕ) (f : FilterPlan) (es others : List Event) (lists more : ℕ → List (Copy Carried)) (o q : Outcome A) (u v : View A)
+    ensures { (p : Plan A) (n : ℕ) (f : FilterPlan) (es others : List Event) (lists more : ℕ → List (Copy Carried))
+        (o q : Outcome A) (u v : View A)
         → IsPlan p
         → IsAcceptable p
         → In (n, f) p.filters
@@ -158,7 +168,8 @@ pub fn few_leave<A: Allocator + Copy>()
         → Reaches p es moment left
         → port_at p.ports q ≡ Some out
         → length (left q) ≤ length (arrivals es) }
-    ensures to_start { (p : Plan A) (es : List Event) (moment port : ℕ) (left : ℕ → List Captured) (q : ℕ) (out : PortPlan A)
+    ensures to_start { (p : Plan A) (es : List Event) (moment port : ℕ) (left : ℕ → List Captured) (q : ℕ)
+        (out : PortPlan A)
         → ReachesStart p es moment port left
         → port_at p.ports q ≡ Some out
         → length (left q) ≤ length (arrivals es) }

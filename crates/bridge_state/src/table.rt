@@ -40,7 +40,15 @@ impl<A: Allocator + Copy> Model for Table<A> {
 
     ghost Value = { TableState };
 
-    ghost view = { λ t. record { verdicts = t.verdicts.items; origins = t.origins.items; departures = t.departures.items; drops = t.drops.items; delay = t.delay; owed = t.owed; is_open = t.is_open } };
+    ghost view = { λ t. record {
+      verdicts = t.verdicts.items;
+      origins = t.origins.items;
+      departures = t.departures.items;
+      drops = t.drops.items;
+      delay = t.delay;
+      owed = t.owed;
+      is_open = t.is_open;
+    } };
 
     ghost invariant = { λ t. HasRoom t.verdicts t.origins t.departures t.drops t.owed t.is_open };
 }

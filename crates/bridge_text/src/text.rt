@@ -70,6 +70,13 @@ impl<A: Allocator> Text<A> {
         self.put(digits.format(number));
     }
 
+    /// Puts a comma at the end, unless nothing is listed before.
+    pub fn put_comma(&mut self, is_first: bool) {
+        if !is_first {
+            self.put(", ");
+        }
+    }
+
     /// Puts a piece at the end in quotes, as Rust writes a text.
     pub fn put_quoted(&mut self, piece: &str) {
         let is_refused = match &mut self.held {

@@ -5,13 +5,11 @@ use crate::captures::put_of_captures;
 use crate::command_lines::words_in;
 use crate::parts::put_of_parts;
 use crate::told_jobs::put_of_job;
+use bridge_advice::{explain_check, warn_of_plan};
 use bridge_check::check;
 use bridge_cli::job_of;
 use bridge_config::{Plan, commands_of, plan_of};
-use bridge_explain::{
-    explain_check, explain_commands, explain_plan, explain_run, explain_text, explain_words,
-    warn_of_plan,
-};
+use bridge_explain::{explain_commands, explain_plan, explain_run, explain_text, explain_words};
 use bridge_hex::octets_of;
 use bridge_jobs::{Fault, NoMemory, TextFault, fault_line, wire_text};
 use bridge_text::Text;

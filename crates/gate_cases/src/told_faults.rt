@@ -2,14 +2,13 @@
 
 use crate::adding::add;
 use crate::told_cases::put_line;
+use bridge_advice::explain_check;
 use bridge_capture::CaptureFault;
 use bridge_check::CheckFault;
 use bridge_config::plan_of;
-use bridge_explain::{
-    Cause, explain_check, explain_commands, explain_file, explain_plan, explain_run, explain_text,
-};
+use bridge_explain::{explain_commands, explain_file, explain_plan, explain_run, explain_text};
 use bridge_inputs::RunFault;
-use bridge_jobs::{Fault, TextFault};
+use bridge_jobs::{Cause, Fault, TextFault};
 use bridge_schema::PlanFault;
 use bridge_text::Text;
 use std::alloc::Global;

@@ -4,40 +4,36 @@ use Rattle.std.specs.Map.{keys_of}
 use Rattle.bridge_meter.specs.Colours.{Came}
 use Rattle.bridge_filter.specs.declared.Verdict.TheVariants.{Pass}
 use Rattle.bridge_filter.specs.Finding.{IsPlaceIfAny}
-use Rattle.bridge_filter.specs.Verdicts.{call, Judged, meter_share}
+use Rattle.bridge_filter.specs.Verdicts.{Judged, meter_share}
 use Rattle.bridge_filter.proofs.Judging.{meter_placed, no_meter_placed}
 use Rattle.bridge_filter.proofs.Shares.{by_answer-metered, by_answer-unmetered, meter_share-passed, meter_share-without, meters_stand_same}
 use Rattle.bridge_filter.proofs.instances.answered.Goals as goal
 
 pub returns-in-Some-clause-verdict : goal.returns-in-Some-clause-verdict
-returns-in-Some-clause-verdict g c = λ p ss f handle priority placed stand.
-    let frame = c.args.frame in
+returns-in-Some-clause-verdict g c = λ p ss f placed stand.
     let keys = keys_of c.args.meters.now.entries in
     let m = meter_placed keys f.meter c.in-Some.place (subst (λ (o : Option ℕ). IsPlaceIfAny keys f.meter o) c.in-Some.is placed) in
-    c.metered.ensures.verdict m.0 p.meters (λ n. meter_share n ss) m.2 stand ∙ sym (by_answer-metered p ss (call frame.at handle priority frame.dei frame.sdu frame.octets) f c.args.answer c.in-Through.ipv m.0 c.in-Through.is m.1)
+    c.metered.ensures.verdict m.0 p.meters (λ n. meter_share n ss) m.2 stand ∙ sym (by_answer-metered p ss c.args.call f c.args.answer c.in-Through.ipv m.0 c.in-Through.is m.1)
 
 pub returns-in-Some-clause-stand : goal.returns-in-Some-clause-stand
-returns-in-Some-clause-stand g c = λ plans ss k f handle priority placed stand.
-    let frame = c.args.frame in
-    let frame_call = call frame.at handle priority frame.dei frame.sdu frame.octets in
+returns-in-Some-clause-stand g c = λ plans ss k f placed stand.
+    let call = c.args.call in
     let keys = keys_of c.args.meters.now.entries in
     let m = meter_placed keys f.meter c.in-Some.place (subst (λ (o : Option ℕ). IsPlaceIfAny keys f.meter o) c.in-Some.is placed) in
-    meters_stand_same plans c.metered.new.meters.entries (λ n. if nat_eq m.0 n then Came frame.at frame.octets frame.dei ∷ meter_share n ss else meter_share n ss) (λ n. meter_share n (Judged frame_call k f c.metered.result ∷ ss))
-    (λ n. meter_share-passed n m.0 k frame_call f c.metered.result ss m.1 c.metered.ensures.passed)
+    meters_stand_same plans c.metered.new.meters.entries (λ n. if nat_eq m.0 n then Came call.at call.octets call.dei ∷ meter_share n ss else meter_share n ss) (λ n. meter_share n (Judged call k f c.metered.result ∷ ss))
+    (λ n. meter_share-passed n m.0 k call f c.metered.result ss m.1 c.metered.ensures.passed)
     (c.metered.ensures.stand m.0 plans (λ n. meter_share n ss) m.2 stand)
 
 pub returns-in-None-clause-verdict : goal.returns-in-None-clause-verdict
-returns-in-None-clause-verdict g c = λ p ss f handle priority placed stand.
-    let frame = c.args.frame in
+returns-in-None-clause-verdict g c = λ p ss f placed stand.
     let keys = keys_of c.args.meters.now.entries in
     let none = no_meter_placed keys f.meter (subst (λ (o : Option ℕ). IsPlaceIfAny keys f.meter o) c.in-None.is placed) in
-    sym (by_answer-unmetered p ss (call frame.at handle priority frame.dei frame.sdu frame.octets) f c.args.answer c.in-Through.ipv c.in-Through.is none)
+    sym (by_answer-unmetered p ss c.args.call f c.args.answer c.in-Through.ipv c.in-Through.is none)
 
 pub returns-in-None-clause-stand : goal.returns-in-None-clause-stand
-returns-in-None-clause-stand g c = λ plans ss k f handle priority placed stand.
-    let frame = c.args.frame in
-    let frame_call = call frame.at handle priority frame.dei frame.sdu frame.octets in
+returns-in-None-clause-stand g c = λ plans ss k f placed stand.
+    let call = c.args.call in
     let keys = keys_of c.args.meters.now.entries in
     let none = no_meter_placed keys f.meter (subst (λ (o : Option ℕ). IsPlaceIfAny keys f.meter o) c.in-None.is placed) in
     let verdict = Pass c.in-Through.ipv false in
-    meters_stand_same plans c.args.meters.now.entries (λ n. meter_share n ss) (λ n. meter_share n (Judged frame_call k f verdict ∷ ss)) (λ n. meter_share-without n k frame_call f verdict ss none) stand
+    meters_stand_same plans c.args.meters.now.entries (λ n. meter_share n ss) (λ n. meter_share n (Judged call k f verdict ∷ ss)) (λ n. meter_share-without n k call f verdict ss none) stand

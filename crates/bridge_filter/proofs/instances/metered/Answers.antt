@@ -27,7 +27,7 @@ returns-clause-stand g c = λ number plans share there stand.
     let was = at.result.1.now in
     let is = c.colour-colour.new.self in
     let change = changes_of m c.args.place k number was is (number_is m.entries c.args.place k number was at.ensures.value there) at.ensures.unique at.ensures.value in
-    meters_after m.entries (set_value_at m.entries c.args.place is) number was is (Came c.args.frame.at c.args.frame.octets c.args.frame.dei) change c.colour-colour.ensures.stands plans share stand
+    meters_after m.entries (set_value_at m.entries c.args.place is) number was is (Came c.args.call.at c.args.call.octets c.args.call.dei) change c.colour-colour.ensures.stands plans share stand
 
 pub returns-clause-verdict : goal.returns-clause-verdict
 returns-clause-verdict g c = λ number plans share there stand.
@@ -49,7 +49,7 @@ returns-clause-before g c =
     let is = c.colour-colour.new.self in
     let change = changes_at m c.args.place at.result.0.now was is at.ensures.unique at.ensures.value in
     let le = c.requires.before at.result.0.now was change.there in
-    meters_before m.entries (set_value_at m.entries c.args.place is) at.result.0.now c.args.frame.at was is change (not_after was.buckets.all_red is.buckets.at was.buckets.at c.args.frame.at c.colour-colour.ensures.at le) c.requires.before
+    meters_before m.entries (set_value_at m.entries c.args.place is) at.result.0.now c.args.call.at was is change (not_after was.buckets.all_red is.buckets.at was.buckets.at c.args.call.at c.colour-colour.ensures.at le) c.requires.before
 
 pub returns-clause-same : goal.returns-clause-same
 returns-clause-same g c = keys-with_value_at c.args.meters.now c.args.place c.colour-colour.new.self

@@ -4,7 +4,7 @@ use Rattle.indexmap.specs.Layout.{set_value_at}
 use Rattle.bridge_filter.specs.declared.FilterPlan.{FilterPlan}
 use Rattle.bridge_filter.specs.declared.filter.Filter.{Filter}
 use Rattle.bridge_filter.specs.Finding.{IsServed}
-use Rattle.bridge_filter.specs.Verdicts.{call, Judged, verdict_of}
+use Rattle.bridge_filter.specs.Verdicts.{Judged, verdict_of}
 use Rattle.bridge_filter.specs.Steps.{ArePoliced}
 use Rattle.bridge_filter.proofs.Numbered.{Changes, changes_of, keeps_numbers}
 use Rattle.bridge_filter.proofs.Judging.{kept_after, instances_after, plan_found, filter_is, filter_within, plans_in-set_value_at}
@@ -30,15 +30,14 @@ note-requires g c =
     (c.requires.instances a.route.number was there).few
 
 pub returns-clause-verdict : goal.returns-clause-verdict
-returns-clause-verdict g c = λ p ss f handle priority found kept are.
+returns-clause-verdict g c = λ p ss f found kept are.
     let a = c.args in
     let at = c.pair_mut-filter in
     let was = at.result.1.now in
     let is = filter_is a.filters.now.entries a.route.filter at.result.0.now a.route.number was c.requires.route.plan at.ensures.value c.requires.route.filter in
     let there = (changes_of a.filters.now a.route.filter at.result.0.now a.route.number was was is.0 at.ensures.unique at.ensures.value).there in
     let same = plan_found a.route.number a.filters.now.entries was f there found in
-    let frame = a.frame in
-    c.verdict_for-verdict.ensures.verdict p ss a.route.number handle priority are (kept a.route.number was there) ∙ ap (λ (x : FilterPlan). verdict_of p ss (call frame.at handle priority frame.dei frame.sdu frame.octets) a.route.number x) same
+    c.verdict_for-verdict.ensures.verdict p ss a.route.number are (kept a.route.number was there) ∙ ap (λ (x : FilterPlan). verdict_of p ss a.call a.route.number x) same
 
 pub returns-clause-kept : goal.returns-clause-kept
 returns-clause-kept g c =
@@ -51,22 +50,19 @@ returns-clause-kept g c =
     let new = set_value_at old a.route.filter c.note.new.self in
     let v = c.verdict_for-verdict.result in
     let change = subst (λ (y : Filter). Changes old new n was y) c.note.ensures (changes_of a.filters.now a.route.filter at.result.0.now n was c.note.new.self is.0 at.ensures.unique at.ensures.value) in
-    let frame = a.frame in
-    λ ss f handle priority found kept. kept_after old new n was (call frame.at handle priority frame.dei frame.sdu frame.octets) f v ss change kept
+    λ ss f found kept. kept_after old new n was a.call f v ss change kept
 
 pub returns-clause-policed : goal.returns-clause-policed
-returns-clause-policed g c = λ p ss f handle priority found are.
+returns-clause-policed g c = λ p ss f found are.
     let a = c.args in
     let at = c.pair_mut-filter in
     let was = at.result.1.now in
     let is = filter_is a.filters.now.entries a.route.filter at.result.0.now a.route.number was c.requires.route.plan at.ensures.value c.requires.route.filter in
     let there = (changes_of a.filters.now a.route.filter at.result.0.now a.route.number was was is.0 at.ensures.unique at.ensures.value).there in
     let same = plan_found a.route.number a.filters.now.entries was f there found in
-    let frame = a.frame in
-    let frame_call = call frame.at handle priority frame.dei frame.sdu frame.octets in
     let r = c.verdict_for-verdict in
-    let P : FilterPlan → Type 0 = λ x. ArePoliced p r.new.gates.entries r.new.meters.entries (Judged frame_call a.route.number x r.result ∷ ss) in
-    subst P same (r.ensures.policed p ss a.route.number handle priority are)
+    let P : FilterPlan → Type 0 = λ x. ArePoliced p r.new.gates.entries r.new.meters.entries (Judged a.call a.route.number x r.result ∷ ss) in
+    subst P same (r.ensures.policed p ss a.route.number are)
 
 pub returns-clause-plans : goal.returns-clause-plans
 returns-clause-plans g c =

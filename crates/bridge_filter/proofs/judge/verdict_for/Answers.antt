@@ -1,5 +1,4 @@
 use Rattle.std.proofs.Common.{◌∙◌, sym}
-use Rattle.bridge_filter.specs.Verdicts.{call}
 use Rattle.bridge_filter.proofs.Numbered.{place_within}
 use Rattle.bridge_filter.proofs.Judging.{refusal_is_verdict, admitted_verdict, refused_shares, meter_within}
 use Rattle.bridge_filter.proofs.judge.verdict_for.Goals as goal
@@ -11,19 +10,16 @@ pub policed-requires-clause-meter : goal.policed-requires-clause-meter
 policed-requires-clause-meter g c = meter_within c.args.meters.now.entries c.args.filter.now.plan.meter c.args.route.meter c.requires.served.meter
 
 pub returns-in-Some-clause-verdict : goal.returns-in-Some-clause-verdict
-returns-in-Some-clause-verdict g c = λ p ss n handle priority are kept.
-    let frame = c.args.frame in
-    refusal_is_verdict p ss (call frame.at handle priority frame.dei frame.sdu frame.octets) n c.args.filter.now c.in-Some.refusal kept (sym c.refusal.ensures ∙ c.in-Some.is)
+returns-in-Some-clause-verdict g c = λ p ss n are kept.
+    refusal_is_verdict p ss c.args.call n c.args.filter.now c.in-Some.refusal kept (sym c.refusal.ensures ∙ c.in-Some.is)
 
 pub returns-in-Some-clause-policed : goal.returns-in-Some-clause-policed
-returns-in-Some-clause-policed g c = λ p ss n handle priority are.
-    let frame = c.args.frame in
-    refused_shares p c.args.gates.now.entries c.args.meters.now.entries ss (call frame.at handle priority frame.dei frame.sdu frame.octets) n c.args.filter.now c.in-Some.refusal (sym c.refusal.ensures ∙ c.in-Some.is) are
+returns-in-Some-clause-policed g c = λ p ss n are.
+    refused_shares p c.args.gates.now.entries c.args.meters.now.entries ss c.args.call n c.args.filter.now c.in-Some.refusal (sym c.refusal.ensures ∙ c.in-Some.is) are
 
 pub returns-in-None-clause-verdict : goal.returns-in-None-clause-verdict
-returns-in-None-clause-verdict g c = λ p ss n handle priority are kept.
-    let frame = c.args.frame in
-    c.policed.ensures.verdict p ss c.args.filter.now.plan handle priority c.requires.served are ∙ admitted_verdict p ss (call frame.at handle priority frame.dei frame.sdu frame.octets) n c.args.filter.now kept (sym c.refusal.ensures ∙ c.in-None.is)
+returns-in-None-clause-verdict g c = λ p ss n are kept.
+    c.policed.ensures.verdict p ss c.args.filter.now.plan c.requires.served are ∙ admitted_verdict p ss c.args.call n c.args.filter.now kept (sym c.refusal.ensures ∙ c.in-None.is)
 
 pub returns-in-None-clause-policed : goal.returns-in-None-clause-policed
-returns-in-None-clause-policed g c = λ p ss n handle priority are. c.policed.ensures.gates p ss n c.args.filter.now.plan handle priority c.requires.served are
+returns-in-None-clause-policed g c = λ p ss n are. c.policed.ensures.gates p ss n c.args.filter.now.plan c.requires.served are

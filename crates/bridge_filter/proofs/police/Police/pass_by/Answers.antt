@@ -1,6 +1,8 @@
 use Rattle.std.proofs.Common.{arith, ◌≤◌, ◌<◌, ◌^◌, ◌∙◌, sym, subst, refl, ap}
+use Rattle.std.specs.Option.{option_map}
+use Rattle.bridge_filter.specs.declared.Ruling.{Ruling}
 use Rattle.bridge_filter.specs.Plans.{KeepsNumbers}
-use Rattle.bridge_filter.specs.Verdicts.{Unfiltered, Judged, call, told, ruled}
+use Rattle.bridge_filter.specs.Verdicts.{Unfiltered, Judged, told, ruled}
 use Rattle.bridge_filter.specs.Standing.{PoliceState, Stands}
 use Rattle.bridge_filter.specs.Finding.{IsFound}
 use Rattle.bridge_filter.specs.Steps.{plans_in}
@@ -13,20 +15,34 @@ use Rattle.bridge_filter.proofs.police.Police.pass_by.Goals as goal
 pub invariant_of-self : goal.invariant_of-self
 invariant_of-self g c =
     let i = c.self.inside in
-    let le : i.earliest ≤ c.args.t = subst (λ (z : PoliceState _). z.earliest ≤ c.args.t) (sym c.self.view_is) c.requires.time in
-    sound_unfiltered i.filters.entries i.rows.entries i.any i.gates.entries i.meters.entries i.calls i.earliest c.args.t le c.self.invariant
+    let le : i.earliest ≤ c.args.call.at = subst (λ (z : PoliceState _). z.earliest ≤ c.args.call.at) (sym c.self.view_is) c.requires.time in
+    sound_unfiltered i.filters.entries i.rows.entries i.any i.gates.entries i.meters.entries i.calls i.earliest c.args.call.at le c.self.invariant
 
 pub returns-in_err-route-clause-stands : goal.returns-in_err-route-clause-stands
 returns-in_err-route-clause-stands g c = λ p es stands.
     let i = c.self.inside in
     let fs = plans_in i.filters.entries in
-    let frame = call c.args.t c.args.handle c.args.priority c.args.dei c.args.sdu c.args.octets in
-    let found = subst (λ (z : PoliceState _). IsFound z c.args.handle c.args.priority c.args.found) (sym c.self.view_is) c.requires.found in
-    let number = found.number c.args.t c.args.sdu c.args.octets c.args.dei in
-    let none = flow_none fs frame (sym (ap number_of c.in_err-route.was) ∙ number) in
+    let call = c.args.call in
+    let found = subst (λ (z : PoliceState _). IsFound z call.handle call.priority c.args.found) (sym c.self.view_is) c.requires.found in
+    let number = found.number call.at call.sdu call.octets call.dei in
+    let none = flow_none fs call (sym (ap number_of c.in_err-route.was) ∙ number) in
     let st = subst (λ (z : PoliceState _). Stands p z es) (sym c.self.view_is) stands in
-    let step = judged_unfiltered p fs (told p es) frame st.filters none in
-    stands_after p _ _ es frame (Unfiltered frame) step st refl (kept_unfiltered i.filters.entries frame (told p es) st.kept) (policed_unfiltered p i.gates.entries i.meters.entries frame (told p es) (are_policed p _ es st)) refl refl
+    let step = judged_unfiltered p fs (told p es) call st.filters none in
+    stands_after p _ _ es call (Unfiltered call) step st refl (kept_unfiltered i.filters.entries call (told p es) st.kept) (policed_unfiltered p i.gates.entries i.meters.entries call (told p es) (are_policed p _ es st)) refl refl
+
+pub returns-in_err-route-clause-answer : goal.returns-in_err-route-clause-answer
+returns-in_err-route-clause-answer g c = λ p es stands.
+    let call = c.args.call in
+    let fs = c.args.self.now.filters in
+    let number = c.requires.found.number call.at call.sdu call.octets call.dei in
+    let none = flow_none fs call (sym (ap number_of c.in_err-route.was) ∙ number) in
+    c.from_residual.ensures ∙ sym (ap ruled (judged_unfiltered p fs (told p es) call stands.filters none))
+
+pub returns-in_err-route-clause-filter : goal.returns-in_err-route-clause-filter
+returns-in_err-route-clause-filter g c =
+    let call = c.args.call in
+    let number = c.requires.found.number call.at call.sdu call.octets call.dei in
+    ap (option_map (λ (r : Ruling). r.filter)) c.from_residual.ensures ∙ (sym (ap number_of c.in_err-route.was) ∙ number)
 
 pub judge-verdict-requires-clause-instances : goal.judge-verdict-requires-clause-instances
 judge-verdict-requires-clause-instances g c =
@@ -38,7 +54,7 @@ pub invariant_of-self-2 : goal.invariant_of-self-2
 invariant_of-self-2 g c =
     let i = c.self.inside in
     let r = c.judge-verdict in
-    sound_judged i.filters.entries r.new.filters.entries i.rows.entries i.any i.gates.entries r.new.gates.entries i.meters.entries r.new.meters.entries i.calls i.earliest c.args.t c.self.invariant r.ensures.plans r.ensures.same_gates r.ensures.same_meters (r.ensures.instances i.calls c.self.invariant.instances) r.ensures.asked r.ensures.judged
+    sound_judged i.filters.entries r.new.filters.entries i.rows.entries i.any i.gates.entries r.new.gates.entries i.meters.entries r.new.meters.entries i.calls i.earliest c.args.call.at c.self.invariant r.ensures.plans r.ensures.same_gates r.ensures.same_meters (r.ensures.instances i.calls c.self.invariant.instances) r.ensures.asked r.ensures.judged
 
 pub returns-clause-stands : goal.returns-clause-stands
 returns-clause-stands g c = λ p es stands.
@@ -46,15 +62,15 @@ returns-clause-stands g c = λ p es stands.
     let r = c.judge-verdict in
     let n = c.in_ok-route.route.number in
     let fs = plans_in i.filters.entries in
-    let frame = call c.args.t c.args.handle c.args.priority c.args.dei c.args.sdu c.args.octets in
-    let found = subst (λ (z : PoliceState _). IsFound z c.args.handle c.args.priority c.args.found) (sym c.self.view_is) c.requires.found in
-    let number = found.number c.args.t c.args.sdu c.args.octets c.args.dei in
-    let flow = flow_numbered fs frame n c.self.invariant.distinct (sym (ap number_of c.in_ok-route.was) ∙ number) in
+    let call = c.args.call in
+    let found = subst (λ (z : PoliceState _). IsFound z call.handle call.priority c.args.found) (sym c.self.view_is) c.requires.found in
+    let number = found.number call.at call.sdu call.octets call.dei in
+    let flow = flow_numbered fs call n c.self.invariant.distinct (sym (ap number_of c.in_ok-route.was) ∙ number) in
     let st = subst (λ (z : PoliceState _). Stands p z es) (sym c.self.view_is) stands in
     let are = are_policed p _ es st in
-    let verdict = r.ensures.verdict p (told p es) flow.plan c.args.handle c.args.priority flow.found st.kept are in
-    let step = judged_by p fs (told p es) frame n flow.plan r.result st.filters flow.is verdict in
-    stands_after p _ _ es frame (Judged frame n flow.plan r.result) step st r.ensures.plans (r.ensures.kept (told p es) flow.plan c.args.handle c.args.priority flow.found st.kept) (r.ensures.policed p (told p es) flow.plan c.args.handle c.args.priority flow.found are) refl refl
+    let verdict = r.ensures.verdict p (told p es) flow.plan flow.found st.kept are in
+    let step = judged_by p fs (told p es) call n flow.plan r.result st.filters flow.is verdict in
+    stands_after p _ _ es call (Judged call n flow.plan r.result) step st r.ensures.plans (r.ensures.kept (told p es) flow.plan flow.found st.kept) (r.ensures.policed p (told p es) flow.plan flow.found are) refl refl
 
 pub returns-clause-answer : goal.returns-clause-answer
 returns-clause-answer g c = λ p es stands.
@@ -62,13 +78,18 @@ returns-clause-answer g c = λ p es stands.
     let r = c.judge-verdict in
     let n = c.in_ok-route.route.number in
     let fs = plans_in i.filters.entries in
-    let frame = call c.args.t c.args.handle c.args.priority c.args.dei c.args.sdu c.args.octets in
-    let found = subst (λ (z : PoliceState _). IsFound z c.args.handle c.args.priority c.args.found) (sym c.self.view_is) c.requires.found in
-    let number = found.number c.args.t c.args.sdu c.args.octets c.args.dei in
-    let flow = flow_numbered fs frame n c.self.invariant.distinct (sym (ap number_of c.in_ok-route.was) ∙ number) in
+    let call = c.args.call in
+    let found = subst (λ (z : PoliceState _). IsFound z call.handle call.priority c.args.found) (sym c.self.view_is) c.requires.found in
+    let number = found.number call.at call.sdu call.octets call.dei in
+    let flow = flow_numbered fs call n c.self.invariant.distinct (sym (ap number_of c.in_ok-route.was) ∙ number) in
     let st = subst (λ (z : PoliceState _). Stands p z es) (sym c.self.view_is) stands in
-    let verdict = r.ensures.verdict p (told p es) flow.plan c.args.handle c.args.priority flow.found st.kept (are_policed p _ es st) in
-    sym (ap ruled (judged_by p fs (told p es) frame n flow.plan r.result st.filters flow.is verdict))
+    let verdict = r.ensures.verdict p (told p es) flow.plan flow.found st.kept (are_policed p _ es st) in
+    sym (ap ruled (judged_by p fs (told p es) call n flow.plan r.result st.filters flow.is verdict))
+
+pub returns-clause-filter : goal.returns-clause-filter
+returns-clause-filter g c =
+    let call = c.args.call in
+    sym (ap number_of c.in_ok-route.was) ∙ c.requires.found.number call.at call.sdu call.octets call.dei
 
 pub returns-clause-gates : goal.returns-clause-gates
 returns-clause-gates g c =

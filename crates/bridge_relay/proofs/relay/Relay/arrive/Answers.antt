@@ -3,18 +3,19 @@ use contract.BorrowLft.{⊑_static}
 use Rattle.std.proofs.Common.{◌≡◌, ℕ, ◌+◌, ◌≤◌, List, ◌∷◌, length, arith, sym, subst, ap, ◌∙◌, refl, Option, Some, false}
 use Rattle.std.specs.Prelude.{IfSome, IsTrue, Vec}
 use Rattle.std.specs.Option.{option_map}
+use Rattle.bridge_filter.specs.declared.Call.{Call}
 use Rattle.bridge_filter.specs.declared.FilterPlan.{FilterPlan}
 use Rattle.bridge_filter.specs.Plans.{is_there}
 use Rattle.bridge_filter.specs.Finding.{IsFound}
 use Rattle.bridge_filter.specs.Verdicts.{flow}
 use Rattle.bridge_config.specs.Rules.{port_at}
-use Rattle.bridge_semantics.specs.Events.{Arrived, arrival, metered, way_of}
+use Rattle.bridge_semantics.specs.Events.{Arrived, arrival, way_of}
 use Rattle.bridge_state.specs.declared.slot.Slot.{Slot}
 use Rattle.bridge_state.specs.Tables.{IsOpen}
 use Rattle.bridge_state.specs.Ports.{slot_at, outs, NotBefore}
-use Rattle.bridge_relay.specs.declared.relay.Seen.{Seen}
 use Rattle.bridge_relay.specs.Relays.{RelayState, IsSound, HasSpare, Stands, is_flow_stray}
-use Rattle.bridge_relay.specs.Relaying.{HasCopies, IsFresh, called, filter_number, one_less}
+use Rattle.bridge_relay.specs.Relaying.{HasCopies, IsFresh, filter_number, one_less}
+use Rattle.bridge_semantics.proofs.Offering.{going}
 use Rattle.bridge_relay.proofs.Found.{number_there}
 use Rattle.bridge_relay.proofs.Offered.{stray_not}
 use Rattle.bridge_relay.proofs.Offering.{all_in}
@@ -112,26 +113,29 @@ relay-requires g c =
     let filter = c.number_of-filter.result in
     let set = c.in-Goes.set in
     let k = outs now.ports.slots set 16 in
-    let sees : Seen = record { handle = c.in-Goes.handle; priority = c.in-Goes.priority; dei = c.in-Goes.dei; sdu = c.in-Goes.sdu } in
+    let call = c.in-Goes.call in
+    let came = arrival c.args.packet.time port c.deref.result.now c.args.packet.len in
+    let goes = going now.plan came set call (sym c.way_of.ensures.way ∙ c.in-Goes.is) in
     let same : c.prepare.new.self ≡ promising now filter k = c.in-Ok.ensures.ok in
     let there : IfSome filter (λ n. IsTrue (is_there n now.plan.filters)) = subst (λ (v : RelayState _ _). IfSome filter (λ n. IsTrue (is_there n v.plan.filters))) c.self.view_is (subst (λ (fs : _). IfSome filter (λ n. IsTrue (is_there n fs))) c.self.invariant.filters (number_there _ _ _ c.number_of-filter.ensures c.find-found.ensures.there)) in
-    let numbered : filter ≡ filter_number now.plan (called c.args.packet.time c.args.packet.len sees) = (c.number_of-filter.ensures ∙ c.find-found.ensures.found.number c.args.packet.time sees.sdu (metered c.args.packet.len) sees.dei) ∙ (ap (λ (fs : _). option_map (λ (f : ℕ × FilterPlan). f.0) (flow fs (called c.args.packet.time c.args.packet.len sees))) c.self.invariant.filters ∙ ap (λ (v : RelayState _ _). filter_number v.plan (called c.args.packet.time c.args.packet.len sees)) c.self.view_is) in
+    let numbered : filter ≡ filter_number now.plan call = (c.number_of-filter.ensures ∙ c.find-found.ensures.found.number call.at call.sdu call.octets call.dei) ∙ (ap (λ (fs : _). option_map (λ (f : ℕ × FilterPlan). f.0) (flow fs call)) c.self.invariant.filters ∙ ap (λ (v : RelayState _ _). filter_number v.plan call) c.self.view_is) in
     let made = c.in-Ok.ensures.copies in
     let count = made.0 in
     let slot = slot_of (port_at now.plan.ports port) (slot_at now.ports port) c.requires.known.0 (sound.alike port low) c.requires.known.1 in
     record {
       known = subst (λ (v : RelayState _ _). (s : Slot _) × (slot_at v.ports port ≡ Some s)) (sym same) slot;
       from = low;
+      at = sym (ap (λ (z : Call). z.at) goes.call_is);
       time = (subst (λ (v : RelayState _ _). v.earliest ≤ c.args.packet.time) (sym c.in-Ok.ensures.ok) c.requires.time.0, c.requires.time.1);
       due = subst (λ (v : RelayState _ _). NotBefore (g.G.Agenda.held v.ports.agenda) c.args.packet.time) (sym same) c.requires.due;
       sound = c.in-Ok.ensures.sound;
       fresh = subst (λ (v : RelayState _ _). IsFresh v) (sym same) (fresh_promised g.G.Agenda.held now filter k sound);
-      awaited = subst (λ (v : RelayState _ _). IfSome (filter_number v.plan (called c.args.packet.time c.args.packet.len sees)) (IsOpen v.tables)) (sym same) (subst (λ (o : Option ℕ). IfSome o (IsOpen (promising now filter k).tables)) numbered (open_promised g.G.Agenda.held now filter k sound there));
-      spare = subst (λ (v : RelayState _ _). IfSome (filter_number v.plan (called c.args.packet.time c.args.packet.len sees)) (HasSpare v (outs v.ports.slots set 16))) (sym same) (subst (λ (o : Option ℕ). IfSome o (HasSpare (promising now filter k) k)) numbered (spare_promised g.G.Agenda.held now filter k sound there));
-      right = subst (λ (v : RelayState _ _). is_flow_stray v.plan.filters (filter_number v.plan (called c.args.packet.time c.args.packet.len sees)) ≡ false) (sym same) (subst (λ (o : Option ℕ). is_flow_stray now.plan.filters o ≡ false) numbered (stray_not now.plan.filters filter there));
+      awaited = subst (λ (v : RelayState _ _). IfSome (filter_number v.plan call) (IsOpen v.tables)) (sym same) (subst (λ (o : Option ℕ). IfSome o (IsOpen (promising now filter k).tables)) numbered (open_promised g.G.Agenda.held now filter k sound there));
+      spare = subst (λ (v : RelayState _ _). IfSome (filter_number v.plan call) (HasSpare v (outs v.ports.slots set 16))) (sym same) (subst (λ (o : Option ℕ). IfSome o (HasSpare (promising now filter k) k)) numbered (spare_promised g.G.Agenda.held now filter k sound there));
+      right = subst (λ (v : RelayState _ _). is_flow_stray v.plan.filters (filter_number v.plan call) ≡ false) (sym same) (subst (λ (o : Option ℕ). is_flow_stray now.plan.filters o ≡ false) numbered (stray_not now.plan.filters filter there));
       short = (c.in-Goes.ensures.length tt, c.requires.octets.1);
       priority = c.in-Goes.ensures.priority;
-      found = subst (λ (v : RelayState _ _). IsFound v.police c.in-Goes.handle c.in-Goes.priority c.find-found.result) (sym same) (subst (λ (v : RelayState _ _). IsFound v.police c.in-Goes.handle c.in-Goes.priority c.find-found.result) c.self.view_is c.find-found.ensures.found);
+      found = subst (λ (v : RelayState _ _). IsFound v.police call.handle call.priority c.find-found.result) (sym same) (subst (λ (v : RelayState _ _). IsFound v.police call.handle call.priority c.find-found.result) c.self.view_is c.find-found.ensures.found);
       copies = subst (λ (v : RelayState _ _). HasCopies v.ports.slots set 1 c.args.packet.octets.items c.in-Ok.copies.items) (sym same)
           (record { count = omega (arith, count); alike = λ v i. all_in (λ (w : Vec ℕ _). w.items ≡ c.deref-in-Goes.result.now) c.in-Ok.copies.items v made.1 i ∙ c.deref-in-Goes.ensures.value });
     }
@@ -140,7 +144,7 @@ pub returns-clause-stands : goal.returns-clause-stands
 returns-clause-stands g c = λ p es left st.
     let now = c.args.self.now in
     let a = arrival c.args.packet.time c.args.port c.args.packet.octets.items c.args.packet.len in
-    let way : way_of p a ≡ c.way_of.result = ap (λ (v : _). way_of v a) (sym st.plan) ∙ (ap (λ (z : List ℕ). way_of now.plan (arrival c.args.packet.time c.args.port z c.args.packet.len)) (sym c.deref.ensures.value) ∙ sym (c.way_of.ensures.way c.args.packet.time)) in
+    let way : way_of p a ≡ c.way_of.result = ap (λ (v : _). way_of v a) (sym st.plan) ∙ (ap (λ (z : List ℕ). way_of now.plan (arrival c.args.packet.time c.args.port z c.args.packet.len)) (sym c.deref.ensures.value) ∙ sym c.way_of.ensures.way) in
     elim c.match-way_of.branch [
       | in-Malformed w ↦ subst (λ (v : RelayState _ _). Stands p v (Arrived a ∷ es) left) (sym w.self-is) (w.pass_over.ensures.stands p es a left refl (way ∙ w.in-Malformed.is) st)
       | in-Nowhere w ↦ subst (λ (v : RelayState _ _). Stands p v (Arrived a ∷ es) left) (sym w.self-is) (w.pass_over-in-Nowhere.ensures.stands p es a left refl (way ∙ w.in-Nowhere.is) st)
@@ -148,7 +152,6 @@ returns-clause-stands g c = λ p es left st.
           let filter = w.number_of-filter.result in
           let set = w.in-Goes.set in
           let k = outs now.ports.slots set 16 in
-          let sees : Seen = record { handle = w.in-Goes.handle; priority = w.in-Goes.priority; dei = w.in-Goes.dei; sdu = w.in-Goes.sdu } in
           let same : w.prepare.new.self ≡ promising now filter k = w.in-Ok.ensures.ok in
           subst (λ (v : RelayState _ _). Stands p v (Arrived a ∷ es) left) (sym w.self-is)
           (w.relay.ensures.stands p es left (way ∙ w.in-Goes.is) (subst (λ (v : RelayState _ _). Stands p (one_less v) es left) (sym same) (stands_promised p now filter k es left st)))

@@ -1,12 +1,11 @@
-use Rattle.std.proofs.Common.{◌≡◌, ℕ, ◌+◌, ◌≤◌, sym, subst, ap, ◌∙◌, refl, Option, Some, None}
+use Rattle.std.proofs.Common.{◌≡◌, ◌≤◌, sym, subst, ap, ◌∙◌, refl, Option, Some, None}
 use Rattle.std.specs.Option.{option_map}
 use Rattle.bridge_filter.specs.declared.Ruling.{Ruling}
 use Rattle.bridge_filter.specs.Finding.{IsFound}
-use Rattle.bridge_semantics.specs.Events.{metered}
 use Rattle.bridge_state.specs.declared.slot.Slot.{Slot}
 use Rattle.bridge_state.specs.Ports.{slot_at}
 use Rattle.bridge_relay.specs.Relays.{RelayState}
-use Rattle.bridge_relay.specs.Relaying.{HasRuled, IsFresh, IsNumbered, called}
+use Rattle.bridge_relay.specs.Relaying.{HasRuled, IsFresh, IsNumbered}
 use Rattle.bridge_relay.proofs.Ruling.{has_ruled, sound_ruled}
 use Rattle.bridge_relay.proofs.relay.Relay.rule.Goals as goal
 
@@ -16,11 +15,10 @@ invariant_of-self g c =
     let old : RelayState _ _ = record { plan = b.plan.now; streams = b.ident; police = b.police; ports = b.ports; tables = b.tables.entries; arrived = b.arrived; earliest = b.earliest } in
     let known = subst (λ (v : RelayState _ _). (s : Slot _) × (slot_at v.ports c.args.port ≡ Some s)) (sym c.self.view_is) c.requires.known in
     let e = c.pass_by-ruling.ensures in
-    let counted : c.max.result + 4 ≡ metered c.args.len = ap (λ (n : ℕ). n + 4) c.max.ensures in
-    let h = has_ruled old c.pass_by-ruling.new.self c.count.new.self b.tables.entries c.args.port known.0 c.args.time c.args.len (c.max.result + 4) c.args.seen None counted e.stands (λ p es st. sym c.in-None.is ∙ e.answer p es st) (ap (option_map (λ (x : Ruling). x.filter)) (sym c.in-None.is) ∙ e.filter) c.self.invariant.filters e.filters e.gates e.meters e.calls e.earliest (c.count.ensures.slots known.0 known.1) c.count.ensures.agenda refl in
+    let h = has_ruled old c.pass_by-ruling.new.self c.count.new.self b.tables.entries c.args.port known.0 c.args.call None e.stands (λ p es st. sym c.in-None.is ∙ e.answer p es st) (ap (option_map (λ (x : Ruling). x.filter)) (sym c.in-None.is) ∙ e.filter) c.self.invariant.filters e.filters e.gates e.meters e.calls e.earliest (c.count.ensures.slots known.0 known.1) c.count.ensures.agenda refl in
     let fresh = subst (λ (v : RelayState _ _). IsFresh v) (sym c.self.view_is) c.requires.fresh in
-    let time = subst (λ (v : RelayState _ _). v.earliest ≤ c.args.time) (sym c.self.view_is) c.requires.time.0 in
-    sound_ruled g.G.Agenda.held old (record old { police = c.pass_by-ruling.new.self; ports = c.count.new.self; tables = b.tables.entries; earliest = c.args.time }) c.args.port known.0 (called c.args.time c.args.len c.args.seen) None c.self.invariant fresh h known.1 c.requires.from time
+    let time = subst (λ (v : RelayState _ _). v.earliest ≤ c.args.call.at) (sym c.self.view_is) c.requires.time.0 in
+    sound_ruled g.G.Agenda.held old (record old { police = c.pass_by-ruling.new.self; ports = c.count.new.self; tables = b.tables.entries; earliest = c.args.call.at }) c.args.port known.0 c.args.call None c.self.invariant fresh h known.1 c.requires.from time
 
 pub invariant_of-self-in-Some : goal.invariant_of-self-in-Some
 invariant_of-self-in-Some g c =
@@ -28,11 +26,10 @@ invariant_of-self-in-Some g c =
     let old : RelayState _ _ = record { plan = b.plan.now; streams = b.ident; police = b.police; ports = b.ports; tables = b.tables.entries; arrived = b.arrived; earliest = b.earliest } in
     let known = subst (λ (v : RelayState _ _). (s : Slot _) × (slot_at v.ports c.args.port ≡ Some s)) (sym c.self.view_is) c.requires.known in
     let e = c.pass_by-ruling.ensures in
-    let counted : c.max.result + 4 ≡ metered c.args.len = ap (λ (n : ℕ). n + 4) c.max.ensures in
-    let h = has_ruled old c.pass_by-ruling.new.self c.count-in-Some.new.self c.judge-own.new.tables.entries c.args.port known.0 c.args.time c.args.len (c.max.result + 4) c.args.seen (Some c.in-Some.ruling) counted e.stands (λ p es st. sym c.in-Some.is ∙ e.answer p es st) (ap (option_map (λ (x : Ruling). x.filter)) (sym c.in-Some.is) ∙ e.filter) c.self.invariant.filters e.filters e.gates e.meters e.calls e.earliest (c.count-in-Some.ensures.slots known.0 known.1) c.count-in-Some.ensures.agenda c.judge-own.ensures.told in
+    let h = has_ruled old c.pass_by-ruling.new.self c.count-in-Some.new.self c.judge-own.new.tables.entries c.args.port known.0 c.args.call (Some c.in-Some.ruling) e.stands (λ p es st. sym c.in-Some.is ∙ e.answer p es st) (ap (option_map (λ (x : Ruling). x.filter)) (sym c.in-Some.is) ∙ e.filter) c.self.invariant.filters e.filters e.gates e.meters e.calls e.earliest (c.count-in-Some.ensures.slots known.0 known.1) c.count-in-Some.ensures.agenda c.judge-own.ensures.told in
     let fresh = subst (λ (v : RelayState _ _). IsFresh v) (sym c.self.view_is) c.requires.fresh in
-    let time = subst (λ (v : RelayState _ _). v.earliest ≤ c.args.time) (sym c.self.view_is) c.requires.time.0 in
-    sound_ruled g.G.Agenda.held old (record old { police = c.pass_by-ruling.new.self; ports = c.count-in-Some.new.self; tables = c.judge-own.new.tables.entries; earliest = c.args.time }) c.args.port known.0 (called c.args.time c.args.len c.args.seen) (Some c.in-Some.ruling) c.self.invariant fresh h known.1 c.requires.from time
+    let time = subst (λ (v : RelayState _ _). v.earliest ≤ c.args.call.at) (sym c.self.view_is) c.requires.time.0 in
+    sound_ruled g.G.Agenda.held old (record old { police = c.pass_by-ruling.new.self; ports = c.count-in-Some.new.self; tables = c.judge-own.new.tables.entries; earliest = c.args.call.at }) c.args.port known.0 c.args.call (Some c.in-Some.ruling) c.self.invariant fresh h known.1 c.requires.from time
 
 pub returns-in-None-clause-ruled : goal.returns-in-None-clause-ruled
 returns-in-None-clause-ruled g c =
@@ -40,9 +37,8 @@ returns-in-None-clause-ruled g c =
     let old : RelayState _ _ = record { plan = b.plan.now; streams = b.ident; police = b.police; ports = b.ports; tables = b.tables.entries; arrived = b.arrived; earliest = b.earliest } in
     let known = subst (λ (v : RelayState _ _). (s : Slot _) × (slot_at v.ports c.args.port ≡ Some s)) (sym c.self.view_is) c.requires.known in
     let e = c.pass_by-ruling.ensures in
-    let counted : c.max.result + 4 ≡ metered c.args.len = ap (λ (n : ℕ). n + 4) c.max.ensures in
-    let h = has_ruled old c.pass_by-ruling.new.self c.count.new.self b.tables.entries c.args.port known.0 c.args.time c.args.len (c.max.result + 4) c.args.seen None counted e.stands (λ p es st. sym c.in-None.is ∙ e.answer p es st) (ap (option_map (λ (x : Ruling). x.filter)) (sym c.in-None.is) ∙ e.filter) c.self.invariant.filters e.filters e.gates e.meters e.calls e.earliest (c.count.ensures.slots known.0 known.1) c.count.ensures.agenda refl in
-    subst (λ (v : RelayState _ _). (s : Slot _) × (slot_at v.ports c.args.port ≡ Some s) × ((r : Option Ruling) × HasRuled v (record old { police = c.pass_by-ruling.new.self; ports = c.count.new.self; tables = b.tables.entries; earliest = c.args.time }) c.args.port s (called c.args.time c.args.len c.args.seen) r × IsNumbered v.tables r None)) c.self.view_is (known.0, known.1, (None, h, tt))
+    let h = has_ruled old c.pass_by-ruling.new.self c.count.new.self b.tables.entries c.args.port known.0 c.args.call None e.stands (λ p es st. sym c.in-None.is ∙ e.answer p es st) (ap (option_map (λ (x : Ruling). x.filter)) (sym c.in-None.is) ∙ e.filter) c.self.invariant.filters e.filters e.gates e.meters e.calls e.earliest (c.count.ensures.slots known.0 known.1) c.count.ensures.agenda refl in
+    subst (λ (v : RelayState _ _). (s : Slot _) × (slot_at v.ports c.args.port ≡ Some s) × ((r : Option Ruling) × HasRuled v (record old { police = c.pass_by-ruling.new.self; ports = c.count.new.self; tables = b.tables.entries; earliest = c.args.call.at }) c.args.port s c.args.call r × IsNumbered v.tables r None)) c.self.view_is (known.0, known.1, (None, h, tt))
 
 pub returns-in-None-clause-sound : goal.returns-in-None-clause-sound
 returns-in-None-clause-sound g c =
@@ -50,11 +46,10 @@ returns-in-None-clause-sound g c =
     let old : RelayState _ _ = record { plan = b.plan.now; streams = b.ident; police = b.police; ports = b.ports; tables = b.tables.entries; arrived = b.arrived; earliest = b.earliest } in
     let known = subst (λ (v : RelayState _ _). (s : Slot _) × (slot_at v.ports c.args.port ≡ Some s)) (sym c.self.view_is) c.requires.known in
     let e = c.pass_by-ruling.ensures in
-    let counted : c.max.result + 4 ≡ metered c.args.len = ap (λ (n : ℕ). n + 4) c.max.ensures in
-    let h = has_ruled old c.pass_by-ruling.new.self c.count.new.self b.tables.entries c.args.port known.0 c.args.time c.args.len (c.max.result + 4) c.args.seen None counted e.stands (λ p es st. sym c.in-None.is ∙ e.answer p es st) (ap (option_map (λ (x : Ruling). x.filter)) (sym c.in-None.is) ∙ e.filter) c.self.invariant.filters e.filters e.gates e.meters e.calls e.earliest (c.count.ensures.slots known.0 known.1) c.count.ensures.agenda refl in
+    let h = has_ruled old c.pass_by-ruling.new.self c.count.new.self b.tables.entries c.args.port known.0 c.args.call None e.stands (λ p es st. sym c.in-None.is ∙ e.answer p es st) (ap (option_map (λ (x : Ruling). x.filter)) (sym c.in-None.is) ∙ e.filter) c.self.invariant.filters e.filters e.gates e.meters e.calls e.earliest (c.count.ensures.slots known.0 known.1) c.count.ensures.agenda refl in
     let fresh = subst (λ (v : RelayState _ _). IsFresh v) (sym c.self.view_is) c.requires.fresh in
-    let time = subst (λ (v : RelayState _ _). v.earliest ≤ c.args.time) (sym c.self.view_is) c.requires.time.0 in
-    sound_ruled g.G.Agenda.held old (record old { police = c.pass_by-ruling.new.self; ports = c.count.new.self; tables = b.tables.entries; earliest = c.args.time }) c.args.port known.0 (called c.args.time c.args.len c.args.seen) None c.self.invariant fresh h known.1 c.requires.from time
+    let time = subst (λ (v : RelayState _ _). v.earliest ≤ c.args.call.at) (sym c.self.view_is) c.requires.time.0 in
+    sound_ruled g.G.Agenda.held old (record old { police = c.pass_by-ruling.new.self; ports = c.count.new.self; tables = b.tables.entries; earliest = c.args.call.at }) c.args.port known.0 c.args.call None c.self.invariant fresh h known.1 c.requires.from time
 
 pub returns-in-Some-clause-ruled : goal.returns-in-Some-clause-ruled
 returns-in-Some-clause-ruled g c =
@@ -62,9 +57,8 @@ returns-in-Some-clause-ruled g c =
     let old : RelayState _ _ = record { plan = b.plan.now; streams = b.ident; police = b.police; ports = b.ports; tables = b.tables.entries; arrived = b.arrived; earliest = b.earliest } in
     let known = subst (λ (v : RelayState _ _). (s : Slot _) × (slot_at v.ports c.args.port ≡ Some s)) (sym c.self.view_is) c.requires.known in
     let e = c.pass_by-ruling.ensures in
-    let counted : c.max.result + 4 ≡ metered c.args.len = ap (λ (n : ℕ). n + 4) c.max.ensures in
-    let h = has_ruled old c.pass_by-ruling.new.self c.count-in-Some.new.self c.judge-own.new.tables.entries c.args.port known.0 c.args.time c.args.len (c.max.result + 4) c.args.seen (Some c.in-Some.ruling) counted e.stands (λ p es st. sym c.in-Some.is ∙ e.answer p es st) (ap (option_map (λ (x : Ruling). x.filter)) (sym c.in-Some.is) ∙ e.filter) c.self.invariant.filters e.filters e.gates e.meters e.calls e.earliest (c.count-in-Some.ensures.slots known.0 known.1) c.count-in-Some.ensures.agenda c.judge-own.ensures.told in
-    subst (λ (v : RelayState _ _). (s : Slot _) × (slot_at v.ports c.args.port ≡ Some s) × ((r : Option Ruling) × HasRuled v (record old { police = c.pass_by-ruling.new.self; ports = c.count-in-Some.new.self; tables = c.judge-own.new.tables.entries; earliest = c.args.time }) c.args.port s (called c.args.time c.args.len c.args.seen) r × IsNumbered v.tables r (Some (c.in-Some.ruling, c.judge-own.result)))) c.self.view_is (known.0, known.1, (Some c.in-Some.ruling, h, (refl, λ t found. c.judge-own.ensures.own t found)))
+    let h = has_ruled old c.pass_by-ruling.new.self c.count-in-Some.new.self c.judge-own.new.tables.entries c.args.port known.0 c.args.call (Some c.in-Some.ruling) e.stands (λ p es st. sym c.in-Some.is ∙ e.answer p es st) (ap (option_map (λ (x : Ruling). x.filter)) (sym c.in-Some.is) ∙ e.filter) c.self.invariant.filters e.filters e.gates e.meters e.calls e.earliest (c.count-in-Some.ensures.slots known.0 known.1) c.count-in-Some.ensures.agenda c.judge-own.ensures.told in
+    subst (λ (v : RelayState _ _). (s : Slot _) × (slot_at v.ports c.args.port ≡ Some s) × ((r : Option Ruling) × HasRuled v (record old { police = c.pass_by-ruling.new.self; ports = c.count-in-Some.new.self; tables = c.judge-own.new.tables.entries; earliest = c.args.call.at }) c.args.port s c.args.call r × IsNumbered v.tables r (Some (c.in-Some.ruling, c.judge-own.result)))) c.self.view_is (known.0, known.1, (Some c.in-Some.ruling, h, (refl, λ t found. c.judge-own.ensures.own t found)))
 
 pub returns-in-Some-clause-sound : goal.returns-in-Some-clause-sound
 returns-in-Some-clause-sound g c =
@@ -72,14 +66,13 @@ returns-in-Some-clause-sound g c =
     let old : RelayState _ _ = record { plan = b.plan.now; streams = b.ident; police = b.police; ports = b.ports; tables = b.tables.entries; arrived = b.arrived; earliest = b.earliest } in
     let known = subst (λ (v : RelayState _ _). (s : Slot _) × (slot_at v.ports c.args.port ≡ Some s)) (sym c.self.view_is) c.requires.known in
     let e = c.pass_by-ruling.ensures in
-    let counted : c.max.result + 4 ≡ metered c.args.len = ap (λ (n : ℕ). n + 4) c.max.ensures in
-    let h = has_ruled old c.pass_by-ruling.new.self c.count-in-Some.new.self c.judge-own.new.tables.entries c.args.port known.0 c.args.time c.args.len (c.max.result + 4) c.args.seen (Some c.in-Some.ruling) counted e.stands (λ p es st. sym c.in-Some.is ∙ e.answer p es st) (ap (option_map (λ (x : Ruling). x.filter)) (sym c.in-Some.is) ∙ e.filter) c.self.invariant.filters e.filters e.gates e.meters e.calls e.earliest (c.count-in-Some.ensures.slots known.0 known.1) c.count-in-Some.ensures.agenda c.judge-own.ensures.told in
+    let h = has_ruled old c.pass_by-ruling.new.self c.count-in-Some.new.self c.judge-own.new.tables.entries c.args.port known.0 c.args.call (Some c.in-Some.ruling) e.stands (λ p es st. sym c.in-Some.is ∙ e.answer p es st) (ap (option_map (λ (x : Ruling). x.filter)) (sym c.in-Some.is) ∙ e.filter) c.self.invariant.filters e.filters e.gates e.meters e.calls e.earliest (c.count-in-Some.ensures.slots known.0 known.1) c.count-in-Some.ensures.agenda c.judge-own.ensures.told in
     let fresh = subst (λ (v : RelayState _ _). IsFresh v) (sym c.self.view_is) c.requires.fresh in
-    let time = subst (λ (v : RelayState _ _). v.earliest ≤ c.args.time) (sym c.self.view_is) c.requires.time.0 in
-    sound_ruled g.G.Agenda.held old (record old { police = c.pass_by-ruling.new.self; ports = c.count-in-Some.new.self; tables = c.judge-own.new.tables.entries; earliest = c.args.time }) c.args.port known.0 (called c.args.time c.args.len c.args.seen) (Some c.in-Some.ruling) c.self.invariant fresh h known.1 c.requires.from time
+    let time = subst (λ (v : RelayState _ _). v.earliest ≤ c.args.call.at) (sym c.self.view_is) c.requires.time.0 in
+    sound_ruled g.G.Agenda.held old (record old { police = c.pass_by-ruling.new.self; ports = c.count-in-Some.new.self; tables = c.judge-own.new.tables.entries; earliest = c.args.call.at }) c.args.port known.0 c.args.call (Some c.in-Some.ruling) c.self.invariant fresh h known.1 c.requires.from time
 
 pub pass_by-ruling-requires-clause-found : goal.pass_by-ruling-requires-clause-found
-pass_by-ruling-requires-clause-found g c = subst (λ (v : RelayState _ _). IsFound v.police c.args.seen.handle c.args.seen.priority c.args.found) (sym c.self.view_is) c.requires.found
+pass_by-ruling-requires-clause-found g c = subst (λ (v : RelayState _ _). IsFound v.police c.args.call.handle c.args.call.priority c.args.found) (sym c.self.view_is) c.requires.found
 
 pub returns-in-Some-clause-priority : goal.returns-in-Some-clause-priority
 returns-in-Some-clause-priority g c = c.in-Some.ensures.priority

@@ -1,0 +1,32 @@
+//! The job of `wire`, with what is told of its fault.
+ghost use Rattle.std.specs.Prelude.{◌≤◌, IfErr, IfOk, string_bytes};
+ghost use Rattle.bridge_files.specs.Wiring.{EndsWiring, SaysCounts};
+
+use crate::explaining::{kept_path, refusal_of_wire};
+use crate::noting::Refusal;
+use bridge_files::{Said, wire_noted};
+use bridge_frame::Speed;
+use bridge_port::LARGEST_ROOM;
+use std::rt::Files;
+
+/// The job of `wire_files`, with what is told of a fault, where that is asked for.
+pub fn told_wire_job<H: Input + AllocGlobal + Print + Files>(
+    rt: &H,
+    speed: Speed,
+    room: u16,
+    input: String,
+    output: String,
+    is_explained: bool,
+) -> Result<Said, Refusal>
+    requires room { (1 ≤ room) × (room ≤ LARGEST_ROOM) }
+    ensures ok { IfOk result (SaysCounts (string_bytes output)) }
+    ensures err { IfErr result (λ refusal. EndsWiring (string_bytes input) (string_bytes output) refusal.fault) }
+{
+    let read = kept_path(rt.alloc(), input.as_str(), is_explained);
+    let written = kept_path(rt.alloc(), output.as_str(), is_explained);
+    let mut cause = None;
+    match wire_noted(rt, speed, room, input, output, &mut cause) {
+        Ok(said) => Ok(said),
+        Err(fault) => Err(refusal_of_wire(rt, &read, &written, cause, fault)),
+    }
+}
