@@ -8,7 +8,8 @@ Crates come in the order of crates.txt, files in that of specs/Lib.antt, definit
 names the clause of a standard for some of them. Both calls fail where a line of it names none, or not just one.
 
 --check also fails where docs/PLANS.md (Key by key) or docs/SPECIFICATION.md (Plans) tells of a section other keys than
-the table of keys in crates/bridge_schema/src/keys.rt.
+the table of keys in crates/bridge_schema/src/keys.rt, where docs/COMMANDS.md is not the help that crates/gate_cases prints,
+and where the sentence of all options in crates/bridge_cli/src/command.rt is another than its table of commands says.
 """
 import collections
 import itertools
@@ -259,6 +260,43 @@ def check_keys():
                     fail(f"docs/{page}.md {what} of the keys of {name}: {', '.join(sorted(wrong))}")
 
 
+def help_in(page):
+    """The texts of help on a page, by the words that print them, each up to the next one or the end of a block."""
+    printed = re.findall(r"^\$ tsnbridge ([^\n]*--help)\n(.*?)(?=^\$ |^# |^```|\Z)", page, re.M | re.S)
+    return {words: text.strip() for words, text in printed}
+
+
+def check_help():
+    """Fails where docs/COMMANDS.md is not the help that a program of the gate prints of the table of commands."""
+    told = help_in(read(TOP / "docs/COMMANDS.md"))
+    printed = help_in(read(TOP / "crates/gate_cases/stdout"))
+    for words in sorted(told.keys() | printed.keys()):
+        if not printed or told.get(words) != printed.get(words):
+            fail(f"docs/COMMANDS.md has another text of `tsnbridge {words}` than crates/gate_cases/stdout")
+
+
+def check_options():
+    """Fails where the sentence of all options says of one other commands, or another value, than the table of commands."""
+    table = read(TOP / "crates/bridge_cli/src/command.rt")
+    option = r'id: "(\w+)",\s*value: "(\w*)",\s*form: Form::(?:Choice|Flag)'
+    shared = dict(re.findall(r"const (\w+): Word = Word {(.*?)};", table, re.S))
+    rows = re.findall(r'Description = Description {\s*name: "(\w+)",.*?words: &\[(.*?)\],\s*reason', table, re.S)
+    has = {}
+    for command, words in rows:
+        bare = re.sub(r'"[^"]*"', "", words)
+        for name, value in re.findall(option, words + "".join(it for name, it in shared.items() if re.search(rf"\b{name}\b", bare))):
+            has.setdefault((name, value), set()).add(command)
+    commands = {command for command, words in rows if words}
+    sentence = re.search(r'pub const OPTIONS: &str =\s*"(.*?)\\n"', table)[1]
+    told = {}
+    for group in re.findall(r"(.*?)(?:\(of ([^)]*)\)|$)", sentence):
+        for name, value in re.findall(r"--(\w+)(?: ([A-Z]+))?", group[0]):
+            told[name, value] = set(re.findall(r"\w+", group[1])) - {"and"} or commands
+    if not has or told != has:
+        wrong = sorted(name for name, value in told.keys() ^ has.keys()) or sorted(it[0] for it in has if told[it] != has[it])
+        fail(f"OPTIONS of crates/bridge_cli/src/command.rt says of {', '.join(wrong)} other than the table")
+
+
 def main():
     if sys.argv[1:] not in ([], ["--check"]):
         fail("takes nothing, or --check")
@@ -267,6 +305,8 @@ def main():
         PAGE.write_text(made, encoding="utf-8")
         return
     check_keys()
+    check_help()
+    check_options()
     there = read(PAGE) if PAGE.exists() else ""
     for number, (is_so, should) in enumerate(itertools.zip_longest(there.split("\n"), made.split("\n")), 1):
         if is_so != should:

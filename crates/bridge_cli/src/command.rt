@@ -383,7 +383,7 @@ Statuses:
 
 /// The options of all commands, with what has them.
 pub const OPTIONS: &str =
-    "The options are --commands FILE, --delays FILE, --frames FILE, --picture FILE and --filters LIST (of run), --from NS, --to NS and --ports LIST (of run and picture), --traffic FILE (of bounds), --strict (of check, run and net), and --explain.\n";
+    "The options are --commands FILE, --delays FILE, --frames FILE and --filters LIST (of run), --picture FILE (of run and net), --from NS, --to NS and --ports LIST (of run and picture), --traffic FILE (of bounds), --strict (of check, run and net), and --explain.\n";
 
 /// The version of the program.
 const VERSION: &str = "1.0.0";

@@ -7,7 +7,7 @@ use Rattle.bridge_inputs.specs.Lanes.{IsFirstAt}
 use Rattle.bridge_core.specs.Taking.{HasGiven}
 use Rattle.bridge_state.proofs.Porting.{none_some}
 
-pub lane_is : {A : Type 0} (lanes : List (CaptureReader A)) (place : ℕ) (first : IsFirstAt lanes place) (l : CaptureReader A) → place < length lanes → l ≡ slice_index_or lanes place l → l ≡ first.lane
+lane_is : {A : Type 0} (lanes : List (CaptureReader A)) (place : ℕ) (first : IsFirstAt lanes place) (l : CaptureReader A) → place < length lanes → l ≡ slice_index_or lanes place l → l ≡ first.lane
 lane_is lanes place first l within is = same_Some l first.lane (sym (slice_get_read lanes (length lanes) place l refl within is) ∙ first.there)
 
 -- there is one

@@ -10,3 +10,4 @@ pub mod Departing
 pub mod Faults
 pub mod Commanded
 pub mod Running
+pub mod Heads

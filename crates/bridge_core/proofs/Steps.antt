@@ -311,13 +311,6 @@ module _ {R W G A : Type 0} (remaining : R → Option (List ℕ)) (contents : W 
     look_stops rests faults.Write news left o f r w = refused_next rests faults.Write news left ((λ e. cc), o) f r w
     look_stops rests faults.NoMemory news left o f r w = memory_next rests news left f r w
 
--- where the first does not come before a moment none does
-pub later_all : {A : Type 0} (until : Option ℕ) (lanes : List (CaptureReader A)) (place : ℕ) → (first : IsFirstAt lanes place) → ((c : Packet A) → first.lane.ahead ≡ Some c → (t : ℕ) × (until ≡ Some t) × (t ≤ c.time)) → AreLater until lanes
-later_all until lanes place first h i l d e a =
-    let z = h first.packet first.ahead in
-    let low = z.2 in
-    (z.0, z.1, elim (first.least i l d e a) [ inl m ↦ omega (arith, m, low) | inr m ↦ (let y = m.0 in omega (arith, y, low)) ])
-
 -- a frame before a moment comes before the command of that moment
 pub before_next : {A : Type 0} (until : Option ℕ) (next : Option Input) (lanes : List (CaptureReader A)) (place : ℕ) → IfSome next (λ y. until ≡ Some y.at) → IsBefore until lanes place → TakesBefore lanes place next
 before_next until None lanes place h b l c e a = tt

@@ -1,5 +1,5 @@
 -- Captures that are written, one of each port.
-use Rattle.std.specs.Prelude.{◌≡◌, ◌≢◌, ℕ, Bool, true, ◌+◌, ◌*◌, ◌^◌, ◌<◌, ◌≤◌, nat_eq, All, Option, Some, IfSome, List, [], ◌∷◌, ◌++◌, length, slice_get, Result, Ok, Err, if◌then◌else◌}
+use Rattle.std.specs.Prelude.{◌≡◌, ◌≢◌, ℕ, Bool, true, ◌*◌, ◌^◌, ◌<◌, ◌≤◌, nat_eq, All, Option, Some, IfSome, List, [], ◌∷◌, ◌++◌, length, slice_get, Result, Ok, Err, if◌then◌else◌}
 use Rattle.std.specs.Io.KnownBytes.{Appends}
 use Rattle.bridge_capture.specs.Grammar.{Captured}
 use Rattle.bridge_capture.specs.declared.record.TheConstants.{SNAP_LENGTH}

@@ -1,5 +1,5 @@
 -- Frames and commands that are taken one by one.
-use Rattle.std.specs.Prelude.{◌≡◌, ◌≢◌, ℕ, Bool, ◌+◌, ◌<◌, ◌≤◌, ◌⊎◌, nat_eq, Option, Some, None, IfSome, OnOk, List, [], ◌∷◌, ◌++◌, slice_get, slice_set, Result, Ok, Err, if◌then◌else◌}
+use Rattle.std.specs.Prelude.{◌≡◌, ◌≢◌, ℕ, zero, suc, Bool, ◌+◌, ◌<◌, ◌≤◌, ◌⊎◌, Option, Some, None, IfSome, OnOk, option_and_then, option_map, List, [], ◌∷◌, ◌++◌, length, slice_get, slice_set, Result, Ok, Err}
 use Rattle.bridge_limits.specs.Members.{Rising}
 use Rattle.bridge_limits.specs.declared.TheConstants.{MOST_ARRIVALS}
 use Rattle.bridge_capture.specs.declared.fault.CaptureFault.{CaptureFault}
@@ -14,7 +14,7 @@ use Rattle.bridge_config.specs.Model.{Plan}
 use Rattle.bridge_config.specs.Rules.{port_at}
 use Rattle.bridge_inputs.specs.declared.fault.RunFault.{RunFault}
 use Rattle.bridge_inputs.specs.declared.fault.RunFault.TheVariants as run
-use Rattle.bridge_semantics.specs.Merge.{Input, frame, command, NotBefore, IsMerged, events, newest, inputs_of, asked, commands_of, streams}
+use Rattle.bridge_semantics.specs.Merge.{Input, frame, NotBefore, IsMerged, events, newest, asked, commands_of, streams}
 use Rattle.bridge_semantics.specs.Outputs.{Reaches}
 use Rattle.bridge_relay.specs.Relays.{RelayState, Stands}
 use Rattle.bridge_inputs.specs.declared.lane.CaptureReader.{CaptureReader}
@@ -108,6 +108,20 @@ pub record MayTake {G A : Type 0} (b : RelayState G A) (lanes : List (CaptureRea
   pub onward : (i : ℕ) (lane : CaptureReader A) (p : Packet A) → slice_get lanes i ≡ Some lane → lane.ahead ≡ Some p → b.earliest ≤ p.time
   pub few : b.arrived + room_of lanes ≤ MOST_ARRIVALS
   pub rises : Rising (λ a b. a < b) (numbers lanes)
+
+-- the moment of the frame ahead of a lane, where there is one
+abbrev pub moment_of : {A : Type 0} → CaptureReader A → Option ℕ
+moment_of lane = option_map (λ p. p.time) lane.ahead
+
+-- the moment of the frame ahead at a place, counted from 1: none at 0 and beyond the lanes
+abbrev pub moment_at : {A : Type 0} → List (CaptureReader A) → ℕ → Option ℕ
+moment_at lanes zero = None
+moment_at lanes (suc i) = option_and_then moment_of (slice_get lanes i)
+
+-- an agenda has the moment of the frame ahead of each lane, by its place from 1, and no other
+pub record AreHeads {A : Type 0} (held : ℕ → Option ℕ) (lanes : List (CaptureReader A)) : Type 0 where
+  pub few : length lanes ≤ 16
+  pub each : (q : ℕ) → held q ≡ moment_at lanes q
 
 -- a bridge stands for what was taken, what comes next is ahead, and what left is written
 pub record IsUnderWay {R W G A : Type 0} (remaining : R → Option (List ℕ)) (contents : W → Option (List ℕ)) (p : Plan A) (texts : ℕ → List ℕ) (commanded : List Input) (next : Option Input) (olds : List W) (b : RelayState G A) (lanes : List (CaptureReader A)) (sources : List R) (sinks : List W) : Type 0 where

@@ -7,7 +7,7 @@ ghost use Rattle.bridge_core.specs.Lines.{HasRunOut};
 ghost use Rattle.bridge_core.specs.Simulated.{AreListsOf, AreNumbers, Isolates, OthersChangeNothing, Runs, Stops, WritesFew};
 
 use crate::line::{Line, begin_all};
-use crate::taking::run;
+use crate::taking::{heads_of, run};
 use bridge_capture::{ByteSink, ByteSource, CaptureFault};
 use bridge_check::Accepted;
 use bridge_config::{Command, Plan};
@@ -136,9 +136,11 @@ pub fn simulate_over<R: ByteSource, W: ByteSink, G: Agenda + Drop, A: Allocator 
             return Err(fault);
         }
     };
+    let mut heads = heads_of::<G, A>(&lanes);
     let done = run(
         commands,
         &mut relay,
+        &mut heads,
         &mut lanes,
         &mut lines,
         sources,
@@ -147,6 +149,7 @@ pub fn simulate_over<R: ByteSource, W: ByteSink, G: Agenda + Drop, A: Allocator 
     );
     drop(spares);
     drop(lanes);
+    drop(heads);
     match done {
         Ok(()) => Ok(relay.finish(&order, views, counts)),
         Err(fault) => {

@@ -76,11 +76,6 @@ pub record IsFirstAt {A : Type 0} (lanes : List (CaptureReader A)) (place : ℕ)
   pub ahead : lane.ahead ≡ Some packet
   pub least : (i : ℕ) (l : CaptureReader A) (p : Packet A) → slice_get lanes i ≡ Some l → l.ahead ≡ Some p → (packet.time < p.time) ⊎ ((packet.time ≡ p.time) × (place ≤ i))
 
--- the place of the frame that comes first
-abbrev pub IsFirst : {A : Type 0} → List (CaptureReader A) → Option ℕ → Type 0
-IsFirst {A} lanes None = (i : ℕ) (l : CaptureReader A) → slice_get lanes i ≡ Some l → l.ahead ≡ None
-IsFirst lanes (Some place) = IsFirstAt lanes place
-
 -- each source has the text of its port left
 abbrev pub AreTexts : {R : Type 0} → (R → Option (List ℕ)) → List ℕ → (ℕ → List ℕ) → List R → Type 0
 AreTexts {R} remaining ports texts sources = (i q : ℕ) (r : R) → slice_get ports i ≡ Some q → slice_get sources i ≡ Some r → remaining r ≡ Some (texts q)

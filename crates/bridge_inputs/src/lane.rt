@@ -6,7 +6,7 @@ ghost use Rattle.bridge_capture.specs.declared.record.TheConstants.{MAX_RECORDS}
 ghost use Rattle.bridge_capture.specs.Grammar.{Captured};
 ghost use Rattle.bridge_capture.specs.Standing.{StandsFor, IsReading, records_left};
 ghost use Rattle.bridge_inputs.specs.Devices.{HasFailed, NeverFail};
-ghost use Rattle.bridge_inputs.specs.Lanes.{AreAheadOf, AreLanes, AreRests, AreTexts, Begins, FailsLook, fault_at, IsFirst, IsLane, Looks, numbers, room, room_of};
+ghost use Rattle.bridge_inputs.specs.Lanes.{AreAheadOf, AreLanes, AreRests, AreTexts, Begins, FailsLook, fault_at, IsLane, Looks, numbers, room, room_of};
 
 use crate::fault::RunFault;
 use bridge_capture::{ByteSource, Capture, CaptureFault, Packet};
@@ -88,48 +88,6 @@ impl<A: Allocator + Copy> CaptureReader<A> {
             }
         }
     }
-}
-
-/// The place and the moment of the first of a lane's frame ahead and that at another place; `none` stands for no place.
-#[inline(always)]
-fn sooner<A: Allocator + Copy>(
-    lane: &CaptureReader<A>,
-    place: usize,
-    first: usize,
-    least: u64,
-    none: usize,
-) -> (usize, u64)
-    ensures skips { lane.now.ahead ≡ None → result ≡ (first, least) }
-    ensures begins { (p : Packet A) → lane.now.ahead ≡ Some p → first ≡ none → result ≡ (place, p.time) }
-    ensures before { (p : Packet A) → lane.now.ahead ≡ Some p → p.time < least → result ≡ (place, p.time) }
-    ensures later { (p : Packet A) → lane.now.ahead ≡ Some p → least ≤ p.time → first ≢ none → result ≡ (first, least) }
-{
-    let Some(packet) = &lane.ahead else {
-        return (first, least);
-    };
-    if packet.time < least {
-        return (place, packet.time);
-    }
-    if first == none {
-        return (place, packet.time);
-    }
-    (first, least)
-}
-
-/// The place of the lane whose frame ahead comes first: the least moment, and of several the least place.
-pub fn first_of<A: Allocator + Copy>(lanes: &[CaptureReader<A>]) -> Option<usize>
-    ensures { IsFirst lanes.now result }
-{
-    let none = lanes.len();
-    let mut first = none;
-    let mut least = u64::MAX;
-    for place in 0..lanes.len() {
-        (first, least) = sooner(&lanes[place], place, first, least, none);
-    }
-    if first == none {
-        return None;
-    }
-    Some(first)
 }
 
 /// The fault of a run for one of the capture of a port. A capture's own want of memory is the run's.

@@ -8,5 +8,5 @@ mod spares;
 
 pub use bridge_limits::NoMemory;
 pub use fault::RunFault;
-pub use lane::{CaptureReader, fault_of, first_of, look_at_all};
+pub use lane::{CaptureReader, fault_of, look_at_all};
 pub use spares::Spares;

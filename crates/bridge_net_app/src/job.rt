@@ -172,17 +172,9 @@ fn run_network<H: AllocGlobal + Eprint + Files>(
     ensures ok { IfOk result (λ line. TellsRun network.now file.now (string_bytes line)) }
     ensures err { IfErr result EndsRounds }
 {
-    let mut taken = taken;
-    let incoming = read_all(rt, network, file.bridges(), input, &mut taken, cause)?;
-    let outputs = match open_outputs(
-        rt,
-        network.plans(),
-        file.bridges(),
-        input,
-        output,
-        &mut taken,
-        cause,
-    ) {
+    let (mut taken, plans, bridges) = (taken, network.plans(), file.bridges());
+    let incoming = read_all(rt, network, bridges, input, &mut taken, cause)?;
+    let outputs = match open_outputs(rt, plans, bridges, input, output, &mut taken, cause) {
         Ok(outputs) => outputs,
         Err(fault) => {
             drop(incoming);
@@ -210,7 +202,7 @@ fn run_network<H: AllocGlobal + Eprint + Files>(
         Err(fault) => {
             drop(outputs);
             drop(drawing);
-            Err(said_of_run(rt.alloc(), file.bridges(), fault))
+            Err(said_of_run(rt.alloc(), bridges, fault))
         }
     }
 }
@@ -226,14 +218,18 @@ pub struct RoundsSaid {
     pub rounds: u32,
 }
 
-/// Whether `net check` tells something of a network.
+/// Whether `net check` tells something of a network, where that is asked.
 fn is_told(
     alloc: Global,
     file: &NetworkFile<Global>,
     network: &Network<Global>,
+    is_asked: bool,
 ) -> Result<bool, NoMemory>
     requires few { length network.now.plans ≤ 64 }
 {
+    if !is_asked {
+        return Ok(false);
+    }
     let told = told_of(alloc, alloc, file, network)?;
     Ok(!told.is_empty())
 }
@@ -259,12 +255,7 @@ fn run_accepted<H: AllocGlobal + Eprint + Files>(
         is_strict,
         is_watched,
     } = job;
-    let told = if is_strict {
-        is_told(rt.alloc(), file, network)
-    } else {
-        Ok(false)
-    };
-    let Ok(is_told) = told else {
+    let Ok(is_told) = is_told(rt.alloc(), file, network, is_strict) else {
         return Err(memory_fault());
     };
     let mut teller = Teller {

@@ -6,6 +6,7 @@ use Rattle.std.proofs.lemmas.Option.{same_Some}
 use Rattle.std.proofs.lemmas.Int.{ints}
 use lib.Signed.{◌≤ℤ◌}
 use lib.IntN.{pos}
+use lib.Arith.{digits_mod}
 use Rattle.bridge_cycle.specs.Cyclic.{Cyclic, IsLawful, turn_at}
 use Rattle.bridge_cycle.specs.CyclicLaws.{turned}
 use Rattle.bridge_cycle.specs.Moments.{Fits, IsFirst, is_open, Repeats}
@@ -140,6 +141,12 @@ first_of_spans l c xs place from occ stop t lawful has some before within behind
 -- the same by the cycle that the list tells
 pub first_of_cycle : (l : Cyclic ℕ) (c : ℕ) (xs : List Span) (cycle place from occ stop t : ℕ) → cycle ≡ l.cycle → IsLawful l → HasSpans (list_opens l c) xs → 0 < occ → from ≤ stop → place ≤ length xs → (0 < place → end_at xs (place - 1) ≤ from % cycle) → fit_among (drop place xs) (from % cycle) occ (stop - (from - from % cycle)) ≡ Some t → IsFirst (until (list_opens l c) stop) occ from (t + (from - from % cycle))
 first_of_cycle l c xs cycle place from occ stop t e lawful has some before within behind h = rw e (first_of_spans l c xs place from occ stop t lawful has some before within (rw e at behind) (rw e at h))
+
+-- how far a moment is into its cycle, where so many cycles begin before it and that one doesn't end
+pub into_is : (laps cycle t : ℕ) → laps * cycle ≤ t → t - laps * cycle < cycle → t - laps * cycle ≡ t % cycle
+into_is laps cycle t before within =
+    let whole : t ≡ laps * cycle + (t - laps * cycle) = omega (arith, before) in
+    sym (ap (λ (n : ℕ). n % cycle) whole ∙ digits_mod laps within)
 
 -- nothing is asked for
 pub first_of_none : (opens : ℕ → Bool) (from : ℕ) → IsFirst opens 0 from from

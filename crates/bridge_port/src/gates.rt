@@ -8,7 +8,7 @@ ghost use Rattle.bridge_cycle.specs.declared.run.Run.TheVariants.{Never};
 ghost use Rattle.bridge_port.specs.Opening.{ever, HasRuns, HasTurn, KeepsTurn, Opening, opening_of, opens};
 ghost use Rattle.bridge_port.specs.Spans.{AreKept, AreOfLists};
 
-use crate::spans::{Spans, fit_in_both, fit_in_list, spans_of_all};
+use crate::spans::{LastOfBoth, Spans, fit_in_both, fit_in_list, spans_of_all};
 use bridge_cycle::{
     END_OF_SEARCHES, Egress, LONGEST_CYCLE, Run, Timeline, Turn, first_fit, is_open,
 };
@@ -24,14 +24,19 @@ struct Kept<A: Allocator + Copy> {
     new: Spans<A>,
 }
 
-/// The gate control lists of a port, if it has some, with what is kept of them, and one of their turns, so that fits within it
-/// need not look for it again.
+/// The gate control lists of a port, if it has some, with what is kept of them, and where it was looked last: one of their
+/// turns, where they have few, and spans.
 #[derive(Drop)]
 pub struct Gates<A: Allocator + Copy> {
     list: Option<Egress<A>>,
     kept: Kept<A>,
+    is_short: bool,
     turn: Turn<u8>,
+    last: LastOfBoth,
 }
+
+/// The most entries of lists that are looked at turn by turn first, as their turns last for many frames.
+const MOST_TURNS: usize = 16;
 
 impl<A: Allocator + Copy> Model for Gates<A> {
     ghost Value = { Opening };
@@ -118,10 +123,49 @@ fn turn_of<A: Allocator + Copy>(kept: &mut Turn<u8>, list: &Egress<A>, t: u64) -
     turn
 }
 
+/// Whether lists have few entries.
+fn is_short<A: Allocator + Copy>(list: &Option<Egress<A>>) -> bool {
+    match list {
+        None => true,
+        Some(Egress::Cyclic(list)) => list.entries().len() <= MOST_TURNS,
+        Some(Egress::Joined(lists)) => {
+            let (before, after) = lists.lists();
+            before.entries().len().max(after.entries().len()) <= MOST_TURNS
+        }
+    }
+}
+
+/// Whether the turn that has `from` shows that the class stays open from there on for `occ` ns. It is looked at in lists of few
+/// entries alone.
+#[inline(always)]
+fn fits_in_turn<A: Allocator + Copy>(
+    is_short: bool,
+    kept: &mut Turn<u8>,
+    list: &Egress<A>,
+    class: usize,
+    occ: u64,
+    from: u64,
+) -> bool
+    requires class { class < 8 }
+    requires occ { occ ≤ LONGEST_CYCLE }
+    requires from { from < END_OF_SEARCHES }
+    requires kept { HasTurn list.now kept.old }
+    requires lawful { egress.IsLawful list.now }
+    ensures first { result ≡ true → IsFirst (λ v. opens_in (egress.turn_at list.now v) class) occ from from }
+    ensures kept { HasTurn list.now kept.new }
+{
+    if !is_short {
+        return false;
+    }
+    let turn = turn_of(kept, list, from);
+    is_open(turn.state, class as u8) && from + occ <= turn.end
+}
+
 /// The least moment from `from` on from which the class stays open for `occ` ns, where the spans show it.
 fn fit_by_spans<A: Allocator + Copy>(
     list: &Egress<A>,
     kept: &Kept<A>,
+    last: &mut LastOfBoth,
     class: usize,
     occ: u64,
     from: u64,
@@ -134,17 +178,16 @@ fn fit_by_spans<A: Allocator + Copy>(
     ensures { IfSome result (λ t. IsFirst (λ v. opens_in (egress.turn_at list.now v) class) occ from t) }
 {
     match list {
-        Egress::Cyclic(list) => fit_in_list(list, &kept.old, class, occ, from),
-        Egress::Joined(lists) => fit_in_both(lists, &kept.old, &kept.new, class, occ, from),
+        Egress::Cyclic(list) => fit_in_list(list, &kept.old, &mut last.old, class, occ, from),
+        Egress::Joined(lists) => fit_in_both(lists, &kept.old, &kept.new, last, class, occ, from),
     }
 }
 
-/// The least moment from `from` on from which the class stays open for `occ` ns: where it is open for so long in the turn that
-/// has `from`, nothing is looked for, and else the spans show it.
+/// The least moment from `from` on from which the class stays open for `occ` ns, as the spans show it, or else turn by turn.
 fn fit_in<A: Allocator + Copy>(
     list: &Egress<A>,
     kept: &Kept<A>,
-    turn: Turn<u8>,
+    last: &mut LastOfBoth,
     class: usize,
     occ: u64,
     from: u64,
@@ -155,15 +198,11 @@ fn fit_in<A: Allocator + Copy>(
     requires lawful { egress.IsLawful list.now }
     requires kept { AreOfLists list.now kept.now.old.runs kept.now.old.each.items kept.now.new.runs
         kept.now.new.each.items }
-    requires turn { egress.turn_at list.now from ≡ Some turn }
     requires some { (u : ℕ) × (from ≤ u) × (u ≤ from + 2 * LONGEST_CYCLE)
         × Fits (λ v. opens_in (egress.turn_at list.now v) class) occ u }
     ensures { IsFirst (λ v. opens_in (egress.turn_at list.now v) class) occ from result }
 {
-    if is_open(turn.state, class as u8) && from + occ <= turn.end {
-        return from;
-    }
-    match fit_by_spans(list, kept, class, occ, from) {
+    match fit_by_spans(list, kept, last, class, occ, from) {
         Some(fit) => fit,
         None => first_fit(list, class as u8, occ, from),
     }
@@ -180,7 +219,14 @@ impl<A: Allocator + Copy> Gates<A> {
             start: 0,
             end: 0,
         };
-        Ok(Gates { list, kept, turn })
+        let is_short = is_short(&list);
+        Ok(Gates {
+            list,
+            kept,
+            is_short,
+            turn,
+            last: LastOfBoth::none(),
+        })
     }
 
     /// Whether each list opens the class for `occ` ns at some moment.
@@ -209,8 +255,10 @@ impl<A: Allocator + Copy> Gates<A> {
         match &self.list {
             None => from,
             Some(list) => {
-                let turn = turn_of(&mut self.turn, list, from);
-                fit_in(list, &self.kept, turn, class, occ, from)
+                if fits_in_turn(self.is_short, &mut self.turn, list, class, occ, from) {
+                    return from;
+                }
+                fit_in(list, &self.kept, &mut self.last, class, occ, from)
             }
         }
     }

@@ -33,16 +33,6 @@ fn sooner_of(best: Option<(u64, usize)>, fit: Option<u64>, class: usize) -> Opti
     }
 }
 
-/// Whether a moment lies before `from`.
-fn is_past(fit: Option<u64>, from: u64) -> bool
-    ensures { result ≡ heads.is_past fit from }
-{
-    match fit {
-        None => false,
-        Some(fit) => fit < from,
-    }
-}
-
 /// The least moment in ns from `from` on at which the head of a class may start; `None` where nothing is queued.
 // Not inlined, so that the loop of `renew` stays small.
 #[inline(never)]
@@ -69,7 +59,9 @@ fn fit_of<T: Drop, A: Allocator + Copy>(
     }
 }
 
-/// Makes the fit of a class anew where it lies before `from`, and gives it.
+/// Makes the fit of a class anew where it lies before `from`, and gives it. A class without one is left by one test: most have
+/// none.
+#[inline(always)]
 fn renewed<T: Drop, A: Allocator + Copy>(
     fits: &mut [Option<u64>; 8],
     gates: &mut Gates<A>,
@@ -89,13 +81,15 @@ fn renewed<T: Drop, A: Allocator + Copy>(
     ensures fits { fits.new ≡ slice_set fits.old class result }
     ensures same { gates.new ≡ gates.old }
 {
-    let kept = fits[class];
-    if !is_past(kept, from) {
-        return kept;
+    match fits[class] {
+        None => None,
+        Some(kept) if from <= kept => Some(kept),
+        Some(_) => {
+            let fit = fit_of(gates, speed, rings, class, from);
+            fits[class] = fit;
+            fit
+        }
     }
-    let fit = fit_of(gates, speed, rings, class, from);
-    fits[class] = fit;
-    fit
 }
 
 /// Makes anew what lies before `from` of the fits of all classes, and gives the best of them.

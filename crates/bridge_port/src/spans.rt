@@ -1,5 +1,5 @@
 //! For how long a list opens a class without a break, and the first fits by that.
-ghost use Rattle.std.specs.Prelude.{◌≡◌, ◌<◌, ◌≤◌, ◌+◌, ◌-◌, ◌*◌, ◌^◌, length, IfOk, IfSome};
+ghost use Rattle.std.specs.Prelude.{◌≡◌, ◌<◌, ◌≤◌, ◌+◌, ◌-◌, ◌*◌, ◌^◌, ◌%◌, true, length, IfOk, IfSome};
 ghost use Rattle.bridge_cycle.specs.Cyclic.{IsLawful};
 ghost use Rattle.bridge_cycle.specs.Moments.{IsFirst};
 ghost use Rattle.bridge_port.specs.Opening.{AreRuns, Exchanged, list_ever, list_opens, opens};
@@ -21,6 +21,38 @@ pub struct Span {
 pub struct Spans<A: Allocator + Copy> {
     pub runs: [Run; 8],
     pub each: Vec<Vec<Span, A>, A>,
+}
+
+/// The most spans that are walked over from the one found last before halving is faster.
+const MOST_WALKED: usize = 8;
+
+/// Where the last fit in a list was found: how many cycles came before its moment, and the place of the first span of each class
+/// that was looked at. It says where to look first, and nothing of what is found.
+#[derive(Clone, Copy)]
+pub struct Last {
+    laps: u64,
+    places: [usize; 8],
+}
+
+/// The same of the one list of a port, or of the old one and the new one.
+#[derive(Clone, Copy)]
+pub struct LastOfBoth {
+    pub old: Last,
+    pub new: Last,
+}
+
+impl LastOfBoth {
+    /// Before anything was looked for.
+    pub fn none() -> LastOfBoth {
+        let last = Last {
+            laps: 0,
+            places: [0; 8],
+        };
+        LastOfBoth {
+            old: last,
+            new: last,
+        }
+    }
 }
 
 impl<A: Allocator + Copy> Spans<A> {
@@ -92,6 +124,7 @@ fn fit_among(spans: &[Span], from: u64, occ: u64, stop: u64) -> Option<u64>
 }
 
 /// How many of the first spans end before `t` or at it, by halving.
+#[inline(never)]
 fn place_behind(spans: &[Span], t: u64) -> usize
     ensures within { result ≤ length spans.now }
     ensures behind { 0 < result → end_at spans.now (result - 1) ≤ t }
@@ -107,6 +140,72 @@ fn place_behind(spans: &[Span], t: u64) -> usize
         }
     }
     low
+}
+
+/// Whether all spans before a place end at `t` or earlier.
+#[inline(always)]
+fn end_before(spans: &[Span], place: usize, t: u64) -> bool
+    requires { place ≤ length spans.now }
+    ensures { result ≡ true → 0 < place → end_at spans.now (place - 1) ≤ t }
+{
+    if place == 0 {
+        return true;
+    }
+    u64::from(spans[place - 1].end) <= t
+}
+
+/// Whether the first span that ends behind `t`, or the end of all, is at most `MOST_WALKED` places behind a place.
+#[inline(always)]
+fn is_near(spans: &[Span], place: usize, t: u64) -> bool
+    requires { place ≤ length spans.now }
+{
+    if spans.len() - place <= MOST_WALKED {
+        return true;
+    }
+    t < u64::from(spans[place + MOST_WALKED].end)
+}
+
+/// The place of the first span that ends behind `t`, from a place on of which all before end at `t` or earlier.
+#[inline(always)]
+fn walk(spans: &[Span], from: usize, t: u64) -> usize
+    requires within { from ≤ length spans.now }
+    requires behind { 0 < from → end_at spans.now (from - 1) ≤ t }
+    ensures within { result ≤ length spans.now }
+    ensures behind { 0 < result → end_at spans.now (result - 1) ≤ t }
+{
+    let mut place = from;
+    while place < spans.len() && u64::from(spans[place].end) <= t {
+        place += 1;
+    }
+    place
+}
+
+/// The place of the first span that ends behind `t`: looked for from the place of the last one on, where that is near, else
+/// by halving.
+#[inline(always)]
+fn place_from(spans: &[Span], last: usize, t: u64) -> usize
+    ensures within { result ≤ length spans.now }
+    ensures behind { 0 < result → end_at spans.now (result - 1) ≤ t }
+{
+    if last <= spans.len() && end_before(spans, last, t) && is_near(spans, last, t) {
+        return walk(spans, last, t);
+    }
+    place_behind(spans, t)
+}
+
+/// How far a moment is into its cycle. Nothing is divided where the cycle is the one of the last call.
+#[inline(always)]
+fn into_cycle(laps: &mut u64, cycle: u64, t: u64) -> u64
+    requires cycle { 0 < cycle }
+    requires early { t < 9_000_000_000_000_000_000 }
+    ensures { result ≡ t % cycle }
+{
+    let lap = laps.saturating_mul(cycle);
+    if lap <= t && t - lap < cycle {
+        return t - lap;
+    }
+    *laps = t / cycle;
+    t % cycle
 }
 
 /// The spans of all classes of a list.
@@ -130,6 +229,7 @@ pub fn spans_of_all<A: Allocator + Copy>(
 fn fit_until<A: Allocator + Copy>(
     list: &CyclicList<u8, A>,
     spans: &Spans<A>,
+    last: &mut Last,
     class: usize,
     occ: u64,
     from: u64,
@@ -150,10 +250,11 @@ fn fit_until<A: Allocator + Copy>(
     if occ == 0 {
         return Some(from);
     }
-    let into = from % cycle;
+    let into = into_cycle(&mut last.laps, cycle, from);
     let lap = from - into;
     let own = spans.each[class].as_slice();
-    let place = place_behind(own, into);
+    let place = place_from(own, last.places[class], into);
+    last.places[class] = place;
     match fit_among(&own[place..], into, occ, stop - lap) {
         Some(t) => Some(t + lap),
         None => None,
@@ -164,6 +265,7 @@ fn fit_until<A: Allocator + Copy>(
 pub fn fit_in_list<A: Allocator + Copy>(
     list: &CyclicList<u8, A>,
     spans: &Spans<A>,
+    last: &mut Last,
     class: usize,
     occ: u64,
     from: u64,
@@ -174,7 +276,7 @@ pub fn fit_in_list<A: Allocator + Copy>(
     requires spans { AreOf list.now spans.now.runs spans.now.each.items }
     ensures { IfSome result (λ t. IsFirst (list_opens list.now class) occ from t) }
 {
-    fit_until(list, spans, class, occ, from, u64::MAX)
+    fit_until(list, spans, last, class, occ, from, u64::MAX)
 }
 
 /// The same of lists that are exchanged, by the spans of the old one and of the new one.
@@ -182,6 +284,7 @@ pub fn fit_in_both<A: Allocator + Copy>(
     lists: &Joined<u8, A>,
     old: &Spans<A>,
     new: &Spans<A>,
+    last: &mut LastOfBoth,
     class: usize,
     occ: u64,
     from: u64,
@@ -196,14 +299,14 @@ pub fn fit_in_both<A: Allocator + Copy>(
     let (before, after) = lists.lists();
     let at = lists.at();
     if at <= from {
-        return fit_in_list(after, new, class, occ, from);
+        return fit_in_list(after, new, &mut last.new, class, occ, from);
     }
-    match fit_until(before, old, class, occ, from, at) {
+    match fit_until(before, old, &mut last.old, class, occ, from, at) {
         Some(first) if first + occ <= at => Some(first),
         Some(first) if first <= at => {
-            match fit_in_list(after, new, class, first + occ - at, at) {
+            match fit_in_list(after, new, &mut last.new, class, first + occ - at, at) {
                 Some(behind) if behind == at => Some(first),
-                Some(_) => fit_in_list(after, new, class, occ, at),
+                Some(_) => fit_in_list(after, new, &mut last.new, class, occ, at),
                 None => None,
             }
         }

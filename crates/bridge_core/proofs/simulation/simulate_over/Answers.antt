@@ -9,7 +9,7 @@ use Rattle.bridge_semantics.proofs.Few.{few_leave}
 use Rattle.bridge_inputs.specs.Lanes.{AreAheadOf, AreLanes, AreRests, AreTexts, FailsLook, numbers, room_of}
 use Rattle.bridge_core.specs.Lines.{AreWritten, HeadersStop, numbers as written_numbers}
 use Rattle.bridge_core.specs.Simulated.{AreListsOf, AreNumbers}
-use Rattle.bridge_core.specs.Taking.{first_of_commands, StopsAmong}
+use Rattle.bridge_core.specs.Taking.{AreHeads, first_of_commands, StopsAmong}
 use Rattle.bridge_core.proofs.Beginning.{one_order}
 use Rattle.bridge_core.proofs.Faults.{memory_read, memory_written, ok_err}
 use Rattle.bridge_core.proofs.Simulating.{begin_well, has_run, isolates, lanes_many, may_take, others_change_nothing, ports_many, stops_among, stops_header, stops_look, under_first, wants_first}
@@ -303,6 +303,18 @@ run-done-requires-clause-new g c = c.in-Ok-new.ensures.start.2
 
 pub run-done-requires-clause-commands : goal.run-done-requires-clause-commands
 run-done-requires-clause-commands g c = subst (λ p. AreCommands p c.args.commands.now) (sym c.in-Ok-new.ensures.start.0) c.requires.commands
+
+pub heads_of-heads-requires : goal.heads_of-heads-requires
+heads_of-heads-requires g c =
+    let p = c.args.accepted.now in
+    let lists = subst (λ z. AreListsOf z c.in-Ok.lists) c.plan.ensures.plan c.in-Ok.ensures in
+    let named = ap numbers c.deref-3.ensures.value ∙ c.in-Ok-look_at_all.ensures.numbers ∙ c.deref.ensures.value in
+    let many = lanes_many p c.in-Ok.lists.ports.items c.deref-3.result.now (length p.ports) lists.ports named refl in
+    let few = c.plan.ensures.rules.few_ports in
+    omega (arith, many, few)
+
+pub run-done-requires-clause-heads : goal.run-done-requires-clause-heads
+run-done-requires-clause-heads g c = subst (AreHeads (g.G.Agenda.held c.heads_of-heads.result)) (c.deref-3.ensures.value ∙ sym c.deref_mut.ensures.value) c.heads_of-heads.ensures
 
 pub run-done-requires-clause-lines : goal.run-done-requires-clause-lines
 run-done-requires-clause-lines g c =

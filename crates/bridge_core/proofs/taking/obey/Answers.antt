@@ -61,6 +61,9 @@ returns-clause-waits g c =
     subst (NotBefore (g.G.Agenda.held c.clear.new.self.ports.agenda)) (sym moved.0)
     (subst (λ ports. NotBefore (g.G.Agenda.held ports.agenda) c.args.command.at) (sym moved.3) c.in_default-depart_before.ensures.waits)
 
+pub returns-clause-heads : goal.returns-clause-heads
+returns-clause-heads g c = c.in_default.ensures.heads
+
 pub returns-clause-may : goal.returns-clause-may
 returns-clause-may g c =
     let moved = c.clear.ensures.moved in
@@ -80,6 +83,9 @@ take_before-requires-clause-sinks g c = c.requires.sinks
 
 pub take_before-requires-clause-waits : goal.take_before-requires-clause-waits
 take_before-requires-clause-waits g c = c.requires.waits
+
+pub take_before-requires-clause-heads : goal.take_before-requires-clause-heads
+take_before-requires-clause-heads g c = c.requires.heads
 
 pub take_before-requires-clause-early : goal.take_before-requires-clause-early
 take_before-requires-clause-early g c = c.requires.time

@@ -50,6 +50,7 @@ loop-command-preserved g c =
       written = same.2 ∙ i.written;
       lasts = λ sure. c.obey.ensures.devices.lasts (i.lasts sure);
       waits = c.in_default.ensures.waits;
+      heads = c.in_default.ensures.heads;
       holds = λ sure. c.obey.ensures.devices.holds (i.holds sure);
       goes = λ p texts olds u.
           let v = subst (λ o. IsUnderWay g.R.ByteSource.remaining g.W.ByteSink.contents p texts (commands_of (take at c.args.commands.now)) o olds c.loop-command.relay c.loop-command.lanes c.loop-command.sources c.loop-command.sinks)
@@ -114,6 +115,7 @@ loop-command-init g c = record {
   written = refl;
   lasts = λ sure. sure;
   waits = subst (NotBefore (g.G.Agenda.held c.args.relay.now.ports.agenda)) (sym c.requires.new) (λ q t h. omega arith);
+  heads = c.requires.heads;
   holds = λ sure. sure;
   goes = λ p texts olds u. u;
 }
@@ -129,6 +131,9 @@ obey-requires-clause-sources g c = c.loop-command.invariant.sources
 
 pub obey-requires-clause-sinks : goal.obey-requires-clause-sinks
 obey-requires-clause-sinks g c = c.loop-command.invariant.sinks
+
+pub obey-requires-clause-heads : goal.obey-requires-clause-heads
+obey-requires-clause-heads g c = c.loop-command.invariant.heads
 
 pub obey-requires-clause-waits : goal.obey-requires-clause-waits
 obey-requires-clause-waits g c = c.loop-command.invariant.waits
@@ -147,6 +152,9 @@ take_before-requires-clause-sources g c = c.loop-command.invariant.sources
 
 pub take_before-requires-clause-sinks : goal.take_before-requires-clause-sinks
 take_before-requires-clause-sinks g c = c.loop-command.invariant.sinks
+
+pub take_before-requires-clause-heads : goal.take_before-requires-clause-heads
+take_before-requires-clause-heads g c = c.loop-command.invariant.heads
 
 pub take_before-requires-clause-waits : goal.take_before-requires-clause-waits
 take_before-requires-clause-waits g c = c.loop-command.invariant.waits

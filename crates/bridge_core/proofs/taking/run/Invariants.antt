@@ -6,7 +6,7 @@ use Rattle.bridge_state.specs.Ports.{NotBefore}
 use Rattle.bridge_inputs.specs.Lanes.{numbers}
 use Rattle.bridge_core.specs.Lines.{numbers as written_numbers}
 use Rattle.bridge_semantics.specs.Merge.{commands_of}
-use Rattle.bridge_core.specs.Taking.{first_of_commands, IsUnderWay, MayTake}
+use Rattle.bridge_core.specs.Taking.{AreHeads, first_of_commands, IsUnderWay, MayTake}
 use Rattle.bridge_core.proofs.taking.run.Given as goal
 
 abbrev pub invariant-loop-command : goal.invariant-loop-command
@@ -21,6 +21,7 @@ invariant-loop-command g l = record {
   written : written_numbers l.lines ≡ written_numbers l.fn.lines;
   lasts : NeverFail g.R.ByteSource.never_fails l.fn.sources → NeverFail g.R.ByteSource.never_fails l.sources;
   waits : NotBefore (g.G.Agenda.held l.relay.ports.agenda) l.relay.earliest;
+  heads : AreHeads (g.G.Agenda.held l.heads) l.lanes;
   holds : NeverFail g.W.ByteSink.never_fails l.fn.sinks → NeverFail g.W.ByteSink.never_fails l.sinks;
   goes : (p : config.Plan g.row.A.Denot) (texts : ℕ → List ℕ) (olds : List g.row.W.Denot)
       → IsUnderWay g.R.ByteSource.remaining g.W.ByteSink.contents p texts [] (first_of_commands l.fn.commands) olds l.fn.relay l.fn.lanes l.fn.sources l.fn.sinks

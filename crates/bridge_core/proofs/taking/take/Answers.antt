@@ -10,6 +10,7 @@ use Rattle.bridge_inputs.specs.Lanes.{fault_at, numbers, room_of}
 use Rattle.bridge_core.specs.Lines.{AreWritten, numbers as written_numbers}
 use Rattle.bridge_core.specs.Taking.{IsUnderWay, MayTake, StopsForMemory, StopsSo}
 use Rattle.bridge_core.proofs.Faults.{at_written, memory_read, memory_written, ok_err, written_read}
+use Rattle.bridge_core.proofs.Heads.{heads_but}
 use Rattle.bridge_core.proofs.Steps.{all_later, depart_stops, look_stops, memory_before, newest_late, number_at, one_place, stood, waits_of, went_on, written_so}
 use Rattle.bridge_core.proofs.Taken.{again, err_is, fewer_room, may_again, more_may_come, numbers_given, numbers_renewed, port_known, read_at, renewed, rest_left, still_reading}
 use Rattle.bridge_core.proofs.taking.take.Goals as goal
@@ -202,3 +203,18 @@ returns-in-Ok-look_at-clause-devices g c = record {
   sound = λ sure port e. absurd (ok_err _ _ e);
   holds = c.depart_before.ensures.holds;
 }
+
+pub note_head-requires-clause-place : goal.note_head-requires-clause-place
+note_head-requires-clause-place g c = let place = c.requires.place in let given = c.give-number.auto.lanes in let looked = c.look_at.auto.lanes in omega (arith, place, given, looked)
+
+pub note_head-requires-clause-few : goal.note_head-requires-clause-few
+note_head-requires-clause-few g c = let few = c.requires.heads.few in let given = c.give-number.auto.lanes in let looked = c.look_at.auto.lanes in omega (arith, few, given, looked)
+
+pub note_head-requires-clause-others : goal.note_head-requires-clause-others
+note_head-requires-clause-others g c =
+    let h = c.give-number.ensures.given in
+    let r = renewed g.R.ByteSource.remaining c.args.lanes.now c.give-number.new.lanes c.look_at.new.lanes c.args.sources.now c.look_at.new.sources c.args.place c.give-number.result (Ok tt) h c.in-Ok-look_at.ensures.looked in
+    heads_but (g.G.Agenda.held c.args.heads.now) c.args.lanes.now c.look_at.new.lanes c.args.place r.lane r.lanes_are c.requires.heads
+
+pub returns-in-Ok-look_at-clause-heads : goal.returns-in-Ok-look_at-clause-heads
+returns-in-Ok-look_at-clause-heads g c = c.note_head.ensures

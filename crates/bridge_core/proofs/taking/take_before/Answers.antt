@@ -20,6 +20,7 @@ loop-place-preserved g c =
       written = same.2 ∙ i.written;
       lasts = λ sure. c.take.ensures.devices.lasts (i.lasts sure);
       waits = c.in_default-take.ensures.waits;
+      heads = c.in_default-take.ensures.heads;
       holds = λ sure. c.take.ensures.devices.holds (i.holds sure);
       goes = λ p texts commanded next olds now u. c.in_default-take.ensures.goes p texts commanded next olds (before_next c.args.until next c.loop-place.lanes c.in-Some.place now c.in-Some.ensures.before) (i.goes p texts commanded next olds now u);
     }
@@ -58,6 +59,9 @@ take-requires-clause-sources g c = c.loop-place.invariant.sources
 pub take-requires-clause-sinks : goal.take-requires-clause-sinks
 take-requires-clause-sinks g c = c.loop-place.invariant.sinks
 
+pub take-requires-clause-heads : goal.take-requires-clause-heads
+take-requires-clause-heads g c = c.loop-place.invariant.heads
+
 pub take-requires-clause-waits : goal.take-requires-clause-waits
 take-requires-clause-waits g c = c.loop-place.invariant.waits
 
@@ -72,6 +76,9 @@ returns-clause-goes g c = c.loop-place.invariant.goes
 
 pub returns-clause-may : goal.returns-clause-may
 returns-clause-may g c = c.loop-place.invariant.may
+
+pub returns-clause-heads : goal.returns-clause-heads
+returns-clause-heads g c = c.loop-place.invariant.heads
 
 pub returns-clause-waits : goal.returns-clause-waits
 returns-clause-waits g c = c.loop-place.invariant.waits
@@ -91,3 +98,6 @@ returns-clause-devices g c = record {
   sound = λ sure port e. absurd (ok_err _ _ e);
   holds = c.loop-place.invariant.holds;
 }
+
+pub next_before-requires : goal.next_before-requires
+next_before-requires g c = record { heads = c.loop-place.invariant.heads }

@@ -6,7 +6,7 @@ use Rattle.bridge_inputs.specs.Devices.{NeverFail}
 use Rattle.bridge_state.specs.Ports.{NotBefore}
 use Rattle.bridge_inputs.specs.Lanes.{numbers, room_of}
 use Rattle.bridge_core.specs.Lines.{numbers as written_numbers}
-use Rattle.bridge_core.specs.Taking.{IsUnderWay, MayTake}
+use Rattle.bridge_core.specs.Taking.{AreHeads, IsUnderWay, MayTake}
 use Rattle.bridge_core.proofs.taking.take_before.Given as goal
 
 abbrev pub invariant-loop-place : goal.invariant-loop-place
@@ -22,6 +22,7 @@ invariant-loop-place g l = record {
   written : written_numbers l.lines ≡ written_numbers l.fn.lines;
   lasts : NeverFail g.R.ByteSource.never_fails l.fn.sources → NeverFail g.R.ByteSource.never_fails l.sources;
   waits : NotBefore (g.G.Agenda.held l.relay.ports.agenda) l.relay.earliest;
+  heads : AreHeads (g.G.Agenda.held l.heads) l.lanes;
   holds : NeverFail g.W.ByteSink.never_fails l.fn.sinks → NeverFail g.W.ByteSink.never_fails l.sinks;
   goes : (p : config.Plan g.row.A.Denot) (texts : ℕ → List ℕ) (commanded : List Input) (next : Option Input) (olds : List g.row.W.Denot) → IfSome next (λ y. l.fn.until ≡ Some y.at)
       → IsUnderWay g.R.ByteSource.remaining g.W.ByteSink.contents p texts commanded next olds l.fn.relay l.fn.lanes l.fn.sources l.fn.sinks

@@ -1,10 +1,11 @@
-use Rattle.std.proofs.Common.{◌≡◌, ◌+◌, ◌-◌, ◌*◌, ◌/◌, ◌%◌, ◌<◌, ℕ, List, Some, true, drop, length, arith, ap, sym, ◌∙◌}
+use Rattle.std.proofs.Common.{◌≡◌, ◌+◌, ◌-◌, ◌*◌, ◌/◌, ◌%◌, ◌<◌, ◌≤◌, subst, ℕ, List, Some, true, drop, length, arith, ap, sym, ◌∙◌}
 use Rattle.std.specs.Prelude.{Vec, slice_index_or}
 use Rattle.std.proofs.lemmas.List.{take_rest}
 use Rattle.bridge_cycle.specs.declared.run.Run.TheVariants.{Never}
 use Rattle.bridge_cycle.specs.declared.run.Run.TheVariants as run
 use Rattle.bridge_port.specs.Opening.{list_ever, list_opens}
-use Rattle.bridge_port.specs.Spans.{HasSpans, fit_among, spans_at}
+use Rattle.bridge_cycle.specs.Moments.{IsFirst}
+use Rattle.bridge_port.specs.Spans.{HasSpans, end_at, fit_among, spans_at, until}
 use Rattle.bridge_port.specs.declared.spans.Span.{Span}
 use Rattle.bridge_port.proofs.Fitting.{first_of_always, first_of_cycle, spans_is}
 use Rattle.bridge_port.proofs.spans.fit_until.Goals as goal
@@ -21,17 +22,20 @@ returns-in-Some g c =
     let class = c.args.class in
     let from = c.args.from in
     let cycle = c.cycle-cycle.result in
-    let place = c.place_behind-place.result in
+    let place = c.place_from-place.result in
     let xs = c.as_slice-own.result.now in
     let vs = c.args.spans.now.each.items in
     let below : class < length vs = (let eight = c.requires.spans.eight in let l = c.requires.class in omega (arith, eight, l)) in
     let own : xs ≡ spans_at vs class = c.as_slice-own.ensures.value ∙ (ap (λ (v : Vec Span _). v.items) c.index.ensures ∙ sym (spans_is vs class _ below)) in
     let has : HasSpans (list_opens c.args.list.now class) xs = rw own (c.requires.spans.each class c.requires.class) in
     let some : 0 < c.args.occ = (let none = c.if-occ-eq0.false in grind (arith, none)) in
-    let found : fit_among (drop place xs) (from % cycle) c.args.occ (c.args.stop - (from - from % cycle)) ≡ Some c.in-Some.t = ap (λ (ys : List Span). fit_among ys (from % cycle) c.args.occ (c.args.stop - (from - from % cycle))) (sym (take_rest xs place)) ∙ sym c.in-Some.ensures.fit in
+    let into : c.into_cycle-into.result ≡ from % cycle = c.into_cycle-into.ensures in
+    let of_place : fit_among (drop place xs) c.into_cycle-into.result c.args.occ (c.args.stop - (from - c.into_cycle-into.result)) ≡ Some c.in-Some.t = ap (λ (ys : List Span). fit_among ys c.into_cycle-into.result c.args.occ (c.args.stop - (from - c.into_cycle-into.result))) (sym (take_rest xs place)) ∙ sym c.in-Some.ensures.fit in
+    let found : fit_among (drop place xs) (from % cycle) c.args.occ (c.args.stop - (from - from % cycle)) ≡ Some c.in-Some.t = subst (λ (n : ℕ). fit_among (drop place xs) n c.args.occ (c.args.stop - (from - n)) ≡ Some c.in-Some.t) into of_place in
+    let behind : 0 < place → end_at xs (place - 1) ≤ from % cycle = subst (λ (n : ℕ). 0 < place → end_at xs (place - 1) ≤ n) into c.place_from-place.ensures.behind in
     let near = c.in-Some.ensures.near in
     let whole : from ≡ from % cycle + from / cycle * cycle = grind arith in
     record {
-      fit = first_of_cycle c.args.list.now class xs cycle place from c.args.occ c.args.stop c.in-Some.t c.cycle-cycle.ensures.cycle c.cycle-cycle.ensures.lawful has some c.requires.stop c.place_behind-place.ensures.within c.place_behind-place.ensures.behind found;
-      near = omega (arith, near, whole);
+      fit = subst (λ (n : ℕ). IsFirst (until (list_opens c.args.list.now class) c.args.stop) c.args.occ from (c.in-Some.t + (from - n))) (sym into) (first_of_cycle c.args.list.now class xs cycle place from c.args.occ c.args.stop c.in-Some.t c.cycle-cycle.ensures.cycle c.cycle-cycle.ensures.lawful has some c.requires.stop c.place_from-place.ensures.within behind found);
+      near = omega (arith, near, whole, into);
     }

@@ -15,9 +15,11 @@ returns-in-Always-clause-first g c =
     let first = first_at_once (opening_of c.self.inside.list) c.self.inside.kept.runs c.args.class c.args.occ c.args.from c.self.invariant.runs c.requires.class always in
     subst (λ (o : Opening). IsFirst (opens o c.args.class) c.args.occ c.args.from c.args.from) c.self.view_is first
 
-pub turn_of-turn-requires : goal.turn_of-turn-requires
-turn_of-turn-requires g c = record {
-  range = c.requires.from;
+pub fits_in_turn-requires : goal.fits_in_turn-requires
+fits_in_turn-requires g c = record {
+  class = c.requires.class;
+  occ = c.requires.occ;
+  from = c.requires.from;
   kept = subst (λ o. KeepsTurn o c.self.inside.turn) c.in-Some.is c.self.invariant.turn;
   lawful = made_is c.in-Some.list (subst IsMade (ap opening_of c.in-Some.is) c.self.invariant.runs.made);
 }
@@ -35,7 +37,6 @@ fit_in-requires g c =
       from = c.requires.from;
       lawful = made_is list (subst IsMade (ap opening_of c.in-Some.is) c.self.invariant.runs.made);
       kept = subst (λ o. AreKept o c.self.inside.kept.old.runs c.self.inside.kept.old.each.items c.self.inside.kept.new.runs c.self.inside.kept.new.each.items) c.in-Some.is c.self.invariant.spans;
-      turn = c.turn_of-turn.ensures.turn;
       some = (soon.0, soon.1, soon.2, fits_at list c.args.class c.args.occ soon.0 fits);
     }
 
@@ -43,17 +44,23 @@ pub invariant_of-self : goal.invariant_of-self
 invariant_of-self g c = record {
   runs = c.self.invariant.runs;
   spans = c.self.invariant.spans;
-  turn = subst (λ o. KeepsTurn o c.turn_of-turn.new.kept) (sym c.in-Some.is) c.turn_of-turn.ensures.kept;
+  turn = subst (λ o. KeepsTurn o c.fits_in_turn.new.kept) (sym c.in-Some.is) c.fits_in_turn.ensures.kept;
 }
 
-pub returns-in-Some-clause-first : goal.returns-in-Some-clause-first
-returns-in-Some-clause-first g c =
+pub returns-then-fits_in_turn-clause-first : goal.returns-then-fits_in_turn-clause-first
+returns-then-fits_in_turn-clause-first g c =
+    let is : c.args.self.now ≡ opening_of (Some c.in-Some.list) = sym c.self.view_is ∙ ap opening_of c.in-Some.is in
+    let first = first_at c.in-Some.list c.args.class c.args.occ c.args.from c.args.from (c.fits_in_turn.ensures.first c.if-fits_in_turn.true) in
+    subst (λ (o : Opening). IsFirst (opens o c.args.class) c.args.occ c.args.from c.args.from) (sym is) first
+
+pub returns-else-fits_in_turn-clause-first : goal.returns-else-fits_in_turn-clause-first
+returns-else-fits_in_turn-clause-first g c =
     let is : c.args.self.now ≡ opening_of (Some c.in-Some.list) = sym c.self.view_is ∙ ap opening_of c.in-Some.is in
     let first = first_at c.in-Some.list c.args.class c.args.occ c.args.from c.fit_in.result c.fit_in.ensures in
     subst (λ (o : Opening). IsFirst (opens o c.args.class) c.args.occ c.args.from c.fit_in.result) (sym is) first
 
-pub returns-in-Some-clause-soon : goal.returns-in-Some-clause-soon
-returns-in-Some-clause-soon g c =
+pub returns-else-fits_in_turn-clause-soon : goal.returns-else-fits_in_turn-clause-soon
+returns-else-fits_in_turn-clause-soon g c =
     let made : IsMade c.args.self.now = subst IsMade c.self.view_is c.self.invariant.runs.made in
     let soon = ever_soon c.args.self.now c.args.class c.args.occ c.args.from made c.requires.ever in
-    first_soon _ c.args.occ c.args.from c.fit_in.result soon.0 (returns-in-Some-clause-first g c) soon.1 soon.2 soon.3
+    first_soon _ c.args.occ c.args.from c.fit_in.result soon.0 (returns-else-fits_in_turn-clause-first g c) soon.1 soon.2 soon.3

@@ -9,8 +9,8 @@ use Rattle.bridge_state.proofs.ports.Ports.offer.Goals as goal
 pub index_mut-requires : goal.index_mut-requires
 index_mut-requires g c =
     let there = c.requires.there in
-    let l = below c.self.inside.slots.items c.args.number there.0 (subst (λ (z : PortsState _ _). slot_at z c.args.number ≡ Some there.0) (sym c.self.view_is) there.1) in
-    omega arith
+    let slots = c.self.inside.slots in
+    subst (λ (n : ℕ). c.args.number - 1 < n) (sym slots.ok.0) (below slots.items c.args.number there.0 (subst (λ (z : PortsState _ _). slot_at z c.args.number ≡ Some there.0) (sym c.self.view_is) there.1))
 
 pub offer-answer-requires : goal.offer-answer-requires
 offer-answer-requires g c =

@@ -7,7 +7,10 @@ use Rattle.bridge_state.proofs.Porting.{below, here, kept_set, is_after, slot_st
 use Rattle.bridge_state.proofs.ports.Ports.start.Goals as goal
 
 pub index_mut-requires : goal.index_mut-requires
-index_mut-requires g c = let o = c.self.invariant.others c.in-Some.number c.in-Some.start c.in-Some.ensures.0 in let l = below c.self.inside.slots.items c.in-Some.number o.1.0 o.1.1 in omega arith
+index_mut-requires g c =
+    let o = c.self.invariant.others c.in-Some.number c.in-Some.start c.in-Some.ensures.0 in
+    let slots = c.self.inside.slots in
+    subst (λ (n : ℕ). c.in-Some.number - 1 < n) (sym slots.ok.0) (below slots.items c.in-Some.number o.1.0 o.1.1)
 
 pub start-begun-requires : goal.start-begun-requires
 start-begun-requires g c =
