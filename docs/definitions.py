@@ -267,11 +267,15 @@ def help_in(page):
 
 
 def check_help():
-    """Fails where docs/COMMANDS.md is not the help that a program of the gate prints of the table of commands."""
+    """Fails where docs/COMMANDS.md is not the help that a program of the gate prints, of each row of the table of commands."""
     told = help_in(read(TOP / "docs/COMMANDS.md"))
     printed = help_in(read(TOP / "crates/gate_cases/stdout"))
-    for words in sorted(told.keys() | printed.keys()):
-        if not printed or told.get(words) != printed.get(words):
+    rows = re.findall(r'Description = Description {\s*name: "(\w+)"', read(TOP / "crates/bridge_cli/src/command.rt"))
+    wanted = {f"{name} --help".removeprefix("tsnbridge ") for name in rows}
+    if not wanted or printed.keys() != wanted:
+        fail(f"crates/gate_cases/stdout has the help of {sorted(printed)}, the table of commands has {sorted(wanted)}")
+    for words in sorted(told.keys() | wanted):
+        if told.get(words) != printed.get(words):
             fail(f"docs/COMMANDS.md has another text of `tsnbridge {words}` than crates/gate_cases/stdout")
 
 
@@ -293,7 +297,7 @@ def check_options():
         for name, value in re.findall(r"--(\w+)(?: ([A-Z]+))?", group[0]):
             told[name, value] = set(re.findall(r"\w+", group[1])) - {"and"} or commands
     if not has or told != has:
-        wrong = sorted(name for name, value in told.keys() ^ has.keys()) or sorted(it[0] for it in has if told[it] != has[it])
+        wrong = sorted({it[0] for it in told.keys() | has.keys() if told.get(it) != has.get(it)})
         fail(f"OPTIONS of crates/bridge_cli/src/command.rt says of {', '.join(wrong)} other than the table")
 
 
