@@ -1,6 +1,6 @@
 //! How the commands are called, and their options, as is told where words are refused.
 
-use crate::command::{Form, Word, descriptions};
+use crate::command::{COMMANDS, Description, Form, Word, description_at};
 use std::alloc::{AllocError, Global};
 
 /// What is told of a command whose words are refused.
@@ -27,16 +27,23 @@ fn places_in(words: &[Word]) -> usize {
     count
 }
 
+/// How a command is called.
+fn called(command: &'static Description) -> Call {
+    Call {
+        name: command.name,
+        line: command.call,
+        places: places_in(command.words),
+        reason: command.reason,
+    }
+}
+
 /// How the command of a name is called, if there is one.
 pub fn call_of(name: &str) -> Option<Call> {
-    for command in descriptions() {
-        if command.name == name {
-            return Some(Call {
-                name: command.name,
-                line: command.call,
-                places: places_in(command.words),
-                reason: command.reason,
-            });
+    for place in 0..COMMANDS {
+        if let Some(command) = description_at(place) {
+            if command.name == name {
+                return Some(called(command));
+            }
         }
     }
     None
@@ -45,8 +52,10 @@ pub fn call_of(name: &str) -> Option<Call> {
 /// The names of the commands, in their order.
 pub fn command_names(alloc: Global) -> Result<Vec<&'static str>, AllocError> {
     let mut names = Vec::new(alloc);
-    for command in descriptions() {
-        names.push(command.name)?;
+    for place in 0..COMMANDS {
+        if let Some(command) = description_at(place) {
+            names.push(command.name)?;
+        }
     }
     Ok(names)
 }
@@ -68,10 +77,12 @@ fn option_in(words: &[Word], name: &str) -> Option<bool> {
 
 /// Whether an option of a command has a value behind it, by its name, which stands behind `--`; none where no command has it.
 pub fn has_value(name: &str) -> Option<bool> {
-    for command in descriptions() {
-        let found = option_in(command.words, name);
-        if found.is_some() {
-            return found;
+    for place in 0..COMMANDS {
+        if let Some(command) = description_at(place) {
+            let found = option_in(command.words, name);
+            if found.is_some() {
+                return found;
+            }
         }
     }
     None
@@ -90,8 +101,10 @@ fn push_options(names: &mut Vec<&'static str>, words: &'static [Word]) -> Result
 /// The names of the options of all commands, without the `--` before them, in their order.
 pub fn option_names(alloc: Global) -> Result<Vec<&'static str>, AllocError> {
     let mut names = Vec::new(alloc);
-    for command in descriptions() {
-        push_options(&mut names, command.words)?;
+    for place in 0..COMMANDS {
+        if let Some(command) = description_at(place) {
+            push_options(&mut names, command.words)?;
+        }
     }
     names.sort()?;
     Ok(names)

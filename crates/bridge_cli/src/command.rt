@@ -2,7 +2,7 @@
 ghost use Rattle.std.specs.Prelude.{◌≡◌, ◌≢◌, [], IfOk, IfErr, false, map, string_bytes, fold};
 ghost use Rattle.clap.specs.Words.{FailsBy, app_of, fault_of, kind_of, rule_of, subcommand_of, subcommand_rows_of, with_subcommand};
 ghost use Rattle.clap.specs.declared.builder.command.Command.TheViews.{out-Command as fields_of};
-ghost use Rattle.bridge_cli.specs.CommandLine.{bridge_jobs, commands, described, drawing_jobs, jobs, plain_jobs, program, rule_in, wiring, with_word};
+ghost use Rattle.bridge_cli.specs.CommandLine.{bounds_command, bridge_jobs, check_command, commands, described, drawing_jobs, jobs, net_command, picture_command, plain_jobs, program, rule_in, run_command, wire_command, wiring, with_word};
 
 use clap::error::ErrorKind;
 use clap::{Arg, ArgAction, ArgMatches, Command, Error};
@@ -388,9 +388,62 @@ pub const OPTIONS: &str =
 /// The version of the program.
 const VERSION: &str = "1.0.0";
 
-/// The commands, in the order of their names.
-pub(crate) fn descriptions() -> &'static [&'static Description] {
-    &[&BOUNDS, &CHECK, &NET, &PICTURE, &RUN, &WIRE]
+/// How many commands there are.
+pub(crate) const COMMANDS: usize = 6;
+
+/// The command of a place among all, in the order of their names; none behind the last.
+pub(crate) fn description_at(place: usize) -> Option<&'static Description> {
+    match place {
+        0 => Some(bounds()),
+        1 => Some(check()),
+        2 => Some(net()),
+        3 => Some(picture()),
+        4 => Some(run()),
+        5 => Some(wire()),
+        _ => None,
+    }
+}
+
+/// The command of one queue.
+fn wire() -> &'static Description
+    ensures { described result.now ≡ wire_command }
+{
+    &WIRE
+}
+
+/// The command that checks a plan.
+fn check() -> &'static Description
+    ensures { described result.now ≡ check_command }
+{
+    &CHECK
+}
+
+/// The command of a run.
+fn run() -> &'static Description
+    ensures { described result.now ≡ run_command }
+{
+    &RUN
+}
+
+/// The command that draws a plan.
+fn picture() -> &'static Description
+    ensures { described result.now ≡ picture_command }
+{
+    &PICTURE
+}
+
+/// The command of bounds.
+fn bounds() -> &'static Description
+    ensures { described result.now ≡ bounds_command }
+{
+    &BOUNDS
+}
+
+/// The command of a network.
+fn net() -> &'static Description
+    ensures { described result.now ≡ net_command }
+{
+    &NET
 }
 
 /// What the words after the program's name are to `clap`: a command with its values, or what is wrong with them.
@@ -411,7 +464,7 @@ pub(crate) fn commands_of<'a>(alloc: Global) -> Result<Command<'a>, AllocError>
     ensures { IfOk result (λ c. app_of c ≡ commands) }
 {
     let program = bridge_jobs_of(alloc)?;
-    with_command(alloc, program, &NET)
+    with_command(alloc, program, net())
 }
 
 /// The program with the commands of one bridge.
@@ -419,7 +472,7 @@ fn bridge_jobs_of<'a>(alloc: Global) -> Result<Command<'a>, AllocError>
     ensures { IfOk result (λ c. app_of c ≡ bridge_jobs) }
 {
     let program = drawing_jobs_of(alloc)?;
-    with_command(alloc, program, &BOUNDS)
+    with_command(alloc, program, bounds())
 }
 
 /// The program with the commands that run, check or draw.
@@ -427,7 +480,7 @@ fn drawing_jobs_of<'a>(alloc: Global) -> Result<Command<'a>, AllocError>
     ensures { IfOk result (λ c. app_of c ≡ drawing_jobs) }
 {
     let program = jobs_of(alloc)?;
-    with_command(alloc, program, &PICTURE)
+    with_command(alloc, program, picture())
 }
 
 /// The program with the commands that don't draw alone.
@@ -435,7 +488,7 @@ fn jobs_of<'a>(alloc: Global) -> Result<Command<'a>, AllocError>
     ensures { IfOk result (λ c. app_of c ≡ jobs) }
 {
     let program = plain_jobs_of(alloc)?;
-    with_command(alloc, program, &RUN)
+    with_command(alloc, program, run())
 }
 
 /// The program with the commands that take no folder.
@@ -443,7 +496,7 @@ fn plain_jobs_of<'a>(alloc: Global) -> Result<Command<'a>, AllocError>
     ensures { IfOk result (λ c. app_of c ≡ plain_jobs) }
 {
     let program = wiring_of(alloc)?;
-    with_command(alloc, program, &CHECK)
+    with_command(alloc, program, check())
 }
 
 /// The program with the command that needs no plan.
@@ -451,7 +504,7 @@ fn wiring_of<'a>(alloc: Global) -> Result<Command<'a>, AllocError>
     ensures { IfOk result (λ c. app_of c ≡ wiring) }
 {
     let program = program_of(alloc)?;
-    with_command(alloc, program, &WIRE)
+    with_command(alloc, program, wire())
 }
 
 /// The program with the command of a description behind those that it has.

@@ -2,6 +2,7 @@
 ghost use Rattle.std.specs.Prelude.{◌≡◌, ◌≢◌, [], Err, IfOk, IfErr, None, Option, Some, ℕ, codes, map, option_map, string_bytes};
 ghost use Rattle.bridge_frame.specs.declared.Speed.{Speed};
 ghost use Rattle.clap.specs.Words.{Text, fault_of, first_of, found_of, kind_of, rows_of, subcommand_of, subcommand_rows_of};
+ghost use Rattle.bridge_inputs.specs.declared.fault.RunFault.{RunFault};
 ghost use Rattle.bridge_jobs.specs.Reading.{IsOfWords};
 ghost use Rattle.bridge_cli.specs.declared.job.Job.{Job};
 ghost use Rattle.bridge_cli.specs.CommandLine.{AsksFor, AsksForBounds, AsksForCheck, AsksForNetwork, AsksForNetworkRun, AsksForPicture, AsksForRun, AsksForWire, HasRoom, IsBoundsJob, IsCheckJob, IsNetworkJob, IsPictureJob, IsRunJob, IsWireJob, commands, fault_of_kind};
@@ -152,14 +153,14 @@ fn wire_job(alloc: Global, values: &ArgMatches) -> Result<Job, Fault>
     let Some(room) = room_of(places) else {
         return Err(Fault::Words);
     };
-    let Some(from) = value_of(values, "input") else {
-        return Err(Fault::Words);
+    let input = match text_of(alloc, values, "input") {
+        Ok(input) => input,
+        Err(fault) => return Err(fault),
     };
-    let Some(to) = value_of(values, "output") else {
-        return Err(Fault::Words);
+    let output = match text_of(alloc, values, "output") {
+        Ok(output) => output,
+        Err(fault) => return Err(fault),
     };
-    let input = String::from_str(alloc, from)?;
-    let output = String::from_str(alloc, to)?;
     Ok(Job::Wire {
         speed,
         room,
@@ -175,11 +176,10 @@ fn check_job(alloc: Global, values: &ArgMatches) -> Result<Job, Fault>
     ensures words { result ≡ Err Fault.Words → (plan : Text) → ¬ AsksForCheck (rows_of (found_of values.now)) plan }
     ensures only { IfErr result IsOfWords }
 {
-    let Some(path) = value_of(values, "plan") else {
-        return Err(Fault::Words);
-    };
-    let plan = String::from_str(alloc, path)?;
-    Ok(Job::Check { plan })
+    match text_of(alloc, values, "plan") {
+        Ok(plan) => Ok(Job::Check { plan }),
+        Err(fault) => Err(fault),
+    }
 }
 
 /// The job of a `run` command with these values.
@@ -190,21 +190,21 @@ fn run_job(alloc: Global, values: &ArgMatches) -> Result<Job, Fault>
         → ¬ AsksForRun (rows_of (found_of values.now)) plan input output commands }
     ensures only { IfErr result IsOfWords }
 {
-    let Some(path) = value_of(values, "plan") else {
-        return Err(Fault::Words);
+    let plan = match text_of(alloc, values, "plan") {
+        Ok(plan) => plan,
+        Err(fault) => return Err(fault),
     };
-    let Some(from_folder) = value_of(values, "input") else {
-        return Err(Fault::Words);
+    let input = match text_of(alloc, values, "input") {
+        Ok(input) => input,
+        Err(fault) => return Err(fault),
     };
-    let Some(to_folder) = value_of(values, "output") else {
-        return Err(Fault::Words);
+    let output = match text_of(alloc, values, "output") {
+        Ok(output) => output,
+        Err(fault) => return Err(fault),
     };
-    let plan = String::from_str(alloc, path)?;
-    let input = String::from_str(alloc, from_folder)?;
-    let output = String::from_str(alloc, to_folder)?;
-    let commands = match value_of(values, "commands") {
-        Some(file) => Some(String::from_str(alloc, file)?),
-        None => None,
+    let commands = match option_of(alloc, values, "commands") {
+        Ok(commands) => commands,
+        Err(fault) => return Err(fault),
     };
     Ok(Job::Run {
         plan,
@@ -222,14 +222,14 @@ fn picture_job(alloc: Global, values: &ArgMatches) -> Result<Job, Fault>
         → ¬ AsksForPicture (rows_of (found_of values.now)) plan file }
     ensures only { IfErr result IsOfWords }
 {
-    let Some(path) = value_of(values, "plan") else {
-        return Err(Fault::Words);
+    let plan = match text_of(alloc, values, "plan") {
+        Ok(plan) => plan,
+        Err(fault) => return Err(fault),
     };
-    let Some(to_file) = value_of(values, "file") else {
-        return Err(Fault::Words);
+    let file = match text_of(alloc, values, "file") {
+        Ok(file) => file,
+        Err(fault) => return Err(fault),
     };
-    let plan = String::from_str(alloc, path)?;
-    let file = String::from_str(alloc, to_file)?;
     Ok(Job::Picture { plan, file })
 }
 
@@ -241,13 +241,13 @@ fn bounds_job(alloc: Global, values: &ArgMatches) -> Result<Job, Fault>
         → ¬ AsksForBounds (rows_of (found_of values.now)) plan traffic }
     ensures only { IfErr result IsOfWords }
 {
-    let Some(path) = value_of(values, "plan") else {
-        return Err(Fault::Words);
+    let plan = match text_of(alloc, values, "plan") {
+        Ok(plan) => plan,
+        Err(fault) => return Err(fault),
     };
-    let plan = String::from_str(alloc, path)?;
-    let traffic = match value_of(values, "traffic") {
-        Some(file) => Some(String::from_str(alloc, file)?),
-        None => None,
+    let traffic = match option_of(alloc, values, "traffic") {
+        Ok(traffic) => traffic,
+        Err(fault) => return Err(fault),
     };
     Ok(Job::Bounds { plan, traffic })
 }
@@ -286,11 +286,10 @@ fn network_check_job(alloc: Global, values: &ArgMatches) -> Result<Job, Fault>
     if value_of(values, "picture").is_some() {
         return Err(Fault::Words);
     }
-    let Some(path) = value_of(values, "second") else {
-        return Err(Fault::Words);
-    };
-    let network = String::from_str(alloc, path)?;
-    Ok(Job::Network { network })
+    match text_of(alloc, values, "second") {
+        Ok(network) => Ok(Job::Network { network }),
+        Err(fault) => Err(fault),
+    }
 }
 
 /// The job of a `net` command with these values, the third of which is the folder that is written.
@@ -302,18 +301,20 @@ fn network_run_job(alloc: Global, values: &ArgMatches, to_folder: &str) -> Resul
         → ¬ AsksForNetworkRun (rows_of (found_of values.now)) network input output picture }
     ensures only { IfErr result IsOfWords }
 {
-    let Some(path) = value_of(values, "first") else {
-        return Err(Fault::Words);
+    let network = match text_of(alloc, values, "first") {
+        Ok(network) => network,
+        Err(fault) => return Err(fault),
     };
-    let Some(from_folder) = value_of(values, "second") else {
-        return Err(Fault::Words);
+    let input = match text_of(alloc, values, "second") {
+        Ok(input) => input,
+        Err(fault) => return Err(fault),
     };
-    let network = String::from_str(alloc, path)?;
-    let input = String::from_str(alloc, from_folder)?;
-    let output = String::from_str(alloc, to_folder)?;
-    let picture = match value_of(values, "picture") {
-        Some(file) => Some(String::from_str(alloc, file)?),
-        None => None,
+    let picture = match option_of(alloc, values, "picture") {
+        Ok(picture) => picture,
+        Err(fault) => return Err(fault),
+    };
+    let Ok(output) = String::from_str(alloc, to_folder) else {
+        return Err(Fault::Run(RunFault::NoMemory));
     };
     Ok(Job::RunNetwork {
         network,
@@ -328,6 +329,39 @@ pub(crate) fn value_of<'a>(values: &ArgMatches<'a>, name: &str) -> Option<&'a st
     ensures { option_map (λ s. s.now) result ≡ first_of name.now (rows_of (found_of values.now)) }
 {
     values.get_str(name)
+}
+
+/// The value of a command by its name, with memory of its own; `Words` where there is none.
+fn text_of(alloc: Global, values: &ArgMatches, name: &str) -> Result<String, Fault>
+    ensures value { IfOk result (λ t. first_of name.now (rows_of (found_of values.now)) ≡ Some (string_bytes t)) }
+    ensures none { result ≡ Err Fault.Words → first_of name.now (rows_of (found_of values.now)) ≡ None }
+    ensures only { IfErr result IsOfWords }
+{
+    let Some(word) = value_of(values, name) else {
+        return Err(Fault::Words);
+    };
+    match String::from_str(alloc, word) {
+        Ok(text) => Ok(text),
+        Err(_) => Err(Fault::Run(RunFault::NoMemory)),
+    }
+}
+
+/// The value of an option, with memory of its own, where it stands there.
+pub(crate) fn option_of(
+    alloc: Global,
+    values: &ArgMatches,
+    name: &str,
+) -> Result<Option<String>, Fault>
+    ensures value { IfOk result (λ t. first_of name.now (rows_of (found_of values.now)) ≡ option_map string_bytes t) }
+    ensures memory { IfErr result (λ fault. fault ≡ Fault.Run (RunFault.NoMemory)) }
+{
+    let Some(word) = value_of(values, name) else {
+        return Ok(None);
+    };
+    match String::from_str(alloc, word) {
+        Ok(text) => Ok(Some(text)),
+        Err(_) => Err(Fault::Run(RunFault::NoMemory)),
+    }
 }
 
 /// The fault of words that `clap` refuses.

@@ -6,11 +6,12 @@ ghost use Rattle.bridge_cli.specs.CommandLine.{commands};
 ghost use Rattle.bridge_cli.specs.Sketching.{AreInOrder, AsksForPart, AsksForSketch, HasNoPart, IsBound, IsSketch};
 
 use crate::command::matches_of;
-use crate::job::{fault_of, value_of};
+use crate::job::{fault_of, option_of, value_of};
 use crate::number::{is_list, moment_of};
 use bridge_jobs::Fault;
+use bridge_wire::RunFault;
 use clap::ArgMatches;
-use std::alloc::{AllocError, Global};
+use std::alloc::Global;
 
 /// A picture that is asked for of a run, or of a part of a plan.
 #[derive(Debug, Drop)]
@@ -143,9 +144,17 @@ fn sketch_into(
     if !has_list(values, "ports") || !has_list(values, "filters") {
         return Err(Fault::Words);
     }
-    let file = String::from_str(alloc, path)?;
-    let ports = list_of(alloc, values, "ports")?;
-    let filters = list_of(alloc, values, "filters")?;
+    let ports = match option_of(alloc, values, "ports") {
+        Ok(ports) => ports,
+        Err(fault) => return Err(fault),
+    };
+    let filters = match option_of(alloc, values, "filters") {
+        Ok(filters) => filters,
+        Err(fault) => return Err(fault),
+    };
+    let Ok(file) = String::from_str(alloc, path) else {
+        return Err(Fault::Run(RunFault::NoMemory));
+    };
     Ok(PictureRequest {
         file,
         from,
@@ -160,16 +169,6 @@ fn has_list(values: &ArgMatches, name: &str) -> bool {
     match value_of(values, name) {
         None => true,
         Some(word) => is_list(word),
-    }
-}
-
-/// The list of an option, where it stands there.
-fn list_of(alloc: Global, values: &ArgMatches, name: &str) -> Result<Option<String>, AllocError>
-    ensures { IfOk result (λ list. first_of name.now (rows_of (found_of values.now)) ≡ option_map string_bytes list) }
-{
-    match value_of(values, name) {
-        Some(word) => Ok(Some(String::from_str(alloc, word)?)),
-        None => Ok(None),
     }
 }
 

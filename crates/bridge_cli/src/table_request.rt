@@ -6,10 +6,10 @@ ghost use Rattle.bridge_cli.specs.CommandLine.{commands};
 ghost use Rattle.bridge_cli.specs.Tabling.{AsksForTables};
 
 use crate::command::matches_of;
-use crate::job::{fault_of, value_of};
+use crate::job::{fault_of, option_of};
 use bridge_jobs::Fault;
 use clap::ArgMatches;
-use std::alloc::{AllocError, Global};
+use std::alloc::Global;
 
 /// The tables that are asked for of a run.
 #[derive(Debug, Drop)]
@@ -62,17 +62,13 @@ fn tables_of(alloc: Global, values: &ArgMatches) -> Result<TableRequest, Fault>
     ensures ok { IfOk result (AsksForTables (rows_of (found_of values.now))) }
     ensures only { IfErr result IsOfWords }
 {
-    let delays = path_of(alloc, values, "delays")?;
-    let frames = path_of(alloc, values, "frames")?;
+    let delays = match option_of(alloc, values, "delays") {
+        Ok(delays) => delays,
+        Err(fault) => return Err(fault),
+    };
+    let frames = match option_of(alloc, values, "frames") {
+        Ok(frames) => frames,
+        Err(fault) => return Err(fault),
+    };
     Ok(TableRequest { delays, frames })
-}
-
-/// The path of an option, where it stands there.
-fn path_of(alloc: Global, values: &ArgMatches, name: &str) -> Result<Option<String>, AllocError>
-    ensures { IfOk result (λ path. first_of name.now (rows_of (found_of values.now)) ≡ option_map string_bytes path) }
-{
-    match value_of(values, name) {
-        Some(path) => Ok(Some(String::from_str(alloc, path)?)),
-        None => Ok(None),
-    }
 }

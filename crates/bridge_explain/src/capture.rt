@@ -2,7 +2,7 @@
 ghost use Rattle.std.specs.Prelude.{IfOk, string_bytes};
 ghost use Rattle.bridge_text.specs.Named.{BeginsWith};
 
-use crate::text::{Said, fill_two};
+use crate::text::fill_two;
 use bridge_capture::CaptureFault;
 use bridge_limits::NoMemory;
 use bridge_text::{Text, behind};
@@ -13,9 +13,12 @@ const HEADER: u64 = 24;
 
 /// Whether each octet is one of a text.
 fn is_text(octets: &[u8]) -> bool {
-    octets
-        .iter()
-        .all(|it| matches!(*it, b' '..=b'~' | b'\n' | b'\r' | b'\t'))
+    for octet in octets {
+        if !matches!(*octet, b' '..=b'~' | b'\n' | b'\r' | b'\t') {
+            return false;
+        }
+    }
+    true
 }
 
 /// What a file looks like by its first octets, where another program makes a capture of it.
@@ -40,7 +43,16 @@ pub fn explain_capture(
     ensures { IfOk result (λ said. BeginsWith path.now (string_bytes said)) }
 {
     let mut said = Text::new(alloc);
-    put_capture(&mut said, path, octets, fault);
+    let numbers = [
+        octets.len() as u64,
+        HEADER,
+        record_of(fault),
+        pair_at(octets, 4),
+        pair_at(octets, 6),
+        link_at(octets).0,
+    ];
+    let (sentence, looks) = (sentence_of(octets, fault), looks_of(octets).unwrap_or(""));
+    fill_two(&mut said, sentence, &numbers, path, looks);
     behind(alloc, path, said)
 }
 
@@ -124,18 +136,4 @@ fn pair_at(octets: &[u8], place: usize) -> u64 {
     } else {
         u64::from(one) * 256 + u64::from(other)
     }
-}
-
-/// Adds what is said of a capture behind its path.
-fn put_capture(said: &mut Said, path: &str, octets: &[u8], fault: &CaptureFault) {
-    let numbers = [
-        octets.len() as u64,
-        HEADER,
-        record_of(fault),
-        pair_at(octets, 4),
-        pair_at(octets, 6),
-        link_at(octets).0,
-    ];
-    let looks = looks_of(octets).unwrap_or("");
-    fill_two(said, sentence_of(octets, fault), &numbers, path, looks);
 }

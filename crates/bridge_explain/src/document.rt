@@ -1,7 +1,7 @@
 //! A text with its document, and where the instances of its sections stand.
 
-use crate::text::Said;
-use crate::value::put_value_or;
+use crate::text::{Said, fill_one};
+use crate::value::put_value;
 use bridge_schema::{Field, Section, own_key};
 use bridge_text::{Position, key_position, put_position, table_position};
 use toml::{Table, Value};
@@ -34,8 +34,10 @@ pub(crate) fn items_of<'a>(document: &'a Table, section: Section) -> &'a [Value]
 
 /// The table of an instance, by its place from 1.
 pub(crate) fn table_of<'a>(document: &'a Table, section: Section, index: u32) -> Option<&'a Table> {
-    let place = index.checked_sub(1)?;
-    items_of(document, section).get(place as usize)?.as_table()
+    match items_of(document, section).get((index as usize).wrapping_sub(1)) {
+        Some(Value::Table(table)) => Some(table),
+        _ => None,
+    }
 }
 
 /// The value at a key of an instance.
@@ -76,23 +78,20 @@ fn position_of(
 /// Adds an instance by its place in the file, and by the keys by which it is known.
 fn put_instance(said: &mut Said, document: &Table, section: Section, index: u32) {
     let table = table_of(document, section, index);
-    said.fill(
-        "`{a}` {0} of the file",
-        &[u64::from(index)],
-        &[section.name()],
-    );
-    put_known(said, own_key(section), value_of(table, own_key(section)));
+    let template = "`{a}` {0} of the file";
+    fill_one(said, template, u64::from(index), section.name());
+    put_known(said, table, own_key(section));
     if matches!(section, Section::Static) {
-        put_known(said, Field::Address, value_of(table, Field::Address));
+        put_known(said, table, Field::Address);
     }
     said.put(".\n");
 }
 
-/// Adds a key with its value, where it has one.
-fn put_known(said: &mut Said, key: Field, value: Option<&Value>) {
-    if value.is_some() {
-        said.fill(", {a} = ", &[], &[key.key()]);
-        put_value_or(said, value, "");
+/// Adds a key of an instance with its value, where it has one.
+fn put_known(said: &mut Said, table: Option<&Table>, key: Field) {
+    if let Some(value) = value_of(table, key) {
+        fill_one(said, ", {a} = ", 0, key.key());
+        put_value(said, value);
     }
 }
 

@@ -2,10 +2,9 @@
 
 use crate::document::{Source, items_in, number_in, put_place, table_of, value_of};
 use crate::faults::put_allowed;
-use crate::text::{Said, fill_two};
-use crate::value::put_value_or;
+use crate::text::{Said, fill_one};
+use crate::value::{first_of, put_is};
 use bridge_cycle::{CyclicList, LONGEST_CYCLE, ListFault, MOST_ENTRIES};
-use bridge_limits::NoMemory;
 use bridge_schema::{
     Allowed, Between, Field, Key, Kind, LENGTH, ListKeys, Presence, Section, Switch, entry_keys,
     lists_of,
@@ -15,7 +14,12 @@ use toml::{Table, Value};
 
 /// Whether each item is a number of a range.
 fn are_between(items: &[Value], range: &Between) -> bool {
-    items.iter().all(|it| range.read(it).is_ok())
+    for item in items {
+        if range.read(item).is_err() {
+            return false;
+        }
+    }
+    true
 }
 
 /// Whether a value may stand at a key of an entry.
@@ -44,60 +48,34 @@ fn flaw_of(keys: &'static [Key], entry: &Table) -> Option<&'static Key> {
     None
 }
 
-/// Adds what is wrong with the value of the entries of a list.
-pub(crate) fn put_entries(said: &mut Said, section: Section, list: &str, value: Option<&Value>) {
-    match value {
-        None => said.fill("`{a}` is missing.\n", &[], &[list]),
-        Some(Value::Array(items)) => put_items(said, section, list, items),
-        Some(_) => {
-            said.fill("`{a}` is ", &[], &[list]);
-            put_value_or(said, value, "");
-            said.put(".\nIt must be an array of tables.\n");
-        }
-    }
-}
-
 /// Adds what is wrong with the entries of a list: the first that is no table, else the first that has a flaw.
-fn put_items(said: &mut Said, section: Section, list: &str, items: &[Value]) {
+pub(crate) fn put_items(said: &mut Said, keys: &'static [Key], list: &str, items: &[Value]) {
     let mut number = 0u64;
+    let mut flawed = None;
     for item in items {
         number = number.saturating_add(1);
-        if item.as_table().is_none() {
-            said.fill("Item {0} of `{a}` is ", &[number], &[list]);
-            put_value_or(said, Some(item), "");
-            return said.put(".\nIt must be a table.\n");
-        }
-    }
-    put_flawed(said, entry_keys(section), list, items);
-}
-
-/// Adds what is wrong with the first entry of a list that has a flaw.
-fn put_flawed(said: &mut Said, keys: &'static [Key], list: &str, items: &[Value]) {
-    let mut number = 0u64;
-    for item in items {
-        number = number.saturating_add(1);
-        if let Value::Table(entry) = item {
-            if let Some(Key(field, allowed, _)) = flaw_of(keys, entry) {
-                return put_flaw(said, number, list, *field, *allowed, entry);
+        let Value::Table(entry) = item else {
+            put_is(said, "Item {0} of `{a}` is ", number, list, Some(item), "");
+            return said.put("It must be a table.\n");
+        };
+        if flawed.is_none() {
+            if let Some(key) = flaw_of(keys, entry) {
+                flawed = Some((number, key, entry));
             }
         }
     }
-    said.fill("Each entry of `{a}` is as it may be.\n", &[], &[list]);
+    match flawed {
+        Some((number, key, entry)) => put_flaw(said, number, list, *key, entry),
+        None => fill_one(said, "Each entry of `{a}` is as it may be.\n", 0, list),
+    }
 }
 
 /// Adds what stands at a key of an entry, and what may stand there.
-fn put_flaw(
-    said: &mut Said,
-    number: u64,
-    list: &str,
-    field: Field,
-    allowed: Allowed,
-    entry: &Table,
-) {
-    let template = "In entry {0} of `{a}`, `{b}` is ";
-    fill_two(said, template, &[number], list, field.key());
-    put_value_or(said, entry.get(field.key()), "missing");
-    said.put(".\n");
+fn put_flaw(said: &mut Said, number: u64, list: &str, key: Key, entry: &Table) {
+    let Key(field, allowed, _) = key;
+    let value = entry.get(field.key());
+    fill_one(said, "In entry {0} of `{a}`, ", number, list);
+    put_is(said, "`{a}` is ", 0, field.key(), value, "missing");
     put_allowed(said, allowed);
 }
 
@@ -109,36 +87,24 @@ fn interval_of(entry: &Value) -> u64 {
 /// Whether a list of an instance is refused for a fault.
 fn is_refused(
     alloc: Global,
+    said: &mut Said,
     table: Option<&Table>,
     keys: ListKeys,
     fault: ListFault,
-) -> Result<bool, NoMemory> {
+) -> bool {
     let cycle = number_in(value_of(table, keys.cycle)).unwrap_or(0);
     let mut entries = Vec::new(alloc);
     let items = items_in(value_of(table, keys.entries));
-    for item in items.iter().take(MOST_ENTRIES + 1) {
-        entries.push(((), interval_of(item)))?;
+    for item in first_of(items, MOST_ENTRIES + 1) {
+        let Ok(()) = entries.push(((), interval_of(item))) else {
+            said.give_up();
+            return true;
+        };
     }
     match CyclicList::new(alloc, 0, cycle, entries) {
-        Ok(_list) => Ok(false),
-        Err(found) => Ok(found == fault),
+        Ok(_list) => false,
+        Err(found) => found == fault,
     }
-}
-
-/// The keys of the list of an instance that is refused for a fault: the first, unless the next alone is.
-fn refused_of(
-    alloc: Global,
-    section: Section,
-    table: Option<&Table>,
-    fault: ListFault,
-) -> Result<Option<ListKeys>, NoMemory> {
-    let lists = lists_of(section);
-    for keys in lists {
-        if is_refused(alloc, table, *keys, fault)? {
-            return Ok(Some(*keys));
-        }
-    }
-    Ok(lists.first().copied())
 }
 
 /// Adds why a list of an instance is refused.
@@ -151,10 +117,15 @@ pub(crate) fn put_list(
     fault: ListFault,
 ) {
     let table = table_of(source.document, section, index);
-    let keys = match refused_of(alloc, section, table, fault) {
-        Ok(Some(keys)) => keys,
-        Ok(None) => return put_place(said, source, section, index, None),
-        Err(_) => return said.give_up(),
+    let mut found = lists_of(section).first();
+    for keys in lists_of(section) {
+        if is_refused(alloc, said, table, *keys, fault) {
+            found = Some(keys);
+            break;
+        }
+    }
+    let Some(keys) = found else {
+        return put_place(said, source, section, index, None);
     };
     let key = match fault {
         ListFault::CycleOutOfRange => keys.cycle,
@@ -162,13 +133,8 @@ pub(crate) fn put_list(
     };
     put_place(said, source, section, index, Some(key.key()));
     let cycle = number_in(value_of(table, keys.cycle)).unwrap_or(0);
-    put_refused(
-        said,
-        keys,
-        cycle,
-        items_in(value_of(table, keys.entries)),
-        fault,
-    );
+    let items = items_in(value_of(table, keys.entries));
+    put_refused(said, *keys, cycle, items, fault);
 }
 
 /// The sentence on a list that is refused: its keys are `{a}` and that of its cycle `{b}`; it has so many entries `{0}` of at

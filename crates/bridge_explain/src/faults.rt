@@ -1,13 +1,15 @@
 //! The sentences on each fault of a plan or of commands.
 
 use crate::document::{Source, items_of, number_in, put_place, put_too_many, table_of, value_of};
-use crate::entries::{put_entries, put_list};
+use crate::entries::{put_items, put_list};
 use crate::strays::{key_among, put_stray, put_top_key};
-use crate::text::Said;
-use crate::value::put_value_or;
+use crate::text::{Said, fill_one};
+use crate::value::{first_of, put_is};
 use bridge_config::limit_of;
 use bridge_cycle::LONGEST_CYCLE;
-use bridge_schema::{Allowed, Between, Field, Place, PlanFault, Section, keys_of, own_key};
+use bridge_schema::{
+    Allowed, Between, Field, Key, Place, PlanFault, Section, entry_keys, keys_of, own_key,
+};
 use bridge_text::{put_position, top_position};
 use std::alloc::Global;
 use toml::{Table, Value};
@@ -42,13 +44,10 @@ pub(crate) fn put_fault(alloc: Global, said: &mut Said, source: Source<'_>, faul
 /// Adds that a section is no array of tables.
 fn put_no_list(said: &mut Said, source: Source<'_>, name: &str) {
     put_position(said, top_position(source.text, name));
-    said.fill("`{a}` is ", &[], &[name]);
-    put_value_or(said, source.document.get(name), "absent");
-    said.fill(
-        ".\nIt must be an array of tables: write `[[{a}]]` above the keys of each.\n",
-        &[],
-        &[name],
-    );
+    let value = source.document.get(name);
+    put_is(said, "`{a}` is ", 0, name, value, "absent");
+    let advice = "It must be an array of tables: write `[[{a}]]` above the keys of each.\n";
+    fill_one(said, advice, 0, name);
 }
 
 /// Adds what stands at a key of an instance, and what may stand there.
@@ -57,14 +56,14 @@ fn put_at(said: &mut Said, source: Source<'_>, place: Place) {
     put_place(said, source, place.section, place.index, Some(key));
     let table = table_of(source.document, place.section, place.index);
     let value = value_of(table, place.field);
-    let row = key_among(keys_of(place.section), key);
-    let allowed = row.map(|it| allowed_there(source, place, table, it.1));
-    if matches!(allowed, Some(Allowed::Tables)) {
-        return put_entries(said, place.section, key, value);
-    }
-    said.fill("`{a}` is ", &[], &[key]);
-    put_value_or(said, value, "missing");
-    said.put(".\n");
+    let allowed = match (key_among(keys_of(place.section), key), value) {
+        (Some(Key(_, Allowed::Tables, _)), Some(Value::Array(items))) => {
+            return put_items(said, entry_keys(place.section), key, items);
+        }
+        (Some(Key(_, Allowed::Tables, _)), None) | (None, _) => None,
+        (Some(row), _) => Some(allowed_there(source, place, table, row.1)),
+    };
+    put_is(said, "`{a}` is ", 0, key, value, "missing");
     if let Some(allowed) = allowed {
         put_may(said, source, allowed);
     }
@@ -75,7 +74,10 @@ fn put_at(said: &mut Said, source: Source<'_>, place: Place) {
 
 /// What a command names, by the flag that it clears.
 fn named_by(value: Option<&Value>) -> Option<Section> {
-    match value?.as_str()? {
+    let Some(Value::String(flag)) = value else {
+        return None;
+    };
+    match flag.as_str() {
         "blocked" => Some(Section::Filter),
         "rx" | "octets" => Some(Section::Gate),
         "red" => Some(Section::Meter),
@@ -171,12 +173,11 @@ fn section_of(allowed: Allowed) -> Option<Section> {
 
 /// Adds the numbers of the instances of a section, of the first sixteen of them.
 fn put_numbers(said: &mut Said, items: &[Value], own: Field) {
-    let mut is_first = true;
-    for item in items.iter().take(MOST_NUMBERS) {
+    let mut template = "{0}";
+    for item in first_of(items, MOST_NUMBERS) {
         if let Some(number) = number_in(value_of(item.as_table(), own)) {
-            said.put_comma(is_first);
-            said.put_number(number);
-            is_first = false;
+            fill_one(said, template, number, "");
+            template = ", {0}";
         }
     }
     if items.len() > MOST_NUMBERS {
@@ -192,13 +193,10 @@ fn put_may(said: &mut Said, source: Source<'_>, allowed: Allowed) {
     };
     let items = items_of(source.plan, section);
     if items.is_empty() {
-        return said.fill("The plan has no `{a}`.\n", &[], &[section.name()]);
+        return fill_one(said, "The plan has no `{a}`.\n", 0, section.name());
     }
-    said.fill(
-        "The plan has {0} of `{a}`: ",
-        &[items.len() as u64],
-        &[section.name()],
-    );
+    let (template, count) = ("The plan has {0} of `{a}`: ", items.len() as u64);
+    fill_one(said, template, count, section.name());
     put_numbers(said, items, own_key(section));
     said.put(".\n");
 }

@@ -4,7 +4,7 @@ ghost use Rattle.bridge_text.specs.Named.{BeginsWith};
 
 use crate::document::Source;
 use crate::faults::put_fault;
-use crate::text::Said;
+use crate::text::{Said, fill_one};
 use bridge_limits::NoMemory;
 use bridge_schema::PlanFault;
 use bridge_text::{Text, behind, position_behind, put_position};
@@ -38,34 +38,24 @@ pub fn explain_commands(
     behind(alloc, path, body_of(alloc, text, Some(plan), fault))
 }
 
-/// What is said of a text behind the name of its file, with the text of the plan where it is one of commands.
+/// What is said of octets behind the name of their file, with the text of the plan where they are one of commands.
 fn body_of(alloc: Global, octets: &[u8], plan: Option<&[u8]>, fault: &PlanFault) -> Said {
     let mut said = Text::new(alloc);
-    match fault {
-        PlanFault::TooLong => said.put(
+    match (fault, str::from_utf8(octets)) {
+        (PlanFault::TooLong, _) => said.put(
             ": the text has more than 1048576 octets. Leave out what the bridge doesn't need.\n",
         ),
-        PlanFault::NoMemory => said.put(": there is not enough memory to read it.\n"),
-        _ => put_octets(alloc, &mut said, octets, plan, fault),
-    }
-    said
-}
-
-/// Adds what is said of octets, which may be no text.
-fn put_octets(
-    alloc: Global,
-    said: &mut Said,
-    octets: &[u8],
-    plan: Option<&[u8]>,
-    fault: &PlanFault,
-) {
-    match str::from_utf8(octets) {
-        Ok(text) => put_text(alloc, said, text, plan, fault),
-        Err(error) => {
-            put_position(said, Some(position_behind(octets, error.valid_up_to())));
+        (PlanFault::NoMemory, _) => said.put(": there is not enough memory to read it.\n"),
+        (_, Ok(text)) => put_text(alloc, &mut said, text, plan, fault),
+        (_, Err(error)) => {
+            put_position(
+                &mut said,
+                Some(position_behind(octets, error.valid_up_to())),
+            );
             said.put("the octets are no text in UTF-8 from here on.\n");
         }
     }
+    said
 }
 
 /// Adds what is said of a text.
@@ -89,25 +79,26 @@ fn put_text(alloc: Global, said: &mut Said, text: &str, plan: Option<&[u8]>, fau
 
 /// Adds what is said of a text that is no TOML document.
 fn put_error(said: &mut Said, text: &str, error: &Error) {
+    let message = error.message();
     let Some(span) = error.span() else {
-        return said.fill(": no TOML document: {a}.\n", &[], &[error.message()]);
+        return fill_one(said, ": no TOML document: {a}.\n", 0, message);
     };
     put_position(said, Some(position_behind(text.as_bytes(), span.start)));
-    said.fill("no TOML document: {a}.\n", &[], &[error.message()]);
-    let (front, word) = word_at(text, span.start);
-    let template = if error.message() == "duplicate key" && !word.is_empty() {
+    fill_one(said, "no TOML document: {a}.\n", 0, message);
+    let (before, word) = word_at(text, span.start);
+    let template = if message == "duplicate key" && !word.is_empty() {
         "The key `{a}` stands twice in its table: take one of the two away.\n"
-    } else if front.ends_with('=') || front.ends_with('[') || front.ends_with(',') {
+    } else if matches!(before, Some(b'=' | b'[' | b',')) {
         advice_on(word)
     } else {
         ""
     };
-    said.fill(template, &[], &[word]);
+    fill_one(said, template, 0, word);
 }
 
-/// What stands before the word at a place of a text, without the blanks behind it, and the word: letters, digits and what
-/// joins them in keys and addresses.
-fn word_at(text: &str, place: usize) -> (&str, &str) {
+/// What stands before the word at a place of a text and the blanks before it, and the word: letters, digits and what joins them
+/// in keys and addresses.
+fn word_at(text: &str, place: usize) -> (Option<u8>, &str) {
     let mut start = 0usize;
     let mut end = 0usize;
     for octet in text.as_bytes() {
@@ -119,8 +110,9 @@ fn word_at(text: &str, place: usize) -> (&str, &str) {
         }
         end = end.saturating_add(1);
     }
-    let front = text.get(..start).unwrap_or("");
-    (front.trim_end(), text.get(start..end).unwrap_or(""))
+    let front = text.get(..start).unwrap_or("").trim_end();
+    let before = front.as_bytes().last().copied();
+    (before, text.get(start..end).unwrap_or(""))
 }
 
 /// What to write in place of a word that stands where a value should: in quotes what begins with a letter, or with a

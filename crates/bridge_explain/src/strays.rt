@@ -2,9 +2,8 @@
 
 use crate::document::{Source, items_in, items_of, put_place, table_of};
 use crate::nearest::nearest_name;
-use crate::text::Said;
+use crate::text::{Said, fill_one};
 use crate::value::put_key;
-use bridge_limits::NoMemory;
 use bridge_schema::{
     COMMAND_SECTIONS, Field, Hindrance, Key, PLAN_SECTIONS, Section, entry_keys, hindrance_of,
     keys_of, lists_of,
@@ -15,90 +14,85 @@ use toml::{Table, Value};
 
 /// The row of a key of this spelling among some.
 pub(crate) fn key_among(keys: &'static [Key], name: &str) -> Option<&'static Key> {
-    keys.iter().find(|it| it.0.key() == name)
-}
-
-/// Adds the nearest of some names, or all where none is near.
-fn put_nearest(alloc: Global, said: &mut Said, word: &str, names: &[&'static str]) {
-    match nearest_name(alloc, "", word, names) {
-        Ok(Some(name)) => said.fill("The nearest key is `{a}`.\n", &[], &[name]),
-        Ok(None) => put_all(said, names),
-        Err(_) => said.give_up(),
-    }
-}
-
-/// Adds all of some names.
-fn put_all(said: &mut Said, names: &[&'static str]) {
-    said.put("The keys are ");
-    let mut is_first = true;
-    for name in names {
-        said.put_comma(is_first);
-        said.fill("`{a}`", &[], &[*name]);
-        is_first = false;
-    }
-    said.put(".\n");
-}
-
-/// The spellings of some keys.
-fn spellings_of(alloc: Global, keys: &'static [Key]) -> Result<Vec<&'static str>, NoMemory> {
-    let mut names = Vec::new(alloc);
     for key in keys {
-        names.push(key.0.key())?;
-    }
-    Ok(names)
-}
-
-/// Adds the nearest of the spellings of some keys, or all where none is near.
-fn put_nearest_key(alloc: Global, said: &mut Said, word: &str, keys: &'static [Key]) {
-    match spellings_of(alloc, keys) {
-        Ok(names) => put_nearest(alloc, said, word, &names),
-        Err(_) => said.give_up(),
-    }
-}
-
-/// The names of the sections of a plan, or of a text of commands.
-fn names_of(alloc: Global, is_commands: bool) -> Result<Vec<&'static str>, NoMemory> {
-    let sections: &'static [Section] = if is_commands {
-        &COMMAND_SECTIONS
-    } else {
-        &PLAN_SECTIONS
-    };
-    let mut names = Vec::new(alloc);
-    for section in sections {
-        names.push(section.name())?;
-    }
-    Ok(names)
-}
-
-/// The first key of a document that is none of these names.
-fn unknown_section<'a>(names: &[&'static str], document: &'a Table) -> Option<&'a str> {
-    for (key, _) in document.iter() {
-        if !names.iter().any(|it| *it == key.as_str()) {
-            return Some(key.as_str());
+        if key.0.key() == name {
+            return Some(key);
         }
     }
     None
 }
 
+/// Adds the nearest of the names of some sections and keys, or all where none is near.
+fn put_nearest(
+    alloc: Global,
+    said: &mut Said,
+    word: &str,
+    sections: &'static [Section],
+    keys: &'static [Key],
+) {
+    let (mut names, mut is_refused) = (Vec::new(alloc), false);
+    for section in sections {
+        is_refused |= names.push(section.name()).is_err();
+    }
+    for key in keys {
+        is_refused |= names.push(key.0.key()).is_err();
+    }
+    if is_refused {
+        said.give_up();
+    }
+    match nearest_name(alloc, said, "", word, &names) {
+        Some(name) => fill_one(said, "The nearest key is `{a}`.\n", 0, name),
+        None => put_all(said, &names),
+    }
+}
+
+/// Adds all of some names.
+fn put_all(said: &mut Said, names: &[&'static str]) {
+    let mut template = "The keys are `{a}`";
+    for name in names {
+        fill_one(said, template, 0, *name);
+        template = ", `{a}`";
+    }
+    said.put(".\n");
+}
+
+/// Whether a name is that of one of some sections.
+fn is_section(sections: &[Section], name: &str) -> bool {
+    for section in sections {
+        if section.name() == name {
+            return true;
+        }
+    }
+    false
+}
+
 /// Adds which key of the top is none, and the nearest.
 pub(crate) fn put_top_key(alloc: Global, said: &mut Said, source: Source<'_>) {
-    let Ok(names) = names_of(alloc, source.is_commands) else {
-        return said.give_up();
+    let sections: &'static [Section] = if source.is_commands {
+        &COMMAND_SECTIONS
+    } else {
+        &PLAN_SECTIONS
     };
-    let Some(key) = unknown_section(&names, source.document) else {
-        return said.put(": each key of the top is known.\n");
-    };
-    put_position(said, top_position(source.text, key));
-    put_key(said, key);
-    said.put(" is no section.\n");
-    put_nearest(alloc, said, key, &names);
+    for (key, _) in source.document.iter() {
+        let key = key.as_str();
+        if !is_section(sections, key) {
+            put_position(said, top_position(source.text, key));
+            put_key(said, key);
+            said.put(" is no section.\n");
+            return put_nearest(alloc, said, key, sections, &[]);
+        }
+    }
+    said.put(": each key of the top is known.\n");
 }
 
 /// The first key of a table that may not stand there, of those that may.
 fn stray_of<'a>(keys: &'static [Key], table: &'a Table, has_change: bool) -> Option<&'a str> {
     for (key, _) in table.iter() {
-        let known = key_among(keys, key.as_str());
-        if known.is_none_or(|it| hindrance_of(it.2, has_change, table).is_some()) {
+        let is_sound = match key_among(keys, key.as_str()) {
+            Some(known) => hindrance_of(known.2, has_change, table).is_none(),
+            None => false,
+        };
+        if !is_sound {
             return Some(key.as_str());
         }
     }
@@ -139,31 +133,30 @@ pub(crate) fn put_stray(
         put_place(said, source, section, index, Some(key));
         return put_in_table(alloc, said, section, table, has_change, key);
     }
+    put_in_lists(alloc, said, source, section, index, table);
+}
+
+/// Adds which key of an entry of a list of an instance is none, and the nearest.
+fn put_in_lists(
+    alloc: Global,
+    said: &mut Said,
+    source: Source<'_>,
+    section: Section,
+    index: u32,
+    table: &Table,
+) {
+    let keys = entry_keys(section);
     for list in lists_of(section) {
-        if let Some((number, key)) = stray_in_list(entry_keys(section), table, list.entries) {
+        if let Some((number, key)) = stray_in_list(keys, table, list.entries) {
             let list = list.entries.key();
             put_place(said, source, section, index, Some(list));
             put_key(said, key);
-            said.fill(
-                ", in entry {0} of `{a}`, is no key of an entry.\n",
-                &[number],
-                &[list],
-            );
-            return put_nearest_key(alloc, said, key, entry_keys(section));
+            let template = ", in entry {0} of `{a}`, is no key of an entry.\n";
+            fill_one(said, template, number, list);
+            return put_nearest(alloc, said, key, &[], keys);
         }
     }
     put_place(said, source, section, index, None);
-}
-
-/// Adds why a key may not stand in a table.
-fn put_hindrance(said: &mut Said, why: Hindrance) {
-    match why {
-        Hindrance::Lacks(other) => {
-            said.fill(" may stand only beside `{a}`.\n", &[], &[other.key()]);
-        }
-        Hindrance::Has(other) => said.fill(" may not stand beside `{a}`.\n", &[], &[other.key()]),
-        Hindrance::NoChange => said.put(" may stand only in a plan with a `[[change]]`.\n"),
-    }
 }
 
 /// Adds that a key is none of a table of a section, and the nearest, or why it may not stand there.
@@ -176,14 +169,22 @@ fn put_in_table(
     key: &str,
 ) {
     let keys = keys_of(section);
-    let known = key_among(keys, key);
-    let why = known.and_then(|it| hindrance_of(it.2, has_change, table));
+    let why = match key_among(keys, key) {
+        Some(known) => hindrance_of(known.2, has_change, table),
+        None => None,
+    };
     put_key(said, key);
     match why {
-        Some(why) => put_hindrance(said, why),
+        Some(Hindrance::Lacks(other)) => {
+            fill_one(said, " may stand only beside `{a}`.\n", 0, other.key());
+        }
+        Some(Hindrance::Has(other)) => {
+            fill_one(said, " may not stand beside `{a}`.\n", 0, other.key());
+        }
+        Some(Hindrance::NoChange) => said.put(" may stand only in a plan with a `[[change]]`.\n"),
         None => {
-            said.fill(" is no key of `{a}`.\n", &[], &[section.name()]);
-            put_nearest_key(alloc, said, key, keys);
+            fill_one(said, " is no key of `{a}`.\n", 0, section.name());
+            put_nearest(alloc, said, key, &[], keys);
         }
     }
 }

@@ -1,6 +1,6 @@
 //! Values of a document, as a planner reads them.
 
-use crate::text::Said;
+use crate::text::{Said, fill_one};
 use toml::Value;
 
 /// The most characters of a text that are shown.
@@ -28,11 +28,12 @@ pub(crate) fn put_text(said: &mut Said, text: &str) {
 
 /// Adds a key as it is quoted in a sentence, cut where it is long.
 pub(crate) fn put_key(said: &mut Said, key: &str) {
-    let is_plain = key
-        .bytes()
-        .all(|b| b.is_ascii_alphanumeric() || b == b'_' || b == b'-');
+    let mut is_plain = true;
+    for octet in key.as_bytes() {
+        is_plain &= octet.is_ascii_alphanumeric() | (*octet == b'_') | (*octet == b'-');
+    }
     if is_plain && key.len() <= MOST_CHARACTERS {
-        said.fill("`{a}`", &[], &[key]);
+        fill_one(said, "`{a}`", 0, key);
     } else {
         put_text(said, key);
     }
@@ -52,10 +53,19 @@ fn put_item(said: &mut Said, item: &Value) {
     }
 }
 
+/// The first of some items, so many at most.
+pub(crate) fn first_of(items: &[Value], most: usize) -> &[Value] {
+    if items.len() > most {
+        &items[..most]
+    } else {
+        items
+    }
+}
+
 /// Adds the items of an array, the first sixteen of them.
 fn put_items(said: &mut Said, items: &[Value]) {
     let mut is_first = true;
-    for item in items.iter().take(MOST_ITEMS) {
+    for item in first_of(items, MOST_ITEMS) {
         said.put_comma(is_first);
         put_item(said, item);
         is_first = false;
@@ -66,7 +76,7 @@ fn put_items(said: &mut Said, items: &[Value]) {
 }
 
 /// Adds a value.
-fn put_value(said: &mut Said, value: &Value) {
+pub(crate) fn put_value(said: &mut Said, value: &Value) {
     match value {
         Value::Array(items) => {
             said.put("[");
@@ -78,10 +88,19 @@ fn put_value(said: &mut Said, value: &Value) {
     }
 }
 
-/// Adds a value, or a word where there is none.
-pub(crate) fn put_value_or(said: &mut Said, value: Option<&Value>, word: &str) {
+/// Adds what something is by its value, or by a word where there is none, as a sentence.
+pub(crate) fn put_is(
+    said: &mut Said,
+    template: &str,
+    number: u64,
+    name: &str,
+    value: Option<&Value>,
+    word: &str,
+) {
+    fill_one(said, template, number, name);
     match value {
         Some(value) => put_value(said, value),
         None => said.put(word),
     }
+    said.put(".\n");
 }

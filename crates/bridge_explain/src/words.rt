@@ -3,9 +3,9 @@ ghost use Rattle.std.specs.Prelude.{IfOk, codes, string_bytes};
 ghost use Rattle.bridge_text.specs.Named.{BeginsWith};
 
 use crate::nearest::nearest_name;
-use crate::text::Said;
+use crate::text::{Said, fill_one};
 use crate::value::put_text;
-use bridge_cli::{Call, OPTIONS, call_of, command_names, has_value, option_names};
+use bridge_cli::{OPTIONS, call_of, command_names, has_value, option_names};
 use bridge_limits::NoMemory;
 use bridge_text::{Text, behind};
 use std::alloc::Global;
@@ -26,28 +26,20 @@ pub fn explain_words(alloc: Global, words: &[String]) -> Result<String, NoMemory
     ensures { IfOk result (λ said. BeginsWith (codes "command line: ") (string_bytes said)) }
 {
     let mut said = Text::new(alloc);
-    put_words(alloc, &mut said, words);
+    match (unknown_option(words), first_word(words)) {
+        (Some(name), _) => put_option(alloc, &mut said, name),
+        (None, Some(word)) => put_command(alloc, &mut said, words, word),
+        (None, None) => put_calls(alloc, &mut said, None),
+    }
     behind(alloc, "command line: ", said)
-}
-
-/// Adds why words are refused.
-fn put_words(alloc: Global, said: &mut Said, words: &[String]) {
-    if let Some(name) = unknown_option(words) {
-        return put_option(alloc, said, name);
-    }
-    let Some(word) = first_word(words) else {
-        said.put("A command is missing.\n");
-        return put_calls(alloc, said);
-    };
-    match call_of(word) {
-        Some(call) => put_command(said, words, call),
-        None => put_unknown(alloc, said, word),
-    }
 }
 
 /// Whether an option has a value behind it, by its name with the `--` before it; none where no command has it.
 fn takes_value(name: &str) -> Option<bool> {
-    has_value(name.strip_prefix("--")?)
+    match name.strip_prefix("--") {
+        Some(name) => has_value(name),
+        None => None,
+    }
 }
 
 /// The first option that is unknown.
@@ -67,62 +59,53 @@ fn unknown_option(words: &[String]) -> Option<&str> {
 
 /// The first word that is no option.
 fn first_word(words: &[String]) -> Option<&str> {
-    let mut plain = words.iter().filter(|it| option_of(it.as_str()).is_none());
-    Some(plain.next()?.as_str())
+    for word in words {
+        if option_of(word.as_str()).is_none() {
+            return Some(word.as_str());
+        }
+    }
+    None
 }
 
-/// The name of an option that is nearest to a word, which begins with `--` as the options do.
-fn nearest_option(alloc: Global, word: &str) -> Result<Option<&'static str>, NoMemory> {
-    let names = option_names(alloc)?;
-    let found = nearest_name(alloc, "--", word.strip_prefix("--").unwrap_or(word), &names)?;
-    Ok(found)
-}
-
-/// Adds that an option is unknown, and the nearest.
+/// Adds that an option is unknown, and the nearest, which begins with `--` as the options do.
 fn put_option(alloc: Global, said: &mut Said, name: &str) {
     put_text(said, name);
     said.put(" is no option.\n");
-    match nearest_option(alloc, name) {
-        Ok(Some(found)) => said.fill("The nearest option is --{a}.\n", &[], &[found]),
-        Ok(None) => said.put(OPTIONS),
-        Err(_) => said.give_up(),
+    let Ok(names) = option_names(alloc) else {
+        return said.give_up();
+    };
+    let word = name.strip_prefix("--").unwrap_or(name);
+    match nearest_name(alloc, said, "--", word, &names) {
+        Some(found) => fill_one(said, "The nearest option is --{a}.\n", 0, found),
+        None => said.put(OPTIONS),
     }
 }
 
-/// The call of the command whose name is nearest to a word.
-fn nearest_call(alloc: Global, word: &str) -> Result<Option<Call>, NoMemory> {
-    let names = command_names(alloc)?;
-    match nearest_name(alloc, "", word, &names)? {
-        Some(name) => Ok(call_of(name)),
-        None => Ok(None),
-    }
-}
-
-/// Adds that a command is unknown, and the nearest.
-fn put_unknown(alloc: Global, said: &mut Said, word: &str) {
-    put_text(said, word);
-    said.put(" is no command.\n");
-    match nearest_call(alloc, word) {
-        Ok(Some(call)) => put_call(said, "The nearest command is: tsnbridge {a}\n", call),
-        Ok(None) => put_calls(alloc, said),
-        Err(_) => said.give_up(),
-    }
-}
-
-/// Adds how a command is called.
-fn put_call(said: &mut Said, template: &str, call: Call) {
-    said.fill(template, &[], &[call.line]);
-}
-
-/// Adds how each command is called.
-fn put_calls(alloc: Global, said: &mut Said) {
+/// Adds that a command is unknown, or missing, and how the nearest is called, or where none is near how each is.
+fn put_calls(alloc: Global, said: &mut Said, word: Option<&str>) {
     let Ok(names) = command_names(alloc) else {
         return said.give_up();
     };
+    let mut nearest = None;
+    if let Some(word) = word {
+        put_text(said, word);
+        said.put(" is no command.\n");
+        nearest = nearest_name(alloc, said, "", word, &names);
+    } else {
+        said.put("A command is missing.\n");
+    }
+    if let Some(name) = nearest {
+        return put_call(said, "The nearest command is: tsnbridge {a}\n", name);
+    }
     for name in &names {
-        if let Some(call) = call_of(*name) {
-            put_call(said, "A command is: tsnbridge {a}\n", call);
-        }
+        put_call(said, "A command is: tsnbridge {a}\n", *name);
+    }
+}
+
+/// Adds how the command of a name is called.
+fn put_call(said: &mut Said, template: &str, name: &str) {
+    if let Some(call) = call_of(name) {
+        fill_one(said, template, 0, call.line);
     }
 }
 
@@ -143,8 +126,11 @@ fn values_in(words: &[String]) -> usize {
     count.saturating_sub(1)
 }
 
-/// Adds why the words of a command are refused.
-fn put_command(said: &mut Said, words: &[String], call: Call) {
+/// Adds why the words of a command are refused, or that it is unknown.
+fn put_command(alloc: Global, said: &mut Said, words: &[String], word: &str) {
+    let Some(call) = call_of(word) else {
+        return put_calls(alloc, said, Some(word));
+    };
     let count = values_in(words);
     let reason = if count != call.places {
         "The words behind `{a}` must be {0}, and are {1}.\n"
@@ -152,5 +138,5 @@ fn put_command(said: &mut Said, words: &[String], call: Call) {
         call.reason
     };
     said.fill(reason, &[call.places as u64, count as u64], &[call.name]);
-    put_call(said, "It is called: tsnbridge {a}\n", call);
+    fill_one(said, "It is called: tsnbridge {a}\n", 0, call.line);
 }

@@ -1,5 +1,5 @@
 //! Readers and writers before and behind what is held back of them.
-ghost use Rattle.std.specs.Prelude.{◌≡◌, ◌≤◌, [], length, map, take, vec_capacity, IfOk};
+ghost use Rattle.std.specs.Prelude.{◌≡◌, ◌<◌, ◌≤◌, [], length, map, take, vec_capacity, IfOk};
 ghost use Rattle.bridge_files.specs.Flushed.{AllKept, NoneFailed};
 
 use bridge_capture::{ByteSink, ByteSource, ReadAhead, WriteBehind};
@@ -7,9 +7,20 @@ use bridge_jobs::NoMemory;
 use std::alloc::Allocator;
 use std::io::{Read, Write};
 
-/// The octets that are asked of each reader and given to each writer of a run at once: whole pages of a file. Sixteen of each
-/// with twice as many would not stay in the caches that are at hand.
-const BLOCK: usize = 65_536;
+/// The octets that are asked of each of so many readers, or given to each of so many writers, at once: whole pages of a file, and
+/// no more than stays with those of all others in the caches that are at hand.
+fn block_of(count: usize) -> usize
+    ensures some { 0 < result }
+    ensures most { result ≤ 65536 }
+{
+    if count <= 4 {
+        65_536
+    } else if count <= 8 {
+        32_768
+    } else {
+        16_384
+    }
+}
 
 /// Sources of what readers give, in their order.
 pub fn sources_of<R: Read + Drop, A: Allocator + Copy>(
@@ -19,9 +30,10 @@ pub fn sources_of<R: Read + Drop, A: Allocator + Copy>(
     ensures { IfOk result (λ sources. map ⟦<ReadAhead<R, A> as ByteSource>⟧.remaining sources.items
         ≡ map R.remaining readers.items) }
 {
+    let block = block_of(readers.len());
     let mut sources = Vec::with_capacity(alloc, readers.len())?;
     for reader in readers {
-        let source = ReadAhead::with_width(alloc, reader, BLOCK)?;
+        let source = ReadAhead::with_width(alloc, reader, block)?;
         if sources.push(source).is_err() {
             return Err(NoMemory);
         }
@@ -37,9 +49,10 @@ pub fn sinks_of<W: Write + Drop, A: Allocator + Copy>(
     ensures { IfOk result (λ sinks. AllKept W.contents ⟦<WriteBehind<W, A> as ByteSink>⟧.contents writers.items
         sinks.items) }
 {
+    let block = block_of(writers.len());
     let mut sinks = Vec::with_capacity(alloc, writers.len())?;
     for writer in writers {
-        let sink = WriteBehind::with_block(alloc, writer, BLOCK)?;
+        let sink = WriteBehind::with_block(alloc, writer, block)?;
         if sinks.push(sink).is_err() {
             return Err(NoMemory);
         }

@@ -20,7 +20,8 @@ use std::alloc::Allocator;
 pub struct Route {
     /// The number of the filter.
     pub number: u32,
-    pub(crate) filter: usize,
+    /// Its place among the filters, in the order given.
+    pub filter: usize,
     pub(crate) gate: usize,
     pub(crate) meter: Option<usize>,
 }

@@ -1,3 +1,4 @@
 pub mod Memberships
 mod KeyNumbers
 mod Entries
+mod Reserved

@@ -12,10 +12,15 @@ use crate::{NoMemory, PortSet, StaticEntry, Vlan};
 use std::alloc::Allocator;
 use std::marker::Model;
 
-/// Whether an address is one of 01-80-C2-00-00-00 to 01-80-C2-00-00-0F.
+/// Whether an address is one of 01-80-C2-00-00-00 to 01-80-C2-00-00-0F. Its first octet alone tells most that aren't.
+#[inline(always)]
+#[tactic(auto, using(crate::proofs::Reserved::is_not_reserved))]
 fn is_reserved(da: &[u8; 6]) -> bool
     ensures { result ≡ is_reserved da.now }
 {
+    if da[0] != 0x01 {
+        return false;
+    }
     da[..5] == [0x01, 0x80, 0xC2, 0x00, 0x00] && da[5] <= 0x0F
 }
 

@@ -1,8 +1,9 @@
 -- The first entry that matches is the one that stands first of those that the two addresses give.
-use Rattle.std.proofs.Common.{◌≡◌, ℕ, ◌+◌, ◌<◌, Bool, true, false, ◌&&◌, nat_eq, nat_lt, Option, Some, None, List, [], ◌∷◌, length, get_or, drop, refl, sym, ap, ◌∙◌, add-one, drop-cons, arith}
+use Rattle.std.proofs.Common.{◌≡◌, ℕ, ◌+◌, ◌<◌, ◌≤◌, Bool, true, false, ◌&&◌, nat_eq, nat_lt, Option, Some, None, List, [], ◌∷◌, length, get_or, drop, refl, sym, ap, ◌∙◌, add-one, drop-cons, arith}
 use Rattle.std.specs.Option.{option_map, option_or}
 use Rattle.std.specs.Str.{bytes_eq}
 use Rattle.std.proofs.lemmas.Bool.{lt-ltb, le-ltb}
+use Rattle.std.proofs.lemmas.List.{at_drop_all}
 use Rattle.bridge_limits.proofs.Cases.{by_bool}
 use Rattle.bridge_frame.specs.declared.Head.{Head}
 use Rattle.bridge_frame.specs.declared.Tag.{Tag}
@@ -37,6 +38,11 @@ next_place kind tagged es i d o p found port vid address l kept before =
     ap (λ (q : Option First). option_or q (first_from kind tagged (i + 1) (drop (i + 1) es) port vid address)) kept
     ∙ (one_more o kind tagged i (get_or es i d) (drop (i + 1) es) port vid address
     ∙ (ap (λ (rest : List StreamEntry). option_or o (first_from kind tagged i rest port vid address)) (sym (left es i d l)) ∙ before))
+
+-- once no entry is left, what is there is what all entries give
+pub none_left : (kind : Kind) (tagged : Bool) (es : List StreamEntry) (i : ℕ) (o found : Option First) (port vid : ℕ) (address : List ℕ) → length es ≤ i → option_or o (first_from kind tagged i (drop i es) port vid address) ≡ found → o ≡ found
+none_left kind tagged es i None found port vid address l before = sym (at_drop_all (λ (rest : List StreamEntry). first_from kind tagged i rest port vid address) es i l) ∙ before
+none_left kind tagged es i (Some f) found port vid address l before = before
 
 -- an entry stands before whatever is found from a later place on
 stands_before : (f : First) (kind : Kind) (tagged : Bool) (n : ℕ) (es : List StreamEntry) (port vid : ℕ) (address : List ℕ) → f.place < n → lesser (Some f) (first_from kind tagged n es port vid address) ≡ Some f

@@ -1,5 +1,5 @@
 -- What the index of a stream identification table keeps. No public clause speaks of it.
-use Rattle.std.specs.Prelude.{◌≡◌, ◌<◌, ◌+◌, ◌*◌, ◌^◌, ℕ, Bool, true, false, not, ◌&&◌, nat_eq, nat_lt, Option, Some, None, List, [], ◌∷◌, ◌++◌, length, slice_index, if◌then◌else◌}
+use Rattle.std.specs.Prelude.{◌≡◌, ◌<◌, ◌+◌, ◌*◌, ◌%◌, ◌^◌, ℕ, Bool, true, false, not, ◌&&◌, nat_eq, nat_lt, Option, Some, None, List, [], ◌∷◌, ◌++◌, length, slice_get, slice_index, if◌then◌else◌}
 use Rattle.std.specs.Int.{w16, w64, to_be_bytes, from_be_bytes}
 use Rattle.std.specs.Str.{bytes_eq}
 use Rattle.indexmap.specs.IndexMap.{IndexMap, get}
@@ -61,7 +61,13 @@ key_of port vid address = port * 2 ^ 64 + octets_number vid address
 pub record AreFirst {T : Type 0} (kind : Kind) (tagged : Bool) (entries : List StreamEntry) (firsts : IndexMap ℕ First T) : Type 0 where
   pub found : (port vid : ℕ) (address : List ℕ) → IsKey vid address → get nat_eq firsts (key_of port vid address) ≡ first_from kind tagged 0 entries port vid address
 
--- the tables of both kinds
-pub record AreByAddress {T : Type 0} (tagged : Bool) (entries : List StreamEntry) (destinations sources : IndexMap ℕ First T) : Type 0 where
+-- each key of a table is marked by its last octet
+abbrev pub AreMarked : {T : Type 0} → IndexMap ℕ First T → List Bool → Type 0
+AreMarked firsts marks = (key : ℕ) (first : First) → get nat_eq firsts key ≡ Some first → slice_get marks (key % 256) ≡ Some true
+
+-- the tables of both kinds, with their marks
+pub record AreByAddress {T : Type 0} (tagged : Bool) (entries : List StreamEntry) (destinations : IndexMap ℕ First T) (destination_marks : List Bool) (sources : IndexMap ℕ First T) (source_marks : List Bool) : Type 0 where
   pub by_destination : AreFirst Null tagged entries destinations
+  pub destinations_marked : AreMarked destinations destination_marks
   pub by_source : AreFirst Source tagged entries sources
+  pub sources_marked : AreMarked sources source_marks

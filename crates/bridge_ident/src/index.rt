@@ -1,11 +1,11 @@
 //! Look-ups of the first entries that match, made from the list of entries.
 
-ghost use Rattle.std.specs.Prelude.{◌≡◌, ℕ, List, [], ◌∷◌, IfOk, IfSome, OnOk, Some, None, true, false, nat_eq, if◌then◌else◌};
+ghost use Rattle.std.specs.Prelude.{◌≡◌, ℕ, ◌<◌, ◌%◌, List, [], ◌∷◌, IfOk, IfSome, OnOk, Some, None, true, false, nat_eq, if◌then◌else◌};
 ghost use Rattle.std.specs.Option.{option_map, option_or};
 ghost use Rattle.indexmap.specs.IndexMap.{get};
 ghost use Rattle.bridge_ident.specs.declared.Kind.TheVariants.{Null, Source};
 ghost use Rattle.bridge_ident.specs.declared.StreamEntry.{StreamEntry};
-ghost use Rattle.bridge_ident.specs.Firsts.{AreByAddress, AreFirst, IsKey, first_from, is_for, key_of, lesser, octets_number};
+ghost use Rattle.bridge_ident.specs.Firsts.{AreByAddress, AreFirst, AreMarked, IsKey, first_from, is_for, key_of, lesser, octets_number};
 ghost use Rattle.bridge_ident.specs.Identification.{handle_in, names_vlan};
 
 use crate::{Kind, StreamEntry, TagKind, names_vlan};
@@ -25,11 +25,16 @@ pub(crate) struct First {
 /// and address.
 type Firsts<A> = IndexMap<u128, First, BuildHasherDefault<FoldHasher>, A>;
 
+/// Of each last octet of an address, whether there is an entry for an address that ends in it.
+type Marks = [bool; 256];
+
 /// The first entries for tagged frames, or for all others, by the address that they compare.
 #[derive(Drop)]
 struct ByAddress<A: Allocator + Copy> {
     destinations: Firsts<A>,
+    destination_marks: Marks,
     sources: Firsts<A>,
+    source_marks: Marks,
     /// At which place among the destinations a key may stand. It is tested there.
     hints: Vec<u16, A>,
 }
@@ -83,17 +88,29 @@ fn key_of(port: u8, vid: u16, address: [u8; 6]) -> u128
     port as u128 * PAST_64_BITS + octets_number(vid, address) as u128
 }
 
-/// Keeps an entry at a key, unless there is one already.
+/// The last octet of the address of a key.
+#[inline(always)]
+fn last_octet(key: u128) -> usize
+    ensures octet { result ≡ key % 256 }
+    ensures few { result < 256 }
+{
+    (key % 256) as usize
+}
+
+/// Keeps an entry at a key and marks its last octet, unless there is one already.
 fn keep_first<A: Allocator + Copy>(
     firsts: &mut Firsts<A>,
+    marks: &mut Marks,
     key: u128,
     first: First,
 ) -> Result<(), AllocError>
-    ensures { OnOk result ((k : ℕ)
+    ensures found { OnOk result ((k : ℕ)
         → get nat_eq firsts.new k ≡ option_or (get nat_eq firsts.old k) (if nat_eq key k then Some first else None)) }
+    ensures marked { OnOk result (AreMarked firsts.old marks.old → AreMarked firsts.new marks.new) }
 {
     if firsts.get(&key).is_none() {
         firsts.insert(key, first)?;
+        marks[last_octet(key)] = true;
     }
     Ok(())
 }
@@ -102,21 +119,23 @@ fn keep_first<A: Allocator + Copy>(
 /// already for its port, VLAN identifier and address.
 fn keep_entry<A: Allocator + Copy>(
     firsts: &mut Firsts<A>,
+    marks: &mut Marks,
     entry: &StreamEntry,
     place: usize,
     kind: Kind,
     tagged: bool,
 ) -> Result<(), AllocError>
-    ensures { OnOk result ((port vid : ℕ) (address : List ℕ)
+    ensures found { OnOk result ((port vid : ℕ) (address : List ℕ)
         → IsKey vid address
         → get nat_eq firsts.new (key_of port vid address)
         ≡ option_or (get nat_eq firsts.old (key_of port vid address))
         (first_from kind tagged place (entry.now ∷ []) port vid address)) }
+    ensures marked { OnOk result (AreMarked firsts.old marks.old → AreMarked firsts.new marks.new) }
 {
     if entry.is_for(kind, tagged) {
         let key = key_of(entry.port, entry.vid, entry.address);
         let handle = entry.handle;
-        keep_first(firsts, key, First { place, handle })?;
+        keep_first(firsts, marks, key, First { place, handle })?;
     }
     Ok(())
 }
@@ -132,20 +151,22 @@ fn count(entries: &[StreamEntry], kind: Kind, tagged: bool) -> usize {
     count
 }
 
-/// The first entries of one kind for tagged frames, or for all others.
+/// The first entries of one kind for tagged frames, or for all others, and their marks.
 fn firsts_of<A: Allocator + Copy>(
     alloc: A,
     entries: &[StreamEntry],
     kind: Kind,
     tagged: bool,
-) -> Result<Firsts<A>, AllocError>
-    ensures { IfOk result (AreFirst kind tagged entries.now) }
+) -> Result<(Firsts<A>, Marks), AllocError>
+    ensures found { IfOk result (λ r. AreFirst kind tagged entries.now r.0) }
+    ensures marked { IfOk result (λ r. AreMarked r.0 r.1) }
 {
+    let mut marks = [false; 256];
     let mut firsts = IndexMap::with_capacity(alloc, count(entries, kind, tagged))?;
     for (place, entry) in entries.iter().enumerate() {
-        keep_entry(&mut firsts, entry, place, kind, tagged)?;
+        keep_entry(&mut firsts, &mut marks, entry, place, kind, tagged)?;
     }
-    Ok(firsts)
+    Ok((firsts, marks))
 }
 
 /// How many hints there are for each destination.
@@ -188,14 +209,17 @@ fn by_address_of<A: Allocator + Copy>(
     entries: &[StreamEntry],
     tagged: bool,
 ) -> Result<ByAddress<A>, AllocError>
-    ensures { IfOk result (λ found. AreByAddress tagged entries.now found.destinations found.sources) }
+    ensures { IfOk result (λ found. AreByAddress tagged entries.now found.destinations found.destination_marks
+        found.sources found.source_marks) }
 {
-    let destinations = firsts_of(alloc, entries, Kind::Null, tagged)?;
-    let sources = firsts_of(alloc, entries, Kind::Source, tagged)?;
+    let (destinations, destination_marks) = firsts_of(alloc, entries, Kind::Null, tagged)?;
+    let (sources, source_marks) = firsts_of(alloc, entries, Kind::Source, tagged)?;
     let hints = hints_of(alloc, &destinations)?;
     Ok(ByAddress {
         destinations,
+        destination_marks,
         sources,
+        source_marks,
         hints,
     })
 }
@@ -212,26 +236,31 @@ fn first_at<A: Allocator + Copy>(firsts: &Firsts<A>, place: usize, key: u128) ->
     }
 }
 
-/// The first entry at a key, by its hash.
+/// The first entry at a key, by its hash: looked for only where an address ends in its last octet.
 #[inline(always)]
-fn first_by_hash<A: Allocator + Copy>(firsts: &Firsts<A>, key: u128) -> Option<First>
-    ensures { result ≡ get nat_eq firsts.now key }
+fn first_marked<A: Allocator + Copy>(firsts: &Firsts<A>, marks: &Marks, key: u128) -> Option<First>
+    ensures { AreMarked firsts.now marks.now → result ≡ get nat_eq firsts.now key }
 {
-    if firsts.is_empty() {
-        None
-    } else {
+    if marks[last_octet(key)] {
         firsts.get(&key).copied()
+    } else {
+        None
     }
 }
 
 /// The first entry at a key, looked for at its hint first.
 #[inline(always)]
-fn first_of<A: Allocator + Copy>(firsts: &Firsts<A>, hints: &[u16], key: u128) -> Option<First>
-    ensures { result ≡ get nat_eq firsts.now key }
+fn first_of<A: Allocator + Copy>(
+    firsts: &Firsts<A>,
+    marks: &Marks,
+    hints: &[u16],
+    key: u128,
+) -> Option<First>
+    ensures { AreMarked firsts.now marks.now → result ≡ get nat_eq firsts.now key }
 {
     match first_at(firsts, place_of(hints, key), key) {
         Some(first) => Some(first),
-        None => first_by_hash(firsts, key),
+        None => first_marked(firsts, marks, key),
     }
 }
 
@@ -259,13 +288,14 @@ impl<A: Allocator + Copy> ByAddress<A> {
     #[inline(always)]
     fn handle_of(&self, port: u8, head: &Head, vid: u16) -> Option<u32>
         ensures { (entries : List StreamEntry)
-            → AreByAddress (names_vlan head.now.tag) entries self.now.destinations self.now.sources
+            → AreByAddress (names_vlan head.now.tag) entries self.now.destinations self.now.destination_marks
+            self.now.sources self.now.source_marks
             → result ≡ handle_in entries port head.now vid }
     {
         let da = key_of(port, vid, head.da);
         let sa = key_of(port, vid, head.sa);
-        let destination = first_of(&self.destinations, &self.hints, da);
-        let source = first_by_hash(&self.sources, sa);
+        let destination = first_of(&self.destinations, &self.destination_marks, &self.hints, da);
+        let source = first_marked(&self.sources, &self.source_marks, sa);
         handle_of(lesser(destination, source))
     }
 }
@@ -274,9 +304,9 @@ impl<A: Allocator + Copy> Index<A> {
     /// The first entries of a list.
     pub(crate) fn new(alloc: A, entries: &[StreamEntry]) -> Result<Index<A>, AllocError>
         ensures tagged { IfOk result (λ index. AreByAddress true entries.now index.tagged.destinations
-            index.tagged.sources) }
+            index.tagged.destination_marks index.tagged.sources index.tagged.source_marks) }
         ensures others { IfOk result (λ index. AreByAddress false entries.now index.others.destinations
-            index.others.sources) }
+            index.others.destination_marks index.others.sources index.others.source_marks) }
     {
         let tagged = by_address_of(alloc, entries, true)?;
         let others = by_address_of(alloc, entries, false)?;
@@ -286,8 +316,10 @@ impl<A: Allocator + Copy> Index<A> {
     /// The handle of the first entry that matches.
     pub(crate) fn handle_of(&self, port: u8, head: &Head, vid: u16) -> Option<u32>
         ensures { (entries : List StreamEntry)
-            → AreByAddress true entries self.now.tagged.destinations self.now.tagged.sources
-            → AreByAddress false entries self.now.others.destinations self.now.others.sources
+            → AreByAddress true entries self.now.tagged.destinations self.now.tagged.destination_marks
+            self.now.tagged.sources self.now.tagged.source_marks
+            → AreByAddress false entries self.now.others.destinations self.now.others.destination_marks
+            self.now.others.sources self.now.others.source_marks
             → result ≡ handle_in entries port head.now vid }
     {
         if names_vlan(head.tag) {

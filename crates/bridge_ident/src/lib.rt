@@ -111,8 +111,10 @@ impl<A: Allocator + Copy> Model for Ident<A> {
     ghost view = { λ t. t.entries.items };
 
     ghost invariant = { λ t. IfSome t.index (λ i.
-        (AreByAddress true t.entries.items i.tagged.destinations i.tagged.sources)
-        × (AreByAddress false t.entries.items i.others.destinations i.others.sources)) };
+        (AreByAddress true t.entries.items i.tagged.destinations i.tagged.destination_marks i.tagged.sources
+        i.tagged.source_marks)
+        × (AreByAddress false t.entries.items i.others.destinations i.others.destination_marks i.others.sources
+        i.others.source_marks)) };
 }
 
 impl<A: Allocator + Copy> Ident<A> {

@@ -1,3 +1,4 @@
+mod Passing
 pub mod Counts
 pub mod Named
 pub mod Numerals

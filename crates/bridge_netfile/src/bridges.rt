@@ -58,6 +58,17 @@ fn has_bridge<A: Allocator + Copy>(bridges: &[BridgeRow<A>], name: &str) -> bool
     false
 }
 
+/// A key of the bridge at a place.
+fn of_bridge(index: u32, field: NetField) -> NetPlace
+    ensures { result ≡ record { section = the_section.Bridge; index = index; field = field } }
+{
+    NetPlace {
+        section: NetSection::Bridge,
+        index,
+        field,
+    }
+}
+
 /// The bridge of a table, by those before it.
 #[tactic(auto, unfolding(crate::specs::Sections::bridge_at))]
 fn bridge_of<A: Allocator + Copy>(
@@ -70,25 +81,26 @@ fn bridge_of<A: Allocator + Copy>(
     ensures own { IfOk result (λ b. rules.has_bridge earlier.now b.name ≡ false) }
     ensures name { IfOk result (λ b. is_name b.name ≡ true) }
 {
-    let at = |field: NetField| -> NetPlace
-        ensures { result ≡ record { section = the_section.Bridge; index = index; field = field } }
-    {
-        NetPlace {
-            section: NetSection::Bridge,
-            index,
-            field,
-        }
-    };
     if !are_known(table, &[NetField::Name, NetField::Plan]) {
         return Err(NetFault::UnknownKey(NetSection::Bridge, index));
     }
-    let name = name_at(table, at(NetField::Name))?;
-    let plan = text_at(table, at(NetField::Plan))?;
+    let name = match name_at(table, of_bridge(index, NetField::Name)) {
+        Ok(name) => name,
+        Err(fault) => return Err(fault),
+    };
+    let plan = match text_at(table, of_bridge(index, NetField::Plan)) {
+        Ok(plan) => plan,
+        Err(fault) => return Err(fault),
+    };
     if has_bridge(earlier, name) {
         return Err(NetFault::Duplicate(NetSection::Bridge, index));
     }
-    let name = String::from_str(alloc, name)?;
-    let plan = String::from_str(alloc, plan)?;
+    let Ok(name) = String::from_str(alloc, name) else {
+        return Err(NetFault::NoMemory);
+    };
+    let Ok(plan) = String::from_str(alloc, plan) else {
+        return Err(NetFault::NoMemory);
+    };
     Ok(BridgeRow { name, plan })
 }
 

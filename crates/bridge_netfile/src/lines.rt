@@ -1,5 +1,5 @@
 //! The line of a text that is refused.
-ghost use Rattle.std.specs.Prelude.{◌≡◌, IfOk, string_bytes};
+ghost use Rattle.std.specs.Prelude.{◌≡◌, IfOk, codes, string_bytes};
 ghost use Rattle.bridge_netfile.specs.Lines.{instance, key_at, line_for, line_of, refused, refused_at};
 
 use crate::fault::{NetFault, NetPlace, NetSection};
@@ -37,7 +37,17 @@ pub fn refusal_line<A: Allocator + Copy>(
         }
         NetFault::Unresolved(place) => refusal_of_key(alloc, kind, "Unresolved", place),
         NetFault::TooMany(section) => refusal_at(alloc, kind, "TooMany", section.name()),
-        NetFault::NoMemory => Ok(String::from_str(alloc, "no memory")?),
+        NetFault::NoMemory => no_memory(alloc),
+    }
+}
+
+/// A growth was refused.
+fn no_memory<A: Allocator + Copy>(alloc: A) -> Result<String<A>, NoMemory>
+    ensures { IfOk result (λ line. string_bytes line ≡ codes "no memory") }
+{
+    match String::from_str(alloc, "no memory") {
+        Ok(line) => Ok(line),
+        Err(_) => Err(NoMemory),
     }
 }
 
@@ -45,7 +55,10 @@ pub fn refusal_line<A: Allocator + Copy>(
 fn refusal<A: Allocator + Copy>(alloc: A, kind: &str, name: &str) -> Result<String<A>, NoMemory>
     ensures { IfOk result (λ line. string_bytes line ≡ refused kind.now name.now) }
 {
-    Ok(format!(in alloc; "{kind} refused: {name}")?)
+    match format!(in alloc; "{kind} refused: {name}") {
+        Ok(line) => Ok(line),
+        Err(_) => Err(NoMemory),
+    }
 }
 
 /// The same with what is wrong.
@@ -57,7 +70,10 @@ fn refusal_at<A: Allocator + Copy>(
 ) -> Result<String<A>, NoMemory>
     ensures { IfOk result (λ line. string_bytes line ≡ refused_at kind.now name.now place.now) }
 {
-    Ok(format!(in alloc; "{kind} refused: {name} {place}")?)
+    match format!(in alloc; "{kind} refused: {name} {place}") {
+        Ok(line) => Ok(line),
+        Err(_) => Err(NoMemory),
+    }
 }
 
 /// A text is refused for an instance of a section.
@@ -70,7 +86,9 @@ fn refusal_of_instance<A: Allocator + Copy>(
 ) -> Result<String<A>, NoMemory>
     ensures { IfOk result (λ line. string_bytes line ≡ refused_at kind.now name.now (instance section index)) }
 {
-    let words = instance_words(alloc, section, index)?;
+    let Ok(words) = instance_words(alloc, section, index) else {
+        return Err(NoMemory);
+    };
     refusal_at(alloc, kind, name, words.as_str())
 }
 
@@ -83,9 +101,13 @@ fn refusal_of_key<A: Allocator + Copy>(
 ) -> Result<String<A>, NoMemory>
     ensures { IfOk result (λ line. string_bytes line ≡ refused_at kind.now name.now (key_at place.now)) }
 {
-    let words = instance_words(alloc, place.section, place.index)?;
+    let Ok(words) = instance_words(alloc, place.section, place.index) else {
+        return Err(NoMemory);
+    };
     let key = place.field.key();
-    let key_words = format!(in alloc; "{words} {key}")?;
+    let Ok(key_words) = format!(in alloc; "{words} {key}") else {
+        return Err(NoMemory);
+    };
     refusal_at(alloc, kind, name, key_words.as_str())
 }
 

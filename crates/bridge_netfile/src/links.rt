@@ -56,6 +56,17 @@ impl<'a, A: Allocator + Copy> Kind for PortOf<'a, A> {
     }
 }
 
+/// A key of the link at a place.
+fn of_link(index: u32, field: NetField) -> NetPlace
+    ensures { result ≡ record { section = the_section.Link; index = index; field = field } }
+{
+    NetPlace {
+        section: NetSection::Link,
+        index,
+        field,
+    }
+}
+
 /// The link of a table, where these are the bridges.
 #[tactic(auto, unfolding(crate::specs::Sections::link_among))]
 fn link_of<A: Allocator + Copy>(
@@ -68,26 +79,26 @@ fn link_of<A: Allocator + Copy>(
     ensures link { IfOk result (rules.IsLink (length bridges.now)) }
     ensures takes_no_memory { IfErr result (λ e. ¬ (e ≡ NoMemory)) }
 {
-    let at = |field: NetField| -> NetPlace
-        ensures { result ≡ record { section = the_section.Link; index = index; field = field } }
-    {
-        NetPlace {
-            section: NetSection::Link,
-            index,
-            field,
-        }
-    };
     if !are_known(table, &[NetField::One, NetField::Other, NetField::Delay]) {
         return Err(NetFault::UnknownKey(NetSection::Link, index));
     }
     let ports = PortOf { bridges };
-    let one = required(table, at(NetField::One), &ports)?;
-    let other = required(table, at(NetField::Other), &ports)?;
+    let one = match required(table, of_link(index, NetField::One), &ports) {
+        Ok(one) => one,
+        Err(fault) => return Err(fault),
+    };
+    let other = match required(table, of_link(index, NetField::Other), &ports) {
+        Ok(other) => other,
+        Err(fault) => return Err(fault),
+    };
     let delays = Between {
         low: 0,
         high: LONGEST_DELAY,
     };
-    let delay = default_to(0, table, at(NetField::Delay), &delays)?;
+    let delay = match default_to(0, table, of_link(index, NetField::Delay), &delays) {
+        Ok(delay) => delay,
+        Err(fault) => return Err(fault),
+    };
     Ok(LinkRow { one, other, delay })
 }
 

@@ -115,7 +115,10 @@ fn first_pass<'a>(table: &'a Table) -> Result<Arrays<'a>, NetFault>
     if !are_sections(&sections, table) {
         return Err(NetFault::UnknownKey(NetSection::Top, 0));
     }
-    let bridges = items_of(NetSection::Bridge, table)?;
+    let bridges = match items_of(NetSection::Bridge, table) {
+        Ok(bridges) => bridges,
+        Err(fault) => return Err(fault),
+    };
     if is_empty(bridges) {
         return Err(NetFault::Missing(NetPlace {
             section: NetSection::Top,
@@ -123,8 +126,14 @@ fn first_pass<'a>(table: &'a Table) -> Result<Arrays<'a>, NetFault>
             field: NetField::Bridge,
         }));
     }
-    let links = items_of(NetSection::Link, table)?;
-    let streams = items_of(NetSection::Stream, table)?;
+    let links = match items_of(NetSection::Link, table) {
+        Ok(links) => links,
+        Err(fault) => return Err(fault),
+    };
+    let streams = match items_of(NetSection::Stream, table) {
+        Ok(streams) => streams,
+        Err(fault) => return Err(fault),
+    };
     Ok(Arrays {
         bridges,
         links,

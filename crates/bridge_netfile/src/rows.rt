@@ -112,8 +112,13 @@ where
     let mut index: u32 = 1;
     'items: for item in items {
         if let Some(table) = item.as_table() {
-            let row = section.read(alloc, &made, index, table)?;
-            made.push(row)?;
+            let row = match section.read(alloc, &made, index, table) {
+                Ok(row) => row,
+                Err(fault) => return Err(fault),
+            };
+            let Ok(()) = made.push(row) else {
+                return Err(NetFault::NoMemory);
+            };
         }
         index += 1;
     }

@@ -3,9 +3,14 @@ ghost use Rattle.std.specs.Prelude.{◌≡◌, ◌&&◌, [], ◌^◌, ◌<◌, �
 ghost use Rattle.toml.specs.View.{view, table_view, items_view};
 ghost use Rattle.bridge_netfile.specs.declared.fault.NetFault.TheVariants.{NoMemory};
 ghost use Rattle.bridge_netfile.specs.declared.fault.NetSection.TheVariants as the_section;
+ghost use Rattle.bridge_limits.specs.declared.TheConstants.{END_OF_TIME};
+ghost use Rattle.bridge_schema.specs.Readers.{between};
+ghost use Rattle.bridge_netfile.specs.declared.fault.NetField.TheVariants as the_field;
 ghost use Rattle.bridge_netfile.specs.Reading.{Gives, GivesAs, at_place, count_of};
+ghost use Rattle.bridge_netfile.specs.Reading as reading;
 ghost use Rattle.bridge_netfile.specs.Rules as rules;
 ghost use Rattle.bridge_netfile.specs.Sections as sections;
+ghost use Rattle.std.specs.Option.{ForSome};
 
 use crate::bridges::BridgeRow;
 use crate::fault::{NetFault, NetField, NetPlace, NetSection};
@@ -191,8 +196,13 @@ fn hops_of<A: Allocator + Copy>(
 {
     let mut hops = Vec::new(alloc);
     'items: for item in items {
-        let hop = hop_of(bridges, place, item)?;
-        hops.push(hop)?;
+        let hop = match hop_of(bridges, place, item) {
+            Ok(hop) => hop,
+            Err(fault) => return Err(fault),
+        };
+        let Ok(()) = hops.push(hop) else {
+            return Err(NetFault::NoMemory);
+        };
     }
     Ok(hops)
 }
@@ -230,6 +240,31 @@ fn hops_in<A: Allocator + Copy>(
     }
 }
 
+/// A key of the stream at a place.
+fn of_stream(index: u32, field: NetField) -> NetPlace
+    ensures { result ≡ record { section = the_section.Stream; index = index; field = field } }
+{
+    NetPlace {
+        section: NetSection::Stream,
+        index,
+        field,
+    }
+}
+
+/// How long a frame of the stream at a place may take at most.
+fn deadline_in(index: u32, table: &Table) -> Result<Option<u64>, NetFault>
+    ensures reads { Gives result (reading.optional
+        (record { section = the_section.Stream; index = index; field = the_field.Deadline })
+        (between 0 END_OF_TIME) (table_view table.now)) }
+    ensures soon { IfOk result (λ x. ForSome x (λ d. d ≤ END_OF_TIME)) }
+{
+    let times = Between {
+        low: 0,
+        high: END_OF_TIME,
+    };
+    optional(table, of_stream(index, NetField::Deadline), &times)
+}
+
 /// The stream of a table, by those before it, where these are the bridges.
 #[tactic(auto, unfolding(crate::specs::Sections::stream_at))]
 fn stream_of<A: Allocator + Copy>(
@@ -244,31 +279,32 @@ fn stream_of<A: Allocator + Copy>(
     ensures own { IfOk result (λ s. rules.has_stream earlier.now s.name ≡ false) }
     ensures stream { IfOk result (rules.IsStream (length bridges.now)) }
 {
-    let at = |field: NetField| -> NetPlace
-        ensures { result ≡ record { section = the_section.Stream; index = index; field = field } }
-    {
-        NetPlace {
-            section: NetSection::Stream,
-            index,
-            field,
-        }
-    };
     if !are_known(table, &KEYS) {
         return Err(NetFault::UnknownKey(NetSection::Stream, index));
     }
-    let name = name_at(table, at(NetField::Name))?;
-    let value = value_at(table, NetField::Hops.key());
-    let hops = hops_in(alloc, bridges, at(NetField::Hops), value)?;
-    let talker = talker_in(index, table)?;
-    let times = Between {
-        low: 0,
-        high: END_OF_TIME,
+    let name = match name_at(table, of_stream(index, NetField::Name)) {
+        Ok(name) => name,
+        Err(fault) => return Err(fault),
     };
-    let deadline = optional(table, at(NetField::Deadline), &times)?;
+    let value = value_at(table, NetField::Hops.key());
+    let hops = match hops_in(alloc, bridges, of_stream(index, NetField::Hops), value) {
+        Ok(hops) => hops,
+        Err(fault) => return Err(fault),
+    };
+    let talker = match talker_in(index, table) {
+        Ok(talker) => talker,
+        Err(fault) => return Err(fault),
+    };
+    let deadline = match deadline_in(index, table) {
+        Ok(deadline) => deadline,
+        Err(fault) => return Err(fault),
+    };
     if has_stream(earlier, name) {
         return Err(NetFault::Duplicate(NetSection::Stream, index));
     }
-    let name = String::from_str(alloc, name)?;
+    let Ok(name) = String::from_str(alloc, name) else {
+        return Err(NetFault::NoMemory);
+    };
     Ok(StreamRow {
         name,
         hops,

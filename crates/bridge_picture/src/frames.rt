@@ -3,9 +3,8 @@
 use crate::picture::Picture;
 use crate::time::Part;
 use bridge_filter::Verdict;
-use bridge_limits::NoMemory;
 use bridge_port::Refusal;
-use bridge_semantics::{Outcome, View};
+use bridge_semantics::{Origin, Outcome, View};
 use bridge_svg::{ACROSS, LEFT, Span};
 use std::alloc::{Allocator, Global};
 
@@ -55,13 +54,12 @@ enum Pass {
 pub(crate) struct Group {
     pub frames: Vec<Frame>,
     shares: Vec<Share>,
-    is_refused: bool,
+    pub is_refused: bool,
 }
 
-/// What is drawn of a run: the part that is asked for, its stretch of time, and the frames in it.
+/// What is drawn of a run: its stretch of time, and the frames in it.
 #[derive(Drop)]
-pub(crate) struct Choice<'a> {
-    part: Part<'a>,
+pub(crate) struct Choice {
     pass: Pass,
     pub span: Span,
     pub left: Group,
@@ -83,22 +81,19 @@ fn stop_of(verdict: Verdict) -> &'static str {
     }
 }
 
-/// Why a queue refused a copy of a frame.
-fn refusal_of(refusal: Refusal) -> &'static str {
-    match refusal {
-        Refusal::Full => "queue full",
-        Refusal::NeverFits => "fits in no window",
-    }
-}
-
 impl Group {
     /// No frames.
-    fn new(alloc: Global) -> Result<Group, NoMemory> {
-        Ok(Group {
+    fn new(alloc: Global) -> Group {
+        let none = Share { left: 0, room: 0 };
+        let (shares, is_refused) = match Vec::from_elem(alloc, none, 17 * PARTS) {
+            Ok(shares) => (shares, false),
+            Err(_) => (Vec::new(alloc), true),
+        };
+        Group {
             frames: Vec::new(alloc),
-            shares: Vec::from_elem(alloc, Share { left: 0, room: 0 }, 17 * PARTS)?,
-            is_refused: false,
-        })
+            shares,
+            is_refused,
+        }
     }
 
     /// Counts a frame that stands at a place across its port, or takes it where its share has room.
@@ -152,24 +147,26 @@ impl Group {
     }
 }
 
-impl<A: Allocator + Copy> Picture<'_, '_, A> {
+impl Picture {
     /// Hatches the parts of a port in which some frame of a group isn't drawn, so far below and so high.
     pub(crate) fn put_hatches(&mut self, group: &Group, port: u8, by: u64, high: u64) {
         let (first, mut x) = (usize::from(port) * PARTS, LEFT);
-        for share in group.shares.iter().skip(first).take(PARTS) {
-            if share.left > 0 {
-                self.page.bar("hatch", x, by, PART, high);
+        for place in 0..PARTS {
+            if let Some(share) = group.shares.get(first + place) {
+                if share.left > 0 {
+                    self.page.bar("hatch", x, by, PART, high);
+                }
             }
             x = x.saturating_add(PART);
         }
     }
 }
 
-impl Choice<'_> {
+impl Choice {
     /// Looks at a frame, of which all is known but when it came, and where, if its filter stopped it: widens the stretch by it,
     /// counts it, or takes it.
-    fn see<B: Allocator>(&mut self, view: &View<B>, frame: Frame) {
-        let Some(origin) = view.origins.get(frame.own.saturating_sub(1) as usize) else {
+    fn see(&mut self, part: &Part, origins: &[Origin], frame: Frame) {
+        let Some(origin) = origins.get(frame.own.saturating_sub(1) as usize) else {
             return;
         };
         let mut seen = frame;
@@ -180,7 +177,7 @@ impl Choice<'_> {
         if frame.is_stopped {
             seen.port = origin.port;
         }
-        if !self.part.has_port(seen.port) {
+        if !part.has_port(seen.port) {
             return;
         }
         let (start, done) = (seen.start, seen.done);
@@ -197,13 +194,13 @@ impl Choice<'_> {
         }
     }
 
-    /// Looks at the frames of the filter at a place: those that left, those that it stopped, and the copies that queues refused.
-    fn pass_filter<B: Allocator>(&mut self, place: usize, filter: u32, view: &View<B>) {
+    /// Looks at the frames of a filter in its colour: those that left, those that it stopped, and the copies that queues refused.
+    fn pass_filter<B: Allocator>(&mut self, part: &Part, colour: u64, filter: u32, view: &View<B>) {
         let mut frame = Frame {
             filter,
             own: 0,
             is_protected: view.protected,
-            colour: (place % 8) as u64,
+            colour,
             port: 0,
             is_stopped: false,
             came: 0,
@@ -214,63 +211,59 @@ impl Choice<'_> {
         for it in &view.departures {
             (frame.own, frame.port) = (it.own, it.port);
             (frame.start, frame.done) = (it.start, it.done);
-            self.see(view, frame);
+            self.see(part, &view.origins, frame);
         }
         (frame.own, frame.is_stopped) = (0, true);
         for verdict in &view.verdicts {
             frame.own = frame.own.saturating_add(1);
             frame.why = stop_of(*verdict);
             if !frame.why.is_empty() {
-                self.see(view, frame);
+                self.see(part, &view.origins, frame);
             }
         }
         frame.is_stopped = false;
         for it in &view.drops {
             (frame.own, frame.port) = (it.own, it.port);
-            frame.why = refusal_of(it.refusal);
-            self.see(view, frame);
+            frame.why = match it.refusal {
+                Refusal::Full => "queue full",
+                Refusal::NeverFits => "fits in no window",
+            };
+            self.see(part, &view.origins, frame);
         }
     }
 
     /// Looks at all frames.
-    fn pass<B: Allocator>(&mut self, outcome: &Outcome<B>, pass: Pass) {
+    fn pass<B: Allocator>(&mut self, part: &Part, outcome: &Outcome<B>, pass: Pass) {
+        let mut colour: u64 = 0;
         self.pass = pass;
-        for (place, (filter, view)) in outcome.filters.iter().enumerate() {
-            if self.part.has_filter(*filter) {
-                self.pass_filter(place, *filter, view);
+        for (filter, view) in &outcome.filters {
+            if part.has_filter(*filter) {
+                self.pass_filter(part, colour, *filter, view);
             }
+            colour = colour.saturating_add(1) % 8;
         }
     }
 }
 
 /// What is drawn of a run: the stretch of time that is asked for, where an end of it isn't as far as there is something to draw,
 /// and the frames in it that have room: of those that left 2,400 at most, of the others 1,600.
-pub(crate) fn choice_of<'a, B: Allocator>(
-    alloc: Global,
-    outcome: &Outcome<B>,
-    part: Part<'a>,
-) -> Result<Choice<'a>, NoMemory> {
-    let (left, marks) = (Group::new(alloc)?, Group::new(alloc)?);
+pub(crate) fn choice_of<B: Allocator>(alloc: Global, outcome: &Outcome<B>, part: &Part) -> Choice {
     let (from, to) = (u64::MAX, 0);
     let mut choice = Choice {
-        part,
         pass: Pass::Ends,
         span: Span { from, to },
-        left,
-        marks,
+        left: Group::new(alloc),
+        marks: Group::new(alloc),
     };
-    choice.pass(outcome, Pass::Ends);
+    choice.pass(part, outcome, Pass::Ends);
     if choice.span.from > choice.span.to {
         (choice.span.from, choice.span.to) = (0, 1_000_000);
     }
     choice.span = part.span(choice.span);
-    choice.pass(outcome, Pass::Count);
+    choice.pass(part, outcome, Pass::Count);
     choice.left.allot(2_400);
     choice.marks.allot(1_600);
-    choice.pass(outcome, Pass::Take(true));
-    choice.pass(outcome, Pass::Take(false));
-    if choice.left.is_refused || choice.marks.is_refused {
-        return Err(NoMemory);
-    }
-    Ok(choice)
+    choice.pass(part, outcome, Pass::Take(true));
+    choice.pass(part, outcome, Pass::Take(false));
+    choice
 }

@@ -3,14 +3,16 @@ ghost use Rattle.std.specs.Prelude.{◌<◌};
 
 use crate::picture::Picture;
 use crate::time::Part;
+use bridge_bounds::gate_at;
 use bridge_check::may_wait;
 use bridge_config::{Plan, PortPlan};
 use bridge_cycle::{END_OF_TURNS, Egress, Timeline, is_open};
 use bridge_filter::FilterPlan;
 use bridge_frame::Speed;
 use bridge_gate::Schedule;
+use bridge_ident::StreamEntry;
 use bridge_svg::{ACROSS, LEFT, either};
-use std::alloc::{AllocError, Allocator, Global};
+use std::alloc::Allocator;
 
 /// The gates that are drawn.
 pub(crate) const MOST_GATES: usize = 128;
@@ -18,32 +20,28 @@ pub(crate) const MOST_GATES: usize = 128;
 /// The height of the bars in a lane.
 const HEIGHT: u64 = 130;
 
-/// What is open by time: a class of a port by its lists, a port that is always open, or a stream gate.
-#[derive(Drop)]
-pub(crate) enum Lane<'a, A: Allocator + Copy> {
-    Class(&'a Egress<A>, u8, u8),
+/// What a lane is of: a port and a class of it, a port that is always open, or a stream gate.
+#[derive(Clone, Copy)]
+enum Lane {
+    Class(u8, u8),
     Open(u8),
-    Gate(&'a Schedule<A>, u32),
+    Gate(u32),
+}
+
+/// What is open in a lane by time: what the lists of a port have it, all, or what those of a stream gate have it.
+#[derive(Drop)]
+enum Times<'a, A: Allocator + Copy> {
+    Lists(&'a Egress<A>),
+    Always,
+    Gate(&'a Schedule<A>),
 }
 
 /// A stretch of time in which something is closed, or open, maybe at fault, with the internal priority value that it gives.
 #[derive(Clone, Copy)]
-struct Window {
+pub(crate) struct Window {
     from: u64,
     to: u64,
     open: Option<(bool, Option<u8>)>,
-}
-
-/// How many windows each lane of a picture may have, with so many gates: 8,000 are shared among the lanes, and a lane may have 24
-/// at least and 250 at most, as more can't be told apart.
-pub(crate) fn most_of<A: Allocator + Copy>(plan: &Plan<A>, part: &Part, gates: usize) -> usize {
-    let mut lanes = gates.min(MOST_GATES);
-    for port in plan.ports() {
-        if part.has_port(port.number) {
-            lanes = lanes.saturating_add(if port.list.is_some() { 8 } else { 1 });
-        }
-    }
-    (8_000 / lanes.max(1)).clamp(24, 250)
 }
 
 /// The speed of a link in Mb/s.
@@ -63,78 +61,137 @@ pub(crate) fn digits_of(number: u32) -> usize {
 }
 
 /// The name of a lane, its number in it, and how many letters have room beside it.
-fn name_of<A: Allocator + Copy>(lane: &Lane<A>) -> (&'static str, u64, usize) {
+fn name_of(lane: Lane) -> (&'static str, u64, usize) {
     match lane {
-        Lane::Class(_, _, class) => ("class {0}", u64::from(*class), 11),
+        Lane::Class(_, class) => ("class {0}", u64::from(class), 11),
         Lane::Open(_) => ("always open", 0, 7),
-        Lane::Gate(_, gate) => {
-            let room = 13usize.saturating_sub(digits_of(*gate));
-            ("gate {0}", u64::from(*gate), room)
+        Lane::Gate(gate) => {
+            let room = 13usize.saturating_sub(digits_of(gate));
+            ("gate {0}", u64::from(gate), room)
         }
     }
 }
 
 /// Whether only one list holds from a moment on.
-fn is_settled<A: Allocator + Copy>(lane: &Lane<A>, from: u64) -> bool {
-    match lane {
-        Lane::Class(Egress::Joined(joined), _, _) => joined.at() <= from,
-        Lane::Gate(Schedule::Joined(joined), _) => joined.at() <= from,
+fn is_settled<A: Allocator + Copy>(times: &Times<A>, from: u64) -> bool {
+    match times {
+        Times::Lists(Egress::Joined(joined)) => joined.at() <= from,
+        Times::Gate(Schedule::Joined(joined)) => joined.at() <= from,
         _ => true,
     }
 }
 
-/// Whether frames of the stream of a filter come in at a port.
-fn comes_in<A: Allocator + Copy>(plan: &Plan<A>, filter: &FilterPlan, port: u8) -> bool {
-    let mut streams = plan.streams().iter();
-    streams.any(|it| it.port == port && Some(it.handle) == filter.handle)
+/// Whether frames of a handle come in at a port.
+fn comes_in(streams: &[StreamEntry], handle: Option<u32>, port: u8) -> bool {
+    for stream in streams {
+        if stream.port == port && Some(stream.handle) == handle {
+            return true;
+        }
+    }
+    false
 }
 
-/// The numbers of the stream gates of protected filters whose streams come in at ports, each with its port, of what is asked for.
-pub(crate) fn gates_of<A: Allocator + Copy>(
-    alloc: Global,
-    plan: &Plan<A>,
-    part: &Part,
-) -> Result<Vec<(u8, u32)>, AllocError> {
-    let mut gates = Vec::new(alloc);
-    for port in plan.ports() {
-        for (number, filter) in plan.filters() {
-            let is_asked = part.has_port(port.number) && part.has_filter(*number);
-            if is_asked && filter.protected && comes_in(plan, filter, port.number) {
-                gates.push((port.number, filter.gate))?;
+/// Whether a lane names a filter: that of a gate those that use it, another one the protected ones whose frames may wait there.
+fn is_named<A: Allocator + Copy>(plan: &Plan<A>, filter: &FilterPlan, lane: Lane) -> bool {
+    let (port, first, last) = match lane {
+        Lane::Gate(gate) => return filter.gate == gate,
+        Lane::Open(port) => (port, 0, 7),
+        Lane::Class(port, class) => (port, class, class),
+    };
+    for class in 0..8u8 {
+        let is_asked = filter.protected && first <= class && class <= last;
+        if is_asked && (1..=16).contains(&port) && may_wait(plan, filter, port, class) {
+            return true;
+        }
+    }
+    false
+}
+
+impl Picture {
+    /// Takes the stream gates of protected filters whose streams come in at ports, of what is asked for.
+    pub(crate) fn take_gates<A: Allocator + Copy>(&mut self, plan: &Plan<A>, part: &Part) {
+        for port in plan.ports() {
+            for (number, it) in plan.filters() {
+                let is_asked = it.protected & part.has_port(port.number) & part.has_filter(*number);
+                if is_asked && comes_in(plan.streams(), it.handle, port.number) {
+                    self.is_refused |= self.gates.push((port.number, it.gate)).is_err();
+                }
             }
         }
     }
-    Ok(gates)
-}
 
-impl<A: Allocator + Copy> Picture<'_, '_, A> {
+    /// Shares 8,000 windows among the lanes: each may have 24 at least and 250 at most, as more can't be told apart.
+    pub(crate) fn share<A: Allocator + Copy>(&mut self, plan: &Plan<A>, part: &Part) {
+        let mut lanes = self.gates.len().min(MOST_GATES);
+        for port in plan.ports() {
+            if part.has_port(port.number) {
+                lanes = lanes.saturating_add(if port.list.is_some() { 8 } else { 1 });
+            }
+        }
+        self.most = (8_000 / lanes.max(1)).clamp(24, 250);
+    }
+
     /// What holds in a lane from a moment on.
-    fn look_at(&self, lane: &Lane<A>, from: u64) -> Window
+    fn look_at<A: Allocator + Copy>(&self, lane: Lane, times: &Times<A>, from: u64) -> Window
         requires { from < END_OF_TURNS }
     {
         let (port, class, is_beside) = self.fault;
-        let (to, is_open, is_at_fault, value) = match lane {
-            Lane::Class(list, at, it) => {
+        let (to, is_open, is_at_fault, value) = match (lane, times) {
+            (Lane::Class(at, it), Times::Lists(list)) => {
                 let turn = list.turn(from);
                 let is_right = is_beside && turn.state.count_ones() == 1;
-                let is_at_fault = (port, class) == (*at, *it) && !is_right;
-                (turn.end, is_open(turn.state, *it % 8), is_at_fault, None)
+                let is_at_fault = (port, class) == (at, it) && !is_right;
+                (turn.end, is_open(turn.state, it % 8), is_at_fault, None)
             }
-            Lane::Open(at) => (END_OF_TURNS, true, port == *at, None),
-            Lane::Gate(schedule, _) => {
+            (_, Times::Gate(schedule)) => {
                 let turn = schedule.turn(from);
                 (turn.end, turn.state.lets, false, turn.state.ipv)
             }
+            (Lane::Open(at), _) => (END_OF_TURNS, true, port == at, None),
+            _ => (END_OF_TURNS, true, false, None),
         };
         let open = is_open.then_some((is_at_fault, value));
         Window { from, to, open }
     }
 
-    /// Draws a window, where there is one and a style, and writes the internal priority value into one that is wide enough.
-    fn put_window(&mut self, style: Option<&str>, window: Option<Window>) {
-        let (Some(style), Some(window)) = (style, window) else {
-            return;
-        };
+    /// Keeps what holds in a lane next, where it is open: a window more, or the last one goes on.
+    fn take_turn(&mut self, turn: Window) {
+        match self.windows.last_mut() {
+            _ if turn.open.is_none() => {}
+            Some(last) if last.to == turn.from && last.open == turn.open => last.to = turn.to,
+            _ => self.is_refused |= self.windows.push(turn).is_err(),
+        }
+    }
+
+    /// Keeps the windows of a lane, up to one more than it may have, and answers whether these are all. What is open or closed for
+    /// as many turns as are looked at, which are more than a list has, is so for good.
+    fn take_windows<A: Allocator + Copy>(&mut self, lane: Lane, times: &Times<A>) -> bool {
+        let (from, end) = (self.span.from, self.span.to.min(END_OF_TURNS));
+        let mut at = from;
+        self.windows.clear();
+        for _ in 0..20_000 {
+            if at >= end || self.windows.len() > self.most {
+                break;
+            }
+            let turn = self.look_at(lane, times, at);
+            at = turn.to;
+            self.take_turn(turn);
+        }
+        if is_settled(times, from) {
+            match self.windows.as_mut_slice() {
+                [] => at = end,
+                [only] if only.from == from && only.to == at => {
+                    only.to = end;
+                    at = end;
+                }
+                _ => {}
+            }
+        }
+        at >= end && self.windows.len() <= self.most
+    }
+
+    /// Draws a window, and writes the internal priority value into one that is wide enough.
+    fn put_window(&mut self, style: &str, window: Window) {
         let (is_at_fault, value) = window.open.unwrap_or((false, None));
         let (x, width) = self.span.extent(window.from, window.to);
         let style = if is_at_fault { "b c1" } else { style };
@@ -147,50 +204,14 @@ impl<A: Allocator + Copy> Picture<'_, '_, A> {
         }
     }
 
-    /// Goes over the windows of a lane, up to one more than it may have, draws them where a style is given, and answers whether
-    /// these are all. What is open or closed for as many turns as are looked at, which are more than a list has, is so for good.
-    fn go_over(&mut self, lane: &Lane<A>, style: Option<&str>) -> bool {
-        let (from, end) = (self.span.from, self.span.to.min(END_OF_TURNS));
-        let (mut at, mut count) = (from, 0usize);
-        let mut last: Option<Window> = None;
-        for _ in 0..20_000 {
-            if at >= end || count > self.most {
-                break;
-            }
-            let mut turn = self.look_at(lane, at);
-            at = turn.to;
-            if turn.open.is_some() {
-                match last {
-                    Some(it) if it.to == turn.from && it.open == turn.open => turn.from = it.from,
-                    _ => {
-                        self.put_window(style, last);
-                        count = count.saturating_add(1);
-                    }
-                }
-                last = Some(turn);
-            }
-        }
-        let is_constant = match last {
-            Some(only) => count == 1 && only.from == from && only.to == at,
-            None => true,
-        };
-        if is_constant && is_settled(lane, from) {
-            if let Some(only) = &mut last {
-                only.to = end;
-            }
-            at = end;
-        }
-        self.put_window(style, last);
-        at >= end && count <= self.most
-    }
-
     /// Draws the windows of a lane over the whole time, or a hatched band where there are more than it may have.
-    fn put_windows(&mut self, lane: &Lane<A>, style: &str) {
-        if !matches!(lane, Lane::Open(_)) {
-            self.page.bar("lane", LEFT, 0, ACROSS, HEIGHT);
-        }
-        if self.go_over(lane, None) {
-            self.go_over(lane, Some(style));
+    fn put_windows(&mut self, style: &str, is_all: bool) {
+        if is_all {
+            for place in 0..self.windows.len() {
+                if let Some(window) = self.windows.get(place).copied() {
+                    self.put_window(style, window);
+                }
+            }
         } else {
             self.bands = self.bands.saturating_add(1);
             self.page.bar(style, LEFT, 0, ACROSS, HEIGHT);
@@ -199,100 +220,90 @@ impl<A: Allocator + Copy> Picture<'_, '_, A> {
         self.page.go_down(HEIGHT + 20);
     }
 
-    /// Whether a lane names a filter: that of a gate those that use it, another one the protected ones whose frames may wait
-    /// there.
-    fn is_named(&self, filter: &FilterPlan, lane: &Lane<A>) -> bool {
-        let (port, first, last) = match lane {
-            Lane::Gate(_, gate) => return filter.gate == *gate,
-            Lane::Open(port) => (*port, 0, 7),
-            Lane::Class(_, port, class) => (*port, *class, *class),
-        };
-        for class in 0..8u8 {
-            let is_asked = filter.protected && first <= class && class <= last;
-            if is_asked && (1..=16).contains(&port) && may_wait(self.plan, filter, port, class) {
-                return true;
-            }
-        }
-        false
-    }
-
-    /// Writes as many numbers of the filters that a lane names, from that at a place on, as have room for their digits, each with
-    /// a space, and how many more there are.
-    fn put_numbers(&mut self, lane: &Lane<A>, first: usize, room: usize) {
-        let (plan, mut room, mut more, mut is_behind) = (self.plan, room, 0u64, false);
-        for (number, filter) in plan.filters().iter().skip(first) {
-            if self.is_named(filter, lane) {
-                let wide = digits_of(*number).saturating_add(1);
-                if more > 0 || wide > room {
-                    more = more.saturating_add(1);
-                } else {
-                    let gap = either(is_behind, " ", "");
-                    self.page.add("{a}{0}", &[u64::from(*number)], gap);
-                    (room, is_behind) = (room - wide, true);
-                }
+    /// Writes as many numbers of the filters that a lane names as have room for their digits, each with a space, and how many more
+    /// there are.
+    fn put_numbers(&mut self, room: usize) {
+        let (mut room, mut more, mut gap) = (room, 0u64, "");
+        for number in &self.named {
+            let wide = digits_of(*number).saturating_add(1);
+            if more > 0 || wide > room {
+                more = more.saturating_add(1);
+            } else {
+                self.page.add("{a}{0}", &[u64::from(*number)], gap);
+                (room, gap) = (room - wide, " ");
             }
         }
         if more > 0 {
-            self.page
-                .add("{a}+{0}", &[more], either(is_behind, " ", ""));
+            self.page.add("{a}+{0}", &[more], gap);
         }
     }
 
-    /// Draws a lane with its name, the filters that it names and its windows.
-    fn put_lane(&mut self, lane: &Lane<A>) {
+    /// Draws a lane with its name, the filters that it names and its windows, which may not be all.
+    fn draw_lane(&mut self, lane: Lane, is_all: bool) {
         let (name, number, room) = name_of(lane);
-        let mut filters = self.plan.filters().iter();
-        let first = filters.position(|it| self.is_named(&it.1, lane));
-        let is_gate = matches!(lane, Lane::Gate(_, _));
-        let is_bold = !is_gate && first.is_some();
+        let has_names = !self.named.is_empty();
+        let (is_open, is_gate) = (matches!(lane, Lane::Open(_)), matches!(lane, Lane::Gate(_)));
+        let is_bold = has_names && !is_gate;
         self.page
             .say(either(is_bold, "b", "t"), 200, 115, name, &[number]);
-        if let Some(first) = first {
+        if has_names {
             self.page.begin("s r", LEFT - 50, self.page.below(115));
-            self.put_numbers(lane, first, room);
+            self.put_numbers(room);
             self.page.end();
         }
+        if !is_open {
+            self.page.bar("lane", LEFT, 0, ACROSS, HEIGHT);
+        }
         let open = either(is_gate, "gate", "open");
-        self.put_windows(lane, either(is_bold, "own", open));
+        self.put_windows(either(is_bold, "own", open), is_all);
+    }
+
+    /// Looks which filters a lane names and what is open in it, and draws it.
+    fn put_lane<A: Allocator + Copy>(&mut self, plan: &Plan<A>, lane: Lane, times: &Times<A>) {
+        self.named.clear();
+        for (number, filter) in plan.filters() {
+            if is_named(plan, filter, lane) {
+                self.is_refused |= self.named.push(*number).is_err();
+            }
+        }
+        let is_all = self.take_windows(lane, times);
+        self.draw_lane(lane, is_all);
     }
 
     /// Draws the head and the lanes of a port, class 7 on top, or one lane where it is always open.
-    pub(crate) fn put_port(&mut self, port: &PortPlan<A>) {
+    pub(crate) fn put_port<A: Allocator + Copy>(&mut self, plan: &Plan<A>, port: &PortPlan<A>) {
+        let (number, speed) = (port.number, megabits(port.speed));
         self.page.go_down(250);
-        self.page
-            .say("h", 100, 0, "port {0}", &[u64::from(port.number)]);
-        self.page
-            .say("s", LEFT, 0, "{0} Mb/s", &[megabits(port.speed)]);
+        self.page.say("h", 100, 0, "port {0}", &[u64::from(number)]);
+        self.page.say("s", LEFT, 0, "{0} Mb/s", &[speed]);
         self.page.go_down(60);
         match &port.list {
             Some(list) => {
                 for below in 0..8u8 {
-                    self.put_lane(&Lane::Class(list, port.number, 7 - below));
+                    self.put_lane(plan, Lane::Class(number, 7 - below), &Times::Lists(list));
                 }
             }
-            None => self.put_lane(&Lane::Open(port.number)),
+            None => self.put_lane(plan, Lane::Open(number), &Times::Always),
         }
     }
 
     /// Draws the first of the stream gates with a port below one another, so many, and says how many have no room.
-    pub(crate) fn put_gates(&mut self, gates: &[(u8, u32)], port: u8, most: usize) {
-        let (plan, mut room, mut further) = (self.plan, most, 0u64);
-        for (_, number) in gates.iter().filter(|it| it.0 == port) {
-            if room == 0 {
+    pub(crate) fn put_gates<A: Allocator + Copy>(&mut self, plan: &Plan<A>, port: u8, most: usize) {
+        let (mut room, mut further) = (most, 0u64);
+        for place in 0..self.gates.len() {
+            let (at, number) = self.gates.get(place).copied().unwrap_or((0, 0));
+            if at == port && room == 0 {
                 further = further.saturating_add(1);
-            } else if let Some(gate) = plan.gates().iter().find(|it| it.0 == *number) {
-                room -= 1;
-                self.put_lane(&Lane::Gate(&gate.1.schedule, *number));
+            } else if at == port {
+                if let Some(gate) = gate_at(plan.gates(), number) {
+                    room = room.saturating_sub(1);
+                    self.put_lane(plan, Lane::Gate(number), &Times::Gate(&gate.schedule));
+                }
             }
         }
         if further > 0 {
-            self.page.say(
-                "b",
-                LEFT,
-                115,
-                "left out: {0} further stream gates",
-                &[further],
-            );
+            let words = "left out: {0} further stream gates";
+            self.page.say("b", LEFT, 115, words, &[further]);
             self.page.go_down(150);
         }
     }

@@ -2,7 +2,6 @@
 use crate::lanes::digits_of;
 use crate::picture::Picture;
 use bridge_svg::{Legend, either};
-use std::alloc::Allocator;
 
 /// Samples: a bar, one in the colour of a filter, a line with a tick where it begins, a thin line, triangles with the tip below
 /// and above, a line downwards.
@@ -50,7 +49,7 @@ pub(crate) const RUN: &[Legend] = &[
     ),
 ];
 
-impl<A: Allocator + Copy> Picture<'_, '_, A> {
+impl Picture {
     /// Names a filter with its colour, behind the others.
     pub(crate) fn put_filter(&mut self, filter: u32, is_protected: bool, colour: u64) {
         let edge = either(is_protected, " e", "");
@@ -66,7 +65,7 @@ impl<A: Allocator + Copy> Picture<'_, '_, A> {
         for row in LANES.iter().chain(rows) {
             self.page.put_legend(*row, row.2.len(), 0, 0);
         }
-        if self.times.change.is_some() {
+        if self.change.is_some() {
             self.page
                 .put_legend((LINE, "change", "change of schedules"), 19, 0, 0);
         }

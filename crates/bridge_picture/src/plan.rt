@@ -1,12 +1,13 @@
 //! The picture of a plan, and what it has alike with that of a run.
 ghost use Rattle.std.specs.Prelude.{◌≤◌, IfOk, length, string_bytes};
 
+use crate::frames::Choice;
 use crate::lanes::MOST_GATES;
 use crate::legend::{GATES, RUN};
 use crate::picture::Picture;
-use crate::run::Run;
 use crate::time::{Part, shown_of, span_of};
 use bridge_advice::Hypercycle;
+use bridge_bounds::filter_at;
 use bridge_check::{Accepted, CheckFault, Refused};
 use bridge_config::Plan;
 use bridge_limits::NoMemory;
@@ -18,35 +19,30 @@ const MISSING: &str = " (not in the plan)";
 
 const BANDS: &str = "lanes hatched for their many windows: {0}";
 
-/// Why a plan isn't accepted: what is wrong with a queue that two filters reach, a window that two classes share, a frame that
-/// is too long, or a filter. The filter is 0, the other one 1, the class 2 and the port 3.
-fn template_of(fault: CheckFault) -> &'static str {
-    match fault {
-        CheckFault::QueueShared { .. } => {
-            "refused: frames of filters {0} and {1} may wait in class {2} of port {3}"
-        }
-        CheckFault::WindowShared { .. } => {
-            "refused: port {3} opens class {2}, where frames of filter {0} wait, beside another class"
-        }
-        CheckFault::MaxSduNeverFits { .. } => {
-            "refused: the longest frame of filter {0} never fits in class {2} of port {3}"
-        }
-        _ => "refused: filter {0}: {a}",
-    }
-}
+/// What is wrong with a plan that isn't accepted.
+const SHARED_QUEUE: &str =
+    "refused: frames of filters {0} and {1} may wait in class {2} of port {3}";
 
-/// The other filter, the class and the port that a fault names, 0 where it names none.
-fn named_by(fault: CheckFault) -> (u32, u8, u8) {
+const SHARED_WINDOW: &str =
+    "refused: port {3} opens class {2}, where frames of filter {0} wait, beside another class";
+
+const NEVER_FITS: &str =
+    "refused: the longest frame of filter {0} never fits in class {2} of port {3}";
+
+/// Why a plan isn't accepted: what is wrong with a queue that two filters reach, a window that two classes share, a frame that
+/// is too long, or a filter, and the other filter, the class and the port that are named, 0 where none is. In what is said the
+/// filter is 0, the other one 1, the class 2 and the port 3.
+fn told_of(fault: CheckFault) -> (&'static str, u32, u8, u8) {
     match fault {
         CheckFault::QueueShared {
             other,
             class,
             port,
             ..
-        } => (other, class, port),
-        CheckFault::WindowShared { class, port, .. }
-        | CheckFault::MaxSduNeverFits { class, port, .. } => (0, class, port),
-        _ => (0, 0, 0),
+        } => (SHARED_QUEUE, other, class, port),
+        CheckFault::WindowShared { class, port, .. } => (SHARED_WINDOW, 0, class, port),
+        CheckFault::MaxSduNeverFits { class, port, .. } => (NEVER_FITS, 0, class, port),
+        _ => ("refused: filter {0}: {a}", 0, 0, 0),
     }
 }
 
@@ -66,41 +62,46 @@ fn put_hypercycle(page: &mut Page, times: Hypercycle, is_part: bool) {
     page.put_length(times.length);
 }
 
-impl<'a, 'b, A: Allocator + Copy> Picture<'a, 'b, A> {
+impl Picture {
     /// Begins the head of a picture with what it is of; what it shows is to follow.
     pub(crate) fn begin_head(&mut self, name: &str) {
         self.page.say("h", 100, 220, name, &[]);
         self.page.begin_line("t", 220);
     }
 
+    /// Says that a port or a filter is shown, and whether the plan doesn't have it.
+    fn put_asked(&mut self, form: &str, number: u32, is_first: bool, is_there: bool) {
+        let lead = either(is_first, "only ", ", ");
+        self.page.add(form, &[u64::from(number)], lead);
+        self.page.write(either(is_there, "", MISSING));
+    }
+
     /// Says which ports and filters are shown, where it isn't all, and which of them the plan doesn't have.
-    pub(crate) fn put_part(&mut self, part: &Part) {
-        let plan = self.plan;
+    pub(crate) fn put_part<A: Allocator + Copy>(&mut self, plan: &Plan<A>, part: &Part) {
         if part.ports.is_empty() && part.filters.is_empty() {
             return;
         }
         self.page.begin_line("b", 190);
-        for (place, number) in part.ports.iter().enumerate() {
-            let mut ports = plan.ports().iter();
-            let is_there = ports.any(|it| u32::from(it.number) == *number);
-            let lead = either(place == 0, "only ", ", ");
-            self.page.add("{a}port {0}", &[u64::from(*number)], lead);
-            self.page.write(either(is_there, "", MISSING));
+        let mut is_first = true;
+        for number in part.ports {
+            let is_there = match u8::try_from(*number) {
+                Ok(number) => plan.port(number).is_some(),
+                Err(_) => false,
+            };
+            self.put_asked("{a}port {0}", *number, is_first, is_there);
+            is_first = false;
         }
-        for (place, number) in part.filters.iter().enumerate() {
-            let is_there = plan.filters().iter().any(|it| it.0 == *number);
-            let is_first = place == 0 && part.ports.is_empty();
-            let lead = either(is_first, "only ", ", ");
-            self.page.add("{a}filter {0}", &[u64::from(*number)], lead);
-            self.page.write(either(is_there, "", MISSING));
+        for number in part.filters {
+            let is_there = filter_at(plan.filters(), *number).is_some();
+            self.put_asked("{a}filter {0}", *number, is_first, is_there);
+            is_first = false;
         }
         self.page.end();
     }
 
     /// Says what the picture of a plan shows.
-    fn put_title(&mut self) {
-        let (span, times) = (self.span, self.times);
-        let is_part = self.part.from.is_some() || self.part.to.is_some();
+    fn put_title(&mut self, times: Hypercycle, is_part: bool) {
+        let span = self.span;
         self.begin_head("plan");
         let page = &mut self.page;
         put_hypercycle(page, times, is_part);
@@ -115,46 +116,57 @@ impl<'a, 'b, A: Allocator + Copy> Picture<'a, 'b, A> {
     }
 
     /// Says why a plan isn't accepted, also by the words of the fault, and keeps which class of a port is at fault.
-    fn put_fault(&mut self, fault: CheckFault, words: &str) {
-        let (other, class, port) = named_by(fault);
-        self.fault = (
-            port,
-            class,
-            matches!(fault, CheckFault::WindowShared { .. }),
-        );
+    fn put_fault(&mut self, alloc: Global, fault: CheckFault) {
+        let (template, other, class, port) = told_of(fault);
+        let is_beside = matches!(fault, CheckFault::WindowShared { .. });
+        self.fault = (port, class, is_beside);
         let filter = u64::from(fault.filter().unwrap_or(0));
         let numbers = [filter, u64::from(other), u64::from(class), u64::from(port)];
         self.page.begin_line("b c1", 190);
-        self.page.add(template_of(fault), &numbers, words);
+        match format!(in alloc; "{fault}") {
+            Ok(words) => self.page.add(template, &numbers, words.as_str()),
+            Err(_) => self.is_refused = true,
+        }
         self.page.end();
     }
 
     /// Lays out what is below the head: the legend, for each port its windows, and of a run what left its link and was not let
     /// on, and stream gates; and the axis of time.
-    pub(crate) fn put_ports(&mut self, gates: &[(u8, u32)], run: Option<Run<'a, 'b, A>>) {
+    pub(crate) fn put_ports<A: Allocator + Copy>(
+        &mut self,
+        plan: &Plan<A>,
+        part: &Part,
+        accepted: Option<&Accepted<A>>,
+        run: Option<&Choice>,
+    ) {
+        self.share(plan, part);
         self.put_legend(if run.is_some() { RUN } else { GATES });
-        let line = self.page.below(150);
         self.page.go_down(350);
-        let (plan, part, top) = (self.plan, self.part, self.page.down());
+        let top = self.page.down();
         let most = MOST_GATES / plan.ports().len().max(1);
         for port in plan.ports() {
             if part.has_port(port.number) {
-                self.put_port(port);
-                if let Some(run) = &run {
-                    self.put_link(run, port.number);
+                self.put_port(plan, port);
+                if let (Some(accepted), Some(choice)) = (accepted, run) {
+                    self.put_link(accepted, choice, port.number);
                 }
-                self.put_gates(gates, port.number, most);
+                self.put_gates(plan, port.number, most);
             }
         }
         if run.is_none() && part.ports.is_empty() {
             self.page.say("h", 100, 250, "stream gates", &[]);
             self.page.go_down(310);
-            self.put_gates(gates, 0, MOST_GATES);
+            self.put_gates(plan, 0, MOST_GATES);
             self.page.go_down(60);
         }
-        self.page.put_axis(self.span, top, self.times.change);
+        self.end_ports(top);
+    }
+
+    /// Draws the axis of time below the lanes, and says above their top how many of them are bands.
+    fn end_ports(&mut self, top: u64) {
+        self.page.put_axis(self.span, top, self.change);
         if self.bands > 0 {
-            self.page.begin("s", LEFT, line);
+            self.page.begin("s", LEFT, top.saturating_sub(200));
             self.page.add(BANDS, &[self.bands], "");
             self.page.end();
         }
@@ -181,30 +193,23 @@ pub fn draw_plan<A: Allocator + Copy>(
 ) -> Result<String, NoMemory>
     ensures { IfOk result (λ text. length (string_bytes text) ≤ 2000000) }
 {
-    let (plan, fault) = match checked {
-        Ok(accepted) => (accepted.plan(), None),
-        Err(refused) => (&refused.plan, Some(refused.fault)),
+    let (plan, accepted, fault) = match checked {
+        Ok(accepted) => (accepted.plan(), Some(accepted), None),
+        Err(refused) => (&refused.plan, None, Some(refused.fault)),
     };
-    if fault == Some(CheckFault::NoMemory) {
-        return Err(NoMemory);
-    }
-    let words = match fault {
-        Some(fault) => format!(in alloc; "{fault}")?,
-        None => String::new(alloc),
-    };
-    let mut gates = Vec::new(alloc);
+    let times = Hypercycle::of(plan);
+    let mut picture = Picture::new(alloc, times.change, part.span(span_of(times)));
+    picture.is_refused = fault == Some(CheckFault::NoMemory);
     if part.ports.is_empty() {
         for gate in plan.gates() {
-            gates.push((0, gate.0))?;
+            picture.is_refused |= picture.gates.push((0, gate.0)).is_err();
         }
     }
-    let span = part.span(span_of(Hypercycle::of(plan)));
-    let mut picture = Picture::new(alloc, plan, *part, span, gates.len());
-    picture.put_title();
-    picture.put_part(part);
+    picture.put_title(times, part.from.is_some() || part.to.is_some());
+    picture.put_part(plan, part);
     if let Some(fault) = fault {
-        picture.put_fault(fault, words.as_str());
+        picture.put_fault(alloc, fault);
     }
-    picture.put_ports(&gates, None);
+    picture.put_ports(plan, part, accepted, None);
     picture.done(alloc)
 }

@@ -2,13 +2,13 @@
 ghost use Rattle.std.specs.Prelude.{◌≤◌, IfOk, length, string_bytes};
 
 use crate::frames::{Choice, Frame, choice_of};
-use crate::lanes::gates_of;
 use crate::picture::Picture;
 use crate::time::Part;
+use bridge_advice::Hypercycle;
 use bridge_bounds::bound_of;
 use bridge_check::Accepted;
 use bridge_limits::NoMemory;
-use bridge_semantics::{Outcome, View};
+use bridge_semantics::{Departure, Origin, Outcome};
 use bridge_svg::{ACROSS, LEFT, Span, either};
 use std::alloc::{Allocator, Global};
 
@@ -29,13 +29,6 @@ const FRAME: &str =
 const MARK: &str =
     r#"<path class="c{8}{a}" d="M{0} {1}H{2}L{3} {4}Z"><title>filter {5} frame {6}, came at {7} ns: "#;
 
-/// What is drawn of a run under a plan.
-#[derive(Drop)]
-pub(crate) struct Run<'a, 'b, A: Allocator + Copy> {
-    accepted: &'a Accepted<A>,
-    choice: Choice<'b>,
-}
-
 /// How long a frame of a protected filter takes at most from when it came until it is out of a port, whichever of the port's
 /// queues takes it.
 fn longest_at<A: Allocator + Copy>(accepted: &Accepted<A>, filter: u32, port: u8) -> Option<u64> {
@@ -49,13 +42,21 @@ fn longest_at<A: Allocator + Copy>(accepted: &Accepted<A>, filter: u32, port: u8
 }
 
 /// Whether something of a filter is drawn: a frame that came, or one that left.
-fn is_drawn<B: Allocator>(span: Span, part: &Part, view: &View<B>) -> bool {
-    let (mut left, mut came) = (view.departures.iter(), view.origins.iter());
-    left.any(|it| part.has_port(it.port) && span.has(it.start, it.done))
-        || came.any(|it| part.has_port(it.port) && span.has(it.at, it.at.saturating_add(1)))
+fn is_drawn(span: Span, part: &Part, origins: &[Origin], departures: &[Departure]) -> bool {
+    for it in departures {
+        if part.has_port(it.port) && span.has(it.start, it.done) {
+            return true;
+        }
+    }
+    for it in origins {
+        if part.has_port(it.port) && span.has(it.at, it.at.saturating_add(1)) {
+            return true;
+        }
+    }
+    false
 }
 
-impl<A: Allocator + Copy> Picture<'_, '_, A> {
+impl Picture {
     /// Draws until when a protected frame is done at the latest, when it came and how long it waited.
     fn put_waiting(&mut self, frame: &Frame, by: u64) {
         let (came, colour) = (frame.came, frame.colour);
@@ -69,23 +70,25 @@ impl<A: Allocator + Copy> Picture<'_, '_, A> {
             .put(WAITED, &[x, self.page.below(225), waited, colour], "");
     }
 
-    /// Draws a frame that left, higher where it is protected, with when it is done at the latest there, where that is known. Its
-    /// bar is wide enough to be seen, has a gap behind it where that leaves it so, and an edge where it has room for one.
-    fn put_frame(&mut self, frame: &Frame, by: Option<u64>) {
-        if let Some(by) = by {
+    /// Draws a frame that left, higher where it is protected, with when it is done at the latest there, where it is known how long
+    /// it takes at most. Its bar is wide enough to be seen, has a gap behind it where that leaves it so, and an edge where it has
+    /// room for one.
+    fn put_frame(&mut self, frame: &Frame, longest: Option<u64>) {
+        let (filter, own, came) = (u64::from(frame.filter), frame.own, frame.came);
+        let (colour, start, done) = (frame.colour, frame.start, frame.done);
+        let by = came.saturating_add(longest.unwrap_or(0));
+        if longest.is_some() {
             self.put_waiting(frame, by);
         }
-        let (x, width) = self.span.extent(frame.start, frame.done);
+        let (x, width) = self.span.extent(start, done);
         let wide = width.saturating_sub(12);
         let width = if wide > 30 { wide } else { width.max(30) };
         let is_edged = frame.is_protected && width >= 70;
         let y = self.page.below(if frame.is_protected { 15 } else { 55 });
         let high = if frame.is_protected { 190 } else { 130 };
-        let (filter, own, came) = (u64::from(frame.filter), frame.own, frame.came);
-        let (colour, start, done) = (frame.colour, frame.start, frame.done);
         let numbers = [x, y, width, high, colour, filter, own, start, done, came];
         self.page.add(FRAME, &numbers, either(is_edged, " e", ""));
-        if let Some(by) = by {
+        if longest.is_some() {
             self.page.add(", done by {0} ns at the latest", &[by], "");
         }
         self.page.put("</title></rect>", &[], "");
@@ -110,48 +113,55 @@ impl<A: Allocator + Copy> Picture<'_, '_, A> {
 
     /// Draws the link of a port with what left it, frames of each protected filter with when they are done at the latest, and
     /// below it what was not let on there, each with what of it is left out.
-    pub(crate) fn put_link(&mut self, run: &Run<A>, port: u8) {
+    pub(crate) fn put_link<A: Allocator + Copy>(
+        &mut self,
+        accepted: &Accepted<A>,
+        choice: &Choice,
+        port: u8,
+    ) {
         self.page.bar("lane", LEFT, 0, ACROSS, 280);
         self.page.say("b", 200, 160, "link", &[]);
         let (mut known, mut longest) = (None, None);
-        for frame in run.choice.left.frames.iter().filter(|it| it.port == port) {
-            if known != Some(frame.filter) {
-                known = Some(frame.filter);
-                longest = longest_at(run.accepted, frame.filter, port);
+        for frame in &choice.left.frames {
+            if frame.port == port {
+                if known != Some(frame.filter) {
+                    known = Some(frame.filter);
+                    longest = longest_at(accepted, frame.filter, port);
+                }
+                self.put_frame(frame, longest);
             }
-            let by = longest.map(|it: u64| frame.came.saturating_add(it));
-            self.put_frame(frame, by);
         }
-        self.put_hatches(&run.choice.left, port, 55, 130);
+        self.put_hatches(&choice.left, port, 55, 130);
         self.page.go_down(300);
         self.page.say("s", 200, 110, "not let on", &[]);
-        for frame in run.choice.marks.frames.iter().filter(|it| it.port == port) {
-            self.put_mark(frame);
+        for frame in &choice.marks.frames {
+            if frame.port == port {
+                self.put_mark(frame);
+            }
         }
-        self.put_hatches(&run.choice.marks, port, 10, 120);
+        self.put_hatches(&choice.marks, port, 10, 120);
         self.page.go_down(170);
     }
 
-    /// Says which stretch of time the picture of a run shows, of which part of the plan, how many frames and marks aren't drawn,
-    /// where some aren't, and which filters are drawn.
-    fn put_head<B: Allocator>(&mut self, outcome: &Outcome<B>, choice: &Choice, part: &Part) {
-        self.begin_head("run");
-        self.page.put_stretch(self.span);
-        self.page.end();
-        self.put_part(part);
+    /// Says how many frames and marks aren't drawn, where some aren't, and which filters are.
+    fn put_filters<B: Allocator>(&mut self, outcome: &Outcome<B>, part: &Part, choice: &Choice) {
         let (no_frames, frames) = choice.left.left_out();
         let (no_marks, marks) = choice.marks.left_out();
         if no_frames > 0 || no_marks > 0 {
+            let numbers = [no_frames, frames, no_marks, marks];
             self.page.begin_line("b", 190);
-            self.page
-                .add(LEFT_OUT, &[no_frames, frames, no_marks, marks], "");
+            self.page.add(LEFT_OUT, &numbers, "");
             self.page.end();
         }
         self.page.begin_legend();
-        for (place, (filter, view)) in outcome.filters.iter().enumerate() {
-            if part.has_filter(*filter) && is_drawn(self.span, part, view) {
-                self.put_filter(*filter, view.protected, (place % 8) as u64);
+        let mut colour: u64 = 0;
+        for (filter, view) in &outcome.filters {
+            if part.has_filter(*filter)
+                && is_drawn(self.span, part, &view.origins, &view.departures)
+            {
+                self.put_filter(*filter, view.protected, colour);
             }
+            colour = colour.saturating_add(1) % 8;
         }
     }
 }
@@ -175,10 +185,15 @@ pub fn draw_run<A: Allocator + Copy, B: Allocator>(
     ensures { IfOk result (λ text. length (string_bytes text) ≤ 2000000) }
 {
     let plan = accepted.plan();
-    let gates = gates_of(alloc, plan, part)?;
-    let choice = choice_of(alloc, outcome, *part)?;
-    let mut picture = Picture::new(alloc, plan, *part, choice.span, gates.len());
-    picture.put_head(outcome, &choice, part);
-    picture.put_ports(&gates, Some(Run { accepted, choice }));
+    let choice = choice_of(alloc, outcome, part);
+    let mut picture = Picture::new(alloc, Hypercycle::of(plan).change, choice.span);
+    picture.is_refused = choice.left.is_refused | choice.marks.is_refused;
+    picture.take_gates(plan, part);
+    picture.begin_head("run");
+    picture.page.put_stretch(choice.span);
+    picture.page.end();
+    picture.put_part(plan, part);
+    picture.put_filters(outcome, part, &choice);
+    picture.put_ports(plan, part, Some(accepted), Some(&choice));
     picture.done(alloc)
 }

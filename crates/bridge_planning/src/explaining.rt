@@ -4,6 +4,7 @@
 use crate::network::{links_of, read_network, read_plans, streams_of};
 use crate::refusing::name_of;
 use crate::telling::address_words;
+use bridge_check::Accepted;
 use bridge_config::Plan;
 use bridge_frame::Tag;
 use bridge_ident::Kind;
@@ -20,7 +21,19 @@ pub fn explain_network<H: AllocGlobal + Files>(rt: &H, path: &str) -> Option<Str
     let alloc = rt.alloc();
     let copy = String::from_str(alloc, path).ok()?;
     let file = read_network(rt, copy).ok()?;
-    let plans = read_plans(rt, path, file.bridges()).ok()?;
+    match read_plans(rt, path, file.bridges()) {
+        Ok(plans) => said_of_plans(alloc, path, &file, plans),
+        Err(_) => None,
+    }
+}
+
+/// What is told of the network of these plans, where it is refused.
+fn said_of_plans(
+    alloc: Global,
+    path: &str,
+    file: &NetworkFile<Global>,
+    plans: Vec<Accepted<Global>>,
+) -> Option<String> {
     let Ok(links) = links_of(alloc, file.links()) else {
         drop(plans);
         return None;
@@ -32,7 +45,7 @@ pub fn explain_network<H: AllocGlobal + Files>(rt: &H, path: &str) -> Option<Str
     };
     match check_network(plans, links, streams) {
         Ok(_) => None,
-        Err(refused) => said_of_refused(alloc, path, &file, &refused),
+        Err(refused) => said_of_refused(alloc, path, file, &refused),
     }
 }
 
@@ -112,12 +125,10 @@ fn put_hop<A: Allocator + Copy>(
     hop: StreamHop,
     open: Open,
 ) {
-    said.fill("{a}: hop {0} of the stream ", &[open.hop as u64], &[path]);
-    said.fill("{a}, filter {0} of ", &[u64::from(hop.filter)], &[stream]);
     said.fill(
-        "{a}, takes frames at port {0} that are of no hop of the stream.\n",
-        &[u64::from(open.port)],
-        &[name_of(bridges, hop.bridge)],
+        "{a}: hop {0} of the stream {b}, filter {1} of {c}, takes frames at port {2} that are of no hop of the stream.\n",
+        &[open.hop as u64, u64::from(hop.filter), u64::from(open.port)],
+        &[path, stream, name_of(bridges, hop.bridge)],
     );
 }
 
@@ -152,22 +163,17 @@ fn put_frame<A: Allocator + Copy>(
     };
     said.put("Such a frame has ");
     put_tag(said, stray.tag);
-    said.fill(" and {a} ", &[], &[looks]);
-    said.fill("{a}. It comes to ", &[], &[address.as_str()]);
     said.fill(
-        "{a} on port {0}, ",
+        " and {a} {b}. It comes to {c} on port {0}, ",
         &[u64::from(open.from)],
-        &[name_of(bridges, end.bridge)],
+        &[looks, address.as_str(), name_of(bridges, end.bridge)],
     );
-    match open.filter {
-        Some(filter) => said.fill("filter {0} lets it through", &[u64::from(filter)], &[]),
-        None => said.put("no filter stops it"),
-    }
-    said.fill(
-        ", and it leaves by port {0}.\n",
-        &[u64::from(end.port)],
-        &[],
-    );
+    let template = match open.filter {
+        Some(_) => "filter {0} lets it through, and it leaves by port {1}.\n",
+        None => "no filter stops it, and it leaves by port {1}.\n",
+    };
+    let filter = open.filter.unwrap_or(0);
+    said.fill(template, &[u64::from(filter), u64::from(end.port)], &[]);
 }
 
 /// The VLAN in which a port of the sender classifies the frame.
@@ -209,19 +215,18 @@ fn put_ways<A: Allocator + Copy>(
 ) {
     let from = u64::from(open.from);
     let vid = u64::from(vlan_at(sender, open.from, stray.tag));
-    said.fill(
-        "Each of these, in the plan of {a}, keeps it away:\n",
-        &[],
-        &[name_of(bridges, end.bridge)],
-    );
-    if let Some(filter) = open.filter {
-        said.fill(
-            "  close the gate of filter {0}, so that none of its frames goes on;\n",
-            &[u64::from(filter)],
-            &[],
-        );
-    }
-    said.fill("  take port {0} out of VLAN {1};\n", &[from, vid], &[]);
+    let filter = u64::from(open.filter.unwrap_or(0));
+    let (first, last) = match open.filter {
+        Some(_) => (
+            "Each of these, in the plan of {a}, keeps it away:\n  close the gate of filter {0}, so that none of its frames goes on;\n  take port {1} out of VLAN {2};\n",
+            "  give port {1} an entry of a handle of strays, whose filter has a closed gate and a number below {0}.\n",
+        ),
+        None => (
+            "Each of these, in the plan of {a}, keeps it away:\n  take port {1} out of VLAN {2};\n",
+            "  give port {1} an entry of a handle of strays, whose filter has a closed gate.\n",
+        ),
+    };
+    said.fill(first, &[filter, from, vid], &[name_of(bridges, end.bridge)]);
     if let Some(handle) = handle_at(sender, hops, end.bridge) {
         said.fill(
             "  give port {0} an entry of handle {1} too, so that such frames are policed as the stream's;\n",
@@ -229,13 +234,5 @@ fn put_ways<A: Allocator + Copy>(
             &[],
         );
     }
-    said.fill(
-        "  give port {0} an entry of a handle of strays, whose filter has a closed gate",
-        &[from],
-        &[],
-    );
-    match open.filter {
-        Some(filter) => said.fill(" and a number below {0}.\n", &[u64::from(filter)], &[]),
-        None => said.put(".\n"),
-    }
+    said.fill(last, &[filter, from], &[]);
 }

@@ -1,5 +1,5 @@
 //! Networks of files, from their text to their line.
-ghost use Rattle.std.specs.Prelude.{◌≡◌, ◌≤◌, All, None, Vec, length, map, IfOk, IfErr, string_bytes};
+ghost use Rattle.std.specs.Prelude.{◌≡◌, ◌≤◌, ◌+◌, All, None, Vec, length, map, IfOk, IfErr, OnOk, string_bytes};
 ghost use Rattle.bridge_netfile.specs.Model.{Stream};
 ghost use Rattle.bridge_network.specs.declared.links.StreamHop.{StreamHop as Hop};
 ghost use Rattle.bridge_network.specs.Refusing.{first_fault};
@@ -303,6 +303,25 @@ fn read_plan<H: AllocGlobal + Files>(
     }
 }
 
+/// Adds the plan of a bridge.
+fn push_plan<H: AllocGlobal + Files>(
+    rt: &H,
+    path: &str,
+    bridge: &BridgeRow<Global>,
+    plans: &mut Vec<Accepted<Global>>,
+) -> Result<(), Fault>
+    ensures more { OnOk result (length plans.new.items ≡ length plans.old.items + 1) }
+    ensures ends { IfErr result EndsNetwork }
+{
+    match read_plan(rt, path, bridge) {
+        Ok(accepted) => match plans.push(accepted) {
+            Ok(()) => Ok(()),
+            Err(_) => Err(memory_fault()),
+        },
+        Err(fault) => Err(fault),
+    }
+}
+
 /// The plans of the bridges, in their order.
 pub fn read_plans<H: AllocGlobal + Files>(
     rt: &H,
@@ -314,9 +333,8 @@ pub fn read_plans<H: AllocGlobal + Files>(
 {
     let mut plans = Vec::new(rt.alloc());
     for bridge in bridges {
-        let accepted = read_plan(rt, path, bridge)?;
-        if plans.push(accepted).is_err() {
-            return Err(memory_fault());
+        if let Err(fault) = push_plan(rt, path, bridge, &mut plans) {
+            return Err(fault);
         }
     }
     Ok(plans)

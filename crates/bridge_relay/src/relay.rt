@@ -224,12 +224,13 @@ impl<'a, G: Agenda + Drop, A: Allocator + Copy> Relay<'a, G, A> {
     }
 
     /// Makes copies of octets for all ports of a set but the last, and room for what these and the last will tell of the
-    /// filter. Where memory runs out the bridge is as before.
+    /// filter, whose table may stand at the place `hint`. Where memory runs out the bridge is as before.
     #[inline(always)]
     fn prepare(
         &mut self,
         set: PortSet,
         filter: Option<u32>,
+        hint: usize,
         octets: &[u8],
         spares: &mut Spares<A>,
     ) -> Result<Vec<Vec<u8, A>, A>, NoMemory>
@@ -247,7 +248,7 @@ impl<'a, G: Agenda + Drop, A: Allocator + Copy> Relay<'a, G, A> {
     {
         let (count, _) = self.ports.outs(set);
         let copies = copies_of(self.alloc, octets, count.saturating_sub(1), spares)?;
-        promise(&mut self.tables, filter, count)?;
+        promise(&mut self.tables, filter, hint, count)?;
         self.arrived += 1;
         Ok(copies)
     }
@@ -457,7 +458,13 @@ impl<'a, G: Agenda + Drop, A: Allocator + Copy> Relay<'a, G, A> {
             Some(ruling) => {
                 self.ports.count(port, Came::Policed);
                 let origin = Origin { port, at: call.at };
-                let own = judge(&mut self.tables, ruling.filter, ruling.verdict, origin);
+                let own = judge(
+                    &mut self.tables,
+                    ruling.filter,
+                    place_of(found),
+                    ruling.verdict,
+                    origin,
+                );
                 Some((ruling, own))
             }
         }
@@ -570,7 +577,7 @@ impl<'a, G: Agenda + Drop, A: Allocator + Copy> Relay<'a, G, A> {
             Way::Goes { set, call } => {
                 let found = self.police.find(call.handle, call.priority);
                 let filter = number_of(found);
-                match self.prepare(set, filter, &packet.octets, spares) {
+                match self.prepare(set, filter, place_of(found), &packet.octets, spares) {
                     Ok(copies) => {
                         self.relay(port, packet, set, call, found, copies, spares);
                     }
@@ -590,6 +597,15 @@ fn number_of(found: Option<Route>) -> Option<u32>
     match found {
         Some(route) => Some(route.number),
         None => None,
+    }
+}
+
+/// The place of a filter that was found, at which its table is looked for first.
+#[inline(always)]
+fn place_of(found: Option<Route>) -> usize {
+    match found {
+        Some(route) => route.filter,
+        None => 0,
     }
 }
 

@@ -20,6 +20,7 @@ fn copy_of<A: Allocator + Copy>(
 }
 
 /// So many copies of octets, in spare vectors as far as there are some.
+#[inline(always)]
 pub fn copies_of<A: Allocator + Copy>(
     alloc: A,
     octets: &[u8],

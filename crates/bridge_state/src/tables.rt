@@ -107,6 +107,18 @@ fn place_of<A: Allocator + Copy>(tables: &Tables<A>, number: u32) -> usize
     }
 }
 
+/// The place of a number, looked for where it may stand first.
+#[inline(always)]
+fn place_from<A: Allocator + Copy>(tables: &Tables<A>, hint: usize, number: u32) -> usize
+    requires { IsSome (lookup (nat_eq number) tables.now.entries) }
+    ensures { slice_get (keys_of tables.now.entries) result ≡ Some number }
+{
+    match tested(tables, hint, number) {
+        Some(place) => place,
+        None => place_of(tables, number),
+    }
+}
+
 /// Writes down that a copy of a filter's frame left, so long after the frame came; nothing for a frame without a filter.
 #[inline(always)]
 pub fn depart<A: Allocator + Copy>(
@@ -141,18 +153,19 @@ pub fn note<A: Allocator + Copy>(
     if let Err(refusal) = answer
         && let Some(number) = flow
     {
-        match tables.get_mut(&number) {
-            Some(table) => table.drop_copy(Dropped { own, port, refusal }),
-            None => unreachable!(),
-        }
+        let place = place_of(tables, number);
+        let (_, table) = tables.pair_mut(place);
+        table.drop_copy(Dropped { own, port, refusal });
     }
 }
 
-/// Makes room for a verdict of a filter and for so many copies of its frame; nothing for a frame without a filter.
+/// Makes room for a verdict of a filter and for so many copies of its frame; nothing for a frame without a filter. The
+/// filter's table may stand at the place `hint`, where it is looked for first.
 #[inline(always)]
 pub fn promise<A: Allocator + Copy>(
     tables: &mut Tables<A>,
     flow: Option<u32>,
+    hint: usize,
     copies: usize,
 ) -> Result<(), NoMemory>
     requires there { IfSome flow (MayPromise tables.old.entries copies) }
@@ -161,7 +174,7 @@ pub fn promise<A: Allocator + Copy>(
 {
     match flow {
         Some(number) => {
-            let place = place_of(tables, number);
+            let place = place_from(tables, hint, number);
             let (_, table) = tables.pair_mut(place);
             table.promise(copies)
         }
@@ -169,11 +182,13 @@ pub fn promise<A: Allocator + Copy>(
     }
 }
 
-/// Writes a verdict of a filter down and where its frame came, and gives the number of the frame.
+/// Writes a verdict of a filter down and where its frame came, and gives the number of the frame. The filter's table may
+/// stand at the place `hint`, where it is looked for first.
 #[inline(always)]
 pub fn judge<A: Allocator + Copy>(
     tables: &mut Tables<A>,
     number: u32,
+    hint: usize,
     verdict: Verdict,
     origin: Origin,
 ) -> u64
@@ -182,7 +197,7 @@ pub fn judge<A: Allocator + Copy>(
     ensures own { (t : TableState) → lookup (nat_eq number) tables.old.entries ≡ Some t
         → result ≡ length t.verdicts + 1 }
 {
-    let place = place_of(tables, number);
+    let place = place_from(tables, hint, number);
     let (_, table) = tables.pair_mut(place);
     table.judge(verdict, origin)
 }

@@ -1,6 +1,12 @@
 use Rattle.std.proofs.Common.{sym}
 use Rattle.bridge_netfile.proofs.lines.refusal_line.Goals as goal
 
+pub returns-in-Syntax : goal.returns-in-Syntax
+returns-in-Syntax g c = rw c.in-Syntax.is c.refusal.ensures
+
+pub returns-in-TooLong : goal.returns-in-TooLong
+returns-in-TooLong g c = rw c.in-TooLong.is c.refusal-in-TooLong.ensures
+
 pub returns-in-UnknownKey : goal.returns-in-UnknownKey
 returns-in-UnknownKey g c = rw c.in-UnknownKey.is c.refusal_of_instance.ensures
 
@@ -24,3 +30,6 @@ returns-in-Unresolved g c = rw c.in-Unresolved.is c.refusal_of_key-in-Unresolved
 
 pub returns-in-TooMany : goal.returns-in-TooMany
 returns-in-TooMany g c = rw (c.in-TooMany.is, sym c.name-in-TooMany.ensures.name) c.refusal_at-in-TooMany.ensures
+
+pub returns-in-NoMemory : goal.returns-in-NoMemory
+returns-in-NoMemory g c = rw c.in-NoMemory.is c.no_memory.ensures

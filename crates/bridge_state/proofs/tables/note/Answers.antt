@@ -1,19 +1,23 @@
-use Rattle.std.proofs.Common.{rules, ◌≡◌, ◌∙◌, sym, nat_eq, ap, Option, ℕ}
-use Rattle.std.specs.Prelude.{Result}
-use Rattle.std.specs.Map.{set_value}
-use Rattle.bridge_state.specs.Tables.{refused, change_if, after_answer}
-use Rattle.bridge_state.proofs.Changing.{change_is}
+use Rattle.std.proofs.Common.{ℕ, ◌<◌, ◌∙◌, ap, sym, subst, Option}
+use Rattle.std.specs.Prelude.{IfSome}
+use Rattle.std.proofs.lemmas.Option.{same_Some}
+use Rattle.bridge_state.specs.Tables.{Owes, TableState, after_answer, change_if, refused}
+use Rattle.bridge_state.proofs.Changing.{change_at, own_at}
 use Rattle.bridge_state.proofs.tables.note.Goals as goal
 
-pub returns-in-Some-get_mut : goal.returns-in-Some-get_mut
-returns-in-Some-get_mut g c =
-    let n = c.in-Some.number in
-    let old = c.args.tables.now.entries in
-    let new = (c.get_mut.follows.lender c.drop_copy.new.self).entries in
-    let e : new ≡ set_value (nat_eq n) old c.drop_copy.new.self = search rules in
-    let own = c.args.own in
-    let port = c.args.port in
-    let r = c.in-Err.refusal in
-    e ∙ (change_is n (λ t. refused t (record { own = own; port = port; refusal = r })) old c.in-Some-get_mut.table.now c.drop_copy.new.self (sym c.in-Some-get_mut.ensures.value) c.drop_copy.ensures
-    ∙ (sym (ap (λ (o : Option ℕ). change_if o (λ t. refused t (record { own = own; port = port; refusal = r })) old) c.in-Some.is)
-    ∙ sym (ap (after_answer old c.args.flow own port) c.in-Err.is)))
+pub drop_copy-requires : goal.drop_copy-requires
+drop_copy-requires g c =
+    let at = c.pair_mut-table in
+    let m = c.args.tables.now in
+    let owes = subst (λ (o : Option ℕ). IfSome o (Owes m.entries)) c.in-Some.is c.requires in
+    let found = own_at m c.place_of-place.result at.result.0.now c.in-Some.number at.result.1.now at.ensures.unique at.ensures.value c.place_of-place.ensures in
+    subst (λ (t : TableState). 0 < t.owed) (same_Some owes.0 at.result.1.now (sym owes.1 ∙ found)) owes.2
+
+pub returns-in-Some : goal.returns-in-Some
+returns-in-Some g c =
+    let at = c.pair_mut-table in
+    let m = c.args.tables.now in
+    let f : TableState → TableState = λ t. refused t (record { own = c.args.own; port = c.args.port; refusal = c.in-Err.refusal }) in
+    change_at m c.place_of-place.result at.result.0.now c.in-Some.number f at.result.1.now c.drop_copy.new.self at.ensures.unique at.ensures.value c.place_of-place.ensures c.drop_copy.ensures
+    ∙ (sym (ap (λ (o : Option ℕ). change_if o f m.entries) c.in-Some.is)
+    ∙ sym (ap (after_answer m.entries c.args.flow c.args.own c.args.port) c.in-Err.is))

@@ -10,7 +10,7 @@ promise-requires g c =
     let at = c.pair_mut-table in
     let m = c.args.tables.now in
     let may = subst (λ (o : Option ℕ). IfSome o (MayPromise m.entries c.args.copies)) c.in-Some.is c.requires.there in
-    let found = own_at m c.place_of-place.result at.result.0.now c.in-Some.number at.result.1.now at.ensures.unique at.ensures.value c.place_of-place.ensures in
+    let found = own_at m c.place_from-place.result at.result.0.now c.in-Some.number at.result.1.now at.ensures.unique at.ensures.value c.place_from-place.ensures in
     subst (λ (t : TableState). t.owed + c.args.copies < 4294967296) (same_Some may.0 at.result.1.now (sym may.1 ∙ found)) may.2
 
 pub returns-in-Some-clause-ok : goal.returns-in-Some-clause-ok
@@ -18,10 +18,10 @@ returns-in-Some-clause-ok g c =
     let at = c.pair_mut-table in
     let m = c.args.tables.now in
     let f : TableState → TableState = λ t. promised t c.args.copies in
-    on_ok c.promise.result (λ h. change_at m c.place_of-place.result at.result.0.now c.in-Some.number f at.result.1.now c.promise.new.self at.ensures.unique at.ensures.value c.place_of-place.ensures h ∙ sym (ap (λ (o : Option ℕ). change_if o f m.entries) c.in-Some.is)) c.promise.ensures.ok
+    on_ok c.promise.result (λ h. change_at m c.place_from-place.result at.result.0.now c.in-Some.number f at.result.1.now c.promise.new.self at.ensures.unique at.ensures.value c.place_from-place.ensures h ∙ sym (ap (λ (o : Option ℕ). change_if o f m.entries) c.in-Some.is)) c.promise.ensures.ok
 
 pub returns-in-Some-clause-err : goal.returns-in-Some-clause-err
 returns-in-Some-clause-err g c =
     let at = c.pair_mut-table in
     let m = c.args.tables.now in
-    on_err c.promise.result (λ h. same_at m c.place_of-place.result at.result.0.now c.in-Some.number at.result.1.now c.promise.new.self at.ensures.unique at.ensures.value c.place_of-place.ensures h) c.promise.ensures.err
+    on_err c.promise.result (λ h. same_at m c.place_from-place.result at.result.0.now c.in-Some.number at.result.1.now c.promise.new.self at.ensures.unique at.ensures.value c.place_from-place.ensures h) c.promise.ensures.err
