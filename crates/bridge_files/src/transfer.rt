@@ -13,13 +13,7 @@ fn block_of(count: usize) -> usize
     ensures some { 0 < result }
     ensures most { result ≤ 65536 }
 {
-    if count <= 4 {
-        65_536
-    } else if count <= 8 {
-        32_768
-    } else {
-        16_384
-    }
+    if count <= 8 { 65_536 } else { 32_768 }
 }
 
 /// Sources of what readers give, in their order.
