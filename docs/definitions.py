@@ -9,7 +9,8 @@ names the clause of a standard for some of them. Both calls fail where a line of
 
 --check also fails where docs/PLANS.md (Key by key) or docs/SPECIFICATION.md (Plans) tells of a section other keys than
 the table of keys in crates/bridge_schema/src/keys.rt, where docs/COMMANDS.md is not the help that crates/gate_cases prints,
-and where the sentence of all options in crates/bridge_cli/src/command.rt is another than its table of commands says.
+where the sentence of all options in crates/bridge_cli/src/command.rt is another than its table of commands says, and where a
+command of that table has no place, or not that of its name.
 """
 import collections
 import itertools
@@ -266,12 +267,22 @@ def help_in(page):
     return {words: text.strip() for words, text in printed}
 
 
+def check_places(commands):
+    """Fails where the places of the commands are not those of the table, one for each by its name."""
+    text = read(TOP / "crates/bridge_cli/src/command.rt")
+    count = int(re.search(r"const COMMANDS: usize = (\d+);", text)[1])
+    places = re.findall(r"^ +(\d+) => Some\((\w+)\(\)\),$", text, re.M)
+    if places != [(str(place), name) for place, name in enumerate(commands)] or count != len(commands):
+        fail(f"description_at of crates/bridge_cli/src/command.rt has {count} places for {', '.join(commands)}")
+
+
 def check_help():
     """Fails where docs/COMMANDS.md is not the help that a program of the gate prints, of each row of the table of commands."""
     told = help_in(read(TOP / "docs/COMMANDS.md"))
     printed = help_in(read(TOP / "crates/gate_cases/stdout"))
     rows = re.findall(r'Description = Description {\s*name: "(\w+)"', read(TOP / "crates/bridge_cli/src/command.rt"))
     wanted = {f"{name} --help".removeprefix("tsnbridge ") for name in rows}
+    check_places(sorted(set(rows) - {"tsnbridge"}))
     if not wanted or printed.keys() != wanted:
         fail(f"crates/gate_cases/stdout has the help of {sorted(printed)}, the table of commands has {sorted(wanted)}")
     for words in sorted(told.keys() | wanted):
