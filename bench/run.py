@@ -128,7 +128,7 @@ def main():
     if words[:1] == ["--beside"]:
         beside, words = os.path.abspath(words[1]), words[2:]
     if not os.path.exists(PROGRAM):
-        sys.exit("run ./tsnbridge once first: it builds the program")
+        sys.exit("run ./tsnbridge bounds examples/base.toml once first: it builds the whole program")
     work = words[0] if words else tempfile.mkdtemp(prefix="tsnbridge-bench-")
     print(HEADER)
     for kind in captures.SIZES:

@@ -232,7 +232,10 @@ def page():
 
 def keys_of_sections():
     """The keys of each section of a plan, by the table of keys."""
-    spelling = dict(re.findall(r'Field::(\w+) => "(\w+)"', read(TOP / "crates/bridge_schema/src/fault.rt")))
+    fields = read(TOP / "crates/bridge_schema/src/fault.rt")
+    variants = re.findall(r"^    (\w+),$", re.search(r"pub enum Field \{\n(.*?)\n\}", fields, re.S)[1], re.M)
+    spellings = re.findall(r'"(\w+)"', re.search(r"const KEYS: .*? = \[(.*?)\];", fields, re.S)[1])
+    spelling = dict(zip(variants, spellings))
     table = read(TOP / "crates/bridge_schema/src/keys.rt")
     rows = re.findall(r"pub const (\w+)_KEYS: \[Key; \d+\] = \[(.*?)\];", table, re.S)
     keys = {name.lower(): {spelling[it] for it in re.findall(r"Key\(\s*Field::(\w+)", row)} for name, row in rows}

@@ -1,10 +1,10 @@
 -- Which frames an entry takes that hides another one.
-use Rattle.std.proofs.Common.{◌≡◌, ℕ, true, List, nat_eq, ◌&&◌, sym, subst, refl}
+use Rattle.std.proofs.Common.{◌≡◌, true, nat_eq, ◌&&◌, sym, subst, refl}
 use Rattle.std.specs.Str.{bytes_eq}
 use Rattle.std.proofs.lemmas.Bool.{and_parts, and_from, eqb-true}
-use Rattle.std.proofs.lemmas.Slice.Eq.{bytes_eq-Decides}
 use Rattle.bridge_frame.specs.declared.Tag.{Tag}
 use Rattle.std.specs.Prelude.{Option}
+use Rattle.bridge_limits.proofs.Octets.{same_bytes}
 use Rattle.bridge_ident.specs.declared.Kind.{Kind}
 use Rattle.bridge_ident.specs.declared.Kind.TheVariants as kind
 use Rattle.bridge_ident.specs.declared.TagKind.{TagKind}
@@ -27,9 +27,6 @@ more_tags tag.Tagged tag.Priority own h m = absurd (cc)
 more_tags tag.Tagged tag.All own h m = absurd (cc)
 more_tags tag.Priority tag.Tagged own h m = absurd (cc)
 more_tags tag.Priority tag.All own h m = absurd (cc)
-
-same_bytes : (xs ys : List ℕ) → bytes_eq xs ys ≡ true → xs ≡ ys
-same_bytes xs ys h = (bytes_eq-Decides xs ys).0 h
 
 -- what an entry that is hidden takes, the one that hides it takes
 pub hides_frames : (one other : StreamEntry) → hides one other ≡ true → Hides one other

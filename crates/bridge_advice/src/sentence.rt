@@ -1,5 +1,5 @@
 //! The sentence of a finding.
-use crate::advice::{Advice, Nowhere, Outside, Stuck};
+use crate::advice::{Advice, Hidden, LimitBelow, Nowhere, Outside, OwnPort, Stuck};
 use crate::telling::{put_burst, put_cycles, put_flood, put_pause, put_rate, put_rooms};
 use crate::useless::SHORTEST;
 use bridge_text::Text;
@@ -37,11 +37,7 @@ const OUTSIDE: &str =
 /// Adds the sentence of a finding, a line that begins with `Warning: ` and says what to change where that isn't plain.
 pub fn put_advice<A: Allocator>(said: &mut Text<A>, advice: &Advice) {
     match advice {
-        Advice::OwnPort(own) => said.fill(
-            OWN_PORT,
-            &[own.place as u64, u64::from(own.handle), u64::from(own.port)],
-            &[],
-        ),
+        Advice::OwnPort(own) => put_own_port(said, own),
         Advice::ClosedGate { gate } => said.fill(CLOSED, &[u64::from(*gate)], &[]),
         Advice::NoToken { meter } => said.fill(NO_TOKEN, &[u64::from(*meter), SHORTEST], &[]),
         Advice::NoTokenAgain { meter } => said.fill(NONE_AGAIN, &[u64::from(*meter)], &[]),
@@ -55,25 +51,8 @@ pub fn put_advice<A: Allocator>(said: &mut Text<A>, advice: &Advice) {
             &[u64::from(taken.filter), u64::from(taken.lower)],
             &[],
         ),
-        Advice::LimitBelow(below) => said.fill(
-            LIMIT,
-            &[
-                u64::from(below.gate),
-                u64::from(below.octets),
-                u64::from(below.sdu),
-                u64::from(below.filter),
-            ],
-            &[],
-        ),
-        Advice::Hidden(hidden) => said.fill(
-            HIDDEN,
-            &[
-                hidden.place as u64,
-                u64::from(hidden.handle),
-                hidden.earlier as u64,
-            ],
-            &[],
-        ),
+        Advice::LimitBelow(below) => put_limit(said, below),
+        Advice::Hidden(hidden) => put_hidden(said, hidden),
         Advice::Nowhere(stuck) => put_stuck(said, stuck),
         Advice::Outside(outside) => put_outside(said, outside),
         Advice::Burst(burst) => put_burst(said, burst),
@@ -83,6 +62,33 @@ pub fn put_advice<A: Allocator>(said: &mut Text<A>, advice: &Advice) {
         Advice::Pause(pause) => put_pause(said, pause),
         Advice::Cycles(cycles) => put_cycles(said, cycles),
     }
+}
+
+/// Adds that a stream comes in at a port to which its static entry sends it.
+fn put_own_port<A: Allocator>(said: &mut Text<A>, own: &OwnPort) {
+    let numbers = [own.place as u64, u64::from(own.handle), u64::from(own.port)];
+    said.fill(OWN_PORT, &numbers, &[]);
+}
+
+/// Adds that an entry of a gate has a limit below the largest service data unit of a filter.
+fn put_limit<A: Allocator>(said: &mut Text<A>, below: &LimitBelow) {
+    let numbers = [
+        u64::from(below.gate),
+        u64::from(below.octets),
+        u64::from(below.sdu),
+        u64::from(below.filter),
+    ];
+    said.fill(LIMIT, &numbers, &[]);
+}
+
+/// Adds that an earlier stream takes each frame that a stream does.
+fn put_hidden<A: Allocator>(said: &mut Text<A>, hidden: &Hidden) {
+    let numbers = [
+        hidden.place as u64,
+        u64::from(hidden.handle),
+        hidden.earlier as u64,
+    ];
+    said.fill(HIDDEN, &numbers, &[]);
 }
 
 /// Adds why no frame of a protected filter leaves by a stream, and what to change.

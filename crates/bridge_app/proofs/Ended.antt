@@ -1,5 +1,6 @@
 -- Which fault ends a run over files.
 use Rattle.std.proofs.Common.{◌≡◌, ◌⊎◌, ℕ, List, [], Option, Some, None, Result, Ok, Err, IfErr, inl, inr, ap, codes, sym, subst, refl, ◌∙◌}
+use Rattle.bridge_limits.proofs.Options.{some_is_none}
 use Rattle.bridge_config.specs.Model.{Plan}
 use Rattle.bridge_jobs.specs.declared.fault.Fault.{Fault}
 use Rattle.bridge_inputs.specs.declared.fault.RunFault.TheVariants as run
@@ -22,9 +23,6 @@ pub report_told : (folder ports : List ℕ) (f : Fault) → IsOfReport folder f 
 report_told folder ports (fault.File path) h = inr h
 report_told folder ports (fault.Run f) h = h
 report_told folder ports f h = absurd h
-
-some_is_none : {X : Type 0} (x : X) → ¬ (Some x ≡ None)
-some_is_none x h = cc
 
 input_fails : {A : Type 0} (p : Plan A) (input output ports : List ℕ) (f : Fault) → AreNumbers p ports → IsOfCaptures input ports f → EndsSending p input output f
 input_fails p input output ports (fault.File path) own h = inl (ports, own, inl h)

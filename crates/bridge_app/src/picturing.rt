@@ -6,7 +6,7 @@ use crate::explaining::{kept_path, refusal_of};
 use crate::noting::{Noted, Refusal};
 use bridge_check::{Accepted, CheckFault, Refused, check};
 use bridge_cli::{PictureRequest, numbers_of};
-use bridge_files::{FileId, Output, add_file, file_at, is_one_of, output_apart, take_text};
+use bridge_files::{FileId, Output, file_at, files_at, is_one_of, output_apart, take_text};
 use bridge_inputs::RunFault;
 use bridge_jobs::{Cause, Fault, fault_of_file, plan_from};
 use bridge_picture::{NoMemory, Part, draw_plan, draw_run};
@@ -242,18 +242,6 @@ fn listed(alloc: Global, list: &Option<String>) -> Result<Vec<u32>, NoMemory> {
     }
 }
 
-/// Adds some files, by their paths, to those taken.
-fn take_files<H: AllocGlobal + Files>(
-    rt: &H,
-    read: &[String],
-    taken: &mut Vec<FileId>,
-) -> Result<(), NoMemory> {
-    for file in read {
-        add_file(taken, file_at(rt, file.as_str()))?;
-    }
-    Ok(())
-}
-
 /// Writes a picture that was made of some files into the file of a path, which is written anew and is none of them.
 ///
 /// `File` of the path where it can't be opened, made or written, or is one of them; its cause is noted.
@@ -266,9 +254,8 @@ pub fn write_picture<H: AllocGlobal + Files>(
 ) -> Result<(), Fault>
     ensures { IfErr result (IsOfPicture (string_bytes path)) }
 {
-    let mut taken = Vec::new(rt.alloc());
-    match take_files(rt, read, &mut taken) {
-        Ok(()) => put_picture(rt, path, &taken, cause, text),
+    match files_at(rt, read) {
+        Ok(taken) => put_picture(rt, path, &taken, cause, text),
         Err(NoMemory) => Err(Fault::Run(RunFault::NoMemory)),
     }
 }
@@ -283,9 +270,8 @@ pub fn picture_apart<H: AllocGlobal + Files>(
 ) -> Result<String, Fault>
     ensures { IfErr result (IsOfPicture (codes "-")) }
 {
-    let mut taken = Vec::new(rt.alloc());
-    match take_files(rt, read, &mut taken) {
-        Ok(()) => apart(rt, text, &taken, cause),
+    match files_at(rt, read) {
+        Ok(taken) => apart(rt, text, &taken, cause),
         Err(NoMemory) => Err(Fault::Run(RunFault::NoMemory)),
     }
 }

@@ -1,11 +1,12 @@
 -- The copies of a filter come to its queues no more often than its gate lets frames through.
-use Rattle.std.proofs.Common.{◌≡◌, ◌<◌, ◌≤◌, ◌-◌, ℕ, Bool, true, false, ◌&&◌, ◌⊎◌, cond, Option, None, Some, List, [], ◌∷◌, ◌++◌, Ok, length, arith, ap, refl, sym, subst, ◌∙◌, inl, inr}
+use Rattle.std.proofs.Common.{◌≡◌, ◌<◌, ◌≤◌, ◌-◌, ℕ, Bool, true, false, ◌&&◌, ◌⊎◌, Option, None, Some, List, [], ◌∷◌, ◌++◌, Ok, length, arith, ap, refl, sym, subst, ◌∙◌, inl, inr}
 use Rattle.std.specs.Prelude.{map, nat_eq, if◌then◌else◌}
 use Rattle.std.proofs.lemmas.Bool.{eqb-true}
 use Rattle.std.proofs.lemmas.Option.{same_Some}
 use Rattle.bridge_limits.specs.Members.{In}
 use Rattle.bridge_limits.proofs.Members.{in_left, in_right}
 use Rattle.bridge_limits.proofs.Cases.{by_bool}
+use Rattle.bridge_limits.proofs.Orders.{same_eq}
 use Rattle.bridge_frame.specs.declared.Head.{Head}
 use Rattle.bridge_frame.specs.Frames.{head, is_tagged}
 use Rattle.bridge_forward.specs.Ports.{has}
@@ -22,7 +23,6 @@ use Rattle.bridge_filter.specs.declared.Verdict.TheVariants as verdict
 use Rattle.bridge_filter.specs.Verdicts as verdicts
 use Rattle.bridge_filter.specs.Verdicts.{Commanded, Judged, Plans, Step, by_answer, gate_answer, gate_share, is_above, is_blocked, judged, reached_gate, told, verdict_of}
 use Rattle.bridge_filter.proofs.Members.{one_number}
-use Rattle.bridge_filter.proofs.Numbered.{same_eq}
 use Rattle.bridge_filter.proofs.Owned.{flow_listed}
 use Rattle.bridge_port.specs.Schedule.{Copy, is_started}
 use Rattle.bridge_port.specs.Solo.{only}
@@ -31,6 +31,7 @@ use Rattle.bridge_config.specs.Model.{Plan}
 use Rattle.bridge_config.specs.Rules.{IsPlan, port_at}
 use Rattle.bridge_check.specs.Acceptable.{IsAcceptable}
 use Rattle.bridge_check.specs.Reach.{reaches}
+use Rattle.bridge_check.proofs.Sound.{unrefused}
 use Rattle.bridge_semantics.specs.declared.way.Way.{Way}
 use Rattle.bridge_semantics.specs.declared.way.Way.TheVariants as way
 use Rattle.bridge_semantics.specs.Events.{Arrival, Arrived, Cleared, Event, and_call, call_by, call_of, calls, police_of, steps, way_of}
@@ -113,11 +114,6 @@ head_some octets len h within e =
     let read = head_read octets len h e in
     let some = sdu_by (is_tagged octets) (length octets) len read.whole within in
     subst (λ (i : ℕ). 2 ≤ i) read.sdu some
-
-unrefused : (a b : Bool) (v : Verdict) (ipv : Option ℕ) (eligible : Bool) → cond a verdict.Blocked (cond b verdict.Oversize v) ≡ verdict.Pass ipv eligible → v ≡ verdict.Pass ipv eligible
-unrefused true b v ipv eligible h = absurd (cc)
-unrefused false true v ipv eligible h = absurd (cc)
-unrefused false false v ipv eligible h = h
 
 answered : (p : Plans) (ss : List Step) (c : Call) (f : FilterPlan) (a : GateAnswer) (ipv : Option ℕ) (eligible : Bool) → by_answer p ss c f a ≡ verdict.Pass ipv eligible → (i : Option ℕ) × (a ≡ gate.Through i)
 answered p ss c f (gate.Through i) ipv eligible h = (i, refl)

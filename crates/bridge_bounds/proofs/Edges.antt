@@ -5,9 +5,10 @@ use Rattle.std.proofs.lemmas.Bool.{cases_lt, cases_Bool, false≢true}
 use Rattle.bridge_cycle.specs.Moments.{Fits, IsFirst, Repeats}
 use Rattle.bridge_cycle.specs.Fitting.{all_open}
 use Rattle.bridge_cycle.proofs.Fitting.{all_open_gives, all_open_from}
-use Rattle.bridge_cycle.proofs.Repeats.{fits_near, turns}
+use Rattle.bridge_cycle.proofs.Repeats.{fits_near, fits_up, fits_down}
 use Rattle.bridge_bounds.specs.Bounds.{EndsBy, IsEdge}
-use Rattle.bridge_bounds.proofs.Steps.{ends_some, ends_once, ends_more, ends_alike, ends_behind, first_once}
+use Rattle.bridge_bounds.proofs.Steps.{ends_some, ends_once, ends_more, ends_alike, ends_behind}
+use Rattle.bridge_port.proofs.Alone.{first_one}
 
 -- FITS
 
@@ -82,15 +83,6 @@ last_fit opens occ w u h f none =
     (c, subst (λ (i : ℕ). IsLastFit opens occ i c) e last)
 
 -- CYCLES
-
-pub fits_up : (opens : ℕ → Bool) (cycle occ n t : ℕ) → Repeats opens cycle → Fits opens occ t → Fits opens occ (t + n * cycle)
-fits_up opens cycle occ n t r f u a b =
-    let w = u - n * cycle in
-    let e : w + n * cycle ≡ u = omega (arith, a) in
-    ap opens (sym e) ∙ (turns opens cycle n w r ∙ f w (omega (arith, a)) (omega (arith, a, b)))
-
-pub fits_down : (opens : ℕ → Bool) (cycle occ n t : ℕ) → Repeats opens cycle → Fits opens occ (t + n * cycle) → Fits opens occ t
-fits_down opens cycle occ n t r f u a b = sym (turns opens cycle n u r) ∙ f (u + n * cycle) (omega (arith, a)) (omega (arith, b))
 
 -- a first fit comes again so many cycles later
 pub first_up : (opens : ℕ → Bool) (cycle occ n from s : ℕ) → Repeats opens cycle → IsFirst opens occ from s → IsFirst opens occ (from + n * cycle) (s + n * cycle)
@@ -185,7 +177,7 @@ no_longer opens cycle occ S (suc k) u h = elim (fits_or opens occ u) [
         λ y z a b.
             let (s, first, rest) = ends_behind opens occ k u y a in
             let now : IsFirst opens occ u u = record { after = omega arith; fits = here; least = λ w p q. absurd (omega (arith, p, q)) } in
-            let same = first_once opens occ u s u first now in
+            let same = first_one opens occ u s u first now in
             let on : EndsBy opens occ k (u + occ) y = subst (λ (i : ℕ). EndsBy opens occ k (i + occ) y) same rest in
             let (x, few) = ends_some opens occ k v (λ w. firsts opens cycle occ h.fit w h.cycle_some h.repeats h.fits) in
             let less = shorter y x on few in

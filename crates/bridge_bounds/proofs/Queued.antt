@@ -8,13 +8,9 @@ use Rattle.bridge_limits.specs.Members.{In}
 use Rattle.bridge_cycle.specs.Moments.{IsFirst}
 use Rattle.bridge_port.specs.Schedule.{Copy, Fate, Never, Full, Queued, Started, Rules, OfferedUpTo, waiting, is_there}
 use Rattle.bridge_port.specs.Solo.{IsSolo, IsSoloFate, done_or, last_done}
+use Rattle.bridge_port.proofs.Laws.{offered_later}
 use Rattle.bridge_bounds.specs.Bounds.{AreShort, EndsBy, IsLongest}
 use Rattle.bridge_bounds.proofs.Steps.{ends_after, ends_fewer, first_rises}
-
--- offers up to a moment are offers up to a later one
-pub up_to : {X : Type 0} (h k : ℕ) (xs : List (Copy X)) → h ≤ k → OfferedUpTo h xs → OfferedUpTo k xs
-up_to h k [] l o = tt
-up_to h k (x ∷ xs) l o = (omega (arith, l, o.0), o.1)
 
 -- what is known of the copies before one: when they are done
 abbrev AreDone : {X : Type 0} → Rules X → ℕ → ℕ → ℕ → ℕ → List (Copy X) → Type 0
@@ -57,7 +53,7 @@ pub all_done : {X : Type 0} (r : Rules X) (c occ t u : ℕ) (xs : List (Copy X))
 all_done r c occ t u [] base far solo short order k v count e = omega arith
 all_done r c occ t u (x ∷ xs) base far solo short order k v count e =
     let (class, own) = short x (inl refl) in
-    done_by r c occ t u k v x xs x.fate class own order.0 base far (all_done r c occ t u xs base far solo.1 (λ y i. short y (inr i)) (up_to x.at t xs order.0 order.1)) solo.0 count e
+    done_by r c occ t u k v x xs x.fate class own order.0 base far (all_done r c occ t u xs base far solo.1 (λ y i. short y (inr i)) (offered_later x.at t xs order.0 order.1)) solo.0 count e
 
 -- a copy that started, where fewer than n wait, did so before the last of n frames that wait from its offer on would be done
 pub starts_early : {X : Type 0} (r : Rules X) (c occ n d s : ℕ) (x : Copy X) (xs : List (Copy X)) → 1 ≤ occ → IsLongest (r.opens c) occ n d → waiting c x.at xs < n → IsSolo r (x ∷ xs) → AreShort r c occ (x ∷ xs) → OfferedUpTo x.at xs → x.fate ≡ Started s → s + occ ≤ x.at + (occ - 1) + d

@@ -1,14 +1,15 @@
 -- What an accepted plan says of a queue that frames of a protected filter may come to: its longest frame fits.
-use Rattle.std.proofs.Common.{◌≡◌, ◌<◌, ◌≤◌, ◌+◌, ◌-◌, ℕ, zero, suc, Bool, true, false, not, ◌&&◌, List, [], ◌∷◌, Option, Some, None, nat_eq, refl, sym, arith, subst, inl, inr}
-use Rattle.std.specs.Prelude.{is_some, slice_index}
+use Rattle.std.proofs.Common.{◌≡◌, ◌<◌, ◌≤◌, ◌+◌, ◌-◌, ℕ, true, false, not, List, [], ◌∷◌, Option, Some, None, nat_eq, sym, arith, subst, inl, inr}
 use Rattle.std.specs.List.{list_all}
 use Rattle.std.specs.Bool.{if◌then◌else◌}
 use Rattle.std.specs.Map.{lookup}
 use Rattle.std.specs.Option.{ForSome}
-use Rattle.std.proofs.lemmas.Bool.{and_parts, eqb-true, not-true, not-false, false≢true, cases_lt}
+use Rattle.std.proofs.lemmas.Bool.{and_parts, eqb-true, not-true, not-false, false≢true}
 use Rattle.std.proofs.lemmas.Option.{same_Some}
 use Rattle.bridge_limits.specs.Members.{In}
 use Rattle.bridge_limits.proofs.Cases.{by_bool}
+use Rattle.bridge_limits.proofs.Options.{some_of}
+use Rattle.bridge_limits.proofs.Members.{each_passes, each_in}
 use Rattle.bridge_frame.specs.Link.{occupied}
 use Rattle.bridge_gate.specs.declared.schedule.GatePlan.{GatePlan}
 use Rattle.bridge_filter.specs.declared.FilterPlan.{FilterPlan}
@@ -17,12 +18,12 @@ use Rattle.bridge_port.specs.Opening.{ever_of}
 use Rattle.bridge_config.specs.declared.ports.PortPlan.{PortPlan}
 use Rattle.bridge_config.specs.Model.{Plan}
 use Rattle.bridge_config.specs.Rules.{IsFilter, IsPlan, port_at}
-use Rattle.bridge_config.proofs.PlanPorts.{class_below, each_in, port_is}
+use Rattle.bridge_config.proofs.PlanPorts.{port_is}
 use Rattle.bridge_check.specs.declared.fault.CheckFault.{CheckFault}
 use Rattle.bridge_check.specs.declared.fault.CheckFault.TheVariants as fault
-use Rattle.bridge_check.specs.Reach.{any_below, reaches, reaches_class, reaches_port, reaches_priority}
+use Rattle.bridge_check.specs.Reach.{reaches, reaches_class, reaches_port}
 use Rattle.bridge_check.specs.Windows.{ever_fits, longest_frame}
-use Rattle.bridge_check.proofs.Isolated.{each_passes}
+use Rattle.bridge_check.proofs.Isolated.{both_none, holds, none_told, class_few}
 use Rattle.bridge_check.specs.Faults.{fault_of, fault_unless, first_below, first_of, never_fits, wildcard_fault, max_sdu_fault, gate_fault, meter_fault, catch_all_fault, queue_fault, window_fault, size_fault}
 
 same_pair : {X : Type 0} (n m : ℕ) (x z : X) → n ≡ m → x ≡ z → ◌≡◌ {A = ℕ × X} (n, x) (m, z)
@@ -37,41 +38,6 @@ found_in {X} (y ∷ ys) n x h = by_bool (nat_eq n y.0)
     let same : y.1 ≡ x = same_Some y.1 x here in
     inl (same_pair n y.0 x y.1 (eqb-true n y.0 k) (sym same)))
     (λ k. let later : lookup (nat_eq n) ys ≡ Some x = rw k at h in inr (found_in ys n x later))
-
-both_none : {X : Type 0} (a b : Option X) → first_of a b ≡ None → (a ≡ None) × (b ≡ None)
-both_none None b h = (refl, h)
-both_none (Some x) b h = absurd (cc)
-
-holds : (b : Bool) (e : CheckFault) → fault_unless b e ≡ None → b ≡ true
-holds true e h = refl
-holds false e h = absurd (cc)
-
--- what is told of no number below n is told of none of them
-none_told : {X : Type 0} (n k : ℕ) (tell : ℕ → Option X) → first_below n tell ≡ None → k < n → tell k ≡ None
-unfolding first_below
-none_told zero k tell h lt = absurd (omega (arith, lt))
-none_told (suc n) k tell h lt =
-    let (before, last) = both_none (first_below n tell) (tell n) h in
-    elim (cases_lt k n) [
-      | inl a ↦ none_told n k tell before a
-      | inr a ↦ let same : n ≡ k = omega (arith, lt, a) in subst (λ (i : ℕ). tell i ≡ None) same last
-    ]
-
-some_told : (n : ℕ) (t : ℕ → Bool) → any_below n t ≡ true → (k : ℕ) × (k < n) × (t k ≡ true)
-some_told zero t h = absurd (false≢true h)
-some_told (suc n) t h = by_bool (any_below n t)
-    (λ e. let (k, lt, passes) = some_told n t e in (k, (omega (arith, lt)), passes))
-    (λ e. let last : t n ≡ true = rw e at h in (n, (omega (arith)), last))
-
--- a class of the reach is one of eight
-pub class_few : {A : Type 0} (p : Plan A) (f : FilterPlan) (q c : ℕ) (out : PortPlan A) → IsPlan p → port_at p.ports q ≡ Some out → reaches p f q c ≡ true → c < 8
-class_few p f q c out plan at reach =
-    let (port, class) = and_parts (reaches_port p f.handle q) (reaches_class p f (port_at p.ports q) c) reach in
-    let here : any_below 8 (λ k. reaches_priority p f k && nat_eq (slice_index out.classes k) c) ≡ true = subst (λ (o : Option (PortPlan _)). reaches_class p f o c ≡ true) at class in
-    let (k, lt, passes) = some_told 8 (λ k. reaches_priority p f k && nat_eq (slice_index out.classes k) c) here in
-    let (opened, same) = and_parts (reaches_priority p f k) (nat_eq (slice_index out.classes k) c) passes in
-    let (is, number) = port_is p.ports q out plan.ports at in
-    subst (λ (n : ℕ). n < 8) (eqb-true (slice_index out.classes k) c same) (class_below out k is (omega (arith, lt)))
 
 -- the last of eight tests is not failed where none is
 last_none : {X : Type 0} (a b c d e f g h : Option X) → first_of a (first_of b (first_of c (first_of d (first_of e (first_of f (first_of g (first_of h None))))))) ≡ None → h ≡ None
@@ -111,10 +77,6 @@ not_reached p f q c at reach =
 -- the largest service data unit of a filter is within its range
 pub sdu_few : {A : Type 0} (p : Plan A) (n : ℕ) (f : FilterPlan) → IsPlan p → In (n, f) p.filters → ForSome f.max_sdu (λ m. m ≤ 65535)
 sdu_few p n f plan listed = (each_in IsFilter p.filters (n, f) plan.filters.each listed).max_sdu
-
-some_of : {X : Type 0} (o : Option X) → is_some o ≡ true → (x : X) × (o ≡ Some x)
-some_of None h = absurd (false≢true h)
-some_of (Some x) h = (x, refl)
 
 -- the gate of a filter is there
 pub gate_there : {A : Type 0} (p : Plan A) (n : ℕ) (f : FilterPlan) → IsPlan p → In (n, f) p.filters → (g : GatePlan A) × (lookup (nat_eq f.gate) p.gates ≡ Some g)

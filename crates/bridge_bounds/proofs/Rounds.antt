@@ -5,8 +5,9 @@ use Rattle.bridge_cycle.specs.Moments.{IsFirst, Repeats}
 use Rattle.bridge_cycle.specs.declared.cyclic.TheConstants.{LONGEST_CYCLE}
 use Rattle.bridge_cycle.proofs.Lists.{list_repeats}
 use Rattle.bridge_port.specs.Opening.{list_ever, list_opens}
+use Rattle.bridge_port.proofs.Alone.{first_one}
 use Rattle.bridge_bounds.specs.Bounds.{EndsBy}
-use Rattle.bridge_bounds.proofs.Steps.{ends_after, ends_alike, first_once, first_rises}
+use Rattle.bridge_bounds.proofs.Steps.{ends_after, ends_alike, first_rises}
 use Rattle.bridge_bounds.proofs.Edges.{ends_up, first_up}
 use Rattle.bridge_bounds.proofs.Lists.{fit_soon}
 
@@ -27,7 +28,7 @@ next_round opens cycle occ k n j from end s r e first next =
     let here : IsFirst opens occ (end + (j * n) * cycle) ((s + n * cycle) + (j * n) * cycle) = first_up opens cycle occ (j * n) end (s + n * cycle) r next in
     let same : (s + n * cycle) + (j * n) * cycle ≡ s + (suc j * n) * cycle = grind arith in
     let on : IsFirst opens occ (end + (j * n) * cycle) (s + (suc j * n) * cycle) = subst (IsFirst opens occ (end + (j * n) * cycle)) same here in
-    ends_alike opens occ k (from + (suc j * n) * cycle) (end + (j * n) * cycle) (end + (suc j * n) * cycle) (λ t f. let is = first_once opens occ (from + (suc j * n) * cycle) (s + (suc j * n) * cycle) t there f in subst (IsFirst opens occ (end + (j * n) * cycle)) is on) later
+    ends_alike opens occ k (from + (suc j * n) * cycle) (end + (j * n) * cycle) (end + (suc j * n) * cycle) (λ t f. let is = first_one opens occ (from + (suc j * n) * cycle) (s + (suc j * n) * cycle) t there f in subst (IsFirst opens occ (end + (j * n) * cycle)) is on) later
 
 -- so many rounds
 rounds : (opens : ℕ → Bool) (cycle occ k n j from end s : ℕ) → Repeats opens cycle → EndsBy opens occ (suc k) from end → IsFirst opens occ from s → IsFirst opens occ end (s + n * cycle) → EndsBy opens occ (suc k + j * suc k) from (end + j * n * cycle)

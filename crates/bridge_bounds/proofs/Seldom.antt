@@ -8,9 +8,10 @@ use Rattle.bridge_limits.specs.Members.{In}
 use Rattle.bridge_limits.proofs.Cases.{by_bool}
 use Rattle.bridge_port.specs.Schedule.{Copy, Fate, Full, Never, OfferedUpTo, Queued, Rules, Started, is_started, is_there, waiting}
 use Rattle.bridge_port.specs.Solo.{IsSolo, IsSoloFate}
+use Rattle.bridge_port.proofs.Laws.{offered_later}
 use Rattle.bridge_bounds.specs.Bounds.{AreShort, IsLongest}
 use Rattle.bridge_bounds.specs.Passing.{AreSeldom, recent, started_at}
-use Rattle.bridge_bounds.proofs.Queued.{each_of_newest, starts_early, up_to}
+use Rattle.bridge_bounds.proofs.Queued.{each_of_newest, starts_early}
 
 -- of the older copies that started few came so lately too
 seldom_older : (d n t : ℕ) (f : Fate) (us : List ℕ) → AreSeldom d n (if is_started f then t ∷ us else us) → AreSeldom d n us
@@ -47,7 +48,7 @@ few_wait r c occ n d t (x ∷ xs) some longest solo short order seldom =
     let rest = seldom_older d n x.at x.fate (started_at xs) seldom in
     let older : AreShort r c occ xs = λ y i. short y (inr i) in
     let before = few_wait r c occ n d x.at xs some longest solo.1 older order.1 rest in
-    one_waits r c d t (waiting c t xs) x xs x.fate (started_at xs) (few_wait r c occ n d t xs some longest solo.1 older (up_to x.at t xs order.0 order.1) rest) order.0 solo.0
+    one_waits r c d t (waiting c t xs) x xs x.fate (started_at xs) (few_wait r c occ n d t xs some longest solo.1 older (offered_later x.at t xs order.0 order.1) rest) order.0 solo.0
     (λ s started.
     let few = few_before d n x.at s x.fate (started_at xs) started seldom in
     let early = starts_early r c occ n d s x xs some longest (omega (arith, before, few)) solo short order.1 started in

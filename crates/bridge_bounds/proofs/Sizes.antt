@@ -2,7 +2,7 @@
 use Rattle.std.proofs.Common.{◌≡◌, ◌+◌, ◌-◌, ◌≤◌, ℕ, Bool, true, false, List, [], ◌∷◌, length, refl, ap, ◌∙◌, sym, subst, inl, inr, Option, Some, None, Result, Ok, Err, arith, cond}
 use Rattle.std.specs.Prelude.{nat_lt}
 use Rattle.std.proofs.lemmas.Option.{same_Some}
-use Rattle.std.proofs.lemmas.Bool.Decides.{nat_tests}
+use Rattle.std.proofs.lemmas.Bool.{ltb-false}
 use Rattle.bridge_limits.specs.Members.{In}
 use Rattle.bridge_limits.specs.declared.TheConstants.{LONGEST_FRAME}
 use Rattle.bridge_limits.proofs.Members.{in_either}
@@ -50,9 +50,6 @@ abbrev sdu_of : Result Head FrameFault → ℕ
 sdu_of (Ok h) = h.sdu
 sdu_of (Err e) = 0
 
-not_less : (a b : ℕ) → nat_lt a b ≡ false → b ≤ a
-not_less a b h = grind (arith, nat_tests)
-
 by_tag : (b : Bool) (len : ℕ) → len ≤ cond b (len - 16) (len - 12) + 16
 by_tag true len = omega arith
 by_tag false len = omega arith
@@ -71,8 +68,8 @@ head_read octets len h e = by_bool (nat_lt (length octets) 14)
     (λ m. by_bool (nat_lt LONGEST_FRAME len)
     (λ n. let z : Err TooLong ≡ Ok h = rw (k, m, n) at e in absurd (cc))
     (λ n. record {
-      whole = not_less (length octets) (head_octets octets) m;
-      short = not_less LONGEST_FRAME len n;
+      whole = ltb-false (length octets) (head_octets octets) m;
+      short = ltb-false LONGEST_FRAME len n;
       sdu = ap sdu_of (rw (k, m, n) at e);
     })))
 
@@ -131,7 +128,7 @@ within_by p n m f out a es priority c o (Some x) plan listed size flow fl i =
     let same : f ≡ x.1 = one_number p.filters n f x.1 plan.filters.own listed (subst (λ (k : ℕ). In (k, x.1) p.filters) number there) in
     let above : is_above x.1.max_sdu c.sdu ≡ false = not_above _ _ _ s.ipv s.eligible s.verdict in
     let own : nat_lt m c.sdu ≡ false = subst (λ (z : Option ℕ). is_above z c.sdu ≡ false) size (subst (λ (g : FilterPlan). is_above g.max_sdu c.sdu ≡ false) (sym same) above) in
-    record { len = s.len; few = not_less m c.sdu own }
+    record { len = s.len; few = ltb-false m c.sdu own }
 
 within_way : {A : Type 0} (p : Plan A) (n m : ℕ) (f : FilterPlan) (out : PortPlan A) (a : Arrival) (es : List Event) (o : Offer) (w : Way) → IsPlan p → In (n, f) p.filters → f.max_sdu ≡ Some m → o.item.flow ≡ Some n → way_of p a ≡ w → In o (offer_on p out a es w) → o.item.len ≤ longest_frame m
 within_way p n m f out a es o Malformed plan listed size flow w i = absurd i

@@ -3,6 +3,7 @@ use Rattle.std.proofs.Common.{◌≡◌, ℕ, zero, suc, Bool, true, ◌≤◌, 
 use Rattle.std.proofs.lemmas.Bool.{cases_lt}
 use Rattle.bridge_cycle.specs.Moments.{Fits, IsFirst}
 use Rattle.bridge_bounds.specs.Bounds.{EndsBy, IsAttained, IsLongest}
+use Rattle.bridge_port.proofs.Alone.{first_one}
 
 -- the first fit rises with the moment and with the length
 pub first_rises : (opens : ℕ → Bool) (own occ from later s t : ℕ) → own ≤ occ → from ≤ later → IsFirst opens own from s → IsFirst opens occ later t → s ≤ t
@@ -10,13 +11,6 @@ first_rises opens own occ from later s t short h a b =
     let after = b.after in
     let fit : Fits opens own t = λ v p q. b.fits v p (omega (arith, q, short)) in
     elim (cases_lt t s) [ inl l ↦ absurd (a.least t (omega (arith, after, h)) l fit) | inr l ↦ l ]
-
--- there is one first fit
-pub first_once : (opens : ℕ → Bool) (occ from s t : ℕ) → IsFirst opens occ from s → IsFirst opens occ from t → s ≡ t
-first_once opens occ from s t a b =
-    let p = first_rises opens occ occ from from s t (omega arith) (omega arith) a b in
-    let q = first_rises opens occ occ from from t s (omega arith) (omega arith) b a in
-    omega (arith, p, q)
 
 -- the end is not before the beginning
 pub ends_after : (opens : ℕ → Bool) (occ k u v : ℕ) → EndsBy opens occ k u v → u ≤ v
@@ -47,7 +41,7 @@ ends_once opens occ zero u v z a b = omega (arith, a, b)
 ends_once opens occ (suc k) u v z (w, s, e, first, is) (x, t, f, other, was) =
     let same = ends_once opens occ k u w x e f in
     let here : IsFirst opens occ x s = subst (λ (i : ℕ). IsFirst opens occ i s) same first in
-    let start = first_once opens occ x s t here other in
+    let start = first_one opens occ x s t here other in
     omega (arith, start, is, was)
 
 -- the longest time is one of every end

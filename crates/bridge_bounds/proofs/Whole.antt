@@ -18,6 +18,7 @@ use Rattle.bridge_filter.proofs.Members.{member_found}
 use Rattle.bridge_port.specs.Opening.{opens_of}
 use Rattle.bridge_port.specs.Schedule.{Copy, OfferedUpTo, Started}
 use Rattle.bridge_port.specs.Solo.{only}
+use Rattle.bridge_port.proofs.Laws.{offered_later}
 use Rattle.bridge_config.specs.declared.ports.PortPlan.{PortPlan}
 use Rattle.bridge_config.specs.Model.{Plan}
 use Rattle.bridge_config.specs.Rules.{IsPlan, port_at}
@@ -35,7 +36,7 @@ use Rattle.bridge_bounds.specs.Bounds.{AreShort, IsBound, IsLesser, IsLongest, I
 use Rattle.bridge_bounds.specs.Passing.{AreWithinLengths, LetsFew, fewer, most_in}
 use Rattle.bridge_bounds.proofs.Among.{started_seldom}
 use Rattle.bridge_bounds.proofs.Apart.{fewer_is, turn_few}
-use Rattle.bridge_bounds.proofs.Queued.{each_in_time, up_to}
+use Rattle.bridge_bounds.proofs.Queued.{each_in_time}
 use Rattle.bridge_bounds.proofs.Reached.{found_in}
 use Rattle.bridge_bounds.proofs.Seldom.{each_seldom_in_time}
 use Rattle.bridge_bounds.proofs.Sizes.{occupied_rises, within_size}
@@ -52,7 +53,7 @@ only_order : {X : Type 0} (c h : ℕ) (xs : List (Copy X)) → OfferedUpTo h xs 
 only_order c h [] o = tt
 only_order c h (x ∷ xs) o = by_bool (nat_eq x.class c)
     (λ k. rw k (o.0, only_order c x.at xs o.1))
-    (λ k. rw k (up_to x.at h (only c xs) o.0 (only_order c x.at xs o.1)))
+    (λ k. rw k (offered_later x.at h (only c xs) o.0 (only_order c x.at xs o.1)))
 
 -- each frame of a filter in its queues is short
 short_in : {A : Type 0} (p : Plan A) (n m : ℕ) (f : FilterPlan) (es : List Event) (moments : ℕ → ℕ) (lists : ℕ → List (Copy Carried)) (q c : ℕ) (out : PortPlan A) → IsPlan p → IsAcceptable p → In (n, f) p.filters → f.protected ≡ true → f.max_sdu ≡ Some m → IsRun p es moments lists → port_at p.ports q ≡ Some out → reaches p f q c ≡ true → AreShort (egress out) c (occupied (longest_frame m) out.speed) (only c (lists q))

@@ -1,5 +1,5 @@
 -- What was written is read again.
-use Rattle.std.proofs.Common.{◌≡◌, ℕ, ◌*◌, ◌/◌, ◌%◌, ◌^◌, ◌≤◌, ◌<◌, List, [], ◌∷◌, ◌++◌, length, Some, Result, Ok, refl, sym, ap, ◌∙◌, subst, append_assoc, arith}
+use Rattle.std.proofs.Common.{◌≡◌, ℕ, ◌+◌, ◌*◌, ◌/◌, ◌%◌, ◌^◌, ◌≤◌, ◌<◌, List, [], ◌∷◌, ◌++◌, length, Some, Result, Ok, refl, sym, ap, ◌∙◌, subst, append_assoc, arith}
 use Rattle.std.specs.List.{flat_map}
 use Rattle.std.proofs.lemmas.Nat.{from_le_bytes-to_le_bytes_4}
 use Rattle.bridge_capture.specs.declared.record.TheConstants.{SNAP_LENGTH}
@@ -55,3 +55,8 @@ header_again more = let long : 24 ≤ length (written_header ++ more) = omega (a
 
 pub again : WrittenIsRead
 again items fits = subst (λ (r : Result Form CaptureFault). ReadsAfter r (written_text items) items AtEnd) (sym (header_again (flat_map written_item items))) (items_again first_place items fits)
+
+-- how long a record is
+pub record_length : (c : Captured) → length (written_item c) ≡ 16 + length c.octets
+unfolding written_words
+record_length c = omega arith

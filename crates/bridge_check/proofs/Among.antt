@@ -8,10 +8,7 @@ use Rattle.bridge_filter.specs.declared.FilterPlan.{FilterPlan}
 use Rattle.bridge_config.specs.Model.{Plan}
 use Rattle.bridge_check.specs.declared.fault.CheckFault.{CheckFault}
 use Rattle.bridge_check.specs.Faults.{all_faults, failing_in, failing_of, fault_of, first_fault, first_fault_of, least_fault, lesser_fault, numbered_fault, tests_of}
-use Rattle.bridge_check.proofs.Least.{neither, no_fault, no_first}
-
-abbrev Numbered : Type 0
-Numbered = ℕ × CheckFault
+use Rattle.bridge_check.proofs.Least.{neither, no_fault, no_first, Numbered}
 
 -- THE TESTS OF A FILTER
 

@@ -1,7 +1,7 @@
 -- What the tests of a filter say of frames.
 use Rattle.std.proofs.Common.{◌≡◌, ◌<◌, ◌≤◌, ◌+◌, ◌-◌, ◌^◌, ℕ, zero, suc, Bool, true, false, not, ◌&&◌, ◌||◌, List, [], ◌∷◌, Option, Some, None, nat_eq, nat_le, refl, sym, ap, ◌∙◌, arith, subst, inl, inr, cond, ◌⊎◌}
 use Rattle.std.specs.Prelude.{option_map, slice_index, is_some}
-use Rattle.std.specs.List.{list_any, list_all}
+use Rattle.std.specs.List.{list_any}
 use Rattle.std.proofs.lemmas.Bool.{and_parts, or_parts, eqb-true, not-true, not-false, false≢true, cases_lt}
 use Rattle.std.specs.Option.{ForSome, option_or}
 use Rattle.std.specs.Bool.{if◌then◌else◌}
@@ -9,6 +9,10 @@ use Rattle.std.proofs.lemmas.Bool.Decides.{nat_tests}
 use Rattle.std.proofs.Math.Nat.{div-eq_of_lt, pow-le-pow_right, zero-lt-suc}
 use Rattle.bridge_cycle.specs.Cyclic.{Cyclic, turn_at}
 use Rattle.bridge_limits.specs.Members.{In}
+use Rattle.bridge_limits.proofs.Options.{some_of}
+use Rattle.bridge_limits.proofs.Members.{each_passes, each_in}
+use Rattle.bridge_limits.proofs.Orders.{same_eq}
+use Rattle.bridge_limits.proofs.Cases.{left_false}
 use Rattle.bridge_cycle.specs.Moments.{is_open}
 use Rattle.bridge_cycle.specs.Opens.{opens_in}
 use Rattle.bridge_cycle.specs.declared.timeline.Turn.{Turn}
@@ -19,13 +23,12 @@ use Rattle.bridge_cycle.proofs.Changes.{opens_before, opens_after}
 use Rattle.bridge_frame.specs.Link.{occupied}
 use Rattle.bridge_filter.specs.declared.FilterPlan.{FilterPlan}
 use Rattle.bridge_filter.specs.Finding.{lesser_number}
-use Rattle.bridge_filter.proofs.Numbered.{same_eq}
 use Rattle.bridge_port.specs.Opening.{opens_of, opening_of, IsMade}
 use Rattle.bridge_port.proofs.Opening as opening
 use Rattle.bridge_config.specs.declared.ports.PortPlan.{PortPlan}
 use Rattle.bridge_config.specs.Model.{Plan}
 use Rattle.bridge_config.specs.Rules.{port_at, IsPlan, IsPort, IsPortList, ForEachList}
-use Rattle.bridge_config.proofs.PlanPorts.{class_below, each_in, port_is}
+use Rattle.bridge_config.proofs.PlanPorts.{class_below, port_is}
 use Rattle.bridge_check.specs.declared.fault.CheckFault.{CheckFault}
 use Rattle.bridge_check.specs.declared.fault.CheckFault.TheVariants as fault
 use Rattle.bridge_check.specs.Reach.{any_below, reaches, reaches_class, reaches_port, reaches_priority}
@@ -35,17 +38,13 @@ use Rattle.bridge_check.specs.Acceptable.{KeepsApart}
 
 -- TESTS
 
-both_none : {X : Type 0} (a b : Option X) → first_of a b ≡ None → (a ≡ None) × (b ≡ None)
+pub both_none : {X : Type 0} (a b : Option X) → first_of a b ≡ None → (a ≡ None) × (b ≡ None)
 both_none None b h = (refl, h)
 both_none (Some x) b h = absurd (cc)
 
-holds : (b : Bool) (e : CheckFault) → fault_unless b e ≡ None → b ≡ true
+pub holds : (b : Bool) (e : CheckFault) → fault_unless b e ≡ None → b ≡ true
 holds true e h = refl
 holds false e h = absurd (cc)
-
-some_of : {X : Type 0} (o : Option X) → is_some o ≡ true → (x : X) × (o ≡ Some x)
-some_of (Some x) h = (x, refl)
-some_of None h = absurd (false≢true h)
 
 none_by : {X : Type 0} (o : Option X) → not (is_some o) ≡ true → o ≡ None
 none_by None h = refl
@@ -65,13 +64,8 @@ one_passes : {X : Type 0} (t : X → Bool) (xs : List X) → list_any t xs ≡ t
 one_passes t [] h = absurd (false≢true h)
 one_passes t (y ∷ ys) h = one_passes_by (t y) t y ys refl h (one_passes t ys)
 
-pub each_passes : {X : Type 0} (t : X → Bool) (xs : List X) (x : X) → list_all t xs ≡ true → In x xs → t x ≡ true
-each_passes t [] x h i = absurd i
-each_passes t (y ∷ ys) x h (inl e) = let (here, rest) = and_parts (t y) (list_all t ys) h in ap t e ∙ here
-each_passes t (y ∷ ys) x h (inr i) = let (here, rest) = and_parts (t y) (list_all t ys) h in each_passes t ys x rest i
-
 -- what is told of no number below n is told of none of them
-none_told : {X : Type 0} (n k : ℕ) (tell : ℕ → Option X) → first_below n tell ≡ None → k < n → tell k ≡ None
+pub none_told : {X : Type 0} (n k : ℕ) (tell : ℕ → Option X) → first_below n tell ≡ None → k < n → tell k ≡ None
 unfolding first_below
 none_told zero k tell h lt = absurd (omega (arith, lt))
 none_told (suc n) k tell h lt =
@@ -81,7 +75,7 @@ none_told (suc n) k tell h lt =
       | inr a ↦ let same : n ≡ k = omega (arith, lt, a) in subst (λ (i : ℕ). tell i ≡ None) same last
     ]
 
-any_told : (n : ℕ) (t : ℕ → Bool) → any_below n t ≡ true → (k : ℕ) × (k < n) × (t k ≡ true)
+pub any_told : (n : ℕ) (t : ℕ → Bool) → any_below n t ≡ true → (k : ℕ) × (k < n) × (t k ≡ true)
 any_told zero t h = absurd (false≢true h)
 any_told (suc n) t h = elim (either (any_below n t) (t n) h) [
   | inl a ↦ let (k, lt, passes) = any_told n t a in (k, (omega (arith, lt)), passes)
@@ -132,6 +126,10 @@ reached p f q c plan h =
       class = subst (λ (n : ℕ). n < 8) same (class_below port k is (omega (arith, lt)));
     }
 
+-- a class of the reach is one of eight
+pub class_few : {A : Type 0} (p : Plan A) (f : FilterPlan) (q c : ℕ) (out : PortPlan A) → IsPlan p → port_at p.ports q ≡ Some out → reaches p f q c ≡ true → c < 8
+class_few p f q c out plan at reach = (reached p f q c plan reach).class
+
 -- what is told of no queue of the reach
 not_told : {A : Type 0} (p : Plan A) (f : FilterPlan) (q c : ℕ) (tell : ℕ → ℕ → Option CheckFault) → first_in_reach p f tell ≡ None → IsReached p q c → reaches p f q c ≡ true → tell q c ≡ None
 not_told p f q c tell h r is =
@@ -152,7 +150,7 @@ passed_over : (b : Bool) (m : ℕ) (o : Option ℕ) → cond b (lesser_number (S
 passed_over true m o h = absurd (lesser_is_some m o h)
 passed_over false m o h = (refl, h)
 
-told_none : {X Y : Type 0} (g : X → Y) (o : Option X) → option_map g o ≡ None → o ≡ None
+pub told_none : {X Y : Type 0} (g : X → Y) (o : Option X) → option_map g o ≡ None → o ≡ None
 told_none g None h = refl
 told_none g (Some x) h = absurd (cc)
 
@@ -170,21 +168,17 @@ no_other p (y ∷ ys) n q c k g h (inr i) r =
     let (not_it, rest) = passed_over (not (nat_eq y.0 n) && reaches p y.1 q c) y.0 (other_at p ys n q c) h in
     no_other p ys n q c k g rest i r
 
-alone_false : (a b : Bool) → (a && b) ≡ false → b ≡ true → a ≡ false
-alone_false true b h t = absurd (false≢true (sym h ∙ t))
-alone_false false b h t = refl
-
 only_gate : (fs : List (ℕ × FilterPlan)) (n : ℕ) (f : FilterPlan) (k : ℕ) (g : FilterPlan) → is_gate_shared fs n f ≡ false → In (k, g) fs → g.gate ≡ f.gate → k ≡ n
 only_gate fs n f k g h i e =
     let none : (not (nat_eq k n) && nat_eq g.gate f.gate) ≡ false = none_passes (λ (x : ℕ × FilterPlan). not (nat_eq x.0 n) && nat_eq x.1.gate f.gate) fs (k, g) h i in
     let same : nat_eq g.gate f.gate ≡ true = rw e (same_eq f.gate) in
-    eqb-true k n (not-false (nat_eq k n) (alone_false (not (nat_eq k n)) (nat_eq g.gate f.gate) none same))
+    eqb-true k n (not-false (nat_eq k n) (left_false (not (nat_eq k n)) (nat_eq g.gate f.gate) none same))
 
 only_meter : (fs : List (ℕ × FilterPlan)) (n : ℕ) (f : FilterPlan) (k m : ℕ) (g : FilterPlan) → is_meter_shared fs n f ≡ false → f.meter ≡ Some m → In (k, g) fs → g.meter ≡ Some m → k ≡ n
 only_meter fs n f k m g h own i e =
     let none : (not (nat_eq k n) && is_one_meter g.meter f.meter) ≡ false = none_passes (λ (x : ℕ × FilterPlan). not (nat_eq x.0 n) && is_one_meter x.1.meter f.meter) fs (k, g) h i in
     let same : is_one_meter g.meter f.meter ≡ true = rw (e, own) (same_eq m) in
-    eqb-true k n (not-false (nat_eq k n) (alone_false (not (nat_eq k n)) (is_one_meter g.meter f.meter) none same))
+    eqb-true k n (not-false (nat_eq k n) (left_false (not (nat_eq k n)) (is_one_meter g.meter f.meter) none same))
 
 caught : (fs : List (ℕ × FilterPlan)) → has_catch_all fs ≡ true → (k : ℕ) × (g : FilterPlan) × In (k, g) fs × (g.handle ≡ None) × (g.priority ≡ None) × ((j : ℕ) (e : FilterPlan) → In (j, e) fs → j ≤ k)
 caught fs h =
@@ -223,7 +217,7 @@ not_beside : (s c d : ℕ) → s < 256 → is_shared s c ≡ false → is_open s
 not_beside s c d small h oc od =
     let beside : any_below 8 (λ e. not (nat_eq e c) && is_open s e) ≡ false = right_false (is_open s c) (any_below 8 (λ e. not (nat_eq e c) && is_open s e)) h oc in
     let none : (not (nat_eq d c) && is_open s d) ≡ false = none_below 8 d (λ e. not (nat_eq e c) && is_open s e) beside (open_below s d small od) in
-    eqb-true d c (not-false (nat_eq d c) (alone_false (not (nat_eq d c)) (is_open s d) none od))
+    eqb-true d c (not-false (nat_eq d c) (left_false (not (nat_eq d c)) (is_open s d) none od))
   where
     right_false : (a b : Bool) → (a && b) ≡ false → a ≡ true → b ≡ false
     right_false true b h t = h
@@ -253,7 +247,7 @@ open_alone (Some (egress.Joined j)) c d u is h oc od =
       | inr r ↦ open_in j.new c d u new after (sym (opens_after j c u r) ∙ oc) (sym (opens_after j d u r) ∙ od)
     ]
 
-made : {A : Type 0} (list : Option (Egress A)) → ForSome list (ForEachList IsPortList) → IsMade (opening_of list)
+pub made : {A : Type 0} (list : Option (Egress A)) → ForSome list (ForEachList IsPortList) → IsMade (opening_of list)
 made None is = tt
 made (Some (egress.Cyclic l)) is = (is (egress.Cyclic l) refl).lawful
 made (Some (egress.Joined j)) is = let (old, new) = is (egress.Joined j) refl in record { old = old.lawful; new = new.lawful }

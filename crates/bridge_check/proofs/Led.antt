@@ -3,8 +3,8 @@ use Rattle.std.proofs.Common.{◌≡◌, ◌<◌, ◌+◌, ℕ, zero, suc, Bool,
 use Rattle.std.proofs.lemmas.Bool.{eqb-true, false_from_ne_true}
 use Rattle.std.proofs.lemmas.List.Folds.{list_any_more}
 use Rattle.std.proofs.Math.Bool.{or-false}
+use Rattle.bridge_limits.proofs.Orders.{same_eq}
 use Rattle.bridge_ident.specs.declared.StreamEntry.{StreamEntry}
-use Rattle.bridge_filter.proofs.Numbered.{same_eq}
 use Rattle.bridge_forward.specs.Ports.{has}
 use Rattle.bridge_forward.specs.Database.{Database}
 use Rattle.bridge_forward.specs.Forward.{forward}

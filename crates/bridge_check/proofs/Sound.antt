@@ -1,19 +1,20 @@
 -- The reach of a filter has each queue to which a frame comes that the filter passes.
 use Rattle.std.proofs.Common.{◌≡◌, ◌<◌, ◌≤◌, ◌+◌, ℕ, zero, suc, Bool, true, false, not, ◌&&◌, ◌||◌, List, [], ◌∷◌, map, Ok, Option, Some, None, cond, nat_eq, nat_le, nat_lt, refl, sym, ap, ◌∙◌, arith, subst, inl, inr}
 use Rattle.std.specs.Prelude.{slice_index, unwrap_or}
-use Rattle.std.specs.List.{list_any, list_all}
+use Rattle.std.specs.List.{list_all}
 use Rattle.std.specs.Map.{lookup}
 use Rattle.std.specs.Str.{bytes_eq}
 use Rattle.std.proofs.lemmas.Bool.{and_parts, eqb-true, false≢true, cases_lt}
 use Rattle.std.proofs.lemmas.Bool.Decides.{nat_tests}
 use Rattle.std.proofs.lemmas.Option.{same_Some}
 use Rattle.std.proofs.Math.Bool.{or-true}
-use Rattle.std.proofs.lemmas.Slice.Eq.{bytes_eq-Decides}
 use Rattle.bridge_frame.specs.declared.Head.{Head}
 use Rattle.bridge_frame.specs.Frames as frames
 use Rattle.bridge_limits.specs.Members.{In}
-use Rattle.bridge_limits.proofs.Members.{in_left, in_right}
+use Rattle.bridge_limits.proofs.Members.{in_left, in_right, each_passes, passes_any, in_map}
 use Rattle.bridge_limits.proofs.Cases.{by_bool}
+use Rattle.bridge_limits.proofs.Octets.{same_bytes}
+use Rattle.bridge_limits.proofs.Orders.{same_eq}
 use Rattle.bridge_cycle.specs.declared.timeline.Turn.{Turn}
 use Rattle.bridge_cycle.proofs.Lists.{among}
 use Rattle.bridge_cycle.proofs.Changes.{among_both}
@@ -37,7 +38,6 @@ use Rattle.bridge_filter.specs.declared.Verdict.{Verdict}
 use Rattle.bridge_filter.specs.declared.Verdict.TheVariants as verdict
 use Rattle.bridge_filter.specs.Plans.{plans_of, gate_or_closed}
 use Rattle.bridge_filter.specs.Verdicts.{Plans, Step, flow, lesser, is_match, takes_handle, takes_priority, verdict_of, by_answer, by_meter, by_colour, gate_answer, gate_share, is_blocked, is_above}
-use Rattle.bridge_filter.proofs.Numbered.{same_eq}
 use Rattle.bridge_filter.proofs.Taken.{flow_matches, taken_handle}
 use Rattle.bridge_ident.proofs.Entries.{given}
 use Rattle.bridge_forward.specs.Ports.{has}
@@ -51,14 +51,9 @@ use Rattle.bridge_check.specs.Sending.{vid_of, priority_of, call_of, class_of}
 use Rattle.bridge_config.proofs.PlanPorts.{port_is}
 use Rattle.bridge_frame.proofs.Heads.{head_few}
 use Rattle.bridge_check.proofs.Heads.{priority_few}
-use Rattle.bridge_check.proofs.Isolated.{each_passes, isolated}
+use Rattle.bridge_check.proofs.Isolated.{isolated}
 
-passes_any : {X : Type 0} (t : X → Bool) (xs : List X) (x : X) → In x xs → t x ≡ true → list_any t xs ≡ true
-passes_any t [] x i h = absurd i
-passes_any t (y ∷ ys) x (inl e) h = rw (sym (ap t e) ∙ h) refl
-passes_any t (y ∷ ys) x (inr i) h = rw (passes_any t ys x i h) (or-true (t y))
-
-below_any : (n k : ℕ) (t : ℕ → Bool) → k < n → t k ≡ true → any_below n t ≡ true
+pub below_any : (n k : ℕ) (t : ℕ → Bool) → k < n → t k ≡ true → any_below n t ≡ true
 below_any zero k t lt h = absurd (omega (arith, lt))
 below_any (suc n) k t lt h = elim (cases_lt k n) [
   | inl a ↦ rw (below_any n k t a h) refl
@@ -95,9 +90,6 @@ null_address e head h = null_of e.kind head h
     null_of : (k : _) (head : Head) → is_null k ≡ true → ident.compared_address k head ≡ head.da
     null_of Null head h = refl
     null_of Source head h = absurd (false≢true h)
-
-same_bytes : (xs ys : List ℕ) → bytes_eq xs ys ≡ true → xs ≡ ys
-same_bytes xs ys h = (bytes_eq-Decides xs ys).0 h
 
 goes_by : {A : Type 0} (p : Plan A) (port : PortPlan A) (head : Head) (q h : ℕ) → ident.HasEntry p.streams port.number head (vid_of port head.tag) h → has (forward p.database port.number (vid_of port head.tag) head.da) q ≡ true → are_null h p.streams ≡ true → leads_to p.database h q p.streams ≡ true
 goes_by p port head q h f goes null =
@@ -179,7 +171,7 @@ by_answer_passes p ss c f gate.ShutByRx ipv eligible h = absurd (cc)
 by_answer_passes p ss c f gate.ShutByOctets ipv eligible h = absurd (cc)
 by_answer_passes p ss c f gate.OctetsExceeded ipv eligible h = absurd (cc)
 
-unrefused : (a b : Bool) (v : Verdict) (ipv : Option ℕ) (eligible : Bool) → cond a verdict.Blocked (cond b verdict.Oversize v) ≡ verdict.Pass ipv eligible → v ≡ verdict.Pass ipv eligible
+pub unrefused : (a b : Bool) (v : Verdict) (ipv : Option ℕ) (eligible : Bool) → cond a verdict.Blocked (cond b verdict.Oversize v) ≡ verdict.Pass ipv eligible → v ≡ verdict.Pass ipv eligible
 unrefused true b v ipv eligible h = absurd (cc)
 unrefused false true v ipv eligible h = absurd (cc)
 unrefused false false v ipv eligible h = h
@@ -191,11 +183,6 @@ let_by_verdict p ss c n f ipv eligible h =
     let_through (p.gates f.gate) (steps (p.gates f.gate) (gate_share f.gate ss)) c.at c.sdu ipv (by_answer_passes p ss c f (gate_answer p ss c f.gate) ipv eligible v)
 
 -- ENTRIES
-
-in_map : {X Y : Type 0} (g : X → Y) (xs : List X) (x : X) → In x xs → In (g x) (map g xs)
-in_map g [] x i = absurd i
-in_map g (y ∷ ys) x (inl e) = inl (ap g e)
-in_map g (y ∷ ys) x (inr i) = inr (in_map g ys x i)
 
 -- the state of an entry of a list
 state_of : (l : List (GateEntry × ℕ)) (e : GateEntry × ℕ) (x : GateEntry) → In e l → e.0 ≡ x → list_all (λ (y : GateEntry × ℕ). schedules.is_priority y.0.ipv) l ≡ true → In x (map (λ (y : GateEntry × ℕ). y.0) l) × (schedules.is_priority x.ipv ≡ true)

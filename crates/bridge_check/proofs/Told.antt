@@ -54,7 +54,7 @@ others p (g ∷ gs) n q c port from to at = rw (in_reach p g.1 q c port from to 
 pub unreached : {A : Type 0} (p : Plan A) (f : FilterPlan) (q c : ℕ) → port_at p.ports q ≡ None → reaches p f q c ≡ false
 unreached p f q c at = rw at (and-false (reaches_port p f.handle q))
 
-none_below : {X : Type 0} (n : ℕ) (tell : ℕ → Option X) → ((k : ℕ) → tell k ≡ None) → first_below n tell ≡ None
+pub none_below : {X : Type 0} (n : ℕ) (tell : ℕ → Option X) → ((k : ℕ) → tell k ≡ None) → first_below n tell ≡ None
 unfolding first_below
 none_below zero tell h = refl
 none_below (suc n) tell h = rw (none_below n tell h) (h n)

@@ -1,11 +1,10 @@
 -- Each group that is named stands among all groups.
 use Rattle.std.proofs.Common.{◌≡◌, ℕ, true, List, [], ◌∷◌, Option, None, Some, refl, ap, ap₂, subst, inl, inr, fold}
-use Rattle.std.specs.Str.{bytes_eq}
 use Rattle.std.proofs.lemmas.Bool.{and_parts, eqb-true}
-use Rattle.std.proofs.lemmas.Slice.Eq.{bytes_eq-Decides}
 use Rattle.bridge_limits.specs.Members.{In}
 use Rattle.bridge_limits.proofs.Cases.{by_bool}
 use Rattle.bridge_limits.proofs.Members.{in_end, in_left}
+use Rattle.bridge_limits.proofs.Octets.{same_bytes}
 use Rattle.bridge_forward.specs.declared.StaticEntry.{StaticEntry}
 use Rattle.bridge_forward.specs.declared.Vlan.{Vlan}
 use Rattle.bridge_config.specs.Model.{Plan}
@@ -13,9 +12,6 @@ use Rattle.bridge_walks.proofs.Filtered.{found}
 use Rattle.bridge_circling.specs.declared.groups.Group.{Group}
 use Rattle.bridge_circling.specs.Groups.{all_groups, group_by, has_group, is_one_destination, is_one_group, is_one_vlan, with_group, with_known, with_plan, with_vlan}
 use Rattle.bridge_circling.specs.Circulations.{IsNamed, IsNamedBy}
-
-same_bytes : (xs ys : List ℕ) → bytes_eq xs ys ≡ true → xs ≡ ys
-same_bytes xs ys t = (bytes_eq-Decides xs ys).0 t
 
 same_vlan : (a b : Option ℕ) → is_one_vlan a b ≡ true → a ≡ b
 same_vlan None None t = refl

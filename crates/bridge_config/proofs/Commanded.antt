@@ -4,10 +4,10 @@ use Rattle.std.specs.Prelude.{◌⊎◌}
 use Rattle.bridge_limits.specs.Members.{In, AllAfter, Rising}
 use Rattle.bridge_limits.specs.declared.TheConstants.{END_OF_TIME}
 use Rattle.bridge_limits.proofs.Members.{in_push, rising_push}
+use Rattle.bridge_limits.proofs.Lists.{each_push}
 use Rattle.bridge_config.specs.declared.command.Command.{Command}
 use Rattle.bridge_config.specs.Model.{Plan}
 use Rattle.bridge_config.specs.Commands.{has_instance, AreCommands, last_moment}
-use Rattle.bridge_config.proofs.Own.{each_push}
 
 one_less : (d : Command) (cs : List Command) → length (d ∷ cs) - 1 ≡ length cs
 one_less d cs = omega arith

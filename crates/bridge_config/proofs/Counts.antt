@@ -1,31 +1,16 @@
 -- How many items an array has.
-use Rattle.std.proofs.Common.{◌≡◌, ℕ, suc, ◌+◌, ◌<◌, ◌==◌, true, List, [], ◌∷◌, ◌++◌, length, Option, Result, Ok, Err, refl, ap, ◌∙◌, arith}
+use Rattle.std.proofs.Common.{◌≡◌, ℕ, ◌+◌, ◌<◌, true, List, [], ◌∷◌, ◌++◌, length, Option, Result, Ok, Err, refl, ap, ◌∙◌, arith}
 use Rattle.std.proofs.lemmas.Bool.{false≢true}
-use Rattle.std.proofs.lemmas.List.{length-append}
-use Rattle.std.proofs.lemmas.Bool.Decides.{nat_tests}
-use Rattle.std.specs.Str.{IsUtf8}
-use Rattle.std.specs.Str.Lossy.{utf8_valid_len}
-use Rattle.std.proofs.lemmas.Str.{utf8_valid_len-IsUtf8}
+use Rattle.bridge_limits.proofs.Orders.{more_by_one}
+use Rattle.bridge_limits.proofs.Lists.{one_longer}
 use Rattle.toml.specs.View.{items_view}
 use Rattle.toml.specs.declared.value.Value.{Value}
 use Rattle.toml.specs.Data.{string, integer, float, boolean, datetime, array, table, Items, no_items, item, Members}
 use Rattle.bridge_schema.specs.declared.fault.PlanFault.{PlanFault}
-use Rattle.bridge_schema.specs.Readers.{◌>>=◌, are_tables, instances, instances_from}
+use Rattle.bridge_schema.specs.Readers.{◌>>=◌, are_tables, count_of, instances, instances_from}
+use Rattle.bridge_schema.proofs.Counts.{count_of_view}
 use Rattle.bridge_config.specs.declared.ports.PortPlan.{PortPlan}
 use Rattle.bridge_config.specs.Sections.{port_at}
-use Rattle.bridge_config.specs.Document.{count_of, is_empty}
-
-pub count_of_view : (vs : List Value) → count_of (items_view vs) ≡ length vs
-count_of_view [] = refl
-count_of_view (v ∷ vs) = ap suc (count_of_view vs)
-
-pub is_empty_view : (vs : List Value) → is_empty (items_view vs) ≡ (length vs == 0)
-is_empty_view [] = refl
-is_empty_view (v ∷ vs) = grind (arith, nat_tests)
-
--- a text that is UTF-8 is so to its end
-pub utf8_whole : (bs : List ℕ) → IsUtf8 bs → utf8_valid_len bs ≡ length bs
-utf8_whole = utf8_valid_len-IsUtf8
 
 ok_parts : {X Y : Type 0} (r : Result X PlanFault) (k : X → Result Y PlanFault) (y : Y) → (r >>= k) ≡ Ok y → (x : X) × (k x ≡ Ok y)
 ok_parts (Ok x) k y h = (x, h)
@@ -33,12 +18,6 @@ ok_parts (Err e) k y h = absurd (cc)
 
 ok_is : {X : Type 0} (x y : X) (r : Result X PlanFault) → r ≡ Ok x → r ≡ Ok y → x ≡ y
 ok_is x y r g h = cc
-
-more_by_one : (n k e : ℕ) → n ≡ (e + 1) + k → n ≡ e + suc k
-more_by_one n k e h = omega (arith, h)
-
-one_longer : {X : Type 0} (xs : List X) (x : X) → length (xs ++ x ∷ []) ≡ length xs + 1
-one_longer xs x = length-append xs (x ∷ [])
 
 -- each table of an array is an instance
 counted : {A : Type 0} (read : List A → ℕ → Members → Result A PlanFault) (earlier : List A) (i : ℕ) (ds : Items) (xs : List A) → are_tables ds ≡ true → instances_from read earlier i ds ≡ Ok xs → length xs ≡ length earlier + count_of ds

@@ -7,9 +7,10 @@ use Rattle.std.specs.Ordering.{nat_cmp}
 use Rattle.std.proofs.lemmas.Bool.{and_parts, or_parts, cases_eq, eq-eqb, ne_eqb, not-true}
 use Rattle.std.proofs.lemmas.List.Sorted.{IsNonDecreasingBy-from_sort}
 use Rattle.std.proofs.lemmas.Map.Keys.{IsDistinct-IsPermutation, IsStrictlyIncreasing-from_distinct}
+use Rattle.bridge_limits.specs.Members.{are_own}
 use Rattle.bridge_filter.specs.Plans.{are_distinct, is_there}
 use Rattle.bridge_config.specs.declared.ports.PortPlan.{PortPlan}
-use Rattle.bridge_config.specs.Rules.{are_own, IsInOrder}
+use Rattle.bridge_config.specs.Rules.{IsInOrder}
 use Rattle.bridge_config.proofs.Own.{past_head}
 
 flips : (x y : ℕ) → nat_eq x y ≡ nat_eq y x

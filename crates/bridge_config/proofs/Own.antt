@@ -1,36 +1,23 @@
 -- One instance more, that none before it equals.
-use Rattle.std.proofs.Common.{◌≡◌, ℕ, Bool, true, false, not, ◌&&◌, nat_eq, List, [], ◌∷◌, ◌++◌, refl, sym, arith, All, IsTrue, Option, Some, None, cond}
+use Rattle.std.proofs.Common.{◌≡◌, ℕ, Bool, true, false, not, ◌&&◌, nat_eq, List, [], ◌∷◌, ◌++◌, refl, sym, IsTrue, Option, Some, None, cond}
 use Rattle.std.specs.Option.{is_some}
 use Rattle.std.specs.Map.{lookup}
-use Rattle.std.specs.List.{list_any}
-use Rattle.std.proofs.lemmas.Bool.{and_parts, or_parts, not-true, false≢true}
-use Rattle.std.proofs.lemmas.Bool.Decides.{nat_tests}
-use Rattle.std.proofs.lemmas.Grind.{common_steps}
-use Rattle.std.proofs.lemmas.List.Folds.{list_any-append, list_all-append}
-use Rattle.std.proofs.lemmas.List.Elements.{All-append, All-cons, All-nil}
+use Rattle.std.proofs.lemmas.Bool.{and_parts, not-true, false≢true}
+use Rattle.std.proofs.lemmas.List.Folds.{list_all-append}
 use Rattle.bridge_meter.specs.declared.MeterPlan.{MeterPlan}
 use Rattle.bridge_meter.specs.Colours.{is_within_limits}
 use Rattle.bridge_gate.specs.declared.schedule.GatePlan.{GatePlan}
 use Rattle.bridge_gate.specs.Schedules as schedules
 use Rattle.std.specs.Str.{bytes_eq}
+use Rattle.bridge_limits.proofs.Lists.{each_push, are_own-push}
+use Rattle.bridge_limits.proofs.Orders.{swapped}
 use Rattle.bridge_forward.specs.declared.Vlan.{Vlan}
 use Rattle.bridge_forward.specs.declared.StaticEntry.{StaticEntry}
 use Rattle.bridge_filter.specs.declared.FilterPlan.{FilterPlan}
 use Rattle.bridge_filter.specs.Plans.{is_there, is_there_if_any, are_distinct, has_instances}
 use Rattle.bridge_config.specs.declared.ports.PortPlan.{PortPlan}
-use Rattle.bridge_config.specs.Rules.{are_own, has_port, has_vlan, has_static, IsVlan, AreVlans, IsStatic, AreStatics, IsPort, ArePorts, AreGates, AreMeters, IsFilter, AreFilters}
+use Rattle.bridge_config.specs.Rules.{has_port, has_vlan, has_static, IsVlan, AreVlans, IsStatic, AreStatics, IsPort, ArePorts, AreGates, AreMeters, IsFilter, AreFilters}
 use Rattle.bridge_config.specs.Sections.{has_number}
-
-pub are_own-push : {X : Type 0} (same : X → X → Bool) (xs : List X) (y : X) → are_own same xs ≡ true → list_any (λ x. same x y) xs ≡ false → are_own same (xs ++ y ∷ []) ≡ true
-are_own-push same [] y own new = refl
-are_own-push same (x ∷ xs) y own new =
-    let (here, more) = and_parts (not (list_any (λ z. same x z) xs)) (are_own same xs) own in
-    let (other, others) = or_parts (same x y) (list_any (λ z. same z y) xs) new in
-    let none : list_any (λ z. same x z) xs ≡ false = grind (arith, common_steps) in
-    rw (list_any-append (λ z. same x z) xs (y ∷ []), none, other, are_own-push same xs y more others) refl
-
-pub each_push : {X : Type 0} (P : X → Type 0) (xs : List X) (x : X) → All P xs → P x → All P (xs ++ x ∷ [])
-each_push P xs x each one = All-append P xs (x ∷ []) each (All-cons P x [] one (All-nil P))
 
 pub ports_push : {A : Type 0} (ports : List (PortPlan A)) (p : PortPlan A) → ArePorts ports → has_port ports p.number ≡ false → IsPort p → ArePorts (ports ++ p ∷ [])
 ports_push ports p are new is = record {
@@ -61,9 +48,6 @@ apart n [] y differ none = rw differ refl
 apart n (x ∷ xs) y differ none =
     let (other, more) = past_head (nat_eq n x.0) x.1 (lookup (nat_eq n) xs) none in
     rw other (apart n xs y differ more)
-
-swapped : (m n : ℕ) → nat_eq m n ≡ false → nat_eq n m ≡ false
-swapped m n h = grind (arith, nat_tests)
 
 pub distinct_push : {X : Type 0} (xs : List (ℕ × X)) (y : ℕ × X) → IsTrue (are_distinct xs) → has_number xs y.0 ≡ false → IsTrue (are_distinct (xs ++ y ∷ []))
 distinct_push [] y own new = refl

@@ -8,6 +8,7 @@ use Rattle.std.proofs.lemmas.List.Sums.{AllPass-from_list_all}
 use Rattle.std.proofs.lemmas.Nat.Bits.{bit_at_or, bit_at-lt, bit_at-pow_other}
 use Rattle.std.proofs.lemmas.Option.{same_Some}
 use Rattle.bridge_limits.specs.Members.{In}
+use Rattle.bridge_limits.proofs.Members.{each_in}
 use Rattle.bridge_forward.specs.declared.Vlan.{Vlan}
 use Rattle.bridge_forward.specs.Database.{members_at, entry_at}
 use Rattle.bridge_forward.specs.Forward.{forward, is_reserved}
@@ -20,12 +21,6 @@ use Rattle.bridge_config.specs.Model.{Plan}
 use Rattle.bridge_config.specs.Rules.{ArePorts, IsPlan, IsPort, IsVlan, port_at, port_set}
 
 -- THE PORT OF A NUMBER
-
--- what holds of each element holds of a member
-pub each_in : {X : Type 0} (P : X → Type 0) (xs : List X) (x : X) → All P xs → In x xs → P x
-each_in P [] x all i = absurd i
-each_in P (y ∷ ys) x all (inl e) = subst P (sym e) (all 0 y (omega arith))
-each_in P (y ∷ ys) x all (inr i) = each_in P ys x (λ k d lt. all (suc k) d (omega (arith, lt))) i
 
 -- a port of a list, with a number
 pub record IsAt {A : Type 0} (ports : List (PortPlan A)) (n : ℕ) (p : PortPlan A) : Type 0 where

@@ -1,5 +1,5 @@
 -- The plan of a text, and the commands of another: what it stands for, or the first fault in order.
-use Rattle.std.specs.Prelude.{ℕ, suc, Bool, true, false, not, ◌&&◌, List, [], ◌∷◌, length, Option, Some, None, Result, Ok, Err, nat_le, nat_lt, nat_eq, if◌then◌else◌}
+use Rattle.std.specs.Prelude.{ℕ, Bool, true, not, ◌&&◌, List, [], ◌∷◌, length, Option, Some, None, Result, Ok, Err, nat_le, nat_lt, nat_eq, if◌then◌else◌}
 use Rattle.std.specs.List.{list_any}
 use Rattle.std.specs.Cmp.Lexicographic.{pointwise}
 use Rattle.std.specs.Str.Lossy.{utf8_valid_len}
@@ -10,7 +10,7 @@ use Rattle.bridge_schema.specs.declared.fault.Section.TheVariants as section
 use Rattle.bridge_schema.specs.declared.fault.PlanFault.{PlanFault}
 use Rattle.bridge_schema.specs.declared.fault.PlanFault.TheVariants as fault
 use Rattle.bridge_schema.specs.Keys.{name_of}
-use Rattle.bridge_schema.specs.Readers.{◌>>=◌, are_tables, instances}
+use Rattle.bridge_schema.specs.Readers.{◌>>=◌, are_tables, count_of, instances, is_empty}
 use Rattle.bridge_config.specs.declared.command.Command.{Command}
 use Rattle.bridge_config.specs.Model.{Policing, Plan}
 use Rattle.bridge_config.specs.Rules.{port_set}
@@ -29,16 +29,6 @@ limit_of section.Gate = 1024
 limit_of section.Meter = 1024
 limit_of section.Filter = 1024
 limit_of section.Command = 4096
-
--- how many items there are
-abbrev pub count_of : Items → ℕ
-count_of no_items = 0
-count_of (item d ds) = suc (count_of ds)
-
--- whether there are no items
-abbrev pub is_empty : Items → Bool
-is_empty no_items = true
-is_empty _ = false
 
 -- a section's items, where it is an array of tables that are few enough; an absent one has none
 abbrev pub items_in : Section → Option Data → Result Items PlanFault

@@ -1,9 +1,10 @@
 -- What the instances of each section of a plan keep.
-use Rattle.std.specs.Prelude.{◌≡◌, ◌≤◌, ◌<◌, ℕ, Bool, true, not, ◌&&◌, IsTrue, List, [], ◌∷◌, length, nat_eq, map, All, Option, Some, None, if◌then◌else◌}
+use Rattle.std.specs.Prelude.{◌≡◌, ◌≤◌, ◌<◌, ℕ, Bool, true, ◌&&◌, IsTrue, List, [], ◌∷◌, length, nat_eq, map, All, Option, Some, None, if◌then◌else◌}
 use Rattle.std.specs.List.{list_any}
 use Rattle.std.specs.List.Sorted.{IsPermutation, IsStrictlyIncreasing}
 use Rattle.std.specs.Option.{ForSome}
 use Rattle.bridge_limits.specs.declared.TheConstants.{END_OF_TIME}
+use Rattle.bridge_limits.specs.Members.{are_own}
 use Rattle.bridge_cycle.specs.Cyclic.{Cyclic, IsLawful}
 use Rattle.bridge_cycle.specs.declared.egress.Egress.{Egress}
 use Rattle.bridge_cycle.specs.declared.egress.Egress.TheVariants as egress
@@ -20,11 +21,6 @@ use Rattle.bridge_forward.specs.declared.StaticEntry.{StaticEntry}
 use Rattle.bridge_schema.specs.Readers.{are_within, is_subset, set_with}
 use Rattle.bridge_config.specs.declared.ports.PortPlan.{PortPlan}
 use Rattle.bridge_config.specs.Model.{Policing, Plan}
-
--- whether no two of a list are alike
-abbrev pub are_own : {X : Type 0} → (X → X → Bool) → List X → Bool
-are_own same [] = true
-are_own same (x ∷ xs) = not (list_any (λ y. same x y) xs) && are_own same xs
 
 -- these numbers in rising order
 pub record IsInOrder (all ns : List ℕ) : Type 0 where

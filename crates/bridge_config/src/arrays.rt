@@ -42,9 +42,9 @@ pub fn limit_of(section: Section) -> usize
 }
 
 /// Whether an array has at most as many items as its section may have.
-#[tactic(auto, using(crate::proofs::Counts::count_of_view))]
+#[tactic(auto, using(bridge_schema::proofs::Counts::count_of_view))]
 fn are_few(items: &[Value], section: Section) -> bool
-    ensures count { result ≡ nat_le (doc.count_of (items_view items.now)) (doc.limit_of section) }
+    ensures count { result ≡ nat_le (spec.count_of (items_view items.now)) (doc.limit_of section) }
     ensures few { result ≡ true → length items.now ≤ doc.limit_of section }
 {
     items.len() <= limit_of(section)
@@ -85,9 +85,9 @@ pub(crate) fn items_of<'a>(section: Section, table: &'a Table) -> Result<&'a [Va
 }
 
 /// Whether there are no items.
-#[tactic(auto, using(crate::proofs::Counts::is_empty_view))]
+#[tactic(auto, using(bridge_schema::proofs::Counts::is_empty_view))]
 fn is_empty(items: &[Value]) -> bool
-    ensures empty { result ≡ doc.is_empty (items_view items.now) }
+    ensures empty { result ≡ spec.is_empty (items_view items.now) }
     ensures some { result ≡ false → 0 < length items.now }
 {
     items.len() == 0

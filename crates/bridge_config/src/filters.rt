@@ -54,21 +54,17 @@ fn filter_among<G: Finds + Copy, M: Finds + Copy, F: Finds + Copy>(
     let number = row.required(Field::Number, &NUMBER)?;
     let handle = row.optional(Field::Handle, &NUMBER)?;
     let priority = row.optional(Field::Priority, &PRIORITY)?;
-    let gate = row.required(
-        Field::Gate,
-        &Known {
-            among: gates,
-            range: NUMBER,
-        },
-    )?;
+    let known_gates = Known {
+        among: gates,
+        range: NUMBER,
+    };
+    let gate = row.required(Field::Gate, &known_gates)?;
     let max_sdu = row.optional(Field::MaxSdu, &MAX_SDU)?;
-    let meter = row.optional(
-        Field::Meter,
-        &Known {
-            among: meters,
-            range: NUMBER,
-        },
-    )?;
+    let known_meters = Known {
+        among: meters,
+        range: NUMBER,
+    };
+    let meter = row.optional(Field::Meter, &known_meters)?;
     let block_oversize = row.default_to(false, Field::BlockOversize, &Switch)?;
     let protected = row.default_to(false, Field::Protected, &Switch)?;
     if filters.has(number) {

@@ -281,7 +281,7 @@ fn second_pass<A: Allocator + Copy>(alloc: A, arrays: Arrays<'_>) -> Result<Plan
 }
 
 /// The document of a text.
-#[tactic(auto, unfolding(crate::specs::Document::document_of), using(crate::proofs::Counts::utf8_whole))]
+#[tactic(auto, unfolding(crate::specs::Document::document_of), using(bridge_limits::proofs::Octets::utf8_whole))]
 pub(crate) fn document_of(heap: Global, text: &[u8]) -> Result<Table, PlanFault>
     ensures { GivesAs table_view result (doc.document_of text.now) }
 {

@@ -137,7 +137,7 @@ impl<'a, A: Allocator + Copy> SectionReader<A> for Streams<'a, A> {
 
     ghost Keeps = { λ s streams. All (rules.IsStream s.ports.now) streams };
 
-    #[tactic(auto, using(crate::proofs::Own::each_push))]
+    #[tactic(auto, using(bridge_limits::proofs::Lists::each_push))]
     fn read(
         &self,
         _alloc: A,

@@ -1,11 +1,11 @@
 -- A frame is taken from its lane.
 use Rattle.std.proofs.Common.{◌≡◌, ℕ, ◌<◌, List, length, slice_index_or, slice_set, refl, ap, sym, ◌∙◌, Option, Some, None}
 use Rattle.std.proofs.lemmas.Option.{slice_get_read, same_Some}
+use Rattle.bridge_limits.proofs.Options.{none_some}
 use Rattle.bridge_capture.specs.declared.packet.Packet.{Packet}
 use Rattle.bridge_inputs.specs.declared.lane.CaptureReader.{CaptureReader}
 use Rattle.bridge_inputs.specs.Lanes.{IsFirstAt}
 use Rattle.bridge_core.specs.Taking.{HasGiven}
-use Rattle.bridge_state.proofs.Porting.{none_some}
 
 lane_is : {A : Type 0} (lanes : List (CaptureReader A)) (place : ℕ) (first : IsFirstAt lanes place) (l : CaptureReader A) → place < length lanes → l ≡ slice_index_or lanes place l → l ≡ first.lane
 lane_is lanes place first l within is = same_Some l first.lane (sym (slice_get_read lanes (length lanes) place l refl within is) ∙ first.there)

@@ -4,12 +4,12 @@ use Rattle.std.specs.Prelude.{IfSome, if◌then◌else◌, option_and_then, opti
 use Rattle.std.proofs.lemmas.Bool.{cases_lt, eqb-true, eqb-false}
 use Rattle.std.proofs.lemmas.Option.{none-some, same_Some, slice_get_past}
 use Rattle.bridge_limits.proofs.Cases.{by_bool}
+use Rattle.bridge_limits.proofs.Lists.{set_there}
 use Rattle.bridge_capture.specs.declared.packet.Packet.{Packet}
 use Rattle.bridge_events.specs.Least.{IsLeast}
 use Rattle.bridge_inputs.specs.declared.lane.CaptureReader.{CaptureReader}
 use Rattle.bridge_inputs.specs.Lanes.{IsFirstAt}
 use Rattle.bridge_core.specs.Taking.{AreHeads, AreLater, IsBefore, moment_at, moment_of}
-use Rattle.bridge_core.proofs.Places.{set_there}
 
 -- The least moment.
 

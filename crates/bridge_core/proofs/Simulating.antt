@@ -1,13 +1,12 @@
 -- How a run over texts begins, ends and stops.
-use Rattle.std.proofs.Common.{◌≡◌, ℕ, suc, Bool, ◌≤◌, List, [], ◌∷◌, length, map, nat_eq, slice_get, arith, refl, ap, sym, subst, ◌∙◌, inl, inr, Option, Some, None}
-use Rattle.std.specs.Prelude.{IfSome}
+use Rattle.std.proofs.Common.{◌≡◌, ℕ, suc, Bool, ◌≤◌, List, [], ◌∷◌, length, map, nat_eq, slice_get, arith, refl, ap, sym, subst, ◌∙◌, inl, inr, Option, Some, None, Result, Ok, Err}
+use Rattle.std.specs.Prelude.{IfOk, IfSome}
 use Rattle.std.proofs.lemmas.List.{length-map}
 use Rattle.std.proofs.lemmas.List.Sorted.{length_permutation}
 use Rattle.bridge_limits.specs.declared.TheConstants.{MOST_ARRIVALS}
 use Rattle.bridge_limits.proofs.Cases.{by_bool}
 use Rattle.bridge_capture.specs.Grammar.{Captured}
 use Rattle.bridge_capture.specs.declared.packet.Packet.{Packet}
-use Rattle.bridge_capture.specs.Reading.{view}
 use Rattle.bridge_config.proofs.PlanPorts.{number_is}
 use Rattle.bridge_config.specs.declared.command.Command.{Command}
 use Rattle.bridge_config.specs.declared.ports.PortPlan.{PortPlan}
@@ -27,12 +26,17 @@ use Rattle.bridge_core.proofs.Beginning.{covered, gave_none, known}
 use Rattle.bridge_config.proofs.Sorted.{rising_numbers}
 use Rattle.bridge_core.proofs.Steps.{lane_at, number_at, source_of}
 use Rattle.bridge_inputs.specs.declared.lane.CaptureReader.{CaptureReader}
-use Rattle.bridge_inputs.specs.Lanes.{AreAheadOf, AreLanes, AreRests, AreTexts, BeginsWell, FailsLook, Finds, numbers, room_of}
-use Rattle.bridge_inputs.proofs.Looks.{untaken}
+use Rattle.bridge_inputs.specs.Lanes.{AreAheadOf, AreLanes, AreRests, AreTexts, FailsLook, Finds, numbers, room_of}
+use Rattle.bridge_inputs.proofs.Looks.{untaken, begins_well}
 use Rattle.bridge_core.specs.Lines.{AreWritten, HeadersStop}
 use Rattle.bridge_core.specs.Simulated.{AreNumbers, BeginWell, Isolates, OthersChangeNothing, Runs, Stops, WantsMemory}
 use Rattle.bridge_capture.specs.declared.fault.CaptureFault.{CaptureFault}
 use Rattle.bridge_core.specs.Taking.{IsOfCapture, Follows, IsThrough, IsUnderWay, MayTake, StopsAmong}
+
+-- what holds of each answer holds of the one that is there
+pub each_ok : {X E : Type 0} (r : Result X E) (P : X → Type 0) → ((x : X) → P x) → IfOk r P
+each_ok (Ok x) P each = each x
+each_ok (Err e) P each = tt
 
 -- there are as many numbers as ports
 pub ports_many : {A : Type 0} (p : Plan A) (ports : List ℕ) → AreNumbers p ports → length ports ≡ length p.ports
@@ -107,13 +111,9 @@ under_first {R} {W} {G} {A} remaining contents p ports texts next olds b lanes s
   written = subst (λ ns. AreWritten contents ns olds sinks (λ q. [])) (sym same) written;
 }
 
-well_begun : {A : Type 0} (text : List ℕ) (o : Option (Packet A)) → Finds text [] o → BeginsWell text
-well_begun text None f = inl f
-well_begun text (Some c) f = inr (view c, f)
-
 -- where each first frame is ahead, each text begins well
 pub begin_well : {R A : Type 0} (remaining : R → Option (List ℕ)) (p : Plan A) (ports : List ℕ) (texts : ℕ → List ℕ) (lanes : List (CaptureReader A)) (sources : List R) → AreNumbers p ports → numbers lanes ≡ ports → length sources ≡ length lanes → AreAheadOf remaining texts (λ q. []) lanes sources → BeginWell p texts
-begin_well remaining p ports texts lanes sources are same size ahead q out e = let f = finds_at remaining p ports texts (λ n. []) lanes sources q out are same size ahead e in well_begun (texts q) f.lane.ahead f.finds
+begin_well remaining p ports texts lanes sources are same size ahead q out e = let f = finds_at remaining p ports texts (λ n. []) lanes sources q out are same size ahead e in begins_well (texts q) f.lane.ahead f.finds
 
 -- a run that is through has run all
 pub has_run : {R W G A : Type 0} (remaining : R → Option (List ℕ)) (contents : W → Option (List ℕ)) (p : Plan A) (ports : List ℕ) (commands : List Command) (texts : ℕ → List ℕ) (olds : List W) (b : RelayState G A) (lanes : List (CaptureReader A)) (sources : List R) (sinks : List W) (o : Outcome A) → AreNumbers p ports → numbers lanes ≡ ports → length sources ≡ length lanes → IsThrough remaining contents p texts commands olds b lanes sources sinks → ((es : List Event) (left : ℕ → List Captured) → Stands p b es left → Ends p es left o) → Runs p ports commands texts contents olds sinks o

@@ -3,8 +3,11 @@ use Rattle.std.proofs.Common.{◌≡◌, ◌≢◌, ℕ, zero, suc, ◌+◌, ◌
 use Rattle.std.specs.Prelude.{nat_eq, IfSome}
 use Rattle.std.proofs.lemmas.Option.{slice_get_within, same_Some}
 use Rattle.std.proofs.lemmas.Bool.Decides.{nat_tests}
+use Rattle.std.proofs.lemmas.Bool.{eqb-true}
 use Rattle.bridge_limits.specs.Members.{Rising}
 use Rattle.bridge_limits.proofs.Cases.{by_bool}
+use Rattle.bridge_limits.proofs.Orders.{swapped, apart}
+use Rattle.bridge_limits.proofs.Lists.{there_is, set_here, set_there}
 use Rattle.bridge_capture.specs.declared.fault.CaptureFault.{CaptureFault}
 use Rattle.bridge_capture.specs.declared.fault.CaptureFault.TheVariants as faults
 use Rattle.bridge_capture.specs.declared.packet.Packet.{Packet}
@@ -23,8 +26,8 @@ use Rattle.bridge_inputs.specs.declared.lane.CaptureReader.{CaptureReader}
 use Rattle.bridge_inputs.specs.Lanes.{AreAheadOf, fault_at, IsAhead, Finds, IsFirstAt, numbers, one_ahead}
 use Rattle.bridge_core.specs.Lines.{AreWritten, AreWrittenBut, Departs, MakesStart}
 use Rattle.bridge_core.specs.Taking.{AreLater, Follows, HasTaken, IsBefore, IsOfCapture, IsUnderWay, LooksFrom, LooksOn, MayTake, StopsForMemory, StopsReading, StopsSo, StopsWriting, TakesBefore}
-use Rattle.bridge_core.proofs.Order.{back, frames_here, frames_there, is_same, taken_frame, with_frame}
-use Rattle.bridge_core.proofs.Places.{rising_at, set_here, set_there}
+use Rattle.bridge_core.proofs.Order.{frames_here, frames_there, taken_frame, with_frame}
+use Rattle.bridge_core.proofs.Places.{rising_at}
 
 is_apart : (a b : ℕ) → nat_eq a b ≡ false → a ≡ b → ⊥
 is_apart a b e same = grind (arith, nat_tests)
@@ -52,14 +55,11 @@ by_order P zero (suc j) l m n = l (omega arith)
 by_order P (suc i) zero l m n = m (omega arith)
 by_order P (suc i) (suc j) l m n = by_order P i j (λ h. l (omega (arith, h))) (λ h. m (omega (arith, h))) (λ h. n (ap suc h))
 
-apart : (a b : ℕ) → a < b → nat_eq a b ≡ false
-apart a b l = grind (arith, nat_tests)
-
 -- other places have other numbers
 pub other_number : {A : Type 0} (lanes : List (CaptureReader A)) (i j : ℕ) (l m : CaptureReader A) → Rising (λ a b. a < b) (numbers lanes) → slice_get lanes i ≡ Some l → slice_get lanes j ≡ Some m → i ≢ j → nat_eq l.number m.number ≡ false
 other_number lanes i j l m r e f n = by_order (nat_eq l.number m.number ≡ false) i j
     (λ h. apart l.number m.number (rising_at (λ a b. a < b) (numbers lanes) i j l.number m.number r (number_at lanes i l e) (number_at lanes j m f) h))
-    (λ h. back m.number l.number (apart m.number l.number (rising_at (λ a b. a < b) (numbers lanes) j i m.number l.number r (number_at lanes j m f) (number_at lanes i l e) h)))
+    (λ h. swapped m.number l.number (apart m.number l.number (rising_at (λ a b. a < b) (numbers lanes) j i m.number l.number r (number_at lanes j m f) (number_at lanes i l e) h)))
     (λ h. absurd (n h))
 
 pub by_place : (P : ℕ → Type 0) (place i : ℕ) → P place → ((i ≢ place) → P i) → P i
@@ -112,11 +112,6 @@ follow_next {A} lanes place first m inputs rises number onward i k d e h =
     no_sooner first.lane.number k.number (view first.packet) (view d) same late)
     (λ n g. is_next lanes place first rises i k d (sym (set_there lanes place i m n) ∙ g) h n)
     e
-
-there_is : {X : Type 0} (xs : List X) (i : ℕ) → i < length xs → (x : X) × (slice_get xs i ≡ Some x)
-there_is [] i l = absurd (omega arith)
-there_is (x ∷ xs) zero l = (x, refl)
-there_is (x ∷ xs) (suc i) l = there_is xs i (omega arith)
 
 pub source_of : {R A : Type 0} (lanes : List (CaptureReader A)) (sources : List R) (i : ℕ) (l : CaptureReader A) → length sources ≡ length lanes → slice_get lanes i ≡ Some l → (s : R) × (slice_get sources i ≡ Some s)
 source_of lanes sources i l size e = let z = slice_get_within lanes i l e in there_is sources i (omega (arith, z, size))
@@ -258,7 +253,7 @@ module _ {R W G A : Type 0} (remaining : R → Option (List ℕ)) (contents : W 
       behind = refl;
       others = λ q out e n.
           let z = port_looks q out e in
-          let apart : nat_eq q first.lane.number ≡ false = by_bool (nat_eq q first.lane.number) (λ h. absurd (n (is_same q first.lane.number h))) (λ h. h) in
+          let apart : nat_eq q first.lane.number ≡ false = by_bool (nat_eq q first.lane.number) (λ h. absurd (n (eqb-true q first.lane.number h))) (λ h. h) in
           let elsewhere : z.0 ≢ place = λ h. n (sym z.3 ∙ ap (λ (w : CaptureReader A). w.number) (same_Some z.1 first.lane (sym (subst (λ (k : ℕ). slice_get lanes k ≡ Some z.1) h z.2) ∙ first.there))) in
           subst (λ taken. LooksOn (texts q) q taken (frame first.lane.number (view first.packet) ∷ u.inputs)) (sym (frames_there u.frames first.lane.number (view first.packet) q apart))
           (looks_of (texts q) q (u.frames q) (frame first.lane.number (view first.packet) ∷ u.inputs) z.1.ahead z.4 (λ d h. subst (λ (k : ℕ). NotBefore (frame k (view d)) (frame first.lane.number (view first.packet))) z.3 (is_next lanes place first may.rises z.0 z.1 d z.2 h elsewhere)));
@@ -276,7 +271,7 @@ module _ {R W G A : Type 0} (remaining : R → Option (List ℕ)) (contents : W 
       late = omega arith;
       looks = λ q out e. by_bool (nat_eq q first.lane.number)
           (λ h.
-          let same : q ≡ first.lane.number = is_same q first.lane.number h in
+          let same : q ≡ first.lane.number = eqb-true q first.lane.number h in
           let here = subst (RefusedSo faults.NoMemory (rests first.lane.number) (texts first.lane.number)) (sym (frames_here u.frames first.lane.number (view first.packet))) refused in
           inr (sym same, subst (λ (n : ℕ). RefusedSo faults.NoMemory (rests n) (texts n) (with_frame u.frames first.lane.number (view first.packet) n)) (sym same) here))
           (λ apart.

@@ -4,6 +4,7 @@ use Rattle.std.specs.Prelude.{OnOk, ◌⊎◌}
 use Rattle.std.proofs.Common.{inl, inr}
 use Rattle.std.proofs.lemmas.Option.{slice_get_within, same_Some}
 use Rattle.bridge_limits.specs.Members.{Rising}
+use Rattle.bridge_limits.proofs.Lists.{set_here, set_there}
 use Rattle.bridge_capture.specs.declared.fault.CaptureFault.{CaptureFault}
 use Rattle.bridge_capture.specs.declared.fault.CaptureFault.TheVariants as faults
 use Rattle.bridge_capture.specs.declared.packet.Packet.{Packet}
@@ -17,7 +18,7 @@ use Rattle.bridge_relay.specs.Relays.{RelayState}
 use Rattle.bridge_inputs.specs.declared.lane.CaptureReader.{CaptureReader}
 use Rattle.bridge_inputs.specs.Lanes.{AreRests, fault_at, IsFirstAt, IsLane, Looks, numbers, room, room_of}
 use Rattle.bridge_core.specs.Taking.{HasGiven, HasLooked, MayTake}
-use Rattle.bridge_core.proofs.Places.{set_here, set_there, sum_at, sum_set}
+use Rattle.bridge_core.proofs.Places.{sum_at, sum_set}
 use Rattle.bridge_core.proofs.Steps.{by_place, number_at, numbers_set}
 
 -- the frame that was taken is the first

@@ -5,12 +5,13 @@ use Rattle.std.specs.List.{flat_map}
 use Rattle.std.specs.Io.KnownBytes.{Appends}
 use Rattle.std.proofs.KnownBytes.{Appends-trans}
 use Rattle.std.proofs.lemmas.Bool.{eqb-true, eqb-false, eq-eqb}
-use Rattle.std.proofs.lemmas.Option.{same_Some, none-some, slice_get_within}
+use Rattle.std.proofs.lemmas.Option.{same_Some, slice_get_within}
 use Rattle.std.proofs.lemmas.List.{length-set, take_more}
 use Rattle.std.proofs.lemmas.List.Elements.{All-nil, All-push}
-use Rattle.bridge_limits.specs.Members.{AllAfter, Rising}
+use Rattle.bridge_limits.specs.Members.{Rising}
 use Rattle.bridge_limits.specs.declared.TheConstants.{LONGEST_FRAME}
 use Rattle.bridge_limits.proofs.Cases.{by_bool}
+use Rattle.bridge_limits.proofs.Lists.{set_there, set_is}
 use Rattle.bridge_capture.specs.Grammar.{Captured}
 use Rattle.bridge_capture.specs.Written.{written_header, written_item, written_text}
 use Rattle.bridge_capture.specs.Sinks.{AppendsFront}
@@ -19,35 +20,10 @@ use Rattle.bridge_core.specs.declared.line.Line.{Line}
 use Rattle.bridge_relay.specs.declared.relay.Sent.{Sent}
 use Rattle.bridge_relay.specs.Relays.{captured, one_more}
 use Rattle.bridge_inputs.specs.Devices.{HasFailed}
+use Rattle.bridge_inputs.proofs.Looks.{one_place}
 use Rattle.bridge_core.specs.Lines.{AreWritten, AreWrittenBut, FitsRecord, HasWritten, numbers, StopsAtHeader}
 
 -- The places of numbers that rise.
-
-after_at : (a : ℕ) (xs : List ℕ) (i b : ℕ) → AllAfter (λ x y. x < y) a xs → slice_get xs i ≡ Some b → a < b
-after_at a [] i b r h = absurd (none-some b h)
-after_at a (x ∷ xs) zero b r h = subst (λ z. a < z) (same_Some x b h) r.0
-after_at a (x ∷ xs) (suc i) b r h = after_at a xs i b r.1 h
-
--- a number stands at one place
-pub place_unique : (xs : List ℕ) (i j q : ℕ) → Rising (λ a b. a < b) xs → slice_get xs i ≡ Some q → slice_get xs j ≡ Some q → i ≡ j
-place_unique [] i j q r h k = absurd (none-some q h)
-place_unique (x ∷ xs) zero zero q r h k = refl
-place_unique (x ∷ xs) zero (suc j) q r h k = let e = same_Some x q h in let l = after_at x xs j q r.0 k in absurd (omega arith)
-place_unique (x ∷ xs) (suc i) zero q r h k = let e = same_Some x q k in let l = after_at x xs i q r.0 h in absurd (omega arith)
-place_unique (x ∷ xs) (suc i) (suc j) q r h k = ap suc (place_unique xs i j q r.1 h k)
-
--- what stands at the place that was set, and at another
-pub set_here : {X : Type 0} (xs : List X) (i : ℕ) (x y : X) → slice_get (slice_set xs i x) i ≡ Some y → x ≡ y
-set_here {X} [] i x y h = absurd (none-some y h)
-set_here {X} (z ∷ xs) zero x y h = same_Some x y h
-set_here {X} (z ∷ xs) (suc i) x y h = set_here xs i x y h
-
-pub set_there : {X : Type 0} (xs : List X) (i j : ℕ) (x : X) → j ≢ i → slice_get (slice_set xs i x) j ≡ slice_get xs j
-set_there {X} [] i j x n = refl
-set_there {X} (z ∷ xs) zero zero x n = absurd (n refl)
-set_there {X} (z ∷ xs) zero (suc j) x n = refl
-set_there {X} (z ∷ xs) (suc i) zero x n = refl
-set_there {X} (z ∷ xs) (suc i) (suc j) x n = set_there xs i j x (λ e. n (ap suc e))
 
 -- The numbers of lines.
 
@@ -118,7 +94,7 @@ writes_one {A} {W} contents ports olds mids left sent place mid new r at was mor
     let same : i ≡ place = eqb-true i place e in
     let here : slice_get ports place ≡ Some q = subst (λ j. slice_get ports j ≡ Some q) same port in
     let is : q ≡ sent.port = sym (same_Some sent.port q (sym at ∙ here)) in
-    let now : new ≡ w = set_here mids place new w (subst (λ j. slice_get (slice_set mids place new) j ≡ Some w) same new_is) in
+    let now : new ≡ w = set_is mids place new w (subst (λ j. slice_get (slice_set mids place new) j ≡ Some w) same new_is) in
     let mid_is : slice_get mids i ≡ Some mid = subst (λ j. slice_get mids j ≡ Some mid) (sym same) was in
     let so_far = h i q old mid port old_is mid_is in (
       subst (λ z. Appends (contents old) (contents z) (written_text (one_more left sent q))) now
@@ -128,7 +104,7 @@ writes_one {A} {W} contents ports olds mids left sent place mid new r at was mor
     ))
     (λ e.
     let other : i ≢ place = eqb-false i place e in
-    let is : q ≢ sent.port = λ z. other (place_unique ports i place q r port (at ∙ ap Some (sym z))) in
+    let is : q ≢ sent.port = λ z. other (one_place ports i place q r port (at ∙ ap Some (sym z))) in
     subst (HasWritten (contents old) (contents w)) (sym (one_there left sent q is))
     (h i q old w port old_is (sym (set_there mids place i new other) ∙ new_is)))
 
@@ -142,8 +118,8 @@ breaks_one {A} {W} contents ports olds mids left sent place mid new r at was fro
       subst (λ l. Appends (contents old) (contents w) (written_text l)) (sym (one_there left sent q is))
       (h i q old w port old_is (sym (set_there mids place i new other) ∙ new_is)).0;
   broken = λ i old w port old_is new_is.
-      let same : i ≡ place = place_unique ports i place sent.port r port at in
-      let now : new ≡ w = set_here mids place new w (subst (λ j. slice_get (slice_set mids place new) j ≡ Some w) same new_is) in
+      let same : i ≡ place = one_place ports i place sent.port r port at in
+      let now : new ≡ w = set_is mids place new w (subst (λ j. slice_get (slice_set mids place new) j ≡ Some w) same new_is) in
       let mid_is : slice_get mids i ≡ Some mid = subst (λ j. slice_get mids j ≡ Some mid) (sym same) was in
       subst (λ z. AppendsFront (contents old) (contents z) (written_text (one_more left sent sent.port))) now
       (subst (AppendsFront (contents old) (contents new)) (sym (text_more left sent sent.port refl))
@@ -173,7 +149,7 @@ headers_more {W} contents olds mids place mid new was more h = record {
       by_bool (nat_eq i place)
       (λ e.
       let same : i ≡ place = eqb-true i place e in
-      let now : new ≡ w = set_here mids place new w (subst (λ j. slice_get (slice_set mids place new) j ≡ Some w) same new_is) in
+      let now : new ≡ w = set_is mids place new w (subst (λ j. slice_get (slice_set mids place new) j ≡ Some w) same new_is) in
       let is : old ≡ mid = same_Some old mid (sym old_is ∙ (ap (slice_get olds) same ∙ (sym (h.behind place (omega arith)) ∙ was))) in
       subst (λ z. Appends (contents old) (contents z) written_header) now (subst (λ z. Appends (contents z) (contents new) written_header) (sym is) more))
       (λ e.
@@ -190,10 +166,10 @@ headers_stop {W} contents has_failed ports olds mids place port mid new at was f
   there = at;
   before = λ i old w below old_is new_is. h.before i old w below old_is (sym (set_there mids place i new (λ e. absurd (omega arith))) ∙ new_is);
   broken = λ old w old_is new_is.
-      let now : new ≡ w = set_here mids place new w new_is in
+      let now : new ≡ w = set_is mids place new w new_is in
       let is : old ≡ mid = same_Some old mid (sym old_is ∙ (sym (h.behind place (omega arith)) ∙ was)) in
       subst (λ z. AppendsFront (contents old) (contents z) written_header) now (subst (λ z. AppendsFront (contents z) (contents new) written_header) (sym is) front);
-  failed = λ w is. subst (λ z. has_failed z ≡ true) (set_here mids place new w is) fails;
+  failed = λ w is. subst (λ z. has_failed z ≡ true) (set_is mids place new w is) fails;
   behind = λ i past. set_there mids place i new (λ e. absurd (omega arith)) ∙ h.behind i (omega arith);
 }
 
@@ -206,7 +182,7 @@ headers_all contents ports olds news place all h i q old new port old_is new_is 
 -- where the ports rise, the sink that stopped a run is the only one of its port
 pub stop_failed : {W : Type 0} (contents : W → Option (List ℕ)) (has_failed : W → Bool) (ports : List ℕ) (port : ℕ) (olds news : List W) → Rising (λ a b. a < b) ports → StopsAtHeader contents has_failed ports port olds news → HasFailed has_failed ports port news
 stop_failed contents has_failed ports port olds news r s i w at is =
-    s.failed w (subst (λ j. slice_get news j ≡ Some w) (place_unique ports i s.place port r at s.there) is)
+    s.failed w (subst (λ j. slice_get news j ≡ Some w) (one_place ports i s.place port r at s.there) is)
 
 -- one number more of the ports
 pub numbers_more : (lines next : List Line) (x : Line) (ports : List ℕ) (place : ℕ) → next ≡ lines ++ x ∷ [] → place < length ports → x.number ≡ slice_index_or ports place 0 → numbers lines ≡ take place ports → numbers next ≡ take (place + 1) ports

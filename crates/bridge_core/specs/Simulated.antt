@@ -1,13 +1,14 @@
 -- Whole runs over texts.
 use Rattle.std.specs.Prelude.{◌≡◌, ℕ, Bool, true, ◌<◌, ◌≤◌, ◌⊎◌, length, nat_eq, Option, Some, None, List, [], map, vec_capacity}
 use Rattle.std.specs.Map.{lookup}
+use Rattle.bridge_limits.specs.declared.TheConstants.{MOST_ARRIVALS}
 use Rattle.bridge_limits.specs.Members.{In, Rising}
 use Rattle.bridge_capture.specs.declared.fault.CaptureFault.{CaptureFault}
 use Rattle.bridge_capture.specs.Grammar.{Captured, Records, AtEnd}
 use Rattle.bridge_config.specs.declared.command.Command.{Command}
 use Rattle.bridge_config.specs.declared.ports.PortPlan.{PortPlan}
 use Rattle.bridge_config.specs.Model.{Plan}
-use Rattle.bridge_config.specs.Rules.{port_at, IsInOrder}
+use Rattle.bridge_config.specs.Rules.{port_at, IsInOrder, IsPlan}
 use Rattle.bridge_filter.specs.declared.FilterPlan.{FilterPlan}
 use Rattle.bridge_inputs.specs.declared.fault.RunFault.{RunFault}
 use Rattle.bridge_inputs.specs.declared.fault.RunFault.TheVariants as run
@@ -18,7 +19,9 @@ use Rattle.bridge_semantics.specs.Merge.{Input, IsMerged, events, own_inputs, co
 use Rattle.bridge_semantics.specs.Outputs.{Ends}
 use Rattle.bridge_semantics.specs.Runs.{IsSoloView, TellTheSame}
 use Rattle.bridge_core.specs.declared.simulation.Lists.{Lists}
-use Rattle.bridge_inputs.specs.Lanes.{BeginsWell, FailsLook, LooksFail}
+use Rattle.bridge_inputs.specs.declared.lane.CaptureReader.{CaptureReader}
+use Rattle.bridge_inputs.specs.Lanes.{AreLanes, BeginsWell, FailsLook, LooksFail, numbers, room_of}
+use Rattle.bridge_relay.specs.Relays.{RelayState, Stands}
 use Rattle.bridge_core.specs.Lines.{AreWritten, StopsAtHeader}
 use Rattle.bridge_core.specs.Taking.{IsOfCapture, StopsAmong}
 
@@ -37,6 +40,18 @@ pub record AreListsOf {A : Type 0} (p : Plan A) (l : Lists A) : Type 0 where
   pub views_room : length l.order.items ≤ vec_capacity l.views
   pub no_counts : l.counts.items ≡ []
   pub counts_room : 16 ≤ vec_capacity l.counts
+
+-- what a run under a plan goes on from: a bridge to which nothing has come, the lists, and a lane for each port
+pub record IsSetUp {G A : Type 0} (p : Plan A) (b : RelayState G A) (l : Lists A) (all : List (CaptureReader A)) : Type 0 where
+  pub rules : IsPlan p
+  pub plan : b.plan ≡ p
+  pub arrived : b.arrived ≡ 0
+  pub earliest : b.earliest ≡ 0
+  pub stands : Stands p b [] (λ _. [])
+  pub lists : AreListsOf p l
+  pub named : numbers all ≡ l.ports.items
+  pub lanes : AreLanes all
+  pub room : room_of all ≤ MOST_ARRIVALS
 
 -- each text is a capture to its end, the outcome is that of the run of their frames and the commands in their order, and each sink has the capture of what left its port
 pub record Runs {A W : Type 0} (p : Plan A) (ports : List ℕ) (commands : List Command) (texts : ℕ → List ℕ) (contents : W → Option (List ℕ)) (olds news : List W) (o : Outcome A) : Type 0 where

@@ -1,10 +1,10 @@
 //! Captures through a bridge, from their texts to what is written.
-ghost use Rattle.std.specs.Prelude.{◌≡◌, ◌≢◌, ℕ, ◌<◌, List, Option, length, Err, IfOk, IfErr};
+ghost use Rattle.std.specs.Prelude.{◌≡◌, ◌≢◌, ℕ, ◌<◌, List, Option, [], length, Err, IfOk, IfErr};
 ghost use Rattle.bridge_config.specs.Commands.{AreCommands};
 ghost use Rattle.bridge_inputs.specs.Devices.{HasFailed, NeverFail};
-ghost use Rattle.bridge_inputs.specs.Lanes.{AreRests, AreTexts};
+ghost use Rattle.bridge_inputs.specs.Lanes.{AreAheadOf, AreRests, AreTexts};
 ghost use Rattle.bridge_core.specs.Lines.{HasRunOut};
-ghost use Rattle.bridge_core.specs.Simulated.{AreListsOf, AreNumbers, Isolates, OthersChangeNothing, Runs, Stops, WritesFew};
+ghost use Rattle.bridge_core.specs.Simulated.{AreListsOf, AreNumbers, IsSetUp, Isolates, OthersChangeNothing, Runs, Stops, WritesFew};
 
 use crate::line::{Line, begin_all};
 use crate::taking::{heads_of, run};
@@ -14,7 +14,7 @@ use bridge_config::{Command, Plan};
 use bridge_cycle::NoMemory;
 use bridge_events::{Agenda, TreeAgenda};
 use bridge_filter::FilterPlan;
-use bridge_inputs::{RunFault, Spares, look_at_all};
+use bridge_inputs::{CaptureReader, RunFault, Spares, look_at_all};
 use bridge_relay::Relay;
 use bridge_semantics::{Outcome, PortCount, View};
 use std::alloc::Allocator;
@@ -63,6 +63,78 @@ fn spares_in<A: Allocator + Copy>(alloc: A) -> Result<Spares<A>, NoMemory> {
     Ok(Spares::new(alloc)?)
 }
 
+/// Goes on from what was set up to the end of a run: writes the header of each capture, takes all frames, the first of
+/// which are ahead of their lanes, and all commands in their order, and writes what leaves.
+fn run_from<R: ByteSource, W: ByteSink, G: Agenda + Drop, A: Allocator + Copy>(
+    commands: &[Command],
+    mut relay: Relay<'_, G, A>,
+    lists: Lists<A>,
+    mut lanes: Vec<CaptureReader<A>, A>,
+    mut spares: Spares<A>,
+    sources: &mut [R],
+    sinks: &mut [W],
+) -> Result<Outcome<A>, RunFault>
+    requires set_up { IsSetUp relay.plan relay lists lanes.items }
+    requires sources { length sources.old ≡ length relay.plan.ports }
+    requires sinks { length sinks.old ≡ length relay.plan.ports }
+    requires commands { AreCommands relay.plan commands.now }
+    ensures ok { (ports : List ℕ) (texts : ℕ → List ℕ) → AreNumbers relay.entry.plan ports
+        → AreAheadOf R.remaining texts (λ _. []) lanes.items sources.old →
+        IfOk result (Runs relay.entry.plan ports commands.now texts W.contents sinks.old sinks.new) }
+    ensures err { (ports : List ℕ) (texts : ℕ → List ℕ) (rests : ℕ → Option (List ℕ))
+        → AreNumbers relay.entry.plan ports → AreAheadOf R.remaining texts (λ _. []) lanes.items sources.old
+        → AreRests R.remaining ports rests sources.new →
+        IfErr result (Stops relay.entry.plan ports commands.now texts rests W.contents W.has_failed
+        sinks.old sinks.new) }
+    ensures read { (ports : List ℕ) (port : ℕ) → AreNumbers relay.entry.plan ports →
+        result ≡ Err (RunFault.Capture port CaptureFault.Read) → HasFailed R.has_failed ports port sources.new }
+    ensures sure { NeverFail R.never_fails sources.old → (port : ℕ)
+        → result ≢ Err (RunFault.Capture port CaptureFault.Read) }
+    ensures wrote { (ports : List ℕ) (port : ℕ) → AreNumbers relay.entry.plan ports →
+        result ≡ Err (RunFault.Write port) → HasFailed W.has_failed ports port sinks.new }
+    ensures sound { (ports : List ℕ) (port : ℕ) → AreNumbers relay.entry.plan ports
+        → NeverFail W.never_fails sinks.old → result ≡ Err (RunFault.Write port)
+        → HasRunOut W.ran_out ports port sinks.new }
+{
+    let Lists {
+        ports,
+        order,
+        lines,
+        views,
+        counts,
+    } = lists;
+    let mut lines = match begin_all(&ports, lines, sinks) {
+        Ok(lines) => lines,
+        Err(fault) => {
+            drop(spares);
+            drop(lanes);
+            drop(relay);
+            return Err(fault);
+        }
+    };
+    let mut heads = heads_of::<G, A>(&lanes);
+    let done = run(
+        commands,
+        &mut relay,
+        &mut heads,
+        &mut lanes,
+        &mut lines,
+        sources,
+        sinks,
+        &mut spares,
+    );
+    drop(spares);
+    drop(lanes);
+    drop(heads);
+    match done {
+        Ok(()) => Ok(relay.finish(&order, views, counts)),
+        Err(fault) => {
+            drop(relay);
+            Err(fault)
+        }
+    }
+}
+
 /// Sends captures, one for each port by rising number, and commands through a bridge of an accepted plan over an agenda,
 /// and writes the capture of what leaves each port, each frame with the moment at which it was done.
 ///
@@ -102,11 +174,11 @@ pub fn simulate_over<R: ByteSource, W: ByteSink, G: Agenda + Drop, A: Allocator 
     let Ok(lists) = lists_of(alloc, accepted.plan()) else {
         return Err(RunFault::NoMemory);
     };
-    let Ok(mut spares) = spares_in(alloc) else {
+    let Ok(spares) = spares_in(alloc) else {
         drop(lists);
         return Err(RunFault::NoMemory);
     };
-    let mut lanes = match look_at_all(alloc, &lists.ports, sources) {
+    let lanes = match look_at_all(alloc, &lists.ports, sources) {
         Ok(lanes) => lanes,
         Err(fault) => {
             drop(lists);
@@ -114,49 +186,13 @@ pub fn simulate_over<R: ByteSource, W: ByteSink, G: Agenda + Drop, A: Allocator 
             return Err(fault);
         }
     };
-    let Ok(mut relay) = Relay::<G, A>::new(alloc, accepted) else {
+    let Ok(relay) = Relay::<G, A>::new(alloc, accepted) else {
         drop(lists);
         drop(spares);
         drop(lanes);
         return Err(RunFault::NoMemory);
     };
-    let Lists {
-        ports,
-        order,
-        lines,
-        views,
-        counts,
-    } = lists;
-    let mut lines = match begin_all(&ports, lines, sinks) {
-        Ok(lines) => lines,
-        Err(fault) => {
-            drop(spares);
-            drop(lanes);
-            drop(relay);
-            return Err(fault);
-        }
-    };
-    let mut heads = heads_of::<G, A>(&lanes);
-    let done = run(
-        commands,
-        &mut relay,
-        &mut heads,
-        &mut lanes,
-        &mut lines,
-        sources,
-        sinks,
-        &mut spares,
-    );
-    drop(spares);
-    drop(lanes);
-    drop(heads);
-    match done {
-        Ok(()) => Ok(relay.finish(&order, views, counts)),
-        Err(fault) => {
-            drop(relay);
-            Err(fault)
-        }
-    }
+    run_from(commands, relay, lists, lanes, spares, sources, sinks)
 }
 
 /// Sends captures, one for each port by rising number, and commands through a bridge of an accepted plan, as

@@ -1,10 +1,11 @@
 -- The figures of a hop are those of all of its queues together, so each queue's lie within them.
 use Rattle.std.proofs.Common.{◌≡◌, ℕ, Bool, true, List, [], ◌∷◌, Option, None, Some, arith, ap, refl, sym, subst, ◌∙◌, inl, inr}
 use Rattle.std.proofs.lemmas.Cmp.{nat_eq_equiv}
-use Rattle.std.proofs.lemmas.Option.{same_Some}
+use Rattle.std.proofs.lemmas.Option.{same_Some, none-some}
 use Rattle.std.specs.Prelude.{MatchOption, filter, fold, slice_get}
 use Rattle.bridge_limits.specs.Members.{In}
 use Rattle.bridge_limits.proofs.Cases.{by_bool}
+use Rattle.bridge_limits.proofs.Options.{some_is_none}
 use Rattle.bridge_config.specs.Model.{Plan}
 use Rattle.bridge_bounds.specs.Bounds.{HasNoBound}
 use Rattle.bridge_network.specs.declared.links.StreamHop.{StreamHop}
@@ -21,12 +22,6 @@ use Rattle.bridge_courses.specs.declared.stops.Stop.TheVariants as stop
 use Rattle.bridge_courses.specs.declared.trees.HopQueue.{HopQueue}
 use Rattle.bridge_courses.specs.Courses.{Behind, Each, IsStop, IsStopIn, IsTold, IsToldAt, IsWithin, Parts, both, both_of, coming_at, course_at, figures_of, goes_on, is_of, lie_in_one, moved, next_stop, stop_by, stop_with, with_one}
 use Rattle.bridge_courses.specs.Leading.{leads_to}
-
-pub some_is_none : {X : Type 0} (x : X) → ¬ (Some x ≡ None)
-some_is_none x e = cc
-
-none_is_some : {X : Type 0} (x : X) → ¬ (None ≡ Some x)
-none_is_some x e = cc
 
 in_filter : {X : Type 0} (p : X → Bool) (x : X) (xs : List X) → In x xs → p x ≡ true → In x (filter p xs)
 in_filter p x [] i own = absurd i
@@ -73,8 +68,8 @@ holds_one (gathered.Figures x) y r is = lies_both x y r is
 
 holds_some : (g : Gathered) (r : Course) → figures_of g ≡ Some r → Holds g r
 unfolding Holds Lies
-holds_some gathered.Nothing r is = absurd (none_is_some r is)
-holds_some (gathered.Figures None) r is = absurd (none_is_some r is)
+holds_some gathered.Nothing r is = absurd (none-some r is)
+holds_some (gathered.Figures None) r is = absurd (none-some r is)
 holds_some (gathered.Figures (Some x)) r is =
     let same = same_Some x r is in
     let worst : x.worst ≡ r.worst = ap (λ (z : Course). z.worst) same in

@@ -6,14 +6,14 @@ pub turns : (opens : ℕ → Bool) (c n u : ℕ) → Repeats opens c → opens (
 turns opens c zero u r = ap opens (omega arith)
 turns opens c (suc n) u r = let e : u + suc n * c ≡ u + n * c + c = omega arith in ap opens e ∙ (r (u + n * c) ∙ turns opens c n u r)
 
-up : (opens : ℕ → Bool) (c occ n t : ℕ) → Repeats opens c → Fits opens occ t → Fits opens occ (t + n * c)
-up opens c occ n t r f u a b =
+pub fits_up : (opens : ℕ → Bool) (c occ n t : ℕ) → Repeats opens c → Fits opens occ t → Fits opens occ (t + n * c)
+fits_up opens c occ n t r f u a b =
     let w = u - n * c in
     let e : w + n * c ≡ u = omega arith in
     ap opens (sym e) ∙ (turns opens c n w r ∙ f w (omega arith) (omega arith))
 
-down : (opens : ℕ → Bool) (c occ n t : ℕ) → Repeats opens c → Fits opens occ (t + n * c) → Fits opens occ t
-down opens c occ n t r f u a b = sym (turns opens c n u r) ∙ f (u + n * c) (omega arith) (omega arith)
+pub fits_down : (opens : ℕ → Bool) (c occ n t : ℕ) → Repeats opens c → Fits opens occ (t + n * c) → Fits opens occ t
+fits_down opens c occ n t r f u a b = sym (turns opens c n u r) ∙ f (u + n * c) (omega arith) (omega arith)
 
 -- what fits once fits within a cycle of any moment
 pub fits_near : (opens : ℕ → Bool) (c occ t from : ℕ) → 0 < c → Repeats opens c → Fits opens occ t → (u : ℕ) × (from ≤ u) × (u < from + c) × Fits opens occ u
@@ -24,4 +24,4 @@ fits_near opens c occ t from some r f =
     let q = (far - from) / c in
     let below : p < c = mod-lt (far - from) some in
     let e : far ≡ from + p + q * c = grind arith in
-    (from + p, omega arith, omega arith, down opens c occ q (from + p) r (subst (Fits opens occ) e (up opens c occ from t r f)))
+    (from + p, omega arith, omega arith, fits_down opens c occ q (from + p) r (subst (Fits opens occ) e (fits_up opens c occ from t r f)))

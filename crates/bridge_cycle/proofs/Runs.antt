@@ -80,7 +80,8 @@ ran_closed opens longest run seen end r h o =
 pub ran_done : (opens : ℕ → Bool) (longest run seen n : ℕ) → Ran opens longest run seen → n ≤ seen → IsLongestBefore opens n longest
 ran_done opens longest run seen n r h = record { fits = r.fits; most = λ occ t k f. r.most occ t (omega arith) f }
 
-fits_less : (opens : ℕ → Bool) (occ less t : ℕ) → less ≤ occ → Fits opens occ t → Fits opens less t
+-- where a length fits, a shorter one does
+pub fits_less : (opens : ℕ → Bool) (occ less t : ℕ) → less ≤ occ → Fits opens occ t → Fits opens less t
 fits_less opens occ less t h f u p q = f u p (omega arith)
 
 -- what fits somewhere is within a length that two cycles show

@@ -1,9 +1,9 @@
 -- Where the ports of a bridge lead, one port more.
 use Rattle.std.proofs.Common.{◌≡◌, inl, inr, ℕ, ◌+◌, Bool, List, [], ◌∷◌, ◌++◌, length, sym, ap, ◌∙◌, arith}
 use Rattle.std.specs.Prelude.{IfOk, Result, Ok, Err}
+use Rattle.bridge_limits.proofs.Lists.{pushed}
 use Rattle.bridge_network.specs.declared.links.Link.{Link}
 use Rattle.bridge_tracing.specs.declared.hops.HopRun.{HopRun}
-use Rattle.bridge_tracing.proofs.Traced.{pushed}
 use Rattle.bridge_delays.specs.Hops.{AreAnswers, leads_on}
 
 pub answers_more : {A : Type 0} (links : List Link) (hops : List (HopRun A)) (b : ℕ) (ways : List Bool) (on : Bool) (q : ℕ) → length ways + 1 ≡ q → on ≡ leads_on links hops b q → AreAnswers links hops b ways

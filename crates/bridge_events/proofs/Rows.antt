@@ -3,15 +3,12 @@ use Rattle.std.proofs.Common.{◌≡◌, ℕ, true, ◌+◌, ◌-◌, ◌<◌, �
 use Rattle.std.specs.Prelude.{◌⊎◌, nat_le, nat_lt, if◌then◌else◌, slice_index_or}
 use Rattle.std.proofs.lemmas.Bool.Decides.{nat_tests}
 use Rattle.bridge_limits.proofs.Cases.{by_bool}
+use Rattle.bridge_limits.proofs.Options.{none_of}
 use Rattle.bridge_events.specs.Least.{IsLeast, entry, earlier, in_row}
 
 -- the moments of the ports up to n
 abbrev pub up_to : ℕ → (ℕ → Option ℕ) → ℕ → Option ℕ
 up_to n held p = if nat_le p n then held p else None
-
-pub none_of : (o : Option ℕ) → ((u : ℕ) → o ≡ Some u → ⊥) → o ≡ None
-none_of None h = refl
-none_of (Some u) h = absurd (h u refl)
 
 pub none_some : (o : Option ℕ) (u : ℕ) → o ≡ None → o ≡ Some u → ⊥
 none_some o u h k = cc

@@ -8,7 +8,8 @@ use Rattle.bridge_events.specs.Least.{IsLeast}
 use Rattle.bridge_events.specs.Tree.{IsTree, in_tree, moment_of, node_at}
 use Rattle.bridge_events.specs.declared.tree.TheConstants.{NO_MOMENT}
 use Rattle.bridge_limits.proofs.Cases.{by_bool}
-use Rattle.bridge_events.proofs.Rows.{none_of, none_some, some_is}
+use Rattle.bridge_limits.proofs.Options.{none_of}
+use Rattle.bridge_events.proofs.Rows.{none_some, some_is}
 
 -- Keys.
 

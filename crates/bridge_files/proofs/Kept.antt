@@ -38,12 +38,6 @@ kept_through f g h (u ∷ us) [] ws p q = absurd p
 kept_through f g h (u ∷ us) (v ∷ vs) [] p q = absurd q
 kept_through f g h (u ∷ us) (v ∷ vs) (w ∷ ws) p q = (Keeps-trans (f u) (g v) (h w) p.0 q.0, kept_through f g h us vs ws p.1 q.1)
 
--- a list that is longer than a place has something there
-pub there : {X : Type 0} (xs : List X) (i : ℕ) → i < length xs → (x : X) × (slice_get xs i ≡ Some x)
-there [] i l = absurd (omega (arith, l))
-there (x ∷ xs) zero l = (x, refl)
-there (x ∷ xs) (suc i) l = there xs i (omega (arith, l))
-
 pub none_push : {V : Type 0} (failed : V → Bool) (vs : List V) (v : V) → NoneFailed failed vs → failed v ≡ false → NoneFailed failed (vs ++ v ∷ [])
 none_push failed [] v h e = (e, tt)
 none_push failed (x ∷ vs) v h e = (h.0, none_push failed vs v h.1 e)

@@ -1,5 +1,5 @@
 -- A run into sinks, as one into the writers behind them.
-use Rattle.std.proofs.Common.{◌≡◌, ℕ, ◌≤◌, inl, inr, Bool, true, false, Option, Some, None, List, [], ◌∷◌, ◌++◌, length, take, drop, slice_get, refl, sym, ap, subst, ◌∙◌, arith, take_all, drop_of_length-le, append-nil, rules, zero, suc, map}
+use Rattle.std.proofs.Common.{◌≡◌, ℕ, ◌≤◌, inl, inr, Bool, true, false, Option, Some, None, List, [], ◌∷◌, length, slice_get, refl, sym, ap, subst, ◌∙◌, arith, rules, zero, suc, map}
 use Rattle.std.proofs.lemmas.List.{length-map}
 use Rattle.std.proofs.lemmas.Option.{slice_get_within, same_Some}
 use Rattle.std.proofs.KnownBytes.{Appends-kept}
@@ -16,27 +16,24 @@ use Rattle.bridge_inputs.specs.Devices.{HasFailed}
 use Rattle.std.specs.Prelude.{nat_eq, if◌then◌else◌, ◌<◌}
 use Rattle.std.proofs.lemmas.Bool.{eq-eqb}
 use Rattle.std.proofs.lemmas.Bool.Decides.{nat_tests}
-use Rattle.bridge_limits.specs.Members.{AllAfter, Rising}
+use Rattle.bridge_limits.specs.Members.{Rising}
+use Rattle.bridge_limits.proofs.Lists.{there_is, heads, tails}
+use Rattle.bridge_limits.proofs.Members.{after_at}
 use Rattle.bridge_inputs.specs.Lanes.{AreRests, AreTexts}
 use Rattle.bridge_core.specs.Lines.{AreWritten}
 use Rattle.bridge_core.specs.Simulated.{AreNumbers, Runs, Stops}
 use Rattle.bridge_core.specs.Taking.{StopsAmong, StopsSo}
 use Rattle.bridge_core.proofs.Simulating.{ports_many}
 use Rattle.bridge_files.specs.Flushed.{AllKept, NoneFailed, StopsFlushed}
-use Rattle.bridge_files.proofs.Kept.{kept_at, kept_length, kept_through, none_at, there}
-
--- a list that was lent and came back with as many
-pub lent : {X : Type 0} (old new : List X) (n : ℕ) → n ≡ length old → length new ≡ length old → take n (new ++ drop (length new) old) ≡ new
-lent old new n many same =
-    ap (λ l. take n (new ++ l)) (drop_of_length-le old (omega (arith, same))) ∙ ap (take n) (append-nil new) ∙ take_all n new (omega (arith, many, same))
+use Rattle.bridge_files.proofs.Kept.{kept_at, kept_length, kept_through, none_at}
 
 -- what sinks hold between, writers hold in the end
 pub written_over : {W S : Type 0} (contents : W → Option (List ℕ)) (sunk : S → Option (List ℕ)) (ports : List ℕ) (writers news : List W) (olds mids : List S) (left : ℕ → List Captured) → AllKept contents sunk writers olds → AllKept sunk contents mids news → length mids ≡ length olds → AreWritten sunk ports olds mids left → AreWritten contents ports writers news left
 written_over contents sunk ports writers news olds mids left before after same written i q old new at held holds =
     let many = kept_length contents sunk writers olds before in
     let within = slice_get_within writers i old held in
-    let o = there olds i (omega (arith, many, within)) in
-    let m = there mids i (omega (arith, many, within, same)) in
+    let o = there_is olds i (omega (arith, many, within)) in
+    let m = there_is mids i (omega (arith, many, within, same)) in
     let all = written i q o.0 m.0 at o.1 m.1 in (
       Appends-kept (contents old) (sunk m.0) (contents new) (written_text (left q))
           (kept_appends (contents old) (sunk o.0) (sunk m.0) (written_text (left q)) (kept_at contents sunk writers olds i old o.0 before held o.1) all.0)
@@ -100,7 +97,7 @@ untouched_over contents sunk writers news olds mids before after same = kept_thr
 no_write : {S : Type 0} (failed : S → Bool) (ports : List ℕ) (mids : List S) (port place : ℕ) → length mids ≡ length ports → NoneFailed failed mids → HasFailed failed ports port mids → slice_get ports place ≡ Some port → ⊥
 no_write failed ports mids port place same sound bad at =
     let within = slice_get_within ports place port at in
-    let m = there mids place (omega (arith, same, within)) in
+    let m = there_is mids place (omega (arith, same, within)) in
     let yes : failed m.0 ≡ true = bad place m.0 at m.1 in
     let no : failed m.0 ≡ false = none_at failed mids place m.0 sound m.1 in
     let both : true ≡ false = cc in
@@ -129,11 +126,6 @@ rest_of asked [] sources q = None
 rest_of asked (p ∷ ports) [] q = None
 rest_of asked (p ∷ ports) (s ∷ sources) q = if nat_eq p q then asked s else rest_of asked ports sources q
 
-after_at : (p q : ℕ) (ports : List ℕ) (i : ℕ) → AllAfter (λ a b. a < b) p ports → slice_get ports i ≡ Some q → p < q
-after_at p q [] i a e = absurd (cc)
-after_at p q (r ∷ ports) zero a e = subst (λ (z : ℕ). p < z) (same_Some r q e) a.0
-after_at p q (r ∷ ports) (suc i) a e = after_at p q ports i a.1 e
-
 -- there are such rests of sources
 pub are_rests : {S : Type 0} (asked : S → Option (List ℕ)) (ports : List ℕ) (sources : List S) → Rising (λ a b. a < b) ports → AreRests asked ports (rest_of asked ports sources) sources
 are_rests asked [] sources r i q s at held = absurd (cc)
@@ -143,7 +135,7 @@ are_rests {S} asked (p ∷ ports) (t ∷ sources) r zero q s at held =
     let is : t ≡ s = same_Some t s held in
     ap asked (sym is) ∙ sym (ap (λ b. if b then asked t else rest_of asked ports sources q) (eq-eqb p q same))
 are_rests {S} asked (p ∷ ports) (t ∷ sources) r (suc i) q s at held =
-    let less = after_at p q ports i r.0 at in
+    let less = after_at (λ (a b : ℕ). a < b) p ports i q r.0 at in
     let apart : nat_eq p q ≡ false = grind (arith, nat_tests) in
     are_rests asked ports sources r.1 i q s at held ∙ sym (ap (λ b. if b then asked t else rest_of asked ports sources q) apart)
 
@@ -171,22 +163,16 @@ none_kept f (v ∷ vs) ws many same = absurd (omega (arith, many))
 pub same_many : {X Y Z : Type 0} (f : X → Z) (g : Y → Z) (xs : List X) (ys : List Y) → map f xs ≡ map g ys → length xs ≡ length ys
 same_many f g xs ys same = sym (length-map xs f) ∙ ap length same ∙ length-map ys g
 
-head_is : {X : Type 0} (a b : X) (xs ys : List X) → a ∷ xs ≡ b ∷ ys → a ≡ b
-head_is a b xs ys h = cc
-
-tail_is : {X : Type 0} (a b : X) (xs ys : List X) → a ∷ xs ≡ b ∷ ys → xs ≡ ys
-tail_is a b xs ys h = cc
-
 map_at : {X Y Z : Type 0} (f : X → Z) (g : Y → Z) (xs : List X) (ys : List Y) (i : ℕ) (x : X) (y : Y) → map f xs ≡ map g ys → slice_get xs i ≡ Some x → slice_get ys i ≡ Some y → f x ≡ g y
 map_at f g [] ys i x y same a b = absurd (cc)
 map_at f g (u ∷ xs) [] i x y same a b = absurd (cc)
-map_at f g (u ∷ xs) (v ∷ ys) zero x y same a b = ap f (sym (same_Some u x a)) ∙ head_is (f u) (g v) (map f xs) (map g ys) same ∙ ap g (same_Some v y b)
-map_at f g (u ∷ xs) (v ∷ ys) (suc i) x y same a b = map_at f g xs ys i x y (tail_is (f u) (g v) (map f xs) (map g ys) same) a b
+map_at f g (u ∷ xs) (v ∷ ys) zero x y same a b = ap f (sym (same_Some u x a)) ∙ heads (f u) (g v) (map f xs) (map g ys) same ∙ ap g (same_Some v y b)
+map_at f g (u ∷ xs) (v ∷ ys) (suc i) x y same a b = map_at f g xs ys i x y (tails (f u) (g v) (map f xs) (map g ys) same) a b
 
 -- the texts of readers are those of the sources before them
 pub texts_over : {R S : Type 0} (remaining : R → Option (List ℕ)) (asked : S → Option (List ℕ)) (ports : List ℕ) (texts : ℕ → List ℕ) (readers : List R) (sources : List S) → map asked sources ≡ map remaining readers → AreTexts remaining ports texts readers → AreTexts asked ports texts sources
 texts_over remaining asked ports texts readers sources same read i q s at held =
     let many = same_many asked remaining sources readers same in
     let within = slice_get_within sources i s held in
-    let r = there readers i (omega (arith, many, within)) in
+    let r = there_is readers i (omega (arith, many, within)) in
     map_at asked remaining sources readers i s r.0 same held r.1 ∙ read i q r.0 at r.1

@@ -13,8 +13,10 @@ mod wiring;
 
 pub use cause::{cause_of_read, cause_of_write, is_there};
 pub use files::{add_files, create_all, is_same_folder, open_all, output_apart};
-pub use output::{FileId, Output, add_file, are_same, file_at, file_of, is_one_of, output_at};
+pub use output::{
+    FileId, Output, add_file, are_same, file_at, file_of, files_at, is_one_of, output_at,
+};
 pub use paths::{capture_path, report_path};
 pub use running::{Halted, run_over};
-pub use taking::{MOST_TEXT, open_noted, open_taken, read_noted, take_text, text_at};
+pub use taking::{MOST_TEXT, is_network, open_noted, open_taken, read_noted, take_text, text_at};
 pub use wiring::{Said, is_standard, say, wire_files, wire_noted, wire_over};

@@ -121,6 +121,17 @@ pub fn add_file(files: &mut Vec<FileId>, file: Option<FileId>) -> Result<(), NoM
     }
 }
 
+/// The files of some paths, where the system tells which they are.
+pub fn files_at<H: AllocGlobal + Files>(rt: &H, paths: &[String]) -> Result<Vec<FileId>, NoMemory> {
+    let mut files = Vec::new(rt.alloc());
+    for path in paths {
+        let Ok(()) = add_file(&mut files, file_at(rt, path.as_str())) else {
+            return Err(NoMemory);
+        };
+    }
+    Ok(files)
+}
+
 /// Whether a file is one of a list. One that isn't known is none of them.
 pub fn is_one_of(files: &[FileId], file: Option<FileId>) -> bool
     ensures { IsTrue result ↔ IsAmong files.now file }

@@ -24,9 +24,9 @@ pub struct Halted<W, A: Allocator> {
 /// Sends what readers give, one for each port by rising number, and commands through the bridge of an accepted plan into
 /// writers, one for each port, which are handed back with all of it.
 ///
-/// Each is asked for 65,536 octets at once, for half of them where there are more than eight. After the run, also after its fault,
-/// each writer gets what is held back for it, by rising port; the first that fails is `Write` of its port, which comes before
-/// the fault of the run.
+/// Each is asked for 65,536 octets at once, for half of them where there are more than eight. After the run, also after its
+/// fault, each writer gets what is held back for it, by rising port; the first that fails is `Write` of its port, which comes
+/// before the fault of the run.
 pub fn run_over<R: Read + Drop, W: Write + Drop, A: Allocator + Copy>(
     alloc: A,
     accepted: &Accepted<A>,

@@ -3,6 +3,7 @@ use Rattle.std.specs.Prelude.{nat_eq, Option, Some, None, IsSome, IsTrue, if◌t
 use Rattle.std.specs.Option.{option_map, is_some}
 use Rattle.std.specs.Map.{lookup, keys_of}
 use Rattle.std.proofs.Math.Bool.{and-false}
+use Rattle.bridge_limits.proofs.Orders.{same_eq}
 use Rattle.bridge_meter.specs.Standing as meter
 use Rattle.bridge_gate.specs.Standing as gate
 use Rattle.bridge_gate.specs.Gates as gates
@@ -17,7 +18,7 @@ use Rattle.bridge_filter.specs.declared.find.Route.{Route}
 use Rattle.bridge_filter.specs.Verdicts.{Plans, Event, Cleared, Step, Commanded, told, gate_share, meter_share}
 use Rattle.bridge_filter.specs.Standing.{PoliceState, Stands, has_instance, AreKept, IsKept, GatesStand, MetersStand}
 use Rattle.bridge_filter.specs.Steps.{GatesBefore, MetersBefore, InstancesStay, HaveInstances, IsSound, plans_in}
-use Rattle.bridge_filter.proofs.Numbered.{Changes, each_after, same_eq, keeps_numbers}
+use Rattle.bridge_filter.proofs.Numbered.{Changes, each_after, keeps_numbers}
 use Rattle.bridge_filter.proofs.Judging.{has_meter_later, lookup-plans_in}
 use Rattle.bridge_filter.proofs.Flows.{is_there-lookup}
 

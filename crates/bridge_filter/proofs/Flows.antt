@@ -5,11 +5,11 @@ use Rattle.std.specs.Map.{lookup}
 use Rattle.std.proofs.lemmas.Option.{same_Some}
 use Rattle.std.proofs.lemmas.Bool.{eqb-true}
 use Rattle.bridge_limits.proofs.Cases.{by_bool}
+use Rattle.bridge_limits.proofs.Orders.{same_eq}
 use Rattle.bridge_filter.specs.declared.FilterPlan.{FilterPlan}
 use Rattle.bridge_filter.specs.declared.find.Route.{Route}
 use Rattle.bridge_filter.specs.Verdicts.{Call, flow, lesser, is_match}
 use Rattle.bridge_filter.specs.Plans.{is_there, are_distinct}
-use Rattle.bridge_filter.proofs.Numbered.{same_eq}
 
 -- a number is in a list exactly where a look-up finds it
 pub is_there-lookup : {X : Type 0} (n : ℕ) (xs : List (ℕ × X)) → is_there n xs ≡ is_some (lookup (nat_eq n) xs)

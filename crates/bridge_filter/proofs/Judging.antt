@@ -16,11 +16,13 @@ use Rattle.std.specs.Map.{lookup, set_value, keys_of}
 use Rattle.indexmap.specs.Layout.{set_value_at}
 use Rattle.bridge_filter.specs.Finding.{IsPlaceIfAny}
 use Rattle.std.specs.Option.{option_map}
-use Rattle.std.proofs.lemmas.List.{length-append, append-nil, length-map}
+use Rattle.std.proofs.lemmas.List.{append-nil, length-map}
 use Rattle.std.proofs.lemmas.List.Sums.{sum_by-append}
 use Rattle.std.proofs.lemmas.Option.{same_Some, slice_get-map, slice_get_within, some_pair_parts}
 use Rattle.bridge_limits.proofs.Cases.{by_bool}
-use Rattle.bridge_filter.proofs.Numbered.{same_eq, Changes, each_after, place_within}
+use Rattle.bridge_limits.proofs.Lists.{one_longer}
+use Rattle.bridge_limits.proofs.Orders.{same_eq}
+use Rattle.bridge_filter.proofs.Numbered.{Changes, each_after, place_within}
 use Rattle.bridge_filter.proofs.Shares.{gate_share-refused, meter_share-refused, gates_stand_same, meters_stand_same}
 
 refused_by : (a b : Bool) (v z : Verdict) → (if a then Some verdict.Blocked else (if b then Some verdict.Oversize else None)) ≡ Some v → v ≡ (if a then verdict.Blocked else (if b then verdict.Oversize else z))
@@ -64,12 +66,9 @@ refused_shares p gates meters ss c n f v h are =
 count_by-more : (p : Verdict → Bool) (vs : List Verdict) (v : Verdict) → count_by p (vs ++ v ∷ []) ≡ count_by p vs + one_if (p v)
 count_by-more p vs v = sum_by-append (λ (x : Verdict). one_if (p x)) vs (v ∷ []) ∙ omega arith
 
-length-more : (vs : List Verdict) (v : Verdict) → length (vs ++ v ∷ []) ≡ length vs + 1
-length-more vs v = length-append vs (v ∷ []) ∙ omega arith
-
 -- the counters of one more verdict
 pub counters_of-more : (vs : List Verdict) (v : Verdict) → counters_of (vs ++ v ∷ []) ≡ counted (counters_of vs) v
-counters_of-more vs v = rw (length-more vs v, count_by-more reached_gate vs v, count_by-more is_oversize vs v, count_by-more passed_gate vs v, count_by-more refused_by_gate vs v, count_by-more dropped_by_meter vs v) refl
+counters_of-more vs v = rw (one_longer vs v, count_by-more reached_gate vs v, count_by-more is_oversize vs v, count_by-more passed_gate vs v, count_by-more refused_by_gate vs v, count_by-more dropped_by_meter vs v) refl
 
 blocked_more : (enabled over was : Bool) → (enabled && was) || (enabled && over) ≡ enabled && (over || was)
 blocked_more true true true = refl

@@ -1,17 +1,16 @@
 use Rattle.std.proofs.Common.{◌≡◌, ℕ, Bool, true, false, List, [], ◌∷◌, ◌++◌, ◌+◌, ◌<◌, arith, refl, ap, ◌∙◌, sym, subst, length, take, drop, get_or, drop-cons, add-one}
 use Rattle.std.proofs.lemmas.List.{take_more, map-append, take-append-drop, append_assoc, append-nil}
-use Rattle.std.proofs.lemmas.Bool.Decides.{nat_tests}
 use Rattle.std.specs.Prelude.{nat_eq, if◌then◌else◌, not, ◌&&◌, Option, Some, None}
 use Rattle.std.specs.Option.{option_map}
 use Rattle.std.specs.Map.{lookup}
 use Rattle.std.specs.List.{list_all}
 use Rattle.std.proofs.lemmas.Bool.{and_parts, eqb-true}
 use Rattle.bridge_limits.proofs.Cases.{by_bool}
+use Rattle.bridge_limits.proofs.Orders.{swapped, same_eq}
 use Rattle.bridge_filter.specs.declared.FilterPlan.{FilterPlan}
 use Rattle.bridge_filter.specs.Plans.{is_there, are_distinct}
 use Rattle.bridge_filter.specs.Finding.{lesser_number, least_by}
 use Rattle.bridge_filter.specs.Steps.{Made, AreMade, new_filter, new_filters, plans_in}
-use Rattle.bridge_filter.proofs.Numbered.{same_eq}
 use Rattle.bridge_filter.proofs.Found.{second_lesser}
 
 -- numbers of a list with one more at its end
@@ -42,9 +41,6 @@ lookup-more_own k p [] h = rw (same_eq k) refl
 lookup-more_own k p (x ∷ xs) h = by_bool (nat_eq k x.0)
     (λ e. absurd (let z = rw e at h in cc))
     (λ e. let z : lookup (nat_eq k) xs ≡ None = rw e at h in rw e (lookup-more_own k p xs z))
-
-swapped : (m n : ℕ) → nat_eq m n ≡ false → nat_eq n m ≡ false
-swapped m n h = grind (arith, nat_tests)
 
 -- one more is made
 pub made_more : {P X : Type 0} (R : P → X → Type 0) (plans : List (ℕ × P)) (made new : List (ℕ × X)) (k : ℕ) (p : P) (x : X) → lookup (nat_eq k) plans ≡ None → ((q : ℕ) → lookup (nat_eq q) new ≡ (if nat_eq k q then Some x else lookup (nat_eq q) made)) → R p x → AreMade R plans made → AreMade R (plans ++ (k, p) ∷ []) new

@@ -7,8 +7,8 @@ use Rattle.std.proofs.lemmas.Option.{same_Some}
 use Rattle.std.proofs.lemmas.Bool.{eqb-true, false≢true, and_parts, not-true}
 use Rattle.bridge_limits.specs.Members.{In}
 use Rattle.bridge_limits.proofs.Cases.{by_bool}
+use Rattle.bridge_limits.proofs.Orders.{same_eq}
 use Rattle.bridge_filter.specs.Plans.{is_there, are_distinct}
-use Rattle.bridge_filter.proofs.Numbered.{same_eq}
 
 number_there : {X : Type 0} (n : ℕ) (xs : List (ℕ × X)) (x : X) → lookup (nat_eq n) xs ≡ Some x → is_there n xs ≡ true
 number_there n xs x h = ap is_some h

@@ -1,5 +1,4 @@
-use Rattle.std.proofs.Common.{◌≡◌, ℕ, true, false, List, [], ◌∷◌, ◌<◌, arith, refl, ap, ◌∙◌, sym, subst, Some, length}
-use Rattle.std.proofs.lemmas.Bool.Decides.{nat_tests}
+use Rattle.std.proofs.Common.{◌≡◌, ℕ, false, List, [], ◌∷◌, ◌<◌, refl, ap, ◌∙◌, sym, subst, Some, length}
 use Rattle.std.specs.Prelude.{nat_eq, slice_get}
 use Rattle.std.specs.Option.{option_map}
 use Rattle.std.specs.List.{list_any}
@@ -13,9 +12,6 @@ use Rattle.indexmap.proofs.CallerLemmas.{updates-with_value_at}
 use Rattle.bridge_filter.specs.Plans.{KeepsNumbers, is_there}
 use Rattle.std.proofs.lemmas.Bool.{eqb-true, eqb-false}
 use Rattle.bridge_limits.proofs.Cases.{by_bool}
-
-pub same_eq : (n : ℕ) → nat_eq n n ≡ true
-same_eq n = grind (arith, nat_tests)
 
 apart : (n k : ℕ) → (k ≡ n → ⊥) → nat_eq n k ≡ false
 apart n k differ = by_bool (nat_eq n k) (λ e. absurd (differ (sym (eqb-true n k e)))) (λ e. e)

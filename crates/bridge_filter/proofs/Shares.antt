@@ -1,6 +1,7 @@
 use Rattle.std.proofs.Common.{◌≡◌, ℕ, true, false, List, ◌∷◌, ◌≤◌, refl}
 use Rattle.std.specs.Prelude.{nat_eq, if◌then◌else◌, Option, Some, None}
 use Rattle.std.proofs.Math.Bool.{and-true, and-false}
+use Rattle.bridge_limits.proofs.Orders.{same_eq}
 use Rattle.bridge_meter.specs.declared.MeterPlan.{MeterPlan}
 use Rattle.bridge_meter.specs.Colours.{MeterEvent, Came, colour_of, past}
 use Rattle.bridge_meter.specs.Standing as meter
@@ -14,7 +15,7 @@ use Rattle.bridge_filter.specs.declared.Verdict.TheVariants.{Pass}
 use Rattle.bridge_gate.specs.declared.gate.GateAnswer.{GateAnswer}
 use Rattle.bridge_gate.specs.declared.gate.GateAnswer.TheVariants.{Through}
 use Rattle.bridge_filter.specs.Verdicts.{Plans, Call, by_answer, by_colour, Step, Judged, gate_share, meter_share, is_meter, reached_gate, passed_gate}
-use Rattle.bridge_filter.proofs.Numbered.{Changes, each_after, same_eq}
+use Rattle.bridge_filter.proofs.Numbered.{Changes, each_after}
 
 -- after one gate was given an event, each stands for its share with it
 pub gates_after : {A : Type 0} (old new : List (ℕ × gate.Gate A)) (n : ℕ) (g h : gate.Gate A) (e : GateEvent) → Changes old new n g h → ((r : GateRules) (es : List GateEvent) → gate.StandsFor r g es → gate.StandsFor r h (e ∷ es)) → (rules : ℕ → GateRules) (share : ℕ → List GateEvent) → GatesStand rules old share → GatesStand rules new (λ k. if nat_eq n k then e ∷ share k else share k)

@@ -1,28 +1,17 @@
 -- One number for a VLAN identifier and an address: different ones have different numbers.
-use Rattle.std.proofs.Common.{◌≡◌, ℕ, zero, suc, ◌<◌, ◌&&◌, nat_eq, List, length, get_or, take, drop, ◌++◌, refl, sym, ap, ◌∙◌, arith}
-use Rattle.std.specs.Int.{w16, to_be_bytes, from_be_bytes}
+use Rattle.std.proofs.Common.{◌≡◌, ℕ, ◌&&◌, nat_eq, List, take, drop, refl, sym, ap, ◌∙◌}
+use Rattle.std.specs.Int.{w16, from_be_bytes}
 use Rattle.std.specs.Str.{bytes_eq}
-use Rattle.std.proofs.lemmas.Nat.{be_bytes_8, from_be_bytes-to_be_bytes_2, mod_below}
+use Rattle.std.proofs.lemmas.Nat.{be_bytes_8, from_be_bytes-to_be_bytes_2}
 use Rattle.std.proofs.lemmas.Bool.Decides.{same_from_decides, Decides-like, Decides-eqb, Decides-and}
 use Rattle.std.proofs.lemmas.Slice.Eq.{bytes_eq-Decides}
+use Rattle.bridge_limits.proofs.Octets.{octets_of, octet_below, eight}
 use Rattle.bridge_forward.specs.Kept.{IsKey, key_of}
-
--- the eight octets of a key
-abbrev octets_of : ℕ → List ℕ → List ℕ
-octets_of vid address = to_be_bytes w16 vid ++ address
-
-octet_below : (vid : ℕ) (address : List ℕ) → IsKey vid address → (i : ℕ) → get_or (octets_of vid address) i 0 < 256
-octet_below vid address k zero = mod_below _ 256 (omega arith)
-octet_below vid address k (suc zero) = mod_below _ 256 (omega arith)
-octet_below vid address k (suc (suc i)) = k.octets i
-
-eight : (vid : ℕ) (address : List ℕ) → IsKey vid address → length (octets_of vid address) ≡ 8
-eight vid address k = let six = k.six in omega arith
 
 -- equal numbers come of equal octets
 same_octets : (v w : ℕ) (a b : List ℕ) → IsKey v a → IsKey w b → key_of v a ≡ key_of w b → octets_of v a ≡ octets_of w b
 unfolding key_of
-same_octets v w a b k l e = sym (be_bytes_8 (octets_of v a) (key_of v a) (eight v a k) (octet_below v a k) refl) ∙ be_bytes_8 (octets_of w b) (key_of v a) (eight w b l) (octet_below w b l) e
+same_octets v w a b k l e = sym (be_bytes_8 (octets_of v a) (key_of v a) (eight v a k.six) (octet_below v a k.octets) refl) ∙ be_bytes_8 (octets_of w b) (key_of v a) (eight w b l.six) (octet_below w b l.octets) e
 
 same_address : (v w : ℕ) (a b : List ℕ) → IsKey v a → IsKey w b → key_of v a ≡ key_of w b → a ≡ b
 same_address v w a b k l e = ap (drop 2) (same_octets v w a b k l e)

@@ -1,8 +1,9 @@
 -- What is read of a frame that was marked drop eligible.
-use Rattle.std.proofs.Common.{◌≡◌, ◌<◌, ◌+◌, ◌*◌, ◌/◌, ◌%◌, ◌&&◌, ℕ, zero, suc, Bool, true, false, List, ◌∷◌, length, take, drop, slice_index, nat_eq, nat_lt, nat_le, arith, inl, inr, refl, ap, sym, ◌∙◌, Some, None, Result, Ok, Err}
+use Rattle.std.proofs.Common.{◌≡◌, ◌<◌, ◌+◌, ◌*◌, ◌/◌, ◌%◌, ℕ, zero, suc, Bool, true, false, List, ◌∷◌, length, take, drop, slice_index, nat_eq, nat_lt, nat_le, arith, inl, inr, refl, ap, Some, None, Result, Ok, Err}
 use Rattle.std.specs.Prelude.{if◌then◌else◌}
 use Rattle.std.proofs.lemmas.Bool.{cases_Bool, and_parts, eqb-true, eqb-false, leb-false, lt-ltb}
 use Rattle.bridge_limits.specs.declared.TheConstants.{LONGEST_FRAME}
+use Rattle.bridge_limits.proofs.Cases.{left_false}
 use Rattle.bridge_frame.specs.declared.Head.{Head}
 use Rattle.bridge_frame.specs.declared.FrameFault.{FrameFault}
 use Rattle.bridge_frame.specs.declared.FrameFault.TheVariants.{TooShort, TooLong}
@@ -67,10 +68,6 @@ marked_parts a0 a1 a2 a3 a4 a5 a6 a7 a8 a9 a10 a11 a12 a13 a14 b rest len h set 
     let tag : tag_in ys ≡ record { pcp = (tag_in xs).pcp; dei = true; vid = (tag_in xs).vid } = rw (set.pcp, set.dei, vid) refl in
     let same : read ys len ≡ marked (read xs len) = rw (t, tag) refl in
     other_head (nat_lt (length xs) 14) (nat_lt (length xs) (head_octets xs)) (nat_lt LONGEST_FRAME len) (read xs len) (read ys len) h same e
-
-left_false : (x y : Bool) → (x && y) ≡ false → y ≡ true → x ≡ false
-left_false true y h t = sym t ∙ h
-left_false false y h t = refl
 
 -- the head of a frame that was not marked, since it has no tag: it has no tag to mark
 unmarked_head : (octets : List ℕ) (len : ℕ) (h : Head) → has_tag octets ≡ false → head octets len ≡ Ok h → head octets len ≡ Ok (marked h)

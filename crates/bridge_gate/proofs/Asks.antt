@@ -33,8 +33,8 @@ used_more line t n ipv x z ss h = rw h refl
 apart : (a b : ℤ) → (a ≡ b → ⊥) → int_eq a b ≡ false
 apart a b h = by_bool (int_eq a b) (λ e. absurd (h ((Decides-int_eq a b).0 e))) (λ e. e)
 
-same_start : (a b : ℤ) → int_eq a b ≡ true → a ≡ b
-same_start a b e = (Decides-int_eq a b).0 e
+pub same_int : (a b : ℤ) → int_eq a b ≡ true → a ≡ b
+same_int a b e = (Decides-int_eq a b).0 e
 
 other_start : (a b : ℤ) → int_eq a b ≡ false → a ≡ b → ⊥
 other_start a b e z = let w = (Decides-int_eq a b).1 z in cc
@@ -58,7 +58,7 @@ count_more : {A : Type 0} (r : GateRules) (g : Gate A) (es : List GateEvent) (t 
 count_more r g es t u n limit ipv x y most l st le later h k m q =
     used_more r.turn_at t n ipv x y.start (steps r es) h ∙ by_bool (int_eq x.start y.start)
     (λ e.
-    let same : x.start ≡ y.start = same_start x.start y.start e in
+    let same : x.start ≡ y.start = same_int x.start y.start e in
     let old : used r.turn_at y.start (steps r es) ≡ count_in g x.start = subst (λ (z : ℤ). used r.turn_at z (steps r es) ≡ count_in g x.start) same (st.counted t x most le h m) in
     rw (e, old) (omega arith))
     (λ e.
@@ -71,7 +71,7 @@ count_stays : {A : Type 0} (r : GateRules) (g : Gate A) (es : List GateEvent) (t
 count_stays r g es t u n limit ipv x y l st le later h k m q =
     used_more r.turn_at t n ipv x y.start (steps r es) h ∙ by_bool (int_eq x.start y.start)
     (λ e.
-    let one : x ≡ y = l.one t u x y h k later (same_start x.start y.start e) in
+    let one : x ≡ y = l.one t u x y h k later (same_int x.start y.start e) in
     let both : x.state.octets ≡ y.state.octets = ap (λ (z : Turn GateEntry). z.state.octets) one in
     absurd (let w = sym m ∙ (both ∙ q) in cc))
     (λ e. rw e (zero-add (used r.turn_at y.start (steps r es)) ∙ st.counted u y limit (omega arith) k q))

@@ -1,4 +1,4 @@
-use Rattle.std.proofs.Common.{◌≡◌, ℕ, Bool, true, ◌<◌, ◌≤◌, List, [], ◌∷◌, arith, ap, ◌∙◌, sym, subst, ◌⊎◌, inl, inr, Option, Some}
+use Rattle.std.proofs.Common.{◌≡◌, ℕ, true, ◌<◌, ◌≤◌, arith, ap, ◌∙◌, sym, subst, ◌⊎◌, inl, inr, Option, Some}
 use Rattle.std.proofs.lemmas.Int.{ints}
 use Rattle.std.specs.List.{list_all}
 use Rattle.std.proofs.lemmas.Option.{same_Some}
@@ -8,8 +8,8 @@ use lib.Signed.{◌≤ℤ◌, ◌<ℤ◌, le_z}
 use Rattle.bridge_cycle.specs.Cyclic as cyclic
 use Rattle.bridge_cycle.specs.Joined as joined
 use Rattle.bridge_cycle.specs.JoinedLaws.{IsTurnOf, list_turned, joined_turned}
-use Rattle.bridge_limits.specs.Members.{In}
 use Rattle.bridge_limits.proofs.Cases.{by_bool}
+use Rattle.bridge_limits.proofs.Members.{each_passes}
 use Rattle.bridge_cycle.proofs.Lists.{among}
 use Rattle.bridge_cycle.proofs.Changes.{among_both}
 use Rattle.bridge_cycle.specs.declared.timeline.Turn.{Turn}
@@ -66,20 +66,15 @@ kept (Fixed lets ipv) t x w h = record { lawful = w; same = λ u begins ends. h 
 kept (Cyclic l) t x w h = let turned : IsTurnOf (cyclic.turn_at l) l.cycle t x = list_turned l t x w h in record { lawful = w; same = λ u begins ends. turned.same u begins ends }
 kept (Joined j) t x w h = let turned : IsTurnOf (joined.turn_at j) (joined.cycle_of j) t x = joined_turned j t x w h in record { lawful = w; same = λ u begins ends. turned.same u begins ends }
 
-all_in : {X : Type 0} (f : X → Bool) (xs : List X) (x : X) → list_all f xs ≡ true → In x xs → f x ≡ true
-all_in f [] x h i = absurd i
-all_in f (y ∷ ys) x h (inl e) = ap f e ∙ (and_parts (f y) (list_all f ys) h).0
-all_in f (y ∷ ys) x h (inr i) = all_in f ys x (and_parts (f y) (list_all f ys) h).1 i
-
 -- the internal priority value of each turn is a priority
 pub turn_priority : {A : Type 0} (s : Schedule A) (t : ℕ) (x : Turn GateEntry) → has_priorities s ≡ true → turn_at s t ≡ Some x → is_priority x.state.ipv ≡ true
 turn_priority (Fixed lets ipv) t x p h = let e = same_Some _ _ h in ap (λ (y : Turn GateEntry). is_priority y.state.ipv) (sym e) ∙ p
 turn_priority (Cyclic l) t x p h =
     let a = among l t x h in
-    ap (λ (y : GateEntry). is_priority y.ipv) (sym a.2) ∙ all_in (λ (e : GateEntry × ℕ). is_priority e.0.ipv) l.entries a.0 p a.1
+    ap (λ (y : GateEntry). is_priority y.ipv) (sym a.2) ∙ each_passes (λ (e : GateEntry × ℕ). is_priority e.0.ipv) l.entries a.0 p a.1
 turn_priority (Joined j) t x p h =
     let ps : (list_all (λ e. is_priority e.0.ipv) j.old.entries ≡ true) × (list_all (λ e. is_priority e.0.ipv) j.new.entries ≡ true) = and_parts (list_all (λ e. is_priority e.0.ipv) j.old.entries) (list_all (λ e. is_priority e.0.ipv) j.new.entries) p in
     elim (among_both j t x h) [
-      | inl a ↦ ap (λ (y : GateEntry). is_priority y.ipv) (sym a.2) ∙ all_in (λ (e : GateEntry × ℕ). is_priority e.0.ipv) j.old.entries a.0 ps.0 a.1
-      | inr a ↦ ap (λ (y : GateEntry). is_priority y.ipv) (sym a.2) ∙ all_in (λ (e : GateEntry × ℕ). is_priority e.0.ipv) j.new.entries a.0 ps.1 a.1
+      | inl a ↦ ap (λ (y : GateEntry). is_priority y.ipv) (sym a.2) ∙ each_passes (λ (e : GateEntry × ℕ). is_priority e.0.ipv) j.old.entries a.0 ps.0 a.1
+      | inr a ↦ ap (λ (y : GateEntry). is_priority y.ipv) (sym a.2) ∙ each_passes (λ (e : GateEntry × ℕ). is_priority e.0.ipv) j.new.entries a.0 ps.1 a.1
     ]

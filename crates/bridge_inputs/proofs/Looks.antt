@@ -6,7 +6,8 @@ use Rattle.std.proofs.lemmas.List.Sums.{sum_by_push}
 use Rattle.std.proofs.lemmas.Option.{same_Some, slice_get-get_or, slice_get_within}
 use Rattle.circular_buffer.proofs.Places.{slice_get-last, slice_get-push, slice_get-set_other, slice_get-set_same, slice_get-some}
 use Rattle.bridge_limits.specs.declared.TheConstants.{MOST_ARRIVALS}
-use Rattle.bridge_limits.specs.Members.{AllAfter, In, Rising}
+use Rattle.bridge_limits.specs.Members.{In, Rising}
+use Rattle.bridge_limits.proofs.Members.{after_at, in_at}
 use Rattle.bridge_capture.specs.declared.fault.CaptureFault.{CaptureFault}
 use Rattle.bridge_capture.specs.declared.fault.CaptureFault.TheVariants as faults
 use Rattle.bridge_capture.specs.declared.packet.Packet.{Packet}
@@ -36,27 +37,17 @@ pub record LooksAt {A R : Type 0} (remaining : R → Option (List ℕ)) (never_f
 
 -- ---- lists
 
-pub in_at : {X : Type 0} (xs : List X) (i : ℕ) (x : X) → slice_get xs i ≡ Some x → In x xs
-in_at [] i x e = absurd (cc)
-in_at (y ∷ ys) zero x e = inl (sym (same_Some _ _ e))
-in_at (y ∷ ys) (suc i) x e = inr (in_at ys i x e)
-
 in_set : {X : Type 0} (xs : List X) (i : ℕ) (y x : X) → In x (set xs i y) → (x ≡ y) ⊎ In x xs
 in_set [] i y x h = absurd h
 in_set (z ∷ zs) zero y x h = elim h [ inl e ↦ inl e | inr l ↦ inr (inr l) ]
 in_set (z ∷ zs) (suc i) y x h = elim h [ inl e ↦ inr (inl e) | inr l ↦ elim (in_set zs i y x l) [ inl e ↦ inl e | inr k ↦ inr (inr k) ] ]
 
-after_at : (x q : ℕ) (xs : List ℕ) (i : ℕ) → AllAfter (λ a b. a < b) x xs → slice_get xs i ≡ Some q → x < q
-after_at x q [] i a e = absurd (cc)
-after_at x q (y ∷ ys) zero a e = subst (λ (z : ℕ). x < z) (same_Some _ _ e) a.0
-after_at x q (y ∷ ys) (suc i) a e = after_at x q ys i a.1 e
-
 -- a number stands at one place of a list that rises
 pub one_place : (ports : List ℕ) (i j q : ℕ) → Rising (λ a b. a < b) ports → slice_get ports i ≡ Some q → slice_get ports j ≡ Some q → i ≡ j
 one_place [] i j q r a b = absurd (cc)
 one_place (p ∷ ps) zero zero q r a b = refl
-one_place (p ∷ ps) zero (suc j) q r a b = let l = after_at p q ps j r.0 b in let e = same_Some _ _ a in absurd (omega (arith, l, e))
-one_place (p ∷ ps) (suc i) zero q r a b = let l = after_at p q ps i r.0 a in let e = same_Some _ _ b in absurd (omega (arith, l, e))
+one_place (p ∷ ps) zero (suc j) q r a b = let l = after_at (λ (a b : ℕ). a < b) p ps j q r.0 b in let e = same_Some _ _ a in absurd (omega (arith, l, e))
+one_place (p ∷ ps) (suc i) zero q r a b = let l = after_at (λ (a b : ℕ). a < b) p ps i q r.0 a in let e = same_Some _ _ b in absurd (omega (arith, l, e))
 one_place (p ∷ ps) (suc i) (suc j) q r a b = ap suc (one_place ps i j q r.1 a b)
 
 -- lanes with the numbers of all ports
@@ -125,7 +116,7 @@ looked_more {A} {R} remaining never_fails ports olds news lanes more lane place 
 pub few_enough : {A R : Type 0} (remaining : R → Option (List ℕ)) (never_fails : R → Bool) (ports : List ℕ) (olds news : List R) (lanes : List (CaptureReader A)) → length lanes ≤ 16 → HasLooked remaining never_fails ports olds news lanes → room_of lanes ≤ MOST_ARRIVALS
 few_enough remaining never_fails ports olds news lanes l h = let few = h.few in omega (arith, few, l)
 
-begins_well : {A : Type 0} (text : List ℕ) (ahead : Option (Packet A)) → Finds text [] ahead → BeginsWell text
+pub begins_well : {A : Type 0} (text : List ℕ) (ahead : Option (Packet A)) → Finds text [] ahead → BeginsWell text
 begins_well text None f = inl f
 begins_well text (Some p) f = inr (view p, f)
 

@@ -1,6 +1,6 @@
 -- What is looked at of a text decides as the whole of it.
-use Rattle.std.proofs.Common.{◌≡◌, ℕ, Bool, true, false, ◌≤◌, ◌<◌, ◌⊎◌, nat_lt, ◌+◌, inl, inr, refl, sym, ap, subst, ◌∙◌, arith, List, length, take, take_all, Result, Ok, Err, None, IfOk, IfErr}
-use Rattle.std.proofs.lemmas.Bool.{lt-ltb}
+use Rattle.std.proofs.Common.{◌≡◌, ℕ, Bool, true, false, ◌<◌, ◌⊎◌, ◌+◌, inl, inr, refl, sym, ap, subst, ◌∙◌, arith, List, length, take, take_all, Result, Ok, Err, None, IfOk, IfErr}
+use Rattle.std.proofs.lemmas.Bool.{lt-ltb, cases_lt}
 use Rattle.std.proofs.lemmas.List.{length-take}
 use Rattle.bridge_hex.specs.Hex.{octets_spelled}
 use Rattle.bridge_hex.specs.declared.fault.HexFault.TheVariants as hex
@@ -24,12 +24,9 @@ decided : (b : Bool) → (b ≡ true) ⊎ (b ≡ false)
 decided true = inl refl
 decided false = inr refl
 
-either : (n m : ℕ) → (n < m) ⊎ (m ≤ n)
-either n m = elim (decided (nat_lt n m)) [ inl e ↦ inl (grind arith) | inr e ↦ inr (grind arith) ]
-
 -- what is the same of a long text and of a longer one, is the same of a text and of its front
 pub front_as_whole : {X : Type 0} (f : List ℕ → X) (long : X) (most : ℕ) → ((input : List ℕ) → most < length input → f input ≡ long) → (input : List ℕ) → f (take (most + 1) input) ≡ f input
-front_as_whole f long most same input = elim (either most (length input)) [
+front_as_whole f long most same input = elim (cases_lt most (length input)) [
   | inl more ↦ (let held : most < length (take (most + 1) input) = omega (arith, length-take (most + 1) input) in same (take (most + 1) input) held ∙ sym (same input more))
   | inr few ↦ ap f (take_all (most + 1) input (omega arith))
 ]

@@ -1,6 +1,7 @@
 -- What is looked at of commands decides as the whole of it, and which fault a plan has with its commands.
-use Rattle.std.proofs.Common.{◌≡◌, ◌<◌, ℕ, List, length, take, Option, None, Some, Result, Ok, Err, sym, ap, subst, ◌∙◌, refl, IfOk, IfErr}
+use Rattle.std.proofs.Common.{◌≡◌, ◌<◌, ℕ, List, length, take, Option, Some, Result, Ok, Err, sym, ap, subst, ◌∙◌, refl, IfOk, IfErr}
 use Rattle.std.proofs.lemmas.Bool.{lt-ltb}
+use Rattle.bridge_limits.proofs.Options.{some_is_none}
 use Rattle.bridge_schema.specs.declared.fault.PlanFault.{PlanFault}
 use Rattle.bridge_schema.specs.declared.fault.PlanFault.TheVariants as plan
 use Rattle.bridge_schema.specs.Readers.{Fails}
@@ -31,14 +32,11 @@ pub file_ends : {A : Type 0} (p : Plan A) (path input : List ℕ) (f : Fault) �
 file_ends p path input (fault.Commands f) h = absurd h
 file_ends p path input f h = h
 
-some_there : {X : Type 0} (x : X) → ¬ (Some x ≡ None)
-some_there x e = absurd (cc)
-
 -- a fault of the reading of commands, where there is a file of them
 pub commands_end : {A : Type 0} (p : Plan A) (path input : List ℕ) (f : Fault) → EndsCommands p path input f → EndsCommanded p (Some path) (Some input) f
-commands_end p path input (fault.Commands f) h = (some_there path, h)
+commands_end p path input (fault.Commands f) h = (some_is_none path, h)
 commands_end p path input (fault.File q) h = ap Some (sym h)
-commands_end p path input (fault.Run f) h = (some_there path, h)
+commands_end p path input (fault.Run f) h = (some_is_none path, h)
 commands_end p path input (fault.Text f) h = absurd h
 commands_end p path input (fault.Plan f) h = absurd h
 commands_end p path input (fault.Check f) h = absurd h

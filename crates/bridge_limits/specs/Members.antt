@@ -1,5 +1,6 @@
 -- Members of a list, and lists that rise.
-use Rattle.std.specs.Prelude.{◌≡◌, List, [], ◌∷◌, ◌⊎◌}
+use Rattle.std.specs.Prelude.{◌≡◌, Bool, true, not, ◌&&◌, List, [], ◌∷◌, ◌⊎◌}
+use Rattle.std.specs.List.{list_any}
 
 -- x stands in a list
 abbrev pub In : {X : Type 0} → X → List X → Type 0
@@ -15,3 +16,8 @@ AllAfter R x (y ∷ ys) = R x y × AllAfter R x ys
 abbrev pub Rising : {X : Type 0} → (X → X → Type 0) → List X → Type 0
 Rising R [] = Unit {0}
 Rising R (x ∷ xs) = AllAfter R x xs × Rising R xs
+
+-- whether no two of a list are alike
+abbrev pub are_own : {X : Type 0} → (X → X → Bool) → List X → Bool
+are_own same [] = true
+are_own same (x ∷ xs) = not (list_any (λ y. same x y) xs) && are_own same xs

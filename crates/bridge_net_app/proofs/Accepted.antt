@@ -1,22 +1,24 @@
 -- The hops of a stream of a network of which no test fails are of protected filters.
-use Rattle.std.proofs.Common.{◌≡◌, ◌<◌, ◌+◌, ℕ, zero, suc, Bool, true, false, ◌&&◌, List, [], ◌∷◌, map, length, Option, Some, None, nat_eq, refl, sym, ap, subst, inl, inr, arith}
+use Rattle.std.proofs.Common.{◌≡◌, ◌<◌, ◌+◌, ℕ, zero, suc, true, false, ◌&&◌, List, [], ◌∷◌, map, length, Option, Some, None, nat_eq, refl, sym, ap, subst, inl, inr, arith}
 use Rattle.std.specs.Prelude.{slice_get, Vec}
 use Rattle.std.specs.List.{list_any}
 use Rattle.std.proofs.lemmas.Bool.{and_parts, eqb-true, false≢true, or_cases}
 use Rattle.bridge_limits.specs.Members.{In}
+use Rattle.bridge_limits.proofs.Members.{in_at}
 use Rattle.bridge_filter.specs.declared.FilterPlan.{FilterPlan}
 use Rattle.bridge_config.specs.Model.{Plan}
 use Rattle.bridge_check.specs.Faults.{first_below}
+use Rattle.bridge_check.proofs.Isolated.{both_none}
 use Rattle.bridge_netfile.specs.Model.{Stream}
 use Rattle.bridge_netfile.specs.Model as file
 use Rattle.bridge_network.specs.Refusing as spec
 use Rattle.bridge_network.specs.Wiring.{Parts}
-use Rattle.bridge_network.specs.declared.fault.NetworkFault.{NetworkFault}
 use Rattle.bridge_network.specs.declared.fault.NetworkFault.TheVariants as fault
 use Rattle.bridge_network.specs.declared.links.StreamHop.{StreamHop}
 use Rattle.bridge_network.proofs.Closed.{numbered}
-use Rattle.bridge_network.proofs.Firsts.{both_none, none_at}
+use Rattle.bridge_network.proofs.Firsts.{none_at}
 use Rattle.bridge_network.proofs.Members.{in_map, map_in}
+use Rattle.bridge_network.proofs.Sound.{no_fault}
 use Rattle.bridge_planning.specs.Streams.{hop_in}
 use Rattle.bridge_planning.specs.Networks.{IsMadeOf}
 
@@ -27,11 +29,6 @@ placed [] x i = absurd i
 placed (y ∷ ys) x (inl e) = (zero, omega arith, ap Some (sym e))
 placed (y ∷ ys) x (inr i) = let (k, below, there) = placed ys x i in (suc k, omega (arith, below), there)
 
-pub listed_at : {X : Type 0} (xs : List X) (k : ℕ) (x : X) → slice_get xs k ≡ Some x → In x xs
-listed_at [] k x e = absurd (cc)
-listed_at (y ∷ ys) zero x e = inl (let same : x ≡ y = cc in same)
-listed_at (y ∷ ys) (suc k) x e = inr (listed_at ys k x e)
-
 -- THE TEST OF A HOP
 
 untold : {X Y : Type 0} (tell : ℕ → X → Option Y) (xs : List X) (x : X) → spec.first_at tell xs ≡ None → In x xs → (k : ℕ) × (tell k x ≡ None)
@@ -39,10 +36,6 @@ untold tell xs x h i =
     let (k, below, there) = placed xs x i in
     let none : spec.of_some (tell k) (slice_get xs k) ≡ None = none_at (length xs) (λ j. spec.of_some (tell j) (slice_get xs j)) h k below in
     (k, subst (λ o. spec.of_some (tell k) o ≡ None) there none)
-
-no_fault : (b : Bool) (e : NetworkFault) → spec.fault_unless b e ≡ None → b ≡ true
-no_fault true e h = refl
-no_fault false e h = absurd (cc)
 
 -- the tests before it are those of links
 passes : {A : Type 0} (n : Parts A) (s : Vec StreamHop A) (h : StreamHop) → spec.first_fault n ≡ None → In s n.streams → In h s.items → spec.has_protected (slice_get n.plans h.bridge) h.filter ≡ true
@@ -86,5 +79,5 @@ stream_there {A} f plans n s made i =
 pub hop_protected : {A : Type 0} (f : file.Network) (plans : List (Plan A)) (n : Parts A) (s : Stream) (i : ℕ) (x : ℕ × ℕ) → IsMadeOf f plans n → spec.first_fault n ≡ None → In s f.streams → slice_get s.hops i ≡ Some x → IsOfPlan n.plans x.0 x.1
 hop_protected f plans n s i x made none is there =
     let (v, listed, same) = stream_there f plans n s made is in
-    let hop : In (hop_in x) v.items = subst (In (hop_in x)) same (map_in hop_in x s.hops (listed_at s.hops i x there)) in
+    let hop : In (hop_in x) v.items = subst (In (hop_in x)) same (map_in hop_in x s.hops (in_at s.hops i x there)) in
     of_plan n.plans x.0 x.1 (slice_get n.plans x.0) refl (passes n v (hop_in x) none listed hop)

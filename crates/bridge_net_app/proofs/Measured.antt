@@ -4,6 +4,7 @@ use Rattle.std.specs.Prelude.{nat_eq, slice_get}
 use Rattle.std.specs.Map.{lookup}
 use Rattle.std.proofs.lemmas.Option.{same_Some}
 use Rattle.bridge_limits.specs.Members.{AllAfter, In}
+use Rattle.bridge_limits.proofs.Members.{in_at}
 use Rattle.bridge_capture.specs.Grammar.{Captured}
 use Rattle.bridge_filter.proofs.Members.{member_found}
 use Rattle.bridge_semantics.specs.declared.outcome.Departure.{Departure}
@@ -22,7 +23,6 @@ use Rattle.bridge_tracing.specs.declared.hops.HopRun.{HopRun}
 use Rattle.bridge_tracing.specs.declared.tracing.Root.{Root}
 use Rattle.bridge_tracing.specs.Tracing.{IsBehind, IsFrom}
 use Rattle.bridge_net_app.specs.InTime.{AreRunsOf, AreWithin, ComeOnward, GoesOnce, IsFromOver, IsRunOf, IsWithin, took_most}
-use Rattle.bridge_net_app.proofs.Accepted.{listed_at}
 use Rattle.bridge_net_app.proofs.Origins.{came_as}
 
 -- LEGS
@@ -73,7 +73,7 @@ module _ {A : Type 0} (links : List Link) (hops : List (HopRun A)) (rank : ℕ �
   from_lesser : (leg : ℕ × ℕ) (legs : List (ℕ × ℕ)) (i k : ℕ) → IsFromOver links hops r (leg ∷ legs) i k → rank leg.0 < rank i
   from_lesser leg legs i k over =
       let b = over.behind in
-      subst (λ (place : ℕ). rank place < rank i) over.place (onward i b.place b.hop b.other b.origin b.copy b.there b.other_there (listed_at b.hop.view.now.origins.items k b.origin b.came) b.over)
+      subst (λ (place : ℕ). rank place < rank i) over.place (onward i b.place b.hop b.other b.origin b.copy b.there b.other_there (in_at b.hop.view.now.origins.items k b.origin b.came) b.over)
 
   known_before : (leg : ℕ × ℕ) (legs : List (ℕ × ℕ)) (i k : ℕ) (over : IsFromOver links hops r (leg ∷ legs) i k) → IsFromOver links hops r legs leg.0 (over.behind.copy.own - 1)
   known_before leg legs i k over = subst (λ (place : ℕ). IsFromOver links hops r legs place (over.behind.copy.own - 1)) over.place over.behind.known

@@ -6,45 +6,16 @@ use Rattle.bridge_limits.specs.Members.{In}
 use Rattle.bridge_limits.proofs.Members.{in_either}
 use Rattle.bridge_limits.proofs.Cases.{by_bool}
 use Rattle.bridge_filter.specs.Own.{is_number}
-use Rattle.bridge_filter.specs.Verdicts as verdicts
-use Rattle.bridge_filter.specs.declared.Verdict.{Verdict}
-use Rattle.bridge_filter.specs.declared.Verdict.TheVariants as verdict
 use Rattle.bridge_forward.specs.Ports.{has}
 use Rattle.bridge_config.specs.declared.ports.PortPlan.{PortPlan}
 use Rattle.bridge_config.specs.Model.{Plan}
 use Rattle.bridge_semantics.specs.declared.outcome.Origin.{Origin}
-use Rattle.bridge_semantics.specs.declared.way.Way.{Way}
-use Rattle.bridge_semantics.specs.declared.way.Way.TheVariants as way
-use Rattle.bridge_semantics.specs.Events.{Arrival, Arrived, Cleared, Event, count, flow_of, origin, origins_of, way_of}
-use Rattle.bridge_semantics.specs.Offers.{Offer, offer_by, offer_of, offer_of_step, offer_on, offers, step_of}
+use Rattle.bridge_semantics.specs.Events.{Arrived, Cleared, Event, count, flow_of, origin, origins_of, way_of}
+use Rattle.bridge_semantics.specs.Offers.{Offer, offer_of, offers}
 use Rattle.bridge_semantics.proofs.Numbers.{own_next}
+use Rattle.bridge_network.proofs.Once.{moment_on}
 
 -- THE MOMENT OF AN OFFER
-
-moment_by : {A : Type 0} (out : PortPlan A) (a : Arrival) (priority n number : ℕ) (v : Verdict) (o : Offer) → In o (offer_by out a priority n number v) → o.at ≡ a.at
-moment_by out a priority n number (verdict.Pass ipv e) o (inl same) = ap (λ (z : Offer). z.at) same
-moment_by out a priority n number (verdict.Pass ipv e) o (inr i) = absurd i
-moment_by out a priority n number verdict.Blocked o i = absurd i
-moment_by out a priority n number verdict.Oversize o i = absurd i
-moment_by out a priority n number verdict.GateClosed o i = absurd i
-moment_by out a priority n number verdict.ShutByRx o i = absurd i
-moment_by out a priority n number verdict.ShutByOctets o i = absurd i
-moment_by out a priority n number verdict.OctetsExceeded o i = absurd i
-moment_by out a priority n number verdict.Red o i = absurd i
-moment_by out a priority n number verdict.YellowDropped o i = absurd i
-
-moment_step : {A : Type 0} (p : Plan A) (out : PortPlan A) (a : Arrival) (es : List Event) (priority : ℕ) (s : verdicts.Step) (o : Offer) → In o (offer_of_step p out a es priority s) → o.at ≡ a.at
-moment_step p out a es priority (verdicts.Unfiltered c) o (inl same) = ap (λ (z : Offer). z.at) same
-moment_step p out a es priority (verdicts.Unfiltered c) o (inr i) = absurd i
-moment_step p out a es priority (verdicts.Judged c n f v) o i = moment_by out a priority n _ v o i
-moment_step p out a es priority (verdicts.Commanded v m) o i = absurd i
-
-moment_on : {A : Type 0} (p : Plan A) (out : PortPlan A) (a : Arrival) (es : List Event) (w : Way) (o : Offer) → In o (offer_on p out a es w) → o.at ≡ a.at
-moment_on p out a es way.Malformed o i = absurd i
-moment_on p out a es way.Nowhere o i = absurd i
-moment_on p out a es (way.Goes set c) o i = by_bool (has set out.number)
-    (λ k. let j : In o (offer_of_step p out a es c.priority (step_of p es c)) = rw k at i in moment_step p out a es c.priority (step_of p es c) o j)
-    (λ k. let j : ⊥ = rw k at i in absurd j)
 
 -- ITS FRAME
 

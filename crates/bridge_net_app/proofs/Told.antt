@@ -1,7 +1,8 @@
 -- What was told of the hops of a stream, hop by hop.
-use Rattle.std.proofs.Common.{◌≡◌, ℕ, zero, suc, List, [], ◌∷◌, ◌++◌, ◌+◌, ◌<◌, ◌≤◌, drop, get_or, length, Option, Some, Vec, refl, ap, subst, sym, ◌∙◌, ◌⊎◌, inl, inr}
+use Rattle.std.proofs.Common.{◌≡◌, ℕ, List, [], ◌∷◌, ◌++◌, ◌+◌, ◌<◌, ◌≤◌, drop, get_or, length, Option, Some, Vec, refl, ap, subst, sym, ◌∙◌, inl, inr}
 use Rattle.std.specs.Prelude.{slice_get}
 use Rattle.std.proofs.lemmas.List.{drop_all, drop_more}
+use Rattle.bridge_limits.proofs.Lists.{pushed}
 use Rattle.bridge_semantics.specs.declared.outcome.Outcome.{Outcome}
 use Rattle.bridge_netfile.specs.Model.{Stream}
 use Rattle.bridge_network.specs.declared.links.Link.{Link}
@@ -15,12 +16,6 @@ use Rattle.bridge_delays.specs.Streams.{delivered_of}
 use Rattle.bridge_tracing.specs.Tracing.{AreExhausted, AreFirstKnown, AreFrom}
 use Rattle.bridge_net_app.specs.Counted.{CountsTo, IsCountOf, with_more}
 use Rattle.bridge_net_app.specs.InTime.{AreRunsOf, IsRunOf}
-
-pushed : {X : Type 0} (xs : List X) (x y : X) (i : ℕ) → slice_get (xs ++ x ∷ []) i ≡ Some y → (slice_get xs i ≡ Some y) ⊎ ((i ≡ length xs) × (x ≡ y))
-pushed [] x y zero e = inr (refl, (cc))
-pushed [] x y (suc i) e = absurd (cc)
-pushed (z ∷ xs) x y zero e = inl e
-pushed (z ∷ xs) x y (suc i) e = elim (pushed xs x y i e) [ inl there ↦ inl there | inr here ↦ inr (ap suc here.0, here.1) ]
 
 -- one hop more
 pub runs_more : {A : Type 0} (o : ℕ → Outcome A) (stream : List (ℕ × ℕ)) (hops : List (HopRun A)) (x : ℕ × ℕ) (h : HopRun A) → slice_get stream (length hops) ≡ Some x → IsRunOf o x h

@@ -2,11 +2,11 @@
 use Rattle.std.proofs.Common.{◌≡◌, ◌≢◌, ◌≤◌, ◌+◌, ◌-◌, ℕ, zero, suc, Bool, true, false, ◌&&◌, ◌||◌, List, [], ◌∷◌, map, Option, Some, None, nat_eq, refl, sym, ap, ◌∙◌, subst, inl, inr, arith}
 use Rattle.std.specs.Prelude.{drop, flat_map, slice_get, sum_by, Vec}
 use Rattle.std.specs.Map.{lookup}
-use Rattle.std.proofs.lemmas.Bool.{and_parts, eq-eqb}
+use Rattle.std.proofs.lemmas.Bool.{and_parts, eq-eqb, and_from, or_left}
 use Rattle.std.proofs.lemmas.Option.{same_Some}
 use Rattle.std.proofs.Math.Nat.{le-max_left, le-max_right}
 use Rattle.bridge_limits.specs.Members.{AllAfter, In}
-use Rattle.bridge_limits.proofs.Members.{in_either}
+use Rattle.bridge_limits.proofs.Members.{in_either, in_at}
 use Rattle.bridge_limits.proofs.Cases.{by_bool}
 use Rattle.bridge_filter.specs.declared.FilterPlan.{FilterPlan}
 use Rattle.bridge_filter.proofs.Members.{member_found}
@@ -15,9 +15,10 @@ use Rattle.bridge_config.specs.Model.{Plan}
 use Rattle.bridge_config.specs.Rules.{IsPlan, port_at}
 use Rattle.bridge_config.proofs.PlanPorts.{number_is}
 use Rattle.bridge_check.specs.Reach.{reaches}
+use Rattle.bridge_check.proofs.Isolated.{class_few}
 use Rattle.bridge_semantics.specs.declared.outcome.Departure.{Departure}
 use Rattle.bridge_semantics.specs.declared.outcome.Outcome.{Outcome}
-use Rattle.bridge_bounds.proofs.Reached.{class_few, not_reached}
+use Rattle.bridge_bounds.proofs.Reached.{not_reached}
 use Rattle.bridge_netfile.specs.Model.{Stream}
 use Rattle.bridge_netfile.specs.Model as file
 use Rattle.bridge_netfile.specs.declared.links.LinkRow.{LinkRow}
@@ -40,7 +41,7 @@ use Rattle.bridge_delays.specs.Tallies.{delay_from, delay_of, delays_of, if_deli
 use Rattle.bridge_tracing.specs.Tracing.{AreFrom, root_at}
 use Rattle.bridge_tracing.proofs.Traced.{root_there}
 use Rattle.bridge_net_app.specs.InTime.{AreRunsOf, AreWithin, GoOnce, GoesOnce, IsFromOver, IsWithin, places_of, took_most}
-use Rattle.bridge_net_app.proofs.Accepted.{IsOfPlan, hop_protected, listed_at}
+use Rattle.bridge_net_app.proofs.Accepted.{IsOfPlan, hop_protected}
 use Rattle.bridge_net_app.proofs.Measured.{in_time, over_legs}
 use Rattle.bridge_net_app.proofs.Sums.{reaches as folded, total, total_at, total_map, value, value_behind, value_map, within_total}
 
@@ -89,19 +90,13 @@ within_bound {A} n bounds x network are of_plan =
 
 -- THE DELAY OF A LINK
 
-left_true : (a b : Bool) → a ≡ true → (a || b) ≡ true
-left_true a b e = rw e refl
-
 right_true : (a b : Bool) → b ≡ true → (a || b) ≡ true
 right_true true b e = refl
 right_true false b e = e
 
-both_true : (a b : Bool) → a ≡ true → b ≡ true → (a && b) ≡ true
-both_true a b e f = rw (e, f) refl
-
 at_hop : (hops : List (ℕ × ℕ)) (y : ℕ × ℕ) → In y hops → is_at hops y.0 ≡ true
 at_hop [] y i = absurd i
-at_hop (h ∷ hops) y (inl same) = left_true (nat_eq h.0 y.0) (is_at hops y.0) (eq-eqb h.0 y.0 (ap (λ (z : ℕ × ℕ). z.0) (sym same)))
+at_hop (h ∷ hops) y (inl same) = or_left (nat_eq h.0 y.0) (is_at hops y.0) (eq-eqb h.0 y.0 (ap (λ (z : ℕ × ℕ). z.0) (sym same)))
 at_hop (h ∷ hops) y (inr i) = right_true (nat_eq h.0 y.0) (is_at hops y.0) (at_hop hops y i)
 
 -- the link of a port whose other end is of a bridge with a hop
@@ -125,7 +120,7 @@ linked_in (l ∷ ls) hops b q s h at =
     record {
       row = l;
       listed = inl refl;
-      joined = left_true (nat_eq l.one.0 b && is_at hops l.other.0) (nat_eq l.other.0 b && is_at hops l.one.0) (both_true (nat_eq l.one.0 b) (is_at hops l.other.0) near far);
+      joined = or_left (nat_eq l.one.0 b && is_at hops l.other.0) (nat_eq l.other.0 b && is_at hops l.one.0) (and_from (nat_eq l.one.0 b) (is_at hops l.other.0) near far);
       delay_is = ap (λ (z : Sender). z.delay) is;
     })
     (λ k. by_bool (networks.is_at other b q)
@@ -137,7 +132,7 @@ linked_in (l ∷ ls) hops b q s h at =
     record {
       row = l;
       listed = inl refl;
-      joined = right_true (nat_eq l.one.0 b && is_at hops l.other.0) (nat_eq l.other.0 b && is_at hops l.one.0) (both_true (nat_eq l.other.0 b) (is_at hops l.one.0) near far);
+      joined = right_true (nat_eq l.one.0 b && is_at hops l.other.0) (nat_eq l.other.0 b && is_at hops l.one.0) (and_from (nat_eq l.other.0 b) (is_at hops l.one.0) near far);
       delay_is = ap (λ (z : Sender). z.delay) is;
     })
     (λ j.
@@ -200,7 +195,7 @@ module _ {A : Type 0} (f : file.Network) (plans : List (Plan A)) (n : Parts A) (
       subst (λ (z : ℕ). sender (map link_of (map link_in f.links)) z b.origin.port ≡ Some b.over.from) is.bridge
       (subst (λ (ls : List Link). sender (map link_of ls) b.hop.bridge b.origin.port ≡ Some b.over.from) made.links b.over.linked) in
       let bridge : y.0 ≡ b.over.from.from.bridge = sym sent.bridge ∙ b.over.bridge in
-      let end : is_at s.hops b.over.from.from.bridge ≡ true = subst (λ (z : ℕ). is_at s.hops z ≡ true) bridge (at_hop s.hops y (listed_at s.hops b.place y there)) in
+      let end : is_at s.hops b.over.from.from.bridge ≡ true = subst (λ (z : ℕ). is_at s.hops z ≡ true) bridge (at_hop s.hops y (in_at s.hops b.place y there)) in
       let upto : b.over.from.delay ≤ hop_delay f.links s.hops x = link_within f.links s.hops x.0 b.origin.port b.over.from linked end in
       let same = value_behind (hop_delay f.links s.hops) s.hops i x at behind_first in
       let delay = over.delay in

@@ -9,7 +9,7 @@ use crate::refusing::said_of_run;
 use crate::tables::put_tables;
 use crate::watching::{Teller, is_long};
 use crate::writing::put_bridges;
-use bridge_files::{FileId, Output, add_file, file_at};
+use bridge_files::{FileId, Output, files_at};
 use bridge_jobs::{Cause, Fault};
 use bridge_limits::NoMemory;
 use bridge_netfile::NetworkFile;
@@ -24,17 +24,6 @@ use std::rt::Files;
 
 /// After how many rounds a network that still changes isn't run further.
 const MOST_ROUNDS: u32 = 64;
-
-/// The files of some paths, where the system tells which they are.
-fn files_at<H: AllocGlobal + Files>(rt: &H, paths: &[String]) -> Result<Vec<FileId>, NoMemory> {
-    let mut files = Vec::new(rt.alloc());
-    for path in paths {
-        let Ok(()) = add_file(&mut files, file_at(rt, path.as_str())) else {
-            return Err(NoMemory);
-        };
-    }
-    Ok(files)
-}
 
 /// How many bridges, links and streams a network has.
 #[tactic(auto, unfolding(crate::specs::Folders::network_words))]

@@ -1,32 +1,17 @@
 -- How many items an array has, and how many instances a section.
-use Rattle.std.proofs.Common.{◌≡◌, ℕ, suc, ◌+◌, ◌<◌, ◌≤◌, ◌==◌, true, List, [], ◌∷◌, ◌++◌, length, Result, Ok, Err, refl, ap, ◌∙◌, arith}
+use Rattle.std.proofs.Common.{◌≡◌, ℕ, ◌+◌, ◌<◌, ◌≤◌, true, List, [], ◌∷◌, ◌++◌, length, Result, Ok, Err, refl, ap, ◌∙◌, arith}
 use Rattle.std.proofs.lemmas.Bool.{false≢true}
-use Rattle.std.proofs.lemmas.Bool.Decides.{nat_tests}
-use Rattle.std.proofs.lemmas.List.{length-append}
-use Rattle.std.specs.Str.{IsUtf8}
-use Rattle.std.specs.Str.Lossy.{utf8_valid_len}
-use Rattle.std.proofs.lemmas.Str.{utf8_valid_len-IsUtf8}
+use Rattle.bridge_limits.proofs.Orders.{more_by_one}
+use Rattle.bridge_limits.proofs.Lists.{one_longer}
 use Rattle.toml.specs.View.{items_view}
 use Rattle.toml.specs.declared.value.Value.{Value}
 use Rattle.toml.specs.Data.{string, integer, float, boolean, datetime, array, table, Items, no_items, item, Members}
-use Rattle.bridge_schema.specs.Readers.{◌>>=◌, are_tables}
+use Rattle.bridge_schema.specs.Readers.{◌>>=◌, are_tables, count_of}
+use Rattle.bridge_schema.proofs.Counts.{count_of_view}
 use Rattle.bridge_netfile.specs.declared.fault.NetFault.{NetFault}
 use Rattle.bridge_netfile.specs.Model.{Bridge}
-use Rattle.bridge_netfile.specs.Reading.{count_of, rows, rows_from}
+use Rattle.bridge_netfile.specs.Reading.{rows, rows_from}
 use Rattle.bridge_netfile.specs.Sections.{bridge_at}
-use Rattle.bridge_netfile.specs.Document.{is_empty}
-
-pub count_of_view : (vs : List Value) → count_of (items_view vs) ≡ length vs
-count_of_view [] = refl
-count_of_view (v ∷ vs) = ap suc (count_of_view vs)
-
-pub is_empty_view : (vs : List Value) → is_empty (items_view vs) ≡ (length vs == 0)
-is_empty_view [] = refl
-is_empty_view (v ∷ vs) = grind (arith, nat_tests)
-
--- a text that is UTF-8 is so to its end
-pub utf8_whole : (bs : List ℕ) → IsUtf8 bs → utf8_valid_len bs ≡ length bs
-utf8_whole = utf8_valid_len-IsUtf8
 
 ok_parts : {X Y : Type 0} (r : Result X NetFault) (k : X → Result Y NetFault) (y : Y) → (r >>= k) ≡ Ok y → (x : X) × (k x ≡ Ok y)
 ok_parts (Ok x) k y h = (x, h)
@@ -34,12 +19,6 @@ ok_parts (Err e) k y h = absurd (cc)
 
 ok_is : {X : Type 0} (x y : X) (r : Result X NetFault) → r ≡ Ok x → r ≡ Ok y → x ≡ y
 ok_is x y r g h = cc
-
-more_by_one : (n k e : ℕ) → n ≡ (e + 1) + k → n ≡ e + suc k
-more_by_one n k e h = omega (arith, h)
-
-one_longer : {X : Type 0} (xs : List X) (x : X) → length (xs ++ x ∷ []) ≡ length xs + 1
-one_longer xs x = length-append xs (x ∷ [])
 
 -- each table of an array is an instance
 counted : {A : Type 0} (read : List A → ℕ → Members → Result A NetFault) (earlier : List A) (i : ℕ) (ds : Items) (xs : List A) → are_tables ds ≡ true → rows_from read earlier i ds ≡ Ok xs → length xs ≡ length earlier + count_of ds

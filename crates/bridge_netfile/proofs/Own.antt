@@ -1,27 +1,12 @@
 -- One instance more, that none before it equals.
-use Rattle.std.proofs.Common.{◌≡◌, ℕ, Bool, true, false, not, List, [], ◌∷◌, ◌++◌, refl, arith, All, Result, Ok, Err}
+use Rattle.std.proofs.Common.{◌≡◌, ℕ, true, false, List, [], ◌∷◌, ◌++◌, Result, Ok, Err}
 use Rattle.std.specs.Prelude.{IfOk}
 use Rattle.bridge_netfile.specs.declared.fault.NetFault.{NetFault}
-use Rattle.std.specs.List.{list_any}
 use Rattle.std.specs.Str.{bytes_eq}
-use Rattle.std.proofs.lemmas.Bool.{and_parts, or_parts}
-use Rattle.std.proofs.lemmas.Grind.{common_steps}
-use Rattle.std.proofs.lemmas.List.Folds.{list_any-append}
-use Rattle.std.proofs.lemmas.List.Elements.{All-append, All-cons, All-nil}
+use Rattle.bridge_limits.proofs.Lists.{each_push, are_own-push}
 use Rattle.bridge_netfile.specs.Model.{Bridge, Stream}
 use Rattle.bridge_netfile.specs.Names.{is_name}
-use Rattle.bridge_netfile.specs.Rules.{are_own, has_bridge, has_stream, AreBridges, AreStreams, IsStream}
-
-pub are_own-push : {X : Type 0} (same : X → X → Bool) (xs : List X) (y : X) → are_own same xs ≡ true → list_any (λ x. same x y) xs ≡ false → are_own same (xs ++ y ∷ []) ≡ true
-are_own-push same [] y own new = refl
-are_own-push same (x ∷ xs) y own new =
-    let (here, more) = and_parts (not (list_any (λ z. same x z) xs)) (are_own same xs) own in
-    let (other, others) = or_parts (same x y) (list_any (λ z. same z y) xs) new in
-    let none : list_any (λ z. same x z) xs ≡ false = grind (arith, common_steps) in
-    rw (list_any-append (λ z. same x z) xs (y ∷ []), none, other, are_own-push same xs y more others) refl
-
-pub each_push : {X : Type 0} (P : X → Type 0) (xs : List X) (x : X) → All P xs → P x → All P (xs ++ x ∷ [])
-each_push P xs x each one = All-append P xs (x ∷ []) each (All-cons P x [] one (All-nil P))
+use Rattle.bridge_netfile.specs.Rules.{has_bridge, has_stream, AreBridges, AreStreams, IsStream}
 
 pub bridges_push : (bridges : List Bridge) (b : Bridge) → AreBridges bridges → has_bridge bridges b.name ≡ false → is_name b.name ≡ true → AreBridges (bridges ++ b ∷ [])
 bridges_push bridges b are new is = record {

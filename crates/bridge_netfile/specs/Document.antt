@@ -1,11 +1,11 @@
 -- The network of a text: what it stands for, or the first fault in order.
-use Rattle.std.specs.Prelude.{ℕ, Bool, true, false, not, ◌&&◌, List, [], ◌∷◌, length, Option, Some, None, Result, Ok, Err, nat_lt, nat_eq, if◌then◌else◌}
+use Rattle.std.specs.Prelude.{ℕ, Bool, true, not, ◌&&◌, List, [], ◌∷◌, length, Option, Some, None, Result, Ok, Err, nat_lt, nat_eq, if◌then◌else◌}
 use Rattle.std.specs.List.{list_any}
 use Rattle.std.specs.Cmp.Lexicographic.{pointwise}
 use Rattle.std.specs.Str.Lossy.{utf8_valid_len}
-use Rattle.toml.specs.Data.{Items, no_items, Members, no_members, member}
+use Rattle.toml.specs.Data.{Items, Members, no_members, member}
 use Rattle.toml.specs.Parse.{parse_document}
-use Rattle.bridge_schema.specs.Readers.{◌>>=◌}
+use Rattle.bridge_schema.specs.Readers.{◌>>=◌, is_empty}
 use Rattle.bridge_netfile.specs.declared.fault.NetSection.{NetSection}
 use Rattle.bridge_netfile.specs.declared.fault.NetSection.TheVariants as section
 use Rattle.bridge_netfile.specs.declared.fault.NetField.TheVariants as field
@@ -15,11 +15,6 @@ use Rattle.bridge_netfile.specs.Faults.{name_of}
 use Rattle.bridge_netfile.specs.Model.{Network}
 use Rattle.bridge_netfile.specs.Reading.{provided, items_of, rows}
 use Rattle.bridge_netfile.specs.Sections.{bridge_at, link_at, stream_at}
-
--- whether there are no items
-abbrev pub is_empty : Items → Bool
-is_empty no_items = true
-is_empty _ = false
 
 -- the sections of a network
 abbrev pub net_sections : List NetSection

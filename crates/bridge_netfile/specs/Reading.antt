@@ -1,11 +1,11 @@
 -- How the keys of a network's tables are read, and which are known.
-use Rattle.std.specs.Prelude.{ℕ, suc, ◌+◌, ◌≡◌, Bool, true, false, ◌&&◌, List, [], ◌∷◌, ◌++◌, Option, Some, None, Result, Ok, Err, nat_le, nat_eq, if◌then◌else◌}
+use Rattle.std.specs.Prelude.{ℕ, ◌+◌, ◌≡◌, Bool, true, false, ◌&&◌, List, [], ◌∷◌, ◌++◌, Option, Some, None, Result, Ok, Err, nat_le, nat_eq, if◌then◌else◌}
 use Rattle.std.specs.List.{list_any}
 use Rattle.std.specs.Cmp.Lexicographic.{pointwise}
 use Rattle.toml.specs.Data.{Data, string, array, table, Items, no_items, item, Members, no_members, member, get_member}
 use Rattle.bridge_schema.specs.declared.fault.Flaw.{Flaw}
 use Rattle.bridge_schema.specs.declared.fault.Flaw.TheVariants as flaw
-use Rattle.bridge_schema.specs.Readers.{◌>>=◌, are_tables}
+use Rattle.bridge_schema.specs.Readers.{◌>>=◌, are_tables, count_of}
 use Rattle.bridge_netfile.specs.declared.fault.NetSection.{NetSection}
 use Rattle.bridge_netfile.specs.declared.fault.NetSection.TheVariants as section
 use Rattle.bridge_netfile.specs.declared.fault.NetField.{NetField}
@@ -106,11 +106,6 @@ limit_of section.Bridge = 64
 limit_of section.Link = 512
 limit_of section.Stream = 1024
 limit_of section.Traffic = 1024
-
--- how many items there are
-abbrev pub count_of : Items → ℕ
-count_of no_items = 0
-count_of (item d ds) = suc (count_of ds)
 
 -- a section's items, where it is an array of tables that are few enough; an absent one has none
 abbrev pub items_in : NetSection → Option Data → Result Items NetFault

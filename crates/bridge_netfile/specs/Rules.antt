@@ -1,18 +1,14 @@
 -- What the instances of each section of a network keep.
-use Rattle.std.specs.Prelude.{◌≡◌, ◌≤◌, ◌<◌, ◌^◌, ℕ, Bool, true, not, ◌&&◌, List, [], ◌∷◌, length, All}
+use Rattle.std.specs.Prelude.{◌≡◌, ◌≤◌, ◌<◌, ◌^◌, ℕ, Bool, true, not, List, length, All}
 use Rattle.std.specs.Option.{ForSome}
 use Rattle.std.specs.List.{list_any}
 use Rattle.std.specs.Str.{bytes_eq}
 use Rattle.bridge_limits.specs.declared.TheConstants.{END_OF_TIME, LONGEST_FRAME}
+use Rattle.bridge_limits.specs.Members.{are_own}
 use Rattle.bridge_netfile.specs.declared.links.LinkRow.{LinkRow}
 use Rattle.bridge_netfile.specs.declared.talkers.Talker.{Talker}
 use Rattle.bridge_netfile.specs.Model.{Bridge, Stream, Network}
 use Rattle.bridge_netfile.specs.Names.{is_name}
-
--- whether no two of a list are alike
-abbrev pub are_own : {X : Type 0} → (X → X → Bool) → List X → Bool
-are_own same [] = true
-are_own same (x ∷ xs) = not (list_any (λ y. same x y) xs) && are_own same xs
 
 -- whether a bridge has the name
 abbrev pub has_bridge : List Bridge → List ℕ → Bool

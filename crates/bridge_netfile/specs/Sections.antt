@@ -5,7 +5,7 @@ use Rattle.toml.specs.Data.{Data, string, array, Items, no_items, item, Members,
 use Rattle.bridge_schema.specs.declared.fault.Flaw.{Flaw}
 use Rattle.bridge_schema.specs.declared.fault.Flaw.TheVariants as flaw
 use Rattle.bridge_limits.specs.declared.TheConstants.{END_OF_TIME, LONGEST_FRAME}
-use Rattle.bridge_schema.specs.Readers.{◌>>=◌, between}
+use Rattle.bridge_schema.specs.Readers.{◌>>=◌, between, count_of}
 use Rattle.bridge_netfile.specs.declared.fault.NetSection.TheVariants as section
 use Rattle.bridge_netfile.specs.declared.fault.NetField.{NetField}
 use Rattle.bridge_netfile.specs.declared.fault.NetField.TheVariants as field
@@ -17,7 +17,7 @@ use Rattle.bridge_netfile.specs.declared.talkers.Talker.{Talker}
 use Rattle.bridge_netfile.specs.Faults.{key_of}
 use Rattle.bridge_netfile.specs.Model.{Bridge, Stream}
 use Rattle.bridge_netfile.specs.Names.{end_of, is_in_form}
-use Rattle.bridge_netfile.specs.Reading.{provided, any_text, name_text, at_place, required, optional, default_to, are_known, count_of}
+use Rattle.bridge_netfile.specs.Reading.{provided, any_text, name_text, at_place, required, optional, default_to, are_known}
 use Rattle.bridge_netfile.specs.Rules.{has_bridge, has_stream}
 
 -- goes on where no earlier instance is alike

@@ -116,7 +116,7 @@ impl<'a, A: Allocator + Copy> RowReader<A> for Links<'a, A> {
 
     ghost Keeps = { λ s. All (rules.IsLink (length s.bridges.now)) };
 
-    #[tactic(auto, using(crate::proofs::Own::each_push))]
+    #[tactic(auto, using(bridge_limits::proofs::Lists::each_push))]
     fn read(
         &self,
         _alloc: A,

@@ -3,6 +3,7 @@ ghost use Rattle.std.specs.Prelude.{◌≡◌, ◌<◌, IfErr, IfOk, true, false
 ghost use Rattle.toml.specs.View.{table_view, items_view};
 ghost use Rattle.bridge_netfile.specs.declared.fault.NetFault.TheVariants.{NoMemory};
 ghost use Rattle.bridge_netfile.specs.Arrays.{items_of_arrays, AreFew};
+ghost use Rattle.bridge_schema.specs.Readers as readers;
 ghost use Rattle.bridge_netfile.specs.Document as doc;
 ghost use Rattle.bridge_netfile.specs.Reading.{Gives, GivesAs};
 ghost use Rattle.bridge_netfile.specs.Rules as rules;
@@ -77,9 +78,9 @@ struct Arrays<'a> {
 }
 
 /// Whether there are no items.
-#[tactic(auto, using(crate::proofs::Counts::is_empty_view))]
+#[tactic(auto, using(bridge_schema::proofs::Counts::is_empty_view))]
 fn is_empty(items: &[Value]) -> bool
-    ensures empty { result ≡ doc.is_empty (items_view items.now) }
+    ensures empty { result ≡ readers.is_empty (items_view items.now) }
     ensures some { result ≡ false → 0 < length items.now }
 {
     items.len() == 0
@@ -161,7 +162,7 @@ fn second_pass<A: Allocator + Copy>(
 }
 
 /// The document of a text, in `heap`: `TooLong` above 1,048,576 octets, `Syntax` where it is no TOML document in UTF-8.
-#[tactic(auto, unfolding(crate::specs::Document::document_of), using(crate::proofs::Counts::utf8_whole))]
+#[tactic(auto, unfolding(crate::specs::Document::document_of), using(bridge_limits::proofs::Octets::utf8_whole))]
 pub fn document_of(heap: Global, text: &[u8]) -> Result<Table, NetFault>
     ensures { GivesAs table_view result (doc.document_of text.now) }
 {

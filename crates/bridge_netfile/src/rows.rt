@@ -3,7 +3,7 @@ ghost use Rattle.std.specs.Prelude.{◌≡◌, ◌<◌, ◌≤◌, ◌^◌, ◌�
 ghost use Rattle.std.specs.Prelude.{IfErr, IfOk, length, nat_le, option_map};
 ghost use Rattle.toml.specs.Data.{Members};
 ghost use Rattle.toml.specs.View.{view, table_view, items_view};
-ghost use Rattle.bridge_schema.specs.Readers.{are_tables as all_tables};
+ghost use Rattle.bridge_schema.specs.Readers.{are_tables as all_tables, count_of};
 ghost use Rattle.bridge_netfile.specs.declared.fault.NetFault.{NetFault as Fault};
 ghost use Rattle.bridge_netfile.specs.declared.fault.NetFault.TheVariants.{NoMemory};
 ghost use Rattle.bridge_netfile.specs.Reading as spec;
@@ -28,9 +28,9 @@ fn limit_of(section: NetSection) -> usize
 }
 
 /// Whether an array has at most as many items as its section may have.
-#[tactic(auto, using(crate::proofs::Counts::count_of_view))]
+#[tactic(auto, using(bridge_schema::proofs::Counts::count_of_view))]
 fn are_few(items: &[Value], section: NetSection) -> bool
-    ensures count { result ≡ nat_le (spec.count_of (items_view items.now)) (spec.limit_of section) }
+    ensures count { result ≡ nat_le (count_of (items_view items.now)) (spec.limit_of section) }
     ensures few { result ≡ true → length items.now ≤ spec.limit_of section }
 {
     items.len() <= limit_of(section)

@@ -4,9 +4,9 @@ ghost use Rattle.toml.specs.View.{view, table_view, items_view};
 ghost use Rattle.bridge_netfile.specs.declared.fault.NetFault.TheVariants.{NoMemory};
 ghost use Rattle.bridge_netfile.specs.declared.fault.NetSection.TheVariants as the_section;
 ghost use Rattle.bridge_limits.specs.declared.TheConstants.{END_OF_TIME};
-ghost use Rattle.bridge_schema.specs.Readers.{between};
+ghost use Rattle.bridge_schema.specs.Readers.{between, count_of};
 ghost use Rattle.bridge_netfile.specs.declared.fault.NetField.TheVariants as the_field;
-ghost use Rattle.bridge_netfile.specs.Reading.{Gives, GivesAs, at_place, count_of};
+ghost use Rattle.bridge_netfile.specs.Reading.{Gives, GivesAs, at_place};
 ghost use Rattle.bridge_netfile.specs.Reading as reading;
 ghost use Rattle.bridge_netfile.specs.Rules as rules;
 ghost use Rattle.bridge_netfile.specs.Sections as sections;
@@ -137,7 +137,7 @@ fn are_in_form(items: &[Value]) -> bool
 }
 
 /// Whether there are as many items as a stream has hops.
-#[tactic(auto, using(crate::proofs::Counts::count_of_view))]
+#[tactic(auto, using(bridge_schema::proofs::Counts::count_of_view))]
 fn are_counted(items: &[Value]) -> bool
     ensures count { result ≡ (nat_le 1 (count_of (items_view items.now)) && nat_le
         (count_of (items_view items.now)) 64) }

@@ -39,6 +39,18 @@ const KEYS: [NetField; 5] = [
     NetField::Longest,
 ];
 
+/// A period, in ns.
+const PERIOD: Between = Between {
+    low: 1,
+    high: END_OF_TIME,
+};
+
+/// The octets of a frame.
+const OCTETS: Between = Between {
+    low: 1,
+    high: LONGEST_FRAME as u64,
+};
+
 /// Whether there is a value.
 fn is_there(value: Option<&Value>) -> bool
     ensures { result ≡ sections.is_there (option_map (λ v. view v.now) value.entry) }
@@ -72,11 +84,7 @@ fn talker_of(index: u32, table: &Table) -> Result<Talker, NetFault>
             field,
         }
     };
-    let periods = Between {
-        low: 1,
-        high: END_OF_TIME,
-    };
-    let period = required(table, at(NetField::Period), &periods)?;
+    let period = required(table, at(NetField::Period), &PERIOD)?;
     let last = period - 1;
     let from = required(table, at(NetField::From), &Between { low: 0, high: last })?;
     let to = required(
@@ -87,11 +95,7 @@ fn talker_of(index: u32, table: &Table) -> Result<Talker, NetFault>
             high: last,
         },
     )?;
-    let lengths = Between {
-        low: 1,
-        high: LONGEST_FRAME as u64,
-    };
-    let least = required(table, at(NetField::Least), &lengths)?;
+    let least = required(table, at(NetField::Least), &OCTETS)?;
     let longer = Between {
         low: least,
         high: LONGEST_FRAME as u64,

@@ -6,33 +6,27 @@ use Rattle.bridge_limits.specs.Members.{In, Rising}
 use Rattle.bridge_limits.proofs.Cases.{by_bool}
 use Rattle.bridge_capture.specs.Grammar.{Captured}
 use Rattle.bridge_frame.specs.Link.{occupied}
-use Rattle.bridge_filter.specs.declared.FilterPlan.{FilterPlan}
 use Rattle.bridge_filter.specs.Own.{is_number}
 use Rattle.bridge_filter.proofs.Owned.{told_listed}
 use Rattle.bridge_filter.proofs.Members.{member_found}
 use Rattle.bridge_port.specs.Schedule.{Copy}
-use Rattle.bridge_port.specs.Solo.{only}
 use Rattle.bridge_config.specs.declared.ports.PortPlan.{PortPlan}
 use Rattle.bridge_config.specs.Model.{Plan}
 use Rattle.bridge_config.specs.Rules.{port_at}
 use Rattle.bridge_semantics.specs.declared.outcome.View.{View}
 use Rattle.bridge_semantics.specs.declared.outcome.Outcome.{Outcome}
 use Rattle.bridge_semantics.specs.Events.{Event, arrival, flow_of, is_own, own, calls, police_of}
-use Rattle.bridge_semantics.specs.Offers.{Carried, offers, in_class}
+use Rattle.bridge_semantics.specs.Offers.{Carried, offers}
 use Rattle.bridge_semantics.specs.Merge.{Input, NotBefore, of_rank, events, inputs_of, own_inputs, frame}
 use Rattle.bridge_semantics.specs.Outputs.{IsOutput, Leaves, departure}
 use Rattle.bridge_semantics.specs.Runs.{AreSolo, AtPort, IsView}
 use Rattle.bridge_semantics.proofs.Safe.{IsSafe, apart}
 use Rattle.bridge_semantics.proofs.Steps.{steps_own}
-use Rattle.bridge_semantics.proofs.Headline.{origins_own, as_offer, in_offered, only_in, picked_in, offers_if, queues, solo_queues, lies_by, view_as}
+use Rattle.bridge_semantics.proofs.Headline.{origins_own, as_offer, in_offered, queues, solo_queues, lies_by, view_as, queued_at}
 use Rattle.bridge_semantics.proofs.Merging.{rising_own, own_of_rank, events_own}
 use Rattle.bridge_network.specs.Networks.{Network, Sender, sender, later, outside, coming, comes, IsNetworkRun, IsTimed, AreTimed, IsNetwork, Hop, hop, IsHop, IsOfStream, IsClosed}
 use Rattle.bridge_network.specs.Alone.{Reaches, IsLater, IsAlone}
 use Rattle.bridge_network.proofs.Members.{in_map, map_in, in_own, own_in, rank_in, in_inputs, inputs_in, frames_apart}
-
--- a copy in one of a filter's queues is one of the port
-queued_in : {A : Type 0} (p : Plan A) (n : ℕ) (f : FilterPlan) (es : List Event) (lists : ℕ → List (Copy Carried)) (q c : ℕ) (x : Copy Carried) → In x (queues p n f es lists q c) → In x (lists q)
-queued_in p n f es lists q c x i = only_in c x (lists q) (picked_in x (in_class c (offers_if p (port_at p.ports q) (own p n f es))) (only c (lists q)) i)
 
 -- a hop fails no test
 safe_of : {A : Type 0} (n : Network A) (stream : List (ℕ × ℕ)) (h : Hop A) → IsNetwork n → IsHop n stream h → IsSafe h.plan h.number h.filter
@@ -108,7 +102,7 @@ module _ {A : Type 0} (n : Network A) (stream : List (ℕ × ℕ)) (commands : �
       let b = s.from.bridge in
       let m = s.from.port in
       let es = events (run.inputs b) in
-      let there : In r.copy (run.lists b m) = queued_in r.plan r.number r.filter es (run.lists b) m r.class r.copy r.listed in
+      let there : In r.copy (run.lists b m) = queued_at r.plan r.number r.filter es (run.lists b) m r.class r.copy r.listed in
       let d = departure r.out.speed r.start r.copy.item in
       let l : Leaves r.out.speed (run.lists b m) d = record { copy = r.copy; start = r.start; listed = there; started = r.started; is = refl } in
       let kd : In d (run.left b m) = ((run.output b m r.plan r.out r.is.plan r.at).members d).1 l in
@@ -150,7 +144,7 @@ module _ {A : Type 0} (n : Network A) (stream : List (ℕ × ℕ)) (commands : �
       let P : ℕ → Copy Carried → Type 0 = AtPort lists in
       let Q : ℕ → Copy Carried → Type 0 = λ q x. (c : ℕ) × In x (lists_of h q c) in
       let to : (q : ℕ) (x : Copy Carried) → x.item.flow ≡ Some h.number → P q x → Q q x = λ q x e i. (x.class, lies_by h.plan h.number h.filter safe es told.moments lists told.run q x (port_at h.plan.ports q) refl e i) in
-      let from : (q : ℕ) (x : Copy Carried) → x.item.flow ≡ Some h.number → Q q x → P q x = λ q x e i. queued_in h.plan h.number h.filter es lists q i.0 x i.1 in
+      let from : (q : ℕ) (x : Copy Carried) → x.item.flow ≡ Some h.number → Q q x → P q x = λ q x e i. queued_at h.plan h.number h.filter es lists q i.0 x i.1 in
       let listed : lookup (nat_eq h.number) h.plan.filters ≡ Some h.filter = member_found h.plan.filters h.number h.filter safe.plan.filters.own safe.listed in
       let all : IsView h.plan h.number h.filter (own h.plan h.number h.filter es) Q v = view_as h.plan h.number h.filter (apart h.plan h.number h.filter safe) es (own h.plan h.number h.filter es) (told_listed (police_of h.plan) (calls h.plan es)) (steps_own h.plan h.number h.filter (apart h.plan h.number h.filter safe) es) (origins_own h.plan h.number h.filter es) P Q to from v (told.views h.number h.filter v listed found) in
       subst (λ (ds : List Event). IsView h.plan h.number h.filter ds Q v) (events_own h.plan h.number h.filter (run.inputs h.bridge)) all

@@ -4,12 +4,12 @@ use Rattle.std.specs.Prelude.{slice_get}
 use Rattle.std.specs.List.{list_any, list_all}
 use Rattle.std.proofs.lemmas.Bool.{and_parts, or_cases, eqb-true, false≢true}
 use Rattle.bridge_limits.specs.Members.{In}
+use Rattle.bridge_limits.proofs.Members.{each_passes}
 use Rattle.bridge_filter.specs.declared.FilterPlan.{FilterPlan}
 use Rattle.bridge_filter.proofs.Members.{one_number}
 use Rattle.bridge_config.specs.declared.ports.PortPlan.{PortPlan}
 use Rattle.bridge_config.specs.Model.{Plan}
 use Rattle.bridge_config.proofs.PlanPorts.{at_port}
-use Rattle.bridge_check.proofs.Isolated.{each_passes}
 use Rattle.bridge_network.specs.Networks.{Network, Sender, sender, IsNetwork, IsClosed}
 use Rattle.bridge_network.specs.Feeding.{takes_only}
 use Rattle.bridge_network.specs.Accepting.{is_listed, is_protected, takes_from, takes_at, hop_passes, stream_passes}

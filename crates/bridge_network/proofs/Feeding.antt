@@ -1,14 +1,15 @@
 -- The test on two plans says which frames a hop takes of those that come over a link.
-use Rattle.std.proofs.Common.{◌≡◌, ◌<◌, ◌≤◌, ℕ, zero, suc, Bool, true, false, not, ◌&&◌, ◌||◌, List, [], ◌∷◌, map, arith, refl, ap, sym, ◌∙◌, subst, inl, inr, cond, Option, Some, None, Result, Ok, nat_eq, slice_index}
+use Rattle.std.proofs.Common.{◌≡◌, ◌≤◌, ℕ, zero, suc, Bool, true, false, not, ◌&&◌, ◌||◌, List, [], ◌∷◌, map, arith, refl, ap, sym, ◌∙◌, subst, inl, inr, cond, Option, Some, None, Result, Ok, nat_eq}
 use Rattle.std.specs.List.{list_all}
 use Rattle.std.specs.Option.{ForSome}
 use Rattle.std.specs.Str.{bytes_eq}
-use Rattle.std.proofs.lemmas.Bool.{and_parts, cases_lt, or_cases, eqb-true, eqb-false, eq-eqb, false≢true}
+use Rattle.std.proofs.lemmas.Bool.{and_parts, or_cases, eqb-true, eq-eqb, false≢true}
 use Rattle.std.proofs.lemmas.Option.{same_Some}
 use Rattle.std.proofs.lemmas.Slice.Eq.{bytes_eq-Decides}
 use Rattle.bridge_limits.specs.Members.{In}
-use Rattle.bridge_limits.proofs.Members.{in_left, in_right, in_either}
+use Rattle.bridge_limits.proofs.Members.{in_left, in_right, in_either, each_passes}
 use Rattle.bridge_limits.proofs.Cases.{by_bool}
+use Rattle.bridge_limits.proofs.Octets.{same_bytes}
 use Rattle.bridge_frame.specs.declared.Head.{Head}
 use Rattle.bridge_frame.specs.declared.FrameFault.{FrameFault}
 use Rattle.bridge_frame.specs.declared.Tag.{Tag}
@@ -34,12 +35,13 @@ use Rattle.bridge_forward.specs.Ports.{has}
 use Rattle.bridge_forward.specs.Forward.{forward}
 use Rattle.bridge_config.specs.declared.ports.PortPlan.{PortPlan}
 use Rattle.bridge_config.specs.Model.{Plan}
-use Rattle.bridge_config.specs.Rules.{IsPlan, IsPort, port_at}
-use Rattle.bridge_config.proofs.PlanPorts.{at_port, at_own, port_is, class_below}
+use Rattle.bridge_config.specs.Rules.{IsPlan, port_at}
+use Rattle.bridge_config.proofs.PlanPorts.{at_port, at_own}
 use Rattle.bridge_check.specs.Acceptable.{IsAcceptable}
-use Rattle.bridge_check.specs.Reach.{any_below, is_null, reaches, reaches_port, reaches_class, reaches_priority}
+use Rattle.bridge_check.specs.Reach.{is_null, reaches}
 use Rattle.bridge_check.specs.Sending.{vid_of, priority_of}
-use Rattle.bridge_check.proofs.Isolated.{each_passes}
+use Rattle.bridge_check.proofs.Isolated.{class_few}
+use Rattle.bridge_check.proofs.Sound.{below_any}
 use Rattle.bridge_semantics.specs.declared.way.Way.{Way}
 use Rattle.bridge_semantics.specs.declared.way.Way.TheVariants as way
 use Rattle.bridge_semantics.specs.declared.way.Way.TheVariants.{Goes}
@@ -117,9 +119,6 @@ number_of n None h = absurd (false≢true h)
 number_of n (Some x) h = (x, refl, eqb-true x.0 n h)
 
 -- ENTRIES
-
-same_bytes : (xs ys : List ℕ) → bytes_eq xs ys ≡ true → xs ≡ ys
-same_bytes xs ys h = (bytes_eq-Decides xs ys).0 h
 
 bytes_same : (xs ys : List ℕ) → xs ≡ ys → bytes_eq xs ys ≡ true
 bytes_same xs ys h = (bytes_eq-Decides xs ys).1 h
@@ -234,30 +233,6 @@ tag_listed on vid (Some t) few e =
 
 -- THE REACH
 
-any_found : (n : ℕ) (t : ℕ → Bool) → any_below n t ≡ true → (k : ℕ) × (k < n) × (t k ≡ true)
-any_found zero t h = absurd (false≢true h)
-any_found (suc n) t h = elim (or_cases (any_below n t) (t n) h) [
-  | inl a ↦ let r = any_found n t a in let l = r.1 in (r.0, omega (arith, l), r.2)
-  | inr b ↦ (n, omega arith, b)
-]
-
-found_any : (n k : ℕ) (t : ℕ → Bool) → k < n → t k ≡ true → any_below n t ≡ true
-found_any zero k t l h = absurd (omega (arith, l))
-found_any (suc n) k t l h = by_bool (nat_eq k n)
-    (λ e. let last : t n ≡ true = subst (λ (m : ℕ). t m ≡ true) (eqb-true k n e) h in by_bool (any_below n t) (λ z. rw z refl) (λ z. rw z last))
-    (λ e. let d = eqb-false k n e in let less : k < n = elim (cases_lt k n) [ inl a ↦ a | inr a ↦ absurd (d (omega (arith, l, a))) ] in rw (found_any n k t less h) refl)
-
-class_few : {A : Type 0} (p : Plan A) (f : FilterPlan) (q c : ℕ) (out : PortPlan A) → IsPlan p → port_at p.ports q ≡ Some out → reaches p f q c ≡ true → c < 8
-class_few {A} p f q c out plan at r =
-    let (on, class) = and_parts (reaches_port p f.handle q) (reaches_class p f (port_at p.ports q) c) r in
-    let here : reaches_class p f (Some out) c ≡ true = subst (λ (m : Option (PortPlan A)). reaches_class p f m c ≡ true) at class in
-    let (k, below, both) = any_found 8 (λ (k : ℕ). reaches_priority p f k && nat_eq (slice_index out.classes k) c) here in
-    let (priority, same) = and_parts (reaches_priority p f k) (nat_eq (slice_index out.classes k) c) both in
-    let is : IsPort out = (port_is p.ports q out plan.ports at).0 in
-    let few : slice_index out.classes k < 8 = class_below out k is (omega (arith, below)) in
-    let e : slice_index out.classes k ≡ c = eqb-true (slice_index out.classes k) c same in
-    omega (arith, few, e)
-
 -- THE SENDER
 
 -- a frame of a sort that leaves a port, of all whose frames of that sort the test says they are of the stream, is of the stream
@@ -283,7 +258,7 @@ by_flow p is_of_stream q out o (Some x) known plan at fed =
     elim (or_cases (is_of_stream x.0) (not (reaches_any p x.1 q)) fed) [
       | inl a ↦ record { flow = x; listed = listed; of_stream = a; is = flow }
       | inr b ↦
-          let any : reaches_any p x.1 q ≡ true = found_any 8 o.class (reaches p x.1 q) (class_few p x.1 q o.class out plan at reach) reach in
+          let any : reaches_any p x.1 q ≡ true = below_any 8 o.class (reaches p x.1 q) (class_few p x.1 q o.class out plan at reach) reach in
           let no : not (reaches_any p x.1 q) ≡ false = ap not any in
           absurd (false≢true (sym no ∙ b))
     ]

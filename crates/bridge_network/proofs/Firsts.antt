@@ -6,6 +6,7 @@ use Rattle.std.proofs.lemmas.Option.{slice_get-get_or}
 use Rattle.bridge_limits.specs.Members.{In}
 use Rattle.bridge_frame.specs.declared.Tag.{Tag}
 use Rattle.bridge_check.specs.Faults.{first_of, first_below}
+use Rattle.bridge_check.proofs.Isolated.{both_none}
 use Rattle.bridge_network.specs.Feeding.{tag_of, tags_of, tags_with}
 use Rattle.bridge_network.specs.Finding.{first_in}
 
@@ -68,10 +69,6 @@ item_at xs i x lt e = slice_get-get_or xs i x lt ∙ ap Some (sym e)
 
 -- WHERE NOTHING IS TOLD
 
-pub both_none : {Y : Type 0} (a b : Option Y) → first_of a b ≡ None → (a ≡ None) × (b ≡ None)
-both_none None b h = (refl, h)
-both_none (Some y) b h = absurd (cc)
-
 pub none_in : {X Y : Type 0} (tell : X → Option Y) (xs : List X) → ((x : X) → tell x ≡ None) → first_in tell xs ≡ None
 none_in tell [] h = refl
 none_in tell (x ∷ xs) h = rw (h x) (none_in tell xs h)
@@ -94,8 +91,3 @@ none_at (suc n) tell h k lt =
 pub none_each : {X Y : Type 0} (tell : X → Option Y) (xs : List X) → ((x : X) → In x xs → tell x ≡ None) → first_in tell xs ≡ None
 none_each tell [] h = refl
 none_each tell (x ∷ xs) h = rw (h x (inl refl)) (none_each tell xs (λ y i. h y (inr i)))
-
-pub none_below : {Y : Type 0} (n : ℕ) (tell : ℕ → Option Y) → ((k : ℕ) → tell k ≡ None) → first_below n tell ≡ None
-unfolding first_below
-none_below zero tell h = refl
-none_below (suc n) tell h = rw (none_below n tell h) (h n)

@@ -1,32 +1,20 @@
 -- The filter with the least number, one filter more at a time.
-use Rattle.std.proofs.Common.{◌≡◌, ◌<◌, ◌≤◌, ℕ, true, false, Option, Some, None, refl, sym, arith}
+use Rattle.std.proofs.Common.{◌≡◌, ℕ, true, false, Option, Some, None, refl, sym, arith}
 use Rattle.std.specs.Prelude.{nat_lt}
-use Rattle.std.proofs.lemmas.Bool.Decides.{nat_tests}
+use Rattle.std.proofs.lemmas.Bool.{ltb-true, lt-ltb, ltb-false, le-ltb}
 use Rattle.bridge_limits.proofs.Cases.{by_bool}
 use Rattle.bridge_filter.specs.declared.FilterPlan.{FilterPlan}
 use Rattle.bridge_filter.specs.Verdicts.{lesser}
 use Rattle.bridge_network.specs.Walking.{lesser_flow}
 
-below : (a b : ℕ) → nat_lt a b ≡ true → a < b
-below a b h = grind (arith, nat_tests)
-
-not_below : (a b : ℕ) → nat_lt a b ≡ false → b ≤ a
-not_below a b h = grind (arith, nat_tests)
-
-is_below : (a b : ℕ) → a < b → nat_lt a b ≡ true
-is_below a b h = grind (arith, nat_tests)
-
-is_not_below : (a b : ℕ) → b ≤ a → nat_lt a b ≡ false
-is_not_below a b h = grind (arith, nat_tests)
-
 three : (a b c : ℕ × FilterPlan) → lesser_flow (lesser a (Some b)) (Some c) ≡ lesser_flow (Some a) (lesser b (Some c))
 three a b c = by_bool (nat_lt b.0 a.0)
     (λ ba. by_bool (nat_lt c.0 b.0)
-    (λ cb. let ca : nat_lt c.0 a.0 ≡ true = is_below c.0 a.0 (let h = below b.0 a.0 ba in let k = below c.0 b.0 cb in omega (arith, h, k)) in rw (ba, cb, ca) refl)
+    (λ cb. let ca : nat_lt c.0 a.0 ≡ true = lt-ltb c.0 a.0 (let h = ltb-true b.0 a.0 ba in let k = ltb-true c.0 b.0 cb in omega (arith, h, k)) in rw (ba, cb, ca) refl)
     (λ cb. rw (ba, cb) (sym (rw ba refl))))
     (λ ba. by_bool (nat_lt c.0 b.0)
     (λ cb. rw (ba, cb) refl)
-    (λ cb. let ca : nat_lt c.0 a.0 ≡ false = is_not_below c.0 a.0 (let h = not_below b.0 a.0 ba in let k = not_below c.0 b.0 cb in omega (arith, h, k)) in rw (ba, cb) (rw (ba, ca) refl)))
+    (λ cb. let ca : nat_lt c.0 a.0 ≡ false = le-ltb c.0 a.0 (let h = ltb-false b.0 a.0 ba in let k = ltb-false c.0 b.0 cb in omega (arith, h, k)) in rw (ba, cb) (rw (ba, ca) refl)))
 
 pub lesser_none : (a : Option (ℕ × FilterPlan)) → lesser_flow a None ≡ a
 lesser_none None = refl

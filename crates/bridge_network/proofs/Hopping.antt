@@ -9,6 +9,7 @@ use Rattle.bridge_filter.specs.declared.Verdict.TheVariants as verdict
 use Rattle.bridge_filter.specs.Verdicts as verdicts
 use Rattle.bridge_forward.specs.Ports.{has}
 use Rattle.bridge_port.specs.Schedule.{Copy, Started}
+use Rattle.bridge_port.proofs.Members.{same_start}
 use Rattle.bridge_config.specs.declared.ports.PortPlan.{PortPlan}
 use Rattle.bridge_config.specs.Model.{Plan}
 use Rattle.bridge_semantics.specs.declared.way.Way.{Way}
@@ -71,9 +72,6 @@ in_turn base period from upto next (x ∷ xs) r f pair top =
       in_turn base period from upto m.p xs r.1 (λ z i. f z (inr i)) (λ y z i j l. pair y z (inr i) (inr j) l) (λ z i. pair x z (inl refl) (inr i) (let l : z.at < x.at = after_all IsLater x z xs r.0 i in l)),
     )
 
-started_is : (s t : ℕ) → Started s ≡ Started t → s ≡ t
-started_is s t h = cc
-
 module _ (base : ℕ) (opens : ℕ → Bool) (occ : Carried → ℕ) (period first last least most delay next : ℕ) (ys : List (Copy Carried)) (h : StartInPeriods base opens occ period first last next ys) (short : (y : Copy Carried) → In y ys → least ≤ occ y.item) (long : (y : Copy Carried) → In y ys → occ y.item ≤ most) (gap : last + most ≤ first + period) (some : 0 < least) where
   its_period : (x : Input) → (c : ComesOf occ delay ys x) → HasPeriod base opens occ period first last next c.copy
   its_period x c = period_of base opens occ period first last next c.copy ys h c.listed
@@ -82,7 +80,7 @@ module _ (base : ℕ) (opens : ℕ → Bool) (occ : Carried → ℕ) (period fir
   comes_of x c =
       let m = its_period x c in
       let (s, is, fit, low, high) = m.start in
-      let same : c.start ≡ s = started_is c.start s (sym c.started ∙ is) in
+      let same : c.start ≡ s = same_start c.start s (sym c.started ∙ is) in
       let at = c.at in
       let a = short c.copy c.listed in
       let b = long c.copy c.listed in
@@ -93,7 +91,7 @@ module _ (base : ℕ) (opens : ℕ → Bool) (occ : Carried → ℕ) (period fir
   comes_apart x z c d l = elim (periods_apart base opens occ period first last next c.copy d.copy ys h c.listed d.listed) [
     | inl e ↦
         let fate : Started c.start ≡ Started d.start = sym c.started ∙ (ap (λ (w : Copy Carried). w.fate) e ∙ d.started) in
-        let same = started_is c.start d.start fate in
+        let same = same_start c.start d.start fate in
         let size : occ c.copy.item ≡ occ d.copy.item = ap (λ (w : Copy Carried). occ w.item) e in
         let a = c.at in
         let b = d.at in

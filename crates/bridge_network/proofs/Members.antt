@@ -1,9 +1,9 @@
 -- Members of lists of inputs.
-use Rattle.std.proofs.Common.{◌≡◌, ◌<◌, ◌+◌, ℕ, true, List, [], ◌∷◌, ◌++◌, map, arith, refl, ap, sym, ◌∙◌, subst, ◌⊎◌, inl, inr}
+use Rattle.std.proofs.Common.{◌≡◌, ◌<◌, ◌+◌, ℕ, true, List, [], ◌∷◌, map, arith, refl, ap, sym, ◌∙◌, subst, ◌⊎◌, inl, inr}
 use Rattle.std.proofs.lemmas.Bool.{eq-eqb}
 use Rattle.std.specs.Prelude.{nat_eq}
-use Rattle.bridge_limits.specs.Members.{In, AllAfter, Rising}
-use Rattle.bridge_limits.proofs.Members.{in_left, in_right, in_either}
+use Rattle.bridge_limits.specs.Members.{In, Rising}
+use Rattle.bridge_limits.proofs.Members.{in_left, in_right, in_either, rising_push}
 use Rattle.bridge_limits.proofs.Cases.{by_bool}
 use Rattle.bridge_capture.specs.Grammar.{Captured}
 use Rattle.bridge_filter.specs.declared.FilterPlan.{FilterPlan}
@@ -58,18 +58,10 @@ inputs_in q c [] i = absurd i
 inputs_in q c (d ∷ ds) (inl e) = in_right (frame q c) (inputs_of q ds) (frame q d ∷ []) (inl (ap (frame q) e))
 inputs_in q c (d ∷ ds) (inr i) = in_left (frame q c) (inputs_of q ds) (frame q d ∷ []) (inputs_in q c ds i)
 
-all_snoc : {X : Type 0} (R : X → X → Type 0) (x z : X) (xs : List X) → AllAfter R x xs → R x z → AllAfter R x (xs ++ z ∷ [])
-all_snoc R x z [] a h = (h, tt)
-all_snoc R x z (y ∷ ys) a h = (a.0, all_snoc R x z ys a.1 h)
-
-rising_snoc : {X : Type 0} (R : X → X → Type 0) (xs : List X) (z : X) → Rising R xs → ((y : X) → In y xs → R y z) → Rising R (xs ++ z ∷ [])
-rising_snoc R [] z r h = (tt, tt)
-rising_snoc R (x ∷ xs) z r h = (all_snoc R x z xs r.0 (h x (inl refl)), rising_snoc R xs z r.1 (λ y i. h y (inr i)))
-
 -- frames that left a port come one after another over its link
 pub frames_apart : (q t : ℕ) (cs : List Captured) → Rising LeavesBefore cs → Rising IsLater (inputs_of q (map (later t) cs))
 frames_apart q t [] r = tt
-frames_apart q t (c ∷ cs) r = rising_snoc IsLater (inputs_of q (map (later t) cs)) (frame q (later t c)) (frames_apart q t cs r.1)
+frames_apart q t (c ∷ cs) r = rising_push IsLater (inputs_of q (map (later t) cs)) (frame q (later t c)) (frames_apart q t cs r.1)
     (λ y i.
     let s = in_inputs q y (map (later t) cs) i in
     let m = in_map (later t) s.0 cs s.1 in

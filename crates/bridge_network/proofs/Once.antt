@@ -1,7 +1,7 @@
 -- A stream alone on an idle network has one course: what comes to it up to a moment follows from what came before.
-use Rattle.std.proofs.Common.{◌≡◌, ◌<◌, ◌≤◌, ◌+◌, ℕ, zero, suc, true, false, List, [], ◌∷◌, ◌++◌, arith, refl, ap, sym, ◌∙◌, subst, ◌⊎◌, inl, inr, Option, Some, None}
-use Rattle.std.proofs.lemmas.Bool.Decides.{nat_tests}
+use Rattle.std.proofs.Common.{◌≡◌, ◌<◌, ◌≤◌, ◌+◌, ℕ, zero, suc, false, List, [], ◌∷◌, ◌++◌, arith, refl, ap, sym, ◌∙◌, subst, ◌⊎◌, inl, inr, Option, Some, None}
 use Rattle.std.specs.Prelude.{nat_eq, nat_lt, if◌then◌else◌}
+use Rattle.std.proofs.lemmas.Bool.{ltb-true, lt-ltb, ltb-false}
 use Rattle.bridge_limits.specs.Members.{In, Rising}
 use Rattle.bridge_limits.proofs.Members.{in_either}
 use Rattle.bridge_limits.proofs.Cases.{by_bool}
@@ -32,15 +32,6 @@ use Rattle.bridge_semantics.proofs.Merging.{in_at, one_list}
 use Rattle.bridge_network.specs.Networks.{Network, Sender, sender, IsTimed, AreTimed, Hop, hop, IsHop}
 use Rattle.bridge_network.specs.Alone.{Reaches, IsLater, IsAlone, HaveSameFirst}
 
-lt_true : (a b : ℕ) → nat_lt a b ≡ true → a < b
-lt_true a b h = grind (arith, nat_tests)
-
-lt_false : (a b : ℕ) → nat_lt a b ≡ false → b ≤ a
-lt_false a b h = grind (arith, nat_tests)
-
-true_lt : (a b : ℕ) → a < b → nat_lt a b ≡ true
-true_lt a b h = grind (arith, nat_tests)
-
 -- INPUTS BEFORE A MOMENT
 
 abbrev below : ℕ → List Input → List Input
@@ -49,11 +40,11 @@ below t (x ∷ xs) = if nat_lt x.at t then x ∷ xs else below t xs
 
 below_zero : (xs : List Input) → below zero xs ≡ []
 below_zero [] = refl
-below_zero (x ∷ xs) = by_bool (nat_lt x.at zero) (λ k. absurd (let l = lt_true x.at zero k in omega (arith, l))) (λ k. rw k (below_zero xs))
+below_zero (x ∷ xs) = by_bool (nat_lt x.at zero) (λ k. absurd (let l = ltb-true x.at zero k in omega (arith, l))) (λ k. rw k (below_zero xs))
 
 below_all : (t : ℕ) (xs : List Input) → ((y : Input) → In y xs → y.at < t) → below t xs ≡ xs
 below_all t [] h = refl
-below_all t (x ∷ xs) h = rw (true_lt x.at t (h x (inl refl))) refl
+below_all t (x ∷ xs) h = rw (lt-ltb x.at t (h x (inl refl))) refl
 
 -- what follows in a list that does not rise comes no later
 abbrev Falls : (Input → Input → Type 0) → Type 0
@@ -85,21 +76,21 @@ in_below t x [] i l = absurd i
 in_below t x (y ∷ ys) i l = by_bool (nat_lt y.at t)
     (λ k. rw k i)
     (λ k. rw k (elim i [
-      | inl e ↦ absurd (let m = lt_false y.at t k in let z : x.at ≡ y.at = ap (λ (w : Input). w.at) e in omega (arith, l, m, z))
+      | inl e ↦ absurd (let m = ltb-false y.at t k in let z : x.at ≡ y.at = ap (λ (w : Input). w.at) e in omega (arith, l, m, z))
       | inr j ↦ in_below t x ys j l
     ]))
 
 below_lt : (R : Input → Input → Type 0) → Falls R → (t : ℕ) (x : Input) (xs : List Input) → Rising R xs → In x (below t xs) → x.at < t
 below_lt R falls t x [] r i = absurd i
 below_lt R falls t x (y ∷ ys) r i = by_bool (nat_lt y.at t)
-    (λ k. let j : In x (y ∷ ys) = rw k at i in all_under R falls t y ys r (lt_true y.at t k) x j)
+    (λ k. let j : In x (y ∷ ys) = rw k at i in all_under R falls t y ys r (ltb-true y.at t k) x j)
     (λ k. let j : In x (below t ys) = rw k at i in below_lt R falls t x ys r.1 j)
 
 rank_below : (q t : ℕ) (xs : List Input) → Rising NotBefore xs → of_rank q (below t xs) ≡ below t (of_rank q xs)
 rank_below q t [] r = refl
 rank_below q t (x ∷ xs) r = by_bool (nat_lt x.at t)
     (λ k.
-    let same : below t (of_rank q (x ∷ xs)) ≡ of_rank q (x ∷ xs) = below_all t (of_rank q (x ∷ xs)) (λ y i. all_under NotBefore falls_order t x xs r (lt_true x.at t k) y (in_at q y (x ∷ xs) i)) in
+    let same : below t (of_rank q (x ∷ xs)) ≡ of_rank q (x ∷ xs) = below_all t (of_rank q (x ∷ xs)) (λ y i. all_under NotBefore falls_order t x xs r (ltb-true x.at t k) y (in_at q y (x ∷ xs) i)) in
     let kept : of_rank q (below t (x ∷ xs)) ≡ of_rank q (x ∷ xs) = rw k refl in
     kept ∙ sym same)
     (λ k.
@@ -120,12 +111,12 @@ before t (o ∷ os) = if nat_lt o.at t then o ∷ os else before t os
 
 before_all : (t : ℕ) (os : List Offer) → ((o : Offer) → In o os → o.at < t) → before t os ≡ os
 before_all t [] h = refl
-before_all t (o ∷ os) h = rw (true_lt o.at t (h o (inl refl))) refl
+before_all t (o ∷ os) h = rw (lt-ltb o.at t (h o (inl refl))) refl
 
 before_skip : (t : ℕ) (os ps : List Offer) → ((o : Offer) → In o os → t ≤ o.at) → before t (os ++ ps) ≡ before t ps
 before_skip t [] ps h = refl
 before_skip t (o ∷ os) ps h =
-    let k : nat_lt o.at t ≡ false = by_bool (nat_lt o.at t) (λ y. absurd (let a = lt_true o.at t y in let b = h o (inl refl) in omega (arith, a, b))) (λ y. y) in
+    let k : nat_lt o.at t ≡ false = by_bool (nat_lt o.at t) (λ y. absurd (let a = ltb-true o.at t y in let b = h o (inl refl) in omega (arith, a, b))) (λ y. y) in
     rw k (before_skip t os ps (λ p i. h p (inr i)))
 
 moment_by : {A : Type 0} (out : PortPlan A) (a : Arrival) (priority n number : ℕ) (v : Verdict) (o : Offer) → In o (offer_by out a priority n number v) → o.at ≡ a.at
@@ -146,7 +137,7 @@ moment_step p out a es priority (verdicts.Unfiltered c) o (inr i) = absurd i
 moment_step p out a es priority (verdicts.Judged c n f v) o i = moment_by out a priority n _ v o i
 moment_step p out a es priority (verdicts.Commanded v m) o i = absurd i
 
-moment_on : {A : Type 0} (p : Plan A) (out : PortPlan A) (a : Arrival) (es : List Event) (w : Way) (o : Offer) → In o (offer_on p out a es w) → o.at ≡ a.at
+pub moment_on : {A : Type 0} (p : Plan A) (out : PortPlan A) (a : Arrival) (es : List Event) (w : Way) (o : Offer) → In o (offer_on p out a es w) → o.at ≡ a.at
 moment_on p out a es way.Malformed o i = absurd i
 moment_on p out a es way.Nowhere o i = absurd i
 moment_on p out a es (way.Goes set c) o i = by_bool (has set out.number)
@@ -183,13 +174,13 @@ offers_below p out c t (x ∷ xs) times r = by_bool (nat_lt x.at t)
     let all : before t (in_class c (offers p out (events (x ∷ xs)))) ≡ in_class c (offers p out (events (x ∷ xs))) = before_all t (in_class c (offers p out (events (x ∷ xs))))
     (λ o i.
     let f = offered_at p out (x ∷ xs) times o (in_class_in c o (offers p out (events (x ∷ xs))) i).0 in
-    let l = all_under NotBefore falls_order t x xs r (lt_true x.at t k) f.0 f.1 in
+    let l = all_under NotBefore falls_order t x xs r (ltb-true x.at t k) f.0 f.1 in
     let e = f.2 in
     omega (arith, l, e)) in
     all ∙ sym (ap (λ (ys : List Input). in_class c (offers p out (events ys))) kept))
     (λ k.
     let gone : below t (x ∷ xs) ≡ below t xs = rw k refl in
-    skip_event p out c t x.at x.event (events xs) (times x (inl refl)) (lt_false x.at t k)
+    skip_event p out c t x.at x.event (events xs) (times x (inl refl)) (ltb-false x.at t k)
     ∙ (offers_below p out c t xs (λ y i. times y (inr i)) r.1 ∙ sym (ap (λ (ys : List Input). in_class c (offers p out (events ys))) gone)))
 
 -- COPIES BEFORE A MOMENT
@@ -217,12 +208,12 @@ in_older t x [] i l = absurd i
 in_older t x (y ∷ ys) i l = by_bool (nat_lt y.at t)
     (λ k. rw k i)
     (λ k. rw k (elim i [
-      | inl e ↦ absurd (let m = lt_false y.at t k in let z : x.at ≡ y.at = ap (λ (w : Copy Carried). w.at) e in omega (arith, l, m, z))
+      | inl e ↦ absurd (let m = ltb-false y.at t k in let z : x.at ≡ y.at = ap (λ (w : Copy Carried). w.at) e in omega (arith, l, m, z))
       | inr j ↦ in_older t x ys j l
     ]))
 
 -- a copy of a queue that is alone starts when it was offered or later
-solo_after : (r : Rules Carried) (s : ℕ) (x : Copy Carried) (xs : List (Copy Carried)) → IsSolo r xs → In x xs → x.fate ≡ Started s → x.at ≤ s
+pub solo_after : (r : Rules Carried) (s : ℕ) (x : Copy Carried) (xs : List (Copy Carried)) → IsSolo r xs → In x xs → x.fate ≡ Started s → x.at ≤ s
 solo_after r s x [] h i f = absurd i
 solo_after r s x (y ∷ ys) h (inl e) f =
     let is : y.fate ≡ Started s = subst (λ (z : Copy Carried). z.fate ≡ Started s) e f in

@@ -6,6 +6,7 @@ use Rattle.std.proofs.lemmas.Bool.Decides.{nat_tests}
 use Rattle.std.specs.Prelude.{nat_lt}
 use Rattle.bridge_limits.specs.Members.{In}
 use Rattle.bridge_cycle.specs.Moments.{Fits, IsFirst, Repeats}
+use Rattle.bridge_cycle.proofs.Runs.{fits_less}
 use Rattle.bridge_frame.specs.Link.{occupied}
 use Rattle.bridge_frame.proofs.Times.{occupied_some}
 use Rattle.bridge_port.specs.Opening.{opens_of, ever_of}
@@ -27,9 +28,6 @@ fits_later opens p n t repeats fits u a b =
 
 fits_sooner : (opens : ℕ → Bool) (p n t : ℕ) → Repeats opens p → Fits opens n (t + p) → Fits opens n t
 fits_sooner opens p n t repeats fits u a b = sym (repeats u) ∙ fits (u + p) (omega (arith, a)) (omega (arith, b))
-
-shorter : (opens : ℕ → Bool) (m n t : ℕ) → m ≤ n → Fits opens n t → Fits opens m t
-shorter opens m n t l fits u a b = fits u a (omega (arith, b, l))
 
 -- lists that repeat with the base repeat with each multiple of it
 repeats_times : (opens : ℕ → Bool) (base k : ℕ) → Repeats opens base → Repeats opens (k * base)
@@ -77,11 +75,11 @@ fate_in_period r c from upto least most first last p x xs (Started s) repeats lo
     let free = done.done in
     let after = is.after in
     let high_after = high.after in
-    let fits_there : Fits (r.opens c) (r.occ x.item) (last + p) = shorter (r.opens c) (r.occ x.item) most (last + p) long (fits_later (r.opens c) p most last repeats high.fits) in
+    let fits_there : Fits (r.opens c) (r.occ x.item) (last + p) = fits_less (r.opens c) most (r.occ x.item) (last + p) long (fits_later (r.opens c) p most last repeats high.fits) in
     let not_late : s ≤ last + p = elim (cases_lt (last + p) s) [ inl l ↦ absurd (is.least (last + p) (omega (arith, free, b, high_after)) l fits_there) | inr l ↦ l ] in
     let back = s - p in
     let same : back + p ≡ s = omega (arith, after, a) in
-    let fits_here : Fits (r.opens c) least back = fits_sooner (r.opens c) p least back repeats (subst (Fits (r.opens c) least) (sym same) (shorter (r.opens c) least (r.occ x.item) s short is.fits)) in
+    let fits_here : Fits (r.opens c) least back = fits_sooner (r.opens c) p least back repeats (subst (Fits (r.opens c) least) (sym same) (fits_less (r.opens c) (r.occ x.item) least s short is.fits)) in
     let not_early : first + p ≤ s = elim (cases_lt s (first + p)) [ inl l ↦ absurd (low.least back (omega (arith, same, after, a)) (omega (arith, same, l)) fits_here) | inr l ↦ l ] in
     let alone : max x.at (last_done r xs) ≡ x.at = omega (arith, free) in
     (s, refl, subst (λ (k : ℕ). IsFirst (r.opens c) (r.occ x.item) k s) alone is, not_early, not_late)

@@ -25,10 +25,11 @@ use Rattle.bridge_network.specs.Finding.{taken, taken_from, taken_over, taken_li
 use Rattle.bridge_network.specs.Checked.{IsAccepted, IsChecked}
 use Rattle.bridge_network.specs.Refusing as spec
 use Rattle.bridge_network.proofs.Members.{in_map}
-use Rattle.bridge_network.proofs.Firsts.{both_none, none_at}
+use Rattle.bridge_network.proofs.Firsts.{none_at}
 use Rattle.bridge_network.proofs.Handles.{protected_names}
 use Rattle.bridge_network.proofs.Straying.{all_pass, port_found, none_strays}
 use Rattle.bridge_network.proofs.Closed.{closed_by_test}
+use Rattle.bridge_check.proofs.Isolated.{both_none, told_none}
 
 -- WHAT IS TOLD OF NO ITEM
 
@@ -52,13 +53,9 @@ untold tell xs x h i =
     let none : spec.of_some (tell r.place) (slice_get xs r.place) ≡ None = none_at (length xs) (λ i. spec.of_some (tell i) (slice_get xs i)) h r.place r.below in
     record { place = r.place; none = subst (λ o. spec.of_some (tell r.place) o ≡ None) r.at none }
 
-no_fault : (b : Bool) (e : NetworkFault) → spec.fault_unless b e ≡ None → b ≡ true
+pub no_fault : (b : Bool) (e : NetworkFault) → spec.fault_unless b e ≡ None → b ≡ true
 no_fault true e h = refl
 no_fault false e h = absurd (cc)
-
-none_mapped : {X Y : Type 0} (f : X → Y) (o : Option X) → option_map f o ≡ None → o ≡ None
-none_mapped f None h = refl
-none_mapped f (Some x) h = absurd (cc)
 
 -- PORTS THAT ARE THERE
 
@@ -155,7 +152,7 @@ hop_closed {A} n hops h next net plan none =
     all_pass (λ (on : PortPlan A). takes_at (network_of n) (stream_of hops) (sender (map link_of n.links) h.bridge on.number) next on h.filter) next.ports (λ on i.
     let own = port_found next.ports on plan.ports i in
     let here : spec.taken_at Strays n hops h next (own.place + 1) ≡ None = none_at 16 (λ j. spec.taken_at Strays n hops h next (j + 1)) none own.place own.below in
-    let one : spec.taken_on Strays n hops h next (port_at next.ports (own.place + 1)) ≡ None = none_mapped (λ (f : Found). (own.place + 1, f)) (spec.taken_on Strays n hops h next (port_at next.ports (own.place + 1))) here in
+    let one : spec.taken_on Strays n hops h next (port_at next.ports (own.place + 1)) ≡ None = told_none (λ (f : Found). (own.place + 1, f)) (spec.taken_on Strays n hops h next (port_at next.ports (own.place + 1))) here in
     let two : spec.taken_on Strays n hops h next (Some on) ≡ None = subst (λ o. spec.taken_on Strays n hops h next o ≡ None) own.at one in
     closed_at n (stream_of hops) next on h.filter h.bridge (sender (map link_of n.links) h.bridge on.number) net refl two)
 
@@ -165,7 +162,7 @@ passes_by {A} n hops h i k (Some next) all net e protected none =
     let accepted = rules_at n.plans all h.bridge next e in
     let (m, named) = protected_names next h.filter accepted.rules accepted.acceptable protected in
     let told : spec.told_at n hop_test.Closed i hops k h next m ≡ None = subst (λ o. spec.of_some (spec.told_at n hop_test.Closed i hops k h next) o ≡ None) named none in
-    let taken : spec.taken_hop Strays n hops h next ≡ None = none_mapped (spec.not_closed i k h) (spec.taken_hop Strays n hops h next) told in
+    let taken : spec.taken_hop Strays n hops h next ≡ None = told_none (spec.not_closed i k h) (spec.taken_hop Strays n hops h next) told in
     rw (protected, hop_closed n hops h next net accepted.rules taken) refl
 
 hop_untold : {A : Type 0} (n : Parts A) (test : HopTest) (s : Vec StreamHop A) (h : StreamHop) → spec.hop_fault n test ≡ None → In s n.streams → In h s.items → (i : ℕ) × (k : ℕ) × (spec.told_hop n test i s.items k h ≡ None)

@@ -2,31 +2,26 @@
 use Rattle.std.proofs.Common.{◌≡◌, ◌↔◌, ◌<◌, ◌+◌, ◌-◌, ℕ, Bool, true, false, not, List, [], ◌∷◌, Option, Some, None, nat_eq, refl, sym, ap, subst, arith, inl, inr}
 use Rattle.std.specs.List.{list_all, list_any}
 use Rattle.std.proofs.lemmas.Bool.{and_parts, eq-eqb, false≢true}
-use Rattle.std.proofs.Math.Bool.{or-true}
-use Rattle.bridge_limits.specs.Members.{In}
+use Rattle.bridge_limits.specs.Members.{In, are_own}
 use Rattle.bridge_limits.proofs.Cases.{by_bool}
-use Rattle.bridge_check.proofs.Isolated.{each_passes}
+use Rattle.bridge_limits.proofs.Members.{each_passes, passes_any, each_in}
 use Rattle.bridge_frame.specs.declared.Tag.{Tag}
 use Rattle.bridge_ident.specs.declared.StreamEntry.{StreamEntry}
 use Rattle.bridge_filter.specs.declared.FilterPlan.{FilterPlan}
 use Rattle.bridge_config.specs.declared.ports.PortPlan.{PortPlan}
 use Rattle.bridge_config.specs.Model.{Plan}
-use Rattle.bridge_config.specs.Rules.{ArePorts, IsPlan, IsPort, are_own, port_at}
-use Rattle.bridge_config.proofs.PlanPorts.{at_port, each_in}
+use Rattle.bridge_config.specs.Rules.{ArePorts, IsPlan, IsPort, port_at}
+use Rattle.bridge_config.proofs.PlanPorts.{at_port}
 use Rattle.bridge_check.specs.Sending.{vid_of, priority_of}
+use Rattle.bridge_check.proofs.Told.{none_below}
 use Rattle.bridge_network.specs.declared.sending.Question.TheVariants.{Strays}
 use Rattle.bridge_network.specs.Feeding.{Sort, handles_of, flow_for, is_fed, may_go, sends_from, sends_only, tags_of, gives_to, sort_by, takes_by, takes_only}
 use Rattle.bridge_network.specs.Finding.{first_in, found_if, found_for, sent_from, sent_if, sent, taken_by, taken_of, taken}
-use Rattle.bridge_network.proofs.Firsts.{none_below, none_each, none_of, none_at}
+use Rattle.bridge_network.proofs.Firsts.{none_each, none_of, none_at}
 
 pub all_pass : {X : Type 0} (t : X → Bool) (xs : List X) → ((x : X) → In x xs → t x ≡ true) → list_all t xs ≡ true
 all_pass t [] h = refl
 all_pass t (x ∷ xs) h = rw (h x (inl refl)) (all_pass t xs (λ y i. h y (inr i)))
-
-any_passes : {X : Type 0} (t : X → Bool) (xs : List X) (x : X) → In x xs → t x ≡ true → list_any t xs ≡ true
-any_passes t [] x i h = absurd i
-any_passes t (y ∷ ys) x (inl e) h = let here : t y ≡ true = subst (λ z. t z ≡ true) e h in rw here refl
-any_passes t (y ∷ ys) x (inr i) h = rw (any_passes t ys x i h) (or-true (t y))
 
 -- a port of a list whose numbers differ is the port of its number
 own_port : {A : Type 0} (ports : List (PortPlan A)) (on : PortPlan A) → are_own (λ (p q : PortPlan A). nat_eq p.number q.number) ports ≡ true → In on ports → port_at ports on.number ≡ Some on
@@ -38,7 +33,7 @@ own_port {A} (x ∷ xs) on own (inr i) =
     let (apart, rest) = and_parts (not (list_any (λ (y : PortPlan A). nat_eq x.number y.number) xs)) (are_own (λ (p q : PortPlan A). nat_eq p.number q.number) xs) own in
     by_bool (nat_eq x.number on.number)
     (λ k.
-    let any : list_any (λ (y : PortPlan A). nat_eq x.number y.number) xs ≡ true = any_passes (λ (y : PortPlan A). nat_eq x.number y.number) xs on i k in
+    let any : list_any (λ (y : PortPlan A). nat_eq x.number y.number) xs ≡ true = passes_any (λ (y : PortPlan A). nat_eq x.number y.number) xs on i k in
     let no : false ≡ true = rw any at apart in
     absurd (false≢true no))
     (λ k. rw k (own_port xs on rest i))

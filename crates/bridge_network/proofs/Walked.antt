@@ -3,6 +3,7 @@ use Rattle.std.proofs.Common.{◌≡◌, ◌<◌, ◌≤◌, ◌+◌, ℕ, Bool,
 use Rattle.std.specs.Prelude.{is_some, ◌||◌, slice_get}
 use Rattle.std.specs.List.{list_any}
 use Rattle.std.proofs.lemmas.List.{drop_all, drop_more}
+use Rattle.std.proofs.lemmas.Bool.{or_left}
 use Rattle.bridge_check.specs.Faults.{first_of}
 use Rattle.bridge_network.specs.Finding.{first_in}
 use Rattle.bridge_network.specs.Refusing.{of_some}
@@ -34,11 +35,6 @@ module _ {X Y : Type 0} (tell : X → Option Y) (items xs : List X) (i : ℕ) (s
   pub untold : length items ≤ i → first_in tell (drop i xs) ≡ first_in tell xs → None ≡ first_in tell xs
   untold past before = sym (ap (first_in tell) (drop_all i xs (subst (λ (l : List X). length l ≤ i) same past))) ∙ before
 
--- the same of items that pass a test
-or_true : (a b : Bool) → a ≡ true → (a || b) ≡ true
-or_true true b h = refl
-or_true false b h = absurd (cc)
-
 or_false : (a b : Bool) → a ≡ false → (a || b) ≡ b
 or_false true b h = absurd (cc)
 or_false false b h = refl
@@ -50,7 +46,7 @@ module _ {X : Type 0} (test : X → Bool) (items xs : List X) (i : ℕ) (same : 
       ∙ ap (λ (l : List X). test (get_or l i d) || list_any test (drop (i + 1) xs)) (sym same)
 
   pub passes : (d : X) (r : Bool) → r ≡ test (get_or items i d) → i < length items → r ≡ true → list_any test (drop i xs) ≡ list_any test xs → true ≡ list_any test xs
-  passes d r is inside holds before = sym (or_true (test (get_or items i d)) (list_any test (drop (i + 1) xs)) (sym is ∙ holds)) ∙ (sym (tested_front d inside) ∙ before)
+  passes d r is inside holds before = sym (or_left (test (get_or items i d)) (list_any test (drop (i + 1) xs)) (sym is ∙ holds)) ∙ (sym (tested_front d inside) ∙ before)
 
   pub fails : (d : X) (r : Bool) → r ≡ test (get_or items i d) → i < length items → r ≡ false → list_any test (drop i xs) ≡ list_any test xs → list_any test (drop (i + 1) xs) ≡ list_any test xs
   fails d r is inside refuted before = sym (or_false (test (get_or items i d)) (list_any test (drop (i + 1) xs)) (sym is ∙ refuted)) ∙ (sym (tested_front d inside) ∙ before)

@@ -17,7 +17,7 @@ use Rattle.bridge_filter.proofs.Members.{member_found}
 use Rattle.bridge_forward.specs.Ports.{has}
 use Rattle.bridge_port.specs.Opening.{IsMade, ever_of, opening_of, opens_of}
 use Rattle.bridge_port.specs.Schedule.{Copy, Rules, Started}
-use Rattle.bridge_port.specs.Solo.{IsSolo, IsSoloFate}
+use Rattle.bridge_port.proofs.Members.{same_start}
 use Rattle.bridge_config.specs.declared.ports.PortPlan.{PortPlan}
 use Rattle.bridge_config.specs.Model.{Plan}
 use Rattle.bridge_config.specs.Rules.{IsPlan, port_at}
@@ -25,6 +25,7 @@ use Rattle.bridge_config.proofs.PlanPorts.{at_own, port_is, room_within}
 use Rattle.bridge_check.specs.Acceptable.{IsAcceptable}
 use Rattle.bridge_check.specs.Reach.{reaches}
 use Rattle.bridge_check.specs.Windows.{longest_frame}
+use Rattle.bridge_check.proofs.Isolated.{made, class_few}
 use Rattle.bridge_semantics.specs.declared.way.Way.{Way}
 use Rattle.bridge_semantics.specs.declared.way.Way.TheVariants as way
 use Rattle.bridge_semantics.specs.Events.{Arrival, Arrived, Cleared, Event, own, way_of}
@@ -33,19 +34,20 @@ use Rattle.bridge_semantics.specs.Offers.{Carried, Offer, egress, in_class, offe
 use Rattle.bridge_semantics.specs.Runs.{AreOwnQueues, AreWhole, IsRun}
 use Rattle.bridge_semantics.proofs.Headline.{as_offer, in_class_in, in_offered, own_alone, own_flow}
 use Rattle.bridge_bounds.specs.Bounds.{IsBound}
-use Rattle.bridge_bounds.proofs.Reached.{class_few, longest_fits}
+use Rattle.bridge_bounds.proofs.Reached.{longest_fits}
 use Rattle.bridge_bounds.proofs.Sizes.{occupied_rises, within_size}
 use Rattle.bridge_bounds.proofs.Whole.{in_bound}
 use Rattle.bridge_network.specs.Alone.{IsLater}
 use Rattle.bridge_network.specs.Latency.{ComesInPeriods, InputsInPeriods, IsMultiple, StartInPeriods, offer_time, time_on}
 use Rattle.bridge_network.proofs.Hopping.{inputs_in_periods, offers_of, period_of}
 use Rattle.bridge_network.proofs.Periods.{keeps_phase}
+use Rattle.bridge_network.proofs.Once.{solo_after}
 use Rattle.bridge_periods.specs.declared.timing.Phases.{Phases}
 use Rattle.bridge_periods.specs.declared.timing.Timing.{Timing}
 use Rattle.bridge_periods.specs.declared.traffic.Traffic.{Traffic}
 use Rattle.bridge_periods.specs.Timings.{ArePhases, IsDoneAlone, IsDoneBetween, IsTimed, IsTiming, IsTimingAt, IsUntimed, TakesBetween, long_on, short_on}
 use Rattle.bridge_periods.specs.Traffic.{ComeInPeriods, IsTraffic, KeepsTraffic}
-use Rattle.bridge_periods.proofs.Phased.{IsTimely, ever_falls, made, no_later, no_sooner, repeats, some_first, waits_at_least, waits_at_most, within_both}
+use Rattle.bridge_periods.proofs.Phased.{IsTimely, ever_falls, no_later, no_sooner, repeats, some_first, waits_at_least, waits_at_most, within_both}
 
 -- WHAT TRAFFIC OFFERS
 
@@ -89,18 +91,6 @@ closer occ period from to least most short long next (o ∷ os) lengths h =
     let (p, multiple, before, low, high, a, b, rest) = h in
     let (c, d) = lengths o (inl refl) in
     (p, multiple, before, low, high, c, d, closer occ period from to least most short long p os (λ x i. lengths x (inr i)) rest)
-
--- a copy of a queue that has its link alone starts no sooner than it is offered
-starts_after : (r : Rules Carried) (s : ℕ) (y : Copy Carried) (xs : List (Copy Carried)) → IsSolo r xs → In y xs → y.fate ≡ Started s → y.at ≤ s
-starts_after r s y [] solo i started = absurd i
-starts_after r s y (x ∷ xs) solo (inl same) started =
-    let own : IsSoloFate r y xs (Started s) = subst (IsSoloFate r y xs) started (subst (λ (z : Copy Carried). IsSoloFate r z xs z.fate) (sym same) solo.0) in
-    let after = own.2.after in
-    omega (arith, after)
-starts_after r s y (x ∷ xs) solo (inr later) started = starts_after r s y xs solo.1 later started
-
-same_start : (s t : ℕ) → Started s ≡ Started t → s ≡ t
-same_start s t h = cc
 
 -- THE LENGTHS
 
@@ -214,7 +204,7 @@ module _ {A : Type 0} (p : Plan A) (n m q c bound : ℕ) (f : FilterPlan) (es : 
   no_less : (y : Copy Carried) (s : ℕ) → In y (lists q) → y.item.flow ≡ Some n → y.fate ≡ Started s → (y.at ≤ s) × (short_on out m t ≤ time_on out y.item)
   no_less y s i flow started =
       let (d, there) = own_copy y i flow in
-      (starts_after (egress out) s y (queues.own q d) (queues.solo.solo q d out k.at) there started, (lengths d (as_offer y) (one_copy y d there)).0)
+      (solo_after (egress out) s y (queues.own q d) (queues.solo.solo q d out k.at) there started, (lengths d (as_offer y) (one_copy y d there)).0)
 
   -- the copies of a queue that has phases start once a period
   starts_all : (done : Phases) → (ph : ArePhases (opening_of out.list) c (short_on out m t) (long_on out m t) t done) → StartInPeriods t.period (opens_of out.list c) (time_on out) t.period ph.first ph.last k.keeps.0 (queues.own q c)

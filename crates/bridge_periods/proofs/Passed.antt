@@ -1,5 +1,5 @@
 -- Each frame of traffic passes its filter.
-use Rattle.std.proofs.Common.{◌≡◌, ℕ, ℤ, Bool, true, false, not, ◌||◌, ◌<◌, ◌≤◌, ◌+◌, ◌-◌, cond, Option, None, Some, List, [], ◌∷◌, Result, Ok, Err, length, arith, ap, refl, sym, subst, ◌∙◌}
+use Rattle.std.proofs.Common.{◌≡◌, ℕ, Bool, true, false, not, ◌||◌, ◌<◌, ◌≤◌, ◌+◌, ◌-◌, cond, Option, None, Some, List, [], ◌∷◌, Result, Ok, Err, length, arith, ap, refl, sym, subst, ◌∙◌}
 use Rattle.std.specs.Prelude.{nat_eq, nat_lt, if◌then◌else◌}
 use Rattle.std.specs.List.{list_all}
 use Rattle.std.specs.Map.{lookup}
@@ -12,6 +12,8 @@ use Rattle.std.proofs.lemmas.Option.{same_Some}
 use Rattle.bridge_limits.specs.Members.{In}
 use Rattle.bridge_limits.specs.declared.TheConstants.{LONGEST_FRAME}
 use Rattle.bridge_limits.proofs.Cases.{by_bool}
+use Rattle.bridge_limits.proofs.Members.{each_in, each_passes as one_of_all}
+use Rattle.bridge_limits.proofs.Orders.{same_eq}
 use Rattle.bridge_cycle.specs.declared.timeline.Turn.{Turn}
 use Rattle.bridge_frame.specs.declared.Head.{Head}
 use Rattle.bridge_frame.specs.declared.Tag.{Tag}
@@ -26,6 +28,7 @@ use Rattle.bridge_gate.specs.Gates.{GateRules, GateStep, OctetsCleared, RxCleare
 use Rattle.bridge_gate.specs.Schedules as schedules
 use Rattle.bridge_gate.specs.Schedules.{rules_of}
 use Rattle.bridge_gate.proofs.ScheduleLaws.{IsOrdered, ordered}
+use Rattle.bridge_gate.proofs.Asks.{same_int}
 use Rattle.bridge_ident.specs.Identification.{handle_in, names_vlan, takes_tag}
 use Rattle.bridge_ident.specs.declared.StreamEntry.{StreamEntry}
 use Rattle.bridge_ident.specs.declared.TagKind.{TagKind}
@@ -43,15 +46,12 @@ use Rattle.bridge_filter.specs.Plans.{gate_or_closed}
 use Rattle.bridge_filter.specs.Verdicts as verdicts
 use Rattle.bridge_filter.specs.Verdicts.{Commanded, Judged, Plans, Step, flow, gate_share, is_above, is_blocked, verdict_of}
 use Rattle.bridge_filter.proofs.Members.{one_number}
-use Rattle.bridge_filter.proofs.Numbered.{same_eq}
 use Rattle.bridge_filter.proofs.Owned.{flow_listed}
 use Rattle.bridge_filter.proofs.Taken.{flow_handle}
 use Rattle.bridge_port.specs.Schedule.{Copy}
 use Rattle.bridge_config.specs.Model.{Plan}
 use Rattle.bridge_config.specs.Rules.{IsPlan}
-use Rattle.bridge_config.proofs.PlanPorts.{each_in}
 use Rattle.bridge_check.specs.Acceptable.{IsAcceptable}
-use Rattle.bridge_check.proofs.Isolated.{each_passes as one_of_all}
 use Rattle.bridge_semantics.specs.declared.outcome.Outcome.{Outcome}
 use Rattle.bridge_semantics.specs.declared.outcome.View.{View}
 use Rattle.bridge_semantics.specs.declared.way.Way.{Way}
@@ -90,9 +90,6 @@ no_octets t next [] h = refl
 no_octets t next (Told at n a ∷ ss) h = rw h.6 (no_octets t h.0 ss h.7)
 no_octets t next (RxCleared ∷ ss) h = no_octets t next ss h
 no_octets t next (OctetsCleared ∷ ss) h = refl
-
-same_int : (a b : ℤ) → int_eq a b ≡ true → a ≡ b
-same_int a b h = grind arith
 
 module _ (turns : ℕ → Option (Turn GateEntry)) (t : Traffic) (sdu : ℕ) (order : IsOrdered turns) (fair_at : IsFair turns t sdu) (traffic : IsTraffic t) where
   -- a frame of an earlier period came in another turn

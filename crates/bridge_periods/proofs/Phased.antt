@@ -1,42 +1,31 @@
 -- What is looked up in one period, at the same phases of every other one.
-use Rattle.std.proofs.Common.{◌≡◌, ℕ, Bool, true, false, ◌<◌, ◌≤◌, ◌+◌, ◌-◌, ◌*◌, ◌/◌, ◌%◌, min, Option, None, Some, arith, refl, sym, subst, ◌∙◌, inl, inr}
+use Rattle.std.proofs.Common.{◌≡◌, ℕ, Bool, true, false, ◌≤◌, ◌+◌, ◌-◌, ◌*◌, ◌/◌, ◌%◌, min, arith, refl, sym, subst, inl, inr}
 use Rattle.std.proofs.lemmas.Bool.{cases_lt, eqb-true, false≢true}
-use Rattle.std.specs.Option.{ForSome}
-use Rattle.bridge_cycle.specs.declared.egress.Egress.{Egress}
-use Rattle.bridge_cycle.specs.declared.egress.Egress.TheVariants as egress
 use Rattle.bridge_cycle.specs.Moments.{Fits, IsFirst, Repeats}
 use Rattle.bridge_cycle.proofs.Lists.{list_repeats}
 use Rattle.bridge_cycle.proofs.Repeats.{turns}
+use Rattle.bridge_cycle.proofs.Runs.{fits_less}
 use Rattle.bridge_frame.specs.declared.Speed.{Speed}
 use Rattle.bridge_frame.specs.Link.{occupied}
-use Rattle.bridge_port.specs.Opening.{Always, Exchanged, IsMade, One, Opening, ever, list_opens, opening_of, opens}
+use Rattle.bridge_port.specs.Opening.{Always, Exchanged, IsMade, One, Opening, ever, list_opens, opens}
 use Rattle.bridge_port.proofs.Opening.{ever_soon, exchanged_ever_is, list_ever_is}
-use Rattle.bridge_config.specs.Rules.{ForEachList, IsPortList}
 use Rattle.bridge_bounds.proofs.Edges.{first_some, first_up}
 use Rattle.bridge_bounds.proofs.Sizes.{occupied_rises}
 use Rattle.bridge_bounds.specs.Bounds.{EndsBy, IsLongest}
 use Rattle.bridge_bounds.proofs.Steps.{ends_fewer, first_rises}
 use Rattle.bridge_network.specs.Latency.{IsMultiple}
 use Rattle.bridge_periods.specs.Waits.{IsLongestWait, IsShortestWait, repeats_with}
-
--- the lists of a port of a plan can be made
-pub made : {A : Type 0} (list : Option (Egress A)) → ForSome list (ForEachList IsPortList) → IsMade (opening_of list)
-made None is = tt
-made (Some (egress.Cyclic l)) is = (is (egress.Cyclic l) refl).lawful
-made (Some (egress.Joined j)) is = let (old, new) = is (egress.Joined j) refl in record { old = old.lawful; new = new.lawful }
-
-shorter : (opens : ℕ → Bool) (m n t : ℕ) → m ≤ n → Fits opens n t → Fits opens m t
-shorter opens m n t l fits u a b = fits u a (omega (arith, b, l))
+use Rattle.bridge_check.proofs.Isolated.{made}
 
 -- where a length fits at some moment, so does a shorter one
 pub ever_falls : (o : Opening) (c m n : ℕ) → IsMade o → m ≤ n → ever o c n ≡ true → ever o c m ≡ true
 ever_falls Always c m n made l h = refl
-ever_falls (One l) c m n made le h = let (t, f) = (list_ever_is l c n made).0 h in (list_ever_is l c m made).1 (t, shorter (list_opens l c) m n t le f)
+ever_falls (One l) c m n made le h = let (t, f) = (list_ever_is l c n made).0 h in (list_ever_is l c m made).1 (t, fits_less (list_opens l c) n m t le f)
 ever_falls (Exchanged j) c m n made le h =
     let both = (exchanged_ever_is j c n made).0 h in
     let (t, f) = both.0 in
     let (u, g) = both.1 in
-    (exchanged_ever_is j c m made).1 ((t, shorter (list_opens j.old c) m n t le f), (u, shorter (list_opens j.new c) m n u le g))
+    (exchanged_ever_is j c m made).1 ((t, fits_less (list_opens j.old c) n m t le f), (u, fits_less (list_opens j.new c) n m u le g))
 
 -- each moment has a first fit
 pub some_first : (o : Opening) (c n from : ℕ) → IsMade o → ever o c n ≡ true → (s : ℕ) × IsFirst (opens o c) n from s

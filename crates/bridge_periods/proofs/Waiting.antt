@@ -8,8 +8,8 @@ use Rattle.bridge_cycle.specs.declared.cyclic.TheConstants.{LONGEST_CYCLE}
 use Rattle.bridge_cycle.proofs.Lists.{list_repeats}
 use Rattle.bridge_port.specs.Opening.{list_ever, list_opens}
 use Rattle.bridge_port.proofs.Opening.{list_ever_is}
+use Rattle.bridge_port.proofs.Alone.{first_one}
 use Rattle.bridge_bounds.proofs.Edges.{first_up, firsts, fits_or}
-use Rattle.bridge_bounds.proofs.Steps.{first_once}
 use Rattle.bridge_periods.specs.Waits.{IsLongestWait}
 
 -- what fits at a moment starts then
@@ -33,7 +33,7 @@ waited_begin opens occ from to s some within first soon =
       near = omega (arith, within);
       longest = λ u v p q r other.
           let same : u ≡ from = omega (arith, p, r, some) in
-          let is = first_once opens occ from v s (subst (λ (i : ℕ). IsFirst opens occ i v) same other) first in
+          let is = first_one opens occ from v s (subst (λ (i : ℕ). IsFirst opens occ i v) same other) first in
           omega (arith, is, same, after);
       attained = (from, omega arith, within, subst (IsFirst opens occ from) e first);
       bounded = omega (arith, soon);
@@ -92,7 +92,7 @@ waited_more opens occ from to seen end wait s w some within on near same first s
       longest = λ u v p q r other. elim (cases_lt end (u + occ)) [
         | inl l ↦
             let is : u ≡ behind = omega (arith, l, r, q, some) in
-            let one = first_once opens occ behind v s (subst (λ (i : ℕ). IsFirst opens occ i v) is other) first in
+            let one = first_one opens occ behind v s (subst (λ (i : ℕ). IsFirst opens occ i v) is other) first in
             omega (arith, one, is, after)
         | inr l ↦ elim (cases_lt (seen + 1) (u + occ)) [
           | inl m ↦
@@ -133,7 +133,7 @@ waited_all l class occ from to seen wait lawful can w some all = record {
         let before = c.before in
         let (v, other) = firsts opens l.cycle occ fit c.at lawful.cycle_some repeats fits in
         let again : IsFirst opens occ u (v + c.cycles * l.cycle) = subst (λ (i : ℕ). IsFirst opens occ i (v + c.cycles * l.cycle)) (sym same) (first_up opens l.cycle occ c.cycles c.at v repeats other) in
-        let is = first_once opens occ u s (v + c.cycles * l.cycle) first again in
+        let is = first_one opens occ u s (v + c.cycles * l.cycle) first again in
         let sooner = w.longest c.at v c.first (omega (arith, same, q)) (omega (arith, same, q, before, all, m, some)) other in
         omega (arith, is, same, sooner)
   ];

@@ -1,15 +1,15 @@
 -- Bounds that are gathered queue by queue.
-use Rattle.std.proofs.Common.{◌≡◌, ℕ, suc, zero, ◌+◌, ◌-◌, ◌<◌, ◌≤◌, List, [], ◌∷◌, ◌++◌, Some, None, length, slice_get, get_or, refl, sym, ap, ap₂, subst, ◌∙◌, inl, inr, arith, true, false}
+use Rattle.std.proofs.Common.{◌≡◌, ℕ, suc, zero, ◌+◌, ◌-◌, ◌<◌, ◌≤◌, List, [], ◌∷◌, ◌++◌, Some, length, slice_get, get_or, refl, sym, ap, ap₂, subst, ◌∙◌, inl, inr, arith, true, false}
 use Rattle.std.specs.Prelude.{nat_eq, ◌⊎◌, Vec}
 use Rattle.std.specs.Map.{lookup}
 use Rattle.std.specs.Prelude.{◌/◌, ◌%◌}
-use Rattle.std.proofs.lemmas.Option.{slice_get-get_or}
+use Rattle.std.proofs.lemmas.Option.{slice_get-get_or, none-some}
 use Rattle.std.proofs.lemmas.Nat.{div-add-mod'}
 use Rattle.std.proofs.Math.Nat.{mod-lt}
 use Rattle.std.proofs.lemmas.Bool.{false≢true, eqb-true}
 use Rattle.std.proofs.lemmas.Cmp.{nat_eq_equiv}
-use Rattle.bridge_limits.specs.Members.{In, AllAfter, Rising}
-use Rattle.bridge_limits.proofs.Members.{in_left, in_push, rising_push}
+use Rattle.bridge_limits.specs.Members.{In, Rising}
+use Rattle.bridge_limits.proofs.Members.{in_left, in_push, rising_push, after_at}
 use Rattle.bridge_limits.proofs.Cases.{by_bool}
 use Rattle.bridge_filter.specs.declared.FilterPlan.{FilterPlan}
 use Rattle.bridge_config.specs.declared.ports.PortPlan.{PortPlan}
@@ -24,52 +24,44 @@ use Rattle.bridge_planning.specs.Bounds.{AreBounds, AreUpTo, IsBefore, IsDone, p
 some_same : {X : Type 0} (a b : X) → Some a ≡ Some b → a ≡ b
 some_same a b e = cc
 
-none_is_some : {X : Type 0} (x : X) → ¬ (None ≡ Some x)
-none_is_some x e = cc
-
 -- A LIST BY RISING NUMBER
 
-abbrev Numbered : Type 0
-Numbered = List (ℕ × FilterPlan)
+abbrev Filters : Type 0
+Filters = List (ℕ × FilterPlan)
 
 abbrev ByNumber : ℕ × FilterPlan → ℕ × FilterPlan → Type 0
 ByNumber x y = x.0 < y.0
 
-after_at : (x : ℕ × FilterPlan) (xs : Numbered) (i : ℕ) (y : ℕ × FilterPlan) → AllAfter ByNumber x xs → slice_get xs i ≡ Some y → x.0 < y.0
-after_at x [] i y after is = absurd (none_is_some y is)
-after_at x (z ∷ xs) zero y after is = subst (λ (w : ℕ × FilterPlan). x.0 < w.0) (some_same z y is) after.0
-after_at x (z ∷ xs) (suc i) y after is = after_at x xs i y after.1 is
-
 -- a filter at a lesser place has a lesser number
-sooner : (xs : Numbered) (i k : ℕ) (x y : ℕ × FilterPlan) → Rising ByNumber xs → i < k → slice_get xs i ≡ Some x → slice_get xs k ≡ Some y → x.0 < y.0
-sooner [] i k x y rises before here there = absurd (none_is_some x here)
+sooner : (xs : Filters) (i k : ℕ) (x y : ℕ × FilterPlan) → Rising ByNumber xs → i < k → slice_get xs i ≡ Some x → slice_get xs k ≡ Some y → x.0 < y.0
+sooner [] i k x y rises before here there = absurd (none-some x here)
 sooner (z ∷ xs) zero zero x y rises before here there = absurd (omega (arith, before))
-sooner (z ∷ xs) zero (suc k) x y rises before here there = subst (λ (w : ℕ × FilterPlan). w.0 < y.0) (some_same z x here) (after_at z xs k y rises.0 there)
+sooner (z ∷ xs) zero (suc k) x y rises before here there = subst (λ (w : ℕ × FilterPlan). w.0 < y.0) (some_same z x here) (after_at ByNumber z xs k y rises.0 there)
 sooner (z ∷ xs) (suc i) zero x y rises before here there = absurd (omega (arith, before))
 sooner (z ∷ xs) (suc i) (suc k) x y rises before here there = sooner xs i k x y rises.1 (omega (arith, before)) here there
 
 -- the filter at a place is found by its number
-pub found_at : (xs : Numbered) (i n : ℕ) (f : FilterPlan) → Rising ByNumber xs → slice_get xs i ≡ Some (n, f) → lookup (nat_eq n) xs ≡ Some f
-found_at [] i n f rises is = absurd (none_is_some (n, f) is)
+pub found_at : (xs : Filters) (i n : ℕ) (f : FilterPlan) → Rising ByNumber xs → slice_get xs i ≡ Some (n, f) → lookup (nat_eq n) xs ≡ Some f
+found_at [] i n f rises is = absurd (none-some (n, f) is)
 found_at (z ∷ xs) zero n f rises is =
     let same : z ≡ (n, f) = some_same z (n, f) is in
     let test : nat_eq n z.0 ≡ true = subst (λ (w : ℕ × FilterPlan). nat_eq n w.0 ≡ true) (sym same) (nat_eq_equiv.refl n) in
     rw test (ap (λ (w : ℕ × FilterPlan). Some w.1) same)
 found_at (z ∷ xs) (suc i) n f rises is =
-    let less : z.0 < n = after_at z xs i (n, f) rises.0 is in
+    let less : z.0 < n = after_at ByNumber z xs i (n, f) rises.0 is in
     by_bool (nat_eq n z.0)
     (λ t. absurd (let same = eqb-true n z.0 t in omega (arith, same, less)))
     (λ t. rw t (found_at xs i n f rises.1 is))
 
-found_here : (z : ℕ × FilterPlan) (xs : Numbered) (n : ℕ) (f : FilterPlan) → nat_eq n z.0 ≡ true → lookup (nat_eq n) (z ∷ xs) ≡ Some f → Some z.1 ≡ Some f
+found_here : (z : ℕ × FilterPlan) (xs : Filters) (n : ℕ) (f : FilterPlan) → nat_eq n z.0 ≡ true → lookup (nat_eq n) (z ∷ xs) ≡ Some f → Some z.1 ≡ Some f
 found_here z xs n f t is = rw t at is
 
-found_behind : (z : ℕ × FilterPlan) (xs : Numbered) (n : ℕ) (f : FilterPlan) → nat_eq n z.0 ≡ false → lookup (nat_eq n) (z ∷ xs) ≡ Some f → lookup (nat_eq n) xs ≡ Some f
+found_behind : (z : ℕ × FilterPlan) (xs : Filters) (n : ℕ) (f : FilterPlan) → nat_eq n z.0 ≡ false → lookup (nat_eq n) (z ∷ xs) ≡ Some f → lookup (nat_eq n) xs ≡ Some f
 found_behind z xs n f t is = rw t at is
 
 -- a filter that is found by its number stands at a place
-pub place_found : (xs : Numbered) (n : ℕ) (f : FilterPlan) → lookup (nat_eq n) xs ≡ Some f → (i : ℕ) × (i < length xs) × (slice_get xs i ≡ Some (n, f))
-place_found [] n f is = absurd (none_is_some f is)
+pub place_found : (xs : Filters) (n : ℕ) (f : FilterPlan) → lookup (nat_eq n) xs ≡ Some f → (i : ℕ) × (i < length xs) × (slice_get xs i ≡ Some (n, f))
+place_found [] n f is = absurd (none-some f is)
 place_found (z ∷ xs) n f is = by_bool (nat_eq n z.0)
     (λ t.
     let same : Some z.1 ≡ Some f = found_here z xs n f t is in
@@ -102,7 +94,7 @@ last_or_before i j at place (inr (same, less)) = by_order j place less
     by_order j place less = elim (let cases : (j < place) ⊎ (j ≡ place) = grind (arith, less) in cases) [ inl before ↦ inl (inr (same, before)) | inr here ↦ inr (same, here) ]
 
 -- none at first
-pub none_yet : {A : Type 0} (p : Plan A) (order : Numbered) → AreUpTo p order 0 0 []
+pub none_yet : {A : Type 0} (p : Plan A) (order : Filters) → AreUpTo p order 0 0 []
 none_yet p order = record {
   rises = tt;
   each = λ r i. absurd i;
@@ -110,7 +102,7 @@ none_yet p order = record {
   all = λ i q c n f is protected from to low reach done. absurd (elim done [ inl less ↦ omega (arith, less) | inr (same, less) ↦ omega (arith, less) ]);
 }
 
-module _ {A : Type 0} (p : Plan A) (order : Numbered) (at place n q c : ℕ) (f : FilterPlan) (rows : List QueueBound)
+module _ {A : Type 0} (p : Plan A) (order : Filters) (at place n q c : ℕ) (f : FilterPlan) (rows : List QueueBound)
     (up : AreUpTo p order at place rows) (here : slice_get order at ≡ Some (n, f)) (from : 1 ≤ q) (low : c < 8) (is : place_of q c ≡ place) where
   -- a queue that has a bound
   pub with_bound : (b : ℕ) → Rising ByNumber order → IsBound p n q c b → AreUpTo p order at (place + 1) (rows ++ queue_bound n q c b ∷ [])
@@ -171,7 +163,7 @@ module _ {A : Type 0} (p : Plan A) (order : Numbered) (at place n q c : ℕ) (f 
   }
 
 -- all queues of a filter are those of the filters before the next one
-pub next_filter : {A : Type 0} (p : Plan A) (order : Numbered) (at : ℕ) (rows : List QueueBound) → AreUpTo p order at 128 rows → AreUpTo p order (at + 1) 0 rows
+pub next_filter : {A : Type 0} (p : Plan A) (order : Filters) (at : ℕ) (rows : List QueueBound) → AreUpTo p order at 128 rows → AreUpTo p order (at + 1) 0 rows
 next_filter p order at rows up = record {
   rises = up.rises;
   each = up.each;
@@ -184,7 +176,7 @@ next_filter p order at rows up = record {
 }
 
 -- all bounds are there behind the last filter
-pub all_bounds : {A : Type 0} (p : Plan A) (order : Numbered) (at : ℕ) (rows : List QueueBound) → length order ≤ at → ((m : ℕ) → lookup (nat_eq m) order ≡ lookup (nat_eq m) p.filters) → AreUpTo p order at 0 rows → AreBounds p rows
+pub all_bounds : {A : Type 0} (p : Plan A) (order : Filters) (at : ℕ) (rows : List QueueBound) → length order ≤ at → ((m : ℕ) → lookup (nat_eq m) order ≡ lookup (nat_eq m) p.filters) → AreUpTo p order at 0 rows → AreBounds p rows
 all_bounds p order at rows end found up = record {
   rises = up.rises;
   each = up.each;
@@ -197,7 +189,7 @@ all_bounds p order at rows end found up = record {
 placed : (place : ℕ) → place_of (place / 8 + 1) (place % 8) ≡ place
 placed place = let back : place / 8 + 1 - 1 ≡ place / 8 = omega arith in rw back (div-add-mod' place 8)
 
-module _ {A : Type 0} (p : Plan A) (order : Numbered) (at place : ℕ) (d : ℕ × FilterPlan) (rows : List QueueBound)
+module _ {A : Type 0} (p : Plan A) (order : Filters) (at place : ℕ) (d : ℕ × FilterPlan) (rows : List QueueBound)
     (within : at < length order) (rises : Rising ByNumber order) (up : AreUpTo p order at place rows) where
   -- the bound of the queue of a place is added
   pub one_bound : (b : ℕ) (news : List QueueBound) → IsBound p (get_or order at d).0 (place / 8 + 1) (place % 8) b → news ≡ rows ++ queue_bound (get_or order at d).0 (place / 8 + 1) (place % 8) b ∷ [] → AreUpTo p order at (place + 1) news
@@ -214,13 +206,13 @@ module _ {A : Type 0} (p : Plan A) (order : Numbered) (at place : ℕ) (d : ℕ 
 
 -- the port of a number has it
 pub number_at : {A : Type 0} (ports : List (PortPlan A)) (q : ℕ) (out : PortPlan A) → port_at ports q ≡ Some out → out.number ≡ q
-number_at [] q out is = absurd (none_is_some out is)
+number_at [] q out is = absurd (none-some out is)
 number_at (x ∷ xs) q out is = by_bool (nat_eq x.number q)
     (λ t. let here : Some x ≡ Some out = rw t at is in subst (λ (z : PortPlan _). z.number ≡ q) (some_same x out here) (eqb-true x.number q t))
     (λ t. let there : port_at xs q ≡ Some out = rw t at is in number_at xs q out there)
 
 -- a filter that is found is the one of its number
-found_same : (xs : Numbered) (n : ℕ) (f g : FilterPlan) → lookup (nat_eq n) xs ≡ Some f → lookup (nat_eq n) xs ≡ Some g → g ≡ f
+found_same : (xs : Filters) (n : ℕ) (f g : FilterPlan) → lookup (nat_eq n) xs ≡ Some f → lookup (nat_eq n) xs ≡ Some g → g ≡ f
 found_same xs n f g here there = some_same g f (sym there ∙ here)
 
 -- a filter that isn't protected, or doesn't reach a queue, has no bound there
@@ -231,7 +223,7 @@ pub unreached_by : {A : Type 0} (p : Plan A) (n q c : ℕ) (f : FilterPlan) → 
 unreached_by p n q c f found shut = λ g there protected. subst (λ (w : FilterPlan). reaches p w q c ≡ false) (sym (found_same p.filters n f g found there)) shut
 
 -- the filter at a place is found by its number
-pub found_own : {A : Type 0} (p : Plan A) (order : Numbered) (at : ℕ) (d : ℕ × FilterPlan) → at < length order → Rising ByNumber order → ((m : ℕ) → lookup (nat_eq m) order ≡ lookup (nat_eq m) p.filters) → lookup (nat_eq (get_or order at d).0) p.filters ≡ Some (get_or order at d).1
+pub found_own : {A : Type 0} (p : Plan A) (order : Filters) (at : ℕ) (d : ℕ × FilterPlan) → at < length order → Rising ByNumber order → ((m : ℕ) → lookup (nat_eq m) order ≡ lookup (nat_eq m) p.filters) → lookup (nat_eq (get_or order at d).0) p.filters ≡ Some (get_or order at d).1
 found_own p order at d within rises found =
     let x = get_or order at d in
     sym (found x.0) ∙ found_at order at x.0 x.1 rises (slice_get-get_or order at d within)

@@ -9,8 +9,8 @@ use Rattle.bridge_config.specs.Model.{Plan}
 use Rattle.bridge_config.specs.Rules.{IsPlan}
 use Rattle.bridge_config.proofs.PlanPorts.{number_is}
 use Rattle.bridge_check.specs.Reach.{any_below}
+use Rattle.bridge_check.proofs.Isolated.{class_few}
 use Rattle.bridge_bounds.specs.Bounds.{HasNoBound, IsBound}
-use Rattle.bridge_bounds.proofs.Reached.{class_few}
 use Rattle.bridge_traffic.specs.declared.rows.TrafficRow.{TrafficRow}
 use Rattle.bridge_planning.specs.declared.bounds.QueueBound.{QueueBound}
 use Rattle.bridge_planning.specs.declared.timings.QueueTiming.{QueueTiming}

@@ -13,7 +13,8 @@ use Rattle.bridge_frame.specs.Link.{occupied}
 use Rattle.bridge_filter.specs.declared.Clear.{Clear}
 use Rattle.bridge_filter.specs.declared.FilterPlan.{FilterPlan}
 use Rattle.bridge_port.specs.Opening.{opening_of}
-use Rattle.bridge_port.specs.Schedule.{Copy, Started}
+use Rattle.bridge_port.specs.Schedule.{Copy}
+use Rattle.bridge_port.proofs.Members.{same_start}
 use Rattle.bridge_config.specs.Model.{Plan}
 use Rattle.bridge_semantics.specs.declared.outcome.Outcome.{Outcome}
 use Rattle.bridge_semantics.specs.Events.{Arrival, Arrived, Cleared, Event}
@@ -127,9 +128,6 @@ fed t q next (x ∷ xs) frames commands h = by_bool (nat_eq x.rank q)
 
 not_cleared : (a : Arrival) (clear : Clear) (m : ℕ) → ¬ (Arrived a ≡ Cleared clear m)
 not_cleared a clear m h = cc
-
-same_start : (s t : ℕ) → Started s ≡ Started t → s ≡ t
-same_start s t h = cc
 
 -- THE WAY
 

@@ -2,6 +2,7 @@
 use Rattle.std.proofs.Common.{◌≡◌, ℕ, zero, suc, Bool, List, [], ◌∷◌, Option, None, Some, refl, subst}
 use Rattle.std.specs.Prelude.{length, slice_get}
 use Rattle.bridge_limits.proofs.Cases.{by_bool}
+use Rattle.bridge_limits.proofs.Options.{some_is_none}
 use Rattle.bridge_port.specs.Schedule.{Copy}
 use Rattle.bridge_config.specs.Model.{Plan}
 use Rattle.bridge_semantics.specs.Offers.{Carried}
@@ -15,7 +16,7 @@ use Rattle.bridge_courses.specs.declared.stops.Coming.{Coming}
 use Rattle.bridge_courses.specs.declared.trees.HopQueue.{HopQueue}
 use Rattle.bridge_courses.specs.Courses.{IsCourse, IsCourseFrom, IsWithin, Parts, Tells, Whether, coming_first, course_at, moved}
 use Rattle.bridge_courses.specs.Trees.{is_tree}
-use Rattle.bridge_courses.proofs.Within.{goes_on_at, leaves_at, some_is_none, within_more}
+use Rattle.bridge_courses.proofs.Within.{goes_on_at, leaves_at, within_more}
 use Rattle.bridge_planning.specs.Phased.{IsCourseOfWay, IsWayOf, hop_of, queue_at}
 use Rattle.bridge_planning.specs.Ways.{IsWay, Leg}
 

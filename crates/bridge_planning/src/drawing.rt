@@ -5,12 +5,11 @@ ghost use Rattle.bridge_planning.specs.Networks.{EndsNetwork};
 use crate::network::{beside, memory_fault, read_network, read_plans, tested};
 use crate::streams::{bounds_of_all, bounds_of_streams};
 use bridge_check::Accepted;
-use bridge_jobs::{Fault, read_at_most};
+use bridge_jobs::Fault;
 use bridge_limits::NoMemory;
 use bridge_netfile::NetworkFile;
 use bridge_netpicture::draw_network;
 use std::alloc::{AllocError, Global};
-use std::fs;
 use std::rt::Files;
 
 /// The picture of a network, with the files that were read for it.
@@ -20,27 +19,6 @@ pub struct NetworkPicture {
     pub text: String,
     /// The paths of the network's file and of the plans of its bridges.
     pub read: Vec<String>,
-}
-
-/// The octets of a file that are looked at to tell a network from a plan.
-const MOST_TEXT: u64 = 1_048_577;
-
-/// Whether the file of a path holds the text of a network: one of its lines begins with `[[bridge]]`. What can't be read twice, as
-/// a pipe, isn't looked at.
-pub fn is_network<H: AllocGlobal + Files>(rt: &H, path: &str) -> bool {
-    match fs::metadata(rt, path) {
-        Ok(data) if data.is_file() => {}
-        _ => return false,
-    }
-    let Ok(reader) = fs::open(rt, path) else {
-        return false;
-    };
-    let Ok(text) = read_at_most(rt.alloc(), reader, MOST_TEXT) else {
-        return false;
-    };
-    text.as_slice()
-        .split(|octet| *octet == b'\n')
-        .any(|line| line.starts_with(b"[[bridge]]"))
 }
 
 /// The picture of a network of these plans.

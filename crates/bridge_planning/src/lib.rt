@@ -20,7 +20,7 @@ mod traffic;
 
 pub use bounds::{QueueBound, bounds_of};
 pub use cycles::explain_traffic;
-pub use drawing::{NetworkPicture, is_network, network_picture, paths_of};
+pub use drawing::{NetworkPicture, network_picture, paths_of};
 pub use explaining::explain_network;
 pub use network::{NetworkSaid, memory_fault, network_job, read_network, read_plans, tested};
 pub use printing::{bounds_job, bounds_text};

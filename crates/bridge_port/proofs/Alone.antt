@@ -4,7 +4,7 @@ use Rattle.bridge_cycle.specs.Moments.{IsFirst}
 use Rattle.bridge_port.specs.Schedule.{Fate, Never, Full, Queued, Started, Copy, Rules}
 use Rattle.bridge_port.specs.Solo.{IsSoloFate, IsSolo, SameOffers}
 
-first_one : (opens : ℕ → Bool) (occ from s t : ℕ) → IsFirst opens occ from s → IsFirst opens occ from t → s ≡ t
+pub first_one : (opens : ℕ → Bool) (occ from s t : ℕ) → IsFirst opens occ from s → IsFirst opens occ from t → s ≡ t
 first_one opens occ from s t a b = elim (cases_order s t) [
   | inl e ↦ e
   | inr q ↦ elim q [ inl l ↦ absurd (b.least s a.after l a.fits) | inr l ↦ absurd (a.least t b.after l b.fits) ]

@@ -8,6 +8,7 @@ use Rattle.std.proofs.lemmas.List.{get_or_past}
 use Rattle.std.proofs.lemmas.Option.{same_Some, none-some}
 use Rattle.bridge_limits.specs.declared.TheConstants.{LONGEST_FRAME}
 use Rattle.bridge_limits.proofs.Cases.{by_bool}
+use Rattle.bridge_limits.proofs.Lists.{heads}
 use Rattle.bridge_frame.specs.declared.Speed.{Speed}
 use Rattle.bridge_frame.specs.Link.{occupied}
 use Rattle.bridge_cycle.specs.Moments.{Fits, IsFirst}
@@ -15,7 +16,7 @@ use Rattle.bridge_port.specs.declared.item.Item.{Item}
 use Rattle.bridge_port.specs.Heads.{IsFit, is_past, IsSoonest, IsBest, sooner, sooner_of, StartsNext, AreFits}
 use Rattle.bridge_port.specs.Standing.{State, IsIdle, AllStartable, NoStartBefore, queue_of}
 use Rattle.bridge_port.specs.Opening.{ever, Opening, opens}
-use Rattle.bridge_port.proofs.Ports.{heads, nil_cons, below_length}
+use Rattle.bridge_port.proofs.Ports.{nil_cons, below_length}
 
 pub head_some : {X : Type 0} (q : List X) (x : X) → slice_get q 0 ≡ Some x → q ≡ x ∷ drop 1 q
 head_some [] x h = absurd (cc)

@@ -7,6 +7,7 @@ use Rattle.std.proofs.lemmas.Grind.{common_steps}
 use Rattle.std.proofs.lemmas.Option.{same_Some, none-some}
 use Rattle.std.proofs.Math.Bool.{and-false}
 use Rattle.bridge_limits.proofs.Cases.{by_bool}
+use Rattle.bridge_limits.proofs.Lists.{heads, tails}
 use Rattle.bridge_frame.specs.Link.{occupied}
 use Rattle.bridge_cycle.specs.Moments.{Fits}
 use Rattle.bridge_port.specs.declared.item.Item.{Item}
@@ -18,12 +19,6 @@ use Rattle.bridge_port.specs.Solo.{IsWhole}
 use Rattle.bridge_port.specs.Standing.{State, rules_of, queue_of, StandsFor, NoStartBefore, IsNext, IsBegun, IsIdle, refusal_of, fate_of, queues_with, offered_state, copy_of, started_state}
 use Rattle.bridge_port.proofs.Laws.{IsUnstarted, Idle, lawful_later, lawful_offer, free_new, offered_later}
 use Rattle.bridge_port.proofs.Starts.{front, there_no, started_of, IsStarted, lawful_start, queue_begun, queue_other}
-
-pub heads : {A : Type 0} (a b : A) (xs ys : List A) → a ∷ xs ≡ b ∷ ys → a ≡ b
-heads a b xs ys h = cc
-
-pub tails : {A : Type 0} (a b : A) (xs ys : List A) → a ∷ xs ≡ b ∷ ys → xs ≡ ys
-tails a b xs ys h = cc
 
 pub nil_cons : {A : Type 0} (a : A) (xs : List A) → [] ≡ a ∷ xs → ⊥
 nil_cons a xs h = cc

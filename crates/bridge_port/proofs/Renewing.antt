@@ -5,6 +5,7 @@ use Rattle.std.proofs.lemmas.Bool.{cases_order}
 use Rattle.std.specs.Prelude.{IsSome, nat_lt, nat_eq, slice_index_or, slice_get, slice_set, drop, sum_by, count_by}
 use Rattle.bridge_limits.specs.declared.TheConstants.{END_OF_TIME, LONGEST_FRAME, MOST_ARRIVALS}
 use Rattle.bridge_limits.proofs.Cases.{by_bool}
+use Rattle.bridge_limits.proofs.Lists.{heads}
 use Rattle.bridge_frame.specs.Link.{occupied}
 use Rattle.bridge_frame.specs.declared.Speed.{Speed}
 use Rattle.bridge_cycle.specs.Moments.{IsFirst}
@@ -14,7 +15,6 @@ use Rattle.bridge_port.specs.Standing.{limit, State, count_queued, queue_of, que
 use Rattle.bridge_port.specs.Opening.{Opening, opens}
 use Rattle.bridge_port.proofs.Best.{fit_is, fit_none, fit_later, fit_ahead, fit_behind, nothing_queued, fit_of_head, best_put, head_some}
 use Rattle.bridge_port.proofs.Keeping.{by_class, count_popped, count_pushed, kept_refused, kept_started, next_short}
-use Rattle.bridge_port.proofs.Ports.{heads}
 
 by_option : {R : Type 0} (o : Option ℕ) → (o ≡ None → R) → ((k : ℕ) → o ≡ Some k → R) → R
 by_option None f g = f refl

@@ -1,9 +1,8 @@
 #![tactic(auto)]
 //! What the program does, from its words to what it says: on standard output, on standard error, and by its status.
 
-mod ending;
 mod performing;
 mod refusing;
 
-pub use ending::{Ending, refused};
+pub use bridge_single::{Ending, refused};
 pub use performing::perform;

@@ -1,48 +1,24 @@
 //! The job of the words, done over standard input and output and the files that it names.
-ghost use Rattle.bridge_cli.specs.CommandLine.{HasRoom};
+ghost use Rattle.std.specs.Prelude.{◌≡◌, true};
+ghost use Rattle.bridge_single.specs.Left.{is_of_networks};
 
-use crate::ending::{Ending, refused, refused_and_told};
-use crate::refusing::{
-    of_drawing, of_file, of_network, of_plan, of_traffic, of_words, unexplained,
-};
-use bridge_app::{
-    Refusal, Strict, picture_apart, told_check_job, told_picture_job, told_picture_text,
-    told_run_job, told_wire_job, write_picture,
-};
-use bridge_cli::{
-    Job, PictureRequest, Request, TableRequest, help_of, request_of, wants_explanation,
-};
-use bridge_files::{MOST_TEXT, Said, is_standard, open_noted, read_noted, text_at};
-use bridge_jobs::{Cause, Fault, NoMemory, check_job, fault_of_file, text_job};
+use crate::refusing::{of_drawing, of_network, of_traffic};
+use bridge_app::{Refusal, picture_apart, write_picture};
+use bridge_cli::{Job, PictureRequest};
+use bridge_files::{MOST_TEXT, is_standard, open_noted, read_noted, text_at};
+use bridge_jobs::{Cause, Fault, NoMemory, fault_of_file};
 use bridge_net_app::{RoundsJob, RoundsSaid, rounds_noted};
 use bridge_planning::{
-    NetworkPicture, NetworkSaid, TrafficReport, bounds_job, is_network, memory_fault, network_job,
+    NetworkPicture, NetworkSaid, TrafficReport, bounds_job, memory_fault, network_job,
     network_picture, traffic_job,
 };
+use bridge_single::{
+    Ending, Left, Performed, Wishes, of_file, of_plan, of_words, printed, refused_and_told,
+    unexplained,
+};
 use std::alloc::Global;
-use std::fs;
 use std::io::Read;
 use std::rt::Files;
-
-/// What is wanted of a job beside it.
-#[derive(Clone, Copy)]
-pub(crate) struct Wishes {
-    /// Whether what is told is a fault.
-    pub(crate) is_strict: bool,
-    /// Whether more is to be told.
-    pub(crate) is_explained: bool,
-    /// Whether a long job says how far it is.
-    pub(crate) is_watched: bool,
-}
-
-/// What is made beside the report of a run.
-#[derive(Drop)]
-struct Beside {
-    /// The tables that are asked for.
-    tables: TableRequest,
-    /// The picture that is asked for.
-    picture: Option<PictureRequest>,
-}
 
 /// Does the job of the words after the program's name, and gives what is to be said of it; where they ask for help or for the
 /// version, that is printed, and it ends as for words that are refused.
@@ -57,89 +33,41 @@ pub fn perform<H: Input + AllocGlobal + Print + Eprint + Files>(
     words: &[String],
     is_watched: bool,
 ) -> Result<Ending, NoMemory> {
-    match help_of(rt.alloc(), words) {
-        Ok(None) => perform_job(rt, words, is_watched),
-        Ok(Some(text)) => helped(rt, words, text),
-        Err(fault) => refused(rt, words, &fault),
-    }
-}
-
-/// How words end that ask for a text.
-fn helped(rt: &impl AllocGlobal, words: &[String], text: String) -> Result<Ending, NoMemory> {
-    match refused(rt, words, &Fault::Words) {
-        Ok(ending) => Ok(Ending {
-            printed: text,
-            ..ending
-        }),
+    match bridge_single::perform(rt, words, is_watched) {
+        Ok(Performed::Ended(ending)) => Ok(ending),
+        Ok(Performed::Left(left)) => perform_left(rt, words, left),
         Err(fault) => Err(fault),
     }
 }
 
-/// Does the job of the words, and gives how it ends.
-fn perform_job<H: Input + AllocGlobal + Print + Eprint + Files>(
-    rt: &H,
+/// Does a job of the words that was left, and gives how it ends.
+fn perform_left(
+    rt: &(impl AllocGlobal + Eprint + Files),
     words: &[String],
-    is_watched: bool,
-) -> Result<Ending, NoMemory> {
-    match done(rt, words, is_watched) {
+    left: Left,
+) -> Result<Ending, NoMemory>
+    requires { is_of_networks left.job ≡ true }
+{
+    match done(rt, words, left) {
         Ok(ending) => Ok(ending),
         Err(Refusal { fault, said }) => refused_and_told(rt.alloc(), &fault, said),
     }
 }
 
-/// How the job of the words ends where it is done.
-fn done<H: Input + AllocGlobal + Print + Eprint + Files>(
-    rt: &H,
+/// How a job that was left ends where it is done.
+fn done(
+    rt: &(impl AllocGlobal + Eprint + Files),
     words: &[String],
-    is_watched: bool,
-) -> Result<Ending, Refusal> {
-    let Request {
-        job,
-        picture,
-        tables,
-        is_explained,
-        is_strict,
-    } = match request_of(rt.alloc(), words) {
-        Ok(request) => request,
-        Err(fault) => return Err(of_words(rt.alloc(), words, wants_explanation(words), fault)),
-    };
-    let wishes = Wishes {
-        is_strict,
-        is_explained,
-        is_watched,
-    };
-    done_job(rt, words, job, Beside { tables, picture }, wishes)
-}
-
-/// How a job ends where it is done; a run with the tables and the picture that the words ask for beside it.
-fn done_job<H: Input + AllocGlobal + Print + Eprint + Files>(
-    rt: &H,
-    words: &[String],
-    job: Job,
-    beside: Beside,
-    wishes: Wishes,
+    left: Left,
 ) -> Result<Ending, Refusal>
-    requires { HasRoom job }
+    requires { is_of_networks left.job ≡ true }
 {
+    let Left {
+        job,
+        sketch,
+        wishes,
+    } = left;
     match job {
-        Job::Text => of_text(rt, words, wishes),
-        Job::Wire {
-            speed,
-            room,
-            input,
-            output,
-        } => wired(
-            rt.alloc(),
-            told_wire_job(rt, speed, room, input, output, wishes.is_explained),
-        ),
-        Job::Check { plan } => check_at(rt, plan, wishes),
-        Job::Run {
-            plan,
-            input,
-            output,
-            commands,
-        } => run_bridge(rt, plan, input, output, commands, beside, wishes),
-        Job::Picture { plan, file } => draw(rt, words, plan, file, beside.picture, wishes),
         Job::Bounds { plan, traffic } => bounds(rt, plan, traffic, wishes),
         Job::Network { network } => check_network(rt, network, wishes),
         Job::RunNetwork {
@@ -158,169 +86,8 @@ fn done_job<H: Input + AllocGlobal + Print + Eprint + Files>(
             };
             run_network(rt, job, wishes)
         }
-    }
-}
-
-/// How the text of standard input ends.
-fn of_text<H: Input + AllocGlobal>(
-    rt: &H,
-    words: &[String],
-    wishes: Wishes,
-) -> Result<Ending, Refusal> {
-    match text_job(rt.alloc(), rt.reader()) {
-        Ok(lines) => Ok(printed(rt.alloc(), lines, true)),
-        Err(fault) => Err(of_words(rt.alloc(), words, wishes.is_explained, fault)),
-    }
-}
-
-/// The status of a job that is done, by whether all is well.
-fn status_of(is_well: bool) -> u8 {
-    if is_well { 0 } else { 1 }
-}
-
-/// The ending of a job that prints a text and tells nothing.
-fn printed(alloc: Global, text: String, is_well: bool) -> Ending {
-    Ending {
-        printed: text,
-        told: String::new(alloc),
-        status: status_of(is_well),
-    }
-}
-
-/// How a capture that went through one queue ends: its line is told where standard output has the capture.
-fn wired(alloc: Global, line: Result<Said, Refusal>) -> Result<Ending, Refusal> {
-    match line {
-        Ok(Said::Printed(line)) => Ok(printed(alloc, line, true)),
-        Ok(Said::Noted(line)) => Ok(Ending {
-            printed: String::new(alloc),
-            told: line,
-            status: 0,
-        }),
-        Err(refusal) => Err(refusal),
-    }
-}
-
-/// How a job over a plan ends that tells its warnings, by whether one is a fault.
-fn strictly(
-    alloc: Global,
-    strict: Result<Strict, Refusal>,
-    is_fault: bool,
-) -> Result<Ending, Refusal> {
-    match strict {
-        Ok(
-            Strict {
-                line,
-                told,
-                is_warned,
-            },
-        ) => Ok(Ending {
-            printed: text_or_none(alloc, line),
-            told,
-            status: status_of(!(is_warned && is_fault)),
-        }),
-        Err(refusal) => Err(refusal),
-    }
-}
-
-/// A text, or an empty one where there is none.
-fn text_or_none(alloc: Global, text: Option<String>) -> String {
-    match text {
-        Some(text) => text,
-        None => String::new(alloc),
-    }
-}
-
-/// How the check of the plan of a file, or of standard input for `-`, ends.
-fn check_at(
-    rt: &(impl AllocGlobal + Files),
-    plan: String,
-    wishes: Wishes,
-) -> Result<Ending, Refusal> {
-    if wishes.is_explained || wishes.is_strict {
-        let strict = told_check_job(rt, plan.as_str(), wishes.is_explained);
-        return strictly(rt.alloc(), strict, wishes.is_strict);
-    }
-    match check(rt, plan) {
-        Ok(line) => Ok(printed(rt.alloc(), line, true)),
-        Err(fault) => Err(unexplained(fault)),
-    }
-}
-
-/// What is printed for the plan of a file, or of standard input for `-`.
-fn check(rt: &(impl AllocGlobal + Files), plan: String) -> Result<String, Fault> {
-    let plan = match path_or(rt.alloc(), plan, "/dev/stdin") {
-        Ok(plan) => plan,
-        Err(fault) => return Err(fault),
-    };
-    let Ok(reader) = fs::open(rt, plan.as_str()) else {
-        return Err(Fault::File(plan));
-    };
-    check_job(rt.alloc(), rt.alloc(), plan, reader)
-}
-
-/// A path that the words name, where `-` stands for a device.
-fn path_or(alloc: Global, path: String, device: &str) -> Result<String, Fault> {
-    if !is_standard(path.as_str()) {
-        return Ok(path);
-    }
-    match String::from_str(alloc, device) {
-        Ok(path) => Ok(path),
-        Err(_) => Err(memory_fault()),
-    }
-}
-
-/// How a run under the plan of a file ends, with the tables and the picture that the words ask for.
-fn run_bridge(
-    rt: &(impl AllocGlobal + Files),
-    plan: String,
-    input: String,
-    output: String,
-    commands: Option<String>,
-    beside: Beside,
-    wishes: Wishes,
-) -> Result<Ending, Refusal> {
-    let Beside { tables, picture } = beside;
-    let Wishes {
-        is_strict,
-        is_explained,
-        ..
-    } = wishes;
-    let strict = told_run_job(
-        rt,
-        plan,
-        input,
-        output,
-        commands,
-        tables,
-        picture,
-        is_strict,
-        is_explained,
-    );
-    strictly(rt.alloc(), strict, true)
-}
-
-/// How the drawing of the network or of the plan of a file ends, or of the part of a plan that the words ask for: into another
-/// file, or for `-` in what is printed. `Words` for a part of a network.
-fn draw(
-    rt: &(impl AllocGlobal + Files),
-    words: &[String],
-    path: String,
-    file: String,
-    sketch: Option<PictureRequest>,
-    wishes: Wishes,
-) -> Result<Ending, Refusal> {
-    if is_network(rt, path.as_str()) {
-        return draw_network(rt, words, path, file, sketch, wishes);
-    }
-    if is_standard(file.as_str()) {
-        return match told_picture_text(rt, path, sketch, wishes.is_explained) {
-            Ok(text) => Ok(printed(rt.alloc(), text, true)),
-            Err(refusal) => Err(refusal),
-        };
-    }
-    match told_picture_job(rt, path, file, sketch, wishes.is_explained) {
-        Ok(()) => Ok(printed(rt.alloc(), String::new(rt.alloc()), true)),
-        Err(refusal) => Err(refusal),
+        Job::Picture { plan, file } => draw_network(rt, words, plan, file, sketch, wishes),
+        Job::Text | Job::Wire { .. } | Job::Check { .. } | Job::Run { .. } => unreachable!(),
     }
 }
 
@@ -491,20 +258,23 @@ fn run_network(
 /// The ending of a run of a network that is done, with the rounds in which it was found where more is to be told.
 fn rounds_said(alloc: Global, said: RoundsSaid, wishes: Wishes) -> Ending {
     let told = if wishes.is_explained {
-        text_or_none(alloc, rounds_told(alloc, said.rounds))
+        rounds_told(alloc, said.rounds)
     } else {
         String::new(alloc)
     };
+    let is_well = !(said.is_told && wishes.is_strict);
     Ending {
-        printed: said.line,
         told,
-        status: status_of(!(said.is_told && wishes.is_strict)),
+        ..printed(alloc, said.line, is_well)
     }
 }
 
-/// In how many rounds a run of a network was found.
-fn rounds_told(alloc: Global, rounds: u32) -> Option<String> {
-    format!(in alloc;
+/// In how many rounds a run of a network was found; nothing where there is no memory to tell it.
+fn rounds_told(alloc: Global, rounds: u32) -> String {
+    match format!(in alloc;
         "rounds {rounds}: in the last one nothing else was sent over any link than before.\n"
-    ).ok()
+    ) {
+        Ok(text) => text,
+        Err(_) => String::new(alloc),
+    }
 }

@@ -1,60 +1,11 @@
-//! Faults of jobs, with what is told of them where the words ask for more.
+//! Faults of jobs over bounds and networks, with what is told of them where the words ask for more.
 
-use crate::performing::Wishes;
-use bridge_app::{Refusal, said_of_file, said_of_plan, said_of_unread, said_of_words};
+use bridge_app::{Refusal, said_of_file, said_of_plan, said_of_unread};
 use bridge_jobs::{Cause, Fault};
 use bridge_net_app::explain_stopped;
 use bridge_planning::{explain_network, explain_traffic};
-use std::alloc::Global;
+use bridge_single::{Wishes, unexplained};
 use std::rt::Files;
-
-/// A fault of which no more is told.
-pub(crate) fn unexplained(fault: Fault) -> Refusal {
-    Refusal { fault, said: None }
-}
-
-/// A fault of words, or of standard input.
-pub(crate) fn of_words(
-    alloc: Global,
-    words: &[String],
-    is_explained: bool,
-    fault: Fault,
-) -> Refusal {
-    if !is_explained {
-        return unexplained(fault);
-    }
-    let said = said_of_words(alloc, words, &fault);
-    Refusal { fault, said }
-}
-
-/// A fault of a file, by its cause.
-pub(crate) fn of_file(
-    alloc: Global,
-    cause: Option<Cause>,
-    wishes: Wishes,
-    fault: Fault,
-) -> Refusal {
-    if !wishes.is_explained {
-        return unexplained(fault);
-    }
-    let said = said_of_file(alloc, &fault, cause);
-    Refusal { fault, said }
-}
-
-/// A fault of a plan, by the path of its file and its text.
-pub(crate) fn of_plan(
-    alloc: Global,
-    path: &str,
-    text: &[u8],
-    wishes: Wishes,
-    fault: Fault,
-) -> Refusal {
-    if !wishes.is_explained {
-        return unexplained(fault);
-    }
-    let said = said_of_plan(alloc, path, text, None, &fault);
-    Refusal { fault, said }
-}
 
 /// A fault of a plan and of traffic, by their paths and the text of the plan.
 pub(crate) fn of_traffic(

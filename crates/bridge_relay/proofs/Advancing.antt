@@ -2,11 +2,11 @@
 use Rattle.std.proofs.Common.{◌≡◌, ℕ, Bool, true, false, ◌+◌, ◌-◌, ◌≤◌, List, length, arith, refl, ap, ◌∙◌, sym, subst, Option, Some, None, slice_set, slice_index_or}
 use Rattle.std.specs.Prelude.{if◌then◌else◌, nat_eq, nat_lt, sum_by, IfSome, not, max}
 use Rattle.std.specs.Map.{lookup}
-use Rattle.std.specs.Option.{is_some}
 use Rattle.std.proofs.lemmas.Bool.{ltb-false}
 use Rattle.std.proofs.lemmas.List.Sums.{sum_by-set}
 use Rattle.std.proofs.lemmas.Bool.Decides.{nat_tests}
 use Rattle.bridge_limits.proofs.Cases.{by_bool}
+use Rattle.bridge_limits.proofs.Options.{some_of}
 use Rattle.bridge_filter.specs.declared.FilterPlan.{FilterPlan}
 use Rattle.bridge_filter.specs.Plans.{is_there}
 use Rattle.bridge_port.specs.declared.item.Item.{Item}
@@ -45,17 +45,13 @@ short_item {A} filters x h = by_bool (is_flow_stray filters x.load.flow)
     (λ y. let z : true ≡ false = rw y at h in cc)
     (λ y. let z : nat_lt x.len (length x.load.octets.items) ≡ false = rw y at h in ltb-false x.len (length x.load.octets.items) z)
 
-found : {X : Type 0} (o : Option X) → is_some o ≡ true → (x : X) × (o ≡ Some x)
-found None h = absurd (cc)
-found (Some x) h = (x, refl)
-
 -- the filter of the item that started still owes its end
 pub owes_by : {G A : Type 0} (held : G → ℕ → Option ℕ) (b : RelayState G A) (new : PortsState G A) (q : ℕ) (s : Slot A) (k : ℕ) (c : Begun A) (flow : Option ℕ) → IsSound held b → HasStarted b.ports new q s k c → flow ≡ c.item.load.flow → is_wrong b.plan.filters c.item ≡ false → IfSome flow (Owes b.tables)
 owes_by held b new q s k c None sound h e right = tt
 owes_by {G} {A} held b new q s k c (Some n) sound h e right =
     let stray : is_flow_stray b.plan.filters c.item.load.flow ≡ false = by_bool (is_flow_stray b.plan.filters c.item.load.flow) (λ y. absurd (let z : true ≡ false = rw y at right in cc)) (λ y. y) in
     let listed : is_there n b.plan.filters ≡ true = by_bool (is_there n b.plan.filters) (λ y. y) (λ y. absurd (let z : not (is_there n b.plan.filters) ≡ false = subst (λ (o : Option ℕ). is_flow_stray b.plan.filters o ≡ false) (sym e) stray in let w : true ≡ false = rw y at z in cc)) in
-    let t = found (lookup (nat_eq n) b.tables) (sound.there n listed) in
+    let t = some_of (lookup (nat_eq n) b.tables) (sound.there n listed) in
     let kept = (sound.each n t.0 t.1).covered in
     let own : is_of n c.item ≡ true = subst (λ (o : Option ℕ). is_flow o n ≡ true) e (grind (arith, nat_tests)) in
     let less : count_all (is_of n) b.ports ≡ 1 + count_all (is_of n) new = let z = count_started b.ports new q s k c h (is_of n) in rw own at z in

@@ -5,9 +5,11 @@ use Rattle.std.specs.Map.{lookup}
 use Rattle.std.specs.Option.{is_some}
 use Rattle.std.proofs.lemmas.Bool.Decides.{nat_tests}
 use Rattle.std.proofs.lemmas.Option.{same_Some}
+use Rattle.std.proofs.lemmas.Bool.{eqb-true}
 use Rattle.bridge_limits.specs.Members.{AllAfter, In, Rising}
 use Rattle.bridge_limits.proofs.Members.{rising_push, in_push}
 use Rattle.bridge_limits.proofs.Cases.{by_bool}
+use Rattle.bridge_limits.proofs.Options.{some_of, none_some}
 use Rattle.bridge_capture.specs.Grammar.{Captured}
 use Rattle.bridge_filter.specs.declared.FilterPlan.{FilterPlan}
 use Rattle.bridge_filter.specs.declared.Verdict.{Verdict}
@@ -35,13 +37,8 @@ use Rattle.bridge_relay.specs.Relays.{RelayState, Stands, IsSound, seen}
 use Rattle.bridge_state.specs.Ports.{AreAlike}
 use Rattle.bridge_relay.proofs.Ending.{stood, run_of, output_of, whole_of, not_before_none}
 use Rattle.bridge_relay.proofs.Relayed.{port_is}
-use Rattle.bridge_relay.proofs.Sound.{found_some}
 use Rattle.bridge_relay.proofs.Standing.{out_of}
 use Rattle.bridge_relay.proofs.Viewing.{IsBefore}
-use Rattle.bridge_state.proofs.Porting.{none_some}
-
-is_same : (m n : ℕ) → nat_eq m n ≡ true → m ≡ n
-is_same m n e = grind (arith, nat_tests)
 
 not_same : (m n : ℕ) → m < n → nat_eq n m ≡ false
 not_same m n l = grind (arith, nat_tests)
@@ -78,7 +75,7 @@ found_filter {A} police tables (z ∷ xs) (w ∷ ys) n v s h = by_bool (nat_eq n
     (λ e.
     let there : nat_eq n w.0 ≡ true = subst (λ (k : ℕ). nat_eq n k ≡ true) (sym s.0) e in
     let is : w.1 ≡ v = same_Some w.1 v (rw there at h) in
-    (z.1, rw e refl, subst (λ (k : ℕ). IsShown police tables k z.1 v) (sym (is_same n z.0 e)) (subst (IsShown police tables z.0 z.1) is s.1)))
+    (z.1, rw e refl, subst (λ (k : ℕ). IsShown police tables k z.1 v) (sym (eqb-true n z.0 e)) (subst (IsShown police tables z.0 z.1) is s.1)))
     (λ e.
     let there : nat_eq n w.0 ≡ false = subst (λ (k : ℕ). nat_eq n k ≡ false) (sym s.0) e in
     let r = found_filter police tables xs ys n v s.2 (rw there at h) in
@@ -92,7 +89,7 @@ view_is : {G A : Type 0} (held : G → ℕ → Option ℕ) (p : Plan A) (b : Rel
 view_is {G} {A} held p b es left st sound n f v e s =
     let at : lookup (nat_eq n) b.plan.filters ≡ Some f = subst (λ (w : Plan A). lookup (nat_eq n) w.filters ≡ Some f) (sym st.plan) e in
     let listed : is_there n b.plan.filters ≡ true = ap is_some at in
-    let t = found_some (lookup (nat_eq n) b.tables) (sound.there n listed) in
+    let t = some_of (lookup (nat_eq n) b.tables) (sound.there n listed) in
     let shown = s.told t.0 t.1 in
     record {
       protected = s.protected;
@@ -166,7 +163,7 @@ counted : {A : Type 0} (slots : List (Option (Slot A))) (q n : ℕ) → 1 ≤ q 
 counted slots q zero from to = absurd (omega (arith, from, to))
 counted {A} slots q (suc n) from to = by_bool (nat_eq q (n + 1))
     (λ e.
-    let same : q ≡ n + 1 = is_same q (n + 1) e in
+    let same : q ≡ n + 1 = eqb-true q (n + 1) e in
     lookup_after q (counts_to slots n) (count_one (n + 1) (slot_in slots (n + 1))) (none_counted slots q n (inr (omega (arith, same))))
     ∙ (one_same q (n + 1) (slot_in slots (n + 1)) e ∙ ap (λ (k : ℕ). count_of (slot_in slots k)) (sym same)))
     (λ e.
@@ -181,7 +178,7 @@ slot_by (Some s) c h = (s, refl, same_Some s.count c h)
 -- a port that is counted is there
 counted_there : {A : Type 0} (slots : List (Option (Slot A))) (q : ℕ) (c : PortCount) → lookup (nat_eq q) (counts_to slots 16) ≡ Some c → (1 ≤ q) × ((s : Slot A) × (slot_in slots q ≡ Some s) × (s.count ≡ c))
 counted_there {A} slots q c h = by_bool (nat_eq q 0)
-    (λ e. let z : q ≡ 0 = is_same q 0 e in absurd (none_some (lookup (nat_eq q) (counts_to slots 16)) c (none_counted slots q 16 (inl z)) h))
+    (λ e. let z : q ≡ 0 = eqb-true q 0 e in absurd (none_some (lookup (nat_eq q) (counts_to slots 16)) c (none_counted slots q 16 (inl z)) h))
     (λ e.
     let from : 1 ≤ q = grind (arith, nat_tests) in
     by_bool (nat_lt 16 q)

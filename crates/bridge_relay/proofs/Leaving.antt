@@ -1,26 +1,17 @@
 -- What has left a port over offers and starts.
-use Rattle.std.proofs.Common.{◌≡◌, ℕ, ◌+◌, ◌<◌, ◌≤◌, List, [], ◌∷◌, ◌++◌, length, arith, refl, ap, ◌∙◌, sym, subst, inl, inr, Option, Some, None}
+use Rattle.std.proofs.Common.{◌≡◌, ℕ, ◌+◌, ◌<◌, ◌≤◌, List, [], ◌∷◌, ◌++◌, length, arith, refl, ap, ◌∙◌, sym, subst, inl, inr}
 use Rattle.bridge_limits.specs.Members.{In}
 use Rattle.bridge_limits.proofs.Members.{in_left, rising_push, in_push, in_end}
 use Rattle.bridge_capture.specs.Grammar.{Captured}
 use Rattle.bridge_frame.specs.declared.Speed.{Speed}
 use Rattle.bridge_frame.specs.Link.{occupied}
 use Rattle.bridge_frame.proofs.Times.{occupied_some}
-use Rattle.bridge_port.specs.declared.item.Refusal.{Refusal}
-use Rattle.bridge_port.specs.declared.item.Refusal.TheVariants as refusal
 use Rattle.bridge_port.specs.Schedule.{Started, Copy, Begun}
-use Rattle.bridge_port.specs.Standing.{fate_of}
-use Rattle.bridge_port.proofs.Members.{begun_to, begun_from, begun_there}
+use Rattle.bridge_port.proofs.Members.{begun_to, begun_from, begun_there, same_start}
 use Rattle.bridge_semantics.specs.Offers.{Carried}
 use Rattle.bridge_semantics.specs.Outputs.{LeavesBefore, IsOutput, departure}
 use Rattle.bridge_state.specs.declared.slot.Slot.{Slot}
 use Rattle.bridge_relay.specs.Relays.{HasLeft}
-
--- the answer to an offer is no start
-pub answered_waits : (o : Option Refusal) (k : ℕ) → fate_of o ≡ Started k → ⊥
-answered_waits None k h = cc
-answered_waits (Some refusal.NeverFits) k h = cc
-answered_waits (Some refusal.Full) k h = cc
 
 -- the same copies of a port that goes on so
 pub left_same : {A : Type 0} (s t : Slot A) (xs : List (Copy Carried)) (left : List Captured) → t.speed ≡ s.speed → t.port.free ≡ s.port.free → t.port.started ≡ s.port.started → HasLeft s xs left → HasLeft t xs left
@@ -46,9 +37,6 @@ output_pushed speed y xs left waits h = record {
 pub left_pushed : {A : Type 0} (s t : Slot A) (y : Copy Carried) (xs : List (Copy Carried)) (left : List Captured) → t.speed ≡ s.speed → t.port.free ≡ s.port.free → t.port.started ≡ s.port.started → ((k : ℕ) → y.fate ≡ Started k → ⊥) → HasLeft s xs left → HasLeft t (y ∷ xs) left
 left_pushed s t y xs left speed free started waits h = left_same s t (y ∷ xs) left speed free started (record { output = output_pushed s.speed y xs left waits h.output; before = h.before; many = h.many })
 
-started_is : (s t : ℕ) → Started s ≡ Started t → s ≡ t
-started_is s t h = cc
-
 output_begun : (speed : Speed) (c k i : ℕ) (item : Carried) (xs ys : List (Copy Carried)) (left : List Captured) → Begun c k i item xs ys → ((d : Captured) → In d left → d.time ≤ k) → IsOutput speed xs left → IsOutput speed ys (left ++ departure speed k item ∷ [])
 output_begun speed c k i item xs ys left b early h =
     let d = departure speed k item in
@@ -66,7 +54,7 @@ output_begun speed c k i item xs ys left b early h =
         (λ w. elim (begun_to c k i item xs ys b w.copy w.listed) [
           | inl l ↦ in_left e left (d ∷ []) ((h.members e).1 (record { copy = w.copy; start = w.start; listed = l; started = w.started; is = w.is }))
           | inr n ↦
-              let at : w.start ≡ k = started_is w.start k (sym w.started ∙ n.0) in
+              let at : w.start ≡ k = same_start w.start k (sym w.started ∙ n.0) in
               let is : e ≡ d = w.is ∙ (ap (λ (s : ℕ). departure speed s w.copy.item) at ∙ ap (departure speed k) n.1) in
               subst (λ (z : Captured). In z (left ++ d ∷ [])) (sym is) (in_end d left)
         ]),

@@ -5,6 +5,8 @@ use Rattle.std.proofs.lemmas.Bool.{ltb-true, ltb-false}
 use Rattle.std.proofs.lemmas.Bool.Decides.{nat_tests}
 use Rattle.std.proofs.lemmas.Option.{same_Some, none-some}
 use Rattle.bridge_limits.proofs.Cases.{by_bool}
+use Rattle.bridge_limits.proofs.Lists.{heads}
+use Rattle.bridge_limits.proofs.Options.{none_some, none_of}
 use Rattle.bridge_capture.specs.Grammar.{Captured}
 use Rattle.bridge_cycle.specs.Moments.{Fits}
 use Rattle.bridge_events.specs.Least.{IsLeast}
@@ -15,7 +17,7 @@ use Rattle.bridge_port.specs.Opening.{Opening, opens, opens_of}
 use Rattle.bridge_port.specs.Schedule.{Copy, IsLawful, Rules, head, is_free, is_queued, queue}
 use Rattle.bridge_port.specs.Seen.{all_seen}
 use Rattle.bridge_port.specs.Standing.{IsDue, IsNext, StandsFor, queue_of, rules_of}
-use Rattle.bridge_port.proofs.Ports.{heads, idle_whole, nil_cons, up_to}
+use Rattle.bridge_port.proofs.Ports.{idle_whole, nil_cons, up_to}
 use Rattle.bridge_port.proofs.Starts.{front, queue_begun}
 use Rattle.bridge_port.proofs.Watched.{whole_seen}
 use Rattle.bridge_config.specs.declared.ports.PortPlan.{PortPlan}
@@ -196,13 +198,6 @@ next_after {G} {A} held p b es left (Some d) st sound kept least =
     let sends = sends_head held p b es left d.0 d.1 due.0 (d.1 + occupied due.1.len s.speed) s due.1 st sound kept (made_at held b d sound least) there.0 there.1.1 due.2 refl in
     (due.0, sends.item, sends.next)
 
-none_held : (o : Option ℕ) → ((k : ℕ) → o ≡ Some k → ⊥) → o ≡ None
-none_held None h = refl
-none_held (Some k) h = absurd (h k refl)
-
-some_none : {X : Type 0} (o : Option X) (x : X) → o ≡ None → o ≡ Some x → ⊥
-some_none o x e f = cc
-
 -- what is due of each port is its next start
 pub are_next : {G A : Type 0} (held : G → ℕ → Option ℕ) (p : Plan A) (b : RelayState G A) (es : List Event) (left : ℕ → List Captured) → Stands p b es left → IsSound held b → AreKept held b.ports.slots b.ports.agenda → AreNext p es left (held b.ports.agenda)
 are_next {G} {A} held p b es left st sound kept = record {
@@ -213,9 +208,9 @@ are_next {G} {A} held p b es left st sound kept = record {
   each = λ q out e.
       let s = stood held p b st.plan sound q out e in
       next_of out s.slot (st.lists q) (held b.ports.agenda q) s.made (st.each q s.slot s.from s.there) (kept.due q s.slot s.from s.there);
-  others = λ q e. none_held (held b.ports.agenda q) (λ k h.
+  others = λ q e. none_of (held b.ports.agenda q) (λ k h.
       let there = kept.others q k h in
       let s : Slot A = there.1.0 in
       let o = out_of (port_at b.plan.ports q) s (subst (AreAlike (port_at b.plan.ports q)) there.1.1 (sound.alike q there.0)) in
-      some_none (port_at p.ports q) o.0 e (subst (λ (v : Plan A). port_at v.ports q ≡ Some o.0) st.plan o.1));
+      none_some (port_at p.ports q) o.0 e (subst (λ (v : Plan A). port_at v.ports q ≡ Some o.0) st.plan o.1));
 }

@@ -1,6 +1,6 @@
 -- A frame is offered to one port after another.
 use Rattle.std.proofs.Common.{◌≡◌, ℕ, zero, suc, Bool, true, false, ◌+◌, ◌-◌, ◌<◌, ◌≤◌, List, [], ◌∷◌, ◌++◌, length, arith, refl, ap, ◌∙◌, sym, subst, inl, inr, Option, Some, None}
-use Rattle.std.specs.Prelude.{nat_eq, nat_lt, not, if◌then◌else◌, slice_index, count_by, ◌⊎◌, ◌&&◌, is_none, IfSome, All, Vec, max}
+use Rattle.std.specs.Prelude.{nat_eq, nat_lt, not, if◌then◌else◌, slice_index, count_by, ◌⊎◌, ◌&&◌, is_none, IfSome, Vec, max}
 use Rattle.std.specs.Map.{lookup}
 use Rattle.std.proofs.lemmas.Bool.Decides.{nat_tests}
 use Rattle.bridge_limits.specs.Members.{In}
@@ -11,10 +11,11 @@ use Rattle.bridge_forward.specs.Ports.{has}
 use Rattle.bridge_port.specs.declared.item.Item.{Item}
 use Rattle.bridge_port.specs.declared.item.Refusal.{Refusal}
 use Rattle.bridge_port.specs.declared.item.Refusal.TheVariants as refusal
-use Rattle.bridge_port.specs.Schedule.{Fate, Queued, Started, Copy, is_accepted}
+use Rattle.bridge_port.specs.Schedule.{Fate, Queued, Copy, is_accepted}
 use Rattle.bridge_port.specs.Standing.{StandsFor, copy_of, fate_of, refusal_of}
 use Rattle.bridge_port.specs.Seen.{all_seen}
 use Rattle.bridge_port.proofs.Keeping.{count_cons}
+use Rattle.bridge_port.proofs.Members.{not_started}
 use Rattle.bridge_config.specs.declared.ports.PortPlan.{PortPlan}
 use Rattle.bridge_config.specs.Model.{Plan}
 use Rattle.bridge_config.specs.Rules.{port_at}
@@ -25,7 +26,9 @@ use Rattle.bridge_semantics.specs.declared.outcome.PortCount.{PortCount}
 use Rattle.bridge_semantics.specs.Offers.{Carried, carried, Offer, offered, leaving}
 use Rattle.bridge_limits.specs.Members.{Rising}
 use Rattle.bridge_limits.proofs.Members.{in_left, in_push, in_end}
-use Rattle.bridge_limits.proofs.Cases.{by_bool}
+use Rattle.bridge_limits.proofs.Cases.{by_bool, left_false}
+use Rattle.bridge_limits.proofs.Lists.{one_longer}
+use Rattle.bridge_limits.proofs.Options.{none_some}
 use Rattle.bridge_semantics.specs.Runs.{DroppedBefore, Drops, Delayed, IsGreatest, IsTold, AtPort, fate_by}
 use Rattle.bridge_state.specs.declared.slot.Slot.{Slot}
 use Rattle.bridge_state.specs.Slots.{offered_slot, counted_copy, refusal_by}
@@ -34,16 +37,13 @@ use Rattle.bridge_state.specs.Ports.{slot_in, slot_at, goes_out, outs, is_there,
 use Rattle.bridge_relay.specs.Relays.{RelayState, HasLeft, IsSound, IsAwaited, written, is_flow, is_of, count_all, seen}
 use Rattle.bridge_state.specs.Ports.{AreAlike}
 use Rattle.bridge_relay.specs.Relaying.{CountTheSame, HasOfferedTo, Carries, offer_to, offers_below, IsPending, IsOffering, HasCopies, leaves}
-use Rattle.bridge_state.proofs.Porting.{below, set_here, set_there, none_some}
+use Rattle.bridge_state.proofs.Porting.{below, set_here, set_there}
+use Rattle.bridge_state.proofs.Outs.{outs_next}
 use Rattle.bridge_relay.proofs.Sound.{changed}
 use Rattle.bridge_relay.proofs.Standing.{put, put_same, put_other, out_of}
-use Rattle.bridge_relay.proofs.Leaving.{left_pushed, answered_waits}
+use Rattle.bridge_relay.proofs.Leaving.{left_pushed}
 
 -- How many ports of a set.
-
-pub outs_step : {A : Type 0} (slots : List (Option (Slot A))) (set k : ℕ) → 1 ≤ k → outs slots set k ≡ outs slots set (k - 1) + (if goes_out slots set k then 1 else 0)
-outs_step slots set zero l = absurd (omega arith)
-outs_step slots set (suc n) l = let e : n + 1 ≡ suc n = omega arith in let f : n ≡ suc n - 1 = omega arith in ap (λ (m : ℕ). outs slots set n + (if goes_out slots set m then 1 else 0)) e ∙ ap (λ (m : ℕ). outs slots set m + (if goes_out slots set (suc n) then 1 else 0)) f
 
 pub outs_up : {A : Type 0} (slots : List (Option (Slot A))) (set a m : ℕ) → outs slots set a ≤ outs slots set (m + a)
 outs_up slots set a zero = let e : a ≡ 0 + a = omega arith in subst (λ (m : ℕ). outs slots set a ≤ outs slots set m) e (omega arith)
@@ -76,11 +76,6 @@ lies_of q x old new h r y i = by_bool (nat_eq r q)
     let j : In y (x ∷ old q) = subst (In y) h.pushed (subst (λ (n : ℕ). In y (new n)) same i) in
     elim j [ inl k ↦ inr (same, k) | inr l ↦ inl (subst (λ (n : ℕ). In y (old n)) (sym same) l) ])
     (λ e. inl (subst (In y) (h.others r e) i))
-
-not_started : (o : Option Refusal) (k : ℕ) → fate_of o ≡ Started k → ⊥
-not_started None k e = cc
-not_started (Some refusal.NeverFits) k e = cc
-not_started (Some refusal.Full) k e = cc
 
 fate_same : (r : Refusal) → fate_of (Some r) ≡ fate_by r
 fate_same refusal.NeverFits = refl
@@ -246,7 +241,7 @@ carries_offered {G} {A} held p old new q c s x plan sound sound_new h there low 
       leaves = λ r v l e. by_bool (nat_eq r q)
           (λ y.
           let same : q ≡ r = grind (arith, nat_tests) in
-          subst (λ (w : Slot A). HasLeft w (seen lists r) (left r)) (is_now r v y e) (subst (λ (m : ℕ). HasLeft (offered_slot s x.load.at c x) (seen lists m) (left m)) same (subst (λ (z : List (Copy Carried)). HasLeft (offered_slot s x.load.at c x) z (left q)) (sym at.pushed) (left_pushed s (offered_slot s x.load.at c x) one (seen st.lists q) (left q) refl refl refl (answered_waits o) (st.leaves q s low there)))))
+          subst (λ (w : Slot A). HasLeft w (seen lists r) (left r)) (is_now r v y e) (subst (λ (m : ℕ). HasLeft (offered_slot s x.load.at c x) (seen lists m) (left m)) same (subst (λ (z : List (Copy Carried)). HasLeft (offered_slot s x.load.at c x) z (left q)) (sym at.pushed) (left_pushed s (offered_slot s x.load.at c x) one (seen st.lists q) (left q) refl refl refl (not_started o) (st.leaves q s low there)))))
           (λ y. subst (λ (z : List (Copy Carried)). HasLeft v z (left r)) (sym (at.others r y)) (st.leaves r v l (sym (offered_there old new q c s x h low r l y) ∙ e)));
     }
 
@@ -329,10 +324,6 @@ pub and_right : (a b : Bool) → (a && b) ≡ true → b ≡ true
 and_right true b h = h
 and_right false b h = absurd (cc)
 
-and_not : (a b : Bool) → (a && b) ≡ false → b ≡ true → a ≡ false
-and_not true b h k = absurd (let z : true ≡ false = sym k ∙ h in cc)
-and_not false b h k = refl
-
 pub some_there : {X : Type 0} (o : Option X) → is_there o ≡ true → (x : X) × (o ≡ Some x)
 some_there None h = absurd (cc)
 some_there (Some x) h = (x, refl)
@@ -366,7 +357,7 @@ offers_here set k priority x os out e =
 
 pub offering_skip : {G A : Type 0} (held : G → ℕ → Option ℕ) (first now : RelayState G A) (set priority : ℕ) (x : Carried) (k : ℕ) → IsOffering held first now set priority x k → 1 ≤ k → goes_out first.ports.slots set k ≡ false → IsOffering held first now set priority x (k + 1)
 offering_skip {G} {A} held first now set priority x k a low none =
-    let step = outs_step first.ports.slots set k low in
+    let step = outs_next first.ports.slots set k low in
     let zero_is : ◌≡◌ {A = ℕ} (if goes_out first.ports.slots set k then 1 else 0) 0 = ap (λ (b : Bool). if b then 1 else 0) none in
     let back : k ≡ k + 1 - 1 = omega arith in
     let rest = a.rest in
@@ -389,7 +380,7 @@ offering_skip {G} {A} held first now set priority x k a low none =
           let same : r ≡ k = grind (arith, nat_tests) in
           let at : port_at now.plan.ports k ≡ Some out = subst (λ (m : ℕ). port_at now.plan.ports m ≡ Some out) same (subst (λ (v : Plan A). port_at v.ports r ≡ Some out) (sym a.plan) e) in
           let is_in : is_there (slot_at first.ports k) ≡ true = sym (a.there k low) ∙ there_alike (port_at now.plan.ports k) (slot_at now.ports k) out (a.sound.alike k low) at in
-          let not_in : has set r ≡ false = subst (λ (m : ℕ). has set m ≡ false) (sym same) (and_not (has set k) (is_there (slot_at first.ports k)) none is_in) in
+          let not_in : has set r ≡ false = subst (λ (m : ℕ). has set m ≡ false) (sym same) (left_false (has set k) (is_there (slot_at first.ports k)) none is_in) in
           offers_none set (k + 1) priority x os r out not_in ∙ sym (offers_none set k priority x os r out not_in))
           (λ y. offers_skip set k priority x os r out y)) left (a.carries os left st);
     }
@@ -402,7 +393,7 @@ offering_up held first now set priority x k (suc m) a low none =
 
 pub left_some : {G A : Type 0} (held : G → ℕ → Option ℕ) (first now : RelayState G A) (set priority : ℕ) (x : Carried) (k : ℕ) (a : IsOffering held first now set priority x k) → 1 ≤ k → k ≤ 16 → goes_out first.ports.slots set k ≡ true → 1 ≤ a.left
 left_some held first now set priority x k a low high goes =
-    let step = outs_step first.ports.slots set k low in
+    let step = outs_next first.ports.slots set k low in
     let one_is : ◌≡◌ {A = ℕ} (if goes_out first.ports.slots set k then 1 else 0) 1 = ap (λ (b : Bool). if b then 1 else 0) goes in
     let all = outs_le first.ports.slots set k 16 high in
     let rest = a.rest in
@@ -415,7 +406,7 @@ pub offering_more : {G A : Type 0} (held : G → ℕ → Option ℕ) (first now 
 offering_more {G} {A} held first now new set priority x k s item a low high goes_now there carries_x h sound calm =
     let goes : goes_out first.ports.slots set k ≡ true = sym (goes_first held first now set priority x k a low) ∙ goes_now in
     let some = left_some held first now set priority x k a low high goes in
-    let step = outs_step first.ports.slots set k low in
+    let step = outs_next first.ports.slots set k low in
     let one_is : ◌≡◌ {A = ℕ} (if goes_out first.ports.slots set k then 1 else 0) 1 = ap (λ (b : Bool). if b then 1 else 0) goes in
     let back : k ≡ k + 1 - 1 = omega arith in
     let rest = a.rest in
@@ -466,17 +457,9 @@ offering_more {G} {A} held first now new set priority x k s item a low high goes
 
 -- The copies that are left.
 
-length_end : {X : Type 0} (xs : List X) (y : X) → length (xs ++ y ∷ []) ≡ length xs + 1
-length_end [] y = refl
-length_end (x ∷ xs) y = let h = length_end xs y in omega arith
-
-pub all_in : {X : Type 0} (P : X → Type 0) (xs : List X) (x : X) → All P xs → In x xs → P x
-all_in P [] x a i = absurd i
-all_in P (y ∷ xs) x a i = elim i [ inl e ↦ subst P (sym e) (a 0 y (omega arith)) | inr l ↦ all_in P xs x (λ k d m. a (suc k) d (omega arith)) l ]
-
 pub copies_skip : {A : Type 0} (slots : List (Option (Slot A))) (set k : ℕ) (octets : List ℕ) (copies : List (Vec ℕ A)) → HasCopies slots set k octets copies → 1 ≤ k → goes_out slots set k ≡ false → HasCopies slots set (k + 1) octets copies
 copies_skip slots set k octets copies h low none =
-    let step = outs_step slots set k low in
+    let step = outs_next slots set k low in
     let zero_is : ◌≡◌ {A = ℕ} (if goes_out slots set k then 1 else 0) 0 = ap (λ (b : Bool). if b then 1 else 0) none in
     let back : k ≡ k + 1 - 1 = omega arith in
     let count = h.count in
@@ -487,17 +470,17 @@ copies_skip slots set k octets copies h low none =
 
 pub copies_pop : {A : Type 0} (slots : List (Option (Slot A))) (set k : ℕ) (octets : List ℕ) (copies rest : List (Vec ℕ A)) (last : Vec ℕ A) → HasCopies slots set k octets copies → copies ≡ rest ++ last ∷ [] → 1 ≤ k → goes_out slots set k ≡ true → HasCopies slots set (k + 1) octets rest × (last.items ≡ octets)
 copies_pop {A} slots set k octets copies rest last h is low goes =
-    let step = outs_step slots set k low in
+    let step = outs_next slots set k low in
     let one_is : ◌≡◌ {A = ℕ} (if goes_out slots set k then 1 else 0) 1 = ap (λ (b : Bool). if b then 1 else 0) goes in
     let back : k ≡ k + 1 - 1 = omega arith in
     let count = h.count in
-    let long : length copies ≡ length rest + 1 = ap (λ (z : List (Vec ℕ A)). length z) is ∙ length_end rest last in
+    let long : length copies ≡ length rest + 1 = ap (λ (z : List (Vec ℕ A)). length z) is ∙ one_longer rest last in
     let sum : length rest + outs slots set k + 1 ≡ length copies + outs slots set (k - 1) + 1 = omega (arith, step, one_is, long) in
     (record { count = subst (λ (m : ℕ). length rest + outs slots set m + 1 ≡ max 1 (outs slots set 16)) back (sum ∙ count); alike = λ v i. h.alike v (subst (λ (z : List (Vec ℕ A)). In v z) (sym is) (in_left v rest (last ∷ []) i)) }, h.alike last (subst (λ (z : List (Vec ℕ A)). In last z) (sym is) (in_end last rest)))
 
 pub copies_left : {A : Type 0} (slots : List (Option (Slot A))) (set k : ℕ) (octets : List ℕ) (copies : List (Vec ℕ A)) → HasCopies slots set k octets copies → length copies ≡ 0 → 1 ≤ k → goes_out slots set k ≡ true → outs slots set k < outs slots set 16 → ⊥
 copies_left slots set k octets copies h none low goes more =
-    let step = outs_step slots set k low in
+    let step = outs_next slots set k low in
     let one_is : ◌≡◌ {A = ℕ} (if goes_out slots set k then 1 else 0) 1 = ap (λ (b : Bool). if b then 1 else 0) goes in
     let count = h.count in
     omega (arith, step, one_is, count)
@@ -524,7 +507,7 @@ skipped held first now set priority x k octets copies low none a h =
 
 pub more_out : {A : Type 0} (slots : List (Option (Slot A))) (set last k : ℕ) → goes_out slots set last ≡ true → k < last → last ≤ 16 → outs slots set k < outs slots set 16
 more_out slots set last k goes l high =
-    let step = outs_step slots set last (omega arith) in
+    let step = outs_next slots set last (omega arith) in
     let one_is : ◌≡◌ {A = ℕ} (if goes_out slots set last then 1 else 0) 1 = ap (λ (b : Bool). if b then 1 else 0) goes in
     let all = outs_le slots set last 16 high in
     let some = outs_le slots set k (last - 1) (omega arith) in
@@ -535,7 +518,7 @@ none_before : {A : Type 0} (slots : List (Option (Slot A))) (set last q : ℕ) (
 none_before {A} slots set last q octets copies h none goes high low before =
     let count = h.count in
     let fewer = more_out slots set last q goes before high in
-    let step = outs_step slots set q low in
+    let step = outs_next slots set q low in
     by_bool (goes_out slots set q)
     (λ t.
     let one_is : ◌≡◌ {A = ℕ} (if goes_out slots set q then 1 else 0) 1 = ap (λ (b : Bool). if b then 1 else 0) t in

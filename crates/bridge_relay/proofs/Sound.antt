@@ -2,7 +2,6 @@
 use Rattle.std.proofs.Common.{◌≡◌, ℕ, Bool, true, false, ◌+◌, ◌-◌, ◌<◌, ◌≤◌, List, [], ◌∷◌, length, arith, refl, ap, ◌∙◌, sym, subst, inl, inr, Option, Some, None, slice_set, slice_index_or}
 use Rattle.std.specs.Prelude.{if◌then◌else◌, nat_eq, nat_lt, IsTrue, max, ◌⊎◌, ◌&&◌, is_none, sum_by, IfSome, Result}
 use Rattle.std.specs.Map.{lookup}
-use Rattle.std.specs.Option.{is_some}
 use Rattle.std.proofs.lemmas.Bool.Decides.{nat_tests}
 use Rattle.bridge_limits.specs.Members.{In}
 use Rattle.bridge_filter.specs.Plans.{is_there}
@@ -12,6 +11,7 @@ use Rattle.bridge_semantics.specs.declared.load.Load.{Load}
 use Rattle.bridge_semantics.specs.declared.outcome.Departure.{Departure}
 use Rattle.bridge_limits.proofs.Members.{in_push, rising_push}
 use Rattle.bridge_limits.proofs.Cases.{by_bool}
+use Rattle.bridge_limits.proofs.Options.{some_of}
 use Rattle.bridge_semantics.specs.Runs.{DepartsBefore, DroppedBefore}
 use Rattle.bridge_state.specs.declared.slot.Slot.{Slot}
 use Rattle.bridge_state.specs.declared.slot.Begun.{Begun}
@@ -357,10 +357,6 @@ has_offered_to old ports tables q c s x answer there h told = record {
 
 -- Room that is promised.
 
-pub found_some : {X : Type 0} (o : Option X) → is_some o ≡ true → (x : X) × (o ≡ Some x)
-found_some None h = absurd (cc)
-found_some (Some x) h = (x, refl)
-
 promised_kept : {G A : Type 0} (held : G → ℕ → Option ℕ) (old new : RelayState G A) (n k : ℕ) (test : Bool) (t : TableState) → IsKept held old n t → k ≤ 16 → new.ports ≡ old.ports → new.arrived ≡ old.arrived + 1 → new.earliest ≡ old.earliest → IsKept held new n (if test then promised t k else t)
 promised_kept {G} {A} held old new n k true t kept few ports arrived earliest = record {
   covered = subst (λ (p : PortsState G A). count_all (is_of n) p ≤ t.owed + k) (sym ports) (let c = kept.covered in omega arith);
@@ -406,7 +402,7 @@ sound_promised {G} {A} held old tables filter k sound few small told =
 pub may_promise : {G A : Type 0} (held : G → ℕ → Option ℕ) (b : RelayState G A) (filter : Option ℕ) (k : ℕ) → IsSound held b → k ≤ 16 → IfSome filter (λ n. IsTrue (is_there n b.plan.filters)) → IfSome filter (MayPromise b.tables k)
 may_promise held b None k sound small there = tt
 may_promise held b (Some n) k sound small there =
-    let t = found_some (lookup (nat_eq n) b.tables) (sound.there n there) in
+    let t = some_of (lookup (nat_eq n) b.tables) (sound.there n there) in
     let few = (sound.each n t.0 t.1).few in
     let all = sound.few.1 in
     (t.0, t.1, omega arith)

@@ -1,14 +1,15 @@
 -- The room that a frame was promised.
-use Rattle.std.proofs.Common.{◌≡◌, ℕ, zero, suc, Bool, true, false, ◌+◌, ◌-◌, ◌<◌, ◌≤◌, List, [], ◌∷◌, ◌++◌, length, arith, refl, ap, ◌∙◌, sym, subst, inl, Option, Some, None}
+use Rattle.std.proofs.Common.{◌≡◌, ℕ, zero, suc, Bool, true, false, ◌+◌, ◌-◌, ◌<◌, ◌≤◌, List, length, arith, refl, ap, ◌∙◌, sym, subst, inl, Option, Some, None}
 use Rattle.std.specs.Prelude.{nat_eq, if◌then◌else◌, ◌&&◌, IfSome, IsTrue, Vec, max}
 use Rattle.std.specs.Map.{lookup}
 use Rattle.std.proofs.lemmas.Bool.Decides.{nat_tests}
 use Rattle.std.proofs.lemmas.Option.{same_Some}
 use Rattle.bridge_limits.proofs.Cases.{by_bool}
+use Rattle.bridge_limits.proofs.Options.{some_of}
+use Rattle.bridge_limits.proofs.Lists.{one_longer}
 use Rattle.bridge_capture.specs.Grammar.{Captured}
 use Rattle.bridge_filter.specs.declared.Call.{Call}
 use Rattle.bridge_filter.specs.declared.Ruling.{Ruling}
-use Rattle.bridge_filter.specs.declared.Verdict.{Verdict}
 use Rattle.bridge_filter.specs.Plans.{is_there}
 use Rattle.bridge_forward.specs.Ports.{has}
 use Rattle.bridge_port.specs.Schedule.{Copy}
@@ -22,7 +23,7 @@ use Rattle.bridge_state.specs.Tables.{TableState, change_if, judged, promised, r
 use Rattle.bridge_state.specs.Ports.{slot_in, slot_at, goes_out, outs, is_there as is_port}
 use Rattle.bridge_relay.specs.Relays.{RelayState, IsSound, IsKept, HasSpare, Stands, written, count_all, is_flow, is_flow_stray, is_of, seen}
 use Rattle.bridge_relay.specs.Relaying.{Carries, HasCopies, HasRuled, IsFresh, IsPending, IsOffering, MayRelay, came_as, came_on, one_less, releasing}
-use Rattle.bridge_relay.proofs.Sound.{changed, changed_there, found_some}
+use Rattle.bridge_relay.proofs.Sound.{changed, changed_there}
 use Rattle.bridge_relay.proofs.Passing.{counting, passed_here, passed_there, count_passed}
 use Rattle.bridge_state.proofs.Porting.{below, set_here}
 use Rattle.bridge_relay.proofs.Offering.{change_finds}
@@ -74,14 +75,14 @@ fresh_promised held b filter k sound = record {
 pub spare_promised : {G A : Type 0} (held : G → ℕ → Option ℕ) (b : RelayState G A) (filter : Option ℕ) (k : ℕ) → IsSound held b → IfSome filter (λ n. IsTrue (is_there n b.plan.filters)) → IfSome filter (HasSpare (promising b filter k) k)
 spare_promised held b None k sound there = tt
 spare_promised held b (Some n) k sound there =
-    let t = found_some (lookup (nat_eq n) b.tables) (sound.there n there) in
+    let t = some_of (lookup (nat_eq n) b.tables) (sound.there n there) in
     let c = (sound.each n t.0 t.1).covered in
     (promised t.0 k, change_finds n (λ (v : TableState). promised v k) b.tables t.0 t.1, omega (arith, c))
 
 pub open_promised : {G A : Type 0} (held : G → ℕ → Option ℕ) (b : RelayState G A) (filter : Option ℕ) (k : ℕ) → IsSound held b → IfSome filter (λ n. IsTrue (is_there n b.plan.filters)) → IfSome filter (IsOpen (promising b filter k).tables)
 open_promised held b None k sound there = tt
 open_promised held b (Some n) k sound there =
-    let t = found_some (lookup (nat_eq n) b.tables) (sound.there n there) in
+    let t = some_of (lookup (nat_eq n) b.tables) (sound.there n there) in
     (promised t.0 k, change_finds n (λ (v : TableState). promised v k) b.tables t.0 t.1, refl)
 
 -- Once it was policed.
@@ -113,15 +114,11 @@ copies_ruled old new q s c r set k octets copies h there low i =
     let count = i.count in
     record { count = ap (λ (m : ℕ). length copies + m + 1) a ∙ (count ∙ ap (λ (m : ℕ). max 1 m) (sym b)); alike = i.alike }
 
-longer_end : (xs : List Verdict) (v : Verdict) → length (xs ++ v ∷ []) ≡ length xs + 1
-longer_end [] v = refl
-longer_end (x ∷ xs) v = let h = longer_end xs v in omega arith
-
 pub pending_ruled : {G A : Type 0} (held : G → ℕ → Option ℕ) (old new : RelayState G A) (q : ℕ) (s : Slot A) (c : Call) (r : Ruling) (k own : ℕ) → IsSound held old → HasRuled old new q s c (Some r) → slot_at old.ports q ≡ Some s → HasSpare old k r.filter → ((t : TableState) → lookup (nat_eq r.filter) old.tables ≡ Some t → own ≡ length t.verdicts + 1) → IsPending new k own 1 r.filter
 pending_ruled held old new q s c r k own sound h there spare numbered =
     let t = spare.0 in
     let is = numbered t spare.1 in
-    let grown = longer_end t.verdicts r.verdict in
+    let grown = one_longer t.verdicts r.verdict in
     record {
       table = judged t r.verdict (came_on q c.at);
       there = subst (λ (z : List (ℕ × TableState)). lookup (nat_eq r.filter) z ≡ Some (judged t r.verdict (came_on q c.at))) (sym h.tables) (change_finds r.filter (λ (v : TableState). judged v r.verdict (came_on q c.at)) old.tables t spare.1);

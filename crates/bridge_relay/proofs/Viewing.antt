@@ -7,8 +7,10 @@ use Rattle.std.proofs.Math.Numerals.{add-one}
 use Rattle.std.proofs.Math.Seq.{drop-cons, take-suc}
 use Rattle.std.proofs.lemmas.Bool.Decides.{nat_tests}
 use Rattle.std.proofs.lemmas.List.{take_all}
+use Rattle.std.proofs.lemmas.Bool.{eqb-true}
 use Rattle.bridge_limits.specs.Members.{AllAfter, Rising}
 use Rattle.bridge_limits.proofs.Cases.{by_bool}
+use Rattle.bridge_limits.proofs.Orders.{same_eq}
 use Rattle.bridge_filter.specs.declared.FilterPlan.{FilterPlan}
 use Rattle.bridge_filter.specs.Plans.{is_there}
 use Rattle.bridge_filter.specs.Standing as filter
@@ -27,12 +29,6 @@ pub record IsViewing {A : Type 0} (police : filter.PoliceState A) (first now : L
 
 true_false : (b : Bool) → b ≡ true → b ≡ false → ⊥
 true_false b h k = let z : true ≡ false = sym h ∙ k in cc
-
-itself : (n : ℕ) → nat_eq n n ≡ true
-itself n = grind (arith, nat_tests)
-
-is_same : (m n : ℕ) → nat_eq m n ≡ true → m ≡ n
-is_same m n e = grind (arith, nat_tests)
 
 not_same : (m n : ℕ) → m < n → nat_eq n m ≡ false
 not_same m n l = grind (arith, nat_tests)
@@ -56,14 +52,14 @@ rising_drop R (suc i) (x ∷ xs) h = rising_drop R i xs h.1
 after_there : {X : Type 0} (x : ℕ × X) (n : ℕ) (xs : List (ℕ × X)) → AllAfter IsBefore x xs → is_there n xs ≡ true → x.0 < n
 after_there x n [] a h = absurd (cc)
 after_there {X} x n (y ∷ ys) a h = by_bool (nat_eq n y.0)
-    (λ e. let same : n ≡ y.0 = is_same n y.0 e in let low = a.0 in omega (arith, same, low))
+    (λ e. let same : n ≡ y.0 = eqb-true n y.0 e in let low = a.0 in omega (arith, same, low))
     (λ e. let k : is_there n ys ≡ true = rw e at h in after_there x n ys a.1 k)
 
 change_other : {X : Type 0} (m n : ℕ) (f : X → X) (xs : List (ℕ × X)) → nat_eq n m ≡ false → lookup (nat_eq n) (change m f xs) ≡ lookup (nat_eq n) xs
 change_other m n f [] h = refl
 change_other {X} m n f (e ∷ xs) h = by_bool (nat_eq m e.0)
     (λ t.
-    let same : m ≡ e.0 = is_same m e.0 t in
+    let same : m ≡ e.0 = eqb-true m e.0 t in
     let apart : nat_eq n e.0 ≡ false = subst (λ (k : ℕ). nat_eq n k ≡ false) same h in
     rw (t, apart) refl)
     (λ t. by_bool (nat_eq n e.0) (λ u. rw (t, u) refl) (λ u. rw (t, u) (change_other m n f xs h)))
@@ -84,7 +80,7 @@ pub viewing_next : {A : Type 0} (police : filter.PoliceState A) (first now next 
 viewing_next {A} police first now next order i views more x d v rises low at w s is grown =
     let cut : drop i order ≡ x ∷ drop (suc i) order = drop-cons order i d low ∙ ap (λ (z : ℕ × FilterPlan). z ∷ drop (suc i) order) (sym at) in
     let taken : take (suc i) order ≡ take i order ++ x ∷ [] = take-suc order i d low ∙ ap (λ (z : ℕ × FilterPlan). take i order ++ z ∷ []) (sym at) in
-    let here : is_there x.0 (drop i order) ≡ true = subst (λ (z : List (ℕ × FilterPlan)). is_there x.0 z ≡ true) (sym cut) (there_here x.0 x (drop (suc i) order) (itself x.0)) in
+    let here : is_there x.0 (drop i order) ≡ true = subst (λ (z : List (ℕ × FilterPlan)). is_there x.0 z ≡ true) (sym cut) (there_here x.0 x (drop (suc i) order) (same_eq x.0)) in
     let after : AllAfter IsBefore x (drop (suc i) order) = (subst (Rising IsBefore) cut (rising_drop IsBefore i order rises)).0 in
     let all = shown_push police first (take i order) views x v w.shown (shown_by police first now x.0 x.1 v (w.rest x.0 here) s) in
     let shown : AreShown police first (take (suc i) order) more = subst (λ (z : List (ℕ × FilterPlan)). AreShown police first z more) (sym taken) (subst (AreShown police first (take i order ++ x ∷ [])) (sym grown) all) in
@@ -97,7 +93,7 @@ viewing_next {A} police first now next order i views more x d v rises low at w s
 pub table_next : {A : Type 0} (police : filter.PoliceState A) (first now : List (ℕ × TableState)) (order : List (ℕ × FilterPlan)) (i : ℕ) (views : List (ℕ × View A)) (x d : ℕ × FilterPlan) → i < length order → x ≡ get_or order i d → IsViewing police first now order i views → is_there x.0 first ≡ true → is_there x.0 now ≡ true
 table_next {A} police first now order i views x d low at w h =
     let cut : drop i order ≡ x ∷ drop (suc i) order = drop-cons order i d low ∙ ap (λ (z : ℕ × FilterPlan). z ∷ drop (suc i) order) (sym at) in
-    let here : is_there x.0 (drop i order) ≡ true = subst (λ (z : List (ℕ × FilterPlan)). is_there x.0 z ≡ true) (sym cut) (there_here x.0 x (drop (suc i) order) (itself x.0)) in
+    let here : is_there x.0 (drop i order) ≡ true = subst (λ (z : List (ℕ × FilterPlan)). is_there x.0 z ≡ true) (sym cut) (there_here x.0 x (drop (suc i) order) (same_eq x.0)) in
     ap is_some (w.rest x.0 here) ∙ h
 
 -- all filters are shown

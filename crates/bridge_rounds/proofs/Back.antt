@@ -1,26 +1,20 @@
 -- A capture that was written and that reads to its end is of the frames that it was written of.
-use Rattle.std.proofs.Common.{◌≡◌, ℕ, ◌*◌, ◌/◌, ◌%◌, ◌^◌, ◌≤◌, ◌<◌, ◌⊎◌, inl, inr, List, [], ◌∷◌, ◌++◌, length, nat_lt, Some, Result, Ok, refl, sym, ap, ◌∙◌, subst, append_assoc, arith}
+use Rattle.std.proofs.Common.{◌≡◌, ℕ, ◌*◌, ◌/◌, ◌%◌, ◌^◌, ◌≤◌, ◌<◌, ◌⊎◌, inl, inr, List, [], ◌∷◌, ◌++◌, length, Some, Result, Ok, refl, sym, ap, ◌∙◌, subst, append_assoc, arith}
 use Rattle.std.specs.Prelude.{All}
 use Rattle.std.specs.List.{flat_map}
 use Rattle.std.proofs.lemmas.Nat.{from_le_bytes-to_le_bytes_4}
-use Rattle.std.proofs.lemmas.Bool.{le-ltb}
-use Rattle.std.proofs.lemmas.Bool.Decides.{nat_tests}
-use Rattle.std.proofs.lemmas.List.{length-append}
 use Rattle.std.proofs.lemmas.List.Elements.{All-cons, All-head, All-nil, All-tail}
+use Rattle.std.proofs.lemmas.Bool.{cases_lt, le-ltb}
+use Rattle.std.proofs.lemmas.List.{length-append}
 use Rattle.bridge_limits.specs.declared.TheConstants.{END_OF_TIME}
-use Rattle.bridge_limits.proofs.Cases.{by_bool}
 use Rattle.bridge_capture.specs.declared.form.Form.{Form}
 use Rattle.bridge_capture.specs.declared.fault.CaptureFault.{CaptureFault}
 use Rattle.bridge_capture.specs.declared.fault.CaptureFault.TheVariants.{TooManyRecords, TimeTooLate, TimeBack}
 use Rattle.bridge_capture.specs.Grammar.{Captured, Place, Front, Fault, Record, Reads, ReadsAfter, Records, EndsWith, AtEnd, after, first_place, front_of, header_of, time_of, captured_of, original_of}
 use Rattle.bridge_capture.specs.Written.{written_form, written_header, written_words, written_item, written_text}
 use Rattle.bridge_capture.proofs.Fronts.{fault_back, fault_late, fault_none, refused_words, too_many, whole_record}
+use Rattle.bridge_capture.proofs.Again.{words_captured, words_length, words_original}
 use Rattle.bridge_core.specs.Lines.{FitsRecord}
-
--- the words of a record are those that were written
-words_length : (t c o : ℕ) → length (written_words t c o) ≡ 16
-unfolding written_words
-words_length t c o = refl
 
 words_time : (t c o : ℕ) → t < 2 ^ 32 * 10 ^ 9 → time_of written_form (written_words t c o) ≡ t
 unfolding written_words
@@ -28,17 +22,6 @@ words_time t c o lt =
     let a = from_le_bytes-to_le_bytes_4 (t / 10 ^ 9) (omega (arith, lt)) in
     let b = from_le_bytes-to_le_bytes_4 (t % 10 ^ 9) (omega arith) in
     rw (a, b) (omega arith)
-
-words_captured : (t c o : ℕ) → c < 2 ^ 32 → captured_of written_form (written_words t c o) ≡ c
-unfolding written_words
-words_captured t c o lt = from_le_bytes-to_le_bytes_4 c lt
-
-words_original : (t c o : ℕ) → o < 2 ^ 32 → original_of written_form (written_words t c o) ≡ o
-unfolding written_words
-words_original t c o lt = from_le_bytes-to_le_bytes_4 o lt
-
-lt_or : (a b : ℕ) → (a < b) ⊎ (b ≤ a)
-lt_or a b = by_bool (nat_lt a b) (λ e. inl (grind (arith, nat_tests))) (λ e. inr (grind (arith, nat_tests)))
 
 -- what is read where a record was written: the frame, which comes before the end of time, or a fault
 abbrev Finds : Place → Captured → List ℕ → Type 0
@@ -57,15 +40,15 @@ finds place c more fits =
     let o = words_original c.time n c.len fits.original in
     let size = words_length c.time n c.len in
     let split = append_assoc w c.octets more in
-    elim (lt_or 1000000 place.number) [
+    elim (cases_lt 1000000 place.number) [
       | inl many ↦ inr (TooManyRecords, too_many (Some (written_item c ++ more)) (Some (c.octets ++ more)) written_form place w (omega (arith, size)) many split)
-      | inr room ↦ elim (lt_or (time_of written_form w) 4000000000000000000) [
+      | inr room ↦ elim (cases_lt (time_of written_form w) 4000000000000000000) [
         | inr late ↦ inr (
           TimeTooLate place.number,
           refused_words (Some (written_item c ++ more)) (Some (c.octets ++ more)) written_form place w (TimeTooLate place.number) size room
               (fault_late place (time_of written_form w) (captured_of written_form w) (original_of written_form w) (omega (arith, k, few)) (omega (arith, k, o, within)) late) split,
         )
-        | inl early ↦ elim (lt_or (time_of written_form w) place.earliest) [
+        | inl early ↦ elim (cases_lt (time_of written_form w) place.earliest) [
           | inl back ↦ inr (
             TimeBack place.number,
             refused_words (Some (written_item c ++ more)) (Some (c.octets ++ more)) written_form place w (TimeBack place.number) size room

@@ -1,10 +1,11 @@
 -- The bridges of a network before the first round.
-use Rattle.std.proofs.Common.{◌≡◌, ℕ, zero, suc, ◌+◌, ◌≤◌, ◌<◌, ◌⊎◌, inl, inr, List, [], ◌∷◌, ◌++◌, length, drop, nat_eq, slice_set, Option, Some, None, refl, sym, ap, ◌∙◌, subst, arith}
+use Rattle.std.proofs.Common.{◌≡◌, ℕ, zero, suc, ◌+◌, ◌≤◌, ◌<◌, inl, inr, List, [], ◌∷◌, ◌++◌, length, drop, nat_eq, slice_set, Option, Some, None, sym, ap, ◌∙◌, subst, arith}
 use Rattle.std.specs.Prelude.{slice_get}
 use Rattle.std.proofs.lemmas.Bool.{eqb-false, eqb-true}
 use Rattle.std.proofs.lemmas.List.{length-drop}
 use Rattle.std.proofs.lemmas.Option.{slice_get_within, same_Some}
 use Rattle.bridge_limits.proofs.Cases.{by_bool}
+use Rattle.bridge_limits.proofs.Lists.{pushed, there_is, set_is}
 use Rattle.bridge_config.specs.Model.{Plan}
 use Rattle.bridge_capture.specs.Written.{written_text}
 use Rattle.bridge_network.specs.Networks.{Sender}
@@ -12,8 +13,7 @@ use Rattle.bridge_network.specs.Wiring.{Parts}
 use Rattle.bridge_rounds.specs.declared.station.Incoming.{Incoming}
 use Rattle.bridge_rounds.specs.Stations.{IsBegun, NoneCame, NoneCameBefore, StationState}
 use Rattle.bridge_rounds.specs.Rounds.{AreBegun, AreIncoming}
-use Rattle.bridge_rounds.proofs.Feeding.{set_else, set_is}
-use Rattle.bridge_rounds.proofs.Over.{there}
+use Rattle.bridge_rounds.proofs.Feeding.{set_else}
 
 -- what is left behind a place
 pub left_at : {X : Type 0} (xs : List X) (n : ℕ) (x : X) (rest : List X) → drop n xs ≡ x ∷ rest → (slice_get xs n ≡ Some x) × (drop (suc n) xs ≡ rest)
@@ -21,13 +21,6 @@ left_at [] zero x rest e = absurd (cc)
 left_at [] (suc n) x rest e = absurd (cc)
 left_at (y ∷ xs) zero x rest e = (cc, cc)
 left_at (y ∷ xs) (suc n) x rest e = left_at xs n x rest e
-
--- one more
-pub pushed : {X : Type 0} (xs : List X) (x y : X) (b : ℕ) → slice_get (xs ++ x ∷ []) b ≡ Some y → (slice_get xs b ≡ Some y) ⊎ ((b ≡ length xs) × (x ≡ y))
-pushed [] x y zero e = inr (refl, same_Some x y e)
-pushed [] x y (suc b) e = absurd (cc)
-pushed (z ∷ xs) x y zero e = inl e
-pushed (z ∷ xs) x y (suc b) e = elim (pushed xs x y b e) [ inl there ↦ inl there | inr here ↦ inr (ap suc here.0, here.1) ]
 
 -- the bridges so far are begun
 abbrev pub AreBegunSoFar : {A : Type 0} → Parts A → List (Incoming A) → List (StationState A) → Type 0
@@ -77,8 +70,8 @@ begun_idle n came xs are begun b x at =
     let within = slice_get_within xs b x at in
     let as_many = begun.many in
     let many = are.many in
-    let p = there n.plans b (omega (arith, within, as_many)) in
-    let c = there came b (omega (arith, within, as_many, many)) in
+    let p = there_is n.plans b (omega (arith, within, as_many)) in
+    let c = there_is came b (omega (arith, within, as_many, many)) in
     (begun.each b p.0 c.0 x p.1 c.1 at).idle
 
 -- the text of one linked port more is the capture of no frame

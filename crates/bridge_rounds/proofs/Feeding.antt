@@ -4,6 +4,7 @@ use Rattle.std.specs.Prelude.{slice_get}
 use Rattle.std.proofs.lemmas.Bool.{eqb-false, eqb-true}
 use Rattle.std.proofs.lemmas.Option.{slice_get-map, slice_get_within, same_Some}
 use Rattle.bridge_limits.proofs.Cases.{by_bool}
+use Rattle.bridge_limits.proofs.Lists.{set_is}
 use Rattle.bridge_network.specs.Networks.{Sender}
 use Rattle.bridge_rounds.specs.Stations.{AreGiven, AreGivenBefore, Ground, IsFedAt, IsLaterText, StationState, ground, tap_of, taps_of, text_by}
 
@@ -12,11 +13,6 @@ pub set_here : {X : Type 0} (xs : List X) (i : ℕ) (x y : X) → slice_get xs i
 set_here [] i x y is = absurd (cc)
 set_here (z ∷ xs) zero x y is = refl
 set_here (z ∷ xs) (suc i) x y is = set_here xs i x y is
-
-pub set_is : {X : Type 0} (xs : List X) (i : ℕ) (x u : X) → slice_get (slice_set xs i x) i ≡ Some u → x ≡ u
-set_is [] i x u is = absurd (cc)
-set_is (z ∷ xs) zero x u is = same_Some x u is
-set_is (z ∷ xs) (suc i) x u is = set_is xs i x u is
 
 -- and all else stays
 pub set_else : {X : Type 0} (xs : List X) (i j : ℕ) (x : X) → i ≢ j → slice_get (slice_set xs i x) j ≡ slice_get xs j

@@ -6,6 +6,7 @@ use Rattle.std.proofs.lemmas.List.Elements.{All-cons, All-head, All-nil, All-tai
 use Rattle.std.proofs.lemmas.Option.{slice_get-map, slice_get_within, same_Some}
 use Rattle.bridge_limits.specs.Members.{Rising}
 use Rattle.bridge_limits.specs.declared.TheConstants.{END_OF_TIME}
+use Rattle.bridge_limits.proofs.Lists.{there_is}
 use Rattle.bridge_capture.specs.Grammar.{Captured, Records, AtEnd}
 use Rattle.bridge_capture.specs.Written.{written_text}
 use Rattle.bridge_config.specs.declared.ports.PortPlan.{PortPlan}
@@ -25,7 +26,7 @@ use Rattle.bridge_network.specs.Networks.{IsNetwork, IsNetworkRun, Network, Send
 use Rattle.bridge_rounds.specs.Delaying.{delayed}
 use Rattle.bridge_rounds.specs.Stations.{AreFed, IsStation, IsTapOf, RunsBridge, StationState, tap_of}
 use Rattle.bridge_rounds.proofs.Back.{IsEarly, read_back}
-use Rattle.bridge_rounds.proofs.Over.{text_at, there}
+use Rattle.bridge_rounds.proofs.Over.{text_at}
 
 -- FRAMES THAT COME LATER
 
@@ -143,16 +144,16 @@ module _ {A : Type 0} (n : Network A) (commands : ℕ → List Input) (xs : List
   -- what a bridge has sent over a link, as its capture has it
   sent : (s : Sender) (b q : ℕ) → sender n.links b q ≡ Some s → IsTapOf (left_in xs all s.from.bridge s.from.port) (tap_of (slice_get xs s.from.bridge) s.from.port)
   sent s b q is =
-      let there_is = network.bridge b q s is in
-      let at = station_of n xs s.from.bridge there_is.0 are.plans there_is.1 in
+      let sender_of = network.bridge b q s is in
+      let at = station_of n xs s.from.bridge sender_of.0 are.plans sender_of.1 in
       let y = at.0 in
-      let out = network.port b q s there_is.0 is there_is.1 in
+      let out = network.port b q s sender_of.0 is sender_of.1 in
       let station = are.kept s.from.bridge y at.1 in
       let place = covered y.plan y.ports s.from.port out.0 station.numbers (subst (λ (z : Plan A). port_at z.ports s.from.port ≡ Some out.0) (sym at.2) out.1) in
       let r = ran_at xs all s.from.bridge y at.1 in
       let within = slice_get_within y.ports place.0 s.from.port place.1 in
       let many = station.tapped r.ran.outcome r.ran.told in
-      let tap = there y.taps place.0 (omega (arith, within, many)) in
+      let tap = there_is y.taps place.0 (omega (arith, within, many)) in
       let written = r.ran.runs.written place.0 s.from.port tap.0 place.1 tap.1 in
       let beside = text_at y.ports y.taps place.0 s.from.port tap.0 (rising_numbers y.ports station.numbers.rises) place.1 tap.1 in
       let text : tap_of (slice_get xs s.from.bridge) s.from.port ≡ tap.0 = ap (λ (o : Option (StationState A)). tap_of o s.from.port) at.1 ∙ beside in
@@ -169,7 +170,7 @@ module _ {A : Type 0} (n : Network A) (commands : ℕ → List Input) (xs : List
       let place = covered x.plan x.ports q own.0 station.numbers (subst (λ (z : Plan A). port_at z.ports q ≡ Some own.0) (sym at.2) own.1) in
       let within = slice_get_within x.ports place.0 q place.1 in
       let many = station.texts in
-      let text = there x.texts place.0 (omega (arith, within, many)) in
+      let text = there_is x.texts place.0 (omega (arith, within, many)) in
       let r = ran_at xs all b x at.1 in
       let by : slice_get x.senders place.0 ≡ Some (Some s) =
       ap (λ (l : List (Option Sender)). slice_get l place.0) (are.senders b x at.1) ∙ (slice_get-map (sender n.links b) x.ports place.0 ∙ (ap (option_map (sender n.links b)) place.1 ∙ ap (λ (o : Option Sender). Some o) is)) in

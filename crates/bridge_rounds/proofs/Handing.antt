@@ -5,11 +5,11 @@ use Rattle.std.specs.Option.{option_or}
 use Rattle.std.proofs.lemmas.Bool.{eqb-false, eqb-true}
 use Rattle.std.proofs.lemmas.Option.{slice_get_within, same_Some}
 use Rattle.bridge_limits.proofs.Cases.{by_bool}
+use Rattle.bridge_limits.proofs.Lists.{pushed, set_is}
 use Rattle.bridge_network.specs.Networks.{Sender}
 use Rattle.bridge_rounds.specs.Feeding.{AreAllHanded, AreFedBut, AreFedByRun, AreHanded, AreKept, IsHanded}
 use Rattle.bridge_rounds.specs.Stations.{AreFed, AreFedAt, AreGivenBefore, Ground, HasRun, IsFedAt, IsFirstOf, IsFirstUnfed, IsLaterText, IsUnfedAt, StationState, ground, tap_of, taps_of, texts_of}
-use Rattle.bridge_rounds.proofs.Begun.{pushed}
-use Rattle.bridge_rounds.proofs.Feeding.{given_all, given_bridge, given_more, given_none, same_of, set_else, set_here, set_is, tap_kept}
+use Rattle.bridge_rounds.proofs.Feeding.{given_all, given_bridge, given_more, given_none, same_of, set_else, set_here, tap_kept}
 use Rattle.bridge_rounds.proofs.Turns.{AllFedBefore, AreFedBefore, all_more, fed_more, ground_kept, texts_kept}
 
 -- A PORT THAT IS FED

@@ -9,6 +9,7 @@ use Rattle.std.proofs.lemmas.List.Elements.{All-head, All-tail}
 use Rattle.std.proofs.lemmas.Option.{same_Some}
 use Rattle.bridge_capture.specs.Grammar.{Captured}
 use Rattle.bridge_capture.specs.Written.{written_words, written_item}
+use Rattle.bridge_capture.proofs.Again.{record_length}
 use Rattle.bridge_core.specs.Lines.{FitsRecord}
 use Rattle.bridge_rounds.specs.Delaying.{AddsLater, IsWord, delayed, later_moment, moment_words}
 
@@ -24,11 +25,6 @@ fraction_word c more = from_le_bytes-to_le_bytes_4 (c.time % 10 ^ 9) (omega arit
 captured_word : (c : Captured) (more : List ℕ) → FitsRecord c → from_le_bytes w32 (take 4 (drop 8 (written_item c ++ more))) ≡ length c.octets
 unfolding written_words
 captured_word c more fits = let few = fits.captured in from_le_bytes-to_le_bytes_4 (length c.octets) (omega (arith, few))
-
--- how long the record is
-record_length : (c : Captured) → length (written_item c) ≡ 16 + length c.octets
-unfolding written_words
-record_length c = omega arith
 
 pub item_length : (c : Captured) (more : List ℕ) → length (written_item c ++ more) ≡ 16 + length c.octets + length more
 item_length c more = let whole = length-append (written_item c) more in let own = record_length c in omega (arith, whole, own)

@@ -1,12 +1,14 @@
 -- A run of a bridge over texts in memory.
-use Rattle.std.proofs.Common.{◌≡◌, ℕ, zero, suc, true, false, ◌<◌, List, [], ◌∷◌, ◌++◌, length, take, drop, take_all, drop_of_length-le, append-nil, nat_eq, option_map, Option, Some, None, refl, sym, ap, ◌∙◌, subst, arith}
+use Rattle.std.proofs.Common.{◌≡◌, ℕ, zero, suc, true, false, ◌<◌, List, [], ◌∷◌, ◌++◌, length, nat_eq, option_map, Option, Some, None, refl, sym, ap, ◌∙◌, subst, arith}
 use Rattle.std.specs.Prelude.{All, is_some, slice_get, if◌then◌else◌, Vec}
 use Rattle.std.proofs.lemmas.Bool.{eq-eqb}
 use Rattle.std.proofs.lemmas.Bool.Decides.{nat_tests}
 use Rattle.std.proofs.lemmas.List.{length-map}
 use Rattle.std.proofs.lemmas.List.Elements.{All-head, All-tail}
 use Rattle.std.proofs.lemmas.Option.{slice_get-map, slice_get_within, same_Some}
-use Rattle.bridge_limits.specs.Members.{AllAfter, Rising}
+use Rattle.bridge_limits.specs.Members.{Rising}
+use Rattle.bridge_limits.proofs.Lists.{there_is}
+use Rattle.bridge_limits.proofs.Members.{after_at}
 use Rattle.bridge_capture.specs.Grammar.{Records, AtEnd}
 use Rattle.bridge_capture.specs.Memory.{MemoryDevice}
 use Rattle.bridge_capture.specs.Written.{written_text}
@@ -28,26 +30,15 @@ use Rattle.bridge_rounds.specs.Stations.{IsStation, RunsBridge, StopsBridge, of_
 abbrev pub held : MemoryDevice → Option (List ℕ)
 held d = Some d.octets
 
-after_at : (p q : ℕ) (ports : List ℕ) (i : ℕ) → AllAfter (λ a b. a < b) p ports → slice_get ports i ≡ Some q → p < q
-after_at p q [] i a e = absurd (cc)
-after_at p q (r ∷ ports) zero a e = subst (λ (z : ℕ). p < z) (same_Some r q e) a.0
-after_at p q (r ∷ ports) (suc i) a e = after_at p q ports i a.1 e
-
 -- the text beside a port is that at its place
 pub text_at : (ports : List ℕ) (texts : List (List ℕ)) (i q : ℕ) (text : List ℕ) → Rising (λ a b. a < b) ports → slice_get ports i ≡ Some q → slice_get texts i ≡ Some text → text_by ports texts q ≡ text
 text_at [] texts i q text r at is = absurd (cc)
 text_at (p ∷ ports) [] i q text r at is = absurd (cc)
 text_at (p ∷ ports) (t ∷ texts) zero q text r at is = ap (λ b. if b then t else text_by ports texts q) (eq-eqb p q (same_Some p q at)) ∙ same_Some t text is
 text_at (p ∷ ports) (t ∷ texts) (suc i) q text r at is =
-    let less = after_at p q ports i r.0 at in
+    let less = after_at (λ (a b : ℕ). a < b) p ports i q r.0 at in
     let apart : nat_eq p q ≡ false = grind (arith, nat_tests) in
     ap (λ b. if b then t else text_by ports texts q) apart ∙ text_at ports texts i q text r.1 at is
-
--- there is an item at each place
-pub there : {X : Type 0} (xs : List X) (i : ℕ) → i < length xs → (x : X) × (slice_get xs i ≡ Some x)
-there [] i l = absurd (omega (arith, l))
-there (x ∷ xs) zero l = (x, refl)
-there (x ∷ xs) (suc i) l = there xs i (omega (arith, l))
 
 -- each source has its text
 pub are_texts : {A : Type 0} (p : Plan A) (ports : List ℕ) (texts : List (List ℕ)) (sources : List MemoryDevice) → AreNumbers p ports → taps_in sources ≡ texts → AreTexts held ports (text_by ports texts) sources
@@ -72,9 +63,9 @@ runs_bridge {A} p ports commands texts olds news o are many as_many empty ran = 
   written = λ i q tap at is.
       let within = slice_get_within (taps_in news) i tap is in
       let size = length-map news (λ (d : MemoryDevice). d.octets) in
-      let new = there news i (omega (arith, within, size)) in
+      let new = there_is news i (omega (arith, within, size)) in
       let inside = slice_get_within ports i q at in
-      let old = there olds i (omega (arith, inside, as_many)) in
+      let old = there_is olds i (omega (arith, inside, as_many)) in
       let w = ran.written i q old.0 new.0 at old.1 new.1 in
       let none : old.0.octets ≡ [] = empty_at olds i old.0 empty old.1 in
       let same : new.0.octets ≡ tap = same_Some new.0.octets tap (sym (slice_get-map (λ (d : MemoryDevice). d.octets) news i ∙ ap (option_map (λ (d : MemoryDevice). d.octets)) new.1) ∙ is) in
@@ -98,7 +89,7 @@ are_rests (p ∷ ports) [] r i q s at is = absurd (cc)
 are_rests (p ∷ ports) (t ∷ sources) r zero q s at is =
     ap held (sym (same_Some t s is)) ∙ sym (ap (λ b. if b then held t else rest_by ports sources q) (eq-eqb p q (same_Some p q at)))
 are_rests (p ∷ ports) (t ∷ sources) r (suc i) q s at is =
-    let less = after_at p q ports i r.0 at in
+    let less = after_at (λ (a b : ℕ). a < b) p ports i q r.0 at in
     let apart : nat_eq p q ≡ false = grind (arith, nat_tests) in
     are_rests ports sources r.1 i q s at is ∙ sym (ap (λ b. if b then held t else rest_by ports sources q) apart)
 
@@ -121,11 +112,6 @@ sources_many {A} {B} p ports sources texts are same many =
     let both = ap length same in
     let all = ports_many p ports are in
     omega (arith, one, other, both, many, all)
-
--- a list that was lent and came back with as many
-pub lent : {X : Type 0} (old new : List X) (n : ℕ) → n ≡ length old → length new ≡ length old → take n (new ++ drop (length new) old) ≡ new
-lent old new n many same =
-    ap (λ l. take n (new ++ l)) (drop_of_length-le old (omega (arith, same))) ∙ ap (take n) (append-nil new) ∙ take_all n new (omega (arith, many, same))
 
 -- what is there
 pub some_there : {X : Type 0} (o : Option X) → true ≡ is_some o → (x : X) × (o ≡ Some x)

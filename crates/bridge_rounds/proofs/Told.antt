@@ -6,6 +6,7 @@ use Rattle.std.proofs.lemmas.List.{length-map}
 use Rattle.std.proofs.lemmas.List.Elements.{All-head, All-tail}
 use Rattle.std.proofs.lemmas.Option.{slice_get-map, slice_get_within, same_Some}
 use Rattle.bridge_limits.proofs.Members.{in_push}
+use Rattle.bridge_limits.proofs.Lists.{there_is}
 use Rattle.bridge_capture.specs.Memory.{MemoryDevice}
 use Rattle.bridge_capture.specs.Written.{written_text}
 use Rattle.bridge_config.specs.declared.command.Command.{Command}
@@ -24,7 +25,6 @@ use Rattle.bridge_rounds.specs.declared.station.Incoming.{Incoming}
 use Rattle.bridge_rounds.specs.Stations.{AreFed, Ground, HasRun, IsBegun, IsStation, StationState, ground, open_texts, taps_in, texts_in}
 use Rattle.bridge_rounds.specs.Rounds.{AreBegun, AreIncoming, AreOutcomes, AreSettled, IsolatesStreams, OthersChangeNothing, RunsNetwork, commands_in}
 use Rattle.bridge_rounds.proofs.Fitting.{AllRan, AreOf, frames_in, left_there, network_run, none_read, open_read, tap_read}
-use Rattle.bridge_rounds.proofs.Over.{there}
 use Rattle.bridge_rounds.proofs.Turns.{ground_kept}
 
 -- each bridge has run
@@ -81,9 +81,9 @@ module _ {A : Type 0} (n : Parts A) (came : List (Incoming A)) (begun xs : List 
       let size = many in
       let came_many = coming.many in
       let begun_many = began.many in
-      let p = there n.plans b (omega (arith, within, size)) in
-      let c = there came b (omega (arith, within, size, came_many)) in
-      let y = there begun b (omega (arith, within, size, begun_many)) in
+      let p = there_is n.plans b (omega (arith, within, size)) in
+      let c = there_is came b (omega (arith, within, size, came_many)) in
+      let y = there_is begun b (omega (arith, within, size, begun_many)) in
       record { plan = p.0; own = c.0; first = y.0; plan_is = p.1; own_is = c.1; is = began.each b p.0 c.0 y.0 p.1 c.1 y.1; same_ground = ground_kept xs begun b x y.0 same is y.1 }
 
   plan_at : (b : ℕ) (x : StationState A) → slice_get xs b ≡ Some x → slice_get n.plans b ≡ Some x.plan
@@ -116,7 +116,7 @@ module _ {A : Type 0} (n : Parts A) (came : List (Incoming A)) (begun xs : List 
       let one = length-map settled (λ (s : Settled A). Some s.outcome) in
       let other = length-map xs (λ (y : StationState A). y.outcome) in
       let both = ap length told.outcomes in
-      let s = there settled b (omega (arith, within, one, other, both)) in
+      let s = there_is settled b (omega (arith, within, one, other, both)) in
       let here = slice_get-map (λ (t : Settled A). Some t.outcome) settled b ∙ ap (option_map (λ (t : Settled A). Some t.outcome)) s.1 in
       let own = slice_get-map (λ (y : StationState A). y.outcome) xs b ∙ ap (option_map (λ (y : StationState A). y.outcome)) is in
       sym (same_Some (Some s.0.outcome) x.outcome (sym here ∙ (ap (λ (l : List (Option (Outcome A))). slice_get l b) told.outcomes ∙ own))) ∙ ap (λ (z : Outcome A). Some z) (sym (outcomes b s.0 s.1))
@@ -137,7 +137,7 @@ module _ {A : Type 0} (n : Parts A) (came : List (Incoming A)) (begun xs : List 
   station b p plan =
       let within = slice_get_within n.plans b p plan in
       let size = many in
-      let x = there xs b (omega (arith, within, size)) in
+      let x = there_is xs b (omega (arith, within, size)) in
       (x.0, x.1, same_Some x.0.plan p (sym (plan_at b x.0 x.1) ∙ plan))
 
   pub runs_network : RunsNetwork n came settled

@@ -1,3 +1,4 @@
+pub mod Counts
 pub mod Sets
 mod Lists
 pub mod Standing

@@ -87,6 +87,16 @@ are_tables no_items = true
 are_tables (item (table ms) ds) = are_tables ds
 are_tables (item _ ds) = false
 
+-- how many items there are
+abbrev pub count_of : Items → ℕ
+count_of no_items = 0
+count_of (item d ds) = suc (count_of ds)
+
+-- whether there are no items
+abbrev pub is_empty : Items → Bool
+is_empty no_items = true
+is_empty _ = false
+
 -- what is wrong with an array of numbers: the kinds of all items, before the range of any
 abbrev pub numbers_flaw : ℕ → ℕ → Items → Option Flaw
 numbers_flaw low high items = if not (are_integers items) then Some flaw.WrongKind else if not (are_between low high items) then Some flaw.OutOfRange else None

@@ -1,5 +1,5 @@
 -- No more frames leave a port than come to the bridge.
-use Rattle.std.proofs.Common.{◌≡◌, ◌≤◌, ◌<◌, ◌+◌, ℕ, Bool, true, false, List, [], ◌∷◌, Some, length, map, arith, refl, ap, ◌∙◌, sym, subst, inl, inr}
+use Rattle.std.proofs.Common.{◌≡◌, ◌≤◌, ◌+◌, ℕ, Bool, true, false, List, [], ◌∷◌, Some, length, map, arith, refl, ap, ◌∙◌, sym, subst, inl, inr}
 use Rattle.std.specs.Prelude.{nat_eq, ◌||◌, if◌then◌else◌}
 use Rattle.std.specs.List.{IsDistinct, AllByRecursion, list_any}
 use Rattle.std.specs.Set.{is_member}
@@ -8,7 +8,7 @@ use Rattle.std.proofs.lemmas.List.{length-append, length-map}
 use Rattle.std.proofs.lemmas.Cmp.{nat_eq_equiv}
 use Rattle.std.proofs.lemmas.Map.Made.{length-le_from_is_member}
 use Rattle.bridge_limits.specs.Members.{In, AllAfter, Rising}
-use Rattle.bridge_limits.proofs.Cases.{by_bool}
+use Rattle.bridge_limits.proofs.Orders.{apart, same_eq}
 use Rattle.bridge_capture.specs.Grammar.{Captured}
 use Rattle.bridge_frame.specs.declared.Speed.{Speed}
 use Rattle.bridge_frame.specs.Link.{occupied}
@@ -41,14 +41,6 @@ ends_of speed xs = map (λ (x : Copy Carried). end_of (occupied x.item.len speed
 abbrev times : List Captured → List ℕ
 times xs = map (λ (d : Captured). d.time) xs
 
-same_nat : (n : ℕ) → nat_eq n n ≡ true
-same_nat n = nat_eq_equiv.refl n
-
-apart : (a b : ℕ) → a < b → nat_eq a b ≡ false
-apart a b l = by_bool (nat_eq a b)
-    (λ e. absurd (let same = eqb-true a b e in omega (arith, same, l)))
-    (λ e. e)
-
 or_left : (a b : Bool) → a ≡ true → a || b ≡ true
 or_left a b e = rw e refl
 
@@ -79,7 +71,7 @@ there speed (y ∷ ys) x s (inl h) e =
     let fate : y.fate ≡ Started s = subst (λ (z : Copy Carried). z.fate ≡ Started s) h e in
     let q = s + occupied x.item.len speed in
     let is : end_of (occupied y.item.len speed) y.fate ≡ q = ap (end_of (occupied y.item.len speed)) fate ∙ ap (λ (z : Copy Carried). s + occupied z.item.len speed) (sym h) in
-    or_left (nat_eq q (end_of (occupied y.item.len speed) y.fate)) (list_any (nat_eq q) (ends_of speed ys)) (ap (nat_eq q) is ∙ same_nat q)
+    or_left (nat_eq q (end_of (occupied y.item.len speed) y.fate)) (list_any (nat_eq q) (ends_of speed ys)) (ap (nat_eq q) is ∙ same_eq q)
 there speed (y ∷ ys) x s (inr i) e =
     let q = s + occupied x.item.len speed in
     or_right (nat_eq q (end_of (occupied y.item.len speed) y.fate)) (list_any (nat_eq q) (ends_of speed ys)) (there speed ys x s i e)

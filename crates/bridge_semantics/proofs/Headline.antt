@@ -214,7 +214,7 @@ solo_queues p s f safe es moments lists run whole = record {
 }
 
 -- a copy in one of these queues is one of the port
-queued_at : {A : Type 0} (p : Plan A) (s : ℕ) (f : FilterPlan) (es : List Event) (lists : ℕ → List (Copy Carried)) (q c : ℕ) (x : Copy Carried) → In x (queues p s f es lists q c) → In x (lists q)
+pub queued_at : {A : Type 0} (p : Plan A) (s : ℕ) (f : FilterPlan) (es : List Event) (lists : ℕ → List (Copy Carried)) (q c : ℕ) (x : Copy Carried) → In x (queues p s f es lists q c) → In x (lists q)
 queued_at p s f es lists q c x i = only_in c x (lists q) (picked_in x (in_class c (offers_if p (port_at p.ports q) (own p s f es))) (only c (lists q)) i)
 
 flow_queued : {A : Type 0} (p : Plan A) (s : ℕ) (f : FilterPlan) → IsSafe p s f → (es : List Event) → (moments : ℕ → ℕ) (lists : ℕ → List (Copy Carried)) → IsRun p es moments lists → AreWhole lists → (q c : ℕ) (x : Copy Carried) (m : Option (PortPlan A)) → port_at p.ports q ≡ m → In x (queues p s f es lists q c) → x.item.flow ≡ Some s

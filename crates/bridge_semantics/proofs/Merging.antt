@@ -3,12 +3,12 @@ use Rattle.std.proofs.Common.{◌≡◌, ℕ, true, false, List, [], ◌∷◌, 
 use Rattle.std.proofs.lemmas.Bool.{eqb-true, eqb-false}
 use Rattle.std.specs.Prelude.{nat_eq, if◌then◌else◌}
 use Rattle.bridge_limits.specs.Members.{In}
-use Rattle.bridge_filter.proofs.Numbered.{same_eq}
 use Rattle.bridge_filter.specs.declared.FilterPlan.{FilterPlan}
 use Rattle.bridge_config.specs.Model.{Plan}
 use Rattle.bridge_semantics.specs.Events.{Event, Arrived, Cleared, is_own, own}
 use Rattle.bridge_limits.specs.Members.{AllAfter, Rising}
 use Rattle.bridge_limits.proofs.Cases.{by_bool}
+use Rattle.bridge_limits.proofs.Orders.{same_eq}
 use Rattle.bridge_semantics.specs.Merge.{Input, NotBefore, of_rank, IsMerged, events, own_inputs}
 use Rattle.bridge_semantics.proofs.Views.{after_all, cons_is}
 

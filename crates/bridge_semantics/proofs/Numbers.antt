@@ -4,6 +4,7 @@ use Rattle.std.proofs.lemmas.Option.{same_Some}
 use Rattle.bridge_limits.specs.Members.{In}
 use Rattle.bridge_limits.proofs.Members.{in_either}
 use Rattle.bridge_limits.proofs.Cases.{by_bool}
+use Rattle.bridge_limits.proofs.Orders.{same_eq}
 use Rattle.bridge_forward.specs.Ports.{has}
 use Rattle.bridge_filter.specs.declared.Call.{Call}
 use Rattle.bridge_filter.specs.declared.FilterPlan.{FilterPlan}
@@ -11,7 +12,6 @@ use Rattle.bridge_filter.specs.declared.Verdict.{Verdict}
 use Rattle.bridge_filter.specs.declared.Verdict.TheVariants as verdict
 use Rattle.bridge_filter.specs.Verdicts as verdicts
 use Rattle.bridge_filter.specs.Own.{is_number}
-use Rattle.bridge_filter.proofs.Numbered.{same_eq}
 use Rattle.bridge_config.specs.declared.ports.PortPlan.{PortPlan}
 use Rattle.bridge_config.specs.Model.{Plan}
 use Rattle.bridge_semantics.specs.declared.way.Way.{Way}

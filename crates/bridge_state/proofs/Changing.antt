@@ -7,9 +7,10 @@ use Rattle.std.specs.Map.{keys_of, lookup, set_value}
 use Rattle.std.proofs.lemmas.Map.Keys.{IsDistinct-head, IsDistinct-tail}
 use Rattle.std.proofs.lemmas.Option.{same_Some}
 use Rattle.bridge_limits.proofs.Cases.{by_bool}
+use Rattle.bridge_limits.proofs.Orders.{same_eq}
 use Rattle.indexmap.specs.IndexMap.{IndexMap, IsUnique}
 use Rattle.indexmap.specs.Layout.{set_value_at}
-use Rattle.bridge_filter.proofs.Numbered.{found_at, number_is, same_eq}
+use Rattle.bridge_filter.proofs.Numbered.{found_at, number_is}
 use Rattle.bridge_state.specs.Tables.{change}
 
 pub change_is : {X : Type 0} (n : ℕ) (f : X → X) (xs : List (ℕ × X)) (x y : X) → lookup (nat_eq n) xs ≡ Some x → y ≡ f x → set_value (nat_eq n) xs y ≡ change n f xs

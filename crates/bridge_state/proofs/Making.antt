@@ -6,6 +6,7 @@ use Rattle.std.proofs.Math.ListN.{get_or-append}
 use Rattle.std.proofs.Math.Seq.{get_or-append_seam}
 use Rattle.std.proofs.lemmas.List.{get_or_past}
 use Rattle.bridge_limits.proofs.Cases.{by_bool}
+use Rattle.bridge_limits.proofs.Options.{none_some}
 use Rattle.bridge_config.specs.declared.ports.PortPlan.{PortPlan}
 use Rattle.bridge_config.specs.Rules.{ArePorts, port_at}
 use Rattle.bridge_config.proofs.PlanPorts.{class_below, number_is, port_is}
@@ -13,7 +14,6 @@ use Rattle.bridge_port.specs.Standing.{IsDue}
 use Rattle.bridge_semantics.specs.declared.outcome.PortCount.{PortCount}
 use Rattle.bridge_state.specs.declared.slot.Slot.{Slot}
 use Rattle.bridge_state.specs.Ports.{slot_in, AreKept, IsFirst, IsSlot}
-use Rattle.bridge_state.proofs.Porting.{none_some}
 
 -- the first ports are made
 pub record AreFirst {A : Type 0} (ports : List (PortPlan A)) (slots : List (Option (Slot A))) (n : ℕ) : Type 0 where

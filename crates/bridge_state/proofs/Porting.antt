@@ -6,6 +6,7 @@ use Rattle.std.proofs.lemmas.List.{get_or_past, get_or_default}
 use Rattle.std.specs.Prelude.{if◌then◌else◌, nat_eq, nat_lt, ◌&&◌, is_none, Result}
 use Rattle.std.proofs.lemmas.Option.{same_Some}
 use Rattle.bridge_limits.proofs.Cases.{by_bool}
+use Rattle.bridge_limits.proofs.Options.{none_some}
 use Rattle.bridge_events.specs.Least.{IsLeast}
 use Rattle.bridge_port.specs.declared.item.Item.{Item}
 use Rattle.bridge_port.specs.declared.item.Refusal.{Refusal}
@@ -20,9 +21,6 @@ use Rattle.bridge_state.specs.declared.slot.Came.{Came}
 use Rattle.bridge_state.specs.declared.slot.Came.TheVariants as came
 use Rattle.bridge_state.specs.Slots.{offered_slot, started_slot, counted_copy, counted_frame, refusal_to}
 use Rattle.bridge_state.specs.Ports.{PortsState, slot_in, slot_at, IsSlot, AreKept, NotBefore, IsAfter, HasOffered, HasStarted}
-
-pub none_some : {X : Type 0} (o : Option X) (a : X) → o ≡ None → o ≡ Some a → ⊥
-none_some o a h k = cc
 
 -- a port that is there has a place
 pub below : {A : Type 0} (slots : List (Option (Slot A))) (q : ℕ) (s : Slot A) → slot_in slots q ≡ Some s → q - 1 < length slots

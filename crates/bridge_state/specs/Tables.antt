@@ -1,6 +1,6 @@
 -- What is told of a filter so far.
 use Rattle.bridge_port.specs.declared.item.Refusal.{Refusal}
-use Rattle.std.specs.Prelude.{Result, Ok, Err, ℕ, Bool, true, false, ◌+◌, ◌-◌, ◌<◌, ◌≤◌, ◌≡◌, ◌++◌, [], ◌∷◌, nat_eq, max, Option, Some, None, List, Vec, vec_len, vec_capacity, if◌then◌else◌}
+use Rattle.std.specs.Prelude.{Result, Ok, Err, ℕ, Bool, true, false, ◌+◌, ◌-◌, ◌<◌, ◌≤◌, ◌≡◌, ◌++◌, [], ◌∷◌, nat_eq, max, Option, Some, None, List, length, Vec, vec_len, vec_capacity, if◌then◌else◌}
 use Rattle.std.specs.Map.{lookup}
 use Rattle.bridge_filter.specs.declared.Verdict.{Verdict}
 use Rattle.bridge_semantics.specs.declared.outcome.Departure.{Departure}
@@ -23,10 +23,10 @@ longer None n = Some n
 longer (Some m) n = Some (max m n)
 
 -- there is room for what is owed
-pub record HasRoom {A : Type 0} (verdicts : Vec Verdict A) (origins : Vec Origin A) (departures : Vec Departure A) (drops : Vec Dropped A) (owed : ℕ) (is_open : Bool) : Type 0 where
-  pub for_verdict : vec_len verdicts + (if is_open then 1 else 0) ≤ vec_capacity verdicts
-  pub for_origin : vec_len origins + (if is_open then 1 else 0) ≤ vec_capacity origins
-  pub for_departures : vec_len departures + owed ≤ vec_capacity departures
+pub record HasRoom {A : Type 0} (verdicts : Vec Verdict A) (newest_verdicts : List Verdict) (origins : Vec Origin A) (newest_origins : List Origin) (departures : Vec Departure A) (newest_departures : List Departure) (drops : Vec Dropped A) (owed : ℕ) (is_open : Bool) : Type 0 where
+  pub for_verdict : vec_len verdicts + length newest_verdicts + (if is_open then 1 else 0) ≤ vec_capacity verdicts
+  pub for_origin : vec_len origins + length newest_origins + (if is_open then 1 else 0) ≤ vec_capacity origins
+  pub for_departures : vec_len departures + length newest_departures + owed ≤ vec_capacity departures
   pub for_drops : vec_len drops + owed ≤ vec_capacity drops
 
 -- a table with a copy that left

@@ -2,6 +2,7 @@
 //! What a bridge keeps: its ports with their queues and next starts, and what is told of each stream filter.
 
 pub mod copies;
+mod newest;
 pub mod ports;
 pub mod slot;
 pub mod table;

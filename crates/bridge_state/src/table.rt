@@ -3,12 +3,24 @@ ghost use Rattle.std.specs.Prelude.{◌≡◌, true, false, ◌<◌, ◌≤◌, 
 ghost use Rattle.bridge_state.specs.Tables.{TableState, longer};
 ghost use Rattle.bridge_state.specs.Told.{fresh, HasTold};
 
+use crate::newest::Newest;
 use bridge_cycle::NoMemory;
 use bridge_filter::Verdict;
 use bridge_semantics::{Departure, Dropped, Origin};
 use std::alloc::Allocator;
 use std::marker::Model;
 use std::mem;
+
+/// What stands where a moment and a port are still to come.
+const NOWHERE: Origin = Origin { port: 0, at: 0 };
+
+/// What stands where a departure is still to come.
+const NEVER: Departure = Departure {
+    own: 0,
+    port: 0,
+    start: 0,
+    done: 0,
+};
 
 /// What is told of a filter: the verdicts of its frames and where these came, the copies that left and those that were
 /// not queued, and the longest time in ns that one took.
@@ -25,32 +37,36 @@ pub struct Told<A: Allocator + Copy> {
 /// leaves or is dropped.
 #[derive(Drop)]
 pub struct Table<A: Allocator + Copy> {
+    owed: usize,
+    is_open: bool,
+    delay: Option<u64>,
+    newest_verdicts: Newest<Verdict>,
+    newest_origins: Newest<Origin>,
+    newest_departures: Newest<Departure>,
     verdicts: Vec<Verdict, A>,
     origins: Vec<Origin, A>,
     departures: Vec<Departure, A>,
     drops: Vec<Dropped, A>,
-    delay: Option<u64>,
-    owed: usize,
-    is_open: bool,
 }
 
 impl<A: Allocator + Copy> Model for Table<A> {
-    ghost use Rattle.std.specs.Prelude.{◌≤◌, ◌+◌, if◌then◌else◌};
+    ghost use Rattle.std.specs.Prelude.{◌≤◌, ◌+◌, ◌++◌, if◌then◌else◌};
     ghost use Rattle.bridge_state.specs.Tables.{TableState, HasRoom};
 
     ghost Value = { TableState };
 
     ghost view = { λ t. record {
-      verdicts = t.verdicts.items;
-      origins = t.origins.items;
-      departures = t.departures.items;
+      verdicts = t.verdicts.items ++ t.newest_verdicts;
+      origins = t.origins.items ++ t.newest_origins;
+      departures = t.departures.items ++ t.newest_departures;
       drops = t.drops.items;
       delay = t.delay;
       owed = t.owed;
       is_open = t.is_open;
     } };
 
-    ghost invariant = { λ t. HasRoom t.verdicts t.origins t.departures t.drops t.owed t.is_open };
+    ghost invariant = { λ t. HasRoom t.verdicts t.newest_verdicts t.origins t.newest_origins t.departures
+        t.newest_departures t.drops t.owed t.is_open };
 }
 
 impl<A: Allocator + Copy> Table<A> {
@@ -67,13 +83,16 @@ impl<A: Allocator + Copy> Table<A> {
         } }
     {
         Table {
+            owed: 0,
+            is_open: false,
+            delay: None,
+            newest_verdicts: Newest::none(Verdict::Blocked),
+            newest_origins: Newest::none(NOWHERE),
+            newest_departures: Newest::none(NEVER),
             verdicts: Vec::new(alloc),
             origins: Vec::new(alloc),
             departures: Vec::new(alloc),
             drops: Vec::new(alloc),
-            delay: None,
-            owed: 0,
-            is_open: false,
         }
     }
 
@@ -85,9 +104,10 @@ impl<A: Allocator + Copy> Table<A> {
         ensures err { OnErr result (self.new ≡ self.old) }
     {
         let owed = self.owed + copies;
-        self.verdicts.reserve(1)?;
-        self.origins.reserve(1)?;
-        self.departures.reserve(owed)?;
+        self.verdicts.reserve(self.newest_verdicts.len() + 1)?;
+        self.origins.reserve(self.newest_origins.len() + 1)?;
+        self.departures
+            .reserve(self.newest_departures.len() + owed)?;
         self.drops.reserve(owed)?;
         self.owed = owed;
         self.is_open = true;
@@ -106,15 +126,9 @@ impl<A: Allocator + Copy> Table<A> {
         ensures own { result ≡ length self.old.verdicts + 1 }
     {
         self.is_open = false;
-        match self.verdicts.push(verdict) {
-            Ok(()) => {}
-            Err(_) => unreachable!(),
-        }
-        match self.origins.push(origin) {
-            Ok(()) => {}
-            Err(_) => unreachable!(),
-        }
-        self.verdicts.len() as u64
+        self.newest_verdicts.push(&mut self.verdicts, verdict);
+        self.newest_origins.push(&mut self.origins, origin);
+        (self.verdicts.len() + self.newest_verdicts.len()) as u64
     }
 
     /// So many copies are not offered.
@@ -131,10 +145,7 @@ impl<A: Allocator + Copy> Table<A> {
         ensures { self.new ≡ record self.old { drops = self.old.drops ++ dropped ∷ []; owed = self.old.owed - 1 } }
     {
         self.owed -= 1;
-        match self.drops.push(dropped) {
-            Ok(()) => {}
-            Err(_) => unreachable!(),
-        }
+        self.drops.push_reserved(dropped);
     }
 
     /// Writes down that a copy left, so long after its frame came.
@@ -148,10 +159,7 @@ impl<A: Allocator + Copy> Table<A> {
         } }
     {
         self.owed -= 1;
-        match self.departures.push(departure) {
-            Ok(()) => {}
-            Err(_) => unreachable!(),
-        }
+        self.newest_departures.push(&mut self.departures, departure);
         self.delay = match self.delay {
             Some(longest) => Some(longest.max(delay)),
             None => Some(delay),
@@ -164,13 +172,19 @@ impl<A: Allocator + Copy> Table<A> {
         ensures fresh { self.new ≡ fresh }
     {
         let Table {
-            verdicts,
-            origins,
-            departures,
+            newest_verdicts,
+            newest_origins,
+            newest_departures,
+            mut verdicts,
+            mut origins,
+            mut departures,
             drops,
             delay,
             ..
         } = mem::replace(self, Table::new(alloc));
+        newest_verdicts.settle(&mut verdicts);
+        newest_origins.settle(&mut origins);
+        newest_departures.settle(&mut departures);
         Told {
             verdicts,
             origins,

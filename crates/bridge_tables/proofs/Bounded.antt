@@ -1,16 +1,9 @@
 -- Bounds of classes and of ports, one more at a time.
-use Rattle.std.proofs.Common.{◌≡◌, ◌∙◌, ◌⊎◌, inl, inr, ℕ, zero, suc, ◌+◌, List, [], ◌∷◌, ◌++◌, Option, Some, None, length, ap, sym, subst, refl, arith, fold}
-use Rattle.std.specs.Prelude.{slice_get}
+use Rattle.std.proofs.Common.{◌≡◌, ◌∙◌, inl, inr, ℕ, ◌+◌, List, [], ◌∷◌, ◌++◌, Option, None, length, ap, sym, subst, refl, arith, fold}
 use Rattle.std.proofs.lemmas.List.{length-append}
-use Rattle.std.proofs.lemmas.Option.{same_Some}
+use Rattle.bridge_limits.proofs.Lists.{pushed}
 use Rattle.bridge_config.specs.Model.{Plan}
 use Rattle.bridge_tables.specs.PortBounds.{AreAll, IsClassBound, IsGreatest, IsPortBound, greater}
-
-pushed : {X : Type 0} (xs : List X) (x y : X) (b : ℕ) → slice_get (xs ++ x ∷ []) b ≡ Some y → (slice_get xs b ≡ Some y) ⊎ ((b ≡ length xs) × (x ≡ y))
-pushed [] x y zero e = inr (refl, same_Some x y e)
-pushed [] x y (suc b) e = absurd (cc)
-pushed (z ∷ xs) x y zero e = inl e
-pushed (z ∷ xs) x y (suc b) e = elim (pushed xs x y b e) [ inl there ↦ inl there | inr here ↦ inr (ap suc here.0, here.1) ]
 
 folded : (bounds : List (Option ℕ)) (a b : Option ℕ) → fold greater a (bounds ++ b ∷ []) ≡ greater (fold greater a bounds) b
 folded [] a b = refl

@@ -1,11 +1,12 @@
 -- What is known of frames that came over links.
-use Rattle.std.proofs.Common.{◌≡◌, ◌≢◌, ◌⊎◌, inl, inr, ℕ, zero, suc, ◌+◌, ◌-◌, ◌<◌, ◌≤◌, true, false, List, [], ◌∷◌, ◌++◌, Option, Some, None, map, length, refl, sym, ap, subst, ◌∙◌, arith}
+use Rattle.std.proofs.Common.{◌≡◌, ◌≢◌, ◌⊎◌, inl, inr, ℕ, suc, ◌+◌, ◌-◌, ◌<◌, ◌≤◌, true, false, List, [], ◌∷◌, ◌++◌, Option, Some, None, map, length, refl, sym, ap, subst, ◌∙◌, arith}
 use Rattle.std.specs.Prelude.{nat_eq, nat_le, is_some, slice_get, slice_set, Vec}
 use Rattle.std.proofs.lemmas.Bool.{and_parts, eqb-true, eqb-false}
 use Rattle.std.proofs.lemmas.Bool.Decides.{nat_tests}
 use Rattle.std.proofs.lemmas.Option.{slice_get_within, same_Some}
 use Rattle.bridge_limits.specs.Members.{In}
 use Rattle.bridge_limits.proofs.Cases.{by_bool}
+use Rattle.bridge_limits.proofs.Lists.{pushed, there_is, set_here, set_there, heads}
 use Rattle.bridge_network.specs.Networks.{Sender, sender}
 use Rattle.bridge_network.specs.Wiring.{link_of}
 use Rattle.bridge_network.specs.declared.links.Link.{Link}
@@ -14,22 +15,6 @@ use Rattle.bridge_semantics.specs.declared.outcome.Origin.{Origin}
 use Rattle.bridge_tracing.specs.declared.hops.HopRun.{HopRun}
 use Rattle.bridge_tracing.specs.declared.tracing.Root.{Root}
 use Rattle.bridge_tracing.specs.Tracing.{AddNothing, AreBegun, AreBegunAt, AreFirst, AreFirstKnown, AreFrom, AreOwn, AreSound, AreTraced, AreUnknown, IsExhausted, IsFrom, IsOver, IsPairExhausted, IsTracedEach, SenderIs, ServeFrom, due_from, is_due, joined, root_at, root_over, traced_at}
-
--- what stands in a list in which one place was written
-set_here : {X : Type 0} (xs : List X) (i : ℕ) (v : X) → i < length xs → slice_get (slice_set xs i v) i ≡ Some v
-set_here [] i v l = absurd (omega arith)
-set_here (x ∷ xs) zero v l = refl
-set_here (x ∷ xs) (suc i) v l = set_here xs i v (omega arith)
-
-set_there : {X : Type 0} (xs : List X) (i j : ℕ) (v : X) → j ≢ i → slice_get (slice_set xs i v) j ≡ slice_get xs j
-set_there [] i j v n = refl
-set_there (x ∷ xs) zero zero v n = absurd (n refl)
-set_there (x ∷ xs) zero (suc j) v n = refl
-set_there (x ∷ xs) (suc i) zero v n = refl
-set_there (x ∷ xs) (suc i) (suc j) v n = set_there xs i j v (λ e. n (ap suc e))
-
-head_is : {X : Type 0} (x y : X) (xs ys : List X) → x ∷ xs ≡ y ∷ ys → x ≡ y
-head_is x y xs ys h = cc
 
 -- the copies from the first that is due on are some of all
 pub due_in : (q delay at : ℕ) (ds : List Departure) (d : Departure) → In d (due_from q delay at ds) → In d ds
@@ -42,7 +27,7 @@ due_in q delay at (x ∷ xs) d h = by_bool (is_due q delay at x)
 due_first : (q delay at : ℕ) (ds : List Departure) (d : Departure) (rest : List Departure) → due_from q delay at ds ≡ d ∷ rest → is_due q delay at d ≡ true
 due_first q delay at [] d rest e = absurd (cc)
 due_first q delay at (x ∷ xs) d rest e = by_bool (is_due q delay at x)
-    (λ k. let same : x ∷ xs ≡ d ∷ rest = rw k at e in subst (λ (y : Departure). is_due q delay at y ≡ true) (head_is x d xs rest same) k)
+    (λ k. let same : x ∷ xs ≡ d ∷ rest = rw k at e in subst (λ (y : Departure). is_due q delay at y ≡ true) (heads x d xs rest same) k)
     (λ k. let past : due_from q delay at xs ≡ d ∷ rest = rw k at e in due_first q delay at xs d rest past)
 
 -- so what is known of the first is known of a copy that comes over the link then
@@ -118,11 +103,6 @@ traced_or s sent roots q o None r e = by_bool (nat_eq o.port q)
     (λ k. let there : root_over roots s.delay o.at (due_from s.from.port s.delay o.at sent) ≡ Some r = rw k at e in
     inr (over_in s q o sent (due_from s.from.port s.delay o.at sent) roots r (eqb-true o.port q k) refl there))
     (λ k. let none : None ≡ Some r = rw k at e in absurd (cc))
-
-there_is : {X : Type 0} (xs : List X) (i : ℕ) → i < length xs → (x : X) × (slice_get xs i ≡ Some x)
-there_is [] i l = absurd (omega arith)
-there_is (x ∷ xs) zero l = (x, refl)
-there_is (x ∷ xs) (suc i) l = there_is xs i (omega arith)
 
 -- what came to a port of a hop from another one is known of
 one_traced : {A : Type 0} (links : List Link) (hops : List (HopRun A)) (all : List (Vec (Option Root) A)) (h g : HopRun A) (mine others made : Vec (Option Root) A) (place other q : ℕ) (s : Sender)
@@ -212,13 +192,6 @@ exhausted_of s sent roots q origins old new traced nothing k o (Some r) came was
 exhausted_of s sent roots q origins old new traced nothing k o None came was =
     let (y, is) = there_is new k (traced.covers k (slice_get_within old k None was) (slice_get_within origins k o came)) in
     sym (traced.each k o None y came was is) ∙ nothing k y was is
-
--- one more
-pub pushed : {X : Type 0} (xs : List X) (x y : X) (b : ℕ) → slice_get (xs ++ x ∷ []) b ≡ Some y → (slice_get xs b ≡ Some y) ⊎ ((b ≡ length xs) × (x ≡ y))
-pushed [] x y zero e = inr (refl, same_Some x y e)
-pushed [] x y (suc b) e = absurd (cc)
-pushed (z ∷ xs) x y zero e = inl e
-pushed (z ∷ xs) x y (suc b) e = elim (pushed xs x y b e) [ inl there ↦ inl there | inr here ↦ inr (ap suc here.0, here.1) ]
 
 -- one frame more of the first hop
 pub first_more : (origins : List Origin) (roots : List (Option Root)) (o : Origin) (x : Root) → slice_get origins (length roots) ≡ Some o → x ≡ record { number = length roots + 1; came = o.at }

@@ -38,6 +38,41 @@ const KEYS: [NetField; 7] = [
     NetField::Deadline,
 ];
 
+/// The number of a filter.
+const NUMBER: Between = Between {
+    low: 0,
+    high: 4_294_967_295,
+};
+
+/// A period, in ns.
+const PERIOD: Between = Between {
+    low: 1,
+    high: END_OF_TIME,
+};
+
+/// The octets of a frame.
+const OCTETS: Between = Between {
+    low: 1,
+    high: LONGEST_FRAME as u64,
+};
+
+/// A length of time, in ns.
+const TIME: Between = Between {
+    low: 0,
+    high: END_OF_TIME,
+};
+
+/// The place of a key of a row, by the row's place.
+fn place_of(index: u32, field: NetField) -> NetPlace
+    ensures { result ≡ record { section = the_section.Traffic; index = index; field = field } }
+{
+    NetPlace {
+        section: NetSection::Traffic,
+        index,
+        field,
+    }
+}
+
 /// The row of a table, by its place.
 #[tactic(auto, unfolding(crate::specs::Rows::row_of))]
 fn row_of(index: u32, table: &Table) -> Result<TrafficRow, NetFault>
@@ -45,53 +80,32 @@ fn row_of(index: u32, table: &Table) -> Result<TrafficRow, NetFault>
     ensures row { IfOk result IsRow }
     ensures takes_no_memory { IfErr result (λ e. ¬ (e ≡ NoMemory)) }
 {
-    let at = |field: NetField| -> NetPlace
-        ensures { result ≡ record { section = the_section.Traffic; index = index; field = field } }
-    {
-        NetPlace {
-            section: NetSection::Traffic,
-            index,
-            field,
-        }
-    };
     if !are_known(table, &KEYS) {
         return Err(NetFault::UnknownKey(NetSection::Traffic, index));
     }
-    let numbers = Between {
-        low: 0,
-        high: 4_294_967_295,
-    };
-    let filter = required(table, at(NetField::Filter), &numbers)?;
-    let periods = Between {
-        low: 1,
-        high: END_OF_TIME,
-    };
-    let period = required(table, at(NetField::Period), &periods)?;
+    let filter = required(table, place_of(index, NetField::Filter), &NUMBER)?;
+    let period = required(table, place_of(index, NetField::Period), &PERIOD)?;
     let last = period - 1;
-    let from = required(table, at(NetField::From), &Between { low: 0, high: last })?;
+    let from = required(
+        table,
+        place_of(index, NetField::From),
+        &Between { low: 0, high: last },
+    )?;
     let to = required(
         table,
-        at(NetField::To),
+        place_of(index, NetField::To),
         &Between {
             low: from,
             high: last,
         },
     )?;
-    let lengths = Between {
-        low: 1,
-        high: LONGEST_FRAME as u64,
-    };
-    let least = required(table, at(NetField::Least), &lengths)?;
+    let least = required(table, place_of(index, NetField::Least), &OCTETS)?;
     let longer = Between {
         low: least,
         high: LONGEST_FRAME as u64,
     };
-    let longest = required(table, at(NetField::Longest), &longer)?;
-    let times = Between {
-        low: 0,
-        high: END_OF_TIME,
-    };
-    let deadline = optional(table, at(NetField::Deadline), &times)?;
+    let longest = required(table, place_of(index, NetField::Longest), &longer)?;
+    let deadline = optional(table, place_of(index, NetField::Deadline), &TIME)?;
     Ok(TrafficRow {
         filter: filter as u32,
         traffic: Traffic {
@@ -116,7 +130,7 @@ impl<A: Allocator + Copy> RowReader<A> for Rows {
 
     ghost Keeps = { λ _. All IsRow };
 
-    #[tactic(auto, using(crate::proofs::Own::each_push))]
+    #[tactic(auto, using(bridge_limits::proofs::Lists::each_push))]
     fn read(
         &self,
         _alloc: A,

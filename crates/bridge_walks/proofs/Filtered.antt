@@ -1,5 +1,5 @@
 -- Members of lists, and what a filter keeps of them.
-use Rattle.std.proofs.Common.{◌≡◌, ◌<◌, ◌≤◌, ◌+◌, ◌⊎◌, ℕ, zero, suc, take, get_or, Bool, true, List, [], ◌∷◌, length, map, refl, sym, ap, subst, inl, inr, arith}
+use Rattle.std.proofs.Common.{◌≡◌, ◌<◌, ◌≤◌, ◌+◌, ◌⊎◌, ℕ, zero, suc, take, get_or, Bool, true, List, [], ◌∷◌, length, map, refl, sym, subst, inl, inr, arith}
 use Rattle.std.specs.List.{filter, list_any}
 use Rattle.bridge_limits.specs.Members.{In}
 use Rattle.bridge_limits.proofs.Cases.{by_bool}
@@ -35,12 +35,6 @@ whole p (y ∷ ys) x same i = by_bool (p y)
     ])
     (λ a. let less = rw a at same in let most = shorter p ys in absurd (omega (arith, less, most)))
 
--- a member that passes is found
-pub any_of : {X : Type 0} (p : X → Bool) (xs : List X) (x : X) → In x xs → p x ≡ true → list_any p xs ≡ true
-any_of p [] x i t = absurd i
-any_of p (y ∷ ys) x (inl e) t = let py : p y ≡ true = subst (λ z. p z ≡ true) e t in rw py refl
-any_of p (y ∷ ys) x (inr i) t = by_bool (p y) (λ a. rw a refl) (λ a. rw a (any_of p ys x i t))
-
 -- what is found is a member that passes
 pub record IsFound {X : Type 0} (p : X → Bool) (xs : List X) : Type 0 where
   pub item : X
@@ -52,12 +46,6 @@ found p [] t = absurd (cc)
 found p (y ∷ ys) t = by_bool (p y)
     (λ a. record { item = y; listed = inl refl; passes = a })
     (λ a. let f = found p ys (rw a at t) in record { item = f.item; listed = inr f.listed; passes = f.passes })
-
--- an image of a member
-pub in_map : {X Y : Type 0} (f : X → Y) (xs : List X) (x : X) → In x xs → In (f x) (map f xs)
-in_map f [] x i = absurd i
-in_map f (z ∷ zs) x (inl e) = inl (ap f e)
-in_map f (z ∷ zs) x (inr i) = inr (in_map f zs x i)
 
 pub record IsImage {X Y : Type 0} (f : X → Y) (xs : List X) (y : Y) : Type 0 where
   pub item : X

@@ -1,13 +1,14 @@
 -- A walk that comes round takes only steps that others follow and that follow others.
-use Rattle.std.proofs.Common.{◌≡◌, ◌&&◌, nat_eq, ℕ, Bool, true, List, [], ◌∷◌, refl, ap₂, arith, Option, Some, None, Result, Ok, Err, IfOk, IfSome}
+use Rattle.std.proofs.Common.{◌≡◌, nat_eq, ℕ, true, List, [], ◌∷◌, refl, ap₂, Option, Some, None, Result, Ok, Err, IfOk, IfSome}
 use Rattle.std.specs.List.{filter}
-use Rattle.std.proofs.lemmas.Bool.{and_parts, eqb-true, eq-eqb}
+use Rattle.std.proofs.lemmas.Bool.{and_parts, eqb-true, eq-eqb, and_from}
 use Rattle.bridge_limits.specs.Members.{In}
+use Rattle.bridge_limits.proofs.Members.{passes_any}
 use Rattle.bridge_walks.specs.declared.places.Place.{Place}
 use Rattle.bridge_walks.specs.declared.places.Step.{Step}
 use Rattle.bridge_walks.specs.Walks.{Leads, GoesRound, step}
 use Rattle.bridge_walks.specs.Peeling.{IsLaidAside, comes, is_between, is_one, leaves}
-use Rattle.bridge_walks.proofs.Filtered.{any_of, kept, was}
+use Rattle.bridge_walks.proofs.Filtered.{kept, was}
 
 -- a port is one with itself
 pub one_self : (x : Place) → is_one x x ≡ true
@@ -20,22 +21,19 @@ same_place a b one =
     let make : ℕ → ℕ → Place = λ x y. record { bridge = x; port = y } in
     ap₂ make (eqb-true a.bridge b.bridge parts.0) (eqb-true a.port b.port parts.1)
 
-both : (a b : Bool) → a ≡ true → b ≡ true → (a && b) ≡ true
-both a b e f = rw (e, f) refl
-
 first_leaves : (steps : List Step) (x y : Place) (zs : List Place) → Leads steps x y zs → leaves steps x ≡ true
-first_leaves steps x y [] l = any_of (λ (s : Step). is_one s.from x) steps (step x y) l (one_self x)
-first_leaves steps x y (z ∷ zs) l = any_of (λ (s : Step). is_one s.from x) steps (step x z) l.0 (one_self x)
+first_leaves steps x y [] l = passes_any (λ (s : Step). is_one s.from x) steps (step x y) l (one_self x)
+first_leaves steps x y (z ∷ zs) l = passes_any (λ (s : Step). is_one s.from x) steps (step x z) l.0 (one_self x)
 
 last_comes : (steps : List Step) (x y : Place) (zs : List Place) → Leads steps x y zs → comes steps y ≡ true
-last_comes steps x y [] l = any_of (λ (s : Step). is_one s.to y) steps (step x y) l (one_self y)
+last_comes steps x y [] l = passes_any (λ (s : Step). is_one s.to y) steps (step x y) l (one_self y)
 last_comes steps x y (z ∷ zs) l = last_comes steps z y zs l.1
 
 walk_kept : (steps : List Step) (x y : Place) (zs : List Place) → comes steps x ≡ true → leaves steps y ≡ true → Leads steps x y zs → Leads (filter (is_between steps) steps) x y zs
-walk_kept steps x y [] c v l = kept (is_between steps) steps (step x y) l (both (leaves steps y) (comes steps x) v c)
+walk_kept steps x y [] c v l = kept (is_between steps) steps (step x y) l (and_from (leaves steps y) (comes steps x) v c)
 walk_kept steps x y (z ∷ zs) c v l = (
-  kept (is_between steps) steps (step x z) l.0 (both (leaves steps z) (comes steps x) (first_leaves steps z y zs l.1) c),
-  walk_kept steps z y zs (any_of (λ (s : Step). is_one s.to z) steps (step x z) l.0 (one_self z)) v l.1,
+  kept (is_between steps) steps (step x z) l.0 (and_from (leaves steps z) (comes steps x) (first_leaves steps z y zs l.1) c),
+  walk_kept steps z y zs (passes_any (λ (s : Step). is_one s.to z) steps (step x z) l.0 (one_self z)) v l.1,
 )
 
 -- what is kept of some steps at once

@@ -5,13 +5,13 @@ use Rattle.std.proofs.lemmas.List.Elements.{filter_more}
 use Rattle.std.proofs.lemmas.List.{map-append}
 use Rattle.bridge_limits.specs.Members.{In}
 use Rattle.bridge_limits.proofs.Cases.{by_bool}
-use Rattle.bridge_limits.proofs.Members.{in_either, in_left, in_right}
+use Rattle.bridge_limits.proofs.Members.{in_either, in_left, in_right, passes_any, in_map}
 use Rattle.bridge_walks.specs.declared.places.Place.{Place}
 use Rattle.bridge_walks.specs.declared.places.Step.{Step}
 use Rattle.bridge_walks.specs.Walks.{Leads, GoesRound, Walks, step}
 use Rattle.bridge_walks.specs.Peeling.{is_among, is_one}
 use Rattle.bridge_walks.specs.Searching.{IsSearched, is_reached, is_untaken, targets}
-use Rattle.bridge_walks.proofs.Filtered.{any_of, found, in_map, kept, of_map, was, whole}
+use Rattle.bridge_walks.proofs.Filtered.{found, kept, of_map, was, whole}
 use Rattle.bridge_walks.proofs.Laid.{one_self, same_place}
 
 -- WALKS
@@ -30,7 +30,7 @@ from_reached start reached a t = by_bool (is_one start a)
 
 to_reached : (start : Place) (reached : List Place) (a : Place) → (start ≡ a) ⊎ In a reached → is_reached start reached a ≡ true
 to_reached start reached a (inl e) = let one : is_one start a ≡ true = subst (λ z. is_one start z ≡ true) e (one_self start) in rw one refl
-to_reached start reached a (inr i) = by_bool (is_one start a) (λ e. rw e refl) (λ e. rw e (any_of (λ (y : Place). is_one y a) reached a i (one_self a)))
+to_reached start reached a (inr i) = by_bool (is_one start a) (λ e. rw e refl) (λ e. rw e (passes_any (λ (y : Place). is_one y a) reached a i (one_self a)))
 
 -- ONE MORE ROUND
 
@@ -94,5 +94,5 @@ pub searched_last : (steps : List Step) (start : Place) (reached : List Place) (
     → (is_among reached start ≡ true) ↔ GoesRound steps start
 searched_last steps start reached pending left so is none = (
   (λ t. let f = found (λ (y : Place). is_one y start) reached t in so.sound start (subst (λ y. In y reached) (same_place f.item start f.passes) f.listed)),
-  (λ round. any_of (λ (y : Place). is_one y start) reached start (end_reached steps start reached pending so (ap length (sym is) ∙ none) start start round.0 (inl refl) round.1) (one_self start)),
+  (λ round. passes_any (λ (y : Place). is_one y start) reached start (end_reached steps start reached pending so (ap length (sym is) ∙ none) start start round.0 (inl refl) round.1) (one_self start)),
 )

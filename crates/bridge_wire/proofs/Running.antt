@@ -1,5 +1,5 @@
 -- Frames of a capture, one after the other.
-use Rattle.std.proofs.Common.{◌≡◌, ℕ, Bool, true, false, ◌+◌, ◌≤◌, List, [], ◌∷◌, ◌++◌, length, refl, ap, ◌∙◌, sym, subst, arith, inl, inr, Option, Some, None, Result, Ok, Err, length-append, reverse, add-zero, zero-add}
+use Rattle.std.proofs.Common.{◌≡◌, ℕ, Bool, true, false, ◌+◌, ◌≤◌, List, [], ◌∷◌, ◌++◌, length, refl, ap, ◌∙◌, sym, subst, arith, inl, inr, Option, Some, None, Result, Ok, Err, reverse, add-zero, zero-add}
 use Rattle.std.specs.Prelude.{not, ◌&&◌, map, filter, count_by, Vec, if◌then◌else◌, is_none, slice_index_or, IsErr}
 use Rattle.std.specs.List.{flat_map}
 use Rattle.std.specs.Io.KnownBytes.{Appends}
@@ -7,6 +7,7 @@ use Rattle.std.proofs.KnownBytes.{Appends-trans}
 use Rattle.std.proofs.lemmas.List.{map-append, reverse-append, append-nil}
 use Rattle.std.proofs.lemmas.Bool.{le-ltb}
 use Rattle.bridge_limits.proofs.Cases.{by_bool}
+use Rattle.bridge_limits.proofs.Lists.{one_longer}
 use Rattle.bridge_frame.specs.declared.Speed.{Speed}
 use Rattle.bridge_frame.specs.Link.{occupied}
 use Rattle.bridge_capture.specs.Grammar.{Captured}
@@ -24,6 +25,7 @@ use Rattle.bridge_port.specs.Standing.{State, StandsFor, NoStartBefore, IsDue, r
 use Rattle.bridge_port.proofs.Ports.{idle_calm, up_to}
 use Rattle.bridge_port.proofs.Watched.{lawful_seen}
 use Rattle.bridge_port.proofs.Keeping.{count_cons, count_push}
+use Rattle.bridge_port.proofs.Members.{not_started}
 use Rattle.bridge_wire.specs.declared.count.WireCount.{WireCount}
 use Rattle.bridge_inputs.specs.declared.fault.RunFault.{RunFault}
 use Rattle.bridge_wire.specs.Wire.{Frame, Offer, one_queue, offer_of, offers_of, is_well_formed, IsOutput, GoesThrough, IsUpTo}
@@ -40,9 +42,6 @@ calm_before p t (Some k) due n = λ c x rest e u a f l. due.2.least c x rest e u
 pub last_time_push : (earliest : ℕ) (frames : List Captured) (c : Captured) → last_time earliest (frames ++ c ∷ []) ≡ c.time
 last_time_push earliest [] c = refl
 last_time_push earliest (d ∷ frames) c = last_time_push d.time frames c
-
-length_push : {X : Type 0} (q : List X) (x : X) → length (q ++ x ∷ []) ≡ length q + 1
-length_push q x = grind (arith, length-append)
 
 filter_push : {X : Type 0} (f : X → Bool) (q : List X) (x : X) → filter f (q ++ x ∷ []) ≡ filter f q ++ (if f x then x ∷ [] else [])
 filter_push f [] x = by_bool (f x) (λ e. rw e refl) (λ e. rw e refl)
@@ -112,11 +111,6 @@ output_offer speed x xs left waits o = record {
   );
 }
 
-not_started : (o : Option Refusal) (s : ℕ) → fate_of o ≡ Started s → ⊥
-not_started None s h = cc
-not_started (Some refusal.NeverFits) s h = cc
-not_started (Some refusal.Full) s h = cc
-
 accepted_by : (o : Option Refusal) → is_accepted (fate_of o) ≡ is_none o
 accepted_by None = refl
 accepted_by (Some refusal.NeverFits) = refl
@@ -175,7 +169,7 @@ running_malformed {A} speed room frames old mid count began now after c e later 
       queue = record { list = gone.list ∙ r.queue.list; pace = gone.speed ∙ r.queue.pace; places = ap (λ l. slice_index_or l 0 0) gone.rooms ∙ r.queue.places; within = gone.within };
       sends = subst (λ o. Sends mid o count.sent count.full (r.left ++ g.0)) (sym (offers_same frames c e)) g.1;
       writes = subst (Appends began after) (sym (written_more r.left g.0)) (Appends-trans began now after (written_text r.left) (flat_map written_item g.0) r.writes g.2);
-      all = ap (λ n. n + 1) r.all ∙ sym (length_push frames c);
+      all = ap (λ n. n + 1) r.all ∙ sym (one_longer frames c);
       malformed = ap (λ n. n + 1) r.malformed ∙ sym one;
       sums = let z = r.sums in omega arith;
       waits = subst (λ (t : ℕ). mid.earliest ≤ t) last later;
@@ -207,7 +201,7 @@ running_offered {A} speed room frames old mid new count began now after c x e sa
       };
       sends = subst (λ l. Sends new l (counted count (is_none (refusal_of mid 0 x))).sent (counted count (is_none (refusal_of mid 0 x))).full (r.left ++ g.0)) (sym (offers_push frames c e)) sends;
       writes = subst (Appends began after) (sym (written_more r.left g.0)) (Appends-trans began now after (written_text r.left) (flat_map written_item g.0) r.writes g.2);
-      all = ap (λ n. n + 1) r.all ∙ sym (length_push frames c);
+      all = ap (λ n. n + 1) r.all ∙ sym (one_longer frames c);
       malformed = r.malformed ∙ sym (count_push (λ d. not (is_well_formed d)) frames c ∙ (ap (λ b. count_by (λ d. not (is_well_formed d)) frames + (if not b then 1 else 0)) e ∙ add-zero _));
       sums = counted_sums count (is_none (refusal_of mid 0 x)) r.sums;
       waits = let t : new.earliest ≡ c.time = ap (λ (p : State (Vec ℕ A)). p.earliest) moved in let l = last_time_push 0 frames c in omega arith;

@@ -22,7 +22,7 @@ use Rattle.bridge_port.specs.Schedule.{Fate, Queued, Started, Copy, Begun, here,
 use Rattle.bridge_port.specs.Seen.{all_seen}
 use Rattle.bridge_port.specs.Standing.{State, StandsFor, IsNext, IsBegun, NoStartBefore, started_state}
 use Rattle.bridge_port.proofs.Watched.{begun_seen}
-use Rattle.bridge_port.proofs.Members.{begun_to, begun_from, begun_there}
+use Rattle.bridge_port.proofs.Members.{begun_to, begun_from, begun_there, same_start}
 use Rattle.bridge_port.proofs.Keeping.{count_cons}
 use Rattle.bridge_inputs.specs.declared.fault.RunFault.{RunFault}
 use Rattle.bridge_wire.specs.Wire.{IsShort, Frame, Offer, offered, departure, IsOutput}
@@ -46,9 +46,6 @@ count_begun f c s i item xs0 ys0 e (here t it xs n) =
     count_cons (λ (x : Copy Frame). f x.fate) z xs ∙ (ap (λ b. (if b then 1 else 0) + count_by (λ (x : Copy Frame). f x.fate) xs) e ∙ sym (count_cons (λ (x : Copy Frame). f x.fate) q xs))
 count_begun f c s i item xs0 ys0 e (there x {xs = xs} {ys = ys} b) =
     count_cons (λ (x : Copy Frame). f x.fate) x ys ∙ (ap (λ n. (if f x.fate then 1 else 0) + n) (count_begun f c s i item xs ys e b) ∙ sym (count_cons (λ (x : Copy Frame). f x.fate) x xs))
-
-started_is : (s t : ℕ) → Started s ≡ Started t → s ≡ t
-started_is s t h = cc
 
 -- no more octets than the frame had
 pub within_of : (b : Bool) (n m : ℕ) → m ≡ (if b then 1 else 0) + n → m ≡ 0 → b ≡ false
@@ -80,7 +77,7 @@ output_start speed k c i frame xs ys left b o before =
         (λ h. elim (begun_to c k i frame xs ys b h.copy h.listed) [
           | inl l ↦ in_left e left (d ∷ []) ((o.members e).1 (record { copy = h.copy; start = h.start; listed = l; started = h.started; is = h.is }))
           | inr n ↦
-              let at : h.start ≡ k = started_is h.start k (sym h.started ∙ n.0) in
+              let at : h.start ≡ k = same_start h.start k (sym h.started ∙ n.0) in
               let same : e ≡ d = h.is ∙ (ap (λ s. departure speed s h.copy.item) at ∙ ap (departure speed k) n.1) in
               subst (λ z. In z (left ++ d ∷ [])) (sym same) (in_end d left)
         ]),

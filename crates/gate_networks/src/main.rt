@@ -6,7 +6,6 @@ mod bounds;
 mod captures;
 mod numbers;
 mod pairs;
-mod plans;
 mod rounds;
 mod runs;
 

@@ -3,9 +3,10 @@
 use crate::case::Case;
 use crate::failing::{are_fronts, whole_of};
 use crate::said::{Said, add};
-use crate::ways::{Form, Moves, accepted_of, held, ran_into, ran_through, sinks_of};
+use crate::ways::{Form, Moves, held, ran_into, ran_through, sinks_of};
 use bridge_check::Accepted;
 use bridge_core::{Outcome, RunFault};
+use bridge_jobs::accepted_of;
 use bridge_report::{ReportFault, has_section, report, section, summary, write_report};
 use fixture_alloc::{Ending, RefusesOne};
 use std::alloc::{Allocator, Global};
@@ -109,9 +110,9 @@ fn ending_in<A: Allocator + Copy>(
     what: &str,
     whole: [&[u8]; 3],
 ) -> Ending {
-    match accepted_of(gate, said.alloc, case.plan.as_str()) {
-        Some(accepted) => ending_under(gate, said, &accepted, case, what, whole),
-        None => Ending::NoMemory,
+    match accepted_of(gate, said.alloc, case.plan.as_bytes()) {
+        Ok(accepted) => ending_under(gate, said, &accepted, case, what, whole),
+        Err(_) => Ending::NoMemory,
     }
 }
 

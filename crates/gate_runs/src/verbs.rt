@@ -8,10 +8,10 @@ use crate::reading::{first_of, number};
 use crate::reports::reports;
 use crate::said::{Said, add};
 use crate::seeing::seen;
-use crate::ways::accepted_of;
 use bridge_check::{Accepted, check};
 use bridge_config::plan_of;
 use bridge_core::{Agenda, RowAgenda, TreeAgenda};
+use bridge_jobs::accepted_of;
 use std::alloc::Global;
 use std::test::Fail;
 
@@ -39,9 +39,9 @@ pub fn step(said: &mut Said, names: &str, case: &mut Case, line: &str) -> Result
 
 /// Looks at what comes of a case under its plan.
 fn look(said: &mut Said, case: &mut Case, word: &str, rest: &str) -> Result<(), Fail> {
-    match accepted_of(said.alloc, said.alloc, case.plan.as_str()) {
-        Some(accepted) => look_under(said, &accepted, case, word, rest),
-        None => {
+    match accepted_of(said.alloc, said.alloc, case.plan.as_bytes()) {
+        Ok(accepted) => look_under(said, &accepted, case, word, rest),
+        Err(_) => {
             said.stop("a plan that is refused");
             Ok(())
         }

@@ -5,8 +5,8 @@ ghost use Rattle.bridge_config.specs.Commands.{AreCommands};
 use crate::case::Case;
 use crate::said::Said;
 use bridge_capture::{ByteSink, ByteSource, SliceSource, VecSink};
-use bridge_check::{Accepted, check};
-use bridge_config::{Command, commands_of, plan_of};
+use bridge_check::Accepted;
+use bridge_config::{Command, commands_of};
 use bridge_core::{Outcome, RowAgenda, RunFault, TreeAgenda, simulate, simulate_over};
 use bridge_files::{Halted, run_over};
 use std::alloc::{AllocError, Allocator, Global};
@@ -45,14 +45,6 @@ pub enum Moves {
 
 /// Those in which nothing fails, with what is told of them behind a call.
 pub const MOVES: &[(Moves, &str)] = &[(Moves::AtOnce, " AtOnce"), (Moves::ByOctets, " ByOctets")];
-
-/// The plan of a text, where it is accepted.
-pub fn accepted_of<A: Allocator + Copy>(alloc: A, heap: Global, text: &str) -> Option<Accepted<A>> {
-    let Ok(plan) = plan_of(alloc, heap, text.as_bytes()) else {
-        return None;
-    };
-    check(alloc, plan).ok()
-}
 
 /// The commands of a case to a plan; none at all where one is refused, which can't be done.
 pub fn commands_in<A: Allocator + Copy>(

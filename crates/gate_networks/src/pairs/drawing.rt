@@ -1,7 +1,7 @@
 //! Plans of three ports that are drawn.
 use crate::numbers::Numbers;
-use crate::plans::accepted_of;
 use bridge_check::Accepted;
+use bridge_jobs::accepted_of;
 use bridge_text::{NoMemory, Text};
 use std::alloc::Global;
 
@@ -290,7 +290,7 @@ pub fn drawn(alloc: Global, numbers: &mut Numbers, side: Side) -> Option<Accepte
         let Ok(text) = text_of(alloc, numbers, side) else {
             return None;
         };
-        if let Some(accepted) = accepted_of(alloc, alloc, text.as_str()) {
+        if let Ok(accepted) = accepted_of(alloc, alloc, text.as_bytes()) {
             return Some(accepted);
         }
     }

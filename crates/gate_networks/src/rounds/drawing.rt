@@ -1,8 +1,8 @@
 //! Plans of bridges, and commands to them, that are drawn.
 use crate::numbers::Numbers;
-use crate::plans::accepted_of;
 use crate::rounds::shape::{Shape, Way};
 use bridge_check::Accepted;
+use bridge_jobs::accepted_of;
 use bridge_text::{NoMemory, Text};
 use std::alloc::Global;
 
@@ -180,7 +180,7 @@ pub fn next_plan(
     let Ok(text) = text_of(alloc, numbers, shape, bridge, way) else {
         return None;
     };
-    accepted_of(alloc, alloc, text.as_str())
+    accepted_of(alloc, alloc, text.as_bytes()).ok()
 }
 
 /// Which flag a command clears.

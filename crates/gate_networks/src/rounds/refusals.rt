@@ -6,9 +6,9 @@ ghost use Rattle.bridge_rounds.specs.Rounds.{AreIncoming};
 ghost use Rattle.gate_networks.specs.Coming.{AllIncoming};
 
 use crate::captures::Recording;
-use crate::plans::accepted_of;
 use bridge_check::Accepted;
 use bridge_config::{Command, commands_of};
+use bridge_jobs::accepted_of;
 use bridge_limits::NoMemory;
 use bridge_network::{End, Link, Network, StreamHop, check_network};
 use bridge_rounds::{Incoming, Nobody, RoundsFault, Settled, settle};
@@ -121,11 +121,11 @@ fn add_bridge<A: Allocator + Copy>(
     plans: &mut Vec<Accepted<A>, A>,
     hops: &mut Vec<StreamHop, A>,
 ) -> bool {
-    match accepted_of(alloc, heap, PLAN) {
-        Some(accepted) => {
+    match accepted_of(alloc, heap, PLAN.as_bytes()) {
+        Ok(accepted) => {
             plans.push(accepted).is_ok() && hops.push(StreamHop { bridge, filter: 10 }).is_ok()
         }
-        None => false,
+        Err(_) => false,
     }
 }
 

@@ -2,11 +2,12 @@ use Rattle.std.proofs.Common.{true, ◌≡◌, ◌<◌, Some, length, slice_inde
 use Rattle.std.specs.Prelude.{slice_get}
 use Rattle.std.specs.Io.KnownBytes.{Appends}
 use Rattle.std.proofs.lemmas.Option.{slice_get-get_or}
+use Rattle.bridge_limits.proofs.Lists.{set_is}
 use Rattle.bridge_capture.specs.Written.{written_record}
 use Rattle.bridge_capture.specs.Sinks.{AppendsFront}
-use Rattle.bridge_inputs.proofs.Looks.{lasts_set, sure_next}
+use Rattle.bridge_inputs.proofs.Looks.{lasts_set, sure_next, one_place}
 use Rattle.bridge_core.specs.Lines.{numbers}
-use Rattle.bridge_core.proofs.Written.{numbers_set, place_unique, set_here, writes_one, breaks_one, writes_none, fits_record}
+use Rattle.bridge_core.proofs.Written.{numbers_set, writes_one, breaks_one, writes_none, fits_record}
 use Rattle.bridge_core.proofs.line.write.Goals as goal
 
 pub returns-in_default-clause-writes : goal.returns-in_default-clause-writes
@@ -44,8 +45,8 @@ pub returns-in-Err-clause-failed : goal.returns-in-Err-clause-failed
 returns-in-Err-clause-failed g c = λ i w port is.
     let sent = c.args.sent.now in
     let place = c.in-Some.place in
-    let same : i ≡ place = place_unique (numbers c.args.lines.now) i place sent.port c.requires.rises port c.in-Some.ensures.there in
-    let now : c.put.new.sink ≡ w = set_here c.args.sinks.now place c.put.new.sink w (rw same at is) in
+    let same : i ≡ place = one_place (numbers c.args.lines.now) i place sent.port c.requires.rises port c.in-Some.ensures.there in
+    let now : c.put.new.sink ≡ w = set_is c.args.sinks.now place c.put.new.sink w (rw same at is) in
     subst (λ z. g.W.ByteSink.has_failed z ≡ true) now c.in-Err.ensures.fails
 
 pub returns-in-Err-clause-sound : goal.returns-in-Err-clause-sound
@@ -53,8 +54,8 @@ returns-in-Err-clause-sound g c = λ sure i w port is.
     let sent = c.args.sent.now in
     let place = c.in-Some.place in
     let inside : place < length c.args.sinks.now = (let within = c.in-Some.ensures.within in let size = c.requires.size in omega (arith, within, size)) in
-    let same : i ≡ place = place_unique (numbers c.args.lines.now) i place sent.port c.requires.rises port c.in-Some.ensures.there in
-    let now : c.put.new.sink ≡ w = set_here c.args.sinks.now place c.put.new.sink w (rw same at is) in
+    let same : i ≡ place = one_place (numbers c.args.lines.now) i place sent.port c.requires.rises port c.in-Some.ensures.there in
+    let now : c.put.new.sink ≡ w = set_is c.args.sinks.now place c.put.new.sink w (rw same at is) in
     subst (λ z. g.W.ByteSink.ran_out z ≡ true) now (c.in-Err.ensures.sure (sure_next g.W.ByteSink.never_fails c.args.sinks.now place c.index-sinks-place.result inside sure))
 
 pub returns-in-Ok-clause-holds : goal.returns-in-Ok-clause-holds

@@ -1,7 +1,7 @@
 use Rattle.std.proofs.Common.{◌≡◌, ◌<◌, ◌∙◌, arith, get_or, length, refl, subst, sym, true}
 use Rattle.std.proofs.lemmas.Option.{same_Some, slice_get-get_or}
+use Rattle.bridge_limits.proofs.Lists.{set_here}
 use Rattle.bridge_inputs.proofs.Looks.{lasts_set, sure_next}
-use Rattle.bridge_core.proofs.Places.{set_here}
 use Rattle.bridge_core.proofs.taking.look_at.Goals as goal
 
 pub returns-clause-looked : goal.returns-clause-looked

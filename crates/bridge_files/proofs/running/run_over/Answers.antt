@@ -5,10 +5,11 @@ use Rattle.bridge_core.proofs.Beginning.{one_order}
 use Rattle.bridge_core.proofs.Simulating.{isolates, others_change_nothing, ports_many}
 use Rattle.bridge_config.proofs.Sorted.{rising_numbers}
 use Rattle.std.proofs.lemmas.Option.{slice_get_within}
+use Rattle.bridge_limits.proofs.Lists.{lent}
 use Rattle.bridge_files.specs.Flushed.{AllKept, NoneFailed}
 use Rattle.bridge_files.proofs.Devices.{asked, broken, sunk}
 use Rattle.bridge_files.proofs.Kept.{kept_length, kept_same}
-use Rattle.bridge_files.proofs.Ran.{are_rests, behind, lent, none_behind, none_kept, none_read, rest_of, runs_over, same_many, stops_over, texts_over}
+use Rattle.bridge_files.proofs.Ran.{are_rests, behind, none_behind, none_kept, none_read, rest_of, runs_over, same_many, stops_over, texts_over}
 use Rattle.bridge_files.proofs.running.run_over.Goals as goal
 
 pub returns-in_default-clause-err : goal.returns-in_default-clause-err

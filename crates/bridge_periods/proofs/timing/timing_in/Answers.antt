@@ -7,10 +7,10 @@ use Rattle.bridge_config.specs.Rules.{port_at}
 use Rattle.bridge_config.specs.declared.ports.PortPlan.{PortPlan}
 use Rattle.bridge_config.proofs.PlanPorts.{port_is, room_within}
 use Rattle.bridge_check.specs.Reach.{reaches}
+use Rattle.bridge_check.proofs.Isolated.{made}
 use Rattle.bridge_bounds.specs.Bounds.{IsBoundAt}
 use Rattle.bridge_bounds.proofs.Reached.{found_in, longest_fits, sdu_few}
 use Rattle.bridge_periods.specs.Timings.{IsTimingAt}
-use Rattle.bridge_periods.proofs.Phased.{made}
 use Rattle.bridge_periods.proofs.timing.timing_in.Goals as goal
 
 pub timing_at-requires-clause-sdu : goal.timing_at-requires-clause-sdu

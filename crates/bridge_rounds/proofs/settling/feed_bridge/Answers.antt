@@ -1,7 +1,7 @@
 use Rattle.std.proofs.Common.{◌+◌, length, slice_index_or, sym, ap, arith, subst}
 use Rattle.std.proofs.lemmas.Option.{slice_get-get_or}
 use Rattle.bridge_rounds.proofs.Handing.{HandedBefore, handed_bridge, handed_more, handed_none}
-use Rattle.bridge_rounds.proofs.Over.{there as there_is}
+use Rattle.bridge_limits.proofs.Lists.{there_is}
 use Rattle.bridge_rounds.proofs.Turns.{ports_kept}
 use Rattle.bridge_rounds.proofs.settling.feed_bridge.Goals as goal
 

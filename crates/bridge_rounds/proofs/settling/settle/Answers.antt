@@ -1,12 +1,12 @@
 use Rattle.std.proofs.Common.{◌≡◌, ◌+◌, ℕ, List, Option, Some, None, Ok, length, map, refl, sym, ap, subst, arith, ◌∙◌}
 use Rattle.std.specs.Prelude.{All}
+use Rattle.bridge_limits.proofs.Lists.{lent}
 use Rattle.bridge_rounds.specs.declared.settling.RoundsFault.TheVariants as fault
 use Rattle.bridge_rounds.specs.Feeding.{AreFedByRun}
 use Rattle.bridge_rounds.specs.Stations.{GoesOn, HasRun, IsStation, StationState, ground}
 use Rattle.bridge_rounds.specs.Rounds.{AreBefore, AreSettled, StopsRound, StopsSettling}
 use Rattle.bridge_rounds.proofs.Begun.{begun_idle}
 use Rattle.bridge_rounds.proofs.Handing.{fed_by_run, none_ran}
-use Rattle.bridge_rounds.proofs.Over.{lent}
 use Rattle.bridge_rounds.proofs.Told.{always_if, at_each, changes_nothing, if_ok, isolates, runs_network}
 use Rattle.bridge_rounds.proofs.Stopped.{before_more, memory_stops, stops_settling, unsettled_more}
 use Rattle.bridge_rounds.proofs.settling.settle.Goals as goal

@@ -1,4 +1,5 @@
 use Rattle.bridge_limits.specs.declared.TheConstants.{MOST_CAPTURED}
+use Rattle.bridge_limits.proofs.Members.{each_in}
 use contract.BorrowLft.{⊑_static}
 use Rattle.std.proofs.Common.{◌≡◌, ℕ, ◌+◌, ◌≤◌, List, ◌∷◌, length, arith, sym, subst, ap, ◌∙◌, refl, Option, Some, false}
 use Rattle.std.specs.Prelude.{IfSome, IsTrue, Vec}
@@ -18,7 +19,6 @@ use Rattle.bridge_relay.specs.Relaying.{HasCopies, IsFresh, filter_number, one_l
 use Rattle.bridge_semantics.proofs.Offering.{going}
 use Rattle.bridge_relay.proofs.Found.{number_there}
 use Rattle.bridge_relay.proofs.Offered.{stray_not}
-use Rattle.bridge_relay.proofs.Offering.{all_in}
 use Rattle.bridge_relay.proofs.Relayed.{port_is}
 use Rattle.bridge_relay.proofs.Spares.{fresh_promised, open_promised, promising, spare_promised, stands_promised}
 use Rattle.bridge_relay.proofs.Ways.{slot_of}
@@ -137,7 +137,7 @@ relay-requires g c =
       priority = c.in-Goes.ensures.priority;
       found = subst (λ (v : RelayState _ _). IsFound v.police call.handle call.priority c.find-found.result) (sym same) (subst (λ (v : RelayState _ _). IsFound v.police call.handle call.priority c.find-found.result) c.self.view_is c.find-found.ensures.found);
       copies = subst (λ (v : RelayState _ _). HasCopies v.ports.slots set 1 c.args.packet.octets.items c.in-Ok.copies.items) (sym same)
-          (record { count = omega (arith, count); alike = λ v i. all_in (λ (w : Vec ℕ _). w.items ≡ c.deref-in-Goes.result.now) c.in-Ok.copies.items v made.1 i ∙ c.deref-in-Goes.ensures.value });
+          (record { count = omega (arith, count); alike = λ v i. each_in (λ (w : Vec ℕ _). w.items ≡ c.deref-in-Goes.result.now) c.in-Ok.copies.items v made.1 i ∙ c.deref-in-Goes.ensures.value });
     }
 
 pub returns-clause-stands : goal.returns-clause-stands

@@ -1,7 +1,7 @@
 use Rattle.std.proofs.Common.{ℕ, List, None, length, refl, slice_set, ap, ◌∙◌}
 use Rattle.std.specs.Prelude.{Vec}
 use Rattle.std.proofs.lemmas.List.{length-set}
-use Rattle.bridge_state.proofs.Porting.{none_some}
+use Rattle.bridge_limits.proofs.Options.{none_some}
 use Rattle.bridge_rounds.specs.Stations.{StationState, senders_in, taps_in, texts_in}
 use Rattle.bridge_rounds.proofs.Turns.{ground_given, map_of_set}
 use Rattle.bridge_rounds.proofs.station.Station.give.Goals as goal

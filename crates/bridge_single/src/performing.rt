@@ -1,0 +1,392 @@
+//! The job of the words, done over standard input and output and the files that it names, where it is one of one bridge.
+ghost use Rattle.std.specs.Prelude.{◌≡◌, IfOk, true};
+ghost use Rattle.bridge_cli.specs.CommandLine.{HasRoom};
+ghost use Rattle.bridge_single.specs.Left.{LeavesNetworks, is_of_networks};
+
+use crate::ending::{Ending, refused, refused_and_told};
+use crate::refusing::{of_words, unexplained};
+use bridge_app::{
+    Refusal, Strict, told_check_job, told_picture_job, told_picture_text, told_run_job,
+    told_wire_job,
+};
+use bridge_cli::{
+    Job, PictureRequest, Request, TableRequest, help_of, request_of, wants_explanation,
+};
+use bridge_files::{Said, is_network, is_standard};
+use bridge_jobs::{Fault, NoMemory, check_job, text_job};
+use std::alloc::Global;
+use std::fs;
+use std::rt::Files;
+
+/// What is wanted of a job beside it.
+#[derive(Clone, Copy)]
+pub struct Wishes {
+    /// Whether what is told is a fault.
+    pub is_strict: bool,
+    /// Whether more is to be told.
+    pub is_explained: bool,
+    /// Whether a long job says how far it is.
+    pub is_watched: bool,
+}
+
+/// A job of which nothing is begun.
+#[derive(Drop)]
+pub struct Left {
+    /// What is to be done.
+    pub job: Job,
+    /// The picture that the words ask for beside it, or the part of one.
+    pub sketch: Option<PictureRequest>,
+    /// What else they want of it.
+    pub wishes: Wishes,
+}
+
+/// What came of the job of the words.
+#[derive(Drop)]
+pub enum Performed {
+    /// It is over.
+    Ended(Ending),
+    /// It is left, being one of bounds or of a network.
+    Left(Left),
+}
+
+/// What is made beside the report of a run.
+#[derive(Drop)]
+struct Beside {
+    /// The tables that are asked for.
+    tables: TableRequest,
+    /// The picture that is asked for.
+    picture: Option<PictureRequest>,
+}
+
+/// Does the job of the words after the program's name, and gives what is to be said of it; where they ask for help or for the
+/// version, that is printed, and it ends as for words that are refused. The bounds of a plan, the check and the run of a network,
+/// and the picture of the file of a network are left.
+///
+/// The status is 0 where the job is done, that of the fault where it isn't, and 1 where something is told that the words, as they
+/// want strictness, take for a fault.
+///
+/// A capture that is written to standard output goes there at once. Where it is watched, a long job says on standard error how
+/// far it is.
+pub fn perform<H: Input + AllocGlobal + Print + Eprint + Files>(
+    rt: &H,
+    words: &[String],
+    is_watched: bool,
+) -> Result<Performed, NoMemory>
+    ensures left { IfOk result LeavesNetworks }
+{
+    match help_of(rt.alloc(), words) {
+        Ok(None) => perform_job(rt, words, is_watched),
+        Ok(Some(text)) => ended(helped(rt, words, text)),
+        Err(fault) => ended(refused(rt, words, &fault)),
+    }
+}
+
+/// What came of a job that ends so.
+fn ended(ending: Result<Ending, NoMemory>) -> Result<Performed, NoMemory>
+    ensures { IfOk result LeavesNetworks }
+{
+    match ending {
+        Ok(ending) => Ok(Performed::Ended(ending)),
+        Err(fault) => Err(fault),
+    }
+}
+
+/// How words end that ask for a text.
+fn helped(rt: &impl AllocGlobal, words: &[String], text: String) -> Result<Ending, NoMemory> {
+    match refused(rt, words, &Fault::Words) {
+        Ok(ending) => Ok(Ending {
+            printed: text,
+            ..ending
+        }),
+        Err(fault) => Err(fault),
+    }
+}
+
+/// Does the job of the words where it is one of one bridge, and gives what came of it.
+fn perform_job<H: Input + AllocGlobal + Print + Eprint + Files>(
+    rt: &H,
+    words: &[String],
+    is_watched: bool,
+) -> Result<Performed, NoMemory>
+    ensures { IfOk result LeavesNetworks }
+{
+    match done(rt, words, is_watched) {
+        Ok(performed) => Ok(performed),
+        Err(Refusal { fault, said }) => ended(refused_and_told(rt.alloc(), &fault, said)),
+    }
+}
+
+/// What comes of the job of the words where it is done or left.
+fn done<H: Input + AllocGlobal + Print + Eprint + Files>(
+    rt: &H,
+    words: &[String],
+    is_watched: bool,
+) -> Result<Performed, Refusal>
+    ensures { IfOk result LeavesNetworks }
+{
+    let Request {
+        job,
+        picture,
+        tables,
+        is_explained,
+        is_strict,
+    } = match request_of(rt.alloc(), words) {
+        Ok(request) => request,
+        Err(fault) => return Err(of_words(rt.alloc(), words, wants_explanation(words), fault)),
+    };
+    let wishes = Wishes {
+        is_strict,
+        is_explained,
+        is_watched,
+    };
+    done_job(rt, words, job, Beside { tables, picture }, wishes)
+}
+
+/// What comes of a job where it is done or left; a run has the tables and the picture that the words ask for beside it.
+fn done_job<H: Input + AllocGlobal + Print + Eprint + Files>(
+    rt: &H,
+    words: &[String],
+    job: Job,
+    beside: Beside,
+    wishes: Wishes,
+) -> Result<Performed, Refusal>
+    requires { HasRoom job }
+    ensures { IfOk result LeavesNetworks }
+{
+    match job {
+        Job::Text => over(of_text(rt, words, wishes)),
+        Job::Wire {
+            speed,
+            room,
+            input,
+            output,
+        } => over(wired(
+            rt.alloc(),
+            told_wire_job(rt, speed, room, input, output, wishes.is_explained),
+        )),
+        Job::Check { plan } => over(check_at(rt, plan, wishes)),
+        Job::Run {
+            plan,
+            input,
+            output,
+            commands,
+        } => over(run_bridge(rt, plan, input, output, commands, beside, wishes)),
+        Job::Picture { plan, file } => draw(rt, plan, file, beside.picture, wishes),
+        Job::Bounds { plan, traffic } => {
+            let left = Job::Bounds { plan, traffic };
+            leave(left, beside.picture, wishes)
+        }
+        Job::Network { network } => leave(Job::Network { network }, beside.picture, wishes),
+        Job::RunNetwork {
+            network,
+            input,
+            output,
+            picture,
+        } => leave(
+            Job::RunNetwork {
+                network,
+                input,
+                output,
+                picture,
+            },
+            beside.picture,
+            wishes,
+        ),
+    }
+}
+
+/// What came of a job of one bridge, unless it was refused.
+fn over(ending: Result<Ending, Refusal>) -> Result<Performed, Refusal>
+    ensures { IfOk result LeavesNetworks }
+{
+    match ending {
+        Ok(ending) => Ok(Performed::Ended(ending)),
+        Err(refusal) => Err(refusal),
+    }
+}
+
+/// Leaves a job of bounds or of a network, with the picture that the words ask for beside it.
+fn leave(job: Job, sketch: Option<PictureRequest>, wishes: Wishes) -> Result<Performed, Refusal>
+    requires { is_of_networks job ≡ true }
+    ensures { IfOk result LeavesNetworks }
+{
+    Ok(Performed::Left(Left {
+        job,
+        sketch,
+        wishes,
+    }))
+}
+/// How the text of standard input ends.
+fn of_text<H: Input + AllocGlobal>(
+    rt: &H,
+    words: &[String],
+    wishes: Wishes,
+) -> Result<Ending, Refusal> {
+    match text_job(rt.alloc(), rt.reader()) {
+        Ok(lines) => Ok(printed(rt.alloc(), lines, true)),
+        Err(fault) => Err(of_words(rt.alloc(), words, wishes.is_explained, fault)),
+    }
+}
+
+/// The status of a job that is done, by whether all is well.
+fn status_of(is_well: bool) -> u8 {
+    if is_well { 0 } else { 1 }
+}
+
+/// The ending of a job that prints a text and tells nothing.
+pub fn printed(alloc: Global, text: String, is_well: bool) -> Ending {
+    Ending {
+        printed: text,
+        told: String::new(alloc),
+        status: status_of(is_well),
+    }
+}
+
+/// How a capture that went through one queue ends: its line is told where standard output has the capture.
+fn wired(alloc: Global, line: Result<Said, Refusal>) -> Result<Ending, Refusal> {
+    match line {
+        Ok(Said::Printed(line)) => Ok(printed(alloc, line, true)),
+        Ok(Said::Noted(line)) => Ok(Ending {
+            printed: String::new(alloc),
+            told: line,
+            status: 0,
+        }),
+        Err(refusal) => Err(refusal),
+    }
+}
+
+/// How a job over a plan ends that tells its warnings, by whether one is a fault.
+fn strictly(
+    alloc: Global,
+    strict: Result<Strict, Refusal>,
+    is_fault: bool,
+) -> Result<Ending, Refusal> {
+    match strict {
+        Ok(
+            Strict {
+                line,
+                told,
+                is_warned,
+            },
+        ) => Ok(Ending {
+            printed: text_or_none(alloc, line),
+            told,
+            status: status_of(!(is_warned && is_fault)),
+        }),
+        Err(refusal) => Err(refusal),
+    }
+}
+
+/// A text, or an empty one where there is none.
+fn text_or_none(alloc: Global, text: Option<String>) -> String {
+    match text {
+        Some(text) => text,
+        None => String::new(alloc),
+    }
+}
+
+/// How the check of the plan of a file, or of standard input for `-`, ends.
+fn check_at(
+    rt: &(impl AllocGlobal + Files),
+    plan: String,
+    wishes: Wishes,
+) -> Result<Ending, Refusal> {
+    if wishes.is_explained || wishes.is_strict {
+        let strict = told_check_job(rt, plan.as_str(), wishes.is_explained);
+        return strictly(rt.alloc(), strict, wishes.is_strict);
+    }
+    match check(rt, plan) {
+        Ok(line) => Ok(printed(rt.alloc(), line, true)),
+        Err(fault) => Err(unexplained(fault)),
+    }
+}
+
+/// What is printed for the plan of a file, or of standard input for `-`.
+fn check(rt: &(impl AllocGlobal + Files), plan: String) -> Result<String, Fault> {
+    let plan = match path_or(rt.alloc(), plan, "/dev/stdin") {
+        Ok(plan) => plan,
+        Err(fault) => return Err(fault),
+    };
+    let Ok(reader) = fs::open(rt, plan.as_str()) else {
+        return Err(Fault::File(plan));
+    };
+    check_job(rt.alloc(), rt.alloc(), plan, reader)
+}
+
+/// A path that the words name, where `-` stands for a device.
+fn path_or(alloc: Global, path: String, device: &str) -> Result<String, Fault> {
+    if !is_standard(path.as_str()) {
+        return Ok(path);
+    }
+    match String::from_str(alloc, device) {
+        Ok(path) => Ok(path),
+        Err(error) => Err(Fault::from(error)),
+    }
+}
+
+/// How a run under the plan of a file ends, with the tables and the picture that the words ask for.
+fn run_bridge(
+    rt: &(impl AllocGlobal + Files),
+    plan: String,
+    input: String,
+    output: String,
+    commands: Option<String>,
+    beside: Beside,
+    wishes: Wishes,
+) -> Result<Ending, Refusal> {
+    let Beside { tables, picture } = beside;
+    let Wishes {
+        is_strict,
+        is_explained,
+        ..
+    } = wishes;
+    let strict = told_run_job(
+        rt,
+        plan,
+        input,
+        output,
+        commands,
+        tables,
+        picture,
+        is_strict,
+        is_explained,
+    );
+    strictly(rt.alloc(), strict, true)
+}
+
+/// What comes of the drawing of the plan of a file, or of the part of it that the words ask for: into another file, or for `-` in
+/// what is printed. It is left where the file holds a network.
+fn draw(
+    rt: &(impl AllocGlobal + Files),
+    path: String,
+    file: String,
+    sketch: Option<PictureRequest>,
+    wishes: Wishes,
+) -> Result<Performed, Refusal>
+    ensures { IfOk result LeavesNetworks }
+{
+    if is_network(rt, path.as_str()) {
+        return leave(Job::Picture { plan: path, file }, sketch, wishes);
+    }
+    over(draw_plan(rt, path, file, sketch, wishes))
+}
+
+/// How the drawing of the plan of a file ends.
+fn draw_plan(
+    rt: &(impl AllocGlobal + Files),
+    path: String,
+    file: String,
+    sketch: Option<PictureRequest>,
+    wishes: Wishes,
+) -> Result<Ending, Refusal> {
+    if is_standard(file.as_str()) {
+        return match told_picture_text(rt, path, sketch, wishes.is_explained) {
+            Ok(text) => Ok(printed(rt.alloc(), text, true)),
+            Err(refusal) => Err(refusal),
+        };
+    }
+    match told_picture_job(rt, path, file, sketch, wishes.is_explained) {
+        Ok(()) => Ok(printed(rt.alloc(), String::new(rt.alloc()), true)),
+        Err(refusal) => Err(refusal),
+    }
+}
