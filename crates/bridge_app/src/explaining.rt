@@ -4,7 +4,7 @@
 //! Nothing here can fail: what there is no memory for is left out.
 ghost use Rattle.std.specs.Prelude.{◌≡◌};
 
-use crate::noting::{Noted, Refusal};
+use crate::noting::Refusal;
 use bridge_advice::{explain_check, warn_of_plan};
 use bridge_check::{Accepted, CheckFault};
 use bridge_config::plan_of;
@@ -15,6 +15,7 @@ use bridge_explain::{
 use bridge_files::{capture_path, cause_of_read, is_standard, is_there};
 use bridge_inputs::RunFault;
 use bridge_jobs::{Cause, Fault, read_at_most};
+use bridge_running::Noted;
 use bridge_text::Text;
 use std::alloc::Global;
 use std::fs;

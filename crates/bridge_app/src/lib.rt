@@ -10,8 +10,9 @@ mod strict;
 mod tables;
 mod wiring;
 
+pub use bridge_running::run_job;
 pub use explaining::{said_of_file, said_of_plan, said_of_unread, said_of_words};
-pub use job::{run_job, run_with_picture, run_with_tables};
+pub use job::{run_with_picture, run_with_tables};
 pub use noting::Refusal;
 pub use picturing::{
     picture_apart, picture_job, picture_part_job, picture_text, told_picture_job,

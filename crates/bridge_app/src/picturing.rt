@@ -3,13 +3,14 @@ ghost use Rattle.std.specs.Prelude.{ℕ, IfErr, List, codes, string_bytes};
 ghost use Rattle.bridge_app.specs.Files.{EndsPicture, IsOfPicture};
 
 use crate::explaining::{kept_path, refusal_of};
-use crate::noting::{Noted, Refusal};
+use crate::noting::Refusal;
 use bridge_check::{Accepted, CheckFault, Refused, check};
 use bridge_cli::{PictureRequest, numbers_of};
 use bridge_files::{FileId, Output, file_at, files_at, is_one_of, output_apart, take_text};
 use bridge_inputs::RunFault;
 use bridge_jobs::{Cause, Fault, fault_of_file, plan_from};
 use bridge_picture::{NoMemory, Part, draw_plan, draw_run};
+use bridge_running::Noted;
 use bridge_semantics::Outcome;
 use std::alloc::Global;
 use std::fs::OpenFile;

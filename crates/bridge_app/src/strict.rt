@@ -4,11 +4,12 @@ ghost use Rattle.bridge_config.specs.Commands.{AreCommands};
 ghost use Rattle.bridge_jobs.specs.Accepting.{accepted_line};
 ghost use Rattle.bridge_jobs.specs.Jobs.{EndsCheck, PrintsAccepted};
 ghost use Rattle.bridge_files.specs.Wiring.{IsStandard};
-ghost use Rattle.bridge_app.specs.Files.{EndsChecked, EndsTabled, EndsTold, PrintsRun};
+ghost use Rattle.bridge_running.specs.Files.{PrintsRun};
+ghost use Rattle.bridge_app.specs.Files.{EndsChecked, EndsTabled, EndsTold};
 
 use crate::explaining::{kept_path, kept_paths, refusal_of_run, said_of_plan, warned_of};
-use crate::job::{read_job, send_told};
-use crate::noting::{Noted, Refusal};
+use crate::job::send_told;
+use crate::noting::Refusal;
 use bridge_advice::{warn_of_plan, warnings_of};
 use bridge_check::Accepted;
 use bridge_cli::{PictureRequest, TableRequest};
@@ -16,6 +17,7 @@ use bridge_config::Command;
 use bridge_files::{FileId, is_standard, text_at};
 use bridge_inputs::RunFault;
 use bridge_jobs::{Cause, Fault, NoMemory, check_line, planned};
+use bridge_running::{Noted, read_job};
 use std::alloc::Global;
 use std::rt::Files;
 

@@ -7,7 +7,8 @@ mod performing;
 mod refusing;
 mod telling;
 
-pub use ending::{Ending, refused, refused_and_told};
+pub use bridge_plain::{Ending, refused_and_told, tell};
+pub use ending::refused;
 pub use performing::{Left, Performed, Wishes, perform, printed};
 pub use refusing::{of_file, of_plan, of_words, unexplained};
-pub use telling::{put_printed, tell};
+pub use telling::put_printed;

@@ -3,7 +3,7 @@ ghost use Rattle.std.specs.Prelude.{◌≡◌, IfOk, true};
 ghost use Rattle.bridge_cli.specs.CommandLine.{HasRoom};
 ghost use Rattle.bridge_single.specs.Left.{LeavesNetworks, is_of_networks};
 
-use crate::ending::{Ending, refused, refused_and_told};
+use crate::ending::refused;
 use crate::refusing::{of_words, unexplained};
 use bridge_app::{
     Refusal, Strict, told_check_job, told_picture_job, told_picture_text, told_run_job,
@@ -13,9 +13,9 @@ use bridge_cli::{
     Job, PictureRequest, Request, TableRequest, help_of, request_of, wants_explanation,
 };
 use bridge_files::{Said, is_network, is_standard};
-use bridge_jobs::{Fault, NoMemory, check_job, text_job};
+use bridge_jobs::{Fault, NoMemory, text_job};
+use bridge_plain::{Done, Ending, done_request, helped, of_said, refused_and_told};
 use std::alloc::Global;
-use std::fs;
 use std::rt::Files;
 
 /// What is wanted of a job beside it.
@@ -76,7 +76,7 @@ pub fn perform<H: Input + AllocGlobal + Print + Eprint + Files>(
 {
     match help_of(rt.alloc(), words) {
         Ok(None) => perform_job(rt, words, is_watched),
-        Ok(Some(text)) => ended(helped(rt, words, text)),
+        Ok(Some(text)) => ended(helped(refused(rt, words, &Fault::Words), text)),
         Err(fault) => ended(refused(rt, words, &fault)),
     }
 }
@@ -87,17 +87,6 @@ fn ended(ending: Result<Ending, NoMemory>) -> Result<Performed, NoMemory>
 {
     match ending {
         Ok(ending) => Ok(Performed::Ended(ending)),
-        Err(fault) => Err(fault),
-    }
-}
-
-/// How words end that ask for a text.
-fn helped(rt: &impl AllocGlobal, words: &[String], text: String) -> Result<Ending, NoMemory> {
-    match refused(rt, words, &Fault::Words) {
-        Ok(ending) => Ok(Ending {
-            printed: text,
-            ..ending
-        }),
         Err(fault) => Err(fault),
     }
 }
@@ -124,16 +113,34 @@ fn done<H: Input + AllocGlobal + Print + Eprint + Files>(
 ) -> Result<Performed, Refusal>
     ensures { IfOk result LeavesNetworks }
 {
+    let request = match request_of(rt.alloc(), words) {
+        Ok(request) => request,
+        Err(fault) => return Err(of_words(rt.alloc(), words, wants_explanation(words), fault)),
+    };
+    match done_request(rt, request) {
+        Ok(Done::Ended(ending)) => Ok(Performed::Ended(ending)),
+        Ok(Done::Left(request)) => done_left(rt, words, request, is_watched),
+        Err(fault) => Err(unexplained(fault)),
+    }
+}
+
+/// What comes of what is asked, where it is done or left and more is asked than the line of a job.
+fn done_left<H: Input + AllocGlobal + Print + Eprint + Files>(
+    rt: &H,
+    words: &[String],
+    request: Request,
+    is_watched: bool,
+) -> Result<Performed, Refusal>
+    requires { HasRoom request.job }
+    ensures { IfOk result LeavesNetworks }
+{
     let Request {
         job,
         picture,
         tables,
         is_explained,
         is_strict,
-    } = match request_of(rt.alloc(), words) {
-        Ok(request) => request,
-        Err(fault) => return Err(of_words(rt.alloc(), words, wants_explanation(words), fault)),
-    };
+    } = request;
     let wishes = Wishes {
         is_strict,
         is_explained,
@@ -235,22 +242,13 @@ fn status_of(is_well: bool) -> u8 {
 
 /// The ending of a job that prints a text and tells nothing.
 pub fn printed(alloc: Global, text: String, is_well: bool) -> Ending {
-    Ending {
-        printed: text,
-        told: String::new(alloc),
-        status: status_of(is_well),
-    }
+    bridge_plain::printed(alloc, text, status_of(is_well))
 }
 
 /// How a capture that went through one queue ends: its line is told where standard output has the capture.
 fn wired(alloc: Global, line: Result<Said, Refusal>) -> Result<Ending, Refusal> {
     match line {
-        Ok(Said::Printed(line)) => Ok(printed(alloc, line, true)),
-        Ok(Said::Noted(line)) => Ok(Ending {
-            printed: String::new(alloc),
-            told: line,
-            status: 0,
-        }),
+        Ok(said) => Ok(of_said(alloc, said)),
         Err(refusal) => Err(refusal),
     }
 }
@@ -285,43 +283,14 @@ fn text_or_none(alloc: Global, text: Option<String>) -> String {
     }
 }
 
-/// How the check of the plan of a file, or of standard input for `-`, ends.
+/// How the check of the plan of a file, or of standard input for `-`, ends, of which more is told than its line.
 fn check_at(
     rt: &(impl AllocGlobal + Files),
     plan: String,
     wishes: Wishes,
 ) -> Result<Ending, Refusal> {
-    if wishes.is_explained || wishes.is_strict {
-        let strict = told_check_job(rt, plan.as_str(), wishes.is_explained);
-        return strictly(rt.alloc(), strict, wishes.is_strict);
-    }
-    match check(rt, plan) {
-        Ok(line) => Ok(printed(rt.alloc(), line, true)),
-        Err(fault) => Err(unexplained(fault)),
-    }
-}
-
-/// What is printed for the plan of a file, or of standard input for `-`.
-fn check(rt: &(impl AllocGlobal + Files), plan: String) -> Result<String, Fault> {
-    let plan = match path_or(rt.alloc(), plan, "/dev/stdin") {
-        Ok(plan) => plan,
-        Err(fault) => return Err(fault),
-    };
-    let Ok(reader) = fs::open(rt, plan.as_str()) else {
-        return Err(Fault::File(plan));
-    };
-    check_job(rt.alloc(), rt.alloc(), plan, reader)
-}
-
-/// A path that the words name, where `-` stands for a device.
-fn path_or(alloc: Global, path: String, device: &str) -> Result<String, Fault> {
-    if !is_standard(path.as_str()) {
-        return Ok(path);
-    }
-    match String::from_str(alloc, device) {
-        Ok(path) => Ok(path),
-        Err(error) => Err(Fault::from(error)),
-    }
+    let strict = told_check_job(rt, plan.as_str(), wishes.is_explained);
+    strictly(rt.alloc(), strict, wishes.is_strict)
 }
 
 /// How a run under the plan of a file ends, with the tables and the picture that the words ask for.

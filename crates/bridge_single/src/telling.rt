@@ -1,10 +1,8 @@
-//! What is said of a job, on standard output and on standard error.
-ghost use Rattle.std.specs.Prelude.{◌≡◌, IfErr, IfOk};
-ghost use Rattle.std.specs.Process.{exit_status};
+//! What is printed of a job.
 
-use crate::ending::{Ending, refused};
+use crate::ending::refused;
 use bridge_jobs::{NoMemory, print};
-use std::process::ExitCode;
+use bridge_plain::Ending;
 
 /// Prints what is to be printed of the job of the words; where standard output fails, which is a file of the path `-`, the ending
 /// is that of the fault.
@@ -16,22 +14,5 @@ pub fn put_printed(
     match print(rt, ending.printed.as_str()) {
         Ok(()) => Ok(ending),
         Err(fault) => refused(rt, words, &fault),
-    }
-}
-
-/// Tells what is to be told of a job on standard error, and gives its status.
-pub fn tell(rt: &impl Eprint, ending: Result<Ending, NoMemory>) -> ExitCode
-    ensures status { IfOk ending (λ said. exit_status result ≡ said.status) }
-    ensures memory { IfErr ending (λ _. exit_status result ≡ 3) }
-{
-    match ending {
-        Ok(ending) => {
-            let _ = rt.eprint(ending.told.as_str());
-            ExitCode::from(ending.status)
-        }
-        Err(NoMemory) => {
-            let _ = eprintln!(rt; "no memory");
-            ExitCode::from(3)
-        }
     }
 }

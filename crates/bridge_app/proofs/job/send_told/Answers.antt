@@ -1,5 +1,5 @@
 use Rattle.std.proofs.Common.{option_map, string_bytes, subst}
-use Rattle.bridge_app.specs.Files.{EndsSending}
+use Rattle.bridge_running.specs.Files.{EndsSending}
 use Rattle.bridge_app.proofs.Ended.{all_tabled, asked_tabled, sent_tabled}
 use Rattle.bridge_app.proofs.job.send_told.Goals as goal
 

@@ -1,8 +1,8 @@
 use Rattle.std.proofs.Common.{string_bytes, option_map, ap, sym, subst, ◌∙◌, Global}
-use Rattle.bridge_app.specs.Files.{EndsReading}
-use Rattle.bridge_app.proofs.Ended.{all_commanded, commands_not_opened, plan_not_opened}
-use Rattle.bridge_app.proofs.job.read_job.Goals.{in-None, in-Some+in-Ok-take_text}
-use Rattle.bridge_app.proofs.job.read_job.Goals as goal
+use Rattle.bridge_running.specs.Files.{EndsReading}
+use Rattle.bridge_running.proofs.Ended.{all_commanded, commands_not_opened, plan_not_opened}
+use Rattle.bridge_running.proofs.job.read_job.Goals.{in-None, in-Some+in-Ok-take_text}
+use Rattle.bridge_running.proofs.job.read_job.Goals as goal
 
 pub returns-in-Err-clause-err : goal.returns-in-Err-clause-err
 returns-in-Err-clause-err g c = plan_not_opened _ (string_bytes c.args.plan) (option_map string_bytes c.args.commands) c.fault_of_file.result c.fault_of_file.ensures

@@ -1,0 +1,41 @@
+-- What is left to programs that explain, draw and know networks.
+use Rattle.std.specs.Prelude.{Bool, ℕ, List, ◌≡◌, ◌⊎◌, ◌||◌, false, is_some, true}
+use Rattle.bridge_cli.specs.CommandLine.{AsksFor}
+use Rattle.bridge_cli.specs.Helping.{explains}
+use Rattle.bridge_cli.specs.declared.job.Job.{Job}
+use Rattle.bridge_cli.specs.declared.job.Job.TheVariants as job
+use Rattle.bridge_cli.specs.declared.request.Request.{Request}
+use Rattle.bridge_plain.specs.declared.performing.Done.{Done}
+use Rattle.bridge_plain.specs.declared.performing.Done.TheVariants as done
+
+-- an explanation, strictness, a picture or a table is asked for
+abbrev pub wants_more : Request → Bool
+wants_more r = r.is_explained || (r.is_strict || (is_some r.picture || (is_some r.tables.delays || is_some r.tables.frames)))
+
+-- a picture, or a job over bounds or over a network
+abbrev pub is_apart : Job → Bool
+is_apart job.Text = false
+is_apart (job.Wire speed room input output) = false
+is_apart (job.Check plan) = false
+is_apart (job.Run plan input output commands) = false
+is_apart (job.Bounds plan traffic) = true
+is_apart (job.Network network) = true
+is_apart (job.RunNetwork network input output picture) = true
+is_apart (job.Picture plan file) = true
+
+-- more is asked than the line of a job of one bridge
+abbrev pub is_beyond : Request → Bool
+is_beyond r = wants_more r || is_apart r.job
+
+-- what is asked is left as it is, and only where more is asked than that line
+abbrev pub LeavesMore : Request → Done → Type 0
+LeavesMore request (done.Ended ending) = Unit {0}
+LeavesMore request (done.Left left) = (left ≡ request) × (is_beyond request ≡ true)
+
+-- the words ask for a job of which more is asked than its line
+abbrev pub AsksBeyond : List (List ℕ) → Type 0
+AsksBeyond words = (request : Request) × (AsksFor words request.job × (is_beyond request ≡ true))
+
+-- words whose job may be left
+abbrev pub MayLeave : List (List ℕ) → Type 0
+MayLeave words = (explains words ≡ true) ⊎ AsksBeyond words
