@@ -1,20 +1,13 @@
 -- What is left to a program that knows networks.
-use Rattle.std.specs.Prelude.{◌≡◌, Bool, false, true}
+use Rattle.std.specs.Prelude.{◌≡◌, Bool, true}
 use Rattle.bridge_cli.specs.declared.job.Job.{Job}
-use Rattle.bridge_cli.specs.declared.job.Job.TheVariants as job
+use Rattle.bridge_plain.specs.Left.{is_apart}
 use Rattle.bridge_single.specs.declared.performing.Performed.{Performed}
 use Rattle.bridge_single.specs.declared.performing.Performed.TheVariants as performed
 
 -- a job over a network or over bounds, or a picture, which may be that of a network
 abbrev pub is_of_networks : Job → Bool
-is_of_networks job.Text = false
-is_of_networks (job.Wire speed room input output) = false
-is_of_networks (job.Check plan) = false
-is_of_networks (job.Run plan input output commands) = false
-is_of_networks (job.Bounds plan traffic) = true
-is_of_networks (job.Network network) = true
-is_of_networks (job.RunNetwork network input output picture) = true
-is_of_networks (job.Picture plan file) = true
+is_of_networks job = is_apart job
 
 -- where a job is left, it is such a one
 abbrev pub LeavesNetworks : Performed → Type 0
