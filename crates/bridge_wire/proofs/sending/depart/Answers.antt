@@ -9,8 +9,8 @@ use Rattle.bridge_port.specs.Standing.{count_queued}
 use Rattle.std.proofs.lemmas.Bool.{ltb-false}
 use Rattle.bridge_wire.proofs.sending.depart.Goals as goal
 
-pub returns-in-Ok-clause-goes : goal.returns-in-Ok-clause-goes
-returns-in-Ok-clause-goes g c = λ offers sent full left s.
+pub returns-then-is_written-clause-goes : goal.returns-then-is_written-clause-goes
+returns-then-is_written-clause-goes g c = λ offers sent full left s.
     let k = c.start-item.new.self.earliest - 1 in
     let x = c.start-item.result.0 in
     let d = departure c.args.port.now.speed k (frame_of x) in
@@ -20,10 +20,10 @@ returns-in-Ok-clause-goes g c = λ offers sent full left s.
     let short : IsShort d = (e.length, ltb-false x.len (length x.load.items) whole) in
     let done : c.free-done.result ≡ d.time = c.free-done.ensures.free ∙ ap (λ s. s.free) e.moved in
     let text : written_record c.free-done.result x.len octets ≡ written_item d ++ [] = ap (λ n. written_record n x.len octets) done ∙ (ap (written_record d.time x.len) c.deref.ensures.value ∙ sym (append-nil (written_item d))) in
-    (d ∷ [], sends_start c.args.port.now c.start-item.new.self k c.start-item.result.1 x e.next e.moved e.stands short offers sent full left s, subst (Appends _ _) text c.in-Ok.ensures.ok)
+    (d ∷ [], sends_start c.args.port.now c.start-item.new.self k c.start-item.result.1 x e.next e.moved e.stands short offers sent full left s, subst (Appends _ _) text (c.write_sent-is_written.ensures.whole c.if-is_written.true))
 
-pub returns-in-Err-clause-goes : goal.returns-in-Err-clause-goes
-returns-in-Err-clause-goes g c = λ offers sent full left s.
+pub returns-clause-goes : goal.returns-clause-goes
+returns-clause-goes g c = λ offers sent full left s.
     let k = c.start-item.new.self.earliest - 1 in
     let x = c.start-item.result.0 in
     let d = departure c.args.port.now.speed k (frame_of x) in
@@ -33,16 +33,16 @@ returns-in-Err-clause-goes g c = λ offers sent full left s.
     let short : IsShort d = (e.length, ltb-false x.len (length x.load.items) whole) in
     let done : c.free-done.result ≡ d.time = c.free-done.ensures.free ∙ ap (λ s. s.free) e.moved in
     let text : written_record c.free-done.result x.len octets ≡ written_item d ++ [] = ap (λ n. written_record n x.len octets) done ∙ (ap (written_record d.time x.len) c.deref.ensures.value ∙ sym (append-nil (written_item d))) in
-    (d ∷ [], sends_start c.args.port.now c.start-item.new.self k c.start-item.result.1 x e.next e.moved e.stands short offers sent full left s, subst (AppendsFront _ _) text c.in-Err.ensures.err)
+    (d ∷ [], sends_start c.args.port.now c.start-item.new.self k c.start-item.result.1 x e.next e.moved e.stands short offers sent full left s, subst (AppendsFront _ _) text (c.write_sent-is_written.ensures.front c.if-is_written.false))
 
-pub returns-in-Ok-clause-moment : goal.returns-in-Ok-clause-moment
-returns-in-Ok-clause-moment g c = λ k h. (c.start-item.ensures.which k h.0 h.1 h.2).0
+pub returns-then-is_written-clause-moment : goal.returns-then-is_written-clause-moment
+returns-then-is_written-clause-moment g c = λ k h. (c.start-item.ensures.which k h.0 h.1 h.2).0
 
-pub returns-in-Err-clause-moment : goal.returns-in-Err-clause-moment
-returns-in-Err-clause-moment g c = λ k h. (c.start-item.ensures.which k h.0 h.1 h.2).0
+pub returns-clause-moment : goal.returns-clause-moment
+returns-clause-moment g c = λ k h. (c.start-item.ensures.which k h.0 h.1 h.2).0
 
-pub returns-in-Ok-clause-late : goal.returns-in-Ok-clause-late
-returns-in-Ok-clause-late g c = λ h calm. let d = c.requires.due in let w = (c.start-item.ensures.which d.0 d.1.0 d.1.1 d.1.2).0 in let l = start_late c.args.port.now d.0 d.1.0 d.1.1 h d.1.2 calm in omega arith
+pub returns-then-is_written-clause-late : goal.returns-then-is_written-clause-late
+returns-then-is_written-clause-late g c = λ h calm. let d = c.requires.due in let w = (c.start-item.ensures.which d.0 d.1.0 d.1.1 d.1.2).0 in let l = start_late c.args.port.now d.0 d.1.0 d.1.1 h d.1.2 calm in omega arith
 
-pub returns-in-Err-clause-late : goal.returns-in-Err-clause-late
-returns-in-Err-clause-late g c = λ h calm. let d = c.requires.due in let w = (c.start-item.ensures.which d.0 d.1.0 d.1.1 d.1.2).0 in let l = start_late c.args.port.now d.0 d.1.0 d.1.1 h d.1.2 calm in omega arith
+pub returns-clause-late : goal.returns-clause-late
+returns-clause-late g c = λ h calm. let d = c.requires.due in let w = (c.start-item.ensures.which d.0 d.1.0 d.1.1 d.1.2).0 in let l = start_late c.args.port.now d.0 d.1.0 d.1.1 h d.1.2 calm in omega arith
