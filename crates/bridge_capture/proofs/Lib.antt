@@ -1,4 +1,5 @@
 pub mod Again
+mod Answered
 pub mod Fronts
 pub mod Headers
 pub mod OneWay

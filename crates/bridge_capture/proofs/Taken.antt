@@ -1,5 +1,5 @@
 -- What was taken where the octets of a record are refused.
-use Rattle.std.proofs.Common.{◌≡◌, ℕ, ◌+◌, ◌≤◌, ◌<◌, List, ◌++◌, length, Option, sym, subst, inr, arith}
+use Rattle.std.proofs.Common.{◌≡◌, ℕ, ◌+◌, ◌≤◌, ◌<◌, List, [], ◌∷◌, ◌++◌, length, Option, refl, sym, subst, inl, inr, arith}
 use Rattle.std.specs.Io.KnownBytes.{Consumes}
 use Rattle.std.proofs.KnownBytes.{Consumes-trans}
 use Rattle.std.proofs.lemmas.List.{length-append}
@@ -7,8 +7,8 @@ use Rattle.bridge_capture.specs.declared.form.Form.{Form}
 use Rattle.bridge_capture.specs.declared.fault.CaptureFault.{CaptureFault}
 use Rattle.bridge_capture.specs.declared.fault.CaptureFault.TheVariants as faults
 use Rattle.bridge_capture.specs.Grammar.{Place, captured_of}
-use Rattle.bridge_capture.specs.Reading.{CutsOctets, IsOfWords}
-use Rattle.bridge_capture.specs.Taken.{TakesOfRecord, IsSound}
+use Rattle.bridge_capture.specs.Reading.{CutsOctets, IsOfWords, IsOfHeader}
+use Rattle.bridge_capture.specs.Taken.{TakesFewer, TakesOfRecord, TakesOfHeader, IsSound}
 use Rattle.bridge_capture.proofs.Fronts.{time_front, captured_front, original_front}
 
 -- words without a fault, with some octets behind them
@@ -35,3 +35,20 @@ words_taken form place old new w (faults.RecordCut number) told len p = absurd t
 words_taken form place old new w faults.TooManyRecords told len p = absurd told
 words_taken form place old new w faults.NoMemory told len p = absurd told
 words_taken form place old new w fault told len p = (w, len, p)
+
+-- the source failed before an octet more, or among a record's words
+none_fewer : (o : List ℕ) → length o < 1 → o ≡ []
+none_fewer [] short = refl
+none_fewer (x ∷ o) short = absurd (omega arith)
+
+pub none_taken : (form : Form) (place : Place) (old new : Option (List ℕ)) → TakesFewer 1 old new → TakesOfRecord form place old new faults.Read
+none_taken form place old new (o, short, p) = (o, (λ many. none_fewer o short, inl (omega (arith, short))), p)
+
+pub some_taken : (form : Form) (place : Place) (old new : Option (List ℕ)) → place.number ≤ 1000000 → TakesFewer 16 old new → TakesOfRecord form place old new faults.Read
+some_taken form place old new few (o, short, p) = (o, (λ many. absurd (omega arith), inl short), p)
+
+-- a header was refused
+pub header_taken : (old new : Option (List ℕ)) (w : List ℕ) (fault : CaptureFault) → IsOfHeader fault → length w ≡ 24 → Consumes old new w → TakesOfHeader old new fault
+header_taken old new w faults.Read told len p = absurd told
+header_taken old new w faults.HeaderCut told len p = absurd told
+header_taken old new w fault told len p = (w, len, p)

@@ -22,7 +22,10 @@ pub fn fill<R: ByteSource>(source: &mut R, buf: &mut [u8]) -> Result<usize, Brok
     if buf.is_empty() {
         return Ok(0);
     }
-    let first = source.read(buf)?;
+    let first = match source.read(buf) {
+        Ok(first) => first,
+        Err(broken) => return Err(broken),
+    };
     if first == 0 || first == buf.len() {
         return Ok(first);
     }
@@ -68,7 +71,10 @@ pub fn write_all<W: ByteSink>(sink: &mut W, octets: &[u8]) -> Result<(), Broken>
     if octets.is_empty() {
         return Ok(());
     }
-    let first = sink.write(octets)?;
+    let first = match sink.write(octets) {
+        Ok(first) => first,
+        Err(broken) => return Err(broken),
+    };
     if first == octets.len() {
         return Ok(());
     }

@@ -1,17 +1,13 @@
 -- What the words of the command line ask for.
-use Rattle.std.proofs.Common.{◌≡◌, ◌∙◌, ℕ, List, [], Option, None, Some, option_map, sym, ap, subst, inl, inr, refl, string_bytes, codes}
+use Rattle.std.proofs.Common.{◌≡◌, ◌∙◌, ℕ, List, [], Option, Some, option_map, Result, Ok, Err, IfOk, sym, ap, subst, inl, inr, refl, rules, string_bytes, codes}
 use Rattle.bridge_frame.specs.declared.Speed.{Speed}
 use Rattle.clap.specs.Words.{Row, Text, fault_of, subcommand_of}
 use Rattle.clap.proofs.OnLiterals.{clap_on_literals}
 use Rattle.bridge_cli.specs.declared.job.Job.{Job}
 use Rattle.bridge_cli.specs.declared.job.Job.TheVariants as job
-use Rattle.bridge_cli.specs.CommandLine.{AsksFor, AsksForBounds, AsksForCheck, AsksForNetwork, AsksForNetworkRun, AsksForPicture, AsksForRun, AsksForWire, commands}
+use Rattle.bridge_cli.specs.CommandLine.{AsksFor, AsksForBounds, AsksForCheck, AsksForNetwork, AsksForNetworkRun, AsksForPicture, AsksForRun, AsksForWire, IsBoundsJob, IsCheckJob, IsNetworkJob, IsPictureJob, IsRunJob, IsWireJob, commands}
+use Rattle.bridge_jobs.specs.declared.fault.Fault.{Fault}
 use Rattle.bridge_cli.specs.Helping.{IsHelp}
-
--- the name of what was found stands before its values
-pub name_first : {X : Type 0} (f : X → Text) (g : X → List Row) (found : Option X) (name : Text) → option_map f found ≡ Some name → option_map (λ (p : Text × List Row). p.0) (option_map (λ b. (f b, g b)) found) ≡ Some name
-name_first f g None name is = is
-name_first f g (Some b) name is = is
 
 -- what was found has one name, and one list of values
 named_so : (name : Text) (found : Option (Text × List Row)) (other : Text) (own : List Row) → option_map (λ p. p.0) found ≡ Some name → found ≡ Some (other, own) → name ≡ other
@@ -56,6 +52,166 @@ asks_for_none words name values found some same named rows wire check run pictur
 asks_for_none words name values found some same named rows wire check run picture bounds net nets (job.RunNetwork network input output file) (own, names, asks) =
     nets (named_so name found _ own named (same ∙ names.named)) (string_bytes network) (string_bytes input) (string_bytes output) (option_map string_bytes file)
     (subst (λ v. AsksForNetworkRun v (string_bytes network) (string_bytes input) (string_bytes output) (option_map string_bytes file)) (values_so values found _ own rows (same ∙ names.named)) asks)
+
+-- no two commands have one name
+wire_check : ¬ (codes "wire" ≡ codes "check")
+wire_check = search rules
+
+wire_run : ¬ (codes "wire" ≡ codes "run")
+wire_run = search rules
+
+wire_picture : ¬ (codes "wire" ≡ codes "picture")
+wire_picture = search rules
+
+wire_bounds : ¬ (codes "wire" ≡ codes "bounds")
+wire_bounds = search rules
+
+wire_net : ¬ (codes "wire" ≡ codes "net")
+wire_net = search rules
+
+check_run : ¬ (codes "check" ≡ codes "run")
+check_run = search rules
+
+check_picture : ¬ (codes "check" ≡ codes "picture")
+check_picture = search rules
+
+check_bounds : ¬ (codes "check" ≡ codes "bounds")
+check_bounds = search rules
+
+check_net : ¬ (codes "check" ≡ codes "net")
+check_net = search rules
+
+run_picture : ¬ (codes "run" ≡ codes "picture")
+run_picture = search rules
+
+run_bounds : ¬ (codes "run" ≡ codes "bounds")
+run_bounds = search rules
+
+run_net : ¬ (codes "run" ≡ codes "net")
+run_net = search rules
+
+picture_bounds : ¬ (codes "picture" ≡ codes "bounds")
+picture_bounds = search rules
+
+picture_net : ¬ (codes "picture" ≡ codes "net")
+picture_net = search rules
+
+bounds_net : ¬ (codes "bounds" ≡ codes "net")
+bounds_net = search rules
+
+-- words that name `wire` with these values ask for no job, where the values ask for none
+pub no_wire : (words : List Text) (name : Text) (values : List Row) → ¬ (words ≡ []) → subcommand_of commands words ≡ Some (name, values) → name ≡ codes "wire"
+    → ((speed : Speed) (room : ℕ) (input output : Text) → ¬ AsksForWire values speed room input output) → (asked : Job) → ¬ AsksFor words asked
+no_wire words name values some named is own = asks_for_none words name values _ some refl (ap (option_map (λ p. p.0)) named) (ap (option_map (λ p. p.1)) named)
+    (λ e. own) (λ e plan asks. wire_check (sym is ∙ e)) (λ e plan input output commands asks. wire_run (sym is ∙ e)) (λ e plan file asks. wire_picture (sym is ∙ e)) (λ e plan traffic asks. wire_bounds (sym is ∙ e)) (λ e network asks. wire_net (sym is ∙ e)) (λ e network input output picture asks. wire_net (sym is ∙ e))
+
+-- words that name `check` with these values ask for no job, where the values ask for none
+pub no_check : (words : List Text) (name : Text) (values : List Row) → ¬ (words ≡ []) → subcommand_of commands words ≡ Some (name, values) → name ≡ codes "check"
+    → ((plan : Text) → ¬ AsksForCheck values plan) → (asked : Job) → ¬ AsksFor words asked
+no_check words name values some named is own = asks_for_none words name values _ some refl (ap (option_map (λ p. p.0)) named) (ap (option_map (λ p. p.1)) named)
+    (λ e speed room input output asks. wire_check (sym e ∙ is)) (λ e. own) (λ e plan input output commands asks. check_run (sym is ∙ e)) (λ e plan file asks. check_picture (sym is ∙ e)) (λ e plan traffic asks. check_bounds (sym is ∙ e)) (λ e network asks. check_net (sym is ∙ e)) (λ e network input output picture asks. check_net (sym is ∙ e))
+
+-- words that name `run` with these values ask for no job, where the values ask for none
+pub no_run : (words : List Text) (name : Text) (values : List Row) → ¬ (words ≡ []) → subcommand_of commands words ≡ Some (name, values) → name ≡ codes "run"
+    → ((plan input output : Text) (commands : Option Text) → ¬ AsksForRun values plan input output commands) → (asked : Job) → ¬ AsksFor words asked
+no_run words name values some named is own = asks_for_none words name values _ some refl (ap (option_map (λ p. p.0)) named) (ap (option_map (λ p. p.1)) named)
+    (λ e speed room input output asks. wire_run (sym e ∙ is)) (λ e plan asks. check_run (sym e ∙ is)) (λ e. own) (λ e plan file asks. run_picture (sym is ∙ e)) (λ e plan traffic asks. run_bounds (sym is ∙ e)) (λ e network asks. run_net (sym is ∙ e)) (λ e network input output picture asks. run_net (sym is ∙ e))
+
+-- words that name `picture` with these values ask for no job, where the values ask for none
+pub no_picture : (words : List Text) (name : Text) (values : List Row) → ¬ (words ≡ []) → subcommand_of commands words ≡ Some (name, values) → name ≡ codes "picture"
+    → ((plan file : Text) → ¬ AsksForPicture values plan file) → (asked : Job) → ¬ AsksFor words asked
+no_picture words name values some named is own = asks_for_none words name values _ some refl (ap (option_map (λ p. p.0)) named) (ap (option_map (λ p. p.1)) named)
+    (λ e speed room input output asks. wire_picture (sym e ∙ is)) (λ e plan asks. check_picture (sym e ∙ is)) (λ e plan input output commands asks. run_picture (sym e ∙ is)) (λ e. own) (λ e plan traffic asks. picture_bounds (sym is ∙ e)) (λ e network asks. picture_net (sym is ∙ e)) (λ e network input output picture asks. picture_net (sym is ∙ e))
+
+-- words that name `bounds` with these values ask for no job, where the values ask for none
+pub no_bounds : (words : List Text) (name : Text) (values : List Row) → ¬ (words ≡ []) → subcommand_of commands words ≡ Some (name, values) → name ≡ codes "bounds"
+    → ((plan : Text) (traffic : Option Text) → ¬ AsksForBounds values plan traffic) → (asked : Job) → ¬ AsksFor words asked
+no_bounds words name values some named is own = asks_for_none words name values _ some refl (ap (option_map (λ p. p.0)) named) (ap (option_map (λ p. p.1)) named)
+    (λ e speed room input output asks. wire_bounds (sym e ∙ is)) (λ e plan asks. check_bounds (sym e ∙ is)) (λ e plan input output commands asks. run_bounds (sym e ∙ is)) (λ e plan file asks. picture_bounds (sym e ∙ is)) (λ e. own) (λ e network asks. bounds_net (sym is ∙ e)) (λ e network input output picture asks. bounds_net (sym is ∙ e))
+
+-- words that name `net` with these values ask for no job, where the values ask for none
+pub no_net : (words : List Text) (name : Text) (values : List Row) → ¬ (words ≡ []) → subcommand_of commands words ≡ Some (name, values) → name ≡ codes "net"
+    → ((network : Text) → ¬ AsksForNetwork values network) → ((network input output : Text) (picture : Option Text) → ¬ AsksForNetworkRun values network input output picture) → (asked : Job) → ¬ AsksFor words asked
+no_net words name values some named is own nets = asks_for_none words name values _ some refl (ap (option_map (λ p. p.0)) named) (ap (option_map (λ p. p.1)) named)
+    (λ e speed room input output asks. wire_net (sym e ∙ is)) (λ e plan asks. check_net (sym e ∙ is)) (λ e plan input output commands asks. run_net (sym e ∙ is)) (λ e plan file asks. picture_net (sym e ∙ is)) (λ e plan traffic asks. bounds_net (sym e ∙ is)) (λ e. own) (λ e. nets)
+
+-- a job of `wire` is what the words that name it ask for
+pub of_wire : (words : List Text) (name : Text) (values : List Row) (r : Result Job Fault) → fault_of commands words ≡ [] → subcommand_of commands words ≡ Some (name, values) → name ≡ codes "wire"
+    → IfOk r (IsWireJob values) → IfOk r (AsksFor words)
+of_wire words name values (Err fault) taken named is ok = tt
+of_wire words name values (Ok job.Text) taken named is ok = absurd ok
+of_wire words name values (Ok (job.Wire speed room input output)) taken named is ok = (values, (record { faultless = taken; named = subst (λ n. subcommand_of commands words ≡ Some (n, values)) is named }), ok)
+of_wire words name values (Ok (job.Check plan)) taken named is ok = absurd ok
+of_wire words name values (Ok (job.Run plan input output file)) taken named is ok = absurd ok
+of_wire words name values (Ok (job.Picture plan file)) taken named is ok = absurd ok
+of_wire words name values (Ok (job.Bounds plan traffic)) taken named is ok = absurd ok
+of_wire words name values (Ok (job.Network network)) taken named is ok = absurd ok
+of_wire words name values (Ok (job.RunNetwork network input output picture)) taken named is ok = absurd ok
+
+-- a job of `check` is what the words that name it ask for
+pub of_check : (words : List Text) (name : Text) (values : List Row) (r : Result Job Fault) → fault_of commands words ≡ [] → subcommand_of commands words ≡ Some (name, values) → name ≡ codes "check"
+    → IfOk r (IsCheckJob values) → IfOk r (AsksFor words)
+of_check words name values (Err fault) taken named is ok = tt
+of_check words name values (Ok job.Text) taken named is ok = absurd ok
+of_check words name values (Ok (job.Wire speed room input output)) taken named is ok = absurd ok
+of_check words name values (Ok (job.Check plan)) taken named is ok = (values, (record { faultless = taken; named = subst (λ n. subcommand_of commands words ≡ Some (n, values)) is named }), ok)
+of_check words name values (Ok (job.Run plan input output file)) taken named is ok = absurd ok
+of_check words name values (Ok (job.Picture plan file)) taken named is ok = absurd ok
+of_check words name values (Ok (job.Bounds plan traffic)) taken named is ok = absurd ok
+of_check words name values (Ok (job.Network network)) taken named is ok = absurd ok
+of_check words name values (Ok (job.RunNetwork network input output picture)) taken named is ok = absurd ok
+
+-- a job of `run` is what the words that name it ask for
+pub of_run : (words : List Text) (name : Text) (values : List Row) (r : Result Job Fault) → fault_of commands words ≡ [] → subcommand_of commands words ≡ Some (name, values) → name ≡ codes "run"
+    → IfOk r (IsRunJob values) → IfOk r (AsksFor words)
+of_run words name values (Err fault) taken named is ok = tt
+of_run words name values (Ok job.Text) taken named is ok = absurd ok
+of_run words name values (Ok (job.Wire speed room input output)) taken named is ok = absurd ok
+of_run words name values (Ok (job.Check plan)) taken named is ok = absurd ok
+of_run words name values (Ok (job.Run plan input output file)) taken named is ok = (values, (record { faultless = taken; named = subst (λ n. subcommand_of commands words ≡ Some (n, values)) is named }), ok)
+of_run words name values (Ok (job.Picture plan file)) taken named is ok = absurd ok
+of_run words name values (Ok (job.Bounds plan traffic)) taken named is ok = absurd ok
+of_run words name values (Ok (job.Network network)) taken named is ok = absurd ok
+of_run words name values (Ok (job.RunNetwork network input output picture)) taken named is ok = absurd ok
+
+-- a job of `picture` is what the words that name it ask for
+pub of_picture : (words : List Text) (name : Text) (values : List Row) (r : Result Job Fault) → fault_of commands words ≡ [] → subcommand_of commands words ≡ Some (name, values) → name ≡ codes "picture"
+    → IfOk r (IsPictureJob values) → IfOk r (AsksFor words)
+of_picture words name values (Err fault) taken named is ok = tt
+of_picture words name values (Ok job.Text) taken named is ok = absurd ok
+of_picture words name values (Ok (job.Wire speed room input output)) taken named is ok = absurd ok
+of_picture words name values (Ok (job.Check plan)) taken named is ok = absurd ok
+of_picture words name values (Ok (job.Run plan input output file)) taken named is ok = absurd ok
+of_picture words name values (Ok (job.Picture plan file)) taken named is ok = (values, (record { faultless = taken; named = subst (λ n. subcommand_of commands words ≡ Some (n, values)) is named }), ok)
+of_picture words name values (Ok (job.Bounds plan traffic)) taken named is ok = absurd ok
+of_picture words name values (Ok (job.Network network)) taken named is ok = absurd ok
+of_picture words name values (Ok (job.RunNetwork network input output picture)) taken named is ok = absurd ok
+
+-- a job of `bounds` is what the words that name it ask for
+pub of_bounds : (words : List Text) (name : Text) (values : List Row) (r : Result Job Fault) → fault_of commands words ≡ [] → subcommand_of commands words ≡ Some (name, values) → name ≡ codes "bounds"
+    → IfOk r (IsBoundsJob values) → IfOk r (AsksFor words)
+of_bounds words name values (Err fault) taken named is ok = tt
+of_bounds words name values (Ok job.Text) taken named is ok = absurd ok
+of_bounds words name values (Ok (job.Wire speed room input output)) taken named is ok = absurd ok
+of_bounds words name values (Ok (job.Check plan)) taken named is ok = absurd ok
+of_bounds words name values (Ok (job.Run plan input output file)) taken named is ok = absurd ok
+of_bounds words name values (Ok (job.Picture plan file)) taken named is ok = absurd ok
+of_bounds words name values (Ok (job.Bounds plan traffic)) taken named is ok = (values, (record { faultless = taken; named = subst (λ n. subcommand_of commands words ≡ Some (n, values)) is named }), ok)
+of_bounds words name values (Ok (job.Network network)) taken named is ok = absurd ok
+of_bounds words name values (Ok (job.RunNetwork network input output picture)) taken named is ok = absurd ok
+
+-- a job of `net` is what the words that name it ask for
+pub of_net : (words : List Text) (name : Text) (values : List Row) (r : Result Job Fault) → fault_of commands words ≡ [] → subcommand_of commands words ≡ Some (name, values) → name ≡ codes "net"
+    → IfOk r (IsNetworkJob values) → IfOk r (AsksFor words)
+of_net words name values (Err fault) taken named is ok = tt
+of_net words name values (Ok job.Text) taken named is ok = absurd ok
+of_net words name values (Ok (job.Wire speed room input output)) taken named is ok = absurd ok
+of_net words name values (Ok (job.Check plan)) taken named is ok = absurd ok
+of_net words name values (Ok (job.Run plan input output file)) taken named is ok = absurd ok
+of_net words name values (Ok (job.Picture plan file)) taken named is ok = absurd ok
+of_net words name values (Ok (job.Bounds plan traffic)) taken named is ok = absurd ok
+of_net words name values (Ok (job.Network network)) taken named is ok = (values, (record { faultless = taken; named = subst (λ n. subcommand_of commands words ≡ Some (n, values)) is named }), ok)
+of_net words name values (Ok (job.RunNetwork network input output picture)) taken named is ok = (values, (record { faultless = taken; named = subst (λ n. subcommand_of commands words ≡ Some (n, values)) is named }), ok)
 
 -- nothing is wrong with no words
 no_words : fault_of commands [] ≡ []

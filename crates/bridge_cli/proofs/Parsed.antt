@@ -1,6 +1,6 @@
 -- What `clap` makes of the words.
-use Rattle.std.proofs.Common.{◌≡◌, ◌≢◌, ◌∙◌, List, None, [], ◌∷◌, Result, Ok, Err, IfOk, IfErr, ap, refl, subst, sym, true, inl, inr, rules}
-use Rattle.clap.specs.Words.{App, FailsBy, HasMatchesOf, Kinds, IsAmong, Text, fault_of, is_simple, is_simple_and_free, kind_of, subcommand_of, subcommand_rows_of}
+use Rattle.std.proofs.Common.{◌≡◌, ◌≢◌, List, None, [], ◌∷◌, Result, Ok, Err, IfOk, IfErr, refl, subst, true, inl, inr, rules}
+use Rattle.clap.specs.Words.{App, FailsBy, HasMatchesOf, Kinds, Text, fault_of, is_simple, is_simple_and_free, kind_of, subcommand_of, subcommand_rows_of}
 use Rattle.clap.specs.declared.error.Error.{Error}
 use Rattle.clap.specs.declared.error.kind.ErrorKind.TheVariants as kind
 use Rattle.clap.specs.declared.parser.matches.ArgMatches.{ArgMatches}

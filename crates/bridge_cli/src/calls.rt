@@ -65,10 +65,15 @@ fn is_option(word: &Word) -> bool {
     matches!(word.form, Form::Choice | Form::Flag)
 }
 
+/// Whether a word is the option of this name.
+fn is_called(word: &Word, name: &str) -> bool {
+    is_option(word) & (word.id == name)
+}
+
 /// The option of a name among the words of a command, and whether it has a value.
 fn option_in(words: &[Word], name: &str) -> Option<bool> {
     for word in words {
-        if is_option(word) && word.id == name {
+        if is_called(word, name) {
             return Some(matches!(word.form, Form::Choice));
         }
     }

@@ -2,7 +2,7 @@
 ghost use Rattle.std.specs.Prelude.{◌≡◌, ◌≢◌, [], IfOk, IfErr, false, map, string_bytes, fold};
 ghost use Rattle.clap.specs.Words.{FailsBy, app_of, fault_of, kind_of, rule_of, subcommand_of, subcommand_rows_of, with_subcommand};
 ghost use Rattle.clap.specs.declared.builder.command.Command.TheViews.{out-Command as fields_of};
-ghost use Rattle.bridge_cli.specs.CommandLine.{bounds_command, bridge_jobs, check_command, commands, described, drawing_jobs, jobs, net_command, picture_command, plain_jobs, program, rule_in, run_command, wire_command, wiring, with_word};
+ghost use Rattle.bridge_cli.specs.CommandLine.{bounds_command, check_command, commands, described, net_command, picture_command, program, rule_in, run_command, wire_command, with_word};
 
 use clap::error::ErrorKind;
 use clap::{Arg, ArgAction, ArgMatches, Command, Error};
@@ -463,48 +463,25 @@ pub fn matches_of<'a>(alloc: Global, words: &'a [String]) -> Result<ArgMatches<'
 pub(crate) fn commands_of<'a>(alloc: Global) -> Result<Command<'a>, AllocError>
     ensures { IfOk result (λ c. app_of c ≡ commands) }
 {
-    let program = bridge_jobs_of(alloc)?;
-    with_command(alloc, program, net())
-}
-
-/// The program with the commands of one bridge.
-fn bridge_jobs_of<'a>(alloc: Global) -> Result<Command<'a>, AllocError>
-    ensures { IfOk result (λ c. app_of c ≡ bridge_jobs) }
-{
-    let program = drawing_jobs_of(alloc)?;
-    with_command(alloc, program, bounds())
-}
-
-/// The program with the commands that run, check or draw.
-fn drawing_jobs_of<'a>(alloc: Global) -> Result<Command<'a>, AllocError>
-    ensures { IfOk result (λ c. app_of c ≡ drawing_jobs) }
-{
-    let program = jobs_of(alloc)?;
-    with_command(alloc, program, picture())
-}
-
-/// The program with the commands that don't draw alone.
-fn jobs_of<'a>(alloc: Global) -> Result<Command<'a>, AllocError>
-    ensures { IfOk result (λ c. app_of c ≡ jobs) }
-{
-    let program = plain_jobs_of(alloc)?;
-    with_command(alloc, program, run())
-}
-
-/// The program with the commands that take no folder.
-fn plain_jobs_of<'a>(alloc: Global) -> Result<Command<'a>, AllocError>
-    ensures { IfOk result (λ c. app_of c ≡ plain_jobs) }
-{
-    let program = wiring_of(alloc)?;
-    with_command(alloc, program, check())
-}
-
-/// The program with the command that needs no plan.
-fn wiring_of<'a>(alloc: Global) -> Result<Command<'a>, AllocError>
-    ensures { IfOk result (λ c. app_of c ≡ wiring) }
-{
     let program = program_of(alloc)?;
-    with_command(alloc, program, wire())
+    let in_help = [wire(), check(), run(), picture(), bounds(), net()];
+    with_commands(alloc, program, &in_help)
+}
+
+/// The program with the commands of descriptions behind those that it has.
+fn with_commands<'a>(
+    alloc: Global,
+    program: Command<'a>,
+    descriptions: &[&Description],
+) -> Result<Command<'a>, AllocError>
+    ensures { IfOk result (λ c. app_of c
+        ≡ fold (λ app d. with_subcommand app (described d.now).top) (app_of program.entry) descriptions.now) }
+{
+    let mut grown = program;
+    for description in descriptions {
+        grown = with_command(alloc, grown, description)?;
+    }
+    Ok(grown)
 }
 
 /// The program with the command of a description behind those that it has.

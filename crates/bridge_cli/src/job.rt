@@ -112,25 +112,31 @@ pub(crate) fn job_in(alloc: Global, words: &[String], matches: &ArgMatches) -> R
     ensures words { result ≡ Err Fault.Words → (job : Job) → ¬ AsksFor (map string_bytes words.now) job }
     ensures only { IfErr result IsOfWords }
 {
-    if let Some(values) = matches.subcommand_matches("wire") {
-        return wire_job(alloc, values);
+    match matches.subcommand() {
+        Some((name, values)) => job_named(alloc, words, name, values),
+        None => Err(Fault::Words),
     }
-    if let Some(values) = matches.subcommand_matches("check") {
-        return check_job(alloc, values);
+}
+
+/// The job that words ask for, some at least, by the name of their command and its values.
+fn job_named(alloc: Global, words: &[String], name: &str, values: &ArgMatches) -> Result<Job, Fault>
+    requires some { map string_bytes words.now ≢ [] }
+    requires taken { fault_of commands (map string_bytes words.now) ≡ [] }
+    requires named { subcommand_of commands (map string_bytes words.now) ≡ Some (name.now, rows_of (found_of values.now)) }
+    ensures ok { IfOk result (AsksFor (map string_bytes words.now)) }
+    ensures room { IfOk result HasRoom }
+    ensures words { result ≡ Err Fault.Words → (job : Job) → ¬ AsksFor (map string_bytes words.now) job }
+    ensures only { IfErr result IsOfWords }
+{
+    match name {
+        "wire" => wire_job(alloc, values),
+        "check" => check_job(alloc, values),
+        "run" => run_job(alloc, values),
+        "picture" => picture_job(alloc, values),
+        "bounds" => bounds_job(alloc, values),
+        "net" => network_job(alloc, values),
+        _ => Err(Fault::Words),
     }
-    if let Some(values) = matches.subcommand_matches("run") {
-        return run_job(alloc, values);
-    }
-    if let Some(values) = matches.subcommand_matches("picture") {
-        return picture_job(alloc, values);
-    }
-    if let Some(values) = matches.subcommand_matches("bounds") {
-        return bounds_job(alloc, values);
-    }
-    if let Some(values) = matches.subcommand_matches("net") {
-        return network_job(alloc, values);
-    }
-    Err(Fault::Words)
 }
 
 /// The job of a `wire` command with these values.

@@ -103,6 +103,9 @@ pub passes_inside : {X : Type 0} (p : X → Bool) (xs : List X) (y : X) (ys : Li
 passes_inside p [] y ys h = (and_parts (p y) (list_all p ys) h).0
 passes_inside p (x ∷ xs) y ys h = passes_inside p xs y ys (and_parts (p x) (list_all p (xs ++ y ∷ ys)) h).1
 
+pub passes_at : {X : Type 0} (test : X → Bool) (xs : List X) (i : ℕ) (d : X) → i < length xs → list_all test xs ≡ true → test (get_or xs i d) ≡ true
+passes_at test xs i d h pass = passes_inside test (take i xs) (get_or xs i d) (drop (i + 1) xs) (subst (λ (z : List _). list_all test z ≡ true) (sym (around xs i d h)) pass)
+
 -- a list taken one by one: what was taken and what is left make it up
 
 pub taken_whole : {X : Type 0} (taken before : List X) (x : X) (after all : List X) → taken ++ before ≡ all → before ≡ x ∷ after → taken ++ x ∷ after ≡ all

@@ -1,6 +1,7 @@
 //! Filters, gates and meters by number, made from their plans.
 
-ghost use Rattle.std.specs.Prelude.{◌≡◌, IfOk, true};
+ghost use Rattle.std.specs.Prelude.{◌≡◌, IfOk, OnOk, ℕ, [], ◌∷◌, ◌++◌, nat_eq, Some, None, true, if◌then◌else◌};
+ghost use Rattle.std.specs.Map.{lookup};
 ghost use Rattle.bridge_filter.specs.Plans.{are_distinct, all_have_priorities, all_within_limits};
 ghost use Rattle.bridge_filter.specs.Steps.{AreMade, IsNewGate, IsNewMeter, new_filters};
 
@@ -12,6 +13,24 @@ use bridge_meter::{Meter, MeterPlan};
 use indexmap::IndexMap;
 use std::alloc::{AllocError, Allocator};
 
+/// Keeps a thing at its number.
+fn keep<T: Drop, A: Allocator + Copy>(
+    made: &mut Numbered<T, A>,
+    number: u32,
+    thing: T,
+) -> Result<(), AllocError>
+    ensures updates { OnOk result ((q : ℕ)
+        → lookup (nat_eq q) made.new.entries
+        ≡ (if nat_eq number q then Some thing else lookup (nat_eq q) made.old.entries)) }
+    ensures entries { OnOk result (lookup (nat_eq number) made.old.entries ≡ None
+        → made.new.entries ≡ made.old.entries ++ (number, thing) ∷ []) }
+{
+    match made.insert(number, thing) {
+        Ok(_) => Ok(()),
+        Err(_) => Err(AllocError),
+    }
+}
+
 /// The filters that no frame has reached yet.
 pub(crate) fn filters_of<A: Allocator + Copy>(
     alloc: A,
@@ -22,7 +41,7 @@ pub(crate) fn filters_of<A: Allocator + Copy>(
 {
     let mut made = IndexMap::with_capacity(alloc, plans.len())?;
     for (number, plan) in plans {
-        made.insert(*number, Filter::new(*plan))?;
+        keep(&mut made, *number, Filter::new(*plan))?;
     }
     Ok(made)
 }
@@ -38,7 +57,7 @@ pub(crate) fn gates_of<A: Allocator + Copy>(
 {
     let mut made = IndexMap::with_capacity(alloc, plans.len())?;
     for (number, plan) in plans {
-        made.insert(number, StreamGate::new(plan))?;
+        keep(&mut made, number, StreamGate::new(plan))?;
     }
     Ok(made)
 }
@@ -54,7 +73,7 @@ pub(crate) fn meters_of<A: Allocator + Copy>(
 {
     let mut made = IndexMap::with_capacity(alloc, plans.len())?;
     for (number, plan) in plans {
-        made.insert(*number, Meter::new(*plan))?;
+        keep(&mut made, *number, Meter::new(*plan))?;
     }
     Ok(made)
 }

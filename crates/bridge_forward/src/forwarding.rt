@@ -76,7 +76,13 @@ impl<A: Allocator + Copy> Forwarding<A> {
     {
         let members = members_of(alloc, &vlans)?;
         let entries = entries_of(alloc, &statics)?;
-        let hints = hints_of(alloc, &entries)?;
+        let Ok(hints) = hints_of(alloc, &entries) else {
+            drop(vlans);
+            drop(statics);
+            drop(members);
+            drop(entries);
+            return Err(NoMemory);
+        };
         Ok(Forwarding {
             vlans,
             statics,

@@ -46,7 +46,9 @@ pub(crate) fn members_of<A: Allocator + Copy>(
 ) -> Result<Vec<Option<PortSet>, A>, AllocError>
     ensures { IfOk result (λ m. (vid : ℕ) → set_at m.items vid ≡ members_at vlans.now vid) }
 {
-    let mut members = Vec::from_elem(alloc, None, places(vlans))?;
+    let Ok(mut members) = Vec::from_elem(alloc, None, places(vlans)) else {
+        return Err(AllocError);
+    };
     for vlan in vlans {
         keep_members(&mut members, vlan.vid, vlan.members);
     }
@@ -75,7 +77,9 @@ fn keep_first<A: Allocator + Copy>(
         → get nat_eq entries.new k ≡ option_or (get nat_eq entries.old k) (if nat_eq key k then Some ports else None)) }
 {
     if entries.get(&key).is_none() {
-        entries.insert(key, ports)?;
+        let Ok(_) = entries.insert(key, ports) else {
+            return Err(AllocError);
+        };
     }
     Ok(())
 }
@@ -110,7 +114,9 @@ pub(crate) fn hints_of<A: Allocator + Copy>(
     entries: &Entries<A>,
 ) -> Result<Vec<u16, A>, AllocError> {
     let count = entries.len().saturating_mul(HINTS_EACH);
-    let mut hints = Vec::from_elem(alloc, 0, count)?;
+    let Ok(mut hints) = Vec::from_elem(alloc, 0, count) else {
+        return Err(AllocError);
+    };
     for place in 0..entries.len() {
         if let Some((key, _)) = entries.get_index(place)
             && let Some(hint) = hints.get_mut(hint_of(*key, count))
@@ -154,9 +160,13 @@ pub(crate) fn entries_of<A: Allocator + Copy>(
         → IsKey vid address
         → get nat_eq m (key_of vid address) ≡ entry_at statics.now vid address) }
 {
-    let mut entries = IndexMap::with_capacity(alloc, statics.len())?;
+    let Ok(mut entries) = IndexMap::with_capacity(alloc, statics.len()) else {
+        return Err(AllocError);
+    };
     for entry in statics {
-        keep_entry(&mut entries, *entry)?;
+        let Ok(()) = keep_entry(&mut entries, *entry) else {
+            return Err(AllocError);
+        };
     }
     Ok(entries)
 }

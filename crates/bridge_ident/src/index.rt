@@ -1,6 +1,6 @@
 //! Look-ups of the first entries that match, made from the list of entries.
 
-ghost use Rattle.std.specs.Prelude.{◌≡◌, ℕ, ◌<◌, ◌%◌, List, [], ◌∷◌, IfOk, IfSome, OnOk, Some, None, true, false, nat_eq, if◌then◌else◌};
+ghost use Rattle.std.specs.Prelude.{◌≡◌, ℕ, Bool, ◌<◌, ◌%◌, List, [], ◌∷◌, IfOk, IfSome, OnOk, Some, None, true, false, nat_eq, if◌then◌else◌};
 ghost use Rattle.std.specs.Option.{option_map, option_or};
 ghost use Rattle.indexmap.specs.IndexMap.{get};
 ghost use Rattle.bridge_ident.specs.declared.Kind.TheVariants.{Null, Source};
@@ -109,7 +109,9 @@ fn keep_first<A: Allocator + Copy>(
     ensures marked { OnOk result (AreMarked firsts.old marks.old → AreMarked firsts.new marks.new) }
 {
     if firsts.get(&key).is_none() {
-        firsts.insert(key, first)?;
+        let Ok(_) = firsts.insert(key, first) else {
+            return Err(AllocError);
+        };
         marks[last_octet(key)] = true;
     }
     Ok(())
@@ -162,9 +164,13 @@ fn firsts_of<A: Allocator + Copy>(
     ensures marked { IfOk result (λ r. AreMarked r.0 r.1) }
 {
     let mut marks = [false; 256];
-    let mut firsts = IndexMap::with_capacity(alloc, count(entries, kind, tagged))?;
+    let Ok(mut firsts) = IndexMap::with_capacity(alloc, count(entries, kind, tagged)) else {
+        return Err(AllocError);
+    };
     for (place, entry) in entries.iter().enumerate() {
-        keep_entry(&mut firsts, &mut marks, entry, place, kind, tagged)?;
+        let Ok(()) = keep_entry(&mut firsts, &mut marks, entry, place, kind, tagged) else {
+            return Err(AllocError);
+        };
     }
     Ok((firsts, marks))
 }
@@ -192,7 +198,9 @@ fn place_of(hints: &[u16], key: u128) -> usize {
 /// Hints at the places of entries, each at the hint of its key: where several have one, the last of them.
 fn hints_of<A: Allocator + Copy>(alloc: A, firsts: &Firsts<A>) -> Result<Vec<u16, A>, AllocError> {
     let count = firsts.len().saturating_mul(HINTS_EACH);
-    let mut hints = Vec::from_elem(alloc, 0, count)?;
+    let Ok(mut hints) = Vec::from_elem(alloc, 0, count) else {
+        return Err(AllocError);
+    };
     for place in 0..firsts.len() {
         if let Some((key, _)) = firsts.get_index(place)
             && let Some(hint) = hints.get_mut(hint_of(*key, count))
@@ -201,6 +209,50 @@ fn hints_of<A: Allocator + Copy>(alloc: A, firsts: &Firsts<A>) -> Result<Vec<u16
         }
     }
     Ok(hints)
+}
+
+/// The first entries of one kind, with their marks.
+type Marked<A> = (Firsts<A>, Marks);
+
+/// The first entries of both kinds, with hints at those for destinations.
+fn with_hints<A: Allocator + Copy>(
+    alloc: A,
+    destinations: Marked<A>,
+    sources: Marked<A>,
+) -> Result<ByAddress<A>, AllocError>
+    ensures { IfOk result (λ found. (tagged : Bool) (entries : List StreamEntry)
+        → AreFirst Null tagged entries destinations.0 → AreMarked destinations.0 destinations.1
+        → AreFirst Source tagged entries sources.0 → AreMarked sources.0 sources.1
+        → AreByAddress tagged entries found.destinations found.destination_marks found.sources found.source_marks) }
+{
+    match hints_of(alloc, &destinations.0) {
+        Ok(hints) => Ok(ByAddress {
+            destinations: destinations.0,
+            destination_marks: destinations.1,
+            sources: sources.0,
+            source_marks: sources.1,
+            hints,
+        }),
+        Err(fault) => Err(fault),
+    }
+}
+
+/// The first entries of both kinds, where those for destinations are found.
+fn with_sources<A: Allocator + Copy>(
+    alloc: A,
+    entries: &[StreamEntry],
+    tagged: bool,
+    destinations: Marked<A>,
+) -> Result<ByAddress<A>, AllocError>
+    requires found { AreFirst Null tagged entries.now destinations.0 }
+    requires marked { AreMarked destinations.0 destinations.1 }
+    ensures { IfOk result (λ found. AreByAddress tagged entries.now found.destinations found.destination_marks
+        found.sources found.source_marks) }
+{
+    match firsts_of(alloc, entries, Kind::Source, tagged) {
+        Ok(sources) => with_hints(alloc, destinations, sources),
+        Err(fault) => Err(fault),
+    }
 }
 
 /// The first entries of both kinds.
@@ -212,16 +264,10 @@ fn by_address_of<A: Allocator + Copy>(
     ensures { IfOk result (λ found. AreByAddress tagged entries.now found.destinations found.destination_marks
         found.sources found.source_marks) }
 {
-    let (destinations, destination_marks) = firsts_of(alloc, entries, Kind::Null, tagged)?;
-    let (sources, source_marks) = firsts_of(alloc, entries, Kind::Source, tagged)?;
-    let hints = hints_of(alloc, &destinations)?;
-    Ok(ByAddress {
-        destinations,
-        destination_marks,
-        sources,
-        source_marks,
-        hints,
-    })
+    match firsts_of(alloc, entries, Kind::Null, tagged) {
+        Ok(destinations) => with_sources(alloc, entries, tagged, destinations),
+        Err(fault) => Err(fault),
+    }
 }
 
 /// The first entry at a key, where it stands at a place.
@@ -308,8 +354,13 @@ impl<A: Allocator + Copy> Index<A> {
         ensures others { IfOk result (λ index. AreByAddress false entries.now index.others.destinations
             index.others.destination_marks index.others.sources index.others.source_marks) }
     {
-        let tagged = by_address_of(alloc, entries, true)?;
-        let others = by_address_of(alloc, entries, false)?;
+        let Ok(tagged) = by_address_of(alloc, entries, true) else {
+            return Err(AllocError);
+        };
+        let Ok(others) = by_address_of(alloc, entries, false) else {
+            drop(tagged);
+            return Err(AllocError);
+        };
         Ok(Index { tagged, others })
     }
 

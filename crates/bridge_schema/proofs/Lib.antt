@@ -2,3 +2,5 @@ pub mod Counts
 pub mod Sets
 mod Lists
 pub mod Standing
+pub mod Faults
+mod Rows

@@ -85,7 +85,10 @@ fn slot_of<A: Allocator + Copy>(
     ensures { IfOk result (λ o. IsFirst (port_at plan.now.ports number) o) }
 {
     match plan.port(number) {
-        Some(port) => Ok(Some(Slot::new(alloc, port)?)),
+        Some(port) => match Slot::new(alloc, port) {
+            Ok(slot) => Ok(Some(slot)),
+            Err(_) => Err(NoMemory),
+        },
         None => Ok(None),
     }
 }
@@ -98,9 +101,13 @@ impl<G: Agenda + Drop, A: Allocator + Copy> Ports<G, A> {
         ensures size { IfOk result (λ p. length p.slots ≡ 16) }
     {
         let _ports = plan.ports();
-        let mut slots = Vec::with_capacity(alloc, 16)?;
+        let Ok(mut slots) = Vec::with_capacity(alloc, 16) else {
+            return Err(NoMemory);
+        };
         for place in 0u8..16 {
-            let slot = slot_of(alloc, plan, place + 1)?;
+            let Ok(slot) = slot_of(alloc, plan, place + 1) else {
+                return Err(NoMemory);
+            };
             match slots.push(slot) {
                 Ok(()) => {}
                 Err(_) => unreachable!(),

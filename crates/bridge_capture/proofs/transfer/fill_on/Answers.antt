@@ -1,4 +1,4 @@
-use Rattle.std.proofs.Common.{rules, ◌≡◌, ◌-◌, true, false, length, sym, subst}
+use Rattle.std.proofs.Common.{rules, refl, ◌≡◌, ◌-◌, true, false, length, sym, subst}
 use Rattle.std.specs.Io.KnownBytes.{Consumes}
 use Rattle.std.proofs.KnownBytes.{Consumes-trans}
 use Rattle.bridge_capture.proofs.Parts.{take-put_mid_more}
@@ -16,3 +16,12 @@ loop-at-preserved g c =
 
 pub returns-then-count-eq0-clause-stays : goal.returns-then-count-eq0-clause-stays
 returns-then-count-eq0-clause-stays g c = λ e some. c.in_ok-count.ensures.stays (c.loop-at.invariant.fresh e).1
+
+pub returns-then-count-eq0-clause-sure : goal.returns-then-count-eq0-clause-sure
+returns-then-count-eq0-clause-sure g c = λ sure. (refl, c.in_ok-count.ensures.lasts (c.loop-at.invariant.sure sure))
+
+pub returns-clause-sure : goal.returns-clause-sure
+returns-clause-sure g c = λ sure. (refl, c.loop-at.invariant.sure sure)
+
+pub returns-clause-count : goal.returns-clause-count
+returns-clause-count g c = c.loop-at.invariant.within

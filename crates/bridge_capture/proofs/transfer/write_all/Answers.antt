@@ -1,14 +1,47 @@
-use Rattle.std.proofs.Common.{◌+◌, ◌++◌, take, sym, ap, ◌∙◌, subst, arith, length-drop}
+use Rattle.std.proofs.Common.{◌+◌, ◌++◌, take, refl, sym, ap, ◌∙◌, subst, arith, length-drop}
 use Rattle.std.proofs.lemmas.List.{take_rest}
 use Rattle.std.specs.Io.KnownBytes.{Appends}
 use Rattle.std.proofs.KnownBytes.{Appends-trans}
 use lib.Seq.{take-add}
 use Rattle.bridge_capture.proofs.transfer.write_all.Goals as goal
 
-pub returns-in-Err-clause-front : goal.returns-in-Err-clause-front
-returns-in-Err-clause-front g c =
-    let first = c.in_ok-first.first in
+pub returns-in-Err-write_front-clause-front : goal.returns-in-Err-write_front-clause-front
+returns-in-Err-write_front-clause-front g c =
+    let first = c.in-Ok.first in
     let octets = c.args.octets.now in
-    let more = c.in-Err.field-0 in
+    let more = c.in-Err-write_front.field-0 in
     let joined = ap (λ l. take first octets ++ take more l) (take_rest octets first) ∙ sym (take-add first more octets) in
-    (first + more, (let z = c.in_ok-first.ensures.count in let y = c.in-Err.ensures.count in omega (arith, length-drop first octets, z, y)), subst (Appends _ _) joined (Appends-trans _ _ _ _ _ c.in_ok-first.ensures.bytes c.in-Err.ensures.part))
+    (first + more, (let z = c.in-Ok.ensures.count in let y = c.in-Err-write_front.ensures.count in omega (arith, length-drop first octets, z, y)), subst (Appends _ _) joined (Appends-trans _ _ _ _ _ c.in-Ok.ensures.bytes c.in-Err-write_front.ensures.part))
+
+pub returns-then-is_empty-clause-lasts : goal.returns-then-is_empty-clause-lasts
+returns-then-is_empty-clause-lasts g c = λ sure. sure
+
+pub returns-in-Err-clause-fails : goal.returns-in-Err-clause-fails
+returns-in-Err-clause-fails g c = c.in-Err.ensures.fails
+
+pub returns-in-Err-clause-sure : goal.returns-in-Err-clause-sure
+returns-in-Err-clause-sure g c = c.in-Err.ensures.sure
+
+pub returns-in-Err-clause-lasts : goal.returns-in-Err-clause-lasts
+returns-in-Err-clause-lasts g c = c.in-Err.ensures.lasts
+
+pub returns-in-Err-clause-stays : goal.returns-in-Err-clause-stays
+returns-in-Err-clause-stays g c = λ broken some. refl
+
+pub returns-in-Ok-write_front-clause-lasts : goal.returns-in-Ok-write_front-clause-lasts
+returns-in-Ok-write_front-clause-lasts g c = λ sure. c.write_front.ensures.lasts (c.in-Ok.ensures.lasts sure)
+
+pub returns-in-Ok-write_front-clause-stays : goal.returns-in-Ok-write_front-clause-stays
+returns-in-Ok-write_front-clause-stays g c = λ broken some. c.in-Ok.ensures.stays broken
+
+pub returns-in-Err-write_front-clause-fails : goal.returns-in-Err-write_front-clause-fails
+returns-in-Err-write_front-clause-fails g c = c.in-Err-write_front.ensures.fails
+
+pub returns-in-Err-write_front-clause-sure : goal.returns-in-Err-write_front-clause-sure
+returns-in-Err-write_front-clause-sure g c = λ sure. c.in-Err-write_front.ensures.sure (c.in-Ok.ensures.lasts sure)
+
+pub returns-in-Err-write_front-clause-lasts : goal.returns-in-Err-write_front-clause-lasts
+returns-in-Err-write_front-clause-lasts g c = λ sure. c.write_front.ensures.lasts (c.in-Ok.ensures.lasts sure)
+
+pub returns-in-Err-write_front-clause-stays : goal.returns-in-Err-write_front-clause-stays
+returns-in-Err-write_front-clause-stays g c = λ broken some. refl

@@ -1,4 +1,4 @@
-use Rattle.std.proofs.Common.{rules, ◌≡◌, arith}
+use Rattle.std.proofs.Common.{rules, ◌≡◌}
 use Rattle.clap.specs.Words.{app_of, rule_of, with_rule}
 use Rattle.bridge_cli.proofs.Described.{none_global, one_more}
 use Rattle.bridge_cli.proofs.command.with_words.Goals as goal

@@ -1,12 +1,14 @@
-use Rattle.std.proofs.Common.{◌∙◌, ℕ, sym, subst, nat_eq, ◌∷◌, Option, false}
+use Rattle.std.proofs.Common.{◌∙◌, ℕ, ap, refl, sym, subst, nat_eq, ◌∷◌, Option, false}
 use Rattle.std.specs.Prelude.{if◌then◌else◌}
 use Rattle.std.specs.Map.{keys_of}
 use Rattle.bridge_meter.specs.Colours.{Came}
+use Rattle.bridge_filter.specs.declared.Verdict.TheVariants as verdict
 use Rattle.bridge_filter.specs.declared.Verdict.TheVariants.{Pass}
 use Rattle.bridge_filter.specs.Finding.{IsPlaceIfAny}
-use Rattle.bridge_filter.specs.Verdicts.{Judged, meter_share}
+use Rattle.bridge_gate.specs.declared.gate.GateAnswer.{GateAnswer}
+use Rattle.bridge_filter.specs.Verdicts.{Judged, meter_share, by_answer}
 use Rattle.bridge_filter.proofs.Judging.{meter_placed, no_meter_placed}
-use Rattle.bridge_filter.proofs.Shares.{by_answer-metered, by_answer-unmetered, meter_share-passed, meter_share-without, meters_stand_same}
+use Rattle.bridge_filter.proofs.Shares.{by_answer-metered, by_answer-unmetered, meter_share-passed, meter_share-without, meter_share-refused, meters_stand_same}
 use Rattle.bridge_filter.proofs.instances.answered.Goals as goal
 
 pub returns-in-Some-clause-verdict : goal.returns-in-Some-clause-verdict
@@ -37,3 +39,31 @@ returns-in-None-clause-stand g c = λ plans ss k f placed stand.
     let none = no_meter_placed keys f.meter (subst (λ (o : Option ℕ). IsPlaceIfAny keys f.meter o) c.in-None.is placed) in
     let verdict = Pass c.in-Through.ipv false in
     meters_stand_same plans c.args.meters.now.entries (λ n. meter_share n ss) (λ n. meter_share n (Judged call k f verdict ∷ ss)) (λ n. meter_share-without n k call f verdict ss none) stand
+
+pub returns-in-Closed-clause-verdict : goal.returns-in-Closed-clause-verdict
+returns-in-Closed-clause-verdict g c = λ p ss f placed stand. sym (ap (λ (a : GateAnswer). by_answer p ss c.args.call f a) c.in-Closed.is)
+
+pub returns-in-Closed-clause-stand : goal.returns-in-Closed-clause-stand
+returns-in-Closed-clause-stand g c = λ plans ss k f placed stand.
+    meters_stand_same plans c.args.meters.now.entries (λ n. meter_share n ss) (λ n. meter_share n (Judged c.args.call k f verdict.GateClosed ∷ ss)) (λ n. meter_share-refused n k c.args.call f verdict.GateClosed ss refl) stand
+
+pub returns-in-ShutByRx-clause-verdict : goal.returns-in-ShutByRx-clause-verdict
+returns-in-ShutByRx-clause-verdict g c = λ p ss f placed stand. sym (ap (λ (a : GateAnswer). by_answer p ss c.args.call f a) c.in-ShutByRx.is)
+
+pub returns-in-ShutByRx-clause-stand : goal.returns-in-ShutByRx-clause-stand
+returns-in-ShutByRx-clause-stand g c = λ plans ss k f placed stand.
+    meters_stand_same plans c.args.meters.now.entries (λ n. meter_share n ss) (λ n. meter_share n (Judged c.args.call k f verdict.ShutByRx ∷ ss)) (λ n. meter_share-refused n k c.args.call f verdict.ShutByRx ss refl) stand
+
+pub returns-in-ShutByOctets-clause-verdict : goal.returns-in-ShutByOctets-clause-verdict
+returns-in-ShutByOctets-clause-verdict g c = λ p ss f placed stand. sym (ap (λ (a : GateAnswer). by_answer p ss c.args.call f a) c.in-ShutByOctets.is)
+
+pub returns-in-ShutByOctets-clause-stand : goal.returns-in-ShutByOctets-clause-stand
+returns-in-ShutByOctets-clause-stand g c = λ plans ss k f placed stand.
+    meters_stand_same plans c.args.meters.now.entries (λ n. meter_share n ss) (λ n. meter_share n (Judged c.args.call k f verdict.ShutByOctets ∷ ss)) (λ n. meter_share-refused n k c.args.call f verdict.ShutByOctets ss refl) stand
+
+pub returns-in-OctetsExceeded-clause-verdict : goal.returns-in-OctetsExceeded-clause-verdict
+returns-in-OctetsExceeded-clause-verdict g c = λ p ss f placed stand. sym (ap (λ (a : GateAnswer). by_answer p ss c.args.call f a) c.in-OctetsExceeded.is)
+
+pub returns-in-OctetsExceeded-clause-stand : goal.returns-in-OctetsExceeded-clause-stand
+returns-in-OctetsExceeded-clause-stand g c = λ plans ss k f placed stand.
+    meters_stand_same plans c.args.meters.now.entries (λ n. meter_share n ss) (λ n. meter_share n (Judged c.args.call k f verdict.OctetsExceeded ∷ ss)) (λ n. meter_share-refused n k c.args.call f verdict.OctetsExceeded ss refl) stand

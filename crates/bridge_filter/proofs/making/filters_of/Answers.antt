@@ -1,6 +1,5 @@
 use Rattle.std.proofs.Common.{◌≡◌, ◌∙◌, nat_eq, None}
 use Rattle.std.specs.Map.{lookup}
-use Rattle.indexmap.proofs.CallerLemmas.{insert_entry-new}
 use Rattle.bridge_filter.proofs.Made.{new_filters-more, new_filter_absent}
 use Rattle.bridge_filter.proofs.making.filters_of.Goals as goal
 
@@ -11,4 +10,4 @@ loop-number-preserved g c =
     let was = c.loop-number.made in
     let same : was.entries ≡ _ = c.loop-number.invariant in
     let absent : lookup (nat_eq _) was.entries ≡ None = rw same (new_filter_absent plans i _ c.loop-number-test.true c.requires) in
-    c.in_ok-insert.ensures.entries ∙ (insert_entry-new nat_eq was _ c.new.result absent ∙ rw (same, c.new.ensures) (new_filters-more plans i _ c.loop-number-test.true))
+    c.in_ok-keep.ensures.entries absent ∙ rw (same, c.new.ensures) (new_filters-more plans i _ c.loop-number-test.true)

@@ -15,48 +15,6 @@ new-requires g c =
     let e : items ≡ (c.in-Some.number, c.in-Some.plan) ∷ left = c.in-Some.ensures.steps.0 in
     passes_taken (λ x. has_priorities x.1.schedule) taken items (c.in-Some.number, c.in-Some.plan) left all inv.whole e c.requires.priorities
 
-pub loop-number-preserved-in_ok-insert : goal.loop-number-preserved-in_ok-insert
-loop-number-preserved-in_ok-insert g c =
-    let items = into_iter_items c.loop-number.number-iterator in
-    let left = into_iter_items c.next.new.self in
-    let taken = c.loop-number.yielded in
-    let all = c.args.plans.items in
-    let inv = c.loop-number.invariant in
-    let e : items ≡ (c.in-Some.number, c.in-Some.plan) ∷ left = c.in-Some.ensures.steps.0 in
-    record {
-      whole = taken_more taken items (c.in-Some.number, c.in-Some.plan) left all inv.whole e;
-      left = left_more (into_iter_len c.loop-number.number-iterator) (into_iter_len c.next.new.self) items left (c.in-Some.number, c.in-Some.plan) inv.left e c.in-Some.ensures.steps.1;
-      made = made_taken IsNewGate taken items left all c.loop-number.made.entries c.insert.new.self.entries c.in-Some.number c.in-Some.plan c.new.result inv.whole e c.requires.distinct c.in_ok-insert.ensures.updates.0 (record { stands = c.new.ensures.stands; earliest = c.new.ensures.earliest }) inv.made;
-    }
-
-pub loop-number-preserved-in_ok-insert-2 : goal.loop-number-preserved-in_ok-insert-2
-loop-number-preserved-in_ok-insert-2 g c =
-    let items = into_iter_items c.loop-number.number-iterator in
-    let left = into_iter_items c.next.new.self in
-    let taken = c.loop-number.yielded in
-    let all = c.args.plans.items in
-    let inv = c.loop-number.invariant in
-    let e : items ≡ (c.in-Some.number, c.in-Some.plan) ∷ left = c.in-Some.ensures.steps.0 in
-    record {
-      whole = taken_more taken items (c.in-Some.number, c.in-Some.plan) left all inv.whole e;
-      left = left_more (into_iter_len c.loop-number.number-iterator) (into_iter_len c.next.new.self) items left (c.in-Some.number, c.in-Some.plan) inv.left e c.in-Some.ensures.steps.1;
-      made = made_taken IsNewGate taken items left all c.loop-number.made.entries c.insert.new.self.entries c.in-Some.number c.in-Some.plan c.new.result inv.whole e c.requires.distinct c.in_ok-insert.ensures.updates.0 (record { stands = c.new.ensures.stands; earliest = c.new.ensures.earliest }) inv.made;
-    }
-
-pub loop-number-preserved-in_ok-insert-3 : goal.loop-number-preserved-in_ok-insert-3
-loop-number-preserved-in_ok-insert-3 g c =
-    let items = into_iter_items c.loop-number.number-iterator in
-    let left = into_iter_items c.next.new.self in
-    let taken = c.loop-number.yielded in
-    let all = c.args.plans.items in
-    let inv = c.loop-number.invariant in
-    let e : items ≡ (c.in-Some.number, c.in-Some.plan) ∷ left = c.in-Some.ensures.steps.0 in
-    record {
-      whole = taken_more taken items (c.in-Some.number, c.in-Some.plan) left all inv.whole e;
-      left = left_more (into_iter_len c.loop-number.number-iterator) (into_iter_len c.next.new.self) items left (c.in-Some.number, c.in-Some.plan) inv.left e c.in-Some.ensures.steps.1;
-      made = made_taken IsNewGate taken items left all c.loop-number.made.entries c.insert.new.self.entries c.in-Some.number c.in-Some.plan c.new.result inv.whole e c.requires.distinct c.in_ok-insert.ensures.updates.0 (record { stands = c.new.ensures.stands; earliest = c.new.ensures.earliest }) inv.made;
-    }
-
 pub loop-number-preserved : goal.loop-number-preserved
 loop-number-preserved g c =
     let items = into_iter_items c.loop-number.number-iterator in
@@ -68,7 +26,7 @@ loop-number-preserved g c =
     record {
       whole = taken_more taken items (c.in-Some.number, c.in-Some.plan) left all inv.whole e;
       left = left_more (into_iter_len c.loop-number.number-iterator) (into_iter_len c.next.new.self) items left (c.in-Some.number, c.in-Some.plan) inv.left e c.in-Some.ensures.steps.1;
-      made = made_taken IsNewGate taken items left all c.loop-number.made.entries c.insert.new.self.entries c.in-Some.number c.in-Some.plan c.new.result inv.whole e c.requires.distinct c.in_ok-insert.ensures.updates.0 (record { stands = c.new.ensures.stands; earliest = c.new.ensures.earliest }) inv.made;
+      made = made_taken IsNewGate taken items left all c.loop-number.made.entries c.keep.new.made.entries c.in-Some.number c.in-Some.plan c.new.result inv.whole e c.requires.distinct c.in_ok-keep.ensures.updates (record { stands = c.new.ensures.stands; earliest = c.new.ensures.earliest }) inv.made;
     }
 
 pub returns : goal.returns

@@ -9,8 +9,8 @@ loop-place-preserved g c = record {
   found = λ port vid address k.
       let i = c.loop-place.place in
       let es = c.args.entries.now in
-      next_place c.args.kind c.args.tagged es i _ (get nat_eq c.loop-place.firsts (key_of port vid address)) (get nat_eq c.keep_entry.new.firsts (key_of port vid address)) (first_from c.args.kind c.args.tagged 0 es port vid address) port vid address (omega arith) (c.in_ok-keep_entry.ensures.found port vid address k) (c.loop-place.invariant.found port vid address k);
-  marked = c.in_ok-keep_entry.ensures.marked c.loop-place.invariant.marked;
+      next_place c.args.kind c.args.tagged es i _ (get nat_eq c.loop-place.firsts (key_of port vid address)) (get nat_eq c.keep_entry.new.firsts (key_of port vid address)) (first_from c.args.kind c.args.tagged 0 es port vid address) port vid address (omega arith) (c.in-Ok-keep_entry.ensures.found port vid address k) (c.loop-place.invariant.found port vid address k);
+  marked = c.in-Ok-keep_entry.ensures.marked c.loop-place.invariant.marked;
 }
 
 pub returns-clause-found : goal.returns-clause-found

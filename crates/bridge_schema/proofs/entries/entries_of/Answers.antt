@@ -1,11 +1,13 @@
-use Rattle.std.proofs.Common.{◌≡◌, ◌+◌, ◌++◌, ◌∷◌, [], ap, sym, ◌∙◌, drop, get_or, arith, rules}
+use Rattle.std.proofs.Common.{◌≡◌, ◌+◌, ◌++◌, ◌∷◌, [], ap, sym, ◌∙◌, drop, get_or, arith, rules, append-nil, Ok}
 use Rattle.std.proofs.lemmas.List.Elements.{All-push}
 use Rattle.std.specs.Option.{option_map}
 use Rattle.toml.specs.Data.{as_table}
 use Rattle.toml.specs.View.{items_view, table_view, view}
 use Rattle.toml.proofs.Views.{items_view-drop}
-use Rattle.bridge_schema.specs.Readers.{each}
-use Rattle.bridge_schema.proofs.Lists.{table_more, other_more}
+use Rattle.std.proofs.lemmas.List.{drop_all}
+use Rattle.bridge_schema.specs.Readers.{each, with_front}
+use Rattle.bridge_schema.proofs.Faults.{handed_on}
+use Rattle.bridge_schema.proofs.Lists.{table_fails, table_more, other_more}
 use Rattle.bridge_schema.proofs.entries.entries_of.Goals as goal
 use Rattle.bridge_schema.proofs.entries.entries_of.Goals.{in-Some+in_ok-made+in_ok-push, in_default}
 
@@ -34,3 +36,23 @@ items-preserved g c =
             fits = c.items.invariant.fits;
           })
     ]
+
+pub returns-in_err-made-clause-reads : goal.returns-in_err-made-clause-reads
+returns-in_err-made-clause-reads g c =
+    let entry = g.E.Entry.reading c.args.entry.now in
+    let items = c.args.items.now in
+    let i = c.items.item-index in
+    let value = c.item-item.result in
+    let cut = items_view-drop items i value (let z = c.items-test.true in omega arith) in
+    let at : as_table (view (get_or items i value)) ≡ as_table (view value) = ap (λ v. as_table (view v)) (sym c.item-item.is) in
+    let told = sym c.as_table.ensures ∙ ap (option_map (λ m. table_view m.now)) c.in-Some.is in
+    handed_on _ _ _ _
+    (table_fails entry c.items.list.items _ _ _ (table_view c.in-Some.table.now) (items_view (drop (i + 1) items)) (each entry (items_view items)) cut (at ∙ told) c.in_err-made.ensures.reads c.items.invariant.same)
+    c.from_residual.ensures.1
+
+pub returns-clause-reads : goal.returns-clause-reads
+returns-clause-reads g c =
+    let entry = g.E.Entry.reading c.args.entry.now in
+    let items = c.args.items.now in
+    let list = c.items.list.items in
+    sym c.items.invariant.same ∙ (ap (λ xs. with_front list (each entry (items_view xs))) (drop_all c.items.item-index items (let z = c.items-test.false in omega arith)) ∙ ap (λ l. Ok l) (append-nil list))

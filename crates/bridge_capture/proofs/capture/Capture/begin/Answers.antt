@@ -1,7 +1,11 @@
-use Rattle.std.proofs.Common.{rules, arith, sym, ◌∙◌, subst, take_all}
+use Rattle.std.proofs.Common.{rules, arith, refl, true≢false, sym, ◌∙◌, subst, take_all}
 use Rattle.std.specs.Io.KnownBytes.{Consumes}
 use Rattle.std.proofs.lemmas.List.{length-take}
 use Rattle.bridge_capture.proofs.Headers.{begun, begun_cut, begun_fault, begun_short, header_read}
+use Rattle.bridge_capture.specs.declared.fault.CaptureFault.TheVariants as faults
+use Rattle.bridge_capture.specs.Reading.{IsOfHeader}
+use Rattle.bridge_capture.proofs.Answered.{apart, of_kind}
+use Rattle.bridge_capture.proofs.Taken.{header_taken}
 use Rattle.bridge_capture.proofs.capture.Capture.begin.Goals as goal
 
 pub returns-in-Err-clause-stands : goal.returns-in-Err-clause-stands
@@ -23,3 +27,84 @@ returns-in-Err-judge-clause-stands g c = λ text told.
     let octets = c.fill.new.buf in
     let full = subst (Consumes _ _) (take_all c.in-Ok.count octets (omega (arith, c.in-Ok.ensures.count))) c.in-Ok.ensures.bytes in
     begun_fault text (g.R.ByteSource.remaining c.fill.new.source) c.in-Err-judge.fault c.in-Err-judge.ensures.only (header_read _ _ text octets told full (search rules) ∙ sym c.in-Err-judge.ensures.judged)
+
+pub returns-in-Err-clause-taken : goal.returns-in-Err-clause-taken
+returns-in-Err-clause-taken g c = c.in-Err.ensures.part
+
+pub returns-in-Err-clause-read : goal.returns-in-Err-clause-read
+returns-in-Err-clause-read g c = λ e. c.in-Err.ensures.fails
+
+pub returns-in-Err-clause-sure : goal.returns-in-Err-clause-sure
+returns-in-Err-clause-sure g c = λ sure. absurd (true≢false (sym (c.in-Err.ensures.sure sure).0))
+
+pub returns-in-Err-clause-lasts : goal.returns-in-Err-clause-lasts
+returns-in-Err-clause-lasts g c = λ sure. absurd (true≢false (sym (c.in-Err.ensures.sure sure).0))
+
+pub returns-in-Err-clause-broken : goal.returns-in-Err-clause-broken
+returns-in-Err-clause-broken g c = λ _. refl
+
+pub returns-in-Err-clause-no_write : goal.returns-in-Err-clause-no_write
+returns-in-Err-clause-no_write g c = λ e. apart e refl
+
+pub returns-in-Err-clause-no_memory : goal.returns-in-Err-clause-no_memory
+returns-in-Err-clause-no_memory g c = λ e. apart e refl
+
+pub returns-then-count-lt-HEADER_LEN-clause-read : goal.returns-then-count-lt-HEADER_LEN-clause-read
+returns-then-count-lt-HEADER_LEN-clause-read g c = λ e. absurd (apart e refl)
+
+pub returns-then-count-lt-HEADER_LEN-clause-sure : goal.returns-then-count-lt-HEADER_LEN-clause-sure
+returns-then-count-lt-HEADER_LEN-clause-sure g c = λ sure e. apart e refl
+
+pub returns-then-count-lt-HEADER_LEN-clause-lasts : goal.returns-then-count-lt-HEADER_LEN-clause-lasts
+returns-then-count-lt-HEADER_LEN-clause-lasts g c = λ sure. (c.in-Ok.ensures.sure sure).1
+
+pub returns-then-count-lt-HEADER_LEN-clause-broken : goal.returns-then-count-lt-HEADER_LEN-clause-broken
+returns-then-count-lt-HEADER_LEN-clause-broken g c = λ broken. absurd (true≢false (sym (c.in-Ok.ensures.stays broken (omega arith))))
+
+pub returns-then-count-lt-HEADER_LEN-clause-no_write : goal.returns-then-count-lt-HEADER_LEN-clause-no_write
+returns-then-count-lt-HEADER_LEN-clause-no_write g c = λ e. apart e refl
+
+pub returns-then-count-lt-HEADER_LEN-clause-no_memory : goal.returns-then-count-lt-HEADER_LEN-clause-no_memory
+returns-then-count-lt-HEADER_LEN-clause-no_memory g c = λ e. apart e refl
+
+pub returns-in-Ok-judge-clause-read : goal.returns-in-Ok-judge-clause-read
+returns-in-Ok-judge-clause-read g c = λ e. absurd (apart e refl)
+
+pub returns-in-Ok-judge-clause-sure : goal.returns-in-Ok-judge-clause-sure
+returns-in-Ok-judge-clause-sure g c = λ sure e. apart e refl
+
+pub returns-in-Ok-judge-clause-lasts : goal.returns-in-Ok-judge-clause-lasts
+returns-in-Ok-judge-clause-lasts g c = λ sure. (c.in-Ok.ensures.sure sure).1
+
+pub returns-in-Ok-judge-clause-broken : goal.returns-in-Ok-judge-clause-broken
+returns-in-Ok-judge-clause-broken g c = λ broken. absurd (true≢false (sym (c.in-Ok.ensures.stays broken (omega arith))))
+
+pub returns-in-Ok-judge-clause-no_write : goal.returns-in-Ok-judge-clause-no_write
+returns-in-Ok-judge-clause-no_write g c = λ e. apart e refl
+
+pub returns-in-Ok-judge-clause-no_memory : goal.returns-in-Ok-judge-clause-no_memory
+returns-in-Ok-judge-clause-no_memory g c = λ e. apart e refl
+
+pub returns-in-Err-judge-clause-read : goal.returns-in-Err-judge-clause-read
+returns-in-Err-judge-clause-read g c = λ e. absurd (of_kind IsOfHeader c.in-Err-judge.fault faults.Read c.in-Err-judge.ensures.only (λ x. x) e)
+
+pub returns-in-Err-judge-clause-sure : goal.returns-in-Err-judge-clause-sure
+returns-in-Err-judge-clause-sure g c = λ sure. of_kind IsOfHeader c.in-Err-judge.fault faults.Read c.in-Err-judge.ensures.only (λ x. x)
+
+pub returns-in-Err-judge-clause-no_write : goal.returns-in-Err-judge-clause-no_write
+returns-in-Err-judge-clause-no_write g c = of_kind IsOfHeader c.in-Err-judge.fault faults.Write c.in-Err-judge.ensures.only (λ x. x)
+
+pub returns-in-Err-judge-clause-no_memory : goal.returns-in-Err-judge-clause-no_memory
+returns-in-Err-judge-clause-no_memory g c = of_kind IsOfHeader c.in-Err-judge.fault faults.NoMemory c.in-Err-judge.ensures.only (λ x. x)
+
+pub returns-in-Err-judge-clause-lasts : goal.returns-in-Err-judge-clause-lasts
+returns-in-Err-judge-clause-lasts g c = λ sure. (c.in-Ok.ensures.sure sure).1
+
+pub returns-in-Err-judge-clause-broken : goal.returns-in-Err-judge-clause-broken
+returns-in-Err-judge-clause-broken g c = λ broken. absurd (true≢false (sym (c.in-Ok.ensures.stays broken (omega arith))))
+
+pub returns-in-Err-judge-clause-taken : goal.returns-in-Err-judge-clause-taken
+returns-in-Err-judge-clause-taken g c =
+    let octets = c.fill.new.buf in
+    let full = subst (Consumes _ _) (take_all c.in-Ok.count octets (omega (arith, c.in-Ok.ensures.count))) c.in-Ok.ensures.bytes in
+    header_taken _ _ octets c.in-Err-judge.fault c.in-Err-judge.ensures.only (search rules) full

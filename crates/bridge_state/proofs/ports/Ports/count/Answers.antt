@@ -3,15 +3,15 @@ use Rattle.bridge_state.specs.declared.slot.Slot.{Slot}
 use Rattle.bridge_state.specs.Ports.{PortsState, slot_at}
 use Rattle.bridge_state.specs.Slots.{counted_frame}
 use Rattle.std.specs.Prelude.{slice_set}
-use Rattle.bridge_state.proofs.Porting.{below, here, kept_same, slot_counted, same_slot}
+use Rattle.bridge_state.proofs.Porting.{below, here, kept_same, not_none, slot_counted, same_slot}
 use Rattle.bridge_state.proofs.ports.Ports.count.Goals as goal
 
 pub index_mut-requires : goal.index_mut-requires
 index_mut-requires g c =
     let there = c.requires.there in
     let given = subst (λ (z : PortsState _ _). slot_at z c.args.number ≡ Some there.0) (sym c.self.view_is) there.1 in
-    let under = below c.self.inside.slots.items c.args.number there.0 given in
-    search (rules, under)
+    let slots = c.self.inside.slots in
+    subst (λ (n : ℕ). c.args.number - 1 < n) (sym slots.ok.0) (below slots.items c.args.number there.0 given)
 
 pub count_frame-requires : goal.count_frame-requires
 count_frame-requires g c =
@@ -43,3 +43,15 @@ returns-clause-slots g c = λ s is.
     let at = here slots q c.index_mut.result.now slot (below slots q s given) c.index_mut.ensures.value c.in-Some.is in
     let e : c.count_frame.new.self ≡ record s { count = counted_frame s.count c.args.came } = c.count_frame.ensures ∙ ap (λ (v : Slot _). record v { count = counted_frame v.count c.args.came }) (same_slot slots q slot s at given) in
     ap (λ (v : Slot _). slice_set slots (q - 1) (Some v)) e ∙ ap (λ (z : PortsState _ _). slice_set z.slots (q - 1) (Some (record s { count = counted_frame s.count c.args.came }))) c.self.view_is
+
+pub overflow_sub-number : goal.overflow_sub-number
+overflow_sub-number g c = c.requires.from
+
+pub unreachable-requires : goal.unreachable-requires
+unreachable-requires g c =
+    let there = c.requires.there in
+    let given = subst (λ (z : PortsState _ _). slot_at z c.args.number ≡ Some there.0) (sym c.self.view_is) there.1 in
+    not_none c.self.inside.slots.items c.args.number c.index_mut.result.now there.0 given c.index_mut.ensures.value c.in-None.is
+
+pub unreachable-unreachable : goal.unreachable-unreachable
+unreachable-unreachable g c = c.unreachable.type_inv

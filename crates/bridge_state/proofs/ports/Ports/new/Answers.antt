@@ -8,7 +8,7 @@ loop-place-preserved g c =
     let few = c.loop-place.invariant.few in
     let room = c.loop-place.invariant.room in
     record {
-      first = first_next c.args.plan.now.ports c.loop-place.slots.items c.push.new.self.items c.loop-place.place c.in_ok-slot.slot c.loop-place.invariant.first c.in_ok-slot.ensures c.in-Ok.ensures.items;
+      first = first_next c.args.plan.now.ports c.loop-place.slots.items c.push.new.self.items c.loop-place.place c.in-Ok-slot_of.slot c.loop-place.invariant.first c.in-Ok-slot_of.ensures c.in-Ok-push.ensures.items;
       few = grind (arith, common_steps);
       room = grind (arith, common_steps);
     }
@@ -31,10 +31,10 @@ returns-clause-first g c =
 
 pub loop-place-init : goal.loop-place-init
 loop-place-init g c =
-    let none = c.in_ok-slots.ensures.items in
-    let room = c.in_ok-slots.ensures.capacity in
+    let none = c.in-Ok.ensures.items in
+    let room = c.in-Ok.ensures.capacity in
     record {
-      first = first_start c.args.plan.now.ports c.in_ok-slots.slots.items none;
+      first = first_start c.args.plan.now.ports c.in-Ok.slots.items none;
       few = grind (arith, common_steps);
       room = grind (arith, common_steps);
     }

@@ -3,7 +3,7 @@ use Rattle.std.specs.Prelude.{slice_index, slice_set}
 use Rattle.bridge_state.specs.declared.slot.Slot.{Slot}
 use Rattle.bridge_state.specs.Ports.{PortsState, slot_in, slot_at, MayOffer, NotBefore, IsSlot, HasOffered}
 use Rattle.bridge_port.specs.Standing.{State}
-use Rattle.bridge_state.proofs.Porting.{below, held_is, here, kept_set, not_late, not_before, slot_offered, same_slot, has_offered}
+use Rattle.bridge_state.proofs.Porting.{below, held_is, here, kept_set, not_late, not_before, not_none, slot_offered, same_slot, has_offered}
 use Rattle.bridge_state.proofs.ports.Ports.offer.Goals as goal
 
 pub index_mut-requires : goal.index_mut-requires
@@ -66,3 +66,15 @@ returns-clause-due g c =
     not_before g.G.Agenda.held c.self.inside.agenda c.renew_from.new.agenda c.args.number c.args.t c.offer-answer.new.self.port c.next_start-due.result c.renew_from.ensures c.next_start-due.ensures.due
     (ap (λ (s : Slot _). s.port.earliest) c.offer-answer.ensures.moved)
     (λ r k e. c.requires.due r k (subst (λ (z : PortsState _ _). g.G.Agenda.held z.agenda r ≡ Some k) c.self.view_is e))
+
+pub overflow_sub-number : goal.overflow_sub-number
+overflow_sub-number g c = c.requires.from
+
+pub unreachable-requires : goal.unreachable-requires
+unreachable-requires g c =
+    let there = c.requires.there in
+    let given = subst (λ (z : PortsState _ _). slot_at z c.args.number ≡ Some there.0) (sym c.self.view_is) there.1 in
+    not_none c.self.inside.slots.items c.args.number c.index_mut.result.now there.0 given c.index_mut.ensures.value c.in-None.is
+
+pub unreachable-unreachable : goal.unreachable-unreachable
+unreachable-unreachable g c = c.unreachable.type_inv

@@ -86,3 +86,9 @@ returns-clause-keeps g c =
     let at = here slots q c.index_mut.result.now slot low c.index_mut.ensures.value c.in-Some-index_mut.is in
     kept_set g.G.Agenda.held slots c.self.inside.agenda c.renew.new.agenda q c.start-begun.new.self c.next_start-due.result c.self.invariant o.0 low c.renew.ensures c.next_start-due.ensures.due
     (slot_started slot c.start-begun.new.self c.in-Some.start c.start-begun.result.class c.start-begun.result.item c.start-begun.ensures.moved (c.self.invariant.each q slot o.0 at))
+
+pub unreachable-unreachable : goal.unreachable-unreachable
+unreachable-unreachable g c = c.unreachable.type_inv
+
+pub unreachable-unreachable-in-None : goal.unreachable-unreachable-in-None
+unreachable-unreachable-in-None g c = c.unreachable-in-None.type_inv
