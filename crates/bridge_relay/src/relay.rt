@@ -15,6 +15,7 @@ ghost use Rattle.bridge_state.specs.Tables.{IsOpen};
 ghost use Rattle.bridge_relay.specs.Relaying.{classified, filter_number, one_less, releasing, HasRuled, IsFresh, IsNumbered, IsPending, HasWayPriority, IsRelayed, HasOfferedTo, IsPrepared, MayRelay, IsOffering, HasCopies, HasPassed, IsOver, leaves};
 ghost use Rattle.std.specs.Prelude.{true, false, IfSome, IsTrue, All, OnErr, max, slice_index, ◌≡◌, ℕ, ◌<◌, ◌≤◌, ◌+◌, ◌*◌, ◌^◌, List, ◌∷◌, Some, None, Option, length, OnOk, IfErr, IfOk};
 ghost use Rattle.bridge_config.specs.Model as config;
+ghost use Rattle.bridge_ident.specs.Identification.{handle_in};
 ghost use Rattle.bridge_config.specs.Rules.{port_at};
 ghost use Rattle.bridge_config.specs.Commands.{has_instance};
 ghost use Rattle.bridge_capture.specs.Grammar.{Captured};
@@ -30,7 +31,7 @@ use bridge_cycle::NoMemory;
 use bridge_events::Agenda;
 use bridge_filter::{Call, Clear, Police, Route, Ruling, Verdict};
 use bridge_forward::PortSet;
-use bridge_frame::{Tag, parse};
+use bridge_frame::{Head, Tag, parse};
 use bridge_ident::Ident;
 use bridge_inputs::Spares;
 use bridge_limits::{END_OF_TIME, LONGEST_FRAME, MOST_ARRIVALS, MOST_CAPTURED};
@@ -41,6 +42,14 @@ use bridge_state::tables::{depart, judge, note, promise, release};
 use bridge_state::{Begun, Came, Ports, Tables};
 use std::alloc::Allocator;
 use std::marker::Model;
+
+/// The stream handle of a frame. It stands apart: within the loop of a run it takes the registers of what stands around it.
+#[inline(never)]
+fn handle_of<A: Allocator + Copy>(ident: &Ident<A>, port: u8, head: &Head, vid: u16) -> Option<u32>
+    ensures { result ≡ handle_in ident.now port head.now vid }
+{
+    ident.handle_of(port, head, vid)
+}
 
 /// A bridge: its ports, filters and what is told so far, over a plan that it borrows.
 #[derive(Drop)]
@@ -214,7 +223,7 @@ impl<'a, G: Agenda + Drop, A: Allocator + Copy> Relay<'a, G, A> {
         }
         let call = Call {
             at,
-            handle: self.ident.handle_of(port, &head, vid),
+            handle: handle_of(&self.ident, port, &head, vid),
             priority,
             dei,
             sdu: head.sdu,

@@ -38,6 +38,7 @@ impl<G: Agenda + Drop, A: Allocator + Copy> Model for Ports<G, A> {
 }
 
 /// Gives a port its next start, or none.
+#[inline(always)]
 fn renew<G: Agenda>(agenda: &mut G, port: u8, due: Option<u64>)
     requires from { 1 ≤ port }
     requires to { port ≤ 16 }
