@@ -4,11 +4,8 @@ use Rattle.bridge_config.specs.Model.{Plan}
 use Rattle.bridge_jobs.specs.declared.fault.Fault.{Fault}
 use Rattle.bridge_inputs.specs.declared.fault.RunFault.TheVariants as run
 use Rattle.bridge_jobs.specs.declared.fault.Fault.TheVariants as fault
-use Rattle.bridge_jobs.specs.Jobs.{EndsCheck}
-use Rattle.bridge_jobs.specs.Reading.{IsOfFile}
 use Rattle.bridge_running.specs.Files.{EndsReading, EndsSending, IsAcceptedPlan}
-use Rattle.bridge_app.specs.Files.{EndsChecked, EndsDrawn, EndsShown, EndsTabled, EndsTold, IsOfShowing, IsOfTable, IsOfTables}
-use Rattle.bridge_files.specs.Wiring.{IsStandard}
+use Rattle.bridge_app.specs.Files.{EndsDrawn, EndsShown, EndsTabled, EndsTold, IsOfShowing, IsOfTable, IsOfTables}
 
 -- a run whose picture was made or failed
 pub sent_shown : {A : Type 0} (p : Plan A) (input output : List ℕ) (file : Option (List ℕ)) (f : Fault) → EndsSending p input output f → EndsShown p input output file f
@@ -72,13 +69,3 @@ none_told A plan commands input output file (Ok line) h = tt
 none_told A plan commands input output file (Err f) (inl h) = h
 none_told A plan commands input output file (Err f) (inr (inl h)) = absurd h
 none_told A plan commands input output file (Err f) (inr (inr h)) = absurd h
-
-of_file : (A : Type 0) (plan : List ℕ) (f : Fault) → IsOfFile plan f → EndsCheck A plan [] f
-of_file A plan (fault.File path) h = h
-of_file A plan (fault.Run f) h = h
-of_file A plan f h = absurd h
-
--- a plan that can't be read, by the path that is read for its own
-pub not_checked : (A : Type 0) (plan path : List ℕ) (f : Fault) → (path ≡ plan) ⊎ (IsStandard plan × (path ≡ codes "/dev/stdin")) → IsOfFile path f → EndsChecked A plan f
-not_checked A plan path f (inl same) h = inl ([], of_file A plan f (subst (λ p. IsOfFile p f) same h))
-not_checked A plan path f (inr standard) h = inr (standard.0, subst (λ p. IsOfFile p f) standard.1 h)

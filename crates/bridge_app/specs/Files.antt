@@ -1,18 +1,11 @@
 -- The tables and the pictures of a run, and of a plan, that fail.
-use Rattle.std.specs.Prelude.{◌≡◌, ◌⊎◌, ℕ, List, Option, None, Some, codes, string_bytes}
+use Rattle.std.specs.Prelude.{◌≡◌, ◌⊎◌, ℕ, List, Option, None, Some, string_bytes}
 use Rattle.bridge_config.specs.Model.{Plan}
 use Rattle.bridge_inputs.specs.declared.fault.RunFault.TheVariants as run
 use Rattle.bridge_jobs.specs.declared.fault.Fault.{Fault}
 use Rattle.bridge_jobs.specs.declared.fault.Fault.TheVariants as fault
-use Rattle.bridge_jobs.specs.Jobs.{EndsCheck, EndsPlan}
-use Rattle.bridge_jobs.specs.Reading.{IsOfFile}
-use Rattle.bridge_files.specs.Wiring.{IsStandard}
+use Rattle.bridge_jobs.specs.Jobs.{EndsPlan}
 use Rattle.bridge_running.specs.Files.{EndsRun, EndsSending}
-
--- which fault ends the check of a plan, by the path of its file: that of the plan for some text, or of standard input, for which `-`
--- stands
-abbrev pub EndsChecked : (A : Type 0) → List ℕ → Fault → Type 0
-EndsChecked A plan f = ((text : List ℕ) × EndsCheck A plan text f) ⊎ (IsStandard plan × IsOfFile (codes "/dev/stdin") f)
 
 -- the picture of this path failed, or memory was refused
 abbrev pub IsOfPicture : List ℕ → Fault → Type 0

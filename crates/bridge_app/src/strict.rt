@@ -3,18 +3,19 @@ ghost use Rattle.std.specs.Prelude.{◌≡◌, ◌⊎◌, ℕ, IfOk, IfErr, IfSo
 ghost use Rattle.bridge_config.specs.Commands.{AreCommands};
 ghost use Rattle.bridge_jobs.specs.Accepting.{accepted_line};
 ghost use Rattle.bridge_jobs.specs.Jobs.{EndsCheck, PrintsAccepted};
-ghost use Rattle.bridge_files.specs.Wiring.{IsStandard};
+ghost use Rattle.bridge_check_app.specs.Checked.{EndsChecked};
 ghost use Rattle.bridge_running.specs.Files.{PrintsRun};
-ghost use Rattle.bridge_app.specs.Files.{EndsChecked, EndsTabled, EndsTold};
+ghost use Rattle.bridge_app.specs.Files.{EndsTabled, EndsTold};
 
 use crate::explaining::{kept_path, kept_paths, refusal_of_run, said_of_plan, warned_of};
 use crate::job::send_told;
 use crate::noting::Refusal;
 use bridge_advice::{warn_of_plan, warnings_of};
 use bridge_check::Accepted;
+use bridge_check_app::path_of;
 use bridge_cli::{PictureRequest, TableRequest};
 use bridge_config::Command;
-use bridge_files::{FileId, is_standard, text_at};
+use bridge_files::{FileId, text_at};
 use bridge_inputs::RunFault;
 use bridge_jobs::{Cause, Fault, NoMemory, check_line, planned};
 use bridge_running::{Noted, read_job};
@@ -106,17 +107,6 @@ fn refused(
         None
     };
     Refusal { fault, said }
-}
-
-/// The path of a file of the words, where `-` is standard input.
-fn path_of(file: &str) -> &str
-    ensures { (result.now ≡ file.now) ⊎ (IsStandard file.now × (result.now ≡ codes "/dev/stdin")) }
-{
-    if is_standard(file) {
-        "/dev/stdin"
-    } else {
-        file
-    }
 }
 
 /// What is printed and told for the plan of a text, by the path of its file.

@@ -1,12 +1,13 @@
 //! The job of `wire`, with what is told of its fault.
 ghost use Rattle.std.specs.Prelude.{◌≤◌, IfErr, IfOk, string_bytes};
-ghost use Rattle.bridge_files.specs.Wiring.{EndsWiring, SaysCounts};
+ghost use Rattle.bridge_wiring.specs.Files.{EndsWiring, SaysCounts};
 
 use crate::explaining::{kept_path, refusal_of_wire};
 use crate::noting::Refusal;
-use bridge_files::{Said, wire_noted};
+use bridge_files::Said;
 use bridge_frame::Speed;
 use bridge_port::LARGEST_ROOM;
+use bridge_wiring::wire_noted;
 use std::rt::Files;
 
 /// The job of `wire_files`, with what is told of a fault, where that is asked for.

@@ -8,8 +8,8 @@ ghost use Rattle.bridge_cli.specs.CommandLine.{AsksFor, commands};
 ghost use Rattle.bridge_cli.specs.Helping.{AsksForHelp, IsHelp, is_help_kind, is_help_word};
 
 use crate::command::{commands_of, matches_of};
+use bridge_inputs::RunFault;
 use bridge_jobs::Fault;
-use bridge_wire::RunFault;
 use clap::error::ErrorKind;
 use clap::{Command, Error};
 use std::alloc::{AllocError, Global};

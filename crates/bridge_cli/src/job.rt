@@ -10,8 +10,8 @@ ghost use Rattle.bridge_cli.specs.CommandLine.{AsksFor, AsksForBounds, AsksForCh
 use crate::command::matches_of;
 use crate::number::{room_of, speed_of};
 use bridge_frame::Speed;
+use bridge_inputs::RunFault;
 use bridge_jobs::Fault;
-use bridge_wire::RunFault;
 use clap::error::ErrorKind;
 use clap::{ArgMatches, Error};
 use std::alloc::Global;

@@ -8,8 +8,8 @@ ghost use Rattle.bridge_cli.specs.Sketching.{AreInOrder, AsksForPart, AsksForSke
 use crate::command::matches_of;
 use crate::job::{fault_of, option_of, value_of};
 use crate::number::{is_list, moment_of};
+use bridge_inputs::RunFault;
 use bridge_jobs::Fault;
-use bridge_wire::RunFault;
 use clap::ArgMatches;
 use std::alloc::Global;
 

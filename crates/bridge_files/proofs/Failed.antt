@@ -1,5 +1,5 @@
 -- Which file failed.
-use Rattle.std.proofs.Common.{◌≡◌, ℕ, List, ◌∙◌}
+use Rattle.std.proofs.Common.{◌≡◌, ℕ, zero, suc, ◌<◌, List, [], ◌∷◌, length, slice_index, inl, inr, refl, ◌∙◌, arith}
 use Rattle.bridge_limits.specs.Members.{In}
 use Rattle.bridge_jobs.specs.declared.fault.Fault.{Fault}
 use Rattle.bridge_jobs.specs.declared.fault.Fault.TheVariants as fault
@@ -10,3 +10,9 @@ use Rattle.bridge_files.specs.Paths.{capture_path}
 pub is_capture : (folder ports path : List ℕ) (port : ℕ) (f : Fault) → In port ports → path ≡ capture_path folder port → IsFile path f → IsOfCaptures folder ports f
 is_capture folder ports path port (fault.File p) here is h = (port, here, h ∙ is)
 is_capture folder ports path port f here is h = absurd h
+
+-- a list has what stands at a place of it
+pub index_in : (xs : List ℕ) (i : ℕ) → i < length xs → In (slice_index xs i) xs
+index_in [] i l = absurd (omega (arith, l))
+index_in (x ∷ xs) zero l = inl refl
+index_in (x ∷ xs) (suc i) l = inr (index_in xs i (omega (arith, l)))

@@ -1,5 +1,4 @@
 pub mod Paths
 pub mod Files
-pub mod Flushed
 pub mod Taken
-pub mod Wiring
+pub mod Said

@@ -70,7 +70,7 @@ pub fn cause_of_write(rt: &impl Files, path: &str, error: &Error) -> Cause {
 }
 
 /// Why a capture can't be opened, by the error: where there is none, by what lies beside it, or else this.
-pub(crate) fn cause_of_capture(
+pub fn cause_of_capture(
     rt: &(impl AllocGlobal + Files),
     path: &str,
     error: &Error,

@@ -1,4 +1,3 @@
-pub mod Text
 pub mod Status
 pub mod Lines
 pub mod PlanLines
@@ -6,7 +5,6 @@ pub mod CheckLines
 pub mod RefusedCommands
 pub mod Accepting
 pub mod Commanding
-pub mod Counts
 pub mod Numbering
 pub mod Reading
 pub mod Jobs

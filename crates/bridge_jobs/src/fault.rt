@@ -2,12 +2,10 @@
 ghost use Rattle.std.specs.Prelude.{◌≡◌};
 ghost use Rattle.bridge_inputs.specs.declared.fault.RunFault.TheVariants.{NoMemory as no_memory};
 ghost use Rattle.bridge_jobs.specs.declared.fault.Fault.TheVariants.{Run as run};
-ghost use Rattle.bridge_jobs.specs.Text.{text_fault_of};
 
 use bridge_check::CheckFault;
-use bridge_hex::HexFault;
+use bridge_inputs::RunFault;
 use bridge_schema::PlanFault;
-use bridge_wire::RunFault;
 use std::alloc::AllocError;
 use thiserror::Error;
 
@@ -36,18 +34,6 @@ impl TextFault {
             TextFault::NotHex => 1,
             TextFault::TooLong => 2,
             TextFault::Run(_) => 3,
-        }
-    }
-}
-
-impl From<HexFault> for TextFault {
-    ghost from_gives = { λ fault e. e ≡ text_fault_of fault };
-
-    fn from(fault: HexFault) -> TextFault {
-        match fault {
-            HexFault::NotHex => TextFault::NotHex,
-            HexFault::TooLong => TextFault::TooLong,
-            HexFault::NoMemory => TextFault::Run(RunFault::NoMemory),
         }
     }
 }

@@ -7,7 +7,7 @@ ghost use Rattle.bridge_jobs.specs.Status.{status_of};
 use crate::fault::Fault;
 use crate::jobs::standard_file;
 use crate::line::fault_line;
-use bridge_wire::RunFault;
+use bridge_inputs::RunFault;
 use std::env;
 use std::io::ErrorKind;
 use std::process::ExitCode;

@@ -1,70 +1,20 @@
-//! The jobs, from what is read to what is printed.
-ghost use Rattle.std.specs.Prelude.{◌≡◌, ◌≤◌, ℕ, List, Some, Ok, IfOk, IfErr, string_bytes};
+//! The jobs over plans, from what is read to what is printed.
+ghost use Rattle.std.specs.Prelude.{◌≡◌, ℕ, List, Some, Ok, IfOk, IfErr, string_bytes};
 ghost use Rattle.bridge_config.specs.Document.{plan_of_text};
-ghost use Rattle.bridge_jobs.specs.Jobs.{Accepts, EndsCheck, EndsPlan, EndsText, EndsWire, IsCountsLine, IsOfRun, PrintsAccepted, PrintsCounts, PrintsText};
+ghost use Rattle.bridge_jobs.specs.Jobs.{Accepts, EndsCheck, EndsPlan, PrintsAccepted};
 ghost use Rattle.bridge_jobs.specs.Reading.{IsOfFile, IsOfStandardFile};
 
 use crate::accepting::{check_line, checked};
-use crate::captures::through;
-use crate::counts::wire_line;
 use crate::fault::Fault;
 use crate::reading::{ReadFault, read_at_most};
-use crate::text::wire_text;
 use bridge_check::Accepted;
 use bridge_config::{Plan, plan_of};
-use bridge_frame::Speed;
-use bridge_port::LARGEST_ROOM;
-use bridge_wire::RunFault;
+use bridge_inputs::RunFault;
 use std::alloc::{Allocator, Global};
-use std::io::{Read, Write};
-
-/// The most octets of standard input that are looked at: one more than a text may have.
-const MOST_INPUT: u64 = 4_194_305;
+use std::io::Read;
 
 /// The most octets of a plan that are read: one more than a plan may have.
 const MOST_PLAN: u64 = 1_048_577;
-
-/// What is printed for the hexadecimal text of standard input: the lines of what left one queue.
-pub fn text_job<R: Read + Drop>(alloc: Global, reader: R) -> Result<String, Fault>
-    ensures ok { (input : List ℕ) → R.remaining reader ≡ Some input
-        → IfOk result (λ lines. PrintsText input (string_bytes lines)) }
-    ensures err { (input : List ℕ) → R.remaining reader ≡ Some input → IfErr result (EndsText input) }
-{
-    let text = match read_at_most(alloc, reader, MOST_INPUT) {
-        Ok(text) => text,
-        Err(fault) => return Err(fault_of_input(alloc, fault)),
-    };
-    match wire_text(alloc, &text) {
-        Ok(lines) => Ok(lines),
-        Err(fault) => Err(Fault::Text(fault)),
-    }
-}
-
-/// What is printed for the capture of a reader that went through one queue of a room of frames (1 to 4096) into a
-/// writer, and the writer with all of it.
-pub fn wire_job<R: Read + Drop, W: Write + Drop>(
-    alloc: Global,
-    speed: Speed,
-    room: u16,
-    reader: R,
-    writer: W,
-) -> Result<(String, W), Fault>
-    requires room { (1 ≤ room) × (room ≤ LARGEST_ROOM) }
-    ensures ok { (input : List ℕ) → R.remaining reader ≡ Some input →
-        IfOk result (λ done. PrintsCounts speed room input (W.contents writer) (W.contents done.1)
-        (string_bytes done.0)) }
-    ensures line { IfOk result (λ done. IsCountsLine (string_bytes done.0)) }
-    ensures err { (input : List ℕ) → R.remaining reader ≡ Some input → IfErr result (EndsWire input) }
-    ensures one { IfErr result IsOfRun }
-{
-    match through(alloc, speed, room, reader, writer) {
-        Ok((count, writer)) => match wire_line(alloc, &count) {
-            Ok(line) => Ok((line, writer)),
-            Err(_) => Err(Fault::Run(RunFault::NoMemory)),
-        },
-        Err(halted) => Err(Fault::Run(halted.fault)),
-    }
-}
 
 /// The plan of a reader, by the path of its file, where it isolates each of its protected filters.
 ///
@@ -141,16 +91,6 @@ pub fn standard_file(alloc: Global) -> Fault
     match String::from_str(alloc, "-") {
         Ok(path) => Fault::File(path),
         Err(_) => Fault::Run(RunFault::NoMemory),
-    }
-}
-
-/// The fault of standard input that can't be read.
-fn fault_of_input(alloc: Global, fault: ReadFault) -> Fault
-    ensures { IsOfStandardFile result }
-{
-    match fault {
-        ReadFault::Broken => standard_file(alloc),
-        ReadFault::NoMemory => Fault::Run(RunFault::NoMemory),
     }
 }
 

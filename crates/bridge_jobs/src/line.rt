@@ -10,9 +10,9 @@ use crate::plan_line::put_plan;
 use crate::refused_commands::put_commands;
 use crate::status::ending;
 use bridge_capture::CaptureFault;
+use bridge_inputs::RunFault;
 use bridge_limits::NoMemory;
 use bridge_text::Text;
-use bridge_wire::RunFault;
 use std::alloc::Allocator;
 
 /// The line that the program prints for a fault on standard error, without its line feed, and the status with which it

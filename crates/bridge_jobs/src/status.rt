@@ -6,8 +6,8 @@ use crate::fault::{Fault, TextFault};
 use bridge_capture::CaptureFault;
 use bridge_check::CheckFault;
 use bridge_cycle::ListFault;
+use bridge_inputs::RunFault;
 use bridge_schema::PlanFault;
-use bridge_wire::RunFault;
 
 /// A plan, commands or a network that are refused.
 const REFUSED_PLAN: u8 = 1;

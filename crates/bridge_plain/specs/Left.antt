@@ -1,16 +1,10 @@
 -- What is left to programs that explain, draw and know networks.
-use Rattle.std.specs.Prelude.{Bool, ℕ, List, ◌≡◌, ◌⊎◌, ◌||◌, false, is_some, true}
-use Rattle.bridge_cli.specs.CommandLine.{AsksFor}
-use Rattle.bridge_cli.specs.Helping.{explains}
+use Rattle.std.specs.Prelude.{Bool, ℕ, List, ◌||◌, false, true}
 use Rattle.bridge_cli.specs.declared.job.Job.{Job}
 use Rattle.bridge_cli.specs.declared.job.Job.TheVariants as job
 use Rattle.bridge_cli.specs.declared.request.Request.{Request}
-use Rattle.bridge_plain.specs.declared.performing.Done.{Done}
-use Rattle.bridge_plain.specs.declared.performing.Done.TheVariants as done
-
--- an explanation, strictness, a picture or a table is asked for
-abbrev pub wants_more : Request → Bool
-wants_more r = r.is_explained || (r.is_strict || (is_some r.picture || (is_some r.tables.delays || is_some r.tables.frames)))
+use Rattle.bridge_check_app.specs.Left.{LeavesBy, MayLeaveBy, wants_more}
+use Rattle.bridge_check_app.specs.declared.asking.Done.{Done}
 
 -- a picture, or a job over bounds or over a network
 abbrev pub is_apart : Job → Bool
@@ -29,13 +23,8 @@ is_beyond r = wants_more r || is_apart r.job
 
 -- what is asked is left as it is, and only where more is asked than that line
 abbrev pub LeavesMore : Request → Done → Type 0
-LeavesMore request (done.Ended ending) = Unit {0}
-LeavesMore request (done.Left left) = (left ≡ request) × (is_beyond request ≡ true)
-
--- the words ask for a job of which more is asked than its line
-abbrev pub AsksBeyond : List (List ℕ) → Type 0
-AsksBeyond words = (request : Request) × (AsksFor words request.job × (is_beyond request ≡ true))
+LeavesMore request done = LeavesBy is_beyond request done
 
 -- words whose job may be left
 abbrev pub MayLeave : List (List ℕ) → Type 0
-MayLeave words = (explains words ≡ true) ⊎ AsksBeyond words
+MayLeave words = MayLeaveBy is_beyond words

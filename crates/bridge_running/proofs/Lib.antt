@@ -1,1 +1,4 @@
 pub mod Ended
+pub mod Kept
+pub mod Devices
+pub mod Ran

@@ -1,1 +1,2 @@
+pub mod Flushed
 pub mod Files

@@ -4,12 +4,13 @@ ghost use Rattle.bridge_config.specs.Commands.{AreCommands};
 ghost use Rattle.bridge_running.specs.Files.{EndsReading, EndsRun, EndsSending, IsAcceptedPlan, IsOfOutputs, IsOfReport, PrintsRun};
 
 use crate::noting::Noted;
+use crate::running::run_over;
 use crate::sparing::{take_outputs, take_standard};
 use bridge_check::Accepted;
 use bridge_config::Command;
 use bridge_files::{
     FileId, Output, add_file, add_files, create_all, file_at, is_one_of, is_same_folder, open_all,
-    output_apart, report_path, run_over, take_text,
+    output_apart, report_path, take_text,
 };
 use bridge_inputs::RunFault;
 use bridge_jobs::{Cause, Fault, commanded, fault_of_file, plan_from};

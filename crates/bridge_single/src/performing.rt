@@ -13,8 +13,9 @@ use bridge_cli::{
     Job, PictureRequest, Request, TableRequest, help_of, request_of, wants_explanation,
 };
 use bridge_files::{Said, is_network, is_standard};
-use bridge_jobs::{Fault, NoMemory, text_job};
+use bridge_jobs::{Fault, NoMemory};
 use bridge_plain::{Done, Ending, done_request, helped, of_said, refused_and_told};
+use bridge_wiring::text_job;
 use std::alloc::Global;
 use std::rt::Files;
 

@@ -5,10 +5,11 @@ use bridge_capture::CaptureFault;
 use bridge_check::CheckFault;
 use bridge_cycle::ListFault;
 use bridge_inputs::RunFault;
-use bridge_jobs::{Fault, TextFault, fault_line, wire_line};
+use bridge_jobs::{Fault, TextFault, fault_line};
 use bridge_schema::{Field, Place, PlanFault, Section};
 use bridge_text::Text;
 use bridge_wire::WireCount;
+use bridge_wiring::wire_line;
 use std::alloc::Global;
 
 /// Faults of captures, by the ports of these.

@@ -11,8 +11,9 @@ use bridge_cli::job_of;
 use bridge_config::{Plan, commands_of, plan_of};
 use bridge_explain::{explain_commands, explain_plan, explain_run, explain_text, explain_words};
 use bridge_hex::octets_of;
-use bridge_jobs::{Fault, NoMemory, TextFault, fault_line, wire_text};
+use bridge_jobs::{Fault, NoMemory, TextFault, fault_line};
 use bridge_text::Text;
+use bridge_wiring::wire_text;
 use std::alloc::Global;
 
 /// Puts the heading of each case of a file, and what is told of the case.

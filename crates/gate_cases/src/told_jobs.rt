@@ -6,8 +6,9 @@ use crate::growths::{growths_of, put_growths};
 use crate::short::{is_refused, put_refused};
 use bridge_check::Accepted;
 use bridge_config::Command;
-use bridge_jobs::{Fault, NoMemory, check_job, commanded, plan_from, wire_text};
+use bridge_jobs::{Fault, NoMemory, check_job, commanded, plan_from};
 use bridge_text::Text;
+use bridge_wiring::wire_text;
 use fixture_alloc::Ending;
 use std::alloc::{Allocator, Global};
 

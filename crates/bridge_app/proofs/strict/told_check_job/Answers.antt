@@ -1,7 +1,7 @@
 use Rattle.std.proofs.Common.{List, ℕ, Global, inl, string_bytes, subst, sym}
 use Rattle.std.proofs.lemmas.Option.{IfSome_then}
-use Rattle.bridge_app.specs.Files.{EndsChecked}
-use Rattle.bridge_app.proofs.Ended.{not_checked}
+use Rattle.bridge_check_app.specs.Checked.{EndsChecked}
+use Rattle.bridge_check_app.proofs.Ended.{not_checked}
 use Rattle.bridge_app.proofs.strict.told_check_job.Goals as goal
 
 pub returns-in-Ok-strict_check-clause-ok : goal.returns-in-Ok-strict_check-clause-ok

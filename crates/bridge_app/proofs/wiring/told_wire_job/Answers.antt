@@ -1,5 +1,5 @@
 use Rattle.std.proofs.Common.{string_bytes, subst, sym}
-use Rattle.bridge_files.specs.Wiring.{EndsWiring}
+use Rattle.bridge_wiring.specs.Files.{EndsWiring}
 use Rattle.bridge_app.proofs.wiring.told_wire_job.Goals as goal
 
 pub returns-clause-err : goal.returns-clause-err

@@ -1,5 +1,5 @@
 use Rattle.std.proofs.Common.{length, ◌<◌, rules}
-use Rattle.bridge_files.proofs.Kept.{index_in}
+use Rattle.bridge_files.proofs.Failed.{index_in}
 use Rattle.bridge_files.proofs.files.open_all.Goals as goal
 
 pub returns-in-Err-clause-only : goal.returns-in-Err-clause-only

@@ -1,5 +1,5 @@
 use Rattle.std.proofs.Common.{length, ◌<◌, rules}
-use Rattle.bridge_files.proofs.Kept.{index_in}
+use Rattle.bridge_files.proofs.Failed.{index_in}
 use Rattle.bridge_running.proofs.sparing.take_outputs.Goals as goal
 
 pub returns-then-not-is_new : goal.returns-then-not-is_new

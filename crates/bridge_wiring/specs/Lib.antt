@@ -1,0 +1,4 @@
+pub mod Text
+pub mod Counts
+pub mod Jobs
+pub mod Files
