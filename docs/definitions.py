@@ -271,7 +271,7 @@ def help_in(page):
 
 
 def check_places(commands):
-    """Fails where the places of the commands are not those of the table, one for each by its name."""
+    """Fails where the places of the commands are not those of the table, one for each by its name, in its order."""
     text = read(TOP / "crates/bridge_cli/src/command.rt")
     count = int(re.search(r"const COMMANDS: usize = (\d+);", text)[1])
     places = re.findall(r"^ +(\d+) => Some\((\w+)\(\)\),$", text, re.M)
@@ -285,7 +285,7 @@ def check_help():
     printed = help_in(read(TOP / "crates/gate_cases/stdout"))
     rows = re.findall(r'Description = Description {\s*name: "(\w+)"', read(TOP / "crates/bridge_cli/src/command.rt"))
     wanted = {f"{name} --help".removeprefix("tsnbridge ") for name in rows}
-    check_places(sorted(set(rows) - {"tsnbridge"}))
+    check_places([it for it in rows if it != "tsnbridge"])
     if not wanted or printed.keys() != wanted:
         fail(f"crates/gate_cases/stdout has the help of {sorted(printed)}, the table of commands has {sorted(wanted)}")
     for words in sorted(told.keys() | wanted):

@@ -12,7 +12,8 @@ use bridge_cycle::{Egress, Run, is_open};
 use bridge_filter::FilterPlan;
 use bridge_frame::occupation;
 use bridge_limits::{LONGEST_FRAME, NoMemory};
-use bridge_text::{Position, Text, behind, put_position, table_position};
+use bridge_places::{Position, put_position, table_position};
+use bridge_text::{Text, behind};
 use std::alloc::{Allocator, Global};
 
 const NO_HANDLE: &str =

@@ -1,8 +1,10 @@
 -- What a call can't have answered.
-use Rattle.std.proofs.Common.{◌≡◌, ℕ, false, nat_eq, Result, Ok, Err, sym, ap, ◌∙◌, subst, true≢false}
+use Rattle.std.proofs.Common.{◌≡◌, ℕ, Bool, true, false, Option, List, refl, nat_eq, Result, Ok, Err, sym, ap, ◌∙◌, subst, true≢false}
 use Rattle.bridge_limits.proofs.Orders.{same_eq}
 use Rattle.bridge_capture.specs.declared.fault.CaptureFault.{CaptureFault}
+use Rattle.bridge_capture.specs.declared.fault.CaptureFault.TheVariants as faults
 use Rattle.bridge_capture.specs.Numbers.{number_of}
+use Rattle.bridge_capture.specs.Reading.{CutsOctets, IsOfWords, TellsOf}
 
 -- the number of an answer's fault, 0 where there is none
 abbrev pub number_in : {X : Type 0} → Result X CaptureFault → ℕ
@@ -31,3 +33,30 @@ err_ok e = cc
 -- the same fault in another answer
 pub told_on : {X Y : Type 0} {a b : CaptureFault} → ◌≡◌ {A = Result X CaptureFault} (Err a) (Err b) → ◌≡◌ {A = Result Y CaptureFault} (Err a) (Err b)
 told_on {X} {Y} {a} {b} e = ap (λ (f : CaptureFault). Err f) (same_fault a b e)
+
+-- WHAT AN ANSWER SAYS OF ITS SOURCE
+
+-- an answer that is no fault of a device, of a source that hasn't failed
+pub told_sound : {S X : Type 0} {has_failed never_fails : S → Bool} {old new : S} {result : Result X CaptureFault} → nat_eq (number_in result) 11 ≡ false → nat_eq (number_in result) 12 ≡ false
+    → (has_failed old ≡ true → ⊥) → (never_fails old ≡ true → never_fails new ≡ true) → TellsOf has_failed never_fails old new result
+told_sound no_read no_write fresh lasts = record { failed = λ e. absurd (apart e no_read); sure = λ _ e. apart e no_read; lasts = lasts; broken = λ b. absurd (fresh b); no_write = λ e. apart e no_write }
+
+-- the source has failed
+pub told_failed : {S X : Type 0} {has_failed never_fails : S → Bool} {old new : S} → has_failed new ≡ true → (never_fails old ≡ true → ⊥) → TellsOf {S = S} {X = X} has_failed never_fails old new (Err faults.Read)
+told_failed failed unsure = record { failed = λ _. failed; sure = λ s. absurd (unsure s); lasts = λ s. absurd (unsure s); broken = λ _. refl; no_write = λ e. apart e refl }
+
+-- the words of a record were refused
+pub told_of_words : {S X : Type 0} {has_failed never_fails : S → Bool} {old new : S} (fault : CaptureFault) → IsOfWords fault
+    → (has_failed old ≡ true → ⊥) → (never_fails old ≡ true → never_fails new ≡ true) → TellsOf {S = S} {X = X} has_failed never_fails old new (Err fault)
+told_of_words fault is fresh lasts = record { failed = λ e. absurd (of_kind IsOfWords fault faults.Read is (λ x. x) e); sure = λ _. of_kind IsOfWords fault faults.Read is (λ x. x); lasts = lasts; broken = λ b. absurd (fresh b); no_write = of_kind IsOfWords fault faults.Write is (λ x. x) }
+
+-- its octets weren't read
+not_written : (number count : ℕ) (old new : Option (List ℕ)) (fault : CaptureFault) → CutsOctets number count old new fault → fault ≡ faults.Write → ⊥
+not_written number count old new fault cut e =
+    let w = subst (CutsOctets number count old new) e cut in
+    let no : faults.Write ≡ faults.RecordCut number = w.0 in cc
+
+pub told_of_octets : {S X : Type 0} {has_failed never_fails : S → Bool} {old new : S} (mid : S) (number count : ℕ) (first left : Option (List ℕ)) (fault : CaptureFault) → CutsOctets number count first left fault
+    → (◌≡◌ {A = Result X CaptureFault} (Err fault) (Err faults.Read) → has_failed new ≡ true) → (never_fails mid ≡ true → ◌≡◌ {A = Result X CaptureFault} (Err fault) (Err faults.Read) → ⊥) → (never_fails mid ≡ true → never_fails new ≡ true)
+    → (has_failed old ≡ true → ⊥) → (never_fails old ≡ true → never_fails mid ≡ true) → {Y : Type 0} → TellsOf {S = S} {X = Y} has_failed never_fails old new (Err fault)
+told_of_octets mid number count first left fault cut failed sure lasts fresh kept = record { failed = λ e. failed (told_on e); sure = λ s e. sure (kept s) (told_on e); lasts = λ s. lasts (kept s); broken = λ b. absurd (fresh b); no_write = λ e. not_written number count first left fault cut (same_fault fault faults.Write e) }

@@ -1,6 +1,8 @@
 -- What reading one record gives.
-use Rattle.std.specs.Prelude.{◌≡◌, ◌<◌, ℕ, ⊤, List, length, Option, Some, None, Result, Ok, Err, Vec}
+use Rattle.std.specs.Prelude.{◌≡◌, ◌≢◌, ◌<◌, ◌≤◌, ℕ, Bool, true, ⊤, List, length, Option, Some, None, Result, Ok, Err, Vec}
 use Rattle.std.specs.Io.KnownBytes.{Consumes, IsAtEnd}
+use Rattle.bridge_limits.specs.declared.TheConstants.{END_OF_TIME, MOST_CAPTURED}
+use Rattle.bridge_capture.specs.declared.record.TheConstants.{MAX_RECORDS}
 use Rattle.bridge_capture.specs.declared.fault.CaptureFault.{CaptureFault}
 use Rattle.bridge_capture.specs.declared.fault.CaptureFault.TheVariants as faults
 use Rattle.bridge_capture.specs.declared.packet.Packet.{Packet}
@@ -61,3 +63,19 @@ IsOfHeader faults.BadMagic = Unit {0}
 IsOfHeader faults.BadVersion = Unit {0}
 IsOfHeader faults.BadLinkType = Unit {0}
 IsOfHeader fault = ⊥
+
+-- what holds of a packet that was read as record `number`, after one at `earliest`, whatever the source tells
+pub record IsInBounds {A : Type 0} (number earliest : ℕ) (packet : Packet A) : Type 0 where
+  pub few : number ≤ MAX_RECORDS
+  pub early : packet.time < END_OF_TIME
+  pub onward : earliest ≤ packet.time
+  pub small : length packet.octets.items ≤ MOST_CAPTURED
+  pub within : length packet.octets.items ≤ packet.len
+
+-- what an answer says of the source that was asked: only one that has failed is answered so, and each such one is
+pub record TellsOf {S X : Type 0} (has_failed never_fails : S → Bool) (old new : S) (result : Result X CaptureFault) : Type 0 where
+  pub failed : result ≡ Err faults.Read → has_failed new ≡ true
+  pub sure : never_fails old ≡ true → result ≢ Err faults.Read
+  pub lasts : never_fails old ≡ true → never_fails new ≡ true
+  pub broken : has_failed old ≡ true → result ≡ Err faults.Read
+  pub no_write : result ≢ Err faults.Write

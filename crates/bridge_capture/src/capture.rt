@@ -13,7 +13,7 @@ use std::marker::Model;
 
 /// A capture that is being read. It keeps no source: each call is lent the one that the capture
 /// was begun on, untouched in between.
-#[derive(Debug, Drop)]
+#[derive(Drop)]
 pub struct Capture {
     form: Form,
     /// The records so far.

@@ -5,7 +5,7 @@ use crate::source::{Broken, ByteSource};
 use std::io::Read;
 
 /// A reader as a source. Any error of the reader is for good, an interrupted call too.
-#[derive(Debug, Drop)]
+#[derive(Drop)]
 pub struct FromRead<R: Read> {
     reader: R,
     is_broken: bool,

@@ -7,7 +7,7 @@ use std::io::Write;
 
 /// A writer as a sink. Any error of the writer is for good, an interrupted call and a write of
 /// nothing too.
-#[derive(Debug, Drop)]
+#[derive(Drop)]
 pub struct FromWrite<W: Write> {
     writer: W,
     is_broken: bool,

@@ -5,6 +5,7 @@
 //! captured. All four magics are read: either order of octets, fractions of a second in
 //! microseconds or nanoseconds. What is written is little-endian, in nanoseconds.
 
+mod allowance;
 mod capture;
 mod fault;
 mod form;

@@ -2,7 +2,7 @@
 use crate::fault::CaptureFault;
 
 /// Whether a capture goes on.
-#[derive(Clone, Copy, Debug, PartialEq, Eq)]
+#[derive(Clone, Copy)]
 pub enum Progress {
     /// More may come.
     Reading,

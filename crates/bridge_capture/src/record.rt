@@ -1,7 +1,7 @@
 //! One record of a capture.
 ghost use Rattle.std.specs.Prelude.{◌≡◌, ◌≢◌, ◌≤◌, ◌<◌, ◌+◌, ◌*◌, Some, None, Err, true, length, take, IfSome, IfErr, MatchResult};
 ghost use Rattle.bridge_capture.specs.Grammar.{time_of, captured_of, original_of, head_fault, front_of};
-ghost use Rattle.bridge_capture.specs.Reading.{Takes, TakesOctets, IfPacket, IsOfWords, packet_in};
+ghost use Rattle.bridge_capture.specs.Reading.{Takes, TakesOctets, TellsOf, IfPacket, IsInBounds, IsOfWords, packet_in};
 ghost use Rattle.bridge_capture.specs.Taken.{TakesOfRecord, IsSound};
 
 use crate::fault::CaptureFault;
@@ -140,16 +140,8 @@ pub fn front_record<R: ByteSource, A: Allocator>(
         (packet_in octets.new result)) }
     ensures taken { IfErr result (TakesOfRecord form (record
         { number = number; earliest = earliest }) (R.remaining source.old) (R.remaining source.new)) }
-    ensures few { IfPacket (packet_in octets.new result) (λ _. number ≤ MAX_RECORDS) }
-    ensures early { IfPacket (packet_in octets.new result) (λ packet. packet.time < END_OF_TIME) }
-    ensures onward { IfPacket (packet_in octets.new result) (λ packet. earliest ≤ packet.time) }
-    ensures small { IfPacket (packet_in octets.new result) (λ packet. length packet.octets.items ≤ MOST_CAPTURED) }
-    ensures within { IfPacket (packet_in octets.new result) (λ packet. length packet.octets.items ≤ packet.len) }
-    ensures failed { result ≡ Err CaptureFault.Read → R.has_failed source.new ≡ true }
-    ensures sure { R.never_fails source.old ≡ true → result ≢ Err CaptureFault.Read }
-    ensures lasts { R.never_fails source.old ≡ true → R.never_fails source.new ≡ true }
-    ensures broken { R.has_failed source.old ≡ true → result ≡ Err CaptureFault.Read }
-    ensures no_write { result ≢ Err CaptureFault.Write }
+    ensures bounds { IfPacket (packet_in octets.new result) (IsInBounds number earliest) }
+    ensures told { TellsOf R.has_failed R.never_fails source.old source.new result }
 {
     let lent = source.lent();
     let Some(head) = head_at_hand(form, number, earliest, lent) else {
@@ -188,16 +180,8 @@ fn read_record<R: ByteSource, A: Allocator>(
         (packet_in octets.new result)) }
     ensures taken { IfErr result (TakesOfRecord form (record
         { number = number; earliest = earliest }) (R.remaining source.old) (R.remaining source.new)) }
-    ensures few { IfPacket (packet_in octets.new result) (λ _. number ≤ MAX_RECORDS) }
-    ensures early { IfPacket (packet_in octets.new result) (λ packet. packet.time < END_OF_TIME) }
-    ensures onward { IfPacket (packet_in octets.new result) (λ packet. earliest ≤ packet.time) }
-    ensures small { IfPacket (packet_in octets.new result) (λ packet. length packet.octets.items ≤ MOST_CAPTURED) }
-    ensures within { IfPacket (packet_in octets.new result) (λ packet. length packet.octets.items ≤ packet.len) }
-    ensures failed { result ≡ Err CaptureFault.Read → R.has_failed source.new ≡ true }
-    ensures sure { R.never_fails source.old ≡ true → result ≢ Err CaptureFault.Read }
-    ensures lasts { R.never_fails source.old ≡ true → R.never_fails source.new ≡ true }
-    ensures broken { R.has_failed source.old ≡ true → result ≡ Err CaptureFault.Read }
-    ensures no_write { result ≢ Err CaptureFault.Write }
+    ensures bounds { IfPacket (packet_in octets.new result) (IsInBounds number earliest) }
+    ensures told { TellsOf R.has_failed R.never_fails source.old source.new result }
 {
     if number > MAX_RECORDS {
         // One octet is too much already, so no more is asked for.

@@ -3,11 +3,12 @@ ghost use Rattle.std.specs.Prelude.{◌≡◌, ◌≤◌, ◌-◌, ◌<◌, ◌�
 ghost use Rattle.std.specs.Io.KnownBytes.{ReadConsumes};
 ghost use Rattle.bridge_capture.specs.Memory.{is_sure};
 
+use crate::allowance::{allowed, is_over, left_behind};
 use crate::source::{Broken, ByteSource};
 use std::marker::Model;
 
 /// The octets of a slice, as a source.
-#[derive(Debug, Drop)]
+#[derive(Drop)]
 pub struct SliceSource<'a> {
     rest: &'a [u8],
     /// How many octets it still gives before it fails, if it is to fail.
@@ -109,18 +110,15 @@ impl<'a> ByteSource for SliceSource<'a> {
         ensures step { IfOk result (λ n. n ≤ self.old.step) }
         ensures kept { self.new.step ≡ self.old.step }
     {
-        if self.is_broken {
+        if is_over(self.is_broken, self.allowance, buf.len()) {
+            self.is_broken = true;
             return Err(Broken);
         }
-        let mut count = self.step.min(buf.len()).min(self.rest.len());
-        if let Some(left) = self.allowance {
-            if left == 0 && !buf.is_empty() {
-                self.is_broken = true;
-                return Err(Broken);
-            }
-            count = count.min(left);
-            self.allowance = Some(left - count);
-        }
+        let count = allowed(
+            self.allowance,
+            self.step.min(buf.len()).min(self.rest.len()),
+        );
+        self.allowance = left_behind(self.allowance, count);
         let (now, later) = self.rest.split_at(count);
         buf[..count].copy_from_slice(now);
         self.rest = later;

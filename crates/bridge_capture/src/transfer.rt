@@ -49,7 +49,10 @@ fn fill_on<R: ByteSource>(source: &mut R, buf: &mut [u8]) -> Result<usize, Broke
 {
     let mut at = 0;
     while at < buf.len() {
-        let count = source.read(&mut buf[at..])?;
+        let count = match source.read(&mut buf[at..]) {
+            Ok(count) => count,
+            Err(broken) => return Err(broken),
+        };
         if count == 0 {
             return Ok(at);
         }

@@ -3,13 +3,14 @@ ghost use Rattle.std.specs.Prelude.{◌≡◌, ◌≤◌, ◌-◌, ◌<◌, ◌�
 ghost use Rattle.std.specs.Io.KnownBytes.{WriteAppends};
 ghost use Rattle.bridge_capture.specs.Memory.{is_unbounded};
 
+use crate::allowance::{allowed, is_over, left_behind};
 use crate::sink::ByteSink;
 use crate::source::Broken;
 use std::alloc::Allocator;
 use std::marker::Model;
 
 /// A sink that holds what it took.
-#[derive(Debug, Drop)]
+#[derive(Drop)]
 pub struct VecSink<A: Allocator> {
     octets: Vec<u8, A>,
     /// How many octets it still takes before it fails, if it is to fail.
@@ -135,22 +136,14 @@ impl<A: Allocator> ByteSink for VecSink<A> {
         ensures kept { self.new.step ≡ self.old.step }
         ensures spent { self.old.allowance ≡ Some 0 → 0 < length octets.now → IsErr result }
     {
-        if self.is_broken {
+        if is_over(self.is_broken, self.allowance, octets.len()) {
+            self.is_broken = true;
             return Err(Broken);
         }
-        let mut count = self.step.min(octets.len());
-        if let Some(left) = self.allowance {
-            if left == 0 && !octets.is_empty() {
-                self.is_broken = true;
-                return Err(Broken);
-            }
-            count = count.min(left);
-        }
+        let count = allowed(self.allowance, self.step.min(octets.len()));
         match self.octets.extend_from_slice(&octets[..count]) {
             Ok(()) => {
-                if let Some(left) = self.allowance {
-                    self.allowance = Some(left - count);
-                }
+                self.allowance = left_behind(self.allowance, count);
                 Ok(count)
             }
             Err(_) => {

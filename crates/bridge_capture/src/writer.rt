@@ -12,7 +12,7 @@ use crate::transfer::write_all;
 
 /// A capture that is being written, in little order with nanoseconds. It keeps no sink: each call
 /// is lent the one that the capture was begun on, untouched in between.
-#[derive(Debug, Drop)]
+#[derive(Drop)]
 pub struct Writer {
     begun: (),
 }

@@ -3,6 +3,7 @@ pub mod Runs
 pub mod Told
 pub mod Led
 pub mod Others
+mod Passed
 pub mod Least
 pub mod Among
 pub mod Isolated

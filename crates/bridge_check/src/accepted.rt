@@ -109,7 +109,9 @@ fn least_fault<A: Allocator + Copy>(
 fn fault_in<A: Allocator + Copy>(alloc: A, plan: &Plan<A>) -> Result<Option<CheckFault>, AllocError>
     ensures { IfOk result (λ f. f ≡ first_fault plan.now) }
 {
-    let reaches = reaches_in(alloc, plan)?;
+    let Ok(reaches) = reaches_in(alloc, plan) else {
+        return Err(AllocError);
+    };
     match least_fault(plan, &reaches) {
         Some((_, fault)) => Ok(Some(fault)),
         None => Ok(None),

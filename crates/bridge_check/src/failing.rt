@@ -22,7 +22,9 @@ fn push_failing<A: Allocator>(
 {
     for told in tests {
         if let Some(fault) = told {
-            faults.push(*fault)?;
+            let Ok(()) = faults.push(*fault) else {
+                return Err(AllocError);
+            };
         }
     }
     Ok(())
@@ -57,11 +59,15 @@ pub fn faults_of<A: Allocator + Copy>(
 ) -> Result<Vec<CheckFault, A>, NoMemory>
     ensures { IfOk result (λ faults. faults.items ≡ all_faults plan.now) }
 {
-    let reaches = reaches_in(alloc, plan)?;
+    let Ok(reaches) = reaches_in(alloc, plan) else {
+        return Err(NoMemory);
+    };
     let catches = has_catch_all(plan.filters());
     let mut faults = Vec::new(alloc);
     for (number, filter) in plan.filters() {
-        push_filter(&mut faults, plan, &reaches, catches, *number, *filter)?;
+        let Ok(()) = push_filter(&mut faults, plan, &reaches, catches, *number, *filter) else {
+            return Err(NoMemory);
+        };
     }
     Ok(faults)
 }

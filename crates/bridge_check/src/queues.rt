@@ -14,9 +14,13 @@ pub(crate) fn reaches_in<A: Allocator + Copy>(
 ) -> Result<Vec<(u32, Reach), A>, AllocError>
     ensures { IfOk result (λ v. v.items ≡ reaches_of plan.now plan.now.filters) }
 {
-    let mut reaches = Vec::with_capacity(alloc, plan.filters().len())?;
+    let Ok(mut reaches) = Vec::with_capacity(alloc, plan.filters().len()) else {
+        return Err(AllocError);
+    };
     for (number, filter) in plan.filters() {
-        reaches.push((*number, reach_of(plan, filter)))?;
+        let Ok(()) = reaches.push((*number, reach_of(plan, filter))) else {
+            return Err(AllocError);
+        };
     }
     Ok(reaches)
 }

@@ -23,7 +23,7 @@ pub(crate) enum QueueTest {
 }
 
 /// A protected filter, with what is asked about it.
-#[derive(Clone, Copy)]
+#[derive(Drop)]
 struct Case<'a, A: Allocator + Copy> {
     plan: &'a Plan<A>,
     /// The reach of each filter.

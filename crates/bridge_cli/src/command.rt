@@ -10,7 +10,7 @@ use std::alloc::{AllocError, Global};
 
 /// How a word of a command is written.
 #[derive(Clone, Copy)]
-pub(crate) enum Form {
+pub enum Form {
     /// In its place, where it has to be.
     Place,
     /// In its place behind those that have to be there, which need not be there.
@@ -23,32 +23,32 @@ pub(crate) enum Form {
 
 /// A word of a command.
 #[derive(Clone, Copy)]
-pub(crate) struct Word {
+pub struct Word {
     /// The name by which the value is read; an option is written by it, behind `--`.
     pub id: &'static str,
     /// What the help calls the value.
-    value: &'static str,
+    pub value: &'static str,
     /// How the word is written.
     pub form: Form,
     /// What it is, and its range.
-    help: &'static str,
+    pub help: &'static str,
 }
 
 /// A command.
 #[derive(Clone, Copy)]
-pub(crate) struct Description {
+pub struct Description {
     /// The word by which it is called.
     pub name: &'static str,
     /// How it is called: its words and its options, but for `--explain`.
     pub call: &'static str,
     /// What it does.
-    about: &'static str,
+    pub about: &'static str,
     /// Its words.
     pub words: &'static [Word],
     /// What may be wrong with its words where as many stand behind it as have to.
     pub reason: &'static str,
     /// An example, and the statuses.
-    after: &'static str,
+    pub after: &'static str,
 }
 
 /// The plan of a bridge.
@@ -389,17 +389,17 @@ pub const OPTIONS: &str =
 const VERSION: &str = "1.0.0";
 
 /// How many commands there are.
-pub(crate) const COMMANDS: usize = 6;
+pub const COMMANDS: usize = 6;
 
-/// The command of a place among all, in the order of their names; none behind the last.
-pub(crate) fn description_at(place: usize) -> Option<&'static Description> {
+/// The command of a place among all, in the order of the help; none behind the last.
+pub fn description_at(place: usize) -> Option<&'static Description> {
     match place {
-        0 => Some(bounds()),
+        0 => Some(wire()),
         1 => Some(check()),
-        2 => Some(net()),
+        2 => Some(run()),
         3 => Some(picture()),
-        4 => Some(run()),
-        5 => Some(wire()),
+        4 => Some(bounds()),
+        5 => Some(net()),
         _ => None,
     }
 }
@@ -460,7 +460,7 @@ pub fn matches_of<'a>(alloc: Global, words: &'a [String]) -> Result<ArgMatches<'
 }
 
 /// The program with its commands.
-pub(crate) fn commands_of<'a>(alloc: Global) -> Result<Command<'a>, AllocError>
+fn commands_of<'a>(alloc: Global) -> Result<Command<'a>, AllocError>
     ensures { IfOk result (λ c. app_of c ≡ commands) }
 {
     let program = program_of(alloc)?;

@@ -1,7 +1,6 @@
 #![tactic(auto)]
 //! The words of the command line: the job that they ask for, and what they ask for beside it.
 
-mod calls;
 mod command;
 mod explaining;
 mod helping;
@@ -11,10 +10,9 @@ mod picture_request;
 mod request;
 mod table_request;
 
-pub use calls::{Call, call_of, command_names, has_value, option_names};
-pub use command::OPTIONS;
+pub use command::{COMMANDS, Description, Form, OPTIONS, Word, description_at};
 pub use explaining::{wants_explanation, wants_strictness};
-pub use helping::{help_of, manual_of};
+pub use helping::help_of;
 pub use job::{Job, job_of};
 pub use number::numbers_of;
 pub use picture_request::{PictureRequest, picture_request_of};

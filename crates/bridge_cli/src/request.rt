@@ -17,7 +17,7 @@ use clap::ArgMatches;
 use std::alloc::Global;
 
 /// What words ask for.
-#[derive(Debug, Drop)]
+#[derive(Drop)]
 pub struct Request {
     /// What is to be done.
     pub job: Job,

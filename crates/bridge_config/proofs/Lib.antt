@@ -8,3 +8,4 @@ pub mod InOrder
 pub mod Sorted
 mod InTurn
 pub mod Tables
+pub mod Taken

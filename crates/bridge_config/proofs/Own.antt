@@ -1,6 +1,6 @@
 -- One instance more, that none before it equals.
-use Rattle.std.proofs.Common.{◌≡◌, ℕ, Bool, true, false, not, ◌&&◌, nat_eq, List, [], ◌∷◌, ◌++◌, refl, sym, IsTrue, Option, Some, None, cond}
-use Rattle.std.specs.Option.{is_some}
+use Rattle.std.proofs.Common.{◌≡◌, ℕ, Bool, true, false, not, ◌&&◌, nat_eq, List, [], ◌∷◌, ◌++◌, refl, sym, IsTrue, Option, Some, None, Result, Ok, Err, cond}
+use Rattle.std.specs.Option.{ForSome, is_some}
 use Rattle.std.specs.Map.{lookup}
 use Rattle.std.proofs.lemmas.Bool.{and_parts, not-true, false≢true}
 use Rattle.std.proofs.lemmas.List.Folds.{list_all-append}
@@ -16,7 +16,9 @@ use Rattle.bridge_forward.specs.declared.StaticEntry.{StaticEntry}
 use Rattle.bridge_filter.specs.declared.FilterPlan.{FilterPlan}
 use Rattle.bridge_filter.specs.Plans.{is_there, is_there_if_any, are_distinct, has_instances}
 use Rattle.bridge_config.specs.declared.ports.PortPlan.{PortPlan}
-use Rattle.bridge_config.specs.Rules.{has_port, has_vlan, has_static, IsVlan, AreVlans, IsStatic, AreStatics, IsPort, ArePorts, AreGates, AreMeters, IsFilter, AreFilters}
+use Rattle.bridge_config.specs.Rules.{has_port, has_vlan, has_static, IsVlan, AreVlans, IsStatic, AreStatics, IsPort, ArePorts, AreGates, AreMeters, IsFilter, AreFilters, IsBeforeEnd}
+use Rattle.std.specs.Result.{IfOk}
+use Rattle.bridge_schema.specs.declared.fault.PlanFault.{PlanFault}
 use Rattle.bridge_config.specs.Sections.{has_number}
 
 pub ports_push : {A : Type 0} (ports : List (PortPlan A)) (p : PortPlan A) → ArePorts ports → has_port ports p.number ≡ false → IsPort p → ArePorts (ports ++ p ∷ [])
@@ -80,3 +82,21 @@ filters_push gates meters filters f are new is there = record {
   own = distinct_push filters f are.own new;
   instances = rw (list_all-append (λ g. has_instances gates meters g.1) filters (f ∷ []), are.instances, there) refl;
 }
+
+-- a port that was read
+pub ports_kept : {A : Type 0} (change : Option ℕ) (ports : List (PortPlan A)) (r : Result (PortPlan A) PlanFault) → IsBeforeEnd change × ArePorts ports → IfOk r (λ p. has_port ports p.number ≡ false) → IfOk r IsPort
+    → IfOk r (λ p. IsBeforeEnd change × ArePorts (ports ++ p ∷ []))
+ports_kept change ports (Ok p) are new is = (are.0, ports_push ports p are.1 new is)
+ports_kept change ports (Err e) are new is = tt
+
+-- a gate that was read
+pub gates_kept : {A : Type 0} (change : Option ℕ) (gates : List (ℕ × GatePlan A)) (r : Result (ℕ × GatePlan A) PlanFault) → IsBeforeEnd change × AreGates gates → IfOk r (λ g. has_number gates g.0 ≡ false)
+    → IfOk r (λ g. schedules.has_priorities g.1.schedule ≡ true) → IfOk r (λ g. schedules.IsLawful g.1.schedule) → IfOk r (λ g. IsBeforeEnd change × AreGates (gates ++ g ∷ []))
+gates_kept change gates (Ok g) are new priorities lawful = (are.0, gates_push gates g are.1 new priorities lawful)
+gates_kept change gates (Err e) are new priorities lawful = tt
+
+-- a filter that was read has its gate, and its meter where it names one
+pub instances_kept : {A : Type 0} (gates : List (ℕ × GatePlan A)) (meters : List (ℕ × MeterPlan)) (r : Result (ℕ × FilterPlan) PlanFault) → IfOk r (λ f. has_number gates f.1.gate ≡ true)
+    → IfOk r (λ f. ForSome f.1.meter (λ n. has_number meters n ≡ true)) → IfOk r (λ f. has_instances gates meters f.1 ≡ true)
+instances_kept gates meters (Ok f) gate meter = rw (gate, there_if_any f.1.meter meters meter) refl
+instances_kept gates meters (Err e) gate meter = tt

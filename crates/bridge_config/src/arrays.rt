@@ -1,12 +1,15 @@
 //! The sections of a document, as arrays of tables.
 ghost use Rattle.std.specs.Prelude.{◌≡◌, ◌<◌, ◌≤◌, IfErr, IfOk, length, nat_le, option_map, true, false};
+ghost use Rattle.toml.specs.Data.{no_items};
 ghost use Rattle.toml.specs.View.{view, table_view, items_view};
 ghost use Rattle.bridge_schema.specs.declared.fault.PlanFault.TheVariants.{NoMemory};
 ghost use Rattle.bridge_schema.specs.Readers as spec;
 ghost use Rattle.bridge_schema.specs.Readers.{GivesAs};
 ghost use Rattle.bridge_config.specs.Document as doc;
 ghost use Rattle.bridge_config.specs.Arrays.{items_of_arrays, AreFew};
+ghost use Rattle.bridge_config.specs.Taken.{Takes};
 
+use crate::first::FirstFault;
 use bridge_schema::{PLAN_SECTIONS, PlanFault, Section, are_tables, value_at};
 use toml::{Table, Value};
 
@@ -84,6 +87,16 @@ pub(crate) fn items_of<'a>(section: Section, table: &'a Table) -> Result<&'a [Va
     items_in(section, value_at(table, section.name()))
 }
 
+/// The items of a section of a document, or none and the fault.
+fn items_or<'a>(first: &mut FirstFault, section: Section, table: &'a Table) -> &'a [Value]
+    ensures takes { Takes first.old no_items (doc.items_of section (table_view table.now)) first.new
+        (items_view result.now) }
+    ensures few { length result.now ≤ doc.limit_of section }
+    ensures tables { spec.are_tables (items_view result.now) ≡ true }
+{
+    first.value_or(items_of(section, table), &[])
+}
+
 /// Whether there are no items.
 #[tactic(auto, using(bridge_schema::proofs::Counts::is_empty_view))]
 fn is_empty(items: &[Value]) -> bool
@@ -113,27 +126,22 @@ pub(crate) fn are_sections(sections: &[Section], table: &Table) -> bool
 }
 
 /// The items of all sections of a plan's document. Takes no memory.
-#[tactic(auto, unfolding(crate::specs::Document::first_pass))]
 pub(crate) fn first_pass<'a>(table: &'a Table) -> Result<Arrays<'a>, PlanFault>
     ensures reads { GivesAs items_of_arrays result (doc.first_pass (table_view table.now)) }
     ensures few { IfOk result AreFew }
-    ensures takes_no_memory { IfErr result (λ e. ¬ (e ≡ NoMemory)) }
 {
-    if !are_sections(&PLAN_SECTIONS, table) {
-        return Err(PlanFault::UnknownKey(Section::Top, 0));
-    }
-    let changes = items_of(Section::Change, table)?;
-    let ports = items_of(Section::Port, table)?;
-    if is_empty(ports) {
-        return Err(PlanFault::NoPorts);
-    }
-    let vlans = items_of(Section::Vlan, table)?;
-    let statics = items_of(Section::Static, table)?;
-    let streams = items_of(Section::Stream, table)?;
-    let gates = items_of(Section::Gate, table)?;
-    let meters = items_of(Section::Meter, table)?;
-    let filters = items_of(Section::Filter, table)?;
-    Ok(Arrays {
+    let unknown = PlanFault::UnknownKey(Section::Top, 0);
+    let mut first = FirstFault::unless(are_sections(&PLAN_SECTIONS, table), unknown);
+    let changes = items_or(&mut first, Section::Change, table);
+    let ports = items_or(&mut first, Section::Port, table);
+    first.expect(!is_empty(ports), PlanFault::NoPorts);
+    let vlans = items_or(&mut first, Section::Vlan, table);
+    let statics = items_or(&mut first, Section::Static, table);
+    let streams = items_or(&mut first, Section::Stream, table);
+    let gates = items_or(&mut first, Section::Gate, table);
+    let meters = items_or(&mut first, Section::Meter, table);
+    let filters = items_or(&mut first, Section::Filter, table);
+    first.done(Arrays {
         changes,
         ports,
         vlans,

@@ -12,6 +12,7 @@ ghost use Rattle.bridge_config.specs.Texts as texts;
 
 use crate::arrays::{are_sections, items_of};
 use crate::command::Command;
+use crate::first::FirstFault;
 use crate::numbers::has_number;
 use crate::plan::{Plan, document_of};
 use bridge_filter::Clear;
@@ -84,7 +85,6 @@ fn has_keys(table: &Table) -> bool
 }
 
 /// The command of a table, by those before it, where this is the plan.
-#[tactic(auto, unfolding(crate::specs::Commands::command_at))]
 fn command_of<B: Allocator + Copy>(
     plan: &Plan<B>,
     commands: &[Command],
@@ -95,32 +95,27 @@ fn command_of<B: Allocator + Copy>(
     ensures not_before { IfOk result (λ c. spec.last_moment 0 commands.now ≤ c.at) }
     ensures in_time { IfOk result (λ c. c.at < END_OF_TIME) }
     ensures instance { IfOk result (λ c. spec.has_instance plan.now c.clear c.number ≡ true) }
-    ensures takes_no_memory { IfErr result (λ e. ¬ (e ≡ NoMemory)) }
 {
     let row = Row {
         table,
         section: Section::Command,
         index,
     };
-    if !has_keys(table) {
-        return Err(PlanFault::UnknownKey(Section::Command, index));
-    }
-    let moment = row.required(
-        Field::At,
-        &Between {
-            low: last_moment(commands),
-            high: LAST_MOMENT,
-        },
-    )?;
-    let clear = row.required(Field::Clear, &Text { meaning: ClearText })?;
-    let number = row.required(
-        Field::Number,
-        &Known {
-            among: Named { plan, clear },
-            range: NUMBER,
-        },
-    )?;
-    Ok(Command {
+    let unknown = PlanFault::UnknownKey(Section::Command, index);
+    let mut first = FirstFault::unless(has_keys(table), unknown);
+    let moments = Between {
+        low: last_moment(commands),
+        high: LAST_MOMENT,
+    };
+    let moment = first.required(row, Field::At, &moments, 0);
+    let flags = Text { meaning: ClearText };
+    let clear = first.required(row, Field::Clear, &flags, Clear::Blocked);
+    let named = Known {
+        among: Named { plan, clear },
+        range: NUMBER,
+    };
+    let number = first.required(row, Field::Number, &named, 0);
+    first.done(Command {
         at: moment,
         clear,
         number: number as u32,

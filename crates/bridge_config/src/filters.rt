@@ -1,13 +1,13 @@
 //! Stream filters of a plan.
-ghost use Rattle.std.specs.Prelude.{◌≡◌, ◌≤◌, IfErr, IfOk, false, true, length};
+ghost use Rattle.std.specs.Prelude.{◌≡◌, ◌≤◌, IfOk, false, true, length};
 ghost use Rattle.std.specs.Option.{ForSome};
 ghost use Rattle.toml.specs.View.{table_view, items_view};
 ghost use Rattle.bridge_filter.specs.Plans.{has_instances};
-ghost use Rattle.bridge_schema.specs.declared.fault.PlanFault.TheVariants.{NoMemory};
 ghost use Rattle.bridge_schema.specs.Readers.{Gives, GivesAs, instances};
 ghost use Rattle.bridge_config.specs.Sections as sections;
 ghost use Rattle.bridge_config.specs.Rules as rules;
 
+use crate::first::FirstFault;
 use crate::numbers::{NumbersOf, in_8_bits, in_32_bits};
 use bridge_filter::FilterPlan;
 use bridge_gate::GatePlan;
@@ -27,7 +27,6 @@ fn has_keys(table: &Table) -> bool
 }
 
 /// The filter of a table with its number, by what finds the numbers of gates, meters and the filters before it.
-#[tactic(auto, unfolding(crate::specs::Sections::filter_among))]
 fn filter_among<G: Finds + Copy, M: Finds + Copy, F: Finds + Copy>(
     gates: G,
     meters: M,
@@ -41,35 +40,34 @@ fn filter_among<G: Finds + Copy, M: Finds + Copy, F: Finds + Copy>(
     ensures filter { IfOk result (λ f. rules.IsFilter f) }
     ensures gate { IfOk result (λ f. G.among gates f.1.gate ≡ true) }
     ensures meter { IfOk result (λ f. ForSome f.1.meter (λ n. M.among meters n ≡ true)) }
-    ensures takes_no_memory { IfErr result (λ e. ¬ (e ≡ NoMemory)) }
 {
     let row = Row {
         table,
         section: Section::Filter,
         index,
     };
-    if !has_keys(table) {
-        return Err(PlanFault::UnknownKey(Section::Filter, index));
-    }
-    let number = row.required(Field::Number, &NUMBER)?;
-    let handle = row.optional(Field::Handle, &NUMBER)?;
-    let priority = row.optional(Field::Priority, &PRIORITY)?;
+    let unknown = PlanFault::UnknownKey(Section::Filter, index);
+    let mut first = FirstFault::unless(has_keys(table), unknown);
+    let number = first.required(row, Field::Number, &NUMBER, 0);
+    let handle = first.optional(row, Field::Handle, &NUMBER);
+    let priority = first.optional(row, Field::Priority, &PRIORITY);
     let known_gates = Known {
         among: gates,
         range: NUMBER,
     };
-    let gate = row.required(Field::Gate, &known_gates)?;
-    let max_sdu = row.optional(Field::MaxSdu, &MAX_SDU)?;
+    let gate = first.required(row, Field::Gate, &known_gates, 0);
+    let max_sdu = first.optional(row, Field::MaxSdu, &MAX_SDU);
     let known_meters = Known {
         among: meters,
         range: NUMBER,
     };
-    let meter = row.optional(Field::Meter, &known_meters)?;
-    let block_oversize = row.default_to(false, Field::BlockOversize, &Switch)?;
-    let protected = row.default_to(false, Field::Protected, &Switch)?;
-    if filters.has(number) {
-        return Err(PlanFault::Duplicate(Section::Filter, index));
-    }
+    let meter = first.optional(row, Field::Meter, &known_meters);
+    let block_oversize = first.default_to(row, Field::BlockOversize, &Switch, false);
+    let protected = first.default_to(row, Field::Protected, &Switch, false);
+    first.expect(
+        !filters.has(number),
+        PlanFault::Duplicate(Section::Filter, index),
+    );
     let plan = FilterPlan {
         handle: in_32_bits(handle),
         priority: in_8_bits(priority),
@@ -79,7 +77,7 @@ fn filter_among<G: Finds + Copy, M: Finds + Copy, F: Finds + Copy>(
         block_oversize,
         protected,
     };
-    Ok((number as u32, plan))
+    first.done((number as u32, plan))
 }
 
 /// The filter of a table with its number, by those before it, where these are the gates and meters.
@@ -94,7 +92,6 @@ fn filter_of<A: Allocator + Copy>(
     ensures own { IfOk result (λ f. sections.has_number filters.now f.0 ≡ false) }
     ensures filter { IfOk result (λ f. rules.IsFilter f) }
     ensures instances { IfOk result (λ f. has_instances gates.now meters.now f.1 ≡ true) }
-    ensures takes_no_memory { IfErr result (λ e. ¬ (e ≡ NoMemory)) }
 {
     let gates = NumbersOf { instances: gates };
     let meters = NumbersOf { instances: meters };

@@ -5,11 +5,15 @@ ghost use Rattle.toml.specs.Data.{get_member};
 ghost use Rattle.toml.specs.View.{table_view};
 ghost use Rattle.bridge_gate.specs.Schedules as schedules;
 ghost use Rattle.bridge_schema.specs.Keys.{key_of};
-ghost use Rattle.bridge_schema.specs.Readers.{Gives, GivesAs, are_known, are_known_at};
+ghost use Rattle.bridge_schema.specs.declared.fault.Field.TheVariants as the_field;
+ghost use Rattle.bridge_schema.specs.Readers.{Gives, GivesAs, are_known, are_known_at, only_without, required, text};
+ghost use Rattle.bridge_schema.specs.Texts.{openness_of};
 ghost use Rattle.bridge_config.specs.Lists.{parts_in};
 ghost use Rattle.bridge_config.specs.Sections as sections;
 ghost use Rattle.bridge_config.specs.Rules as rules;
+ghost use Rattle.bridge_config.specs.Taken.{Reads, Takes, place_of};
 
+use crate::first::FirstFault;
 use crate::lists::{Parts, list_if, parts_of};
 use crate::numbers::{has_number, in_8_bits, in_32_bits};
 use bridge_cycle::{CyclicList, Joined};
@@ -120,7 +124,6 @@ fn lists_of<A: Allocator + Copy>(
 }
 
 /// The lists of a table, by the moment of the change of schedules.
-#[tactic(auto, unfolding(crate::specs::Sections::gate_list))]
 fn gate_list<A: Allocator + Copy>(
     alloc: A,
     change: Option<u64>,
@@ -137,6 +140,46 @@ fn gate_list<A: Allocator + Copy>(
     let old = list_if(alloc, Section::Gate, index, first)?;
     let new = list_if(alloc, Section::Gate, index, next)?;
     Ok(lists_of(old, change, new))
+}
+
+/// The lists of a table, or none behind a fault or where they have one.
+fn list_or<A: Allocator + Copy>(
+    first: &mut FirstFault,
+    alloc: A,
+    change: Option<u64>,
+    index: u32,
+    table: &Table,
+) -> Option<Schedule<A>>
+    requires { rules.IsBeforeEnd change }
+    ensures reads { Reads first.old (sections.gate_list change index (table_view table.now)) first.new result }
+    ensures priorities { ForSome result (λ s. schedules.has_priorities s ≡ true) }
+    ensures lawful { ForSome result schedules.IsLawful }
+{
+    if first.fault().is_some() {
+        return None;
+    }
+    match gate_list(alloc, change, index, table) {
+        Ok(lists) => lists,
+        Err(fault) => {
+            first.expect(false, fault);
+            None
+        }
+    }
+}
+
+/// Whether a gate without a list is open, or not behind a fault or where it has one.
+fn state_or(first: &mut FirstFault, row: Row<'_>) -> bool
+    ensures { Takes first.old false (only_without the_field.Entries false (required (place_of row.entry the_field.State)
+        the_field.State (text openness_of) (table_view row.entry.table.now)) (table_view row.entry.table.now))
+        first.new result }
+{
+    let state = row.required_without(
+        Field::Entries,
+        false,
+        Field::State,
+        &Text { meaning: Openness },
+    );
+    first.value_or(state, false)
 }
 
 /// Lists, or without one a state for good.
@@ -159,7 +202,6 @@ fn schedule_of<A: Allocator + Copy>(
 }
 
 /// The gate of a table with its number, by the moment of the change of schedules and the gates before it.
-#[tactic(auto, unfolding(crate::specs::Sections::gate_at))]
 fn gate_of<A: Allocator + Copy>(
     alloc: A,
     change: Option<u64>,
@@ -178,29 +220,24 @@ fn gate_of<A: Allocator + Copy>(
         section: Section::Gate,
         index,
     };
-    if !has_keys(change, table) {
-        return Err(PlanFault::UnknownKey(Section::Gate, index));
-    }
-    let number = row.required(Field::Number, &NUMBER)?;
-    let shut_on_rx = row.default_to(false, Field::ShutOnRx, &Switch)?;
-    let shut_on_octets = row.default_to(false, Field::ShutOnOctets, &Switch)?;
-    let lets = row.required_without(
-        Field::Entries,
-        false,
-        Field::State,
-        &Text { meaning: Openness },
-    )?;
-    let ipv = row.optional(Field::Ipv, &PRIORITY)?;
-    let lists = gate_list(alloc, change, index, table)?;
-    if has_number(gates, number) {
-        return Err(PlanFault::Duplicate(Section::Gate, index));
-    }
+    let unknown = PlanFault::UnknownKey(Section::Gate, index);
+    let mut first = FirstFault::unless(has_keys(change, table), unknown);
+    let number = first.required(row, Field::Number, &NUMBER, 0);
+    let shut_on_rx = first.default_to(row, Field::ShutOnRx, &Switch, false);
+    let shut_on_octets = first.default_to(row, Field::ShutOnOctets, &Switch, false);
+    let lets = state_or(&mut first, row);
+    let ipv = first.optional(row, Field::Ipv, &PRIORITY);
+    let lists = list_or(&mut first, alloc, change, index, table);
+    first.expect(
+        !has_number(gates, number),
+        PlanFault::Duplicate(Section::Gate, index),
+    );
     let plan = GatePlan {
         shut_on_rx,
         shut_on_octets,
         schedule: schedule_of(lets, in_8_bits(ipv), lists),
     };
-    Ok((number as u32, plan))
+    first.done((number as u32, plan))
 }
 
 /// The section of gates, by the moment of the change of schedules.
@@ -216,7 +253,6 @@ impl<A: Allocator + Copy> SectionReader<A> for Gates {
 
     ghost Keeps = { λ s gates. rules.IsBeforeEnd s.change × rules.AreGates gates };
 
-    #[tactic(auto, using(crate::proofs::Own::gates_push))]
     fn read(
         &self,
         alloc: A,

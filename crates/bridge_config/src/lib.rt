@@ -6,6 +6,7 @@ mod changes;
 mod command;
 mod commands;
 mod filters;
+mod first;
 mod gates;
 mod lists;
 mod meters;

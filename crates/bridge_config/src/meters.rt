@@ -1,13 +1,13 @@
 //! Flow meters of a plan.
-ghost use Rattle.std.specs.Prelude.{◌≡◌, IfErr, IfOk, false, true};
+ghost use Rattle.std.specs.Prelude.{◌≡◌, IfOk, false, true};
 ghost use Rattle.toml.specs.View.{table_view};
 ghost use Rattle.bridge_meter.specs.Colours.{is_within_limits};
-ghost use Rattle.bridge_schema.specs.declared.fault.PlanFault.TheVariants.{NoMemory};
 ghost use Rattle.bridge_schema.specs.Readers.{Gives};
 ghost use Rattle.bridge_config.specs.Sections as sections;
 ghost use Rattle.bridge_config.specs.Texts as texts;
 ghost use Rattle.bridge_config.specs.Rules as rules;
 
+use crate::first::FirstFault;
 use crate::numbers::has_number;
 use bridge_meter::MeterPlan;
 use bridge_schema::{
@@ -45,7 +45,6 @@ fn has_keys(table: &Table) -> bool
 }
 
 /// The meter of a table with its number, by those before it.
-#[tactic(auto, unfolding(crate::specs::Sections::meter_at))]
 fn meter_of(
     meters: &[(u32, MeterPlan)],
     index: u32,
@@ -54,34 +53,30 @@ fn meter_of(
     ensures reads { Gives result (sections.meter_at meters.now index (table_view table.now)) }
     ensures own { IfOk result (λ m. sections.has_number meters.now m.0 ≡ false) }
     ensures limits { IfOk result (λ m. is_within_limits m.1 ≡ true) }
-    ensures takes_no_memory { IfErr result (λ e. ¬ (e ≡ NoMemory)) }
 {
     let row = Row {
         table,
         section: Section::Meter,
         index,
     };
-    if !has_keys(table) {
-        return Err(PlanFault::UnknownKey(Section::Meter, index));
-    }
-    let number = row.required(Field::Number, &NUMBER)?;
-    let cir = row.required(Field::Cir, &RATE)?;
-    let cbs = row.required(Field::Cbs, &BURST)?;
-    let eir = row.required(Field::Eir, &RATE)?;
-    let ebs = row.required(Field::Ebs, &BURST)?;
-    let coupling = row.default_to(false, Field::Coupling, &Switch)?;
-    let aware = row.default_to(
-        false,
-        Field::Colour,
-        &Text {
-            meaning: ColourText,
-        },
-    )?;
-    let drop_yellow = row.default_to(false, Field::DropYellow, &Switch)?;
-    let mark_all_red = row.default_to(false, Field::MarkAllRed, &Switch)?;
-    if has_number(meters, number) {
-        return Err(PlanFault::Duplicate(Section::Meter, index));
-    }
+    let unknown = PlanFault::UnknownKey(Section::Meter, index);
+    let mut first = FirstFault::unless(has_keys(table), unknown);
+    let number = first.required(row, Field::Number, &NUMBER, 0);
+    let cir = first.required(row, Field::Cir, &RATE, 0);
+    let cbs = first.required(row, Field::Cbs, &BURST, 0);
+    let eir = first.required(row, Field::Eir, &RATE, 0);
+    let ebs = first.required(row, Field::Ebs, &BURST, 0);
+    let coupling = first.default_to(row, Field::Coupling, &Switch, false);
+    let colour = Text {
+        meaning: ColourText,
+    };
+    let aware = first.default_to(row, Field::Colour, &colour, false);
+    let drop_yellow = first.default_to(row, Field::DropYellow, &Switch, false);
+    let mark_all_red = first.default_to(row, Field::MarkAllRed, &Switch, false);
+    first.expect(
+        !has_number(meters, number),
+        PlanFault::Duplicate(Section::Meter, index),
+    );
     let plan = MeterPlan {
         cir,
         cbs,
@@ -92,7 +87,7 @@ fn meter_of(
         drop_yellow,
         mark_all_red,
     };
-    Ok((number as u32, plan))
+    first.done((number as u32, plan))
 }
 
 /// The section of meters.

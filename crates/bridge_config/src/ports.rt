@@ -8,7 +8,9 @@ ghost use Rattle.bridge_schema.specs.Readers.{Gives, GivesAs, are_known, are_kno
 ghost use Rattle.bridge_config.specs.Lists.{parts_in};
 ghost use Rattle.bridge_config.specs.Sections as sections;
 ghost use Rattle.bridge_config.specs.Rules as rules;
+ghost use Rattle.bridge_config.specs.Taken.{Reads};
 
+use crate::first::FirstFault;
 use crate::lists::{Parts, list_if, parts_of};
 use bridge_cycle::{CyclicList, Egress, Joined};
 use bridge_frame::Speed;
@@ -157,7 +159,6 @@ fn egress_of<A: Allocator + Copy>(
 }
 
 /// The gate control lists of a table, by the moment of the change of schedules.
-#[tactic(auto, unfolding(crate::specs::Sections::port_list))]
 fn port_list<A: Allocator + Copy>(
     alloc: A,
     change: Option<u64>,
@@ -175,8 +176,31 @@ fn port_list<A: Allocator + Copy>(
     Ok(egress_of(old, change, new))
 }
 
+/// The gate control lists of a table, or none behind a fault or where they have one.
+fn list_or<A: Allocator + Copy>(
+    first: &mut FirstFault,
+    alloc: A,
+    change: Option<u64>,
+    index: u32,
+    table: &Table,
+) -> Option<Egress<A>>
+    requires { rules.IsBeforeEnd change }
+    ensures reads { Reads first.old (sections.port_list change index (table_view table.now)) first.new result }
+    ensures list { ForSome result (rules.ForEachList rules.IsPortList) }
+{
+    if first.fault().is_some() {
+        return None;
+    }
+    match port_list(alloc, change, index, table) {
+        Ok(list) => list,
+        Err(fault) => {
+            first.expect(false, fault);
+            None
+        }
+    }
+}
+
 /// The port of a table, by the moment of the change of schedules and what finds the numbers of the ports before it.
-#[tactic(auto, unfolding(crate::specs::Sections::port_among))]
 fn port_among<A: Allocator + Copy, P: Finds + Copy>(
     alloc: A,
     change: Option<u64>,
@@ -194,20 +218,21 @@ fn port_among<A: Allocator + Copy, P: Finds + Copy>(
         section: Section::Port,
         index,
     };
-    if !has_keys(change, table) {
-        return Err(PlanFault::UnknownKey(Section::Port, index));
-    }
-    let number = row.required(Field::Number, &PORT)?;
-    let speed = row.required(Field::Mbps, &Mbps)?;
-    let vid = row.default_to(1, Field::Vid, &VID)?;
-    let priority = row.default_to(0, Field::Priority, &PRIORITY)?;
-    let classes = row.default_to([0, 1, 2, 3, 4, 5, 6, 7], Field::Classes, &Classes)?;
-    let rooms = row.default_to([64; 8], Field::Rooms, &Rooms)?;
-    let list = port_list(alloc, change, index, table)?;
-    if ports.has(number) {
-        return Err(PlanFault::Duplicate(Section::Port, index));
-    }
-    Ok(PortPlan {
+    let unknown = PlanFault::UnknownKey(Section::Port, index);
+    let mut first = FirstFault::unless(has_keys(change, table), unknown);
+    let number = first.required(row, Field::Number, &PORT, 1);
+    let speed = first.required(row, Field::Mbps, &Mbps, Speed::Mbps10);
+    let vid = first.default_to(row, Field::Vid, &VID, 1);
+    let priority = first.default_to(row, Field::Priority, &PRIORITY, 0);
+    let in_order = [0, 1, 2, 3, 4, 5, 6, 7];
+    let classes = first.default_to(row, Field::Classes, &Classes, in_order);
+    let rooms = first.default_to(row, Field::Rooms, &Rooms, [64; 8]);
+    let list = list_or(&mut first, alloc, change, index, table);
+    first.expect(
+        !ports.has(number),
+        PlanFault::Duplicate(Section::Port, index),
+    );
+    first.done(PortPlan {
         number: number as u8,
         speed,
         vid: vid as u16,
@@ -247,7 +272,6 @@ impl<A: Allocator + Copy> SectionReader<A> for Ports {
 
     ghost Keeps = { λ s ports. rules.IsBeforeEnd s.change × rules.ArePorts ports };
 
-    #[tactic(auto, using(crate::proofs::Own::ports_push))]
     fn read(
         &self,
         alloc: A,

@@ -1,12 +1,12 @@
 //! Static filtering entries of a plan.
-ghost use Rattle.std.specs.Prelude.{◌≡◌, ◌&&◌, nat_eq, IfErr, IfOk, false};
+ghost use Rattle.std.specs.Prelude.{◌≡◌, ◌&&◌, nat_eq, IfOk, false};
 ghost use Rattle.std.specs.Str.{bytes_eq};
 ghost use Rattle.toml.specs.View.{table_view};
-ghost use Rattle.bridge_schema.specs.declared.fault.PlanFault.TheVariants.{NoMemory};
 ghost use Rattle.bridge_schema.specs.Readers.{Gives};
 ghost use Rattle.bridge_config.specs.Sections as sections;
 ghost use Rattle.bridge_config.specs.Rules as rules;
 
+use crate::first::FirstFault;
 use crate::vlans::VlanNumbers;
 use bridge_forward::{PortSet, StaticEntry, Vlan};
 use bridge_schema::{
@@ -42,7 +42,6 @@ fn has_keys(table: &Table) -> bool
 }
 
 /// The static entry of a table, by those before it, where these are all ports and VLANs.
-#[tactic(auto, unfolding(crate::specs::Sections::static_at))]
 fn static_of(
     all: u16,
     vlans: &[Vlan],
@@ -53,29 +52,27 @@ fn static_of(
     ensures reads { Gives result (sections.static_at all vlans.now statics.now index (table_view table.now)) }
     ensures own { IfOk result (λ s. rules.has_static statics.now s.vid s.address ≡ false) }
     ensures entry { IfOk result (λ s. rules.IsStatic all vlans.now s) }
-    ensures takes_no_memory { IfErr result (λ e. ¬ (e ≡ NoMemory)) }
 {
     let row = Row {
         table,
         section: Section::Static,
         index,
     };
-    if !has_keys(table) {
-        return Err(PlanFault::UnknownKey(Section::Static, index));
-    }
-    let vid = row.required(
-        Field::Vid,
-        &Known {
-            among: VlanNumbers { vlans },
-            range: VID,
-        },
-    )?;
-    let address = row.required(Field::Address, &Text { meaning: Address })?;
-    let ports = row.required(Field::Ports, &PortsOf { all })?;
-    if has_static(statics, vid, &address) {
-        return Err(PlanFault::Duplicate(Section::Static, index));
-    }
-    Ok(StaticEntry {
+    let unknown = PlanFault::UnknownKey(Section::Static, index);
+    let mut first = FirstFault::unless(has_keys(table), unknown);
+    let known_vlans = Known {
+        among: VlanNumbers { vlans },
+        range: VID,
+    };
+    let vid = first.required(row, Field::Vid, &known_vlans, 1);
+    let addresses = Text { meaning: Address };
+    let address = first.required(row, Field::Address, &addresses, [0; 6]);
+    let ports = first.required(row, Field::Ports, &PortsOf { all }, 0);
+    first.expect(
+        !has_static(statics, vid, &address),
+        PlanFault::Duplicate(Section::Static, index),
+    );
+    first.done(StaticEntry {
         vid: vid as u16,
         address,
         ports: PortSet::of_bits(ports),

@@ -1,12 +1,12 @@
 //! Stream identifications of a plan.
-ghost use Rattle.std.specs.Prelude.{◌≡◌, ◌≤◌, true, IfErr, IfOk, All};
+ghost use Rattle.std.specs.Prelude.{◌≡◌, ◌≤◌, true, IfOk, All};
 ghost use Rattle.toml.specs.View.{table_view};
-ghost use Rattle.bridge_schema.specs.declared.fault.PlanFault.TheVariants.{NoMemory};
 ghost use Rattle.bridge_schema.specs.Readers.{Gives};
 ghost use Rattle.bridge_config.specs.Sections as sections;
 ghost use Rattle.bridge_config.specs.Texts as texts;
 ghost use Rattle.bridge_config.specs.Rules as rules;
 
+use crate::first::FirstFault;
 use crate::ports::{PortNumbers, PortPlan};
 use bridge_ident::{Kind, StreamEntry, TagKind};
 use bridge_schema::{
@@ -66,7 +66,6 @@ fn has_keys(table: &Table) -> bool
 }
 
 /// The stream identification of a table, by what finds the numbers of ports.
-#[tactic(auto, unfolding(crate::specs::Sections::stream_among))]
 fn stream_among<P: Finds + Copy>(
     ports: P,
     index: u32,
@@ -78,29 +77,28 @@ fn stream_among<P: Finds + Copy>(
     ensures port_to { IfOk result (λ s. s.port ≤ 16) }
     ensures vid_from { IfOk result (λ s. 1 ≤ s.vid) }
     ensures vid_to { IfOk result (λ s. s.vid ≤ 4094) }
-    ensures takes_no_memory { IfErr result (λ e. ¬ (e ≡ NoMemory)) }
 {
     let row = Row {
         table,
         section: Section::Stream,
         index,
     };
-    if !has_keys(table) {
-        return Err(PlanFault::UnknownKey(Section::Stream, index));
-    }
-    let handle = row.required(Field::Handle, &NUMBER)?;
-    let port = row.required(
-        Field::Port,
-        &Known {
-            among: ports,
-            range: PORT,
-        },
-    )?;
-    let kind = row.required(Field::Kind, &Text { meaning: KindText })?;
-    let address = row.required(Field::Address, &Text { meaning: Address })?;
-    let vid = row.required(Field::Vid, &VID)?;
-    let tag = row.required(Field::Tag, &Text { meaning: TagText })?;
-    Ok(StreamEntry {
+    let unknown = PlanFault::UnknownKey(Section::Stream, index);
+    let mut first = FirstFault::unless(has_keys(table), unknown);
+    let handle = first.required(row, Field::Handle, &NUMBER, 0);
+    let known_ports = Known {
+        among: ports,
+        range: PORT,
+    };
+    let port = first.required(row, Field::Port, &known_ports, 1);
+    let kinds = Text { meaning: KindText };
+    let kind = first.required(row, Field::Kind, &kinds, Kind::Null);
+    let addresses = Text { meaning: Address };
+    let address = first.required(row, Field::Address, &addresses, [0; 6]);
+    let vid = first.required(row, Field::Vid, &VID, 1);
+    let tags = Text { meaning: TagText };
+    let tag = first.required(row, Field::Tag, &tags, TagKind::All);
+    first.done(StreamEntry {
         handle: handle as u32,
         port: port as u8,
         kind,
@@ -119,7 +117,6 @@ fn stream_of<A: Allocator + Copy>(
 ) -> Result<StreamEntry, PlanFault>
     ensures reads { Gives result (sections.stream_at ports.now earlier.now index (table_view table.now)) }
     ensures stream { IfOk result (λ s. rules.IsStream ports.now s) }
-    ensures takes_no_memory { IfErr result (λ e. ¬ (e ≡ NoMemory)) }
 {
     stream_among(PortNumbers { ports }, index, table)
 }

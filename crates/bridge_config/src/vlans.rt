@@ -1,11 +1,11 @@
 //! VLANs of a plan.
-ghost use Rattle.std.specs.Prelude.{◌≡◌, IfErr, IfOk, false};
+ghost use Rattle.std.specs.Prelude.{◌≡◌, IfOk, false};
 ghost use Rattle.toml.specs.View.{table_view};
-ghost use Rattle.bridge_schema.specs.declared.fault.PlanFault.TheVariants.{NoMemory};
 ghost use Rattle.bridge_schema.specs.Readers.{Gives};
 ghost use Rattle.bridge_config.specs.Sections as sections;
 ghost use Rattle.bridge_config.specs.Rules as rules;
 
+use crate::first::FirstFault;
 use bridge_forward::{PortSet, Vlan};
 use bridge_schema::{
     Field, Finds, PlanFault, PortsOf, Row, Section, SectionReader, VID, VLAN_KEYS, are_known,
@@ -42,27 +42,25 @@ fn has_keys(table: &Table) -> bool
 }
 
 /// The VLAN of a table, by those before it, where these are all ports.
-#[tactic(auto, unfolding(crate::specs::Sections::vlan_at))]
 fn vlan_of(all: u16, vlans: &[Vlan], index: u32, table: &Table) -> Result<Vlan, PlanFault>
     ensures reads { Gives result (sections.vlan_at all vlans.now index (table_view table.now)) }
     ensures own { IfOk result (λ v. rules.has_vlan vlans.now v.vid ≡ false) }
     ensures vlan { IfOk result (λ v. rules.IsVlan all v) }
-    ensures takes_no_memory { IfErr result (λ e. ¬ (e ≡ NoMemory)) }
 {
     let row = Row {
         table,
         section: Section::Vlan,
         index,
     };
-    if !has_keys(table) {
-        return Err(PlanFault::UnknownKey(Section::Vlan, index));
-    }
-    let vid = row.required(Field::Vid, &VID)?;
-    let members = row.required(Field::Members, &PortsOf { all })?;
-    if has_vlan(vlans, vid) {
-        return Err(PlanFault::Duplicate(Section::Vlan, index));
-    }
-    Ok(Vlan {
+    let unknown = PlanFault::UnknownKey(Section::Vlan, index);
+    let mut first = FirstFault::unless(has_keys(table), unknown);
+    let vid = first.required(row, Field::Vid, &VID, 1);
+    let members = first.required(row, Field::Members, &PortsOf { all }, 0);
+    first.expect(
+        !has_vlan(vlans, vid),
+        PlanFault::Duplicate(Section::Vlan, index),
+    );
+    first.done(Vlan {
         vid: vid as u16,
         members: PortSet::of_bits(members),
     })

@@ -1,4 +1,1 @@
 pub mod Bridges
-pub mod Lines
-pub mod Taking
-pub mod Simulated

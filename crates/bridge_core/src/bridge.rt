@@ -64,10 +64,18 @@ impl<'a, G: Agenda + Drop, A: Allocator + Copy> Bridge<'a, G, A> {
             × (b.command ≡ 0)) }
         ensures none_due { IfOk result (λ b. (q : ℕ) → next_start G.held b q ≡ None) }
     {
-        let order = accepted.plan().filters_in_order(alloc)?;
-        let views = Vec::with_capacity(alloc, order.len())?;
-        let counts = Vec::with_capacity(alloc, 16)?;
-        let relay = Relay::<G, A>::new(alloc, accepted)?;
+        let Ok(order) = accepted.plan().filters_in_order(alloc) else {
+            return Err(NoMemory);
+        };
+        let Ok(views) = Vec::with_capacity(alloc, order.len()) else {
+            return Err(NoMemory);
+        };
+        let Ok(counts) = Vec::with_capacity(alloc, 16) else {
+            return Err(NoMemory);
+        };
+        let Ok(relay) = Relay::<G, A>::new(alloc, accepted) else {
+            return Err(NoMemory);
+        };
         Ok(Bridge {
             relay,
             spares: Spares::none(alloc),

@@ -3,14 +3,11 @@
 //! of each port ahead, and the one queue of `wire`.
 
 mod bridge;
-mod line;
-mod simulation;
-mod taking;
 
 pub use bridge::Bridge;
 pub use bridge_events::{Agenda, RowAgenda, TreeAgenda};
 pub use bridge_inputs::RunFault;
 pub use bridge_relay::{NoMemory, Sent};
 pub use bridge_semantics::{Departure, Dropped, Outcome, PortCount, View};
+pub use bridge_simulation::{simulate, simulate_over};
 pub use bridge_wire::{WireCount, wire};
-pub use simulation::{simulate, simulate_over};

@@ -2,8 +2,8 @@
 
 use crate::text::{Said, fill_one};
 use crate::value::put_value;
+use bridge_places::{Position, key_position, put_position, table_position};
 use bridge_schema::{Field, Section, own_key};
-use bridge_text::{Position, key_position, put_position, table_position};
 use toml::{Table, Value};
 
 /// A text with its document.

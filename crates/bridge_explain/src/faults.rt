@@ -7,10 +7,10 @@ use crate::text::{Said, fill_one};
 use crate::value::{first_of, put_is};
 use bridge_config::limit_of;
 use bridge_cycle::LONGEST_CYCLE;
+use bridge_places::{put_position, top_position};
 use bridge_schema::{
     Allowed, Between, Field, Key, Place, PlanFault, Section, entry_keys, keys_of, own_key,
 };
-use bridge_text::{put_position, top_position};
 use std::alloc::Global;
 use toml::{Table, Value};
 

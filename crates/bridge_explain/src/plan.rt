@@ -6,8 +6,9 @@ use crate::document::Source;
 use crate::faults::put_fault;
 use crate::text::{Said, fill_one};
 use bridge_limits::NoMemory;
+use bridge_places::{position_behind, put_position};
 use bridge_schema::PlanFault;
-use bridge_text::{Text, behind, position_behind, put_position};
+use bridge_text::{Text, behind};
 use std::alloc::Global;
 use toml::de::Error;
 

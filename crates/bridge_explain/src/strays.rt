@@ -4,11 +4,11 @@ use crate::document::{Source, items_in, items_of, put_place, table_of};
 use crate::nearest::nearest_name;
 use crate::text::{Said, fill_one};
 use crate::value::put_key;
+use bridge_places::{put_position, top_position};
 use bridge_schema::{
     COMMAND_SECTIONS, Field, Hindrance, Key, PLAN_SECTIONS, Section, entry_keys, hindrance_of,
     keys_of, lists_of,
 };
-use bridge_text::{put_position, top_position};
 use std::alloc::Global;
 use toml::{Table, Value};
 

@@ -5,8 +5,9 @@ ghost use Rattle.bridge_text.specs.Named.{BeginsWith};
 use crate::nearest::nearest_name;
 use crate::text::{Said, fill_one};
 use crate::value::put_text;
-use bridge_cli::{OPTIONS, call_of, command_names, has_value, option_names};
+use bridge_cli::OPTIONS;
 use bridge_limits::NoMemory;
+use bridge_manual::{call_of, command_names, has_value, option_names};
 use bridge_text::{Text, behind};
 use std::alloc::Global;
 

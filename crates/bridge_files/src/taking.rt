@@ -3,10 +3,10 @@ ghost use Rattle.std.specs.Prelude.{◌≡◌, ℕ, IfErr, IfOk, List, Some, str
 ghost use Rattle.bridge_jobs.specs.Reading.{IsOfFile};
 ghost use Rattle.bridge_files.specs.Taken.{BeginWith};
 
-use crate::cause::{cause_of_read, is_there};
+use crate::cause::cause_of_read;
 use crate::output::{FileId, add_file, file_of};
 use bridge_inputs::RunFault;
-use bridge_jobs::{Cause, Fault, ReadFault, fault_of_file, read_at_most};
+use bridge_jobs::{Cause, Fault, ReadFault, fault_of_file};
 use std::alloc::Global;
 use std::fs;
 use std::io::{ErrorKind, Read};
@@ -98,21 +98,4 @@ pub fn text_at<H: AllocGlobal + Files>(
         Ok(path) => Err(fault_of_file(path, fault)),
         Err(_) => Err(Fault::Run(RunFault::NoMemory)),
     }
-}
-
-/// Whether the file of a path holds the text of a network: one of its lines begins with `[[bridge]]`. What can't be read twice, as
-/// a pipe, isn't looked at.
-pub fn is_network<H: AllocGlobal + Files>(rt: &H, path: &str) -> bool {
-    if !is_there(rt, path) {
-        return false;
-    }
-    let Ok(reader) = fs::open(rt, path) else {
-        return false;
-    };
-    let Ok(text) = read_at_most(rt.alloc(), reader, MOST_TEXT) else {
-        return false;
-    };
-    text.as_slice()
-        .split(|octet| *octet == b'\n')
-        .any(|line| line.starts_with(b"[[bridge]]"))
 }

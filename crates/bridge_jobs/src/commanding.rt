@@ -39,7 +39,10 @@ pub fn commanded<R: Read + Drop, A: Allocator + Copy>(
 {
     let commands = match commands_in(alloc, heap, &plan, file) {
         Ok(commands) => commands,
-        Err(fault) => return Err(fault),
+        Err(fault) => {
+            drop(plan);
+            return Err(fault);
+        }
     };
     match checked(alloc, plan) {
         Ok(accepted) => Ok((accepted, commands)),

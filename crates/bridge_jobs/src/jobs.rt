@@ -78,7 +78,9 @@ pub fn check_job<R: Read + Drop, A: Allocator + Copy>(
         Ok(accepted) => accepted,
         Err(fault) => return Err(fault),
     };
-    match check_line(alloc, &accepted) {
+    let line = check_line(alloc, &accepted);
+    drop(accepted);
+    match line {
         Ok(line) => Ok(line),
         Err(_) => Err(Fault::Run(RunFault::NoMemory)),
     }

@@ -88,7 +88,9 @@ fn kept_of<A: Allocator + Copy>(alloc: A, list: &Option<Egress<A>>) -> Result<Ke
             new: Spans::none(alloc),
         }),
         Some(Egress::Cyclic(list)) => {
-            let old = spans_of_all(alloc, list)?;
+            let Ok(old) = spans_of_all(alloc, list) else {
+                return Err(AllocError);
+            };
             let runs = old.runs;
             Ok(Kept {
                 runs,
@@ -98,8 +100,12 @@ fn kept_of<A: Allocator + Copy>(alloc: A, list: &Option<Egress<A>>) -> Result<Ke
         }
         Some(Egress::Joined(lists)) => {
             let (before, after) = lists.lists();
-            let old = spans_of_all(alloc, before)?;
-            let new = spans_of_all(alloc, after)?;
+            let Ok(old) = spans_of_all(alloc, before) else {
+                return Err(AllocError);
+            };
+            let Ok(new) = spans_of_all(alloc, after) else {
+                return Err(AllocError);
+            };
             let runs = shorter_each(&old.runs, &new.runs);
             Ok(Kept { runs, old, new })
         }
@@ -213,7 +219,9 @@ impl<A: Allocator + Copy> Gates<A> {
     pub fn new(alloc: A, list: Option<Egress<A>>) -> Result<Gates<A>, AllocError>
         ensures { IfOk result (λ g. g ≡ opening_of list) }
     {
-        let kept = kept_of(alloc, &list)?;
+        let Ok(kept) = kept_of(alloc, &list) else {
+            return Err(AllocError);
+        };
         let turn = Turn {
             state: 0,
             start: 0,

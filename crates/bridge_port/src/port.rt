@@ -72,8 +72,12 @@ impl<T: Drop, A: Allocator + Copy> Port<T, A> {
         ensures stands { IfOk result (λ p. StandsFor p []) }
         ensures idle { IfOk result (λ p. IsDue p None) }
     {
-        let rings = with_rooms(alloc, &rooms)?;
-        let gates = Gates::new(alloc, list)?;
+        let Ok(rings) = with_rooms(alloc, &rooms) else {
+            return Err(NoMemory);
+        };
+        let Ok(gates) = Gates::new(alloc, list) else {
+            return Err(NoMemory);
+        };
         Ok(Port::idle(speed, gates, rings))
     }
 

@@ -7,7 +7,7 @@ ghost use Rattle.bridge_port.specs.Rings.{queues_of, rooms_of};
 use crate::item::Item;
 use bridge_cycle::NoMemory;
 use circular_buffer::HeapCircularBuffer;
-use std::alloc::{AllocError, Allocator};
+use std::alloc::Allocator;
 
 /// The most frames that a queue of a port may hold.
 pub const LARGEST_ROOM: u16 = 4_096;
@@ -27,10 +27,16 @@ pub fn with_rooms<T: Drop, A: Allocator + Copy>(
     ensures queues { IfOk result (λ rings. queues_of rings.items ≡ replicate 8 []) }
     ensures rooms { IfOk result (λ rings. rooms_of rings.items ≡ rooms.now) }
 {
-    let mut rings = Vec::with_capacity(alloc, 8)?;
+    let Ok(mut rings) = Vec::with_capacity(alloc, 8) else {
+        return Err(NoMemory);
+    };
     for room in rooms {
-        let ring = HeapCircularBuffer::with_capacity(alloc, *room as usize)?;
-        rings.push(ring).map_err(AllocError::from)?;
+        let Ok(ring) = HeapCircularBuffer::with_capacity(alloc, *room as usize) else {
+            return Err(NoMemory);
+        };
+        let Ok(()) = rings.push(ring) else {
+            return Err(NoMemory);
+        };
     }
     Ok(rings)
 }

@@ -88,17 +88,22 @@ fn spans_of<A: Allocator + Copy>(
     ensures { IfOk result (λ v. HasSpans (list_opens list.now class) v.items) }
 {
     let end = 3 * list.cycle();
-    let mut spans = Vec::with_capacity(alloc, list.entries().len() * 3 / 2 + 1)?;
+    let Ok(mut spans) = Vec::with_capacity(alloc, list.entries().len() * 3 / 2 + 1) else {
+        return Err(AllocError);
+    };
     let mut start = 0;
     let mut seen = 0;
     while seen < end {
         let turn = list.turn(seen);
         if !is_open(turn.state, class) {
             if start < seen {
-                spans.push(Span {
+                let span = Span {
                     start: start as u32,
                     end: seen as u32,
-                })?;
+                };
+                let Ok(()) = spans.push(span) else {
+                    return Err(AllocError);
+                };
             }
             start = turn.end;
         }
@@ -216,10 +221,16 @@ pub fn spans_of_all<A: Allocator + Copy>(
     ensures { IfOk result (λ x. AreOf list.now x.runs x.each.items) }
 {
     let runs = runs_of(list);
-    let mut each = Vec::with_capacity(alloc, 8)?;
+    let Ok(mut each) = Vec::with_capacity(alloc, 8) else {
+        return Err(AllocError);
+    };
     for class in 0..8u8 {
-        let spans = spans_of(alloc, list, class)?;
-        each.push(spans)?;
+        let Ok(spans) = spans_of(alloc, list, class) else {
+            return Err(AllocError);
+        };
+        let Ok(()) = each.push(spans) else {
+            return Err(AllocError);
+        };
     }
     Ok(Spans { runs, each })
 }

@@ -1,5 +1,5 @@
 -- How a frame is relayed.
-use Rattle.std.specs.Prelude.{◌≡◌, ℕ, Bool, true, false, not, ◌+◌, ◌-◌, ◌<◌, ◌≤◌, ◌&&◌, ◌⊎◌, Option, Some, None, IfSome, is_none, List, [], ◌∷◌, ◌++◌, length, count_by, nat_eq, nat_lt, slice_set, slice_index, if◌then◌else◌, Vec, max}
+use Rattle.std.specs.Prelude.{◌≡◌, ℕ, Bool, false, not, ◌+◌, ◌-◌, ◌<◌, ◌≤◌, ◌&&◌, ◌⊎◌, Option, Some, None, IfSome, is_none, List, [], ◌∷◌, length, count_by, nat_eq, nat_lt, slice_set, slice_index, if◌then◌else◌, Vec, max}
 use Rattle.std.specs.Map.{lookup}
 use Rattle.bridge_limits.specs.Members.{In}
 use Rattle.bridge_limits.specs.declared.TheConstants.{END_OF_TIME, LONGEST_FRAME, MOST_ARRIVALS}
@@ -19,12 +19,11 @@ use Rattle.bridge_port.specs.Schedule.{is_accepted}
 use Rattle.bridge_config.specs.declared.ports.PortPlan.{PortPlan}
 use Rattle.bridge_config.specs.Model.{Plan}
 use Rattle.bridge_config.specs.Rules.{port_at}
-use Rattle.bridge_semantics.specs.Offers.{Carried, carried, Offer, offered, leaving}
+use Rattle.bridge_semantics.specs.Offers.{Carried, Offer, offered, leaving}
 use Rattle.bridge_semantics.specs.Runs.{IsTold, AtPort}
 use Rattle.bridge_port.specs.declared.item.Item.{Item}
-use Rattle.bridge_port.specs.declared.item.Refusal.{Refusal}
 use Rattle.bridge_port.specs.Schedule.{Copy}
-use Rattle.bridge_port.specs.Standing.{StandsFor, refusal_of, copy_of, count_queued}
+use Rattle.bridge_port.specs.Standing.{StandsFor, refusal_of, copy_of}
 use Rattle.bridge_semantics.specs.declared.load.Load.{Load}
 use Rattle.bridge_semantics.specs.declared.outcome.Dropped.{Dropped}
 use Rattle.bridge_semantics.specs.declared.outcome.Origin.{Origin}
@@ -36,7 +35,7 @@ use Rattle.bridge_state.specs.declared.slot.Came.TheVariants as came
 use Rattle.bridge_state.specs.declared.slot.Slot.{Slot}
 use Rattle.bridge_state.specs.Slots.{offered_slot, refusal_to, counted_frame}
 use Rattle.bridge_state.specs.Tables.{IsOpen, TableState, after_answer, change, judged, released}
-use Rattle.bridge_state.specs.Ports.{PortsState, slot_in, slot_at, goes_out, outs, is_there, NotBefore}
+use Rattle.bridge_state.specs.Ports.{slot_at, outs, is_there, NotBefore}
 use Rattle.bridge_relay.specs.Relays.{RelayState, HasLeft, HasSpare, IsSound, written, count_all, is_of, is_flow_stray, seen}
 
 -- a frame that goes somewhere has a priority, 0 to 7

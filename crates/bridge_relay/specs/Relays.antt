@@ -1,5 +1,5 @@
 -- A bridge, what it keeps, and the events that it stands for.
-use Rattle.std.specs.Prelude.{◌≡◌, ℕ, Bool, true, false, ◌+◌, ◌*◌, ◌<◌, ◌≤◌, ◌&&◌, not, nat_eq, nat_lt, max, Option, Some, None, List, [], ◌∷◌, ◌++◌, length, sum_by, IsTrue, if◌then◌else◌, ◌⊎◌}
+use Rattle.std.specs.Prelude.{◌≡◌, ℕ, Bool, true, false, ◌+◌, ◌*◌, ◌<◌, ◌≤◌, not, nat_eq, nat_lt, max, Option, Some, None, List, [], ◌∷◌, ◌++◌, length, sum_by, IsTrue, if◌then◌else◌, ◌⊎◌}
 use Rattle.std.specs.Map.{lookup}
 use Rattle.bridge_frame.specs.Link.{occupied}
 use Rattle.bridge_capture.specs.Grammar.{Captured}
@@ -31,7 +31,7 @@ use Rattle.bridge_semantics.specs.Runs.{DepartsBefore, DroppedBefore, IsTold, At
 use Rattle.bridge_state.specs.declared.slot.Slot.{Slot}
 use Rattle.bridge_relay.specs.declared.relay.Sent.{Sent}
 use Rattle.bridge_state.specs.Tables.{TableState}
-use Rattle.bridge_state.specs.Ports.{PortsState, AreAlike, slot_in, slot_at}
+use Rattle.bridge_state.specs.Ports.{PortsState, AreAlike, slot_at}
 
 -- the plan, its streams, the filters, the ports, what is told of each filter, how many frames came, and the least moment of the next one
 pub record RelayState (G A : Type 0) : Type 0 where

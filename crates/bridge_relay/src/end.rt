@@ -80,10 +80,7 @@ fn views_of<A: Allocator + Copy>(
     for entry in order {
         let (number, plan) = *entry;
         let view = view_of(alloc, police, &mut tables, number, plan.protected);
-        match views.push((number, view)) {
-            Ok(()) => {}
-            Err(_) => unreachable!(),
-        }
+        views.push_reserved((number, view));
     }
     views
 }

@@ -15,7 +15,7 @@ use bridge_gate::GatePlan;
 use bridge_ident::{Ident, StreamEntry};
 use bridge_state::Ports;
 use bridge_state::tables::tables_of;
-use std::alloc::{AllocError, Allocator};
+use std::alloc::Allocator;
 
 /// Equal gates, each with its number.
 fn gates_of<A: Allocator + Copy>(
@@ -24,10 +24,14 @@ fn gates_of<A: Allocator + Copy>(
 ) -> Result<Vec<(u32, GatePlan<A>), A>, NoMemory>
     ensures { IfOk result (λ copies. copies.items ≡ gates.now) }
 {
-    let mut copies = Vec::with_capacity(alloc, gates.len())?;
+    let Ok(mut copies) = Vec::with_capacity(alloc, gates.len()) else {
+        return Err(NoMemory);
+    };
     for gate in gates {
-        let copy = gate.1.copy(alloc)?;
-        copies.push((gate.0, copy)).map_err(AllocError::from)?;
+        let Ok(copy) = gate.1.copy(alloc) else {
+            return Err(NoMemory);
+        };
+        copies.push_reserved((gate.0, copy));
     }
     Ok(copies)
 }
@@ -36,8 +40,13 @@ fn gates_of<A: Allocator + Copy>(
 fn ident_of<A: Allocator + Copy>(alloc: A, streams: &[StreamEntry]) -> Result<Ident<A>, NoMemory>
     ensures { IfOk result (λ table. table ≡ streams.now) }
 {
-    let entries = Vec::from_slice(alloc, streams)?;
-    Ok(Ident::indexed(alloc, entries)?)
+    let Ok(entries) = Vec::from_slice(alloc, streams) else {
+        return Err(NoMemory);
+    };
+    match Ident::indexed(alloc, entries) {
+        Ok(ident) => Ok(ident),
+        Err(_) => Err(NoMemory),
+    }
 }
 
 /// The filters, gates and meters of a plan, to which nothing has come.
@@ -46,10 +55,19 @@ fn police_of<A: Allocator + Copy>(alloc: A, plan: &Plan<A>) -> Result<Police<A>,
     ensures gates { IfOk result (λ p. KeepsNumbers plan.now.gates p.gates) }
     ensures meters { IfOk result (λ p. KeepsNumbers plan.now.meters p.meters) }
 {
-    let filters = Vec::from_slice(alloc, plan.filters())?;
-    let meters = Vec::from_slice(alloc, plan.meters())?;
-    let gates = gates_of(alloc, plan.gates())?;
-    Ok(Police::new(alloc, filters, gates, meters)?)
+    let Ok(filters) = Vec::from_slice(alloc, plan.filters()) else {
+        return Err(NoMemory);
+    };
+    let Ok(meters) = Vec::from_slice(alloc, plan.meters()) else {
+        return Err(NoMemory);
+    };
+    let Ok(gates) = gates_of(alloc, plan.gates()) else {
+        return Err(NoMemory);
+    };
+    let Ok(police) = Police::new(alloc, filters, gates, meters) else {
+        return Err(NoMemory);
+    };
+    Ok(police)
 }
 
 impl<'a, G: Agenda + Drop, A: Allocator + Copy> Relay<'a, G, A> {
@@ -60,7 +78,9 @@ impl<'a, G: Agenda + Drop, A: Allocator + Copy> Relay<'a, G, A> {
         ensures none_due { IfOk result (λ b. (q : ℕ) → G.held b.ports.agenda q ≡ None) }
     {
         let plan = accepted.plan();
-        let tables = tables_of(alloc, plan.filters())?;
+        let Ok(tables) = tables_of(alloc, plan.filters()) else {
+            return Err(NoMemory);
+        };
         let Ok(ident) = ident_of(alloc, plan.streams()) else {
             drop(tables);
             return Err(NoMemory);

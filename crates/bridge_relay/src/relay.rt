@@ -256,8 +256,12 @@ impl<'a, G: Agenda + Drop, A: Allocator + Copy> Relay<'a, G, A> {
         ensures sound { OnOk result (IsSound G.held self.new) }
     {
         let (count, _) = self.ports.outs(set);
-        let copies = copies_of(self.alloc, octets, count.saturating_sub(1), spares)?;
-        promise(&mut self.tables, filter, hint, count)?;
+        let Ok(copies) = copies_of(self.alloc, octets, count.saturating_sub(1), spares) else {
+            return Err(NoMemory);
+        };
+        let Ok(()) = promise(&mut self.tables, filter, hint, count) else {
+            return Err(NoMemory);
+        };
         self.arrived += 1;
         Ok(copies)
     }

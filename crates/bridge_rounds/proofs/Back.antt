@@ -14,7 +14,7 @@ use Rattle.bridge_capture.specs.Grammar.{Captured, Place, Front, Fault, Record, 
 use Rattle.bridge_capture.specs.Written.{written_form, written_header, written_words, written_item, written_text}
 use Rattle.bridge_capture.proofs.Fronts.{fault_back, fault_late, fault_none, refused_words, too_many, whole_record}
 use Rattle.bridge_capture.proofs.Again.{words_captured, words_length, words_original}
-use Rattle.bridge_core.specs.Lines.{FitsRecord}
+use Rattle.bridge_simulation.specs.Lines.{FitsRecord}
 
 words_time : (t c o : ℕ) → t < 2 ^ 32 * 10 ^ 9 → time_of written_form (written_words t c o) ≡ t
 unfolding written_words

@@ -19,8 +19,8 @@ use Rattle.bridge_port.specs.Schedule.{Copy}
 use Rattle.bridge_semantics.specs.Offers.{Carried}
 use Rattle.bridge_semantics.specs.Outputs.{IsOutput}
 use Rattle.bridge_semantics.specs.Runs.{IsOutcome}
-use Rattle.bridge_core.specs.Lines.{FitsRecord}
-use Rattle.bridge_core.proofs.Beginning.{covered}
+use Rattle.bridge_simulation.specs.Lines.{FitsRecord}
+use Rattle.bridge_simulation.proofs.Beginning.{covered}
 use Rattle.bridge_config.proofs.Sorted.{rising_numbers}
 use Rattle.bridge_network.specs.Networks.{IsNetwork, IsNetworkRun, Network, Sender, coming, comes, later, outside, sender}
 use Rattle.bridge_rounds.specs.Delaying.{delayed}

@@ -10,7 +10,7 @@ use Rattle.std.proofs.lemmas.Option.{same_Some}
 use Rattle.bridge_capture.specs.Grammar.{Captured}
 use Rattle.bridge_capture.specs.Written.{written_words, written_item}
 use Rattle.bridge_capture.proofs.Again.{record_length}
-use Rattle.bridge_core.specs.Lines.{FitsRecord}
+use Rattle.bridge_simulation.specs.Lines.{FitsRecord}
 use Rattle.bridge_rounds.specs.Delaying.{AddsLater, IsWord, delayed, later_moment, moment_words}
 
 -- the words of the record that octets begin with

@@ -19,9 +19,9 @@ use Rattle.bridge_inputs.specs.Lanes.{AreRests, AreTexts}
 use Rattle.bridge_inputs.specs.declared.fault.RunFault.{RunFault}
 use Rattle.bridge_inputs.specs.declared.fault.RunFault.TheVariants as run
 use Rattle.bridge_semantics.specs.declared.outcome.Outcome.{Outcome}
-use Rattle.bridge_core.specs.Simulated.{AreNumbers, Runs, Stops}
-use Rattle.bridge_core.proofs.Beginning.{known}
-use Rattle.bridge_core.proofs.Simulating.{ports_many}
+use Rattle.bridge_simulation.specs.Simulated.{AreNumbers, Runs, Stops}
+use Rattle.bridge_simulation.proofs.Beginning.{known}
+use Rattle.bridge_simulation.proofs.Simulating.{ports_many}
 use Rattle.bridge_config.proofs.Sorted.{rising_numbers}
 use Rattle.bridge_network.specs.Networks.{Sender}
 use Rattle.bridge_rounds.specs.Stations.{IsStation, RunsBridge, StopsBridge, of_memory, taps_in, text_by, texts_in}

@@ -16,8 +16,8 @@ use Rattle.bridge_semantics.specs.Merge.{Input, asked, commands_of}
 use Rattle.bridge_network.specs.Checked.{AreClosed}
 use Rattle.bridge_network.proofs.Chain.{alone_in}
 use Rattle.bridge_network.proofs.Once.{one_course}
-use Rattle.bridge_core.specs.Simulated.{AreNumbers}
-use Rattle.bridge_core.proofs.Beginning.{one_order}
+use Rattle.bridge_simulation.specs.Simulated.{AreNumbers}
+use Rattle.bridge_simulation.proofs.Beginning.{one_order}
 use Rattle.bridge_network.specs.Networks.{AreTimed, Hop, IsTimed, IsNetwork, Sender, sender}
 use Rattle.bridge_network.specs.Wiring.{Parts, link_of, network_of, stream_of}
 use Rattle.bridge_rounds.specs.declared.settling.Settled.{Settled}

@@ -7,7 +7,7 @@ use Rattle.std.proofs.lemmas.Bool.Decides.{nat_tests}
 use Rattle.bridge_network.specs.Networks.{Sender}
 use Rattle.bridge_capture.specs.Grammar.{Captured}
 use Rattle.bridge_capture.specs.Written.{written_text}
-use Rattle.bridge_core.specs.Lines.{FitsRecord}
+use Rattle.bridge_simulation.specs.Lines.{FitsRecord}
 use Rattle.std.proofs.lemmas.List.Elements.{All-cons, All-head, All-nil, All-tail}
 use Rattle.bridge_limits.proofs.Cases.{by_bool}
 use Rattle.bridge_inputs.specs.declared.fault.RunFault.{RunFault}

@@ -4,7 +4,7 @@ use Rattle.std.specs.Int.{w32, from_le_bytes, to_le_bytes}
 use Rattle.bridge_limits.specs.declared.TheConstants.{END_OF_TIME}
 use Rattle.bridge_capture.specs.Grammar.{Captured}
 use Rattle.bridge_capture.specs.Written.{written_item}
-use Rattle.bridge_core.specs.Lines.{FitsRecord}
+use Rattle.bridge_simulation.specs.Lines.{FitsRecord}
 
 -- a moment so much later, at the end of time at the latest
 abbrev pub later_moment : ℕ → ℕ → ℕ

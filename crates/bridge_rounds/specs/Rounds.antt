@@ -11,7 +11,7 @@ use Rattle.bridge_semantics.specs.declared.outcome.Outcome.{Outcome}
 use Rattle.bridge_semantics.specs.declared.outcome.View.{View}
 use Rattle.bridge_semantics.specs.Merge.{Input, commands_of}
 use Rattle.bridge_semantics.specs.Runs.{TellTheSame}
-use Rattle.bridge_core.specs.Simulated.{AreNumbers}
+use Rattle.bridge_simulation.specs.Simulated.{AreNumbers}
 use Rattle.bridge_network.specs.declared.links.StreamHop.{StreamHop}
 use Rattle.bridge_network.specs.Alone.{HaveSameFirst, IsAlone}
 use Rattle.bridge_network.specs.Networks.{Hop, IsHop, IsNetworkRun, sender}

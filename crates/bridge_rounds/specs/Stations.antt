@@ -12,8 +12,8 @@ use Rattle.bridge_inputs.specs.declared.fault.RunFault.TheVariants as run
 use Rattle.bridge_semantics.specs.declared.outcome.Outcome.{Outcome}
 use Rattle.bridge_semantics.specs.Merge.{Input, IsMerged, events, commands_of, streams}
 use Rattle.bridge_semantics.specs.Outputs.{Ends}
-use Rattle.bridge_core.specs.Lines.{FitsRecord}
-use Rattle.bridge_core.specs.Simulated.{AreNumbers, Stops}
+use Rattle.bridge_simulation.specs.Lines.{FitsRecord}
+use Rattle.bridge_simulation.specs.Simulated.{AreNumbers, Stops}
 use Rattle.bridge_network.specs.Networks as networks
 use Rattle.bridge_network.specs.Wiring.{link_of, sender_value}
 use Rattle.bridge_network.specs.declared.links.Link.{Link}

@@ -3,7 +3,7 @@ ghost use Rattle.std.specs.Prelude.{◌≡◌, ℕ, ◌≤◌, ◌<◌, ◌+◌,
 ghost use Rattle.std.specs.Int.{to_le_bytes};
 ghost use Rattle.bridge_capture.specs.Grammar.{Captured};
 ghost use Rattle.bridge_capture.specs.Written.{written_item, written_text};
-ghost use Rattle.bridge_core.specs.Lines.{FitsRecord};
+ghost use Rattle.bridge_simulation.specs.Lines.{FitsRecord};
 ghost use Rattle.bridge_rounds.specs.Delaying.{AddsLater, IsWord, delayed, later_moment, moment_words};
 
 use bridge_limits::{END_OF_TIME, NoMemory};

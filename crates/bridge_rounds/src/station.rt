@@ -2,7 +2,7 @@
 ghost use Rattle.std.specs.Prelude.{◌≡◌, ◌≢◌, ◌+◌, ◌<◌, ℕ, All, List, [], Some, is_some, length, map, option_map, slice_get, slice_set, IfOk, IfErr, OnOk, Ok, true, false};
 ghost use Rattle.bridge_capture.specs.Memory.{is_sure};
 ghost use Rattle.bridge_config.specs.Commands.{AreCommands};
-ghost use Rattle.bridge_core.specs.Simulated.{AreNumbers};
+ghost use Rattle.bridge_simulation.specs.Simulated.{AreNumbers};
 ghost use Rattle.bridge_network.specs.Networks as networks;
 ghost use Rattle.bridge_rounds.specs.Stations.{HasRun, IsBegun, IsIncoming, IsStation, NoneCame, NoneCameBefore, RunsBridge, StopsBridge, ground, of_memory, open_texts, senders_in, taps_in, text_by, texts_in};
 ghost use Rattle.bridge_network.specs.Wiring.{link_of, sender_value};
@@ -10,11 +10,11 @@ ghost use Rattle.bridge_network.specs.Wiring.{link_of, sender_value};
 use bridge_capture::{SliceSource, VecSink};
 use bridge_check::Accepted;
 use bridge_config::Command;
-use bridge_core::simulate;
 use bridge_inputs::RunFault;
 use bridge_limits::NoMemory;
 use bridge_network::{Link, Sender, sender_of};
 use bridge_semantics::Outcome;
+use bridge_simulation::simulate;
 use std::alloc::Allocator;
 use std::marker::Model;
 

@@ -4,7 +4,7 @@ use Rattle.bridge_limits.proofs.Options.{some_is_none}
 use Rattle.bridge_config.specs.Model.{Plan}
 use Rattle.bridge_jobs.specs.declared.fault.Fault.{Fault}
 use Rattle.bridge_jobs.specs.declared.fault.Fault.TheVariants as fault
-use Rattle.bridge_core.specs.Simulated.{AreNumbers}
+use Rattle.bridge_simulation.specs.Simulated.{AreNumbers}
 use Rattle.bridge_jobs.specs.Commanding.{EndsCommanded}
 use Rattle.bridge_jobs.specs.Reading.{IsOfFile}
 use Rattle.bridge_running.specs.Files.{EndsReading, EndsRun, EndsSending, IsAcceptedPlan, IsOfOutputs, IsOfReport, IsPlanOfText}

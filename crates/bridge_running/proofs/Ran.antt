@@ -20,10 +20,10 @@ use Rattle.bridge_limits.specs.Members.{Rising}
 use Rattle.bridge_limits.proofs.Lists.{there_is, heads, tails}
 use Rattle.bridge_limits.proofs.Members.{after_at}
 use Rattle.bridge_inputs.specs.Lanes.{AreRests, AreTexts}
-use Rattle.bridge_core.specs.Lines.{AreWritten}
-use Rattle.bridge_core.specs.Simulated.{AreNumbers, Runs, Stops}
-use Rattle.bridge_core.specs.Taking.{StopsAmong, StopsSo}
-use Rattle.bridge_core.proofs.Simulating.{ports_many}
+use Rattle.bridge_simulation.specs.Lines.{AreWritten}
+use Rattle.bridge_simulation.specs.Simulated.{AreNumbers, Runs, Stops}
+use Rattle.bridge_simulation.specs.Taking.{StopsAmong, StopsSo}
+use Rattle.bridge_simulation.proofs.Simulating.{ports_many}
 use Rattle.bridge_running.specs.Flushed.{AllKept, NoneFailed, StopsFlushed}
 use Rattle.bridge_running.proofs.Kept.{kept_at, kept_length, kept_through, none_at}
 

@@ -9,7 +9,7 @@ use Rattle.bridge_jobs.specs.Commanding.{EndsCommanded}
 use Rattle.bridge_jobs.specs.Jobs.{Accepts, EndsPlan}
 use Rattle.bridge_summary.specs.Summary.{summary_of}
 use Rattle.bridge_semantics.specs.declared.outcome.Outcome.{Outcome}
-use Rattle.bridge_core.specs.Simulated.{AreNumbers}
+use Rattle.bridge_simulation.specs.Simulated.{AreNumbers}
 use Rattle.bridge_files.specs.Files.{IsCapture}
 use Rattle.bridge_files.specs.Paths.{report_path}
 

@@ -6,8 +6,8 @@ use Rattle.bridge_config.specs.Model.{Plan}
 use Rattle.bridge_inputs.specs.declared.fault.RunFault.{RunFault}
 use Rattle.bridge_inputs.specs.declared.fault.RunFault.TheVariants as run
 use Rattle.bridge_inputs.specs.Lanes.{FailsLook, LooksFail}
-use Rattle.bridge_core.specs.Simulated.{BeginWell}
-use Rattle.bridge_core.specs.Taking.{IsOfCapture, StopsAmong}
+use Rattle.bridge_simulation.specs.Simulated.{BeginWell}
+use Rattle.bridge_simulation.specs.Taking.{IsOfCapture, StopsAmong}
 
 -- each of these devices holds what the other of its place holds, and there are as many
 abbrev pub AllKept : {V W : Type 0} → (V → Option (List ℕ)) → (W → Option (List ℕ)) → List V → List W → Type 0

@@ -2,15 +2,15 @@
 ghost use Rattle.std.specs.Prelude.{◌≡◌, ℕ, List, Option, Some, length, slice_get, IfOk, IfErr};
 ghost use Rattle.bridge_config.specs.Commands.{AreCommands};
 ghost use Rattle.bridge_inputs.specs.Lanes.{AreTexts};
-ghost use Rattle.bridge_core.specs.Simulated.{AreNumbers, Isolates, OthersChangeNothing, Runs};
+ghost use Rattle.bridge_simulation.specs.Simulated.{AreNumbers, Isolates, OthersChangeNothing, Runs};
 ghost use Rattle.bridge_running.specs.Flushed.{LosesOutput, StopsFlushed};
 
 use crate::transfer::{finish_all, sinks_of, sources_of};
 use bridge_check::Accepted;
 use bridge_config::Command;
-use bridge_core::simulate;
 use bridge_inputs::RunFault;
 use bridge_semantics::Outcome;
+use bridge_simulation::simulate;
 use std::alloc::Allocator;
 use std::io::{Read, Write};
 

@@ -3,9 +3,9 @@ ghost use Rattle.std.specs.Prelude.{[], ◌≡◌, IfOk, string_bytes};
 ghost use Rattle.bridge_jobs.specs.Status.{status_of};
 
 use bridge_app::said_of_words;
+use bridge_check_app::{Ending, refused_and_told};
 use bridge_cli::wants_explanation;
 use bridge_jobs::{Fault, NoMemory};
-use bridge_plain::{Ending, refused_and_told};
 
 /// How words that are refused, or whose job can't be printed, end: by the line of the fault on standard error, with more behind it
 /// where the words ask for that, and by its status.

@@ -1,20 +1,24 @@
 //! The job of the words, done over standard input and output and the files that it names, where it is one of one bridge.
 ghost use Rattle.std.specs.Prelude.{◌≡◌, IfOk, true};
 ghost use Rattle.bridge_cli.specs.CommandLine.{HasRoom};
-ghost use Rattle.bridge_single.specs.Left.{LeavesNetworks, is_of_networks};
+ghost use Rattle.bridge_check_app.specs.Left.{LeavesBy};
+ghost use Rattle.bridge_single.specs.Left.{LeavesNetworks, is_more, is_of_networks};
 
 use crate::ending::refused;
+use crate::looking::is_network;
 use crate::refusing::{of_words, unexplained};
 use bridge_app::{
     Refusal, Strict, told_check_job, told_picture_job, told_picture_text, told_run_job,
     told_wire_job,
 };
+use bridge_check_app::{Done, Ending, helped, of_said, refused_and_told};
 use bridge_cli::{
     Job, PictureRequest, Request, TableRequest, help_of, request_of, wants_explanation,
 };
-use bridge_files::{Said, is_network, is_standard};
+use bridge_files::{Said, is_standard};
 use bridge_jobs::{Fault, NoMemory};
-use bridge_plain::{Done, Ending, done_request, helped, of_said, refused_and_told};
+use bridge_run_app::done_run;
+use bridge_wire_app::done_wire;
 use bridge_wiring::text_job;
 use std::alloc::Global;
 use std::rt::Files;
@@ -118,10 +122,25 @@ fn done<H: Input + AllocGlobal + Print + Eprint + Files>(
         Ok(request) => request,
         Err(fault) => return Err(of_words(rt.alloc(), words, wants_explanation(words), fault)),
     };
-    match done_request(rt, request) {
+    match done_line(rt, request) {
         Ok(Done::Ended(ending)) => Ok(Performed::Ended(ending)),
         Ok(Done::Left(request)) => done_left(rt, words, request, is_watched),
         Err(fault) => Err(unexplained(fault)),
+    }
+}
+
+/// Does what is asked where that is the line of a check, of a run, or of a job over one queue; else it is left as it is.
+fn done_line<H: Input + AllocGlobal + Print + Files>(
+    rt: &H,
+    request: Request,
+) -> Result<Done, Fault>
+    requires { HasRoom request.job }
+    ensures { IfOk result (LeavesBy is_more request) }
+{
+    match done_run(rt, request) {
+        Ok(Done::Ended(ending)) => Ok(Done::Ended(ending)),
+        Ok(Done::Left(request)) => done_wire(rt, request),
+        Err(fault) => Err(fault),
     }
 }
 
@@ -243,7 +262,7 @@ fn status_of(is_well: bool) -> u8 {
 
 /// The ending of a job that prints a text and tells nothing.
 pub fn printed(alloc: Global, text: String, is_well: bool) -> Ending {
-    bridge_plain::printed(alloc, text, status_of(is_well))
+    bridge_check_app::printed(alloc, text, status_of(is_well))
 }
 
 /// How a capture that went through one queue ends: its line is told where standard output has the capture.

@@ -1,8 +1,8 @@
 //! What is printed of a job.
 
 use crate::ending::refused;
+use bridge_check_app::Ending;
 use bridge_jobs::{NoMemory, print};
-use bridge_plain::Ending;
 
 /// Prints what is to be printed of the job of the words; where standard output fails, which is a file of the path `-`, the ending
 /// is that of the fault.

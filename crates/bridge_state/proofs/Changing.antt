@@ -1,6 +1,6 @@
 -- The table of one number changes.
-use Rattle.std.proofs.Common.{◌≡◌, ℕ, true, false, zero, suc, List, [], ◌∷◌, refl, ap, ◌∙◌, sym, subst, Some}
-use Rattle.std.specs.Prelude.{OnOk, OnErr, Result, Ok, Err, nat_eq, slice_get}
+use Rattle.std.proofs.Common.{◌≡◌, ℕ, true, false, zero, suc, List, [], ◌∷◌, arith, refl, ap, ◌∙◌, sym, subst, Some}
+use Rattle.std.specs.Prelude.{OnOk, OnErr, Option, Result, Ok, Err, nat_eq, slice_get, length, is_some, IsSome, ◌<◌}
 use Rattle.std.specs.Cmp.{nat_eq_equiv}
 use Rattle.std.specs.List.{AllByRecursion, IsDistinct}
 use Rattle.std.specs.Map.{keys_of, lookup, set_value}
@@ -66,3 +66,12 @@ change_at m i k n f x y unique at is h = set_at m i k n x y unique at is ∙ cha
 -- or it stays as it was
 pub same_at : {X S : Type 0} (m : IndexMap ℕ X S) (i k n : ℕ) (x y : X) → IsUnique nat_eq m → slice_get m.entries i ≡ Some (k, x) → slice_get (keys_of m.entries) i ≡ Some n → y ≡ x → set_value_at m.entries i y ≡ m.entries
 same_at m i k n x y unique at is h = set_at m i k n x y unique at is ∙ change_same n m.entries x y (own_at m i k n x unique at is) h
+
+pub there_by : {X : Type 0} (o : Option X) (x : X) → o ≡ Some x → IsSome o
+there_by o x e = ap is_some e
+
+-- a number that has a place is within
+pub place_within : {X : Type 0} (xs : List (ℕ × X)) (i n : ℕ) → slice_get (keys_of xs) i ≡ Some n → i < length xs
+place_within [] i n e = absurd (cc)
+place_within (x ∷ xs) zero n e = omega arith
+place_within (x ∷ xs) (suc i) n e = let h : i < length xs = place_within xs i n e in omega arith

@@ -4,3 +4,7 @@ pub mod Changing
 pub mod Making
 pub mod Fresh
 pub mod Outs
+pub mod Rooms
+pub mod Offered
+pub mod Newly
+pub mod Tabling

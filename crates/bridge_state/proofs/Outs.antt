@@ -1,5 +1,5 @@
 -- How many ports of a set there are.
-use Rattle.std.proofs.Common.{◌≡◌, ℕ, false, ◌+◌, ◌-◌, ◌*◌, ◌/◌, ◌^◌, ◌<◌, ◌≤◌, List, Option, zero, suc, arith, refl, ap, ◌∙◌, sym, subst}
+use Rattle.std.proofs.Common.{◌≡◌, ℕ, false, ◌+◌, ◌-◌, ◌*◌, ◌/◌, ◌^◌, ◌<◌, ◌≤◌, List, Option, zero, suc, arith, refl, ap, ◌∙◌}
 use Rattle.std.specs.Prelude.{if◌then◌else◌, Bool, ◌&&◌}
 use Rattle.std.proofs.Math.Nat.{div-lt_iff_lt-mul}
 use Rattle.std.proofs.lemmas.Nat.{pow_pos}
@@ -7,7 +7,7 @@ use Rattle.std.proofs.lemmas.Nat.Bits.{bit_at_above}
 use Rattle.std.specs.Int.{bit_at}
 use Rattle.bridge_forward.specs.Ports.{has}
 use Rattle.bridge_state.specs.declared.slot.Slot.{Slot}
-use Rattle.bridge_state.specs.Ports.{slot_in, is_there, goes_out, outs, IsLastOut}
+use Rattle.bridge_state.specs.Ports.{slot_in, is_there, goes_out, outs}
 
 -- a set of which nothing is left behind port n has no port behind it
 pub not_behind : (set n q : ℕ) → set / 2 ^ n ≡ 0 → n < q → has set q ≡ false

@@ -30,10 +30,14 @@ pub fn copies_of<A: Allocator + Copy>(
     ensures count { IfOk result (λ copies. length copies.items ≡ count) }
     ensures octets { IfOk result (λ copies. All (λ v. v.items ≡ octets.now) copies.items) }
 {
-    let mut copies = Vec::with_capacity(alloc, count)?;
+    let Ok(mut copies) = Vec::with_capacity(alloc, count) else {
+        return Err(NoMemory);
+    };
     for _ in 0..count {
-        let copy = copy_of(octets, spares)?;
-        copies.push(copy).map_err(AllocError::from)?;
+        let Ok(copy) = copy_of(octets, spares) else {
+            return Err(NoMemory);
+        };
+        copies.push_reserved(copy);
     }
     Ok(copies)
 }

@@ -109,10 +109,7 @@ impl<G: Agenda + Drop, A: Allocator + Copy> Ports<G, A> {
             let Ok(slot) = slot_of(alloc, plan, place + 1) else {
                 return Err(NoMemory);
             };
-            match slots.push(slot) {
-                Ok(()) => {}
-                Err(_) => unreachable!(),
-            }
+            slots.push_reserved(slot);
         }
         Ok(Ports {
             slots,
@@ -277,10 +274,7 @@ impl<G: Agenda + Drop, A: Allocator + Copy> Ports<G, A> {
         let mut counts = counts;
         for place in 0u8..16 {
             if let Some(slot) = &self.slots[place as usize] {
-                match counts.push((place + 1, slot.count)) {
-                    Ok(()) => {}
-                    Err(_) => unreachable!(),
-                }
+                counts.push_reserved((place + 1, slot.count));
             }
         }
         counts

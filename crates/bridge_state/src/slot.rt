@@ -55,10 +55,15 @@ impl<A: Allocator + Copy> Slot<A> {
         ensures new { IfOk result (λ s. IsNew s) }
     {
         let list = match &plan.list {
-            Some(list) => Some(list.copy(alloc)?),
+            Some(list) => match list.copy(alloc) {
+                Ok(list) => Some(list),
+                Err(_) => return Err(NoMemory),
+            },
             None => None,
         };
-        let port = Port::new(alloc, plan.speed, list, plan.rooms)?;
+        let Ok(port) = Port::new(alloc, plan.speed, list, plan.rooms) else {
+            return Err(NoMemory);
+        };
         Ok(Slot {
             speed: plan.speed,
             vid: plan.vid,

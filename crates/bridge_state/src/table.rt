@@ -104,11 +104,18 @@ impl<A: Allocator + Copy> Table<A> {
         ensures err { OnErr result (self.new ≡ self.old) }
     {
         let owed = self.owed + copies;
-        self.verdicts.reserve(self.newest_verdicts.len() + 1)?;
-        self.origins.reserve(self.newest_origins.len() + 1)?;
-        self.departures
-            .reserve(self.newest_departures.len() + owed)?;
-        self.drops.reserve(owed)?;
+        let Ok(()) = self.verdicts.reserve(self.newest_verdicts.len() + 1) else {
+            return Err(NoMemory);
+        };
+        let Ok(()) = self.origins.reserve(self.newest_origins.len() + 1) else {
+            return Err(NoMemory);
+        };
+        let Ok(()) = self.departures.reserve(self.newest_departures.len() + owed) else {
+            return Err(NoMemory);
+        };
+        let Ok(()) = self.drops.reserve(owed) else {
+            return Err(NoMemory);
+        };
         self.owed = owed;
         self.is_open = true;
         Ok(())

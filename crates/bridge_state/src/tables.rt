@@ -25,9 +25,13 @@ pub fn tables_of<A: Allocator + Copy>(
     requires { are_distinct filters.now ≡ true }
     ensures { IfOk result (λ tables. tables.entries ≡ fresh_tables filters.now) }
 {
-    let mut tables = IndexMap::with_capacity(alloc, filters.len())?;
+    let Ok(mut tables) = IndexMap::with_capacity(alloc, filters.len()) else {
+        return Err(AllocError);
+    };
     for (number, _) in filters {
-        tables.insert(*number, Table::new(alloc))?;
+        let Ok(_) = tables.insert(*number, Table::new(alloc)) else {
+            return Err(AllocError);
+        };
     }
     Ok(tables)
 }

@@ -3,9 +3,7 @@ use Rattle.std.specs.Io.KnownBytes.{Consumes}
 use Rattle.std.proofs.lemmas.List.{length-take}
 use Rattle.bridge_capture.specs.Grammar.{Place}
 use Rattle.bridge_capture.proofs.Fronts.{ended, too_many, cut_words, words_refused, octets_refused, whole_record, head_is}
-use Rattle.bridge_capture.specs.declared.fault.CaptureFault.TheVariants as faults
-use Rattle.bridge_capture.specs.Reading.{IsOfWords}
-use Rattle.bridge_capture.proofs.Answered.{apart, of_kind}
+use Rattle.bridge_capture.proofs.Answered.{told_sound, told_failed, told_of_words, told_of_octets}
 use Rattle.bridge_capture.proofs.Taken.{octets_taken, words_taken, none_taken, some_taken}
 use Rattle.bridge_capture.proofs.record.read_record.Goals as goal
 
@@ -71,128 +69,37 @@ returns-in-Err-judge_head-clause-taken g c =
     let full = subst (Consumes _ _) (take_all c.in-Ok-fill.count words (omega (arith, c.in-Ok-fill.ensures.count))) c.in-Ok-fill.ensures.bytes in
     words_taken c.args.form place _ _ words c.in-Err-judge_head.fault c.in-Err-judge_head.ensures.only (search rules) full
 
-pub returns-in-Ok-clause-failed : goal.returns-in-Ok-clause-failed
-returns-in-Ok-clause-failed g c = λ e. absurd (apart e refl)
-
-pub returns-in-Ok-clause-sure : goal.returns-in-Ok-clause-sure
-returns-in-Ok-clause-sure g c = λ sure e. apart e refl
-
-pub returns-in-Ok-clause-no_write : goal.returns-in-Ok-clause-no_write
-returns-in-Ok-clause-no_write g c = λ e. apart e refl
-
-pub returns-in-Ok-clause-lasts : goal.returns-in-Ok-clause-lasts
-returns-in-Ok-clause-lasts g c = λ sure. (c.in-Ok.ensures.sure sure).1
-
-pub returns-in-Ok-clause-broken : goal.returns-in-Ok-clause-broken
-returns-in-Ok-clause-broken g c = λ broken. absurd (true≢false (sym (c.in-Ok.ensures.stays broken (omega arith))))
-
-pub returns-in-Ok-2-clause-failed : goal.returns-in-Ok-2-clause-failed
-returns-in-Ok-2-clause-failed g c = λ e. absurd (apart e refl)
-
-pub returns-in-Ok-2-clause-sure : goal.returns-in-Ok-2-clause-sure
-returns-in-Ok-2-clause-sure g c = λ sure e. apart e refl
-
-pub returns-in-Ok-2-clause-no_write : goal.returns-in-Ok-2-clause-no_write
-returns-in-Ok-2-clause-no_write g c = λ e. apart e refl
-
-pub returns-in-Ok-2-clause-lasts : goal.returns-in-Ok-2-clause-lasts
-returns-in-Ok-2-clause-lasts g c = λ sure. (c.in-Ok-2.ensures.sure sure).1
-
-pub returns-in-Ok-2-clause-broken : goal.returns-in-Ok-2-clause-broken
-returns-in-Ok-2-clause-broken g c = λ broken. absurd (true≢false (sym (c.in-Ok-2.ensures.stays broken (omega arith))))
-
-pub returns-then-count-eq0-clause-failed : goal.returns-then-count-eq0-clause-failed
-returns-then-count-eq0-clause-failed g c = λ e. absurd (apart e refl)
-
-pub returns-then-count-eq0-clause-sure : goal.returns-then-count-eq0-clause-sure
-returns-then-count-eq0-clause-sure g c = λ sure e. apart e refl
-
-pub returns-then-count-eq0-clause-no_write : goal.returns-then-count-eq0-clause-no_write
-returns-then-count-eq0-clause-no_write g c = λ e. apart e refl
-
-pub returns-then-count-eq0-clause-lasts : goal.returns-then-count-eq0-clause-lasts
-returns-then-count-eq0-clause-lasts g c = λ sure. (c.in-Ok-fill.ensures.sure sure).1
-
-pub returns-then-count-eq0-clause-broken : goal.returns-then-count-eq0-clause-broken
-returns-then-count-eq0-clause-broken g c = λ broken. absurd (true≢false (sym (c.in-Ok-fill.ensures.stays broken (omega arith))))
-
-pub returns-then-count-lt16-clause-failed : goal.returns-then-count-lt16-clause-failed
-returns-then-count-lt16-clause-failed g c = λ e. absurd (apart e refl)
-
-pub returns-then-count-lt16-clause-sure : goal.returns-then-count-lt16-clause-sure
-returns-then-count-lt16-clause-sure g c = λ sure e. apart e refl
-
-pub returns-then-count-lt16-clause-no_write : goal.returns-then-count-lt16-clause-no_write
-returns-then-count-lt16-clause-no_write g c = λ e. apart e refl
-
-pub returns-then-count-lt16-clause-lasts : goal.returns-then-count-lt16-clause-lasts
-returns-then-count-lt16-clause-lasts g c = λ sure. (c.in-Ok-fill.ensures.sure sure).1
-
-pub returns-then-count-lt16-clause-broken : goal.returns-then-count-lt16-clause-broken
-returns-then-count-lt16-clause-broken g c = λ broken. absurd (true≢false (sym (c.in-Ok-fill.ensures.stays broken (omega arith))))
-
-pub returns-in-Err-clause-failed : goal.returns-in-Err-clause-failed
-returns-in-Err-clause-failed g c = λ e. c.in-Err.ensures.fails
-
-pub returns-in-Err-clause-sure : goal.returns-in-Err-clause-sure
-returns-in-Err-clause-sure g c = λ sure. absurd (true≢false (sym (c.in-Err.ensures.sure sure).0))
-
-pub returns-in-Err-clause-no_write : goal.returns-in-Err-clause-no_write
-returns-in-Err-clause-no_write g c = λ e. apart e refl
-
-pub returns-in-Err-clause-lasts : goal.returns-in-Err-clause-lasts
-returns-in-Err-clause-lasts g c = λ sure. absurd (true≢false (sym (c.in-Err.ensures.sure sure).0))
-
-pub returns-in-Err-fill-clause-failed : goal.returns-in-Err-fill-clause-failed
-returns-in-Err-fill-clause-failed g c = λ e. c.in-Err-fill.ensures.fails
-
-pub returns-in-Err-fill-clause-sure : goal.returns-in-Err-fill-clause-sure
-returns-in-Err-fill-clause-sure g c = λ sure. absurd (true≢false (sym (c.in-Err-fill.ensures.sure sure).0))
-
-pub returns-in-Err-fill-clause-no_write : goal.returns-in-Err-fill-clause-no_write
-returns-in-Err-fill-clause-no_write g c = λ e. apart e refl
-
-pub returns-in-Err-fill-clause-lasts : goal.returns-in-Err-fill-clause-lasts
-returns-in-Err-fill-clause-lasts g c = λ sure. absurd (true≢false (sym (c.in-Err-fill.ensures.sure sure).0))
-
 pub returns-in-Err-clause-taken : goal.returns-in-Err-clause-taken
 returns-in-Err-clause-taken g c = none_taken c.args.form (record { number = c.args.number; earliest = c.args.earliest }) _ _ c.in-Err.ensures.part
 
 pub returns-in-Err-fill-clause-taken : goal.returns-in-Err-fill-clause-taken
 returns-in-Err-fill-clause-taken g c = some_taken c.args.form (record { number = c.args.number; earliest = c.args.earliest }) _ _ (search rules) c.in-Err-fill.ensures.part
 
-pub returns-in-Err-judge_head-clause-failed : goal.returns-in-Err-judge_head-clause-failed
-returns-in-Err-judge_head-clause-failed g c = λ e. absurd (of_kind IsOfWords c.in-Err-judge_head.fault faults.Read c.in-Err-judge_head.ensures.only (λ x. x) e)
+pub returns-in-Ok-clause-told : goal.returns-in-Ok-clause-told
+returns-in-Ok-clause-told g c = told_sound refl refl (λ broken. true≢false (sym (c.in-Ok.ensures.stays broken (omega arith)))) (λ sure. (c.in-Ok.ensures.sure sure).1)
 
-pub returns-in-Err-judge_head-clause-sure : goal.returns-in-Err-judge_head-clause-sure
-returns-in-Err-judge_head-clause-sure g c = λ sure. of_kind IsOfWords c.in-Err-judge_head.fault faults.Read c.in-Err-judge_head.ensures.only (λ x. x)
+pub returns-in-Ok-2-clause-told : goal.returns-in-Ok-2-clause-told
+returns-in-Ok-2-clause-told g c = told_sound refl refl (λ broken. true≢false (sym (c.in-Ok-2.ensures.stays broken (omega arith)))) (λ sure. (c.in-Ok-2.ensures.sure sure).1)
 
-pub returns-in-Err-judge_head-clause-no_write : goal.returns-in-Err-judge_head-clause-no_write
-returns-in-Err-judge_head-clause-no_write g c = of_kind IsOfWords c.in-Err-judge_head.fault faults.Write c.in-Err-judge_head.ensures.only (λ x. x)
+pub returns-then-count-eq0-clause-told : goal.returns-then-count-eq0-clause-told
+returns-then-count-eq0-clause-told g c = told_sound refl refl (λ broken. true≢false (sym (c.in-Ok-fill.ensures.stays broken (omega arith)))) (λ sure. (c.in-Ok-fill.ensures.sure sure).1)
 
-pub returns-in-Err-judge_head-clause-lasts : goal.returns-in-Err-judge_head-clause-lasts
-returns-in-Err-judge_head-clause-lasts g c = λ sure. (c.in-Ok-fill.ensures.sure sure).1
+pub returns-then-count-lt16-clause-told : goal.returns-then-count-lt16-clause-told
+returns-then-count-lt16-clause-told g c = told_sound refl refl (λ broken. true≢false (sym (c.in-Ok-fill.ensures.stays broken (omega arith)))) (λ sure. (c.in-Ok-fill.ensures.sure sure).1)
 
-pub returns-in-Err-judge_head-clause-broken : goal.returns-in-Err-judge_head-clause-broken
-returns-in-Err-judge_head-clause-broken g c = λ broken. absurd (true≢false (sym (c.in-Ok-fill.ensures.stays broken (omega arith))))
+pub returns-in-Err-clause-told : goal.returns-in-Err-clause-told
+returns-in-Err-clause-told g c = told_failed c.in-Err.ensures.fails (λ sure. true≢false (sym (c.in-Err.ensures.sure sure).0))
 
-pub returns-in-Ok-take_octets-clause-failed : goal.returns-in-Ok-take_octets-clause-failed
-returns-in-Ok-take_octets-clause-failed g c = λ e. absurd (apart e refl)
+pub returns-in-Err-fill-clause-told : goal.returns-in-Err-fill-clause-told
+returns-in-Err-fill-clause-told g c = told_failed c.in-Err-fill.ensures.fails (λ sure. true≢false (sym (c.in-Err-fill.ensures.sure sure).0))
 
-pub returns-in-Ok-take_octets-clause-sure : goal.returns-in-Ok-take_octets-clause-sure
-returns-in-Ok-take_octets-clause-sure g c = λ sure e. apart e refl
+pub returns-in-Err-judge_head-clause-told : goal.returns-in-Err-judge_head-clause-told
+returns-in-Err-judge_head-clause-told g c = told_of_words c.in-Err-judge_head.fault c.in-Err-judge_head.ensures.only (λ broken. true≢false (sym (c.in-Ok-fill.ensures.stays broken (omega arith)))) (λ sure. (c.in-Ok-fill.ensures.sure sure).1)
 
-pub returns-in-Ok-take_octets-clause-no_write : goal.returns-in-Ok-take_octets-clause-no_write
-returns-in-Ok-take_octets-clause-no_write g c = λ e. apart e refl
+pub returns-in-Ok-take_octets-clause-told : goal.returns-in-Ok-take_octets-clause-told
+returns-in-Ok-take_octets-clause-told g c = told_sound refl refl (λ broken. true≢false (sym (c.in-Ok-fill.ensures.stays broken (omega arith)))) (λ sure. c.take_octets.ensures.lasts (c.in-Ok-fill.ensures.sure sure).1)
 
-pub returns-in-Ok-take_octets-clause-lasts : goal.returns-in-Ok-take_octets-clause-lasts
-returns-in-Ok-take_octets-clause-lasts g c = λ sure. c.take_octets.ensures.lasts (c.in-Ok-fill.ensures.sure sure).1
-
-pub returns-in-Ok-take_octets-clause-broken : goal.returns-in-Ok-take_octets-clause-broken
-returns-in-Ok-take_octets-clause-broken g c = λ broken. absurd (true≢false (sym (c.in-Ok-fill.ensures.stays broken (omega arith))))
-
-pub returns-in-Err-take_octets-clause-lasts : goal.returns-in-Err-take_octets-clause-lasts
-returns-in-Err-take_octets-clause-lasts g c = λ sure. c.take_octets.ensures.lasts (c.in-Ok-fill.ensures.sure sure).1
-
-pub returns-in-Err-take_octets-clause-broken : goal.returns-in-Err-take_octets-clause-broken
-returns-in-Err-take_octets-clause-broken g c = λ broken. absurd (true≢false (sym (c.in-Ok-fill.ensures.stays broken (omega arith))))
+pub returns-in-Err-take_octets-clause-told : goal.returns-in-Err-take_octets-clause-told
+returns-in-Err-take_octets-clause-told g c =
+    let e = c.in-Err-take_octets.ensures in
+    told_of_octets c.fill-2.new.source c.args.number c.head_of-head.result.captured _ _ c.in-Err-take_octets.fault e.octets e.failed e.sure c.take_octets.ensures.lasts (λ broken. true≢false (sym (c.in-Ok-fill.ensures.stays broken (omega arith)))) (λ sure. (c.in-Ok-fill.ensures.sure sure).1)

@@ -1,10 +1,29 @@
-use Rattle.std.proofs.Common.{arith, rules, sym}
+use Rattle.std.proofs.Common.{arith, sym}
+use Rattle.bridge_config.specs.Arrays.{items_of_arrays}
 use Rattle.bridge_config.specs.Document as doc
+use Rattle.bridge_config.proofs.Taken.{at_first, goes_on, goes_out}
 use Rattle.bridge_config.proofs.plan.policing_of.Goals as goal
+
+pub returns-in_err-gates : goal.returns-in_err-gates
+unfolding doc.policing_of
+returns-in_err-gates g c =
+    let read = at_first (doc.policing_of c.args.change (items_of_arrays c.args.arrays)) in
+    goes_out _ _ _ _ _ c.in_err-gates.ensures.reads c.from_residual.ensures.1 read
+
+pub returns-in_err-meters : goal.returns-in_err-meters
+unfolding doc.policing_of
+returns-in_err-meters g c =
+    let read = at_first (doc.policing_of c.args.change (items_of_arrays c.args.arrays)) in
+    let read = goes_on _ c.in_ok-gates.ensures.reads read in
+    goes_out _ _ _ _ _ c.in_err-meters.ensures.reads c.from_residual-in_err-meters.ensures.1 read
 
 pub returns-in_err-filters : goal.returns-in_err-filters
 unfolding doc.policing_of
-returns-in_err-filters g c = search (rules, c.in_ok-gates.ensures.reads, c.in_ok-meters.ensures.reads, c.in_err-filters.ensures.reads, c.deref.ensures.value, c.deref-2.ensures.value, c.from_residual-in_err-filters.ensures)
+returns-in_err-filters g c =
+    let read = at_first (doc.policing_of c.args.change (items_of_arrays c.args.arrays)) in
+    let read = goes_on _ c.in_ok-gates.ensures.reads read in
+    let read = goes_on _ c.in_ok-meters.ensures.reads read in
+    goes_out _ _ _ _ _ (rw (c.deref.ensures.value, c.deref-2.ensures.value) at c.in_err-filters.ensures.reads) c.from_residual-in_err-filters.ensures.1 read
 
 pub invariant_of-result : goal.invariant_of-result
 invariant_of-result g c = record {

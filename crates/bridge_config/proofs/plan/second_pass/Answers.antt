@@ -1,7 +1,9 @@
-use Rattle.std.proofs.Common.{◌≡◌, ℕ, ◌∙◌, sym, ap, subst, arith, rules}
+use Rattle.std.proofs.Common.{◌≡◌, ℕ, ◌∙◌, sym, ap, subst, arith}
 use Rattle.bridge_config.specs.Rules.{port_set, AreVlans, AreStatics}
 use Rattle.bridge_config.specs.Document as doc
+use Rattle.bridge_config.specs.Arrays.{items_of_arrays}
 use Rattle.bridge_config.proofs.Counts.{as_many}
+use Rattle.bridge_config.proofs.Taken.{at_first, goes_on, goes_out}
 use Rattle.bridge_config.proofs.plan.second_pass.Goals as goal
 
 pub invariant_of-result : goal.invariant_of-result
@@ -32,22 +34,64 @@ invariant_of-result g c =
       filters = c.policing.invariant.filters;
     }
 
+pub returns-in_err-ports : goal.returns-in_err-ports
+unfolding doc.second_pass
+returns-in_err-ports g c =
+    let read = at_first (doc.second_pass (items_of_arrays c.args.arrays)) in
+    let read = goes_on _ c.in_ok-change.ensures.reads read in
+    goes_out _ _ _ _ _ c.in_err-ports.ensures.reads c.from_residual-in_err-ports.ensures.1 read
+
 pub returns-in_err-vlans : goal.returns-in_err-vlans
 unfolding doc.second_pass
-returns-in_err-vlans g c = search (rules, c.in_ok-change.ensures.reads, c.in_ok-ports.ensures.reads, c.deref.ensures.value, c.port_set-all.ensures, c.in_err-vlans.ensures.reads, c.from_residual-in_err-vlans.ensures)
+returns-in_err-vlans g c =
+    let read = at_first (doc.second_pass (items_of_arrays c.args.arrays)) in
+    let read = goes_on _ c.in_ok-change.ensures.reads read in
+    let all : c.port_set-all.result ≡ port_set c.in_ok-ports.ports.items = c.port_set-all.ensures ∙ ap port_set c.deref.ensures.value in
+    let read = goes_on _ c.in_ok-ports.ensures.reads read in
+    goes_out _ _ _ _ _ (rw all at c.in_err-vlans.ensures.reads) c.from_residual-in_err-vlans.ensures.1 read
 
 pub returns-in_err-statics : goal.returns-in_err-statics
 unfolding doc.second_pass
-returns-in_err-statics g c = search (rules, c.in_ok-change.ensures.reads, c.in_ok-ports.ensures.reads, c.deref.ensures.value, c.port_set-all.ensures, c.in_ok-vlans.ensures.reads, c.deref-2.ensures.value, c.in_err-statics.ensures.reads, c.from_residual-in_err-statics.ensures)
+returns-in_err-statics g c =
+    let read = at_first (doc.second_pass (items_of_arrays c.args.arrays)) in
+    let read = goes_on _ c.in_ok-change.ensures.reads read in
+    let all : c.port_set-all.result ≡ port_set c.in_ok-ports.ports.items = c.port_set-all.ensures ∙ ap port_set c.deref.ensures.value in
+    let read = goes_on _ c.in_ok-ports.ensures.reads read in
+    let read = goes_on _ (rw all at c.in_ok-vlans.ensures.reads) read in
+    goes_out _ _ _ _ _ (rw (all, c.deref-2.ensures.value) at c.in_err-statics.ensures.reads) c.from_residual-in_err-statics.ensures.1 read
 
 pub returns-in_err-streams : goal.returns-in_err-streams
 unfolding doc.second_pass
-returns-in_err-streams g c = search (rules, c.in_ok-change.ensures.reads, c.in_ok-ports.ensures.reads, c.deref.ensures.value, c.port_set-all.ensures, c.in_ok-vlans.ensures.reads, c.deref-2.ensures.value, c.in_ok-statics.ensures.reads, c.deref-3.ensures.value, c.in_err-streams.ensures.reads, c.from_residual-in_err-streams.ensures)
+returns-in_err-streams g c =
+    let read = at_first (doc.second_pass (items_of_arrays c.args.arrays)) in
+    let read = goes_on _ c.in_ok-change.ensures.reads read in
+    let all : c.port_set-all.result ≡ port_set c.in_ok-ports.ports.items = c.port_set-all.ensures ∙ ap port_set c.deref.ensures.value in
+    let read = goes_on _ c.in_ok-ports.ensures.reads read in
+    let read = goes_on _ (rw all at c.in_ok-vlans.ensures.reads) read in
+    let read = goes_on _ (rw (all, c.deref-2.ensures.value) at c.in_ok-statics.ensures.reads) read in
+    goes_out _ _ _ _ _ (rw c.deref-3.ensures.value at c.in_err-streams.ensures.reads) c.from_residual-in_err-streams.ensures.1 read
 
 pub returns-in_err-policing : goal.returns-in_err-policing
 unfolding doc.second_pass
-returns-in_err-policing g c = search (rules, c.in_ok-change.ensures.reads, c.in_ok-ports.ensures.reads, c.deref.ensures.value, c.port_set-all.ensures, c.in_ok-vlans.ensures.reads, c.deref-2.ensures.value, c.in_ok-statics.ensures.reads, c.deref-3.ensures.value, c.in_ok-streams.ensures.reads, c.in_err-policing.ensures, c.from_residual-in_err-policing.ensures)
+returns-in_err-policing g c =
+    let read = at_first (doc.second_pass (items_of_arrays c.args.arrays)) in
+    let read = goes_on _ c.in_ok-change.ensures.reads read in
+    let all : c.port_set-all.result ≡ port_set c.in_ok-ports.ports.items = c.port_set-all.ensures ∙ ap port_set c.deref.ensures.value in
+    let read = goes_on _ c.in_ok-ports.ensures.reads read in
+    let read = goes_on _ (rw all at c.in_ok-vlans.ensures.reads) read in
+    let read = goes_on _ (rw (all, c.deref-2.ensures.value) at c.in_ok-statics.ensures.reads) read in
+    let read = goes_on _ (rw c.deref-3.ensures.value at c.in_ok-streams.ensures.reads) read in
+    goes_out _ _ _ _ _ c.in_err-policing.ensures c.from_residual-in_err-policing.ensures.1 read
 
 pub returns : goal.returns
 unfolding doc.second_pass
-returns g c = search (rules, c.in_ok-change.ensures.reads, c.in_ok-ports.ensures.reads, c.deref.ensures.value, c.port_set-all.ensures, c.in_ok-vlans.ensures.reads, c.deref-2.ensures.value, c.in_ok-statics.ensures.reads, c.deref-3.ensures.value, c.in_ok-streams.ensures.reads, c.in_ok-policing.ensures, c.policing.view_is, c.in-Ok.ensures)
+returns g c =
+    let read = at_first (doc.second_pass (items_of_arrays c.args.arrays)) in
+    let read = goes_on _ c.in_ok-change.ensures.reads read in
+    let all : c.port_set-all.result ≡ port_set c.in_ok-ports.ports.items = c.port_set-all.ensures ∙ ap port_set c.deref.ensures.value in
+    let read = goes_on _ c.in_ok-ports.ensures.reads read in
+    let read = goes_on _ (rw all at c.in_ok-vlans.ensures.reads) read in
+    let read = goes_on _ (rw (all, c.deref-2.ensures.value) at c.in_ok-statics.ensures.reads) read in
+    let read = goes_on _ (rw c.deref-3.ensures.value at c.in_ok-streams.ensures.reads) read in
+    let read = goes_on _ (rw (← c.policing.view_is) at c.in_ok-policing.ensures) read in
+    rw c.in-Ok.ensures read.stands

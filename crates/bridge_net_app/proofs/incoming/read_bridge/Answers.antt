@@ -1,7 +1,7 @@
 use Rattle.std.proofs.Common.{length, ap, subst, ◌∙◌}
 use Rattle.bridge_config.specs.Model.{Plan}
-use Rattle.bridge_core.specs.Simulated.{AreNumbers}
-use Rattle.bridge_core.proofs.Simulating.{ports_many}
+use Rattle.bridge_simulation.specs.Simulated.{AreNumbers}
+use Rattle.bridge_simulation.proofs.Simulating.{ports_many}
 use Rattle.bridge_net_app.proofs.incoming.read_bridge.Goals as goal
 
 pub returns-clause-came : goal.returns-clause-came

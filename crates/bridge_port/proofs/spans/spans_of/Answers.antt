@@ -3,14 +3,14 @@ use Rattle.bridge_port.specs.Opening.{list_opens}
 use Rattle.bridge_port.proofs.Fitting.{spans_more, spans_push, turn_ends, turn_opened, turn_shut}
 use Rattle.bridge_port.proofs.spans.spans_of.Goals as goal
 
-pub loop-seen-smaller-in_ok-push : goal.loop-seen-smaller-in_ok-push
-loop-seen-smaller-in_ok-push g c =
+pub loop-seen-smaller-in-Ok-push : goal.loop-seen-smaller-in-Ok-push
+loop-seen-smaller-in-Ok-push g c =
     let on : c.loop-seen.seen < c.turn-turn.result.end = turn_ends c.args.list.now c.loop-seen.seen c.turn-turn.result c.turn-turn.ensures.lawful c.turn-turn.ensures.turn in
     let more = c.loop-seen-test.true in
     omega (arith, on, more)
 
-pub loop-seen-preserved-in_ok-push : goal.loop-seen-preserved-in_ok-push
-loop-seen-preserved-in_ok-push g c =
+pub loop-seen-preserved-in-Ok-push : goal.loop-seen-preserved-in-Ok-push
+loop-seen-preserved-in-Ok-push g c =
     let on : c.loop-seen.seen < c.turn-turn.result.end = turn_ends c.args.list.now c.loop-seen.seen c.turn-turn.result c.turn-turn.ensures.lawful c.turn-turn.ensures.turn in
     let pushed : c.push.new.self.items ≡ c.loop-seen.spans.items ++ record { start = c.loop-seen.start; end = c.loop-seen.seen } ∷ [] = search rules in
     record {

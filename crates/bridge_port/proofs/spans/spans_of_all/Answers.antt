@@ -9,7 +9,7 @@ use Rattle.bridge_port.proofs.spans.spans_of_all.Goals as goal
 pub loop-class-preserved : goal.loop-class-preserved
 loop-class-preserved g c =
     let vs = c.loop-class.each.items in
-    let v = c.in_ok-spans.spans in
+    let v = c.in-Ok-spans_of.spans in
     let size : length vs ≡ c.loop-class.class = c.loop-class.invariant.size in
     let pushed : c.push.new.self.items ≡ vs ++ v ∷ [] = search rules in
     record {
@@ -20,6 +20,6 @@ loop-class-preserved g c =
             let same : length vs ≡ k = omega (arith, a, l, size) in
             let last : spans_at (vs ++ v ∷ []) k ≡ v.items = subst (λ (n : ℕ). spans_at (vs ++ v ∷ []) n ≡ v.items) same (spans_last vs v) in
             let is : c.loop-class.class ≡ k = sym size ∙ same in
-            rw last (subst (λ (n : ℕ). HasSpans (list_opens c.args.list.now n) v.items) is c.in_ok-spans.ensures)
+            rw last (subst (λ (n : ℕ). HasSpans (list_opens c.args.list.now n) v.items) is c.in-Ok-spans_of.ensures)
       ]);
     }

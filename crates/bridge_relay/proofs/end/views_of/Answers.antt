@@ -1,6 +1,5 @@
-use contract.BorrowLft.{⊑_meet, ⊑_static}
-use Rattle.std.proofs.Common.{ℕ, false, None, arith, refl, true≢false, sym, slice_index_or}
-use Rattle.std.proofs.lemmas.Grind.{common_steps}
+use Rattle.std.proofs.Common.{◌∙◌, ℕ, false, None, ap, length, refl, slice_index_or}
+use Rattle.bridge_state.proofs.Rooms.{few_more, none_few, room_kept, room_left}
 use Rattle.bridge_filter.specs.declared.FilterPlan.{FilterPlan}
 use Rattle.bridge_relay.proofs.Viewing.{there_at, table_next, viewing_start, viewing_next, viewing_end}
 use Rattle.bridge_relay.proofs.end.views_of.Goals as goal
@@ -13,7 +12,7 @@ loop-entry-init g c =
     let none = c.requires.none in
     record {
       viewing = viewing_start c.args.police.now c.args.tables.entries c.args.order.now c.args.views.items none;
-      few = grind (arith, common_steps);
+      few = none_few _ (c.args.views.ok.0 ∙ ap length none);
       room = c.requires.room;
     }
 
@@ -34,45 +33,21 @@ pub loop-entry-preserved : goal.loop-entry-preserved
 unfolding none
 loop-entry-preserved g c =
     let x = slice_index_or c.args.order.now c.loop-entry.entry-index none in
-    let few = c.loop-entry.invariant.few in
-    let room = c.loop-entry.invariant.room in
+    let was = c.loop-entry.invariant in
+    let is = c.push_reserved.ensures in
     record {
-      viewing = viewing_next c.args.police.now c.args.tables.entries c.loop-entry.tables.entries c.view_of-view.new.tables.entries c.args.order.now c.loop-entry.entry-index c.loop-entry.views.items c.push.new.self.items x none c.view_of-view.result c.requires.rises c.loop-entry-test.true refl c.loop-entry.invariant.viewing (c.view_of-view.ensures.shown x.1 refl) c.view_of-view.ensures.fresh c.in-Ok.ensures.items;
-      few = grind (arith, common_steps);
-      room = grind (arith, common_steps);
+      viewing = viewing_next c.args.police.now c.args.tables.entries c.loop-entry.tables.entries c.view_of-view.new.tables.entries c.args.order.now c.loop-entry.entry-index c.loop-entry.views.items c.push_reserved.new.self.items x none c.view_of-view.result c.requires.rises c.loop-entry-test.true refl c.loop-entry.invariant.viewing (c.view_of-view.ensures.shown x.1 refl) c.view_of-view.ensures.fresh c.push_reserved.ensures.items;
+      few = few_more _ _ c.loop-entry.entry-index was.few is.len;
+      room = room_kept _ _ _ was.room is.capacity;
     }
 
 pub bounds-order-entry-index : goal.bounds-order-entry-index
 bounds-order-entry-index g c = c.loop-entry-test.true
 
-pub unreachable-requires : goal.unreachable-requires
-unreachable-requires g c =
-    let few = c.loop-entry.invariant.few in
-    let room = c.loop-entry.invariant.room in
-    let more = c.loop-entry-test.true in
-    true≢false (sym (c.in-Err.ensures.succeeds (omega arith)))
+pub push_reserved-requires : goal.push_reserved-requires
+push_reserved-requires g c =
+    let was = c.loop-entry.invariant in
+    room_left _ c.loop-entry.entry-index _ _ was.few c.loop-entry-test.true was.room
 
 pub returns : goal.returns
 returns g c = viewing_end c.args.police.now c.args.tables.entries c.loop-entry.tables.entries c.args.order.now c.loop-entry.entry-index c.loop-entry.views.items c.loop-entry-test.false c.loop-entry.invariant.viewing
-
-pub drop-tables-inside-requires : goal.drop-tables-inside-requires
-drop-tables-inside-requires g c κs h = (⊑_static _, h)
-
-pub drop-tables-inside-requires-2 : goal.drop-tables-inside-requires-2
-drop-tables-inside-requires-2 g c κs h =
-    let l1 = ⊑_meet _ _ _ h.0 (⊑_static _) in
-    let l2 = ⊑_meet _ _ _ l1 l1 in
-    (⊑_meet _ _ _ l1 (⊑_meet _ _ _ l2 (⊑_meet _ _ _ l2 (⊑_meet _ _ _ l2 (⊑_meet _ _ _ l2 (⊑_static _))))), h.1)
-
-pub drop-tables-inside-requires-3 : goal.drop-tables-inside-requires-3
-drop-tables-inside-requires-3 g c κs h = (⊑_static _, h)
-
-pub drop-tables-inside-requires-4 : goal.drop-tables-inside-requires-4
-drop-tables-inside-requires-4 g c κs h = (⊑_static _, h)
-
-pub push-requires : goal.push-requires
-push-requires g c κs h =
-    let l1 = ⊑_meet _ _ _ h.0 (⊑_static _) in
-    let l2 = ⊑_meet _ _ _ l1 l1 in
-    let l3 = ⊑_meet _ _ _ (⊑_meet _ _ _ l1 (⊑_meet _ _ _ l2 (⊑_meet _ _ _ l2 (⊑_meet _ _ _ l2 (⊑_meet _ _ _ l2 (⊑_static _)))))) (⊑_static _) in
-    (⊑_meet _ _ _ l3 l3, h.1)

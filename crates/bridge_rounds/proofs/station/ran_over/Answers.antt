@@ -3,7 +3,7 @@ use Rattle.std.specs.Prelude.{All, Vec}
 use Rattle.std.proofs.lemmas.List.{length-map}
 use Rattle.bridge_limits.proofs.Lists.{lent}
 use Rattle.bridge_capture.specs.Memory.{MemoryDevice}
-use Rattle.bridge_core.proofs.Simulating.{ports_many}
+use Rattle.bridge_simulation.proofs.Simulating.{ports_many}
 use Rattle.bridge_rounds.specs.Stations.{RunsBridge, StopsBridge, taps_in, text_by, texts_in}
 use Rattle.bridge_rounds.proofs.Over.{are_texts, runs_bridge, sources_many, stops_bridge}
 use Rattle.bridge_rounds.proofs.station.ran_over.Goals as goal

@@ -1,6 +1,6 @@
 use Rattle.std.proofs.Common.{inl, inr, length, refl, string_bytes, ap, subst, ◌∙◌}
-use Rattle.bridge_core.specs.Simulated.{AreNumbers}
-use Rattle.bridge_core.proofs.Simulating.{ports_many}
+use Rattle.bridge_simulation.specs.Simulated.{AreNumbers}
+use Rattle.bridge_simulation.proofs.Simulating.{ports_many}
 use Rattle.bridge_running.proofs.Ended.{input_ends, output_ends, report_ends}
 use Rattle.bridge_running.proofs.job.send.Goals as goal
 

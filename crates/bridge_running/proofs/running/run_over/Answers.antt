@@ -1,8 +1,8 @@
 use Rattle.std.proofs.Common.{◌≡◌, ◌≤◌, Some, None, length, map, take, slice_get, ap, sym, subst, ◌∙◌, arith, rules, inl, take_all, Err}
 use Rattle.bridge_config.specs.Model.{Plan}
-use Rattle.bridge_core.specs.Simulated.{AreNumbers}
-use Rattle.bridge_core.proofs.Beginning.{one_order}
-use Rattle.bridge_core.proofs.Simulating.{isolates, others_change_nothing, ports_many}
+use Rattle.bridge_simulation.specs.Simulated.{AreNumbers}
+use Rattle.bridge_simulation.proofs.Beginning.{one_order}
+use Rattle.bridge_simulation.proofs.Simulating.{isolates, others_change_nothing, ports_many}
 use Rattle.bridge_config.proofs.Sorted.{rising_numbers}
 use Rattle.std.proofs.lemmas.Option.{slice_get_within}
 use Rattle.bridge_limits.proofs.Lists.{lent}

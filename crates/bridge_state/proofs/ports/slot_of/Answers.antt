@@ -1,4 +1,4 @@
-use Rattle.std.proofs.Common.{◌≡◌, sym}
+use Rattle.std.proofs.Common.{sym}
 use Rattle.bridge_config.proofs.PlanPorts.{port_is}
 use Rattle.bridge_state.proofs.ports.slot_of.Goals as goal
 

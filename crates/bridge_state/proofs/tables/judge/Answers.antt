@@ -1,7 +1,7 @@
-use Rattle.std.proofs.Common.{ℕ, ◌+◌, ◌≡◌, ◌∙◌, ap, length, sym, subst, true}
+use Rattle.std.proofs.Common.{◌+◌, ◌≡◌, ◌∙◌, ap, length, sym, subst, true}
 use Rattle.std.proofs.lemmas.Option.{same_Some}
 use Rattle.bridge_state.specs.Tables.{TableState, judged}
-use Rattle.bridge_state.proofs.Changing.{change_at, own_at}
+use Rattle.bridge_state.proofs.Changing.{change_at, own_at, place_within, there_by}
 use Rattle.bridge_state.proofs.tables.judge.Goals as goal
 
 pub judge-requires : goal.judge-requires
@@ -21,3 +21,9 @@ returns-clause-own g c = λ t is.
     let at = c.pair_mut-table in
     let found = own_at c.args.tables.now c.place_from-place.result at.result.0.now c.args.number at.result.1.now at.ensures.unique at.ensures.value c.place_from-place.ensures in
     c.judge.ensures.own ∙ ap (λ (s : TableState). length s.verdicts + 1) (same_Some at.result.1.now t (sym found ∙ is))
+
+pub place_from-place-requires : goal.place_from-place-requires
+place_from-place-requires g c = there_by _ c.requires.0 c.requires.1
+
+pub pair_mut-table-requires : goal.pair_mut-table-requires
+pair_mut-table-requires g c = place_within c.args.tables.now.entries c.place_from-place.result c.args.number c.place_from-place.ensures

@@ -1,8 +1,8 @@
-use Rattle.std.proofs.Common.{ℕ, ◌+◌, ◌<◌, ◌≡◌, ◌∙◌, ap, sym, subst, nat_eq, Option, Some}
+use Rattle.std.proofs.Common.{ℕ, ◌+◌, ◌<◌, ◌∙◌, ap, sym, subst, Option}
 use Rattle.std.specs.Prelude.{IfSome}
 use Rattle.std.proofs.lemmas.Option.{same_Some}
 use Rattle.bridge_state.specs.Tables.{MayPromise, TableState, change_if, promised}
-use Rattle.bridge_state.proofs.Changing.{change_at, on_err, on_ok, own_at, same_at}
+use Rattle.bridge_state.proofs.Changing.{change_at, on_err, on_ok, own_at, place_within, same_at, there_by}
 use Rattle.bridge_state.proofs.tables.promise.Goals as goal
 
 pub promise-requires : goal.promise-requires
@@ -25,3 +25,15 @@ returns-in-Some-clause-err g c =
     let at = c.pair_mut-table in
     let m = c.args.tables.now in
     on_err c.promise.result (λ h. same_at m c.place_from-place.result at.result.0.now c.in-Some.number at.result.1.now c.promise.new.self at.ensures.unique at.ensures.value c.place_from-place.ensures h) c.promise.ensures.err
+
+pub place_from-place-requires : goal.place_from-place-requires
+place_from-place-requires g c =
+    let m = c.args.tables.now in
+    let there = subst (λ (o : Option ℕ). IfSome o (MayPromise m.entries c.args.copies)) c.in-Some.is c.requires.there in
+    there_by _ there.0 there.1
+
+pub pair_mut-table-requires : goal.pair_mut-table-requires
+pair_mut-table-requires g c = place_within c.args.tables.now.entries c.place_from-place.result c.in-Some.number c.place_from-place.ensures
+
+pub returns-in-None-clause-ok : goal.returns-in-None-clause-ok
+returns-in-None-clause-ok g c = sym (ap (λ (o : Option ℕ). change_if o (λ t. promised t c.args.copies) c.args.tables.now.entries) c.in-None.is)

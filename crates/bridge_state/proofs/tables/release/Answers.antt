@@ -1,4 +1,4 @@
-use Rattle.std.proofs.Common.{rules, ◌≡◌, ◌∙◌, sym, nat_eq, ap}
+use Rattle.std.proofs.Common.{rules, ◌≡◌, ◌∙◌, sym, nat_eq}
 use Rattle.std.specs.Map.{set_value}
 use Rattle.bridge_state.specs.Tables.{released}
 use Rattle.bridge_state.proofs.Changing.{change_is}

@@ -11,4 +11,4 @@ loop-number-preserved g c =
     let was = c.loop-number.tables in
     let same : was.entries ≡ _ = c.loop-number.invariant in
     let absent : lookup (nat_eq _) was.entries ≡ None = rw same (fresh_absent plans i _ c.loop-number-test.true c.requires) in
-    c.in_ok-insert.ensures.entries ∙ (insert_entry-new nat_eq was _ c.new.result absent ∙ rw (same, c.new.ensures) (fresh-more plans i _ c.loop-number-test.true))
+    c.in-Ok-insert.ensures.entries ∙ (insert_entry-new nat_eq was _ c.new.result absent ∙ rw (same, c.new.ensures) (fresh-more plans i _ c.loop-number-test.true))

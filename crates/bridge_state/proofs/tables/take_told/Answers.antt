@@ -1,7 +1,6 @@
-use Rattle.std.proofs.Common.{rules, ◌≡◌, ◌∙◌, sym, nat_eq, Some}
-use Rattle.std.specs.Map.{lookup, set_value}
-use Rattle.bridge_state.specs.Tables.{TableState}
-use Rattle.bridge_state.specs.Told.{fresh, HasTold}
+use Rattle.std.proofs.Common.{rules, ◌≡◌, ◌∙◌, sym, nat_eq}
+use Rattle.std.specs.Map.{set_value}
+use Rattle.bridge_state.specs.Told.{fresh}
 use Rattle.bridge_state.proofs.Changing.{change_is}
 use Rattle.bridge_state.proofs.tables.take_told.Goals as goal
 

@@ -21,7 +21,7 @@ pub returns-in-Err-clause-stands : goal.returns-in-Err-clause-stands
 returns-in-Err-clause-stands g c = λ text given h.
     let before : CaptureState = record { form = c.self.inside.form; records = c.self.inside.records; latest = c.self.inside.latest; progress = c.self.inside.progress } in
     let stood = subst (λ (z : CaptureState). StandsFor z (g.R.ByteSource.remaining c.args.source.now) text given) (sym c.self.view_is) h in
-    let r = was_refused before _ _ text given c.in-Err.fault (search rules) (λ e. c.front_record.ensures.no_write (c.in-Err.is ∙ ap Err e)) c.in-Err.ensures.record c.in-Err.ensures.taken stood in
+    let r = was_refused before _ _ text given c.in-Err.fault (search rules) (λ e. c.front_record.ensures.told.no_write (c.in-Err.is ∙ ap Err e)) c.in-Err.ensures.record c.in-Err.ensures.taken stood in
     (r, r)
 
 pub returns-in-Err-clause-taken : goal.returns-in-Err-clause-taken
@@ -64,10 +64,10 @@ pub returns-in-Ok-Some-clause-no_write : goal.returns-in-Ok-Some-clause-no_write
 returns-in-Ok-Some-clause-no_write g c = λ e. apart e refl
 
 pub returns-in-Ok-Some-clause-lasts : goal.returns-in-Ok-Some-clause-lasts
-returns-in-Ok-Some-clause-lasts g c = c.front_record.ensures.lasts
+returns-in-Ok-Some-clause-lasts g c = c.front_record.ensures.told.lasts
 
 pub returns-in-Ok-Some-clause-broken : goal.returns-in-Ok-Some-clause-broken
-returns-in-Ok-Some-clause-broken g c = λ broken is. absurd (apart (c.in-Ok-Some.ensures.broken broken) refl)
+returns-in-Ok-Some-clause-broken g c = λ broken is. absurd (apart (c.in-Ok-Some.ensures.told.broken broken) refl)
 
 pub returns-in-Ok-None-clause-read : goal.returns-in-Ok-None-clause-read
 returns-in-Ok-None-clause-read g c = λ e. absurd (apart e refl)
@@ -79,10 +79,10 @@ pub returns-in-Ok-None-clause-no_write : goal.returns-in-Ok-None-clause-no_write
 returns-in-Ok-None-clause-no_write g c = λ e. apart e refl
 
 pub returns-in-Ok-None-clause-lasts : goal.returns-in-Ok-None-clause-lasts
-returns-in-Ok-None-clause-lasts g c = c.front_record.ensures.lasts
+returns-in-Ok-None-clause-lasts g c = c.front_record.ensures.told.lasts
 
 pub returns-in-Ok-None-clause-broken : goal.returns-in-Ok-None-clause-broken
-returns-in-Ok-None-clause-broken g c = λ broken is. absurd (apart (c.in-Ok-None.ensures.broken broken) refl)
+returns-in-Ok-None-clause-broken g c = λ broken is. absurd (apart (c.in-Ok-None.ensures.told.broken broken) refl)
 
 pub returns-in-Ok-None-clause-ends : goal.returns-in-Ok-None-clause-ends
 returns-in-Ok-None-clause-ends g c = λ _. refl
@@ -91,13 +91,13 @@ pub returns-in-Ok-None-clause-ended : goal.returns-in-Ok-None-clause-ended
 returns-in-Ok-None-clause-ended g c = λ _. refl
 
 pub returns-in-Ok-Some-clause-early : goal.returns-in-Ok-Some-clause-early
-returns-in-Ok-Some-clause-early g c = rw c.in-Ok-Some.field-0-is at c.in-Ok-Some.ensures.early
+returns-in-Ok-Some-clause-early g c = (rw c.in-Ok-Some.field-0-is at c.in-Ok-Some.ensures.bounds).early
 
 pub returns-in-Ok-Some-clause-small : goal.returns-in-Ok-Some-clause-small
-returns-in-Ok-Some-clause-small g c = rw c.in-Ok-Some.field-0-is at c.in-Ok-Some.ensures.small
+returns-in-Ok-Some-clause-small g c = (rw c.in-Ok-Some.field-0-is at c.in-Ok-Some.ensures.bounds).small
 
 pub returns-in-Ok-Some-clause-within : goal.returns-in-Ok-Some-clause-within
-returns-in-Ok-Some-clause-within g c = rw c.in-Ok-Some.field-0-is at c.in-Ok-Some.ensures.within
+returns-in-Ok-Some-clause-within g c = (rw c.in-Ok-Some.field-0-is at c.in-Ok-Some.ensures.bounds).within
 
 pub returns-in-Err-clause-refuses : goal.returns-in-Err-clause-refuses
 returns-in-Err-clause-refuses g c = refl
@@ -106,16 +106,16 @@ pub returns-in-Err-clause-ends : goal.returns-in-Err-clause-ends
 returns-in-Err-clause-ends g c = λ e. absurd (err_ok e)
 
 pub returns-in-Err-clause-read : goal.returns-in-Err-clause-read
-returns-in-Err-clause-read g c = λ e is. c.in-Err.ensures.failed e
+returns-in-Err-clause-read g c = λ e is. c.in-Err.ensures.told.failed e
 
 pub returns-in-Err-clause-sure : goal.returns-in-Err-clause-sure
-returns-in-Err-clause-sure g c = λ sure is. c.in-Err.ensures.sure sure
+returns-in-Err-clause-sure g c = λ sure is. c.in-Err.ensures.told.sure sure
 
 pub returns-in-Err-clause-broken : goal.returns-in-Err-clause-broken
-returns-in-Err-clause-broken g c = λ broken is. c.in-Err.ensures.broken broken
+returns-in-Err-clause-broken g c = λ broken is. c.in-Err.ensures.told.broken broken
 
 pub returns-in-Err-clause-lasts : goal.returns-in-Err-clause-lasts
-returns-in-Err-clause-lasts g c = c.front_record.ensures.lasts
+returns-in-Err-clause-lasts g c = c.front_record.ensures.told.lasts
 
 pub returns-in-Err-clause-no_write : goal.returns-in-Err-clause-no_write
-returns-in-Err-clause-no_write g c = c.in-Err.ensures.no_write
+returns-in-Err-clause-no_write g c = c.in-Err.ensures.told.no_write

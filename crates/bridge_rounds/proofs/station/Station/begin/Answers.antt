@@ -2,8 +2,8 @@ use Rattle.std.proofs.Common.{◌≡◌, ℕ, List, Option, length, map, refl, a
 use Rattle.std.specs.Prelude.{Vec, option_map}
 use Rattle.std.proofs.lemmas.List.{length-map}
 use Rattle.bridge_config.specs.Model.{Plan}
-use Rattle.bridge_core.specs.Simulated.{AreNumbers}
-use Rattle.bridge_core.proofs.Simulating.{ports_many}
+use Rattle.bridge_simulation.specs.Simulated.{AreNumbers}
+use Rattle.bridge_simulation.proofs.Simulating.{ports_many}
 use Rattle.bridge_network.specs.Networks as networks
 use Rattle.bridge_network.specs.Wiring.{link_of, sender_value}
 use Rattle.bridge_network.specs.declared.senders.Sender.{Sender}

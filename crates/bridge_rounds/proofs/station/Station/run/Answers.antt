@@ -2,7 +2,7 @@ use Rattle.std.proofs.Common.{ℕ, List, length, refl, sym, ap, subst, ◌∙◌
 use Rattle.std.proofs.lemmas.List.{length-map}
 use Rattle.bridge_config.specs.declared.command.Command.{Command}
 use Rattle.bridge_config.specs.Commands.{AreCommands}
-use Rattle.bridge_core.specs.Simulated.{AreNumbers}
+use Rattle.bridge_simulation.specs.Simulated.{AreNumbers}
 use Rattle.bridge_rounds.specs.Stations.{RunsBridge, StationState, StopsBridge, ground, senders_in, taps_in, texts_in}
 use Rattle.bridge_rounds.proofs.Over.{kept_ran, some_there}
 use Rattle.bridge_rounds.proofs.station.Station.run.Goals as goal

@@ -1,4 +1,4 @@
-use Rattle.std.proofs.Common.{◌≡◌, ℕ, ◌-◌, ◌<◌, ◌≤◌, arith, rules, sym, subst, ap, ◌∙◌, Some, length, refl, Option}
+use Rattle.std.proofs.Common.{◌≡◌, ℕ, ◌-◌, ◌<◌, sym, subst, ap, ◌∙◌, Some}
 use Rattle.bridge_state.specs.declared.slot.Slot.{Slot}
 use Rattle.bridge_state.specs.Ports.{PortsState, slot_at}
 use Rattle.bridge_state.specs.Slots.{counted_frame}

@@ -1,4 +1,4 @@
-use Rattle.std.proofs.Common.{◌≡◌, ◌≤◌, vec_len, vec_capacity}
+use Rattle.std.proofs.Common.{◌≤◌, vec_len, vec_capacity}
 use Rattle.bridge_state.proofs.Making.{AreFirst}
 use Rattle.bridge_state.proofs.ports.Ports.new.Given as goal
 

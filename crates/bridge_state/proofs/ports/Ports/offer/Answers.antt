@@ -1,8 +1,7 @@
-use Rattle.std.proofs.Common.{◌≡◌, ℕ, ◌-◌, ◌<◌, ◌≤◌, arith, rules, sym, subst, ap, ◌∙◌, Some, length, refl, Option}
+use Rattle.std.proofs.Common.{◌≡◌, ℕ, ◌-◌, ◌<◌, arith, sym, subst, ap, Some, length}
 use Rattle.std.specs.Prelude.{slice_index, slice_set}
 use Rattle.bridge_state.specs.declared.slot.Slot.{Slot}
-use Rattle.bridge_state.specs.Ports.{PortsState, slot_in, slot_at, MayOffer, NotBefore, IsSlot, HasOffered}
-use Rattle.bridge_port.specs.Standing.{State}
+use Rattle.bridge_state.specs.Ports.{PortsState, slot_at, HasOffered}
 use Rattle.bridge_state.proofs.Porting.{below, held_is, here, kept_set, not_late, not_before, not_none, slot_offered, same_slot, has_offered}
 use Rattle.bridge_state.proofs.ports.Ports.offer.Goals as goal
 

@@ -1,7 +1,8 @@
-use Rattle.std.proofs.Common.{◌≡◌, ℕ, true, ◌<◌, ◌≤◌, ◌/◌, ◌^◌, ◌∙◌, arith, ap, sym, inl, inr}
+use Rattle.std.proofs.Common.{◌≡◌, ℕ, true, ◌/◌, ◌^◌, ◌∙◌, arith, ap, sym, subst, inl, inr}
 use Rattle.std.proofs.lemmas.Bool.{cases_lt}
-use Rattle.bridge_state.specs.Ports.{goes_out, outs, IsLastOut}
+use Rattle.bridge_state.specs.Ports.{goes_out, outs}
 use Rattle.bridge_state.proofs.Outs.{out_not_before, out_not_behind, outs_all, outs_none}
+use Rattle.bridge_state.proofs.Rooms.{at_most, in_half, in_octet, is_end}
 use Rattle.bridge_state.proofs.ports.Ports.outs.Goals as goal
 
 pub loop-place-init : goal.loop-place-init
@@ -35,4 +36,32 @@ returns-else-bits-place-ne0-clause-last g c =
         | inl behind ↦ out_not_behind c.args.self.now.slots c.args.set c.loop-place.place q none behind
         | inr here ↦ i.none_after q later here
       ];
+    }
+
+pub overflow_cast-place : goal.overflow_cast-place
+overflow_cast-place g c = record { fits = in_half c.loop-place.place c.loop-place-test.true }
+
+pub overflow_shr-bits : goal.overflow_shr-bits
+overflow_shr-bits g c = c.loop-place-test.true
+
+pub overflow_add-place : goal.overflow_add-place
+overflow_add-place g c = record { fits = in_octet c.loop-place.place c.loop-place-test.true }
+
+pub returns-else-bits-place-ne0-clause-few : goal.returns-else-bits-place-ne0-clause-few
+returns-else-bits-place-ne0-clause-few g c = at_most _ _ 16 c.loop-place.invariant.few c.loop-place.invariant.within
+
+pub returns-after-loop-place-clause-count : goal.returns-after-loop-place-clause-count
+returns-after-loop-place-clause-count g c =
+    let i = c.loop-place.invariant in
+    subst (λ (n : ℕ). c.loop-place.count ≡ outs c.args.self.now.slots c.args.set n) (is_end c.loop-place.place 16 i.within c.loop-place-test.false) i.count
+
+pub returns-after-loop-place-clause-few : goal.returns-after-loop-place-clause-few
+returns-after-loop-place-clause-few g c = at_most _ _ 16 c.loop-place.invariant.few c.loop-place.invariant.within
+
+pub returns-after-loop-place-clause-last : goal.returns-after-loop-place-clause-last
+returns-after-loop-place-clause-last g c =
+    let i = c.loop-place.invariant in
+    record {
+      is_in = λ some. (at_most _ _ 16 i.low i.within, i.is_in some);
+      none_after = λ q later few. i.none_after q later (at_most q 16 _ few c.loop-place-test.false);
     }

@@ -1,7 +1,7 @@
-use Rattle.std.proofs.Common.{◌≡◌, ℕ, ◌-◌, ◌<◌, ◌≤◌, arith, rules, sym, subst, ap, ◌∙◌, Some, length, refl, Option}
+use Rattle.std.proofs.Common.{◌≡◌, ℕ, ◌-◌, ◌<◌, arith, sym, subst, ap, Some, length}
 use Rattle.bridge_state.specs.declared.slot.Slot.{Slot}
-use Rattle.bridge_state.specs.Ports.{PortsState, slot_in, slot_at, AreKept, IsSlot}
-use Rattle.bridge_port.specs.Standing.{State, IsDue}
+use Rattle.bridge_state.specs.Ports.{PortsState, AreKept}
+use Rattle.bridge_port.specs.Standing.{IsDue}
 use Rattle.bridge_events.specs.Least.{IsLeast}
 use Rattle.bridge_state.proofs.Porting.{below, here, kept_set, is_after, slot_started, has_started, none_held, not_none}
 use Rattle.bridge_state.proofs.ports.Ports.start.Goals as goal

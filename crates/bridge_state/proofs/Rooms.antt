@@ -1,0 +1,51 @@
+-- Numbers of places and of what fits there.
+use Rattle.std.proofs.Common.{◌≡◌, ℕ, Bool, true, false, ◌+◌, ◌<◌, ◌≤◌, arith}
+use Rattle.std.specs.Prelude.{if◌then◌else◌}
+
+-- a list that is filled up to a place has room for one item more
+pub room_left : (n p most cap : ℕ) → n ≤ p → p < most → most ≤ cap → n < cap
+room_left n p most cap few here room = omega arith
+
+pub few_more : (n m p : ℕ) → n ≤ p → m ≡ n + 1 → m ≤ p + 1
+few_more n m p few is = omega arith
+
+pub none_few : (n : ℕ) → n ≡ 0 → n ≤ 0
+none_few n is = omega arith
+
+pub room_kept : (most cap more : ℕ) → most ≤ cap → more ≡ cap → most ≤ more
+room_kept most cap more room is = omega arith
+
+pub in_octet : (p : ℕ) → p < 16 → p + 1 < 256
+in_octet p here = omega arith
+
+pub in_half : (p : ℕ) → p < 16 → p < 65536
+in_half p here = omega arith
+
+pub in_word : (p : ℕ) → p < 16 → p < 18446744073709551616
+in_word p here = omega arith
+
+pub is_end : (p most : ℕ) → p ≤ most → most ≤ p → p ≡ most
+is_end p most to from = omega arith
+
+pub at_most : (n p most : ℕ) → n ≤ p → p ≤ most → n ≤ most
+at_most n p most low to = omega arith
+
+-- one copy more is a number too
+pub sent_fits : (sent dropped offered : ℕ) → sent + dropped ≡ offered → offered < 16000000 → sent + 1 < 18446744073709551616
+sent_fits sent dropped offered all few = omega arith
+
+pub dropped_fits : (sent dropped offered : ℕ) → sent + dropped ≡ offered → offered < 16000000 → dropped + 1 < 18446744073709551616
+dropped_fits sent dropped offered all few = omega arith
+
+-- there is room for a verdict that is to come
+pub room_open : (n k cap : ℕ) (b : Bool) → n + k + (if b then 1 else 0) ≤ cap → b ≡ true → n + k < cap
+room_open n k cap true room open_so = omega arith
+room_open n k cap false room open_so = absurd (cc)
+
+-- and none is to come behind it
+pub room_closed : (n k cap m l more : ℕ) (b : Bool) → n + k + (if b then 1 else 0) ≤ cap → b ≡ true → m + l ≡ n + k + 1 → cap ≤ more → m + l + 0 ≤ more
+room_closed n k cap m l more true room open_so is kept = omega arith
+room_closed n k cap m l more false room open_so is kept = absurd (cc)
+
+pub same_few : (n k p : ℕ) → n ≡ k → k ≡ p → n ≤ p
+same_few n k p is at = omega arith
