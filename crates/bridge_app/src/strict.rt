@@ -12,10 +12,10 @@ use crate::job::send_told;
 use crate::noting::Refusal;
 use bridge_advice::{warn_of_plan, warnings_of};
 use bridge_check::Accepted;
-use bridge_check_app::path_of;
+use bridge_check_app::plan_text;
 use bridge_cli::{PictureRequest, TableRequest};
 use bridge_config::Command;
-use bridge_files::{FileId, text_at};
+use bridge_files::FileId;
 use bridge_inputs::RunFault;
 use bridge_jobs::{Cause, Fault, NoMemory, check_line, planned};
 use bridge_running::{Noted, read_job};
@@ -71,7 +71,7 @@ fn checked_strictly(
 /// comes of one reading, so the file may be a pipe.
 ///
 /// Faults in the order of `check_job`: the file opened and read, its text, the check of the plan.
-pub fn told_check_job<H: AllocGlobal + Files>(
+pub fn told_check_job<H: Input + AllocGlobal + Files>(
     rt: &H,
     plan: &str,
     is_explained: bool,
@@ -81,7 +81,7 @@ pub fn told_check_job<H: AllocGlobal + Files>(
     ensures err { IfErr result (λ refusal. EndsChecked Global plan.now refusal.fault) }
 {
     let mut cause = None;
-    match text_at(rt, path_of(plan), &mut cause) {
+    match plan_text(rt, plan, &mut cause) {
         Ok(text) => match strict_check(rt.alloc(), plan, &text, is_explained) {
             Ok(strict) => Ok(strict),
             Err(fault) => Err(refused(rt.alloc(), plan, &text, cause, fault, is_explained)),

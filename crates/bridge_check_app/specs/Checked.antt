@@ -1,21 +1,18 @@
 -- How the check of a plan ends.
-use Rattle.std.specs.Prelude.{◌≡◌, ◌⊎◌, ℕ, List, codes, string_bytes}
+use Rattle.std.specs.Prelude.{◌≡◌, ℕ, List, string_bytes}
 use Rattle.std.specs.declared.alloc.Global.{Global}
 use Rattle.bridge_jobs.specs.declared.fault.Fault.{Fault}
 use Rattle.bridge_jobs.specs.Jobs.{EndsCheck, PrintsAccepted}
-use Rattle.bridge_jobs.specs.Reading.{IsOfFile}
 use Rattle.bridge_jobs.specs.Status.{status_of}
-use Rattle.bridge_files.specs.Said.{IsStandard}
 use Rattle.bridge_files.specs.declared.saying.Said.{Said}
 use Rattle.bridge_files.specs.declared.saying.Said.TheVariants as said
 use Rattle.bridge_check_app.specs.declared.ending.Ending.{Ending}
 use Rattle.bridge_check_app.specs.declared.asking.Done.{Done}
 use Rattle.bridge_check_app.specs.declared.asking.Done.TheVariants as done
 
--- which fault ends the check of a plan, by the path of its file: that of the plan for some text, or of standard input, for which `-`
--- stands
+-- which fault ends the check of a plan, by the path of its file or `-` for standard input: that of the plan for some text
 abbrev pub EndsChecked : (A : Type 0) → List ℕ → Fault → Type 0
-EndsChecked A plan f = ((text : List ℕ) × EndsCheck A plan text f) ⊎ (IsStandard plan × IsOfFile (codes "/dev/stdin") f)
+EndsChecked A plan f = (text : List ℕ) × EndsCheck A plan text f
 
 -- the line of a plan that is accepted
 abbrev pub IsAcceptedLine : List ℕ → Type 0

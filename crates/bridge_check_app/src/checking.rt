@@ -1,16 +1,17 @@
 //! The check of a plan, where its line is all that is asked.
-ghost use Rattle.std.specs.Prelude.{◌≡◌, ◌⊎◌, Bool, None, IfErr, IfOk, IfSome, Ok, String, codes, map, string_bytes};
+ghost use Rattle.std.specs.Prelude.{◌≡◌, Bool, None, IfErr, IfOk, IfSome, Ok, String, codes, map, string_bytes};
 ghost use Rattle.std.specs.declared.alloc.Global.{Global};
 ghost use Rattle.bridge_cli.specs.declared.request.Request.{Request};
-ghost use Rattle.bridge_files.specs.Said.{IsStandard};
+ghost use Rattle.bridge_jobs.specs.Reading.{IsOfFile};
 ghost use Rattle.bridge_check_app.specs.Checked.{EndsChecked, EndsWell, IfEnded, IsAcceptedLine};
 ghost use Rattle.bridge_check_app.specs.Left.{LeavesBy, MayLeaveBy, is_check, is_other, wants_more};
 
 use crate::asking::{Asked, Done, asked_of, ended_of};
 use crate::ending::{Ending, printed};
 use bridge_cli::{Job, Request};
-use bridge_files::{is_standard, text_at};
-use bridge_jobs::{Fault, NoMemory, check_job};
+use bridge_files::{MOST_TEXT, is_standard, text_at};
+use bridge_inputs::RunFault;
+use bridge_jobs::{Cause, Fault, NoMemory, ReadFault, check_job, read_at_most, standard_file};
 use std::alloc::Global;
 use std::rt::Files;
 
@@ -20,7 +21,7 @@ use std::rt::Files;
 ///
 /// The status is 0 where the plan is accepted, that of the fault where it isn't, or of words that are refused.
 pub fn perform(
-    rt: &(impl AllocGlobal + Files),
+    rt: &(impl Input + AllocGlobal + Files),
     words: &[String],
 ) -> Result<Option<Ending>, NoMemory>
     ensures left { IfOk result (λ ending. ending ≡ None → MayLeaveBy is_other (map string_bytes words.now)) }
@@ -60,7 +61,7 @@ fn is_other(request: &Request) -> bool
 }
 
 /// Does what is asked where that is the line of the check of a plan; else it is left as it is.
-pub fn done_check(rt: &(impl AllocGlobal + Files), request: Request) -> Result<Done, Fault>
+pub fn done_check(rt: &(impl Input + AllocGlobal + Files), request: Request) -> Result<Done, Fault>
     ensures left { IfOk result (LeavesBy is_other request) }
     ensures well { IfOk result (λ done. IfEnded done EndsWell) }
 {
@@ -87,24 +88,43 @@ pub fn lined(alloc: Global, line: Result<String, Fault>) -> Result<Done, Fault>
 }
 
 /// What is printed for the plan of a file, or of standard input for `-`.
-pub fn check_file(rt: &(impl AllocGlobal + Files), plan: String) -> Result<String, Fault>
+pub fn check_file(rt: &(impl Input + AllocGlobal + Files), plan: String) -> Result<String, Fault>
     ensures ok { IfOk result (λ line. IsAcceptedLine (string_bytes line)) }
     ensures err { IfErr result (EndsChecked Global (string_bytes plan)) }
 {
-    let text = match text_at(rt, path_of(plan.as_str()), &mut None) {
+    let text = match plan_text(rt, plan.as_str(), &mut None) {
         Ok(text) => text,
         Err(fault) => return Err(fault),
     };
     check_job(rt.alloc(), rt.alloc(), plan, text.as_slice())
 }
 
-/// The path of a file of the words, where `-` is standard input.
-pub fn path_of(file: &str) -> &str
-    ensures { (result.now ≡ file.now) ⊎ (IsStandard file.now × (result.now ≡ codes "/dev/stdin")) }
+/// The text of the plan of a file, or of standard input for `-`. Where it can't be opened or read the cause is noted.
+pub fn plan_text<H: Input + AllocGlobal + Files>(
+    rt: &H,
+    plan: &str,
+    cause: &mut Option<Cause>,
+) -> Result<Vec<u8>, Fault>
+    ensures { IfErr result (IsOfFile plan.now) }
 {
-    if is_standard(file) {
-        "/dev/stdin"
-    } else {
-        file
+    if !is_standard(plan) {
+        return text_at(rt, plan, cause);
+    }
+    match read_at_most(rt.alloc(), rt.reader(), MOST_TEXT) {
+        Ok(text) => Ok(text),
+        Err(fault) => {
+            *cause = Some(Cause::Standard);
+            Err(fault_of_input(rt.alloc(), fault))
+        }
+    }
+}
+
+/// The fault of standard input that can't be read.
+fn fault_of_input(alloc: Global, fault: ReadFault) -> Fault
+    ensures { IsOfFile (codes "-") result }
+{
+    match fault {
+        ReadFault::Broken => standard_file(alloc),
+        ReadFault::NoMemory => Fault::Run(RunFault::NoMemory),
     }
 }

@@ -125,7 +125,16 @@ const CHECK: Description = Description {
     name: "check",
     call: "check PLAN [--strict]",
     about: "Say whether a plan protects its streams",
-    words: &[PLAN, STRICT, EXPLAIN],
+    words: &[
+        Word {
+            id: "plan",
+            value: "PLAN",
+            form: Form::Place,
+            help: "file of the plan (TOML, at most 1,048,576 octets), or - for standard input",
+        },
+        STRICT,
+        EXPLAIN,
+    ],
     reason: OPTIONS_ALONE,
     after: "\
 Example:
@@ -241,7 +250,7 @@ const PICTURE: Description = Description {
             id: "file",
             value: "FILE",
             form: Form::Place,
-            help: "file of the picture that is made (SVG)",
+            help: "file of the picture that is made (SVG), or - for standard output",
         },
         Word {
             id: "from",

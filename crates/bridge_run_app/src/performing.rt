@@ -17,7 +17,7 @@ use std::rt::Files;
 ///
 /// The status is 0 where the plan is accepted or the run is done, that of the fault where it isn't.
 pub fn perform(
-    rt: &(impl AllocGlobal + Files),
+    rt: &(impl Input + AllocGlobal + Files),
     words: &[String],
 ) -> Result<Option<Ending>, NoMemory>
     ensures left { IfOk result (λ ending. ending ≡ None → MayLeaveBy is_other (map string_bytes words.now)) }
@@ -46,7 +46,7 @@ fn is_other(request: &Request) -> bool
 }
 
 /// Does what is asked where that is the line of a check or of a run; else it is left as it is.
-pub fn done_run(rt: &(impl AllocGlobal + Files), request: Request) -> Result<Done, Fault>
+pub fn done_run(rt: &(impl Input + AllocGlobal + Files), request: Request) -> Result<Done, Fault>
     ensures left { IfOk result (LeavesBy is_other request) }
     ensures said { IfOk result (λ done. IfEnded done (SaysOf request.job)) }
 {

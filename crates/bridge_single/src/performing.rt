@@ -305,7 +305,7 @@ fn text_or_none(alloc: Global, text: Option<String>) -> String {
 
 /// How the check of the plan of a file, or of standard input for `-`, ends, of which more is told than its line.
 fn check_at(
-    rt: &(impl AllocGlobal + Files),
+    rt: &(impl Input + AllocGlobal + Files),
     plan: String,
     wishes: Wishes,
 ) -> Result<Ending, Refusal> {
