@@ -1,9 +1,13 @@
 -- How the check of a plan ends.
-use Rattle.std.specs.Prelude.{◌≡◌, ℕ, List, string_bytes}
+use Rattle.std.specs.Prelude.{◌≡◌, ◌⊎◌, ℕ, Err, List, Result, string_bytes}
 use Rattle.std.specs.declared.alloc.Global.{Global}
 use Rattle.bridge_jobs.specs.declared.fault.Fault.{Fault}
 use Rattle.bridge_jobs.specs.Jobs.{EndsCheck, PrintsAccepted}
+use Rattle.bridge_jobs.specs.Reading.{IsOfWords}
 use Rattle.bridge_jobs.specs.Status.{status_of}
+use Rattle.bridge_cli.specs.CommandLine.{AsksFor}
+use Rattle.bridge_cli.specs.declared.job.Job.{Job}
+use Rattle.bridge_cli.specs.declared.job.Job.TheVariants as job
 use Rattle.bridge_files.specs.declared.saying.Said.{Said}
 use Rattle.bridge_files.specs.declared.saying.Said.TheVariants as said
 use Rattle.bridge_check_app.specs.declared.ending.Ending.{Ending}
@@ -18,9 +22,26 @@ EndsChecked A plan f = (text : List ℕ) × EndsCheck A plan text f
 abbrev pub IsAcceptedLine : List ℕ → Type 0
 IsAcceptedLine line = (text : List ℕ) × PrintsAccepted Global text line
 
--- the status is that of a fault
-abbrev pub IsOfFault : Ending → Type 0
-IsOfFault ending = (fault : Fault) × (ending.status ≡ status_of fault)
+-- which fault ends the job that is done here
+abbrev pub EndsJob : Job → Fault → Type 0
+EndsJob (job.Check plan) f = EndsChecked Global (string_bytes plan) f
+EndsJob _ f = ⊥
+
+-- the status is that of words that are refused, or of memory
+abbrev pub IsOfRefusedWords : Ending → Type 0
+IsOfRefusedWords ending = (fault : Fault) × (IsOfWords fault × (ending.status ≡ status_of fault))
+
+-- the status is that of refused words, of memory, or of a fault that may end the job for which the words ask
+abbrev pub EndsBy : (Job → Fault → Type 0) → List (List ℕ) → Ending → Type 0
+EndsBy Ends words ending = (fault : Fault) × ((ending.status ≡ status_of fault) × (IsOfWords fault ⊎ ((job : Job) × (AsksFor words job × Ends job fault))))
+
+-- the job failed, and the status is that of its fault
+abbrev pub EndsAsFault : Result Done Fault → Ending → Type 0
+EndsAsFault done ending = (fault : Fault) × ((done ≡ Err fault) × (ending.status ≡ status_of fault))
+
+-- it ends with 0, or by such a fault
+abbrev pub EndsBySome : (Job → Fault → Type 0) → List (List ℕ) → Ending → Type 0
+EndsBySome Ends words ending = (ending.status ≡ 0) ⊎ EndsBy Ends words ending
 
 -- where the status is 0, the line of a plan that is accepted is printed
 abbrev pub EndsWell : Ending → Type 0

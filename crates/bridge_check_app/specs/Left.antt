@@ -5,7 +5,7 @@ use Rattle.bridge_cli.specs.Helping.{explains}
 use Rattle.bridge_cli.specs.declared.job.Job.{Job}
 use Rattle.bridge_cli.specs.declared.job.Job.TheVariants as job
 use Rattle.bridge_cli.specs.declared.request.Request.{Request}
-use Rattle.bridge_check_app.specs.Checked.{IsOfFault}
+use Rattle.bridge_check_app.specs.Checked.{IsOfRefusedWords}
 use Rattle.bridge_check_app.specs.declared.asking.Asked.{Asked}
 use Rattle.bridge_check_app.specs.declared.asking.Asked.TheVariants as asked
 use Rattle.bridge_check_app.specs.declared.asking.Done.{Done}
@@ -24,9 +24,9 @@ is_check _ = false
 abbrev pub is_other : Request → Bool
 is_other r = wants_more r || not (is_check r.job)
 
--- what words come to: what they ask for, an explanation that they want, or the status of a fault
+-- what words come to: what they ask for, an explanation that they want, or the status of words that are refused
 abbrev pub IsAsked : List (List ℕ) → Asked → Type 0
-IsAsked words (asked.Ended ending) = IsOfFault ending
+IsAsked words (asked.Ended ending) = IsOfRefusedWords ending
 IsAsked words asked.Explained = explains words ≡ true
 IsAsked words (asked.Wanted request) = AsksFor words request.job × HasRoom request.job
 

@@ -2,7 +2,7 @@
 ghost use Rattle.std.specs.Prelude.{◌≡◌, ◌⊎◌, ℕ, List, None, IfOk, IfSome, Ok, map, string_bytes};
 ghost use Rattle.bridge_cli.specs.declared.request.Request.{Request};
 ghost use Rattle.bridge_check_app.specs.declared.asking.Done.TheVariants as done_as;
-ghost use Rattle.bridge_check_app.specs.Checked.{IsOfFault};
+ghost use Rattle.bridge_check_app.specs.Checked.{EndsAsFault, IsOfRefusedWords};
 ghost use Rattle.bridge_check_app.specs.Left.{IsAsked};
 
 use crate::ending::{Ending, helped, refused_and_told};
@@ -57,7 +57,7 @@ fn wanted(alloc: Global, words: &[String]) -> Result<Asked, NoMemory>
 
 /// What words come to that end so.
 fn over(ending: Result<Ending, NoMemory>) -> Result<Asked, NoMemory>
-    requires { IfOk ending IsOfFault }
+    requires { IfOk ending IsOfRefusedWords }
     ensures { (words : List (List ℕ)) → IfOk result (IsAsked words) }
 {
     match ending {
@@ -69,7 +69,7 @@ fn over(ending: Result<Ending, NoMemory>) -> Result<Asked, NoMemory>
 /// How that ends of which this came; none where it is left.
 pub fn ended_of(alloc: Global, done: Result<Done, Fault>) -> Result<Option<Ending>, NoMemory>
     ensures left { IfOk result (λ ending. ending ≡ None → (left : Request) × (done ≡ Ok (done_as.Left left))) }
-    ensures ended { IfOk result (λ ending. IfSome ending (λ e. (done ≡ Ok (done_as.Ended e)) ⊎ IsOfFault e)) }
+    ensures ended { IfOk result (λ ending. IfSome ending (λ e. (done ≡ Ok (done_as.Ended e)) ⊎ EndsAsFault done e)) }
 {
     match done {
         Ok(Done::Ended(ending)) => Ok(Some(ending)),

@@ -1,9 +1,9 @@
 //! The check of a plan, where its line is all that is asked.
-ghost use Rattle.std.specs.Prelude.{◌≡◌, Bool, None, IfErr, IfOk, IfSome, Ok, String, codes, map, string_bytes};
+ghost use Rattle.std.specs.Prelude.{◌≡◌, Bool, Err, None, IfErr, IfOk, IfSome, Ok, String, codes, map, string_bytes};
 ghost use Rattle.std.specs.declared.alloc.Global.{Global};
 ghost use Rattle.bridge_cli.specs.declared.request.Request.{Request};
 ghost use Rattle.bridge_jobs.specs.Reading.{IsOfFile};
-ghost use Rattle.bridge_check_app.specs.Checked.{EndsChecked, EndsWell, IfEnded, IsAcceptedLine};
+ghost use Rattle.bridge_check_app.specs.Checked.{EndsBySome, EndsChecked, EndsJob, EndsWell, IfEnded, IsAcceptedLine};
 ghost use Rattle.bridge_check_app.specs.Left.{LeavesBy, MayLeaveBy, is_check, is_other, wants_more};
 
 use crate::asking::{Asked, Done, asked_of, ended_of};
@@ -26,6 +26,7 @@ pub fn perform(
 ) -> Result<Option<Ending>, NoMemory>
     ensures left { IfOk result (λ ending. ending ≡ None → MayLeaveBy is_other (map string_bytes words.now)) }
     ensures well { IfOk result (λ ending. IfSome ending EndsWell) }
+    ensures ends { IfOk result (λ ending. IfSome ending (EndsBySome EndsJob (map string_bytes words.now))) }
 {
     match asked_of(rt.alloc(), words) {
         Ok(Asked::Wanted(request)) => ended_of(rt.alloc(), done_check(rt, request)),
@@ -64,6 +65,8 @@ fn is_other(request: &Request) -> bool
 pub fn done_check(rt: &(impl Input + AllocGlobal + Files), request: Request) -> Result<Done, Fault>
     ensures left { IfOk result (LeavesBy is_other request) }
     ensures well { IfOk result (λ done. IfEnded done EndsWell) }
+    ensures zero { IfOk result (λ done. IfEnded done (λ e. e.status ≡ 0)) }
+    ensures err { IfErr result (EndsJob request.job) }
 {
     if is_other(&request) {
         return Ok(Done::Left(request));
@@ -80,6 +83,8 @@ pub fn lined(alloc: Global, line: Result<String, Fault>) -> Result<Done, Fault>
     ensures left { (is_left : Request → Bool) (request : Request) → IfOk result (LeavesBy is_left request) }
     ensures said { IfOk result (λ done. IfEnded done (λ e. (l : String Global) × (line ≡ Ok l) × (e.printed ≡ l))) }
     ensures well { IfOk line (λ l. IsAcceptedLine (string_bytes l)) → IfOk result (λ done. IfEnded done EndsWell) }
+    ensures zero { IfOk result (λ done. IfEnded done (λ e. e.status ≡ 0)) }
+    ensures err { IfErr result (λ fault. line ≡ Err fault) }
 {
     match line {
         Ok(line) => Ok(Done::Ended(printed(alloc, line, 0))),

@@ -1,7 +1,7 @@
 //! With what a job ends, and how a fault does.
 ghost use Rattle.std.specs.Prelude.{[], ◌≡◌, IfOk, string_bytes};
 ghost use Rattle.bridge_jobs.specs.Status.{status_of};
-ghost use Rattle.bridge_check_app.specs.Checked.{IsEndingOf, IsOfFault};
+ghost use Rattle.bridge_check_app.specs.Checked.{IsEndingOf, IsOfRefusedWords};
 
 use bridge_files::Said;
 use bridge_jobs::{Fault, NoMemory, fault_line};
@@ -49,7 +49,7 @@ fn lines_of(line: String, told: Option<String>) -> Result<String, NoMemory> {
 
 /// How words end that ask for a text: it is printed, and the rest is that of words that are refused.
 pub fn helped(refused: Result<Ending, NoMemory>, text: String) -> Result<Ending, NoMemory>
-    ensures { IfOk refused IsOfFault → IfOk result IsOfFault }
+    ensures { IfOk refused IsOfRefusedWords → IfOk result IsOfRefusedWords }
 {
     match refused {
         Ok(ending) => Ok(Ending {

@@ -1,9 +1,9 @@
 //! The job of the words, done over the files that it names, where it is a run or a check of which the line is all that is asked.
-ghost use Rattle.std.specs.Prelude.{◌≡◌, None, IfOk, IfSome, map, string_bytes};
-ghost use Rattle.bridge_check_app.specs.Checked.{IfEnded};
+ghost use Rattle.std.specs.Prelude.{◌≡◌, None, IfErr, IfOk, IfSome, map, string_bytes};
+ghost use Rattle.bridge_check_app.specs.Checked.{EndsBySome, IfEnded};
 ghost use Rattle.bridge_check_app.specs.Left.{LeavesBy, MayLeaveBy};
 ghost use Rattle.bridge_run_app.specs.Left.{is_of_plan, is_other};
-ghost use Rattle.bridge_run_app.specs.Said.{EndsSaid, SaysOf};
+ghost use Rattle.bridge_run_app.specs.Said.{EndsJob, EndsSaid, SaysOf};
 
 use bridge_check_app::{Asked, Done, Ending, asked_of, check_file, ended_of, lined, wants_more};
 use bridge_cli::{Job, Request};
@@ -22,6 +22,7 @@ pub fn perform(
 ) -> Result<Option<Ending>, NoMemory>
     ensures left { IfOk result (λ ending. ending ≡ None → MayLeaveBy is_other (map string_bytes words.now)) }
     ensures said { IfOk result (λ ending. IfSome ending (EndsSaid (map string_bytes words.now))) }
+    ensures ends { IfOk result (λ ending. IfSome ending (EndsBySome EndsJob (map string_bytes words.now))) }
 {
     match asked_of(rt.alloc(), words) {
         Ok(Asked::Wanted(request)) => ended_of(rt.alloc(), done_run(rt, request)),
@@ -49,6 +50,8 @@ fn is_other(request: &Request) -> bool
 pub fn done_run(rt: &(impl Input + AllocGlobal + Files), request: Request) -> Result<Done, Fault>
     ensures left { IfOk result (LeavesBy is_other request) }
     ensures said { IfOk result (λ done. IfEnded done (SaysOf request.job)) }
+    ensures zero { IfOk result (λ done. IfEnded done (λ e. e.status ≡ 0)) }
+    ensures err { IfErr result (EndsJob request.job) }
 {
     if is_other(&request) {
         return Ok(Done::Left(request));

@@ -1,12 +1,12 @@
 //! The job of the words, done over standard input and output and the files that it names, where it is one over one queue.
-ghost use Rattle.std.specs.Prelude.{◌≡◌, ℕ, Bool, List, None, IfOk, IfSome, map, string_bytes};
+ghost use Rattle.std.specs.Prelude.{◌≡◌, ℕ, Bool, Err, List, None, IfErr, IfOk, IfSome, map, string_bytes};
 ghost use Rattle.bridge_cli.specs.CommandLine.{HasRoom};
 ghost use Rattle.bridge_cli.specs.declared.request.Request.{Request};
 ghost use Rattle.bridge_wiring.specs.Files.{SaysCounts};
-ghost use Rattle.bridge_check_app.specs.Checked.{IfEnded};
+ghost use Rattle.bridge_check_app.specs.Checked.{EndsBySome, IfEnded};
 ghost use Rattle.bridge_check_app.specs.Left.{LeavesBy, MayLeaveBy};
 ghost use Rattle.bridge_wire_app.specs.Left.{is_of_queue, is_other};
-ghost use Rattle.bridge_wire_app.specs.Said.{EndsSaid, SaysOf, SaysSomeCounts};
+ghost use Rattle.bridge_wire_app.specs.Said.{EndsJob, EndsSaid, SaysOf, SaysSomeCounts};
 
 use bridge_check_app::{Asked, Done, Ending, asked_of, ended_of, lined, of_said, wants_more};
 use bridge_cli::{Job, Request};
@@ -28,6 +28,7 @@ pub fn perform<H: Input + AllocGlobal + Print + Files>(
 ) -> Result<Option<Ending>, NoMemory>
     ensures left { IfOk result (λ ending. ending ≡ None → MayLeaveBy is_other (map string_bytes words.now)) }
     ensures said { IfOk result (λ ending. IfSome ending (EndsSaid (map string_bytes words.now))) }
+    ensures ends { IfOk result (λ ending. IfSome ending (EndsBySome EndsJob (map string_bytes words.now))) }
 {
     match asked_of(rt.alloc(), words) {
         Ok(Asked::Wanted(request)) => ended_of(rt.alloc(), done_wire(rt, request)),
@@ -59,6 +60,8 @@ pub fn done_wire<H: Input + AllocGlobal + Print + Files>(
     requires room { HasRoom request.job }
     ensures left { IfOk result (LeavesBy is_other request) }
     ensures said { IfOk result (λ done. IfEnded done (SaysOf request.job)) }
+    ensures zero { IfOk result (λ done. IfEnded done (λ e. e.status ≡ 0)) }
+    ensures err { IfErr result (EndsJob request.job) }
 {
     if is_other(&request) {
         return Ok(Done::Left(request));
@@ -80,6 +83,8 @@ pub fn done_wire<H: Input + AllocGlobal + Print + Files>(
 fn wired(alloc: Global, said: Result<Said, Fault>) -> Result<Done, Fault>
     ensures left { (is_left : Request → Bool) (request : Request) → IfOk result (LeavesBy is_left request) }
     ensures said { (output : List ℕ) → IfOk said (SaysCounts output) → IfOk result (λ done. IfEnded done SaysSomeCounts) }
+    ensures zero { IfOk result (λ done. IfEnded done (λ e. e.status ≡ 0)) }
+    ensures err { IfErr result (λ fault. said ≡ Err fault) }
 {
     match said {
         Ok(said) => Ok(Done::Ended(of_said(alloc, said))),

@@ -24,7 +24,7 @@ pub text_printed : (looked input lines : List ℕ) → looked ≡ take 4194305 i
 text_printed looked input lines e (octets, spelled, ran) = (octets, sym (spelled_front input) ∙ ap octets_spelled (sym e) ∙ spelled, ran)
 
 -- why a text is not run, by what is said of it fault by fault
-refuses : {X : Type 0} (input : List ℕ) (r : Result X TextFault) → (r ≡ Err text.NotHex → octets_spelled input ≡ Err hex.NotHex) → (r ≡ Err text.TooLong → octets_spelled input ≡ Err hex.TooLong)
+pub refuses : {X : Type 0} (input : List ℕ) (r : Result X TextFault) → (r ≡ Err text.NotHex → octets_spelled input ≡ Err hex.NotHex) → (r ≡ Err text.TooLong → octets_spelled input ≡ Err hex.TooLong)
     → ((f : RunFault) (octets : List ℕ) → r ≡ Err (text.Run f) → octets_spelled input ≡ Ok octets → StopsText octets f) → ((f : RunFault) → r ≡ Err (text.Run f) → (f ≡ run.NoMemory) ⊎ ((octets : List ℕ) × (octets_spelled input ≡ Ok octets)))
     → IfErr r (RefusesText input)
 refuses input (Ok x) not_hex too_long ran spelled = tt

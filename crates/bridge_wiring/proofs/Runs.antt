@@ -1,7 +1,7 @@
 -- A run over hexadecimal text, or from a reader into a writer.
-use Rattle.std.proofs.Common.{take, ◌≡◌, ◌<◌, ◌^◌, ◌⊎◌, inl, inr, ℕ, List, [], ◌++◌, length, Option, Some, None, IfSome, refl, ap, ◌∙◌, arith, rules}
+use Rattle.std.proofs.Common.{take, ◌≡◌, ◌<◌, ◌^◌, ◌⊎◌, inl, inr, ℕ, List, [], length, Option, Some, None, IfSome, refl, ◌∙◌, arith, rules}
 use Rattle.std.specs.Prelude.{All}
-use Rattle.std.specs.Io.KnownBytes.{Appends, Keeps}
+use Rattle.std.specs.Io.KnownBytes.{Keeps}
 use Rattle.std.proofs.KnownBytes.{Appends-kept}
 use Rattle.bridge_frame.specs.declared.Speed.{Speed}
 use Rattle.bridge_frame.specs.declared.Speed.TheVariants.{Mbps1000}

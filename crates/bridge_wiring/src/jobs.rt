@@ -21,6 +21,8 @@ pub fn text_job<R: Read + Drop>(alloc: Global, reader: R) -> Result<String, Faul
     ensures ok { (input : List ℕ) → R.remaining reader ≡ Some input
         → IfOk result (λ lines. PrintsText input (string_bytes lines)) }
     ensures err { (input : List ℕ) → R.remaining reader ≡ Some input → IfErr result (EndsText input) }
+    ensures read { IfOk result (λ lines. (input : List ℕ) × PrintsText input (string_bytes lines)) }
+    ensures only { IfErr result (λ fault. (input : List ℕ) × EndsText input fault) }
 {
     let text = match read_at_most(alloc, reader, MOST_INPUT) {
         Ok(text) => text,

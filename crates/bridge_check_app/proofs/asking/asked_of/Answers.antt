@@ -1,10 +1,10 @@
-use Rattle.std.proofs.Common.{map, string_bytes}
+use Rattle.std.proofs.Common.{inl, map, refl, string_bytes}
 use Rattle.bridge_jobs.specs.declared.fault.Fault.TheVariants as fault
-use Rattle.bridge_check_app.proofs.Ended.{of_fault}
+use Rattle.bridge_check_app.proofs.Ended.{of_words}
 use Rattle.bridge_check_app.proofs.asking.asked_of.Goals as goal
 
 pub over-requires : goal.over-requires
-over-requires c = c.helped.ensures (of_fault c.refused_and_told.result fault.Words c.refused_and_told.ensures.status)
+over-requires c = c.helped.ensures (of_words c.refused_and_told.result fault.Words (inl refl) c.refused_and_told.ensures.status)
 
 pub returns-in-Ok-Some : goal.returns-in-Ok-Some
 returns-in-Ok-Some c = c.over.ensures (map string_bytes c.args.words.now)

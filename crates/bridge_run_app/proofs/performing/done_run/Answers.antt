@@ -3,7 +3,7 @@ use Rattle.bridge_running.specs.Files.{PrintsRun}
 use Rattle.bridge_check_app.specs.Checked.{IfEnded}
 use Rattle.bridge_run_app.specs.Left.{is_other}
 use Rattle.bridge_run_app.specs.Said.{SaysOf}
-use Rattle.bridge_run_app.proofs.Said.{said_lined}
+use Rattle.bridge_check_app.proofs.Ended.{said_lined}
 use Rattle.bridge_run_app.proofs.performing.done_run.Goals as goal
 
 pub returns-in-Check-clause-left : goal.returns-in-Check-clause-left

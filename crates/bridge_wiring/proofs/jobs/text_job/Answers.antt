@@ -1,5 +1,6 @@
-use Rattle.std.proofs.Common.{string_bytes, ◌∙◌}
-use Rattle.bridge_wiring.proofs.Looks.{text_printed, text_refused}
+use Rattle.std.proofs.Common.{IfErr, string_bytes, subst, ◌∙◌}
+use Rattle.bridge_wiring.specs.Jobs.{RefusesText}
+use Rattle.bridge_wiring.proofs.Looks.{refuses, text_printed, text_refused}
 use Rattle.bridge_wiring.proofs.jobs.text_job.Goals as goal
 
 pub returns-in-Ok-wire_text-clause-ok : goal.returns-in-Ok-wire_text-clause-ok
@@ -10,3 +11,9 @@ pub returns-clause-err : goal.returns-clause-err
 returns-clause-err g c = λ input told.
     text_refused c.deref.result.now input c.in-Err-wire_text.fault c.wire_text.result (c.deref.ensures.value ∙ c.in-Ok.ensures input told) c.in-Err-wire_text.is
     c.wire_text.ensures.not_hex c.wire_text.ensures.too_long c.wire_text.ensures.run c.wire_text.ensures.spelled
+
+pub returns-in-Ok-wire_text-clause-read : goal.returns-in-Ok-wire_text-clause-read
+returns-in-Ok-wire_text-clause-read g c = (c.deref.result.now, c.in-Ok-wire_text.ensures.ok)
+
+pub returns-clause-only : goal.returns-clause-only
+returns-clause-only g c = (c.deref.result.now, subst (λ r. IfErr r (RefusesText c.deref.result.now)) c.in-Err-wire_text.is (refuses c.deref.result.now c.wire_text.result c.wire_text.ensures.not_hex c.wire_text.ensures.too_long c.wire_text.ensures.run c.wire_text.ensures.spelled))
