@@ -3,13 +3,13 @@ use Rattle.std.proofs.Common.{◌≡◌, ◌⊎◌, ℕ, Err, Global, IfErr, IfO
 use Rattle.bridge_limits.specs.declared.NoMemory.{NoMemory}
 use Rattle.bridge_jobs.specs.declared.fault.Fault.{Fault}
 use Rattle.bridge_jobs.specs.declared.fault.Fault.TheVariants as fault
-use Rattle.bridge_jobs.proofs.WithCommands.{where_ok}
 use Rattle.bridge_jobs.specs.Jobs.{EndsCheck}
+use Rattle.bridge_jobs.specs.Lines.{line_of}
 use Rattle.bridge_jobs.specs.Reading.{IsOfFile, IsOfWords}
 use Rattle.bridge_jobs.specs.Status.{status_of}
 use Rattle.bridge_cli.specs.CommandLine.{AsksFor}
 use Rattle.bridge_cli.specs.declared.job.Job.{Job}
-use Rattle.bridge_check_app.specs.Checked.{EndsAsFault, EndsBySome, EndsChecked, IfEnded, IsOfRefusedWords}
+use Rattle.bridge_check_app.specs.Checked.{EndsAsFault, EndsBySome, EndsChecked, IfEnded, IsOfRefusedWords, IsTold}
 use Rattle.bridge_check_app.specs.declared.asking.Done.{Done}
 use Rattle.bridge_check_app.specs.declared.asking.Done.TheVariants as done_as
 use Rattle.bridge_check_app.specs.declared.ending.Ending.{Ending}
@@ -23,9 +23,10 @@ of_file A plan f h = absurd h
 pub not_checked : (A : Type 0) (plan : List ℕ) (f : Fault) → IsOfFile plan f → EndsChecked A plan f
 not_checked A plan f h = ([], of_file A plan f h)
 
--- what ends with the status of words that are refused
-pub of_words : {E : Type 0} (r : Result Ending E) (f : Fault) → IsOfWords f → IfOk r (λ e. e.status ≡ status_of f) → IfOk r IsOfRefusedWords
-of_words r f words told = where_ok r (λ e is. (f, (words, is))) told
+-- what ends by a fault of words ends as words that are refused
+pub of_words : {E : Type 0} (r : Result Ending E) (f : Fault) → IsOfWords f → IfOk r (λ e. e.status ≡ status_of f) → IfOk r (λ e. IsTold (line_of f) None (string_bytes e.told)) → IfOk r IsOfRefusedWords
+of_words (Ok e) f words status told = (f, (words, (status, told)))
+of_words (Err x) f words status told = tt
 
 -- what is so of a line is so of what is printed
 pub said_lined : (P : List ℕ → Type 0) (line : Result (String Global) Fault) (r : Result Done Fault) → IfOk r (λ d. IfEnded d (λ e. (l : String Global) × (line ≡ Ok l) × (e.printed ≡ l))) → IfOk line (λ l. P (string_bytes l)) → IfOk r (λ d. IfEnded d (λ e. P (string_bytes e.printed)))
@@ -54,11 +55,11 @@ pub well_by : (P : Ending → Type 0) (done : Result Done Fault) (r : Result (Op
 well_by P done (Err fault) well told = tt
 well_by P done (Ok None) well told = tt
 well_by P done (Ok (Some e)) well (inl is) = subst (λ (z : Result Done Fault). IfOk z (λ d. IfEnded d (λ e. e.status ≡ 0 → P e))) is well
-well_by P done (Ok (Some e)) well (inr failed) = λ zero. absurd (some_status failed.0 (sym failed.1.1 ∙ zero))
+well_by P done (Ok (Some e)) well (inr failed) = λ zero. absurd (some_status failed.0 (sym failed.1.1.0 ∙ zero))
 
 -- what is said of a job that is done is said where the words that ask for it end with 0
 pub said_by : (Says : Job → Ending → Type 0) (words : List (List ℕ)) (job : Job) (done : Result Done Fault) (r : Result (Option Ending) NoMemory) → AsksFor words job → IfOk done (λ d. IfEnded d (Says job)) → IfOk r (λ ending. IfSome ending (λ e. (done ≡ Ok (done_as.Ended e)) ⊎ EndsAsFault done e)) → IfOk r (λ ending. IfSome ending (λ e. e.status ≡ 0 → (j : Job) × (AsksFor words j × Says j e)))
 said_by Says words job done (Err fault) asks said told = tt
 said_by Says words job done (Ok None) asks said told = tt
 said_by Says words job done (Ok (Some e)) asks said (inl is) = λ _. (job, (asks, subst (λ (z : Result Done Fault). IfOk z (λ d. IfEnded d (Says job))) is said))
-said_by Says words job done (Ok (Some e)) asks said (inr failed) = λ zero. absurd (some_status failed.0 (sym failed.1.1 ∙ zero))
+said_by Says words job done (Ok (Some e)) asks said (inr failed) = λ zero. absurd (some_status failed.0 (sym failed.1.1.0 ∙ zero))

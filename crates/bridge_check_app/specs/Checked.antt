@@ -1,8 +1,9 @@
 -- How the check of a plan ends.
-use Rattle.std.specs.Prelude.{◌≡◌, ◌⊎◌, ℕ, Err, List, Result, string_bytes}
+use Rattle.std.specs.Prelude.{◌≡◌, ◌⊎◌, ◌++◌, ◌∷◌, ℕ, [], Err, List, None, Option, Result, Some, String, string_bytes}
 use Rattle.std.specs.declared.alloc.Global.{Global}
 use Rattle.bridge_jobs.specs.declared.fault.Fault.{Fault}
 use Rattle.bridge_jobs.specs.Jobs.{EndsCheck, PrintsAccepted}
+use Rattle.bridge_jobs.specs.Lines.{line_of}
 use Rattle.bridge_jobs.specs.Reading.{IsOfWords}
 use Rattle.bridge_jobs.specs.Status.{status_of}
 use Rattle.bridge_cli.specs.CommandLine.{AsksFor}
@@ -27,17 +28,26 @@ abbrev pub EndsJob : Job → Fault → Type 0
 EndsJob (job.Check plan) f = EndsChecked Global (string_bytes plan) f
 EndsJob _ f = ⊥
 
--- the status is that of words that are refused, or of memory
+-- a line with its line feed, and what is said behind it, as far as there is memory for that
+abbrev pub IsTold : List ℕ → Option (String Global) → List ℕ → Type 0
+IsTold line None told = told ≡ line ++ 10 ∷ []
+IsTold line (Some said) told = (more : List ℕ) × (told ≡ line ++ 10 ∷ more)
+
+-- the line of a fault is told, and nothing else, and the status is that of the fault
+abbrev pub TellsFault : Fault → Ending → Type 0
+TellsFault fault ending = (ending.status ≡ status_of fault) × IsTold (line_of fault) None (string_bytes ending.told)
+
+-- it ends as words that are refused, or for want of memory
 abbrev pub IsOfRefusedWords : Ending → Type 0
-IsOfRefusedWords ending = (fault : Fault) × (IsOfWords fault × (ending.status ≡ status_of fault))
+IsOfRefusedWords ending = (fault : Fault) × (IsOfWords fault × TellsFault fault ending)
 
--- the status is that of refused words, of memory, or of a fault that may end the job for which the words ask
+-- it ends as refused words, for want of memory, or by a fault that may end the job for which the words ask
 abbrev pub EndsBy : (Job → Fault → Type 0) → List (List ℕ) → Ending → Type 0
-EndsBy Ends words ending = (fault : Fault) × ((ending.status ≡ status_of fault) × (IsOfWords fault ⊎ ((job : Job) × (AsksFor words job × Ends job fault))))
+EndsBy Ends words ending = (fault : Fault) × (TellsFault fault ending × (IsOfWords fault ⊎ ((job : Job) × (AsksFor words job × Ends job fault))))
 
--- the job failed, and the status is that of its fault
+-- the job failed, and it ends by its fault
 abbrev pub EndsAsFault : Result Done Fault → Ending → Type 0
-EndsAsFault done ending = (fault : Fault) × ((done ≡ Err fault) × (ending.status ≡ status_of fault))
+EndsAsFault done ending = (fault : Fault) × ((done ≡ Err fault) × TellsFault fault ending)
 
 -- it ends with 0, or by such a fault
 abbrev pub EndsBySome : (Job → Fault → Type 0) → List (List ℕ) → Ending → Type 0

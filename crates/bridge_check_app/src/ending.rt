@@ -1,7 +1,8 @@
 //! With what a job ends, and how a fault does.
 ghost use Rattle.std.specs.Prelude.{[], ◌≡◌, IfOk, string_bytes};
+ghost use Rattle.bridge_jobs.specs.Lines.{line_of};
 ghost use Rattle.bridge_jobs.specs.Status.{status_of};
-ghost use Rattle.bridge_check_app.specs.Checked.{IsEndingOf, IsOfRefusedWords};
+ghost use Rattle.bridge_check_app.specs.Checked.{IsEndingOf, IsOfRefusedWords, IsTold};
 
 use bridge_files::Said;
 use bridge_jobs::{Fault, NoMemory, fault_line};
@@ -26,6 +27,7 @@ pub fn refused_and_told(
 ) -> Result<Ending, NoMemory>
     ensures status { IfOk result (λ ending. ending.status ≡ status_of fault.now) }
     ensures printed { IfOk result (λ ending. string_bytes ending.printed ≡ []) }
+    ensures told { IfOk result (λ ending. IsTold (line_of fault.now) said (string_bytes ending.told)) }
 {
     let (line, status) = fault_line(alloc, fault)?;
     let told = lines_of(line, said)?;
@@ -37,12 +39,16 @@ pub fn refused_and_told(
     })
 }
 
-/// A line with its line feed, and what is told behind it, as far as there is memory for that.
-fn lines_of(line: String, told: Option<String>) -> Result<String, NoMemory> {
+/// A line with its line feed, and what is said behind it, as far as there is memory for that.
+fn lines_of(line: String, said: Option<String>) -> Result<String, NoMemory>
+    ensures { IfOk result (λ lines. IsTold (string_bytes line) said (string_bytes lines)) }
+{
     let mut lines = line;
-    lines.push('\n')?;
-    if let Some(told) = told {
-        let _ = lines.push_str(told.as_str());
+    let Ok(()) = lines.push('\n') else {
+        return Err(NoMemory);
+    };
+    if let Some(said) = said {
+        let _ = lines.push_str(said.as_str());
     }
     Ok(lines)
 }
