@@ -1,5 +1,5 @@
 -- How the check of a plan ends.
-use Rattle.std.proofs.Common.{◌≡◌, ◌⊎◌, ℕ, Err, Global, IfErr, IfOk, IfSome, List, None, Ok, Option, Result, Some, String, [], inl, inr, rules, string_bytes, subst, sym, ◌∙◌}
+use Rattle.std.proofs.Common.{◌≡◌, ◌⊎◌, ℕ, Err, Global, IfErr, IfOk, IfSome, List, None, Ok, Option, Result, Some, String, [], inl, inr, refl, rules, string_bytes, subst, sym, ◌∙◌}
 use Rattle.bridge_limits.specs.declared.NoMemory.{NoMemory}
 use Rattle.bridge_jobs.specs.declared.fault.Fault.{Fault}
 use Rattle.bridge_jobs.specs.declared.fault.Fault.TheVariants as fault
@@ -8,8 +8,9 @@ use Rattle.bridge_jobs.specs.Lines.{line_of}
 use Rattle.bridge_jobs.specs.Reading.{IsOfFile, IsOfWords}
 use Rattle.bridge_jobs.specs.Status.{status_of}
 use Rattle.bridge_cli.specs.CommandLine.{AsksFor}
+use Rattle.bridge_cli.specs.Sketching.{NamesPart}
 use Rattle.bridge_cli.specs.declared.job.Job.{Job}
-use Rattle.bridge_check_app.specs.Checked.{EndsAsFault, EndsBySome, EndsChecked, IfEnded, IsOfRefusedWords, IsTold}
+use Rattle.bridge_check_app.specs.Checked.{EndsAsFault, EndsBySome, EndsChecked, IfEnded, IsOfRefusedWords, IsTold, RefusesWords}
 use Rattle.bridge_check_app.specs.declared.asking.Done.{Done}
 use Rattle.bridge_check_app.specs.declared.asking.Done.TheVariants as done_as
 use Rattle.bridge_check_app.specs.declared.ending.Ending.{Ending}
@@ -23,10 +24,15 @@ of_file A plan f h = absurd h
 pub not_checked : (A : Type 0) (plan : List ℕ) (f : Fault) → IsOfFile plan f → EndsChecked A plan f
 not_checked A plan f h = ([], of_file A plan f h)
 
--- what ends by a fault of words ends as words that are refused
-pub of_words : {E : Type 0} (r : Result Ending E) (f : Fault) → IsOfWords f → IfOk r (λ e. e.status ≡ status_of f) → IfOk r (λ e. IsTold (line_of f) None (string_bytes e.told)) → IfOk r IsOfRefusedWords
-of_words (Ok e) f words status told = (f, (words, (status, told)))
-of_words (Err x) f words status told = tt
+-- words of a fault of words are refused so
+pub refuses_words : (words : List (List ℕ)) (f : Fault) → IsOfWords f → (f ≡ fault.Words → (job : Job) → AsksFor words job → NamesPart words) → RefusesWords words f
+refuses_words words f (inl is) none = subst (RefusesWords words) (sym is) (none is)
+refuses_words words f (inr is) none = subst (RefusesWords words) (sym is) refl
+
+-- what ends by a fault by which words are refused ends as words that are refused
+pub of_words : {E : Type 0} (words : List (List ℕ)) (r : Result Ending E) (f : Fault) → RefusesWords words f → IfOk r (λ e. e.status ≡ status_of f) → IfOk r (λ e. IsTold (line_of f) None (string_bytes e.told)) → IfOk r (IsOfRefusedWords words)
+of_words words (Ok e) f refuses status told = (f, (refuses, (status, told)))
+of_words words (Err x) f refuses status told = tt
 
 -- what is so of a line is so of what is printed
 pub said_lined : (P : List ℕ → Type 0) (line : Result (String Global) Fault) (r : Result Done Fault) → IfOk r (λ d. IfEnded d (λ e. (l : String Global) × (line ≡ Ok l) × (e.printed ≡ l))) → IfOk line (λ l. P (string_bytes l)) → IfOk r (λ d. IfEnded d (λ e. P (string_bytes e.printed)))

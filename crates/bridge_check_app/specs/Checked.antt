@@ -1,12 +1,14 @@
 -- How the check of a plan ends.
 use Rattle.std.specs.Prelude.{◌≡◌, ◌⊎◌, ◌++◌, ◌∷◌, ℕ, [], Err, List, None, Option, Result, Some, String, string_bytes}
 use Rattle.std.specs.declared.alloc.Global.{Global}
+use Rattle.bridge_inputs.specs.declared.fault.RunFault.TheVariants as run
 use Rattle.bridge_jobs.specs.declared.fault.Fault.{Fault}
+use Rattle.bridge_jobs.specs.declared.fault.Fault.TheVariants as fault
 use Rattle.bridge_jobs.specs.Jobs.{EndsCheck, PrintsAccepted}
 use Rattle.bridge_jobs.specs.Lines.{line_of}
-use Rattle.bridge_jobs.specs.Reading.{IsOfWords}
 use Rattle.bridge_jobs.specs.Status.{status_of}
 use Rattle.bridge_cli.specs.CommandLine.{AsksFor}
+use Rattle.bridge_cli.specs.Sketching.{NamesPart}
 use Rattle.bridge_cli.specs.declared.job.Job.{Job}
 use Rattle.bridge_cli.specs.declared.job.Job.TheVariants as job
 use Rattle.bridge_files.specs.declared.saying.Said.{Said}
@@ -37,13 +39,19 @@ IsTold line (Some said) told = (more : List ℕ) × (told ≡ line ++ 10 ∷ mor
 abbrev pub TellsFault : Fault → Ending → Type 0
 TellsFault fault ending = (ending.status ≡ status_of fault) × IsTold (line_of fault) None (string_bytes ending.told)
 
--- it ends as words that are refused, or for want of memory
-abbrev pub IsOfRefusedWords : Ending → Type 0
-IsOfRefusedWords ending = (fault : Fault) × (IsOfWords fault × TellsFault fault ending)
+-- words are refused so: for want of memory, or since they ask for no job, unless they name a part of a run or of a plan
+abbrev pub RefusesWords : List (List ℕ) → Fault → Type 0
+RefusesWords words fault.Words = (job : Job) → AsksFor words job → NamesPart words
+RefusesWords words (fault.Run f) = f ≡ run.NoMemory
+RefusesWords words f = ⊥
 
--- it ends as refused words, for want of memory, or by a fault that may end the job for which the words ask
+-- it ends as words that are refused
+abbrev pub IsOfRefusedWords : List (List ℕ) → Ending → Type 0
+IsOfRefusedWords words ending = (fault : Fault) × (RefusesWords words fault × TellsFault fault ending)
+
+-- it ends as words that are refused, or by a fault that may end the job for which they ask
 abbrev pub EndsBy : (Job → Fault → Type 0) → List (List ℕ) → Ending → Type 0
-EndsBy Ends words ending = (fault : Fault) × (TellsFault fault ending × (IsOfWords fault ⊎ ((job : Job) × (AsksFor words job × Ends job fault))))
+EndsBy Ends words ending = (fault : Fault) × (TellsFault fault ending × (RefusesWords words fault ⊎ ((job : Job) × (AsksFor words job × Ends job fault))))
 
 -- the job failed, and it ends by its fault
 abbrev pub EndsAsFault : Result Done Fault → Ending → Type 0

@@ -24,9 +24,9 @@ is_check _ = false
 abbrev pub is_other : Request → Bool
 is_other r = wants_more r || not (is_check r.job)
 
--- what words come to: what they ask for, an explanation that they want, or the status of words that are refused
+-- what words come to: what they ask for, an explanation that they want, or that they are refused
 abbrev pub IsAsked : List (List ℕ) → Asked → Type 0
-IsAsked words (asked.Ended ending) = IsOfRefusedWords ending
+IsAsked words (asked.Ended ending) = IsOfRefusedWords words ending
 IsAsked words asked.Explained = explains words ≡ true
 IsAsked words (asked.Wanted request) = AsksFor words request.job × HasRoom request.job
 

@@ -57,8 +57,7 @@ fn wanted(alloc: Global, words: &[String]) -> Result<Asked, NoMemory>
 
 /// What words come to that end so.
 fn over(ending: Result<Ending, NoMemory>) -> Result<Asked, NoMemory>
-    requires { IfOk ending IsOfRefusedWords }
-    ensures { (words : List (List ℕ)) → IfOk result (IsAsked words) }
+    ensures { (words : List (List ℕ)) → IfOk ending (IsOfRefusedWords words) → IfOk result (IsAsked words) }
 {
     match ending {
         Ok(ending) => Ok(Asked::Ended(ending)),

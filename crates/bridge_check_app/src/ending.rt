@@ -1,5 +1,5 @@
 //! With what a job ends, and how a fault does.
-ghost use Rattle.std.specs.Prelude.{[], ◌≡◌, IfOk, string_bytes};
+ghost use Rattle.std.specs.Prelude.{[], ◌≡◌, ℕ, IfOk, List, string_bytes};
 ghost use Rattle.bridge_jobs.specs.Lines.{line_of};
 ghost use Rattle.bridge_jobs.specs.Status.{status_of};
 ghost use Rattle.bridge_check_app.specs.Checked.{IsEndingOf, IsOfRefusedWords, IsTold};
@@ -55,7 +55,7 @@ fn lines_of(line: String, said: Option<String>) -> Result<String, NoMemory>
 
 /// How words end that ask for a text: it is printed, and the rest is that of words that are refused.
 pub fn helped(refused: Result<Ending, NoMemory>, text: String) -> Result<Ending, NoMemory>
-    ensures { IfOk refused IsOfRefusedWords → IfOk result IsOfRefusedWords }
+    ensures { (words : List (List ℕ)) → IfOk refused (IsOfRefusedWords words) → IfOk result (IsOfRefusedWords words) }
 {
     match refused {
         Ok(ending) => Ok(Ending {

@@ -1,12 +1,16 @@
 -- What the words of the command line ask for.
-use Rattle.std.proofs.Common.{◌≡◌, ◌∙◌, ℕ, List, [], Option, Some, option_map, Result, Ok, Err, IfOk, sym, ap, subst, inl, inr, refl, rules, string_bytes, codes}
+use Rattle.std.proofs.Common.{◌≡◌, ◌≢◌, ◌∙◌, ℕ, List, [], Option, Some, option_map, Result, Ok, Err, IfOk, sym, ap, subst, inl, inr, refl, rules, string_bytes, codes}
 use Rattle.bridge_frame.specs.declared.Speed.{Speed}
 use Rattle.clap.specs.Words.{Row, Text, fault_of, subcommand_of}
+use Rattle.clap.specs.declared.error.kind.ErrorKind.{ErrorKind}
+use Rattle.clap.specs.declared.error.kind.ErrorKind.TheVariants as kind
 use Rattle.clap.proofs.OnLiterals.{clap_on_literals}
 use Rattle.bridge_cli.specs.declared.job.Job.{Job}
 use Rattle.bridge_cli.specs.declared.job.Job.TheVariants as job
-use Rattle.bridge_cli.specs.CommandLine.{AsksFor, AsksForBounds, AsksForCheck, AsksForNetwork, AsksForNetworkRun, AsksForPicture, AsksForRun, AsksForWire, IsBoundsJob, IsCheckJob, IsNetworkJob, IsPictureJob, IsRunJob, IsWireJob, commands}
+use Rattle.bridge_cli.specs.CommandLine.{AsksFor, AsksForBounds, AsksForCheck, AsksForNetwork, AsksForNetworkRun, AsksForPicture, AsksForRun, AsksForWire, IsBoundsJob, IsCheckJob, IsNetworkJob, IsPictureJob, IsRunJob, IsWireJob, commands, fault_of_kind}
+use Rattle.bridge_inputs.specs.declared.fault.RunFault.TheVariants as run
 use Rattle.bridge_jobs.specs.declared.fault.Fault.{Fault}
+use Rattle.bridge_jobs.specs.declared.fault.Fault.TheVariants as fault
 use Rattle.bridge_cli.specs.Helping.{IsHelp}
 
 -- what was found has one name, and one list of values
@@ -232,3 +236,21 @@ no_job words (job.Bounds plan traffic) help (own, names, asks) = no_help (subst 
 no_job words (job.RunNetwork network input output file) help (own, names, asks) = no_help (subst IsHelp names.faultless help)
 no_job words (job.Network network) help (own, names, asks) = no_help (subst IsHelp names.faultless help)
 no_job words (job.Picture plan file) help (own, names, asks) = no_help (subst IsHelp names.faultless help)
+
+-- words that ask for a job have no fault
+faultless : (words : List Text) (asked : Job) → AsksFor words asked → fault_of commands words ≡ []
+faultless words job.Text asks = ap (fault_of commands) asks ∙ no_words
+faultless words (job.Wire speed room input output) (own, names, asks) = names.faultless
+faultless words (job.Check plan) (own, names, asks) = names.faultless
+faultless words (job.Run plan input output file) (own, names, asks) = names.faultless
+faultless words (job.Bounds plan traffic) (own, names, asks) = names.faultless
+faultless words (job.RunNetwork network input output file) (own, names, asks) = names.faultless
+faultless words (job.Network network) (own, names, asks) = names.faultless
+faultless words (job.Picture plan file) (own, names, asks) = names.faultless
+
+no_memory : {X : Type 0} (f : Fault) (r : Result X Fault) → r ≡ Err f → f ≡ fault.Run run.NoMemory → r ≡ Err fault.Words → ⊥
+no_memory f r fails is same = absurd (cc)
+
+-- so words that `clap` refuses, unless for want of memory, ask for none
+pub refused_by_clap : {X : Type 0} (words : List Text) (k : ErrorKind) (f : Fault) (r : Result X Fault) → r ≡ Err f → f ≡ fault_of_kind k → (k ≢ kind.OutOfMemory → fault_of commands words ≢ []) → r ≡ Err fault.Words → (asked : Job) → ¬ AsksFor words asked
+refused_by_clap words k f r fails is refused same asked asks = refused (λ memory. no_memory f r fails (is ∙ ap fault_of_kind memory) same) (faultless words asked asks)

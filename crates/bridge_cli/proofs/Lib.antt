@@ -1,3 +1,4 @@
 pub mod Asked
 pub mod Described
 pub mod Parsed
+pub mod Parts

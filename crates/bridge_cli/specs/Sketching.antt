@@ -1,7 +1,8 @@
 -- The picture that the words of a run ask for.
-use Rattle.std.specs.Prelude.{◌≡◌, ◌<◌, ℕ, List, Option, Some, None, codes, option_map, string_bytes}
+use Rattle.std.specs.Prelude.{◌≡◌, ◌<◌, ◌⊎◌, ℕ, List, Option, Some, None, codes, option_map, string_bytes}
 use Rattle.std.specs.Str.Parse.{digits_value}
-use Rattle.clap.specs.Words.{Row, Text, first_of}
+use Rattle.clap.specs.Words.{Row, Text, first_of, subcommand_of}
+use Rattle.bridge_cli.specs.CommandLine.{commands}
 use Rattle.bridge_cli.specs.Numbers.{IsMoment}
 use Rattle.bridge_cli.specs.declared.picture_request.PictureRequest.{PictureRequest}
 
@@ -38,3 +39,8 @@ AsksForSketch values (Some s) = IsSketch (codes "picture") values s
 abbrev pub AsksForPart : List Row → Option PictureRequest → Type 0
 AsksForPart values None = HasNoPart values
 AsksForPart values (Some s) = IsSketch (codes "file") values s
+
+-- the words name a part of a run, or of a plan that is drawn
+abbrev pub NamesPart : List Text → Type 0
+NamesPart words =
+    (values : List Row) × (((subcommand_of commands words ≡ Some (codes "run", values)) ⊎ (subcommand_of commands words ≡ Some (codes "picture", values))) × (¬ HasNoPart values))

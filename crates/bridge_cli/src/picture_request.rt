@@ -1,9 +1,10 @@
 //! The picture of a run, or the part of a plan, that the words of the command line ask for.
-ghost use Rattle.std.specs.Prelude.{◌≡◌, Some, IfOk, IfErr, IsTrue, List, codes, map, option_map, string_bytes};
+ghost use Rattle.std.specs.Prelude.{◌≡◌, ◌≢◌, ◌↔◌, Err, None, Some, IfOk, IfErr, IsTrue, List, codes, false, map, option_map, string_bytes};
 ghost use Rattle.clap.specs.Words.{Row, first_of, found_of, rows_of, subcommand_of, subcommand_rows_of};
 ghost use Rattle.bridge_jobs.specs.Reading.{IsOfWords};
-ghost use Rattle.bridge_cli.specs.CommandLine.{commands};
-ghost use Rattle.bridge_cli.specs.Sketching.{AreInOrder, AsksForPart, AsksForSketch, HasNoPart, IsBound, IsSketch};
+ghost use Rattle.bridge_cli.specs.declared.job.Job.{Job};
+ghost use Rattle.bridge_cli.specs.CommandLine.{AsksFor, commands};
+ghost use Rattle.bridge_cli.specs.Sketching.{AreInOrder, AsksForPart, AsksForSketch, HasNoPart, IsBound, IsSketch, NamesPart};
 
 use crate::command::matches_of;
 use crate::job::{fault_of, option_of, value_of};
@@ -41,6 +42,7 @@ pub fn picture_request_of(alloc: Global, words: &[String]) -> Result<Option<Pict
     ensures part { IfOk result (λ sketch. (values : List Row)
         → subcommand_of commands (map string_bytes words.now) ≡ Some (codes "picture", values)
         → AsksForPart values sketch) }
+    ensures words { result ≡ Err Fault.Words → (job : Job) → AsksFor (map string_bytes words.now) job → NamesPart (map string_bytes words.now) }
     ensures only { IfErr result IsOfWords }
 {
     match matches_of(alloc, words) {
@@ -62,6 +64,7 @@ pub(crate) fn picture_in(
     ensures part { IfOk result (λ sketch. (values : List Row)
         → subcommand_of commands (map string_bytes words.now) ≡ Some (codes "picture", values)
         → AsksForPart values sketch) }
+    ensures words { result ≡ Err Fault.Words → NamesPart (map string_bytes words.now) }
     ensures only { IfErr result IsOfWords }
 {
     if let Some(values) = matches.subcommand_matches("run") {
@@ -75,7 +78,7 @@ pub(crate) fn picture_in(
 
 /// Whether these values name no part of a run or of a plan.
 fn has_no_part(values: &ArgMatches) -> bool
-    ensures { IsTrue result → HasNoPart (rows_of (found_of values.now)) }
+    ensures { IsTrue result ↔ HasNoPart (rows_of (found_of values.now)) }
 {
     let from = value_of(values, "from");
     let to = value_of(values, "to");
@@ -90,6 +93,7 @@ fn has_no_part(values: &ArgMatches) -> bool
 /// The picture of a run that these values ask for.
 fn sketch_in(alloc: Global, values: &ArgMatches) -> Result<Option<PictureRequest>, Fault>
     ensures ok { IfOk result (AsksForSketch (rows_of (found_of values.now))) }
+    ensures words { result ≡ Err Fault.Words → ¬ HasNoPart (rows_of (found_of values.now)) }
     ensures only { IfErr result IsOfWords }
 {
     let Some(path) = value_of(values, "picture") else {
@@ -107,6 +111,7 @@ fn sketch_in(alloc: Global, values: &ArgMatches) -> Result<Option<PictureRequest
 /// The picture of a part of a plan that these values ask for, where they ask for a part.
 fn part_in(alloc: Global, values: &ArgMatches) -> Result<Option<PictureRequest>, Fault>
     ensures ok { IfOk result (AsksForPart (rows_of (found_of values.now))) }
+    ensures words { result ≡ Err Fault.Words → ¬ HasNoPart (rows_of (found_of values.now)) }
     ensures only { IfErr result IsOfWords }
 {
     if has_no_part(values) {
@@ -130,6 +135,7 @@ fn sketch_into(
 ) -> Result<PictureRequest, Fault>
     requires { first_of name.now (rows_of (found_of values.now)) ≡ Some path.now }
     ensures ok { IfOk result (IsSketch name.now (rows_of (found_of values.now))) }
+    ensures words { result ≡ Err Fault.Words → ¬ HasNoPart (rows_of (found_of values.now)) }
     ensures only { IfErr result IsOfWords }
 {
     let Some(from) = bound_of(values, "from") else {
@@ -165,7 +171,9 @@ fn sketch_into(
 }
 
 /// Whether an option, where it stands there, is a list of numbers.
-fn has_list(values: &ArgMatches, name: &str) -> bool {
+fn has_list(values: &ArgMatches, name: &str) -> bool
+    ensures { result ≡ false → first_of name.now (rows_of (found_of values.now)) ≢ None }
+{
     match value_of(values, name) {
         None => true,
         Some(word) => is_list(word),
@@ -174,7 +182,8 @@ fn has_list(values: &ArgMatches, name: &str) -> bool {
 
 /// The moment of an option, where it stands there; `None` where it isn't one.
 fn bound_of(values: &ArgMatches, name: &str) -> Option<Option<u64>>
-    ensures { (bound : _) → result ≡ Some bound → IsBound (first_of name.now (rows_of (found_of values.now))) bound }
+    ensures bound { (bound : _) → result ≡ Some bound → IsBound (first_of name.now (rows_of (found_of values.now))) bound }
+    ensures none { result ≡ None → first_of name.now (rows_of (found_of values.now)) ≢ None }
 {
     match value_of(values, name) {
         None => Some(None),
@@ -187,7 +196,8 @@ fn bound_of(values: &ArgMatches, name: &str) -> Option<Option<u64>>
 
 /// Whether the first of two moments comes before the other one, where both are given.
 fn are_in_order(from: Option<u64>, to: Option<u64>) -> bool
-    ensures { IsTrue result → AreInOrder from to }
+    ensures order { IsTrue result → AreInOrder from to }
+    ensures given { result ≡ false → from ≢ None }
 {
     match (from, to) {
         (Some(from), Some(to)) => from < to,

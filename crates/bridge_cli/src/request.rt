@@ -1,10 +1,11 @@
 //! All that the words of the command line ask for, by one parse.
-ghost use Rattle.std.specs.Prelude.{◌≡◌, ◌≢◌, [], IfOk, IfErr, List, Some, codes, map, string_bytes};
+ghost use Rattle.std.specs.Prelude.{◌≡◌, ◌≢◌, [], Err, IfOk, IfErr, List, Some, codes, map, string_bytes};
 ghost use Rattle.clap.specs.Words.{Row, fault_of, subcommand_of, subcommand_rows_of};
 ghost use Rattle.bridge_jobs.specs.Reading.{IsOfWords};
+ghost use Rattle.bridge_cli.specs.declared.job.Job.{Job};
 ghost use Rattle.bridge_cli.specs.CommandLine.{AsksFor, HasRoom, commands};
 ghost use Rattle.bridge_cli.specs.Helping.{explains, is_strict};
-ghost use Rattle.bridge_cli.specs.Sketching.{AsksForPart, AsksForSketch};
+ghost use Rattle.bridge_cli.specs.Sketching.{AsksForPart, AsksForSketch, NamesPart};
 ghost use Rattle.bridge_cli.specs.Tabling.{AsksForTables};
 
 use crate::command::matches_of;
@@ -50,6 +51,7 @@ pub fn request_of(alloc: Global, words: &[String]) -> Result<Request, Fault>
         → AsksForTables values r.tables) }
     ensures explained { IfOk result (λ r. r.is_explained ≡ explains (map string_bytes words.now)) }
     ensures strict { IfOk result (λ r. r.is_strict ≡ is_strict (map string_bytes words.now)) }
+    ensures words { result ≡ Err Fault.Words → (job : Job) → AsksFor (map string_bytes words.now) job → NamesPart (map string_bytes words.now) }
     ensures only { IfErr result IsOfWords }
 {
     if words.is_empty() {
@@ -88,6 +90,7 @@ fn request_in(alloc: Global, words: &[String], matches: &ArgMatches) -> Result<R
         → AsksForTables values r.tables) }
     ensures explained { IfOk result (λ r. r.is_explained ≡ explains (map string_bytes words.now)) }
     ensures strict { IfOk result (λ r. r.is_strict ≡ is_strict (map string_bytes words.now)) }
+    ensures words { result ≡ Err Fault.Words → (job : Job) → AsksFor (map string_bytes words.now) job → NamesPart (map string_bytes words.now) }
     ensures only { IfErr result IsOfWords }
 {
     let job = match job_in(alloc, words, matches) {

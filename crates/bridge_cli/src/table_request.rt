@@ -1,12 +1,14 @@
 //! The tables of a run that the words of the command line ask for.
-ghost use Rattle.std.specs.Prelude.{◌≡◌, Some, IfOk, IfErr, List, codes, map, option_map, string_bytes};
+ghost use Rattle.std.specs.Prelude.{◌≡◌, Err, Some, IfOk, IfErr, List, codes, map, option_map, string_bytes};
 ghost use Rattle.clap.specs.Words.{Row, first_of, found_of, rows_of, subcommand_of, subcommand_rows_of};
 ghost use Rattle.bridge_jobs.specs.Reading.{IsOfWords};
-ghost use Rattle.bridge_cli.specs.CommandLine.{commands};
+ghost use Rattle.bridge_cli.specs.declared.job.Job.{Job};
+ghost use Rattle.bridge_cli.specs.CommandLine.{AsksFor, commands};
 ghost use Rattle.bridge_cli.specs.Tabling.{AsksForTables};
 
 use crate::command::matches_of;
 use crate::job::{fault_of, option_of};
+use bridge_inputs::RunFault;
 use bridge_jobs::Fault;
 use clap::ArgMatches;
 use std::alloc::Global;
@@ -28,6 +30,7 @@ pub fn table_request_of(alloc: Global, words: &[String]) -> Result<TableRequest,
     ensures ok { IfOk result (λ tables. (values : List Row)
         → subcommand_of commands (map string_bytes words.now) ≡ Some (codes "run", values)
         → AsksForTables values tables) }
+    ensures words { result ≡ Err Fault.Words → (job : Job) → ¬ AsksFor (map string_bytes words.now) job }
     ensures only { IfErr result IsOfWords }
 {
     match matches_of(alloc, words) {
@@ -46,7 +49,7 @@ pub(crate) fn tables_in(
     ensures ok { IfOk result (λ tables. (values : List Row)
         → subcommand_of commands (map string_bytes words.now) ≡ Some (codes "run", values)
         → AsksForTables values tables) }
-    ensures only { IfErr result IsOfWords }
+    ensures memory { IfErr result (λ fault. fault ≡ Fault.Run (RunFault.NoMemory)) }
 {
     match matches.subcommand_matches("run") {
         Some(values) => tables_of(alloc, values),
@@ -60,7 +63,7 @@ pub(crate) fn tables_in(
 /// The tables that these values ask for.
 fn tables_of(alloc: Global, values: &ArgMatches) -> Result<TableRequest, Fault>
     ensures ok { IfOk result (AsksForTables (rows_of (found_of values.now))) }
-    ensures only { IfErr result IsOfWords }
+    ensures memory { IfErr result (λ fault. fault ≡ Fault.Run (RunFault.NoMemory)) }
 {
     let delays = match option_of(alloc, values, "delays") {
         Ok(delays) => delays,
