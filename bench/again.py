@@ -213,4 +213,5 @@ def main(words):
     again(lanes, kinds, {*words})
 
 
-main(sys.argv[1:])
+if __name__ == "__main__":
+    main(sys.argv[1:])
