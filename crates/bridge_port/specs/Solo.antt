@@ -3,7 +3,7 @@ use Rattle.std.specs.Prelude.{◌≡◌, ℕ, true, false, ◌<◌, ◌≤◌, �
 use Rattle.bridge_cycle.specs.Moments.{IsFirst}
 use Rattle.bridge_port.specs.Schedule.{Fate, Never, Full, Queued, Started, Copy, Rules, waiting, is_queued}
 
--- when a copy was done, or another moment where it did not start
+-- End of the transmission of the copy, which lasts `n` ns; time `t` if the copy has not started.
 abbrev pub done_or : Fate → ℕ → ℕ → ℕ
 done_or Never n t = t
 done_or Full n t = t
@@ -11,39 +11,39 @@ done_or Queued n t = t
 done_or (Started s) n t = s + n
 
 module _ {X : Type 0} where
-  -- the copies of a class, newest first
+  -- Copies of class `c`, the newest first.
   abbrev pub only : ℕ → List (Copy X) → List (Copy X)
   only c [] = []
   only c (x ∷ xs) = if nat_eq x.class c then x ∷ only c xs else only c xs
 
-  -- when the newest copy that started was done, 0 where none did
+  -- End of the newest transmission in the list, 0 if there is none.
   abbrev pub last_done : Rules X → List (Copy X) → ℕ
   last_done r [] = 0
   last_done r (x ∷ xs) = done_or x.fate (r.occ x.item) (last_done r xs)
 
-  -- what becomes of a copy in a queue that has the link alone, after those before it
+  -- A queue by itself drops copies as a port does, and starts each other copy at the first time that fits.
   abbrev pub IsSoloFate : Rules X → Copy X → List (Copy X) → Fate → Type 0
   IsSoloFate r x xs Never = r.ever x.class (r.occ x.item) ≡ false
   IsSoloFate r x xs Full = (r.ever x.class (r.occ x.item) ≡ true) × (r.room x.class ≤ waiting x.class x.at xs)
   IsSoloFate r x xs Queued = ⊥
   IsSoloFate r x xs (Started s) = (r.ever x.class (r.occ x.item) ≡ true) × (waiting x.class x.at xs < r.room x.class) × IsFirst (r.opens x.class) (r.occ x.item) (max x.at (last_done r xs)) s
 
-  -- each copy is answered and started as if no other class were there
+  -- Each copy fares as if its class were the only one at the port.
   abbrev pub IsSolo : Rules X → List (Copy X) → Type 0
   IsSolo r [] = Unit {0}
   IsSolo r (x ∷ xs) = IsSoloFate r x xs x.fate × IsSolo r xs
 
-  -- no copy is queued
+  -- No copy waits: each was dropped or has started.
   abbrev pub IsWhole : List (Copy X) → Type 0
   IsWhole [] = Unit {0}
   IsWhole (x ∷ xs) = (is_queued x.fate ≡ false) × IsWhole xs
 
-  -- no other class is open while this one is
+  -- While class `c` is open, no other class is open.
   abbrev pub HasOwnWindow : Rules X → ℕ → Type 0
   HasOwnWindow r c = (d u : ℕ) → r.opens c u ≡ true → r.opens d u ≡ true → d ≡ c
 
 module _ {X : Type 0} where
-  -- the same offers, whatever became of them
+  -- Two lists have equal offers: times, classes and items, whatever became of the copies.
   abbrev pub SameOffers : List (Copy X) → List (Copy X) → Type 0
   SameOffers [] [] = Unit {0}
   SameOffers [] (y ∷ ys) = ⊥
