@@ -1,8 +1,8 @@
 -- A source or a sink over memory.
 use Rattle.std.specs.Prelude.{ℕ, List, Option, Bool, not, is_some, ◌&&◌, ◌||◌}
 
--- the octets that it has left or holds, how many more it moves before it fails (none: it goes on), the most that it moves a call, whether it has failed,
--- and whether memory for it was refused
+-- Source or sink in memory: its octets, the octets until failure (None means unlimited), the most per call, and two failure flags.
+-- `octets` are still to be read (source) or written (sink), and `ran_out` is true if memory for them was refused.
 pub record MemoryDevice : Type 0 where
   pub octets : List ℕ
   pub allowance : Option ℕ

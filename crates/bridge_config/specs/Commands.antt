@@ -1,4 +1,4 @@
--- Commands to the bridge of a plan: what one names, what a text's commands keep, and a command of a table.
+-- Commands for the bridge of a plan: their targets, their order, and how a command is read from a table.
 use Rattle.std.specs.Prelude.{◌≤◌, ℕ, ◌-◌, Bool, IsTrue, List, [], ◌∷◌, Result, Ok}
 use Rattle.toml.specs.Data.{Members}
 use Rattle.bridge_limits.specs.Members.{In, Rising}
@@ -19,14 +19,14 @@ use Rattle.bridge_config.specs.Model.{Plan}
 use Rattle.bridge_config.specs.Sections.{provided}
 use Rattle.bridge_config.specs.Texts.{clear_of}
 
--- whether the plan has what a command names: a filter to be unblocked, a gate or a meter of which a flag is cleared
+-- True if the plan has the filter, gate or meter whose flag the command clears.
 abbrev pub has_instance : {A : Type 0} → Plan A → Clear → ℕ → Bool
 has_instance p clear.Blocked n = is_there n p.filters
 has_instance p clear.Rx n = is_there n p.gates
 has_instance p clear.Octets n = is_there n p.gates
 has_instance p clear.Red n = is_there n p.meters
 
--- commands by rising moment, each of something that the plan has
+-- Command times never fall, and the plan has the filter, gate or meter that each command names.
 pub record AreCommands {A : Type 0} (p : Plan A) (commands : List Command) : Type 0 where
   pub rise : Rising (λ a b. a.at ≤ b.at) commands
   pub instances : (c : Command) → In c commands → IsTrue (has_instance p c.clear c.number)

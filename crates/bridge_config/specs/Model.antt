@@ -1,4 +1,4 @@
--- What a plan holds.
+-- Contents of a plan.
 use Rattle.std.specs.Prelude.{ℕ, List}
 use Rattle.bridge_meter.specs.declared.MeterPlan.{MeterPlan}
 use Rattle.bridge_gate.specs.declared.schedule.GatePlan.{GatePlan}
@@ -13,7 +13,7 @@ pub record Policing (A : Type 0) : Type 0 where
   pub meters : List (ℕ × MeterPlan)
   pub filters : List (ℕ × FilterPlan)
 
--- the ports, where frames go by VLANs and static entries, the streams, and the gates, meters and filters by number, each in the order of the text
+-- Plan of one bridge: ports, VLANs and static entries, stream entries, and numbered gates, meters and filters, each in file order.
 pub record Plan (A : Type 0) : Type 0 where
   pub ports : List (PortPlan A)
   pub database : Database

@@ -1,4 +1,4 @@
--- What the instances of each section of a plan keep.
+-- Rules that each section of a plan follows.
 use Rattle.std.specs.Prelude.{◌≡◌, ◌≤◌, ◌<◌, ℕ, Bool, true, ◌&&◌, IsTrue, List, [], ◌∷◌, length, nat_eq, map, All, Option, Some, None, if◌then◌else◌}
 use Rattle.std.specs.List.{list_any}
 use Rattle.std.specs.List.Sorted.{IsPermutation, IsStrictlyIncreasing}
@@ -22,7 +22,7 @@ use Rattle.bridge_schema.specs.Readers.{are_within, is_subset, set_with}
 use Rattle.bridge_config.specs.declared.ports.PortPlan.{PortPlan}
 use Rattle.bridge_config.specs.Model.{Policing, Plan}
 
--- these numbers in rising order
+-- List `ns` holds exactly the numbers of `all`, in strictly increasing order.
 pub record IsInOrder (all ns : List ℕ) : Type 0 where
   pub rises : IsStrictlyIncreasing ns
   pub same : IsPermutation all ns
@@ -31,26 +31,26 @@ pub record IsInOrder (all ns : List ℕ) : Type 0 where
 abbrev pub IsBeforeEnd : Option ℕ → Type 0
 IsBeforeEnd change = ForSome change (λ t. t < END_OF_TIME)
 
--- whether a port has the number
+-- True if a port of the list has number `n`.
 abbrev pub has_port : {A : Type 0} → List (PortPlan A) → ℕ → Bool
 has_port ports n = list_any (λ p. nat_eq p.number n) ports
 
--- the port of a number, the first where there are several
+-- First port of the list with number `n`; None if no port has it.
 abbrev pub port_at : {A : Type 0} → List (PortPlan A) → ℕ → Option (PortPlan A)
 port_at [] n = None
 port_at (p ∷ ps) n = if nat_eq p.number n then Some p else port_at ps n
 
--- a gate control list opens classes 0 to 7, and is lawful
+-- The gate control list is valid, and each state is one octet: bit c opens class c, from 0 to 7.
 pub record IsPortList (l : Cyclic ℕ) : Type 0 where
   pub lawful : IsLawful l
   pub classes : All (λ e. e.0 < 256) l.entries
 
--- what holds of each gate control list of a port: of the one, or of the old and of the new one
+-- Statement `P` holds for the port's one gate control list, or for both the old and the new list.
 abbrev pub ForEachList : {A : Type 0} → (Cyclic ℕ → Type 0) → Egress A → Type 0
 ForEachList P (egress.Cyclic l) = P l
 ForEachList P (egress.Joined j) = P j.old × P j.new
 
--- the ranges of a port
+-- The port's number, VLAN, priority, eight classes, eight queue capacities and gate control lists are within the ranges below.
 pub record IsPort {A : Type 0} (p : PortPlan A) : Type 0 where
   pub number_from : 1 ≤ p.number
   pub number_to : p.number ≤ 16
@@ -63,26 +63,26 @@ pub record IsPort {A : Type 0} (p : PortPlan A) : Type 0 where
   pub eight_rooms : length p.rooms ≡ 8
   pub list : ForSome p.list (ForEachList IsPortList)
 
--- ports whose numbers differ
+-- Each port is within its ranges, and no two ports have the same number.
 pub record ArePorts {A : Type 0} (ports : List (PortPlan A)) : Type 0 where
   pub each : All IsPort ports
   pub own : are_own (λ p q. nat_eq p.number q.number) ports ≡ true
 
--- the set of the numbers of all ports
+-- Set of the numbers of all ports, in which bit n - 1 stands for port n.
 abbrev pub port_set : {A : Type 0} → List (PortPlan A) → ℕ
 port_set ports = set_with 1 0 (map (λ p. p.number) ports)
 
--- whether a VLAN has the number
+-- True if a VLAN of the list has identifier `n`.
 abbrev pub has_vlan : List Vlan → ℕ → Bool
 has_vlan vlans n = list_any (λ v. nat_eq v.vid n) vlans
 
--- a VLAN of ports that are there, by the set of all ports
+-- The VLAN identifier is 1 to 4094, and every member port is in the set `all` of the plan's ports.
 pub record IsVlan (all : ℕ) (v : Vlan) : Type 0 where
   pub vid_from : 1 ≤ v.vid
   pub vid_to : v.vid ≤ 4094
   pub members : is_subset v.members all ≡ true
 
--- VLANs whose numbers differ
+-- Each VLAN is valid for the port set `all`, and no two VLANs have the same identifier.
 pub record AreVlans (all : ℕ) (vlans : List Vlan) : Type 0 where
   pub each : All (IsVlan all) vlans
   pub own : are_own (λ v w. nat_eq v.vid w.vid) vlans ≡ true
@@ -91,18 +91,18 @@ pub record AreVlans (all : ℕ) (vlans : List Vlan) : Type 0 where
 abbrev pub has_static : List StaticEntry → ℕ → List ℕ → Bool
 has_static statics vid address = list_any (λ s. nat_eq s.vid vid && bytes_eq s.address address) statics
 
--- a static entry of a VLAN and of ports that are there
+-- The static entry has a VLAN of the plan, an address of six octets, and only ports in the set `all`.
 pub record IsStatic (all : ℕ) (vlans : List Vlan) (s : StaticEntry) : Type 0 where
   pub vlan : has_vlan vlans s.vid ≡ true
   pub address : length s.address ≡ 6
   pub ports : is_subset s.ports all ≡ true
 
--- static entries no two of which have the same VLAN and address
+-- Each static entry is valid, and no two entries have the same VLAN and address.
 pub record AreStatics (all : ℕ) (vlans : List Vlan) (statics : List StaticEntry) : Type 0 where
   pub each : All (IsStatic all vlans) statics
   pub own : are_own (λ s t. nat_eq s.vid t.vid && bytes_eq s.address t.address) statics ≡ true
 
--- a stream identification on a port of the plan
+-- The stream entry has a port of the plan, a VLAN identifier from 1 to 4094, and an address of six octets.
 pub record IsStream {A : Type 0} (ports : List (PortPlan A)) (s : StreamEntry) : Type 0 where
   pub port_from : 1 ≤ s.port
   pub port_to : s.port ≤ 16
@@ -116,23 +116,23 @@ pub record IsGateList (l : Cyclic GateEntry) : Type 0 where
   pub lawful : IsLawful l
   pub priorities : All (λ e. schedules.is_priority e.0.ipv ≡ true) l.entries
 
--- gates whose numbers differ, with lawful lists
+-- Stream gate numbers differ, each schedule is valid, and each internal priority value is None or at most 7.
 pub record AreGates {A : Type 0} (gates : List (ℕ × GatePlan A)) : Type 0 where
   pub own : IsTrue (are_distinct gates)
   pub priorities : IsTrue (all_have_priorities gates)
   pub lawful : All (λ g. schedules.IsLawful g.1.schedule) gates
 
--- meters whose numbers differ, within the limits of a meter
+-- Meter numbers differ, and each meter has rates up to 100 Gbit/s and burst sizes below 2^32 octets.
 pub record AreMeters (meters : List (ℕ × MeterPlan)) : Type 0 where
   pub own : IsTrue (are_distinct meters)
   pub limits : IsTrue (all_within_limits meters)
 
--- the ranges of a filter
+-- The filter's priority is at most 7 and its maximum SDU at most 65,535 octets; None is always valid.
 pub record IsFilter (f : ℕ × FilterPlan) : Type 0 where
   pub priority : ForSome f.1.priority (λ n. n ≤ 7)
   pub max_sdu : ForSome f.1.max_sdu (λ n. n ≤ 65535)
 
--- filters whose numbers differ, and whose gates and meters are there
+-- Filter numbers differ, each filter is valid, and the plan has every gate and meter that a filter names.
 pub record AreFilters {A : Type 0} (gates : List (ℕ × GatePlan A)) (meters : List (ℕ × MeterPlan)) (filters : List (ℕ × FilterPlan)) : Type 0 where
   pub each : All IsFilter filters
   pub own : IsTrue (are_distinct filters)
@@ -147,7 +147,7 @@ pub record IsPolicing {A : Type 0} (p : Policing A) : Type 0 where
   pub meters : AreMeters p.meters
   pub filters : AreFilters p.gates p.meters p.filters
 
--- the rules of a plan
+-- The plan has 1 to 16 ports, all tables are within their sizes, and each section follows its rules.
 pub record IsPlan {A : Type 0} (p : Plan A) : Type 0 where
   pub some_port : 0 < length p.ports
   pub few_ports : length p.ports ≤ 16

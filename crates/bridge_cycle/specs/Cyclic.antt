@@ -1,4 +1,4 @@
--- Cyclic lists: the turn of a moment.
+-- Cyclic lists: the interval that contains a given time.
 use Rattle.std.specs.Prelude.{◌≡◌, ℕ, Bool, false, ◌<◌, ◌≤◌, ◌+◌, ◌-◌, ◌%◌, Option, Some, None, List, [], ◌∷◌, length, nat_lt, if◌then◌else◌, pos, ◌-ℤ◌}
 use Rattle.std.specs.Prelude.{nat_eq, ◌||◌}
 use Rattle.std.specs.List.{list_any}
@@ -8,43 +8,44 @@ use Rattle.bridge_cycle.specs.declared.cyclic.ListFault.{ListFault}
 use Rattle.bridge_cycle.specs.declared.cyclic.ListFault.TheVariants.{Empty, ZeroInterval, OverCycle, CycleOutOfRange, TooManyEntries, NoMemory}
 use Rattle.bridge_cycle.specs.declared.timeline.Turn.{Turn}
 
--- a list that repeats: a moment at which a cycle begins, the length of a cycle, and the states with their intervals
+-- List that repeats: its base time and cycle time in ns, and its entries, each a state with an interval in ns.
 pub record Cyclic (S : Type 0) : Type 0 where
   pub base : ℕ
   pub cycle : ℕ
   pub entries : List (S × ℕ)
 
--- how far a moment is into its cycle, also before the base
+-- Offset of time `t` in its cycle, in ns; cycles also extend before the base time.
 abbrev pub phase : ℕ → ℕ → ℕ → ℕ
 phase base cycle t = (t + (cycle - base % cycle)) % cycle
 
--- an entry's state, and the phases at which it begins and ends
+-- Entry in a cycle: its state, and the offsets in ns at which its interval starts and ends.
 pub record Place (S : Type 0) : Type 0 where
   pub state : S
   pub start : ℕ
   pub end : ℕ
 
--- the entry whose interval has the phase p, where the intervals lie end to end from `start` on and the last one lasts to the end of the cycle
+-- Entry in force at offset `p` of the cycle, with intervals end to end from `start`; the last entry extends to the cycle's end.
+-- An empty list gives None.
 abbrev pub place : {S : Type 0} → List (S × ℕ) → ℕ → ℕ → ℕ → Option (Place S)
 place [] start cycle p = None
 place (e ∷ []) start cycle p = Some (record { state = e.0; start = start; end = cycle })
 place (e ∷ f ∷ es) start cycle p = if nat_lt p (start + e.1) then Some (record { state = e.0; start = start; end = start + e.1 }) else place (f ∷ es) (start + e.1) cycle p
 
--- the turn of a place that has the moment t, which is p into its cycle
+-- Interval of an entry around time `t`, which has offset `p`, with start and end in ns; the start may be negative.
 abbrev pub turn_of : {S : Type 0} → ℕ → ℕ → Option (Place S) → Option (Turn S)
 turn_of t p None = None
 turn_of t p (Some x) = Some (record { state = x.state; start = pos t -ℤ pos (p - x.start); end = t + (x.end - p) })
 
--- the turn that has the moment t
+-- Interval of the list that contains time `t`, with its state, start and end in ns; None if the list is empty.
 abbrev pub turn_at : {S : Type 0} → Cyclic S → ℕ → Option (Turn S)
 turn_at l t = let p = phase l.base l.cycle t in turn_of t p (place l.entries 0 l.cycle p)
 
--- the sum of the intervals
+-- Sum of the intervals of all entries, in ns; 0 for an empty list.
 abbrev pub total : {S : Type 0} → List (S × ℕ) → ℕ
 total [] = 0
 total (e ∷ es) = e.1 + total es
 
--- whether an interval is 0
+-- True if at least one entry of the list has an interval of 0 ns.
 abbrev pub has_zero : {S : Type 0} → List (S × ℕ) → Bool
 has_zero es = list_any (λ e. nat_eq e.1 0) es
 
@@ -67,7 +68,7 @@ number_of CycleOutOfRange = 4
 number_of TooManyEntries = 5
 number_of NoMemory = 6
 
--- what holds of every list that was made
+-- The list has 1 to 256 entries, positive intervals that fit in the cycle, a cycle time up to 1 s, and a valid base.
 pub record IsLawful {S : Type 0} (l : Cyclic S) : Type 0 where
   pub some : 0 < length l.entries
   pub few : length l.entries ≤ MOST_ENTRIES

@@ -1,12 +1,12 @@
--- The first moment at which a time fits.
+-- Whether a transmission fits at some time.
 use Rattle.std.specs.Prelude.{ℕ, zero, suc, Bool, true, false, ◌+◌, ◌&&◌, ◌||◌}
 
--- open at t and at the moments after it, n in all
+-- True if `opens` is true at each of the `n` ns from time `t` on; for `n` = 0 always true.
 unfoldable pub all_open : (ℕ → Bool) → ℕ → ℕ → Bool
 all_open opens t zero = true
 all_open opens t (suc n) = opens (t + n) && all_open opens t n
 
--- some moment t below `cycle` is such that every u with t ≤ u < t + occ is open
+-- True if `opens` is true for `occ` ns in a row from at least one start time below the given time in ns.
 unfoldable pub some_fits : (ℕ → Bool) → ℕ → ℕ → Bool
 some_fits opens zero occ = false
 some_fits opens (suc t) occ = all_open opens t occ || some_fits opens t occ

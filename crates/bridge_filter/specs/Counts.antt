@@ -1,4 +1,4 @@
--- What is counted and shown of a filter, by its verdicts.
+-- Counters, flags and bucket levels of a filter, from its verdicts.
 use Rattle.std.specs.Prelude.{ℕ, Bool, true, false, ◌+◌, ◌&&◌, nat_eq, Option, Some, None, List, [], ◌∷◌, ◌++◌, length, count_by, if◌then◌else◌}
 use Rattle.bridge_meter.specs.declared.Buckets.{Buckets}
 use Rattle.bridge_meter.specs.Colours as meter
@@ -10,14 +10,14 @@ use Rattle.bridge_filter.specs.declared.Counters.{Counters}
 use Rattle.bridge_filter.specs.declared.Flags.{Flags}
 use Rattle.bridge_filter.specs.Verdicts.{Event, Came, Cleared, Plans, Step, Unfiltered, Judged, Commanded, gate_share, meter_share, is_blocked, is_oversize, reached_gate, passed_gate}
 
--- the verdicts of a filter, in the order of its frames
+-- Verdicts of filter `n`, oldest first, from steps that are newest first.
 abbrev pub verdicts_of : ℕ → List Step → List Verdict
 verdicts_of n [] = []
 verdicts_of n (Unfiltered c ∷ ss) = verdicts_of n ss
 verdicts_of n (Judged c m f v ∷ ss) = verdicts_of n ss ++ (if nat_eq m n then v ∷ [] else [])
 verdicts_of n (Commanded c m ∷ ss) = verdicts_of n ss
 
--- whether the gate refused the frame
+-- True if the stream gate refused the frame: it was closed, shut by a flag, or over its octet limit.
 abbrev pub refused_by_gate : Verdict → Bool
 refused_by_gate verdict.GateClosed = true
 refused_by_gate verdict.ShutByRx = true
@@ -25,13 +25,13 @@ refused_by_gate verdict.ShutByOctets = true
 refused_by_gate verdict.OctetsExceeded = true
 refused_by_gate v = false
 
--- whether the frame was dropped by its colour
+-- True if the meter refused the frame: it was red, or yellow at a meter that refuses yellow frames.
 abbrev pub dropped_by_meter : Verdict → Bool
 dropped_by_meter verdict.Red = true
 dropped_by_meter verdict.YellowDropped = true
 dropped_by_meter v = false
 
--- a filter's counters by its verdicts: a blocked frame matches, and passes no test
+-- Counters of a filter from its verdicts; a blocked frame raises only `matching`.
 abbrev pub counters_of : List Verdict → Counters
 counters_of vs = record {
   matching = length vs;
@@ -42,12 +42,12 @@ counters_of vs = record {
   red = count_by dropped_by_meter vs;
 }
 
--- whether a filter's meter, where it has one, keeps all further frames red
+-- True if the filter's meter marks all further frames red after these steps; false without a meter.
 abbrev pub red_by : Plans → Option ℕ → List Step → Bool
 red_by p None ss = false
 red_by p (Some m) ss = (meter.past (p.meters m) (meter_share m ss)).all_red
 
--- the flags of a filter, its gate and its meter
+-- Flags after these steps, as far as enabled: filter `n` blocked, its gate shut by receive or by octets, its meter all red.
 abbrev pub flags_of : Plans → ℕ → FilterPlan → List Step → Flags
 flags_of p n f ss = record {
   blocked = f.block_oversize && is_blocked n ss;
@@ -56,7 +56,7 @@ flags_of p n f ss = record {
   red = red_by p f.meter ss;
 }
 
--- what the buckets of a filter's meter hold, where it has one
+-- Bucket levels of the filter's meter after these steps; None if the filter has no meter.
 abbrev pub buckets_by : Plans → Option ℕ → List Step → Option Buckets
 buckets_by p None ss = None
 buckets_by p (Some m) ss = Some (meter.buckets_after (p.meters m) (meter.past (p.meters m) (meter_share m ss)))

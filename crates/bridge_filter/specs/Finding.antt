@@ -1,4 +1,4 @@
--- How a frame's filter is found: by the row of its stream handle, which has for each priority the least number of the filters that take such frames.
+-- How a frame's filter is found: each stream handle has a row with the least filter number for each priority.
 use Rattle.std.specs.Prelude.{◌≡◌, ℕ, ◌<◌, Bool, false, ◌&&◌, nat_eq, nat_lt, min, Option, Some, None, is_none, IfSome, List, [], ◌∷◌, if◌then◌else◌, slice_index_or, slice_get}
 use Rattle.std.specs.Option.{option_map, unwrap_or}
 use Rattle.std.specs.Map.{lookup, keys_of}
@@ -7,7 +7,7 @@ use Rattle.bridge_filter.specs.declared.find.Route.{Route}
 use Rattle.bridge_filter.specs.Verdicts.{takes_handle, takes_priority, flow, call}
 use Rattle.bridge_filter.specs.Standing.{PoliceState}
 
--- the lesser of two numbers, where either may be none
+-- Smaller of two filter numbers; if one is None, the other one.
 abbrev pub lesser_number : Option ℕ → Option ℕ → Option ℕ
 lesser_number None n = n
 lesser_number (Some m) None = Some m

@@ -1,4 +1,4 @@
--- What of a list of events is a filter's own.
+-- Own events of a filter: its frames, and the commands for it, its gate and its meter.
 use Rattle.std.specs.Prelude.{◌≡◌, ℕ, Bool, false, nat_eq, Option, Some, None, List, [], ◌∷◌, if◌then◌else◌}
 use Rattle.bridge_limits.specs.Members.{In}
 use Rattle.bridge_filter.specs.declared.Clear.{Clear}
@@ -6,12 +6,12 @@ use Rattle.bridge_filter.specs.declared.Clear.TheVariants as clear
 use Rattle.bridge_filter.specs.declared.FilterPlan.{FilterPlan}
 use Rattle.bridge_filter.specs.Verdicts.{Plans, Event, Came, Cleared, Step, Unfiltered, Judged, Commanded, flow, is_meter}
 
--- whether a flow is the filter with that number
+-- True if the matching filter has number `s`; false for an unfiltered frame (None).
 abbrev pub is_number : ℕ → Option (ℕ × FilterPlan) → Bool
 is_number s None = false
 is_number s (Some x) = nat_eq x.0 s
 
--- whether a command clears a flag of a filter, of its gate or of its meter
+-- True if the command clears a flag of filter `s`, of its gate, or of its meter.
 abbrev pub is_named : ℕ → FilterPlan → Clear → ℕ → Bool
 is_named s f clear.Blocked n = nat_eq n s
 is_named s f clear.Rx n = nat_eq n f.gate

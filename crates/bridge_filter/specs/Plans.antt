@@ -1,4 +1,4 @@
--- Lists of filters, gates and meters by number, and when they go together.
+-- Lists of filters, gates and meters by number, and whether they fit together.
 use Rattle.std.specs.Prelude.{◌≡◌, ℕ, Bool, true, false, ◌&&◌, not, nat_eq, Option, Some, None, List, [], ◌∷◌}
 use Rattle.std.specs.List.{list_all}
 use Rattle.std.specs.Option.{is_some}
@@ -11,7 +11,7 @@ use Rattle.bridge_gate.specs.Schedules.{rules_of, has_priorities}
 use Rattle.bridge_filter.specs.declared.FilterPlan.{FilterPlan}
 use Rattle.bridge_filter.specs.Verdicts.{Plans}
 
--- whether a number is in a list
+-- True if an entry of the list has number `n`.
 abbrev pub is_there : {X : Type 0} → ℕ → List (ℕ × X) → Bool
 is_there n xs = is_some (lookup (nat_eq n) xs)
 
@@ -19,51 +19,51 @@ is_there n xs = is_some (lookup (nat_eq n) xs)
 abbrev pub KeepsNumbers : {X Y : Type 0} → List (ℕ × X) → List (ℕ × Y) → Type 0
 KeepsNumbers xs ys = (n : ℕ) → is_there n xs ≡ true → is_there n ys ≡ true
 
--- whether the numbers of a list differ from one another
+-- True if no two entries of the list have the same number.
 abbrev pub are_distinct : {X : Type 0} → List (ℕ × X) → Bool
 are_distinct [] = true
 are_distinct (x ∷ xs) = not (is_there x.0 xs) && are_distinct xs
 
--- whether a number that may be none is in a list
+-- True if the number is None or an entry of the list has it.
 abbrev pub is_there_if_any : {X : Type 0} → Option ℕ → List (ℕ × X) → Bool
 is_there_if_any None xs = true
 is_there_if_any (Some n) xs = is_there n xs
 
--- whether the gate and the meter that a filter names are there
+-- True if the filter's gate is in the list of gates, and its meter, if any, in the list of meters.
 abbrev pub has_instances : {A : Type 0} → List (ℕ × GatePlan A) → List (ℕ × MeterPlan) → FilterPlan → Bool
 has_instances gates meters f = is_there f.gate gates && is_there_if_any f.meter meters
 
--- whether all gates and meters that filters name are there
+-- True if every gate and every meter that a filter names is in its list.
 abbrev pub have_instances : {A : Type 0} → List (ℕ × FilterPlan) → List (ℕ × GatePlan A) → List (ℕ × MeterPlan) → Bool
 have_instances filters gates meters = list_all (λ f. has_instances gates meters f.1) filters
 
--- whether each internal priority value of each gate is a priority
+-- True if every internal priority value of every stream gate is None or at most 7.
 abbrev pub all_have_priorities : {A : Type 0} → List (ℕ × GatePlan A) → Bool
 all_have_priorities gates = list_all (λ g. has_priorities g.1.schedule) gates
 
--- whether each meter is within the limits of a meter
+-- True if every meter has rates up to 100 Gbit/s and burst sizes below 2^32 octets.
 abbrev pub all_within_limits : List (ℕ × MeterPlan) → Bool
 all_within_limits meters = list_all (λ m. is_within_limits m.1) meters
 
--- a gate that isn't there is closed for good
+-- Rules for a stream gate that the plan lacks: the gate is always closed, and no flag shuts it.
 abbrev pub closed_gate : GateRules
 closed_gate = record { turn_at = λ t. None; shut_on_rx = false; shut_on_octets = false }
 
--- a meter that isn't there holds nothing
+-- Meter for a number that the plan lacks: both rates and both burst sizes are 0.
 abbrev pub empty_meter : MeterPlan
 empty_meter = record { cir = 0; cbs = 0; eir = 0; ebs = 0; coupling = false; aware = false; drop_yellow = false; mark_all_red = false }
 
--- the rules of a gate, of a closed one where there is none
+-- Rules of the stream gate; None gives a gate that is always closed.
 abbrev pub gate_or_closed : {A : Type 0} → Option (GatePlan A) → GateRules
 gate_or_closed None = closed_gate
 gate_or_closed (Some g) = rules_of g
 
--- a meter, one without tokens where there is none
+-- Plan of the meter; None gives a meter with rates and burst sizes of 0.
 abbrev pub meter_or_empty : Option MeterPlan → MeterPlan
 meter_or_empty None = empty_meter
 meter_or_empty (Some m) = m
 
--- the plans that these lists give
+-- Filters, and for each number its gate rules and meter plan; a missing number gives a closed gate or an empty meter.
 abbrev pub plans_of : {A : Type 0} → List (ℕ × FilterPlan) → List (ℕ × GatePlan A) → List (ℕ × MeterPlan) → Plans
 plans_of filters gates meters = record {
   filters = filters;

@@ -15,59 +15,59 @@ use Rattle.bridge_filter.specs.declared.Verdict.{Verdict}
 use Rattle.bridge_filter.specs.declared.Verdict.TheVariants as verdict
 use Rattle.bridge_filter.specs.declared.Ruling.{Ruling}
 
--- A frame that reached the filters: its moment, its stream handle, its priority, its drop eligible indication, the octets of its service data unit and those that a meter counts.
+-- Frame at the stream filters: arrival time in ns, stream handle, priority, drop eligible indication, SDU octets and metered octets.
 abbrev pub call : ℕ → Option ℕ → ℕ → Bool → ℕ → ℕ → Call
 call at handle priority dei sdu octets = record { at = at; handle = handle; priority = priority; dei = dei; sdu = sdu; octets = octets }
 
--- A frame, or a command that clears a flag of the filter, the gate or the meter with a number. Events are listed newest first.
+-- Event at the stream filters: a frame, or a command that clears a flag of a filter, gate or meter. Lists of events are newest first.
 pub data Event : Type 0 where
   Came : Call → Event
   Cleared : Clear → ℕ → Event
 
--- The filters with their numbers, and how the gate and the meter of each number are set.
+-- Configuration of policing: the filters with their numbers, and the gate rules and the meter plan for each number.
 pub record Plans : Type 0 where
   pub filters : List (ℕ × FilterPlan)
   pub gates : ℕ → GateRules
   pub meters : ℕ → MeterPlan
 
--- a filter's stream handle, where a wildcard also takes frames without one
+-- True if the filter's stream handle is the frame's; a wildcard (None) accepts every frame, with or without a handle.
 abbrev pub takes_handle : Option ℕ → Option ℕ → Bool
 takes_handle None h = true
 takes_handle (Some m) None = false
 takes_handle (Some m) (Some n) = nat_eq m n
 
--- a filter's priority, or a wildcard
+-- True if the filter's priority is the frame's; a wildcard (None) accepts every priority.
 abbrev pub takes_priority : Option ℕ → ℕ → Bool
 takes_priority None k = true
 takes_priority (Some m) k = nat_eq m k
 
--- whether a filter matches a frame
+-- True if both the stream handle and the priority of the frame match the filter.
 abbrev pub is_match : FilterPlan → Call → Bool
 is_match f c = takes_handle f.handle c.handle && takes_priority f.priority c.priority
 
--- the one of two filters that has the lesser number, where the second may be none
+-- Filter with the smaller number; `f` if the numbers are equal or the other filter is None.
 abbrev pub lesser : (ℕ × FilterPlan) → Option (ℕ × FilterPlan) → Option (ℕ × FilterPlan)
 lesser f None = Some f
 lesser f (Some g) = if nat_lt g.0 f.0 then Some g else Some f
 
--- a frame's flow: the matching filter with the least number
+-- Filter with the least number among those that match the frame; None if no filter matches.
 abbrev pub flow : List (ℕ × FilterPlan) → Call → Option (ℕ × FilterPlan)
 flow [] c = None
 flow (f ∷ fs) c = if is_match f.1 c then lesser f (flow fs c) else flow fs c
 
--- What came of an event: a frame without a filter, a frame with its filter and its verdict, or a command with the number that it named. Steps are listed newest first.
+-- Result of one event: a frame without a filter, a frame with its filter and verdict, or a command. Lists of steps are newest first.
 pub data Step : Type 0 where
   Unfiltered : Call → Step
   Judged : Call → ℕ → FilterPlan → Verdict → Step
   Commanded : Clear → ℕ → Step
 
--- whether the gate was asked
+-- True if the frame reached its stream gate; false for the verdicts Blocked and Oversize.
 abbrev pub reached_gate : Verdict → Bool
 reached_gate verdict.Blocked = false
 reached_gate verdict.Oversize = false
 reached_gate v = true
 
--- whether the gate let the frame through
+-- True if the frame passed its stream gate: the verdict is Pass, Red or YellowDropped.
 abbrev pub passed_gate : Verdict → Bool
 passed_gate verdict.Red = true
 passed_gate verdict.YellowDropped = true
@@ -79,7 +79,7 @@ abbrev pub HasPriority : Verdict → Type 0
 HasPriority (verdict.Pass (Some ipv) eligible) = ipv ≤ 7
 HasPriority v = Unit {0}
 
--- a gate's share of the steps: the frames of all filters with that gate that reached it, and the commands that clear a flag of it
+-- Events at gate `g`, newest first: the frames of all its filters that reached it, and the commands that clear its flags.
 abbrev pub gate_share : ℕ → List Step → List GateEvent
 gate_share g [] = []
 gate_share g (Unfiltered c ∷ ss) = gate_share g ss
@@ -88,12 +88,12 @@ gate_share g (Commanded clear.Rx n ∷ ss) = if nat_eq n g then ClearedRx ∷ ga
 gate_share g (Commanded clear.Octets n ∷ ss) = if nat_eq n g then ClearedOctets ∷ gate_share g ss else gate_share g ss
 gate_share g (Commanded c n ∷ ss) = gate_share g ss
 
--- whether a filter's meter, where it has one, is that one
+-- True if the filter's meter has number `m`; false if the filter has no meter.
 abbrev pub is_meter : Option ℕ → ℕ → Bool
 is_meter None m = false
 is_meter (Some n) m = nat_eq n m
 
--- a meter's share of the steps: the frames of all filters with that meter that their gates let through, and the commands that clear its flag
+-- Events at meter `m`, newest first: the frames of its filters that passed their gates, and the commands that clear its red flag.
 abbrev pub meter_share : ℕ → List Step → List meter.MeterEvent
 meter_share m [] = []
 meter_share m (Unfiltered c ∷ ss) = meter_share m ss
@@ -101,12 +101,12 @@ meter_share m (Judged c n f v ∷ ss) = if is_meter f.meter m && passed_gate v t
 meter_share m (Commanded clear.Red n ∷ ss) = if nat_eq n m then meter.Cleared ∷ meter_share m ss else meter_share m ss
 meter_share m (Commanded c n ∷ ss) = meter_share m ss
 
--- a frame's service data unit is above the maximum
+-- True if the verdict is Oversize, because the frame's SDU exceeds the filter's maximum.
 abbrev pub is_oversize : Verdict → Bool
 is_oversize verdict.Oversize = true
 is_oversize v = false
 
--- whether the filter of that number gave the verdict Oversize, and no command cleared its flag since
+-- True if filter `n` gave the verdict Oversize and no later command cleared its blocked flag; steps are newest first.
 abbrev pub is_blocked : ℕ → List Step → Bool
 is_blocked n [] = false
 is_blocked n (Unfiltered c ∷ ss) = is_blocked n ss
@@ -114,23 +114,23 @@ is_blocked n (Judged c m f v ∷ ss) = (nat_eq m n && is_oversize v) || is_block
 is_blocked n (Commanded clear.Blocked m ∷ ss) = not (nat_eq m n) && is_blocked n ss
 is_blocked n (Commanded c m ∷ ss) = is_blocked n ss
 
--- whether octets are above a maximum, where there is one
+-- True if an SDU of `n` octets exceeds the filter's maximum; None means no maximum.
 abbrev pub is_above : Option ℕ → ℕ → Bool
 is_above None n = false
 is_above (Some most) n = nat_lt most n
 
--- the verdict by the colour of a meter
+-- Verdict from the colour: green passes, yellow passes as drop eligible or, with `drop_yellow`, is refused, and red is refused.
 abbrev pub by_colour : MeterPlan → Option ℕ → Colour → Verdict
 by_colour m ipv colour.Green = verdict.Pass ipv false
 by_colour m ipv colour.Yellow = if m.drop_yellow then verdict.YellowDropped else verdict.Pass ipv true
 by_colour m ipv colour.Red = verdict.Red
 
--- the verdict of a frame that the gate let through, by the filter's meter, where it has one
+-- Verdict of a frame that passed its gate, from the colour of the filter's meter; without a meter the frame passes.
 abbrev pub by_meter : Plans → List Step → Call → Option ℕ → Option ℕ → Verdict
 by_meter p ss c ipv None = verdict.Pass ipv false
 by_meter p ss c ipv (Some m) = by_colour (p.meters m) ipv (meter.colour_of (p.meters m) (meter.past (p.meters m) (meter_share m ss)) c.at c.octets c.dei)
 
--- the verdict by the answer of the gate
+-- Verdict from the stream gate's answer: a refusal by the gate decides, and any other frame goes to the meter.
 abbrev pub by_answer : Plans → List Step → Call → FilterPlan → GateAnswer → Verdict
 by_answer p ss c f (gate.Through ipv) = by_meter p ss c ipv f.meter
 by_answer p ss c f gate.Closed = verdict.GateClosed
@@ -138,23 +138,23 @@ by_answer p ss c f gate.ShutByRx = verdict.ShutByRx
 by_answer p ss c f gate.ShutByOctets = verdict.ShutByOctets
 by_answer p ss c f gate.OctetsExceeded = verdict.OctetsExceeded
 
--- the gate's answer to a frame after these steps
+-- Answer of stream gate `g` to the frame after these steps, from the events at this gate.
 abbrev pub gate_answer : Plans → List Step → Call → ℕ → GateAnswer
 gate_answer p ss c g = answer (p.gates g) (steps (p.gates g) (gate_share g ss)) c.at c.sdu
 
--- the verdict of a frame of a filter after these steps: the blocked flag, the maximum of the service data unit, the gate and the meter, in this order
+-- Verdict from blocked flag, maximum SDU, stream gate and meter, tested in this order; the first refusal decides, and otherwise the frame passes.
 abbrev pub verdict_of : Plans → List Step → Call → ℕ → FilterPlan → Verdict
 verdict_of p ss c n f =
     if f.block_oversize && is_blocked n ss then verdict.Blocked
     else if is_above f.max_sdu c.sdu then verdict.Oversize
     else by_answer p ss c f (gate_answer p ss c f.gate)
 
--- what comes of a frame after these steps, by its flow
+-- Result of a frame after these steps: Unfiltered if no filter matches, else its filter and verdict.
 abbrev pub judged : Plans → List Step → Call → Option (ℕ × FilterPlan) → Step
 judged p ss c None = Unfiltered c
 judged p ss c (Some f) = Judged c f.0 f.1 (verdict_of p ss c f.0 f.1)
 
--- what came of these events
+-- Results of these events, newest first, each derived from the results of all earlier events.
 abbrev pub told : Plans → List Event → List Step
 told p [] = []
 told p (Came c ∷ es) = judged p (told p es) c (flow p.filters c) ∷ told p es

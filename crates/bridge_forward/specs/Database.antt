@@ -4,17 +4,17 @@ use Rattle.std.specs.Str.{bytes_eq}
 use Rattle.bridge_forward.specs.declared.Vlan.{Vlan}
 use Rattle.bridge_forward.specs.declared.StaticEntry.{StaticEntry}
 
--- the VLANs and the static entries; of two with the same key the first counts
+-- Filtering database of VLANs and static entries; if two entries have the same key, the first one applies.
 pub record Database : Type 0 where
   pub vlans : List Vlan
   pub statics : List StaticEntry
 
--- the member ports of a VLAN, if there is such a VLAN
+-- Member ports of the first VLAN with this identifier, as a set; None if no VLAN has it.
 abbrev pub members_at : List Vlan → ℕ → Option ℕ
 members_at [] vid = None
 members_at (v ∷ vs) vid = if nat_eq v.vid vid then Some v.members else members_at vs vid
 
--- the ports of the static entry of a VLAN and an address, if there is one
+-- Ports of the first static entry with this VLAN and address, as a set; None if no entry matches.
 abbrev pub entry_at : List StaticEntry → ℕ → List ℕ → Option ℕ
 entry_at [] vid address = None
 entry_at (e ∷ es) vid address = if nat_eq e.vid vid && bytes_eq e.address address then Some e.ports else entry_at es vid address

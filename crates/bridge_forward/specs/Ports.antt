@@ -2,11 +2,11 @@
 use Rattle.std.specs.Prelude.{◌≡◌, ◌≤◌, ℕ, Bool, false, ◌-◌, ◌^◌, nat_eq, bit_and}
 use Rattle.std.specs.Int.{bit_at}
 
--- whether a port is in a set
+-- True if port number `port`, from 1, is in the set; bit n - 1 stands for port n.
 abbrev pub has : ℕ → ℕ → Bool
 has set port = nat_eq (bit_at set (port - 1)) 1
 
--- a set with one port taken away
+-- Set of ports, from 1 to 16, from which the given port is removed.
 abbrev pub without : ℕ → ℕ → ℕ
 without set port = bit_and set (65535 - 2 ^ (port - 1))
 

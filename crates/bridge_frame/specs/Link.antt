@@ -3,7 +3,7 @@ use Rattle.std.specs.Prelude.{◌≡◌, ℕ, ◌+◌, ◌-◌, ◌*◌, ◌/◌
 use Rattle.bridge_frame.specs.declared.Speed.{Speed}
 use Rattle.bridge_frame.specs.declared.Speed.TheVariants.{Mbps10, Mbps100, Mbps1000, Mbps2500, Mbps10000}
 
--- the bits that a link carries in a second
+-- Speed of the link in bit/s, one of five values from 10 Mbit/s to 10 Gbit/s.
 abbrev pub bits_per_second : Speed → ℕ
 bits_per_second Mbps10 = 10 * 10 ^ 6
 bits_per_second Mbps100 = 100 * 10 ^ 6
@@ -21,11 +21,12 @@ speed_of mbps =
     else if nat_eq mbps 10000 then Some Mbps10000
     else None
 
--- the octets that a frame takes on the wire: padded to 60, then frame check sequence (4), preamble and delimiter (8), gap (12)
+-- Octets that a frame of `len` octets occupies on the link: the frame, padded to 60, plus 24 octets of overhead.
+-- The overhead is the check sequence (4), preamble and delimiter (8), and the gap between frames (12).
 abbrev pub wire_octets : ℕ → ℕ
 wire_octets len = max len 60 + 24
 
--- the time that these octets take, in nanoseconds, rounded up
+-- Transmission time in ns of a frame of `len` octets at this link speed, with preamble and gap, rounded up.
 unfoldable pub occupied : ℕ → Speed → ℕ
 occupied len speed = (wire_octets len * 8 * 10 ^ 9 + (bits_per_second speed - 1)) / bits_per_second speed
 

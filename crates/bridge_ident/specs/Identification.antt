@@ -10,27 +10,27 @@ use Rattle.bridge_ident.specs.declared.TagKind.{TagKind}
 use Rattle.bridge_ident.specs.declared.TagKind.TheVariants.{Tagged, Priority, All}
 use Rattle.bridge_ident.specs.declared.StreamEntry.{StreamEntry}
 
--- the address of a head that an entry of that kind compares: null the destination, source the source
+-- Address in the frame header that an entry compares: destination for null identification, source for source identification.
 abbrev pub compared_address : Kind → Head → List ℕ
 compared_address Null head = head.da
 compared_address Source head = head.sa
 
--- a frame is VLAN-tagged where it has a tag whose VLAN identifier isn't 0
+-- True if the frame has a tag with a VLAN identifier other than 0; an untagged or priority-tagged frame gives false.
 abbrev pub names_vlan : Option Tag → Bool
 names_vlan None = false
 names_vlan (Some tag) = not (nat_eq tag.vid 0)
 
--- whether an entry of that tag kind takes a frame with this tag or none
+-- True if the tag suits the entry: Tagged needs a VLAN identifier other than 0, Priority the opposite, All accepts every frame.
 abbrev pub takes_tag : TagKind → Option Tag → Bool
 takes_tag Tagged tag = names_vlan tag
 takes_tag Priority tag = not (names_vlan tag)
 takes_tag All tag = true
 
--- an entry matches a frame that came on its port, in its VLAN, with its address and a tag that it takes
+-- True if the frame's ingress port, VLAN, compared address and tag all match the stream entry.
 abbrev pub is_match : StreamEntry → ℕ → Head → ℕ → Bool
 is_match e port head vid = nat_eq e.port port && nat_eq e.vid vid && bytes_eq e.address (compared_address e.kind head) && takes_tag e.tag head.tag
 
--- the stream handle of the first entry that matches
+-- Stream handle of the first table entry that matches the frame; None if no entry matches.
 abbrev pub handle_in : List StreamEntry → ℕ → Head → ℕ → Option ℕ
 handle_in [] port head vid = None
 handle_in (e ∷ es) port head vid = if is_match e port head vid then Some e.handle else handle_in es port head vid

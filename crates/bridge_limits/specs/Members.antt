@@ -2,22 +2,22 @@
 use Rattle.std.specs.Prelude.{◌≡◌, Bool, true, not, ◌&&◌, List, [], ◌∷◌, ◌⊎◌}
 use Rattle.std.specs.List.{list_any}
 
--- x stands in a list
+-- Value `x` equals at least one member of the list; an empty list has no members.
 abbrev pub In : {X : Type 0} → X → List X → Type 0
 In x [] = ⊥
 In x (y ∷ ys) = (x ≡ y) ⊎ In x ys
 
--- x is related to each member
+-- Value `x` has the relation `R` to every member of the list; an empty list always qualifies.
 abbrev pub AllAfter : {X : Type 0} → (X → X → Type 0) → X → List X → Type 0
 AllAfter R x [] = Unit {0}
 AllAfter R x (y ∷ ys) = R x y × AllAfter R x ys
 
--- each member is related to all that follow it
+-- Each member of the list has the relation `R` to every later member.
 abbrev pub Rising : {X : Type 0} → (X → X → Type 0) → List X → Type 0
 Rising R [] = Unit {0}
 Rising R (x ∷ xs) = AllAfter R x xs × Rising R xs
 
--- whether no two of a list are alike
+-- True if the test `same` is false for each member of the list and every later member.
 abbrev pub are_own : {X : Type 0} → (X → X → Bool) → List X → Bool
 are_own same [] = true
 are_own same (x ∷ xs) = not (list_any (λ y. same x y) xs) && are_own same xs

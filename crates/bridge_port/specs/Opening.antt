@@ -1,4 +1,4 @@
--- When the classes of a port are open, and how long.
+-- When the transmission gates of a port are open, and for how long.
 use Rattle.std.specs.Prelude.{◌≡◌, ◌↔◌, ℕ, Bool, true, ◌<◌, ◌≤ℤ◌, ◌&&◌, nat_le, pos, Option, Some, None, List, slice_index_or}
 use Rattle.std.specs.List.{list_all}
 use Rattle.bridge_cycle.specs.Opens.{opens_in}
@@ -14,43 +14,43 @@ use Rattle.bridge_cycle.specs.declared.run.Run.{Run}
 use Rattle.bridge_cycle.specs.declared.run.Run.TheVariants.{Never}
 use Rattle.bridge_port.specs.declared.queues.TheConstants.{LARGEST_ROOM}
 
--- when the gates of a port are open: always, as one list says, or as two say that are exchanged once
+-- Schedule of a port's transmission gates: always open, one gate control list, or two lists with a schedule change.
 pub data Opening : Type 0 where
   Always : Opening
   One : cyclic.Cyclic ℕ → Opening
   Exchanged : joined.Joined ℕ → Opening
 
--- the gates of a port with these lists: always open without one
+-- Schedule of a port from its gate control lists; without a list (None) all transmission gates are always open.
 abbrev pub opening_of : {A : Type 0} → Option (Egress A) → Opening
 opening_of None = Always
 opening_of (Some (Cyclic l)) = One l
 opening_of (Some (Joined j)) = Exchanged j
 
--- whether a list opens a class at a moment
+-- True if gate control list `l` opens class `c` at time `u`, in ns.
 abbrev pub list_opens : cyclic.Cyclic ℕ → ℕ → ℕ → Bool
 list_opens l c u = opens_in (cyclic.turn_at l u) c
 
--- whether a class is open at a moment
+-- True if the transmission gate of class `c` is open at time `u`, in ns.
 abbrev pub opens : Opening → ℕ → ℕ → Bool
 opens Always c u = true
 opens (One l) c u = list_opens l c u
 opens (Exchanged j) c u = opens_in (joined.turn_at j u) c
 
--- whether a list opens a class for this long at some moment
+-- True if list `l` opens class `c` for `n` ns in a row from some start time below its cycle time.
 abbrev pub list_ever : cyclic.Cyclic ℕ → ℕ → ℕ → Bool
 list_ever l c n = some_fits (list_opens l c) l.cycle n
 
--- whether each list opens a class for this long at some moment: of lists that are exchanged the old one and the new one, each by itself
+-- True if each list, old and new by itself, opens class `c` for `n` ns in a row; always true without a list.
 abbrev pub ever : Opening → ℕ → ℕ → Bool
 ever Always c n = true
 ever (One l) c n = list_ever l c n
 ever (Exchanged j) c n = list_ever j.old c n && list_ever j.new c n
 
--- the same of the lists of a port
+-- True if the port's gate control lists open a class at a time in ns; always true without a list.
 abbrev pub opens_of : {A : Type 0} → Option (Egress A) → ℕ → ℕ → Bool
 opens_of list = opens (opening_of list)
 
--- whether a time fits at some moment under the lists of a port
+-- True if each gate control list of the port opens a class for a given time in ns; always true without a list.
 abbrev pub ever_of : {A : Type 0} → Option (Egress A) → ℕ → ℕ → Bool
 ever_of list = ever (opening_of list)
 

@@ -2,28 +2,28 @@
 use Rattle.std.specs.Prelude.{◌≡◌, ℕ, Bool, true, false, ◌<◌, ◌≤◌, ◌+◌, ◌&&◌, ◌||◌, not, max, nat_lt, nat_le, nat_eq, Option, Some, None, List, [], ◌∷◌, ◌++◌, length, if◌then◌else◌, ◌⊎◌}
 use Rattle.bridge_cycle.specs.Moments.{Fits}
 
--- What becomes of a copy.
+-- Fate of a copy: dropped because it never fits or its queue is full, still queued, or started at a time in ns.
 pub data Fate : Type 0 where
   Never : Fate
   Full : Fate
   Queued : Fate
   Started : ℕ → Fate
 
--- A copy that was offered.
+-- Copy of a frame that arrived at an egress port: its arrival time in ns, traffic class, item and fate.
 pub record Copy (X : Type 0) : Type 0 where
   pub at : ℕ
   pub class : ℕ
   pub item : X
   pub fate : Fate
 
--- What a port is made of: which class is open when, which lengths of a class ever fit, the rooms, and how long a copy occupies the link.
+-- Rules of a port: open times of each class, transmission times that ever fit, queue capacities, and each copy's transmission time in ns.
 pub record Rules (X : Type 0) : Type 0 where
   pub opens : ℕ → ℕ → Bool
   pub ever : ℕ → ℕ → Bool
   pub room : ℕ → ℕ
   pub occ : X → ℕ
 
--- whether a copy got a place in its queue
+-- True if the copy entered its queue: it still waits there or has started.
 abbrev pub is_accepted : Fate → Bool
 is_accepted Never = false
 is_accepted Full = false
