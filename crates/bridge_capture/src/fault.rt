@@ -5,7 +5,7 @@ use thiserror::Error;
 #[derive(Clone, Copy, Debug, PartialEq, Eq, Error)]
 pub enum CaptureFault {
     /// The first four octets are none of the four magics.
-    #[error("the magic is not that of a classic capture")]
+    #[error("the magic number isn't one of a classic capture")]
     BadMagic,
     /// The two words of the version are not 2 and 4.
     #[error("the version is not 2.4")]
@@ -20,7 +20,7 @@ pub enum CaptureFault {
     #[error("record {0} is cut")]
     RecordCut(u32),
     /// More octets of the frame are captured than it had.
-    #[error("record {0} has more octets captured than the frame had")]
+    #[error("the captured length of record {0} exceeds its original length")]
     LengthsCross(u32),
     /// More than `MOST_CAPTURED` octets are captured.
     #[error("record {0} is too large")]
@@ -29,7 +29,7 @@ pub enum CaptureFault {
     #[error("record {0} is earlier than the one before")]
     TimeBack(u32),
     /// Its time is at `END_OF_TIME` or after.
-    #[error("record {0} is too late")]
+    #[error("the time of record {0} is too late")]
     TimeTooLate(u32),
     /// Something follows record `MAX_RECORDS`.
     #[error("there are too many records")]

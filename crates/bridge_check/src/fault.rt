@@ -11,32 +11,32 @@ use thiserror::Error;
 #[derive(Clone, Copy, Debug, PartialEq, Eq, Error)]
 pub enum CheckFault {
     /// The filter names no stream handle, so it takes frames of any stream.
-    #[error("a protected filter without a stream handle")]
+    #[error("no stream handle")]
     ProtectedWildcard {
         filter: u32,
     },
     /// It has no largest service data unit.
-    #[error("a protected filter without a largest service data unit")]
+    #[error("no maximum SDU size")]
     NoMaxSdu {
         filter: u32,
     },
     /// Another filter uses its gate.
-    #[error("a gate that another filter uses")]
+    #[error("its gate is shared with another filter")]
     GateShared {
         filter: u32,
     },
     /// Another filter uses its meter.
-    #[error("a meter that another filter uses")]
+    #[error("its meter is shared with another filter")]
     MeterShared {
         filter: u32,
     },
     /// The filter with the greatest number doesn't take every frame, so that some frames may be unpoliced.
-    #[error("no last filter that takes every frame")]
+    #[error("no catch-all filter")]
     NoCatchAll {
         filter: u32,
     },
     /// Frames of another filter may be queued in a queue of its frames; the other is the least such.
-    #[error("a queue that another filter reaches")]
+    #[error("its queue is shared with another filter")]
     QueueShared {
         filter: u32,
         port: u8,
@@ -45,7 +45,7 @@ pub enum CheckFault {
     },
     /// The port opens the class of a queue of its frames beside another class, first from this phase of its list on, in
     /// ns, where lists are exchanged of the old one, else of the new one; 0 without a list.
-    #[error("a window that another class shares")]
+    #[error("its window is shared with another class")]
     WindowShared {
         filter: u32,
         port: u8,
@@ -53,7 +53,7 @@ pub enum CheckFault {
         at: u64,
     },
     /// Its longest frame fits in the class at no moment, under a list of the port.
-    #[error("a longest frame that never fits")]
+    #[error("its longest frame never fits")]
     MaxSduNeverFits {
         filter: u32,
         port: u8,

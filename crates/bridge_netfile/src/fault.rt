@@ -108,7 +108,7 @@ pub struct NetPlace {
 #[derive(Clone, Copy, Debug, Error)]
 pub enum NetFault {
     /// The text is no TOML document in UTF-8.
-    #[error("the text is no TOML document")]
+    #[error("the text isn't a TOML document")]
     Syntax,
     /// The text has more than 1,048,576 octets.
     #[error("the text is too long")]
@@ -117,19 +117,19 @@ pub enum NetFault {
     #[error("an unknown key")]
     UnknownKey(NetSection, u32),
     /// A section that is no array of tables.
-    #[error("a section that is no array of tables")]
+    #[error("a section that isn't an array of tables")]
     NotAList(NetSection),
     /// A required key is absent; at the top, there is no bridge.
     #[error("a required key is absent")]
     Missing(NetPlace),
     /// A value of another kind than the key's.
-    #[error("a value of another kind")]
+    #[error("a value of a wrong kind")]
     WrongKind(NetPlace),
     /// A number, a text or the length of an array that isn't allowed.
     #[error("a value that is not allowed")]
     OutOfRange(NetPlace),
     /// A bridge or a stream whose name an earlier one of its section has.
-    #[error("an instance that stands already")]
+    #[error("a repeated instance")]
     Duplicate(NetSection, u32),
     /// An end or a hop names a bridge that the network doesn't have.
     #[error("a name that the network doesn't have")]

@@ -9,7 +9,7 @@ use thiserror::Error;
 #[derive(Clone, Copy, Debug, PartialEq, Eq, Error)]
 pub enum NetworkFault {
     /// The link names a bridge or a port that isn't there.
-    #[error("a link of a bridge or a port that isn't there")]
+    #[error("a link to an unknown bridge or port")]
     Unresolved {
         link: usize,
     },
@@ -25,20 +25,20 @@ pub enum NetworkFault {
         link: usize,
     },
     /// The hop names a bridge or a filter that isn't there, or a filter that isn't protected.
-    #[error("a hop that is no protected filter")]
+    #[error("a hop that isn't a protected filter")]
     NotProtected {
         stream: usize,
         hop: usize,
     },
     /// The hop stands in an earlier stream, or earlier in its own.
-    #[error("a hop that stands twice")]
+    #[error("a repeated hop")]
     HopTwice {
         stream: usize,
         hop: usize,
     },
     /// At a port of the hop's bridge with a link, the hop takes frames that are of no hop of its stream: those of this
     /// filter of the sender, or of none, that came to the sender on this port.
-    #[error("a hop that takes other frames over a link")]
+    #[error("a hop that accepts stray frames over a link")]
     NotClosed {
         stream: usize,
         hop: usize,
@@ -48,7 +48,7 @@ pub enum NetworkFault {
         from: u8,
     },
     /// To the first hop of the stream no frame of it comes from outside, or to a later one none of a hop of the stream.
-    #[error("a hop to which no frame of its stream comes")]
+    #[error("a hop that no frame of its stream can reach")]
     NotFed {
         stream: usize,
         hop: usize,

@@ -15,7 +15,7 @@ pub struct Item<T> {
 #[derive(Clone, Copy, Debug, PartialEq, Eq, Error)]
 pub enum Refusal {
     /// Under a list of the port the class is open for so long at no moment.
-    #[error("no moment fits the frame")]
+    #[error("the frame fits in no window")]
     NeverFits,
     /// The queue of the class holds as many frames as its room.
     #[error("the queue is full")]

@@ -205,7 +205,7 @@ impl Field {
 #[derive(Clone, Copy, Debug, PartialEq, Eq, Error)]
 pub enum Flaw {
     /// The value is of another kind than the key's.
-    #[error("a value of another kind")]
+    #[error("a value of a wrong kind")]
     WrongKind,
     /// A number, a text or the length of an array that isn't allowed.
     #[error("a value that is not allowed")]
@@ -231,7 +231,7 @@ pub struct Place {
 #[derive(Clone, Copy, Debug, PartialEq, Eq, Error)]
 pub enum PlanFault {
     /// The text is no TOML document in UTF-8.
-    #[error("the text is no TOML document")]
+    #[error("the text isn't a TOML document")]
     Syntax,
     /// The text has more than 1,048,576 bytes.
     #[error("the text is too long")]
@@ -240,19 +240,19 @@ pub enum PlanFault {
     #[error("an unknown key")]
     UnknownKey(Section, u32),
     /// A section that is no array of tables.
-    #[error("a section that is no array of tables")]
+    #[error("a section that isn't an array of tables")]
     NotAList(Section),
     /// A required key is absent.
     #[error("a required key is absent")]
     Missing(Place),
     /// A value of another kind than the key's.
-    #[error("a value of another kind")]
+    #[error("a value of a wrong kind")]
     WrongKind(Place),
     /// A number, a text or the length of an array that isn't allowed.
     #[error("a value that is not allowed")]
     OutOfRange(Place),
     /// What identifies the instance identifies an earlier one of its section too.
-    #[error("an instance that stands already")]
+    #[error("a repeated instance")]
     Duplicate(Section, u32),
     /// A port, VLAN, gate or meter that the plan doesn't have.
     #[error("a number that the plan doesn't have")]

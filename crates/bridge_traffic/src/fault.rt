@@ -12,7 +12,7 @@ use thiserror::Error;
 pub enum TrafficFault {
     /// What is wrong with the text; by the plan also a filter that it doesn't have (`Unresolved`), and a period that is no
     /// multiple of each cycle on the way (`OutOfRange`).
-    #[error("the text is no traffic")]
+    #[error("the text isn't traffic")]
     Text(NetFault),
     /// The filter isn't protected.
     #[error("a filter that isn't protected")]
