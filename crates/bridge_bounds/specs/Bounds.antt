@@ -1,4 +1,4 @@
--- How long frames take that go one after the other through a class of a port.
+-- Delay bounds of a queue, for frames that leave one after the other.
 use Rattle.std.specs.Prelude.{◌∷◌, ◌≡◌, ℕ, zero, suc, Bool, true, false, ◌+◌, ◌-◌, ◌≤◌, ◌⊎◌, min, nat_eq, List, MatchOption, Some}
 use Rattle.std.specs.Map.{lookup}
 use Rattle.bridge_limits.specs.Members.{In}
@@ -21,20 +21,20 @@ use Rattle.bridge_check.specs.Windows.{longest_frame}
 use Rattle.bridge_semantics.specs.Offers.{egress}
 use Rattle.bridge_bounds.specs.Passing.{AreApart, fewer, most_in}
 
--- k frames that wait from the moment u on, each on the link for `occ`, are done at v: each starts at its first fit from the end of the one before it on
+-- From time `u`, `k` frames of transmission time `occ` leave one after the other, each at its first fit; the last ends at `v`.
 abbrev pub EndsBy : (ℕ → Bool) → ℕ → ℕ → ℕ → ℕ → Type 0
 EndsBy opens occ zero u v = v ≡ u
 EndsBy opens occ (suc k) u v = (w s : ℕ) × EndsBy opens occ k u w × IsFirst opens occ w s × (v ≡ s + occ)
 
--- so many frames that wait from any moment on are all done at most d after it
+-- From any time on, `k` waiting frames of transmission time `occ` have all left within `d` ns.
 abbrev pub IsLongest : (ℕ → Bool) → ℕ → ℕ → ℕ → Type 0
 IsLongest opens occ k d = (u : ℕ) → (v : ℕ) × EndsBy opens occ k u v × (v ≤ u + d)
 
--- from some moment on they are done that long after it
+-- From some time on, `k` waiting frames of transmission time `occ` need exactly `d` ns to leave.
 abbrev pub IsAttained : (ℕ → Bool) → ℕ → ℕ → ℕ → Type 0
 IsAttained opens occ k d = (u : ℕ) × EndsBy opens occ k u (u + d)
 
--- it is attained, where no lists are exchanged
+-- Some start time makes the `k` frames need exactly `d` ns, so `d` is least; nothing is claimed over a schedule change.
 abbrev pub IsLeast : Opening → ℕ → ℕ → ℕ → ℕ → Type 0
 IsLeast Always c occ k d = IsAttained (opens Always c) occ k d
 IsLeast (One l) c occ k d = IsAttained (opens (One l) c) occ k d
@@ -60,19 +60,19 @@ pub record IsWorst {X : Type 0} (r : Rules X) (c occ d : ℕ) : Type 0 where
   pub started : copy.fate ≡ Started start
   pub done : start + r.occ copy.item ≡ copy.at + d
 
--- the bound of a class of a port for frames whose service data units have at most m octets, of which at most k wait: so long after they came
--- they are done at the latest
+-- Bound `b` is, in ns, the longest frame's transmission time minus 1 plus the longest time in which `k` longest frames leave.
+-- A longest frame has a service data unit of `m` octets, and at most 9,216 octets in all.
 pub record IsBoundOf {A : Type 0} (out : PortPlan A) (c m k b : ℕ) : Type 0 where
   pub longest : ℕ
   pub is_longest : IsLongest (opens_of out.list c) (occupied (longest_frame m) out.speed) k longest
   pub is_least : IsLeast (opening_of out.list) c (occupied (longest_frame m) out.speed) k longest
   pub bound : b ≡ (occupied (longest_frame m) out.speed - 1) + longest
 
--- the bound by the room of the queue
+-- Bound `b` in ns is the delay bound by capacity of the port's queue of class `c`, for frames with this size limit.
 abbrev pub IsBoundAt : {A : Type 0} → PortPlan A → ℕ → ℕ → ℕ → Type 0
 IsBoundAt out c m b = IsBoundOf out c m ((egress out).room c) b
 
--- the bound of a queue that frames of the protected filter of a number may come to
+-- Bound `b` in ns is the delay bound by capacity of a reachable queue of protected filter `n`, at port `q` and class `c`.
 pub record IsBound {A : Type 0} (p : Plan A) (n q c b : ℕ) : Type 0 where
   pub filter : FilterPlan
   pub max_sdu : ℕ
@@ -84,25 +84,24 @@ pub record IsBound {A : Type 0} (p : Plan A) (n q c b : ℕ) : Type 0 where
   pub reach : reaches p filter q c ≡ true
   pub is : IsBoundAt out c max_sdu b
 
--- no frame of a protected filter of the number comes to the queue
+-- Filter `n` has no delay bound at this queue: the filter is missing, is unprotected, or doesn't reach it.
 abbrev pub HasNoBound : {A : Type 0} → Plan A → ℕ → ℕ → ℕ → Type 0
 HasNoBound p n q c = (f : FilterPlan) → lookup (nat_eq n) p.filters ≡ Some f → f.protected ≡ true → reaches p f q c ≡ false
 
--- the lesser of a bound a and that of k frames, which counts where what passed in one turn of a list is out before anything may pass in the
--- next one
+-- Bound `b` is the lesser of `a` and the bound of `k` frames if open intervals are far enough apart; otherwise it is `a`.
+-- Far enough: each open interval begins after all frames of the one before can have left.
 pub record IsLesser {A : Type 0} (l : cyclic.Cyclic GateEntry) (out : PortPlan A) (c m k a b : ℕ) : Type 0 where
   pub few : ℕ
   pub is : IsBoundOf out c m k few
   pub lesser : (AreApart (cyclic.turn_at l) is.longest × (b ≡ min a few)) ⊎ ((¬ AreApart (cyclic.turn_at l) is.longest) × (b ≡ a))
 
--- a bound a, or a lesser one where a list of a gate lets fewer frames through in one turn than the queue has room for; nothing is gained of
--- a gate in one state, nor of lists that are exchanged
+-- Bound `b` is `a`, or less if the octet limits of a gate with one list allow fewer frames per interval than the capacity.
 abbrev pub IsTightened : {A : Type 0} → Schedule A → PortPlan A → ℕ → ℕ → ℕ → ℕ → Type 0
 IsTightened (Fixed lets ipv) out c m a b = b ≡ a
 IsTightened (Cyclic l) out c m a b = MatchOption (fewer ((egress out).room c) (most_in l.entries)) (b ≡ a) (λ k. IsLesser l out c m k a b)
 IsTightened (Joined j) out c m a b = b ≡ a
 
--- the least bound of a queue that is told: the one by its room, or one by the octets that the filter's gate lets through in one turn
+-- Bound `b` in ns is the one that `bounds` prints for the queue: by capacity, or less by the gate's octet limits.
 pub record IsTightBound {A : Type 0} (p : Plan A) (n q c b : ℕ) : Type 0 where
   pub by_room : ℕ
   pub is_bound : IsBound p n q c by_room

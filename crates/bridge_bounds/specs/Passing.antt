@@ -1,4 +1,4 @@
--- How many frames come to a queue in a stretch of time, and how many a gate lets through.
+-- Frames that arrive at a queue in a span of time, and frames that a stream gate lets through.
 use Rattle.std.specs.Prelude.{◌≡◌, ℕ, true, false, ◌+◌, ◌/◌, ◌<◌, ◌≤◌, ◌&&◌, max, nat_le, nat_lt, Option, None, Some, option_map, List, [], ◌∷◌, length, if◌then◌else◌}
 use Rattle.bridge_cycle.specs.declared.timeline.Turn.{Turn}
 use Rattle.bridge_gate.specs.declared.gate.GateAnswer.TheVariants.{Through}
@@ -39,7 +39,7 @@ abbrev pub IsFew : Option ℕ → ℕ → Type 0
 IsFew None k = ⊥
 IsFew (Some limit) k = limit / 2 ≤ k
 
--- two moments of different turns that let frames through lie at least w apart
+-- Any two times at which different intervals of a list let frames through are at least `w` ns apart.
 abbrev pub AreApart : (ℕ → Option (Turn GateEntry)) → ℕ → Type 0
 AreApart turn_at w =
     (t u : ℕ) (x y : Turn GateEntry) → t < u → turn_at t ≡ Some x → turn_at u ≡ Some y → x.state.lets ≡ true → y.state.lets ≡ true → ¬ (x.start ≡ y.start) → t + w ≤ u
@@ -53,27 +53,27 @@ pub record LetsFew (turn_at : ℕ → Option (Turn GateEntry)) (k w : ℕ) : Typ
 abbrev pub IsShut : (ℕ → Option (Turn GateEntry)) → ℕ → ℕ → Type 0
 IsShut turn_at from until = (u : ℕ) (x : Turn GateEntry) → from ≤ u → u < until → turn_at u ≡ Some x → x.state.lets ≡ false
 
--- how many frames of at least two octets an entry lets through in one turn, where it lets none through or has a limit of octets
+-- The most frames of at least 2 octets that one interval of an entry lets through: 0 if closed, None if unlimited.
 abbrev pub most_frames : GateEntry → Option ℕ
 most_frames e = if e.lets then option_map (λ limit. limit / 2) e.octets else Some 0
 
--- the greater of two numbers, where there are both
+-- The greater of two optional numbers; None if at least one of them is missing.
 abbrev pub greater : Option ℕ → Option ℕ → Option ℕ
 greater None b = None
 greater (Some a) None = None
 greater (Some a) (Some b) = Some (max a b)
 
--- how many frames the entries let through in one turn at most, where each that lets any through has a limit of octets
+-- The greatest number of frames that any entry lets through in one interval; None if an open entry is unlimited.
 abbrev pub most_in : List (GateEntry × ℕ) → Option ℕ
 most_in [] = Some 0
 most_in (e ∷ es) = greater (most_frames e.0) (most_in es)
 
--- so many frames, where they are fewer than a room holds
+-- The number of frames if it is less than the queue capacity `room`; otherwise None.
 abbrev pub fewer : ℕ → Option ℕ → Option ℕ
 fewer room None = None
 fewer room (Some k) = if nat_lt k room then Some k else None
 
--- of each frame that came no more octets were captured than it has
+-- Every received frame among the events has at most as many captured octets as its length.
 abbrev pub AreWithinLengths : List Event → Type 0
 AreWithinLengths [] = Unit {0}
 AreWithinLengths (Arrived a ∷ es) = (length a.octets ≤ a.len) × AreWithinLengths es

@@ -1,4 +1,4 @@
--- Which plans isolate their protected filters.
+-- Plans that isolate their protected filters.
 use Rattle.std.specs.Prelude.{◌≡◌, ◌≤◌, ℕ, true, Some, None}
 use Rattle.bridge_limits.specs.Members.{In}
 use Rattle.bridge_cycle.specs.Moments.{Fits}
@@ -12,7 +12,7 @@ use Rattle.bridge_check.specs.Reach.{reaches}
 use Rattle.bridge_check.specs.Windows.{longest_frame}
 use Rattle.bridge_check.specs.Faults.{fault_of}
 
--- no protected filter fails a test
+-- Each protected filter of the plan passes all eight tests of `check`.
 abbrev pub IsAcceptable : {A : Type 0} → Plan A → Type 0
 IsAcceptable p = (n : ℕ) (f : FilterPlan) → In (n, f) p.filters → f.protected ≡ true → fault_of p n f ≡ None
 

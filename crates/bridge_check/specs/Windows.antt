@@ -1,4 +1,4 @@
--- When a class of a port is open alone, and which frames fit.
+-- Entries of a port that open a class together with another class, and frames that fit its windows.
 use Rattle.std.specs.Prelude.{ℕ, Bool, not, ◌+◌, ◌&&◌, min, List, [], ◌∷◌, Option, Some, None, nat_eq, if◌then◌else◌}
 use Rattle.bridge_limits.specs.declared.TheConstants.{LONGEST_FRAME}
 use Rattle.bridge_frame.specs.Link.{occupied}
@@ -11,29 +11,29 @@ use Rattle.bridge_port.specs.Opening.{ever_of}
 use Rattle.bridge_config.specs.declared.ports.PortPlan.{PortPlan}
 use Rattle.bridge_check.specs.Reach.{any_below}
 
--- whether a state opens a class and another one beside it
+-- True if a gate state, with one bit for each class, opens class `c` together with at least one other class.
 abbrev pub is_shared : ℕ → ℕ → Bool
 is_shared state c = is_open state c && any_below 8 (λ d. not (nat_eq d c) && is_open state d)
 
--- the phase at which the first entry begins that opens the class and another one, where the entries lie end to end
+-- Offset in ns of the first entry that opens class `c` with another, for entries in sequence from `start`, or None.
 abbrev pub shared_from : List (ℕ × ℕ) → ℕ → ℕ → Option ℕ
 shared_from [] start c = None
 shared_from (e ∷ es) start c = if is_shared e.0 c then Some start else shared_from es (start + e.1) c
 
--- the same of a list, from the start of its cycle
+-- Offset in the cycle, in ns, of the list's first entry that opens class `c` with another class, or None.
 abbrev pub shared_in : cyclic.Cyclic ℕ → ℕ → Option ℕ
 shared_in l c = shared_from l.entries 0 c
 
--- the same of a port, of the old list before the new one where they are exchanged; without a list all classes are always open
+-- Offset in ns at which the port's lists, old before new, first open class `c` with another, or None; 0 without a list.
 abbrev pub shared_at : {A : Type 0} → Option (Egress A) → ℕ → Option ℕ
 shared_at None c = Some 0
 shared_at (Some (Cyclic l)) c = shared_in l c
 shared_at (Some (Joined j)) c = option_or (shared_in j.old c) (shared_in j.new c)
 
--- the longest frame with a service data unit of so many octets: with addresses and a tag, and no longer than a frame may be
+-- Octets of the longest frame whose service data unit has `sdu` octets: 16 more, for addresses and a tag, at most 9,216 octets.
 abbrev pub longest_frame : ℕ → ℕ
 longest_frame sdu = min (sdu + 16) LONGEST_FRAME
 
--- whether such a frame fits in the class at some moment, under each list where they are exchanged
+-- True if every list of the port has a window of class `c` for the longest frame with this SDU; true without a list.
 abbrev pub ever_fits : {A : Type 0} → PortPlan A → ℕ → ℕ → Bool
 ever_fits port c sdu = ever_of port.list c (occupied (longest_frame sdu) port.speed)

@@ -1,4 +1,4 @@
--- Which streams of a network are closed, by a test on the plans.
+-- A test on the plans that decides which streams of a network are closed.
 use Rattle.std.specs.Prelude.{ℕ, Bool, true, false, ◌&&◌, nat_eq, List, Option, Some, None, slice_get}
 use Rattle.std.specs.List.{list_any, list_all}
 use Rattle.bridge_filter.specs.declared.FilterPlan.{FilterPlan}
@@ -7,11 +7,11 @@ use Rattle.bridge_config.specs.Model.{Plan}
 use Rattle.bridge_network.specs.Networks.{Network, Sender, sender}
 use Rattle.bridge_network.specs.Feeding.{takes_only}
 
--- whether a stream lists a filter of a bridge
+-- True if the stream lists filter `m` of bridge `b` as a hop.
 abbrev pub is_listed : List (ℕ × ℕ) → ℕ → ℕ → Bool
 is_listed stream b m = list_any (λ (x : ℕ × ℕ). nat_eq x.0 b && nat_eq x.1 m) stream
 
--- whether a plan has a protected filter with a number
+-- True if the plan has a protected filter with number `m`.
 abbrev pub is_protected : {A : Type 0} → Plan A → ℕ → Bool
 is_protected p m = list_any (λ (f : ℕ × FilterPlan). nat_eq f.0 m && f.1.protected) p.filters
 

@@ -1,4 +1,4 @@
--- A stream alone on an idle network.
+-- A stream by itself on an idle network.
 use Rattle.std.specs.Prelude.{◌≡◌, ℕ, true, ◌<◌, Option, Some, None, List, ◌↔◌}
 use Rattle.bridge_limits.specs.Members.{In, Rising}
 use Rattle.bridge_capture.specs.Grammar.{Captured}
@@ -15,7 +15,7 @@ use Rattle.bridge_semantics.specs.Outputs.{departure}
 use Rattle.bridge_semantics.specs.Runs.{AreSolo, IsView}
 use Rattle.bridge_network.specs.Networks.{Network, Sender, sender, later, outside, Hop, hop, IsHop, AreTimed}
 
--- a copy of a queue of a hop left its bridge, and comes over the link to port q of a hop, whose filter takes it
+-- Input `x` on port `q` is an own frame of hop `h` that left a hop of the stream, one link delay earlier.
 pub record Reaches {A : Type 0} (n : Network A) (stream : List (ℕ × ℕ)) (lists : Hop A → ℕ → ℕ → List (Copy Carried))
     (h : Hop A) (q : ℕ) (s : Sender) (x : Input) : Type 0 where
   pub plan : Plan A
@@ -32,22 +32,20 @@ pub record Reaches {A : Type 0} (n : Network A) (stream : List (ℕ × ℕ)) (li
   pub input : x ≡ frame q (later s.delay (departure out.speed start copy.item))
   pub own : is_own h.plan h.number h.filter x.event ≡ true
 
--- a came after b, at a later moment
+-- Input `a` has a strictly later time than input `b`.
 abbrev pub IsLater : Input → Input → Type 0
 IsLater a b = b.at < a.at
 
--- of what comes to port q of a hop's bridge from outside what is of the hop: frames of its filter, and its commands
+-- The own frames and commands of hop `h` that arrive from outside on port `q`, newest first; port 0 stands for commands.
 abbrev pub own_first : {A : Type 0} → Hop A → (ℕ → List Input) → (ℕ → ℕ → List Captured) → ℕ → List Input
 own_first h commands captures q = own_inputs h.plan h.number h.filter (outside commands captures h.bridge q)
 
--- the copies of all queues of a port, by the number of the port
+-- Copy `x` is in the queue of some class at port `q`.
 abbrev pub InQueue : (ℕ → ℕ → List (Copy Carried)) → ℕ → Copy Carried → Type 0
 InQueue lists q x = (c : ℕ) × In x (lists q c)
 
--- a stream alone on an idle network, of whose hops these views tell: each hop has its own inputs (`own`), on open ports
--- those from outside (`first`), on links what the hops of the stream sent to it and nothing else (`next`), one after
--- another (`apart`); each of its queues (`lists`) is alone on an idle bridge (`solo`), and so is what is told of it
--- (`view`)
+-- Each hop of the stream has the record that its own first inputs and the stream's frames over links produce on an idle network.
+-- Fields: inputs `own`, from outside `first`, over links `next`, apart in time `apart`; queues `lists`, each by itself `solo`; records `view`.
 pub record IsAlone {A : Type 0} (n : Network A) (commands : ℕ → List Input) (captures : ℕ → ℕ → List Captured)
     (stream : List (ℕ × ℕ)) (views : Hop A → Option (View A)) : Type 0 where
   pub own : Hop A → List Input
@@ -64,7 +62,7 @@ pub record IsAlone {A : Type 0} (n : Network A) (commands : ℕ → List Input) 
   pub view : (h : Hop A) (v : View A) → IsHop n stream h → views h ≡ Some v
       → IsView h.plan h.number h.filter (events (own h)) (InQueue (lists h)) v
 
--- on each open port, and of the commands, the same comes of the stream from outside
+-- The own frames of each hop on open ports, and its own commands, are equal in both inputs of the network.
 abbrev pub HaveSameFirst : {A : Type 0} → Network A → List (ℕ × ℕ) → (ℕ → List Input) → (ℕ → ℕ → List Captured)
     → (ℕ → List Input) → (ℕ → ℕ → List Captured) → Type 0
 HaveSameFirst {A} n stream commands captures others frames =

@@ -1,4 +1,4 @@
--- What holds of a network that is accepted.
+-- Properties of an accepted network.
 use Rattle.std.specs.Prelude.{Vec}
 use Rattle.bridge_limits.specs.Members.{In}
 use Rattle.bridge_config.specs.Model.{Plan}
@@ -13,7 +13,7 @@ pub record IsAccepted {A : Type 0} (p : Plan A) : Type 0 where
   pub rules : IsPlan p
   pub acceptable : IsAcceptable p
 
--- each stream of a network is closed
+-- Every stream of the network is closed: over links, its hops accept only frames of its hops.
 pub record AreClosed {A : Type 0} (n : Parts A) : Type 0 where
   pub each : (s : Vec StreamHop A) → In s n.streams → IsClosed (network_of n) (stream_of s.items)
 

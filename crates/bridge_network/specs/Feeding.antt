@@ -1,4 +1,4 @@
--- Which frames a hop takes of those that come over a link: a test on the plans at its two ends.
+-- Frames that a hop accepts over a link: a test on the plans at the two ends of the link.
 use Rattle.std.specs.Prelude.{ℕ, Bool, true, false, not, ◌&&◌, ◌||◌, nat_eq, List, [], ◌∷◌, ◌++◌, map}
 use Rattle.std.specs.Prelude.{Option, Some, None, if◌then◌else◌}
 use Rattle.std.specs.List.{list_all}
@@ -19,50 +19,49 @@ use Rattle.bridge_config.specs.Model.{Plan}
 use Rattle.bridge_check.specs.Reach.{any_below, is_null, reaches}
 use Rattle.bridge_check.specs.Sending.{vid_of, priority_of}
 
--- a sort of frames: they have this tag or none, whatever its drop eligible bit, and this destination or source address
+-- Frames with one tag or none, and one destination or source address, whatever their drop eligible indicator.
 pub record Sort : Type 0 where
   pub tag : Option Tag
   pub kind : Kind
   pub address : List ℕ
 
--- the tag with a priority and a VLAN identifier, its drop eligible bit clear
+-- The tag with this priority and VLAN identifier, and with its drop eligible indicator clear.
 abbrev pub tag_of : ℕ → ℕ → Tag
 tag_of pcp vid = record { pcp = pcp; dei = false; vid = vid }
 
--- whether two entries compare the same address
+-- True if both entries compare the destination address, or both compare the source address.
 abbrev pub is_kind : Kind → Kind → Bool
 is_kind Null Null = true
 is_kind Source Source = true
 is_kind _ _ = false
 
--- whether an entry may match frames of a sort that come on a port and are classified in a VLAN; nothing is known of the
--- address that the sort doesn't name
+-- True if the entry may match frames of the sort on this port and in this VLAN; an address that the sort omits may match.
 abbrev pub may_match : StreamEntry → ℕ → ℕ → Sort → Bool
 may_match e port vid s =
     nat_eq e.port port && nat_eq e.vid vid && takes_tag e.tag s.tag
     && (not (is_kind e.kind s.kind) || bytes_eq e.address s.address)
 
--- the handles that frames of a sort may get: those of the entries that may match, up to the first that does for sure
+-- The handles that frames of a sort may get, in order, up to the first entry that surely matches; None is the missing handle.
 abbrev pub handles_of : List StreamEntry → ℕ → ℕ → Sort → List (Option ℕ)
 handles_of [] port vid s = None ∷ []
 handles_of (e ∷ es) port vid s =
     if may_match e port vid s then Some e.handle ∷ (if is_kind e.kind s.kind then [] else handles_of es port vid s)
     else handles_of es port vid s
 
--- the filter of frames with a handle and a priority
+-- The stream filter that matches frames with this optional handle and this priority, or None.
 abbrev pub flow_for : {A : Type 0} → Plan A → Option ℕ → ℕ → Option (ℕ × FilterPlan)
 flow_for p handle priority = flow p.filters (call 0 handle priority false 0 0)
 
--- whether a filter reaches a queue of a port
+-- True if the filter reaches the queue of at least one class at port `q`.
 abbrev pub reaches_any : {A : Type 0} → Plan A → FilterPlan → ℕ → Bool
 reaches_any p f q = any_below 8 (reaches p f q)
 
--- whether frames of this filter are of the stream, or never queued at port q
+-- True if the filter belongs to the stream or reaches no queue of port `q`; false for frames without a filter.
 abbrev pub is_fed : {A : Type 0} → Plan A → (ℕ → Bool) → ℕ → Option (ℕ × FilterPlan) → Bool
 is_fed p is_of_stream q None = false
 is_fed p is_of_stream q (Some m) = is_of_stream m.0 || not (reaches_any p m.1 q)
 
--- whether frames of a sort may go out of port q; where the destination isn't known they may
+-- True if frames of the sort may be forwarded out of port `q`; always true if the sort has a source address.
 abbrev pub may_go : Database → ℕ → ℕ → Sort → ℕ → Bool
 may_go db port vid s q = not (is_null s.kind) || has (forward db port vid s.address) q
 
@@ -77,27 +76,25 @@ sends_from p is_of_stream q s on =
 abbrev pub sends_only : {A : Type 0} → Plan A → (ℕ → Bool) → ℕ → Sort → Bool
 sends_only p is_of_stream q s = list_all (sends_from p is_of_stream q s) p.ports
 
--- the priorities of a tag
+-- The eight priorities of a VLAN tag, 0 to 7, in rising order.
 abbrev pub priorities : List ℕ
 priorities = 0 ∷ 1 ∷ 2 ∷ 3 ∷ 4 ∷ 5 ∷ 6 ∷ 7 ∷ []
 
--- a tag of each priority with a VLAN identifier
+-- One tag for each priority from 0 to 7, all with VLAN identifier `vid`.
 abbrev pub tags_with : ℕ → List (Option Tag)
 tags_with vid = map (λ (k : ℕ). Some (tag_of k vid)) priorities
 
--- the tags of frames that a port may classify in a VLAN: none, one of each priority alone, and one of each with the
--- VLAN
--- no tag, one without a VLAN, and one of the VLAN, each with every priority
+-- The 17 tags that frames of VLAN `vid` can have: untagged, and each priority with VLAN identifier 0 or `vid`.
 abbrev pub tags_of : ℕ → List (Option Tag)
 tags_of vid = None ∷ (tags_with 0 ++ tags_with vid)
 
--- whether an entry of a port gives frames with a tag to a filter
+-- True if the entry accepts frames with this tag, on its port and in its VLAN, and they belong to filter `n`.
 abbrev pub gives_to : {A : Type 0} → Plan A → PortPlan A → ℕ → StreamEntry → Option Tag → Bool
 gives_to p on n e tag =
     nat_eq e.port on.number && nat_eq e.vid (vid_of on tag) && takes_tag e.tag tag
     && is_number n (flow_for p (Some e.handle) (priority_of on tag))
 
--- the sort of frames that have this tag and the address of an entry
+-- The sort of frames with this tag and the address of the entry, destination or source.
 abbrev pub sort_by : StreamEntry → Option Tag → Sort
 sort_by e tag = record { tag = tag; kind = e.kind; address = e.address }
 

@@ -1,4 +1,4 @@
--- How long the frames of a protected filter wait.
+-- Waiting times of the frames of a protected filter.
 use Rattle.std.specs.Prelude.{◌≡◌, ℕ, Bool, true, ◌+◌, ◌*◌, ◌≤◌, List, [], ◌∷◌}
 use Rattle.bridge_limits.specs.Members.{In, Rising}
 use Rattle.bridge_cycle.specs.Moments.{Fits, IsFirst}
@@ -11,7 +11,7 @@ use Rattle.bridge_semantics.specs.Events.{Event}
 use Rattle.bridge_semantics.specs.Merge.{Input}
 use Rattle.bridge_semantics.specs.Offers.{Carried, Offer, offers, in_class}
 
--- how long a frame is on the link of a port, from the first bit to the end of the gap behind it
+-- Transmission time in ns of a copy on the link of the port, with preamble and gap.
 abbrev pub time_on : {A : Type 0} → PortPlan A → Carried → ℕ
 time_on out y = occupied y.len out.speed
 
@@ -43,7 +43,7 @@ StartsWithin opens occ wait t f = (s : ℕ) × (f ≡ Started s) × IsFirst open
 
 -- PERIODS
 
--- a moment at which a period begins that is one of all lists
+-- Time `p` in ns is a multiple of `base`, so a period begins at `p`.
 abbrev pub IsMultiple : ℕ → ℕ → Type 0
 IsMultiple base p = (k : ℕ) × (p ≡ k * base)
 

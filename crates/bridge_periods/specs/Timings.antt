@@ -1,4 +1,4 @@
--- When the frames of traffic are done in a queue, and how long they take.
+-- Times at which the frames of a traffic row have left a queue, and their delays.
 use Rattle.std.specs.Prelude.{◌≡◌, ℕ, Bool, true, ◌+◌, ◌-◌, ◌<◌, ◌≤◌, min, Option, None, Some, MatchOption}
 use Rattle.bridge_cycle.specs.Moments.{IsFirst}
 use Rattle.bridge_frame.specs.Link.{occupied}
@@ -17,17 +17,15 @@ use Rattle.bridge_periods.specs.declared.timing.Phases.{Phases}
 use Rattle.bridge_periods.specs.declared.timing.Timing.{Timing}
 use Rattle.bridge_periods.specs.Waits.{IsLongestWait, IsShortestWait, repeats_with}
 
--- how long the shortest frame that passes is on the link of a port, of a filter that lets service data units of at most m
--- octets pass
+-- Transmission time in ns of the traffic's shortest frame, capped at the longest frame for a size limit of `m` octets.
 abbrev pub short_on : {A : Type 0} → PortPlan A → ℕ → Traffic → ℕ
 short_on out m t = occupied (min t.least (longest_frame m)) out.speed
 
--- and the longest one
+-- Transmission time in ns of the traffic's longest frame, capped at the longest frame for a size limit of `m` octets.
 abbrev pub long_on : {A : Type 0} → PortPlan A → ℕ → Traffic → ℕ
 long_on out m t = occupied (min t.longest (longest_frame m)) out.speed
 
--- the frames are done between two phases: the first is that of a shortest frame which came at the first phase, the last
--- that of a longest which came at the last; so each is done before the next one comes
+-- Phases `done`, in ns: the ends of a shortest frame that arrives first and a longest that arrives last, before the next arrives.
 pub record ArePhases (o : Opening) (c short long : ℕ) (t : Traffic) (done : Phases) : Type 0 where
   pub first : ℕ
   pub last : ℕ
@@ -38,15 +36,13 @@ pub record ArePhases (o : Opening) (c short long : ℕ) (t : Traffic) (done : Ph
   pub to : done.to ≡ last + long
   pub through : last + long ≤ t.from + t.period
 
--- nothing is said of phases: the lists don't repeat with the period, or a longest frame that comes at the last phase isn't
--- done when the next one may come
+-- The queue has no phases: its lists don't repeat with the period, or a longest frame may end after the next arrival.
 abbrev pub HaveNoPhases : Opening → ℕ → ℕ → Traffic → Type 0
 HaveNoPhases o c long t =
     repeats_with t.period o ≡ true → (last : ℕ) → IsFirst (opens o c) long t.to last → t.from + t.period < last + long
 
--- the figures of frames that are done between two phases: at worst the least of the queue's bound, of the time from the
--- first phase until the last one at which they are done, and of the longest wait with a longest frame behind it; at best
--- the shortest wait with a shortest frame behind it
+-- Figures in ns of a queue with phases: worst delay from bound, phases and longest wait, best from shortest wait, jitter from phases.
+-- `worst` is the least of: the bound, the last end minus the first arrival phase, and the longest wait plus a longest frame.
 pub record IsTimed (o : Opening) (c short long bound : ℕ) (t : Traffic) (x : Timing) (done : Phases) : Type 0 where
   pub phases : ArePhases o c short long t done
   pub longest : ℕ
@@ -57,20 +53,20 @@ pub record IsTimed (o : Opening) (c short long bound : ℕ) (t : Traffic) (x : T
   pub best : x.best ≡ shortest + short
   pub jitter : x.jitter ≡ done.to - done.from
 
--- the figures of other frames: at worst the queue's bound, at best a shortest frame that doesn't wait
+-- Figures in ns of a queue without phases: worst delay is the bound, best a shortest frame without wait, jitter their difference.
 pub record IsUntimed (o : Opening) (c short long bound : ℕ) (t : Traffic) (x : Timing) : Type 0 where
   pub phases : HaveNoPhases o c long t
   pub worst : x.worst ≡ bound
   pub best : x.best ≡ short
   pub jitter : x.jitter ≡ bound - short
 
--- the figures of traffic in a class of a port, by the bound of the queue
+-- Figures in ns of the traffic in class `c` of the port, with phases if they exist, otherwise by the delay bound only.
 abbrev pub IsTimingAt : {A : Type 0} → PortPlan A → ℕ → ℕ → ℕ → Traffic → Timing → Type 0
 IsTimingAt out c m bound t x =
     MatchOption x.phases (IsUntimed (opening_of out.list) c (short_on out m t) (long_on out m t) bound t x)
     (IsTimed (opening_of out.list) c (short_on out m t) (long_on out m t) bound t x)
 
--- the figures of traffic of the protected filter of a number in a queue to which its frames may come
+-- Figures in ns of the traffic of protected filter `n` in its reachable queue of class `c` at port `q`.
 pub record IsTiming {A : Type 0} (p : Plan A) (n q c : ℕ) (t : Traffic) (x : Timing) : Type 0 where
   pub bound : ℕ
   pub is_bound : IsBound p n q c bound
@@ -78,12 +74,12 @@ pub record IsTiming {A : Type 0} (p : Plan A) (n q c : ℕ) (t : Traffic) (x : T
 
 -- RUNS
 
--- a copy took a time between the two figures from when it was offered until it was done
+-- The copy's delay, from its offer to the end of its transmission, is at least the best and at most the worst figure.
 pub record TakesBetween {A : Type 0} (out : PortPlan A) (x : Timing) (y : Copy Carried) (start : ℕ) : Type 0 where
   pub best : y.at + x.best ≤ start + time_on out y.item
   pub worst : start + time_on out y.item ≤ y.at + x.worst
 
--- a copy that was offered in a period between the phases of traffic started, and was done between two phases of that period
+-- The copy, offered in a period between the traffic's phases, started and has left between the phases `done` of this period.
 pub record IsDoneBetween {A : Type 0} (out : PortPlan A) (t : Traffic) (done : Phases) (y : Copy Carried) : Type 0 where
   pub start : ℕ
   pub period_start : ℕ

@@ -1,22 +1,21 @@
--- How long a frame waits that comes between two moments.
+-- Waits of a frame that arrives between two times.
 use Rattle.std.specs.Prelude.{◌≡◌, ℕ, Bool, true, false, ◌+◌, ◌≤◌, ◌%◌, nat_eq}
 use Rattle.bridge_cycle.specs.Moments.{IsFirst}
 use Rattle.bridge_port.specs.Opening.{Always, Exchanged, One, Opening, opens}
 use Rattle.bridge_periods.specs.declared.traffic.Traffic.{Traffic}
 use Rattle.bridge_periods.specs.declared.wait.Waits.{Waits}
 
--- the longest wait for a fit from a moment between two
+-- The longest wait in ns until the first fit, over all times from `from` to `to`, is `wait`, and some time attains it.
 pub record IsLongestWait (opens : ℕ → Bool) (occ from to wait : ℕ) : Type 0 where
   pub longest : (u s : ℕ) → from ≤ u → u ≤ to → IsFirst opens occ u s → s ≤ u + wait
   pub attained : (u : ℕ) × (from ≤ u) × (u ≤ to) × IsFirst opens occ u (u + wait)
 
--- the shortest one
+-- The shortest wait in ns until the first fit, over all times from `from` to `to`, is `wait`, and some time attains it.
 pub record IsShortestWait (opens : ℕ → Bool) (occ from to wait : ℕ) : Type 0 where
   pub shortest : (u s : ℕ) → from ≤ u → u ≤ to → IsFirst opens occ u s → u + wait ≤ s
   pub attained : (u : ℕ) × (from ≤ u) × (u ≤ to) × IsFirst opens occ u (u + wait)
 
--- whether the lists of a port open at a period's phases what they open in every other period: they aren't exchanged, and
--- the period is a multiple of their cycle
+-- True if the port has no list, or one list whose cycle time divides the period; false at a schedule change.
 abbrev pub repeats_with : ℕ → Opening → Bool
 repeats_with period Always = true
 repeats_with period (One l) = nat_eq (period % l.cycle) 0

@@ -1,4 +1,4 @@
--- Whole runs of networks by rounds.
+-- Complete runs of networks by rounds.
 use Rattle.std.specs.Prelude.{◌≡◌, ◌<◌, ℕ, zero, suc, Some, None, List, [], ◌∷◌, length, map, slice_get, Vec, nat_eq}
 use Rattle.std.specs.Map.{lookup}
 use Rattle.bridge_limits.specs.Members.{In}
@@ -32,18 +32,17 @@ pub record AreBegun {A : Type 0} (n : Parts A) (came : List (Incoming A)) (xs : 
   pub many : length xs ≡ length n.plans
   pub each : (b : ℕ) (p : Plan A) (c : Incoming A) (x : StationState A) → slice_get n.plans b ≡ Some p → slice_get came b ≡ Some c → slice_get xs b ≡ Some x → IsBegun p n.links b c x
 
--- the commands of a bridge as inputs
+-- The commands of bridge `b` as inputs, newest first; the empty list if the bridge is missing.
 abbrev pub commands_in : {A : Type 0} → List (Incoming A) → ℕ → List Input
 commands_in [] b = []
 commands_in (c ∷ came) zero = commands_of c.commands.items
 commands_in (c ∷ came) (suc b) = commands_in came b
 
--- these are the outcomes that were told, by the place of the bridge
+-- Function `o` gives the final result of each bridge, by the bridge's index in the network.
 abbrev pub AreOutcomes : {A : Type 0} → List (Settled A) → (ℕ → Outcome A) → Type 0
 AreOutcomes {A} settled o = (b : ℕ) (s : Settled A) → slice_get settled b ≡ Some s → o b ≡ s.outcome
 
--- a whole run of a network: the capture of each open port is one to its end, what was told is what a run of the network over their frames and the
--- commands tells, and the capture of each port is that of what left it
+-- A complete run of the network yields the results: every open port's capture is read to its end, every port's output is written.
 pub record RunsNetwork {A : Type 0} (n : Parts A) (came : List (Incoming A)) (settled : List (Settled A)) : Type 0 where
   pub many : length settled ≡ length n.plans
   pub frames : ℕ → ℕ → List Captured
@@ -54,13 +53,13 @@ pub record RunsNetwork {A : Type 0} (n : Parts A) (came : List (Incoming A)) (se
   pub taps : (o : ℕ → Outcome A) (are : AreOutcomes settled o) (b i q : ℕ) (p : Plan A) (ports : List ℕ) (s : Settled A) (tap : MemoryDevice) → slice_get n.plans b ≡ Some p → AreNumbers p ports → slice_get ports i ≡ Some q
       → slice_get settled b ≡ Some s → slice_get s.taps.items i ≡ Some tap → tap.octets ≡ written_text ((run o are).left b q)
 
--- what was told of each stream is what it tells alone on an idle network
+-- The hops of every stream have the records that the stream produces by itself on an idle network.
 abbrev pub IsolatesStreams : {A : Type 0} → Parts A → List (Incoming A) → List (Settled A) → Type 0
 IsolatesStreams {A} n came settled =
     (ran : RunsNetwork n came settled) (o : ℕ → Outcome A) (stream : Vec StreamHop A) → AreOutcomes settled o → In stream n.streams
     → IsAlone (network_of n) (commands_in came) ran.frames (stream_of stream.items) (λ (h : Hop A). lookup (nat_eq h.number) (o h.bridge).filters.items)
 
--- each other run of the network to which the same came of a stream from outside tells the same of each of its hops, whatever else came
+-- Every complete run of the network with equal first frames and commands of a stream has equal records at its hops, whatever else arrives.
 abbrev pub OthersChangeNothing : {A : Type 0} → Parts A → List (Incoming A) → List (Settled A) → Type 0
 OthersChangeNothing {A} n came settled =
     (ran : RunsNetwork n came settled) (o : ℕ → Outcome A) → AreOutcomes settled o

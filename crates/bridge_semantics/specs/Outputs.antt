@@ -1,4 +1,4 @@
--- What leaves a port.
+-- Frames that have left an egress port.
 use Rattle.std.specs.Prelude.{◌≡◌, ℕ, ◌+◌, ◌<◌, ◌≤◌, List, Option, Some, ◌↔◌}
 use Rattle.bridge_limits.specs.Members.{In, Rising}
 use Rattle.bridge_capture.specs.Grammar.{Captured}
@@ -13,11 +13,11 @@ use Rattle.bridge_semantics.specs.Events.{Event}
 use Rattle.bridge_semantics.specs.Offers.{Carried}
 use Rattle.bridge_semantics.specs.Runs.{IsRun, IsOutcome}
 
--- a frame that started to leave at a moment, as the capture of its port has it: when it was done, its length and its octets
+-- The captured frame for a copy that starts at `start`: end of transmission in ns, gap included, length and octets.
 abbrev pub departure : Speed → ℕ → Carried → Captured
 departure speed start item = record { time = start + occupied item.len speed; len = item.len; octets = item.octets }
 
--- a frame that left a port is a copy that started
+-- The captured frame `left` is the departure of a copy in the list that has started, at this link speed.
 pub record Leaves (speed : Speed) (copies : List (Copy Carried)) (left : Captured) : Type 0 where
   pub copy : Copy Carried
   pub start : ℕ
@@ -25,11 +25,11 @@ pub record Leaves (speed : Speed) (copies : List (Copy Carried)) (left : Capture
   pub started : copy.fate ≡ Started start
   pub is : left ≡ departure speed start copy.item
 
--- one frame leaves before another
+-- Frame `a` has left before frame `b`: its end of transmission is earlier.
 abbrev pub LeavesBefore : Captured → Captured → Type 0
 LeavesBefore a b = a.time < b.time
 
--- the frames that left a port on a link of a speed, by rising time
+-- The list holds exactly the departures of all copies that started at the port, by strictly rising end of transmission.
 pub record IsOutput (speed : Speed) (copies : List (Copy Carried)) (left : List Captured) : Type 0 where
   pub rises : Rising LeavesBefore left
   pub members : (d : Captured) → In d left ↔ Leaves speed copies d
@@ -48,7 +48,7 @@ pub record HasRun {A : Type 0} (p : Plan A) (es : List Event) (until : Option �
   pub within : (q t : ℕ) → until ≡ Some t → moments q ≤ t
   pub output : (q : ℕ) (out : PortPlan A) → port_at p.ports q ≡ Some out → IsOutput out.speed (lists q) (left q)
 
--- a whole run of these events, what it tells, and what has left its ports
+-- The events have a complete run with result `o`, and `left` lists the frames that left each port.
 pub record Ends {A : Type 0} (p : Plan A) (es : List Event) (left : ℕ → List Captured) (o : Outcome A) : Type 0 where
   pub lists : ℕ → List (Copy Carried)
   pub outcome : IsOutcome p es lists o

@@ -1,4 +1,4 @@
--- Runs, and what they tell of each filter and each port.
+-- Runs, with the record of each filter and the counts of each port.
 use Rattle.std.specs.Prelude.{◌≡◌, ℕ, Bool, true, false, not, ◌+◌, ◌<◌, ◌≤◌, ◌&&◌, nat_eq, Option, Some, None, is_none, List, [], count_by, ◌⊎◌, ◌↔◌}
 use Rattle.std.specs.Map.{lookup}
 use Rattle.bridge_frame.specs.Link.{occupied}
@@ -22,17 +22,17 @@ use Rattle.bridge_semantics.specs.declared.outcome.Outcome.{Outcome}
 use Rattle.bridge_semantics.specs.Events.{Arrival, Event, arrivals, way_of, flow_of, origins_of, own as own_events, police_of, steps}
 use Rattle.bridge_semantics.specs.Offers.{Carried, egress, offers, offered, in_class}
 
--- by start, then by port
+-- Departure `a` precedes `b` in a record: an earlier start, or an equal start and a lower port number.
 abbrev pub DepartsBefore : Departure → Departure → Type 0
 DepartsBefore a b = (a.start < b.start) ⊎ ((a.start ≡ b.start) × (a.port < b.port))
 
--- by the frame, then by port
+-- Drop `a` precedes `b` in a record: a lower frame number, or an equal frame number and a lower port.
 abbrev pub DroppedBefore : Dropped → Dropped → Type 0
 DroppedBefore a b = (a.own < b.own) ⊎ ((a.own ≡ b.own) × (a.port < b.port))
 
 -- Copies lie at ports: Lies q x says that x is one of those of port q.
 
--- a copy of a filter's frame left
+-- Departure `d` records a copy of a frame of filter `s` that started: frame number, port, start and end in ns.
 pub record Departs {A : Type 0} (p : Plan A) (s : ℕ) (Lies : ℕ → Copy Carried → Type 0) (d : Departure) : Type 0 where
   pub out : PortPlan A
   pub copy : Copy Carried
@@ -43,12 +43,12 @@ pub record Departs {A : Type 0} (p : Plan A) (s : ℕ) (Lies : ℕ → Copy Carr
   pub started : copy.fate ≡ Started d.start
   pub done : d.done ≡ d.start + occupied copy.item.len out.speed
 
--- what becomes of a copy that is refused
+-- The fate of a copy that a queue drops: it never fits a window, or the queue is full.
 abbrev pub fate_by : Refusal → Fate
 fate_by refusal.NeverFits = Never
 fate_by refusal.Full = Full
 
--- a copy of a filter's frame was not queued
+-- Drop `d` records a copy of a frame of filter `s` that a queue dropped: frame number, port and reason.
 pub record Drops {A : Type 0} (p : Plan A) (s : ℕ) (Lies : ℕ → Copy Carried → Type 0) (d : Dropped) : Type 0 where
   pub copy : Copy Carried
   pub lies : Lies d.port copy
@@ -56,7 +56,7 @@ pub record Drops {A : Type 0} (p : Plan A) (s : ℕ) (Lies : ℕ → Copy Carrie
   pub own : copy.item.own ≡ d.own
   pub refused : copy.fate ≡ fate_by d.refusal
 
--- a copy of a filter's frame was done so long after it came
+-- A copy of a frame of filter `s` has left its port, gap included, exactly `n` ns after the frame's arrival.
 pub record Delayed {A : Type 0} (p : Plan A) (s : ℕ) (Lies : ℕ → Copy Carried → Type 0) (n : ℕ) : Type 0 where
   pub port : ℕ
   pub out : PortPlan A
@@ -68,12 +68,12 @@ pub record Delayed {A : Type 0} (p : Plan A) (s : ℕ) (Lies : ℕ → Copy Carr
   pub started : copy.fate ≡ Started start
   pub delay : n + copy.at ≡ start + occupied copy.item.len out.speed
 
--- the greatest number of which something holds, none where it holds of none
+-- The optional number is the greatest one with property `P`; None means that the property never holds.
 abbrev pub IsGreatest : (ℕ → Type 0) → Option ℕ → Type 0
 IsGreatest P None = (n : ℕ) → P n → ⊥
 IsGreatest P (Some m) = P m × ((n : ℕ) → P n → n ≤ m)
 
--- what is told of a filter's copies
+-- The lists record exactly the departures and drops of the filter's copies, in order; `delay` is their longest delay in ns.
 pub record IsTold {A : Type 0} (p : Plan A) (s : ℕ) (Lies : ℕ → Copy Carried → Type 0) (departures : List Departure) (drops : List Dropped) (delay : Option ℕ) : Type 0 where
   pub departures_rise : Rising DepartsBefore departures
   pub departures_are : (d : Departure) → In d departures ↔ Departs p s Lies d
@@ -81,7 +81,7 @@ pub record IsTold {A : Type 0} (p : Plan A) (s : ℕ) (Lies : ℕ → Copy Carri
   pub drops_are : (d : Dropped) → In d drops ↔ Drops p s Lies d
   pub longest : IsGreatest (Delayed p s Lies) delay
 
--- what is told of a filter by events and by where copies lie
+-- The record `v` of filter `s` follows from these events and copies: verdicts, arrivals, counters, flags, buckets, departures, drops and delay.
 pub record IsView {A : Type 0} (p : Plan A) (s : ℕ) (f : FilterPlan) (es : List Event) (Lies : ℕ → Copy Carried → Type 0) (v : View A) : Type 0 where
   pub protected : v.protected ≡ f.protected
   pub verdicts : v.verdicts.items ≡ verdicts_of s (steps p es)
@@ -91,11 +91,11 @@ pub record IsView {A : Type 0} (p : Plan A) (s : ℕ) (f : FilterPlan) (es : Lis
   pub buckets : v.buckets ≡ buckets_by (police_of p) f.meter (steps p es)
   pub told : IsTold p s Lies v.departures.items v.drops.items v.delay
 
--- the copies of the ports, by number
+-- Copy `x` is in the list of the copies of port `q`.
 abbrev pub AtPort : (ℕ → List (Copy Carried)) → ℕ → Copy Carried → Type 0
 AtPort lists q x = In x (lists q)
 
--- the ports have these copies, each up to its own moment
+-- The copies of each port are its offers and follow a lawful schedule up to the port's own time; missing ports have none.
 pub record IsRun {A : Type 0} (p : Plan A) (es : List Event) (moments : ℕ → ℕ) (lists : ℕ → List (Copy Carried)) : Type 0 where
   pub offers : (q : ℕ) (out : PortPlan A) → port_at p.ports q ≡ Some out → offered (lists q) ≡ offers p out es
   pub lawful : (q : ℕ) (out : PortPlan A) → port_at p.ports q ≡ Some out → IsLawful (egress out) (moments q) (lists q)
@@ -108,34 +108,34 @@ pub record IsOnLink {A : Type 0} (out : PortPlan A) (x : Copy Carried) (u : ℕ)
   pub begun : start ≤ u
   pub going_on : u < start + occupied x.item.len out.speed
 
--- no copy is queued
+-- No copy waits in a queue of any port: each copy has started or was dropped.
 abbrev pub AreWhole : (ℕ → List (Copy Carried)) → Type 0
 AreWhole lists = (q : ℕ) → IsWhole (lists q)
 
--- the frames of a port that went a way
+-- True if the frame is malformed: the bridge can't read its head and discards it.
 abbrev pub is_malformed : Way → Bool
 is_malformed way.Malformed = true
 is_malformed w = false
 
--- a frame goes nowhere
+-- True if the way is `Nowhere`: the frame's set of egress ports is empty, or its ingress port is missing.
 abbrev pub is_nowhere : Way → Bool
 is_nowhere way.Nowhere = true
 is_nowhere w = false
 
--- a frame goes somewhere
+-- True if the forwarding database gives the frame at least one egress port, whatever its filter decides.
 abbrev pub is_relayed : Way → Bool
 is_relayed (way.Goes set c) = true
 is_relayed w = false
 
--- a frame goes somewhere, and no filter takes it
+-- True if the frame has an egress port but matches no stream filter.
 abbrev pub is_unfiltered : {A : Type 0} → Plan A → Arrival → Bool
 is_unfiltered p a = is_relayed (way_of p a) && is_none (flow_of p a)
 
--- how many frames of a port pass a test
+-- The number of frames received on port `q` that pass the test.
 abbrev pub count_frames : ℕ → (Arrival → Bool) → List Event → ℕ
 count_frames q test es = count_by (λ a. nat_eq a.port q && test a) (arrivals es)
 
--- a port's counts
+-- The counts of port `q` are exact for frames received, malformed, not forwarded and unfiltered, and for copies accepted (`sent`) and dropped.
 pub record IsCount {A : Type 0} (p : Plan A) (es : List Event) (q : ℕ) (xs : List (Copy Carried)) (c : PortCount) : Type 0 where
   pub frames : c.frames ≡ count_frames q (λ a. true) es
   pub malformed : c.malformed ≡ count_frames q (λ a. is_malformed (way_of p a)) es
@@ -144,7 +144,7 @@ pub record IsCount {A : Type 0} (p : Plan A) (es : List Event) (q : ℕ) (xs : L
   pub sent : c.sent ≡ count_by (λ x. is_accepted x.fate) xs
   pub dropped : c.dropped ≡ count_by (λ x. not (is_accepted x.fate)) xs
 
--- what a whole run of these events, in which the ports have these copies, tells
+-- The events have a complete run with result `o`, which holds the record of each filter and the counts of each port.
 pub record IsOutcome {A : Type 0} (p : Plan A) (es : List Event) (lists : ℕ → List (Copy Carried)) (o : Outcome A) : Type 0 where
   pub moments : ℕ → ℕ
   pub run : IsRun p es moments lists
@@ -156,7 +156,7 @@ pub record IsOutcome {A : Type 0} (p : Plan A) (es : List Event) (lists : ℕ �
   pub ports_are : (q : ℕ) → ((out : PortPlan A) × (port_at p.ports q ≡ Some out)) ↔ ((c : PortCount) × (lookup (nat_eq q) o.ports.items ≡ Some c))
   pub counts : (q : ℕ) (c : PortCount) → lookup (nat_eq q) o.ports.items ≡ Some c → IsCount p es q (lists q) c
 
--- what these events offer to each queue of an idle bridge fares as if the queue had its link alone
+-- The copies of each queue are the offers to it, and each queue acts as if it had the link to itself.
 pub record AreSolo {A : Type 0} (p : Plan A) (es : List Event) (lists : ℕ → ℕ → List (Copy Carried)) : Type 0 where
   pub offers : (q c : ℕ) (out : PortPlan A) → port_at p.ports q ≡ Some out → offered (lists q c) ≡ in_class c (offers p out es)
   pub solo : (q c : ℕ) (out : PortPlan A) → port_at p.ports q ≡ Some out → IsSolo (egress out) (lists q c)
@@ -168,13 +168,13 @@ pub record AreOwnQueues {A : Type 0} (p : Plan A) (n : ℕ) (f : FilterPlan) (es
   pub solo : AreSolo p (own_events p n f es) own
   pub same : (q : ℕ) (x : Copy Carried) → (In x (lists q) × (x.item.flow ≡ Some n)) ↔ ((c : ℕ) × In x (own q c))
 
--- what is told of a filter on an idle bridge, each of its queues alone
+-- The record `v` is the one that these events produce on an idle bridge, each queue by itself.
 pub record IsSoloView {A : Type 0} (p : Plan A) (s : ℕ) (f : FilterPlan) (es : List Event) (v : View A) : Type 0 where
   pub lists : ℕ → ℕ → List (Copy Carried)
   pub solo : AreSolo p es lists
   pub view : IsView p s f es (λ q x. (c : ℕ) × In x (lists q c)) v
 
--- two views that tell the same
+-- The two records are equal in every list and every number, from the verdicts to the longest delay.
 pub record TellTheSame {A : Type 0} (u v : View A) : Type 0 where
   pub protected : u.protected ≡ v.protected
   pub verdicts : u.verdicts.items ≡ v.verdicts.items

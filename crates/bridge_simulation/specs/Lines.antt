@@ -1,4 +1,4 @@
--- Captures that are written, one of each port.
+-- Captures that are written, one for each port.
 use Rattle.std.specs.Prelude.{◌≡◌, ◌≢◌, ℕ, Bool, true, ◌*◌, ◌^◌, ◌<◌, ◌≤◌, nat_eq, All, Option, Some, IfSome, List, [], ◌∷◌, ◌++◌, length, slice_get, Result, Ok, Err, if◌then◌else◌}
 use Rattle.std.specs.Io.KnownBytes.{Appends}
 use Rattle.bridge_capture.specs.Grammar.{Captured}
@@ -23,18 +23,18 @@ abbrev pub numbers : List Line → List ℕ
 numbers [] = []
 numbers (line ∷ more) = line.number ∷ numbers more
 
--- a frame fits the words of a record
+-- The frame fits a capture record: time below 2^32 s, length below 2^32 octets, captured octets within length and snap length.
 pub record FitsRecord (c : Captured) : Type 0 where
   pub seconds : c.time < 2 ^ 32 * 10 ^ 9
   pub captured : length c.octets ≤ SNAP_LENGTH
   pub within : length c.octets ≤ c.len
   pub original : c.len < 2 ^ 32
 
--- a sink has the capture of these frames behind what it had, and each of them fits its record
+-- A sink with known contents holds its old octets, then the capture of these frames, each of which fits its record.
 abbrev pub HasWritten : Option (List ℕ) → Option (List ℕ) → List Captured → Type 0
 HasWritten old new frames = Appends old new (written_text frames) × All FitsRecord frames
 
--- each sink has the capture of what left its port
+-- Each sink with known contents holds its old octets, then the capture of the frames that left its port.
 abbrev pub AreWritten : {W : Type 0} → (W → Option (List ℕ)) → List ℕ → List W → List W → (ℕ → List Captured) → Type 0
 AreWritten {W} contents ports olds news left = (i q : ℕ) (old new : W) → slice_get ports i ≡ Some q → slice_get olds i ≡ Some old → slice_get news i ≡ Some new → HasWritten (contents old) (contents new) (left q)
 

@@ -1,4 +1,4 @@
--- Whole runs over texts.
+-- Complete runs over the contents of captures.
 use Rattle.std.specs.Prelude.{◌≡◌, ℕ, Bool, true, ◌<◌, ◌≤◌, ◌⊎◌, length, nat_eq, Option, Some, None, List, [], map, vec_capacity}
 use Rattle.std.specs.Map.{lookup}
 use Rattle.bridge_limits.specs.declared.TheConstants.{MOST_ARRIVALS}
@@ -25,7 +25,7 @@ use Rattle.bridge_relay.specs.Relays.{RelayState, Stands}
 use Rattle.bridge_simulation.specs.Lines.{AreWritten, StopsAtHeader}
 use Rattle.bridge_simulation.specs.Taking.{IsOfCapture, StopsAmong}
 
--- the numbers of a plan's ports, by rising number
+-- The list holds exactly the numbers of the plan's ports, in rising order.
 abbrev pub AreNumbers : {A : Type 0} → Plan A → List ℕ → Type 0
 AreNumbers p ports = IsInOrder (map (λ q. q.number) p.ports) ports
 
@@ -53,7 +53,7 @@ pub record IsSetUp {G A : Type 0} (p : Plan A) (b : RelayState G A) (l : Lists A
   pub lanes : AreLanes all
   pub room : room_of all ≤ MOST_ARRIVALS
 
--- each text is a capture to its end, the outcome is that of the run of their frames and the commands in their order, and each sink has the capture of what left its port
+-- Each capture is well formed to its end, `o` is the result of all frames and commands, and the sinks hold the departures.
 pub record Runs {A W : Type 0} (p : Plan A) (ports : List ℕ) (commands : List Command) (texts : ℕ → List ℕ) (contents : W → Option (List ℕ)) (olds news : List W) (o : Outcome A) : Type 0 where
   pub frames : ℕ → List Captured
   pub inputs : List Input
@@ -90,13 +90,13 @@ Stops p ports commands texts rests contents has_failed olds news (run.Capture po
 Stops p ports commands texts rests contents has_failed olds news (run.Write port) = StopsAtFirst p ports texts contents has_failed olds news port ⊎ StopsAmong p texts rests commands contents ports olds news (run.Write port)
 Stops p ports commands texts rests contents has_failed olds news run.NoMemory = WantsMemory p ports texts rests olds news ⊎ StopsAmong p texts rests commands contents ports olds news run.NoMemory
 
--- this is what an outcome tells of a protected filter
+-- Filter `n` is protected in the plan, and `v` is its record in the result `o`.
 pub record TellsOf {A : Type 0} (p : Plan A) (n : ℕ) (f : FilterPlan) (o : Outcome A) (v : View A) : Type 0 where
   pub listed : In (n, f) p.filters
   pub protected : f.protected ≡ true
   pub told : lookup (nat_eq n) o.filters.items ≡ Some v
 
--- what a run tells of a protected filter is what the filter's own events alone tell, each of its queues alone on an idle bridge
+-- The record of each protected filter is the one that its own events produce, each queue by itself on an idle bridge.
 abbrev pub Isolates : {A W : Type 0} → Plan A → List ℕ → List Command → (ℕ → List ℕ) → (W → Option (List ℕ)) → List W → List W → Outcome A → Type 0
 Isolates {A} p ports commands texts contents olds news o =
     (ran : Runs p ports commands texts contents olds news o) (n : ℕ) (f : FilterPlan) (v : View A)
@@ -108,11 +108,11 @@ WritesFew {A} p ports commands texts contents olds news o =
     (ran : Runs p ports commands texts contents olds news o) (q : ℕ) (out : PortPlan A)
     → port_at p.ports q ≡ Some out → length (ran.left q) ≤ length (arrivals (events ran.inputs))
 
--- the same frames and commands of a filter came, by port
+-- The own frames of the filter on each port, and its own commands, are equal in both inputs.
 abbrev pub HaveSameOwn : {A : Type 0} → Plan A → ℕ → FilterPlan → (ℕ → List Input) → (ℕ → List Input) → Type 0
 HaveSameOwn p n f streams others = (q : ℕ) → own_inputs p n f (streams q) ≡ own_inputs p n f (others q)
 
--- each other run of the plan to which the same frames and commands of a protected filter came tells the same of it, whatever else came
+-- Every run of the plan with equal own frames and commands of a protected filter has an equal record of it, whatever else arrives.
 abbrev pub OthersChangeNothing : {A W : Type 0} → Plan A → List ℕ → List Command → (ℕ → List ℕ) → (W → Option (List ℕ)) → List W → List W → Outcome A → Type 0
 OthersChangeNothing {A} {W} p ports commands texts contents olds news o =
     (ran : Runs p ports commands texts contents olds news o)
