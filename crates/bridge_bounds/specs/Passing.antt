@@ -53,22 +53,22 @@ pub record LetsFew (turn_at : ℕ → Option (Turn GateEntry)) (k w : ℕ) : Typ
 abbrev pub IsShut : (ℕ → Option (Turn GateEntry)) → ℕ → ℕ → Type 0
 IsShut turn_at from until = (u : ℕ) (x : Turn GateEntry) → from ≤ u → u < until → turn_at u ≡ Some x → x.state.lets ≡ false
 
--- The most frames of at least 2 octets that one interval of an entry lets through: 0 if closed, None if unlimited.
+-- The most frames of at least 2 octets that one interval of an entry lets through: 0 if closed, `None` if unlimited.
 abbrev pub most_frames : GateEntry → Option ℕ
 most_frames e = if e.lets then option_map (λ limit. limit / 2) e.octets else Some 0
 
--- The greater of two optional numbers; None if at least one of them is missing.
+-- The greater of two optional numbers; `None` if at least one of them is missing.
 abbrev pub greater : Option ℕ → Option ℕ → Option ℕ
 greater None b = None
 greater (Some a) None = None
 greater (Some a) (Some b) = Some (max a b)
 
--- The greatest number of frames that any entry lets through in one interval; None if an open entry is unlimited.
+-- The greatest number of frames that any entry lets through in one interval; `None` if an open entry is unlimited.
 abbrev pub most_in : List (GateEntry × ℕ) → Option ℕ
 most_in [] = Some 0
 most_in (e ∷ es) = greater (most_frames e.0) (most_in es)
 
--- The number of frames if it is less than the queue capacity `room`; otherwise None.
+-- The number of frames if it is less than the queue capacity `room`; otherwise `None`.
 abbrev pub fewer : ℕ → Option ℕ → Option ℕ
 fewer room None = None
 fewer room (Some k) = if nat_lt k room then Some k else None

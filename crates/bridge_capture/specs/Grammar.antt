@@ -34,7 +34,7 @@ nanoseconds Nano = 1
 
 -- ---- the header
 
--- Byte order and time unit that the magic number shows, if it is read as little-endian; None for an unknown number.
+-- Byte order and time unit that the magic number shows, if it is read as little-endian; `None` for an unknown number.
 abbrev pub form_of_magic : ℕ → Option Form
 form_of_magic magic =
     if magic == 0xA1B23C4D then Some (record { order = Little; unit = Nano })
@@ -114,7 +114,7 @@ record_with_head form place octets None =
     if nat_lt (length octets) (16 + captured_of form octets) then Fault (RecordCut place.number)
     else Record (record { time = time_of form octets; len = original_of form octets; octets = octets_at 16 (captured_of form octets) octets }) (drop (16 + captured_of form octets) octets)
 
--- Result of reading at this position: Nothing at the end of the octets, else the first fault or the next captured frame.
+-- Result of reading at this position: the end of the octets, the first fault, or the next captured frame.
 unfoldable pub front_of : Form → Place → List ℕ → Front
 front_of form place octets =
     if length octets == 0 then Nothing

@@ -11,7 +11,7 @@ use Rattle.bridge_check.specs.declared.fault.CheckFault.TheVariants as fault
 use Rattle.bridge_check.specs.Reach.{reaches}
 use Rattle.bridge_check.specs.Windows.{shared_at, ever_fits}
 
--- The given fault if the test result is false; None if it is true.
+-- The given fault if the test result is false; `None` if it is true.
 abbrev pub fault_unless : Bool → CheckFault → Option CheckFault
 fault_unless true e = None
 fault_unless false e = Some e
@@ -37,26 +37,26 @@ is_greatest filters n = list_all (λ g. nat_le g.0 n) filters
 abbrev pub has_catch_all : List (ℕ × FilterPlan) → Bool
 has_catch_all filters = list_any (λ g. is_greatest filters g.0 && not (is_some g.1.handle) && not (is_some g.1.priority)) filters
 
--- The least number of a filter other than `n` that reaches the queue of class `c` at port `q`, or None.
+-- The least number of a filter other than `n` that reaches the queue of class `c` at port `q`, or `None`.
 abbrev pub other_at : {A : Type 0} → Plan A → List (ℕ × FilterPlan) → ℕ → ℕ → ℕ → Option ℕ
 other_at p [] n q c = None
 other_at p (g ∷ gs) n q c = if not (nat_eq g.0 n) && reaches p g.1 q c then lesser_number (Some g.0) (other_at p gs n q c) else other_at p gs n q c
 
--- The first of two optional values that is present, or None.
+-- The first of two optional values that is present, or `None`.
 abbrev pub first_of : {X : Type 0} → Option X → Option X → Option X
 first_of None b = b
 first_of (Some x) b = Some x
 
--- The first value that `tell` gives for the numbers 0 to `n` - 1, in rising order, or None.
+-- The first value that `tell` gives for the numbers 0 to `n` - 1, in rising order, or `None`.
 unfoldable pub first_below : {X : Type 0} → ℕ → (ℕ → Option X) → Option X
 first_below zero tell = None
 first_below (suc n) tell = first_of (first_below n tell) (tell n)
 
--- The first fault that `tell` reports for a reachable queue of filter `f`, by rising port and class, or None.
+-- The first fault that `tell` reports for a reachable queue of filter `f`, by rising port and class, or `None`.
 abbrev pub first_in_reach : {A : Type 0} → Plan A → FilterPlan → (ℕ → ℕ → Option CheckFault) → Option CheckFault
 first_in_reach p f tell = first_below 16 (λ i. first_below 8 (λ c. if reaches p f (i + 1) c then tell (i + 1) c else None))
 
--- Offset in the cycle, in ns, from which the port opens class `c` together with another class; None also for a missing port.
+-- Offset in the cycle, in ns, from which the port opens class `c` together with another class; `None` also for a missing port.
 abbrev pub shared_on : {A : Type 0} → Option (PortPlan A) → ℕ → Option ℕ
 shared_on None c = None
 shared_on (Some port) c = shared_at port.list c
@@ -100,12 +100,12 @@ window_fault p n f = first_in_reach p f (λ q c. option_map (fault.WindowShared 
 abbrev pub size_fault : {A : Type 0} → Plan A → ℕ → FilterPlan → Option CheckFault
 size_fault p n f = first_in_reach p f (λ q c. fault_unless (not (never_fits (port_at p.ports q) c f.max_sdu)) (fault.MaxSduNeverFits n q c))
 
--- The first fault in a list of test results; None if every test passed.
+-- The first fault in a list of test results; `None` if every test passed.
 abbrev pub first_fault_of : List (Option CheckFault) → Option CheckFault
 first_fault_of [] = None
 first_fault_of (e ∷ es) = first_of e (first_fault_of es)
 
--- The results of the eight tests of a protected filter, in their order; None stands for a passed test.
+-- The results of the eight tests of a protected filter, in their order; `None` stands for a passed test.
 abbrev pub tests_of : {A : Type 0} → Plan A → ℕ → FilterPlan → List (Option CheckFault)
 tests_of p n f =
     wildcard_fault n f
@@ -118,7 +118,7 @@ tests_of p n f =
     ∷ size_fault p n f
     ∷ []
 
--- The fault of the first test that the filter fails; None if it passes all eight.
+-- The fault of the first test that the filter fails; `None` if it passes all eight.
 abbrev pub fault_of : {A : Type 0} → Plan A → ℕ → FilterPlan → Option CheckFault
 fault_of p n f = first_fault_of (tests_of p n f)
 
@@ -140,15 +140,15 @@ lesser_fault None b = b
 lesser_fault (Some a) None = Some a
 lesser_fault (Some a) (Some b) = if nat_lt b.0 a.0 then Some b else Some a
 
--- The filter's number with its first fault; None if the filter is unprotected or passes all tests.
+-- The filter's number with its first fault; `None` if the filter is unprotected or passes all tests.
 abbrev pub numbered_fault : {A : Type 0} → Plan A → ℕ × FilterPlan → Option (ℕ × CheckFault)
 numbered_fault p f = if f.1.protected then option_map (λ e. (f.0, e)) (fault_of p f.0 f.1) else None
 
--- The first fault of the protected filter with the least number that fails a test, together with this number, or None.
+-- The first fault of the protected filter with the least number that fails a test, together with this number, or `None`.
 abbrev pub least_fault : {A : Type 0} → Plan A → List (ℕ × FilterPlan) → Option (ℕ × CheckFault)
 least_fault p [] = None
 least_fault p (f ∷ fs) = lesser_fault (numbered_fault p f) (least_fault p fs)
 
--- The fault that `check` reports for the plan, or None: the first fault of the lowest protected filter that fails a test.
+-- The fault that `check` reports for the plan, or `None`: the first fault of the lowest protected filter that fails a test.
 abbrev pub first_fault : {A : Type 0} → Plan A → Option CheckFault
 first_fault p = option_map (λ x. x.1) (least_fault p p.filters)

@@ -15,16 +15,16 @@ use Rattle.bridge_check.specs.Reach.{any_below}
 abbrev pub is_shared : ℕ → ℕ → Bool
 is_shared state c = is_open state c && any_below 8 (λ d. not (nat_eq d c) && is_open state d)
 
--- Offset in ns of the first entry that opens class `c` with another, for entries in sequence from `start`, or None.
+-- Offset in ns of the first entry that opens class `c` with another, for entries in sequence from `start`, or `None`.
 abbrev pub shared_from : List (ℕ × ℕ) → ℕ → ℕ → Option ℕ
 shared_from [] start c = None
 shared_from (e ∷ es) start c = if is_shared e.0 c then Some start else shared_from es (start + e.1) c
 
--- Offset in the cycle, in ns, of the list's first entry that opens class `c` with another class, or None.
+-- Offset in the cycle, in ns, of the list's first entry that opens class `c` with another class, or `None`.
 abbrev pub shared_in : cyclic.Cyclic ℕ → ℕ → Option ℕ
 shared_in l c = shared_from l.entries 0 c
 
--- Offset in ns at which the port's lists, old before new, first open class `c` with another, or None; 0 without a list.
+-- Offset in ns at which the port's lists, old before new, first open class `c` with another, or `None`; 0 without a list.
 abbrev pub shared_at : {A : Type 0} → Option (Egress A) → ℕ → Option ℕ
 shared_at None c = Some 0
 shared_at (Some (Cyclic l)) c = shared_in l c

@@ -35,7 +35,7 @@ IsBeforeEnd change = ForSome change (λ t. t < END_OF_TIME)
 abbrev pub has_port : {A : Type 0} → List (PortPlan A) → ℕ → Bool
 has_port ports n = list_any (λ p. nat_eq p.number n) ports
 
--- First port of the list with number `n`; None if no port has it.
+-- First port of the list with number `n`; `None` if no port has it.
 abbrev pub port_at : {A : Type 0} → List (PortPlan A) → ℕ → Option (PortPlan A)
 port_at [] n = None
 port_at (p ∷ ps) n = if nat_eq p.number n then Some p else port_at ps n
@@ -116,7 +116,7 @@ pub record IsGateList (l : Cyclic GateEntry) : Type 0 where
   pub lawful : IsLawful l
   pub priorities : All (λ e. schedules.is_priority e.0.ipv ≡ true) l.entries
 
--- Stream gate numbers differ, each schedule is valid, and each internal priority value is None or at most 7.
+-- Stream gate numbers differ, each schedule is valid, and each internal priority value is `None` or at most 7.
 pub record AreGates {A : Type 0} (gates : List (ℕ × GatePlan A)) : Type 0 where
   pub own : IsTrue (are_distinct gates)
   pub priorities : IsTrue (all_have_priorities gates)
@@ -127,7 +127,7 @@ pub record AreMeters (meters : List (ℕ × MeterPlan)) : Type 0 where
   pub own : IsTrue (are_distinct meters)
   pub limits : IsTrue (all_within_limits meters)
 
--- The filter's priority is at most 7 and its maximum SDU at most 65,535 octets; None is always valid.
+-- The filter's priority is at most 7 and its maximum SDU at most 65,535 octets; `None` is always valid.
 pub record IsFilter (f : ℕ × FilterPlan) : Type 0 where
   pub priority : ForSome f.1.priority (λ n. n ≤ 7)
   pub max_sdu : ForSome f.1.max_sdu (λ n. n ≤ 65535)

@@ -25,7 +25,7 @@ pub record Place (S : Type 0) : Type 0 where
   pub end : ℕ
 
 -- Entry in force at offset `p` of the cycle, with intervals end to end from `start`; the last entry extends to the cycle's end.
--- An empty list gives None.
+-- An empty list gives `None`.
 abbrev pub place : {S : Type 0} → List (S × ℕ) → ℕ → ℕ → ℕ → Option (Place S)
 place [] start cycle p = None
 place (e ∷ []) start cycle p = Some (record { state = e.0; start = start; end = cycle })
@@ -36,7 +36,7 @@ abbrev pub turn_of : {S : Type 0} → ℕ → ℕ → Option (Place S) → Optio
 turn_of t p None = None
 turn_of t p (Some x) = Some (record { state = x.state; start = pos t -ℤ pos (p - x.start); end = t + (x.end - p) })
 
--- Interval of the list that contains time `t`, with its state, start and end in ns; None if the list is empty.
+-- Interval of the list that contains time `t`, with its state, start and end in ns; `None` if the list is empty.
 abbrev pub turn_at : {S : Type 0} → Cyclic S → ℕ → Option (Turn S)
 turn_at l t = let p = phase l.base l.cycle t in turn_of t p (place l.entries 0 l.cycle p)
 

@@ -11,12 +11,12 @@ pub record Joined (S : Type 0) : Type 0 where
   pub new : Cyclic S
   pub at : ℕ
 
--- Interval with its end limited to time `m` at the latest; None is unchanged.
+-- Interval with its end limited to time `m` at the latest; `None` is unchanged.
 abbrev pub cut : {S : Type 0} → ℕ → Option (Turn S) → Option (Turn S)
 cut m None = None
 cut m (Some x) = Some (record { state = x.state; start = x.start; end = min x.end m })
 
--- Interval with its start limited to time `m` at the earliest; None is unchanged.
+-- Interval with its start limited to time `m` at the earliest; `None` is unchanged.
 abbrev pub raised : {S : Type 0} → ℕ → Option (Turn S) → Option (Turn S)
 raised m None = None
 raised m (Some x) = Some (record { state = x.state; start = int_max x.start (pos m); end = x.end })

@@ -56,7 +56,7 @@ flags_of p n f ss = record {
   red = red_by p f.meter ss;
 }
 
--- Bucket levels of the filter's meter after these steps; None if the filter has no meter.
+-- Bucket levels of the filter's meter after these steps; `None` if the filter has no meter.
 abbrev pub buckets_by : Plans → Option ℕ → List Step → Option Buckets
 buckets_by p None ss = None
 buckets_by p (Some m) ss = Some (meter.buckets_after (p.meters m) (meter.past (p.meters m) (meter_share m ss)))

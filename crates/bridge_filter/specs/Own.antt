@@ -6,7 +6,7 @@ use Rattle.bridge_filter.specs.declared.Clear.TheVariants as clear
 use Rattle.bridge_filter.specs.declared.FilterPlan.{FilterPlan}
 use Rattle.bridge_filter.specs.Verdicts.{Plans, Event, Came, Cleared, Step, Unfiltered, Judged, Commanded, flow, is_meter}
 
--- True if the matching filter has number `s`; false for an unfiltered frame (None).
+-- True if the matching filter has number `s`; false for an unfiltered frame (`None`).
 abbrev pub is_number : ℕ → Option (ℕ × FilterPlan) → Bool
 is_number s None = false
 is_number s (Some x) = nat_eq x.0 s

@@ -24,7 +24,7 @@ abbrev pub are_distinct : {X : Type 0} → List (ℕ × X) → Bool
 are_distinct [] = true
 are_distinct (x ∷ xs) = not (is_there x.0 xs) && are_distinct xs
 
--- True if the number is None or an entry of the list has it.
+-- True if the number is `None` or an entry of the list has it.
 abbrev pub is_there_if_any : {X : Type 0} → Option ℕ → List (ℕ × X) → Bool
 is_there_if_any None xs = true
 is_there_if_any (Some n) xs = is_there n xs
@@ -37,7 +37,7 @@ has_instances gates meters f = is_there f.gate gates && is_there_if_any f.meter 
 abbrev pub have_instances : {A : Type 0} → List (ℕ × FilterPlan) → List (ℕ × GatePlan A) → List (ℕ × MeterPlan) → Bool
 have_instances filters gates meters = list_all (λ f. has_instances gates meters f.1) filters
 
--- True if every internal priority value of every stream gate is None or at most 7.
+-- True if every internal priority value of every stream gate is `None` or at most 7.
 abbrev pub all_have_priorities : {A : Type 0} → List (ℕ × GatePlan A) → Bool
 all_have_priorities gates = list_all (λ g. has_priorities g.1.schedule) gates
 
@@ -53,12 +53,12 @@ closed_gate = record { turn_at = λ t. None; shut_on_rx = false; shut_on_octets 
 abbrev pub empty_meter : MeterPlan
 empty_meter = record { cir = 0; cbs = 0; eir = 0; ebs = 0; coupling = false; aware = false; drop_yellow = false; mark_all_red = false }
 
--- Rules of the stream gate; None gives a gate that is always closed.
+-- Rules of the stream gate; `None` gives a gate that is always closed.
 abbrev pub gate_or_closed : {A : Type 0} → Option (GatePlan A) → GateRules
 gate_or_closed None = closed_gate
 gate_or_closed (Some g) = rules_of g
 
--- Plan of the meter; None gives a meter with rates and burst sizes of 0.
+-- Plan of the meter; `None` gives a meter with rates and burst sizes of 0.
 abbrev pub meter_or_empty : Option MeterPlan → MeterPlan
 meter_or_empty None = empty_meter
 meter_or_empty (Some m) = m

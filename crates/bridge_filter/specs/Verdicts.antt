@@ -30,13 +30,13 @@ pub record Plans : Type 0 where
   pub gates : ℕ → GateRules
   pub meters : ℕ → MeterPlan
 
--- True if the filter's stream handle is the frame's; a wildcard (None) accepts every frame, with or without a handle.
+-- True if the filter's stream handle is the frame's; a wildcard (`None`) accepts every frame, with or without a handle.
 abbrev pub takes_handle : Option ℕ → Option ℕ → Bool
 takes_handle None h = true
 takes_handle (Some m) None = false
 takes_handle (Some m) (Some n) = nat_eq m n
 
--- True if the filter's priority is the frame's; a wildcard (None) accepts every priority.
+-- True if the filter's priority is the frame's; a wildcard (`None`) accepts every priority.
 abbrev pub takes_priority : Option ℕ → ℕ → Bool
 takes_priority None k = true
 takes_priority (Some m) k = nat_eq m k
@@ -45,12 +45,12 @@ takes_priority (Some m) k = nat_eq m k
 abbrev pub is_match : FilterPlan → Call → Bool
 is_match f c = takes_handle f.handle c.handle && takes_priority f.priority c.priority
 
--- Filter with the smaller number; `f` if the numbers are equal or the other filter is None.
+-- Filter with the smaller number; `f` if the numbers are equal or the other filter is `None`.
 abbrev pub lesser : (ℕ × FilterPlan) → Option (ℕ × FilterPlan) → Option (ℕ × FilterPlan)
 lesser f None = Some f
 lesser f (Some g) = if nat_lt g.0 f.0 then Some g else Some f
 
--- Filter with the least number among those that match the frame; None if no filter matches.
+-- Filter with the least number among those that match the frame; `None` if no filter matches.
 abbrev pub flow : List (ℕ × FilterPlan) → Call → Option (ℕ × FilterPlan)
 flow [] c = None
 flow (f ∷ fs) c = if is_match f.1 c then lesser f (flow fs c) else flow fs c
@@ -114,7 +114,7 @@ is_blocked n (Judged c m f v ∷ ss) = (nat_eq m n && is_oversize v) || is_block
 is_blocked n (Commanded clear.Blocked m ∷ ss) = not (nat_eq m n) && is_blocked n ss
 is_blocked n (Commanded c m ∷ ss) = is_blocked n ss
 
--- True if an SDU of `n` octets exceeds the filter's maximum; None means no maximum.
+-- True if an SDU of `n` octets exceeds the filter's maximum; `None` means no maximum.
 abbrev pub is_above : Option ℕ → ℕ → Bool
 is_above None n = false
 is_above (Some most) n = nat_lt most n

@@ -40,7 +40,7 @@ is_shut_by_octets (Told t n a ∷ ss) = is_shut_by_octets ss
 is_shut_by_octets (RxCleared ∷ ss) = is_shut_by_octets ss
 is_shut_by_octets (OctetsCleared ∷ ss) = false
 
--- True if the interval starts at time `z`, in ns; None gives false.
+-- True if the interval starts at time `z`, in ns; `None` gives false.
 abbrev pub begins_at : Option (Turn GateEntry) → ℤ → Bool
 begins_at None z = false
 begins_at (Some x) z = int_eq x.start z
@@ -51,13 +51,13 @@ used turn_at z [] = 0
 used turn_at z (Told t n (Through ipv) ∷ ss) = (if begins_at (turn_at t) z then n else 0) + used turn_at z ss
 used turn_at z (s ∷ ss) = used turn_at z ss
 
--- True if `n` octets exceed the octet limit of an interval; None means no limit.
+-- True if `n` octets exceed the octet limit of an interval; `None` means no limit.
 abbrev pub exceeds : Option ℕ → ℕ → Bool
 exceeds None n = false
 exceeds (Some limit) n = nat_lt limit n
 
 -- Answer in one interval with no flag set: Closed if the gate is closed, OctetsExceeded above the octet limit, else Through.
--- The value None (without an interval) means closed; Through has the internal priority value of the interval, if any.
+-- The value `None` (without an interval) means closed; Through has the internal priority value of the interval, if any.
 abbrev pub answer_in : GateRules → List GateStep → ℕ → Option (Turn GateEntry) → GateAnswer
 answer_in r ss sdu None = Closed
 answer_in r ss sdu (Some x) =

@@ -31,12 +31,12 @@ pub record IsKept {A : Type 0} (s : Schedule A) (x : Turn GateEntry) : Type 0 wh
   pub lawful : IsLawful s
   pub same : (u : ℕ) → x.start ≤ℤ pos u → u < x.end → turn_at s u ≡ Some x
 
--- True if the internal priority value is at most 7, or None.
+-- True if the internal priority value is at most 7, or `None`.
 abbrev pub is_priority : Option ℕ → Bool
 is_priority None = true
 is_priority (Some ipv) = nat_le ipv 7
 
--- True if every internal priority value in the schedule is None or at most 7.
+-- True if every internal priority value in the schedule is `None` or at most 7.
 abbrev pub has_priorities : {A : Type 0} → Schedule A → Bool
 has_priorities (Fixed lets ipv) = is_priority ipv
 has_priorities (Cyclic l) = list_all (λ e. is_priority e.0.ipv) l.entries

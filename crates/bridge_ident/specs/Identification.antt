@@ -30,7 +30,7 @@ takes_tag All tag = true
 abbrev pub is_match : StreamEntry → ℕ → Head → ℕ → Bool
 is_match e port head vid = nat_eq e.port port && nat_eq e.vid vid && bytes_eq e.address (compared_address e.kind head) && takes_tag e.tag head.tag
 
--- Stream handle of the first table entry that matches the frame; None if no entry matches.
+-- Stream handle of the first table entry that matches the frame; `None` if no entry matches.
 abbrev pub handle_in : List StreamEntry → ℕ → Head → ℕ → Option ℕ
 handle_in [] port head vid = None
 handle_in (e ∷ es) port head vid = if is_match e port head vid then Some e.handle else handle_in es port head vid

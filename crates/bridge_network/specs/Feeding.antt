@@ -41,14 +41,14 @@ may_match e port vid s =
     nat_eq e.port port && nat_eq e.vid vid && takes_tag e.tag s.tag
     && (not (is_kind e.kind s.kind) || bytes_eq e.address s.address)
 
--- The handles that frames of a sort may get, in order, up to the first entry that surely matches; None is the missing handle.
+-- The handles that frames of a sort may get, in order, up to the first entry that surely matches; `None` is the missing handle.
 abbrev pub handles_of : List StreamEntry → ℕ → ℕ → Sort → List (Option ℕ)
 handles_of [] port vid s = None ∷ []
 handles_of (e ∷ es) port vid s =
     if may_match e port vid s then Some e.handle ∷ (if is_kind e.kind s.kind then [] else handles_of es port vid s)
     else handles_of es port vid s
 
--- The stream filter that matches frames with this optional handle and this priority, or None.
+-- The stream filter that matches frames with this optional handle and this priority, or `None`.
 abbrev pub flow_for : {A : Type 0} → Plan A → Option ℕ → ℕ → Option (ℕ × FilterPlan)
 flow_for p handle priority = flow p.filters (call 0 handle priority false 0 0)
 

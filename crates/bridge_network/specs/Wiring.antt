@@ -44,7 +44,7 @@ pub record AreHandedBack {A : Type 0} (plans : Vec (Plan A) A) (links : Vec Link
 abbrev pub network_of : {A : Type 0} → Parts A → networks.Network A
 network_of n = record { bridges = n.plans; links = map link_of n.links }
 
--- The port at the other end of the first link of port `q` of bridge `b`; None if the port is open.
+-- The port at the other end of the first link of port `q` of bridge `b`; `None` if the port is open.
 abbrev pub peer : List Link → ℕ → ℕ → Option networks.End
 peer links b q = option_map (λ (s : networks.Sender). s.from) (networks.sender (map link_of links) b q)
 

@@ -20,7 +20,7 @@ pub data Opening : Type 0 where
   One : cyclic.Cyclic ℕ → Opening
   Exchanged : joined.Joined ℕ → Opening
 
--- Schedule of a port from its gate control lists; without a list (None) all transmission gates are always open.
+-- Schedule of a port from its gate control lists; without a list (`None`) all transmission gates are always open.
 abbrev pub opening_of : {A : Type 0} → Option (Egress A) → Opening
 opening_of None = Always
 opening_of (Some (Cyclic l)) = One l

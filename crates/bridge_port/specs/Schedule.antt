@@ -59,7 +59,7 @@ InTurn (Started s) Queued = ⊥
 InTurn (Started s) (Started t) = t < s
 InTurn f g = Unit {0}
 
--- The older of two head frames; None if both are absent.
+-- The older of two head frames; `None` if both are absent.
 abbrev pub older_or : {X : Type 0} → Option (ℕ × X) → Option (ℕ × X) → Option (ℕ × X)
 older_or None b = b
 older_or (Some a) b = Some a
@@ -97,12 +97,12 @@ module _ {X : Type 0} where
   is_free r u [] = true
   is_free r u (x ∷ xs) = not (occupies u (r.occ x.item) x.fate) && is_free r u xs
 
-  -- Oldest waiting copy of class `c` at time `u`, with its index; None if none waits.
+  -- Oldest waiting copy of class `c` at time `u`, with its index; `None` if none waits.
   abbrev pub head : ℕ → ℕ → List (Copy X) → Option (ℕ × X)
   head c u [] = None
   head c u (x ∷ xs) = older_or (head c u xs) (if nat_eq x.class c && nat_le x.at u && is_there u x.fate then Some (length xs, x.item) else None)
 
-  -- Fate of the copy with index `i`; None if there is no such index.
+  -- Fate of the copy with index `i`; `None` if there is no such index.
   abbrev pub fate_at : ℕ → List (Copy X) → Option Fate
   fate_at i [] = None
   fate_at i (x ∷ xs) = if nat_eq i (length xs) then Some x.fate else fate_at i xs

@@ -56,12 +56,12 @@ way_if p (Some port) a h = way_on p port a h
 abbrev pub way_of : {A : Type 0} → Plan A → Arrival → Way
 way_of p a = way_if p (port_at p.ports a.port) a (head a.octets a.len)
 
--- The data for the stream filters that a way holds; None if the frame is malformed or isn't forwarded.
+-- The data for the stream filters that a way holds; `None` if the frame is malformed or isn't forwarded.
 abbrev pub call_by : Way → Option Call
 call_by (Goes set c) = Some c
 call_by w = None
 
--- The data of a received frame for the stream filters; None if the frame is malformed or isn't forwarded.
+-- The data of a received frame for the stream filters; `None` if the frame is malformed or isn't forwarded.
 abbrev pub call_of : {A : Type 0} → Plan A → Arrival → Option Call
 call_of p a = call_by (way_of p a)
 
@@ -84,12 +84,12 @@ police_of p = plans_of p.filters p.gates p.meters
 abbrev pub steps : {A : Type 0} → Plan A → List Event → List verdicts.Step
 steps p es = verdicts.told (police_of p) (calls p es)
 
--- The matching stream filter with the least number, for a frame's optional data; None if the data or a match is missing.
+-- The matching stream filter with the least number, for a frame's optional data; `None` if the data or a match is missing.
 abbrev pub flow_by : {A : Type 0} → Plan A → Option Call → Option (ℕ × FilterPlan)
 flow_by p None = None
 flow_by p (Some c) = verdicts.flow p.filters c
 
--- The stream filter of a received frame, by the plan and this frame only; None also if the frame isn't forwarded.
+-- The stream filter of a received frame, by the plan and this frame only; `None` also if the frame isn't forwarded.
 abbrev pub flow_of : {A : Type 0} → Plan A → Arrival → Option (ℕ × FilterPlan)
 flow_of p a = flow_by p (call_of p a)
 

@@ -68,7 +68,7 @@ pub record Delayed {A : Type 0} (p : Plan A) (s : ℕ) (Lies : ℕ → Copy Carr
   pub started : copy.fate ≡ Started start
   pub delay : n + copy.at ≡ start + occupied copy.item.len out.speed
 
--- The optional number is the greatest one with property `P`; None means that the property never holds.
+-- The optional number is the greatest one with property `P`; `None` means that the property never holds.
 abbrev pub IsGreatest : (ℕ → Type 0) → Option ℕ → Type 0
 IsGreatest P None = (n : ℕ) → P n → ⊥
 IsGreatest P (Some m) = P m × ((n : ℕ) → P n → n ≤ m)
