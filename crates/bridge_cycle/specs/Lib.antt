@@ -10,3 +10,4 @@ pub mod EgressLaws
 pub mod Runs
 pub mod Fitting
 pub mod Entries
+pub mod Examples

@@ -5,3 +5,4 @@ pub mod Standing
 pub mod Finding
 pub mod Steps
 pub mod Own
+pub mod Examples

@@ -1,8 +1,8 @@
 -- Where frames go, computed: VLAN 10 of ports 1, 2 and 3, and a static entry of VLAN 10 that sends 02-00-00-00-00-0A to port 3.
-use Rattle.std.specs.Prelude.{◌≡◌, ℕ, ◌+◌, ◌-◌, ◌^◌, List, [], ◌∷◌, map, refl}
-use Rattle.bridge_forward.specs.Ports.{has}
+use Rattle.std.specs.Prelude.{◌≡◌, ℕ, true, false, ◌+◌, ◌-◌, ◌^◌, List, [], ◌∷◌, map, refl}
+use Rattle.bridge_forward.specs.Ports.{has, without}
 use Rattle.bridge_forward.specs.Database.{Database}
-use Rattle.bridge_forward.specs.Forward.{forward}
+use Rattle.bridge_forward.specs.Forward.{forward, is_reserved}
 use Rattle.bridge_forward.specs.Outs.{goes_out}
 
 -- an address of this network by its last octet
@@ -75,3 +75,20 @@ entry_of_the_other_vlan = refl
 
 port_by_port : map (goes_out twice 1 10 (host 0x0a)) (1 ∷ 2 ∷ 3 ∷ 4 ∷ []) ≡ map (has (ports (3 ∷ []))) (1 ∷ 2 ∷ 3 ∷ 4 ∷ [])
 port_by_port = refl
+
+-- The set 5 has the ports 1 and 3; the set 7 also has port 2.
+
+pub port_3_is_in_the_set : has 5 3 ≡ true
+port_3_is_in_the_set = refl
+
+pub port_2_is_not_in_the_set : has 5 2 ≡ false
+port_2_is_not_in_the_set = refl
+
+pub without_port_2 : without 7 2 ≡ 5
+without_port_2 = refl
+
+pub last_reserved_address : is_reserved (1 ∷ 128 ∷ 194 ∷ 0 ∷ 0 ∷ 15 ∷ []) ≡ true
+last_reserved_address = refl
+
+pub next_address : is_reserved (1 ∷ 128 ∷ 194 ∷ 0 ∷ 0 ∷ 16 ∷ []) ≡ false
+next_address = refl

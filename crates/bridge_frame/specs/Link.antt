@@ -54,3 +54,9 @@ shortest_at_10000 = refl
 pub longest_untagged_at_1000 : occupied 1514 Mbps1000 ≡ 12304
 unfolding occupied
 longest_untagged_at_1000 = refl
+
+pub padded_on_the_link : wire_octets 14 ≡ 84
+padded_on_the_link = refl
+
+pub longest_untagged_on_the_link : wire_octets 1514 ≡ 1538
+longest_untagged_on_the_link = refl

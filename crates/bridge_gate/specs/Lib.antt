@@ -1,3 +1,4 @@
 pub mod Gates
 pub mod Schedules
 pub mod Standing
+pub mod Examples

@@ -1,2 +1,3 @@
 pub mod Firsts
 pub mod Identification
+pub mod Examples

@@ -3,3 +3,4 @@ pub mod Colours
 pub mod Covers
 pub mod Standing
 pub mod Steps
+pub mod Examples
