@@ -9,7 +9,7 @@ names the clause of a standard for some of them. Both calls fail where a line of
 
 --check also fails where docs/PLANS.md (Key by key) or docs/SPECIFICATION.md (Plans) tells of a section other keys than
 the table of keys in crates/bridge_schema/src/keys.rt, where docs/COMMANDS.md is not the help that crates/gate_cases prints,
-where the sentence of all options in crates/bridge_cli/src/command.rt is another than its table of commands says, and where a
+where the list of all options in crates/bridge_cli/src/command.rt is another than its table of commands says, and where a
 command of that table has no place, or not that of its name.
 """
 import collections
@@ -294,7 +294,7 @@ def check_help():
 
 
 def check_options():
-    """Fails where the sentence of all options says of one other commands, or another value, than the table of commands."""
+    """Fails if the list of all options gives an option other commands, or another value, than the table of commands."""
     table = read(TOP / "crates/bridge_cli/src/command.rt")
     option = r'id: "(\w+)",\s*value: "(\w*)",\s*form: Form::(?:Choice|Flag)'
     shared = dict(re.findall(r"const (\w+): Word = Word {(.*?)};", table, re.S))
@@ -305,11 +305,11 @@ def check_options():
         for name, value in re.findall(option, words + "".join(it for name, it in shared.items() if re.search(rf"\b{name}\b", bare))):
             has.setdefault((name, value), set()).add(command)
     commands = {command for command, words in rows if words}
-    sentence = re.search(r'pub const OPTIONS: &str =\s*"(.*?)\\n"', table)[1]
+    lines = re.search(r'pub const OPTIONS: &str =\s*"(.*?)";', table)[1].split("\\n")
     told = {}
-    for group in re.findall(r"(.*?)(?:\(of ([^)]*)\)|$)", sentence):
-        for name, value in re.findall(r"--(\w+)(?: ([A-Z]+))?", group[0]):
-            told[name, value] = set(re.findall(r"\w+", group[1])) - {"and"} or commands
+    for options, of in re.findall(r"^  (--.*) for (.*)$", "\n".join(lines), re.M):
+        for name, value in re.findall(r"--(\w+)(?: ([A-Z]+))?", options):
+            told[name, value] = commands if of == "all commands" else set(re.findall(r"\w+", of)) - {"and"}
     if not has or told != has:
         wrong = sorted({it[0] for it in told.keys() | has.keys() if told.get(it) != has.get(it)})
         fail(f"OPTIONS of crates/bridge_cli/src/command.rt says of {', '.join(wrong)} other than the table")

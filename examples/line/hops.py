@@ -60,7 +60,7 @@ def main(arriving, first, second):
         order = sorted(left)
         hops = [(left[n] - came[n - 1], arrived[k] - left[n]) for k, n in enumerate(order, 1)]
         if len(arrived) != len(order) or max(a for a, _ in hops) != one or max(b for _, b in hops) != two:
-            sys.exit(f"hops.py: the delays of {name} are not those of the reports")
+            sys.exit(f"hops.py: the delays of {name} differ from the reports")
         columns = [span([a for a, _ in hops]), span([b for _, b in hops]), span([a + b for a, b in hops])]
         print(f"| {name} | {len(hops)} | " + " | ".join(columns) + " |")
 

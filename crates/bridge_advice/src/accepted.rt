@@ -15,10 +15,9 @@ use bridge_text::Text;
 use std::alloc::{Allocator, Global};
 
 const BOUND: &str =
-    "A frame that this queue takes is done at most {0} ns after it came: there is room for {1}, each of at most {2} octets, which occupy the link for {3} ns, and they leave while the class is open.\n";
+    "Delay bound: {0} ns from arrival to the end of transmission (queue for {1} frames of up to {2} octets, {3} ns each).\n";
 
-const TIGHT: &str =
-    "Its gate lets so few octets through in one turn that it is done at most {0} ns after it came.\n";
+const TIGHT: &str = "With the octet limit of its gate the bound is {0} ns.\n";
 
 /// What is said of a plan that is accepted: for each protected filter where its frames may wait, when each of these queues
 /// is open, the longest frame that fits, and how long a frame takes there at most; then a warning for each thing that is
@@ -107,18 +106,18 @@ fn put_queue<A: Allocator + Copy>(said: &mut Said, number: u8, port: &PortPlan<A
     requires { class < 8 }
 {
     said.fill(
-        "Its frames may wait at port {0} in class {1}, which is ",
+        "Port {0}, class {1}: ",
         &[u64::from(number), u64::from(class)],
         &[],
     );
     put_open(said, port, class);
     match longest_at(port, class) {
         Some(longest) => said.fill(
-            "; the longest frame that fits has {0} octets.\n",
+            ". The longest frame that fits has {0} octets.\n",
             &[u64::from(longest)],
             &[],
         ),
-        None => said.put("; no frame fits.\n"),
+        None => said.put(". No frame fits.\n"),
     }
 }
 

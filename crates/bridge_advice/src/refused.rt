@@ -17,34 +17,32 @@ use bridge_text::{Text, behind};
 use std::alloc::{Allocator, Global};
 
 const NO_HANDLE: &str =
-    "filter {0} is protected and names no stream, so it takes frames of every stream.\nGive it the `handle` of its stream, or take `protected` away.\n";
+    "Filter {0} is protected but has no `handle`, so it matches every stream.\nAdd the `handle` of its stream, or remove `protected`.\n";
 
 const NO_LENGTH: &str =
-    "filter {0} is protected and bounds no length, so it can't be seen whether its frames fit their windows.\nGive it a `max_sdu`.\n";
+    "Filter {0} is protected but has no `max_sdu`. Without it, nobody can tell whether its longest frame fits its windows.\nAdd a `max_sdu`.\n";
 
 const GATE_SHARED: &str =
-    "filter {0} is protected, and its gate {2} is that of filter {1} too, whose frames can use up or shut it.\nGive filter {0} a gate of its own.\n";
+    "Filters {0} (protected) and {1} share gate {2}. Frames of filter {1} can use up its octets, or shut it.\nGive filter {0} a gate of its own.\n";
 
 const METER_SHARED: &str =
-    "filter {0} is protected, and its meter {2} is that of filter {1} too, whose frames can use up its tokens.\nGive filter {0} a meter of its own, or none.\n";
+    "Filters {0} (protected) and {1} share meter {2}. Frames of filter {1} can use up its tokens.\nGive filter {0} a meter of its own, or remove its `meter`.\n";
 
 const NO_LAST: &str =
-    "filter {1} has the greatest number and takes some frames alone, so other frames may have no filter, and come to the queues of filter {0}, which is protected.\nAdd a filter with a greater number, without `handle` and `priority`.\n";
+    "Filter {1} has the greatest number but doesn't match every frame, so some frames may bypass the filters and enter the queues of filter {0}.\nAdd a filter with a number above {1}, without `handle` and `priority`. Give it a gate of its own, with an `ipv` of another class.\n";
 
-const QUEUE_SHARED: &str =
-    "frames of filter {0}, which is protected, and of filter {1} may both wait at port {2} in class {3}.\n";
+const QUEUE_SHARED: &str = "Filters {0} (protected) and {1} share a queue: port {2}, class {3}.\n";
 
 const PART_THEM: &str =
-    "Give one of them another class there, by `ipv` in its gate, by its `priority` or by the `classes` of the port, or another way through the bridge.\n";
+    "Separate them: give one of them another class by `ipv` in its gate, its `priority` or the `classes` of the port, or another route.\n";
 
-const WINDOW_SHARED: &str =
-    "frames of filter {0}, which is protected, wait at port {1} in class {2}, and the entry of its list that begins at phase {3} ns opens the classes ";
+const WINDOW_SHARED: &str = "Port {1} opens several classes together from offset {3} ns: ";
 
 const NO_WINDOW: &str =
-    "frames of filter {0}, which is protected, wait at port {1} in class {2}, and the port has no list, so all classes are always open.\n";
+    "Port {1} has no gate control list, so other classes can delay filter {0} (class {2}).\n";
 
 const TOO_LONG: &str =
-    "the longest frames of filter {0}, which is protected, have {1} octets (its `max_sdu` {2}, and 16 of addresses and tag, at most {3} in all) and occupy the link of port {4} for {5} ns, and class {6} there is ";
+    "Filter {0}'s longest frame has {1} octets (`max_sdu` {2} and 16 octets of header, at most {3}) and needs {5} ns at port {4}.\nClass {6} there is ";
 
 /// Why the plan of a file doesn't isolate its protected filters, by its text and the fault of its check: what that fault is, then
 /// each other test that fails, with the line of the filter where that is known, and what to change. It begins with the path of
@@ -308,10 +306,10 @@ fn put_window<A: Allocator + Copy>(
         Some(state) => {
             said.fill(WINDOW_SHARED, &numbers, &[]);
             put_states(said, state);
-            said.put(" together.\n");
+            said.put(".\n");
             put_way(said, plan, number, filter, port);
             said.fill(
-                "Let it open class {2} alone, and the others in entries of their own.\n",
+                "Filter {0} needs class {2} to be open by itself. Move the other classes into another entry.\n",
                 &numbers,
                 &[],
             );
@@ -320,7 +318,7 @@ fn put_window<A: Allocator + Copy>(
             said.fill(NO_WINDOW, &numbers, &[]);
             put_way(said, plan, number, filter, port);
             said.fill(
-                "Give it `gates` in which an entry opens class {2} alone.\n",
+                "Give port {1} `cycle` and `gates`, with an entry that opens only class {2}.\n",
                 &numbers,
                 &[],
             );
@@ -376,9 +374,9 @@ fn put_remedy<A: Allocator + Copy>(said: &mut Said, port: &PortPlan<A>, class: u
 {
     let longest = longest_at(port, class).unwrap_or(0);
     let template = match run_of(port, class) {
-        Run::Never => "Open class {0} in an entry of the list.\n",
-        _ if longest > 16 => "Keep class {0} open for longer, or lower `max_sdu` to at most {1}.\n",
-        _ => "Keep class {0} open for longer.\n",
+        Run::Never => "Open class {0} in an entry of `gates`.\n",
+        _ if longest > 16 => "Lengthen a window of class {0}, or set `max_sdu` to at most {1}.\n",
+        _ => "Lengthen a window of class {0}.\n",
     };
     let most = u64::from(longest.saturating_sub(16));
     said.fill(template, &[u64::from(class), most], &[]);

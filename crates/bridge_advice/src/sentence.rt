@@ -6,33 +6,33 @@ use bridge_text::Text;
 use std::alloc::Allocator;
 
 const OWN_PORT: &str =
-    "Warning: `stream` {0} of the file, handle {1}, comes in at port {2}, to which its `static` entry sends it: no frame leaves where it came in.\n";
+    "Warning: the `static` entry of `stream` {0} (handle {1}) names port {2}, where the stream enters. No frame leaves by its ingress port. Remove the port from `ports`, unless another stream needs it.\n";
 
-const CLOSED: &str = "Warning: gate {0} is closed at all moments: no frame goes through it.\n";
+const CLOSED: &str =
+    "Warning: gate {0} is always closed, so its filters refuse all their frames.\n";
 
 const NO_TOKEN: &str =
-    "Warning: meter {0} gives no token: `cbs` and `ebs` are below {1} octets, the least of a frame, so every frame is red.\n";
+    "Warning: meter {0} marks every frame red, because `cbs` and `ebs` are below {1} octets, the shortest frame. Raise one of them.\n";
 
 const NONE_AGAIN: &str =
-    "Warning: meter {0} gives no token again: `cir` and `eir` are 0, so every frame is red once its buckets are empty.\n";
+    "Warning: meter {0} never refills its buckets, because `cir` and `eir` are 0. When they are empty, every frame is red. Raise one of the rates.\n";
 
 const NO_STREAM: &str =
-    "Warning: filter {0} names handle {1}, which no `stream` gives: it gets no frame.\n";
+    "Warning: filter {0} is unused, because its handle {1} is missing from all `stream` tables.\n";
 
 const TAKEN: &str =
-    "Warning: filter {0} gets no frame: filter {1}, which has a lower number, takes all of them.\n";
+    "Warning: filter {0} matches no frame, because filter {1} has a lower number and matches all its frames.\n";
 
 const LIMIT: &str =
-    "Warning: gate {0} has an entry of `octets` {1}, below the `max_sdu` {2} of filter {3}: its longest frames don't go through there.\n";
+    "Warning: an entry of gate {0} refuses the longest frames of filter {3}, because its `octets` {1} are less than `max_sdu` {2}.\n";
 
 const HIDDEN: &str =
-    "Warning: `stream` {0} of the file, handle {1}, gets no frame: `stream` {2}, which stands before it, takes all of them. Take one of them away, or let them ask for other frames.\n";
+    "Warning: `stream` {0} (handle {1}) matches no frame, because the earlier `stream` {2} matches all of them. Remove or change one of the two.\n";
 
-const STUCK: &str =
-    "Warning: no frame of filter {0}, which is protected, leaves by `stream` {1} of the file: ";
+const STUCK: &str = "Warning: filter {0} (protected) can't forward `stream` {1}: ";
 
 const OUTSIDE: &str =
-    "Warning: no frame of filter {0}, which is protected, leaves port {1} by `stream` {2} of the file: its `static` entry names the port, which is none of the `members` of VLAN {3}. Add it there.\n";
+    "Warning: filter {0} (protected) can't send `stream` {2} out of port {1}. The `static` entry names the port, but VLAN {3} doesn't. Add port {1} to `members`.\n";
 
 /// Adds the sentence of a finding, a line that begins with `Warning: ` and says what to change where that isn't plain.
 pub fn put_advice<A: Allocator>(said: &mut Text<A>, advice: &Advice) {
@@ -110,18 +110,17 @@ fn put_stuck<A: Allocator>(said: &mut Text<A>, stuck: &Stuck) {
 fn reason_of(reason: Nowhere) -> &'static str {
     match reason {
         Nowhere::Reserved =>
-            "its address is one of 01-80-C2-00-00-00 to 01-80-C2-00-00-0F, which no bridge lets on. Give it another one.\n",
+            "no bridge forwards the addresses 01-80-C2-00-00-00 to 01-80-C2-00-00-0F. Use another address.\n",
         Nowhere::NoVlan =>
-            "there is no VLAN {1}. Add it, with port {0}, where it comes in, and the ports where it is to leave as `members`.\n",
-        Nowhere::Ingress =>
-            "port {0}, where it comes in, is none of the `members` of VLAN {1}. Add it there.\n",
-        Nowhere::NoPorts => "its `static` entry has no `ports`. Name those where it is to leave.\n",
+            "the plan has no VLAN {1}. Add it, with ingress port {0} and the egress ports as `members`.\n",
+        Nowhere::Ingress => "its ingress port {0} isn't in VLAN {1}. Add port {0} to `members`.\n",
+        Nowhere::NoPorts => "its `static` entry has empty `ports`. Add the egress ports.\n",
         Nowhere::OwnPort =>
-            "its `static` entry names port {0} alone, where it comes in. Name those where it is to leave.\n",
+            "its `static` entry names only the ingress port {0}. Add the egress ports.\n",
         Nowhere::Egress { .. } =>
-            "port {2}, which its `static` entry names, is none of the `members` of VLAN {1}. Add it there.\n",
+            "its `static` entry names port {2}, which isn't in VLAN {1}. Add port {2} to `members`.\n",
         Nowhere::Alone =>
-            "VLAN {1} has no member but port {0}, where it comes in. Add those where it is to leave.\n",
+            "the ingress port {0} is the only member of VLAN {1}. Add the egress ports.\n",
     }
 }
 

@@ -4,40 +4,40 @@ use bridge_text::Text;
 use std::alloc::Allocator;
 
 const BURST: &str =
-    "Warning: meter {0} lets no longest frame of filter {1} through, which is protected: to a meter it has {2} octets, with the frame check sequence, ";
+    "Warning: meter {0} refuses the longest frame of filter {1} (protected), which has {2} octets with the frame check sequence: ";
 
 const BURST_GREEN: &str =
-    "`cbs` is {3}, and yellow frames are dropped. Raise `cbs` to at least {2}.\n";
+    "`cbs` is {3}, and the meter drops yellow frames. Raise `cbs` to at least {2}.\n";
 
 const BURST_ANY: &str = "`cbs` is {3} and `ebs` is {4}. Raise one of them to at least {2}.\n";
 
 const RATE: &str =
-    "gate {0} lets {1} of the longest frames of filter {2}, which is protected, through in a cycle of {3} ns, which have {4} octets to meter {5}, ";
+    "meter {5} is slower than gate {0}. In each cycle of {3} ns the gate can pass {1} longest frames of filter {2} ({4} octets), ";
 
 const RATE_GREEN: &str =
-    "and its `cir` gives tokens for {6} in that time: frames are red or yellow once its bucket is empty. Raise `cir`, or lower `octets`.\n";
+    "but `cir` supplies only {6}. Frames turn yellow or red once the bucket is empty. Raise `cir`, or lower `octets`.\n";
 
 const RATE_ANY: &str =
-    "and its `cir` and `eir` give tokens for {6} in that time: frames are red once its buckets are empty. Raise one of them, or lower `octets`.\n";
+    "but `cir` and `eir` supply only {6}. Frames turn red once the buckets are empty. Raise `cir` or `eir`, or lower `octets`.\n";
 
 const FLOOD: &str =
-    "gate {0} lets {1} of the longest frames of filter {2}, which is protected, through in a cycle of {3} ns, which occupy the link of port {4} for {5} ns, and class {6} there is open for {7} ns of each {8} ns: frames are lost once the queue is full. Keep the class open for longer, or lower `octets`.\n";
+    "window too short. In each cycle of {3} ns, gate {0} can pass {1} longest frames of filter {2}. They need {5} ns at port {4}, but class {6} is open for only {7} ns of each {8} ns. A full queue drops frames. Lengthen the window, or lower `octets`.\n";
 
 const ROOMS: &str =
-    "gate {0} lets {1} of the longest frames of filter {2}, which is protected, through in its turn from phase {3} ns on, {4} of which wait at port {5} in class {6} as it ends, and there is room for {7}: the others are lost. Raise `rooms`, or lower `octets`.\n";
+    "queue too short. In the entry at offset {3} ns, gate {0} can pass {1} longest frames of filter {2}. When the entry ends, {4} of them would wait at port {5}, class {6}, but the queue holds only {7}. Raise `rooms`, or lower `octets`.\n";
 
 const PAUSE: &str =
-    "gate {0} of filter {1}, which is protected, is open from phase {2} ns for {3} ns, and class {4} of port {5} is closed meanwhile: a frame that comes as the gate opens waits at least {6} ns. Bring them together by `base`, or by the order of entries.\n";
+    "gate {0} (filter {1}) is open from offset {2} ns for {3} ns, while class {4} of port {5} can't send. A frame that arrives as the gate opens waits at least {6} ns. Shift one of them by `base`, or reorder entries.\n";
 
 const CYCLES: &str =
-    "gate {0} of filter {1}, which is protected, has a cycle of {2} ns and port {3} one of {4} ns, and neither is a multiple of the other: how long frames wait there repeats after {5} ns alone. Make one a multiple of the other.\n";
+    "gate {0} of filter {1} has a cycle of {2} ns, and port {3} has {4} ns. Neither is a multiple of the other, so the delay pattern repeats only every {5} ns. Make one cycle a multiple of the other.\n";
 
 /// The beginning of the sentence of a finding at a stage.
 fn front_of(stage: Stage) -> &'static str {
     match stage {
         Stage::Always => "Warning: ",
-        Stage::Before => "Warning: until the change of schedules ",
-        Stage::Behind => "Warning: from the change of schedules on ",
+        Stage::Before => "Warning: (old schedule) ",
+        Stage::Behind => "Warning: (new schedule) ",
     }
 }
 

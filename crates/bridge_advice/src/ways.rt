@@ -20,16 +20,15 @@ enum Way {
     Flood,
 }
 
-const ANY: &str = "Filter {0} takes frames of every stream: they may go to any port.\n";
+const ANY: &str = "Filter {0} matches every stream, so its frames can reach any port.\n";
 
 const SOURCE: &str =
-    "`stream` {1} of the file knows frames of filter {0} by their source alone: they may go to any port.\n";
+    "`stream` {1} identifies filter {0} by source address, so its frames can reach any port.\n";
 
-const ENTRY: &str =
-    "`stream` {1} of the file has frames of filter {0} go to port {2}, which the `static` entry of its address names.\n";
+const ENTRY: &str = "`stream` {1} leads filter {0} to port {2} by a `static` entry.\n";
 
 const FLOOD: &str =
-    "`stream` {1} of the file has frames of filter {0} go to port {2}: VLAN {3} has no `static` entry of its address, so they go to all of its members.\n";
+    "`stream` {1} leads filter {0} to port {2}. VLAN {3} has no `static` entry for its address, so its frames go to all members.\n";
 
 /// Whether a VLAN has a static entry of an address.
 fn has_entry(statics: &[StaticEntry], vid: u16, address: [u8; 6]) -> bool {

@@ -15,11 +15,11 @@ const STEPS: [u32; 14] = [
     8192, 4096, 2048, 1024, 512, 256, 128, 64, 32, 16, 8, 4, 2, 1,
 ];
 
-/// What is said of a window from the phase `{0}` on, for `{1}` ns, by its place among all, from 0: the first eight are listed.
+/// What is said of a window from the phase `{0}` to `{1}`, in ns, by its place among all, from 0: the first eight are listed.
 fn window_at(place: usize) -> &'static str {
     match place {
-        0 => "open from phase {0} ns for {1} ns",
-        1..=7 => ", from phase {0} ns for {1} ns",
+        0 => "open {0} to {1} ns",
+        1..=7 => ", {0} to {1} ns",
         8 => ", ..",
         _ => "",
     }
@@ -27,7 +27,7 @@ fn window_at(place: usize) -> &'static str {
 
 /// Adds one more window of a class, by its place from 0, or that there are more.
 fn put_window(said: &mut Said, place: usize, from: u64, to: u64) {
-    said.fill(window_at(place), &[from, to.saturating_sub(from)], &[]);
+    said.fill(window_at(place), &[from, to], &[]);
 }
 
 /// Adds when a list opens a class: each time for which it is open without a break in a cycle, the first eight of them.
@@ -66,7 +66,7 @@ pub(crate) fn put_open<A: Allocator + Copy>(said: &mut Said, port: &PortPlan<A>,
         Some(Egress::Joined(joined)) => {
             let (old, new) = joined.lists();
             put_list(said, old, class);
-            said.fill("; from {0} ns on ", &[joined.at()], &[]);
+            said.fill("; after the change at {0} ns ", &[joined.at()], &[]);
             put_list(said, new, class);
         }
     }

@@ -64,7 +64,7 @@ const EXPLAIN: Word = Word {
     id: "explain",
     value: "",
     form: Form::Flag,
-    help: "say more on standard error: of a fault, or of a plan that is accepted",
+    help: "explain a fault on standard error; check and run also describe an accepted plan",
 };
 
 /// Whether a plan is refused too where something is told of it that is accepted.
@@ -72,11 +72,11 @@ const STRICT: Word = Word {
     id: "strict",
     value: "",
     form: Form::Flag,
-    help: "end with status 1 where there is a warning of a plan that is accepted",
+    help: "treat warnings as errors (status 1)",
 };
 
 /// What may be wrong with the words of a command that has none of which more is to be said.
-const OPTIONS_ALONE: &str = "An option stands where it may not, twice, or without its value.\n";
+const OPTIONS_ALONE: &str = "An option is unknown here, repeated, or lacks its value.\n";
 
 const WIRE: Description = Description {
     name: "wire",
@@ -93,38 +93,38 @@ const WIRE: Description = Description {
             id: "room",
             value: "ROOM",
             form: Form::Place,
-            help: "places of the queue: 1 to 4096",
+            help: "capacity of the queue in frames: 1 to 4096",
         },
         Word {
             id: "input",
             value: "IN",
             form: Form::Place,
-            help: "the capture that is read (classic, not pcapng), or - for standard input",
+            help: "input capture (classic pcap, not pcapng), or - for standard input",
         },
         Word {
             id: "output",
             value: "OUT",
             form: Form::Place,
-            help: "the capture that is written (of nanoseconds), or - for standard output",
+            help: "output capture (classic pcap, times in ns), or - for standard output",
         },
         EXPLAIN,
     ],
-    reason: "MBPS must be 10, 100, 1000, 2500 or 10000, and ROOM a whole number from 1 to 4096.\n",
+    reason: "MBPS must be 10, 100, 1000, 2500 or 10000. ROOM must be a whole number from 1 to 4096.\n",
     after: "\
 Example:
   tsnbridge wire 1000 4 in.pcap out.pcap
 
 Statuses:
-  0  the capture went through; one line has its counts
+  0  success: one line counts the frames
   2  the capture is refused
-  3  a file, a read, a write or memory failed
-  4  the words are refused",
+  3  a file can't be opened, read or written, or memory is exhausted
+  4  bad arguments",
 };
 
 const CHECK: Description = Description {
     name: "check",
     call: "check PLAN [--strict]",
-    about: "Say whether a plan protects its streams",
+    about: "Check whether a plan protects its streams",
     words: &[
         Word {
             id: "plan",
@@ -141,29 +141,29 @@ Example:
   tsnbridge check examples/base.toml
 
 Statuses:
-  0  the plan is accepted; one line has its protected filters
-  1  the plan is refused; with --strict also where there is a warning
-  3  a file, a read, a write or memory failed
-  4  the words are refused",
+  0  the plan is accepted: one line counts its protected filters
+  1  the plan is refused, or has a warning (--strict)
+  3  a file can't be opened, read or written, or memory is exhausted
+  4  bad arguments",
 };
 
 const RUN: Description = Description {
     name: "run",
     call: "run PLAN IN OUT [--commands FILE] [--delays FILE] [--frames FILE] [--picture FILE [--from NS] [--to NS] [--ports LIST] [--filters LIST]] [--strict]",
-    about: "Send the captures of all ports through the bridge of a plan",
+    about: "Run captures through the bridge of a plan",
     words: &[
         PLAN,
         Word {
             id: "input",
             value: "IN",
             form: Form::Place,
-            help: "folder of the captures that are read, <port>.pcap for each port of the plan",
+            help: "input folder with <port>.pcap for each port of the plan",
         },
         Word {
             id: "output",
             value: "OUT",
             form: Form::Place,
-            help: "folder of what is written, <port>.pcap and report.txt; it is there already and isn't IN",
+            help: "output folder for <port>.pcap and report.txt; must exist and differ from IN",
         },
         Word {
             id: "commands",
@@ -175,64 +175,64 @@ const RUN: Description = Description {
             id: "delays",
             value: "FILE",
             form: Form::Choice,
-            help: "file of a table of each filter's delays and losses, which is made too (CSV)",
+            help: "also write delays and losses by filter and port (CSV)",
         },
         Word {
             id: "frames",
             value: "FILE",
             form: Form::Choice,
-            help: "file of a table of what became of each frame, which is made too (CSV)",
+            help: "also write a row for each copy of each frame (CSV)",
         },
         Word {
             id: "picture",
             value: "FILE",
             form: Form::Choice,
-            help: "file of a picture of the run, which is made too (SVG)",
+            help: "also draw the run (SVG)",
         },
         Word {
             id: "from",
             value: "NS",
             form: Form::Choice,
-            help: "from when on the picture shows the run, in ns below 4 * 10^18; else from its start",
+            help: "start of the picture in ns (default: first event)",
         },
         Word {
             id: "to",
             value: "NS",
             form: Form::Choice,
-            help: "up to when it does, in ns below 4 * 10^18, behind that; else up to its end",
+            help: "end of the picture in ns (default: last event)",
         },
         Word {
             id: "ports",
             value: "LIST",
             form: Form::Choice,
-            help: "the ports that the picture shows, as 1,3; else all",
+            help: "ports in the picture, for example 1,3 (default: all)",
         },
         Word {
             id: "filters",
             value: "LIST",
             form: Form::Choice,
-            help: "the filters of which it shows the frames, as 10,20; else all",
+            help: "filters whose frames the picture shows, for example 10,20 (default: all)",
         },
         Word {
             id: "strict",
             value: "",
             form: Form::Flag,
-            help: "run nothing and end with status 1 where there is a warning of the plan",
+            help: "treat warnings as errors (status 1): run nothing",
         },
         EXPLAIN,
     ],
-    reason: "An option stands where it may not, twice, or without its value.\n--from, --to, --ports and --filters stand beside --picture. Moments are in ns below 4 * 10^18, the first before the second; lists are numbers joined by commas, as 1,3.\n",
+    reason: "An option is unknown here, repeated, or lacks its value.\nOptions --from, --to, --ports and --filters need --picture. Times are in ns, below 4 * 10^18, and --from is earlier than --to. Lists are numbers with commas between them, for example 1,3.\n",
     after: "\
 Example:
   mkdir out
   tsnbridge run examples/base.toml examples/gated out
 
 Statuses:
-  0  the captures went through; one line has their counts
-  1  the plan or its commands are refused; with --strict also where there is a warning
+  0  success: one line counts the frames
+  1  the plan or its commands are refused, or the plan has a warning (--strict)
   2  a capture is refused
-  3  a file, a read, a write or memory failed
-  4  the words are refused",
+  3  a file can't be opened, read or written, or memory is exhausted
+  4  bad arguments",
 };
 
 const PICTURE: Description = Description {
@@ -250,149 +250,153 @@ const PICTURE: Description = Description {
             id: "file",
             value: "FILE",
             form: Form::Place,
-            help: "file of the picture that is made (SVG), or - for standard output",
+            help: "output file (SVG), or - for standard output",
         },
         Word {
             id: "from",
             value: "NS",
             form: Form::Choice,
-            help: "of a plan from when on it is drawn, in ns below 4 * 10^18; else from its start",
+            help: "for plans, start of the picture in ns (default: start of the hypercycle)",
         },
         Word {
             id: "to",
             value: "NS",
             form: Form::Choice,
-            help: "of a plan up to when, in ns below 4 * 10^18, behind that; else up to its end",
+            help: "for plans, end of the picture in ns (default: end of the hypercycle)",
         },
         Word {
             id: "ports",
             value: "LIST",
             form: Form::Choice,
-            help: "of a plan the ports that are drawn, as 1,3, without its stream gates; else all",
+            help: "for plans, ports to draw without stream gates, for example 1,3 (default: all ports and gates)",
         },
         EXPLAIN,
     ],
-    reason: "An option stands where it may not, twice, or without its value.\n--from and --to are moments in ns below 4 * 10^18, the first before the second, and --ports are numbers joined by commas, as 1,3.\n",
+    reason: "An option is unknown here, repeated, or lacks its value.\nOptions --from and --to are times in ns, below 4 * 10^18, and --from is earlier than --to. Option --ports is a list of numbers with commas between them, for example 1,3.\n",
     after: "\
 Example:
   tsnbridge picture examples/base.toml base.svg
 
 Statuses:
-  0  the picture is made
-  1  the plan's text is refused, or the network
-  3  a file, a read, a write or memory failed
-  4  the words are refused",
+  0  success
+  1  the text of the plan, or the network, is refused
+  3  a file can't be opened, read or written, or memory is exhausted
+  4  bad arguments",
 };
 
 const BOUNDS: Description = Description {
     name: "bounds",
     call: "bounds PLAN [--traffic FILE]",
-    about: "Say how long the frames of protected streams may take",
+    about: "Print the delay bounds of protected streams",
     words: &[
         PLAN,
         Word {
             id: "traffic",
             value: "FILE",
             form: Form::Choice,
-            help: "file of the traffic of the streams' talkers (TOML, at most 1,048,576 octets)",
+            help: "file of periodic talkers (TOML, at most 1,048,576 octets)",
         },
         EXPLAIN,
     ],
     reason: OPTIONS_ALONE,
     after: "\
-For each queue of each protected filter one line: the most ns from a frame's arrival until it is out,
-whatever its talker and all others do. With traffic, for each stream that has a period what its frames
-take while its talker keeps to it.
+Prints a line for each queue of each protected filter. The bound is the longest time in ns from a
+frame's arrival to the end of its transmission and gap, whatever any device sends. With --traffic, the
+program also prints the worst and the best time of each periodic talker.
 
 Example:
   tsnbridge bounds examples/base.toml
 
 Statuses:
-  0  the plan is accepted, and traffic is in time; a line for each queue has its bound
+  0  the plan is accepted, and all traffic passes in time
   1  the plan or the traffic is refused, or a frame may be refused or late
-  3  a file, a read, a write or memory failed
-  4  the words are refused",
+  3  a file can't be opened, read or written, or memory is exhausted
+  4  bad arguments",
 };
 
 const NET: Description = Description {
     name: "net",
-    call: "net check NET [--strict]",
-    about: "Say whether a network of bridges protects its streams, or run it",
+    call: "net check NET [--strict], or tsnbridge net NET IN OUT [--picture FILE] [--strict]",
+    about: "Check or run a network of bridges",
     words: &[
         Word {
             id: "first",
             value: "check|NET",
             form: Form::Place,
-            help: "the word check, or to run a network its file (TOML, at most 1,048,576 octets)",
+            help: "check, or the file of the network to run (TOML, at most 1,048,576 octets)",
         },
         Word {
             id: "second",
             value: "NET|IN",
             form: Form::Place,
-            help: "behind check the file of the network, else the folder of the captures that are read",
+            help: "after check: the file of the network; else: input folder with BRIDGE/PORT.pcap for each open port",
         },
         Word {
             id: "output",
             value: "OUT",
             form: Form::Extra,
-            help: "folder of the captures, reports and tables that are written: the network is run",
+            help: "output folder for captures, reports and tables",
         },
         Word {
             id: "picture",
             value: "FILE",
             form: Form::Choice,
-            help: "picture of the run that is made too (SVG)",
+            help: "also draw the run (SVG)",
         },
         Word {
             id: "strict",
             value: "",
             form: Form::Flag,
-            help: "end with status 1 where something is told of a network that is accepted",
+            help: "treat warnings as errors (status 1)",
         },
         EXPLAIN,
     ],
-    reason: "An option stands where it may not, twice, or without its value.\nThe first word behind `net` is `check`.\n",
+    reason: "An option is unknown here, repeated, or lacks its value.\nWithout `check`, the command needs NET, IN and OUT.\n",
     after: "\
+Two forms:
+  tsnbridge net check NET [--strict]
+  tsnbridge net NET IN OUT [--picture FILE] [--strict]
+
 Examples:
   tsnbridge net check examples/line/network.toml
   tsnbridge net examples/network/network.toml examples/network out
 
-Plans lie beside the network's file. The folder that is read has one for each bridge, with the
-captures of its open ports (1.pcap ..) and commands.toml where commands come to it.
+Paths of plans are relative to the network's file. IN has a folder for each bridge: 1.pcap .. for its
+open ports, and commands.toml if it receives commands.
 
 Statuses:
-  0  the network is accepted; one line counts what it has, and each stream has its bound; a run
-     has one line
-  1  the network, a plan or commands are refused; with --strict also where something is told
-  2  a capture is refused, or frames go round and the run doesn't settle
-  3  a file, a read, a write or memory failed
-  4  the words are refused",
+  0  the network is accepted, or its run is complete
+  1  the network, a plan or commands are refused, a stream is refusable or late, or there is a
+     warning (--strict)
+  2  a capture is refused, or frames loop and the run doesn't settle
+  3  a file can't be opened, read or written, or memory is exhausted
+  4  bad arguments",
 };
 
 const PROGRAM: Description = Description {
     name: "tsnbridge",
     call: "",
-    about: "Send captures of Ethernet frames through a time-aware bridge, exactly (IEEE 802.1Q-2018)",
+    about: "Check and simulate time-aware Ethernet bridges exactly (IEEE 802.1Q-2018)",
     words: &[],
     reason: "",
     after: "\
-Without words the program reads the hexadecimal text of a capture from standard input, sends it
-through one queue of 4 places at 1000 Mb/s, and prints the text of what left.
+Without arguments, tsnbridge reads a capture as hexadecimal digits from standard input, sends it
+through a queue for 4 frames at 1000 Mb/s and prints the result.
 
 Example:
   tsnbridge run examples/base.toml examples/gated out
 
 Statuses:
-  0  the job is done
+  0  success, also after --help and --version
   1  a plan, its commands or a network are refused
   2  a text or a capture is refused, or a network doesn't settle
-  3  a file, a read, a write or memory failed
-  4  the words are refused",
+  3  a file can't be opened, read or written, or memory is exhausted
+  4  bad arguments",
 };
 
 /// The options of all commands, with what has them.
 pub const OPTIONS: &str =
-    "The options are --commands FILE, --delays FILE, --frames FILE and --filters LIST (of run), --picture FILE (of run and net), --from NS, --to NS and --ports LIST (of run and picture), --traffic FILE (of bounds), --strict (of check, run and net), and --explain.\n";
+    "The options are:\n  --explain for all commands\n  --strict for check, run and net\n  --picture FILE for run and net\n  --from NS, --to NS and --ports LIST for run and picture\n  --commands FILE, --delays FILE, --frames FILE and --filters LIST for run\n  --traffic FILE for bounds\n";
 
 /// The version of the program.
 const VERSION: &str = "1.0.0";

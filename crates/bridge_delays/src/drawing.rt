@@ -37,15 +37,15 @@ text{font:13px system-ui,sans-serif;fill:#222}.s{font-size:11px;fill:#666}.page{
 const HEAD: &str = r#"<svg xmlns="http://www.w3.org/2000/svg" viewBox="0 0 {0} {1}">
 <style>{a}</style>
 <rect class="page" width="100%" height="100%"/>
-<text class="s" x="12" y="24">from {2} to {3} ns: yellow from a frame's coming to its start, blue on the link, red where it was refused; green while a queue is open{b}</text>
+<text class="s" x="12" y="24">{2} to {3} ns; yellow: waiting, blue: on the link, red: refused, green: queue open{b}</text>
 "#;
 
-const LEFT_OUT: &str = "; {0} shapes are left out";
+const LEFT_OUT: &str = "; not drawn: {0} shapes";
 
 /// A bar of a copy that left, so far from the left and the top and so wide; one of a frame that was refused; a way over a link; the
 /// row of a hop with its name; a window of a queue.
 const LEFT_BAR: &str =
-    r#"<rect class="{a}" x="{0}" y="{1}" width="{2}" height="12"><title>frame {3} came {4} started {5} done {6} ns, port {7}</title></rect>"#;
+    r#"<rect class="{a}" x="{0}" y="{1}" width="{2}" height="12"><title>frame {3} arrived {4}, started {5}, ended {6} ns, port {7}</title></rect>"#;
 
 const LOST_BAR: &str =
     r#"<rect class="lost" x="{0}" y="{1}" width="{2}" height="12"><title>refused</title></rect>"#;

@@ -65,37 +65,36 @@ fn sentence_of(octets: &[u8], fault: &CaptureFault) -> &'static str {
         CaptureFault::BadMagic if octets.is_empty() =>
             ": it is empty, and must be a classic capture (pcap).\n",
         CaptureFault::BadMagic if is_text(octets) =>
-            ": it looks like a text, and must be a classic capture (pcap). Where it is a hexadecimal dump: text2pcap -F nsecpcap {a} NEW.pcap\n",
+            ": it looks like text, and must be a classic capture (pcap). If it is a hexadecimal dump: text2pcap -F nsecpcap {a} NEW.pcap\n",
         CaptureFault::BadMagic =>
-            ": it looks like no capture, and must be a classic capture (pcap). See whether it is the file that you mean.\n",
+            ": not a capture file. The command needs a classic capture (pcap).\n",
         CaptureFault::BadVersion =>
             ": its version is {3}.{4}, and must be 2.4. Convert it: editcap -F nsecpcap {a} NEW.pcap\n",
         CaptureFault::BadLinkType if link_at(octets).0 != 1 =>
             ": its link type is {5}, and must be 1 (Ethernet). Capture at an Ethernet interface.\n",
         CaptureFault::BadLinkType if link_at(octets).1 & 0x0400 != 0 =>
-            ": its link type is 1 (Ethernet), and the word in which it stands says that each frame carries its check sequence; a capture here has frames without it. Cut it off: editcap -F nsecpcap -L -C -4 {a} NEW.pcap\n",
+            ": its header says that frames end with a frame check sequence. Remove the sequence: editcap -F nsecpcap -L -C -4 {a} NEW.pcap\n",
         CaptureFault::BadLinkType =>
-            ": its link type is 1 (Ethernet), and the word in which it stands has more in its upper half, where 0 is wanted. Convert it: editcap -F nsecpcap {a} NEW.pcap\n",
+            ": its link type is 1 (Ethernet), but the upper half of that word isn't 0. Convert the file: editcap -F nsecpcap {a} NEW.pcap\n",
         CaptureFault::HeaderCut
             if looks_of(octets).is_none() && !octets.is_empty() && is_text(octets) =>
-            ": it has {0} octets and looks like a text; the header of a capture has {1}.\n",
+            ": it has {0} octets and looks like text. A capture begins with a header of {1} octets.\n",
         CaptureFault::HeaderCut =>
-            ": it has {0} octets, and the header of a capture has {1}. See whether it was written or copied whole.\n",
+            ": it has {0} octets, but a capture begins with a header of {1} octets. Check that the file is complete.\n",
         CaptureFault::RecordCut(_) =>
-            ": the file ends inside record {2}. See whether it was written or copied whole; the whole records alone: editcap -F nsecpcap {a} NEW.pcap\n",
+            ": the file ends inside record {2}. Check that it is complete, or keep its complete records: editcap -F nsecpcap {a} NEW.pcap\n",
         CaptureFault::LengthsCross(_) =>
-            ": record {2} has more captured octets than its frame has. See what wrote the file.\n",
+            ": record {2} is damaged: its captured length exceeds its original length.\n",
         CaptureFault::RecordTooLarge(_) =>
             ": record {2} has more than 262144 captured octets. Cut the frames: editcap -F nsecpcap -s 262144 {a} NEW.pcap\n",
         CaptureFault::TimeBack(_) =>
             ": record {2} is earlier than the record before it. Sort the records: reordercap {a} NEW.pcap\n",
         CaptureFault::TimeTooLate(_) =>
-            ": the time of record {2} is not below 4000000000 seconds. Shift the times: editcap -F nsecpcap -t -SECONDS {a} NEW.pcap\n",
+            ": the time of record {2} is 4000000000 seconds or more. Shift the times: editcap -F nsecpcap -t -SECONDS {a} NEW.pcap\n",
         CaptureFault::TooManyRecords =>
             ": it has more than 1000000 records. Take a part: editcap -F nsecpcap -r {a} NEW.pcap 1-1000000\n",
-        CaptureFault::Read =>
-            ": reading it failed part of the way; see the disk or the network below it.\n",
-        CaptureFault::Write => ": writing it failed; see whether the disk is full.\n",
+        CaptureFault::Read => ": a read failed inside the file. Check the disk or the network.\n",
+        CaptureFault::Write => ": a write failed. Check whether the disk is full.\n",
         CaptureFault::NoMemory => ": there is not enough memory for it.\n",
     }
 }

@@ -66,7 +66,7 @@ pub(crate) fn put_items(said: &mut Said, keys: &'static [Key], list: &str, items
     }
     match flawed {
         Some((number, key, entry)) => put_flaw(said, number, list, *key, entry),
-        None => fill_one(said, "Each entry of `{a}` is as it may be.\n", 0, list),
+        None => fill_one(said, "All entries of `{a}` are valid.\n", 0, list),
     }
 }
 
@@ -147,7 +147,7 @@ fn refusal_of(fault: ListFault) -> &'static str {
             "`{b}` is {2}.\nIt must be a whole number from 1 to {3} (ns).\n",
         ListFault::ZeroInterval => "Entry {4} of `{a}` lasts 0 ns.\nEach must last 1 ns or more.\n",
         ListFault::OverCycle =>
-            "The entries of `{a}` last {5} ns together, and `{b}` is {2} ns.\nThey must last at most as long as `{b}`.\n",
+            "The entries of `{a}` last {5} ns in total, but `{b}` is only {2} ns.\nShorten an entry, or raise `{b}`.\n",
         ListFault::NoMemory => "There is not enough memory for it.\n",
     }
 }

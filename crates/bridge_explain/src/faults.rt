@@ -120,7 +120,7 @@ fn put_falling(said: &mut Said, source: Source<'_>, index: u32, at: Option<u64>)
     if at < before {
         let index = u64::from(index);
         said.fill(
-            "The moments of commands must not fall: `command` {0} of the file is at {1} ns, and `command` {2} at {3} ns.\n",
+            "Commands must be in order of time, but `command` {0} is at {1} ns and `command` {2} at {3} ns.\n",
             &[index.saturating_sub(1), before, index, at],
             &[],
         );
@@ -134,13 +134,13 @@ fn sentence_of(allowed: Allowed) -> &'static str {
         Allowed::Set(_) => "It must be an array of whole numbers from {0} to {1}.\n",
         Allowed::Eight(_) => "It must be an array of eight whole numbers from {0} to {1}.\n",
         Allowed::NumberOf(_) => "It must be the `{a}` of a `{b}` of the plan.\n",
-        Allowed::Ports => "It must be an array of numbers of ports of the plan.\n",
+        Allowed::Ports => "It must be an array of port numbers of the plan.\n",
         Allowed::Tables => "It must be an array of tables.\n",
         Allowed::Length => "It must be a whole number from 1 to {2} (ns).\n",
         Allowed::Mbps => "It must be 10, 100, 1000, 2500 or 10000 (Mb/s).\n",
         Allowed::Switch => "It must be true or false.\n",
         Allowed::Address =>
-            "It must be six pairs of hexadecimal digits joined by hyphens, as \"01-80-C2-00-00-0E\".\n",
+            "It must be six pairs of hexadecimal digits joined by hyphens, for example \"91-E0-F0-00-FE-10\".\n",
         Allowed::Kind => "It must be \"null\" or \"source\".\n",
         Allowed::Tag => "It must be \"tagged\", \"priority\" or \"all\".\n",
         Allowed::State => "It must be \"open\" or \"closed\".\n",
@@ -195,7 +195,7 @@ fn put_may(said: &mut Said, source: Source<'_>, allowed: Allowed) {
     if items.is_empty() {
         return fill_one(said, "The plan has no `{a}`.\n", 0, section.name());
     }
-    let (template, count) = ("The plan has {0} of `{a}`: ", items.len() as u64);
+    let (template, count) = ("The plan has {0} `{a}` tables: ", items.len() as u64);
     fill_one(said, template, count, section.name());
     put_numbers(said, items, own_key(section));
     said.put(".\n");
@@ -242,7 +242,7 @@ fn put_duplicate(said: &mut Said, source: Source<'_>, section: Section, index: u
     let twin = twin_of(items, table, own_key(section), more);
     put_place(said, source, section, index, None);
     said.fill(
-        "`{a}` {0} of the file has the same {b}; each `{a}` must have its own.\n",
+        "`{a}` {0} of the file has the same {b}. Each `{a}` needs a {b} of its own.\n",
         &[twin as u64],
         &[section.name(), keys],
     );

@@ -19,26 +19,25 @@ pub fn explain_file(alloc: Global, path: &str, cause: Cause) -> Result<String, N
 /// What is said of a cause at the path `{a}`.
 fn sentence_of(cause: Cause) -> &'static str {
     match cause {
-        Cause::NotFound =>
-            ": there is no such file. See the spelling, and the folder from which the program is called.\n",
+        Cause::NotFound => ": no such file. Check the spelling and the current folder.\n",
         Cause::NoCapture =>
-            ": there is no such file, and each port of the plan needs its capture. Where nothing comes in, one without frames will do, as examples/alone/2.pcap.\n",
+            ": no such file. Each port of the plan needs a capture. For a silent port, use an empty one, for example examples/alone/2.pcap.\n",
         Cause::Pcapng =>
-            ": there is no such file, but {a}ng lies beside it. Convert it: editcap -F nsecpcap {a}ng {a}\n",
-        Cause::Gzip =>
-            ": there is no such file, but {a}.gz lies beside it. Unpack it: gunzip {a}.gz\n",
-        Cause::NoFolder => ": the folder in which it should lie is not there. Make it first.\n",
-        Cause::Folder => ": it is a folder, and a file is wanted.\n",
-        Cause::NoFolderButFile => ": what should be its folder is a file.\n",
-        Cause::NotReadable => ": there is no permission to read it.\n",
-        Cause::NotWritable => ": there is no permission to write it, or no room.\n",
+            ": the file is missing, but {a}ng is there. Convert it: editcap -F nsecpcap {a}ng {a}\n",
+        Cause::Gzip => ": the file is missing, but {a}.gz is there. Unpack it: gunzip {a}.gz\n",
+        Cause::NoFolder =>
+            ": its folder doesn't exist. Create the folder, or check the spelling.\n",
+        Cause::Folder => ": a folder, but the command needs a file.\n",
+        Cause::NoFolderButFile => ": a part of the path is a file instead of a folder.\n",
+        Cause::NotReadable => ": reading is not permitted.\n",
+        Cause::NotWritable => ": writing is not permitted, or the disk is full.\n",
         Cause::SameFolder => {
-            ": it is the folder of the captures that are read, which would be overwritten. Name another folder.\n"
+            ": OUT is IN, so the run would overwrite its captures. Name another folder.\n"
         }
         Cause::Taken =>
-            ": the job reads this file, or writes something else into it, which would be lost. Name another one.\n",
+            ": the command already reads or writes this file. Name another output file.\n",
         Cause::Standard => ": standard input or output can't be read or written.\n",
-        Cause::Unknown => ": the system gives no reason that is known here.\n",
+        Cause::Unknown => ": the system gave no known reason.\n",
     }
 }
 

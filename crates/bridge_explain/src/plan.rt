@@ -44,7 +44,7 @@ fn body_of(alloc: Global, octets: &[u8], plan: Option<&[u8]>, fault: &PlanFault)
     let mut said = Text::new(alloc);
     match (fault, str::from_utf8(octets)) {
         (PlanFault::TooLong, _) => said.put(
-            ": the text has more than 1048576 octets. Leave out what the bridge doesn't need.\n",
+            ": the file has more than 1048576 octets. Remove entries that the bridge doesn't need.\n",
         ),
         (PlanFault::NoMemory, _) => said.put(": there is not enough memory to read it.\n"),
         (_, Ok(text)) => put_text(alloc, &mut said, text, plan, fault),
@@ -53,7 +53,7 @@ fn body_of(alloc: Global, octets: &[u8], plan: Option<&[u8]>, fault: &PlanFault)
                 &mut said,
                 Some(position_behind(octets, error.valid_up_to())),
             );
-            said.put("the octets are no text in UTF-8 from here on.\n");
+            said.put("from here on the file isn't UTF-8 text.\n");
         }
     }
     said
@@ -82,13 +82,13 @@ fn put_text(alloc: Global, said: &mut Said, text: &str, plan: Option<&[u8]>, fau
 fn put_error(said: &mut Said, text: &str, error: &Error) {
     let message = error.message();
     let Some(span) = error.span() else {
-        return fill_one(said, ": no TOML document: {a}.\n", 0, message);
+        return fill_one(said, ": invalid TOML: {a}.\n", 0, message);
     };
     put_position(said, Some(position_behind(text.as_bytes(), span.start)));
-    fill_one(said, "no TOML document: {a}.\n", 0, message);
+    fill_one(said, "invalid TOML: {a}.\n", 0, message);
     let (before, word) = word_at(text, span.start);
     let template = if message == "duplicate key" && !word.is_empty() {
-        "The key `{a}` stands twice in its table: take one of the two away.\n"
+        "The key `{a}` is repeated in its table. Remove one of the two.\n"
     } else if matches!(before, Some(b'=' | b'[' | b',')) {
         advice_on(word)
     } else {
@@ -121,13 +121,13 @@ fn word_at(text: &str, place: usize) -> (Option<u8>, &str) {
 fn advice_on(word: &str) -> &'static str {
     let first = word.as_bytes().first().copied().unwrap_or(b'-');
     if word.eq_ignore_ascii_case("true") || word.eq_ignore_ascii_case("yes") {
-        "`{a}` is no value: write true, in small letters and without quotes.\n"
+        "`{a}` isn't a value. Write true, in lower case and without quotes.\n"
     } else if word.eq_ignore_ascii_case("false") || word.eq_ignore_ascii_case("no") {
-        "`{a}` is no value: write false, in small letters and without quotes.\n"
+        "`{a}` isn't a value. Write false, in lower case and without quotes.\n"
     } else if first.is_ascii_alphabetic()
         || first != b'-' && (word.contains('-') || word.contains(':'))
     {
-        "`{a}` is no value: a text stands in quotes, as \"{a}\".\n"
+        "`{a}` isn't a value. Write text in quotes: \"{a}\".\n"
     } else {
         ""
     }

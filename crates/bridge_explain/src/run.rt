@@ -32,9 +32,9 @@ pub fn explain_text(alloc: Global, fault: &TextFault) -> Result<String, NoMemory
 {
     let body = match fault {
         TextFault::NotHex =>
-            ": standard input must be hexadecimal digits in pairs, with blanks between pairs alone. The commands take files: check, run, wire.\n",
+            ": standard input must contain pairs of hexadecimal digits, with blanks only between pairs. The commands check, run and wire read files.\n",
         TextFault::TooLong =>
-            ": standard input may have at most 4194304 characters and 1048576 pairs of digits. Send a capture file: wire MBPS ROOM IN OUT.\n",
+            ": standard input can have at most 4194304 characters and 1048576 pairs of digits. Use a capture file: tsnbridge wire MBPS ROOM IN OUT\n",
         TextFault::Run(fault) => return explain_run(alloc, "-", &[], fault),
     };
     of_file(alloc, "-", body)

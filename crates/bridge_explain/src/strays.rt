@@ -78,11 +78,11 @@ pub(crate) fn put_top_key(alloc: Global, said: &mut Said, source: Source<'_>) {
         if !is_section(sections, key) {
             put_position(said, top_position(source.text, key));
             put_key(said, key);
-            said.put(" is no section.\n");
+            said.put(" isn't a section.\n");
             return put_nearest(alloc, said, key, sections, &[]);
         }
     }
-    said.put(": each key of the top is known.\n");
+    said.put(": all top-level keys are known.\n");
 }
 
 /// The first key of a table that may not stand there, of those that may.
@@ -151,7 +151,7 @@ fn put_in_lists(
             let list = list.entries.key();
             put_place(said, source, section, index, Some(list));
             put_key(said, key);
-            let template = ", in entry {0} of `{a}`, is no key of an entry.\n";
+            let template = ", in entry {0} of `{a}`, isn't a key of entries.\n";
             fill_one(said, template, number, list);
             return put_nearest(alloc, said, key, &[], keys);
         }
@@ -176,14 +176,24 @@ fn put_in_table(
     put_key(said, key);
     match why {
         Some(Hindrance::Lacks(other)) => {
-            fill_one(said, " may stand only beside `{a}`.\n", 0, other.key());
+            fill_one(
+                said,
+                " needs the key `{a}` in the same table.\n",
+                0,
+                other.key(),
+            );
         }
         Some(Hindrance::Has(other)) => {
-            fill_one(said, " may not stand beside `{a}`.\n", 0, other.key());
+            fill_one(
+                said,
+                " can't be in the same table as `{a}`.\n",
+                0,
+                other.key(),
+            );
         }
-        Some(Hindrance::NoChange) => said.put(" may stand only in a plan with a `[[change]]`.\n"),
+        Some(Hindrance::NoChange) => said.put(" needs a `[[change]]` in the plan.\n"),
         None => {
-            fill_one(said, " is no key of `{a}`.\n", 0, section.name());
+            fill_one(said, " isn't a key of `{a}`.\n", 0, section.name());
             put_nearest(alloc, said, key, &[], keys);
         }
     }

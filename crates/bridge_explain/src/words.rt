@@ -71,7 +71,7 @@ fn first_word(words: &[String]) -> Option<&str> {
 /// Adds that an option is unknown, and the nearest, which begins with `--` as the options do.
 fn put_option(alloc: Global, said: &mut Said, name: &str) {
     put_text(said, name);
-    said.put(" is no option.\n");
+    said.put(" isn't an option.\n");
     let Ok(names) = option_names(alloc) else {
         return said.give_up();
     };
@@ -90,7 +90,7 @@ fn put_calls(alloc: Global, said: &mut Said, word: Option<&str>) {
     let mut nearest = None;
     if let Some(word) = word {
         put_text(said, word);
-        said.put(" is no command.\n");
+        said.put(" isn't a command.\n");
         nearest = nearest_name(alloc, said, "", word, &names);
     } else {
         said.put("A command is missing.\n");
@@ -99,7 +99,7 @@ fn put_calls(alloc: Global, said: &mut Said, word: Option<&str>) {
         return put_call(said, "The nearest command is: tsnbridge {a}\n", name);
     }
     for name in &names {
-        put_call(said, "A command is: tsnbridge {a}\n", *name);
+        put_call(said, "Usage: tsnbridge {a}\n", *name);
     }
 }
 
@@ -134,10 +134,10 @@ fn put_command(alloc: Global, said: &mut Said, words: &[String], word: &str) {
     };
     let count = values_in(words);
     let reason = if count != call.places {
-        "The words behind `{a}` must be {0}, and are {1}.\n"
+        "`{a}` needs {0} argument(s), but got {1}.\n"
     } else {
         call.reason
     };
     said.fill(reason, &[call.places as u64, count as u64], &[call.name]);
-    fill_one(said, "It is called: tsnbridge {a}\n", 0, call.line);
+    fill_one(said, "Usage: tsnbridge {a}\n", 0, call.line);
 }

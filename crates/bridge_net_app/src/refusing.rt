@@ -85,6 +85,6 @@ pub(crate) fn said_of_run(alloc: Global, bridges: &[BridgeRow<Global>], fault: R
 pub fn explain_stopped(alloc: Global, line: &str) -> Option<String> {
     let rest = line.strip_prefix("network not settled ")?;
     format!(in alloc;
-        "After 64 rounds something else still comes to {rest} than in the round before: frames go round. `net check` of the network tells which may, and where.\n"
+        "After 64 rounds the input of {rest} still changes, so frames loop. `net check` names the possible loops.\n"
     ).ok()
 }

@@ -31,8 +31,7 @@ const HEAD: &str =
 <rect class="page" width="{0}" height="{1}"/>
 "#;
 
-const LEFT_OUT: &str =
-    r#"<text class="s" x="10" y="{0}">left out: {1} shapes, for which there is no room</text>
+const LEFT_OUT: &str = r#"<text class="s" x="10" y="{0}">not drawn: {1} shapes (no space)</text>
 "#;
 
 /// The arc of a link from a place over another one to a third, with its ports and its delay; the box of a bridge with its name;

@@ -71,13 +71,13 @@ fn stop_of(verdict: Verdict) -> &'static str {
     match verdict {
         Verdict::Pass { .. } => "",
         Verdict::Blocked => "blocked",
-        Verdict::Oversize => "too long for the filter",
+        Verdict::Oversize => "longer than `max_sdu`",
         Verdict::GateClosed => "gate closed",
-        Verdict::ShutByRx => "gate shut by a frame that came while it was closed",
-        Verdict::ShutByOctets => "gate shut by a frame over its octets",
-        Verdict::OctetsExceeded => "over the octets of the gate's entry",
+        Verdict::ShutByRx => "gate shut: an earlier frame arrived while it was closed",
+        Verdict::ShutByOctets => "gate shut: an earlier frame exceeded its octets",
+        Verdict::OctetsExceeded => "octets of the gate entry exceeded",
         Verdict::Red => "red",
-        Verdict::YellowDropped => "yellow, which the meter drops",
+        Verdict::YellowDropped => "yellow: the meter drops yellow frames",
     }
 }
 
@@ -226,7 +226,7 @@ impl Choice {
             (frame.own, frame.port) = (it.own, it.port);
             frame.why = match it.refusal {
                 Refusal::Full => "queue full",
-                Refusal::NeverFits => "fits in no window",
+                Refusal::NeverFits => "longer than any window",
             };
             self.see(part, &view.origins, frame);
         }

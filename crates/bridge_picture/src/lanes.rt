@@ -302,7 +302,7 @@ impl Picture {
             }
         }
         if further > 0 {
-            let words = "left out: {0} further stream gates";
+            let words = "not drawn: {0} more stream gates";
             self.page.say("b", LEFT, 115, words, &[further]);
             self.page.go_down(150);
         }

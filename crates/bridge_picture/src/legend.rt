@@ -22,30 +22,30 @@ const LINE: &str = r#"<path class="{a}" d="M{5} {1}V{7}"/>"#;
 
 /// What lanes say, the stream gates of a plan, the picture of a run, a change of schedules, a fault.
 const LANES: &[Legend] = &[
-    (BAR, "own", "open for protected filters"),
-    (BAR, "open", "open"),
-    (BAR, "hatch", "more than can be drawn"),
-    ("", "", "number at a lane: a protected filter"),
+    (BAR, "own", "window of a protected filter"),
+    (BAR, "open", "window of other classes"),
+    (BAR, "hatch", "too much to draw"),
+    ("", "", "number at a lane: its protected filter"),
 ];
 
 pub(crate) const GATES: &[Legend] = &[
     (
         BAR,
         "gate",
-        "stream gate open, with the internal priority value that it gives",
+        "open stream gate, with the priority that it assigns",
     ),
-    ("", "", "number at a gate: a filter of it"),
+    ("", "", "number at a gate: its filter"),
 ];
 
 pub(crate) const RUN: &[Legend] = &[
-    (WAITS, "grey", "came, and waited until its start"),
-    (DUE, "grey", "until when it is done at the latest"),
-    (TIP_BELOW, "grey", "refused by a queue"),
-    (TIP_ABOVE, "grey", "stopped by its filter"),
+    (WAITS, "grey", "arrival and wait"),
+    (DUE, "grey", "latest end by the bound"),
+    (TIP_BELOW, "grey", "dropped by a queue"),
+    (TIP_ABOVE, "grey", "refused by its filter"),
     (
         BAR,
         "gate",
-        "stream gate of a protected filter open, by its list",
+        "open stream gate of a protected filter, by its list",
     ),
 ];
 
@@ -53,8 +53,8 @@ impl Picture {
     /// Names a filter with its colour, behind the others.
     pub(crate) fn put_filter(&mut self, filter: u32, is_protected: bool, colour: u64) {
         let edge = either(is_protected, " e", "");
-        let words = either(is_protected, "{0} protected", "{0} plain");
-        let letters = digits_of(filter).saturating_add(if is_protected { 10 } else { 6 });
+        let words = either(is_protected, "{0} protected", "{0} unprotected");
+        let letters = digits_of(filter).saturating_add(if is_protected { 10 } else { 12 });
         self.page
             .put_legend((FILTER, edge, words), letters, colour, u64::from(filter));
     }
@@ -67,10 +67,11 @@ impl Picture {
         }
         if self.change.is_some() {
             self.page
-                .put_legend((LINE, "change", "change of schedules"), 19, 0, 0);
+                .put_legend((LINE, "change", "schedule change"), 15, 0, 0);
         }
         if self.fault.0 > 0 {
-            self.page.put_legend((BAR, "b c1", "at fault"), 8, 0, 0);
+            self.page
+                .put_legend((BAR, "b c1", "cause of the fault"), 18, 0, 0);
         }
     }
 }

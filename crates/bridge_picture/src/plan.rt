@@ -17,14 +17,13 @@ use std::alloc::{Allocator, Global};
 /// What is said of a port or filter that the plan doesn't have, and how many lanes are bands.
 const MISSING: &str = " (not in the plan)";
 
-const BANDS: &str = "lanes hatched for their many windows: {0}";
+const BANDS: &str = "lanes with too many windows to draw (hatched): {0}";
 
 /// What is wrong with a plan that isn't accepted.
-const SHARED_QUEUE: &str =
-    "refused: frames of filters {0} and {1} may wait in class {2} of port {3}";
+const SHARED_QUEUE: &str = "refused: filters {0} and {1} share the queue of port {3}, class {2}";
 
 const SHARED_WINDOW: &str =
-    "refused: port {3} opens class {2}, where frames of filter {0} wait, beside another class";
+    "refused: port {3} opens another class together with class {2} of filter {0}";
 
 const NEVER_FITS: &str =
     "refused: the longest frame of filter {0} never fits in class {2} of port {3}";
@@ -49,7 +48,7 @@ fn told_of(fault: CheckFault) -> (&'static str, u32, u8, u8) {
 /// Adds how much of the hypercycle is shown, or of a part of it how long it is.
 fn put_hypercycle(page: &mut Page, times: Hypercycle, is_part: bool) {
     if times.length == 0 {
-        return page.write("no list");
+        return page.write("no gate control list");
     }
     let is_whole = times.length <= shown_of(times);
     if !is_part && !is_whole {
@@ -106,7 +105,7 @@ impl Picture {
         let page = &mut self.page;
         put_hypercycle(page, times, is_part);
         if let Some(at) = times.change {
-            page.write(either(is_part, ", ", ", at each side of the "));
+            page.write(either(is_part, ", ", ", before and after the "));
             page.write("change at ");
             page.put_moment(span.clock(), at);
         }

@@ -14,7 +14,7 @@ use std::alloc::{Allocator, Global};
 
 /// How many frames and marks aren't drawn.
 const LEFT_OUT: &str =
-    "left out where it is hatched: {0} of {1} frames, {2} of {3} marks; show less time by --from and --to";
+    "not drawn (hatched): {0} of {1} frames, {2} of {3} marks. Choose a shorter time with --from and --to.";
 
 /// Where a protected frame came, and how long it waited.
 const CAME: &str = r#"<rect class="c{2}" x="{0}" y="{1}" width="12" height="90"/>"#;
@@ -24,10 +24,10 @@ const WAITED: &str = r#"<rect class="c{3}" x="{0}" y="{1}" width="{2}" height="1
 /// A frame that left, in the colour of its filter, and what shows where it is pointed at; a frame that was not let on, a triangle
 /// by its corners.
 const FRAME: &str =
-    r#"<rect class="c{4}{a}" x="{0}" y="{1}" width="{2}" height="{3}"><title>filter {5} frame {6}, {7} to {8} ns, came at {9} ns"#;
+    r#"<rect class="c{4}{a}" x="{0}" y="{1}" width="{2}" height="{3}"><title>filter {5} frame {6}, sent {7} to {8} ns, arrived at {9} ns"#;
 
 const MARK: &str =
-    r#"<path class="c{8}{a}" d="M{0} {1}H{2}L{3} {4}Z"><title>filter {5} frame {6}, came at {7} ns: "#;
+    r#"<path class="c{8}{a}" d="M{0} {1}H{2}L{3} {4}Z"><title>filter {5} frame {6}, arrived at {7} ns: "#;
 
 /// How long a frame of a protected filter takes at most from when it came until it is out of a port, whichever of the port's
 /// queues takes it.
@@ -89,7 +89,7 @@ impl Picture {
         let numbers = [x, y, width, high, colour, filter, own, start, done, came];
         self.page.add(FRAME, &numbers, either(is_edged, " e", ""));
         if longest.is_some() {
-            self.page.add(", done by {0} ns at the latest", &[by], "");
+            self.page.add(", latest end {0} ns", &[by], "");
         }
         self.page.put("</title></rect>", &[], "");
     }
@@ -133,7 +133,7 @@ impl Picture {
         }
         self.put_hatches(&choice.left, port, 55, 130);
         self.page.go_down(300);
-        self.page.say("s", 200, 110, "not let on", &[]);
+        self.page.say("s", 200, 110, "refused or dropped", &[]);
         for frame in &choice.marks.frames {
             if frame.port == port {
                 self.put_mark(frame);

@@ -72,9 +72,9 @@ fn said_of_rows(
 /// Adds a cycle, and whether the period suits it.
 fn put_cycle(said: &mut Text<Global>, what: &str, number: u32, cycle: u64, period: u64) {
     let template = if cycle > 0 && period % cycle == 0 {
-        "{a} {0} begins again each {1} ns.\n"
+        "{a} {0} has a cycle of {1} ns.\n"
     } else {
-        "{a} {0} begins again each {1} ns, of which it is no multiple.\n"
+        "{a} {0} has a cycle of {1} ns, and the period isn't a multiple of it.\n"
     };
     said.fill(template, &[u64::from(number), cycle], &[what]);
 }
@@ -90,7 +90,13 @@ fn put_gate(said: &mut Text<Global>, plan: &Plan<Global>, number: u32, period: u
         Schedule::Joined(joined) => {
             let (old, new) = joined.lists();
             put_cycle(said, "Gate", number, old.cycle(), period);
-            put_cycle(said, "Behind its change gate", number, new.cycle(), period);
+            put_cycle(
+                said,
+                "After the schedule change, gate",
+                number,
+                new.cycle(),
+                period,
+            );
         }
     }
 }
@@ -107,7 +113,13 @@ fn put_port(said: &mut Text<Global>, plan: &Plan<Global>, number: u8, period: u6
         Some(Egress::Joined(joined)) => {
             let (old, new) = joined.lists();
             put_cycle(said, "Port", number, old.cycle(), period);
-            put_cycle(said, "Behind its change port", number, new.cycle(), period);
+            put_cycle(
+                said,
+                "After the schedule change, port",
+                number,
+                new.cycle(),
+                period,
+            );
         }
     }
 }
@@ -134,7 +146,7 @@ fn said_of_row(
     let period = row.traffic.period;
     let number = row.filter;
     said.fill(
-        "{a}: the period of traffic {0}, {1} ns, has to be a multiple of each cycle on the way of the frames of filter {2}.\n",
+        "{a}: the period of traffic {0} is {1} ns. It must be a multiple of each cycle on the route of filter {2}.\n",
         &[u64::from(index), period, u64::from(number)],
         &[file],
     );

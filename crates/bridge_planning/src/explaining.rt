@@ -126,7 +126,7 @@ fn put_hop<A: Allocator + Copy>(
     open: Open,
 ) {
     said.fill(
-        "{a}: hop {0} of the stream {b}, filter {1} of {c}, takes frames at port {2} that are of no hop of the stream.\n",
+        "{a}: hop {0} of stream {b} (filter {1} of {c}) accepts frames from outside the stream on port {2}.\n",
         &[open.hop as u64, u64::from(hop.filter), u64::from(open.port)],
         &[path, stream, name_of(bridges, hop.bridge)],
     );
@@ -138,9 +138,9 @@ fn put_tag(said: &mut Text<Global>, tag: Option<Tag>) {
         return said.put("no tag");
     };
     let template = if tag.vid == 0 {
-        "a tag of priority {0} that names no VLAN"
+        "a priority tag (VLAN 0) and priority {0}"
     } else {
-        "a tag of VLAN {1} and priority {0}"
+        "VLAN {1} and priority {0}"
     };
     said.fill(template, &[u64::from(tag.pcp), u64::from(tag.vid)], &[]);
 }
@@ -158,19 +158,19 @@ fn put_frame<A: Allocator + Copy>(
         return said.give_up();
     };
     let looks = match stray.entry.kind {
-        Kind::Null => "goes to",
-        Kind::Source => "comes from",
+        Kind::Null => "to",
+        Kind::Source => "from",
     };
-    said.put("Such a frame has ");
+    said.put("Example: a frame with ");
     put_tag(said, stray.tag);
     said.fill(
-        " and {a} {b}. It comes to {c} on port {0}, ",
+        ", {a} {b}, enters {c} on port {0}. ",
         &[u64::from(open.from)],
         &[looks, address.as_str(), name_of(bridges, end.bridge)],
     );
     let template = match open.filter {
-        Some(_) => "filter {0} lets it through, and it leaves by port {1}.\n",
-        None => "no filter stops it, and it leaves by port {1}.\n",
+        Some(_) => "Filter {0} passes it to port {1}.\n",
+        None => "It has no filter, and leaves by port {1}.\n",
     };
     let filter = open.filter.unwrap_or(0);
     said.fill(template, &[u64::from(filter), u64::from(end.port)], &[]);
@@ -218,18 +218,18 @@ fn put_ways<A: Allocator + Copy>(
     let filter = u64::from(open.filter.unwrap_or(0));
     let (first, last) = match open.filter {
         Some(_) => (
-            "Each of these, in the plan of {a}, keeps it away:\n  close the gate of filter {0}, so that none of its frames goes on;\n  take port {1} out of VLAN {2};\n",
-            "  give port {1} an entry of a handle of strays, whose filter has a closed gate and a number below {0}.\n",
+            "Repair the plan of {a} in one of these ways:\n  close the gate of filter {0}, which then passes no frame;\n  remove port {1} from VLAN {2};\n",
+            "  add a `stream` entry on port {1} with a handle for strays; its filter has a closed gate and a number below {0}.\n",
         ),
         None => (
-            "Each of these, in the plan of {a}, keeps it away:\n  take port {1} out of VLAN {2};\n",
-            "  give port {1} an entry of a handle of strays, whose filter has a closed gate.\n",
+            "Repair the plan of {a} in one of these ways:\n  remove port {1} from VLAN {2};\n",
+            "  add a `stream` entry on port {1} with a handle for strays; its filter has a closed gate.\n",
         ),
     };
     said.fill(first, &[filter, from, vid], &[name_of(bridges, end.bridge)]);
     if let Some(handle) = handle_at(sender, hops, end.bridge) {
         said.fill(
-            "  give port {0} an entry of handle {1} too, so that such frames are policed as the stream's;\n",
+            "  add a `stream` entry of handle {1} on port {0}, so that the stream's gate and meter police these frames too;\n",
             &[from, u64::from(handle)],
             &[],
         );

@@ -271,9 +271,7 @@ fn rounds_said(alloc: Global, said: RoundsSaid, wishes: Wishes) -> Ending {
 
 /// In how many rounds a run of a network was found; nothing where there is no memory to tell it.
 fn rounds_told(alloc: Global, rounds: u32) -> String {
-    match format!(in alloc;
-        "rounds {rounds}: in the last one nothing else was sent over any link than before.\n"
-    ) {
+    match format!(in alloc; "Settled after {rounds} rounds.\n") {
         Ok(text) => text,
         Err(_) => String::new(alloc),
     }

@@ -23,7 +23,7 @@ const HEAD: &str =
 
 /// What stands at the end where not all shapes have room.
 const LEFT_OUT: &str =
-    r#"<text class="s" x="100" y="{0}">left out: {1} shapes, beyond 2000000 octets</text>
+    r#"<text class="s" x="100" y="{0}">not drawn: {1} shapes (limit of 2000000 octets)</text>
 "#;
 
 /// A bar at a place, so wide and high; a text up to its words; a line downwards.
