@@ -1,7 +1,7 @@
 //! Why a capture is refused.
 use thiserror::Error;
 
-/// Why a capture can't be read or written. A number is that of the record, from 1.
+/// Reason why the program can't read or write a capture. A number is that of the record, from 1.
 #[derive(Clone, Copy, Debug, PartialEq, Eq, Error)]
 pub enum CaptureFault {
     /// The first four octets are none of the four magics.

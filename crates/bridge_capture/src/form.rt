@@ -1,6 +1,6 @@
 //! How the words of a capture are read, which its magic shows.
 
-/// The order of the octets of a word.
+/// Order of the octets in the words of a capture.
 #[derive(Clone, Copy, Debug, PartialEq, Eq)]
 pub enum Order {
     Little,
@@ -14,7 +14,7 @@ pub enum Unit {
     Nano,
 }
 
-/// What the magic of a capture shows.
+/// Order of octets and unit of time that the magic of a capture shows.
 #[derive(Clone, Copy, Debug, PartialEq, Eq)]
 pub struct Form {
     pub order: Order,

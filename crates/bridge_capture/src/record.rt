@@ -13,10 +13,10 @@ use crate::transfer::fill;
 use bridge_limits::{END_OF_TIME, MOST_CAPTURED};
 use std::alloc::Allocator;
 
-/// The most octets of a frame that a written capture holds: its snap length.
+/// Snap length of a written capture, in octets.
 pub const SNAP_LENGTH: u32 = 65_535;
 
-/// The most records that a capture may have.
+/// Most records of a capture.
 pub const MAX_RECORDS: u32 = 1_000_000;
 
 /// The four words of a record.

@@ -6,8 +6,8 @@ ghost use Rattle.bridge_check.specs.Numbers.{filter_of, number_of};
 use std::alloc::{AllocError, AllocFailed};
 use thiserror::Error;
 
-/// Why a plan doesn't isolate a protected filter, in the order of the tests. A filter is named by its number, a port by
-/// its number, 1 to 16, a class is 0 to 7.
+/// Reason why a plan doesn't isolate a protected filter, in the order of the tests. A filter is named by its number, a
+/// port by its number, 1 to 16, a class is 0 to 7.
 #[derive(Clone, Copy, Debug, PartialEq, Eq, Error)]
 pub enum CheckFault {
     /// The filter names no stream handle, so it takes frames of any stream.

@@ -1,8 +1,8 @@
 //! Commands that come to a bridge while it runs.
 use bridge_filter::Clear;
 
-/// A command at a moment: it clears a flag of a filter, of a stream gate or of a flow meter
-/// (IEEE 802.1Q-2018, 8.6.5.1.1 to 8.6.5.1.3).
+/// Command at a time in ns: it clears a flag of a filter, stream gate or meter (IEEE 802.1Q-2018, 8.6.5.1.1 to
+/// 8.6.5.1.3).
 #[derive(Clone, Copy, Debug, PartialEq, Eq)]
 pub struct Command {
     /// The moment, in ns.

@@ -23,7 +23,7 @@ use bridge_schema::{
 use std::alloc::Allocator;
 use toml::Table;
 
-/// A port of a plan.
+/// Settings of a port of a plan.
 #[derive(Drop)]
 pub struct PortPlan<A: Allocator + Copy> {
     /// Its number, 1 to 16.

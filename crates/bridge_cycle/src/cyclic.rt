@@ -57,10 +57,10 @@ impl From<AllocError> for ListFault {
     }
 }
 
-/// The most entries of a list.
+/// Most entries of a list.
 pub const MOST_ENTRIES: usize = 256;
 
-/// The longest cycle of a list, in ns.
+/// Longest cycle time of a list, in ns.
 pub const LONGEST_CYCLE: u64 = 1_000_000_000;
 
 /// States that follow one another in each cycle, each for its interval in ns; the last one lasts to

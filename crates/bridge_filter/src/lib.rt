@@ -16,7 +16,7 @@ pub use bridge_cycle::NoMemory;
 pub use find::Route;
 pub use police::Police;
 
-/// How a stream filter is set (IEEE 802.1Q-2018, 8.6.5.1.1).
+/// Settings of a stream filter (IEEE 802.1Q-2018, 8.6.5.1.1).
 #[derive(Clone, Copy, Debug, PartialEq, Eq)]
 pub struct FilterPlan {
     /// The stream handle that it asks for; `None` takes every frame, also one without a handle.
@@ -35,7 +35,7 @@ pub struct FilterPlan {
     pub protected: bool,
 }
 
-/// A frame that reached the stream filters (IEEE 802.1Q-2018, 8.6.5.1.1).
+/// Frame that the stream filters judge (IEEE 802.1Q-2018, 8.6.5.1.1).
 #[derive(Clone, Copy, Debug, PartialEq, Eq)]
 pub struct Call {
     /// When it came, in ns.
@@ -52,7 +52,7 @@ pub struct Call {
     pub octets: u32,
 }
 
-/// What becomes of a frame that has a filter.
+/// Verdict of a stream filter on a frame: it passes, or the reason of a refusal.
 #[derive(Clone, Copy, Debug, PartialEq, Eq)]
 pub enum Verdict {
     /// An earlier frame above the maximum blocked the filter.
@@ -83,7 +83,7 @@ pub struct Ruling {
     pub verdict: Verdict,
 }
 
-/// What a filter counts (IEEE 802.1Q-2018, 8.6.5.1.1).
+/// Counters of a stream filter (IEEE 802.1Q-2018, 8.6.5.1.1).
 #[derive(Clone, Copy, Debug, PartialEq, Eq)]
 pub struct Counters {
     /// All its frames.
@@ -100,7 +100,7 @@ pub struct Counters {
     pub red: u64,
 }
 
-/// The flags of a filter, its gate and its meter.
+/// Flags of a filter, its gate and its meter, which stay set until a command clears them.
 #[derive(Clone, Copy, Debug, PartialEq, Eq)]
 pub struct Flags {
     /// The filter is blocked by a frame above its maximum.
@@ -113,7 +113,7 @@ pub struct Flags {
     pub red: bool,
 }
 
-/// Which flag a command clears, of the instance with the number that it names.
+/// Flag that a command clears: of a filter, a gate or a meter.
 #[derive(Clone, Copy, Debug, PartialEq, Eq)]
 pub enum Clear {
     /// The blocked flag of a filter.

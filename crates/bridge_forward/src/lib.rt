@@ -11,7 +11,7 @@ pub use bridge_limits::NoMemory;
 pub use forwarding::Forwarding;
 pub use port_set::PortSet;
 
-/// A VLAN and the ports that belong to it (IEEE 802.1Q-2018, 8.8.2).
+/// VLAN and its member ports (IEEE 802.1Q-2018, 8.8.2).
 #[derive(Clone, Copy, Debug, PartialEq, Eq)]
 pub struct Vlan {
     /// The VLAN identifier.
@@ -20,7 +20,7 @@ pub struct Vlan {
     pub members: PortSet,
 }
 
-/// A static filtering entry: the ports to which frames to an address may go in a VLAN (IEEE 802.1Q-2018, 8.8.1).
+/// Static filtering entry: the egress ports of frames to an address in a VLAN (IEEE 802.1Q-2018, 8.8.1).
 #[derive(Clone, Copy, Debug, PartialEq, Eq)]
 pub struct StaticEntry {
     /// The VLAN identifier.

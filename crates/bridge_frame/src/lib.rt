@@ -12,7 +12,8 @@ ghost use Rattle.bridge_frame.specs.Link.{occupied, speed_of};
 use bridge_limits::{LONGEST_FRAME, MOST_CAPTURED};
 use thiserror::Error;
 
-/// A C-VLAN tag: priority code point (0 to 7), drop eligible indication, VLAN identifier (0 to 4095; 0 is a priority tag).
+/// C-VLAN tag: priority code point (0 to 7), drop eligible indication, VLAN identifier (0 to 4095; 0 in a priority
+/// tag).
 #[derive(Clone, Copy, Debug, PartialEq, Eq)]
 pub struct Tag {
     pub pcp: u8,
@@ -20,8 +21,7 @@ pub struct Tag {
     pub vid: u16,
 }
 
-/// The head of a frame: destination and source address, the tag, and the octets of the service data unit, which are
-/// the frame's length without the addresses and without a tag.
+/// Header of a frame: destination, source, tag, and the SDU octets (its length without addresses and tag).
 #[derive(Clone, Copy, Debug, PartialEq, Eq)]
 pub struct Head {
     pub da: [u8; 6],
@@ -30,7 +30,7 @@ pub struct Head {
     pub sdu: u32,
 }
 
-/// Why a frame is malformed.
+/// Reason why a frame is malformed.
 #[derive(Clone, Copy, Debug, PartialEq, Eq, Error)]
 pub enum FrameFault {
     /// Fewer octets than a head has: 14, or 18 with a tag.
@@ -53,7 +53,7 @@ impl FrameFault {
     }
 }
 
-/// The speed of a link.
+/// Speed of a link: 10, 100, 1,000, 2,500 or 10,000 Mb/s.
 #[derive(Clone, Copy, Debug, PartialEq, Eq)]
 pub enum Speed {
     Mbps10,

@@ -10,7 +10,7 @@ use bridge_limits::END_OF_TIME;
 use std::alloc::Allocator;
 use std::marker::Model;
 
-/// What a gate says to a frame.
+/// Answer of a stream gate to a frame: it passes, or the reason of a refusal.
 #[derive(Clone, Copy, Debug, PartialEq, Eq)]
 pub enum GateAnswer {
     /// It goes through, with this internal priority value.

@@ -5,7 +5,7 @@ ghost use Rattle.bridge_gate.specs.Schedules.{turn_at, IsLawful, is_priority, ha
 use bridge_cycle::{CyclicList, END_OF_TURNS, Joined, NoMemory, Timeline, Turn};
 use std::alloc::Allocator;
 
-/// What a gate does in one turn.
+/// State of a stream gate in one interval: open or closed, its priority, its octet limit.
 #[derive(Clone, Copy, Debug, PartialEq, Eq)]
 pub struct GateEntry {
     /// Whether frames go through.
@@ -16,7 +16,7 @@ pub struct GateEntry {
     pub octets: Option<u32>,
 }
 
-/// When a gate is open.
+/// Schedule of a stream gate: a fixed state, or cyclic lists.
 #[derive(Drop)]
 pub enum Schedule<A: Allocator + Copy> {
     /// It is in one state for good, with no limit of octets.
@@ -27,7 +27,7 @@ pub enum Schedule<A: Allocator + Copy> {
     Joined(Joined<GateEntry, A>),
 }
 
-/// How a gate is set.
+/// Settings of a stream gate: its schedule, and which refusals shut it.
 #[derive(Drop)]
 pub struct GatePlan<A: Allocator + Copy> {
     /// Whether a frame that comes while the gate is closed shuts it for good.

@@ -15,7 +15,7 @@ use index::Index;
 use std::alloc::Allocator;
 use std::marker::Model;
 
-/// Which address an entry compares.
+/// Address that a stream entry compares: the destination (null) or the source.
 #[derive(Clone, Copy, Debug, PartialEq, Eq)]
 pub enum Kind {
     /// The destination address.
@@ -24,7 +24,7 @@ pub enum Kind {
     Source,
 }
 
-/// Which frames an entry takes, by their tag.
+/// Tags that a stream entry matches.
 #[derive(Clone, Copy, Debug, PartialEq, Eq)]
 pub enum TagKind {
     /// Tagged frames whose VLAN identifier isn't 0.
@@ -35,7 +35,7 @@ pub enum TagKind {
     All,
 }
 
-/// An entry of the stream identification table.
+/// Entry of the stream identity table (IEEE 802.1CB-2017, 9.1).
 #[derive(Clone, Copy, Debug, PartialEq, Eq)]
 pub struct StreamEntry {
     /// The stream handle that it gives.

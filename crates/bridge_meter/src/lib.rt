@@ -12,17 +12,16 @@ ghost use Rattle.bridge_meter.specs.Steps.{IsWithinLimits, step, reply, refill, 
 
 use std::marker::Model;
 
-/// The units of one octet in a bucket. A rate in bit/s gives that many units a nanosecond, so that
-/// nothing is ever rounded.
+/// Bucket units per octet. A rate in bit/s gives that many units a nanosecond, so that nothing is ever rounded.
 pub const UNITS_PER_OCTET: u128 = 8_000_000_000;
 
-/// The highest rate of a meter, in bit/s.
+/// Highest rate of a meter, in bit/s.
 pub const HIGHEST_RATE: u64 = 100_000_000_000;
 
-/// The largest burst size of a meter, in octets.
+/// Largest bucket of a meter, in octets: 2^32 - 1.
 pub const LARGEST_BURST: u64 = u32::MAX as u64;
 
-/// The colour of a frame.
+/// Colour that a meter gives a frame: green, yellow or red.
 #[derive(Clone, Copy, Debug, PartialEq, Eq)]
 pub enum Colour {
     /// Within the committed rate and burst.
@@ -33,7 +32,7 @@ pub enum Colour {
     Red,
 }
 
-/// The rates, sizes and switches of a meter.
+/// Settings of a meter: rates in bit/s, bucket sizes in octets, and switches.
 #[derive(Clone, Copy, Debug, PartialEq, Eq)]
 pub struct MeterPlan {
     /// The committed information rate, in bit/s, at most 10^11.
@@ -66,7 +65,7 @@ impl MeterPlan {
     }
 }
 
-/// What the two buckets of a meter hold.
+/// Levels of a meter's two buckets, in units, and the time in ns of the last judged frame.
 #[derive(Clone, Copy, Debug, PartialEq, Eq)]
 pub struct Buckets {
     /// What the committed bucket holds, in units of 1/(8*10^9) octet.

@@ -4,7 +4,8 @@ ghost use Rattle.bridge_network.specs.Networks as networks;
 ghost use Rattle.bridge_network.specs.Accepting as accepting;
 ghost use Rattle.bridge_network.specs.Wiring.{end_of, peer, stream_of};
 
-/// A port of a bridge. A bridge is named by its place among the bridges of a network, from 0.
+/// Bridge port: a port of one bridge of a network. A bridge is named by its place among the bridges of a network, from
+/// 0.
 #[derive(Clone, Copy, Debug, PartialEq, Eq)]
 pub struct End {
     pub bridge: u16,
@@ -12,7 +13,7 @@ pub struct End {
     pub port: u8,
 }
 
-/// A full-duplex link of two ports.
+/// Full-duplex link between two bridge ports, with its delay in ns.
 #[derive(Clone, Copy)]
 pub struct Link {
     pub one: End,
@@ -21,7 +22,7 @@ pub struct Link {
     pub delay: u64,
 }
 
-/// A hop of a stream: a filter of a bridge.
+/// Hop of a stream: a stream filter of one bridge.
 #[derive(Clone, Copy, Debug, PartialEq, Eq)]
 pub struct StreamHop {
     pub bridge: u16,

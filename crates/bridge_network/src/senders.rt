@@ -5,7 +5,7 @@ ghost use Rattle.bridge_network.specs.Wiring.{end_of, link_of, sender_value};
 
 use crate::links::{End, Link};
 
-/// What sends to a port: the port at the other end of its link, and for how long a frame is under way, in ns.
+/// Bridge port at the other end of a link, and the delay of the link in ns.
 #[derive(Clone, Copy)]
 pub struct Sender {
     pub from: End,

@@ -21,7 +21,7 @@ use bridge_frame::occupation;
 use bridge_limits::LONGEST_FRAME;
 use std::alloc::Allocator;
 
-/// Two phases of a period, in ns from its start; the last may lie in the period behind it.
+/// Earliest and latest end of a transmission, in ns from the start of a period; the latest may lie in the next period.
 #[derive(Clone, Copy, Debug, PartialEq, Eq)]
 pub struct Phases {
     /// The first.
@@ -30,7 +30,7 @@ pub struct Phases {
     pub to: u64,
 }
 
-/// How long the frames of traffic take in a queue, in ns, from when they came until they are done.
+/// Delays of a periodic talker's frames in one queue, in ns, from arrival to the end of transmission.
 #[derive(Clone, Copy, Debug, PartialEq, Eq)]
 pub struct Timing {
     /// At worst.

@@ -1,7 +1,7 @@
 //! Frames that come once in each period.
 
-/// Frames of a stream that come once in each period, between two phases of it, each between two lengths. Periods begin at
-/// the multiples of the period.
+/// Periodic traffic: in each period at most one frame, between two phases, with a length between two limits. Periods
+/// begin at the multiples of the period.
 #[derive(Clone, Copy, Debug, PartialEq, Eq)]
 pub struct Traffic {
     /// The period, in ns.

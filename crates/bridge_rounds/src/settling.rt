@@ -41,7 +41,7 @@ pub enum RoundsFault {
     NoMemory,
 }
 
-/// What a bridge tells, and the captures of what left its ports, by rising number.
+/// Result of one bridge of a network, and the captures of its ports, by rising number.
 #[derive(Drop)]
 pub struct Settled<A: Allocator + Copy> {
     /// What its run tells.

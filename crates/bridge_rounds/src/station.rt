@@ -115,7 +115,7 @@ fn tap_in<'a, A: Allocator + Copy>(ports: &[u8], taps: &'a [VecSink<A>], port: u
     &[]
 }
 
-/// What comes to a bridge of a network from outside.
+/// Input of one bridge of a network from outside: its commands, and a capture for each port.
 #[derive(Drop)]
 pub struct Incoming<A: Allocator> {
     /// Its commands, by rising moment.
