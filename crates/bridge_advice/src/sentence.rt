@@ -9,7 +9,7 @@ const OWN_PORT: &str =
     "Warning: the `static` entry of `stream` {0} (handle {1}) names port {2}, where the stream enters. No frame leaves by its ingress port. Remove the port from `ports`, unless another stream needs it.\n";
 
 const CLOSED: &str =
-    "Warning: gate {0} is always closed, so its filters refuse all their frames.\n";
+    "Warning: gate {0} is always closed, so its filters refuse all their frames. Open it, unless it catches strays.\n";
 
 const NO_TOKEN: &str =
     "Warning: meter {0} marks every frame red, because `cbs` and `ebs` are below {1} octets, the shortest frame. Raise one of them.\n";
@@ -18,13 +18,13 @@ const NONE_AGAIN: &str =
     "Warning: meter {0} never refills its buckets, because `cir` and `eir` are 0. When they are empty, every frame is red. Raise one of the rates.\n";
 
 const NO_STREAM: &str =
-    "Warning: filter {0} is unused, because its handle {1} is missing from all `stream` tables.\n";
+    "Warning: filter {0} is unused, because its handle {1} is missing from all `stream` tables. Add a `stream` with this handle.\n";
 
 const TAKEN: &str =
-    "Warning: filter {0} matches no frame, because filter {1} has a lower number and matches all its frames.\n";
+    "Warning: filter {0} matches no frame, because filter {1} has a lower number and matches all its frames. Remove it, or give it a lower number.\n";
 
 const LIMIT: &str =
-    "Warning: an entry of gate {0} refuses the longest frames of filter {3}, because its `octets` {1} are less than `max_sdu` {2}.\n";
+    "Warning: an entry of gate {0} refuses the longest frames of filter {3}, because its `octets` {1} are less than `max_sdu` {2}. Raise `octets`, or lower `max_sdu`.\n";
 
 const HIDDEN: &str =
     "Warning: `stream` {0} (handle {1}) matches no frame, because the earlier `stream` {2} matches all of them. Remove or change one of the two.\n";

@@ -366,8 +366,8 @@ open ports, and commands.toml if it receives commands.
 
 Statuses:
   0  the network is accepted, or its run is complete
-  1  the network, a plan or commands are refused, a stream is refusable or late, or there is a
-     warning (--strict)
+  1  the network, a plan or commands are refused, or there is a warning (--strict); after `net check`
+     also if a stream is refusable or late
   2  a capture is refused, or frames loop and the run doesn't settle
   3  a file can't be opened, read or written, or memory is exhausted
   4  bad arguments",
@@ -387,11 +387,11 @@ Example:
   tsnbridge run examples/base.toml examples/gated out
 
 Statuses:
-  0  success, also after --help and --version
+  0  success
   1  a plan, its commands or a network are refused
   2  a text or a capture is refused, or a network doesn't settle
   3  a file can't be opened, read or written, or memory is exhausted
-  4  bad arguments",
+  4  bad arguments; also after --help and --version",
 };
 
 /// The options of all commands, with what has them.

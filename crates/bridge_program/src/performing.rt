@@ -271,7 +271,7 @@ fn rounds_said(alloc: Global, said: RoundsSaid, wishes: Wishes) -> Ending {
 
 /// In how many rounds a run of a network was found; nothing where there is no memory to tell it.
 fn rounds_told(alloc: Global, rounds: u32) -> String {
-    match format!(in alloc; "Settled after {rounds} rounds.\n") {
+    match format!(in alloc; "Rounds until nothing changed: {rounds}.\n") {
         Ok(text) => text,
         Err(_) => String::new(alloc),
     }
