@@ -42,7 +42,7 @@ const NO_WINDOW: &str =
     "Port {1} has no gate control list, so other classes can delay filter {0} (class {2}).\n";
 
 const TOO_LONG: &str =
-    "Filter {0}'s longest frame has {1} octets (`max_sdu` {2} and 16 octets of header, at most {3}) and needs {5} ns at port {4}.\nClass {6} there is ";
+    "Filter {0}'s longest frame doesn't fit. It has {1} octets (`max_sdu` {2} and 16 octets of header; no frame exceeds {3}) and needs {5} ns at port {4}.\nClass {6} there is ";
 
 /// Why the plan of a file doesn't isolate its protected filters, by its text and the fault of its check: what that fault is, then
 /// each other test that fails, with the line of the filter where that is known, and what to change. It begins with the path of

@@ -9,7 +9,7 @@ const OWN_PORT: &str =
     "Warning: the `static` entry of `stream` {0} (handle {1}) names port {2}, where the stream enters. No frame leaves by its ingress port. Remove the port from `ports`, unless another stream needs it.\n";
 
 const CLOSED: &str =
-    "Warning: gate {0} is always closed, so its filters refuse all their frames. Open it, unless it catches strays.\n";
+    "Warning: gate {0} is always closed, so its filters refuse all their frames. Open it, unless it is there to refuse stray frames.\n";
 
 const NO_TOKEN: &str =
     "Warning: meter {0} marks every frame red, because `cbs` and `ebs` are below {1} octets, the shortest frame. Raise one of them.\n";

@@ -12,13 +12,13 @@ const BURST_GREEN: &str =
 const BURST_ANY: &str = "`cbs` is {3} and `ebs` is {4}. Raise one of them to at least {2}.\n";
 
 const RATE: &str =
-    "meter {5} is slower than gate {0}. In each cycle of {3} ns the gate can pass {1} of the longest frames of filter {2} ({4} octets), ";
+    "meter {5} is slower than gate {0}. In each cycle of {3} ns the gate can pass {1} of the longest frames of filter {2}, together {4} octets, ";
 
 const RATE_GREEN: &str =
-    "but `cir` supplies only {6}. Frames turn yellow or red once the bucket is empty. Raise `cir`, or lower `octets`.\n";
+    "but `cir` supplies only {6} octets. Frames turn yellow or red once the bucket is empty. Raise `cir`, or lower `octets` of the gate.\n";
 
 const RATE_ANY: &str =
-    "but `cir` and `eir` supply only {6}. Frames turn red once the buckets are empty. Raise `cir` or `eir`, or lower `octets`.\n";
+    "but `cir` and `eir` supply only {6} octets. Frames turn red once the buckets are empty. Raise `cir` or `eir`, or lower `octets` of the gate.\n";
 
 const FLOOD: &str =
     "window too short. In each cycle of {3} ns, gate {0} can pass {1} of the longest frames of filter {2}. They need {5} ns at port {4}, but class {6} is open for only {7} ns of each {8} ns. A full queue drops frames. Lengthen the window, or lower `octets`.\n";
@@ -27,7 +27,7 @@ const ROOMS: &str =
     "queue capacity too small. In the entry at offset {3} ns, gate {0} can pass {1} of the longest frames of filter {2}. When the entry ends, {4} of them would wait at port {5}, class {6}, but the queue holds only {7}. Raise `rooms`, or lower `octets`.\n";
 
 const PAUSE: &str =
-    "gate {0} (filter {1}) is open from offset {2} ns for {3} ns, while class {4} of port {5} can't send. A frame that arrives as the gate opens waits at least {6} ns. Shift one of them by `base`, or reorder entries.\n";
+    "gate {0} (filter {1}) is open from offset {2} ns for {3} ns, while class {4} of port {5} can't send. A frame that arrives as the gate opens waits at least {6} ns. Shift the gate or the port by `base`, or reorder the entries of one.\n";
 
 const CYCLES: &str =
     "gate {0} of filter {1} has a cycle of {2} ns, and port {3} has {4} ns. Neither is a multiple of the other, so the delay pattern repeats only every {5} ns. Make one cycle a multiple of the other.\n";

@@ -78,13 +78,13 @@ fn position_of(
 /// Adds an instance by its place in the file, and by the keys by which it is known.
 fn put_instance(said: &mut Said, document: &Table, section: Section, index: u32) {
     let table = table_of(document, section, index);
-    let template = "`{a}` {0} of the file";
+    let template = "in `{a}` {0} of the file";
     fill_one(said, template, u64::from(index), section.name());
     put_known(said, table, own_key(section));
     if matches!(section, Section::Static) {
         put_known(said, table, Field::Address);
     }
-    said.put(".\n");
+    said.put(":\n");
 }
 
 /// Adds a key of an instance with its value, where it has one.
