@@ -13,6 +13,8 @@ use Rattle.bridge_traffic.specs.declared.rows.TrafficRow.{TrafficRow}
 use Rattle.bridge_traffic.specs.Document.{rows_of_text}
 use Rattle.bridge_traffic.specs.Faults.{traffic_line}
 use Rattle.bridge_planning.specs.declared.timings.QueueTiming.{QueueTiming}
+use Rattle.bridge_planning.specs.declared.timings.TrafficFigures.{TrafficFigures}
+use Rattle.bridge_planning.specs.declared.timings.TrafficFigures.TheVariants as figures
 use Rattle.bridge_planning.specs.Printing.{AreLinesOf}
 use Rattle.bridge_planning.specs.Traffic.{AreTimings, are_kept, first_fault_from, is_met}
 
@@ -43,9 +45,18 @@ figure_words x = codes " worst " ++ (decimal x.timing.worst ++ (codes " best " +
 unfoldable pub timing_line : QueueTiming → List ℕ
 timing_line x = queue_words x ++ (codes " " ++ (passing_word x.passes ++ (figure_words x ++ (deadline_words x.deadline x.timing.worst ++ codes "\n"))))
 
+-- the line of a row that leads nowhere
+abbrev pub nowhere_line : ℕ → ℕ → List ℕ
+nowhere_line row filter = codes "traffic " ++ (decimal row ++ (codes " filter " ++ (decimal filter ++ codes " nowhere\n")))
+
+-- the line of a row in a queue, or of one that leads nowhere
+abbrev pub figures_line : TrafficFigures → List ℕ
+figures_line (figures.Queue x) = timing_line x
+figures_line (figures.Nowhere row filter) = nowhere_line row filter
+
 -- a line for each
-abbrev pub timings_text : List QueueTiming → List ℕ
-timings_text xs = flat_map timing_line xs
+abbrev pub timings_text : List TrafficFigures → List ℕ
+timings_text xs = flat_map figures_line xs
 
 -- THE JOB
 
@@ -54,12 +65,12 @@ abbrev pub ReadsRows : List ℕ → List TrafficRow → Type 0
 ReadsRows words rows = rows_of_text (take 1048577 words) ≡ Ok rows
 
 -- what is printed for an accepted plan and rows that suit it: the lines of its bounds, then those of the rows' figures; and
--- whether each frame passes and meets its deadline
+-- whether each row leads to a queue, and each frame passes and meets its deadline
 pub record AreLinesOfTraffic {A : Type 0} (p : Plan A) (rows : List TrafficRow) (lines : List ℕ) (kept : Bool) : Type 0 where
   pub suit : first_fault_from p 1 rows ≡ None
   pub bounds : List ℕ
   pub are_bounds : AreLinesOf p bounds
-  pub timings : List QueueTiming
+  pub timings : List TrafficFigures
   pub are_timings : AreTimings p rows timings
   pub lines_are : lines ≡ bounds ++ timings_text timings
   pub kept_is : kept ≡ are_kept timings

@@ -29,5 +29,5 @@ pub use reporting::{TrafficReport, traffic_job};
 pub use streams::{StreamLines, bounds_of_all, bounds_of_streams, stream_lines};
 pub use telling::told_of;
 pub use tight::tight_bounds_of;
-pub use timings::{QueueTiming, are_kept, timings_of, timings_text};
+pub use timings::{QueueTiming, TrafficFigures, are_kept, timings_of, timings_text};
 pub use traffic::traffic_fault;
