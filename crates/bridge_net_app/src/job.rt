@@ -16,7 +16,7 @@ use bridge_netfile::NetworkFile;
 use bridge_network::Network;
 use bridge_planning::{
     QueueBound, bounds_of_all, bounds_of_streams, memory_fault, paths_of, read_network, read_plans,
-    tested, told_of,
+    tested, warnings_of,
 };
 use bridge_rounds::{Settled, settle};
 use std::alloc::{AllocError, Global};
@@ -219,7 +219,8 @@ fn is_told(
     if !is_asked {
         return Ok(false);
     }
-    let told = told_of(alloc, alloc, file, network)?;
+    let bounds = bounds_of_all(alloc, network.plans())?;
+    let told = warnings_of(alloc, alloc, file, network, &bounds)?;
     Ok(!told.is_empty())
 }
 

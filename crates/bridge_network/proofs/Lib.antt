@@ -3,6 +3,7 @@ pub mod Chain
 pub mod Once
 pub mod Marking
 pub mod Feeding
+pub mod Handing
 pub mod Closed
 pub mod Settling
 pub mod Paced

@@ -17,6 +17,7 @@ mod telling;
 mod tight;
 mod timings;
 mod traffic;
+mod warnings;
 
 pub use bounds::{QueueBound, bounds_of};
 pub use cycles::explain_traffic;
@@ -27,7 +28,7 @@ pub use printing::{bounds_job, bounds_text};
 pub use refusing::said_of_network;
 pub use reporting::{TrafficReport, traffic_job};
 pub use streams::{StreamLines, bounds_of_all, bounds_of_streams, stream_lines};
-pub use telling::told_of;
 pub use tight::tight_bounds_of;
 pub use timings::{QueueTiming, TrafficFigures, are_kept, timings_of, timings_text};
 pub use traffic::traffic_fault;
+pub use warnings::warnings_of;
