@@ -161,7 +161,7 @@ abbrev pub ReadsAfter : Result Form CaptureFault → List ℕ → List Captured 
 ReadsAfter (Ok form) text frames ending = Reads form first_place (drop 24 text) frames ending
 ReadsAfter (Err fault) text frames ending = (frames ≡ []) × (ending ≡ AtFault fault)
 
--- Statement: The file contents `text` are a capture of exactly the frames `frames`, in list order, with the ending
--- `ending`.
+-- Statement: Reading the file contents `text` as a capture gives exactly the frames `frames`, in list order, and then
+-- the ending `ending`.
 abbrev pub Records : List ℕ → List Captured → Ending → Type 0
 Records text frames ending = ReadsAfter (header_of text) text frames ending

@@ -35,8 +35,8 @@ place [] start cycle p = None
 place (e ∷ []) start cycle p = Some (record { state = e.0; start = start; end = cycle })
 place (e ∷ f ∷ es) start cycle p = if nat_lt p (start + e.1) then Some (record { state = e.0; start = start; end = start + e.1 }) else place (f ∷ es) (start + e.1) cycle p
 
--- Interval around time `t` in ns, converted from the offsets of an entry in the cycle; time `t` has the offset `p`.
--- The start of the interval may be negative.
+-- Interval of an entry in ns, converted from its offsets in the cycle; time `t` has offset `p`, and the start may be
+-- negative.
 abbrev pub turn_of : {S : Type 0} → ℕ → ℕ → Option (Place S) → Option (Turn S)
 turn_of t p None = None
 turn_of t p (Some x) = Some (record { state = x.state; start = pos t -ℤ pos (p - x.start); end = t + (x.end - p) })

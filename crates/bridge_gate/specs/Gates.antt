@@ -60,8 +60,9 @@ abbrev pub exceeds : Option ℕ → ℕ → Bool
 exceeds None n = false
 exceeds (Some limit) n = nat_lt limit n
 
--- Answer of a gate without set flags: Closed if the interval is closed or absent, OctetsExceeded above the octet limit,
--- otherwise Through.
+-- Answer of a gate without set flags: Closed if the interval is closed or absent, OctetsExceeded if its octets exceed
+-- the limit, otherwise Through.
+-- The octets of the interval include this frame.
 -- The answer Through has the internal priority value of the interval, if any.
 abbrev pub answer_in : GateRules → List GateStep → ℕ → Option (Turn GateEntry) → GateAnswer
 answer_in r ss sdu None = Closed

@@ -18,7 +18,8 @@ pub data MeterEvent : Type 0 where
 abbrev pub unit : ℕ
 unit = UNITS_PER_OCTET
 
--- Bucket limits from a meter's plan: each rate in bit/s is the rate in units per ns, and each burst size becomes units.
+-- Bucket limits from a meter's settings: rates in units per ns equal the rates in bit/s, and burst sizes are converted
+-- from octets to units.
 abbrev pub limits : MeterPlan → Limits
 limits p = record { cir = p.cir; cbs = p.cbs * unit; eir = p.eir; ebs = p.ebs * unit; coupling = p.coupling }
 
@@ -39,8 +40,8 @@ colour_in p committed excess octets dei =
     else if nat_le (octets * unit) excess then Yellow
     else Red
 
--- Colour of a frame that arrives at time `at`, by the bucket levels that the earlier judged frames `past`, newest
--- first, left.
+-- Colour of a frame that arrives at time `at`, by the bucket levels after the judged frames `past`, which are newest
+-- first.
 abbrev pub colour_by : MeterPlan → List Judged → ℕ → ℕ → Bool → Colour
 colour_by p past at octets dei = colour_in p (committed (limits p) at past) (excess (limits p) at past) octets dei
 
