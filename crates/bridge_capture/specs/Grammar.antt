@@ -103,7 +103,7 @@ abbrev pub original_of : Form → List ℕ → ℕ
 original_of form octets = word32 form.order (octets_at 12 4 octets)
 
 -- First fault of a record's header: captured octets above MOST_CAPTURED or the original length, time at END_OF_TIME or
--- later, time before the previous record's.
+-- later, time before the previous record's time.
 -- `None` means a header without a fault.
 abbrev pub head_fault : Place → ℕ → ℕ → ℕ → Option CaptureFault
 head_fault place time captured original =

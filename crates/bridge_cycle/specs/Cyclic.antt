@@ -15,8 +15,7 @@ pub record Cyclic (S : Type 0) : Type 0 where
   pub cycle : ℕ
   pub entries : List (S × ℕ)
 
--- Time in ns from the latest cycle start to time `t`; cycle starts lie at whole cycle times before and after the base
--- time.
+-- Time in ns from the latest cycle start to time `t`; a cycle starts at the base time plus or minus whole cycle times.
 abbrev pub phase : ℕ → ℕ → ℕ → ℕ
 phase base cycle t = (t + (cycle - base % cycle)) % cycle
 

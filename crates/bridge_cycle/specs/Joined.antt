@@ -12,18 +12,18 @@ pub record Joined (S : Type 0) : Type 0 where
   pub new : Cyclic S
   pub at : ℕ
 
--- Interval whose end is the earlier of its end and time `m`, in ns; `None` stays `None`.
+-- The interval with its end set to time `m` (in ns) if it ends later than `m`; `None` stays `None`.
 abbrev pub cut : {S : Type 0} → ℕ → Option (Turn S) → Option (Turn S)
 cut m None = None
 cut m (Some x) = Some (record { state = x.state; start = x.start; end = min x.end m })
 
--- Interval whose start is the later of its start and time `m`, in ns; `None` stays `None`.
+-- The interval with its start set to time `m` (in ns) if it starts earlier than `m`; `None` stays `None`.
 abbrev pub raised : {S : Type 0} → ℕ → Option (Turn S) → Option (Turn S)
 raised m None = None
 raised m (Some x) = Some (record { state = x.state; start = int_max x.start (pos m); end = x.end })
 
--- Interval that contains time `t`, from the old list before the schedule change and from the new list from then on,
--- limited at the change.
+-- Interval that contains time `t`, shortened at the schedule change: before the change from the old list, otherwise
+-- from the new list.
 abbrev pub turn_at : {S : Type 0} → Joined S → ℕ → Option (Turn S)
 turn_at j t = if nat_lt t j.at then cut j.at (cyclic.turn_at j.old t) else raised j.at (cyclic.turn_at j.new t)
 

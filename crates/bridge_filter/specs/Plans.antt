@@ -11,7 +11,7 @@ use Rattle.bridge_gate.specs.Schedules.{rules_of, has_priorities}
 use Rattle.bridge_filter.specs.declared.FilterPlan.{FilterPlan}
 use Rattle.bridge_filter.specs.Verdicts.{Plans}
 
--- True if at least one entry of the numbered list `xs` has the number `n`.
+-- True if the list `xs` of numbered entries has at least one entry with the number `n`.
 abbrev pub is_there : {X : Type 0} → ℕ → List (ℕ × X) → Bool
 is_there n xs = is_some (lookup (nat_eq n) xs)
 
@@ -64,7 +64,7 @@ abbrev pub meter_or_empty : Option MeterPlan → MeterPlan
 meter_or_empty None = empty_meter
 meter_or_empty (Some m) = m
 
--- Configuration of policing from a plan's lists; a number missing in them gives an always closed gate, or a meter with
+-- Configuration of policing from a plan's lists; for a missing number, the gate is always closed, and the meter has
 -- zero rates and sizes.
 abbrev pub plans_of : {A : Type 0} → List (ℕ × FilterPlan) → List (ℕ × GatePlan A) → List (ℕ × MeterPlan) → Plans
 plans_of filters gates meters = record {

@@ -68,7 +68,7 @@ pub data Step : Type 0 where
   Judged : Call → ℕ → FilterPlan → Verdict → Step
   Commanded : Clear → ℕ → Step
 
--- True if the frame reached its stream gate, as every verdict except Blocked and Oversize shows.
+-- True if the frame reached its stream gate, which holds for every verdict except Blocked and Oversize.
 abbrev pub reached_gate : Verdict → Bool
 reached_gate verdict.Blocked = false
 reached_gate verdict.Oversize = false

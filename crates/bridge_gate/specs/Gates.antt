@@ -60,8 +60,8 @@ abbrev pub exceeds : Option ℕ → ℕ → Bool
 exceeds None n = false
 exceeds (Some limit) n = nat_lt limit n
 
--- Answer of a gate without set flags: Closed if the interval is closed or absent, OctetsExceeded if its octets exceed
--- the limit, otherwise Through.
+-- Answer of a gate without set flags: Closed if the interval is closed or absent, OctetsExceeded if the interval's
+-- octet limit is exceeded, otherwise Through.
 -- The octets of the interval include this frame.
 -- The answer Through has the internal priority value of the interval, if any.
 abbrev pub answer_in : GateRules → List GateStep → ℕ → Option (Turn GateEntry) → GateAnswer
@@ -71,7 +71,7 @@ answer_in r ss sdu (Some x) =
     else if exceeds x.state.octets (used r.turn_at x.start ss + sdu) then OctetsExceeded
     else Through x.state.ipv
 
--- Answer of a gate at time `t` to a frame of `sdu` SDU octets: refused if an enabled flag is set, otherwise by the
+-- Answer of a gate at time `t` to a frame of `sdu` SDU octets: refusal if an enabled flag is set, otherwise by the
 -- interval.
 abbrev pub answer : GateRules → List GateStep → ℕ → ℕ → GateAnswer
 answer r ss t sdu =

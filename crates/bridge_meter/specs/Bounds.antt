@@ -21,9 +21,10 @@ abbrev pub least : ℕ → List ℕ → ℕ
 least a [] = a
 least a (x ∷ xs) = min x (least a xs)
 
--- Upper bounds of the committed bucket at `now`, one per judged frame: size plus refill since that frame, minus units
--- taken from that frame on.
--- Each bound assumes a full bucket just before its frame; `green` is the number of units that newer green frames took.
+-- Upper bounds of the committed bucket, one per judged frame: size plus refill since that frame, minus units that it
+-- and newer frames took.
+-- Each bound is for time `now`, and assumes a full bucket just before its frame.
+-- The units `green` are those that newer green frames took.
 abbrev pub committed_bounds : Limits → ℕ → ℕ → List Judged → List ℕ
 committed_bounds l now green [] = []
 committed_bounds l now green (f ∷ fs) = (l.cbs + l.cir * (now - f.at) - (green + f.green)) ∷ committed_bounds l now (green + f.green) fs
@@ -33,8 +34,8 @@ committed_bounds l now green (f ∷ fs) = (l.cbs + l.cir * (now - f.at) - (green
 unfoldable pub committed : Limits → ℕ → List Judged → ℕ
 committed l now past = least l.cbs (committed_bounds l now 0 past)
 
--- Units that overflowed the committed bucket from `at` to `now`: first level `then_held` plus refill, minus taken units
--- `green`, minus last level `held`.
+-- Units that overflowed the committed bucket from `at` to `now`: level `then_held` at `at`, plus refill, minus taken
+-- units `green`, minus level `held` at `now`.
 abbrev pub overflow : Limits → ℕ → ℕ → ℕ → ℕ → ℕ → ℕ
 overflow l at then_held green now held = then_held + l.cir * (now - at) - green - held
 
@@ -42,10 +43,10 @@ overflow l at then_held green now held = then_held + l.cir * (now - at) - green 
 abbrev pub coupled : Limits → ℕ → ℕ
 coupled l o = if l.coupling then o else 0
 
--- Upper bounds of the excess bucket at `now`, one per judged frame: size plus refill and coupled overflow since that
--- frame, minus units taken.
--- Each bound assumes a full bucket just before its frame; `held` is the number of units in the committed bucket at
--- `now`.
+-- Upper bounds of the excess bucket, one per judged frame: size plus refill and coupled overflow since that frame,
+-- minus units taken since then.
+-- Each bound is for time `now`, and assumes a full bucket just before its frame.
+-- The units `held` are in the committed bucket at `now`, and newer frames took the units `green` and `yellow`.
 abbrev pub excess_bounds : Limits → ℕ → ℕ → ℕ → ℕ → List Judged → List ℕ
 excess_bounds l now held green yellow [] = []
 excess_bounds l now held green yellow (f ∷ fs) =

@@ -32,8 +32,8 @@ is_within_limits p = nat_le p.cir HIGHEST_RATE && nat_le p.eir HIGHEST_RATE && n
 abbrev pub may_be_green : MeterPlan → Bool → Bool
 may_be_green p dei = not p.aware || not dei
 
--- Colour of a frame: green if allowed and its octets fit in `committed` units, else yellow if they fit in `excess`
--- units, else red.
+-- Colour of a frame: green if allowed and the committed bucket has enough units, otherwise yellow if the excess bucket
+-- has enough, otherwise red.
 abbrev pub colour_in : MeterPlan → ℕ → ℕ → ℕ → Bool → Colour
 colour_in p committed excess octets dei =
     if may_be_green p dei && nat_le (octets * unit) committed then Green
@@ -52,7 +52,7 @@ judged_as at octets Green = record { at = at; green = octets * unit; yellow = 0 
 judged_as at octets Yellow = record { at = at; green = 0; yellow = octets * unit }
 judged_as at octets Red = record { at = at; green = 0; yellow = 0 }
 
--- True if the colour is red, false for green and yellow.
+-- True if the colour is red; false for green and yellow.
 abbrev pub is_red : Colour → Bool
 is_red Green = false
 is_red Yellow = false

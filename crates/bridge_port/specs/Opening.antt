@@ -52,7 +52,7 @@ ever (Exchanged j) c n = list_ever j.old c n && list_ever j.new c n
 abbrev pub opens_of : {A : Type 0} → Option (Egress A) → ℕ → ℕ → Bool
 opens_of list = opens (opening_of list)
 
--- True for a class and a duration in ns if each of the port's lists has a window that long; always true without a list.
+-- True for a class and a duration in ns if each gate control list has a window that long; always true without a list.
 abbrev pub ever_of : {A : Type 0} → Option (Egress A) → ℕ → ℕ → Bool
 ever_of list = ever (opening_of list)
 

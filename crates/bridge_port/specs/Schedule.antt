@@ -111,16 +111,17 @@ module _ {X : Type 0} where
   fate_at i [] = None
   fate_at i (x ∷ xs) = if nat_eq i (length xs) then Some x.fate else fate_at i xs
 
-  -- Statement: The fate of copy `x` is Never if it can never fit, otherwise Full if its queue is full, otherwise Queued
-  -- or Started.
+  -- Statement: The fate of copy `x` is Never if it can never fit, otherwise Full if at least `room` copies wait,
+  -- otherwise Queued or Started.
+  -- The list holds the copies that were offered before `x`.
   abbrev pub IsAnswer : Rules X → Copy X → List (Copy X) → Fate → Type 0
   IsAnswer r x xs Never = r.ever x.class (r.occ x.item) ≡ false
   IsAnswer r x xs Full = (r.ever x.class (r.occ x.item) ≡ true) × (r.room x.class ≤ waiting x.class x.at xs)
   IsAnswer r x xs Queued = (r.ever x.class (r.occ x.item) ≡ true) × (waiting x.class x.at xs < r.room x.class)
   IsAnswer r x xs (Started s) = (r.ever x.class (r.occ x.item) ≡ true) × (waiting x.class x.at xs < r.room x.class)
 
-  -- Statement: Each copy was dropped or queued as IsAnswer states, which depends on the copies that were offered before
-  -- it.
+  -- Statement: Each copy of the list was dropped or queued by the rule IsAnswer, applied to the copies that were
+  -- offered before it.
   abbrev pub Answered : Rules X → List (Copy X) → Type 0
   Answered r [] = Unit {0}
   Answered r (x ∷ xs) = IsAnswer r x xs x.fate × Answered r xs

@@ -121,7 +121,7 @@ unfoldable pub numbers : ℕ → ℕ → Data → Result (List ℕ) Flaw
 numbers low high (array items) = unless (numbers_flaw low high items) (numbers_of items)
 numbers low high _ = Err flaw.WrongKind
 
--- The set `bits` after every number n of the list is added as bit n - `low`; bit 0 stands for `low`.
+-- The set `bits` with each number n of the list added: bit n - `low` of the set becomes 1.
 abbrev pub set_with : ℕ → ℕ → List ℕ → ℕ
 set_with low bits [] = bits
 set_with low bits (n ∷ ns) = set_with low (bit_or bits (2 ^ (n - low))) ns
