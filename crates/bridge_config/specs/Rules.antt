@@ -120,8 +120,8 @@ pub record IsGateList (l : Cyclic GateEntry) : Type 0 where
   pub lawful : IsLawful l
   pub priorities : All (λ e. schedules.is_priority e.0.ipv ≡ true) l.entries
 
--- Statement: The stream gates have different numbers, schedules that follow IsLawful, and internal priority values that
--- are `None` or at most 7.
+-- Statement: The stream gates have different numbers, valid schedules, and internal priority values that are absent
+-- (`None`) or at most 7.
 pub record AreGates {A : Type 0} (gates : List (ℕ × GatePlan A)) : Type 0 where
   pub own : IsTrue (are_distinct gates)
   pub priorities : IsTrue (all_have_priorities gates)

@@ -73,9 +73,9 @@ number_of CycleOutOfRange = 4
 number_of TooManyEntries = 5
 number_of NoMemory = 6
 
--- Statement: The list has 1 to 256 entries, positive intervals within the cycle, a cycle time up to 1 s, a base time
--- before END_OF_TIME.
--- The sum of all intervals is at most the cycle time.
+-- Statement: The list has 1 to 256 entries, positive intervals with a sum within the cycle time (up to 1 s), a base
+-- time before END_OF_TIME.
+-- The sum is at most the cycle time.
 pub record IsLawful {S : Type 0} (l : Cyclic S) : Type 0 where
   pub some : 0 < length l.entries
   pub few : length l.entries ≤ MOST_ENTRIES

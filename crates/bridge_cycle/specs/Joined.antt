@@ -31,7 +31,8 @@ turn_at j t = if nat_lt t j.at then cut j.at (cyclic.turn_at j.old t) else raise
 abbrev pub cycle_of : {S : Type 0} → Joined S → ℕ
 cycle_of j = max j.old.cycle j.new.cycle
 
--- Statement: Both lists of the schedule change, the old and the new list, are valid by the rules for one list.
+-- Statement: Both lists of the schedule change, the old and the new list, have valid sizes, intervals, cycle times and
+-- base times.
 pub record IsLawful {S : Type 0} (j : Joined S) : Type 0 where
   pub old : cyclic.IsLawful j.old
   pub new : cyclic.IsLawful j.new

@@ -19,7 +19,7 @@ is_there n xs = is_some (lookup (nat_eq n) xs)
 abbrev pub KeepsNumbers : {X Y : Type 0} → List (ℕ × X) → List (ℕ × Y) → Type 0
 KeepsNumbers xs ys = (n : ℕ) → is_there n xs ≡ true → is_there n ys ≡ true
 
--- True if all entries of the list have different numbers.
+-- True if all entries of the list have different numbers, so that a number names at most one entry.
 abbrev pub are_distinct : {X : Type 0} → List (ℕ × X) → Bool
 are_distinct [] = true
 are_distinct (x ∷ xs) = not (is_there x.0 xs) && are_distinct xs

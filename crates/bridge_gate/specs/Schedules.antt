@@ -22,7 +22,8 @@ turn_at (Joined j) t = joined.turn_at j t
 abbrev pub rules_of : {A : Type 0} → GatePlan A → GateRules
 rules_of p = record { turn_at = turn_at p.schedule; shut_on_rx = p.shut_on_rx; shut_on_octets = p.shut_on_octets }
 
--- Statement: Every list in the schedule of the stream gate follows the rules for lists; a fixed state is always valid.
+-- Statement: Each list in the stream gate's schedule has a valid size, intervals, cycle time and base time; a fixed
+-- state is always valid.
 abbrev pub IsLawful : {A : Type 0} → Schedule A → Type 0
 IsLawful (Fixed lets ipv) = Unit {0}
 IsLawful (Cyclic l) = cyclic.IsLawful l

@@ -177,8 +177,8 @@ module _ {X : Type 0} where
     pub fits : Fits (r.opens class) (r.occ item) u
     pub highest : c ≤ class
 
-  -- Statement: Whenever the link is free before `h` and a class's oldest copy fits, the oldest copy of that class or a
-  -- higher one starts.
+  -- Statement: Whenever the link is free before `h` and a class's oldest waiting copy fits, that copy or one of a
+  -- higher class starts.
   abbrev pub NoneMissed : Rules X → ℕ → List (Copy X) → Type 0
   NoneMissed r h xs = (u : ℕ) → u < h → is_free r u xs ≡ true → (c : ℕ) (p : ℕ × X) → head c u xs ≡ Some p → Fits (r.opens c) (r.occ p.1) u → Serves r xs u c
 
