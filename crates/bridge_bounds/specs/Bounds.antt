@@ -21,22 +21,22 @@ use Rattle.bridge_check.specs.Windows.{longest_frame}
 use Rattle.bridge_semantics.specs.Offers.{egress}
 use Rattle.bridge_bounds.specs.Passing.{AreApart, fewer, most_in}
 
--- Holds if `k` frames of `occ` ns each, sent one after another from time `u` at the earliest fitting times, end at time
+-- Holds if the last of `k` frames, sent one after another from time `u`, each for `occ` ns at its earliest fit, ends at
 -- `v`.
 abbrev pub EndsBy : (ℕ → Bool) → ℕ → ℕ → ℕ → ℕ → Type 0
 EndsBy opens occ zero u v = v ≡ u
 EndsBy opens occ (suc k) u v = (w s : ℕ) × EndsBy opens occ k u w × IsFirst opens occ w s × (v ≡ s + occ)
 
--- Holds if `k` frames of `occ` ns each, waiting from any time `u` on, have all left by `u` + `d` ns.
+-- Holds if, for every time `u`, the last of `k` frames of `occ` ns each, waiting from `u`, ends by `u` + `d` ns.
 abbrev pub IsLongest : (ℕ → Bool) → ℕ → ℕ → ℕ → Type 0
 IsLongest opens occ k d = (u : ℕ) → (v : ℕ) × EndsBy opens occ k u v × (v ≤ u + d)
 
--- Holds if `k` frames of `occ` ns each, waiting from some time `u` on, have all left exactly at `u` + `d` ns.
+-- Holds if, for some time `u`, the last of `k` frames of `occ` ns each, waiting from `u`, ends exactly at `u` + `d` ns.
 abbrev pub IsAttained : (ℕ → Bool) → ℕ → ℕ → ℕ → Type 0
 IsAttained opens occ k d = (u : ℕ) × EndsBy opens occ k u (u + d)
 
--- Holds if `k` frames of `occ` ns each, waiting from some time on, need exactly `d` ns; with a schedule change, it
--- always holds.
+-- Holds if some time attains exactly `d` ns (IsAttained), so that `d` is least; with a schedule change, it always
+-- holds.
 abbrev pub IsLeast : Opening → ℕ → ℕ → ℕ → ℕ → Type 0
 IsLeast Always c occ k d = IsAttained (opens Always c) occ k d
 IsLeast (One l) c occ k d = IsAttained (opens (One l) c) occ k d
@@ -92,8 +92,8 @@ pub record IsBound {A : Type 0} (p : Plan A) (n q c b : ℕ) : Type 0 where
 abbrev pub HasNoBound : {A : Type 0} → Plan A → ℕ → ℕ → ℕ → Type 0
 HasNoBound p n q c = (f : FilterPlan) → lookup (nat_eq n) p.filters ≡ Some f → f.protected ≡ true → reaches p f q c ≡ false
 
--- Holds if `b` is the lesser of `a` and the bound for `k` frames, or `a` itself if open intervals are too close
--- (AreApart). Far enough: each open interval begins after all frames of the one before can have left.
+-- Holds if `b` is the lesser of `a` and the bound for `k` frames, or `a` itself if open intervals aren't far enough
+-- apart. Far enough: each open interval begins after all frames of the one before can have left (AreApart).
 pub record IsLesser {A : Type 0} (l : cyclic.Cyclic GateEntry) (out : PortPlan A) (c m k a b : ℕ) : Type 0 where
   pub few : ℕ
   pub is : IsBoundOf out c m k few

@@ -159,13 +159,12 @@ lesser_fault (Some a) (Some b) = if nat_lt b.0 a.0 then Some b else Some a
 abbrev pub numbered_fault : {A : Type 0} → Plan A → ℕ × FilterPlan → Option (ℕ × CheckFault)
 numbered_fault p f = if f.1.protected then option_map (λ e. (f.0, e)) (fault_of p f.0 f.1) else None
 
--- The first fault of the lowest-numbered protected filter in the list that has a fault, paired with the filter's
--- number, or `None`.
+-- The number and the first fault of the lowest-numbered faulty protected filter in the list, as a pair, or `None`.
 abbrev pub least_fault : {A : Type 0} → Plan A → List (ℕ × FilterPlan) → Option (ℕ × CheckFault)
 least_fault p [] = None
 least_fault p (f ∷ fs) = lesser_fault (numbered_fault p f) (least_fault p fs)
 
--- The fault that `check` reports for plan `p`, or `None`: the first fault of the lowest-numbered protected filter that
--- has a fault.
+-- The fault that `check` reports for plan `p`, or `None`: the first fault of the lowest-numbered faulty protected
+-- filter.
 abbrev pub first_fault : {A : Type 0} → Plan A → Option CheckFault
 first_fault p = option_map (λ x. x.1) (least_fault p p.filters)

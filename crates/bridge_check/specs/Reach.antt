@@ -17,8 +17,8 @@ use Rattle.bridge_config.specs.declared.ports.PortPlan.{PortPlan}
 use Rattle.bridge_config.specs.Model.{Plan}
 use Rattle.bridge_config.specs.Rules.{port_at}
 
--- True if the kind of entry compares the destination address (null stream identification), false for the source address
--- (IEEE 802.1CB-2017, 6.4).
+-- True if entries of this kind compare the destination address (null stream identification), false if they compare the
+-- source address (IEEE 802.1CB-2017, 6.4).
 abbrev pub is_null : Kind → Bool
 is_null Null = true
 is_null Source = false
@@ -33,14 +33,14 @@ are_null h streams = list_all (λ e. not (nat_eq e.handle h) || is_null e.kind) 
 abbrev pub leads_to : Database → ℕ → ℕ → List StreamEntry → Bool
 leads_to db h q streams = list_any (λ e. nat_eq e.handle h && has (forward db e.port e.vid e.address) q) streams
 
--- True if frames with this optional handle may leave by port `q`; true for every port without a handle or with a
--- source-address entry.
+-- True if frames with this optional handle may leave by port `q`; without a handle or with a source-address entry,
+-- every port counts.
 abbrev pub reaches_port : {A : Type 0} → Plan A → Option ℕ → ℕ → Bool
 reaches_port p None q = true
 reaches_port p (Some h) q = not (are_null h p.streams) || leads_to p.database h q p.streams
 
--- All gate entries of a stream gate's schedule: a fixed state counts as one entry, and a schedule change has old before
--- new entries.
+-- All gate entries of a stream gate's schedule: a fixed state counts as one entry, and a schedule change gives old,
+-- then new entries.
 abbrev pub entries_of : {A : Type 0} → Schedule A → List GateEntry
 entries_of (Fixed lets ipv) = record { lets = lets; ipv = ipv; octets = None } ∷ []
 entries_of (Cyclic l) = map (λ e. e.0) l.entries
@@ -55,7 +55,7 @@ entries_if (Some g) = entries_of g.schedule
 abbrev pub entries_at : {A : Type 0} → List (ℕ × GatePlan A) → ℕ → List GateEntry
 entries_at gates n = entries_if (lookup (nat_eq n) gates)
 
--- True if `k` equals the internal priority value `ipv`, or without it the filter's `priority`; true for every `k` if
+-- True if `k` equals the internal priority value `ipv`, or, without it, the filter's `priority`; true for every `k` if
 -- both are absent.
 abbrev pub has_value : Option ℕ → Option ℕ → ℕ → Bool
 has_value (Some ipv) priority k = nat_eq ipv k

@@ -114,21 +114,23 @@ abbrev pub handle_of : List (ℕ × FilterPlan) → ℕ → Option ℕ
 handle_of [] m = None
 handle_of (f ∷ fs) m = if nat_eq f.0 m && f.1.protected then f.1.handle else handle_of fs m
 
--- An example of the frames that `w` asks for and that hop `h` may accept over the optional port's link, or `None`.
+-- An example of stray or own frames (by `w`) that hop `h` may accept over the link of the optional port, or `None`.
 abbrev pub taken_on : {A : Type 0} → Question → Parts A → List StreamHop → StreamHop → Plan A → Option (PortPlan A) → Option Found
 taken_on w n hops h next None = None
 taken_on w n hops h next (Some on) = taken_link w n.plans (stream_of hops) (peer n.links h.bridge on.number) next on h.filter
 
--- The port `q` and an example of frames that `w` asks for, if hop `h` may accept them over the port's link, or `None`.
+-- The port `q` and an example of stray or own frames (by `w`), if hop `h` may accept them over the port's link, or
+-- `None`.
 abbrev pub taken_at : {A : Type 0} → Question → Parts A → List StreamHop → StreamHop → Plan A → ℕ → Option (ℕ × Found)
 taken_at w n hops h next q = option_map (λ (f : Found). (q, f)) (taken_on w n hops h next (port_at next.ports q))
 
--- The lowest port where hop `h` may accept stray or own frames (as `w` asks) over a link, with an example, or `None`.
+-- The lowest port where hop `h` may accept stray frames (Strays) or the stream's own (Own), as `w` asks, with an
+-- example, or `None`.
 abbrev pub taken_hop : {A : Type 0} → Question → Parts A → List StreamHop → StreamHop → Plan A → Option (ℕ × Found)
 taken_hop w n hops h next = first_below 16 (λ j. taken_at w n hops h next (j + 1))
 
 -- Builds the fault NotClosed: stream and hop (from 1), the hop's bridge and port, and the stray frames' filter and
--- ingress port.
+-- ingress port at the sender.
 abbrev pub not_closed : ℕ → ℕ → StreamHop → ℕ × Found → NetworkFault
 not_closed i k h x = fault.NotClosed (i + 1) (k + 1) h.bridge x.0 x.1.filter x.1.from
 

@@ -23,8 +23,8 @@ hop_of h = (h.bridge, h.filter)
 abbrev pub stream_of : List StreamHop → List (ℕ × ℕ)
 stream_of hops = map hop_of hops
 
--- Parts of a network: the bridges' plans by bridge index from 0, the links between their ports, and the streams, each
--- as its hops.
+-- Parts of a network: the bridges' plans by bridge index from 0, the links between their ports, and the streams as
+-- lists of hops.
 pub record Parts (A : Type 0) : Type 0 where
   pub plans : List (Plan A)
   pub links : List Link

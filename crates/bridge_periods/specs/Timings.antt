@@ -27,8 +27,9 @@ short_on out m t = occupied (min t.least (longest_frame m)) out.speed
 abbrev pub long_on : {A : Type 0} → PortPlan A → ℕ → Traffic → ℕ
 long_on out m t = occupied (min t.longest (longest_frame m)) out.speed
 
--- Holds if `done` has the earliest end (shortest frame at `t.from`) and latest end (longest frame at `t.to`), and the
--- schedule repeats with the period. Times are phases in ns. The latest end isn't after the next period's first phase.
+-- Holds if phases exist (HaveNoPhases is false): `done` has the earliest end (shortest frame at `t.from`) and latest
+-- end (longest frame at `t.to`). The schedule repeats with the period, and the latest end isn't after the next period's
+-- first phase.
 pub record ArePhases (o : Opening) (c short long : ℕ) (t : Traffic) (done : Phases) : Type 0 where
   pub first : ℕ
   pub last : ℕ

@@ -5,8 +5,8 @@ use Rattle.bridge_semantics.specs.Events.{Arrived, Cleared, Event}
 use Rattle.bridge_network.specs.Latency.{IsMultiple}
 use Rattle.bridge_periods.specs.declared.traffic.Traffic.{Traffic}
 
--- Holds if traffic `t` is valid: its phases are ordered within a period up to END_OF_TIME, its lengths ordered from 1
--- to 9,216 octets.
+-- Holds if traffic `t` is valid: ordered phases within a period of at most END_OF_TIME, and ordered lengths from 1 to
+-- 9,216 octets.
 pub record IsTraffic (t : Traffic) : Type 0 where
   pub phases : t.from ≤ t.to
   pub within : t.to < t.period

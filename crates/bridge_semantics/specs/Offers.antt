@@ -48,7 +48,7 @@ abbrev pub leaving : Bool → List ℕ → List ℕ
 leaving true octets = drop_eligible octets
 leaving false octets = octets
 
--- Builds the copy of frame `a` for port `out`: class by `ipv` or else `priority`, and octets with a marked tag if
+-- Builds the copy of frame `a` for port `out`: class by `ipv` or else `priority`, and the tag marked drop eligible if
 -- `eligible` is true.
 abbrev pub offer : {A : Type 0} → PortPlan A → Arrival → ℕ → Option ℕ → ℕ → Option ℕ → Bool → Offer
 offer out a priority flow own ipv eligible = record { at = a.at; class = class_of out ipv priority; item = record { at = a.at; flow = flow; own = own; len = a.len; octets = leaving eligible a.octets } }
@@ -59,7 +59,7 @@ abbrev pub offer_by : {A : Type 0} → PortPlan A → Arrival → ℕ → ℕ �
 offer_by out a priority n own (verdict.Pass ipv eligible) = offer out a priority (Some n) own ipv eligible ∷ []
 offer_by out a priority n own v = []
 
--- A list with the copy of frame `a` for port `out`, or the empty list if the frame's filter refused it.
+-- A list with the copy of frame `a` for port `out`, or the empty list if the frame's filter refused the frame.
 abbrev pub offer_of_step : {A : Type 0} → Plan A → PortPlan A → Arrival → List Event → ℕ → verdicts.Step → List Offer
 offer_of_step p out a es priority (verdicts.Unfiltered c) = offer out a priority None 0 None false ∷ []
 offer_of_step p out a es priority (verdicts.Judged c n f v) = offer_by out a priority n (count p n es + 1) v
@@ -93,7 +93,6 @@ abbrev pub in_class : ℕ → List Offer → List Offer
 in_class c [] = []
 in_class c (o ∷ os) = if nat_eq o.class c then o ∷ in_class c os else in_class c os
 
--- The offers from which the copies in list `xs` result, in list order: time, class and contents of each copy, without
--- its fate.
+-- The copies in list `xs` as offers, in list order: time, class and contents of each copy, without its fate.
 abbrev pub offered : List (Copy Carried) → List Offer
 offered xs = map (λ x. record { at = x.at; class = x.class; item = x.item }) xs
