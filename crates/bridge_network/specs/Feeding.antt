@@ -19,8 +19,7 @@ use Rattle.bridge_config.specs.Model.{Plan}
 use Rattle.bridge_check.specs.Reach.{any_below, is_null, reaches}
 use Rattle.bridge_check.specs.Sending.{vid_of, priority_of}
 
--- A sort of frames: the same optional tag, apart from its drop eligible indicator, and the same destination or source
--- address.
+-- The frames that share one optional tag, whatever its drop eligible indicator, and one destination or source address.
 pub record Sort : Type 0 where
   pub tag : Option Tag
   pub kind : Kind

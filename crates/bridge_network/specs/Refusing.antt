@@ -114,13 +114,13 @@ abbrev pub handle_of : List (ℕ × FilterPlan) → ℕ → Option ℕ
 handle_of [] m = None
 handle_of (f ∷ fs) m = if nat_eq f.0 m && f.1.protected then f.1.handle else handle_of fs m
 
--- An example of stray or own frames (by `w`) that hop `h` may accept over the link of the optional port, or `None`.
+-- An example of stray or own frames (chosen by `w`) that hop `h` may accept over the link of the optional port, or
+-- `None`.
 abbrev pub taken_on : {A : Type 0} → Question → Parts A → List StreamHop → StreamHop → Plan A → Option (PortPlan A) → Option Found
 taken_on w n hops h next None = None
 taken_on w n hops h next (Some on) = taken_link w n.plans (stream_of hops) (peer n.links h.bridge on.number) next on h.filter
 
--- The port `q` and an example of stray or own frames (by `w`), if hop `h` may accept them over the port's link, or
--- `None`.
+-- The port `q` and an example of stray or own frames (chosen by `w`) that hop `h` may accept over its link, or `None`.
 abbrev pub taken_at : {A : Type 0} → Question → Parts A → List StreamHop → StreamHop → Plan A → ℕ → Option (ℕ × Found)
 taken_at w n hops h next q = option_map (λ (f : Found). (q, f)) (taken_on w n hops h next (port_at next.ports q))
 

@@ -40,7 +40,7 @@ pub record ArePhases (o : Opening) (c short long : ℕ) (t : Traffic) (done : Ph
   pub to : done.to ≡ last + long
   pub through : last + long ≤ t.from + t.period
 
--- Holds if the schedule doesn't repeat with the period, or a longest frame from phase `t.to` ends after the next
+-- Holds if the schedule doesn't repeat with the period, or a longest frame arriving at phase `t.to` ends after the next
 -- period's phase `t.from`.
 abbrev pub HaveNoPhases : Opening → ℕ → ℕ → Traffic → Type 0
 HaveNoPhases o c long t =
@@ -67,14 +67,14 @@ pub record IsUntimed (o : Opening) (c short long bound : ℕ) (t : Traffic) (x :
   pub best : x.best ≡ short
   pub jitter : x.jitter ≡ bound - short
 
--- Holds if `x` has the exact delays in ns of traffic `t` in class `c` at port `out`: IsTimed if `x.phases` exists,
--- otherwise IsUntimed.
+-- Holds if `x` has the worst delay, best delay and jitter in ns of traffic `t` in class `c` at port `out`, with phases
+-- if any.
 abbrev pub IsTimingAt : {A : Type 0} → PortPlan A → ℕ → ℕ → ℕ → Traffic → Timing → Type 0
 IsTimingAt out c m bound t x =
     MatchOption x.phases (IsUntimed (opening_of out.list) c (short_on out m t) (long_on out m t) bound t x)
     (IsTimed (opening_of out.list) c (short_on out m t) (long_on out m t) bound t x)
 
--- Holds if `x` has the exact delays in ns of traffic `t` of protected filter `n` in its class-`c` queue at port `q`.
+-- Holds if `x` has the worst delay, best delay and jitter in ns of traffic `t` of filter `n` in class `c` at port `q`.
 pub record IsTiming {A : Type 0} (p : Plan A) (n q c : ℕ) (t : Traffic) (x : Timing) : Type 0 where
   pub bound : ℕ
   pub is_bound : IsBound p n q c bound

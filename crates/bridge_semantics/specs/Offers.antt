@@ -48,8 +48,8 @@ abbrev pub leaving : Bool → List ℕ → List ℕ
 leaving true octets = drop_eligible octets
 leaving false octets = octets
 
--- Builds the copy of frame `a` for port `out`: class by `ipv` or else `priority`, and the tag marked drop eligible if
--- `eligible` is true.
+-- Builds the copy of frame `a` for port `out`: `ipv`, otherwise `priority`, gives its class, and `eligible` marks its
+-- tag drop eligible.
 abbrev pub offer : {A : Type 0} → PortPlan A → Arrival → ℕ → Option ℕ → ℕ → Option ℕ → Bool → Offer
 offer out a priority flow own ipv eligible = record { at = a.at; class = class_of out ipv priority; item = record { at = a.at; flow = flow; own = own; len = a.len; octets = leaving eligible a.octets } }
 

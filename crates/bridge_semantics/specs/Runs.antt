@@ -98,8 +98,8 @@ pub record IsView {A : Type 0} (p : Plan A) (s : ℕ) (f : FilterPlan) (es : Lis
 abbrev pub AtPort : (ℕ → List (Copy Carried)) → ℕ → Copy Carried → Type 0
 AtPort lists q x = In x (lists q)
 
--- Holds if the copies `lists q` of each port are its offers and obey the port's rules up to `moments q` ns; missing
--- ports have no copies.
+-- Holds if the copies `lists q` of each port are exactly those offered and obey its rules up to `moments q` ns; missing
+-- ports have none.
 pub record IsRun {A : Type 0} (p : Plan A) (es : List Event) (moments : ℕ → ℕ) (lists : ℕ → List (Copy Carried)) : Type 0 where
   pub offers : (q : ℕ) (out : PortPlan A) → port_at p.ports q ≡ Some out → offered (lists q) ≡ offers p out es
   pub lawful : (q : ℕ) (out : PortPlan A) → port_at p.ports q ≡ Some out → IsLawful (egress out) (moments q) (lists q)

@@ -36,8 +36,8 @@ pub record FitsRecord (c : Captured) : Type 0 where
 abbrev pub HasWritten : Option (List ℕ) → Option (List ℕ) → List Captured → Type 0
 HasWritten old new frames = Appends old new (written_text frames) × All FitsRecord frames
 
--- Holds if the sink of each port `q` contains its old octets, then the capture of the frames `left q`; unknown old
--- contents are exempt.
+-- Holds if the sink of each port `q`, when its contents are known, has its old octets, then the capture of the frames
+-- `left q`.
 abbrev pub AreWritten : {W : Type 0} → (W → Option (List ℕ)) → List ℕ → List W → List W → (ℕ → List Captured) → Type 0
 AreWritten {W} contents ports olds news left = (i q : ℕ) (old new : W) → slice_get ports i ≡ Some q → slice_get olds i ≡ Some old → slice_get news i ≡ Some new → HasWritten (contents old) (contents new) (left q)
 
