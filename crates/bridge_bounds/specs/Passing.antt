@@ -53,8 +53,8 @@ pub record LetsFew (turn_at : ℕ → Option (Turn GateEntry)) (k w : ℕ) : Typ
 abbrev pub IsShut : (ℕ → Option (Turn GateEntry)) → ℕ → ℕ → Type 0
 IsShut turn_at from until = (u : ℕ) (x : Turn GateEntry) → from ≤ u → u < until → turn_at u ≡ Some x → x.state.lets ≡ false
 
--- The greatest number of frames with 2 or more SDU octets that entry `e` passes in one interval; `None` if `e` is open
--- without limit.
+-- The greatest number of frames that entry `e` passes in one interval: 0 if closed, `None` if open without limit. Each
+-- frame has at least 2 SDU octets.
 abbrev pub most_frames : GateEntry → Option ℕ
 most_frames e = if e.lets then option_map (λ limit. limit / 2) e.octets else Some 0
 

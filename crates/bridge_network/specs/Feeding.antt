@@ -35,13 +35,15 @@ is_kind Null Null = true
 is_kind Source Source = true
 is_kind _ _ = false
 
--- True if entry `e` may match frames of sort `s` on `port` in VLAN `vid`; an address missing in `s` counts as a match.
+-- True if entry `e` may match frames of sort `s` on `port` in VLAN `vid`. If the entry compares an address that the
+-- sort leaves open, the entry may match.
 abbrev pub may_match : StreamEntry → ℕ → ℕ → Sort → Bool
 may_match e port vid s =
     nat_eq e.port port && nat_eq e.vid vid && takes_tag e.tag s.tag
     && (not (is_kind e.kind s.kind) || bytes_eq e.address s.address)
 
--- The handles that frames of sort `s` may get, in entry order up to the first certain match; `None` means no handle.
+-- The handles that frames of sort `s` may get, in entry order; `None` stands for a missing handle. The list stops at
+-- the first entry that surely matches.
 abbrev pub handles_of : List StreamEntry → ℕ → ℕ → Sort → List (Option ℕ)
 handles_of [] port vid s = None ∷ []
 handles_of (e ∷ es) port vid s =

@@ -80,8 +80,8 @@ abbrev pub is_one_speed : {A : Type 0} → Option (PortPlan A) → Option (PortP
 is_one_speed (Some a) (Some b) = nat_eq (mbps_of a.speed) (mbps_of b.speed)
 is_one_speed a b = true
 
--- The fault that the link test `test` finds for link `l` with index `i`, or `None`; the fault has the link number `i` +
--- 1.
+-- The fault that the link test `test` finds for link `l` with index `i`, or `None`. `There` asks if both ends exist,
+-- `Twice` if an end has an earlier link, `Speeds` if the speeds are equal. The fault counts links from 1.
 abbrev pub told_link : {A : Type 0} → Parts A → LinkTest → ℕ → Link → Option NetworkFault
 told_link n link_test.There i l =
     fault_unless (is_some (end_port n.plans l.one) && is_some (end_port n.plans l.other)) (fault.Unresolved (i + 1))
@@ -124,13 +124,13 @@ taken_on w n hops h next (Some on) = taken_link w n.plans (stream_of hops) (peer
 abbrev pub taken_at : {A : Type 0} → Question → Parts A → List StreamHop → StreamHop → Plan A → ℕ → Option (ℕ × Found)
 taken_at w n hops h next q = option_map (λ (f : Found). (q, f)) (taken_on w n hops h next (port_at next.ports q))
 
--- The lowest port where hop `h` may accept stray frames (Strays) or the stream's own (Own), as `w` asks, with an
--- example, or `None`.
+-- The lowest port where hop `h` may accept stray or own frames (chosen by `w`) over a link, with an example, or `None`.
+-- Own frames belong to a hop of the stream, stray frames to none.
 abbrev pub taken_hop : {A : Type 0} → Question → Parts A → List StreamHop → StreamHop → Plan A → Option (ℕ × Found)
 taken_hop w n hops h next = first_below 16 (λ j. taken_at w n hops h next (j + 1))
 
--- Builds the fault NotClosed: stream and hop (from 1), the hop's bridge and port, and the stray frames' filter and
--- ingress port at the sender.
+-- Builds the fault NotClosed for hop `h`: stream and hop number from 1, bridge and port. The fault also names the stray
+-- frames' filter and their ingress port at the sending bridge.
 abbrev pub not_closed : ℕ → ℕ → StreamHop → ℕ × Found → NetworkFault
 not_closed i k h x = fault.NotClosed (i + 1) (k + 1) h.bridge x.0 x.1.filter x.1.from
 
@@ -165,7 +165,8 @@ abbrev pub told_by : {A : Type 0} → Parts A → HopTest → ℕ → List Strea
 told_by n test i hops k h None = None
 told_by n test i hops k h (Some next) = of_some (told_at n test i hops k h next) (handle_of next.filters h.filter)
 
--- The fault that the hop test `test` finds for hop `h`, which has index `k` in stream `i`, both from 0, or `None`.
+-- The fault that the hop test `test` finds for hop `h`, which has index `k` in stream `i`, or `None`. Both indexes
+-- start at 0, and the numbers in the fault at 1.
 abbrev pub told_hop : {A : Type 0} → Parts A → HopTest → ℕ → List StreamHop → ℕ → StreamHop → Option NetworkFault
 told_hop n hop_test.Protected i hops k h =
     fault_unless (has_protected (slice_get n.plans h.bridge) h.filter) (fault.NotProtected (i + 1) (k + 1))
@@ -188,7 +189,7 @@ abbrev pub first_fault_of : List (Option NetworkFault) → Option NetworkFault
 first_fault_of faults = first_in (λ (e : Option NetworkFault). e) faults
 
 -- The first fault from four hop tests in order (protected, listed once, closed, fed), each over all hops of all
--- streams, or `None`.
+-- streams, or `None`. A hop is closed if it accepts no stray frames, and fed if frames of the stream can arrive.
 abbrev pub first_hop_fault : {A : Type 0} → Parts A → Option NetworkFault
 first_hop_fault n = first_fault_of (
     hop_fault n hop_test.Protected

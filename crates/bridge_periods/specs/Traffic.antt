@@ -16,8 +16,7 @@ pub record IsTraffic (t : Traffic) : Type 0 where
   pub longest : t.longest ≤ LONGEST_FRAME
 
 -- Holds if the frames among the events follow traffic `t`, each in a different period, and the newest frame's period
--- ends by time `next`. Periods begin at multiples of the period; each ends by the start of the next frame's period, the
--- newest by `next` in ns.
+-- ends by time `next`. Each frame's period ends at or before the start of the next frame's period.
 abbrev pub ComeInPeriods : Traffic → ℕ → List Event → Type 0
 ComeInPeriods t next [] = Unit {0}
 ComeInPeriods t next (Arrived a ∷ es) =

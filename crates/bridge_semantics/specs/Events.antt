@@ -30,7 +30,7 @@ pub record Arrival : Type 0 where
 abbrev pub arrival : ℕ → ℕ → List ℕ → ℕ → Arrival
 arrival at port octets len = record { at = at; port = port; octets = octets; len = len }
 
--- An event is a received frame, or a command that clears a flag of the numbered filter, gate or meter; event lists are
+-- An event is a received frame, or a command that clears a flag of the numbered filter, gate or meter. Event lists are
 -- newest first.
 pub data Event : Type 0 where
   Arrived : Arrival → Event

@@ -76,7 +76,7 @@ IsGreatest P None = (n : ℕ) → P n → ⊥
 IsGreatest P (Some m) = P m × ((n : ℕ) → P n → n ≤ m)
 
 -- Holds if the lists contain exactly the departures and drops of filter `s`, both in order, and `delay` is its longest
--- delay in ns.
+-- delay in ns. Without departures, `delay` is `None`.
 pub record IsTold {A : Type 0} (p : Plan A) (s : ℕ) (Lies : ℕ → Copy Carried → Type 0) (departures : List Departure) (drops : List Dropped) (delay : Option ℕ) : Type 0 where
   pub departures_rise : Rising DepartsBefore departures
   pub departures_are : (d : Departure) → In d departures ↔ Departs p s Lies d
@@ -84,7 +84,8 @@ pub record IsTold {A : Type 0} (p : Plan A) (s : ℕ) (Lies : ℕ → Copy Carri
   pub drops_are : (d : Dropped) → In d drops ↔ Drops p s Lies d
   pub longest : IsGreatest (Delayed p s Lies) delay
 
--- Holds if `v` is the exact record of filter `s` for the events `es`; `Lies q x` states that `x` is a copy at port `q`.
+-- Holds if `v` is the exact record of filter `s` for the events `es` and the copies at the ports. `Lies q x` states
+-- that `x` is a copy at port `q`.
 pub record IsView {A : Type 0} (p : Plan A) (s : ℕ) (f : FilterPlan) (es : List Event) (Lies : ℕ → Copy Carried → Type 0) (v : View A) : Type 0 where
   pub protected : v.protected ≡ f.protected
   pub verdicts : v.verdicts.items ≡ verdicts_of s (steps p es)
@@ -98,8 +99,8 @@ pub record IsView {A : Type 0} (p : Plan A) (s : ℕ) (f : FilterPlan) (es : Lis
 abbrev pub AtPort : (ℕ → List (Copy Carried)) → ℕ → Copy Carried → Type 0
 AtPort lists q x = In x (lists q)
 
--- Holds if the copies `lists q` of each port are exactly those offered and obey its rules up to `moments q` ns; missing
--- ports have none.
+-- Holds if the copies `lists q` of each port `q` are exactly those offered to it, and obey its rules up to time
+-- `moments q` in ns. A missing port has no copies.
 pub record IsRun {A : Type 0} (p : Plan A) (es : List Event) (moments : ℕ → ℕ) (lists : ℕ → List (Copy Carried)) : Type 0 where
   pub offers : (q : ℕ) (out : PortPlan A) → port_at p.ports q ≡ Some out → offered (lists q) ≡ offers p out es
   pub lawful : (q : ℕ) (out : PortPlan A) → port_at p.ports q ≡ Some out → IsLawful (egress out) (moments q) (lists q)

@@ -98,8 +98,8 @@ pub record TellsOf {A : Type 0} (p : Plan A) (n : ℕ) (f : FilterPlan) (o : Out
   pub protected : f.protected ≡ true
   pub told : lookup (nat_eq n) o.filters.items ≡ Some v
 
--- Holds if each protected filter's record in `o` results from its own frames and commands only, when each queue has its
--- port to itself.
+-- Holds if each protected filter's record in `o` results from its own frames and commands only, as if each queue had
+-- its port to itself.
 abbrev pub Isolates : {A W : Type 0} → Plan A → List ℕ → List Command → (ℕ → List ℕ) → (W → Option (List ℕ)) → List W → List W → Outcome A → Type 0
 Isolates {A} p ports commands texts contents olds news o =
     (ran : Runs p ports commands texts contents olds news o) (n : ℕ) (f : FilterPlan) (v : View A)
