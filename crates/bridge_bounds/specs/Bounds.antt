@@ -27,7 +27,8 @@ abbrev pub EndsBy : (ℕ → Bool) → ℕ → ℕ → ℕ → ℕ → Type 0
 EndsBy opens occ zero u v = v ≡ u
 EndsBy opens occ (suc k) u v = (w s : ℕ) × EndsBy opens occ k u w × IsFirst opens occ w s × (v ≡ s + occ)
 
--- Holds if, for every time `u`, the last of `k` frames of `occ` ns each, waiting from `u`, ends by `u` + `d` ns.
+-- Holds if, for every time `u`, the last of `k` frames of `occ` ns each, waiting from `u`, ends by `u` + `d` ns. The
+-- transmission gate is open when `opens` is true.
 abbrev pub IsLongest : (ℕ → Bool) → ℕ → ℕ → ℕ → Type 0
 IsLongest opens occ k d = (u : ℕ) → (v : ℕ) × EndsBy opens occ k u v × (v ≤ u + d)
 
@@ -75,7 +76,7 @@ abbrev pub IsBoundAt : {A : Type 0} → PortPlan A → ℕ → ℕ → ℕ → T
 IsBoundAt out c m b = IsBoundOf out c m ((egress out).room c) b
 
 -- Holds if `b` is the delay bound by capacity, in ns, of protected filter `n` for its reachable queue of class `c` at
--- port `q`.
+-- port `q`. The delay counts from a copy's arrival to its end of transmission, gap included.
 pub record IsBound {A : Type 0} (p : Plan A) (n q c b : ℕ) : Type 0 where
   pub filter : FilterPlan
   pub max_sdu : ℕ

@@ -39,7 +39,8 @@ abbrev pub IsFew : Option ℕ → ℕ → Type 0
 IsFew None k = ⊥
 IsFew (Some limit) k = limit / 2 ≤ k
 
--- Holds if two times in two different open intervals of a stream gate are always at least `w` ns apart.
+-- Holds if two times in two different open intervals of a stream gate are always at least `w` ns apart. The function
+-- `turn_at` gives the interval that contains a time.
 abbrev pub AreApart : (ℕ → Option (Turn GateEntry)) → ℕ → Type 0
 AreApart turn_at w =
     (t u : ℕ) (x y : Turn GateEntry) → t < u → turn_at t ≡ Some x → turn_at u ≡ Some y → x.state.lets ≡ true → y.state.lets ≡ true → ¬ (x.start ≡ y.start) → t + w ≤ u

@@ -71,7 +71,7 @@ abbrev pub lets : List GateEntry → Option ℕ → ℕ → Bool
 lets entries priority k = list_any (λ e. gives e priority k) entries
 
 -- True if some open entry of the stream gate of filter `f` can pass a frame so that priority `k` selects the frame's
--- queue.
+-- queue. An entry's internal priority value, if present, replaces the filter's priority.
 abbrev pub reaches_priority : {A : Type 0} → Plan A → FilterPlan → ℕ → Bool
 reaches_priority p f k = lets (entries_at p.gates f.gate) f.priority k
 
@@ -87,6 +87,6 @@ reaches_class p f None c = false
 reaches_class p f (Some port) c = any_below 8 (λ k. reaches_priority p f k && nat_eq (slice_index port.classes k) c)
 
 -- True if the queue of class `c` at port `q` is reachable for filter `f`, which means that its frames may enter the
--- queue.
+-- queue. The answer depends on the plan only.
 abbrev pub reaches : {A : Type 0} → Plan A → FilterPlan → ℕ → ℕ → Bool
 reaches p f q c = reaches_port p f.handle q && reaches_class p f (port_at p.ports q) c

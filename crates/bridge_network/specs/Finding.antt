@@ -31,7 +31,7 @@ is_own p is_of_stream q None = false
 is_own p is_of_stream q (Some m) = is_of_stream m.0 && reaches_any p m.1 q
 
 -- True if `w` asks for frames of optional filter `m` that leave by port `q`: stray frames, foreign to the stream, or
--- its own.
+-- its own. Frames without a filter are stray.
 abbrev pub is_asked : {A : Type 0} → Question → Plan A → (ℕ → Bool) → ℕ → Option (ℕ × FilterPlan) → Bool
 is_asked Strays p is_of_stream q m = not (is_fed p is_of_stream q m)
 is_asked Own p is_of_stream q m = is_own p is_of_stream q m

@@ -75,6 +75,7 @@ IsTimingAt out c m bound t x =
     (IsTimed (opening_of out.list) c (short_on out m t) (long_on out m t) bound t x)
 
 -- Holds if `x` has the worst delay, best delay and jitter in ns of traffic `t` of filter `n` in class `c` at port `q`.
+-- Delays count from arrival to the end of transmission, gap included.
 pub record IsTiming {A : Type 0} (p : Plan A) (n q c : ℕ) (t : Traffic) (x : Timing) : Type 0 where
   pub bound : ℕ
   pub is_bound : IsBound p n q c bound

@@ -33,7 +33,7 @@ of_rank q [] = []
 of_rank q (x ∷ xs) = if nat_eq x.rank q then x ∷ of_rank q xs else of_rank q xs
 
 -- Holds if `inputs` is ordered by time and rank, newest first, and its inputs of each rank `q` are exactly the list
--- `streams q`.
+-- `streams q`. At equal times, commands precede frames, and lower ports precede higher ports.
 pub record IsMerged (streams : ℕ → List Input) (inputs : List Input) : Type 0 where
   pub in_order : Rising NotBefore inputs
   pub each : (q : ℕ) → of_rank q inputs ≡ streams q
