@@ -107,8 +107,8 @@ IsTightened (Fixed lets ipv) out c m a b = b ≡ a
 IsTightened (Cyclic l) out c m a b = MatchOption (fewer ((egress out).room c) (most_in l.entries)) (b ≡ a) (λ k. IsLesser l out c m k a b)
 IsTightened (Joined j) out c m a b = b ≡ a
 
--- Holds if `b` is the delay bound in ns that `bounds` prints for the queue of class `c` at port `q`. This bound follows
--- from the queue's capacity, or a lower one from the stream gate's octet limits.
+-- Holds if `b` is the delay bound in ns that `bounds` prints for the queue of class `c` at port `q`. The bound by
+-- capacity counts, or a lower bound that follows from the stream gate's octet limits.
 pub record IsTightBound {A : Type 0} (p : Plan A) (n q c b : ℕ) : Type 0 where
   pub by_room : ℕ
   pub is_bound : IsBound p n q c by_room

@@ -49,6 +49,7 @@ found_for w p is_of_stream q from priority handle =
     found_if (is_asked w p is_of_stream q (flow_for p handle priority)) (flow_for p handle priority) from
 
 -- The first example of stray or own frames (chosen by `w`) of sort `s`, from ingress port `on` to port `q`, or `None`.
+-- The handles of handles_of are tried in order.
 abbrev pub sent_from : {A : Type 0} → Question → Plan A → (ℕ → Bool) → ℕ → Sort → PortPlan A → Option Found
 sent_from w p is_of_stream q s on =
     if may_go p.database on.number (vid_of on s.tag) s q
@@ -60,8 +61,8 @@ abbrev pub sent_if : {A : Type 0} → Question → Plan A → (ℕ → Bool) →
 sent_if w p is_of_stream q s None = None
 sent_if w p is_of_stream q s (Some on) = sent_from w p is_of_stream q s on
 
--- The first example of stray or own frames (chosen by `w`) of sort `s` that can leave by port `q`, by ingress port, or
--- `None`.
+-- The first example of stray or own frames (chosen by `w`) of sort `s` that can leave by port `q`, or `None`. Ingress
+-- ports are tried from 1 to 16.
 abbrev pub sent : {A : Type 0} → Question → Plan A → (ℕ → Bool) → ℕ → Sort → Option Found
 sent w p is_of_stream q s = first_below 16 (λ i. sent_if w p is_of_stream q s (port_at p.ports (i + 1)))
 
@@ -72,13 +73,13 @@ abbrev pub taken_by : {A : Type 0} → Question → Plan A → (ℕ → Bool) �
 taken_by w p is_of_stream q next on n e tag =
     if gives_to next on n e tag then sent w p is_of_stream q (sort_by e tag) else None
 
--- The first example of stray or own frames (chosen by `w`) from port `q` with the address of entry `e`, over 17 tags,
--- or `None`.
+-- The first example of stray or own frames (chosen by `w`) from port `q` with the address of entry `e`, or `None`. The
+-- 17 tags of tags_of are tried in order.
 abbrev pub taken_of : {A : Type 0} → Question → Plan A → (ℕ → Bool) → ℕ → Plan A → PortPlan A → ℕ → StreamEntry → Option Found
 taken_of w p is_of_stream q next on n e = first_in (taken_by w p is_of_stream q next on n e) (tags_of e.vid)
 
--- The first example of stray or own frames (chosen by `w`) from port `q`, over plan `next`'s entries for filter `n`, or
--- `None`.
+-- The first example of stray or own frames (chosen by `w`) from port `q` that filter `n` may accept, or `None`. The
+-- stream entries of plan `next` are tried in order.
 abbrev pub taken : {A : Type 0} → Question → Plan A → (ℕ → Bool) → ℕ → Plan A → PortPlan A → ℕ → Option Found
 taken w p is_of_stream q next on n = first_in (taken_of w p is_of_stream q next on n) next.streams
 

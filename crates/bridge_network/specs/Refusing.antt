@@ -59,8 +59,8 @@ is_linked links e = is_some (peer links e.bridge e.port)
 abbrev pub is_one_end : End → End → Bool
 is_one_end a b = nat_eq a.bridge b.bridge && nat_eq a.port b.port
 
--- The first end of link `l` whose port has a link in the list `before`, or `l.other` if both ends are one port, or
--- `None`.
+-- The first end of link `l` whose port has a link in the list `before`, or `None`. If `l` links a port with itself, the
+-- end `l.other` counts as linked.
 abbrev pub end_twice : List Link → Link → Option End
 end_twice before l =
     if is_linked before l.one then Some l.one
@@ -151,8 +151,8 @@ abbrev pub is_reached : {A : Type 0} → Parts A → List StreamHop → ℕ → 
 is_reached n hops k h next m =
     if nat_eq k 0 then is_entered n.links h.bridge next m else is_some (taken_hop question.Own n hops h next)
 
--- The fault that hop test `test` (Closed or Fed) finds for hop `h`, or `None`; `next` is its bridge's plan, `m` its
--- stream handle.
+-- The fault that hop test `test` (Closed or Fed) finds for hop `h`, or `None`. The plan of its bridge is `next`, and
+-- the stream handle of its filter is `m`.
 abbrev pub told_at : {A : Type 0} → Parts A → HopTest → ℕ → List StreamHop → ℕ → StreamHop → Plan A → ℕ → Option NetworkFault
 told_at n hop_test.Closed i hops k h next m = option_map (not_closed i k h) (taken_hop question.Strays n hops h next)
 told_at n hop_test.Fed i hops k h next m = fault_unless (is_reached n hops k h next m) (fault.NotFed (i + 1) (k + 1))

@@ -27,9 +27,9 @@ short_on out m t = occupied (min t.least (longest_frame m)) out.speed
 abbrev pub long_on : {A : Type 0} → PortPlan A → ℕ → Traffic → ℕ
 long_on out m t = occupied (min t.longest (longest_frame m)) out.speed
 
--- Holds if `done` has the earliest and the latest end of transmission, in ns from the start of the frame's period. The
--- earliest end is a shortest frame's, arriving at `t.from`; the latest is a longest frame's, arriving at `t.to`. The
--- schedule repeats with the period, and the latest end is at most the next period's `t.from`.
+-- Holds if `done` has the earliest and the latest end of transmission, in ns from the start of the frame's period. A
+-- shortest frame that arrives at `t.from` has the earliest end. A longest frame that arrives at `t.to` has the latest
+-- end. The schedule repeats with the period, and the latest end is at most the next period's `t.from`.
 pub record ArePhases (o : Opening) (c short long : ℕ) (t : Traffic) (done : Phases) : Type 0 where
   pub first : ℕ
   pub last : ℕ

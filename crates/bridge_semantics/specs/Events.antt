@@ -126,8 +126,8 @@ count p n (Cleared clear m ∷ es) = count p n es
 abbrev pub origin : Arrival → Origin
 origin a = record { port = a.port; at = a.at }
 
--- The ingress port and arrival time in ns of every frame of filter `n` among the newest-first events, in a list with
--- the oldest first.
+-- The ingress port and the arrival time in ns of every frame of filter `n`, oldest first. The list of events has the
+-- newest first.
 abbrev pub origins_of : {A : Type 0} → Plan A → ℕ → List Event → List Origin
 origins_of p n [] = []
 origins_of p n (Arrived a ∷ es) = origins_of p n es ++ (if is_number n (flow_of p a) then origin a ∷ [] else [])

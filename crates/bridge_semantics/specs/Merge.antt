@@ -47,7 +47,8 @@ abbrev pub newest : List Input → ℕ
 newest [] = 0
 newest (x ∷ xs) = x.at
 
--- Turns the captured frames of port `q`, a list with the oldest first, into inputs, with the newest first.
+-- Turns the captured frames of port `q` into inputs. The list of frames has the oldest first, the list of inputs the
+-- newest first.
 abbrev pub inputs_of : ℕ → List Captured → List Input
 inputs_of q [] = []
 inputs_of q (c ∷ cs) = inputs_of q cs ++ frame q c ∷ []
@@ -56,7 +57,7 @@ inputs_of q (c ∷ cs) = inputs_of q cs ++ frame q c ∷ []
 abbrev pub asked : Command → Input
 asked c = command c.at c.clear c.number
 
--- Turns commands, a list with the oldest first, into inputs, with the newest first.
+-- Turns commands into inputs. The list of commands has the oldest first, the list of inputs the newest first.
 abbrev pub commands_of : List Command → List Input
 commands_of [] = []
 commands_of (c ∷ cs) = commands_of cs ++ asked c ∷ []

@@ -65,8 +65,8 @@ offer_of_step p out a es priority (verdicts.Unfiltered c) = offer out a priority
 offer_of_step p out a es priority (verdicts.Judged c n f v) = offer_by out a priority n (count p n es + 1) v
 offer_of_step p out a es priority (verdicts.Commanded v m) = []
 
--- The result of a forwarded frame with filter data `c` after the older events `es`: its filter with the verdict, or
--- unfiltered.
+-- The result of a forwarded frame with filter data `c` after the older events `es`: Unfiltered, or its filter and its
+-- verdict.
 abbrev pub step_of : {A : Type 0} → Plan A → List Event → Call → verdicts.Step
 step_of p es c = verdicts.judged (police_of p) (steps p es) c (verdicts.flow p.filters c)
 

@@ -165,7 +165,7 @@ pub record IsOutcome {A : Type 0} (p : Plan A) (es : List Event) (lists : ℕ �
   pub counts : (q : ℕ) (c : PortCount) → lookup (nat_eq q) o.ports.items ≡ Some c → IsCount p es q (lists q) c
 
 -- Holds if the copies `lists q c` are those offered to class `c` at port `q`, each treated as if the queue had the port
--- to itself.
+-- to itself. A missing port has no copies.
 pub record AreSolo {A : Type 0} (p : Plan A) (es : List Event) (lists : ℕ → ℕ → List (Copy Carried)) : Type 0 where
   pub offers : (q c : ℕ) (out : PortPlan A) → port_at p.ports q ≡ Some out → offered (lists q c) ≡ in_class c (offers p out es)
   pub solo : (q c : ℕ) (out : PortPlan A) → port_at p.ports q ≡ Some out → IsSolo (egress out) (lists q c)
