@@ -30,8 +30,8 @@ abbrev pub is_own : {A : Type 0} → Plan A → (ℕ → Bool) → ℕ → Optio
 is_own p is_of_stream q None = false
 is_own p is_of_stream q (Some m) = is_of_stream m.0 && reaches_any p m.1 q
 
--- True if `w` asks for frames of optional filter `m` that leave by port `q`: stray frames, foreign to the stream, or
--- its own. Frames without a filter are stray.
+-- True if `w` asks for frames of optional filter `m` that leave by port `q`: stray frames (Strays), or the stream's own
+-- (Own). Frames without a filter are stray.
 abbrev pub is_asked : {A : Type 0} → Question → Plan A → (ℕ → Bool) → ℕ → Option (ℕ × FilterPlan) → Bool
 is_asked Strays p is_of_stream q m = not (is_fed p is_of_stream q m)
 is_asked Own p is_of_stream q m = is_own p is_of_stream q m

@@ -129,8 +129,8 @@ taken_at w n hops h next q = option_map (λ (f : Found). (q, f)) (taken_on w n h
 abbrev pub taken_hop : {A : Type 0} → Question → Parts A → List StreamHop → StreamHop → Plan A → Option (ℕ × Found)
 taken_hop w n hops h next = first_below 16 (λ j. taken_at w n hops h next (j + 1))
 
--- Builds the fault NotClosed for hop `h`: stream and hop number from 1, bridge and port. The fault also names the stray
--- frames' filter and their ingress port at the sending bridge.
+-- Builds the fault NotClosed for hop `h`: stream and hop number from 1, bridge and port. The fault also names the
+-- filter of the stray frames `x` and their ingress port at the sending bridge.
 abbrev pub not_closed : ℕ → ℕ → StreamHop → ℕ × Found → NetworkFault
 not_closed i k h x = fault.NotClosed (i + 1) (k + 1) h.bridge x.0 x.1.filter x.1.from
 
@@ -189,7 +189,8 @@ abbrev pub first_fault_of : List (Option NetworkFault) → Option NetworkFault
 first_fault_of faults = first_in (λ (e : Option NetworkFault). e) faults
 
 -- The first fault from four hop tests in order (protected, listed once, closed, fed), each over all hops of all
--- streams, or `None`. A hop is closed if it accepts no stray frames, and fed if frames of the stream can arrive.
+-- streams, or `None`. A hop is closed if it accepts over links only frames of the stream's hops. A hop is fed if frames
+-- of the stream can arrive.
 abbrev pub first_hop_fault : {A : Type 0} → Parts A → Option NetworkFault
 first_hop_fault n = first_fault_of (
     hop_fault n hop_test.Protected

@@ -6,7 +6,7 @@ use Rattle.bridge_network.specs.Latency.{IsMultiple}
 use Rattle.bridge_periods.specs.declared.traffic.Traffic.{Traffic}
 
 -- Holds if traffic `t` is valid: ordered phases within a period of at most END_OF_TIME, and ordered lengths from 1 to
--- 9,216 octets.
+-- 9,216 octets. A phase is a time in ns from the start of a period.
 pub record IsTraffic (t : Traffic) : Type 0 where
   pub phases : t.from ≤ t.to
   pub within : t.to < t.period
