@@ -39,7 +39,8 @@ abbrev pub IsFew : Option ℕ → ℕ → Type 0
 IsFew None k = ⊥
 IsFew (Some limit) k = limit / 2 ≤ k
 
--- Holds if two times in two different open intervals of a stream gate are always at least `w` ns apart.
+-- Holds if two times in two different open intervals of a stream gate are always at least `w` ns apart. The function
+-- `turn_at` gives the interval that contains a time.
 abbrev pub AreApart : (ℕ → Option (Turn GateEntry)) → ℕ → Type 0
 AreApart turn_at w =
     (t u : ℕ) (x y : Turn GateEntry) → t < u → turn_at t ≡ Some x → turn_at u ≡ Some y → x.state.lets ≡ true → y.state.lets ≡ true → ¬ (x.start ≡ y.start) → t + w ≤ u
@@ -53,8 +54,8 @@ pub record LetsFew (turn_at : ℕ → Option (Turn GateEntry)) (k w : ℕ) : Typ
 abbrev pub IsShut : (ℕ → Option (Turn GateEntry)) → ℕ → ℕ → Type 0
 IsShut turn_at from until = (u : ℕ) (x : Turn GateEntry) → from ≤ u → u < until → turn_at u ≡ Some x → x.state.lets ≡ false
 
--- The greatest number of frames, of at least 2 octets each, that entry `e` passes in one interval; `None` if `e` is
--- open without limit.
+-- The greatest number of frames that entry `e` passes in one interval: 0 if closed, `None` if open without limit. Each
+-- frame has at least 2 SDU octets.
 abbrev pub most_frames : GateEntry → Option ℕ
 most_frames e = if e.lets then option_map (λ limit. limit / 2) e.octets else Some 0
 

@@ -33,8 +33,8 @@ is_meter_shared filters n f = list_any (λ g. not (nat_eq g.0 n) && is_one_meter
 abbrev pub is_greatest : List (ℕ × FilterPlan) → ℕ → Bool
 is_greatest filters n = list_all (λ g. nat_le g.0 n) filters
 
--- True if a filter with the greatest number in the list names no stream handle and leaves the priority open: it matches
--- every frame.
+-- True if a filter with the greatest number in the list names neither a stream handle nor a priority. This filter
+-- matches every frame.
 abbrev pub has_catch_all : List (ℕ × FilterPlan) → Bool
 has_catch_all filters = list_any (λ g. is_greatest filters g.0 && not (is_some g.1.handle) && not (is_some g.1.priority)) filters
 
@@ -55,13 +55,13 @@ unfoldable pub first_below : {X : Type 0} → ℕ → (ℕ → Option X) → Opt
 first_below zero tell = None
 first_below (suc n) tell = first_of (first_below n tell) (tell n)
 
--- The first fault that `tell port class` returns for the reachable queues of filter `f`, by rising port, then rising
--- class, or `None`.
+-- The first fault that `tell port class` returns for a reachable queue of filter `f`, or `None`. Ports rise from 1 to
+-- 16, and classes from 0 to 7 at each port.
 abbrev pub first_in_reach : {A : Type 0} → Plan A → FilterPlan → (ℕ → ℕ → Option CheckFault) → Option CheckFault
 first_in_reach p f tell = first_below 16 (λ i. first_below 8 (λ c. if reaches p f (i + 1) c then tell (i + 1) c else None))
 
--- Offset in ns from the cycle's start at which the optional port opens class `c` together with another class, or
--- `None`; 0 without a list.
+-- Offset in ns from the cycle's start at which the port first opens class `c` together with another class, or `None`. A
+-- port without a list gives 0, and a missing port `None`.
 abbrev pub shared_on : {A : Type 0} → Option (PortPlan A) → ℕ → Option ℕ
 shared_on None c = None
 shared_on (Some port) c = shared_at port.list c
@@ -73,8 +73,8 @@ never_fits _ c _ = false
 
 -- THE EIGHT TESTS
 
--- Test 1 returns the fault ProtectedWildcard if filter `f` names no stream handle, so that it matches every stream;
--- otherwise `None`.
+-- Test 1 returns the fault ProtectedWildcard if filter `f` names no stream handle; otherwise `None`. A filter without a
+-- handle matches every stream.
 abbrev pub wildcard_fault : ℕ → FilterPlan → Option CheckFault
 wildcard_fault n f = fault_unless (is_some f.handle) (fault.ProtectedWildcard n)
 
@@ -89,7 +89,7 @@ abbrev pub gate_fault : {A : Type 0} → Plan A → ℕ → FilterPlan → Optio
 gate_fault p n f = fault_unless (not (is_gate_shared p.filters n f)) (fault.GateShared n)
 
 -- Test 4 returns the fault MeterShared if a filter with another number than `n` uses the flow meter of `f`; otherwise
--- `None`.
+-- `None`. A filter without a meter passes.
 abbrev pub meter_fault : {A : Type 0} → Plan A → ℕ → FilterPlan → Option CheckFault
 meter_fault p n f = fault_unless (not (is_meter_shared p.filters n f)) (fault.MeterShared n)
 
@@ -97,18 +97,18 @@ meter_fault p n f = fault_unless (not (is_meter_shared p.filters n f)) (fault.Me
 abbrev pub catch_all_fault : {A : Type 0} → Plan A → ℕ → Option CheckFault
 catch_all_fault p n = fault_unless (has_catch_all p.filters) (fault.NoCatchAll n)
 
--- Test 6 returns QueueShared for the first reachable queue of filter `f` that is also reachable for another filter,
--- protected or not; otherwise `None`.
+-- Test 6 returns QueueShared for the first reachable queue of filter `f` that is also reachable for another filter;
+-- otherwise `None`. Unprotected filters count too.
 abbrev pub queue_fault : {A : Type 0} → Plan A → ℕ → FilterPlan → Option CheckFault
 queue_fault p n f = first_in_reach p f (λ q c. option_map (fault.QueueShared n q c) (other_at p p.filters n q c))
 
--- Test 7 returns WindowShared for the first reachable queue of `f` whose class opens together with another or whose
--- port has no list; otherwise `None`.
+-- Test 7 returns WindowShared for the first reachable queue of filter `f` whose class opens together with another
+-- class; otherwise `None`. A port without a gate control list opens all classes together.
 abbrev pub window_fault : {A : Type 0} → Plan A → ℕ → FilterPlan → Option CheckFault
 window_fault p n f = first_in_reach p f (λ q c. option_map (fault.WindowShared n q c) (shared_on (port_at p.ports q) c))
 
--- Test 8 returns MaxSduNeverFits for the first reachable queue of `f` without a window for its longest frame in some
--- port list; otherwise `None`.
+-- Test 8 returns MaxSduNeverFits for the first reachable queue that lacks a window for the longest frame of filter `f`;
+-- otherwise `None`. Each gate control list of the port needs a window that fits.
 abbrev pub size_fault : {A : Type 0} → Plan A → ℕ → FilterPlan → Option CheckFault
 size_fault p n f = first_in_reach p f (λ q c. fault_unless (not (never_fits (port_at p.ports q) c f.max_sdu)) (fault.MaxSduNeverFits n q c))
 

@@ -33,14 +33,14 @@ are_null h streams = list_all (λ e. not (nat_eq e.handle h) || is_null e.kind) 
 abbrev pub leads_to : Database → ℕ → ℕ → List StreamEntry → Bool
 leads_to db h q streams = list_any (λ e. nat_eq e.handle h && has (forward db e.port e.vid e.address) q) streams
 
--- True if frames with this optional handle may leave by port `q`; without a handle or with a source-address entry,
--- every port counts.
+-- True if frames with this optional handle may leave by port `q`. Every port counts if the handle is missing or has an
+-- entry that compares source addresses.
 abbrev pub reaches_port : {A : Type 0} → Plan A → Option ℕ → ℕ → Bool
 reaches_port p None q = true
 reaches_port p (Some h) q = not (are_null h p.streams) || leads_to p.database h q p.streams
 
--- All gate entries of a stream gate's schedule: a fixed state counts as one entry, and a schedule change gives old,
--- then new entries.
+-- All gate entries of a stream gate's schedule, the old list's before the new list's. A fixed state counts as one
+-- entry.
 abbrev pub entries_of : {A : Type 0} → Schedule A → List GateEntry
 entries_of (Fixed lets ipv) = record { lets = lets; ipv = ipv; octets = None } ∷ []
 entries_of (Cyclic l) = map (λ e. e.0) l.entries
@@ -71,7 +71,7 @@ abbrev pub lets : List GateEntry → Option ℕ → ℕ → Bool
 lets entries priority k = list_any (λ e. gives e priority k) entries
 
 -- True if some open entry of the stream gate of filter `f` can pass a frame so that priority `k` selects the frame's
--- queue.
+-- queue. An entry's internal priority value, if present, replaces the filter's priority.
 abbrev pub reaches_priority : {A : Type 0} → Plan A → FilterPlan → ℕ → Bool
 reaches_priority p f k = lets (entries_at p.gates f.gate) f.priority k
 
@@ -87,6 +87,6 @@ reaches_class p f None c = false
 reaches_class p f (Some port) c = any_below 8 (λ k. reaches_priority p f k && nat_eq (slice_index port.classes k) c)
 
 -- True if the queue of class `c` at port `q` is reachable for filter `f`, which means that its frames may enter the
--- queue.
+-- queue. The answer depends on the plan only.
 abbrev pub reaches : {A : Type 0} → Plan A → FilterPlan → ℕ → ℕ → Bool
 reaches p f q c = reaches_port p f.handle q && reaches_class p f (port_at p.ports q) c

@@ -30,7 +30,7 @@ is_eligible (Some tag) = tag.dei
 abbrev pub call_of : {A : Type 0} → Plan A → PortPlan A → ℕ → Head → ℕ → Call
 call_of p port at head octets = call at (handle_in p.streams port.number head (vid_of port head.tag)) (priority_of port head.tag) (is_eligible head.tag) head.sdu octets
 
--- Traffic class, 0 to 7, at egress port `out` for the internal priority value `ipv`, or, without it, for `priority`
--- (IEEE 802.1Q-2018, 8.6.6).
+-- The traffic class (0 to 7) of a frame at egress port `out` (IEEE 802.1Q-2018, 8.6.6). The internal priority value
+-- `ipv` selects the class, or, without it, the frame's `priority`.
 abbrev pub class_of : {A : Type 0} → PortPlan A → Option ℕ → ℕ → ℕ
 class_of out ipv priority = slice_index out.classes (unwrap_or ipv priority)

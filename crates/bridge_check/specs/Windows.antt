@@ -15,8 +15,8 @@ use Rattle.bridge_check.specs.Reach.{any_below}
 abbrev pub is_shared : ℕ → ℕ → Bool
 is_shared state c = is_open state c && any_below 8 (λ d. not (nat_eq d c) && is_open state d)
 
--- Start offset in ns of the first entry that opens class `c` together with another class, or `None`; the list's first
--- entry starts at `start`.
+-- Start offset in ns of the first entry that opens class `c` together with another class, or `None`. The first entry of
+-- the list starts at `start`.
 abbrev pub shared_from : List (ℕ × ℕ) → ℕ → ℕ → Option ℕ
 shared_from [] start c = None
 shared_from (e ∷ es) start c = if is_shared e.0 c then Some start else shared_from es (start + e.1) c
@@ -26,8 +26,8 @@ shared_from (e ∷ es) start c = if is_shared e.0 c then Some start else shared_
 abbrev pub shared_in : cyclic.Cyclic ℕ → ℕ → Option ℕ
 shared_in l c = shared_from l.entries 0 c
 
--- Offset in ns, or `None`, at which a port's lists (old before new) first open class `c` together with another class; 0
--- without a list.
+-- Offset in ns at which a port's lists, old before new, first open class `c` together with another class, or `None`. A
+-- port without a list gives 0.
 abbrev pub shared_at : {A : Type 0} → Option (Egress A) → ℕ → Option ℕ
 shared_at None c = Some 0
 shared_at (Some (Cyclic l)) c = shared_in l c

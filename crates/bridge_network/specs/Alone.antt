@@ -46,8 +46,8 @@ abbrev pub InQueue : (ℕ → ℕ → List (Copy Carried)) → ℕ → Copy Carr
 InQueue lists q x = (c : ℕ) × In x (lists q c)
 
 -- Holds if each hop's record results from its own inputs from outside and the stream's frames over links, on an
--- otherwise idle network. Fields: inputs `own`, from outside `first`, over links `next`, apart in time `apart`; queues
--- `lists`, each by itself `solo`; records `view`.
+-- otherwise idle network. Field `own` has a hop's inputs, `first` from outside and `next` over links. Field `lists` has
+-- the copies of each queue by itself.
 pub record IsAlone {A : Type 0} (n : Network A) (commands : ℕ → List Input) (captures : ℕ → ℕ → List Captured)
     (stream : List (ℕ × ℕ)) (views : Hop A → Option (View A)) : Type 0 where
   pub own : Hop A → List Input

@@ -19,8 +19,7 @@ use Rattle.bridge_config.specs.Model.{Plan}
 use Rattle.bridge_check.specs.Reach.{any_below, is_null, reaches}
 use Rattle.bridge_check.specs.Sending.{vid_of, priority_of}
 
--- A sort of frames: the same optional tag, apart from its drop eligible indicator, and the same destination or source
--- address.
+-- The frames that share one optional tag, whatever its drop eligible indicator, and one destination or source address.
 pub record Sort : Type 0 where
   pub tag : Option Tag
   pub kind : Kind
@@ -36,13 +35,15 @@ is_kind Null Null = true
 is_kind Source Source = true
 is_kind _ _ = false
 
--- True if entry `e` may match frames of sort `s` on `port` in VLAN `vid`; an address missing in `s` counts as a match.
+-- True if entry `e` may match frames of sort `s` on `port` in VLAN `vid`. If the entry compares an address that the
+-- sort leaves open, the entry may match.
 abbrev pub may_match : StreamEntry → ℕ → ℕ → Sort → Bool
 may_match e port vid s =
     nat_eq e.port port && nat_eq e.vid vid && takes_tag e.tag s.tag
     && (not (is_kind e.kind s.kind) || bytes_eq e.address s.address)
 
--- The handles that frames of sort `s` may get, in entry order up to the first certain match; `None` means no handle.
+-- The handles that frames of sort `s` may get, in entry order; `None` stands for a missing handle. The list stops at
+-- the first entry that surely matches.
 abbrev pub handles_of : List StreamEntry → ℕ → ℕ → Sort → List (Option ℕ)
 handles_of [] port vid s = None ∷ []
 handles_of (e ∷ es) port vid s =

@@ -59,8 +59,8 @@ is_linked links e = is_some (peer links e.bridge e.port)
 abbrev pub is_one_end : End → End → Bool
 is_one_end a b = nat_eq a.bridge b.bridge && nat_eq a.port b.port
 
--- The first end of link `l` whose port has a link in the list `before`, or `l.other` if both ends are one port, or
--- `None`.
+-- The first end of link `l` whose port has a link in the list `before`, or `None`. If `l` links a port with itself, the
+-- end `l.other` counts as linked.
 abbrev pub end_twice : List Link → Link → Option End
 end_twice before l =
     if is_linked before l.one then Some l.one
@@ -80,8 +80,8 @@ abbrev pub is_one_speed : {A : Type 0} → Option (PortPlan A) → Option (PortP
 is_one_speed (Some a) (Some b) = nat_eq (mbps_of a.speed) (mbps_of b.speed)
 is_one_speed a b = true
 
--- The fault that the link test `test` finds for link `l` with index `i`, or `None`; the fault has the link number `i` +
--- 1.
+-- The fault that the link test `test` finds for link `l` with index `i`, or `None`. `There` asks if both ends exist,
+-- `Twice` if an end has an earlier link, `Speeds` if the speeds are equal. The fault counts links from 1.
 abbrev pub told_link : {A : Type 0} → Parts A → LinkTest → ℕ → Link → Option NetworkFault
 told_link n link_test.There i l =
     fault_unless (is_some (end_port n.plans l.one) && is_some (end_port n.plans l.other)) (fault.Unresolved (i + 1))
@@ -114,23 +114,23 @@ abbrev pub handle_of : List (ℕ × FilterPlan) → ℕ → Option ℕ
 handle_of [] m = None
 handle_of (f ∷ fs) m = if nat_eq f.0 m && f.1.protected then f.1.handle else handle_of fs m
 
--- An example of stray or own frames (by `w`) that hop `h` may accept over the link of the optional port, or `None`.
+-- An example of stray or own frames (chosen by `w`) that hop `h` may accept over the link of the optional port, or
+-- `None`.
 abbrev pub taken_on : {A : Type 0} → Question → Parts A → List StreamHop → StreamHop → Plan A → Option (PortPlan A) → Option Found
 taken_on w n hops h next None = None
 taken_on w n hops h next (Some on) = taken_link w n.plans (stream_of hops) (peer n.links h.bridge on.number) next on h.filter
 
--- The port `q` and an example of stray or own frames (by `w`), if hop `h` may accept them over the port's link, or
--- `None`.
+-- The port `q` and an example of stray or own frames (chosen by `w`) that hop `h` may accept over its link, or `None`.
 abbrev pub taken_at : {A : Type 0} → Question → Parts A → List StreamHop → StreamHop → Plan A → ℕ → Option (ℕ × Found)
 taken_at w n hops h next q = option_map (λ (f : Found). (q, f)) (taken_on w n hops h next (port_at next.ports q))
 
--- The lowest port where hop `h` may accept stray frames (Strays) or the stream's own (Own), as `w` asks, with an
--- example, or `None`.
+-- The lowest port where hop `h` may accept stray or own frames (chosen by `w`) over a link, with an example, or `None`.
+-- Own frames belong to a hop of the stream, stray frames to none.
 abbrev pub taken_hop : {A : Type 0} → Question → Parts A → List StreamHop → StreamHop → Plan A → Option (ℕ × Found)
 taken_hop w n hops h next = first_below 16 (λ j. taken_at w n hops h next (j + 1))
 
--- Builds the fault NotClosed: stream and hop (from 1), the hop's bridge and port, and the stray frames' filter and
--- ingress port at the sender.
+-- Builds the fault NotClosed for hop `h`: stream and hop number from 1, bridge and port. The fault also names the
+-- filter of the stray frames `x` and their ingress port at the sending bridge.
 abbrev pub not_closed : ℕ → ℕ → StreamHop → ℕ × Found → NetworkFault
 not_closed i k h x = fault.NotClosed (i + 1) (k + 1) h.bridge x.0 x.1.filter x.1.from
 
@@ -151,8 +151,8 @@ abbrev pub is_reached : {A : Type 0} → Parts A → List StreamHop → ℕ → 
 is_reached n hops k h next m =
     if nat_eq k 0 then is_entered n.links h.bridge next m else is_some (taken_hop question.Own n hops h next)
 
--- The fault that hop test `test` (Closed or Fed) finds for hop `h`, or `None`; `next` is its bridge's plan, `m` its
--- stream handle.
+-- The fault that hop test `test` (Closed or Fed) finds for hop `h`, or `None`. The plan of its bridge is `next`, and
+-- the stream handle of its filter is `m`.
 abbrev pub told_at : {A : Type 0} → Parts A → HopTest → ℕ → List StreamHop → ℕ → StreamHop → Plan A → ℕ → Option NetworkFault
 told_at n hop_test.Closed i hops k h next m = option_map (not_closed i k h) (taken_hop question.Strays n hops h next)
 told_at n hop_test.Fed i hops k h next m = fault_unless (is_reached n hops k h next m) (fault.NotFed (i + 1) (k + 1))
@@ -165,7 +165,8 @@ abbrev pub told_by : {A : Type 0} → Parts A → HopTest → ℕ → List Strea
 told_by n test i hops k h None = None
 told_by n test i hops k h (Some next) = of_some (told_at n test i hops k h next) (handle_of next.filters h.filter)
 
--- The fault that the hop test `test` finds for hop `h`, which has index `k` in stream `i`, both from 0, or `None`.
+-- The fault that the hop test `test` finds for hop `h`, which has index `k` in stream `i`, or `None`. Both indexes
+-- start at 0, and the numbers in the fault at 1.
 abbrev pub told_hop : {A : Type 0} → Parts A → HopTest → ℕ → List StreamHop → ℕ → StreamHop → Option NetworkFault
 told_hop n hop_test.Protected i hops k h =
     fault_unless (has_protected (slice_get n.plans h.bridge) h.filter) (fault.NotProtected (i + 1) (k + 1))
@@ -188,7 +189,8 @@ abbrev pub first_fault_of : List (Option NetworkFault) → Option NetworkFault
 first_fault_of faults = first_in (λ (e : Option NetworkFault). e) faults
 
 -- The first fault from four hop tests in order (protected, listed once, closed, fed), each over all hops of all
--- streams, or `None`.
+-- streams, or `None`. A hop is closed if it accepts over links only frames of the stream's hops. A hop is fed if frames
+-- of the stream can arrive.
 abbrev pub first_hop_fault : {A : Type 0} → Parts A → Option NetworkFault
 first_hop_fault n = first_fault_of (
     hop_fault n hop_test.Protected

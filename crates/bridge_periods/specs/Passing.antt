@@ -59,9 +59,8 @@ ends_by (Some limit) end until = nat_le end until
 abbrev pub AreLet : (ℕ → Option (Turn GateEntry)) → ℕ → ℕ → ℕ → Type 0
 AreLet turn_at from to sdu = (u : ℕ) (x : Turn GateEntry) → from ≤ u → u ≤ to → turn_at u ≡ Some x → lets_one x.state sdu ≡ true
 
--- Holds if list `l` repeats with the period, passes `sdu` octets at each phase, and ends an octet-limited interval at
--- `t.to` before the next frame. The interval at the last phase counts: if its octets are limited, it ends by the next
--- period's first phase.
+-- Holds if list `l` repeats with the period and passes a frame of `sdu` octets at each phase of traffic `t`. If the
+-- interval at phase `t.to` is octet-limited, it ends before the next period's phase `t.from`.
 pub record LetsInTurn (l : cyclic.Cyclic GateEntry) (t : Traffic) (sdu : ℕ) : Type 0 where
   pub repeats : nat_eq (t.period % l.cycle) 0 ≡ true
   pub are_let : AreLet (cyclic.turn_at l) t.from t.to sdu

@@ -27,9 +27,9 @@ short_on out m t = occupied (min t.least (longest_frame m)) out.speed
 abbrev pub long_on : {A : Type 0} → PortPlan A → ℕ → Traffic → ℕ
 long_on out m t = occupied (min t.longest (longest_frame m)) out.speed
 
--- Holds if phases exist (HaveNoPhases is false): `done` has the earliest end (shortest frame at `t.from`) and latest
--- end (longest frame at `t.to`). The schedule repeats with the period, and the latest end isn't after the next period's
--- first phase.
+-- Holds if `done` has the earliest and the latest end of transmission, in ns from the start of the frame's period. A
+-- shortest frame that arrives at `t.from` has the earliest end. A longest frame that arrives at `t.to` has the latest
+-- end. The schedule repeats with the period, and the latest end is at most the next period's `t.from`.
 pub record ArePhases (o : Opening) (c short long : ℕ) (t : Traffic) (done : Phases) : Type 0 where
   pub first : ℕ
   pub last : ℕ
@@ -40,15 +40,15 @@ pub record ArePhases (o : Opening) (c short long : ℕ) (t : Traffic) (done : Ph
   pub to : done.to ≡ last + long
   pub through : last + long ≤ t.from + t.period
 
--- Holds if the schedule doesn't repeat with the period, or a longest frame from phase `t.to` ends after the next
+-- Holds if the schedule doesn't repeat with the period, or a longest frame arriving at phase `t.to` ends after the next
 -- period's phase `t.from`.
 abbrev pub HaveNoPhases : Opening → ℕ → ℕ → Traffic → Type 0
 HaveNoPhases o c long t =
     repeats_with t.period o ≡ true → (last : ℕ) → IsFirst (opens o c) long t.to last → t.from + t.period < last + long
 
 -- Holds if the ends of transmission have phases `done`, and the delays and jitter of `x` (in ns) follow from these
--- phases, waits and `bound`. `worst` is the least of: the bound, the last end minus the first arrival phase, and the
--- longest wait plus a longest frame.
+-- phases, waits and `bound`. The worst delay is the least of three: `bound`, `done.to` - `t.from`, and the longest wait
+-- plus a longest frame.
 pub record IsTimed (o : Opening) (c short long bound : ℕ) (t : Traffic) (x : Timing) (done : Phases) : Type 0 where
   pub phases : ArePhases o c short long t done
   pub longest : ℕ
@@ -67,14 +67,15 @@ pub record IsUntimed (o : Opening) (c short long bound : ℕ) (t : Traffic) (x :
   pub best : x.best ≡ short
   pub jitter : x.jitter ≡ bound - short
 
--- Holds if `x` has the exact delays in ns of traffic `t` in class `c` at port `out`: IsTimed if `x.phases` exists,
--- otherwise IsUntimed.
+-- Holds if `x` has the worst delay, best delay and jitter in ns of traffic `t` in class `c` at port `out`. IsTimed
+-- defines the figures if `x.phases` exists, otherwise IsUntimed.
 abbrev pub IsTimingAt : {A : Type 0} → PortPlan A → ℕ → ℕ → ℕ → Traffic → Timing → Type 0
 IsTimingAt out c m bound t x =
     MatchOption x.phases (IsUntimed (opening_of out.list) c (short_on out m t) (long_on out m t) bound t x)
     (IsTimed (opening_of out.list) c (short_on out m t) (long_on out m t) bound t x)
 
--- Holds if `x` has the exact delays in ns of traffic `t` of protected filter `n` in its class-`c` queue at port `q`.
+-- Holds if `x` has the worst delay, best delay and jitter in ns of traffic `t` of filter `n` in class `c` at port `q`.
+-- Delays count from arrival to the end of transmission, gap included.
 pub record IsTiming {A : Type 0} (p : Plan A) (n q c : ℕ) (t : Traffic) (x : Timing) : Type 0 where
   pub bound : ℕ
   pub is_bound : IsBound p n q c bound

@@ -6,7 +6,7 @@ use Rattle.bridge_network.specs.Latency.{IsMultiple}
 use Rattle.bridge_periods.specs.declared.traffic.Traffic.{Traffic}
 
 -- Holds if traffic `t` is valid: ordered phases within a period of at most END_OF_TIME, and ordered lengths from 1 to
--- 9,216 octets.
+-- 9,216 octets. A phase is a time in ns from the start of a period.
 pub record IsTraffic (t : Traffic) : Type 0 where
   pub phases : t.from ≤ t.to
   pub within : t.to < t.period
@@ -16,8 +16,7 @@ pub record IsTraffic (t : Traffic) : Type 0 where
   pub longest : t.longest ≤ LONGEST_FRAME
 
 -- Holds if the frames among the events follow traffic `t`, each in a different period, and the newest frame's period
--- ends by `next` ns. Periods begin at multiples of the period; each ends by the start of the next frame's period, the
--- newest by `next`.
+-- ends by time `next`. Each frame's period ends at or before the start of the next frame's period.
 abbrev pub ComeInPeriods : Traffic → ℕ → List Event → Type 0
 ComeInPeriods t next [] = Unit {0}
 ComeInPeriods t next (Arrived a ∷ es) =

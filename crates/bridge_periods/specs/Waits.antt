@@ -6,13 +6,13 @@ use Rattle.bridge_periods.specs.declared.traffic.Traffic.{Traffic}
 use Rattle.bridge_periods.specs.declared.wait.Waits.{Waits}
 
 -- Holds if `wait` ns is the longest wait until a transmission of `occ` ns fits, over all times from `from` to `to`,
--- both included.
+-- both included. The transmission gate is open when `opens` is true.
 pub record IsLongestWait (opens : ℕ → Bool) (occ from to wait : ℕ) : Type 0 where
   pub longest : (u s : ℕ) → from ≤ u → u ≤ to → IsFirst opens occ u s → s ≤ u + wait
   pub attained : (u : ℕ) × (from ≤ u) × (u ≤ to) × IsFirst opens occ u (u + wait)
 
 -- Holds if `wait` ns is the shortest wait until a transmission of `occ` ns fits, over all times from `from` to `to`,
--- both included.
+-- both included. The transmission gate is open when `opens` is true.
 pub record IsShortestWait (opens : ℕ → Bool) (occ from to wait : ℕ) : Type 0 where
   pub shortest : (u s : ℕ) → from ≤ u → u ≤ to → IsFirst opens occ u s → u + wait ≤ s
   pub attained : (u : ℕ) × (from ≤ u) × (u ≤ to) × IsFirst opens occ u (u + wait)

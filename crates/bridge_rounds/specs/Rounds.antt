@@ -43,7 +43,7 @@ abbrev pub AreOutcomes : {A : Type 0} → List (Settled A) → (ℕ → Outcome 
 AreOutcomes {A} settled o = (b : ℕ) (s : Settled A) → slice_get settled b ≡ Some s → o b ≡ s.outcome
 
 -- Holds if `settled` is the result of a complete run, open ports read their captures in `came` to the end, and all
--- outputs are written.
+-- outputs are written. Field `frames` has the captured frames by bridge and port.
 pub record RunsNetwork {A : Type 0} (n : Parts A) (came : List (Incoming A)) (settled : List (Settled A)) : Type 0 where
   pub many : length settled ≡ length n.plans
   pub frames : ℕ → ℕ → List Captured
@@ -55,13 +55,14 @@ pub record RunsNetwork {A : Type 0} (n : Parts A) (came : List (Incoming A)) (se
       → slice_get settled b ≡ Some s → slice_get s.taps.items i ≡ Some tap → tap.octets ≡ written_text ((run o are).left b q)
 
 -- Holds if the hops of every stream have the records that the stream's own inputs produce on an otherwise idle network.
+-- The statement covers each complete run (RunsNetwork) with the results `settled`.
 abbrev pub IsolatesStreams : {A : Type 0} → Parts A → List (Incoming A) → List (Settled A) → Type 0
 IsolatesStreams {A} n came settled =
     (ran : RunsNetwork n came settled) (o : ℕ → Outcome A) (stream : Vec StreamHop A) → AreOutcomes settled o → In stream n.streams
     → IsAlone (network_of n) (commands_in came) ran.frames (stream_of stream.items) (λ (h : Hop A). lookup (nat_eq h.number) (o h.bridge).filters.items)
 
 -- Holds if a stream's hops have equal records in any two complete network runs whose outside inputs for this stream are
--- equal.
+-- equal. All other frames and commands may differ.
 abbrev pub OthersChangeNothing : {A : Type 0} → Parts A → List (Incoming A) → List (Settled A) → Type 0
 OthersChangeNothing {A} n came settled =
     (ran : RunsNetwork n came settled) (o : ℕ → Outcome A) → AreOutcomes settled o

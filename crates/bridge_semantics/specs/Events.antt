@@ -30,7 +30,7 @@ pub record Arrival : Type 0 where
 abbrev pub arrival : ℕ → ℕ → List ℕ → ℕ → Arrival
 arrival at port octets len = record { at = at; port = port; octets = octets; len = len }
 
--- An event is a received frame, or a command that clears a flag of the numbered filter, gate or meter; event lists are
+-- An event is a received frame, or a command that clears a flag of the numbered filter, gate or meter. Event lists are
 -- newest first.
 pub data Event : Type 0 where
   Arrived : Arrival → Event
@@ -126,8 +126,8 @@ count p n (Cleared clear m ∷ es) = count p n es
 abbrev pub origin : Arrival → Origin
 origin a = record { port = a.port; at = a.at }
 
--- The ingress port and arrival time in ns of every frame of filter `n` among the newest-first events, in a list with
--- the oldest first.
+-- The ingress port and the arrival time in ns of every frame of filter `n`, oldest first. The list of events has the
+-- newest first.
 abbrev pub origins_of : {A : Type 0} → Plan A → ℕ → List Event → List Origin
 origins_of p n [] = []
 origins_of p n (Arrived a ∷ es) = origins_of p n es ++ (if is_number n (flow_of p a) then origin a ∷ [] else [])

@@ -33,7 +33,7 @@ of_rank q [] = []
 of_rank q (x ∷ xs) = if nat_eq x.rank q then x ∷ of_rank q xs else of_rank q xs
 
 -- Holds if `inputs` is ordered by time and rank, newest first, and its inputs of each rank `q` are exactly the list
--- `streams q`.
+-- `streams q`. At equal times, commands precede frames, and lower ports precede higher ports.
 pub record IsMerged (streams : ℕ → List Input) (inputs : List Input) : Type 0 where
   pub in_order : Rising NotBefore inputs
   pub each : (q : ℕ) → of_rank q inputs ≡ streams q
@@ -47,7 +47,8 @@ abbrev pub newest : List Input → ℕ
 newest [] = 0
 newest (x ∷ xs) = x.at
 
--- Turns the captured frames of port `q`, a list with the oldest first, into inputs, with the newest first.
+-- Turns the captured frames of port `q` into inputs. The list of frames has the oldest first, the list of inputs the
+-- newest first.
 abbrev pub inputs_of : ℕ → List Captured → List Input
 inputs_of q [] = []
 inputs_of q (c ∷ cs) = inputs_of q cs ++ frame q c ∷ []
@@ -56,7 +57,7 @@ inputs_of q (c ∷ cs) = inputs_of q cs ++ frame q c ∷ []
 abbrev pub asked : Command → Input
 asked c = command c.at c.clear c.number
 
--- Turns commands, a list with the oldest first, into inputs, with the newest first.
+-- Turns commands into inputs. The list of commands has the oldest first, the list of inputs the newest first.
 abbrev pub commands_of : List Command → List Input
 commands_of [] = []
 commands_of (c ∷ cs) = commands_of cs ++ asked c ∷ []

@@ -18,8 +18,8 @@ use Rattle.bridge_semantics.specs.declared.way.Way.{Way}
 use Rattle.bridge_semantics.specs.declared.way.Way.TheVariants.{Goes}
 use Rattle.bridge_semantics.specs.Events.{Arrival, Event, Arrived, Cleared, way_of, police_of, steps, count}
 
--- Contents of a frame's copy: arrival time in ns, filter number if any, frame number within the filter (from 1),
--- length, and octets to send.
+-- Contents of a frame's copy: arrival time in ns, filter number, frame number within the filter, length, and octets to
+-- send. Frame numbers start at 1. An unfiltered frame has frame number 0.
 pub record Carried : Type 0 where
   pub at : ℕ
   pub flow : Option ℕ
@@ -48,8 +48,8 @@ abbrev pub leaving : Bool → List ℕ → List ℕ
 leaving true octets = drop_eligible octets
 leaving false octets = octets
 
--- Builds the copy of frame `a` for port `out`: class by `ipv` or else `priority`, and the tag marked drop eligible if
--- `eligible` is true.
+-- Builds the copy of frame `a` for egress port `out`. The internal priority value `ipv`, or, without it, `priority`,
+-- gives its class; `eligible` marks its tag drop eligible.
 abbrev pub offer : {A : Type 0} → PortPlan A → Arrival → ℕ → Option ℕ → ℕ → Option ℕ → Bool → Offer
 offer out a priority flow own ipv eligible = record { at = a.at; class = class_of out ipv priority; item = record { at = a.at; flow = flow; own = own; len = a.len; octets = leaving eligible a.octets } }
 
@@ -65,8 +65,8 @@ offer_of_step p out a es priority (verdicts.Unfiltered c) = offer out a priority
 offer_of_step p out a es priority (verdicts.Judged c n f v) = offer_by out a priority n (count p n es + 1) v
 offer_of_step p out a es priority (verdicts.Commanded v m) = []
 
--- The result of a forwarded frame with filter data `c` after the older events `es`: its filter with the verdict, or
--- unfiltered.
+-- The result of a forwarded frame with filter data `c` after the older events `es`: Unfiltered, or its filter and its
+-- verdict.
 abbrev pub step_of : {A : Type 0} → Plan A → List Event → Call → verdicts.Step
 step_of p es c = verdicts.judged (police_of p) (steps p es) c (verdicts.flow p.filters c)
 

@@ -76,7 +76,7 @@ IsGreatest P None = (n : ℕ) → P n → ⊥
 IsGreatest P (Some m) = P m × ((n : ℕ) → P n → n ≤ m)
 
 -- Holds if the lists contain exactly the departures and drops of filter `s`, both in order, and `delay` is its longest
--- delay in ns.
+-- delay in ns. Without departures, `delay` is `None`.
 pub record IsTold {A : Type 0} (p : Plan A) (s : ℕ) (Lies : ℕ → Copy Carried → Type 0) (departures : List Departure) (drops : List Dropped) (delay : Option ℕ) : Type 0 where
   pub departures_rise : Rising DepartsBefore departures
   pub departures_are : (d : Departure) → In d departures ↔ Departs p s Lies d
@@ -84,7 +84,8 @@ pub record IsTold {A : Type 0} (p : Plan A) (s : ℕ) (Lies : ℕ → Copy Carri
   pub drops_are : (d : Dropped) → In d drops ↔ Drops p s Lies d
   pub longest : IsGreatest (Delayed p s Lies) delay
 
--- Holds if `v` is the exact record of filter `s` for the events `es`; `Lies q x` states that `x` is a copy at port `q`.
+-- Holds if `v` is the exact record of filter `s` for the events `es` and the copies at the ports. `Lies q x` states
+-- that `x` is a copy at port `q`.
 pub record IsView {A : Type 0} (p : Plan A) (s : ℕ) (f : FilterPlan) (es : List Event) (Lies : ℕ → Copy Carried → Type 0) (v : View A) : Type 0 where
   pub protected : v.protected ≡ f.protected
   pub verdicts : v.verdicts.items ≡ verdicts_of s (steps p es)
@@ -98,8 +99,8 @@ pub record IsView {A : Type 0} (p : Plan A) (s : ℕ) (f : FilterPlan) (es : Lis
 abbrev pub AtPort : (ℕ → List (Copy Carried)) → ℕ → Copy Carried → Type 0
 AtPort lists q x = In x (lists q)
 
--- Holds if the copies `lists q` of each port are its offers and obey the port's rules up to `moments q` ns; missing
--- ports have no copies.
+-- Holds if the copies `lists q` of each port `q` are exactly those offered to it, and obey its rules up to time
+-- `moments q` in ns. A missing port has no copies.
 pub record IsRun {A : Type 0} (p : Plan A) (es : List Event) (moments : ℕ → ℕ) (lists : ℕ → List (Copy Carried)) : Type 0 where
   pub offers : (q : ℕ) (out : PortPlan A) → port_at p.ports q ≡ Some out → offered (lists q) ≡ offers p out es
   pub lawful : (q : ℕ) (out : PortPlan A) → port_at p.ports q ≡ Some out → IsLawful (egress out) (moments q) (lists q)
@@ -151,7 +152,7 @@ pub record IsCount {A : Type 0} (p : Plan A) (es : List Event) (q : ℕ) (xs : L
   pub dropped : c.dropped ≡ count_by (λ x. not (is_accepted x.fate)) xs
 
 -- Holds if the copies in `lists` form a complete run of the events `es`, and `o` contains exactly its filter records
--- and port counts.
+-- and port counts. The records rise by filter number, the counts by port number.
 pub record IsOutcome {A : Type 0} (p : Plan A) (es : List Event) (lists : ℕ → List (Copy Carried)) (o : Outcome A) : Type 0 where
   pub moments : ℕ → ℕ
   pub run : IsRun p es moments lists
@@ -164,7 +165,7 @@ pub record IsOutcome {A : Type 0} (p : Plan A) (es : List Event) (lists : ℕ �
   pub counts : (q : ℕ) (c : PortCount) → lookup (nat_eq q) o.ports.items ≡ Some c → IsCount p es q (lists q) c
 
 -- Holds if the copies `lists q c` are those offered to class `c` at port `q`, each treated as if the queue had the port
--- to itself.
+-- to itself. A missing port has no copies.
 pub record AreSolo {A : Type 0} (p : Plan A) (es : List Event) (lists : ℕ → ℕ → List (Copy Carried)) : Type 0 where
   pub offers : (q c : ℕ) (out : PortPlan A) → port_at p.ports q ≡ Some out → offered (lists q c) ≡ in_class c (offers p out es)
   pub solo : (q c : ℕ) (out : PortPlan A) → port_at p.ports q ≡ Some out → IsSolo (egress out) (lists q c)

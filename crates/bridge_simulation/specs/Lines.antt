@@ -31,13 +31,13 @@ pub record FitsRecord (c : Captured) : Type 0 where
   pub within : length c.octets ≤ c.len
   pub original : c.len < 2 ^ 32
 
--- Holds if `new` is `old` followed by the capture of `frames`, or `old` is unknown (`None`), and if each frame fits a
--- packet record.
+-- Holds if `new` is `old` followed by the capture of `frames`, and each frame fits a packet record. If `old` is unknown
+-- (`None`), only the second condition counts.
 abbrev pub HasWritten : Option (List ℕ) → Option (List ℕ) → List Captured → Type 0
 HasWritten old new frames = Appends old new (written_text frames) × All FitsRecord frames
 
--- Holds if the sink of each port `q` contains its old octets, then the capture of the frames `left q`; unknown old
--- contents are exempt.
+-- Holds if the sink of each port `q` contains its old octets, then the capture of the frames `left q`. Sinks with
+-- unknown old contents are exempt.
 abbrev pub AreWritten : {W : Type 0} → (W → Option (List ℕ)) → List ℕ → List W → List W → (ℕ → List Captured) → Type 0
 AreWritten {W} contents ports olds news left = (i q : ℕ) (old new : W) → slice_get ports i ≡ Some q → slice_get olds i ≡ Some old → slice_get news i ≡ Some new → HasWritten (contents old) (contents new) (left q)
 

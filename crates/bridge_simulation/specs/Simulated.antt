@@ -54,7 +54,8 @@ pub record IsSetUp {G A : Type 0} (p : Plan A) (b : RelayState G A) (l : Lists A
   pub room : room_of all ≤ MOST_ARRIVALS
 
 -- Holds if the captures `texts` are valid to their end, `o` is the result of all frames and commands, and the sinks
--- contain all departures.
+-- contain all departures. Field `frames` has each port's captured frames, `inputs` all inputs in order, and `left` the
+-- frames that left each port.
 pub record Runs {A W : Type 0} (p : Plan A) (ports : List ℕ) (commands : List Command) (texts : ℕ → List ℕ) (contents : W → Option (List ℕ)) (olds news : List W) (o : Outcome A) : Type 0 where
   pub frames : ℕ → List Captured
   pub inputs : List Input
@@ -98,8 +99,8 @@ pub record TellsOf {A : Type 0} (p : Plan A) (n : ℕ) (f : FilterPlan) (o : Out
   pub protected : f.protected ≡ true
   pub told : lookup (nat_eq n) o.filters.items ≡ Some v
 
--- Holds if each protected filter's record in `o` results from its own frames and commands only, when each queue has its
--- port to itself.
+-- Holds if each protected filter's record in `o` results from its own frames and commands only, as if each queue had
+-- its port to itself. The statement covers each run (Runs) with the result `o`.
 abbrev pub Isolates : {A W : Type 0} → Plan A → List ℕ → List Command → (ℕ → List ℕ) → (W → Option (List ℕ)) → List W → List W → Outcome A → Type 0
 Isolates {A} p ports commands texts contents olds news o =
     (ran : Runs p ports commands texts contents olds news o) (n : ℕ) (f : FilterPlan) (v : View A)
@@ -116,7 +117,7 @@ abbrev pub HaveSameOwn : {A : Type 0} → Plan A → ℕ → FilterPlan → (ℕ
 HaveSameOwn p n f streams others = (q : ℕ) → own_inputs p n f (streams q) ≡ own_inputs p n f (others q)
 
 -- Holds if a protected filter has equal records in any two runs of the plan that have equal own frames and commands of
--- this filter.
+-- this filter. All other frames and commands may differ.
 abbrev pub OthersChangeNothing : {A W : Type 0} → Plan A → List ℕ → List Command → (ℕ → List ℕ) → (W → Option (List ℕ)) → List W → List W → Outcome A → Type 0
 OthersChangeNothing {A} {W} p ports commands texts contents olds news o =
     (ran : Runs p ports commands texts contents olds news o)
