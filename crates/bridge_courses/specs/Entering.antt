@@ -92,7 +92,7 @@ are_handed plans links hops queues = list_all (is_handed plans links hops) queue
 
 -- The figures with the flag `passes` cleared if `handed` is false.
 abbrev pub handed_course : Bool → Course → Course
-handed_course handed x = record { passes = x.passes && handed; worst = x.worst; best = x.best; jitter = x.jitter }
+handed_course handed x = record { passes = x.passes && handed; worst = x.worst; best = x.best; phases = x.phases }
 
 -- The figures of a stream, if it has some and nothing else comes in.
 abbrev pub tested_course : Bool → Bool → Option Course → Option Course

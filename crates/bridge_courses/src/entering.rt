@@ -134,9 +134,7 @@ fn comes_in_once<A: Allocator + Copy>(
         None => true,
         Some(plan) => {
             let ports = plan.ports();
-            ports
-                .iter()
-                .all(|on| !may_come_in(links, queues, is_first, hop, plan, on.number))
+            ports.iter().all(|on| !may_come_in(links, queues, is_first, hop, plan, on.number))
         }
     }
 }
@@ -205,7 +203,7 @@ fn handed_course(handed: bool, course: Course) -> Course
         passes: course.passes & handed,
         worst: course.worst,
         best: course.best,
-        jitter: course.jitter,
+        phases: course.phases,
     }
 }
 

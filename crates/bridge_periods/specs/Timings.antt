@@ -46,8 +46,8 @@ abbrev pub HaveNoPhases : Opening → ℕ → ℕ → Traffic → Type 0
 HaveNoPhases o c long t =
     repeats_with t.period o ≡ true → (last : ℕ) → IsFirst (opens o c) long t.to last → t.from + t.period < last + long
 
--- Holds if the ends of transmission have phases `done`, and the delays and jitter of `x` (in ns) follow from these
--- phases, waits and `bound`. The worst delay is the least of three: `bound`, `done.to` - `t.from`, and the longest wait
+-- Holds if the ends of transmission have phases `done`, and the delays of `x` (in ns) follow from these phases, waits
+-- and `bound`. The worst delay is the least of three: `bound`, `done.to` - `t.from`, and the longest wait
 -- plus a longest frame.
 pub record IsTimed (o : Opening) (c short long bound : ℕ) (t : Traffic) (x : Timing) (done : Phases) : Type 0 where
   pub phases : ArePhases o c short long t done
@@ -57,24 +57,21 @@ pub record IsTimed (o : Opening) (c short long bound : ℕ) (t : Traffic) (x : T
   pub is_shortest : IsShortestWait (opens o c) short t.from t.to shortest
   pub worst : x.worst ≡ min bound (min (done.to - t.from) (longest + long))
   pub best : x.best ≡ shortest + short
-  pub jitter : x.jitter ≡ done.to - done.from
 
--- Holds if the ends of transmission have no phases, and `x` has worst delay `bound`, best delay `short`, and their
--- difference as jitter, in ns.
+-- Holds if the ends of transmission have no phases, and `x` has worst delay `bound` and best delay `short`, in ns.
 pub record IsUntimed (o : Opening) (c short long bound : ℕ) (t : Traffic) (x : Timing) : Type 0 where
   pub phases : HaveNoPhases o c long t
   pub worst : x.worst ≡ bound
   pub best : x.best ≡ short
-  pub jitter : x.jitter ≡ bound - short
 
--- Holds if `x` has the worst delay, best delay and jitter in ns of traffic `t` in class `c` at port `out`. IsTimed
--- defines the figures if `x.phases` exists, otherwise IsUntimed.
+-- Holds if `x` has the worst and the best delay in ns of traffic `t` in class `c` at port `out`. IsTimed defines the
+-- figures if `x.phases` exists, otherwise IsUntimed.
 abbrev pub IsTimingAt : {A : Type 0} → PortPlan A → ℕ → ℕ → ℕ → Traffic → Timing → Type 0
 IsTimingAt out c m bound t x =
     MatchOption x.phases (IsUntimed (opening_of out.list) c (short_on out m t) (long_on out m t) bound t x)
     (IsTimed (opening_of out.list) c (short_on out m t) (long_on out m t) bound t x)
 
--- Holds if `x` has the worst delay, best delay and jitter in ns of traffic `t` of filter `n` in class `c` at port `q`.
+-- Holds if `x` has the worst and the best delay in ns of traffic `t` of filter `n` in class `c` at port `q`.
 -- Delays count from arrival to the end of transmission, gap included.
 pub record IsTiming {A : Type 0} (p : Plan A) (n q c : ℕ) (t : Traffic) (x : Timing) : Type 0 where
   pub bound : ℕ

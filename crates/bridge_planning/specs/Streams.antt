@@ -10,7 +10,7 @@ use Rattle.bridge_network.specs.declared.links.StreamHop.{StreamHop}
 use Rattle.bridge_planning.specs.declared.bounds.QueueBound.{QueueBound}
 use Rattle.bridge_planning.specs.Bounds.{AreBounds}
 use Rattle.bridge_planning.specs.Traffic.{is_met}
-use Rattle.bridge_planning.specs.TrafficText.{deadline_words}
+use Rattle.bridge_planning.specs.TrafficText.{deadline_words, delay_words}
 
 -- the greater of a number and the bound of a queue, where that is one of a filter
 abbrev pub greater_bound : ℕ → ℕ → QueueBound → ℕ
@@ -77,7 +77,7 @@ is_passing (Some t) (Some x) = x.passes
 abbrev pub course_words : Option Course → ℕ → List ℕ
 course_words None bound = codes " bound " ++ decimal bound
 course_words (Some x) bound =
-    codes " worst " ++ (decimal x.worst ++ (codes " best " ++ (decimal x.best ++ (codes " jitter " ++ decimal x.jitter))))
+    delay_words x.worst x.best (Some x.phases)
 
 -- the line of a stream with its figures
 unfoldable pub stream_line : {A : Type 0} → List (Vec QueueBound A) → List LinkRow → Stream × Option Course → List ℕ

@@ -1,5 +1,5 @@
 -- What is printed of traffic.
-use Rattle.std.specs.Prelude.{◌≡◌, ◌⊎◌, ℕ, Bool, true, false, ◌++◌, List, Option, None, Some, Ok, Err, flat_map, codes, decimal, string_bytes, take}
+use Rattle.std.specs.Prelude.{◌≡◌, ◌⊎◌, ℕ, ◌-◌, Bool, true, false, ◌++◌, List, Option, None, Some, Ok, Err, flat_map, codes, decimal, string_bytes, take}
 use Rattle.bridge_config.specs.Model.{Plan}
 use Rattle.bridge_inputs.specs.declared.fault.RunFault.TheVariants as run
 use Rattle.bridge_netfile.specs.declared.fault.NetFault.{NetFault}
@@ -7,6 +7,7 @@ use Rattle.bridge_jobs.specs.declared.fault.Fault.{Fault}
 use Rattle.bridge_jobs.specs.declared.fault.Fault.TheVariants as fault
 use Rattle.bridge_jobs.specs.Jobs.{Accepts, EndsCheck}
 use Rattle.bridge_jobs.specs.Reading.{IsOfFile}
+use Rattle.bridge_periods.specs.declared.timing.Phases.{Phases}
 use Rattle.bridge_traffic.specs.declared.fault.TrafficFault.{TrafficFault}
 use Rattle.bridge_traffic.specs.declared.fault.TrafficFault.TheVariants as text
 use Rattle.bridge_traffic.specs.declared.rows.TrafficRow.{TrafficRow}
@@ -37,9 +38,19 @@ deadline_words (Some d) worst = codes " deadline " ++ (decimal d ++ (codes " " +
 abbrev pub queue_words : QueueTiming → List ℕ
 queue_words x = codes "traffic " ++ (decimal x.row ++ (codes " filter " ++ (decimal x.filter ++ (codes " port " ++ (decimal x.port ++ (codes " class " ++ decimal x.class))))))
 
+-- the phases between which frames are done, where there are some
+abbrev pub phase_words : Option Phases → List ℕ
+phase_words None = codes ""
+phase_words (Some done) = codes " phases " ++ (decimal done.from ++ (codes ".." ++ decimal done.to))
+
+-- delays: at worst, at best, their difference, and the phases
+abbrev pub delay_words : ℕ → ℕ → Option Phases → List ℕ
+delay_words worst best phases =
+    codes " worst " ++ (decimal worst ++ (codes " best " ++ (decimal best ++ (codes " jitter " ++ (decimal (worst - best) ++ phase_words phases)))))
+
 -- its figures
 abbrev pub figure_words : QueueTiming → List ℕ
-figure_words x = codes " worst " ++ (decimal x.timing.worst ++ (codes " best " ++ (decimal x.timing.best ++ (codes " jitter " ++ decimal x.timing.jitter))))
+figure_words x = delay_words x.timing.worst x.timing.best x.timing.phases
 
 -- the line of a queue
 unfoldable pub timing_line : QueueTiming → List ℕ

@@ -13,7 +13,7 @@ ghost use Rattle.bridge_planning.specs.Traffic.{is_met};
 use crate::bounds::{QueueBound, bounds_of};
 use crate::talkers::course_for;
 use crate::timings;
-use crate::timings::put_deadline;
+use crate::timings::{put_deadline, put_delays};
 use bridge_check::Accepted;
 use bridge_courses::Course;
 use bridge_limits::NoMemory;
@@ -210,12 +210,7 @@ fn put_course<B: Allocator>(text: &mut Text<B>, course: Option<Course>, bound: u
         text.put_integer(bound);
         return;
     };
-    text.put(" worst ");
-    text.put_integer(course.worst);
-    text.put(" best ");
-    text.put_integer(course.best);
-    text.put(" jitter ");
-    text.put_integer(course.jitter);
+    put_delays(text, course.worst, course.best, Some(course.phases));
 }
 
 /// What is said of a stream of which a frame may be refused.

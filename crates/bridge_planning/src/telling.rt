@@ -241,7 +241,10 @@ fn sdu_in<A: Allocator + Copy>(plan: &Plan<A>, number: u32) -> Option<u32>
 }
 
 /// The plan of a bridge, where it is there.
-pub(crate) fn plan_at<'a, A: Allocator + Copy>(plans: &'a [Accepted<A>], bridge: u16) -> Option<&'a Plan<A>>
+pub(crate) fn plan_at<'a, A: Allocator + Copy>(
+    plans: &'a [Accepted<A>],
+    bridge: u16,
+) -> Option<&'a Plan<A>>
     ensures { option_map (λ p. p.now) result ≡ slice_get plans.now bridge }
 {
     let place = bridge as usize;

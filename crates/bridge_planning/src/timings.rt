@@ -13,7 +13,7 @@ use crate::bounds::{QueueBound, bounds_of};
 use bridge_bounds::filter_at;
 use bridge_check::Accepted;
 use bridge_limits::NoMemory;
-use bridge_periods::{Timing, passes, timing_of};
+use bridge_periods::{Phases, Timing, passes, timing_of};
 use bridge_text::Text;
 use bridge_traffic::TrafficRow;
 use std::alloc::Allocator;
@@ -249,16 +249,47 @@ fn put_queue<A: Allocator>(text: &mut Text<A>, x: &QueueTiming)
     text.put_number(u64::from(x.class));
 }
 
+/// Puts the phases between which frames are done, if there are some.
+fn put_phases<A: Allocator>(text: &mut Text<A>, phases: Option<Phases>)
+    ensures { HasGrown text.old (printing.phase_words phases) text.new }
+{
+    let Some(Phases { from, to }) = phases else {
+        return text.put("");
+    };
+    text.put(" phases ");
+    text.put_number(from);
+    text.put("..");
+    text.put_number(to);
+}
+
+/// Puts delays in ns: at worst, at best, their difference, and the phases between which frames are done.
+pub(crate) fn put_delays<A: Allocator>(
+    text: &mut Text<A>,
+    worst: u128,
+    best: u128,
+    phases: Option<Phases>,
+)
+    ensures { HasGrown text.old (printing.delay_words worst best phases) text.new }
+{
+    text.put(" worst ");
+    text.put_integer(worst);
+    text.put(" best ");
+    text.put_integer(best);
+    text.put(" jitter ");
+    text.put_integer(worst.saturating_sub(best));
+    put_phases(text, phases);
+}
+
 /// Puts the figures of a queue.
 fn put_figures<A: Allocator>(text: &mut Text<A>, x: &QueueTiming)
     ensures { HasGrown text.old (printing.figure_words x.now) text.new }
 {
-    text.put(" worst ");
-    text.put_number(x.timing.worst);
-    text.put(" best ");
-    text.put_number(x.timing.best);
-    text.put(" jitter ");
-    text.put_number(x.timing.jitter);
+    let Timing {
+        worst,
+        best,
+        phases,
+    } = x.timing;
+    put_delays(text, worst as u128, best as u128, phases);
 }
 
 /// Puts the line of a queue.
