@@ -196,6 +196,7 @@ each_kept {A} hops all h mine made place q s sent roots is_h is_mine traced each
       | inl less ↦ let all = covers (length new) less (subst (λ (n : ℕ). length new < n) same less) in absurd (omega (arith, all))
       | inr equal ↦ equal
     ]
+
     below : (m n : ℕ) → m ≤ n → (m < n) ⊎ (m ≡ n)
     below m n l = by_bool (nat_eq m n) (λ e. inr (eqb-true m n e)) (λ e. inl (let no = eqb-false m n e in omega (arith, l, no)))
 
@@ -256,7 +257,7 @@ begun_more {A} hops all h made is_h begun are i k known r there root = elim (pus
         came = came;
         root = same_Some r (record { number = k + 1; came = o.at }) is;
       })
-      (λ e. let open : AreOpen h.view.now.origins.items made.items = rw e at begun in absurd (open.unknown k r own))
+      (λ e. let fresh : AreOpen h.view.now.origins.items made.items = rw e at begun in absurd (fresh.unknown k r own))
 ]
 
 -- and each frame of the first hop is known
@@ -287,7 +288,7 @@ each_begun {A} hops all h made is_h begun are i x known is_x is_known = elim (pu
       let own : x ≡ h = same_Some x h (sym is_x ∙ (ap (slice_get hops) here.0 ∙ is_h)) in
       let long : length made.items ≡ length h.view.now.origins.items = by_bool (nat_eq (length all) 0)
       (λ e. let first : AreFirst h.view.now.origins.items made.items = rw e at begun in first.many)
-      (λ e. let open : AreOpen h.view.now.origins.items made.items = rw e at begun in open.many) in
+      (λ e. let fresh : AreOpen h.view.now.origins.items made.items = rw e at begun in fresh.many) in
       ap (λ (v : Vec (Option Root) A). length v.items) (sym here.1) ∙ (long ∙ ap (λ (z : HopRun A). length z.view.now.origins.items) (sym own))
 ]
 

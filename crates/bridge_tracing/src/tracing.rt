@@ -381,8 +381,9 @@ fn trace_all<A: Allocator + Copy>(
     Ok(more)
 }
 
-/// From which frame of the first hop each frame of each hop is, hop by hop in the order of the frames, with one place for each: one that came over a
-/// link is of the frame that the copy is of that left the other end so much before. Nothing of a frame that came otherwise.
+/// From which frame of the first hop each frame of each hop is, hop by hop in the order of the frames, with one place for
+/// each: one that came over a link is of the frame that the copy is of that left the other end so much before. Nothing of a
+/// frame that came otherwise.
 ///
 /// The hops stand in any order but for the first. Links are followed until nothing more is found.
 pub fn roots_of<A: Allocator + Copy>(
