@@ -1,6 +1,6 @@
 //! The job of a run of a network over folders.
 ghost use Rattle.std.specs.Prelude.{◌≡◌, ◌≤◌, IfOk, IfErr, length, string_bytes};
-ghost use Rattle.bridge_net_app.specs.Folders.{EndsFiles, EndsRounds, IsLine, PrintsRounds, TellsRun, network_words, rounds_line};
+ghost use Rattle.bridge_net_app.specs.Folders.{EndsFiles, EndsRounds, IsLine, IsMostRounds, PrintsRounds, TellsRun, network_words, rounds_line};
 
 use crate::incoming::read_all;
 use crate::outputs::{Outputs, open_outputs};
@@ -9,6 +9,7 @@ use crate::refusing::said_of_run;
 use crate::tables::put_tables;
 use crate::watching::{Teller, is_long};
 use crate::writing::put_bridges;
+use bridge_circling::circulations_in;
 use bridge_files::{FileId, Output, files_at};
 use bridge_jobs::{Cause, Fault};
 use bridge_limits::NoMemory;
@@ -22,8 +23,22 @@ use bridge_rounds::{Settled, settle};
 use std::alloc::{AllocError, Global};
 use std::rt::Files;
 
-/// After how many rounds a network that still changes isn't run further.
+/// After how many rounds a network in which frames may go round isn't run further, if it still changes.
 const MOST_ROUNDS: u32 = 64;
+
+/// After how many rounds a network that still changes isn't run further. If no frames can go round, each round settles what
+/// happens up to a later time, so the run ends by itself.
+fn most_rounds(alloc: Global, network: &Network<Global>) -> Result<u32, NoMemory>
+    requires few { length network.now.plans ≤ 64 }
+    ensures { IfOk result (IsMostRounds network.now) }
+{
+    let loops = circulations_in(alloc, network.plans(), network.links())?;
+    Ok(if loops.is_empty() {
+        u32::MAX
+    } else {
+        MOST_ROUNDS
+    })
+}
 
 /// How many bridges, links and streams a network has.
 #[tactic(auto, unfolding(crate::specs::Folders::network_words))]
@@ -158,6 +173,7 @@ fn run_network<H: AllocGlobal + Eprint + Files>(
     taken: Vec<FileId>,
     cause: &mut Option<Cause>,
 ) -> Result<String, Fault>
+    requires few { length network.now.plans ≤ 64 }
     ensures ok { IfOk result (λ line. TellsRun network.now file.now (string_bytes line)) }
     ensures err { IfErr result EndsRounds }
 {
@@ -179,7 +195,13 @@ fn run_network<H: AllocGlobal + Eprint + Files>(
         }
     };
     teller.is_wanted = is_watched && is_long(&incoming);
-    match settle(rt.alloc(), network, incoming, MOST_ROUNDS, teller) {
+    let Ok(rounds) = most_rounds(rt.alloc(), network) else {
+        drop(incoming);
+        drop(outputs);
+        drop(drawing);
+        return Err(memory_fault());
+    };
+    match settle(rt.alloc(), network, incoming, rounds, teller) {
         Ok(settled) => {
             *cause = Some(Cause::NotWritable);
             let told = put_drawn(
@@ -301,7 +323,7 @@ pub struct RoundsJob {
 /// made where they aren't there.
 ///
 /// Faults in this order: those of `network_job`; what comes to each bridge; the folders and files that are written; the run,
-/// `Rounds` of a capture or where something still changes after 64 rounds; then the writing. What the outputs hold stays until
+/// `Rounds` of a capture, or where frames may go round and something still changes after 64 rounds; then the writing. What the outputs hold stays until
 /// the run is done.
 pub fn rounds_job<H: AllocGlobal + Eprint + Files>(
     rt: &H,
