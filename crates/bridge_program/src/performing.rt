@@ -9,8 +9,8 @@ use bridge_files::{MOST_TEXT, is_standard, open_noted, read_noted, text_at};
 use bridge_jobs::{Cause, Fault, NoMemory, fault_of_file};
 use bridge_net_app::{RoundsJob, RoundsSaid, rounds_noted};
 use bridge_planning::{
-    NetworkPicture, NetworkSaid, TrafficReport, bounds_job, memory_fault, network_job,
-    network_picture, traffic_job,
+    NetworkPicture, NetworkSaid, TrafficReport, bounds_job, explain_refusable, memory_fault,
+    network_job, network_picture, traffic_job,
 };
 use bridge_single::{
     Ending, Left, Performed, Wishes, of_file, of_plan, of_words, printed, refused_and_told,
@@ -206,8 +206,32 @@ fn bounds_of_rows<R: Read + Drop>(
         return Err(unexplained(memory_fault()));
     };
     match traffic_job(alloc, alloc, path, text, place, rows) {
-        Ok(TrafficReport { text, kept }) => Ok(printed(alloc, text, kept)),
+        Ok(TrafficReport { text, kept }) => {
+            let told = refusable_told(rt, plan, file, wishes.is_explained && !kept);
+            Ok(Ending {
+                told,
+                ..printed(alloc, text, kept)
+            })
+        }
         Err(fault) => Err(of_traffic(rt, plan, text, file, wishes, fault)),
+    }
+}
+
+/// Why frames of traffic may be refused, where that is asked for; nothing where it can't be told.
+fn refusable_told(
+    rt: &(impl AllocGlobal + Files),
+    plan: &str,
+    traffic: &str,
+    is_asked: bool,
+) -> String {
+    let said = if is_asked {
+        explain_refusable(rt, plan, traffic)
+    } else {
+        None
+    };
+    match said {
+        Some(said) => said,
+        None => String::new(rt.alloc()),
     }
 }
 
