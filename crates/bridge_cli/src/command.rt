@@ -309,7 +309,7 @@ Example:
 
 Statuses:
   0  the plan is accepted, and all traffic passes in time
-  1  the plan or the traffic is refused, or a frame may be refused or late
+  1  the plan or the traffic is refused, or a frame may be refused, late or forwarded nowhere
   3  a file can't be opened, read or written, or memory is exhausted
   4  bad arguments",
 };
