@@ -10,6 +10,8 @@ use Rattle.bridge_gate.specs.declared.schedule.GatePlan.{GatePlan}
 use Rattle.bridge_gate.specs.declared.schedule.Schedule.{Schedule}
 use Rattle.bridge_gate.specs.declared.schedule.Schedule.TheVariants as schedule
 use Rattle.bridge_filter.specs.declared.FilterPlan.{FilterPlan}
+use Rattle.bridge_port.specs.Schedule.{Copy, Started}
+use Rattle.bridge_semantics.specs.Offers.{Carried}
 use Rattle.bridge_config.specs.Model.{Plan}
 use Rattle.bridge_config.specs.Rules.{port_at}
 use Rattle.bridge_config.specs.declared.ports.PortPlan.{PortPlan}
@@ -21,7 +23,8 @@ use Rattle.bridge_netfile.specs.declared.fault.NetFault.TheVariants as net
 use Rattle.bridge_netfile.specs.declared.fault.NetPlace.{NetPlace}
 use Rattle.bridge_netfile.specs.declared.fault.NetSection.TheVariants as section
 use Rattle.bridge_periods.specs.Passing.{Passes}
-use Rattle.bridge_periods.specs.Timings.{IsTiming}
+use Rattle.bridge_periods.specs.Timings.{IsDoneBetween, IsTiming, TakesBetween}
+use Rattle.bridge_periods.specs.declared.timing.Phases.{Phases}
 use Rattle.bridge_periods.specs.declared.timing.Timing.{Timing}
 use Rattle.bridge_traffic.specs.declared.fault.TrafficFault.{TrafficFault}
 use Rattle.bridge_traffic.specs.declared.fault.TrafficFault.TheVariants as fault
@@ -107,6 +110,16 @@ has_phases x = is_some x.phases
 -- Each frame of the row passes its filter, and the queue with these figures accepts it.
 abbrev pub PassesAt : {A : Type 0} → Plan A → TrafficRow → Timing → Type 0
 PassesAt p r x = RowPasses p r × (has_phases x ≡ true)
+
+-- A copy of a frame of the row is sent: between the phases of the figures in the period of its frame, and no sooner and no later after the
+-- frame arrived than the best and the worst delay.
+pub record IsSentInTime {A : Type 0} (out : PortPlan A) (r : TrafficRow) (x : Timing) (y : Copy Carried) : Type 0 where
+  pub done : Phases
+  pub phases : x.phases ≡ Some done
+  pub start : ℕ
+  pub started : y.fate ≡ Started start
+  pub between : IsDoneBetween out r.traffic done y
+  pub times : TakesBetween out x y start
 
 -- the figures of a row in a queue
 pub record IsRowTiming {A : Type 0} (p : Plan A) (index : ℕ) (r : TrafficRow) (b : QueueBound) (x : QueueTiming) : Type 0 where

@@ -178,7 +178,9 @@ fn is_shorter_passing(plan: &Plan<Global>, filter: &FilterPlan, traffic: &Traffi
 /// Adds what often is the cause, and ends the line.
 fn put_hint(said: &mut Text<Global>, is_shorter_passing: bool) {
     if is_shorter_passing {
-        said.put(" With 4 octets less it would pass: `least` and `longest` leave out the frame check sequence.");
+        said.put(
+            " With 4 octets less it would pass: `least` and `longest` leave out the frame check sequence.",
+        );
     }
     said.put("\n");
 }
