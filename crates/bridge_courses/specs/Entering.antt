@@ -1,13 +1,13 @@
 -- Where frames can come in that have the handle of a hop, and whether each hop hands all of its frames to the next one.
 use Rattle.std.specs.Prelude.{◌≡◌, ◌×◌, ℕ, Bool, true, false, not, ◌&&◌, List, [], ◌∷◌, Option, Some, None, nat_eq, map, slice_get, if◌then◌else◌}
-use Rattle.std.specs.List.{list_all, list_any}
+use Rattle.std.specs.List.{list_all}
 use Rattle.bridge_config.specs.declared.ports.PortPlan.{PortPlan}
 use Rattle.bridge_config.specs.Model.{Plan}
 use Rattle.bridge_network.specs.declared.links.Link.{Link}
 use Rattle.bridge_network.specs.declared.links.StreamHop.{StreamHop}
 use Rattle.bridge_network.specs.Handing.{hands_over}
 use Rattle.bridge_network.specs.Networks.{End, Sender, sender}
-use Rattle.bridge_network.specs.Refusing.{enters, handle_of, has_entry}
+use Rattle.bridge_network.specs.Refusing.{enters, handle_of}
 use Rattle.bridge_network.specs.Wiring.{link_of}
 use Rattle.bridge_periods.specs.declared.traffic.Traffic.{Traffic}
 use Rattle.bridge_courses.specs.declared.courses.Course.{Course}
@@ -17,56 +17,37 @@ use Rattle.bridge_courses.specs.Leading.{hop_at}
 
 -- WHERE FRAMES COME IN
 
--- True if the far end of a link, when there is one, is port `r` of bridge `b`.
-abbrev pub is_far_port : ℕ → ℕ → Option Sender → Bool
-is_far_port b r None = false
-is_far_port b r (Some s) = nat_eq s.from.bridge b && nat_eq s.from.port r
-
--- True if the link of the queue's port leads to port `r` of bridge `b`.
-abbrev pub feeds_port : List Link → ℕ → ℕ → HopQueue → Bool
-feeds_port links b r x = is_far_port b r (sender (map link_of links) x.hop.bridge x.port)
-
--- True if one of the queues of the stream leads to port `r` of bridge `b`.
-abbrev pub is_fed_port : List Link → List HopQueue → ℕ → ℕ → Bool
-is_fed_port links queues b r = list_any (feeds_port links b r) queues
-
--- True if `on` is the first of the ports `ports` that is open and has an entry with the handle: the port of the stream's talker.
+-- True if `r` is the number of the talker's port: the first of the ports that is open and has an entry with the handle.
 abbrev pub is_talker_port : {A : Type 0} → List Link → ℕ → Plan A → ℕ → List (PortPlan A) → ℕ → Bool
 is_talker_port links b p handle [] r = false
 is_talker_port links b p handle (on ∷ more) r =
     if enters links b p handle on then nat_eq on.number r else is_talker_port links b p handle more r
 
--- True if frames of the stream arrive at the hop by port `r`: at the first hop by the talker's port, at a later hop by a port to which a
--- queue of the stream leads.
-abbrev pub is_way_in : {A : Type 0} → List Link → List HopQueue → Bool → ℕ → Plan A → ℕ → ℕ → Bool
-is_way_in links queues true b p handle r = is_talker_port links b p handle p.ports r
-is_way_in links queues false b p handle r = is_fed_port links queues b r
+-- True if a port of the hop's bridge is open and has an entry with the handle, and isn't the port of the stream's talker: over links, a hop
+-- accepts only frames of its stream. The talker's port is at the first hop; `is_first` tells whether this is the first hop.
+abbrev pub also_enters : {A : Type 0} → List Link → Bool → ℕ → Plan A → ℕ → PortPlan A → Bool
+also_enters links true b p handle on = enters links b p handle on && not (is_talker_port links b p handle p.ports on.number)
+also_enters links false b p handle on = enters links b p handle on
 
--- True if an entry of port `r` gives the handle of the hop, although no frame of the stream arrives there.
-abbrev pub also_enters : {A : Type 0} → List Link → List HopQueue → Bool → ℕ → Plan A → ℕ → ℕ → Bool
-also_enters links queues is_first b p handle r =
-    has_entry p r handle && not (is_way_in links queues is_first b p handle r)
+-- `also_enters` for the optional handle of the hop's filter; false without a handle.
+abbrev pub also_enters_by : {A : Type 0} → List Link → Bool → ℕ → Plan A → Option ℕ → PortPlan A → Bool
+also_enters_by links is_first b p None on = false
+also_enters_by links is_first b p (Some handle) on = also_enters links is_first b p handle on
 
--- `also_enters` for the handle of the hop's filter; false if the plan has no such handle.
-abbrev pub also_enters_by : {A : Type 0} → List Link → List HopQueue → Bool → ℕ → Plan A → Option ℕ → ℕ → Bool
-also_enters_by links queues is_first b p None r = false
-also_enters_by links queues is_first b p (Some handle) r = also_enters links queues is_first b p handle r
+-- True if frames of other devices may get the handle of the hop at port `on` of its bridge.
+abbrev pub may_come_in : {A : Type 0} → List Link → Bool → StreamHop → Plan A → PortPlan A → Bool
+may_come_in links is_first h p on = also_enters_by links is_first h.bridge p (handle_of p.filters h.filter) on
 
--- True if frames that aren't of the stream may get the handle of the hop at port `r`; `is_first` tells whether it is the first hop.
-abbrev pub may_come_in : {A : Type 0} → List Link → List HopQueue → Bool → StreamHop → Plan A → ℕ → Bool
-may_come_in links queues is_first h p r = also_enters_by links queues is_first h.bridge p (handle_of p.filters h.filter) r
-
--- True if the plan has no port at which `may_come_in` holds of the hop; true without a plan.
-abbrev pub comes_in_once : {A : Type 0} → List Link → List HopQueue → Bool → StreamHop → Option (Plan A) → Bool
-comes_in_once links queues is_first h None = true
-comes_in_once links queues is_first h (Some p) =
-    list_all (λ (on : PortPlan _). not (may_come_in links queues is_first h p on.number)) p.ports
+-- True if `may_come_in` holds at no port of the hop's bridge; true without a plan.
+abbrev pub comes_in_once : {A : Type 0} → List Link → Bool → StreamHop → Option (Plan A) → Bool
+comes_in_once links is_first h None = true
+comes_in_once links is_first h (Some p) = list_all (λ (on : PortPlan _). not (may_come_in links is_first h p on)) p.ports
 
 -- True if `comes_in_once` holds of each hop in the list; `is_first` belongs to the head of the list.
-abbrev pub come_in_once : {A : Type 0} → List (Plan A) → List Link → List HopQueue → Bool → List StreamHop → Bool
-come_in_once plans links queues is_first [] = true
-come_in_once plans links queues is_first (h ∷ hs) =
-    comes_in_once links queues is_first h (slice_get plans h.bridge) && come_in_once plans links queues false hs
+abbrev pub come_in_once : {A : Type 0} → List (Plan A) → List Link → Bool → List StreamHop → Bool
+come_in_once plans links is_first [] = true
+come_in_once plans links is_first (h ∷ hs) =
+    comes_in_once links is_first h (slice_get plans h.bridge) && come_in_once plans links false hs
 
 -- WHAT HOPS HAND ON
 
@@ -105,4 +86,4 @@ tested_course false handed (Some x) = None
 abbrev pub IsStreamCourse : {A : Type 0} → List (Plan A) → List Link → List StreamHop → List HopQueue → Traffic → Option Course → Type 0
 IsStreamCourse plans links hops queues t r =
     (c : Option Course) × IsCourse plans links hops queues t c
-    × (r ≡ tested_course (come_in_once plans links queues true hops) (are_handed plans links hops queues) c)
+    × (r ≡ tested_course (come_in_once plans links true hops) (are_handed plans links hops queues) c)

@@ -15,23 +15,6 @@ use bridge_network::{Link, StreamHop, handle_of, hands_over, has_entry, peer_of}
 use bridge_periods::Traffic;
 use std::alloc::Allocator;
 
-/// Whether the link of a queue's port leads to a port of a bridge.
-fn feeds_port(links: &[Link], bridge: u16, port: u8, queue: &HopQueue) -> bool
-    ensures { result ≡ spec.feeds_port links.now bridge port queue.now }
-{
-    match far_end(links, queue.hop.bridge, queue.port) {
-        None => false,
-        Some(far) => far.end.bridge == bridge && far.end.port == port,
-    }
-}
-
-/// Whether one of some queues leads to a port of a bridge.
-fn is_fed_port(links: &[Link], queues: &[HopQueue], bridge: u16, port: u8) -> bool
-    ensures { result ≡ spec.is_fed_port links.now queues.now bridge port }
-{
-    queues.iter().any(|x| feeds_port(links, bridge, port, x))
-}
-
 /// Whether a port is open, and an entry of it gives a handle.
 fn enters<A: Allocator + Copy>(
     links: &[Link],
@@ -66,45 +49,38 @@ fn is_talker_port<A: Allocator + Copy>(
     false
 }
 
-/// Whether frames of a stream arrive at a hop by a port.
-fn is_way_in<A: Allocator + Copy>(
+/// Whether frames of other devices may get a handle at a port: it is open and has an entry of the handle, and isn't the port of
+/// the talker, which is at the first hop.
+fn also_enters<A: Allocator + Copy>(
     links: &[Link],
-    queues: &[HopQueue],
     is_first: bool,
     bridge: u16,
     plan: &Plan<A>,
     handle: u32,
-    port: u8,
+    on: &PortPlan<A>,
 ) -> bool
-    ensures { result ≡ spec.is_way_in links.now queues.now is_first bridge plan.now handle port }
+    ensures { result ≡ spec.also_enters links.now is_first bridge plan.now handle on.now }
 {
-    if is_first {
-        is_talker_port(links, bridge, plan, handle, port)
-    } else {
-        is_fed_port(links, queues, bridge, port)
+    if !enters(links, bridge, plan, handle, on) {
+        return false;
     }
+    !is_first || !is_talker_port(links, bridge, plan, handle, on.number)
 }
 
-/// Whether an entry of a port gives the handle of a hop although no frame of the stream arrives there.
+/// Whether frames of other devices may get the handle of a hop at a port of its bridge.
 pub fn may_come_in<A: Allocator + Copy>(
     links: &[Link],
-    queues: &[HopQueue],
     is_first: bool,
     hop: StreamHop,
     plan: &Plan<A>,
-    port: u8,
+    on: &PortPlan<A>,
 ) -> bool
-    ensures { result ≡ spec.may_come_in links.now queues.now is_first hop plan.now port }
+    ensures { result ≡ spec.may_come_in links.now is_first hop plan.now on.now }
 {
     let filters = plan.filters();
     match handle_of(filters, hop.filter) {
         None => false,
-        Some(handle) => {
-            if !has_entry(plan, port, handle) {
-                return false;
-            }
-            !is_way_in(links, queues, is_first, hop.bridge, plan, handle, port)
-        }
+        Some(handle) => also_enters(links, is_first, hop.bridge, plan, handle, on),
     }
 }
 
@@ -124,17 +100,18 @@ fn plan_at<'a, A: Allocator + Copy>(plans: &'a [Accepted<A>], bridge: u16) -> Op
 fn comes_in_once<A: Allocator + Copy>(
     plans: &[Accepted<A>],
     links: &[Link],
-    queues: &[HopQueue],
     is_first: bool,
     hop: StreamHop,
 ) -> bool
-    ensures { result ≡ spec.comes_in_once links.now queues.now is_first hop (slice_get plans.now hop.bridge) }
+    ensures { result ≡ spec.comes_in_once links.now is_first hop (slice_get plans.now hop.bridge) }
 {
     match plan_at(plans, hop.bridge) {
         None => true,
         Some(plan) => {
             let ports = plan.ports();
-            ports.iter().all(|on| !may_come_in(links, queues, is_first, hop, plan, on.number))
+            ports
+                .iter()
+                .all(|on| !may_come_in(links, is_first, hop, plan, on))
         }
     }
 }
@@ -143,14 +120,13 @@ fn comes_in_once<A: Allocator + Copy>(
 fn come_in_once<A: Allocator + Copy>(
     plans: &[Accepted<A>],
     links: &[Link],
-    queues: &[HopQueue],
     hops: &[StreamHop],
 ) -> bool
-    ensures { result ≡ spec.come_in_once plans.now links.now queues.now true hops.now }
+    ensures { result ≡ spec.come_in_once plans.now links.now true hops.now }
 {
     let mut is_first = true;
     for hop in hops {
-        if !comes_in_once(plans, links, queues, is_first, *hop) {
+        if !comes_in_once(plans, links, is_first, *hop) {
             return false;
         }
         is_first = false;
@@ -223,7 +199,7 @@ pub fn stream_course<A: Allocator + Copy>(
     ensures { IsStreamCourse plans.now links.now hops.now queues.now traffic.now result }
 {
     let course = course_of(plans, links, hops, queues, traffic);
-    let once = come_in_once(plans, links, queues, hops);
+    let once = come_in_once(plans, links, hops);
     let handed = are_handed(plans, links, hops, queues);
     tested_course(once, handed, course)
 }

@@ -8,12 +8,11 @@ use Rattle.bridge_netfile.specs.Model as file
 use Rattle.bridge_network.specs.declared.links.StreamHop.{StreamHop}
 use Rattle.bridge_network.specs.Wiring.{Parts}
 use Rattle.bridge_circling.specs.Steps.{all_below}
-use Rattle.bridge_courses.specs.declared.trees.HopQueue.{HopQueue}
 use Rattle.bridge_courses.specs.Entering.{may_come_in}
 use Rattle.bridge_planning.specs.declared.bounds.QueueBound.{QueueBound}
 use Rattle.bridge_planning.specs.Naming.{name_at}
 use Rattle.bridge_planning.specs.Streams.{AreBoundsOf, hop_in, rows_if}
-use Rattle.bridge_planning.specs.Talkers.{is_of, queues_of}
+use Rattle.bridge_planning.specs.Talkers.{is_of}
 use Rattle.bridge_planning.specs.Telling.{AreTold}
 
 -- FRAMES THAT MAY ALSO COME IN
@@ -24,19 +23,19 @@ entering_line i k name port =
     codes "may also come in: stream " ++ (decimal (i + 1) ++ (codes " hop " ++ (decimal (k + 1) ++ (codes " " ++ (name ++ (codes "." ++ (decimal port ++ codes "\n")))))))
 
 -- That warning, if it holds of the port.
-abbrev pub entering_text : {A : Type 0} → file.Network → Parts A → List HopQueue → ℕ → ℕ → StreamHop → Plan A → PortPlan A → List ℕ
-entering_text f n queues i k h p on =
-    if may_come_in n.links queues (nat_eq k 0) h p on.number then entering_line i k (name_at f.bridges h.bridge) on.number else []
+abbrev pub entering_text : {A : Type 0} → file.Network → Parts A → ℕ → ℕ → StreamHop → Plan A → PortPlan A → List ℕ
+entering_text f n i k h p on =
+    if may_come_in n.links (nat_eq k 0) h p on then entering_line i k (name_at f.bridges h.bridge) on.number else []
 
 -- The warnings for all ports of the hop's bridge, if its plan is there.
-abbrev pub entering_at : {A : Type 0} → file.Network → Parts A → List HopQueue → ℕ → ℕ → StreamHop → Option (Plan A) → List ℕ
-entering_at f n queues i k h None = []
-entering_at f n queues i k h (Some p) = flat_map (entering_text f n queues i k h p) p.ports
+abbrev pub entering_at : {A : Type 0} → file.Network → Parts A → ℕ → ℕ → StreamHop → Option (Plan A) → List ℕ
+entering_at f n i k h None = []
+entering_at f n i k h (Some p) = flat_map (entering_text f n i k h p) p.ports
 
 -- The warnings for the hop, if the talker keeps a period: only then other frames keep the stream from having figures.
-abbrev pub entering_if : {A : Type 0} → file.Network → Parts A → List HopQueue → ℕ → Bool → ℕ → StreamHop → List ℕ
-entering_if f n queues i false k h = []
-entering_if f n queues i true k h = entering_at f n queues i k h (slice_get n.plans h.bridge)
+abbrev pub entering_if : {A : Type 0} → file.Network → Parts A → ℕ → Bool → ℕ → StreamHop → List ℕ
+entering_if f n i false k h = []
+entering_if f n i true k h = entering_at f n i k h (slice_get n.plans h.bridge)
 
 -- HOPS THAT LEAD NOWHERE
 
@@ -55,23 +54,23 @@ nowhere_text bounds i k h = if has_queue bounds h then [] else nowhere_line i k
 -- ALL OF THEM
 
 -- The warnings of a hop.
-abbrev pub hop_text : {A : Type 0} → file.Network → Parts A → List (Vec QueueBound A) → List HopQueue → ℕ → Bool → ℕ → StreamHop → List ℕ
-hop_text f n bounds queues i periodic k h = entering_if f n queues i periodic k h ++ nowhere_text bounds i k h
+abbrev pub hop_text : {A : Type 0} → file.Network → Parts A → List (Vec QueueBound A) → ℕ → Bool → ℕ → StreamHop → List ℕ
+hop_text f n bounds i periodic k h = entering_if f n i periodic k h ++ nowhere_text bounds i k h
 
 -- The warnings of an optional hop, which has this place in its stream.
-abbrev pub place_text : {A : Type 0} → file.Network → Parts A → List (Vec QueueBound A) → List HopQueue → ℕ → Bool → ℕ → Option StreamHop → List ℕ
-place_text f n bounds queues i periodic k None = []
-place_text f n bounds queues i periodic k (Some h) = hop_text f n bounds queues i periodic k h
+abbrev pub place_text : {A : Type 0} → file.Network → Parts A → List (Vec QueueBound A) → ℕ → Bool → ℕ → Option StreamHop → List ℕ
+place_text f n bounds i periodic k None = []
+place_text f n bounds i periodic k (Some h) = hop_text f n bounds i periodic k h
 
 -- The warnings of all hops of a stream, in their order.
-abbrev pub hops_text : {A : Type 0} → file.Network → Parts A → List (Vec QueueBound A) → List HopQueue → ℕ → Bool → List StreamHop → List ℕ
-hops_text f n bounds queues i periodic hops =
-    all_below (length hops) (λ (k : ℕ). place_text f n bounds queues i periodic k (slice_get hops k))
+abbrev pub hops_text : {A : Type 0} → file.Network → Parts A → List (Vec QueueBound A) → ℕ → Bool → List StreamHop → List ℕ
+hops_text f n bounds i periodic hops =
+    all_below (length hops) (λ (k : ℕ). place_text f n bounds i periodic k (slice_get hops k))
 
 -- The warnings of a stream.
 abbrev pub stream_text : {A : Type 0} → file.Network → Parts A → List (Vec QueueBound A) → ℕ → Stream → List ℕ
 stream_text f n bounds i s =
-    hops_text f n bounds (queues_of bounds (map hop_in s.hops)) i (is_some s.talker) (map hop_in s.hops)
+    hops_text f n bounds i (is_some s.talker) (map hop_in s.hops)
 
 -- The warnings of all streams, the first of which has index `i`.
 abbrev pub streams_text : {A : Type 0} → file.Network → Parts A → List (Vec QueueBound A) → ℕ → List Stream → List ℕ

@@ -169,7 +169,7 @@ fn put_queues<A: Allocator + Copy>(
 }
 
 /// The queues of all hops, by the bounds of the plans.
-pub(crate) fn queues_of<A: Allocator + Copy>(
+fn queues_of<A: Allocator + Copy>(
     alloc: A,
     bounds: &[Vec<QueueBound, A>],
     hops: &[StreamHop],

@@ -1,8 +1,6 @@
 //! The warnings of an accepted network: frames that may go round, filters in no stream, and what its streams lack.
 ghost use Rattle.std.specs.Prelude.{◌≡◌, ◌<◌, ◌≤◌, ◌+◌, ◌++◌, All, IfOk, OnOk, flat_map, is_some, length, map, nat_eq, option_map, slice_get, string_bytes};
-ghost use Rattle.bridge_planning.specs.Bounds.{IsPlaced};
 ghost use Rattle.bridge_planning.specs.Streams.{AreBoundsOf, hop_in};
-ghost use Rattle.bridge_planning.specs.Talkers.{queues_of};
 ghost use Rattle.bridge_planning.specs.Warnings as spec;
 ghost use Rattle.bridge_planning.specs.Warnings.{AreWarnings, entering_line, nowhere_line};
 
@@ -10,10 +8,9 @@ use crate::bounds::QueueBound;
 use crate::network::hops_of;
 use crate::refusing::name_of;
 use crate::streams::rows_at;
-use crate::talkers::queues_of;
 use crate::telling::{plan_at, told_of};
 use bridge_config::{Plan, PortPlan};
-use bridge_courses::{HopQueue, may_come_in};
+use bridge_courses::may_come_in;
 use bridge_limits::NoMemory;
 use bridge_netfile::{NetworkFile, StreamRow};
 use bridge_network::{Network, StreamHop};
@@ -64,7 +61,6 @@ impl<'a, A: Allocator + Copy> Named<'a, A> {
     fn push_entering(
         &self,
         text: &mut String,
-        queues: &[HopQueue],
         i: usize,
         k: usize,
         hop: StreamHop,
@@ -74,9 +70,9 @@ impl<'a, A: Allocator + Copy> Named<'a, A> {
         requires stream { i < 1024 }
         requires hop { k < 64 }
         ensures { OnOk result (string_bytes text.new ≡ string_bytes text.old
-            ++ spec.entering_text self.now.file.now self.now.network.now queues.now i k hop plan.now on.now) }
+            ++ spec.entering_text self.now.file.now self.now.network.now i k hop plan.now on.now) }
     {
-        if !may_come_in(self.network.links(), queues, k == 0, hop, plan, on.number) {
+        if !may_come_in(self.network.links(), k == 0, hop, plan, on) {
             return Ok(());
         }
         let name = name_of(self.file.bridges(), hop.bridge);
@@ -87,7 +83,6 @@ impl<'a, A: Allocator + Copy> Named<'a, A> {
     fn push_entering_at(
         &self,
         text: &mut String,
-        queues: &[HopQueue],
         i: usize,
         k: usize,
         hop: StreamHop,
@@ -96,10 +91,10 @@ impl<'a, A: Allocator + Copy> Named<'a, A> {
         requires stream { i < 1024 }
         requires hop { k < 64 }
         ensures { OnOk result (string_bytes text.new ≡ string_bytes text.old
-            ++ spec.entering_at self.now.file.now self.now.network.now queues.now i k hop (Some plan.now)) }
+            ++ spec.entering_at self.now.file.now self.now.network.now i k hop (Some plan.now)) }
     {
         for on in plan.ports() {
-            let Ok(()) = self.push_entering(text, queues, i, k, hop, plan, on) else {
+            let Ok(()) = self.push_entering(text, i, k, hop, plan, on) else {
                 return Err(AllocError);
             };
         }
@@ -110,7 +105,6 @@ impl<'a, A: Allocator + Copy> Named<'a, A> {
     fn push_entering_hop(
         &self,
         text: &mut String,
-        queues: &[HopQueue],
         i: usize,
         k: usize,
         hop: StreamHop,
@@ -118,11 +112,11 @@ impl<'a, A: Allocator + Copy> Named<'a, A> {
         requires stream { i < 1024 }
         requires hop { k < 64 }
         ensures { OnOk result (string_bytes text.new ≡ string_bytes text.old
-            ++ spec.entering_if self.now.file.now self.now.network.now queues.now i true k hop) }
+            ++ spec.entering_if self.now.file.now self.now.network.now i true k hop) }
     {
         match plan_at(self.network.plans(), hop.bridge) {
             None => Ok(()),
-            Some(plan) => self.push_entering_at(text, queues, i, k, hop, plan),
+            Some(plan) => self.push_entering_at(text, i, k, hop, plan),
         }
     }
 
@@ -131,7 +125,6 @@ impl<'a, A: Allocator + Copy> Named<'a, A> {
         &self,
         text: &mut String,
         bounds: &[Vec<QueueBound, A>],
-        queues: &[HopQueue],
         i: usize,
         periodic: bool,
         k: usize,
@@ -140,10 +133,10 @@ impl<'a, A: Allocator + Copy> Named<'a, A> {
         requires stream { i < 1024 }
         requires hop { k < 64 }
         ensures { OnOk result (string_bytes text.new ≡ string_bytes text.old
-            ++ spec.hop_text self.now.file.now self.now.network.now bounds.now queues.now i periodic k hop) }
+            ++ spec.hop_text self.now.file.now self.now.network.now bounds.now i periodic k hop) }
     {
         if periodic {
-            self.push_entering_hop(text, queues, i, k, hop)?;
+            self.push_entering_hop(text, i, k, hop)?;
         }
         push_nowhere(text, bounds, i, k, hop)
     }
@@ -153,7 +146,6 @@ impl<'a, A: Allocator + Copy> Named<'a, A> {
         &self,
         text: &mut String,
         bounds: &[Vec<QueueBound, A>],
-        queues: &[HopQueue],
         i: usize,
         periodic: bool,
         hops: &[StreamHop],
@@ -161,10 +153,10 @@ impl<'a, A: Allocator + Copy> Named<'a, A> {
         requires stream { i < 1024 }
         requires few { length hops.now ≤ 64 }
         ensures { OnOk result (string_bytes text.new ≡ string_bytes text.old
-            ++ spec.hops_text self.now.file.now self.now.network.now bounds.now queues.now i periodic hops.now) }
+            ++ spec.hops_text self.now.file.now self.now.network.now bounds.now i periodic hops.now) }
     {
         for k in 0..hops.len() {
-            let Ok(()) = self.push_hop(text, bounds, queues, i, periodic, k, hops[k]) else {
+            let Ok(()) = self.push_hop(text, bounds, i, periodic, k, hops[k]) else {
                 return Err(AllocError);
             };
         }
@@ -180,16 +172,14 @@ impl<'a, A: Allocator + Copy> Named<'a, A> {
         i: usize,
         stream: &StreamRow<A>,
     ) -> Result<(), NoMemory>
-        requires placed { All (λ v. All IsPlaced v.items) bounds.now }
         requires stream { i < 1024 }
         requires few { length stream.now.hops ≤ 64 }
         ensures { OnOk result (string_bytes text.new ≡ string_bytes text.old
             ++ spec.stream_text self.now.file.now self.now.network.now bounds.now i stream.now) }
     {
         let hops = hops_of(alloc, stream.hops())?;
-        let queues = queues_of(alloc, bounds, &hops)?;
         let periodic = stream.talker().is_some();
-        match self.push_hops(text, bounds, &queues, i, periodic, &hops) {
+        match self.push_hops(text, bounds, i, periodic, &hops) {
             Ok(()) => Ok(()),
             Err(_) => Err(NoMemory),
         }
@@ -203,7 +193,6 @@ impl<'a, A: Allocator + Copy> Named<'a, A> {
         bounds: &[Vec<QueueBound, A>],
         streams: &[StreamRow<A>],
     ) -> Result<(), NoMemory>
-        requires placed { All (λ v. All IsPlaced v.items) bounds.now }
         requires few { length streams.now ≤ 1024 }
         requires each { All (λ s. length s.hops ≤ 64) streams.now }
         ensures { OnOk result (string_bytes text.new ≡ string_bytes text.old
@@ -252,7 +241,6 @@ fn push_warnings<A: Allocator + Copy>(
     network: &Network<A>,
     bounds: &[Vec<QueueBound, A>],
 ) -> Result<(), NoMemory>
-    requires placed { All (λ v. All IsPlaced v.items) bounds.now }
     ensures { OnOk result (string_bytes text.new ≡ string_bytes text.old
         ++ spec.streams_text file.now network.now bounds.now 0 file.now.streams) }
 {
@@ -272,7 +260,6 @@ pub fn warnings_of<A: Allocator + Copy>(
 ) -> Result<String, NoMemory>
     requires few { length network.now.plans ≤ 64 }
     requires bounds { AreBoundsOf network.now.plans bounds.now }
-    requires placed { All (λ v. All IsPlaced v.items) bounds.now }
     ensures { IfOk result (λ text. AreWarnings file.now network.now (string_bytes text)) }
 {
     let mut text = told_of(alloc, heap, file, network)?;

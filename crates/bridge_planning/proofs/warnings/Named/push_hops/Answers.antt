@@ -12,7 +12,7 @@ push_hop-requires-clause-hop g c = omega (arith, c.requires.few, c.loop-k-test.t
 
 pub loop-k-preserved : goal.loop-k-preserved
 loop-k-preserved g c =
-    let text = λ (k : ℕ) (h : Option StreamHop). place_text c.args.self.now.file.now c.args.self.now.network.now c.args.bounds.now c.args.queues.now c.args.i c.args.periodic k h in
+    let text = λ (k : ℕ) (h : Option StreamHop). place_text c.args.self.now.file.now c.args.self.now.network.now c.args.bounds.now c.args.i c.args.periodic k h in
     let hops = c.args.hops.now in
     let hop = c.index-hops-k.result in
     let there : slice_get hops c.loop-k.k ≡ Some hop = slice_get-get_or hops c.loop-k.k hop c.loop-k-test.true ∙ ap Some (sym c.index-hops-k.is) in
@@ -25,4 +25,4 @@ returns g c =
     let least = c.loop-k-test.false in
     let all : c.loop-k.k ≡ length c.args.hops.now = omega (arith, most, least) in
     c.loop-k.invariant
-    ∙ ap (λ n. string_bytes c.args.text.now ++ all_below n (λ (k : ℕ). place_text c.args.self.now.file.now c.args.self.now.network.now c.args.bounds.now c.args.queues.now c.args.i c.args.periodic k (slice_get c.args.hops.now k))) all
+    ∙ ap (λ n. string_bytes c.args.text.now ++ all_below n (λ (k : ℕ). place_text c.args.self.now.file.now c.args.self.now.network.now c.args.bounds.now c.args.i c.args.periodic k (slice_get c.args.hops.now k))) all
