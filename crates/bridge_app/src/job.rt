@@ -217,7 +217,7 @@ fn show<H: AllocGlobal + Files>(
     let Ok(lost) = lost_if(rt.alloc(), outcome, is_strict) else {
         return Err(Fault::Run(RunFault::NoMemory));
     };
-    let is_lossy = !lost.is_empty();
+    let is_lossy = !lost.as_str().is_empty();
     Ok(RunLines {
         line,
         lost,

@@ -1,12 +1,11 @@
 -- Runs of networks for which a warning or a loss is a fault: the names of hops, and the exit status.
-use Rattle.std.specs.Prelude.{ℕ, Bool, true, false, ◌||◌, List, [], ◌∷◌, ◌++◌, codes, decimal, if◌then◌else◌}
+use Rattle.std.specs.Prelude.{ℕ, Bool, ◌||◌, not, nat_eq, List, ◌++◌, length, codes, decimal, if◌then◌else◌}
 use Rattle.bridge_netfile.specs.Model.{Bridge}
 use Rattle.bridge_planning.specs.Naming.{name_at}
 
--- Holds if a text has no octets.
-abbrev pub is_empty : List ℕ → Bool
-is_empty [] = true
-is_empty (x ∷ xs) = false
+-- Holds if a text has an octet.
+abbrev pub has_lines : List ℕ → Bool
+has_lines text = not (nat_eq (length text) 0)
 
 -- The name of a hop, with a space at its end.
 abbrev pub place_words : List Bridge → ℕ × ℕ → List ℕ

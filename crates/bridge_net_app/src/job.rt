@@ -1,6 +1,6 @@
 //! The job of a run of a network over folders.
-ghost use Rattle.std.specs.Prelude.{◌≡◌, ◌≤◌, IfOk, IfErr, IfSome, None, Some, false, true, length, not, string_bytes};
-ghost use Rattle.bridge_net_app.specs.Losing.{is_empty};
+ghost use Rattle.std.specs.Prelude.{◌≡◌, ◌≤◌, IfOk, IfErr, IfSome, None, Some, false, true, length, string_bytes};
+ghost use Rattle.bridge_net_app.specs.Losing.{has_lines};
 ghost use Rattle.bridge_net_app.specs.Folders.{EndsFiles, EndsRounds, IsLine, PrintsRounds, TellsRun, network_words, rounds_line};
 
 use crate::incoming::read_all;
@@ -354,10 +354,10 @@ fn ran(lines: RunLines, rounds: u32) -> RoundsSaid
     ensures line { result.line ≡ Some lines.line }
     ensures told { result.told ≡ lines.lost }
     ensures warned { result.is_warned ≡ false }
-    ensures lossy { result.is_lossy ≡ not (is_empty (string_bytes lines.lost)) }
+    ensures lossy { result.is_lossy ≡ has_lines (string_bytes lines.lost) }
 {
     let RunLines { line, lost } = lines;
-    let is_lossy = !lost.is_empty();
+    let is_lossy = !lost.as_str().is_empty();
     RoundsSaid {
         line: Some(line),
         told: lost,
