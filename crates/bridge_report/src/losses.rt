@@ -135,26 +135,21 @@ pub fn put_reason<A: Allocator>(text: &mut Text<A>, place: &str, word: &str, cou
 pub fn put_losses<A: Allocator>(text: &mut Text<A>, place: &str, losses: &Losses)
     ensures { HasGrown text.old (spec.loss_words place.now losses.now) text.new }
 {
-    put_reason(text, place, "blocked", u128::from(losses.blocked));
-    put_reason(text, place, "oversize", u128::from(losses.oversize));
-    put_reason(text, place, "gate-closed", u128::from(losses.gate_closed));
-    put_reason(text, place, "shut-rx", u128::from(losses.shut_rx));
-    put_reason(text, place, "shut-octets", u128::from(losses.shut_octets));
+    put_reason(text, place, "blocked", losses.blocked as u128);
+    put_reason(text, place, "oversize", losses.oversize as u128);
+    put_reason(text, place, "gate-closed", losses.gate_closed as u128);
+    put_reason(text, place, "shut-rx", losses.shut_rx as u128);
+    put_reason(text, place, "shut-octets", losses.shut_octets as u128);
     put_reason(
         text,
         place,
         "octets-exceeded",
-        u128::from(losses.octets_exceeded),
+        losses.octets_exceeded as u128,
     );
-    put_reason(text, place, "red", u128::from(losses.red));
-    put_reason(
-        text,
-        place,
-        "yellow-dropped",
-        u128::from(losses.yellow_dropped),
-    );
-    put_reason(text, place, "full", u128::from(losses.full));
-    put_reason(text, place, "never", u128::from(losses.never));
+    put_reason(text, place, "red", losses.red as u128);
+    put_reason(text, place, "yellow-dropped", losses.yellow_dropped as u128);
+    put_reason(text, place, "full", losses.full as u128);
+    put_reason(text, place, "never", losses.never as u128);
 }
 
 /// Puts the line of a filter that lost frames or copies.
@@ -162,7 +157,7 @@ fn put_line<A: Allocator>(text: &mut Text<A>, filter: u32, frames: u64, losses: 
     ensures { HasGrown text.old (spec.lost_line filter frames losses.now) text.new }
 {
     text.put("lost: filter ");
-    text.put_number(u64::from(filter));
+    text.put_integer(filter);
     text.put(", ");
     text.put_integer(total(losses));
     text.put(" frames or copies of ");

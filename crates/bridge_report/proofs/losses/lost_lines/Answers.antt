@@ -8,8 +8,8 @@ pub loop-filter-init : goal.loop-filter-init
 loop-filter-init g c = put_none _
 
 pub loop-filter-preserved : goal.loop-filter-preserved
-loop-filter-preserved g c = item_put (λ f. lost_lines_of f.0 f.1) c.deref-filter-items.result.now c.loop-filter.filter-index _ _ _ c.loop-filter-item.result
-    c.loop-filter-test.true c.loop-filter-item.is c.loop-filter.invariant c.put_lost.ensures
+loop-filter-preserved g c = item_put (λ f. lost_lines_of f.0 f.1) c.deref-filter-items.result.now c.loop-filter.filter-index _ _ _ c.filter-item.result
+    c.loop-filter-test.true c.filter-item.is c.loop-filter.invariant c.put_lost.ensures
 
 pub returns : goal.returns
 returns g c = whole_if string_bytes c.done.result _ _ _ c.new-text.ensures
