@@ -6,6 +6,7 @@ ghost use Rattle.bridge_jobs.specs.Jobs.{EndsCheck, PrintsAccepted};
 ghost use Rattle.bridge_check_app.specs.Checked.{EndsChecked};
 ghost use Rattle.bridge_running.specs.Files.{PrintsRun};
 ghost use Rattle.bridge_app.specs.Files.{EndsTabled, EndsTold};
+ghost use Rattle.bridge_app.specs.Losing.{TellsLost};
 
 use crate::explaining::{kept_path, kept_paths, refusal_of_run, said_of_plan, warned_of};
 use crate::job::send_told;
@@ -31,6 +32,37 @@ pub struct Strict {
     pub told: String,
     /// Whether there is a warning.
     pub is_warned: bool,
+}
+
+/// A run for which a warning or a loss can be a fault.
+#[derive(Drop)]
+pub struct StrictRun {
+    /// The line that the run prints, if it ran.
+    pub line: Option<String>,
+    /// Lines on standard error about the plan: its warnings, or a complete explanation.
+    pub told: String,
+    /// Whether a warning is a fault and the plan has one.
+    pub is_warned: bool,
+    /// Lines on standard error about the run: one for each protected filter that lost a frame or a copy, if a loss is a fault.
+    pub lost: String,
+    /// Whether there is such a line.
+    pub is_lossy: bool,
+}
+
+impl StrictRun {
+    ghost use Rattle.std.specs.Prelude.{◌≡◌};
+    ghost use Rattle.bridge_app.specs.Losing.{status_of};
+
+    /// Returns the exit status of the run: 1 if a warning or a loss is a fault, else 0.
+    pub fn status(&self) -> u8
+        ensures { result ≡ status_of self.now.is_warned self.now.is_lossy }
+    {
+        if self.is_warned || self.is_lossy {
+            1
+        } else {
+            0
+        }
+    }
 }
 
 /// What is told of a plan that is accepted, and whether there is a warning: with an explanation all that is to be said
@@ -143,14 +175,16 @@ pub fn strict_run_job<H: AllocGlobal + Files>(
     tables: TableRequest,
     sketch: Option<PictureRequest>,
     is_explained: bool,
-) -> Result<Strict, Fault>
+) -> Result<StrictRun, Fault>
     ensures ok { IfOk result (λ strict. IfSome strict.line (λ line. PrintsRun Global (string_bytes line))) }
     ensures warned { IfOk result (λ strict. strict.is_warned ≡ true → strict.line ≡ None) }
+    ensures lost { IfOk result (λ strict. IfSome strict.line (λ line. TellsLost Global true (string_bytes line)
+        (string_bytes strict.lost) strict.is_lossy)) }
     ensures err { IfErr result (EndsTold Global (string_bytes plan) (option_map string_bytes commands)
         (string_bytes input) (string_bytes output) (option_map string_bytes tables.delays)
         (option_map string_bytes tables.frames) (option_map (λ s. string_bytes s.file) sketch)) }
 {
-    match told_run_job(
+    match judge_run_job(
         rt,
         plan,
         input,
@@ -169,7 +203,7 @@ pub fn strict_run_job<H: AllocGlobal + Files>(
 /// What a run under the plan of a file comes to: as by `strict_run_job` where a warning is a fault, else as by `run_with_tables`,
 /// with what there is to say of the plan and of the folder that is read. What is told of it, or of its fault, comes of the one
 /// reading of the plan and of the commands, which may be pipes.
-pub fn told_run_job<H: AllocGlobal + Files>(
+pub fn judge_run_job<H: AllocGlobal + Files>(
     rt: &H,
     plan: String,
     input: String,
@@ -179,9 +213,11 @@ pub fn told_run_job<H: AllocGlobal + Files>(
     sketch: Option<PictureRequest>,
     is_strict: bool,
     is_explained: bool,
-) -> Result<Strict, Refusal>
+) -> Result<StrictRun, Refusal>
     ensures ok { IfOk result (λ strict. IfSome strict.line (λ line. PrintsRun Global (string_bytes line))) }
     ensures warned { IfOk result (λ strict. strict.is_warned ≡ true → strict.line ≡ None) }
+    ensures lost { IfOk result (λ strict. IfSome strict.line (λ line. TellsLost Global is_strict (string_bytes line)
+        (string_bytes strict.lost) strict.is_lossy)) }
     ensures err { IfErr result (λ refusal. EndsTold Global (string_bytes plan) (option_map string_bytes commands)
         (string_bytes input) (string_bytes output) (option_map string_bytes tables.delays)
         (option_map string_bytes tables.frames) (option_map (λ s. string_bytes s.file) sketch) refusal.fault) }
@@ -207,6 +243,61 @@ pub fn told_run_job<H: AllocGlobal + Files>(
     }
 }
 
+/// What a run under the plan of a file comes to, as by `judge_run_job`: the lines of lost frames stand behind the lines about the plan.
+pub fn told_run_job<H: AllocGlobal + Files>(
+    rt: &H,
+    plan: String,
+    input: String,
+    output: String,
+    commands: Option<String>,
+    tables: TableRequest,
+    sketch: Option<PictureRequest>,
+    is_strict: bool,
+    is_explained: bool,
+) -> Result<Strict, Refusal>
+    ensures ok { IfOk result (λ strict. IfSome strict.line (λ line. PrintsRun Global (string_bytes line))) }
+    ensures warned { IfOk result (λ strict. strict.is_warned ≡ true → strict.line ≡ None) }
+    ensures err { IfErr result (λ refusal. EndsTold Global (string_bytes plan) (option_map string_bytes commands)
+        (string_bytes input) (string_bytes output) (option_map string_bytes tables.delays)
+        (option_map string_bytes tables.frames) (option_map (λ s. string_bytes s.file) sketch) refusal.fault) }
+{
+    match judge_run_job(
+        rt,
+        plan,
+        input,
+        output,
+        commands,
+        tables,
+        sketch,
+        is_strict,
+        is_explained,
+    ) {
+        Ok(run) => Ok(merged(run)),
+        Err(refusal) => Err(refusal),
+    }
+}
+
+/// Returns a run with all its lines on standard error in one text. If memory runs out, the text has only the lines about the plan.
+fn merged(run: StrictRun) -> Strict
+    ensures line { result.line ≡ run.line }
+    ensures warned { result.is_warned ≡ run.is_warned }
+{
+    let StrictRun {
+        line,
+        told,
+        is_warned,
+        lost,
+        is_lossy: _,
+    } = run;
+    let mut all = told;
+    let _ = all.push_str(lost.as_str());
+    Strict {
+        line,
+        told: all,
+        is_warned,
+    }
+}
+
 /// What is wanted of a run beside its line.
 #[derive(Clone, Copy)]
 struct Wishes {
@@ -227,9 +318,11 @@ fn run_noted<H: AllocGlobal + Files>(
     sketch: Option<PictureRequest>,
     wishes: Wishes,
     noted: &mut Noted,
-) -> Result<Strict, Fault>
+) -> Result<StrictRun, Fault>
     ensures ok { IfOk result (λ strict. IfSome strict.line (λ line. PrintsRun Global (string_bytes line))) }
     ensures warned { IfOk result (λ strict. strict.is_warned ≡ true → strict.line ≡ None) }
+    ensures lost { IfOk result (λ strict. IfSome strict.line (λ line. TellsLost Global wishes.is_strict (string_bytes line)
+        (string_bytes strict.lost) strict.is_lossy)) }
     ensures err { IfErr result (EndsTold Global (string_bytes plan) (option_map string_bytes commands)
         (string_bytes input) (string_bytes output) (option_map string_bytes tables.delays)
         (option_map string_bytes tables.frames) (option_map (λ s. string_bytes s.file) sketch)) }
@@ -269,10 +362,12 @@ fn send_by<H: AllocGlobal + Files>(
     sketch: Option<PictureRequest>,
     wishes: Wishes,
     cause: &mut Option<Cause>,
-) -> Result<Strict, Fault>
+) -> Result<StrictRun, Fault>
     requires commands { AreCommands accepted.now orders.now }
     ensures ok { IfOk result (λ strict. IfSome strict.line (λ line. PrintsRun Global (string_bytes line))) }
     ensures warned { IfOk result (λ strict. strict.is_warned ≡ true → strict.line ≡ None) }
+    ensures lost { IfOk result (λ strict. IfSome strict.line (λ line. TellsLost Global wishes.is_strict (string_bytes line)
+        (string_bytes strict.lost) strict.is_lossy)) }
     ensures err { IfErr result (EndsTabled accepted.now (string_bytes input) (string_bytes output)
         (option_map string_bytes tables.delays) (option_map string_bytes tables.frames)
         (option_map (λ s. string_bytes s.file) sketch)) }
@@ -294,12 +389,23 @@ fn send_by<H: AllocGlobal + Files>(
     }
     let folder = kept_path(rt.alloc(), input.as_str(), wishes.is_explained);
     match send_told(
-        rt, accepted, orders, input, output, taken, tables, sketch, cause,
+        rt,
+        accepted,
+        orders,
+        input,
+        output,
+        taken,
+        tables,
+        sketch,
+        wishes.is_strict,
+        cause,
     ) {
-        Ok(line) => Ok(Strict {
-            line: Some(line),
+        Ok(lines) => Ok(StrictRun {
+            line: Some(lines.line),
             told: told_behind(rt, accepted, &folder),
             is_warned: false,
+            lost: lines.lost,
+            is_lossy: lines.is_lossy,
         }),
         Err(fault) => Err(fault),
     }
@@ -334,10 +440,12 @@ fn send_strictly<H: AllocGlobal + Files>(
     sketch: Option<PictureRequest>,
     is_explained: bool,
     cause: &mut Option<Cause>,
-) -> Result<Strict, Fault>
+) -> Result<StrictRun, Fault>
     requires commands { AreCommands accepted.now orders.now }
     ensures ok { IfOk result (λ strict. IfSome strict.line (λ line. PrintsRun Global (string_bytes line))) }
     ensures warned { IfOk result (λ strict. strict.is_warned ≡ true → strict.line ≡ None) }
+    ensures lost { IfOk result (λ strict. IfSome strict.line (λ line. TellsLost Global true (string_bytes line)
+        (string_bytes strict.lost) strict.is_lossy)) }
     ensures err { IfErr result (EndsTabled accepted.now (string_bytes input) (string_bytes output)
         (option_map string_bytes tables.delays) (option_map string_bytes tables.frames)
         (option_map (λ s. string_bytes s.file) sketch)) }
@@ -346,19 +454,23 @@ fn send_strictly<H: AllocGlobal + Files>(
         return Err(Fault::Run(RunFault::NoMemory));
     };
     if is_warned {
-        return Ok(Strict {
+        return Ok(StrictRun {
             line: None,
             told,
             is_warned,
+            lost: String::new(rt.alloc()),
+            is_lossy: false,
         });
     }
     match send_told(
-        rt, accepted, orders, input, output, taken, tables, sketch, cause,
+        rt, accepted, orders, input, output, taken, tables, sketch, true, cause,
     ) {
-        Ok(line) => Ok(Strict {
-            line: Some(line),
+        Ok(lines) => Ok(StrictRun {
+            line: Some(lines.line),
             told,
             is_warned: false,
+            lost: lines.lost,
+            is_lossy: lines.is_lossy,
         }),
         Err(fault) => Err(fault),
     }

@@ -109,7 +109,7 @@ pub fn delivered_of(tallies: &[Tally]) -> usize
 }
 
 /// How many copies went astray.
-fn astray_of(tallies: &[Tally]) -> u128
+pub(crate) fn astray_of(tallies: &[Tally]) -> u128
     ensures { result ≡ sum_by astray tallies.now }
 {
     tallies.iter().map(|tally| u128::from(tally.astray())).sum()

@@ -1,6 +1,6 @@
 use Rattle.std.proofs.Common.{option_map, string_bytes, subst, sym, Global}
 use Rattle.bridge_app.specs.Files.{EndsTold}
-use Rattle.bridge_app.proofs.strict.told_run_job.Goals as goal
+use Rattle.bridge_app.proofs.strict.judge_run_job.Goals as goal
 
 pub returns-clause-err : goal.returns-clause-err
 returns-clause-err g c =
