@@ -23,18 +23,19 @@ const NO_LENGTH: &str =
     "Filter {0} is protected but has no `max_sdu`. Without it, nobody can tell whether its longest frame fits its windows.\nAdd a `max_sdu`.\n";
 
 const GATE_SHARED: &str =
-    "Filters {0} (protected) and {1} share gate {2}. Frames of filter {1} can use up its octets, or shut it.\nGive filter {0} a gate of its own.\n";
+    "Filters {0} (protected) and {1} ({a}) share gate {2}. Frames of filter {1} can use up its octets, or shut it.\nGive filter {0} a gate of its own.\n";
 
 const METER_SHARED: &str =
-    "Filters {0} (protected) and {1} share meter {2}. Frames of filter {1} can use up its tokens.\nGive filter {0} a meter of its own, or remove its `meter`.\n";
+    "Filters {0} (protected) and {1} ({a}) share meter {2}. Frames of filter {1} can use up its tokens.\nGive filter {0} a meter of its own, or remove its `meter`.\n";
 
 const NO_LAST: &str =
     "Filter {1} has the greatest number but doesn't match every frame, so some frames may bypass the filters and enter the queues of filter {0}.\nAdd a filter with a number above {1}, without `handle` and `priority`. Give it a gate of its own, with an `ipv` of another class.\n";
 
-const QUEUE_SHARED: &str = "Filters {0} (protected) and {1} share a queue: port {2}, class {3}.\n";
+const QUEUE_SHARED: &str =
+    "Filters {0} (protected) and {1} ({a}) share a queue: port {2}, class {3}.\n";
 
 const PART_THEM: &str =
-    "Separate them: give one of them another class by `ipv` in its gate, its `priority` or the `classes` of the port, or another route.\n";
+    "Give one of them another class, by `ipv` in its gate, by its `priority`, or by the `classes` of the port. Or give one of them another route.\n";
 
 const WINDOW_SHARED: &str = "Port {1} opens several classes together from offset {3} ns: ";
 
@@ -127,7 +128,14 @@ fn put_check<A: Allocator + Copy>(
         CheckFault::NoMaxSdu { .. } => said.fill(NO_LENGTH, &[u64::from(number)], &[]),
         CheckFault::GateShared { .. } => put_gate(said, filters, number, filter.gate),
         CheckFault::MeterShared { .. } => put_meter(said, filters, number, filter.meter),
-        CheckFault::NoCatchAll { .. } => put_shared(said, NO_LAST, number, last_of(filters), 0),
+        CheckFault::NoCatchAll { .. } => put_shared(
+            said,
+            filters,
+            NO_LAST,
+            number,
+            last_of(filters),
+            0,
+        ),
         CheckFault::QueueShared {
             port,
             class,
@@ -200,23 +208,38 @@ fn last_of(filters: &[(u32, FilterPlan)]) -> u32 {
     last
 }
 
-/// Adds a sentence on a filter, another one, and what both have.
-fn put_shared(said: &mut Said, template: &str, number: u32, other: u32, own: u32) {
+/// Whether the filter of a number is protected, as a word.
+fn guard_of(filters: &[(u32, FilterPlan)], number: u32) -> &'static str {
+    match filter_at(filters, number) {
+        Some(filter) if filter.protected => "protected",
+        _ => "unprotected",
+    }
+}
+
+/// Adds a sentence on a filter, another one, whether this is protected, and what both have.
+fn put_shared(
+    said: &mut Said,
+    filters: &[(u32, FilterPlan)],
+    template: &str,
+    number: u32,
+    other: u32,
+    own: u32,
+) {
     let numbers = [u64::from(number), u64::from(other), u64::from(own)];
-    said.fill(template, &numbers, &[]);
+    said.fill(template, &numbers, &[guard_of(filters, other)]);
 }
 
 /// Adds what is said of a gate that another filter has too.
 fn put_gate(said: &mut Said, filters: &[(u32, FilterPlan)], number: u32, gate: u32) {
     let other = other_with_gate(filters, number, gate).unwrap_or(0);
-    put_shared(said, GATE_SHARED, number, other, gate);
+    put_shared(said, filters, GATE_SHARED, number, other, gate);
 }
 
 /// Adds what is said of a meter that another filter has too.
 fn put_meter(said: &mut Said, filters: &[(u32, FilterPlan)], number: u32, meter: Option<u32>) {
     let meter = meter.unwrap_or(0);
     let other = other_with_meter(filters, number, meter).unwrap_or(0);
-    put_shared(said, METER_SHARED, number, other, meter);
+    put_shared(said, filters, METER_SHARED, number, other, meter);
 }
 
 /// Adds what is said of a queue that frames of two filters may come to, and why each may.
@@ -235,7 +258,8 @@ fn put_queue<A: Allocator + Copy>(
         u64::from(port),
         u64::from(class),
     ];
-    said.fill(QUEUE_SHARED, &numbers, &[]);
+    let guard = guard_of(plan.filters(), other);
+    said.fill(QUEUE_SHARED, &numbers, &[guard]);
     put_way(said, plan, number, filter, port);
     if let Some(found) = filter_at(plan.filters(), other) {
         put_way(said, plan, other, &found, port);

@@ -250,13 +250,14 @@ fn said_of_capture(
     explain_run(rt.alloc(), path, &front, fault).ok()
 }
 
-/// What is told of an accepted plan, and of a folder of captures.
+/// What is told of an accepted plan, and of a folder of captures. `idle` is the line of a change of schedules that changes nothing.
 pub(crate) fn warned_of<H: AllocGlobal + Files>(
     rt: &H,
     accepted: &Accepted<Global>,
     folder: &str,
+    idle: Option<usize>,
 ) -> Option<String> {
-    let warned = warn_of_plan(rt.alloc(), accepted).ok()?;
+    let warned = warn_of_plan(rt.alloc(), accepted, idle).ok()?;
     let mut said = Text::new(rt.alloc());
     said.put(warned.as_str());
     for port in 1..=16u8 {
