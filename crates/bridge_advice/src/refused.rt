@@ -4,7 +4,7 @@ ghost use Rattle.bridge_advice.specs.Others as spec;
 ghost use Rattle.bridge_text.specs.Named.{BeginsWith};
 
 use crate::saying::Said;
-use crate::ways::put_way;
+use crate::ways::{put_other_way, put_way};
 use crate::windows::{longest_at, put_open, run_of};
 use bridge_check::{CheckFault, faults_of};
 use bridge_config::{Plan, PortPlan};
@@ -12,7 +12,7 @@ use bridge_cycle::{Egress, Run, is_open};
 use bridge_filter::FilterPlan;
 use bridge_frame::occupation;
 use bridge_limits::{LONGEST_FRAME, NoMemory};
-use bridge_places::{Position, put_position, table_position};
+use bridge_places::{Position, key_position, put_position, table_position};
 use bridge_text::{Text, behind};
 use std::alloc::{Allocator, Global};
 
@@ -38,6 +38,12 @@ const PART_THEM: &str =
     "Give one of them another class, by `ipv` in its gate, by its `priority`, or by the `classes` of the port. Or give one of them another route.\n";
 
 const WINDOW_SHARED: &str = "Port {1} opens several classes together from offset {3} ns: ";
+
+const NEXT_SHARED: &str =
+    "`next_gates` of port {1} opens several classes together from offset {3} ns: ";
+
+const NEXT_SHARED_AT: &str =
+    "`next_gates` of port {1}, in line {4}, opens several classes together from offset {3} ns: ";
 
 const NO_WINDOW: &str =
     "Port {1} has no gate control list, so other classes can delay filter {0} (class {2}).\n";
@@ -110,13 +116,14 @@ fn put_finding<A: Allocator + Copy>(
     let number = fault.filter().unwrap_or(0);
     put_position(said, position_of(text, plan.filters(), number));
     if let Some(filter) = filter_at(plan.filters(), number) {
-        put_check(said, plan, number, &filter, fault);
+        put_check(said, text, plan, number, &filter, fault);
     }
 }
 
 /// Adds what is said of a test that a filter fails.
 fn put_check<A: Allocator + Copy>(
     said: &mut Said,
+    text: &[u8],
     plan: &Plan<A>,
     number: u32,
     filter: &FilterPlan,
@@ -147,7 +154,15 @@ fn put_check<A: Allocator + Copy>(
             class,
             at,
             ..
-        } => put_window(said, plan, number, filter, port, class, at),
+        } => {
+            let window = Window {
+                filter: number,
+                port,
+                class,
+                at,
+            };
+            put_window(said, text, plan, filter, window);
+        }
         CheckFault::MaxSduNeverFits { port, class, .. } => {
             put_length(said, plan, number, filter, port, class);
         }
@@ -293,60 +308,136 @@ fn state_at(entries: &[(u8, u64)], class: u8, at: u64) -> Option<u8>
     None
 }
 
-/// The state with which a port opens a class beside another one from a phase on, of its old list before the new one.
-fn shared_state<A: Allocator + Copy>(port: &PortPlan<A>, class: u8, at: u64) -> Option<u8>
+/// The state with which a port opens a class beside another one from a phase on, of its old list before the new one; and whether it
+/// is of the new one.
+fn shared_state<A: Allocator + Copy>(port: &PortPlan<A>, class: u8, at: u64) -> Option<(u8, bool)>
     requires { class < 8 }
 {
     match &port.list {
         None => None,
-        Some(Egress::Cyclic(list)) => state_at(list.entries(), class, at),
+        Some(Egress::Cyclic(list)) => Some((state_at(list.entries(), class, at)?, false)),
         Some(Egress::Joined(joined)) => {
             let (old, new) = joined.lists();
-            state_at(old.entries(), class, at).or(state_at(new.entries(), class, at))
+            match state_at(old.entries(), class, at) {
+                Some(state) => Some((state, false)),
+                None => Some((state_at(new.entries(), class, at)?, true)),
+            }
         }
     }
 }
 
-/// The state with which a port of a plan opens a class beside another one from a phase on.
-fn state_of<A: Allocator + Copy>(plan: &Plan<A>, port: u8, class: u8, at: u64) -> Option<u8> {
+/// The state with which a port of a plan opens a class beside another one from a phase on, and whether it is of the new list.
+fn state_of<A: Allocator + Copy>(
+    plan: &Plan<A>,
+    port: u8,
+    class: u8,
+    at: u64,
+) -> Option<(u8, bool)> {
     match plan.port(port) {
         Some(there) if class < 8 => shared_state(there, class, at),
         _ => None,
     }
 }
 
-/// Adds what is said of a class that is open beside another one.
-fn put_window<A: Allocator + Copy>(
+/// The line of a key of the port of a number in the text of its plan.
+fn line_of<A: Allocator + Copy>(
+    text: &[u8],
+    ports: &[PortPlan<A>],
+    number: u8,
+    key: &str,
+) -> Option<usize> {
+    let mut index = 0u32;
+    for port in ports {
+        index = index.saturating_add(1);
+        if port.number == number {
+            let text = str::from_utf8(text).ok()?;
+            let header = table_position(text, "port", index, ports.len())?;
+            return Some(key_position(text, "port", header.line, key)?.line);
+        }
+    }
+    None
+}
+
+/// Adds that a port opens a class beside other ones from a phase on, in its new list or in the one that it has first.
+fn put_shared_window<A: Allocator + Copy>(
     said: &mut Said,
+    text: &[u8],
     plan: &Plan<A>,
-    number: u32,
-    filter: &FilterPlan,
+    window: Window,
+    is_next: bool,
+) {
+    let Window {
+        filter,
+        port,
+        class,
+        at,
+    } = window;
+    let line = line_of(text, plan.ports(), port, "next_gates");
+    let template = match line {
+        _ if !is_next => WINDOW_SHARED,
+        Some(_) => NEXT_SHARED_AT,
+        None => NEXT_SHARED,
+    };
+    let numbers = [
+        u64::from(filter),
+        u64::from(port),
+        u64::from(class),
+        at,
+        line.unwrap_or(0) as u64,
+    ];
+    said.fill(template, &numbers, &[]);
+}
+
+/// A class of a port that a filter needs to be open by itself, and the phase from which on it isn't.
+#[derive(Clone, Copy)]
+struct Window {
+    filter: u32,
     port: u8,
     class: u8,
     at: u64,
+}
+
+/// Adds what is said of a class that is open beside another one.
+fn put_window<A: Allocator + Copy>(
+    said: &mut Said,
+    text: &[u8],
+    plan: &Plan<A>,
+    filter: &FilterPlan,
+    window: Window,
 ) {
+    let Window {
+        filter: number,
+        port,
+        class,
+        at,
+    } = window;
     let numbers = [u64::from(number), u64::from(port), u64::from(class), at];
-    match state_of(plan, port, class, at) {
-        Some(state) => {
-            said.fill(WINDOW_SHARED, &numbers, &[]);
+    let state = state_of(plan, port, class, at);
+    match state {
+        Some((state, is_next)) => {
+            put_shared_window(said, text, plan, window, is_next);
             put_states(said, state);
             said.put(".\n");
-            put_way(said, plan, number, filter, port);
-            said.fill(
-                "Filter {0} needs class {2} to be open by itself. Move the other classes into another entry.\n",
-                &numbers,
-                &[],
-            );
         }
-        None => {
-            said.fill(NO_WINDOW, &numbers, &[]);
-            put_way(said, plan, number, filter, port);
-            said.fill(
-                "Give port {1} `cycle` and `gates`, with an entry that opens only class {2}.\n",
-                &numbers,
-                &[],
-            );
-        }
+        None => said.fill(NO_WINDOW, &numbers, &[]),
+    }
+    put_way(said, plan, number, filter, port);
+    let is_other = put_other_way(said, plan, filter, port);
+    said.fill(remedy_of(state.is_some(), is_other), &numbers, &[]);
+}
+
+/// How the class `{2}` of port `{1}` gets windows of its own for filter `{0}`: in the list that the port has, or in a new one. It may
+/// be the second of two remedies.
+fn remedy_of(has_list: bool, is_second: bool) -> &'static str {
+    match (has_list, is_second) {
+        (true, false) =>
+            "Filter {0} needs class {2} to be open by itself. Move the other classes into another entry.\n",
+        (true, true) =>
+            "If port {1} has to send these frames, move the other classes into another entry: filter {0} needs class {2} to be open by itself.\n",
+        (false, false) =>
+            "Give port {1} `cycle` and `gates`, with an entry that opens only class {2}.\n",
+        (false, true) =>
+            "If port {1} has to send these frames, give it `cycle` and `gates`, with an entry that opens only class {2}.\n",
     }
 }
 
