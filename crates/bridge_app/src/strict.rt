@@ -9,6 +9,7 @@ ghost use Rattle.bridge_app.specs.Files.{EndsTabled, EndsTold};
 
 use crate::explaining::{kept_path, kept_paths, refusal_of_run, said_of_plan, warned_of};
 use crate::job::send_told;
+use crate::late::Last;
 use crate::noting::Refusal;
 use bridge_advice::{idle_change, warn_of_plan, warnings_of};
 use bridge_check::Accepted;
@@ -293,27 +294,31 @@ fn send_by<H: AllocGlobal + Files>(
         );
     }
     let folder = kept_path(rt.alloc(), input.as_str(), wishes.is_explained);
+    let mut last = None;
     match send_told(
-        rt, accepted, orders, input, output, taken, tables, sketch, cause,
+        rt, accepted, orders, input, output, taken, tables, sketch, cause, &mut last,
     ) {
         Ok(line) => Ok(Strict {
             line: Some(line),
-            told: told_behind(rt, accepted, &folder, wishes.idle),
+            told: told_behind(rt, accepted, orders, &folder, wishes.idle, last),
             is_warned: false,
         }),
         Err(fault) => Err(fault),
     }
 }
 
-/// What is told of an accepted plan behind its run, and of the folder that was read, where there is its path.
+/// What is told of an accepted plan behind its run, of the folder that was read, and of what came after the last frame, where there
+/// is the path of the folder.
 fn told_behind(
     rt: &(impl AllocGlobal + Files),
     accepted: &Accepted<Global>,
+    orders: &[Command],
     folder: &Option<String>,
     idle: Option<usize>,
+    last: Option<Last>,
 ) -> String {
     let told = match folder {
-        Some(folder) => warned_of(rt, accepted, folder.as_str(), idle),
+        Some(folder) => warned_of(rt, accepted, orders, folder.as_str(), idle, last),
         None => None,
     };
     match told {
@@ -355,7 +360,7 @@ fn send_strictly<H: AllocGlobal + Files>(
         });
     }
     match send_told(
-        rt, accepted, orders, input, output, taken, tables, sketch, cause,
+        rt, accepted, orders, input, output, taken, tables, sketch, cause, &mut None,
     ) {
         Ok(line) => Ok(Strict {
             line: Some(line),
