@@ -1,5 +1,5 @@
 -- Filters beside others.
-use Rattle.std.specs.Prelude.{ℕ, Bool, true, false, not, ◌&&◌, ◌||◌, List, [], ◌∷◌, Option, Some, None, is_none, is_some, nat_eq, nat_lt, if◌then◌else◌}
+use Rattle.std.specs.Prelude.{ℕ, Bool, true, false, not, ◌&&◌, ◌||◌, List, [], ◌∷◌, Option, Some, None, nat_eq, nat_lt, if◌then◌else◌}
 use Rattle.bridge_filter.specs.declared.FilterPlan.{FilterPlan}
 use Rattle.bridge_filter.specs.Verdicts.{takes_priority}
 
@@ -41,9 +41,14 @@ abbrev pub taker_at : FilterPlan → ℕ → ℕ → List (ℕ × FilterPlan) �
 taker_at filter n k [] = None
 taker_at filter n k (f ∷ fs) = if nat_lt f.0 n && takes_at k f.1 filter then Some f.0 else taker_at filter n k fs
 
+-- whether there is one
+abbrev pub is_number : Option ℕ → Bool
+is_number None = false
+is_number (Some n) = true
+
 -- whether a filter with a number below n takes each frame of priority k that a filter takes
 abbrev pub is_taken_at : FilterPlan → ℕ → ℕ → List (ℕ × FilterPlan) → Bool
-is_taken_at filter n k fs = is_some (taker_at filter n k fs)
+is_taken_at filter n k fs = is_number (taker_at filter n k fs)
 
 -- whether filters with numbers below n together take each frame that a filter takes, which asks for no priority
 abbrev pub are_all_taken : FilterPlan → ℕ → List (ℕ × FilterPlan) → Bool
@@ -62,7 +67,7 @@ is_used gate (f ∷ fs) = nat_eq f.1.gate gate || is_used gate fs
 
 -- whether filters have a gate, and none of them is protected
 abbrev pub is_decision : ℕ → List (ℕ × FilterPlan) → Bool
-is_decision gate fs = is_used gate fs && is_none (protected_with gate fs)
+is_decision gate fs = is_used gate fs && not (is_number (protected_with gate fs))
 
 -- whether a filter is protected
 abbrev pub has_protected : List (ℕ × FilterPlan) → Bool
