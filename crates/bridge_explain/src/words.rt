@@ -274,11 +274,19 @@ fn put_wrong(said: &mut Said, call: &Call, name: &str, fault: OptionFault) {
     }
 }
 
+/// A reason without what it says of any option, unless that is all of it.
+fn reason_alone(reason: &'static str) -> &'static str {
+    match reason.strip_prefix(ANY_OPTION) {
+        Some(rest) if !rest.is_empty() => rest,
+        _ => reason,
+    }
+}
+
 /// Adds why the words of a command are refused that has as many as it needs.
 fn put_reason(said: &mut Said, words: &[String], call: &Call) {
     match wrong_option(words, call) {
         Some((name, fault)) => put_wrong(said, call, name, fault),
-        None => said.put(call.reason.strip_prefix(ANY_OPTION).unwrap_or(call.reason)),
+        None => said.put(reason_alone(call.reason)),
     }
 }
 

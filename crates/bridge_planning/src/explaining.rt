@@ -170,6 +170,24 @@ fn is_fed<A: Allocator + Copy>(
     false
 }
 
+/// Whether the filter of a hop has a handle.
+fn is_of_stream<A: Allocator + Copy>(
+    plans: &[Accepted<A>],
+    hops: &[StreamHop],
+    handle: Option<u32>,
+) -> bool {
+    for hop in hops {
+        if let Some(bridge) = plans.get(hop.bridge as usize) {
+            if let Some(filter) = filter_of(bridge.plan(), hop.filter) {
+                if filter.handle == handle {
+                    return true;
+                }
+            }
+        }
+    }
+    false
+}
+
 /// Whether frames of a filter may leave by a port.
 fn leads_to<A: Allocator + Copy>(plan: &Plan<A>, filter: &FilterPlan, port: u8) -> bool {
     let reach = reach_of(plan, filter);
@@ -180,7 +198,7 @@ fn leads_to<A: Allocator + Copy>(plan: &Plan<A>, filter: &FilterPlan, port: u8) 
 }
 
 /// Whether the filter of the frame at the sender is likely a hop that was left out: it is protected and a hop of no stream, and it
-/// has the handle of a hop of the stream there, or the stream feeds it.
+/// has the handle of a hop of the stream, or the stream feeds it.
 fn is_left_out(refused: &RefusedNetwork<Global>, hops: &[StreamHop], end: End, open: Open) -> bool {
     let plans = refused.plans.as_slice();
     let (Some(number), Some(sender)) = (open.filter, plans.get(end.bridge as usize)) else {
@@ -192,11 +210,8 @@ fn is_left_out(refused: &RefusedNetwork<Global>, hops: &[StreamHop], end: End, o
     if !filter.protected || is_hop(refused.streams.as_slice(), end.bridge, number) {
         return false;
     }
-    let has_handle = match hop_filter_at(sender.plan(), hops, end.bridge) {
-        Some(own) => own.handle == filter.handle,
-        None => false,
-    };
-    has_handle || is_fed(plans, refused.links.as_slice(), hops, end.bridge, open.from)
+    is_of_stream(plans, hops, filter.handle)
+        || is_fed(plans, refused.links.as_slice(), hops, end.bridge, open.from)
 }
 
 /// Adds which hop was left out, and how what follows begins.
