@@ -5,6 +5,7 @@ ghost use Rattle.bridge_running.specs.Files.{PrintsRun};
 ghost use Rattle.bridge_app.specs.Files.{EndsDrawn, EndsTabled, EndsTold, IsOfShowing, IsOfTables};
 ghost use Rattle.bridge_app.specs.Losing.{TellsLost, lost_if};
 
+use crate::late::{Last, last_of};
 use crate::picturing::put_sketch;
 use crate::sparing::spare_files;
 use crate::tables::put_tables;
@@ -101,7 +102,7 @@ fn send_line<H: AllocGlobal + Files>(
         (option_map (λ s. string_bytes s.file) sketch)) }
 {
     match send_told(
-        rt, accepted, orders, input, output, taken, tables, sketch, false, &mut None,
+        rt, accepted, orders, input, output, taken, tables, sketch, false, &mut None, &mut None,
     ) {
         Ok(lines) => Ok(lines.line),
         Err(fault) => Err(fault),
@@ -110,7 +111,7 @@ fn send_line<H: AllocGlobal + Files>(
 
 /// What is printed for a run under an accepted plan from one folder into another, with the tables and the picture that are
 /// asked for, and the lines of lost frames if a loss is a fault. No output is one of the files that are taken. The cause of a
-/// file that fails is noted.
+/// file that fails is noted, and when the last frame came and had left.
 #[tactic(auto, using(crate::proofs::Ended::memory_ends))]
 pub(crate) fn send_told<H: AllocGlobal + Files>(
     rt: &H,
@@ -123,6 +124,7 @@ pub(crate) fn send_told<H: AllocGlobal + Files>(
     sketch: Option<PictureRequest>,
     is_strict: bool,
     cause: &mut Option<Cause>,
+    last: &mut Option<Last>,
 ) -> Result<RunLines, Fault>
     requires commands { AreCommands accepted.now orders.now }
     ensures ok { IfOk result (λ lines. PrintsRun Global (string_bytes lines.line)) }
@@ -160,6 +162,7 @@ pub(crate) fn send_told<H: AllocGlobal + Files>(
         Ok(outcome) => outcome,
         Err(fault) => return Err(fault),
     };
+    *last = last_of(&outcome);
     let told = tell(
         rt, accepted, &outcome, tables, sketch, taken, is_strict, cause,
     );
