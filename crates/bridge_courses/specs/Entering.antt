@@ -1,5 +1,5 @@
 -- Where frames can come in that have the handle of a hop, and whether each hop hands all of its frames to the next one.
-use Rattle.std.specs.Prelude.{◌≡◌, ◌×◌, ℕ, Bool, true, false, not, ◌&&◌, List, [], ◌∷◌, Option, Some, None, nat_eq, map, slice_get, if◌then◌else◌}
+use Rattle.std.specs.Prelude.{◌≡◌, ℕ, Bool, true, false, not, ◌&&◌, List, [], ◌∷◌, Option, Some, None, nat_eq, map, slice_get, if◌then◌else◌}
 use Rattle.std.specs.List.{list_all}
 use Rattle.bridge_config.specs.declared.ports.PortPlan.{PortPlan}
 use Rattle.bridge_config.specs.Model.{Plan}
@@ -38,10 +38,16 @@ also_enters_by links is_first b p (Some handle) on = also_enters links is_first 
 abbrev pub may_come_in : {A : Type 0} → List Link → Bool → StreamHop → Plan A → PortPlan A → Bool
 may_come_in links is_first h p on = also_enters_by links is_first h.bridge p (handle_of p.filters h.filter) on
 
+-- True if `may_come_in` holds at none of the ports.
+abbrev pub comes_in_at : {A : Type 0} → List Link → Bool → StreamHop → Plan A → List (PortPlan A) → Bool
+comes_in_at links is_first h p [] = true
+comes_in_at links is_first h p (on ∷ more) =
+    if may_come_in links is_first h p on then false else comes_in_at links is_first h p more
+
 -- True if `may_come_in` holds at no port of the hop's bridge; true without a plan.
 abbrev pub comes_in_once : {A : Type 0} → List Link → Bool → StreamHop → Option (Plan A) → Bool
 comes_in_once links is_first h None = true
-comes_in_once links is_first h (Some p) = list_all (λ (on : PortPlan _). not (may_come_in links is_first h p on)) p.ports
+comes_in_once links is_first h (Some p) = comes_in_at links is_first h p p.ports
 
 -- True if `comes_in_once` holds of each hop in the list; `is_first` belongs to the head of the list.
 abbrev pub come_in_once : {A : Type 0} → List (Plan A) → List Link → Bool → List StreamHop → Bool

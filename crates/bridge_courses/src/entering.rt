@@ -96,6 +96,23 @@ fn plan_at<'a, A: Allocator + Copy>(plans: &'a [Accepted<A>], bridge: u16) -> Op
     }
 }
 
+/// Whether only frames of the stream get the handle of a hop, whose bridge has this plan.
+fn comes_in_at<A: Allocator + Copy>(
+    links: &[Link],
+    is_first: bool,
+    hop: StreamHop,
+    plan: &Plan<A>,
+) -> bool
+    ensures { result ≡ spec.comes_in_at links.now is_first hop plan.now plan.now.ports }
+{
+    for on in plan.ports() {
+        if may_come_in(links, is_first, hop, plan, on) {
+            return false;
+        }
+    }
+    true
+}
+
 /// Whether only frames of the stream get the handle of a hop.
 fn comes_in_once<A: Allocator + Copy>(
     plans: &[Accepted<A>],
@@ -107,12 +124,7 @@ fn comes_in_once<A: Allocator + Copy>(
 {
     match plan_at(plans, hop.bridge) {
         None => true,
-        Some(plan) => {
-            let ports = plan.ports();
-            ports
-                .iter()
-                .all(|on| !may_come_in(links, is_first, hop, plan, on))
-        }
+        Some(plan) => comes_in_at(links, is_first, hop, plan),
     }
 }
 

@@ -1,5 +1,5 @@
 //! The warnings of an accepted network: frames that may go round, filters in no stream, and what its streams lack.
-ghost use Rattle.std.specs.Prelude.{◌≡◌, ◌<◌, ◌≤◌, ◌+◌, ◌++◌, All, IfOk, OnOk, flat_map, is_some, length, map, nat_eq, option_map, slice_get, string_bytes};
+ghost use Rattle.std.specs.Prelude.{◌≡◌, ◌<◌, ◌≤◌, ◌++◌, All, IfOk, OnOk, Some, length, string_bytes, true};
 ghost use Rattle.bridge_planning.specs.Streams.{AreBoundsOf, hop_in};
 ghost use Rattle.bridge_planning.specs.Warnings as spec;
 ghost use Rattle.bridge_planning.specs.Warnings.{AreWarnings, entering_line, nowhere_line};

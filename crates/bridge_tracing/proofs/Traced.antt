@@ -175,6 +175,16 @@ first_kept {A} hops all h mine made place q s sent roots is_h is_mine traced are
     let apart : 0 ≢ place = eqb-false 0 place e in
     are first known k o is_first (sym (set_there all place 0 made apart) ∙ is_known) came)
 
+below : (m n : ℕ) → m ≤ n → (m < n) ⊎ (m ≡ n)
+below m n l = by_bool (nat_eq m n) (λ e. inr (eqb-true m n e)) (λ e. inl (let no = eqb-false m n e in omega (arith, l, no)))
+
+-- a list that covers another one, and isn't longer, is as long
+as_long : (old new : List (Option Root)) (origins : List Origin) → length old ≡ length origins → length new ≤ length old → ((k : ℕ) → k < length old → k < length origins → k < length new) → length new ≡ length old
+as_long old new origins same within covers = elim (below (length new) (length old) within) [
+  | inl less ↦ let all = covers (length new) less (subst (λ (n : ℕ). length new < n) same less) in absurd (omega (arith, all))
+  | inr equal ↦ equal
+]
+
 -- a hop whose frames are traced has a place for each
 each_kept : {A : Type 0} (hops : List (HopRun A)) (all : List (Vec (Option Root) A)) (h : HopRun A) (mine made : Vec (Option Root) A) (place q : ℕ) (s : Sender) (sent : List Departure) (roots : List (Option Root))
     → slice_get hops place ≡ Some h → slice_get all place ≡ Some mine → AreTraced s sent roots q h.view.now.origins.items mine.items made.items → HaveEach hops all → HaveEach hops (slice_set all place made)
@@ -189,16 +199,6 @@ each_kept {A} hops all h mine made place q s sent roots is_h is_mine traced each
     let long : length made.items ≡ length mine.items = as_long mine.items made.items h.view.now.origins.items was within traced.covers in
     ap (λ (v : Vec (Option Root) A). length v.items) is_made ∙ (long ∙ (was ∙ ap (λ (z : HopRun A). length z.view.now.origins.items) (sym own))))
     (λ e. each i x known is_x (sym (set_there all place i made (λ same. eqb-false i place e same)) ∙ is_known))
-  where
-    -- a list that covers another one, and isn't longer, is as long
-    as_long : (old new : List (Option Root)) (origins : List Origin) → length old ≡ length origins → length new ≤ length old → ((k : ℕ) → k < length old → k < length origins → k < length new) → length new ≡ length old
-    as_long old new origins same within covers = elim (below (length new) (length old) within) [
-      | inl less ↦ let all = covers (length new) less (subst (λ (n : ℕ). length new < n) same less) in absurd (omega (arith, all))
-      | inr equal ↦ equal
-    ]
-
-    below : (m n : ℕ) → m ≤ n → (m < n) ⊎ (m ≡ n)
-    below m n l = by_bool (nat_eq m n) (λ e. inr (eqb-true m n e)) (λ e. inl (let no = eqb-false m n e in omega (arith, l, no)))
 
 pub sound_kept : {A : Type 0} (links : List Link) (hops : List (HopRun A)) (all : List (Vec (Option Root) A)) (h g : HopRun A) (mine others made : Vec (Option Root) A) (place other q : ℕ) (s : Sender)
     → slice_get hops place ≡ Some h → slice_get hops other ≡ Some g → slice_get all place ≡ Some mine → slice_get all other ≡ Some others

@@ -6,7 +6,7 @@ pub returns : goal.returns
 returns g c = record {
   bounds = c.args.bounds.now;
   are_bounds = c.requires.bounds;
-  told = string_bytes c.in-Ok.text;
-  are_told = c.in-Ok.ensures;
-  text_is = c.in-Ok-push_warnings.ensures;
+  told = string_bytes c.in_ok-text.text;
+  are_told = c.in_ok-text.ensures;
+  text_is = c.in_ok-push_warnings.ensures;
 }

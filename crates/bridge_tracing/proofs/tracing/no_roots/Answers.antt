@@ -23,6 +23,6 @@ loop-origin-preserved g c =
 pub returns : goal.returns
 returns g c =
     let many = c.loop-origin.invariant.many in
-    let most = c.loop-origin.auto.origin-index in
+    let most = c.loop-origin.auto.origin-index-end in
     let least = c.loop-origin-test.false in
     record { many = omega (arith, many, most, least); unknown = c.loop-origin.invariant.are }

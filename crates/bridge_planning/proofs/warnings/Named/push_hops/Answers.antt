@@ -14,8 +14,8 @@ pub loop-k-preserved : goal.loop-k-preserved
 loop-k-preserved g c =
     let text = λ (k : ℕ) (h : Option StreamHop). place_text c.args.self.now.file.now c.args.self.now.network.now c.args.bounds.now c.args.i c.args.periodic k h in
     let hops = c.args.hops.now in
-    let hop = c.index-hops-k.result in
-    let there : slice_get hops c.loop-k.k ≡ Some hop = slice_get-get_or hops c.loop-k.k hop c.loop-k-test.true ∙ ap Some (sym c.index-hops-k.is) in
+    let none : StreamHop = record { bridge = 0; filter = 0 } in
+    let there : slice_get hops c.loop-k.k ≡ Some (get_or hops c.loop-k.k none) = slice_get-get_or hops c.loop-k.k none c.loop-k-test.true in
     next_below (λ (k : ℕ). text k (slice_get hops k)) c.loop-k.k (string_bytes c.args.text.now) (string_bytes c.loop-k.text) _ c.loop-k.invariant
     (subst (λ (h : Option StreamHop). string_bytes c.push_hop.new.text ≡ string_bytes c.loop-k.text ++ text c.loop-k.k h) (sym there) c.in-Ok.ensures)
 
