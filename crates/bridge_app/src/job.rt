@@ -4,6 +4,7 @@ ghost use Rattle.bridge_config.specs.Commands.{AreCommands};
 ghost use Rattle.bridge_running.specs.Files.{PrintsRun};
 ghost use Rattle.bridge_app.specs.Files.{EndsDrawn, EndsTabled, EndsTold, IsOfShowing, IsOfTables};
 
+use crate::late::{Last, last_of};
 use crate::picturing::put_sketch;
 use crate::sparing::spare_files;
 use crate::tables::put_tables;
@@ -66,14 +67,15 @@ pub fn run_with_tables<H: AllocGlobal + Files>(
         Err(fault) => return Err(fault),
     };
     let told = send_told(
-        rt, &accepted, &orders, input, output, taken, tables, sketch, &mut None,
+        rt, &accepted, &orders, input, output, taken, tables, sketch, &mut None, &mut None,
     );
     drop(accepted);
     told
 }
 
 /// What is printed for a run under an accepted plan from one folder into another, with the tables and the picture that are
-/// asked for. No output is one of the files that are taken. The cause of a file that fails is noted.
+/// asked for. No output is one of the files that are taken. The cause of a file that fails is noted, and when the last frame came and
+/// had left.
 #[tactic(auto, using(crate::proofs::Ended::memory_ends))]
 pub(crate) fn send_told<H: AllocGlobal + Files>(
     rt: &H,
@@ -85,6 +87,7 @@ pub(crate) fn send_told<H: AllocGlobal + Files>(
     tables: TableRequest,
     sketch: Option<PictureRequest>,
     cause: &mut Option<Cause>,
+    last: &mut Option<Last>,
 ) -> Result<String, Fault>
     requires commands { AreCommands accepted.now orders.now }
     ensures ok { IfOk result (λ line. PrintsRun Global (string_bytes line)) }
@@ -120,6 +123,7 @@ pub(crate) fn send_told<H: AllocGlobal + Files>(
         Ok(outcome) => outcome,
         Err(fault) => return Err(fault),
     };
+    *last = last_of(&outcome);
     let told = tell(rt, accepted, &outcome, tables, sketch, taken, cause);
     drop(outcome);
     told

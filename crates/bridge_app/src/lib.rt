@@ -3,6 +3,7 @@
 
 mod explaining;
 mod job;
+mod late;
 mod noting;
 mod picturing;
 mod sparing;

@@ -9,8 +9,9 @@ ghost use Rattle.bridge_app.specs.Files.{EndsTabled, EndsTold};
 
 use crate::explaining::{kept_path, kept_paths, refusal_of_run, said_of_plan, warned_of};
 use crate::job::send_told;
+use crate::late::Last;
 use crate::noting::Refusal;
-use bridge_advice::{warn_of_plan, warnings_of};
+use bridge_advice::{idle_change, warn_of_plan, warnings_of};
 use bridge_check::Accepted;
 use bridge_check_app::plan_text;
 use bridge_cli::{PictureRequest, TableRequest};
@@ -34,18 +35,19 @@ pub struct Strict {
 }
 
 /// What is told of a plan that is accepted, and whether there is a warning: with an explanation all that is to be said
-/// of it, otherwise the warnings alone.
+/// of it, otherwise the warnings alone. `idle` is the line of a change of schedules that changes nothing.
 fn told_of(
     alloc: Global,
     accepted: &Accepted<Global>,
+    idle: Option<usize>,
     is_explained: bool,
 ) -> Result<(String, bool), NoMemory> {
-    let warnings = warnings_of(alloc, accepted)?;
+    let warnings = warnings_of(alloc, accepted, idle)?;
     let is_warned = !warnings.is_empty();
     if !is_explained {
         return Ok((warnings, is_warned));
     }
-    let told = warn_of_plan(alloc, accepted)?;
+    let told = warn_of_plan(alloc, accepted, idle)?;
     Ok((told, is_warned))
 }
 
@@ -53,13 +55,15 @@ fn told_of(
 fn checked_strictly(
     alloc: Global,
     accepted: &Accepted<Global>,
+    text: &[u8],
     is_explained: bool,
 ) -> Result<Strict, NoMemory>
     ensures { IfOk result (λ strict. IfSome strict.line (λ line.
         string_bytes line ≡ accepted_line accepted.now.filters)) }
 {
     let line = check_line(alloc, accepted)?;
-    let (told, is_warned) = told_of(alloc, accepted, is_explained)?;
+    let idle = idle_change(text, accepted.plan());
+    let (told, is_warned) = told_of(alloc, accepted, idle, is_explained)?;
     Ok(Strict {
         line: Some(line),
         told,
@@ -122,7 +126,7 @@ fn strict_check(alloc: Global, path: &str, text: &[u8], is_explained: bool) -> R
         Ok(accepted) => accepted,
         Err(fault) => return Err(fault),
     };
-    let checked = checked_strictly(alloc, &accepted, is_explained);
+    let checked = checked_strictly(alloc, &accepted, text, is_explained);
     drop(accepted);
     match checked {
         Ok(strict) => Ok(strict),
@@ -198,6 +202,7 @@ pub fn told_run_job<H: AllocGlobal + Files>(
     let wishes = Wishes {
         is_strict,
         is_explained,
+        idle: None,
     };
     match run_noted(
         rt, plan, input, output, commands, tables, sketch, wishes, &mut noted,
@@ -214,6 +219,8 @@ struct Wishes {
     is_strict: bool,
     /// Whether all is told that is to be said of the plan.
     is_explained: bool,
+    /// The line of a change of schedules of the plan that changes nothing, once the plan is read.
+    idle: Option<usize>,
 }
 
 /// What a run comes to, with what it noted of its files.
@@ -238,6 +245,10 @@ fn run_noted<H: AllocGlobal + Files>(
     let (accepted, orders) = match read_job(rt, plan, commands, &mut taken, noted) {
         Ok(read) => read,
         Err(fault) => return Err(fault),
+    };
+    let wishes = Wishes {
+        idle: idle_change(&noted.plan, accepted.plan()),
+        ..wishes
     };
     noted.plan = Vec::new(rt.alloc());
     noted.commands = Vec::new(rt.alloc());
@@ -278,41 +289,36 @@ fn send_by<H: AllocGlobal + Files>(
         (option_map (λ s. string_bytes s.file) sketch)) }
 {
     if wishes.is_strict {
-        let is_explained = wishes.is_explained;
         return send_strictly(
-            rt,
-            accepted,
-            orders,
-            input,
-            output,
-            taken,
-            tables,
-            sketch,
-            is_explained,
-            cause,
+            rt, accepted, orders, input, output, taken, tables, sketch, wishes, cause,
         );
     }
     let folder = kept_path(rt.alloc(), input.as_str(), wishes.is_explained);
+    let mut last = None;
     match send_told(
-        rt, accepted, orders, input, output, taken, tables, sketch, cause,
+        rt, accepted, orders, input, output, taken, tables, sketch, cause, &mut last,
     ) {
         Ok(line) => Ok(Strict {
             line: Some(line),
-            told: told_behind(rt, accepted, &folder),
+            told: told_behind(rt, accepted, orders, &folder, wishes.idle, last),
             is_warned: false,
         }),
         Err(fault) => Err(fault),
     }
 }
 
-/// What is told of an accepted plan behind its run, and of the folder that was read, where there is its path.
+/// What is told of an accepted plan behind its run, of the folder that was read, and of what came after the last frame, where there
+/// is the path of the folder.
 fn told_behind(
     rt: &(impl AllocGlobal + Files),
     accepted: &Accepted<Global>,
+    orders: &[Command],
     folder: &Option<String>,
+    idle: Option<usize>,
+    last: Option<Last>,
 ) -> String {
     let told = match folder {
-        Some(folder) => warned_of(rt, accepted, folder.as_str()),
+        Some(folder) => warned_of(rt, accepted, orders, folder.as_str(), idle, last),
         None => None,
     };
     match told {
@@ -332,7 +338,7 @@ fn send_strictly<H: AllocGlobal + Files>(
     taken: Vec<FileId>,
     tables: TableRequest,
     sketch: Option<PictureRequest>,
-    is_explained: bool,
+    wishes: Wishes,
     cause: &mut Option<Cause>,
 ) -> Result<Strict, Fault>
     requires commands { AreCommands accepted.now orders.now }
@@ -342,7 +348,8 @@ fn send_strictly<H: AllocGlobal + Files>(
         (option_map string_bytes tables.delays) (option_map string_bytes tables.frames)
         (option_map (λ s. string_bytes s.file) sketch)) }
 {
-    let Ok((told, is_warned)) = told_of(rt.alloc(), accepted, is_explained) else {
+    let Ok((told, is_warned)) = told_of(rt.alloc(), accepted, wishes.idle, wishes.is_explained)
+    else {
         return Err(Fault::Run(RunFault::NoMemory));
     };
     if is_warned {
@@ -353,7 +360,7 @@ fn send_strictly<H: AllocGlobal + Files>(
         });
     }
     match send_told(
-        rt, accepted, orders, input, output, taken, tables, sketch, cause,
+        rt, accepted, orders, input, output, taken, tables, sketch, cause, &mut None,
     ) {
         Ok(line) => Ok(Strict {
             line: Some(line),
