@@ -47,7 +47,7 @@ pub(crate) fn find_useless<A: Allocator + Copy>(
     found: &mut Vec<Advice>,
     plan: &Plan<A>,
 ) -> Result<(), AllocError> {
-    find_streams(found, plan.streams(), plan.statics())?;
+    find_streams(found, plan)?;
     find_gates(found, plan.gates(), plan.filters())?;
     find_meters(found, plan.meters())?;
     find_filters(found, plan)
@@ -69,16 +69,39 @@ fn is_own(stream: &StreamEntry, statics: &[StaticEntry]) -> bool {
     }
 }
 
-/// Adds each stream whose own port is among those to which its frames go.
-fn find_streams(
+/// Whether the gate of a number is closed at all moments.
+fn is_closed_at<A: Allocator + Copy>(gates: &[(u32, GatePlan<A>)], number: u32) -> bool {
+    for gate in gates {
+        if gate.0 == number {
+            return is_closed(&gate.1);
+        }
+    }
+    false
+}
+
+/// Whether filters ask for a handle, all of them unprotected and behind closed gates: then its streams are strays, which go nowhere.
+fn are_strays<A: Allocator + Copy>(plan: &Plan<A>, handle: u32) -> bool {
+    let mut is_asked = false;
+    for filter in plan.filters() {
+        if filter.1.handle == Some(handle) {
+            if filter.1.protected || !is_closed_at(plan.gates(), filter.1.gate) {
+                return false;
+            }
+            is_asked = true;
+        }
+    }
+    is_asked
+}
+
+/// Adds each stream whose own port is among those to which its frames go, unless it is one of strays.
+fn find_streams<A: Allocator + Copy>(
     found: &mut Vec<Advice>,
-    streams: &[StreamEntry],
-    statics: &[StaticEntry],
+    plan: &Plan<A>,
 ) -> Result<(), AllocError> {
     let mut place = 0usize;
-    for stream in streams {
+    for stream in plan.streams() {
         place = place.saturating_add(1);
-        if is_own(stream, statics) {
+        if is_own(stream, plan.statics()) && !are_strays(plan, stream.handle) {
             let StreamEntry { handle, port, .. } = *stream;
             let own = OwnPort {
                 place,

@@ -3,7 +3,7 @@ ghost use Rattle.std.specs.Prelude.{IfOk, codes, string_bytes};
 ghost use Rattle.bridge_text.specs.Named.{BeginsWith};
 
 use crate::nearest::nearest_name;
-use crate::text::{Said, fill_one};
+use crate::text::{Said, fill_one, fill_two};
 use crate::value::put_text;
 use bridge_cli::OPTIONS;
 use bridge_limits::NoMemory;
@@ -268,7 +268,7 @@ fn put_wrong(said: &mut Said, call: &Call, name: &str, fault: OptionFault) {
         OptionFault::NoValue => "The option {a} lacks its value. Write the value after it.\n",
         OptionFault::Value => "The option {a} has no value. Remove `=` and the value.\n",
     };
-    said.fill(template, &[], &[name, call.name]);
+    fill_two(said, template, &[], name, call.name);
     if matches!(fault, OptionFault::Other) {
         put_options(said, call);
     }
