@@ -118,7 +118,8 @@ fn open_capture(
             add_periodic(numbers, net, route, &mut frames)?;
         }
     }
-    let is_loud = net.twist == Twist::FurtherPort || !numbers.is_one_in(4);
+    let has_further = net.twist == Twist::FurtherPort || net.twist == Twist::FurtherTalker;
+    let is_loud = has_further || !numbers.is_one_in(4);
     if is_loud {
         add_hostile(numbers, net, bridge, port, &mut frames)?;
     }

@@ -21,6 +21,12 @@ impl Stop<'_> {
         self.index == 1 && self.route.place == 0 && self.twist == twist
     }
 
+    /// Whether a further port has an entry with the stream's handle.
+    fn has_further(&self) -> bool {
+        self.is_twisted(Twist::FurtherPort)
+            || (self.index == 0 && self.route.place == 0 && self.twist == Twist::FurtherTalker)
+    }
+
     /// Whether the stream has no egress port here.
     fn is_nowhere(&self) -> bool {
         self.is_last && self.route.place == 0 && self.twist == Twist::Nowhere
@@ -172,7 +178,7 @@ fn put_way(text: &mut Text<Global>, stop: &Stop) {
         &[],
     );
     put_egress(text, one, other);
-    if stop.is_twisted(Twist::FurtherPort) {
+    if stop.has_further() {
         text.put("3, ");
     }
     text.fill(
@@ -201,32 +207,56 @@ fn address_word(route: &Route) -> &'static str {
     if route.place == 0 { "A" } else { "B" }
 }
 
-/// Adds a `stream` entry.
-fn put_entry_of(text: &mut Text<Global>, route: &Route, port: u64, vid: u64, tag: &str) {
+/// Adds a `stream` entry of a handle that compares the destination of a stream.
+fn put_entry_of(
+    text: &mut Text<Global>,
+    handle: u64,
+    route: &Route,
+    port: u64,
+    vid: u64,
+    tag: &str,
+) {
     text.fill(
         "[[stream]]\nhandle = {0}\nport = {1}\nkind = \"null\"\naddress = \"02-00-00-00-00-0{a}\"\nvid = {2}\ntag = \"{b}\"\n",
-        &[route.place.saturating_add(1), port, vid],
+        &[handle, port, vid],
         &[address_word(route), tag],
     );
 }
 
+/// The tag that the entry of a hop compares.
+fn tag_word(numbers: &mut Numbers, stop: &Stop) -> &'static str {
+    if !stop.is_twisted(Twist::OtherTag) {
+        "tagged"
+    } else if numbers.is_one_in(2) {
+        "priority"
+    } else {
+        "all"
+    }
+}
+
 /// Adds the `stream` entries of a hop.
 fn put_entries(text: &mut Text<Global>, numbers: &mut Numbers, stop: &Stop) {
-    let vid = stop.route.place.saturating_add(10);
-    let tag = if stop.is_twisted(Twist::OtherTag) {
-        if numbers.is_one_in(2) {
-            "priority"
-        } else {
-            "all"
-        }
+    let route = stop.route;
+    let handle = route.place.saturating_add(1);
+    let vid = route.place.saturating_add(10);
+    let ingress = stop.hop.ingress;
+    let tag = tag_word(numbers, stop);
+    if stop.is_twisted(Twist::EarlierEntry) {
+        put_entry_of(text, 77, route, ingress, vid, "all");
+    }
+    let own = if stop.is_twisted(Twist::OtherVlan) {
+        20
     } else {
-        "tagged"
+        vid
     };
-    let is_other = stop.is_twisted(Twist::OtherVlan);
-    let own = if is_other { 20 } else { vid };
-    put_entry_of(text, stop.route, stop.hop.ingress, own, tag);
-    if stop.is_twisted(Twist::FurtherPort) {
-        put_entry_of(text, stop.route, 3, vid, "tagged");
+    put_entry_of(text, handle, route, ingress, own, tag);
+    if stop.has_further() {
+        put_entry_of(text, handle, route, 3, vid, "tagged");
+    }
+    if stop.is_twisted(Twist::LowerFilter) {
+        text.put(
+            "[[gate]]\nnumber = 5\nstate = \"open\"\nipv = 0\n[[filter]]\nnumber = 5\npriority = 3\ngate = 5\n",
+        );
     }
 }
 

@@ -175,11 +175,14 @@ fn lost_in(view: &View<Global>) -> u64 {
     lost
 }
 
-/// The number of arrivals at the first hop that break the talker's promise.
-fn strays_in(net: &Net, route: &Route, view: &View<Global>) -> u64 {
+/// The number of arrivals at the talker's port that break the talker's promise.
+fn strays_in(net: &Net, route: &Route, ingress: u64, view: &View<Global>) -> u64 {
     let mut strays = 0u64;
     let mut earlier = None;
     for origin in &view.origins {
+        if u64::from(origin.port) != ingress {
+            continue;
+        }
         let period = net.period.max(1);
         let phase = origin.at % period;
         let index = Some(origin.at / period);
@@ -199,16 +202,15 @@ pub fn judge(net: &Net, route: &Route, settled: &[Settled<Global>], line: Line) 
         line,
     };
     let mut seen = Seen::default();
-    let first = match route.hops.first() {
-        Some(first) => run.view(first.bridge),
-        None => None,
+    let Some(hop) = route.hops.first() else {
+        return seen;
     };
-    let Some(first) = first else {
+    let Some(first) = run.view(hop.bridge) else {
         add_if(&mut seen.stray, true);
         return seen;
     };
     seen.frames = first.origins.len() as u64;
-    seen.stray = strays_in(net, route, first);
+    seen.stray = strays_in(net, route, hop.ingress, first);
     let frames = seen.frames;
     let mut index = 0usize;
     for hop in &route.hops {

@@ -33,6 +33,12 @@ pub enum Twist {
     SmallerSdu,
     /// At the second hop, a further port has an entry with the stream's handle.
     FurtherPort,
+    /// At the first hop, a further port has an entry with the stream's handle.
+    FurtherTalker,
+    /// At the second hop, an earlier entry gives frames of the stream another handle.
+    EarlierEntry,
+    /// At the second hop, a filter with a lower number takes the frames of one priority.
+    LowerFilter,
     /// The last hop has no egress port.
     Nowhere,
     /// The file lacks the last hop.
@@ -128,6 +134,14 @@ fn next_hops(numbers: &mut Numbers, form: Form) -> [Hop; 3] {
         Form::Ring => match choice {
             0 => [hop(2, 4, 2), hop(0, 1, 4), none],
             1 => [hop(1, 4, 2), hop(2, 1, 2), hop(0, 1, 4)],
+            2 => {
+                let split = Hop {
+                    bridge: 0,
+                    ingress: 4,
+                    egress: [1, 2],
+                };
+                [split, hop(1, 1, 4), hop(2, 2, 4)]
+            }
             _ => [hop(0, 4, 2), hop(1, 1, 2), hop(2, 1, 4)],
         },
     }
@@ -189,14 +203,17 @@ fn next_cables(
 
 /// The next twist, mostly none.
 fn next_twist(numbers: &mut Numbers) -> Twist {
-    match numbers.below(20) {
+    match numbers.below(24) {
         0 => Twist::OtherTag,
         1 => Twist::OtherVlan,
         2 | 3 => Twist::SmallerSdu,
-        4 | 5 => Twist::FurtherPort,
+        4 => Twist::FurtherPort,
+        5 => Twist::FurtherTalker,
         6 => Twist::Nowhere,
         7 => Twist::Shortened,
         8 | 9 | 10 => Twist::Gated,
+        11 => Twist::EarlierEntry,
+        12 => Twist::LowerFilter,
         _ => Twist::None,
     }
 }

@@ -354,7 +354,7 @@ fn put_vlan(text: &mut Text<Global>, numbers: &mut Numbers, shape: &Shape) {
     text.put("]\n");
 }
 
-/// Adds an unprotected filter 50 of class 1 and the catch-all filter 99 of class 0.
+/// Adds the catch-all filter 99 of class 0, and sometimes unprotected filters: 50 of class 1, and 5 for one priority.
 fn put_others(text: &mut Text<Global>, numbers: &mut Numbers, shape: &Shape) {
     if numbers.is_one_in(3) {
         text.fill(
@@ -364,6 +364,11 @@ fn put_others(text: &mut Text<Global>, numbers: &mut Numbers, shape: &Shape) {
         );
         text.put(
             "[[gate]]\nnumber = 50\nstate = \"open\"\nipv = 1\n[[filter]]\nnumber = 50\nhandle = 50\ngate = 50\n",
+        );
+    }
+    if numbers.is_one_in(12) {
+        text.put(
+            "[[gate]]\nnumber = 5\nstate = \"open\"\nipv = 0\n[[filter]]\nnumber = 5\npriority = 3\ngate = 5\n",
         );
     }
     text.put(
