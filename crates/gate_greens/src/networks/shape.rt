@@ -94,7 +94,7 @@ enum Form {
 }
 
 /// A hop with one egress port.
-fn hop(bridge: u64, ingress: u64, egress: u64) -> Hop {
+fn hop_through(bridge: u64, ingress: u64, egress: u64) -> Hop {
     Hop {
         bridge,
         ingress,
@@ -104,45 +104,65 @@ fn hop(bridge: u64, ingress: u64, egress: u64) -> Hop {
 
 /// A route of one to three hops. Those of bridge 9 are none.
 fn next_hops(numbers: &mut Numbers, form: Form) -> [Hop; 3] {
-    let none = hop(9, 0, 0);
+    let none = hop_through(9, 0, 0);
     let choice = numbers.below(4);
     match form {
         Form::Pair => {
             if choice == 0 {
-                [hop(1, 4, 1), hop(0, 2, 4), none]
+                [hop_through(1, 4, 1), hop_through(0, 2, 4), none]
             } else {
-                [hop(0, 4, 2), hop(1, 1, 4), none]
+                [hop_through(0, 4, 2), hop_through(1, 1, 4), none]
             }
         }
         Form::Row => match choice {
-            0 => [hop(2, 4, 1), hop(1, 2, 1), hop(0, 2, 4)],
-            1 => [hop(1, 4, 2), hop(2, 1, 4), none],
-            _ => [hop(0, 4, 2), hop(1, 1, 2), hop(2, 1, 4)],
+            0 => [
+                hop_through(2, 4, 1),
+                hop_through(1, 2, 1),
+                hop_through(0, 2, 4),
+            ],
+            1 => [hop_through(1, 4, 2), hop_through(2, 1, 4), none],
+            _ => [
+                hop_through(0, 4, 2),
+                hop_through(1, 1, 2),
+                hop_through(2, 1, 4),
+            ],
         },
         Form::Star => match choice {
-            0 => [hop(1, 4, 1), hop(0, 2, 4), none],
-            1 => [hop(1, 4, 1), hop(0, 2, 3), hop(2, 1, 4)],
+            0 => [hop_through(1, 4, 1), hop_through(0, 2, 4), none],
+            1 => [
+                hop_through(1, 4, 1),
+                hop_through(0, 2, 3),
+                hop_through(2, 1, 4),
+            ],
             _ => {
                 let split = Hop {
                     bridge: 0,
                     ingress: 4,
                     egress: [2, 3],
                 };
-                [split, hop(1, 1, 4), hop(2, 1, 4)]
+                [split, hop_through(1, 1, 4), hop_through(2, 1, 4)]
             }
         },
         Form::Ring => match choice {
-            0 => [hop(2, 4, 2), hop(0, 1, 4), none],
-            1 => [hop(1, 4, 2), hop(2, 1, 2), hop(0, 1, 4)],
+            0 => [hop_through(2, 4, 2), hop_through(0, 1, 4), none],
+            1 => [
+                hop_through(1, 4, 2),
+                hop_through(2, 1, 2),
+                hop_through(0, 1, 4),
+            ],
             2 => {
                 let split = Hop {
                     bridge: 0,
                     ingress: 4,
                     egress: [1, 2],
                 };
-                [split, hop(1, 1, 4), hop(2, 2, 4)]
+                [split, hop_through(1, 1, 4), hop_through(2, 2, 4)]
             }
-            _ => [hop(0, 4, 2), hop(1, 1, 2), hop(2, 1, 4)],
+            _ => [
+                hop_through(0, 4, 2),
+                hop_through(1, 1, 2),
+                hop_through(2, 1, 4),
+            ],
         },
     }
 }
