@@ -1,5 +1,5 @@
 -- The test of what a hop hands to the next one says to which filter its frames belong there.
-use Rattle.std.proofs.Common.{◌≡◌, ℕ, Bool, true, ◌||◌, not, List, refl, ap, sym, ◌∙◌, subst, inl, inr, Option, Some, None, Ok}
+use Rattle.std.proofs.Common.{◌≡◌, ℕ, Bool, true, false, ◌||◌, not, List, refl, ap, sym, ◌∙◌, subst, inl, inr, Option, Some, None, Ok}
 use Rattle.std.specs.List.{list_all}
 use Rattle.std.proofs.lemmas.Bool.{and_parts, eqb-true, eq-eqb}
 use Rattle.std.proofs.lemmas.Option.{same_Some}

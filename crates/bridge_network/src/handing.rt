@@ -1,5 +1,5 @@
 //! Whether the filter of a hop gets each frame that the hop before it sends.
-ghost use Rattle.std.specs.Prelude.{◌≡◌, ◌≤◌};
+ghost use Rattle.std.specs.Prelude.{◌≡◌, ◌≤◌, Some};
 ghost use Rattle.std.specs.List.{list_all};
 ghost use Rattle.bridge_filter.specs.Own.{is_number};
 ghost use Rattle.bridge_config.specs.Rules.{port_at};
@@ -18,9 +18,6 @@ use bridge_config::{Plan, PortPlan};
 use bridge_frame::Tag;
 use bridge_ident::{Kind, StreamEntry};
 use std::alloc::Allocator;
-
-/// The eight priorities of a VLAN tag.
-const PRIORITIES: [u8; 8] = [0, 1, 2, 3, 4, 5, 6, 7];
 
 /// A port of the next bridge, and the filter there that must get each frame.
 #[derive(Drop)]
@@ -116,21 +113,33 @@ impl<'a, A: Allocator + Copy> Handing<'a, A> {
         self.taker.takes_all(entry, tag)
     }
 
-    /// Whether it gets each with a tag of this VLAN identifier.
+    /// Whether it gets each with a tag of this VLAN identifier and priority.
+    fn hands_priority(&self, entry: &StreamEntry, from: &PortPlan<A>, vid: u16, pcp: u8) -> bool
+        requires handing { IsHanding self.now }
+        requires from { 1 ≤ from.now.number }
+        requires to { from.now.number ≤ 16 }
+        ensures { result ≡ hands_tag self.now entry.now from.now (Some (feeding.tag_of pcp vid)) }
+    {
+        let dei = false;
+        self.hands_tag(entry, from, Some(Tag { pcp, dei, vid }))
+    }
+
+    /// Whether it gets each with a tag of this VLAN identifier, of whatever priority.
     fn hands_tagged(&self, entry: &StreamEntry, from: &PortPlan<A>, vid: u16) -> bool
         requires handing { IsHanding self.now }
         requires from { 1 ≤ from.now.number }
         requires to { from.now.number ≤ 16 }
         ensures { result ≡ list_all (hands_tag self.now entry.now from.now) (tags_with vid) }
     {
-        PRIORITIES.iter().all(|pcp| {
-            let tag = Some(Tag {
-                pcp: *pcp,
-                dei: false,
-                vid,
-            });
-            self.hands_tag(entry, from, tag)
-        })
+        let none = true;
+        let seven = self.hands_priority(entry, from, vid, 7) & none;
+        let six = self.hands_priority(entry, from, vid, 6) & seven;
+        let five = self.hands_priority(entry, from, vid, 5) & six;
+        let four = self.hands_priority(entry, from, vid, 4) & five;
+        let three = self.hands_priority(entry, from, vid, 3) & four;
+        let two = self.hands_priority(entry, from, vid, 2) & three;
+        let one = self.hands_priority(entry, from, vid, 1) & two;
+        self.hands_priority(entry, from, vid, 0) & one
     }
 
     /// Whether it gets each that the entry identifies at a port of the sender.

@@ -99,7 +99,7 @@ first_fault_from p index (r ∷ rs) = first_of (row_fault p index r) (first_faul
 
 -- FIGURES
 
--- the frames of the filter of a number pass
+-- Holds if the plan has the filter of row `r`, and this filter passes each frame of the row.
 abbrev pub RowPasses : {A : Type 0} → Plan A → TrafficRow → Type 0
 RowPasses p r = (f : FilterPlan) × (lookup (nat_eq r.filter) p.filters ≡ Some f) × Passes p f r.traffic
 
@@ -107,12 +107,12 @@ RowPasses p r = (f : FilterPlan) × (lookup (nat_eq r.filter) p.filters ≡ Some
 abbrev pub has_phases : Timing → Bool
 has_phases x = is_some x.phases
 
--- Each frame of the row passes its filter, and the queue with these figures accepts it.
+-- Holds if each frame of row `r` passes its filter, and the queue with the figures `x` has phases, so it accepts the frame.
 abbrev pub PassesAt : {A : Type 0} → Plan A → TrafficRow → Timing → Type 0
 PassesAt p r x = RowPasses p r × (has_phases x ≡ true)
 
--- A copy of a frame of the row is sent: between the phases of the figures in the period of its frame, and no sooner and no later after the
--- frame arrived than the best and the worst delay.
+-- Holds if copy `y` of a frame of row `r` is sent between the phases of the figures `x` in its period. Its delay is
+-- at least the best and at most the worst delay of `x`.
 pub record IsSentInTime {A : Type 0} (out : PortPlan A) (r : TrafficRow) (x : Timing) (y : Copy Carried) : Type 0 where
   pub done : Phases
   pub phases : x.phases ≡ Some done
