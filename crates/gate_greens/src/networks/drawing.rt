@@ -79,7 +79,7 @@ pub fn is_cabled(net: &Net, bridge: u64, port: u64) -> bool {
 }
 
 /// Adds an entry of a gate control list.
-fn put_entry(text: &mut Text<Global>, classes: &str, ns: u64) {
+fn put_entry(text: &mut Text<Global>, classes: &'static str, ns: u64) {
     text.fill(
         "{a} open = {b}, ns = {0} {c}, ",
         &[ns],
@@ -214,7 +214,7 @@ fn put_entry_of(
     route: &Route,
     port: u64,
     vid: u64,
-    tag: &str,
+    tag: &'static str,
 ) {
     text.fill(
         "[[stream]]\nhandle = {0}\nport = {1}\nkind = \"null\"\naddress = \"02-00-00-00-00-0{a}\"\nvid = {2}\ntag = \"{b}\"\n",

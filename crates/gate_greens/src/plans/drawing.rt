@@ -45,7 +45,7 @@ fn class_word(stream: &Stream) -> &'static str {
 }
 
 /// Adds an entry of a gate control list.
-fn put_entry(text: &mut Text<Global>, is_first: bool, classes: &str, ns: u64) {
+fn put_entry(text: &mut Text<Global>, is_first: bool, classes: &'static str, ns: u64) {
     let comma = if is_first { "" } else { ", " };
     text.fill(
         "{a}{b} open = {c}, ns = {0} {d}",
@@ -226,7 +226,7 @@ fn put_entries(text: &mut Text<Global>, numbers: &mut Numbers, stream: &Stream) 
 }
 
 /// Adds the list of a stream gate. `ipv` is empty or the key of its priority.
-fn put_gate_list(text: &mut Text<Global>, gate: &StreamGate, ipv: &str, keys: Keys) {
+fn put_gate_list(text: &mut Text<Global>, gate: &StreamGate, ipv: &'static str, keys: Keys) {
     text.fill(
         "{a} = {0}\n{b} = {1}\n{c} = [",
         &[gate.base, gate.cycle],
@@ -251,7 +251,13 @@ fn put_gate_list(text: &mut Text<Global>, gate: &StreamGate, ipv: &str, keys: Ke
 }
 
 /// Adds an entry of the list of a stream gate.
-fn put_gate_entry(text: &mut Text<Global>, gate: &StreamGate, open: &str, ipv: &str, ns: u64) {
+fn put_gate_entry(
+    text: &mut Text<Global>,
+    gate: &StreamGate,
+    open: &'static str,
+    ipv: &'static str,
+    ns: u64,
+) {
     text.fill("{a} open = {b}, ns = {0}{c}", &[ns], &["{", open, ipv]);
     if gate.octets > 0 {
         text.fill(", octets = {0}", &[gate.octets], &[]);
