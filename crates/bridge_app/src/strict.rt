@@ -248,61 +248,6 @@ pub fn judge_run_job<H: AllocGlobal + Files>(
     }
 }
 
-/// What a run under the plan of a file comes to, as by `judge_run_job`: the lines of lost frames stand behind the lines about the plan.
-pub fn told_run_job<H: AllocGlobal + Files>(
-    rt: &H,
-    plan: String,
-    input: String,
-    output: String,
-    commands: Option<String>,
-    tables: TableRequest,
-    sketch: Option<PictureRequest>,
-    is_strict: bool,
-    is_explained: bool,
-) -> Result<Strict, Refusal>
-    ensures ok { IfOk result (λ strict. IfSome strict.line (λ line. PrintsRun Global (string_bytes line))) }
-    ensures warned { IfOk result (λ strict. strict.is_warned ≡ true → strict.line ≡ None) }
-    ensures err { IfErr result (λ refusal. EndsTold Global (string_bytes plan) (option_map string_bytes commands)
-        (string_bytes input) (string_bytes output) (option_map string_bytes tables.delays)
-        (option_map string_bytes tables.frames) (option_map (λ s. string_bytes s.file) sketch) refusal.fault) }
-{
-    match judge_run_job(
-        rt,
-        plan,
-        input,
-        output,
-        commands,
-        tables,
-        sketch,
-        is_strict,
-        is_explained,
-    ) {
-        Ok(run) => Ok(merged(run)),
-        Err(refusal) => Err(refusal),
-    }
-}
-
-/// Returns a run with all its lines on standard error in one text. If memory runs out, the text has only the lines about the plan.
-fn merged(run: StrictRun) -> Strict
-    ensures line { result.line ≡ run.line }
-    ensures warned { result.is_warned ≡ run.is_warned }
-{
-    let StrictRun {
-        line,
-        told,
-        is_warned,
-        lost,
-        is_lossy: _,
-    } = run;
-    let mut all = told;
-    let _ = all.push_str(lost.as_str());
-    Strict {
-        line,
-        told: all,
-        is_warned,
-    }
-}
-
 /// What is wanted of a run beside its line.
 #[derive(Clone, Copy)]
 struct Wishes {
