@@ -1,6 +1,7 @@
 //! What is said of a plan that is accepted.
 ghost use Rattle.std.specs.Prelude.{◌<◌, ◌≤◌};
 
+use crate::advice::Advice;
 use crate::finding::advice_of;
 use crate::saying::Said;
 use crate::sentence::put_advice;
@@ -21,29 +22,40 @@ const TIGHT: &str = "With the octet limit of its gate the bound is {0} ns.\n";
 
 /// What is said of a plan that is accepted: for each protected filter where its frames may wait, when each of these queues
 /// is open, the longest frame that fits, and how long a frame takes there at most; then a warning for each thing that is
-/// likely a mistake.
+/// likely a mistake. `idle` is the line of a change of schedules that changes nothing (`idle_change`).
 pub fn warn_of_plan<A: Allocator + Copy>(
     alloc: Global,
     accepted: &Accepted<A>,
+    idle: Option<usize>,
 ) -> Result<String, NoMemory> {
     let mut said = Text::new(alloc);
     put_filters(&mut said, accepted);
-    put_warnings(alloc, &mut said, accepted);
+    put_warnings(alloc, &mut said, accepted, idle);
     said.done()
 }
 
-/// The warnings of a plan that is accepted, a line each; nothing where there is none.
+/// The warnings of a plan that is accepted, a line each; nothing if there is none. `idle` is the line of a change of schedules that
+/// changes nothing (`idle_change`).
 pub fn warnings_of<A: Allocator + Copy>(
     alloc: Global,
     accepted: &Accepted<A>,
+    idle: Option<usize>,
 ) -> Result<String, NoMemory> {
     let mut said = Text::new(alloc);
-    put_warnings(alloc, &mut said, accepted);
+    put_warnings(alloc, &mut said, accepted, idle);
     said.done()
 }
 
 /// Adds a warning for each thing of a plan that is likely a mistake.
-fn put_warnings<A: Allocator + Copy>(alloc: Global, said: &mut Said, accepted: &Accepted<A>) {
+fn put_warnings<A: Allocator + Copy>(
+    alloc: Global,
+    said: &mut Said,
+    accepted: &Accepted<A>,
+    idle: Option<usize>,
+) {
+    if let Some(line) = idle {
+        put_advice(said, &Advice::IdleChange { line });
+    }
     match advice_of(alloc, accepted) {
         Ok(found) => {
             for advice in &found {

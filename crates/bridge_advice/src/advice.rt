@@ -4,10 +4,18 @@
 /// of times ns.
 #[derive(Clone, Copy)]
 pub enum Advice {
+    /// A change of schedules at a line of the file, though no list is exchanged.
+    IdleChange { line: usize },
+    /// No filter is protected.
+    NoneProtected,
+    /// A stream asks for untagged frames in a VLAN in which its port puts none.
+    OtherVlan(OtherVlan),
     /// A stream comes in at a port to which its static entry sends it.
     OwnPort(OwnPort),
     /// A gate is closed at all moments.
     ClosedGate { gate: u32 },
+    /// The gate of a protected filter is closed from the change of schedules on.
+    ClosedFrom(ClosedFrom),
     /// A meter never has the tokens of a shortest frame.
     NoToken { meter: u32 },
     /// A meter gets no token beyond those that it begins with.
@@ -16,10 +24,20 @@ pub enum Advice {
     NoStream { filter: u32, handle: u32 },
     /// A filter of a lower number takes each frame that a filter does.
     AllTaken(AllTaken),
+    /// Filters of lower numbers together take each frame that a filter does.
+    TakenTogether(TakenTogether),
+    /// The largest service data unit of a filter is below that of each frame.
+    NoLength { filter: u32, sdu: u32 },
     /// An open entry of a gate lets fewer octets through than a frame of its filter may have.
     LimitBelow(LimitBelow),
     /// An earlier stream takes each frame that a stream does.
     Hidden(Hidden),
+    /// Two earlier streams together take each frame that a stream does.
+    HiddenTogether(HiddenTogether),
+    /// A class is never open, and frames of an unprotected filter may wait there.
+    NeverOpen(NeverOpen),
+    /// A protected stream has no static entry, so its frames go to all members of its VLAN.
+    Flooded(Flooded),
     /// No frame of a protected filter leaves by a stream.
     Nowhere(Stuck),
     /// A protected stream doesn't leave by a port of its static entry, which is no member of its VLAN.
@@ -58,6 +76,36 @@ pub struct OwnPort {
     pub port: u8,
 }
 
+/// A stream that asks for frames without a VLAN, and for a VLAN other than that of its port.
+#[derive(Clone, Copy)]
+pub struct OtherVlan {
+    /// The place of the stream in the file, from 1.
+    pub place: usize,
+    pub handle: u32,
+    /// The port where it comes in, and the VLAN in which this puts frames without one.
+    pub port: u8,
+    pub own: u16,
+    /// The VLAN that the stream asks for.
+    pub vid: u16,
+}
+
+/// A gate of a protected filter that never opens from the change of schedules on.
+#[derive(Clone, Copy)]
+pub struct ClosedFrom {
+    pub gate: u32,
+    pub filter: u32,
+    /// The moment of the change.
+    pub at: u64,
+}
+
+/// A filter all of whose frames several filters of lower numbers take together.
+#[derive(Clone, Copy)]
+pub struct TakenTogether {
+    pub filter: u32,
+    /// The filter that takes the frames of each priority, from priority 0.
+    pub takers: [u32; 8],
+}
+
 /// A filter all of whose frames another one takes.
 #[derive(Clone, Copy)]
 pub struct AllTaken {
@@ -81,8 +129,39 @@ pub struct Hidden {
     /// The place of the stream in the file, from 1.
     pub place: usize,
     pub handle: u32,
-    /// The place of the earlier one.
+    /// The place of the earlier one, and its handle.
     pub earlier: usize,
+    pub other: u32,
+}
+
+/// A stream all of whose frames two earlier ones take together.
+#[derive(Clone, Copy)]
+pub struct HiddenTogether {
+    /// The place of the stream in the file, from 1.
+    pub place: usize,
+    pub handle: u32,
+    /// The place of the earlier one that takes the frames with a VLAN.
+    pub tagged: usize,
+    /// The place of the earlier one that takes the others.
+    pub untagged: usize,
+}
+
+/// A class of a port that is never open, where frames of an unprotected filter may wait.
+#[derive(Clone, Copy)]
+pub struct NeverOpen {
+    pub stage: Stage,
+    pub filter: u32,
+    pub port: u8,
+    pub class: u8,
+}
+
+/// A stream of a protected filter that has no static entry, and goes to several ports of its VLAN.
+#[derive(Clone, Copy)]
+pub struct Flooded {
+    pub filter: u32,
+    /// The place of the stream in the file, from 1.
+    pub place: usize,
+    pub vid: u16,
 }
 
 /// Why the frames of a stream leave nowhere.
@@ -201,6 +280,9 @@ pub struct Rooms {
 #[derive(Clone, Copy)]
 pub struct Pause {
     pub spot: Spot,
+    /// A moment at which a cycle of the gate begins, and one at which a cycle of the port does.
+    pub base: u64,
+    pub port_base: u64,
     /// The phase at which a turn begins in the cycle of the gate, and for how long it lasts.
     pub phase: u64,
     pub lasting: u64,

@@ -6,6 +6,8 @@
 
 mod accepted;
 mod advice;
+mod changing;
+mod closed;
 mod finding;
 mod hidden;
 mod hypercycle;
@@ -25,12 +27,14 @@ mod windows;
 
 pub use accepted::{warn_of_plan, warnings_of};
 pub use advice::{
-    Advice, AllTaken, Burst, Cycles, Flood, Hidden, LimitBelow, Nowhere, Outside, OwnPort, Pause,
-    Rate, Rooms, Spot, Stage, Stuck,
+    Advice, AllTaken, Burst, ClosedFrom, Cycles, Flood, Flooded, Hidden, HiddenTogether,
+    LimitBelow, NeverOpen, Nowhere, OtherVlan, Outside, OwnPort, Pause, Rate, Rooms, Spot, Stage,
+    Stuck, TakenTogether,
 };
 pub use bridge_limits::NoMemory;
+pub use changing::idle_change;
 pub use finding::advice_of;
-pub use hidden::hides;
+pub use hidden::{hide_together, hides};
 pub use hypercycle::Hypercycle;
 pub use nowhere::leads_nowhere;
 pub use refused::explain_check;

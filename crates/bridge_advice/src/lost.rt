@@ -178,6 +178,8 @@ pub(crate) fn find_pause<A: Allocator + Copy>(
     };
     let pause = Pause {
         spot: queue.spot,
+        base: queue.base,
+        port_base: queue.list.base(),
         phase: opening.phase,
         lasting: opening.lasting,
         wait,

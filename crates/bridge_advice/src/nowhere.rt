@@ -1,9 +1,9 @@
-//! Streams of protected filters whose frames leave nowhere, or not by each port of their static entries.
+//! Streams of protected filters whose frames leave nowhere, not by each port of their static entries, or by all ports of their VLAN.
 ghost use Rattle.std.specs.Prelude.{◌≡◌, ◌≤◌, ◌↔◌, IsTrue};
 ghost use Rattle.bridge_forward.specs.Database.{members_at, entry_at};
 ghost use Rattle.bridge_advice.specs.Streams.{LeadsNowhere};
 
-use crate::advice::{Advice, Nowhere, Outside, Stuck};
+use crate::advice::{Advice, Flooded, Nowhere, Outside, Stuck};
 use crate::finding::add;
 use bridge_config::{Plan, PortSet};
 use bridge_filter::FilterPlan;
@@ -152,6 +152,50 @@ fn find_outside<A: Allocator + Copy>(
     Ok(())
 }
 
+/// Whether a set has two ports or more.
+fn are_several(set: PortSet) -> bool {
+    match other_port(set, 0) {
+        Some(first) => other_port(set, first).is_some(),
+        None => false,
+    }
+}
+
+/// Adds a stream whose frames go to several ports because no static entry names their address.
+fn find_flooded<A: Allocator + Copy>(
+    found: &mut Vec<Advice>,
+    plan: &Plan<A>,
+    filter: u32,
+    place: usize,
+    stream: &StreamEntry,
+) -> Result<(), AllocError>
+    requires from { 1 ≤ stream.now.port }
+    requires to { stream.now.port ≤ 16 }
+{
+    let vid = stream.vid;
+    if ports_of(plan.statics(), vid, stream.address).is_some() {
+        return Ok(());
+    }
+    if !are_several(plan.forward(stream.port, vid, &stream.address)) {
+        return Ok(());
+    }
+    add(found, Advice::Flooded(Flooded { filter, place, vid }))
+}
+
+/// Adds what is found of where a stream of a protected filter goes, which leaves somewhere.
+fn find_ways<A: Allocator + Copy>(
+    found: &mut Vec<Advice>,
+    plan: &Plan<A>,
+    filter: u32,
+    place: usize,
+    stream: &StreamEntry,
+) -> Result<(), AllocError>
+    requires from { 1 ≤ stream.now.port }
+    requires to { stream.now.port ≤ 16 }
+{
+    find_outside(found, plan, filter, place, stream)?;
+    find_flooded(found, plan, filter, place, stream)
+}
+
 /// Adds what is found of a stream of a protected filter.
 fn find_stream<A: Allocator + Copy>(
     found: &mut Vec<Advice>,
@@ -175,7 +219,7 @@ fn find_stream<A: Allocator + Copy>(
             };
             add(found, Advice::Nowhere(stuck))
         }
-        (None, Kind::Null) => find_outside(found, plan, filter, place, stream),
+        (None, Kind::Null) => find_ways(found, plan, filter, place, stream),
         (None, Kind::Source) => Ok(()),
     }
 }

@@ -4,7 +4,7 @@ ghost use Rattle.bridge_advice.specs.Others as spec;
 ghost use Rattle.bridge_text.specs.Named.{BeginsWith};
 
 use crate::saying::Said;
-use crate::ways::put_way;
+use crate::ways::{put_other_way, put_way};
 use crate::windows::{longest_at, put_open, run_of};
 use bridge_check::{CheckFault, faults_of};
 use bridge_config::{Plan, PortPlan};
@@ -12,7 +12,7 @@ use bridge_cycle::{Egress, Run, is_open};
 use bridge_filter::FilterPlan;
 use bridge_frame::occupation;
 use bridge_limits::{LONGEST_FRAME, NoMemory};
-use bridge_places::{Position, put_position, table_position};
+use bridge_places::{Position, key_position, put_position, table_position};
 use bridge_text::{Text, behind};
 use std::alloc::{Allocator, Global};
 
@@ -23,20 +23,27 @@ const NO_LENGTH: &str =
     "Filter {0} is protected but has no `max_sdu`. Without it, nobody can tell whether its longest frame fits its windows.\nAdd a `max_sdu`.\n";
 
 const GATE_SHARED: &str =
-    "Filters {0} (protected) and {1} share gate {2}. Frames of filter {1} can use up its octets, or shut it.\nGive filter {0} a gate of its own.\n";
+    "Filters {0} (protected) and {1} ({a}) share gate {2}. Frames of filter {1} can use up its octets, or shut it.\nGive filter {0} a gate of its own.\n";
 
 const METER_SHARED: &str =
-    "Filters {0} (protected) and {1} share meter {2}. Frames of filter {1} can use up its tokens.\nGive filter {0} a meter of its own, or remove its `meter`.\n";
+    "Filters {0} (protected) and {1} ({a}) share meter {2}. Frames of filter {1} can use up its tokens.\nGive filter {0} a meter of its own, or remove its `meter`.\n";
 
 const NO_LAST: &str =
     "Filter {1} has the greatest number but doesn't match every frame, so some frames may bypass the filters and enter the queues of filter {0}.\nAdd a filter with a number above {1}, without `handle` and `priority`. Give it a gate of its own, with an `ipv` of another class.\n";
 
-const QUEUE_SHARED: &str = "Filters {0} (protected) and {1} share a queue: port {2}, class {3}.\n";
+const QUEUE_SHARED: &str =
+    "Filters {0} (protected) and {1} ({a}) share a queue: port {2}, class {3}.\n";
 
 const PART_THEM: &str =
-    "Separate them: give one of them another class by `ipv` in its gate, its `priority` or the `classes` of the port, or another route.\n";
+    "Give one of them another class, by `ipv` in its gate, by its `priority`, or by the `classes` of the port. Or give one of them another route.\n";
 
 const WINDOW_SHARED: &str = "Port {1} opens several classes together from offset {3} ns: ";
+
+const NEXT_SHARED: &str =
+    "`next_gates` of port {1} opens several classes together from offset {3} ns: ";
+
+const NEXT_SHARED_AT: &str =
+    "`next_gates` of port {1}, in line {4}, opens several classes together from offset {3} ns: ";
 
 const NO_WINDOW: &str =
     "Port {1} has no gate control list, so other classes can delay filter {0} (class {2}).\n";
@@ -109,13 +116,14 @@ fn put_finding<A: Allocator + Copy>(
     let number = fault.filter().unwrap_or(0);
     put_position(said, position_of(text, plan.filters(), number));
     if let Some(filter) = filter_at(plan.filters(), number) {
-        put_check(said, plan, number, &filter, fault);
+        put_check(said, text, plan, number, &filter, fault);
     }
 }
 
 /// Adds what is said of a test that a filter fails.
 fn put_check<A: Allocator + Copy>(
     said: &mut Said,
+    text: &[u8],
     plan: &Plan<A>,
     number: u32,
     filter: &FilterPlan,
@@ -127,7 +135,14 @@ fn put_check<A: Allocator + Copy>(
         CheckFault::NoMaxSdu { .. } => said.fill(NO_LENGTH, &[u64::from(number)], &[]),
         CheckFault::GateShared { .. } => put_gate(said, filters, number, filter.gate),
         CheckFault::MeterShared { .. } => put_meter(said, filters, number, filter.meter),
-        CheckFault::NoCatchAll { .. } => put_shared(said, NO_LAST, number, last_of(filters), 0),
+        CheckFault::NoCatchAll { .. } => put_shared(
+            said,
+            filters,
+            NO_LAST,
+            number,
+            last_of(filters),
+            0,
+        ),
         CheckFault::QueueShared {
             port,
             class,
@@ -139,7 +154,15 @@ fn put_check<A: Allocator + Copy>(
             class,
             at,
             ..
-        } => put_window(said, plan, number, filter, port, class, at),
+        } => {
+            let window = Window {
+                filter: number,
+                port,
+                class,
+                at,
+            };
+            put_window(said, text, plan, filter, window);
+        }
         CheckFault::MaxSduNeverFits { port, class, .. } => {
             put_length(said, plan, number, filter, port, class);
         }
@@ -200,23 +223,38 @@ fn last_of(filters: &[(u32, FilterPlan)]) -> u32 {
     last
 }
 
-/// Adds a sentence on a filter, another one, and what both have.
-fn put_shared(said: &mut Said, template: &str, number: u32, other: u32, own: u32) {
+/// Whether the filter of a number is protected, as a word.
+fn guard_of(filters: &[(u32, FilterPlan)], number: u32) -> &'static str {
+    match filter_at(filters, number) {
+        Some(filter) if filter.protected => "protected",
+        _ => "unprotected",
+    }
+}
+
+/// Adds a sentence on a filter, another one, whether this is protected, and what both have.
+fn put_shared(
+    said: &mut Said,
+    filters: &[(u32, FilterPlan)],
+    template: &str,
+    number: u32,
+    other: u32,
+    own: u32,
+) {
     let numbers = [u64::from(number), u64::from(other), u64::from(own)];
-    said.fill(template, &numbers, &[]);
+    said.fill(template, &numbers, &[guard_of(filters, other)]);
 }
 
 /// Adds what is said of a gate that another filter has too.
 fn put_gate(said: &mut Said, filters: &[(u32, FilterPlan)], number: u32, gate: u32) {
     let other = other_with_gate(filters, number, gate).unwrap_or(0);
-    put_shared(said, GATE_SHARED, number, other, gate);
+    put_shared(said, filters, GATE_SHARED, number, other, gate);
 }
 
 /// Adds what is said of a meter that another filter has too.
 fn put_meter(said: &mut Said, filters: &[(u32, FilterPlan)], number: u32, meter: Option<u32>) {
     let meter = meter.unwrap_or(0);
     let other = other_with_meter(filters, number, meter).unwrap_or(0);
-    put_shared(said, METER_SHARED, number, other, meter);
+    put_shared(said, filters, METER_SHARED, number, other, meter);
 }
 
 /// Adds what is said of a queue that frames of two filters may come to, and why each may.
@@ -235,7 +273,8 @@ fn put_queue<A: Allocator + Copy>(
         u64::from(port),
         u64::from(class),
     ];
-    said.fill(QUEUE_SHARED, &numbers, &[]);
+    let guard = guard_of(plan.filters(), other);
+    said.fill(QUEUE_SHARED, &numbers, &[guard]);
     put_way(said, plan, number, filter, port);
     if let Some(found) = filter_at(plan.filters(), other) {
         put_way(said, plan, other, &found, port);
@@ -269,60 +308,136 @@ fn state_at(entries: &[(u8, u64)], class: u8, at: u64) -> Option<u8>
     None
 }
 
-/// The state with which a port opens a class beside another one from a phase on, of its old list before the new one.
-fn shared_state<A: Allocator + Copy>(port: &PortPlan<A>, class: u8, at: u64) -> Option<u8>
+/// The state with which a port opens a class beside another one from a phase on, of its old list before the new one; and whether it
+/// is of the new one.
+fn shared_state<A: Allocator + Copy>(port: &PortPlan<A>, class: u8, at: u64) -> Option<(u8, bool)>
     requires { class < 8 }
 {
     match &port.list {
         None => None,
-        Some(Egress::Cyclic(list)) => state_at(list.entries(), class, at),
+        Some(Egress::Cyclic(list)) => Some((state_at(list.entries(), class, at)?, false)),
         Some(Egress::Joined(joined)) => {
             let (old, new) = joined.lists();
-            state_at(old.entries(), class, at).or(state_at(new.entries(), class, at))
+            match state_at(old.entries(), class, at) {
+                Some(state) => Some((state, false)),
+                None => Some((state_at(new.entries(), class, at)?, true)),
+            }
         }
     }
 }
 
-/// The state with which a port of a plan opens a class beside another one from a phase on.
-fn state_of<A: Allocator + Copy>(plan: &Plan<A>, port: u8, class: u8, at: u64) -> Option<u8> {
+/// The state with which a port of a plan opens a class beside another one from a phase on, and whether it is of the new list.
+fn state_of<A: Allocator + Copy>(
+    plan: &Plan<A>,
+    port: u8,
+    class: u8,
+    at: u64,
+) -> Option<(u8, bool)> {
     match plan.port(port) {
         Some(there) if class < 8 => shared_state(there, class, at),
         _ => None,
     }
 }
 
-/// Adds what is said of a class that is open beside another one.
-fn put_window<A: Allocator + Copy>(
+/// The line of a key of the port of a number in the text of its plan.
+fn line_of<A: Allocator + Copy>(
+    text: &[u8],
+    ports: &[PortPlan<A>],
+    number: u8,
+    key: &str,
+) -> Option<usize> {
+    let mut index = 0u32;
+    for port in ports {
+        index = index.saturating_add(1);
+        if port.number == number {
+            let text = str::from_utf8(text).ok()?;
+            let header = table_position(text, "port", index, ports.len())?;
+            return Some(key_position(text, "port", header.line, key)?.line);
+        }
+    }
+    None
+}
+
+/// Adds that a port opens a class beside other ones from a phase on, in its new list or in the one that it has first.
+fn put_shared_window<A: Allocator + Copy>(
     said: &mut Said,
+    text: &[u8],
     plan: &Plan<A>,
-    number: u32,
-    filter: &FilterPlan,
+    window: Window,
+    is_next: bool,
+) {
+    let Window {
+        filter,
+        port,
+        class,
+        at,
+    } = window;
+    let line = line_of(text, plan.ports(), port, "next_gates");
+    let template = match line {
+        _ if !is_next => WINDOW_SHARED,
+        Some(_) => NEXT_SHARED_AT,
+        None => NEXT_SHARED,
+    };
+    let numbers = [
+        u64::from(filter),
+        u64::from(port),
+        u64::from(class),
+        at,
+        line.unwrap_or(0) as u64,
+    ];
+    said.fill(template, &numbers, &[]);
+}
+
+/// A class of a port that a filter needs to be open by itself, and the phase from which on it isn't.
+#[derive(Clone, Copy)]
+struct Window {
+    filter: u32,
     port: u8,
     class: u8,
     at: u64,
+}
+
+/// Adds what is said of a class that is open beside another one.
+fn put_window<A: Allocator + Copy>(
+    said: &mut Said,
+    text: &[u8],
+    plan: &Plan<A>,
+    filter: &FilterPlan,
+    window: Window,
 ) {
+    let Window {
+        filter: number,
+        port,
+        class,
+        at,
+    } = window;
     let numbers = [u64::from(number), u64::from(port), u64::from(class), at];
-    match state_of(plan, port, class, at) {
-        Some(state) => {
-            said.fill(WINDOW_SHARED, &numbers, &[]);
+    let state = state_of(plan, port, class, at);
+    match state {
+        Some((state, is_next)) => {
+            put_shared_window(said, text, plan, window, is_next);
             put_states(said, state);
             said.put(".\n");
-            put_way(said, plan, number, filter, port);
-            said.fill(
-                "Filter {0} needs class {2} to be open by itself. Move the other classes into another entry.\n",
-                &numbers,
-                &[],
-            );
         }
-        None => {
-            said.fill(NO_WINDOW, &numbers, &[]);
-            put_way(said, plan, number, filter, port);
-            said.fill(
-                "Give port {1} `cycle` and `gates`, with an entry that opens only class {2}.\n",
-                &numbers,
-                &[],
-            );
-        }
+        None => said.fill(NO_WINDOW, &numbers, &[]),
+    }
+    put_way(said, plan, number, filter, port);
+    let is_other = put_other_way(said, plan, filter, port);
+    said.fill(remedy_of(state.is_some(), is_other), &numbers, &[]);
+}
+
+/// How the class `{2}` of port `{1}` gets windows of its own for filter `{0}`: in the list that the port has, or in a new one. It may
+/// be the second of two remedies.
+fn remedy_of(has_list: bool, is_second: bool) -> &'static str {
+    match (has_list, is_second) {
+        (true, false) =>
+            "Filter {0} needs class {2} to be open by itself. Move the other classes into another entry.\n",
+        (true, true) =>
+            "If port {1} has to send these frames, move the other classes into another entry: filter {0} needs class {2} to be open by itself.\n",
+        (false, false) =>
+            "Give port {1} `cycle` and `gates`, with an entry that opens only class {2}.\n",
+        (false, true) =>
+            "If port {1} has to send these frames, give it `cycle` and `gates`, with an entry that opens only class {2}.\n",
     }
 }
 

@@ -1,5 +1,5 @@
 //! The sentences of findings of meters and queues.
-use crate::advice::{Burst, Cycles, Flood, Pause, Rate, Rooms, Stage};
+use crate::advice::{Burst, Cycles, Flood, NeverOpen, Pause, Rate, Rooms, Stage};
 use bridge_text::Text;
 use std::alloc::Allocator;
 
@@ -27,7 +27,10 @@ const ROOMS: &str =
     "queue capacity too small. In the entry at offset {3} ns, gate {0} can pass {1} of the longest frames of filter {2}. When the entry ends, {4} of them would wait at port {5}, class {6}, but the queue holds only {7}. Raise `rooms`, or lower `octets`.\n";
 
 const PAUSE: &str =
-    "gate {0} (filter {1}) is open from offset {2} ns for {3} ns, while class {4} of port {5} can't send. A frame that arrives as the gate opens waits at least {6} ns. Shift the gate or the port by `base`, or reorder the entries of one.\n";
+    "gate {0} (filter {1}) is open from offset {2} ns for {3} ns, while class {4} of port {5} can't send. The offset counts from the gate's base time {7} ns, the port's list from base time {8} ns. A frame that arrives as the gate opens waits at least {6} ns. Shift the gate or the port by `base`, or reorder the entries of one.\n";
+
+const NEVER_OPEN: &str =
+    "class {1} of port {0} never opens, so frames of filter {2} (unprotected) in its queue can't leave. Open the class in an entry of the port's list, or give these frames another class by `ipv` in the gate of filter {2}.\n";
 
 const CYCLES: &str =
     "gate {0} of filter {1} has a cycle of {2} ns, and port {3} has {4} ns. Neither is a multiple of the other, so the delay pattern repeats only every {5} ns. Make one cycle a multiple of the other.\n";
@@ -123,9 +126,22 @@ pub(crate) fn put_pause<A: Allocator>(said: &mut Text<A>, pause: &Pause) {
         u64::from(pause.spot.class),
         u64::from(pause.spot.port),
         pause.wait,
+        pause.base,
+        pause.port_base,
     ];
     said.put(front_of(pause.spot.stage));
     said.fill(PAUSE, &numbers, &[]);
+}
+
+/// Adds a class that is never open, though frames of an unprotected filter may wait there.
+pub(crate) fn put_never_open<A: Allocator>(said: &mut Text<A>, never: &NeverOpen) {
+    let numbers = [
+        u64::from(never.port),
+        u64::from(never.class),
+        u64::from(never.filter),
+    ];
+    said.put(front_of(never.stage));
+    said.fill(NEVER_OPEN, &numbers, &[]);
 }
 
 /// Adds cycles that aren't multiples of each other.

@@ -78,6 +78,51 @@ pub(crate) fn put_way<A: Allocator + Copy>(
     }
 }
 
+const NEED_ENTRY: &str =
+    "Add a `static` entry for the address of `stream` {0} that names only its egress ports.\n";
+
+const NEED_KIND: &str =
+    "Identify `stream` {0} by its destination address (`kind = \"null\"`), and add a `static` entry for this address that names only its egress ports.\n";
+
+/// The first stream, by its place from 1, by which frames of a handle may come to a port, and its way; none if a `static` entry leads
+/// a stream of the handle there, which is meant.
+fn other_way<A: Allocator + Copy>(plan: &Plan<A>, handle: u32, port: u8) -> Option<(u64, Way)> {
+    let mut place = 0u64;
+    let mut first = None;
+    for stream in plan.streams() {
+        place = place.saturating_add(1);
+        if stream.handle == handle {
+            match way_of(plan, stream, port) {
+                Some(Way::Entry) => return None,
+                Some(way) => first = first.or(Some((place, way))),
+                None => {}
+            }
+        }
+    }
+    first
+}
+
+/// Adds how frames of a filter are kept from a port, if no `static` entry leads them there; whether it did.
+pub(crate) fn put_other_way<A: Allocator + Copy>(
+    said: &mut Said,
+    plan: &Plan<A>,
+    filter: &FilterPlan,
+    port: u8,
+) -> bool {
+    let Some(handle) = filter.handle else {
+        return false;
+    };
+    let Some((place, way)) = other_way(plan, handle, port) else {
+        return false;
+    };
+    let template = match way {
+        Way::Source => NEED_KIND,
+        _ => NEED_ENTRY,
+    };
+    said.fill(template, &[place], &[]);
+    true
+}
+
 /// Adds the sentence of a way.
 fn put(said: &mut Said, way: Way, number: u32, place: u64, port: u8, vid: u16) {
     let template = match way {

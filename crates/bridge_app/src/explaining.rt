@@ -4,10 +4,11 @@
 //! Nothing here can fail: what there is no memory for is left out.
 ghost use Rattle.std.specs.Prelude.{◌≡◌};
 
+use crate::late::{Last, put_late};
 use crate::noting::Refusal;
 use bridge_advice::{explain_check, warn_of_plan};
 use bridge_check::{Accepted, CheckFault};
-use bridge_config::plan_of;
+use bridge_config::{Command, plan_of};
 use bridge_explain::{
     explain_commands, explain_file, explain_plan, explain_run, explain_text, explain_words,
     put_unread,
@@ -250,19 +251,25 @@ fn said_of_capture(
     explain_run(rt.alloc(), path, &front, fault).ok()
 }
 
-/// What is told of an accepted plan, and of a folder of captures.
+/// What is told of an accepted plan, of a folder of captures, and of the change and the commands that come after the last frame. `idle` is the line of a change of schedules that changes nothing.
 pub(crate) fn warned_of<H: AllocGlobal + Files>(
     rt: &H,
     accepted: &Accepted<Global>,
+    orders: &[Command],
     folder: &str,
+    idle: Option<usize>,
+    last: Option<Last>,
 ) -> Option<String> {
-    let warned = warn_of_plan(rt.alloc(), accepted).ok()?;
+    let warned = warn_of_plan(rt.alloc(), accepted, idle).ok()?;
     let mut said = Text::new(rt.alloc());
     said.put(warned.as_str());
     for port in 1..=16u8 {
         if accepted.plan().port(port).is_none() {
             put_capture(rt, &mut said, folder, port);
         }
+    }
+    if let Some(last) = last {
+        put_late(&mut said, accepted.plan(), orders, last);
     }
     said.done().ok()
 }

@@ -1,9 +1,11 @@
 //! The job of a run over a folder of captures, with the tables and the picture that are asked for beside it.
-ghost use Rattle.std.specs.Prelude.{◌⊎◌, IfOk, IfErr, option_map, string_bytes};
+ghost use Rattle.std.specs.Prelude.{◌≡◌, ◌⊎◌, IfOk, IfErr, option_map, string_bytes};
 ghost use Rattle.bridge_config.specs.Commands.{AreCommands};
 ghost use Rattle.bridge_running.specs.Files.{PrintsRun};
 ghost use Rattle.bridge_app.specs.Files.{EndsDrawn, EndsTabled, EndsTold, IsOfShowing, IsOfTables};
+ghost use Rattle.bridge_app.specs.Losing.{TellsLost, lost_if};
 
+use crate::late::{Last, last_of};
 use crate::picturing::put_sketch;
 use crate::sparing::spare_files;
 use crate::tables::put_tables;
@@ -13,7 +15,8 @@ use bridge_config::Command;
 use bridge_files::FileId;
 use bridge_inputs::RunFault;
 use bridge_jobs::{Cause, Fault};
-use bridge_report::summary;
+use bridge_limits::NoMemory;
+use bridge_report::{lost_lines, summary};
 use bridge_running::{Noted, read_job, send, take_standard};
 use bridge_semantics::Outcome;
 use std::alloc::Global;
@@ -65,15 +68,50 @@ pub fn run_with_tables<H: AllocGlobal + Files>(
         Ok(read) => read,
         Err(fault) => return Err(fault),
     };
-    let told = send_told(
-        rt, &accepted, &orders, input, output, taken, tables, sketch, &mut None,
-    );
+    let told = send_line(rt, &accepted, &orders, input, output, taken, tables, sketch);
     drop(accepted);
     told
 }
 
+/// Lines of a run that is done.
+#[derive(Drop)]
+pub(crate) struct RunLines {
+    /// The line that sums the run up.
+    pub(crate) line: String,
+    /// One line for each protected filter that lost a frame or a copy, if a loss is a fault.
+    pub(crate) lost: String,
+    /// Whether a loss is a fault and a protected filter lost a frame or a copy.
+    pub(crate) is_lossy: bool,
+}
+
+/// Returns the line that sums a run up under an accepted plan, as by `send_told`.
+fn send_line<H: AllocGlobal + Files>(
+    rt: &H,
+    accepted: &Accepted<Global>,
+    orders: &[Command],
+    input: String,
+    output: String,
+    taken: Vec<FileId>,
+    tables: TableRequest,
+    sketch: Option<PictureRequest>,
+) -> Result<String, Fault>
+    requires commands { AreCommands accepted.now orders.now }
+    ensures ok { IfOk result (λ line. PrintsRun Global (string_bytes line)) }
+    ensures err { IfErr result (EndsTabled accepted.now (string_bytes input) (string_bytes output)
+        (option_map string_bytes tables.delays) (option_map string_bytes tables.frames)
+        (option_map (λ s. string_bytes s.file) sketch)) }
+{
+    match send_told(
+        rt, accepted, orders, input, output, taken, tables, sketch, false, &mut None, &mut None,
+    ) {
+        Ok(lines) => Ok(lines.line),
+        Err(fault) => Err(fault),
+    }
+}
+
 /// What is printed for a run under an accepted plan from one folder into another, with the tables and the picture that are
-/// asked for. No output is one of the files that are taken. The cause of a file that fails is noted.
+/// asked for, and the lines of lost frames if a loss is a fault. No output is one of the files that are taken. The cause of a
+/// file that fails is noted, and when the last frame came and had left.
 #[tactic(auto, using(crate::proofs::Ended::memory_ends))]
 pub(crate) fn send_told<H: AllocGlobal + Files>(
     rt: &H,
@@ -84,10 +122,14 @@ pub(crate) fn send_told<H: AllocGlobal + Files>(
     taken: Vec<FileId>,
     tables: TableRequest,
     sketch: Option<PictureRequest>,
+    is_strict: bool,
     cause: &mut Option<Cause>,
-) -> Result<String, Fault>
+    last: &mut Option<Last>,
+) -> Result<RunLines, Fault>
     requires commands { AreCommands accepted.now orders.now }
-    ensures ok { IfOk result (λ line. PrintsRun Global (string_bytes line)) }
+    ensures ok { IfOk result (λ lines. PrintsRun Global (string_bytes lines.line)) }
+    ensures lost { IfOk result (λ lines. TellsLost Global is_strict (string_bytes lines.line) (string_bytes lines.lost)
+        lines.is_lossy) }
     ensures err { IfErr result (EndsTabled accepted.now (string_bytes input) (string_bytes output)
         (option_map string_bytes tables.delays) (option_map string_bytes tables.frames)
         (option_map (λ s. string_bytes s.file) sketch)) }
@@ -120,7 +162,10 @@ pub(crate) fn send_told<H: AllocGlobal + Files>(
         Ok(outcome) => outcome,
         Err(fault) => return Err(fault),
     };
-    let told = tell(rt, accepted, &outcome, tables, sketch, taken, cause);
+    *last = last_of(&outcome);
+    let told = tell(
+        rt, accepted, &outcome, tables, sketch, taken, is_strict, cause,
+    );
     drop(outcome);
     told
 }
@@ -133,9 +178,12 @@ fn tell<H: AllocGlobal + Files>(
     tables: TableRequest,
     sketch: Option<PictureRequest>,
     taken: Vec<FileId>,
+    is_strict: bool,
     cause: &mut Option<Cause>,
-) -> Result<String, Fault>
-    ensures ok { IfOk result (λ line. PrintsRun Global (string_bytes line)) }
+) -> Result<RunLines, Fault>
+    ensures ok { IfOk result (λ lines. PrintsRun Global (string_bytes lines.line)) }
+    ensures lost { IfOk result (λ lines. TellsLost Global is_strict (string_bytes lines.line) (string_bytes lines.lost)
+        lines.is_lossy) }
     ensures err { IfErr result (λ f. IsOfShowing (option_map (λ s. string_bytes s.file) sketch) f
         ⊎ IsOfTables (option_map string_bytes tables.delays) (option_map string_bytes tables.frames) f) }
 {
@@ -143,7 +191,7 @@ fn tell<H: AllocGlobal + Files>(
     if let Err(fault) = put_tables(rt, accepted, outcome, tables, &mut taken, cause) {
         return Err(fault);
     }
-    show(rt, accepted, outcome, sketch, &taken, cause)
+    show(rt, accepted, outcome, sketch, &taken, is_strict, cause)
 }
 
 /// What is printed of what a run told, once its picture is made where one is asked for.
@@ -153,9 +201,12 @@ fn show<H: AllocGlobal + Files>(
     outcome: &Outcome<Global>,
     sketch: Option<PictureRequest>,
     taken: &[FileId],
+    is_strict: bool,
     cause: &mut Option<Cause>,
-) -> Result<String, Fault>
-    ensures ok { IfOk result (λ line. PrintsRun Global (string_bytes line)) }
+) -> Result<RunLines, Fault>
+    ensures ok { IfOk result (λ lines. PrintsRun Global (string_bytes lines.line)) }
+    ensures lost { IfOk result (λ lines. TellsLost Global is_strict (string_bytes lines.line) (string_bytes lines.lost)
+        lines.is_lossy) }
     ensures err { IfErr result (IsOfShowing (option_map (λ s. string_bytes s.file) sketch)) }
 {
     if let Some(sketch) = sketch {
@@ -163,8 +214,27 @@ fn show<H: AllocGlobal + Files>(
             return Err(fault);
         }
     }
-    match summary(rt.alloc(), outcome) {
-        Ok(line) => Ok(line),
-        Err(_) => Err(Fault::Run(RunFault::NoMemory)),
+    let Ok(line) = summary(rt.alloc(), outcome) else {
+        return Err(Fault::Run(RunFault::NoMemory));
+    };
+    let Ok(lost) = lost_if(rt.alloc(), outcome, is_strict) else {
+        return Err(Fault::Run(RunFault::NoMemory));
+    };
+    let is_lossy = !lost.as_str().is_empty();
+    Ok(RunLines {
+        line,
+        lost,
+        is_lossy,
+    })
+}
+
+/// Returns one line for each protected filter that lost a frame or a copy, if a loss is a fault. The text is empty otherwise.
+fn lost_if(alloc: Global, outcome: &Outcome<Global>, is_strict: bool) -> Result<String, NoMemory>
+    ensures { IfOk result (λ lost. string_bytes lost ≡ lost_if is_strict outcome.now.filters.items) }
+{
+    if is_strict {
+        lost_lines(alloc, outcome)
+    } else {
+        Ok(String::new(alloc))
     }
 }

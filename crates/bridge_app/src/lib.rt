@@ -3,6 +3,7 @@
 
 mod explaining;
 mod job;
+mod late;
 mod noting;
 mod picturing;
 mod sparing;
@@ -18,5 +19,5 @@ pub use picturing::{
     picture_apart, picture_job, picture_part_job, picture_text, told_picture_job,
     told_picture_text, write_picture,
 };
-pub use strict::{Strict, strict_run_job, told_check_job, told_run_job};
+pub use strict::{Strict, StrictRun, judge_run_job, strict_run_job, told_check_job};
 pub use wiring::told_wire_job;

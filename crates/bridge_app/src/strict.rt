@@ -6,11 +6,13 @@ ghost use Rattle.bridge_jobs.specs.Jobs.{EndsCheck, PrintsAccepted};
 ghost use Rattle.bridge_check_app.specs.Checked.{EndsChecked};
 ghost use Rattle.bridge_running.specs.Files.{PrintsRun};
 ghost use Rattle.bridge_app.specs.Files.{EndsTabled, EndsTold};
+ghost use Rattle.bridge_app.specs.Losing.{TellsLost};
 
 use crate::explaining::{kept_path, kept_paths, refusal_of_run, said_of_plan, warned_of};
 use crate::job::send_told;
+use crate::late::Last;
 use crate::noting::Refusal;
-use bridge_advice::{warn_of_plan, warnings_of};
+use bridge_advice::{idle_change, warn_of_plan, warnings_of};
 use bridge_check::Accepted;
 use bridge_check_app::plan_text;
 use bridge_cli::{PictureRequest, TableRequest};
@@ -33,19 +35,51 @@ pub struct Strict {
     pub is_warned: bool,
 }
 
+/// A run for which a warning or a loss can be a fault.
+#[derive(Drop)]
+pub struct StrictRun {
+    /// The line that the run prints, if it ran.
+    pub line: Option<String>,
+    /// Lines on standard error about the plan: its warnings, or a complete explanation.
+    pub told: String,
+    /// Whether a warning is a fault and the plan has one.
+    pub is_warned: bool,
+    /// Lines on standard error about the run: one for each protected filter that lost a frame or a copy, if a loss is a fault.
+    pub lost: String,
+    /// Whether there is such a line.
+    pub is_lossy: bool,
+}
+
+impl StrictRun {
+    ghost use Rattle.std.specs.Prelude.{◌≡◌};
+    ghost use Rattle.bridge_app.specs.Losing.{status_of};
+
+    /// Returns the exit status of the run: 1 if a warning or a loss is a fault, else 0.
+    pub fn status(&self) -> u8
+        ensures { result ≡ status_of self.now.is_warned self.now.is_lossy }
+    {
+        if self.is_warned || self.is_lossy {
+            1
+        } else {
+            0
+        }
+    }
+}
+
 /// What is told of a plan that is accepted, and whether there is a warning: with an explanation all that is to be said
-/// of it, otherwise the warnings alone.
+/// of it, otherwise the warnings alone. `idle` is the line of a change of schedules that changes nothing.
 fn told_of(
     alloc: Global,
     accepted: &Accepted<Global>,
+    idle: Option<usize>,
     is_explained: bool,
 ) -> Result<(String, bool), NoMemory> {
-    let warnings = warnings_of(alloc, accepted)?;
+    let warnings = warnings_of(alloc, accepted, idle)?;
     let is_warned = !warnings.is_empty();
     if !is_explained {
         return Ok((warnings, is_warned));
     }
-    let told = warn_of_plan(alloc, accepted)?;
+    let told = warn_of_plan(alloc, accepted, idle)?;
     Ok((told, is_warned))
 }
 
@@ -53,13 +87,15 @@ fn told_of(
 fn checked_strictly(
     alloc: Global,
     accepted: &Accepted<Global>,
+    text: &[u8],
     is_explained: bool,
 ) -> Result<Strict, NoMemory>
     ensures { IfOk result (λ strict. IfSome strict.line (λ line.
         string_bytes line ≡ accepted_line accepted.now.filters)) }
 {
     let line = check_line(alloc, accepted)?;
-    let (told, is_warned) = told_of(alloc, accepted, is_explained)?;
+    let idle = idle_change(text, accepted.plan());
+    let (told, is_warned) = told_of(alloc, accepted, idle, is_explained)?;
     Ok(Strict {
         line: Some(line),
         told,
@@ -122,7 +158,7 @@ fn strict_check(alloc: Global, path: &str, text: &[u8], is_explained: bool) -> R
         Ok(accepted) => accepted,
         Err(fault) => return Err(fault),
     };
-    let checked = checked_strictly(alloc, &accepted, is_explained);
+    let checked = checked_strictly(alloc, &accepted, text, is_explained);
     drop(accepted);
     match checked {
         Ok(strict) => Ok(strict),
@@ -143,14 +179,16 @@ pub fn strict_run_job<H: AllocGlobal + Files>(
     tables: TableRequest,
     sketch: Option<PictureRequest>,
     is_explained: bool,
-) -> Result<Strict, Fault>
+) -> Result<StrictRun, Fault>
     ensures ok { IfOk result (λ strict. IfSome strict.line (λ line. PrintsRun Global (string_bytes line))) }
     ensures warned { IfOk result (λ strict. strict.is_warned ≡ true → strict.line ≡ None) }
+    ensures lost { IfOk result (λ strict. IfSome strict.line (λ line. TellsLost Global true (string_bytes line)
+        (string_bytes strict.lost) strict.is_lossy)) }
     ensures err { IfErr result (EndsTold Global (string_bytes plan) (option_map string_bytes commands)
         (string_bytes input) (string_bytes output) (option_map string_bytes tables.delays)
         (option_map string_bytes tables.frames) (option_map (λ s. string_bytes s.file) sketch)) }
 {
-    match told_run_job(
+    match judge_run_job(
         rt,
         plan,
         input,
@@ -169,7 +207,7 @@ pub fn strict_run_job<H: AllocGlobal + Files>(
 /// What a run under the plan of a file comes to: as by `strict_run_job` where a warning is a fault, else as by `run_with_tables`,
 /// with what there is to say of the plan and of the folder that is read. What is told of it, or of its fault, comes of the one
 /// reading of the plan and of the commands, which may be pipes.
-pub fn told_run_job<H: AllocGlobal + Files>(
+pub fn judge_run_job<H: AllocGlobal + Files>(
     rt: &H,
     plan: String,
     input: String,
@@ -179,9 +217,11 @@ pub fn told_run_job<H: AllocGlobal + Files>(
     sketch: Option<PictureRequest>,
     is_strict: bool,
     is_explained: bool,
-) -> Result<Strict, Refusal>
+) -> Result<StrictRun, Refusal>
     ensures ok { IfOk result (λ strict. IfSome strict.line (λ line. PrintsRun Global (string_bytes line))) }
     ensures warned { IfOk result (λ strict. strict.is_warned ≡ true → strict.line ≡ None) }
+    ensures lost { IfOk result (λ strict. IfSome strict.line (λ line. TellsLost Global is_strict (string_bytes line)
+        (string_bytes strict.lost) strict.is_lossy)) }
     ensures err { IfErr result (λ refusal. EndsTold Global (string_bytes plan) (option_map string_bytes commands)
         (string_bytes input) (string_bytes output) (option_map string_bytes tables.delays)
         (option_map string_bytes tables.frames) (option_map (λ s. string_bytes s.file) sketch) refusal.fault) }
@@ -198,6 +238,7 @@ pub fn told_run_job<H: AllocGlobal + Files>(
     let wishes = Wishes {
         is_strict,
         is_explained,
+        idle: None,
     };
     match run_noted(
         rt, plan, input, output, commands, tables, sketch, wishes, &mut noted,
@@ -214,6 +255,8 @@ struct Wishes {
     is_strict: bool,
     /// Whether all is told that is to be said of the plan.
     is_explained: bool,
+    /// The line of a change of schedules of the plan that changes nothing, once the plan is read.
+    idle: Option<usize>,
 }
 
 /// What a run comes to, with what it noted of its files.
@@ -227,9 +270,11 @@ fn run_noted<H: AllocGlobal + Files>(
     sketch: Option<PictureRequest>,
     wishes: Wishes,
     noted: &mut Noted,
-) -> Result<Strict, Fault>
+) -> Result<StrictRun, Fault>
     ensures ok { IfOk result (λ strict. IfSome strict.line (λ line. PrintsRun Global (string_bytes line))) }
     ensures warned { IfOk result (λ strict. strict.is_warned ≡ true → strict.line ≡ None) }
+    ensures lost { IfOk result (λ strict. IfSome strict.line (λ line. TellsLost Global wishes.is_strict (string_bytes line)
+        (string_bytes strict.lost) strict.is_lossy)) }
     ensures err { IfErr result (EndsTold Global (string_bytes plan) (option_map string_bytes commands)
         (string_bytes input) (string_bytes output) (option_map string_bytes tables.delays)
         (option_map string_bytes tables.frames) (option_map (λ s. string_bytes s.file) sketch)) }
@@ -238,6 +283,10 @@ fn run_noted<H: AllocGlobal + Files>(
     let (accepted, orders) = match read_job(rt, plan, commands, &mut taken, noted) {
         Ok(read) => read,
         Err(fault) => return Err(fault),
+    };
+    let wishes = Wishes {
+        idle: idle_change(&noted.plan, accepted.plan()),
+        ..wishes
     };
     noted.plan = Vec::new(rt.alloc());
     noted.commands = Vec::new(rt.alloc());
@@ -269,50 +318,59 @@ fn send_by<H: AllocGlobal + Files>(
     sketch: Option<PictureRequest>,
     wishes: Wishes,
     cause: &mut Option<Cause>,
-) -> Result<Strict, Fault>
+) -> Result<StrictRun, Fault>
     requires commands { AreCommands accepted.now orders.now }
     ensures ok { IfOk result (λ strict. IfSome strict.line (λ line. PrintsRun Global (string_bytes line))) }
     ensures warned { IfOk result (λ strict. strict.is_warned ≡ true → strict.line ≡ None) }
+    ensures lost { IfOk result (λ strict. IfSome strict.line (λ line. TellsLost Global wishes.is_strict (string_bytes line)
+        (string_bytes strict.lost) strict.is_lossy)) }
     ensures err { IfErr result (EndsTabled accepted.now (string_bytes input) (string_bytes output)
         (option_map string_bytes tables.delays) (option_map string_bytes tables.frames)
         (option_map (λ s. string_bytes s.file) sketch)) }
 {
     if wishes.is_strict {
-        let is_explained = wishes.is_explained;
         return send_strictly(
-            rt,
-            accepted,
-            orders,
-            input,
-            output,
-            taken,
-            tables,
-            sketch,
-            is_explained,
-            cause,
+            rt, accepted, orders, input, output, taken, tables, sketch, wishes, cause,
         );
     }
     let folder = kept_path(rt.alloc(), input.as_str(), wishes.is_explained);
+    let mut last = None;
     match send_told(
-        rt, accepted, orders, input, output, taken, tables, sketch, cause,
+        rt,
+        accepted,
+        orders,
+        input,
+        output,
+        taken,
+        tables,
+        sketch,
+        wishes.is_strict,
+        cause,
+        &mut last,
     ) {
-        Ok(line) => Ok(Strict {
-            line: Some(line),
-            told: told_behind(rt, accepted, &folder),
+        Ok(lines) => Ok(StrictRun {
+            line: Some(lines.line),
+            told: told_behind(rt, accepted, orders, &folder, wishes.idle, last),
             is_warned: false,
+            lost: lines.lost,
+            is_lossy: lines.is_lossy,
         }),
         Err(fault) => Err(fault),
     }
 }
 
-/// What is told of an accepted plan behind its run, and of the folder that was read, where there is its path.
+/// What is told of an accepted plan behind its run, of the folder that was read, and of what came after the last frame, where there
+/// is the path of the folder.
 fn told_behind(
     rt: &(impl AllocGlobal + Files),
     accepted: &Accepted<Global>,
+    orders: &[Command],
     folder: &Option<String>,
+    idle: Option<usize>,
+    last: Option<Last>,
 ) -> String {
     let told = match folder {
-        Some(folder) => warned_of(rt, accepted, folder.as_str()),
+        Some(folder) => warned_of(rt, accepted, orders, folder.as_str(), idle, last),
         None => None,
     };
     match told {
@@ -332,33 +390,40 @@ fn send_strictly<H: AllocGlobal + Files>(
     taken: Vec<FileId>,
     tables: TableRequest,
     sketch: Option<PictureRequest>,
-    is_explained: bool,
+    wishes: Wishes,
     cause: &mut Option<Cause>,
-) -> Result<Strict, Fault>
+) -> Result<StrictRun, Fault>
     requires commands { AreCommands accepted.now orders.now }
     ensures ok { IfOk result (λ strict. IfSome strict.line (λ line. PrintsRun Global (string_bytes line))) }
     ensures warned { IfOk result (λ strict. strict.is_warned ≡ true → strict.line ≡ None) }
+    ensures lost { IfOk result (λ strict. IfSome strict.line (λ line. TellsLost Global true (string_bytes line)
+        (string_bytes strict.lost) strict.is_lossy)) }
     ensures err { IfErr result (EndsTabled accepted.now (string_bytes input) (string_bytes output)
         (option_map string_bytes tables.delays) (option_map string_bytes tables.frames)
         (option_map (λ s. string_bytes s.file) sketch)) }
 {
-    let Ok((told, is_warned)) = told_of(rt.alloc(), accepted, is_explained) else {
+    let Ok((told, is_warned)) = told_of(rt.alloc(), accepted, wishes.idle, wishes.is_explained)
+    else {
         return Err(Fault::Run(RunFault::NoMemory));
     };
     if is_warned {
-        return Ok(Strict {
+        return Ok(StrictRun {
             line: None,
             told,
             is_warned,
+            lost: String::new(rt.alloc()),
+            is_lossy: false,
         });
     }
     match send_told(
-        rt, accepted, orders, input, output, taken, tables, sketch, cause,
+        rt, accepted, orders, input, output, taken, tables, sketch, true, cause, &mut None,
     ) {
-        Ok(line) => Ok(Strict {
-            line: Some(line),
+        Ok(lines) => Ok(StrictRun {
+            line: Some(lines.line),
             told,
             is_warned: false,
+            lost: lines.lost,
+            is_lossy: lines.is_lossy,
         }),
         Err(fault) => Err(fault),
     }

@@ -21,20 +21,23 @@ use Rattle.bridge_check.specs.Windows.{longest_frame}
 use Rattle.bridge_semantics.specs.Offers.{egress}
 use Rattle.bridge_bounds.specs.Passing.{AreApart, fewer, most_in}
 
--- From time `u`, `k` frames of transmission time `occ` leave one after the other, each at its first fit; the last ends at `v`.
+-- Holds if `k` frames of `occ` ns each, sent one after another from time `u`, end at time `v`. Each frame starts at the
+-- first time at which it fits.
 abbrev pub EndsBy : (ℕ → Bool) → ℕ → ℕ → ℕ → ℕ → Type 0
 EndsBy opens occ zero u v = v ≡ u
 EndsBy opens occ (suc k) u v = (w s : ℕ) × EndsBy opens occ k u w × IsFirst opens occ w s × (v ≡ s + occ)
 
--- From any time on, `k` waiting frames of transmission time `occ` have all left within `d` ns.
+-- Holds if, for every time `u`, the last of `k` frames of `occ` ns each, waiting from `u`, ends by `u` + `d` ns. The
+-- transmission gate is open when `opens` is true.
 abbrev pub IsLongest : (ℕ → Bool) → ℕ → ℕ → ℕ → Type 0
 IsLongest opens occ k d = (u : ℕ) → (v : ℕ) × EndsBy opens occ k u v × (v ≤ u + d)
 
--- From some time on, `k` waiting frames of transmission time `occ` need exactly `d` ns to leave.
+-- Holds if, for some time `u`, the last of `k` frames of `occ` ns each, waiting from `u`, ends exactly at `u` + `d` ns.
 abbrev pub IsAttained : (ℕ → Bool) → ℕ → ℕ → ℕ → Type 0
 IsAttained opens occ k d = (u : ℕ) × EndsBy opens occ k u (u + d)
 
--- Some start time makes the `k` frames need exactly `d` ns, so `d` is least; nothing is claimed over a schedule change.
+-- Holds if some time attains exactly `d` ns (IsAttained), so that `d` is least. With a schedule change, the statement
+-- always holds.
 abbrev pub IsLeast : Opening → ℕ → ℕ → ℕ → ℕ → Type 0
 IsLeast Always c occ k d = IsAttained (opens Always c) occ k d
 IsLeast (One l) c occ k d = IsAttained (opens (One l) c) occ k d
@@ -60,19 +63,20 @@ pub record IsWorst {X : Type 0} (r : Rules X) (c occ d : ℕ) : Type 0 where
   pub started : copy.fate ≡ Started start
   pub done : start + r.occ copy.item ≡ copy.at + d
 
--- Bound `b` is, in ns, the longest frame's transmission time minus 1 plus the longest time in which `k` longest frames leave.
--- A longest frame has a service data unit of `m` octets, and at most 9,216 octets in all.
+-- Holds if `b` ns is the longest time in which `k` longest frames leave, plus one frame's transmission time, minus 1
+-- ns. A longest frame has an SDU of `m` octets, and at most 9,216 octets in all.
 pub record IsBoundOf {A : Type 0} (out : PortPlan A) (c m k b : ℕ) : Type 0 where
   pub longest : ℕ
   pub is_longest : IsLongest (opens_of out.list c) (occupied (longest_frame m) out.speed) k longest
   pub is_least : IsLeast (opening_of out.list) c (occupied (longest_frame m) out.speed) k longest
   pub bound : b ≡ (occupied (longest_frame m) out.speed - 1) + longest
 
--- Bound `b` in ns is the delay bound by capacity of the port's queue of class `c`, for frames with this size limit.
+-- Holds if `b` ns is the delay bound by capacity of the class-`c` queue at port `out`, for SDUs of at most `m` octets.
 abbrev pub IsBoundAt : {A : Type 0} → PortPlan A → ℕ → ℕ → ℕ → Type 0
 IsBoundAt out c m b = IsBoundOf out c m ((egress out).room c) b
 
--- Bound `b` in ns is the delay bound by capacity of a reachable queue of protected filter `n`, at port `q` and class `c`.
+-- Holds if `b` is the delay bound by capacity, in ns, of protected filter `n` for its reachable queue of class `c` at
+-- port `q`. The delay counts from a copy's arrival to its end of transmission, gap included.
 pub record IsBound {A : Type 0} (p : Plan A) (n q c b : ℕ) : Type 0 where
   pub filter : FilterPlan
   pub max_sdu : ℕ
@@ -84,24 +88,27 @@ pub record IsBound {A : Type 0} (p : Plan A) (n q c b : ℕ) : Type 0 where
   pub reach : reaches p filter q c ≡ true
   pub is : IsBoundAt out c max_sdu b
 
--- Filter `n` has no delay bound at this queue: the filter is missing, is unprotected, or doesn't reach it.
+-- Holds if filter `n` has no delay bound for class `c` at port `q`: the filter is missing or unprotected, or this queue
+-- is unreachable.
 abbrev pub HasNoBound : {A : Type 0} → Plan A → ℕ → ℕ → ℕ → Type 0
 HasNoBound p n q c = (f : FilterPlan) → lookup (nat_eq n) p.filters ≡ Some f → f.protected ≡ true → reaches p f q c ≡ false
 
--- Bound `b` is the lesser of `a` and the bound of `k` frames if open intervals are far enough apart; otherwise it is `a`.
--- Far enough: each open interval begins after all frames of the one before can have left.
+-- Holds if `b` is the lesser of `a` and the bound for `k` frames, or `a` itself if open intervals aren't far enough
+-- apart. Far enough means apart by the longest time in which `k` frames leave (AreApart).
 pub record IsLesser {A : Type 0} (l : cyclic.Cyclic GateEntry) (out : PortPlan A) (c m k a b : ℕ) : Type 0 where
   pub few : ℕ
   pub is : IsBoundOf out c m k few
   pub lesser : (AreApart (cyclic.turn_at l) is.longest × (b ≡ min a few)) ⊎ ((¬ AreApart (cyclic.turn_at l) is.longest) × (b ≡ a))
 
--- Bound `b` is `a`, or less if the octet limits of a gate with one list allow fewer frames per interval than the capacity.
+-- Holds if bound `b` equals bound `a`, with one exception. If a single gate list passes fewer frames per interval than
+-- the queue's capacity, IsLesser defines `b`.
 abbrev pub IsTightened : {A : Type 0} → Schedule A → PortPlan A → ℕ → ℕ → ℕ → ℕ → Type 0
 IsTightened (Fixed lets ipv) out c m a b = b ≡ a
 IsTightened (Cyclic l) out c m a b = MatchOption (fewer ((egress out).room c) (most_in l.entries)) (b ≡ a) (λ k. IsLesser l out c m k a b)
 IsTightened (Joined j) out c m a b = b ≡ a
 
--- Bound `b` in ns is the one that `bounds` prints for the queue: by capacity, or less by the gate's octet limits.
+-- Holds if `b` is the delay bound in ns that `bounds` prints for the queue of class `c` at port `q`. The bound by
+-- capacity counts, or a lower bound that follows from the stream gate's octet limits.
 pub record IsTightBound {A : Type 0} (p : Plan A) (n q c b : ℕ) : Type 0 where
   pub by_room : ℕ
   pub is_bound : IsBound p n q c by_room

@@ -39,7 +39,8 @@ abbrev pub IsFew : Option ℕ → ℕ → Type 0
 IsFew None k = ⊥
 IsFew (Some limit) k = limit / 2 ≤ k
 
--- Any two times at which different intervals of a list let frames through are at least `w` ns apart.
+-- Holds if two times in two different open intervals of a stream gate are always at least `w` ns apart. The function
+-- `turn_at` gives the interval that contains a time.
 abbrev pub AreApart : (ℕ → Option (Turn GateEntry)) → ℕ → Type 0
 AreApart turn_at w =
     (t u : ℕ) (x y : Turn GateEntry) → t < u → turn_at t ≡ Some x → turn_at u ≡ Some y → x.state.lets ≡ true → y.state.lets ≡ true → ¬ (x.start ≡ y.start) → t + w ≤ u
@@ -53,27 +54,29 @@ pub record LetsFew (turn_at : ℕ → Option (Turn GateEntry)) (k w : ℕ) : Typ
 abbrev pub IsShut : (ℕ → Option (Turn GateEntry)) → ℕ → ℕ → Type 0
 IsShut turn_at from until = (u : ℕ) (x : Turn GateEntry) → from ≤ u → u < until → turn_at u ≡ Some x → x.state.lets ≡ false
 
--- The most frames of at least 2 octets that one interval of an entry lets through: 0 if closed, `None` if unlimited.
+-- The greatest number of frames that entry `e` passes in one interval: 0 if closed, `None` if open without limit. Each
+-- frame has at least 2 SDU octets.
 abbrev pub most_frames : GateEntry → Option ℕ
 most_frames e = if e.lets then option_map (λ limit. limit / 2) e.octets else Some 0
 
--- The greater of two optional numbers; `None` if at least one of them is missing.
+-- The greater of two optional numbers; `None`, which means unlimited, if at least one of them is `None`.
 abbrev pub greater : Option ℕ → Option ℕ → Option ℕ
 greater None b = None
 greater (Some a) None = None
 greater (Some a) (Some b) = Some (max a b)
 
--- The greatest number of frames that any entry lets through in one interval; `None` if an open entry is unlimited.
+-- The greatest number of frames that any entry of the list passes in one interval; `None` if an open entry has no octet
+-- limit.
 abbrev pub most_in : List (GateEntry × ℕ) → Option ℕ
 most_in [] = Some 0
 most_in (e ∷ es) = greater (most_frames e.0) (most_in es)
 
--- The number of frames if it is less than the queue capacity `room`; otherwise `None`.
+-- The optional number of frames `k` if it is present and less than the queue capacity `room`; otherwise `None`.
 abbrev pub fewer : ℕ → Option ℕ → Option ℕ
 fewer room None = None
 fewer room (Some k) = if nat_lt k room then Some k else None
 
--- Every received frame among the events has at most as many captured octets as its length.
+-- Holds if each received frame among the events has at most as many captured octets as its length on the link.
 abbrev pub AreWithinLengths : List Event → Type 0
 AreWithinLengths [] = Unit {0}
 AreWithinLengths (Arrived a ∷ es) = (length a.octets ≤ a.len) × AreWithinLengths es

@@ -13,28 +13,28 @@ use Rattle.bridge_capture.specs.declared.fault.CaptureFault.TheVariants.{BadMagi
 
 -- ---- words
 
--- Octets from offset `from` (counted from 0), at most `count`; fewer if the list ends earlier.
+-- The `count` octets of the list from offset `from` on, counted from 0; fewer if the list ends earlier.
 abbrev pub octets_at : ℕ → ℕ → List ℕ → List ℕ
 octets_at from count octets = take count (drop from octets)
 
--- Value of four octets as an unsigned 32-bit number, read in the given byte order.
+-- Unsigned 32-bit number in four octets, read as little-endian (Little) or big-endian (Big).
 abbrev pub word32 : Order → List ℕ → ℕ
 word32 Little octets = from_le_bytes w32 octets
 word32 Big octets = from_be_bytes w32 octets
 
--- Value of two octets as an unsigned 16-bit number, read in the given byte order.
+-- Unsigned 16-bit number in two octets, read as little-endian (Little) or big-endian (Big).
 abbrev pub word16 : Order → List ℕ → ℕ
 word16 Little octets = from_le_bytes w16 octets
 word16 Big octets = from_be_bytes w16 octets
 
--- Length in ns of one unit of a time stamp's fraction: 1,000 ns for Micro, 1 ns for Nano.
+-- Length in ns of the unit of a time stamp's fraction: 1,000 ns for microseconds (Micro), 1 ns for nanoseconds (Nano).
 abbrev pub nanoseconds : FractionUnit → ℕ
 nanoseconds Micro = 1000
 nanoseconds Nano = 1
 
 -- ---- the header
 
--- Byte order and time unit that the magic number shows, if it is read as little-endian; `None` for an unknown number.
+-- Byte order and time unit for a magic number that was read as little-endian; `None` if the number is unknown.
 abbrev pub form_of_magic : ℕ → Option Form
 form_of_magic magic =
     if magic == 0xA1B23C4D then Some (record { order = Little; unit = Nano })
@@ -43,7 +43,8 @@ form_of_magic magic =
     else if magic == 0xD4C3B2A1 then Some (record { order = Big; unit = Micro })
     else None
 
--- Form of a capture header, or its first fault: unknown magic number, version other than 2.4, link type other than 1 (Ethernet).
+-- Form of a capture header, or its first fault: unknown magic number (`None`), version other than 2.4, link type other
+-- than 1 (Ethernet).
 abbrev pub judged_header : Option Form → List ℕ → Result Form CaptureFault
 judged_header None octets = Err BadMagic
 judged_header (Some form) octets =
@@ -53,7 +54,8 @@ judged_header (Some form) octets =
     else Err BadVersion)
     else Err BadVersion
 
--- Form that the header of the capture file shows, or its first fault; fewer than 24 octets give HeaderCut.
+-- Form (byte order and time unit) that the 24 header octets of a capture show, or the first fault; HeaderCut if octets
+-- are missing.
 unfoldable pub header_of : List ℕ → Result Form CaptureFault
 header_of text =
     if nat_lt (length text) 24 then Err HeaderCut
@@ -61,13 +63,14 @@ header_of text =
 
 -- ---- records
 
--- Captured frame: its arrival time in ns, its original length on the link in octets, and its captured octets.
+-- Frame of a capture file: its time stamp in ns, its original length on the link in octets, and its captured octets.
 pub record Captured : Type 0 where
   pub time : ℕ
   pub len : ℕ
   pub octets : List ℕ
 
--- Position of a packet record in the capture: its number, from 1, and the earliest time in ns that it may have.
+-- Position of a packet record in a capture: the record's number, from 1, and the earliest time stamp in ns that the
+-- record may have.
 pub record Place : Type 0 where
   pub number : ℕ
   pub earliest : ℕ
@@ -76,29 +79,32 @@ pub record Place : Type 0 where
 abbrev pub first_place : Place
 first_place = record { number = 1; earliest = 0 }
 
--- Position of the next packet record: the number rises by 1, and the earliest time is this frame's time.
+-- Position of the packet record after the frame `captured`: the number rises by 1, and the frame's time is the earliest
+-- allowed time.
 abbrev pub after : Place → Captured → Place
 after place captured = record { number = place.number + 1; earliest = captured.time }
 
--- Result of reading at one position: no more octets, a fault, or a captured frame and the octets that follow it.
+-- Result of reading at one position: no more octets, a fault, or a captured frame with the octets after its record.
 pub data Front : Type 0 where
   Nothing : Front
   Fault : CaptureFault → Front
   Record : Captured → List ℕ → Front
 
--- Time stamp of a packet record in ns: its seconds, and its fraction in the unit of `form`.
+-- Time stamp of a packet record in ns: its first 32-bit word in seconds, plus its second word in the unit of `form`.
 abbrev pub time_of : Form → List ℕ → ℕ
 time_of form octets = word32 form.order (octets_at 0 4 octets) * 10 ^ 9 + word32 form.order (octets_at 4 4 octets) * nanoseconds form.unit
 
--- Number of captured octets that the packet record states in its third 32-bit word.
+-- Number of captured octets of a frame, which its packet record states in the third 32-bit word.
 abbrev pub captured_of : Form → List ℕ → ℕ
 captured_of form octets = word32 form.order (octets_at 8 4 octets)
 
--- Length of the frame on the link in octets, which the packet record states in its fourth 32-bit word.
+-- Original length of a frame on the link in octets, which its packet record states in the fourth 32-bit word.
 abbrev pub original_of : Form → List ℕ → ℕ
 original_of form octets = word32 form.order (octets_at 12 4 octets)
 
--- First fault of a record's header: captured length over the limit, captured above original length, time out of range, time below the previous one.
+-- First fault of a record's header: captured octets above MOST_CAPTURED or the original length, time at END_OF_TIME or
+-- later, time before the previous record's time.
+-- `None` means a header without a fault.
 abbrev pub head_fault : Place → ℕ → ℕ → ℕ → Option CaptureFault
 head_fault place time captured original =
     if nat_lt MOST_CAPTURED captured then Some (RecordTooLarge place.number)
@@ -107,14 +113,16 @@ head_fault place time captured original =
     else if nat_lt time place.earliest then Some (TimeBack place.number)
     else None
 
--- Result for a packet record: the fault of its header if any, RecordCut if captured octets are missing, else the captured frame.
+-- Result for a packet record: its header's fault if there is a fault, RecordCut if captured octets are missing,
+-- otherwise the captured frame.
 abbrev pub record_with_head : Form → Place → List ℕ → Option CaptureFault → Front
 record_with_head form place octets (Some fault) = Fault fault
 record_with_head form place octets None =
     if nat_lt (length octets) (16 + captured_of form octets) then Fault (RecordCut place.number)
     else Record (record { time = time_of form octets; len = original_of form octets; octets = octets_at 16 (captured_of form octets) octets }) (drop (16 + captured_of form octets) octets)
 
--- Result of reading at this position: the end of the octets, the first fault, or the next captured frame.
+-- Result of reading at the position `place`: the end if no `octets` remain, otherwise the first fault or the next
+-- captured frame.
 unfoldable pub front_of : Form → Place → List ℕ → Front
 front_of form place octets =
     if length octets == 0 then Nothing
@@ -124,18 +132,20 @@ front_of form place octets =
 
 -- ---- a whole text
 
--- End of a capture: at the end of its octets (AtEnd), or at its first fault (AtFault).
+-- How the reading of a capture ends: after its last octet without a fault (AtEnd), or at its first fault (AtFault).
 pub data Ending : Type 0 where
   AtEnd : Ending
   AtFault : CaptureFault → Ending
 
--- Reading stops at this position with the given ending: AtEnd if no octets remain, or exactly the fault found here.
+-- Statement: Reading stops here with `ending`: AtEnd if no octets remain, or AtFault with the fault found; false if a
+-- frame was read.
 abbrev pub EndsWith : Front → Ending → Type 0
 EndsWith Nothing ending = ending ≡ AtEnd
 EndsWith (Fault fault) ending = ending ≡ AtFault fault
 EndsWith (Record captured rest) ending = ⊥
 
--- From this position the octets hold exactly these captured frames, in order, and then the given ending.
+-- Statement: The octets from the position `place` on hold exactly the captured frames of the list, in order, and then
+-- reading stops with `ending`.
 abbrev pub Reads : Form → Place → List ℕ → List Captured → Ending → Type 0
 Reads form place octets [] ending = EndsWith (front_of form place octets) ending
 Reads form place octets (captured ∷ more) ending = (rest : List ℕ) × (front_of form place octets ≡ Record captured rest) × Reads form (after place captured) rest more ending
@@ -145,11 +155,13 @@ abbrev pub BeginsWith : Form → Place → List ℕ → List Captured → Place 
 BeginsWith form place octets [] next rest = (next ≡ place) × (rest ≡ octets)
 BeginsWith form place octets (captured ∷ more) next rest = (mid : List ℕ) × (front_of form place octets ≡ Record captured mid) × BeginsWith form (after place captured) mid more next rest
 
--- If the header is valid, the records after it give these frames and this ending; otherwise no frames and the header's fault.
+-- Statement: With a valid header, the records after it give `frames` and `ending`; with a header fault, `frames` is
+-- empty and `ending` is the fault.
 abbrev pub ReadsAfter : Result Form CaptureFault → List ℕ → List Captured → Ending → Type 0
 ReadsAfter (Ok form) text frames ending = Reads form first_place (drop 24 text) frames ending
 ReadsAfter (Err fault) text frames ending = (frames ≡ []) × (ending ≡ AtFault fault)
 
--- The file contents are a capture with exactly these frames, in order, and with this ending.
+-- Statement: Reading the file contents `text` as a capture gives exactly the frames `frames`, in list order, and then
+-- the ending `ending`.
 abbrev pub Records : List ℕ → List Captured → Ending → Type 0
 Records text frames ending = ReadsAfter (header_of text) text frames ending

@@ -1,7 +1,8 @@
 -- A source or a sink over memory.
 use Rattle.std.specs.Prelude.{ℕ, List, Option, Bool, not, is_some, ◌&&◌, ◌||◌}
 
--- Source or sink in memory: its octets, the octets until failure (`None` means unlimited), the most per call, and two failure flags.
+-- Source or sink of octets in memory: its octets, the number of octets until failure (`None` means unlimited), the most
+-- per call, two failure flags.
 -- `octets` are still to be read (source) or written (sink), and `ran_out` is true if memory for them was refused.
 pub record MemoryDevice : Type 0 where
   pub octets : List ℕ

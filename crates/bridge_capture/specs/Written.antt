@@ -13,23 +13,26 @@ use Rattle.bridge_capture.specs.Grammar.{Captured}
 abbrev pub written_form : Form
 written_form = record { order = Little; unit = Nano }
 
--- The 24 octets of a written header: little-endian nanosecond magic, version 2.4, two zero words, snap length 65,535 octets, link type 1.
+-- The 24 octets of the written header: magic number (little-endian, ns), version 2.4, two zero words, snap length
+-- 65,535 octets, link type 1 (Ethernet).
 abbrev pub written_header : List ℕ
 written_header = 0x4d ∷ 0x3c ∷ 0xb2 ∷ 0xa1 ∷ 2 ∷ 0 ∷ 4 ∷ 0 ∷ 0 ∷ 0 ∷ 0 ∷ 0 ∷ 0 ∷ 0 ∷ 0 ∷ 0 ∷ 0xff ∷ 0xff ∷ 0 ∷ 0 ∷ 1 ∷ 0 ∷ 0 ∷ 0 ∷ []
 
--- Header of a written packet record: seconds, nanoseconds, captured length and original length, each as a little-endian 32-bit number.
+-- Header of a written packet record: seconds and nanoseconds of the time `done`, captured length, original length
+-- `len`, each a little-endian 32-bit number.
 unfoldable pub written_words : ℕ → ℕ → ℕ → List ℕ
 written_words done captured len = to_le_bytes w32 (done / 10 ^ 9) ++ to_le_bytes w32 (done % 10 ^ 9) ++ to_le_bytes w32 captured ++ to_le_bytes w32 len
 
--- Octets of one packet record: its header of 16 octets, then the captured octets of the frame.
+-- Octets of one packet record: a header of 16 octets with time `done` in ns and original length `len`, then the
+-- captured `octets`.
 abbrev pub written_record : ℕ → ℕ → List ℕ → List ℕ
 written_record done len octets = written_words done (length octets) len ++ octets
 
--- Octets of the packet record for one captured frame, with its time, original length and captured octets.
+-- Octets of the packet record for the frame `captured`: its time, original length and captured octets.
 abbrev pub written_item : Captured → List ℕ
 written_item captured = written_record captured.time captured.len captured.octets
 
--- File contents of a capture: the header, then one packet record for each frame, in list order.
+-- File contents for a capture of the list `frames`: the header, then one packet record for each frame, in list order.
 abbrev pub written_text : List Captured → List ℕ
 written_text frames = written_header ++ flat_map written_item frames
 

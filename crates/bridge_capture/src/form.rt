@@ -1,6 +1,6 @@
 //! How the words of a capture are read, which its magic shows.
 
-/// Order of the octets in the words of a capture.
+/// Byte order of the numbers in a capture: little-endian or big-endian.
 #[derive(Clone, Copy, Debug, PartialEq, Eq)]
 pub enum Order {
     Little,
@@ -14,7 +14,7 @@ pub enum Unit {
     Nano,
 }
 
-/// Order of octets and unit of time that the magic of a capture shows.
+/// Byte order and time unit that the magic number of a capture shows.
 #[derive(Clone, Copy, Debug, PartialEq, Eq)]
 pub struct Form {
     pub order: Order,

@@ -12,7 +12,7 @@ use Rattle.bridge_check.specs.Reach.{reaches}
 use Rattle.bridge_check.specs.Windows.{longest_frame}
 use Rattle.bridge_check.specs.Faults.{fault_of}
 
--- Each protected filter of the plan passes all eight tests of `check`.
+-- Holds if each protected filter of plan `p` passes all eight tests of `check`.
 abbrev pub IsAcceptable : {A : Type 0} → Plan A → Type 0
 IsAcceptable p = (n : ℕ) (f : FilterPlan) → In (n, f) p.filters → f.protected ≡ true → fault_of p n f ≡ None
 

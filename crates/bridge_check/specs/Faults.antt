@@ -11,101 +11,114 @@ use Rattle.bridge_check.specs.declared.fault.CheckFault.TheVariants as fault
 use Rattle.bridge_check.specs.Reach.{reaches}
 use Rattle.bridge_check.specs.Windows.{shared_at, ever_fits}
 
--- The given fault if the test result is false; `None` if it is true.
+-- Returns the fault `e` if the test result is false, and `None` if the test result is true.
 abbrev pub fault_unless : Bool → CheckFault → Option CheckFault
 fault_unless true e = None
 fault_unless false e = Some e
 
--- True if both optional flow meter numbers are present and equal; two absent meters count as different.
+-- True if two optional flow meter numbers are both present and equal; false if one of them or both are absent.
 abbrev pub is_one_meter : Option ℕ → Option ℕ → Bool
 is_one_meter (Some m) (Some n) = nat_eq m n
 is_one_meter _ _ = false
 
--- True if a filter with a number other than `n` uses the stream gate of filter `f`.
+-- True if a filter in the list whose number differs from `n` uses the stream gate of filter `f`.
 abbrev pub is_gate_shared : List (ℕ × FilterPlan) → ℕ → FilterPlan → Bool
 is_gate_shared filters n f = list_any (λ g. not (nat_eq g.0 n) && nat_eq g.1.gate f.gate) filters
 
--- True if a filter with a number other than `n` uses the flow meter of `f`; false if `f` has no meter.
+-- True if a filter in the list whose number differs from `n` uses the flow meter of `f`; false if `f` has no meter.
 abbrev pub is_meter_shared : List (ℕ × FilterPlan) → ℕ → FilterPlan → Bool
 is_meter_shared filters n f = list_any (λ g. not (nat_eq g.0 n) && is_one_meter g.1.meter f.meter) filters
 
--- True if no filter in the list has a number greater than `n`.
+-- True if every filter number in the list is at most `n`.
 abbrev pub is_greatest : List (ℕ × FilterPlan) → ℕ → Bool
 is_greatest filters n = list_all (λ g. nat_le g.0 n) filters
 
--- True if the filter with the greatest number matches every frame: it names neither a stream handle nor a priority.
+-- True if a filter with the greatest number in the list names neither a stream handle nor a priority. This filter
+-- matches every frame.
 abbrev pub has_catch_all : List (ℕ × FilterPlan) → Bool
 has_catch_all filters = list_any (λ g. is_greatest filters g.0 && not (is_some g.1.handle) && not (is_some g.1.priority)) filters
 
--- The least number of a filter other than `n` that reaches the queue of class `c` at port `q`, or `None`.
+-- The least number of a filter in the list, except `n`, whose reachable queues include class `c` at port `q`, or
+-- `None`.
 abbrev pub other_at : {A : Type 0} → Plan A → List (ℕ × FilterPlan) → ℕ → ℕ → ℕ → Option ℕ
 other_at p [] n q c = None
 other_at p (g ∷ gs) n q c = if not (nat_eq g.0 n) && reaches p g.1 q c then lesser_number (Some g.0) (other_at p gs n q c) else other_at p gs n q c
 
--- The first of two optional values that is present, or `None`.
+-- The first optional value if it is present, otherwise the second one, which may be `None`.
 abbrev pub first_of : {X : Type 0} → Option X → Option X → Option X
 first_of None b = b
 first_of (Some x) b = Some x
 
--- The first value that `tell` gives for the numbers 0 to `n` - 1, in rising order, or `None`.
+-- The first value that function `tell` returns for the numbers 0 to `n` - 1, in rising order; `None` if every call
+-- returns `None`.
 unfoldable pub first_below : {X : Type 0} → ℕ → (ℕ → Option X) → Option X
 first_below zero tell = None
 first_below (suc n) tell = first_of (first_below n tell) (tell n)
 
--- The first fault that `tell` reports for a reachable queue of filter `f`, by rising port and class, or `None`.
+-- The first fault that `tell port class` returns for a reachable queue of filter `f`, or `None`. Ports rise from 1 to
+-- 16, and classes from 0 to 7 at each port.
 abbrev pub first_in_reach : {A : Type 0} → Plan A → FilterPlan → (ℕ → ℕ → Option CheckFault) → Option CheckFault
 first_in_reach p f tell = first_below 16 (λ i. first_below 8 (λ c. if reaches p f (i + 1) c then tell (i + 1) c else None))
 
--- Offset in the cycle, in ns, from which the port opens class `c` together with another class; `None` also for a missing port.
+-- Offset in ns from the cycle's start at which the port first opens class `c` together with another class, or `None`. A
+-- port without a list gives 0, and a missing port `None`.
 abbrev pub shared_on : {A : Type 0} → Option (PortPlan A) → ℕ → Option ℕ
 shared_on None c = None
 shared_on (Some port) c = shared_at port.list c
 
--- True if a list of the port has no window of class `c` for the longest frame; false without a port or size limit.
+-- True if some list of the port lacks a window of class `c` for the longest frame; false without a port or size limit.
 abbrev pub never_fits : {A : Type 0} → Option (PortPlan A) → ℕ → Option ℕ → Bool
 never_fits (Some port) c (Some sdu) = not (ever_fits port c sdu)
 never_fits _ c _ = false
 
 -- THE EIGHT TESTS
 
--- Test 1 reports the filter if it names no stream handle: it would match frames of every stream.
+-- Test 1 returns the fault ProtectedWildcard if filter `f` names no stream handle; otherwise `None`. A filter without a
+-- handle matches every stream.
 abbrev pub wildcard_fault : ℕ → FilterPlan → Option CheckFault
 wildcard_fault n f = fault_unless (is_some f.handle) (fault.ProtectedWildcard n)
 
--- Test 2 reports the filter if it has no size limit (`max_sdu`) for service data units.
+-- Test 2 returns the fault NoMaxSdu if filter `f` has no limit (`max_sdu`) for its service data units (SDU); otherwise
+-- `None`.
 abbrev pub max_sdu_fault : ℕ → FilterPlan → Option CheckFault
 max_sdu_fault n f = fault_unless (is_some f.max_sdu) (fault.NoMaxSdu n)
 
--- Test 3 reports the filter if another filter uses its stream gate.
+-- Test 3 returns the fault GateShared if a filter with another number than `n` uses the stream gate of `f`; otherwise
+-- `None`.
 abbrev pub gate_fault : {A : Type 0} → Plan A → ℕ → FilterPlan → Option CheckFault
 gate_fault p n f = fault_unless (not (is_gate_shared p.filters n f)) (fault.GateShared n)
 
--- Test 4 reports the filter if another filter uses its flow meter; a filter without a meter passes.
+-- Test 4 returns the fault MeterShared if a filter with another number than `n` uses the flow meter of `f`; otherwise
+-- `None`. A filter without a meter passes.
 abbrev pub meter_fault : {A : Type 0} → Plan A → ℕ → FilterPlan → Option CheckFault
 meter_fault p n f = fault_unless (not (is_meter_shared p.filters n f)) (fault.MeterShared n)
 
--- Test 5 reports the filter if the plan's filter with the greatest number names a stream handle or a priority.
+-- Test 5 returns the fault NoCatchAll for filter `n` if plan `p` has no catch-all filter; otherwise `None`.
 abbrev pub catch_all_fault : {A : Type 0} → Plan A → ℕ → Option CheckFault
 catch_all_fault p n = fault_unless (has_catch_all p.filters) (fault.NoCatchAll n)
 
--- Test 6 reports the first reachable queue of the filter that another filter, protected or not, also reaches.
+-- Test 6 returns QueueShared for the first reachable queue of filter `f` that is also reachable for another filter;
+-- otherwise `None`. Unprotected filters count too.
 abbrev pub queue_fault : {A : Type 0} → Plan A → ℕ → FilterPlan → Option CheckFault
 queue_fault p n f = first_in_reach p f (λ q c. option_map (fault.QueueShared n q c) (other_at p p.filters n q c))
 
--- Test 7 reports the first reachable queue whose class is open together with another, or whose port has no gate control list.
+-- Test 7 returns WindowShared for the first reachable queue of filter `f` whose class opens together with another
+-- class; otherwise `None`. A port without a gate control list opens all classes together.
 abbrev pub window_fault : {A : Type 0} → Plan A → ℕ → FilterPlan → Option CheckFault
 window_fault p n f = first_in_reach p f (λ q c. option_map (fault.WindowShared n q c) (shared_on (port_at p.ports q) c))
 
--- Test 8 reports the first reachable queue at which a list of the port has no window for the filter's longest frame.
+-- Test 8 returns MaxSduNeverFits for the first reachable queue that lacks a window for the longest frame of filter `f`;
+-- otherwise `None`. Each gate control list of the port needs a window that fits.
 abbrev pub size_fault : {A : Type 0} → Plan A → ℕ → FilterPlan → Option CheckFault
 size_fault p n f = first_in_reach p f (λ q c. fault_unless (not (never_fits (port_at p.ports q) c f.max_sdu)) (fault.MaxSduNeverFits n q c))
 
--- The first fault in a list of test results; `None` if every test passed.
+-- The first fault in a list of test results; `None` if every result is `None`, which means a passed test.
 abbrev pub first_fault_of : List (Option CheckFault) → Option CheckFault
 first_fault_of [] = None
 first_fault_of (e ∷ es) = first_of e (first_fault_of es)
 
--- The results of the eight tests of a protected filter, in their order; `None` stands for a passed test.
+-- The eight test results for filter `f` with number `n`, in the order of the tests: a fault, or `None` for a passed
+-- test.
 abbrev pub tests_of : {A : Type 0} → Plan A → ℕ → FilterPlan → List (Option CheckFault)
 tests_of p n f =
     wildcard_fault n f
@@ -118,7 +131,8 @@ tests_of p n f =
     ∷ size_fault p n f
     ∷ []
 
--- The fault of the first test that the filter fails; `None` if it passes all eight.
+-- The fault of the first of eight tests that filter `f` with number `n` fails in plan `p`; `None` if it passes all
+-- eight.
 abbrev pub fault_of : {A : Type 0} → Plan A → ℕ → FilterPlan → Option CheckFault
 fault_of p n f = first_fault_of (tests_of p n f)
 
@@ -134,21 +148,23 @@ failing_of p f = if f.1.protected then failing_in (tests_of p f.0 f.1) else []
 abbrev pub all_faults : {A : Type 0} → Plan A → List CheckFault
 all_faults p = flat_map (failing_of p) p.filters
 
--- The fault with the lesser filter number, or the first one at equal numbers; a missing fault is ignored.
+-- The one of two optional pairs (filter number, fault) with the lower number, the first if equal; `None` if both are
+-- absent.
 abbrev pub lesser_fault : Option (ℕ × CheckFault) → Option (ℕ × CheckFault) → Option (ℕ × CheckFault)
 lesser_fault None b = b
 lesser_fault (Some a) None = Some a
 lesser_fault (Some a) (Some b) = if nat_lt b.0 a.0 then Some b else Some a
 
--- The filter's number with its first fault; `None` if the filter is unprotected or passes all tests.
+-- The number of filter `f`, paired with its first fault; `None` if the filter is unprotected or passes all eight tests.
 abbrev pub numbered_fault : {A : Type 0} → Plan A → ℕ × FilterPlan → Option (ℕ × CheckFault)
 numbered_fault p f = if f.1.protected then option_map (λ e. (f.0, e)) (fault_of p f.0 f.1) else None
 
--- The first fault of the protected filter with the least number that fails a test, together with this number, or `None`.
+-- The number and the first fault of the lowest-numbered faulty protected filter in the list, as a pair, or `None`.
 abbrev pub least_fault : {A : Type 0} → Plan A → List (ℕ × FilterPlan) → Option (ℕ × CheckFault)
 least_fault p [] = None
 least_fault p (f ∷ fs) = lesser_fault (numbered_fault p f) (least_fault p fs)
 
--- The fault that `check` reports for the plan, or `None`: the first fault of the lowest protected filter that fails a test.
+-- The fault that `check` reports for plan `p`, or `None`: the first fault of the lowest-numbered faulty protected
+-- filter.
 abbrev pub first_fault : {A : Type 0} → Plan A → Option CheckFault
 first_fault p = option_map (λ x. x.1) (least_fault p p.filters)

@@ -8,25 +8,29 @@ use Rattle.bridge_filter.specs.Verdicts.{call}
 use Rattle.bridge_config.specs.declared.ports.PortPlan.{PortPlan}
 use Rattle.bridge_config.specs.Model.{Plan}
 
--- The VLAN identifier of a received frame: its tag's, or the port's if it is untagged or priority-tagged (IEEE 802.1Q-2018, 6.9).
+-- The VLAN identifier of a received frame: the tag's, or the port's default if the frame is untagged or priority-tagged
+-- (IEEE 802.1Q-2018, 6.9).
 abbrev pub vid_of : {A : Type 0} → PortPlan A → Option Tag → ℕ
 vid_of port None = port.vid
 vid_of port (Some tag) = if nat_eq tag.vid 0 then port.vid else tag.vid
 
--- The priority of a received frame, 0 to 7: its tag's priority code point, or the port's default priority if it is untagged.
+-- The priority of a received frame, 0 to 7: the tag's priority code point, or the port's default priority if the frame
+-- is untagged.
 abbrev pub priority_of : {A : Type 0} → PortPlan A → Option Tag → ℕ
 priority_of port None = port.priority
 priority_of port (Some tag) = tag.pcp
 
--- True if the tag of the received frame has its drop eligible indicator set; false for an untagged frame.
+-- True if the received frame's tag has its drop eligible indicator set; false if the frame is untagged.
 abbrev pub is_eligible : Option Tag → Bool
 is_eligible None = false
 is_eligible (Some tag) = tag.dei
 
--- The data of a received frame that the filters use: arrival time in ns, handle, priority, drop eligibility, SDU octets and metered octets.
+-- The data of a received frame that the stream filters use: arrival time in ns, stream handle, priority, drop
+-- eligibility, SDU octets and metered octets.
 abbrev pub call_of : {A : Type 0} → Plan A → PortPlan A → ℕ → Head → ℕ → Call
 call_of p port at head octets = call at (handle_in p.streams port.number head (vid_of port head.tag)) (priority_of port head.tag) (is_eligible head.tag) head.sdu octets
 
--- The traffic class, 0 to 7, of a frame at an egress port, by its internal priority value, otherwise its priority (IEEE 802.1Q-2018, 8.6.6).
+-- The traffic class (0 to 7) of a frame at egress port `out` (IEEE 802.1Q-2018, 8.6.6). The internal priority value
+-- `ipv` selects the class, or, without it, the frame's `priority`.
 abbrev pub class_of : {A : Type 0} → PortPlan A → Option ℕ → ℕ → ℕ
 class_of out ipv priority = slice_index out.classes (unwrap_or ipv priority)

@@ -217,7 +217,7 @@ const RUN: Description = Description {
             id: "strict",
             value: "",
             form: Form::Flag,
-            help: "treat warnings as errors (status 1): run nothing",
+            help: "status 1 on a warning (nothing runs) or if a protected filter loses frames",
         },
         EXPLAIN,
     ],
@@ -229,7 +229,8 @@ Example:
 
 Statuses:
   0  success: one line counts the frames
-  1  the plan or its commands are refused, or the plan has a warning (--strict)
+  1  the plan or its commands are refused; with --strict also if the plan has a warning or a
+     protected filter loses frames
   2  a capture is refused
   3  a file can't be opened, read or written, or memory is exhausted
   4  bad arguments",
@@ -309,7 +310,7 @@ Example:
 
 Statuses:
   0  the plan is accepted, and all traffic passes in time
-  1  the plan or the traffic is refused, or a frame may be refused or late
+  1  the plan or the traffic is refused, or a frame may be refused, late or forwarded nowhere
   3  a file can't be opened, read or written, or memory is exhausted
   4  bad arguments",
 };
@@ -347,7 +348,7 @@ const NET: Description = Description {
             id: "strict",
             value: "",
             form: Form::Flag,
-            help: "treat warnings as errors (status 1)",
+            help: "status 1 on a warning (nothing runs), a lost frame or a missed deadline",
         },
         EXPLAIN,
     ],
@@ -366,8 +367,8 @@ open ports, and commands.toml if it receives commands.
 
 Statuses:
   0  the network is accepted, or its run is complete
-  1  the network, a plan or commands are refused, or there is a warning (--strict); after `net check`
-     also if a stream is refusable or late
+  1  the network, a plan or commands are refused; after `net check` also if a stream is refusable or
+     late; with --strict also after a warning, a lost frame or a missed deadline
   2  a capture is refused, or frames loop and the run doesn't settle
   3  a file can't be opened, read or written, or memory is exhausted
   4  bad arguments",

@@ -19,14 +19,14 @@ use Rattle.bridge_config.specs.Model.{Plan}
 use Rattle.bridge_config.specs.Sections.{provided}
 use Rattle.bridge_config.specs.Texts.{clear_of}
 
--- True if the plan has the filter, gate or meter whose flag the command clears.
+-- True if the plan `p` has the filter, stream gate or meter with number `n` whose flag the command clears.
 abbrev pub has_instance : {A : Type 0} → Plan A → Clear → ℕ → Bool
 has_instance p clear.Blocked n = is_there n p.filters
 has_instance p clear.Rx n = is_there n p.gates
 has_instance p clear.Octets n = is_there n p.gates
 has_instance p clear.Red n = is_there n p.meters
 
--- Command times never fall, and the plan has the filter, gate or meter that each command names.
+-- Statement: The times of the commands never fall, and the plan has the filter, gate or meter that each command names.
 pub record AreCommands {A : Type 0} (p : Plan A) (commands : List Command) : Type 0 where
   pub rise : Rising (λ a b. a.at ≤ b.at) commands
   pub instances : (c : Command) → In c commands → IsTrue (has_instance p c.clear c.number)

@@ -13,7 +13,8 @@ pub record Policing (A : Type 0) : Type 0 where
   pub meters : List (ℕ × MeterPlan)
   pub filters : List (ℕ × FilterPlan)
 
--- Plan of one bridge: ports, VLANs and static entries, stream entries, and numbered gates, meters and filters, each in file order.
+-- Plan of one bridge: lists, in file order, of ports, VLANs, static entries, stream entries, and of numbered stream
+-- gates, meters and filters.
 pub record Plan (A : Type 0) : Type 0 where
   pub ports : List (PortPlan A)
   pub database : Database

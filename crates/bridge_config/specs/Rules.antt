@@ -22,7 +22,7 @@ use Rattle.bridge_schema.specs.Readers.{are_within, is_subset, set_with}
 use Rattle.bridge_config.specs.declared.ports.PortPlan.{PortPlan}
 use Rattle.bridge_config.specs.Model.{Policing, Plan}
 
--- List `ns` holds exactly the numbers of `all`, in strictly increasing order.
+-- Statement: The list `ns` contains exactly the numbers of the list `all`, each once, in strictly increasing order.
 pub record IsInOrder (all ns : List ℕ) : Type 0 where
   pub rises : IsStrictlyIncreasing ns
   pub same : IsPermutation all ns
@@ -31,26 +31,28 @@ pub record IsInOrder (all ns : List ℕ) : Type 0 where
 abbrev pub IsBeforeEnd : Option ℕ → Type 0
 IsBeforeEnd change = ForSome change (λ t. t < END_OF_TIME)
 
--- True if a port of the list has number `n`.
+-- True if at least one port of the list has the number `n`.
 abbrev pub has_port : {A : Type 0} → List (PortPlan A) → ℕ → Bool
 has_port ports n = list_any (λ p. nat_eq p.number n) ports
 
--- First port of the list with number `n`; `None` if no port has it.
+-- First port of the list with the number `n`; `None` if no port has this number.
 abbrev pub port_at : {A : Type 0} → List (PortPlan A) → ℕ → Option (PortPlan A)
 port_at [] n = None
 port_at (p ∷ ps) n = if nat_eq p.number n then Some p else port_at ps n
 
--- The gate control list is valid, and each state is one octet: bit c opens class c, from 0 to 7.
+-- Statement: The gate control list is valid, and each gate state is a number below 256; bit c of a state opens class c.
 pub record IsPortList (l : Cyclic ℕ) : Type 0 where
   pub lawful : IsLawful l
   pub classes : All (λ e. e.0 < 256) l.entries
 
--- Statement `P` holds for the port's one gate control list, or for both the old and the new list.
+-- Statement: The property `P` holds for each gate control list of the port: the only list, or both the old and the new
+-- list.
 abbrev pub ForEachList : {A : Type 0} → (Cyclic ℕ → Type 0) → Egress A → Type 0
 ForEachList P (egress.Cyclic l) = P l
 ForEachList P (egress.Joined j) = P j.old × P j.new
 
--- The port's number, VLAN, priority, eight classes, eight queue capacities and gate control lists are within the ranges below.
+-- Statement: The port's number, VLAN, priority, eight classes, eight queue capacities and gate control lists are within
+-- the bounds that the fields state.
 pub record IsPort {A : Type 0} (p : PortPlan A) : Type 0 where
   pub number_from : 1 ≤ p.number
   pub number_to : p.number ≤ 16
@@ -63,26 +65,27 @@ pub record IsPort {A : Type 0} (p : PortPlan A) : Type 0 where
   pub eight_rooms : length p.rooms ≡ 8
   pub list : ForSome p.list (ForEachList IsPortList)
 
--- Each port is within its ranges, and no two ports have the same number.
+-- Statement: Each port follows IsPort, and no two ports have the same number.
 pub record ArePorts {A : Type 0} (ports : List (PortPlan A)) : Type 0 where
   pub each : All IsPort ports
   pub own : are_own (λ p q. nat_eq p.number q.number) ports ≡ true
 
--- Set of the numbers of all ports, in which bit n - 1 stands for port n.
+-- Set of the numbers of all ports in the list; bit n - 1 of the set stands for port n.
 abbrev pub port_set : {A : Type 0} → List (PortPlan A) → ℕ
 port_set ports = set_with 1 0 (map (λ p. p.number) ports)
 
--- True if a VLAN of the list has identifier `n`.
+-- True if at least one VLAN of the list has the identifier `n`.
 abbrev pub has_vlan : List Vlan → ℕ → Bool
 has_vlan vlans n = list_any (λ v. nat_eq v.vid n) vlans
 
--- The VLAN identifier is 1 to 4094, and every member port is in the set `all` of the plan's ports.
+-- Statement: The VLAN identifier is 1 to 4094, and every member port is in `all`, the set of the plan's ports.
 pub record IsVlan (all : ℕ) (v : Vlan) : Type 0 where
   pub vid_from : 1 ≤ v.vid
   pub vid_to : v.vid ≤ 4094
   pub members : is_subset v.members all ≡ true
 
--- Each VLAN is valid for the port set `all`, and no two VLANs have the same identifier.
+-- Statement: Each VLAN follows IsVlan for `all`, the set of the plan's ports, and no two VLANs have the same
+-- identifier.
 pub record AreVlans (all : ℕ) (vlans : List Vlan) : Type 0 where
   pub each : All (IsVlan all) vlans
   pub own : are_own (λ v w. nat_eq v.vid w.vid) vlans ≡ true
@@ -91,18 +94,19 @@ pub record AreVlans (all : ℕ) (vlans : List Vlan) : Type 0 where
 abbrev pub has_static : List StaticEntry → ℕ → List ℕ → Bool
 has_static statics vid address = list_any (λ s. nat_eq s.vid vid && bytes_eq s.address address) statics
 
--- The static entry has a VLAN of the plan, an address of six octets, and only ports in the set `all`.
+-- Statement: The static entry has a VLAN of the plan, an address of six octets, and only ports in `all`, the set of the
+-- plan's ports.
 pub record IsStatic (all : ℕ) (vlans : List Vlan) (s : StaticEntry) : Type 0 where
   pub vlan : has_vlan vlans s.vid ≡ true
   pub address : length s.address ≡ 6
   pub ports : is_subset s.ports all ≡ true
 
--- Each static entry is valid, and no two entries have the same VLAN and address.
+-- Statement: Each static entry follows IsStatic, and no two entries have the same VLAN and the same address.
 pub record AreStatics (all : ℕ) (vlans : List Vlan) (statics : List StaticEntry) : Type 0 where
   pub each : All (IsStatic all vlans) statics
   pub own : are_own (λ s t. nat_eq s.vid t.vid && bytes_eq s.address t.address) statics ≡ true
 
--- The stream entry has a port of the plan, a VLAN identifier from 1 to 4094, and an address of six octets.
+-- Statement: The stream entry has a port of the plan, a VLAN identifier from 1 to 4094, and an address of six octets.
 pub record IsStream {A : Type 0} (ports : List (PortPlan A)) (s : StreamEntry) : Type 0 where
   pub port_from : 1 ≤ s.port
   pub port_to : s.port ≤ 16
@@ -116,23 +120,26 @@ pub record IsGateList (l : Cyclic GateEntry) : Type 0 where
   pub lawful : IsLawful l
   pub priorities : All (λ e. schedules.is_priority e.0.ipv ≡ true) l.entries
 
--- Stream gate numbers differ, each schedule is valid, and each internal priority value is `None` or at most 7.
+-- Statement: The stream gates have different numbers, valid schedules, and internal priority values that are absent
+-- (`None`) or at most 7.
 pub record AreGates {A : Type 0} (gates : List (ℕ × GatePlan A)) : Type 0 where
   pub own : IsTrue (are_distinct gates)
   pub priorities : IsTrue (all_have_priorities gates)
   pub lawful : All (λ g. schedules.IsLawful g.1.schedule) gates
 
--- Meter numbers differ, and each meter has rates up to 100 Gbit/s and burst sizes below 2^32 octets.
+-- Statement: The meters have different numbers, rates up to 100 Gbit/s and burst sizes below 2^32 octets.
 pub record AreMeters (meters : List (ℕ × MeterPlan)) : Type 0 where
   pub own : IsTrue (are_distinct meters)
   pub limits : IsTrue (all_within_limits meters)
 
--- The filter's priority is at most 7 and its maximum SDU at most 65,535 octets; `None` is always valid.
+-- Statement: The filter's priority is at most 7, and its maximum SDU is at most 65,535 octets; an absent value (`None`)
+-- is allowed.
 pub record IsFilter (f : ℕ × FilterPlan) : Type 0 where
   pub priority : ForSome f.1.priority (λ n. n ≤ 7)
   pub max_sdu : ForSome f.1.max_sdu (λ n. n ≤ 65535)
 
--- Filter numbers differ, each filter is valid, and the plan has every gate and meter that a filter names.
+-- Statement: The filters follow IsFilter and have different numbers, and the plan has every gate and meter that a
+-- filter names.
 pub record AreFilters {A : Type 0} (gates : List (ℕ × GatePlan A)) (meters : List (ℕ × MeterPlan)) (filters : List (ℕ × FilterPlan)) : Type 0 where
   pub each : All IsFilter filters
   pub own : IsTrue (are_distinct filters)
@@ -147,7 +154,7 @@ pub record IsPolicing {A : Type 0} (p : Policing A) : Type 0 where
   pub meters : AreMeters p.meters
   pub filters : AreFilters p.gates p.meters p.filters
 
--- The plan has 1 to 16 ports, all tables are within their sizes, and each section follows its rules.
+-- Statement: The plan has 1 to 16 ports, no table has too many entries, and each section follows the rules below.
 pub record IsPlan {A : Type 0} (p : Plan A) : Type 0 where
   pub some_port : 0 < length p.ports
   pub few_ports : length p.ports ≤ 16

@@ -52,8 +52,9 @@ within_both : (a b r : Course) → IsWithin (both a b) r → IsWithin a r × IsW
 within_both a b r is =
     let worst = is.worst in
     let best = is.best in
-    let jitter = is.jitter in
-    (record { worst = omega (arith, worst); best = omega (arith, best); jitter = omega (arith, jitter) }, record { worst = omega (arith, worst); best = omega (arith, best); jitter = omega (arith, jitter) })
+    let from = is.from in
+    let to = is.to in
+    (record { worst = omega (arith, worst); best = omega (arith, best); from = omega (arith, from); to = omega (arith, to) }, record { worst = omega (arith, worst); best = omega (arith, best); from = omega (arith, from); to = omega (arith, to) })
 
 lies_both : (x y : Option Course) (r : Course) → Lies (both_of x y) r → Lies x r × Lies y r
 unfolding Lies
@@ -74,8 +75,9 @@ holds_some (gathered.Figures (Some x)) r is =
     let same = same_Some x r is in
     let worst : x.worst ≡ r.worst = ap (λ (z : Course). z.worst) same in
     let best : x.best ≡ r.best = ap (λ (z : Course). z.best) same in
-    let jitter : x.jitter ≡ r.jitter = ap (λ (z : Course). z.jitter) same in
-    record { worst = omega (arith, worst); best = omega (arith, best); jitter = omega (arith, jitter) }
+    let from : x.phases.from ≡ r.phases.from = ap (λ (z : Course). z.phases.from) same in
+    let to : x.phases.to ≡ r.phases.to = ap (λ (z : Course). z.phases.to) same in
+    record { worst = omega (arith, worst); best = omega (arith, best); from = omega (arith, from); to = omega (arith, to) }
 
 -- each of some figures lies within all of them together
 each_lies : (g : Gathered) (ys : List (Option Course)) (r : Course) → figures_of (fold with_one g ys) ≡ Some r → Holds g r × ((y : Option Course) → In y ys → Lies y r)
@@ -91,9 +93,11 @@ within_more x y z a b =
     let more = b.worst in
     let best = a.best in
     let less = b.best in
-    let jitter = a.jitter in
-    let wide = b.jitter in
-    record { worst = omega (arith, worst, more); best = omega (arith, best, less); jitter = omega (arith, jitter, wide) }
+    let from = a.from in
+    let sooner = b.from in
+    let to = a.to in
+    let later = b.to in
+    record { worst = omega (arith, worst, more); best = omega (arith, best, less); from = omega (arith, from, sooner); to = omega (arith, to, later) }
 
 -- ONE QUEUE
 

@@ -59,7 +59,7 @@ course_at from a x done passes = record {
   passes = a.passes && passes;
   worst = min (a.later + done.to - from) (a.worst + x.worst);
   best = a.best + x.best;
-  jitter = x.jitter;
+  phases = done;
 }
 
 -- how many ns of whole periods lie before a phase
@@ -130,20 +130,25 @@ abbrev pub Whether : Bool → Type 0 → Type 0 → Type 0
 Whether true A B = A
 Whether false A B = B
 
+-- the phases of two ways together
+abbrev pub both_phases : Phases → Phases → Phases
+both_phases a b = record { from = min a.from b.from; to = max a.to b.to }
+
 -- the figures of two ways together
 abbrev pub both : Course → Course → Course
 both a b = record {
   passes = a.passes && b.passes;
   worst = max a.worst b.worst;
   best = min a.best b.best;
-  jitter = max a.jitter b.jitter;
+  phases = both_phases a.phases b.phases;
 }
 
 -- figures lie within others
 pub record IsWithin (x y : Course) : Type 0 where
   pub worst : x.worst ≤ y.worst
   pub best : y.best ≤ x.best
-  pub jitter : x.jitter ≤ y.jitter
+  pub from : y.phases.from ≤ x.phases.from
+  pub to : x.phases.to ≤ y.phases.to
 
 -- the figures of two ways together, where each has some
 abbrev pub both_of : Option Course → Option Course → Option Course

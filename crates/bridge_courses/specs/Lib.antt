@@ -1,4 +1,5 @@
 pub mod Leading
 pub mod Trees
 pub mod Courses
+pub mod Entering
 pub mod Examples

@@ -8,7 +8,7 @@ use crate::stops::{Case, Coming, Stop, hop_passes, stop_at};
 use crate::trees::{HopQueue, is_tree};
 use bridge_check::Accepted;
 use bridge_network::{Link, StreamHop};
-use bridge_periods::Traffic;
+use bridge_periods::{Phases, Traffic};
 use std::alloc::Allocator;
 
 /// How long the frames of a stream take whose talker keeps a period, in ns, from when they came to the first hop until they
@@ -21,8 +21,8 @@ pub struct Course {
     pub worst: u128,
     /// At best.
     pub best: u128,
-    /// By how much the moments at which they are done at a last hop differ in their periods.
-    pub jitter: u64,
+    /// The phases between which they are done at a last hop, each in a period there.
+    pub phases: Phases,
 }
 
 /// What was gathered of some queues.
@@ -34,6 +34,16 @@ pub(crate) enum Gathered {
     Figures(Option<Course>),
 }
 
+/// The phases of two ways together.
+fn both_phases(a: Phases, b: Phases) -> Phases
+    ensures { result ≡ spec.both_phases a b }
+{
+    Phases {
+        from: a.from.min(b.from),
+        to: a.to.max(b.to),
+    }
+}
+
 /// The figures of two ways together.
 fn both(a: Course, b: Course) -> Course
     ensures { result ≡ spec.both a b }
@@ -42,7 +52,7 @@ fn both(a: Course, b: Course) -> Course
         passes: a.passes && b.passes,
         worst: a.worst.max(b.worst),
         best: a.best.min(b.best),
-        jitter: a.jitter.max(b.jitter),
+        phases: both_phases(a.phases, b.phases),
     }
 }
 

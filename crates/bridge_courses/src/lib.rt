@@ -3,10 +3,12 @@
 //! they take on all their ways.
 
 mod courses;
+mod entering;
 mod leading;
 mod stops;
 mod trees;
 
 pub use courses::{Course, course_of};
+pub use entering::{may_come_in, stream_course};
 pub use stops::Coming;
 pub use trees::HopQueue;

@@ -87,7 +87,7 @@ fn course_at(from: u64, came: &Coming, x: &Timing, done: Phases, passes: bool) -
         passes: came.passes && passes,
         worst: end.min(came.worst + x.worst as u128),
         best: came.best + x.best as u128,
-        jitter: x.jitter,
+        phases: done,
     }
 }
 

@@ -8,39 +8,44 @@ use Rattle.bridge_cycle.specs.declared.cyclic.ListFault.{ListFault}
 use Rattle.bridge_cycle.specs.declared.cyclic.ListFault.TheVariants.{Empty, ZeroInterval, OverCycle, CycleOutOfRange, TooManyEntries, NoMemory}
 use Rattle.bridge_cycle.specs.declared.timeline.Turn.{Turn}
 
--- List that repeats: its base time and cycle time in ns, and its entries, each a state with an interval in ns.
+-- List that repeats: its base time and cycle time in ns, and its entries, each a state with the length of its interval
+-- in ns.
 pub record Cyclic (S : Type 0) : Type 0 where
   pub base : ℕ
   pub cycle : ℕ
   pub entries : List (S × ℕ)
 
--- Offset of time `t` in its cycle, in ns; cycles also extend before the base time.
+-- Time in ns from the latest cycle start to time `t`; a cycle starts at the base time plus or minus whole cycle times.
 abbrev pub phase : ℕ → ℕ → ℕ → ℕ
 phase base cycle t = (t + (cycle - base % cycle)) % cycle
 
--- Entry in a cycle: its state, and the offsets in ns at which its interval starts and ends.
+-- Entry within one cycle: its state, and the offsets in ns from the cycle start at which its interval starts and ends.
 pub record Place (S : Type 0) : Type 0 where
   pub state : S
   pub start : ℕ
   pub end : ℕ
 
--- Entry in force at offset `p` of the cycle, with intervals end to end from `start`; the last entry extends to the cycle's end.
+-- Entry in force at offset `p` ns of the cycle if the first entry starts at `start`; the last entry lasts until the
+-- cycle ends.
+-- Each entry starts where the entry before it ends.
 -- An empty list gives `None`.
 abbrev pub place : {S : Type 0} → List (S × ℕ) → ℕ → ℕ → ℕ → Option (Place S)
 place [] start cycle p = None
 place (e ∷ []) start cycle p = Some (record { state = e.0; start = start; end = cycle })
 place (e ∷ f ∷ es) start cycle p = if nat_lt p (start + e.1) then Some (record { state = e.0; start = start; end = start + e.1 }) else place (f ∷ es) (start + e.1) cycle p
 
--- Interval of an entry around time `t`, which has offset `p`, with start and end in ns; the start may be negative.
+-- Interval of an entry in ns, converted from its offsets in the cycle; time `t` has offset `p`, and the start may be
+-- negative.
 abbrev pub turn_of : {S : Type 0} → ℕ → ℕ → Option (Place S) → Option (Turn S)
 turn_of t p None = None
 turn_of t p (Some x) = Some (record { state = x.state; start = pos t -ℤ pos (p - x.start); end = t + (x.end - p) })
 
--- Interval of the list that contains time `t`, with its state, start and end in ns; `None` if the list is empty.
+-- Interval of the repeating list `l` that contains time `t`, in ns, with its state, start and end; `None` if the list
+-- has no entries.
 abbrev pub turn_at : {S : Type 0} → Cyclic S → ℕ → Option (Turn S)
 turn_at l t = let p = phase l.base l.cycle t in turn_of t p (place l.entries 0 l.cycle p)
 
--- Sum of the intervals of all entries, in ns; 0 for an empty list.
+-- Sum of the intervals of all entries of the list, in ns; 0 for the empty list.
 abbrev pub total : {S : Type 0} → List (S × ℕ) → ℕ
 total [] = 0
 total (e ∷ es) = e.1 + total es
@@ -68,7 +73,9 @@ number_of CycleOutOfRange = 4
 number_of TooManyEntries = 5
 number_of NoMemory = 6
 
--- The list has 1 to 256 entries, positive intervals that fit in the cycle, a cycle time up to 1 s, and a valid base.
+-- Statement: The list has 1 to 256 entries, positive intervals with a sum within the cycle time (up to 1 s), a base
+-- time before END_OF_TIME.
+-- The sum is at most the cycle time.
 pub record IsLawful {S : Type 0} (l : Cyclic S) : Type 0 where
   pub some : 0 < length l.entries
   pub few : length l.entries ≤ MOST_ENTRIES

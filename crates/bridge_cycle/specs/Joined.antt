@@ -5,23 +5,25 @@ use Rattle.bridge_cycle.specs.declared.timeline.Turn.{Turn}
 use Rattle.bridge_cycle.specs.Cyclic.{Cyclic}
 use Rattle.bridge_cycle.specs.Cyclic as cyclic
 
--- Schedule change: the old list applies before the ConfigChangeTime `at` (in ns), the new list from then on.
+-- Two lists with a schedule change: the old list applies before the ConfigChangeTime `at` (in ns), the new list from
+-- `at` on.
 pub record Joined (S : Type 0) : Type 0 where
   pub old : Cyclic S
   pub new : Cyclic S
   pub at : ℕ
 
--- Interval with its end limited to time `m` at the latest; `None` is unchanged.
+-- The interval with its end set to time `m` (in ns) if it ends later than `m`; `None` stays `None`.
 abbrev pub cut : {S : Type 0} → ℕ → Option (Turn S) → Option (Turn S)
 cut m None = None
 cut m (Some x) = Some (record { state = x.state; start = x.start; end = min x.end m })
 
--- Interval with its start limited to time `m` at the earliest; `None` is unchanged.
+-- The interval with its start set to time `m` (in ns) if it starts earlier than `m`; `None` stays `None`.
 abbrev pub raised : {S : Type 0} → ℕ → Option (Turn S) → Option (Turn S)
 raised m None = None
 raised m (Some x) = Some (record { state = x.state; start = int_max x.start (pos m); end = x.end })
 
--- Interval that contains time `t`, from the old list before the schedule change, else from the new one; no interval crosses the change.
+-- Interval that contains time `t`, shortened at the schedule change: before the change from the old list, otherwise
+-- from the new list.
 abbrev pub turn_at : {S : Type 0} → Joined S → ℕ → Option (Turn S)
 turn_at j t = if nat_lt t j.at then cut j.at (cyclic.turn_at j.old t) else raised j.at (cyclic.turn_at j.new t)
 
@@ -29,7 +31,8 @@ turn_at j t = if nat_lt t j.at then cut j.at (cyclic.turn_at j.old t) else raise
 abbrev pub cycle_of : {S : Type 0} → Joined S → ℕ
 cycle_of j = max j.old.cycle j.new.cycle
 
--- Both lists of a schedule change are valid: each has allowed entries, intervals, cycle time and base time.
+-- Statement: Both lists of the schedule change, the old and the new list, have valid sizes, intervals, cycle times and
+-- base times.
 pub record IsLawful {S : Type 0} (j : Joined S) : Type 0 where
   pub old : cyclic.IsLawful j.old
   pub new : cyclic.IsLawful j.new

@@ -7,7 +7,7 @@ use crate::timeline::{Timeline, Turn};
 use bridge_limits::NoMemory;
 use std::alloc::Allocator;
 
-/// Gate control lists of a port: bit c of a state opens class c (IEEE 802.1Q-2018, 8.6.8.4).
+/// Gate control list of a port, or an old and a new list; bit c of a state opens class c (IEEE 802.1Q-2018, 8.6.8.4).
 #[derive(Drop)]
 pub enum Egress<A: Allocator + Copy> {
     /// One list at all moments.

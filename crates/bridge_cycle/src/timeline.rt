@@ -6,7 +6,7 @@ use crate::cyclic::LONGEST_CYCLE;
 /// The moment, in ns, below which a timeline tells its turns.
 pub const END_OF_TURNS: u64 = 9_100_000_000_000_000_000;
 
-/// Interval of a list: one state holds from `start`, which may lie before 0, up to `end`, in ns.
+/// Interval of a list: its state is in force from `start`, which may be negative, until just before `end`, in ns.
 #[derive(Clone, Copy)]
 pub struct Turn<S> {
     pub state: S,

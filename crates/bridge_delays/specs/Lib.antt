@@ -4,3 +4,4 @@ pub mod Counting
 pub mod Figures
 pub mod Frames
 pub mod Streams
+pub mod Losing

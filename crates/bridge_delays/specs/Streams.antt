@@ -46,15 +46,16 @@ is_within (Some f) deadline = nat_le f.greatest deadline
 abbrev pub is_met : List Tally → Option Figures → ℕ → Bool
 is_met tallies figures deadline = nat_eq (delivered_of tallies) (length tallies) && is_within figures deadline
 
--- whether a deadline was met, behind a comma
-abbrev pub met_word : Bool → List ℕ
-met_word true = codes ",met"
-met_word false = codes ",missed"
+-- the word, after a comma, for a stream of which no frame arrived, whose deadline was met, or missed
+abbrev pub met_word : Bool → Bool → List ℕ
+met_word true met = codes ",none"
+met_word false true = codes ",met"
+met_word false false = codes ",missed"
 
 -- a deadline and whether it was met, or empty fields
 abbrev pub deadline_words : List Tally → Option Figures → Option ℕ → List ℕ
 deadline_words tallies figures None = codes ","
-deadline_words tallies figures (Some d) = decimal d ++ met_word (is_met tallies figures d)
+deadline_words tallies figures (Some d) = decimal d ++ met_word (nat_eq (length tallies) 0) (is_met tallies figures d)
 
 -- the line of a stream as a whole
 unfoldable pub stream_line : List ℕ → List Tally → Option Figures → ℕ → Option ℕ → List ℕ

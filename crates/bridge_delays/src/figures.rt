@@ -23,7 +23,7 @@ fn least_of(delays: &[u64]) -> u64
 }
 
 /// The greatest of some delays, 0 of none.
-fn greatest_of(delays: &[u64]) -> u64
+pub(crate) fn greatest_of(delays: &[u64]) -> u64
     ensures { result ≡ spec.greatest_of delays.now }
 {
     let mut greatest = 0u64;

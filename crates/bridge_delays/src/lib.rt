@@ -8,6 +8,7 @@ mod figures;
 mod frames;
 mod hops;
 mod lines;
+mod losing;
 mod pieces;
 mod tallies;
 
@@ -17,4 +18,5 @@ pub use figures::{Figures, figures_of};
 pub use frames::{FRAMES_HEADER, frame_lines};
 pub use hops::{leads_on, ways_of};
 pub use lines::{STREAMS_HEADER, delivered_of, hop_line, stream_line};
+pub use losing::{HopLosses, put_faults};
 pub use tallies::{HopCounts, counts_of, delays_of};

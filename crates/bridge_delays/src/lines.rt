@@ -16,7 +16,7 @@ use std::alloc::Allocator;
 /// were delivered and lost, and how many copies went astray; of a hop: its frames, the copies that it delivered and lost,
 /// and by each reason how many. Of both how long the delivered copies took from the first hop on, in ns: the least, the mean,
 /// the greatest, and how far these differ. Of a stream the bound of `net check`, and its deadline, where it has one, in ns, with
-/// whether it was met: whether each frame was delivered, and none of its copies took longer.
+/// whether it was met: whether each frame was delivered, and none of its copies took longer; `none` if no frame arrived.
 pub const STREAMS_HEADER: &str =
     "stream,hop,frames,delivered,lost,blocked,oversize,gate-closed,shut-rx,shut-octets,octets-exceeded,red,yellow-dropped,full,never,astray,least,mean,greatest,jitter,bound,deadline,met\n";
 
@@ -109,7 +109,7 @@ pub fn delivered_of(tallies: &[Tally]) -> usize
 }
 
 /// How many copies went astray.
-fn astray_of(tallies: &[Tally]) -> u128
+pub(crate) fn astray_of(tallies: &[Tally]) -> u128
     ensures { result ≡ sum_by astray tallies.now }
 {
     tallies.iter().map(|tally| u128::from(tally.astray())).sum()
@@ -146,11 +146,17 @@ fn is_met(tallies: &[Tally], figures: Option<Figures>, deadline: u64) -> bool
     delivered_of(tallies) == tallies.len() && is_within(figures, deadline)
 }
 
-/// Whether a deadline was met, behind a comma.
-fn met_word(met: bool) -> &'static str
-    ensures { result.now ≡ spec.met_word met }
+/// The word, after a comma, for a stream of which no frame arrived, whose deadline was met, or missed.
+fn met_word(is_silent: bool, met: bool) -> &'static str
+    ensures { result.now ≡ spec.met_word is_silent met }
 {
-    if met { ",met" } else { ",missed" }
+    if is_silent {
+        ",none"
+    } else if met {
+        ",met"
+    } else {
+        ",missed"
+    }
 }
 
 /// Puts a deadline and whether it was met, or empty fields where there is none.
@@ -163,7 +169,10 @@ fn put_deadline<A: Allocator>(
     ensures { HasGrown text.old (spec.deadline_words tallies.now figures deadline) text.new }
 {
     match deadline {
-        Some(deadline) => put_ended(text, deadline, met_word(is_met(tallies, figures, deadline))),
+        Some(deadline) => {
+            let met = is_met(tallies, figures, deadline);
+            put_ended(text, deadline, met_word(tallies.len() == 0, met))
+        }
         None => text.put(","),
     }
 }

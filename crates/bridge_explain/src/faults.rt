@@ -195,8 +195,12 @@ fn put_may(said: &mut Said, source: Source<'_>, allowed: Allowed) {
     if items.is_empty() {
         return fill_one(said, "The plan has no `{a}`.\n", 0, section.name());
     }
-    let (template, count) = ("The plan has {0} `{a}` tables: ", items.len() as u64);
-    fill_one(said, template, count, section.name());
+    let template = if items.len() == 1 {
+        "The plan has one `{a}` table: "
+    } else {
+        "The plan has {0} `{a}` tables: "
+    };
+    fill_one(said, template, items.len() as u64, section.name());
     put_numbers(said, items, own_key(section));
     said.put(".\n");
 }

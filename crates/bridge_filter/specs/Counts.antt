@@ -10,14 +10,14 @@ use Rattle.bridge_filter.specs.declared.Counters.{Counters}
 use Rattle.bridge_filter.specs.declared.Flags.{Flags}
 use Rattle.bridge_filter.specs.Verdicts.{Event, Came, Cleared, Plans, Step, Unfiltered, Judged, Commanded, gate_share, meter_share, is_blocked, is_oversize, reached_gate, passed_gate}
 
--- Verdicts of filter `n`, oldest first, from steps that are newest first.
+-- Verdicts of filter `n`, oldest first, from a list of results that is newest first.
 abbrev pub verdicts_of : ℕ → List Step → List Verdict
 verdicts_of n [] = []
 verdicts_of n (Unfiltered c ∷ ss) = verdicts_of n ss
 verdicts_of n (Judged c m f v ∷ ss) = verdicts_of n ss ++ (if nat_eq m n then v ∷ [] else [])
 verdicts_of n (Commanded c m ∷ ss) = verdicts_of n ss
 
--- True if the stream gate refused the frame: it was closed, shut by a flag, or over its octet limit.
+-- True if the stream gate refused the frame: the gate was closed, a flag had shut it, or the octet limit was exceeded.
 abbrev pub refused_by_gate : Verdict → Bool
 refused_by_gate verdict.GateClosed = true
 refused_by_gate verdict.ShutByRx = true
@@ -25,13 +25,14 @@ refused_by_gate verdict.ShutByOctets = true
 refused_by_gate verdict.OctetsExceeded = true
 refused_by_gate v = false
 
--- True if the meter refused the frame: it was red, or yellow at a meter that refuses yellow frames.
+-- True if the meter refused the frame: it was red, or it was yellow and the meter refuses yellow frames.
 abbrev pub dropped_by_meter : Verdict → Bool
 dropped_by_meter verdict.Red = true
 dropped_by_meter verdict.YellowDropped = true
 dropped_by_meter v = false
 
--- Counters of a filter from its verdicts; a blocked frame raises only `matching`.
+-- Counters of a stream filter from the list of its verdicts; a frame with the verdict Blocked raises only the counter
+-- `matching`.
 abbrev pub counters_of : List Verdict → Counters
 counters_of vs = record {
   matching = length vs;
@@ -42,12 +43,12 @@ counters_of vs = record {
   red = count_by dropped_by_meter vs;
 }
 
--- True if the filter's meter marks all further frames red after these steps; false without a meter.
+-- True if the red flag of the filter's meter is set after the results `ss`; false if the filter has no meter (`None`).
 abbrev pub red_by : Plans → Option ℕ → List Step → Bool
 red_by p None ss = false
 red_by p (Some m) ss = (meter.past (p.meters m) (meter_share m ss)).all_red
 
--- Flags after these steps, as far as enabled: filter `n` blocked, its gate shut by receive or by octets, its meter all red.
+-- Flags of filter `n`, its gate and its meter after the results `ss`; a flag that the plan doesn't enable is false.
 abbrev pub flags_of : Plans → ℕ → FilterPlan → List Step → Flags
 flags_of p n f ss = record {
   blocked = f.block_oversize && is_blocked n ss;
@@ -56,7 +57,7 @@ flags_of p n f ss = record {
   red = red_by p f.meter ss;
 }
 
--- Bucket levels of the filter's meter after these steps; `None` if the filter has no meter.
+-- Bucket levels of the filter's meter after the results `ss`, in units; `None` if the filter has no meter.
 abbrev pub buckets_by : Plans → Option ℕ → List Step → Option Buckets
 buckets_by p None ss = None
 buckets_by p (Some m) ss = Some (meter.buckets_after (p.meters m) (meter.past (p.meters m) (meter_share m ss)))

@@ -7,7 +7,7 @@ use Rattle.bridge_filter.specs.declared.find.Route.{Route}
 use Rattle.bridge_filter.specs.Verdicts.{takes_handle, takes_priority, flow, call}
 use Rattle.bridge_filter.specs.Standing.{PoliceState}
 
--- Smaller of two filter numbers; if one is `None`, the other one.
+-- Smaller of two filter numbers, or the only number if one argument is `None`; `None` if both are `None`.
 abbrev pub lesser_number : Option ℕ → Option ℕ → Option ℕ
 lesser_number None n = n
 lesser_number (Some m) None = Some m

@@ -6,12 +6,12 @@ use Rattle.bridge_filter.specs.declared.Clear.TheVariants as clear
 use Rattle.bridge_filter.specs.declared.FilterPlan.{FilterPlan}
 use Rattle.bridge_filter.specs.Verdicts.{Plans, Event, Came, Cleared, Step, Unfiltered, Judged, Commanded, flow, is_meter}
 
--- True if the matching filter has number `s`; false for an unfiltered frame (`None`).
+-- True if the frame's filter has the number `s`; false if no filter matches the frame (`None`).
 abbrev pub is_number : ℕ → Option (ℕ × FilterPlan) → Bool
 is_number s None = false
 is_number s (Some x) = nat_eq x.0 s
 
--- True if the command clears a flag of filter `s`, of its gate, or of its meter.
+-- True if a command clears a flag of the filter with number `s` and settings `f`, of its gate, or of its meter.
 abbrev pub is_named : ℕ → FilterPlan → Clear → ℕ → Bool
 is_named s f clear.Blocked n = nat_eq n s
 is_named s f clear.Rx n = nat_eq n f.gate

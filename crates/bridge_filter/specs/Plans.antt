@@ -11,7 +11,7 @@ use Rattle.bridge_gate.specs.Schedules.{rules_of, has_priorities}
 use Rattle.bridge_filter.specs.declared.FilterPlan.{FilterPlan}
 use Rattle.bridge_filter.specs.Verdicts.{Plans}
 
--- True if an entry of the list has number `n`.
+-- True if the list `xs` of numbered entries has at least one entry with the number `n`.
 abbrev pub is_there : {X : Type 0} → ℕ → List (ℕ × X) → Bool
 is_there n xs = is_some (lookup (nat_eq n) xs)
 
@@ -19,51 +19,53 @@ is_there n xs = is_some (lookup (nat_eq n) xs)
 abbrev pub KeepsNumbers : {X Y : Type 0} → List (ℕ × X) → List (ℕ × Y) → Type 0
 KeepsNumbers xs ys = (n : ℕ) → is_there n xs ≡ true → is_there n ys ≡ true
 
--- True if no two entries of the list have the same number.
+-- True if all entries of the list have different numbers, so that a number names at most one entry.
 abbrev pub are_distinct : {X : Type 0} → List (ℕ × X) → Bool
 are_distinct [] = true
 are_distinct (x ∷ xs) = not (is_there x.0 xs) && are_distinct xs
 
--- True if the number is `None` or an entry of the list has it.
+-- True if at least one entry of the list has the number, or if the number is absent (`None`).
 abbrev pub is_there_if_any : {X : Type 0} → Option ℕ → List (ℕ × X) → Bool
 is_there_if_any None xs = true
 is_there_if_any (Some n) xs = is_there n xs
 
--- True if the filter's gate is in the list of gates, and its meter, if any, in the list of meters.
+-- True if the filter's gate number is in the list `gates`, and its meter number, if any, is in the list `meters`.
 abbrev pub has_instances : {A : Type 0} → List (ℕ × GatePlan A) → List (ℕ × MeterPlan) → FilterPlan → Bool
 has_instances gates meters f = is_there f.gate gates && is_there_if_any f.meter meters
 
--- True if every gate and every meter that a filter names is in its list.
+-- True if every gate number and every meter number in the settings of a filter has an entry in the list of gates or
+-- meters.
 abbrev pub have_instances : {A : Type 0} → List (ℕ × FilterPlan) → List (ℕ × GatePlan A) → List (ℕ × MeterPlan) → Bool
 have_instances filters gates meters = list_all (λ f. has_instances gates meters f.1) filters
 
--- True if every internal priority value of every stream gate is `None` or at most 7.
+-- True if every internal priority value in the schedules of all stream gates is 0 to 7 or absent (`None`).
 abbrev pub all_have_priorities : {A : Type 0} → List (ℕ × GatePlan A) → Bool
 all_have_priorities gates = list_all (λ g. has_priorities g.1.schedule) gates
 
--- True if every meter has rates up to 100 Gbit/s and burst sizes below 2^32 octets.
+-- True if every meter of the list has rates up to 100 Gbit/s and burst sizes below 2^32 octets.
 abbrev pub all_within_limits : List (ℕ × MeterPlan) → Bool
 all_within_limits meters = list_all (λ m. is_within_limits m.1) meters
 
--- Rules for a stream gate that the plan lacks: the gate is always closed, and no flag shuts it.
+-- Rules for a stream gate that the plan lacks: the gate is closed at all times, and no flag shuts it.
 abbrev pub closed_gate : GateRules
 closed_gate = record { turn_at = λ t. None; shut_on_rx = false; shut_on_octets = false }
 
--- Meter for a number that the plan lacks: both rates and both burst sizes are 0.
+-- Settings for a meter that the plan lacks: both rates and both burst sizes are 0, and all switches are off.
 abbrev pub empty_meter : MeterPlan
 empty_meter = record { cir = 0; cbs = 0; eir = 0; ebs = 0; coupling = false; aware = false; drop_yellow = false; mark_all_red = false }
 
--- Rules of the stream gate; `None` gives a gate that is always closed.
+-- Rules of the stream gate; if there is no gate (`None`), rules for a gate that is always closed.
 abbrev pub gate_or_closed : {A : Type 0} → Option (GatePlan A) → GateRules
 gate_or_closed None = closed_gate
 gate_or_closed (Some g) = rules_of g
 
--- Plan of the meter; `None` gives a meter with rates and burst sizes of 0.
+-- Settings of the meter; if there is no meter (`None`), settings with rates and burst sizes of 0.
 abbrev pub meter_or_empty : Option MeterPlan → MeterPlan
 meter_or_empty None = empty_meter
 meter_or_empty (Some m) = m
 
--- Filters, and for each number its gate rules and meter plan; a missing number gives a closed gate or an empty meter.
+-- Configuration of policing from a plan's lists; for a missing number, the gate is always closed, and the meter has
+-- zero rates and sizes.
 abbrev pub plans_of : {A : Type 0} → List (ℕ × FilterPlan) → List (ℕ × GatePlan A) → List (ℕ × MeterPlan) → Plans
 plans_of filters gates meters = record {
   filters = filters;

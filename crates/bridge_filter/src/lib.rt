@@ -113,7 +113,7 @@ pub struct Flags {
     pub red: bool,
 }
 
-/// Flag that a command clears: of a filter, a gate or a meter.
+/// Flag that a command clears: the blocked flag of a filter, a flag of a stream gate, or the red flag of a meter.
 #[derive(Clone, Copy, Debug, PartialEq, Eq)]
 pub enum Clear {
     /// The blocked flag of a filter.

@@ -4,17 +4,18 @@ use Rattle.std.specs.Str.{bytes_eq}
 use Rattle.bridge_forward.specs.declared.Vlan.{Vlan}
 use Rattle.bridge_forward.specs.declared.StaticEntry.{StaticEntry}
 
--- Filtering database of VLANs and static entries; if two entries have the same key, the first one applies.
+-- Filtering database of VLANs and static filtering entries; if several entries of a list have the same key, the first
+-- of them applies.
 pub record Database : Type 0 where
   pub vlans : List Vlan
   pub statics : List StaticEntry
 
--- Member ports of the first VLAN with this identifier, as a set; `None` if no VLAN has it.
+-- Set of member ports of the first VLAN in the list with the identifier `vid`; `None` if no VLAN has this identifier.
 abbrev pub members_at : List Vlan → ℕ → Option ℕ
 members_at [] vid = None
 members_at (v ∷ vs) vid = if nat_eq v.vid vid then Some v.members else members_at vs vid
 
--- Ports of the first static entry with this VLAN and address, as a set; `None` if no entry matches.
+-- Set of ports of the first static entry with VLAN `vid` and the address `address`; `None` if no entry has both.
 abbrev pub entry_at : List StaticEntry → ℕ → List ℕ → Option ℕ
 entry_at [] vid address = None
 entry_at (e ∷ es) vid address = if nat_eq e.vid vid && bytes_eq e.address address then Some e.ports else entry_at es vid address

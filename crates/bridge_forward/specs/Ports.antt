@@ -2,11 +2,11 @@
 use Rattle.std.specs.Prelude.{◌≡◌, ◌≤◌, ℕ, Bool, false, ◌-◌, ◌^◌, nat_eq, bit_and}
 use Rattle.std.specs.Int.{bit_at}
 
--- True if port number `port`, from 1, is in the set; bit n - 1 stands for port n.
+-- True if the set of ports `set` contains port number `port`; bit n - 1 of the set stands for port n.
 abbrev pub has : ℕ → ℕ → Bool
 has set port = nat_eq (bit_at set (port - 1)) 1
 
--- Set of ports, from 1 to 16, from which the given port is removed.
+-- The set of ports `set` after port number `port` is removed; the ports have the numbers 1 to 16.
 abbrev pub without : ℕ → ℕ → ℕ
 without set port = bit_and set (65535 - 2 ^ (port - 1))
 

@@ -6,11 +6,12 @@ use Rattle.bridge_frame.specs.declared.Tag.{Tag}
 use Rattle.bridge_frame.specs.declared.FrameFault.{FrameFault}
 use Rattle.bridge_frame.specs.declared.FrameFault.TheVariants.{TooShort, TooLong}
 
--- True if octets 12 and 13 of the frame, counted from 0, are 81 00, the EtherType of a C-VLAN tag.
+-- True if octets 12 and 13 of the frame, counted from 0, are 81 00 (hexadecimal), the EtherType of a C-VLAN tag.
 abbrev pub is_tagged : List ℕ → Bool
 is_tagged octets = nat_eq (slice_index octets 12) 0x81 && nat_eq (slice_index octets 13) 0x00
 
--- Tag from octets 14 and 15: priority code point (3 bits), drop eligible indication (1 bit), VLAN identifier (12 bits).
+-- C-VLAN tag in octets 14 and 15, highest bits first: priority code point (3 bits), drop eligible indication (1 bit),
+-- VLAN identifier (12 bits).
 abbrev pub tag_in : List ℕ → Tag
 tag_in octets = record {
   pcp = slice_index octets 14 / 32 % 8;
@@ -23,15 +24,17 @@ abbrev pub number_of : FrameFault → ℕ
 number_of TooShort = 1
 number_of TooLong = 2
 
--- Octets of the frame header: 14 for two addresses and the EtherType, or 18 with a C-VLAN tag.
+-- Number of octets in the frame's header: 14 (two addresses and the EtherType), or 18 with a C-VLAN tag.
 abbrev pub head_octets : List ℕ → ℕ
 head_octets octets = if is_tagged octets then 18 else 14
 
--- SDU octets of a frame of `len` octets: its length minus 12 for both addresses, or minus 16 if it is tagged.
+-- Number of octets in the frame's SDU: the frame's length `len` minus 12 for both addresses, minus 4 more for a C-VLAN
+-- tag.
 abbrev pub sdu_octets : List ℕ → ℕ → ℕ
 sdu_octets octets len = if is_tagged octets then len - 16 else len - 12
 
--- Header fields of a frame, or a fault if the header is incomplete or the length `len` exceeds 9,216 octets.
+-- Header fields read from a frame's `octets`, or a fault: TooShort if the header is incomplete, TooLong if the frame's
+-- length `len` exceeds 9,216 octets.
 abbrev pub head : List ℕ → ℕ → Result Head FrameFault
 head octets len =
     if nat_lt (length octets) 14 then Err TooShort
@@ -44,15 +47,16 @@ head octets len =
       sdu = sdu_octets octets len;
     })
 
--- True if the octets contain a complete header with a C-VLAN tag, at least 18 octets.
+-- True if the frame carries a C-VLAN tag and has at least 18 octets, the length of a header with this tag.
 abbrev pub has_tag : List ℕ → Bool
 has_tag octets = nat_le 18 (length octets) && is_tagged octets
 
--- Octet of a tag with its drop eligible bit (value 16) set; all other bits stay unchanged.
+-- The tag octet `octet` with its drop eligible bit (value 16) set to 1; all other bits keep their values.
 abbrev pub with_drop_eligible : ℕ → ℕ
 with_drop_eligible octet = if nat_eq (octet / 16 % 2) 1 then octet else octet + 16
 
--- Frame octets with the drop eligible indication set in the C-VLAN tag; without a complete tagged header they stay unchanged.
+-- Frame octets with the drop eligible bit of the C-VLAN tag set to 1; a frame without a complete tagged header stays
+-- unchanged.
 abbrev pub drop_eligible : List ℕ → List ℕ
 drop_eligible octets = if has_tag octets then slice_set octets 14 (with_drop_eligible (slice_index octets 14)) else octets
 

@@ -3,7 +3,7 @@ use Rattle.std.specs.Prelude.{◌≡◌, ℕ, ◌+◌, ◌-◌, ◌*◌, ◌/◌
 use Rattle.bridge_frame.specs.declared.Speed.{Speed}
 use Rattle.bridge_frame.specs.declared.Speed.TheVariants.{Mbps10, Mbps100, Mbps1000, Mbps2500, Mbps10000}
 
--- Speed of the link in bit/s, one of five values from 10 Mbit/s to 10 Gbit/s.
+-- Number of bits per second at a link speed: `Mbps10` is 10 million bit/s, and `Mbps10000` is 10 billion bit/s.
 abbrev pub bits_per_second : Speed → ℕ
 bits_per_second Mbps10 = 10 * 10 ^ 6
 bits_per_second Mbps100 = 100 * 10 ^ 6
@@ -21,12 +21,12 @@ speed_of mbps =
     else if nat_eq mbps 10000 then Some Mbps10000
     else None
 
--- Octets that a frame of `len` octets occupies on the link: the frame, padded to 60, plus 24 octets of overhead.
--- The overhead is the check sequence (4), preamble and delimiter (8), and the gap between frames (12).
+-- Octets that a frame occupies on the link: its length `len`, at least 60, plus check sequence (4), preamble with
+-- delimiter (8) and gap (12).
 abbrev pub wire_octets : ℕ → ℕ
 wire_octets len = max len 60 + 24
 
--- Transmission time in ns of a frame of `len` octets at this link speed, with preamble and gap, rounded up.
+-- Time in ns, rounded up, that a frame of `len` octets occupies a link of speed `speed`, with preamble and gap.
 unfoldable pub occupied : ℕ → Speed → ℕ
 occupied len speed = (wire_octets len * 8 * 10 ^ 9 + (bits_per_second speed - 1)) / bits_per_second speed
 

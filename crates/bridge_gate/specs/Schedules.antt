@@ -10,17 +10,20 @@ use Rattle.bridge_gate.specs.declared.schedule.Schedule.{Schedule}
 use Rattle.bridge_gate.specs.declared.schedule.Schedule.TheVariants.{Fixed, Cyclic, Joined}
 use Rattle.bridge_gate.specs.Gates.{GateRules}
 
--- Interval of a stream gate at time `t`; a fixed state is one interval from 0 ns on without an octet limit.
+-- Interval of a stream gate's schedule at time `t`; a fixed state is one interval from 0 to 2^64 - 1 ns without octet
+-- limit.
 abbrev pub turn_at : {A : Type 0} → Schedule A → ℕ → Option (Turn GateEntry)
 turn_at (Fixed lets ipv) t = Some (record { state = record { lets = lets; ipv = ipv; octets = None }; start = pos 0; end = 18446744073709551615 })
 turn_at (Cyclic l) t = cyclic.turn_at l t
 turn_at (Joined j) t = joined.turn_at j t
 
--- Rules of the stream gate that a plan describes: its interval at each time, and its two switches for refusals.
+-- Rules of a stream gate from its settings in the plan: its interval at each time by the schedule, and both switches
+-- unchanged.
 abbrev pub rules_of : {A : Type 0} → GatePlan A → GateRules
 rules_of p = record { turn_at = turn_at p.schedule; shut_on_rx = p.shut_on_rx; shut_on_octets = p.shut_on_octets }
 
--- Each list in the schedule of the stream gate is valid; a fixed state is always valid.
+-- Statement: Each list in the stream gate's schedule has a valid size, intervals, cycle time and base time; a fixed
+-- state is always valid.
 abbrev pub IsLawful : {A : Type 0} → Schedule A → Type 0
 IsLawful (Fixed lets ipv) = Unit {0}
 IsLawful (Cyclic l) = cyclic.IsLawful l
@@ -31,12 +34,12 @@ pub record IsKept {A : Type 0} (s : Schedule A) (x : Turn GateEntry) : Type 0 wh
   pub lawful : IsLawful s
   pub same : (u : ℕ) → x.start ≤ℤ pos u → u < x.end → turn_at s u ≡ Some x
 
--- True if the internal priority value is at most 7, or `None`.
+-- True if the internal priority value is 0 to 7 or absent (`None`).
 abbrev pub is_priority : Option ℕ → Bool
 is_priority None = true
 is_priority (Some ipv) = nat_le ipv 7
 
--- True if every internal priority value in the schedule is `None` or at most 7.
+-- True if every internal priority value in the schedule is 0 to 7 or absent (`None`).
 abbrev pub has_priorities : {A : Type 0} → Schedule A → Bool
 has_priorities (Fixed lets ipv) = is_priority ipv
 has_priorities (Cyclic l) = list_all (λ e. is_priority e.0.ipv) l.entries

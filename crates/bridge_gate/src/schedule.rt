@@ -5,7 +5,7 @@ ghost use Rattle.bridge_gate.specs.Schedules.{turn_at, IsLawful, is_priority, ha
 use bridge_cycle::{CyclicList, END_OF_TURNS, Joined, NoMemory, Timeline, Turn};
 use std::alloc::Allocator;
 
-/// State of a stream gate in one interval: open or closed, its priority, its octet limit.
+/// State of a stream gate in one interval: open or closed, internal priority value, and octet limit.
 #[derive(Clone, Copy, Debug, PartialEq, Eq)]
 pub struct GateEntry {
     /// Whether frames go through.
@@ -16,7 +16,7 @@ pub struct GateEntry {
     pub octets: Option<u32>,
 }
 
-/// Schedule of a stream gate: a fixed state, or cyclic lists.
+/// Schedule of a stream gate: a fixed state, one cyclic list, or an old and a new list with a schedule change.
 #[derive(Drop)]
 pub enum Schedule<A: Allocator + Copy> {
     /// It is in one state for good, with no limit of octets.
@@ -27,7 +27,7 @@ pub enum Schedule<A: Allocator + Copy> {
     Joined(Joined<GateEntry, A>),
 }
 
-/// Settings of a stream gate: its schedule, and which refusals shut it.
+/// Settings of a stream gate: its schedule, and which refusals shut the gate until a command clears its flag.
 #[derive(Drop)]
 pub struct GatePlan<A: Allocator + Copy> {
     /// Whether a frame that comes while the gate is closed shuts it for good.

@@ -10,7 +10,8 @@ use Rattle.bridge_ident.specs.declared.TagKind.{TagKind}
 use Rattle.bridge_ident.specs.declared.TagKind.TheVariants.{Tagged, Priority, All}
 use Rattle.bridge_ident.specs.declared.StreamEntry.{StreamEntry}
 
--- Address in the frame header that an entry compares: destination for null identification, source for source identification.
+-- Address in the frame header `head` that a stream entry compares: destination for the kind Null, source for the kind
+-- Source.
 abbrev pub compared_address : Kind → Head → List ℕ
 compared_address Null head = head.da
 compared_address Source head = head.sa
@@ -20,17 +21,19 @@ abbrev pub names_vlan : Option Tag → Bool
 names_vlan None = false
 names_vlan (Some tag) = not (nat_eq tag.vid 0)
 
--- True if the tag suits the entry: Tagged needs a VLAN identifier other than 0, Priority the opposite, All accepts every frame.
+-- True if the frame's tag suits the entry: Tagged accepts VLAN identifiers above 0, Priority accepts untagged and
+-- priority-tagged frames, All accepts every frame.
 abbrev pub takes_tag : TagKind → Option Tag → Bool
 takes_tag Tagged tag = names_vlan tag
 takes_tag Priority tag = not (names_vlan tag)
 takes_tag All tag = true
 
--- True if the frame's ingress port, VLAN, compared address and tag all match the stream entry.
+-- True if the frame matches the stream entry `e`: equal ingress port and VLAN, equal compared address, and a suitable
+-- tag.
 abbrev pub is_match : StreamEntry → ℕ → Head → ℕ → Bool
 is_match e port head vid = nat_eq e.port port && nat_eq e.vid vid && bytes_eq e.address (compared_address e.kind head) && takes_tag e.tag head.tag
 
--- Stream handle of the first table entry that matches the frame; `None` if no entry matches.
+-- Stream handle of the first entry in the stream identity table that matches the frame; `None` if no entry matches.
 abbrev pub handle_in : List StreamEntry → ℕ → Head → ℕ → Option ℕ
 handle_in [] port head vid = None
 handle_in (e ∷ es) port head vid = if is_match e port head vid then Some e.handle else handle_in es port head vid

@@ -24,7 +24,7 @@ pub enum Kind {
     Source,
 }
 
-/// Tags that a stream entry matches.
+/// Kinds of frames that a stream entry matches: VLAN-tagged frames, untagged and priority-tagged frames, or all frames.
 #[derive(Clone, Copy, Debug, PartialEq, Eq)]
 pub enum TagKind {
     /// Tagged frames whose VLAN identifier isn't 0.

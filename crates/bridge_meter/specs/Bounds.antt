@@ -1,7 +1,7 @@
 -- Bucket levels of a meter, as bounds over its judged frames.
 use Rattle.std.specs.Prelude.{ℕ, Bool, ◌+◌, ◌-◌, ◌*◌, min, List, [], ◌∷◌, if◌then◌else◌}
 
--- Rates of the committed and the excess bucket in units per ns, both sizes in units, and the coupling flag.
+-- Rates of the committed and the excess bucket in units per ns, sizes of both buckets in units, and the coupling flag.
 pub record Limits : Type 0 where
   pub cir : ℕ
   pub cbs : ℕ
@@ -9,42 +9,50 @@ pub record Limits : Type 0 where
   pub ebs : ℕ
   pub coupling : Bool
 
--- Frame that the buckets judged: its arrival time in ns, and the units that it took from each bucket.
+-- Frame that the buckets judged: its arrival time in ns, and the units that it took from the committed (`green`) and
+-- excess (`yellow`) bucket.
 pub record Judged : Type 0 where
   pub at : ℕ
   pub green : ℕ
   pub yellow : ℕ
 
--- Smallest of the number `a` and all numbers in the list; `a` if the list is empty.
+-- Smallest number among `a` and the numbers of the list; `a` if the list is empty.
 abbrev pub least : ℕ → List ℕ → ℕ
 least a [] = a
 least a (x ∷ xs) = min x (least a xs)
 
--- Upper bound of the committed bucket at `now` from each judged frame, newest first: size plus refill, minus units of green frames.
--- Each bound assumes a full bucket just before its frame; `green` is the number of units that newer green frames took.
+-- Upper bounds of the committed bucket, one per judged frame: size plus refill since that frame, minus units that it
+-- and newer frames took.
+-- Each bound is for time `now`, and assumes a full bucket just before its frame.
+-- The units `green` are those that newer green frames took.
 abbrev pub committed_bounds : Limits → ℕ → ℕ → List Judged → List ℕ
 committed_bounds l now green [] = []
 committed_bounds l now green (f ∷ fs) = (l.cbs + l.cir * (now - f.at) - (green + f.green)) ∷ committed_bounds l now (green + f.green) fs
 
--- Units in the committed bucket at time `now`: the least of its size and the bounds from all judged frames.
+-- Number of units in the committed bucket at time `now`: the smallest of the bucket size and the bounds from all judged
+-- frames.
 unfoldable pub committed : Limits → ℕ → List Judged → ℕ
 committed l now past = least l.cbs (committed_bounds l now 0 past)
 
--- Units that overflowed the committed bucket from `at` to `now`: units at the start plus refill, minus green units and the remainder `held`.
+-- Units that overflowed the committed bucket from `at` to `now`: level `then_held` at `at`, plus refill, minus taken
+-- units `green`, minus level `held` at `now`.
 abbrev pub overflow : Limits → ℕ → ℕ → ℕ → ℕ → ℕ → ℕ
 overflow l at then_held green now held = then_held + l.cir * (now - at) - green - held
 
--- Units of an overflow that enter the excess bucket: all of them with coupling, else 0.
+-- Number of the `o` overflow units that enter the excess bucket: all of them if the coupling flag is set, otherwise 0.
 abbrev pub coupled : Limits → ℕ → ℕ
 coupled l o = if l.coupling then o else 0
 
--- Upper bound of the excess bucket at `now` from each judged frame, newest first: size plus refill and coupled overflow, minus yellow units.
--- Each bound assumes a full bucket just before its frame; `held` is the number of units in the committed bucket at `now`.
+-- Upper bounds of the excess bucket, one per judged frame: size plus refill and coupled overflow since that frame,
+-- minus units taken since then.
+-- Each bound is for time `now`, and assumes a full bucket just before its frame.
+-- The units `held` are in the committed bucket at `now`, and newer frames took the units `green` and `yellow`.
 abbrev pub excess_bounds : Limits → ℕ → ℕ → ℕ → ℕ → List Judged → List ℕ
 excess_bounds l now held green yellow [] = []
 excess_bounds l now held green yellow (f ∷ fs) =
     (l.ebs + l.eir * (now - f.at) + coupled l (overflow l f.at (committed l f.at fs) (green + f.green) now held) - (yellow + f.yellow)) ∷ excess_bounds l now held (green + f.green) (yellow + f.yellow) fs
 
--- Units in the excess bucket at time `now`: the least of its size and the bounds from all judged frames.
+-- Number of units in the excess bucket at time `now`: the smallest of the bucket size and the bounds from all judged
+-- frames.
 unfoldable pub excess : Limits → ℕ → List Judged → ℕ
 excess l now past = least l.ebs (excess_bounds l now (committed l now past) 0 0 past)

@@ -10,7 +10,7 @@ use Rattle.bridge_tracing.specs.declared.tallies.Tally.{Tally}
 use Rattle.bridge_tracing.specs.declared.tracing.Root.{Root}
 use Rattle.bridge_delays.specs.Counting.{AreTallies}
 use Rattle.bridge_delays.specs.Streams.{delivered_of}
-use Rattle.bridge_tracing.specs.Tracing.{AreExhausted, AreFirstKnown, AreFrom}
+use Rattle.bridge_tracing.specs.Tracing.{AreExhausted, AreFirstKnown, AreFrom, HaveEach}
 use Rattle.bridge_net_app.specs.InTime.{AreRunsOf}
 
 -- so many frames came to the first hop of a stream, and so many of them were delivered, by what was told of its hops and by what is known of the
@@ -23,6 +23,7 @@ pub record IsCountOf {A : Type 0} (links : List Link) (settled : List (Settled A
   pub told : (o : ℕ → Outcome A) → AreOutcomes settled o → AreRunsOf o stream hops
   pub from : AreFrom links hops known
   pub first : AreFirstKnown hops known
+  pub each : HaveEach hops known
   pub exhausted : AreExhausted links hops known
   pub counted : AreTallies links hops known tallies
   pub all : frames ≡ length tallies

@@ -1,5 +1,5 @@
 -- Runs of networks over folders: what comes to the bridges, which faults end them, and what is printed.
-use Rattle.std.specs.Prelude.{◌≡◌, ℕ, ◌-◌, List, [], ◌∷◌, ◌++◌, None, length, codes, decimal, string_bytes}
+use Rattle.std.specs.Prelude.{◌≡◌, ℕ, ◌-◌, ◌^◌, List, [], ◌∷◌, ◌++◌, None, length, codes, decimal, string_bytes}
 use Rattle.bridge_config.specs.Model.{Plan}
 use Rattle.bridge_inputs.specs.declared.fault.RunFault.{RunFault}
 use Rattle.bridge_inputs.specs.declared.fault.RunFault.TheVariants as run
@@ -20,6 +20,8 @@ use Rattle.bridge_rounds.specs.declared.settling.Settled.{Settled}
 use Rattle.bridge_rounds.specs.declared.station.Incoming.{Incoming}
 use Rattle.bridge_rounds.specs.Rounds.{IsolatesStreams, OthersChangeNothing, RunsNetwork}
 use Rattle.bridge_rounds.specs.Stations.{IsIncoming}
+use Rattle.bridge_circling.specs.declared.circulations.Circulation.{Circulation}
+use Rattle.bridge_circling.specs.Circulations.{AreCirculations}
 use Rattle.bridge_net_app.specs.Counted.{CountsTo}
 
 -- to each bridge of these plans can come what comes to it
@@ -68,6 +70,15 @@ EndsRounds (fault.Network line) = Unit {0}
 EndsRounds (fault.Rounds line) = Unit {0}
 EndsRounds (fault.Run e) = e ≡ run.NoMemory
 EndsRounds f = ⊥
+
+-- after how many rounds a run of a network ends that still changes, by whether there are frames that may go round
+abbrev pub rounds_by : List Circulation → ℕ
+rounds_by [] = 2 ^ 32 - 1
+rounds_by (c ∷ cs) = 64
+
+-- the most rounds of a network
+abbrev pub IsMostRounds : {A : Type 0} → Parts A → ℕ → Type 0
+IsMostRounds {A} n rounds = (loops : List Circulation) × AreCirculations n.plans n.links loops × (rounds ≡ rounds_by loops)
 
 -- how many bridges, links and streams a network has
 unfoldable pub network_words : file.Network → List ℕ

@@ -1,3 +1,4 @@
 pub mod InTime
 pub mod Counted
 pub mod Folders
+pub mod Losing

@@ -1,14 +1,17 @@
 //! The job of a run of a network over folders.
-ghost use Rattle.std.specs.Prelude.{◌≡◌, ◌≤◌, IfOk, IfErr, length, string_bytes};
-ghost use Rattle.bridge_net_app.specs.Folders.{EndsFiles, EndsRounds, IsLine, PrintsRounds, TellsRun, network_words, rounds_line};
+ghost use Rattle.std.specs.Prelude.{◌≡◌, ◌≤◌, IfOk, IfErr, IfSome, None, Some, false, true, length, string_bytes};
+ghost use Rattle.bridge_net_app.specs.Losing.{has_lines};
+ghost use Rattle.bridge_net_app.specs.Folders.{EndsFiles, EndsRounds, IsLine, IsMostRounds, PrintsRounds, TellsRun, network_words, rounds_line};
 
 use crate::incoming::read_all;
+use crate::losing::fault_lines;
 use crate::outputs::{Outputs, open_outputs};
 use crate::picture::{open_picture, put_picture};
 use crate::refusing::said_of_run;
 use crate::tables::put_tables;
 use crate::watching::{Teller, is_long};
 use crate::writing::put_bridges;
+use bridge_circling::circulations_in;
 use bridge_files::{FileId, Output, files_at};
 use bridge_jobs::{Cause, Fault};
 use bridge_limits::NoMemory;
@@ -16,14 +19,28 @@ use bridge_netfile::NetworkFile;
 use bridge_network::Network;
 use bridge_planning::{
     QueueBound, bounds_of_all, bounds_of_streams, memory_fault, paths_of, read_network, read_plans,
-    tested, told_of,
+    tested, warnings_of,
 };
 use bridge_rounds::{Settled, settle};
 use std::alloc::{AllocError, Global};
 use std::rt::Files;
 
-/// After how many rounds a network that still changes isn't run further.
+/// After how many rounds a network in which frames may go round isn't run further, if it still changes.
 const MOST_ROUNDS: u32 = 64;
+
+/// After how many rounds a network that still changes isn't run further. If no frames can go round, each round settles what
+/// happens up to a later time, so the run ends by itself.
+fn most_rounds(alloc: Global, network: &Network<Global>) -> Result<u32, NoMemory>
+    requires few { length network.now.plans ≤ 64 }
+    ensures { IfOk result (IsMostRounds network.now) }
+{
+    let loops = circulations_in(alloc, network.plans(), network.links())?;
+    Ok(if loops.is_empty() {
+        u32::MAX
+    } else {
+        MOST_ROUNDS
+    })
+}
 
 /// How many bridges, links and streams a network has.
 #[tactic(auto, unfolding(crate::specs::Folders::network_words))]
@@ -59,6 +76,31 @@ fn line_of(
     Ok(text)
 }
 
+/// Lines of a run of a network that is done.
+#[derive(Drop)]
+struct RunLines {
+    /// The line that sums the run up.
+    line: String,
+    /// The lines of the streams that lost frames or missed their deadlines, if such a stream is a fault.
+    lost: String,
+}
+
+/// Returns the lines of the streams that lost frames or missed their deadlines, if such a stream is a fault. The text is empty
+/// otherwise.
+fn lost_if(
+    alloc: Global,
+    file: &NetworkFile<Global>,
+    network: &Network<Global>,
+    settled: &[Settled<Global>],
+    is_strict: bool,
+) -> Result<String, NoMemory> {
+    if is_strict {
+        fault_lines(alloc, file, network.links(), settled)
+    } else {
+        Ok(String::new(alloc))
+    }
+}
+
 /// Writes what a run of a network told.
 fn put_all<H: AllocGlobal + Files>(
     rt: &H,
@@ -68,8 +110,9 @@ fn put_all<H: AllocGlobal + Files>(
     output: &str,
     settled: &[Settled<Global>],
     outputs: Outputs<H::File>,
-) -> Result<String, Fault>
-    ensures ok { IfOk result (λ line. IsLine network.now.links settled.now file.now (string_bytes line)) }
+    is_strict: bool,
+) -> Result<RunLines, Fault>
+    ensures ok { IfOk result (λ lines. IsLine network.now.links settled.now file.now (string_bytes lines.line)) }
     ensures err { IfErr result EndsFiles }
 {
     let alloc = rt.alloc();
@@ -99,8 +142,11 @@ fn put_all<H: AllocGlobal + Files>(
         streams,
         frames,
     )?;
+    let Ok(lost) = lost_if(alloc, file, network, settled, is_strict) else {
+        return Err(memory_fault());
+    };
     match line_of(alloc, file, totals.frames, totals.delivered) {
-        Ok(line) => Ok(line),
+        Ok(line) => Ok(RunLines { line, lost }),
         Err(_) => Err(memory_fault()),
     }
 }
@@ -115,8 +161,9 @@ fn put_drawn<H: AllocGlobal + Files>(
     outputs: Outputs<H::File>,
     picture: Option<String>,
     drawing: Option<Output<H::File>>,
-) -> Result<String, Fault>
-    ensures ok { IfOk result (λ line. IsLine network.now.links settled.now file.now (string_bytes line)) }
+    is_strict: bool,
+) -> Result<RunLines, Fault>
+    ensures ok { IfOk result (λ lines. IsLine network.now.links settled.now file.now (string_bytes lines.line)) }
     ensures err { IfErr result EndsFiles }
 {
     let Ok(queues) = bounds_of_all(rt.alloc(), network.plans()) else {
@@ -124,8 +171,10 @@ fn put_drawn<H: AllocGlobal + Files>(
         drop(drawing);
         return Err(memory_fault());
     };
-    let line = match put_all(rt, file, network, &queues, output, settled, outputs) {
-        Ok(line) => line,
+    let lines = match put_all(
+        rt, file, network, &queues, output, settled, outputs, is_strict,
+    ) {
+        Ok(lines) => lines,
         Err(fault) => {
             drop(drawing);
             return Err(fault);
@@ -140,9 +189,18 @@ fn put_drawn<H: AllocGlobal + Files>(
         picture,
         drawing,
     ) {
-        Ok(()) => Ok(line),
+        Ok(()) => Ok(lines),
         Err(fault) => Err(fault),
     }
+}
+
+/// What is wanted of a run of a network beside its line.
+#[derive(Clone, Copy)]
+struct Wishes {
+    /// Whether a stream that lost frames or missed its deadline is a fault.
+    is_strict: bool,
+    /// Whether a long run says on standard error how far it is.
+    is_watched: bool,
 }
 
 /// Runs a network from one folder into another.
@@ -153,12 +211,13 @@ fn run_network<H: AllocGlobal + Eprint + Files>(
     input: &str,
     output: &str,
     picture: Option<String>,
-    is_watched: bool,
+    wishes: Wishes,
     teller: &mut Teller<'_, H>,
     taken: Vec<FileId>,
     cause: &mut Option<Cause>,
-) -> Result<String, Fault>
-    ensures ok { IfOk result (λ line. TellsRun network.now file.now (string_bytes line)) }
+) -> Result<RunLines, Fault>
+    requires few { length network.now.plans ≤ 64 }
+    ensures ok { IfOk result (λ lines. TellsRun network.now file.now (string_bytes lines.line)) }
     ensures err { IfErr result EndsRounds }
 {
     let (mut taken, plans, bridges) = (taken, network.plans(), file.bridges());
@@ -178,12 +237,19 @@ fn run_network<H: AllocGlobal + Eprint + Files>(
             return Err(fault);
         }
     };
-    teller.is_wanted = is_watched && is_long(&incoming);
-    match settle(rt.alloc(), network, incoming, MOST_ROUNDS, teller) {
+    teller.is_wanted = wishes.is_watched && is_long(&incoming);
+    let Ok(rounds) = most_rounds(rt.alloc(), network) else {
+        drop(incoming);
+        drop(outputs);
+        drop(drawing);
+        return Err(memory_fault());
+    };
+    match settle(rt.alloc(), network, incoming, rounds, teller) {
         Ok(settled) => {
             *cause = Some(Cause::NotWritable);
+            let is_strict = wishes.is_strict;
             let told = put_drawn(
-                rt, file, network, output, &settled, outputs, picture, drawing,
+                rt, file, network, output, &settled, outputs, picture, drawing, is_strict,
             );
             drop(settled);
             told
@@ -199,31 +265,52 @@ fn run_network<H: AllocGlobal + Eprint + Files>(
 /// What is said of a run of a network.
 #[derive(Drop)]
 pub struct RoundsSaid {
-    /// The line that is printed.
-    pub line: String,
-    /// Whether `net check` tells something of the network; looked at where that is asked for alone.
-    pub is_told: bool,
+    /// The line that is printed, if the network ran.
+    pub line: Option<String>,
+    /// The lines on standard error: the warnings of `net check`, or the lines of the streams that lost frames or missed their
+    /// deadlines. The text is empty unless they are faults.
+    pub told: String,
+    /// Whether a warning is a fault and the network has one.
+    pub is_warned: bool,
+    /// Whether a loss is a fault and a stream lost frames or missed its deadline.
+    pub is_lossy: bool,
     /// In how many rounds it was found: in the last of them nothing else was sent over any link than before.
     pub rounds: u32,
 }
 
-/// Whether `net check` tells something of a network, where that is asked.
-fn is_told(
+impl RoundsSaid {
+    ghost use Rattle.std.specs.Prelude.{◌≡◌};
+    ghost use Rattle.bridge_net_app.specs.Losing.{status_of};
+
+    /// Returns the exit status: 1 if a warning or a loss is a fault, else 0.
+    pub fn status(&self) -> u8
+        ensures { result ≡ status_of self.now.is_warned self.now.is_lossy }
+    {
+        if self.is_warned || self.is_lossy {
+            1
+        } else {
+            0
+        }
+    }
+}
+
+/// Returns the warnings of `net check` on a network, if a warning is a fault. The text is empty otherwise.
+fn warnings_if(
     alloc: Global,
     file: &NetworkFile<Global>,
     network: &Network<Global>,
-    is_asked: bool,
-) -> Result<bool, NoMemory>
+    is_strict: bool,
+) -> Result<String, NoMemory>
     requires few { length network.now.plans ≤ 64 }
 {
-    if !is_asked {
-        return Ok(false);
+    if !is_strict {
+        return Ok(String::new(alloc));
     }
-    let told = told_of(alloc, alloc, file, network)?;
-    Ok(!told.is_empty())
+    let bounds = bounds_of_all(alloc, network.plans())?;
+    warnings_of(alloc, alloc, file, network, &bounds)
 }
 
-/// Runs an accepted network, and looks at what is told of it, where that is asked for.
+/// Runs an accepted network. If a warning is a fault and the network has one, the function runs nothing and opens no file.
 fn run_accepted<H: AllocGlobal + Eprint + Files>(
     rt: &H,
     file: &NetworkFile<Global>,
@@ -233,7 +320,8 @@ fn run_accepted<H: AllocGlobal + Eprint + Files>(
     cause: &mut Option<Cause>,
 ) -> Result<RoundsSaid, Fault>
     requires few { length network.now.plans ≤ 64 }
-    ensures ok { IfOk result (λ said. TellsRun network.now file.now (string_bytes said.line)) }
+    ensures ok { IfOk result (λ said. IfSome said.line (λ line. TellsRun network.now file.now (string_bytes line))) }
+    ensures warned { IfOk result (λ said. said.is_warned ≡ true → said.line ≡ None) }
     ensures err { IfErr result EndsRounds }
 {
     let RoundsJob {
@@ -244,8 +332,21 @@ fn run_accepted<H: AllocGlobal + Eprint + Files>(
         is_strict,
         is_watched,
     } = job;
-    let Ok(is_told) = is_told(rt.alloc(), file, network, is_strict) else {
+    let Ok(warnings) = warnings_if(rt.alloc(), file, network, is_strict) else {
         return Err(memory_fault());
+    };
+    if !warnings.is_empty() {
+        return Ok(RoundsSaid {
+            line: None,
+            told: warnings,
+            is_warned: true,
+            is_lossy: false,
+            rounds: 0,
+        });
+    }
+    let wishes = Wishes {
+        is_strict,
+        is_watched,
     };
     let mut teller = Teller {
         rt,
@@ -260,17 +361,31 @@ fn run_accepted<H: AllocGlobal + Eprint + Files>(
         input.as_str(),
         output.as_str(),
         picture,
-        is_watched,
+        wishes,
         &mut teller,
         taken,
         cause,
     ) {
-        Ok(line) => Ok(RoundsSaid {
-            line,
-            is_told,
-            rounds: teller.rounds,
-        }),
+        Ok(lines) => Ok(ran(lines, teller.rounds)),
         Err(fault) => Err(fault),
+    }
+}
+
+/// Returns what is said of a run that is done.
+fn ran(lines: RunLines, rounds: u32) -> RoundsSaid
+    ensures line { result.line ≡ Some lines.line }
+    ensures told { result.told ≡ lines.lost }
+    ensures warned { result.is_warned ≡ false }
+    ensures lossy { result.is_lossy ≡ has_lines (string_bytes lines.lost) }
+{
+    let RunLines { line, lost } = lines;
+    let is_lossy = !lost.as_str().is_empty();
+    RoundsSaid {
+        line: Some(line),
+        told: lost,
+        is_warned: false,
+        is_lossy,
+        rounds,
     }
 }
 
@@ -285,7 +400,7 @@ pub struct RoundsJob {
     pub output: String,
     /// The path of a picture of the run, if one is made.
     pub picture: Option<String>,
-    /// Whether what `net check` tells of the network is looked at.
+    /// Whether a warning of `net check`, a lost frame and a missed deadline are faults.
     pub is_strict: bool,
     /// Whether a long run says on standard error how far it is: in which round which bridge runs.
     pub is_watched: bool,
@@ -299,14 +414,17 @@ pub struct RoundsJob {
 /// OUT are written `BRIDGE/PORT.pcap` of each port, `BRIDGE/report.txt`, `streams.csv` and `frames.csv`. Folders of OUT are
 /// made where they aren't there.
 ///
+/// If a warning is a fault and the network has one, nothing runs, and no file is opened except the network's and its plans'.
+///
 /// Faults in this order: those of `network_job`; what comes to each bridge; the folders and files that are written; the run,
-/// `Rounds` of a capture or where something still changes after 64 rounds; then the writing. What the outputs hold stays until
+/// `Rounds` of a capture, or where frames may go round and something still changes after 64 rounds; then the writing. What the outputs hold stays until
 /// the run is done.
 pub fn rounds_job<H: AllocGlobal + Eprint + Files>(
     rt: &H,
     job: RoundsJob,
 ) -> Result<RoundsSaid, Fault>
-    ensures ok { IfOk result (λ said. PrintsRounds Global (string_bytes said.line)) }
+    ensures ok { IfOk result (λ said. IfSome said.line (λ line. PrintsRounds Global (string_bytes line))) }
+    ensures warned { IfOk result (λ said. said.is_warned ≡ true → said.line ≡ None) }
     ensures err { IfErr result EndsRounds }
 {
     rounds_noted(rt, job, &mut None)
@@ -318,7 +436,8 @@ pub fn rounds_noted<H: AllocGlobal + Eprint + Files>(
     job: RoundsJob,
     cause: &mut Option<Cause>,
 ) -> Result<RoundsSaid, Fault>
-    ensures ok { IfOk result (λ said. PrintsRounds Global (string_bytes said.line)) }
+    ensures ok { IfOk result (λ said. IfSome said.line (λ line. PrintsRounds Global (string_bytes line))) }
+    ensures warned { IfOk result (λ said. said.is_warned ≡ true → said.line ≡ None) }
     ensures err { IfErr result EndsRounds }
 {
     let alloc = rt.alloc();

@@ -5,6 +5,7 @@
 mod incoming;
 mod job;
 pub mod laws;
+mod losing;
 mod outputs;
 mod picture;
 mod refusing;

@@ -108,7 +108,7 @@ fn lines_of_hop(
 }
 
 /// How long all copies took that a stream delivered.
-fn delays_of_all(
+pub(crate) fn delays_of_all(
     alloc: Global,
     links: &[Link],
     runs: &[HopRun<'_, Global>],
@@ -173,10 +173,7 @@ fn put_hops<F: Write + OpenFile + Drop>(
     streams: &mut Output<F>,
     frames: &mut Output<F>,
 ) -> Result<(), TableFault> {
-    for (place, hop) in stream.hops().iter().enumerate() {
-        let (Some(run), Some(roots)) = (runs.get(place), all.get(place)) else {
-            return Err(TableFault::NoMemory);
-        };
+    for ((hop, run), roots) in stream.hops().iter().zip(runs).zip(all) {
         let name = hop_name(alloc, bridges, *hop)?;
         put_hop(
             alloc,
@@ -290,6 +287,7 @@ fn put_streams<F: Write + OpenFile + Drop>(
     streams: Output<F>,
     frames: Output<F>,
 ) -> Result<Totals, TableFault>
+    requires bounds { length bounds.now ≡ length file.now.streams }
     ensures { IfOk result (λ all. CountsTo links.now settled.now file.now.streams 0 0 all.frames all.delivered) }
 {
     let mut streams = streams;
@@ -301,16 +299,13 @@ fn put_streams<F: Write + OpenFile + Drop>(
     put_text(&mut streams, STREAMS_HEADER, Table::Streams)?;
     put_text(&mut frames, FRAMES_HEADER, Table::Frames)?;
     for (place, stream) in file.streams().iter().enumerate() {
-        let Some(bound) = bounds.get(place) else {
-            return Err(TableFault::NoMemory);
-        };
         let more = put_stream(
             alloc,
             file,
             links,
             settled,
             stream,
-            *bound,
+            bounds[place],
             &mut streams,
             &mut frames,
         )?;
@@ -339,6 +334,7 @@ pub(crate) fn put_tables<F: Write + OpenFile + Drop>(
     streams: Output<F>,
     frames: Output<F>,
 ) -> Result<Totals, Fault>
+    requires bounds { length bounds.now ≡ length file.now.streams }
     ensures ok { IfOk result (λ all. CountsTo links.now settled.now file.now.streams 0 0 all.frames all.delivered) }
     ensures err { IfErr result EndsFiles }
 {

@@ -1,5 +1,5 @@
 -- The sections of a network, key by key.
-use Rattle.std.specs.Prelude.{ℕ, ◌-◌, ◌^◌, Bool, true, false, not, ◌&&◌, List, [], ◌∷◌, ◌++◌, Option, Some, None, Result, Ok, Err, nat_le, if◌then◌else◌}
+use Rattle.std.specs.Prelude.{ℕ, ◌-◌, ◌^◌, Bool, true, false, not, ◌&&◌, List, [], ◌∷◌, ◌++◌, Option, Some, None, Result, Ok, Err, nat_le, nat_lt, if◌then◌else◌}
 use Rattle.std.specs.List.{list_any}
 use Rattle.toml.specs.Data.{Data, string, array, Items, no_items, item, Members, get_member}
 use Rattle.bridge_schema.specs.declared.fault.Flaw.{Flaw}
@@ -107,12 +107,14 @@ is_there (Some d) = true
 abbrev pub has_any : List NetField → Members → Bool
 has_any keys members = list_any (λ f. is_there (get_member (key_of f) members)) keys
 
--- what the talker of a stream keeps to, by the stream's place
+-- what the talker of a stream keeps to, by the stream's place; if the first phase isn't below the period, the fault is the
+-- period's
 unfoldable pub talker_of : ℕ → Members → Result Talker NetFault
 talker_of index members =
     let at : NetField → NetPlace = λ key. record { section = section.Stream; index = index; field = key } in do
       period ← required (at field.Period) (between 1 END_OF_TIME) members
-      from ← required (at field.From) (between 0 (period - 1)) members
+      from ← required (at field.From) (between 0 (END_OF_TIME - 1)) members
+      within ← provided (nat_lt from period) (fault.OutOfRange (at field.Period))
       to ← required (at field.To) (between from (period - 1)) members
       least ← required (at field.Least) (between 1 LONGEST_FRAME) members
       longest ← required (at field.Longest) (between least LONGEST_FRAME) members

@@ -128,7 +128,7 @@ pub enum NetFault {
     /// A number, a text or the length of an array that isn't allowed.
     #[error("a value that is not allowed")]
     OutOfRange(NetPlace),
-    /// A bridge or a stream whose name an earlier one of its section has.
+    /// A bridge or a stream whose name an earlier one of its section has, or traffic of a filter that an earlier row has.
     #[error("a repeated instance")]
     Duplicate(NetSection, u32),
     /// An end or a hop names a bridge that the network doesn't have.

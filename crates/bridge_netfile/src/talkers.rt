@@ -45,6 +45,12 @@ const PERIOD: Between = Between {
     high: END_OF_TIME,
 };
 
+/// A phase of a period, in ns.
+const PHASE: Between = Between {
+    low: 0,
+    high: END_OF_TIME - 1,
+};
+
 /// The octets of a frame.
 const OCTETS: Between = Between {
     low: 1,
@@ -85,14 +91,16 @@ fn talker_of(index: u32, table: &Table) -> Result<Talker, NetFault>
         }
     };
     let period = required(table, at(NetField::Period), &PERIOD)?;
-    let last = period - 1;
-    let from = required(table, at(NetField::From), &Between { low: 0, high: last })?;
+    let from = required(table, at(NetField::From), &PHASE)?;
+    if from >= period {
+        return Err(NetFault::OutOfRange(at(NetField::Period)));
+    }
     let to = required(
         table,
         at(NetField::To),
         &Between {
             low: from,
-            high: last,
+            high: period - 1,
         },
     )?;
     let least = required(table, at(NetField::Least), &OCTETS)?;

@@ -55,10 +55,10 @@ use Rattle.bridge_network.proofs.Marking.{plain, SameHead, leaving_head}
 
 -- WHERE AN OFFER COMES FROM
 
-record IsLeaving (a : Arrival) (o : Offer) : Type 0 where
-  eligible : Bool
-  octets : o.item.octets ≡ leaving eligible a.octets
-  len : o.item.len ≡ a.len
+pub record IsLeaving (a : Arrival) (o : Offer) : Type 0 where
+  pub eligible : Bool
+  pub octets : o.item.octets ≡ leaving eligible a.octets
+  pub len : o.item.len ≡ a.len
 
 leaving_by : {A : Type 0} (out : PortPlan A) (a : Arrival) (priority n number : ℕ) (v : Verdict) (o : Offer) → In o (offer_by out a priority n number v) → IsLeaving a o
 leaving_by out a priority n number (verdict.Pass ipv e) o (inl same) = record { eligible = e; octets = ap (λ (z : Offer). z.item.octets) same; len = ap (λ (z : Offer). z.item.len) same }
@@ -79,15 +79,15 @@ leaving_step p out a es priority (verdicts.Judged c n f v) o i = leaving_by out 
 leaving_step p out a es priority (verdicts.Commanded v m) o i = absurd i
 
 -- a frame that came to a bridge goes out of a port as this offer
-record IsFrom {A : Type 0} (p : Plan A) (out : PortPlan A) (o : Offer) : Type 0 where
-  frame : Arrival
-  past : List Event
-  set : ℕ
-  call : Call
-  is : way_of p frame ≡ Goes set call
-  goes : has set out.number ≡ true
-  offered : In o (offer_of p out frame past)
-  leaves : IsLeaving frame o
+pub record IsFrom {A : Type 0} (p : Plan A) (out : PortPlan A) (o : Offer) : Type 0 where
+  pub frame : Arrival
+  pub past : List Event
+  pub set : ℕ
+  pub call : Call
+  pub is : way_of p frame ≡ Goes set call
+  pub goes : has set out.number ≡ true
+  pub offered : In o (offer_of p out frame past)
+  pub leaves : IsLeaving frame o
 
 from_way : {A : Type 0} (p : Plan A) (out : PortPlan A) (a : Arrival) (es : List Event) (o : Offer) (w : Way) → way_of p a ≡ w → In o (offer_on p out a es w) → In o (offer_of p out a es) → IsFrom p out o
 from_way p out a es o way.Malformed e i j = absurd i
@@ -98,7 +98,7 @@ from_way p out a es o (way.Goes set c) e i j = by_bool (has set out.number)
     record { frame = a; past = es; set = set; call = c; is = e; goes = k; offered = j; leaves = leaving_step p out a es c.priority (step_of p es c) o m })
     (λ k. let m : ⊥ = rw k at i in absurd m)
 
-from_events : {A : Type 0} (p : Plan A) (out : PortPlan A) (es : List Event) (o : Offer) → In o (offers p out es) → IsFrom p out o
+pub from_events : {A : Type 0} (p : Plan A) (out : PortPlan A) (es : List Event) (o : Offer) → In o (offers p out es) → IsFrom p out o
 from_events p out [] o i = absurd i
 from_events p out (Cleared c m ∷ es) o i = from_events p out es o i
 from_events p out (Arrived a ∷ es) o i = elim (in_either o (offer_of p out a es) (offers p out es) i) [
@@ -108,7 +108,7 @@ from_events p out (Arrived a ∷ es) o i = elim (in_either o (offer_of p out a e
 
 -- A FLOW BY HANDLE AND PRIORITY
 
-flow_same : (fs : List (ℕ × FilterPlan)) (c d : Call) → c.handle ≡ d.handle → c.priority ≡ d.priority → verdicts.flow fs c ≡ verdicts.flow fs d
+pub flow_same : (fs : List (ℕ × FilterPlan)) (c d : Call) → c.handle ≡ d.handle → c.priority ≡ d.priority → verdicts.flow fs c ≡ verdicts.flow fs d
 flow_same [] c d h k = refl
 flow_same (f ∷ fs) c d h k =
     let same : verdicts.is_match f.1 c ≡ verdicts.is_match f.1 d = rw (h, k) refl in
@@ -143,18 +143,18 @@ plain_tag tags.Priority None = refl
 plain_tag tags.Priority (Some t) = refl
 plain_tag tags.All t = refl
 
-plain_vid : {A : Type 0} (port : PortPlan A) (t : Option Tag) → vid_of port (plain t) ≡ vid_of port t
+pub plain_vid : {A : Type 0} (port : PortPlan A) (t : Option Tag) → vid_of port (plain t) ≡ vid_of port t
 plain_vid port None = refl
 plain_vid port (Some t) = refl
 
-plain_priority : {A : Type 0} (port : PortPlan A) (t : Option Tag) → priority_of port (plain t) ≡ priority_of port t
+pub plain_priority : {A : Type 0} (port : PortPlan A) (t : Option Tag) → priority_of port (plain t) ≡ priority_of port t
 plain_priority port None = refl
 plain_priority port (Some t) = refl
 
 -- a frame is of a sort
-record IsOfSort (s : Sort) (h : Head) : Type 0 where
-  tag : plain h.tag ≡ s.tag
-  address : compared_address s.kind h ≡ s.address
+pub record IsOfSort (s : Sort) (h : Head) : Type 0 where
+  pub tag : plain h.tag ≡ s.tag
+  pub address : compared_address s.kind h ≡ s.address
 
 kind_same : (k l : Kind) → is_kind k l ≡ true → k ≡ l
 kind_same Null Null h = refl
@@ -192,12 +192,12 @@ among_by false true kind x a rest f g i = absurd (false≢true (f refl))
 among_by false false kind x a rest f g i = i
 
 -- the handle of a frame is one of those that its sort may get
-handle_among : (es : List StreamEntry) (q : ℕ) (h : Head) (vid : ℕ) (s : Sort) → IsOfSort s h → In (handle_in es q h vid) (handles_of es q vid s)
+pub handle_among : (es : List StreamEntry) (q : ℕ) (h : Head) (vid : ℕ) (s : Sort) → IsOfSort s h → In (handle_in es q h vid) (handles_of es q vid s)
 handle_among [] q h vid s sort = inl refl
 handle_among (e ∷ es) q h vid s sort = among_by (may_match e q vid s) (is_match e q h vid) (is_kind e.kind s.kind) e.handle (handle_in es q h vid) (handles_of es q vid s) (matches_may e q h vid s sort) (may_matches e q h vid s sort) (handle_among es q h vid s sort)
 
 -- a disjunction whose first part fails
-after_not : (a b : Bool) → a ≡ true → (not a || b) ≡ true → b ≡ true
+pub after_not : (a b : Bool) → a ≡ true → (not a || b) ≡ true → b ≡ true
 after_not true b e h = h
 after_not false b e h = absurd (false≢true e)
 
@@ -242,7 +242,7 @@ record IsSentAs {A : Type 0} (p : Plan A) (is_of_stream : ℕ → Bool) (o : Off
   of_stream : is_of_stream flow.0 ≡ true
   is : o.item.flow ≡ Some flow.0
 
-may_by : {A : Type 0} (p : Plan A) (on : PortPlan A) (h : Head) (s : Sort) (q : ℕ) (k : Kind) → k ≡ s.kind → IsOfSort s h → has (forward p.database on.number (vid_of on h.tag) h.da) q ≡ true → may_go p.database on.number (vid_of on s.tag) s q ≡ true
+pub may_by : {A : Type 0} (p : Plan A) (on : PortPlan A) (h : Head) (s : Sort) (q : ℕ) (k : Kind) → k ≡ s.kind → IsOfSort s h → has (forward p.database on.number (vid_of on h.tag) h.da) q ≡ true → may_go p.database on.number (vid_of on s.tag) s q ≡ true
 may_by p on h s q Source e sort goes = subst (λ (z : Kind). (not (is_null z) || has (forward p.database on.number (vid_of on s.tag) s.address) q) ≡ true) e refl
 may_by p on h s q Null e sort goes =
     let address : h.da ≡ s.address = subst (λ (z : Kind). compared_address z h ≡ s.address) (sym e) sort.address in
@@ -292,20 +292,21 @@ sent_as {A} p is_of_stream q out o s plan at f sort only =
 
 -- THE LINK
 
-record IsTaken {A : Type 0} (next : Plan A) (on : PortPlan A) (n : ℕ) (o : Offer) : Type 0 where
-  parsed : Head
-  is : head o.item.octets o.item.len ≡ Ok parsed
-  entry : StreamEntry
-  listed : In entry next.streams
-  address : entry.address ≡ compared_address entry.kind parsed
-  tag : In (plain parsed.tag) (tags_of entry.vid)
-  gives : gives_to next on n entry (plain parsed.tag) ≡ true
+-- a frame that comes to a port is one of a filter: an entry names it, with a tag of those that are tried
+pub record IsTaken {A : Type 0} (next : Plan A) (on : PortPlan A) (n : ℕ) (a : Arrival) : Type 0 where
+  pub parsed : Head
+  pub is : head a.octets a.len ≡ Ok parsed
+  pub entry : StreamEntry
+  pub listed : In entry next.streams
+  pub address : entry.address ≡ compared_address entry.kind parsed
+  pub tag : In (plain parsed.tag) (tags_of entry.vid)
+  pub gives : gives_to next on n entry (plain parsed.tag) ≡ true
 
-taken_way : {A : Type 0} (next : Plan A) (on : PortPlan A) (r n t : ℕ) (f : FilterPlan) (o : Offer) → IsSafe next n f → port_at next.ports r ≡ Some on → (w : Way) → way_of next (arrival t r o.item.octets o.item.len) ≡ w → is_number n (flow_by next (call_by w)) ≡ true → IsTaken next on n o
-taken_way next on r n t f o safe at way.Malformed e k = absurd (false≢true k)
-taken_way next on r n t f o safe at way.Nowhere e k = absurd (false≢true k)
-taken_way {A} next on r n t f o safe at (way.Goes set made) e k =
-    let g : IsGoing next (arrival t r o.item.octets o.item.len) set made = going next (arrival t r o.item.octets o.item.len) set made e in
+pub taken_way : {A : Type 0} (next : Plan A) (on : PortPlan A) (n : ℕ) (f : FilterPlan) (a : Arrival) → IsSafe next n f → port_at next.ports a.port ≡ Some on → (w : Way) → way_of next a ≡ w → is_number n (flow_by next (call_by w)) ≡ true → IsTaken next on n a
+taken_way next on n f a safe at way.Malformed e k = absurd (false≢true k)
+taken_way next on n f a safe at way.Nowhere e k = absurd (false≢true k)
+taken_way {A} next on n f a safe at (way.Goes set made) e k =
+    let g : IsGoing next a set made = going next a set made e in
     let h = g.parsed in
     let here : g.on ≡ on = same_Some g.on on (sym g.at_port ∙ at) in
     let vid : vid_of g.on h.tag ≡ vid_of on h.tag = ap (λ (z : PortPlan A). vid_of z h.tag) here in
@@ -317,7 +318,7 @@ taken_way {A} next on r n t f o safe at (way.Goes set made) e k =
     let by : HasEntry next.streams g.on.number h (vid_of g.on h.tag) m = given next.streams g.on.number h (vid_of g.on h.tag) m (ap (λ (z : Call). z.handle) g.call_is ∙ is_m) in
     let entry = by.entry in
     let match = match_of entry g.on.number h (vid_of g.on h.tag) by.matches in
-    let few = head_few o.item.octets o.item.len h g.is in
+    let few = head_few a.octets a.len h g.is in
     let vlan : vid_of g.on h.tag ≡ entry.vid = sym (eqb-true entry.vid (vid_of g.on h.tag) match.vlan) in
     let port : nat_eq entry.port on.number ≡ true = subst (λ (z : PortPlan A). nat_eq entry.port z.number ≡ true) here match.port in
     let in_vlan : nat_eq entry.vid (vid_of on (plain h.tag)) ≡ true = eq-eqb entry.vid (vid_of on (plain h.tag)) (sym vlan ∙ (vid ∙ sym (plain_vid on h.tag))) in
@@ -335,14 +336,18 @@ taken_way {A} next on r n t f o safe at (way.Goes set made) e k =
       gives = rw (port, in_vlan, tag, number) refl;
     }
 
-ok_is : (g h : Head) → ◌≡◌ {A = Result Head FrameFault} (Ok g) (Ok h) → g ≡ h
+pub ok_is : (g h : Head) → ◌≡◌ {A = Result Head FrameFault} (Ok g) (Ok h) → g ≡ h
 ok_is g h e = cc
+
+pub same_address : (k : Kind) (g h : Head) → SameHead g h → compared_address k g ≡ compared_address k h
+same_address Null g h same = same.da
+same_address Source g h same = same.sa
 
 -- of all that port q of a bridge sends, whatever came to the bridge, the filter at the other end of its link takes only frames of the stream
 pub only_stream : {A : Type 0} (p next : Plan A) (is_of_stream : ℕ → Bool) (q r n t : ℕ) (f : FilterPlan) (out on : PortPlan A) (es : List Event) (o : Offer) → IsPlan p → IsPlan next → IsAcceptable next → In (n, f) next.filters → f.protected ≡ true → port_at p.ports q ≡ Some out → port_at next.ports r ≡ Some on → takes_only p is_of_stream q next on n ≡ true → In o (offers p out es) → is_number n (flow_of next (arrival t r o.item.octets o.item.len)) ≡ true → (m : ℕ × FilterPlan) × In m p.filters × (is_of_stream m.0 ≡ true) × (o.item.flow ≡ Some m.0)
 only_stream p next is_of_stream q r n t f out on es o plan also good listed is at there test i k =
     let safe : IsSafe next n f = record { plan = also; listed = listed; passes = good n f listed is } in
-    let x = taken_way next on r n t f o safe there (way_of next (arrival t r o.item.octets o.item.len)) refl k in
+    let x = taken_way next on n f (arrival t r o.item.octets o.item.len) safe there (way_of next (arrival t r o.item.octets o.item.len)) refl k in
     let e = x.entry in
     let s : Sort = sort_by e (plain x.parsed.tag) in
     let one : list_all (takes_by p is_of_stream q next on n e) (tags_of e.vid) ≡ true = each_passes (λ (e : StreamEntry). list_all (takes_by p is_of_stream q next on n e) (tags_of e.vid)) next.streams e test x.listed in
@@ -355,10 +360,6 @@ only_stream p next is_of_stream q r n t f out on es o plan also good listed is a
     let here : head (leaving leaves.eligible from.frame.octets) from.frame.len ≡ Ok x.parsed = subst (λ (n : ℕ). head (leaving leaves.eligible from.frame.octets) n ≡ Ok x.parsed) leaves.len (subst (λ (v : List ℕ). head v o.item.len ≡ Ok x.parsed) leaves.octets x.is) in
     let is_g : g ≡ x.parsed = ok_is g x.parsed (sym again ∙ here) in
     let both : SameHead h x.parsed = subst (SameHead h) is_g same in
-    record { tag = both.tag; address = address_of e.kind h x.parsed both ∙ sym x.address } in
+    record { tag = both.tag; address = same_address e.kind h x.parsed both ∙ sym x.address } in
     let sent = sent_as p is_of_stream q out o s plan at from sort only in
     (sent.flow, sent.listed, sent.of_stream, sent.is)
-  where
-    address_of : (k : Kind) (g h : Head) → SameHead g h → compared_address k g ≡ compared_address k h
-    address_of Null g h same = same.da
-    address_of Source g h same = same.sa

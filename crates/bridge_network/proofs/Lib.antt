@@ -3,6 +3,7 @@ pub mod Chain
 pub mod Once
 pub mod Marking
 pub mod Feeding
+pub mod Handed
 pub mod Closed
 pub mod Settling
 pub mod Paced

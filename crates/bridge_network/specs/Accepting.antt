@@ -7,11 +7,11 @@ use Rattle.bridge_config.specs.Model.{Plan}
 use Rattle.bridge_network.specs.Networks.{Network, Sender, sender}
 use Rattle.bridge_network.specs.Feeding.{takes_only}
 
--- True if the stream lists filter `m` of bridge `b` as a hop.
+-- True if the stream, a list of pairs, contains the bridge index `b` paired with the filter number `m`.
 abbrev pub is_listed : List (ℕ × ℕ) → ℕ → ℕ → Bool
 is_listed stream b m = list_any (λ (x : ℕ × ℕ). nat_eq x.0 b && nat_eq x.1 m) stream
 
--- True if the plan has a protected filter with number `m`.
+-- True if plan `p` has a protected filter with number `m`.
 abbrev pub is_protected : {A : Type 0} → Plan A → ℕ → Bool
 is_protected p m = list_any (λ (f : ℕ × FilterPlan). nat_eq f.0 m && f.1.protected) p.filters
 

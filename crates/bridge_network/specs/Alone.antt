@@ -15,7 +15,7 @@ use Rattle.bridge_semantics.specs.Outputs.{departure}
 use Rattle.bridge_semantics.specs.Runs.{AreSolo, IsView}
 use Rattle.bridge_network.specs.Networks.{Network, Sender, sender, later, outside, Hop, hop, IsHop, AreTimed}
 
--- Input `x` on port `q` is an own frame of hop `h` that left a hop of the stream, one link delay earlier.
+-- Holds if input `x` at port `q` is an own frame of hop `h`, sent by a stream hop at `s.from` one link delay earlier.
 pub record Reaches {A : Type 0} (n : Network A) (stream : List (ℕ × ℕ)) (lists : Hop A → ℕ → ℕ → List (Copy Carried))
     (h : Hop A) (q : ℕ) (s : Sender) (x : Input) : Type 0 where
   pub plan : Plan A
@@ -32,20 +32,22 @@ pub record Reaches {A : Type 0} (n : Network A) (stream : List (ℕ × ℕ)) (li
   pub input : x ≡ frame q (later s.delay (departure out.speed start copy.item))
   pub own : is_own h.plan h.number h.filter x.event ≡ true
 
--- Input `a` has a strictly later time than input `b`.
+-- Holds if input `a` has a strictly later time than input `b`.
 abbrev pub IsLater : Input → Input → Type 0
 IsLater a b = b.at < a.at
 
--- The own frames and commands of hop `h` that arrive from outside on port `q`, newest first; port 0 stands for commands.
+-- The own inputs of hop `h` from outside, newest first: its commands if `q` is 0, otherwise its frames in the capture
+-- of port `q`.
 abbrev pub own_first : {A : Type 0} → Hop A → (ℕ → List Input) → (ℕ → ℕ → List Captured) → ℕ → List Input
 own_first h commands captures q = own_inputs h.plan h.number h.filter (outside commands captures h.bridge q)
 
--- Copy `x` is in the queue of some class at port `q`.
+-- Holds if copy `x` is in `lists q c`, the copies of the queue of class `c` at port `q`, for some class `c`.
 abbrev pub InQueue : (ℕ → ℕ → List (Copy Carried)) → ℕ → Copy Carried → Type 0
 InQueue lists q x = (c : ℕ) × In x (lists q c)
 
--- Each hop of the stream has the record that its own first inputs and the stream's frames over links produce on an idle network.
--- Fields: inputs `own`, from outside `first`, over links `next`, apart in time `apart`; queues `lists`, each by itself `solo`; records `view`.
+-- Holds if each hop's record results from its own inputs from outside and the stream's frames over links, on an
+-- otherwise idle network. Field `own` has a hop's inputs, `first` from outside and `next` over links. Field `lists` has
+-- the copies of each queue by itself.
 pub record IsAlone {A : Type 0} (n : Network A) (commands : ℕ → List Input) (captures : ℕ → ℕ → List Captured)
     (stream : List (ℕ × ℕ)) (views : Hop A → Option (View A)) : Type 0 where
   pub own : Hop A → List Input
@@ -62,7 +64,8 @@ pub record IsAlone {A : Type 0} (n : Network A) (commands : ℕ → List Input) 
   pub view : (h : Hop A) (v : View A) → IsHop n stream h → views h ≡ Some v
       → IsView h.plan h.number h.filter (events (own h)) (InQueue (lists h)) v
 
--- The own frames of each hop on open ports, and its own commands, are equal in both inputs of the network.
+-- Holds if each stream hop's own frames on open ports, and its own commands, are equal in both sets of inputs from
+-- outside.
 abbrev pub HaveSameFirst : {A : Type 0} → Network A → List (ℕ × ℕ) → (ℕ → List Input) → (ℕ → ℕ → List Captured)
     → (ℕ → List Input) → (ℕ → ℕ → List Captured) → Type 0
 HaveSameFirst {A} n stream commands captures others frames =

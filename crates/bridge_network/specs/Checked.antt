@@ -13,7 +13,7 @@ pub record IsAccepted {A : Type 0} (p : Plan A) : Type 0 where
   pub rules : IsPlan p
   pub acceptable : IsAcceptable p
 
--- Every stream of the network is closed: over links, its hops accept only frames of its hops.
+-- Holds if every stream of the network is closed: over links, its hops accept only frames of the stream's hops.
 pub record AreClosed {A : Type 0} (n : Parts A) : Type 0 where
   pub each : (s : Vec StreamHop A) → In s n.streams → IsClosed (network_of n) (stream_of s.items)
 

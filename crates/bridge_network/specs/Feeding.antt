@@ -19,49 +19,53 @@ use Rattle.bridge_config.specs.Model.{Plan}
 use Rattle.bridge_check.specs.Reach.{any_below, is_null, reaches}
 use Rattle.bridge_check.specs.Sending.{vid_of, priority_of}
 
--- Frames with one tag or none, and one destination or source address, whatever their drop eligible indicator.
+-- The frames that share one optional tag, whatever its drop eligible indicator, and one destination or source address.
 pub record Sort : Type 0 where
   pub tag : Option Tag
   pub kind : Kind
   pub address : List ℕ
 
--- The tag with this priority and VLAN identifier, and with its drop eligible indicator clear.
+-- The tag with priority `pcp`, VLAN identifier `vid`, and a clear drop eligible indicator.
 abbrev pub tag_of : ℕ → ℕ → Tag
 tag_of pcp vid = record { pcp = pcp; dei = false; vid = vid }
 
--- True if both entries compare the destination address, or both compare the source address.
+-- True if both kinds compare the destination address, or both compare the source address.
 abbrev pub is_kind : Kind → Kind → Bool
 is_kind Null Null = true
 is_kind Source Source = true
 is_kind _ _ = false
 
--- True if the entry may match frames of the sort on this port and in this VLAN; an address that the sort omits may match.
+-- True if entry `e` may match frames of sort `s` on `port` in VLAN `vid`. If the entry compares an address that the
+-- sort leaves open, the entry may match.
 abbrev pub may_match : StreamEntry → ℕ → ℕ → Sort → Bool
 may_match e port vid s =
     nat_eq e.port port && nat_eq e.vid vid && takes_tag e.tag s.tag
     && (not (is_kind e.kind s.kind) || bytes_eq e.address s.address)
 
--- The handles that frames of a sort may get, in order, up to the first entry that surely matches; `None` is the missing handle.
+-- The handles that frames of sort `s` may get, in entry order; `None` stands for a missing handle. The list stops at
+-- the first entry that surely matches.
 abbrev pub handles_of : List StreamEntry → ℕ → ℕ → Sort → List (Option ℕ)
 handles_of [] port vid s = None ∷ []
 handles_of (e ∷ es) port vid s =
     if may_match e port vid s then Some e.handle ∷ (if is_kind e.kind s.kind then [] else handles_of es port vid s)
     else handles_of es port vid s
 
--- The stream filter that matches frames with this optional handle and this priority, or `None`.
+-- The stream filter of plan `p` that matches frames with this optional stream handle and this priority, or `None`.
 abbrev pub flow_for : {A : Type 0} → Plan A → Option ℕ → ℕ → Option (ℕ × FilterPlan)
 flow_for p handle priority = flow p.filters (call 0 handle priority false 0 0)
 
--- True if the filter reaches the queue of at least one class at port `q`.
+-- True if filter `f` has a reachable queue at port `q`, in at least one class.
 abbrev pub reaches_any : {A : Type 0} → Plan A → FilterPlan → ℕ → Bool
 reaches_any p f q = any_below 8 (reaches p f q)
 
--- True if the filter belongs to the stream or reaches no queue of port `q`; false for frames without a filter.
+-- True if the optional filter `m` belongs to the stream or has no reachable queue at port `q`; false for unfiltered
+-- frames (`None`).
 abbrev pub is_fed : {A : Type 0} → Plan A → (ℕ → Bool) → ℕ → Option (ℕ × FilterPlan) → Bool
 is_fed p is_of_stream q None = false
 is_fed p is_of_stream q (Some m) = is_of_stream m.0 || not (reaches_any p m.1 q)
 
--- True if frames of the sort may be forwarded out of port `q`; always true if the sort has a source address.
+-- True if frames of sort `s`, received on `port` in VLAN `vid`, may leave by port `q`; always true for a source
+-- address.
 abbrev pub may_go : Database → ℕ → ℕ → Sort → ℕ → Bool
 may_go db port vid s q = not (is_null s.kind) || has (forward db port vid s.address) q
 
@@ -80,21 +84,24 @@ sends_only p is_of_stream q s = list_all (sends_from p is_of_stream q s) p.ports
 abbrev pub priorities : List ℕ
 priorities = 0 ∷ 1 ∷ 2 ∷ 3 ∷ 4 ∷ 5 ∷ 6 ∷ 7 ∷ []
 
--- One tag for each priority from 0 to 7, all with VLAN identifier `vid`.
+-- The eight tags with VLAN identifier `vid`, one for each priority from 0 to 7, in rising order.
 abbrev pub tags_with : ℕ → List (Option Tag)
 tags_with vid = map (λ (k : ℕ). Some (tag_of k vid)) priorities
 
--- The 17 tags that frames of VLAN `vid` can have: untagged, and each priority with VLAN identifier 0 or `vid`.
+-- The 17 tag values of frames in VLAN `vid`: untagged (`None`), then priorities 0 to 7 with identifier 0, then the same
+-- priorities with `vid`.
 abbrev pub tags_of : ℕ → List (Option Tag)
 tags_of vid = None ∷ (tags_with 0 ++ tags_with vid)
 
--- True if the entry accepts frames with this tag, on its port and in its VLAN, and they belong to filter `n`.
+-- True if frames with this optional tag and the address of entry `e` match this entry at port `on`, and then match
+-- filter `n`.
 abbrev pub gives_to : {A : Type 0} → Plan A → PortPlan A → ℕ → StreamEntry → Option Tag → Bool
 gives_to p on n e tag =
     nat_eq e.port on.number && nat_eq e.vid (vid_of on tag) && takes_tag e.tag tag
     && is_number n (flow_for p (Some e.handle) (priority_of on tag))
 
--- The sort of frames with this tag and the address of the entry, destination or source.
+-- The sort of frames with the optional tag `tag` and the address of entry `e`, destination or source by the entry's
+-- kind.
 abbrev pub sort_by : StreamEntry → Option Tag → Sort
 sort_by e tag = record { tag = tag; kind = e.kind; address = e.address }
 

@@ -11,7 +11,7 @@ use Rattle.bridge_semantics.specs.Events.{Event}
 use Rattle.bridge_semantics.specs.Merge.{Input}
 use Rattle.bridge_semantics.specs.Offers.{Carried, Offer, offers, in_class}
 
--- Transmission time in ns of a copy on the link of the port, with preamble and gap.
+-- Transmission time in ns of a copy with contents `y` on the link of port `out`, with preamble and gap.
 abbrev pub time_on : {A : Type 0} → PortPlan A → Carried → ℕ
 time_on out y = occupied y.len out.speed
 
@@ -43,7 +43,7 @@ StartsWithin opens occ wait t f = (s : ℕ) × (f ≡ Started s) × IsFirst open
 
 -- PERIODS
 
--- Time `p` in ns is a multiple of `base`, so a period begins at `p`.
+-- Holds if the time `p` in ns is a multiple of `base`, so that a period of `base` ns begins at `p`.
 abbrev pub IsMultiple : ℕ → ℕ → Type 0
 IsMultiple base p = (k : ℕ) × (p ≡ k * base)
 

@@ -6,6 +6,8 @@ pub mod Settled
 pub mod Latency
 pub mod Wiring
 pub mod Finding
+pub mod Handing
+pub mod Handed
 pub mod Walking
 pub mod Numbers
 pub mod Refusing

@@ -5,8 +5,8 @@ ghost use Rattle.bridge_network.specs.Numbers.{number_of};
 use crate::links::End;
 use thiserror::Error;
 
-/// Reason why a network is refused, in the order of the tests. Links, streams and the hops of a stream are counted from
-/// 1.
+/// Reason why `net check` refuses a network; the variants follow the order of the tests. Links, streams and the hops of
+/// a stream are counted from 1.
 #[derive(Clone, Copy, Debug, PartialEq, Eq, Error)]
 pub enum NetworkFault {
     /// The link names a bridge or a port that isn't there.

@@ -18,10 +18,14 @@ ghost use Rattle.bridge_port.specs.Schedule.{Copy};
 ghost use Rattle.bridge_check.specs.Acceptable.{IsAcceptable};
 ghost use Rattle.bridge_config.specs.Rules.{IsPlan, port_at};
 ghost use Rattle.bridge_filter.specs.Own.{is_number};
-ghost use Rattle.bridge_semantics.specs.Events.{Event, arrival, flow_of};
+ghost use Rattle.bridge_filter.specs.declared.Call.{Call};
+ghost use Rattle.bridge_filter.specs.Verdicts.{flow};
+ghost use Rattle.bridge_semantics.specs.declared.way.Way.TheVariants.{Goes};
+ghost use Rattle.bridge_semantics.specs.Events.{Event, arrival, flow_of, way_of};
 ghost use Rattle.bridge_semantics.specs.Offers.{Offer, offers};
 ghost use Rattle.bridge_network.specs.Feeding.{takes_only};
 ghost use Rattle.bridge_network.specs.Finding.{taken};
+ghost use Rattle.bridge_network.specs.Handing.{hands_all};
 ghost use Rattle.bridge_network.specs.declared.sending.Question.TheVariants.{Strays};
 
 use std::alloc::Allocator;
@@ -112,4 +116,22 @@ pub fn stray_where_test_fails<A: Allocator + Copy>()
     ensures { (p next : Plan A) (is_of_stream : ℕ → Bool) (q n : ℕ) (on : PortPlan A)
         → IsPlan p
         → (taken Strays p is_of_stream q next on n ≡ None) ↔ (takes_only p is_of_stream q next on n ≡ true) }
+{}
+
+/// A hop hands its frames to the next one. If the test on the plans at the two ends of a link holds, each copy of a protected
+/// filter that leaves the port of the sender belongs to the next filter, if the next bridge forwards it.
+pub fn each_is_handed<A: Allocator + Copy>()
+    ensures { (p next : Plan A) (q r m n t set : ℕ) (f : FilterPlan) (call : Call) (out on : PortPlan A)
+        (es : List Event) (o : Offer)
+        → IsPlan p
+        → IsAcceptable p
+        → In (m, f) p.filters
+        → f.protected ≡ true
+        → port_at p.ports q ≡ Some out
+        → port_at next.ports r ≡ Some on
+        → hands_all p m q next on n ≡ true
+        → In o (offers p out es)
+        → o.item.flow ≡ Some m
+        → way_of next (arrival t r o.item.octets o.item.len) ≡ Goes set call
+        → is_number n (flow next.filters call) ≡ true }
 {}

@@ -163,7 +163,7 @@ fn stands_in<A: Allocator + Copy>(
 }
 
 /// The handle that the protected filter with a number names.
-pub(crate) fn handle_of(filters: &[(u32, FilterPlan)], number: u32) -> Option<u32>
+pub fn handle_of(filters: &[(u32, FilterPlan)], number: u32) -> Option<u32>
     ensures { result ≡ spec.handle_of filters.now number }
 {
     for filter in filters {
@@ -175,7 +175,7 @@ pub(crate) fn handle_of(filters: &[(u32, FilterPlan)], number: u32) -> Option<u3
 }
 
 /// Whether an entry of a port gives a handle.
-fn has_entry<A: Allocator + Copy>(plan: &Plan<A>, port: u8, handle: u32) -> bool
+pub fn has_entry<A: Allocator + Copy>(plan: &Plan<A>, port: u8, handle: u32) -> bool
     ensures { result ≡ spec.has_entry plan.now port handle }
 {
     plan.streams()

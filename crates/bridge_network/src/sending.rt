@@ -91,7 +91,7 @@ pub(crate) fn priority_of<A: Allocator + Copy>(port: &PortPlan<A>, tag: Option<T
 }
 
 /// Whether two entries compare the same address.
-fn is_kind(a: Kind, b: Kind) -> bool
+pub(crate) fn is_kind(a: Kind, b: Kind) -> bool
     ensures { result ≡ feeding.is_kind a b }
 {
     match (a, b) {
@@ -102,7 +102,13 @@ fn is_kind(a: Kind, b: Kind) -> bool
 }
 
 /// Whether an entry may match frames of the sort that another one and a tag name, on a port and in a VLAN.
-fn may_match(entry: &StreamEntry, port: u8, vid: u16, named: &StreamEntry, tag: Option<Tag>) -> bool
+pub(crate) fn may_match(
+    entry: &StreamEntry,
+    port: u8,
+    vid: u16,
+    named: &StreamEntry,
+    tag: Option<Tag>,
+) -> bool
     ensures { result ≡ feeding.may_match entry.now port vid (sort_by named.now tag) }
 {
     if entry.port != port || entry.vid != vid || !takes_tag(entry.tag, tag) {
@@ -206,6 +212,49 @@ fn reaches_any<A: Allocator + Copy>(plan: &Plan<A>, filter: &FilterPlan, port: u
     }
 }
 
+/// Whether frames of a sort that come on a port of a bridge may leave by another port.
+pub(crate) fn may_go<A: Allocator + Copy>(
+    plan: &Plan<A>,
+    on: &PortPlan<A>,
+    named: &StreamEntry,
+    tag: Option<Tag>,
+    port: u8,
+) -> bool
+    requires from { 1 ≤ on.now.number }
+    requires to { on.now.number ≤ 16 }
+    requires leaves_from { 1 ≤ port }
+    requires leaves_to { port ≤ 16 }
+    ensures { result ≡ feeding.may_go plan.now.database on.now.number (classified.vid_of on.now tag)
+        (sort_by named.now tag) port }
+{
+    match named.kind {
+        Kind::Source => true,
+        Kind::Null => {
+            let set = plan.forward(on.number, vid_of(on, tag), &named.address);
+            set.has(port)
+        }
+    }
+}
+
+/// Whether an entry gives frames with a tag that come on a port to a filter.
+pub(crate) fn gives_to<A: Allocator + Copy>(
+    plan: &Plan<A>,
+    on: &PortPlan<A>,
+    filter: u32,
+    entry: &StreamEntry,
+    tag: Option<Tag>,
+) -> bool
+    ensures { result ≡ feeding.gives_to plan.now on.now filter entry.now tag }
+{
+    if entry.port != on.number || entry.vid != vid_of(on, tag) || !takes_tag(entry.tag, tag) {
+        return false;
+    }
+    match flow_for(plan.filters(), Some(entry.handle), priority_of(on, tag)) {
+        Some((number, _)) => number == filter,
+        None => false,
+    }
+}
+
 impl<'a, A: Allocator + Copy> Sending<'a, A> {
     /// Whether frames of this filter are of the stream, or never queued at the port.
     fn is_fed(&self, flow: Option<(u32, FilterPlan)>) -> bool
@@ -288,25 +337,6 @@ impl<'a, A: Allocator + Copy> Sending<'a, A> {
         self.found(port, priority, None)
     }
 
-    /// Whether frames of a sort that come on a port may go out of the sender's.
-    fn may_go(&self, on: &PortPlan<A>, named: &StreamEntry, tag: Option<Tag>) -> bool
-        requires sending { IsSending self.now }
-        requires from { 1 ≤ on.now.number }
-        requires to { on.now.number ≤ 16 }
-        ensures { result ≡ feeding.may_go self.now.plan.now.database on.now.number (classified.vid_of on.now tag)
-            (sort_by named.now tag) self.now.end.port }
-    {
-        match named.kind {
-            Kind::Source => true,
-            Kind::Null => {
-                let set = self
-                    .plan
-                    .forward(on.number, vid_of(on, tag), &named.address);
-                set.has(self.end.port)
-            }
-        }
-    }
-
     /// The first of the frames of a sort that come on a port.
     fn first_from(&self, named: &StreamEntry, tag: Option<Tag>, on: &PortPlan<A>) -> Option<Found>
         requires sending { IsSending self.now }
@@ -315,7 +345,7 @@ impl<'a, A: Allocator + Copy> Sending<'a, A> {
         ensures { result ≡ sent_from self.now.question self.now.plan.now (hops self.now) self.now.end.port
             (sort_by named.now tag) on.now }
     {
-        if !self.may_go(on, named, tag) {
+        if !may_go(self.plan, on, named, tag, self.end.port) {
             return None;
         }
         self.first_by_handle(named, tag, on.number, vid_of(on, tag), priority_of(on, tag))

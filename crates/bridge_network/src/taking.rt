@@ -1,12 +1,11 @@
 //! What the filter of a hop takes at a port, of all that comes there over a link.
 ghost use Rattle.std.specs.Prelude.{◌≡◌};
 ghost use Rattle.bridge_check.specs.Faults.{first_of};
-ghost use Rattle.bridge_network.specs.Feeding as feeding;
 ghost use Rattle.bridge_network.specs.Feeding.{tags_of, tags_with};
 ghost use Rattle.bridge_network.specs.Finding.{first_in};
 ghost use Rattle.bridge_network.specs.Walking.{IsTaking, all_taken, taken_by};
 
-use crate::sending::{Found, Sending, flow_for, priority_of, takes_tag, vid_of};
+use crate::sending::{Found, Sending, gives_to};
 use bridge_config::{Plan, PortPlan};
 use bridge_frame::Tag;
 use bridge_ident::StreamEntry;
@@ -25,30 +24,12 @@ pub(crate) struct Taking<'a, A: Allocator + Copy> {
 }
 
 impl<'a, A: Allocator + Copy> Taking<'a, A> {
-    /// Whether an entry gives frames with a tag to the filter.
-    fn gives(&self, entry: &StreamEntry, tag: Option<Tag>) -> bool
-        ensures { result ≡ feeding.gives_to self.now.next.now self.now.on.now self.now.filter entry.now tag }
-    {
-        let on = self.on;
-        if entry.port != on.number || entry.vid != vid_of(on, tag) || !takes_tag(entry.tag, tag) {
-            return false;
-        }
-        match flow_for(
-            self.next.filters(),
-            Some(entry.handle),
-            priority_of(on, tag),
-        ) {
-            Some((number, _)) => number == self.filter,
-            None => false,
-        }
-    }
-
     /// The first of the frames that an entry names, with a tag.
     pub(crate) fn first_with(&self, entry: &StreamEntry, tag: Option<Tag>) -> Option<Found>
         requires { IsTaking self.now }
         ensures { result ≡ taken_by self.now entry.now tag }
     {
-        if self.gives(entry, tag) {
+        if gives_to(self.next, self.on, self.filter, entry, tag) {
             self.sending.first(entry, tag)
         } else {
             None

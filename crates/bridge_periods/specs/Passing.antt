@@ -20,48 +20,54 @@ use Rattle.bridge_periods.specs.declared.traffic.Traffic.{Traffic}
 
 -- THE OCTETS
 
--- True if the entry's tag kind accepts only tagged frames whose VLAN identifier isn't 0.
+-- True if stream entries of this tag kind match only tagged frames with a VLAN identifier other than 0.
 abbrev pub takes_tagged : TagKind → Bool
 takes_tagged tag.Tagged = true
 takes_tagged tag.Priority = false
 takes_tagged tag.All = false
 
--- True if every entry that gives handle `h` accepts only tagged frames; true also if no entry gives it.
+-- True if every stream entry with handle `h` accepts only VLAN-tagged frames; true also if the handle has no entry.
 abbrev pub are_tagged : ℕ → List StreamEntry → Bool
 are_tagged h streams = list_all (λ e. not (nat_eq e.handle h) || takes_tagged e.tag) streams
 
--- The greatest SDU, in octets, of a frame of `len` octets: 12 less, or 16 less if all frames of the handle are tagged.
+-- The largest possible SDU in octets of a frame of `len` octets: `len` - 16 if all frames with the handle are tagged,
+-- otherwise `len` - 12.
 abbrev pub most_octets : {A : Type 0} → Plan A → Option ℕ → ℕ → ℕ
 most_octets p None len = len - 12
 most_octets p (Some h) len = if are_tagged h p.streams then len - 16 else len - 12
 
 -- THE GATE
 
--- True if `sdu` octets are at most the octet limit; always true without a limit.
+-- True if `sdu` octets are at most the optional octet limit; always true without a limit (`None`).
 abbrev pub allows : Option ℕ → ℕ → Bool
 allows None sdu = true
 allows (Some limit) sdu = nat_le sdu limit
 
--- True if the entry is open and its octet limit allows a first frame of `sdu` octets in an interval.
+-- True if gate entry `e` is open and its octet limit, if present, is at least `sdu`: a first frame of `sdu` octets
+-- passes.
 abbrev pub lets_one : GateEntry → ℕ → Bool
 lets_one e sdu = e.lets && allows e.octets sdu
 
--- True if an interval with an octet limit ends at or before `until`; always true without a limit.
+-- True if an octet-limited interval with the end `end` ends at or before `until`, both in ns; always true without a
+-- limit.
 abbrev pub ends_by : Option ℕ → ℕ → ℕ → Bool
 ends_by None end until = true
 ends_by (Some limit) end until = nat_le end until
 
--- Every interval that contains a time from `from` to `to`, both included, lets one frame of `sdu` octets through.
+-- Holds if every interval that contains a time from `from` to `to`, both included, can pass a first frame of `sdu`
+-- octets.
 abbrev pub AreLet : (ℕ → Option (Turn GateEntry)) → ℕ → ℕ → ℕ → Type 0
 AreLet turn_at from to sdu = (u : ℕ) (x : Turn GateEntry) → from ≤ u → u ≤ to → turn_at u ≡ Some x → lets_one x.state sdu ≡ true
 
--- The list repeats with the period, lets one frame through at each phase, and an octet-limited interval at `to` ends before the next frame.
+-- Holds if list `l` repeats with the period and passes a frame of `sdu` octets at each phase of traffic `t`. If the
+-- interval at phase `t.to` is octet-limited, it ends before the next period's phase `t.from`.
 pub record LetsInTurn (l : cyclic.Cyclic GateEntry) (t : Traffic) (sdu : ℕ) : Type 0 where
   pub repeats : nat_eq (t.period % l.cycle) 0 ≡ true
   pub are_let : AreLet (cyclic.turn_at l) t.from t.to sdu
   pub ends : (x : Turn GateEntry) → cyclic.turn_at l t.to ≡ Some x → ends_by x.state.octets x.end (t.from + t.period) ≡ true
 
--- The schedule lets every frame of the traffic through, one in each period; at a schedule change, both lists do.
+-- Holds if the stream gate's schedule passes each frame of traffic `t` with `sdu` octets; with a schedule change, both
+-- lists must pass it.
 abbrev pub LetsEach : {A : Type 0} → Schedule A → Traffic → ℕ → Type 0
 LetsEach (Fixed lets ipv) t sdu = lets ≡ true
 LetsEach (Cyclic l) t sdu = LetsInTurn l t sdu
@@ -69,7 +75,8 @@ LetsEach (Joined j) t sdu = LetsInTurn j.old t sdu × LetsInTurn j.new t sdu
 
 -- THE FILTER
 
--- Each frame of the traffic passes the filter: its size is within the limit, no meter exists, and the gate lets it through.
+-- Holds if filter `f` passes every frame of traffic `t`: the size is allowed, the filter has no meter, and its gate
+-- passes the frame.
 pub record Passes {A : Type 0} (p : Plan A) (f : FilterPlan) (t : Traffic) : Type 0 where
   pub octets : is_above f.max_sdu (most_octets p f.handle t.longest) ≡ false
   pub meter : f.meter ≡ None
@@ -77,7 +84,7 @@ pub record Passes {A : Type 0} (p : Plan A) (f : FilterPlan) (t : Traffic) : Typ
   pub found : lookup (nat_eq f.gate) p.gates ≡ Some gate
   pub lets : LetsEach gate.schedule t (most_octets p f.handle t.longest)
 
--- True if the verdict is pass, whatever its internal priority value and drop eligibility.
+-- True if the verdict is pass, with any internal priority value and any drop eligibility.
 abbrev pub passes : Verdict → Bool
 passes (verdict.Pass ipv eligible) = true
 passes v = false

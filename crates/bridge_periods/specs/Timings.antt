@@ -17,15 +17,19 @@ use Rattle.bridge_periods.specs.declared.timing.Phases.{Phases}
 use Rattle.bridge_periods.specs.declared.timing.Timing.{Timing}
 use Rattle.bridge_periods.specs.Waits.{IsLongestWait, IsShortestWait, repeats_with}
 
--- Transmission time in ns of the traffic's shortest frame, capped at the longest frame for a size limit of `m` octets.
+-- Transmission time in ns, at port `out`, of the shortest frame of traffic `t`, limited to the longest frame with `m`
+-- SDU octets.
 abbrev pub short_on : {A : Type 0} → PortPlan A → ℕ → Traffic → ℕ
 short_on out m t = occupied (min t.least (longest_frame m)) out.speed
 
--- Transmission time in ns of the traffic's longest frame, capped at the longest frame for a size limit of `m` octets.
+-- Transmission time in ns, at port `out`, of the longest frame of traffic `t`, limited to the longest frame with `m`
+-- SDU octets.
 abbrev pub long_on : {A : Type 0} → PortPlan A → ℕ → Traffic → ℕ
 long_on out m t = occupied (min t.longest (longest_frame m)) out.speed
 
--- Phases `done`, in ns: the ends of a shortest frame that arrives first and a longest that arrives last, before the next arrives.
+-- Holds if `done` has the earliest and the latest end of transmission, in ns from the start of the frame's period. A
+-- shortest frame that arrives at `t.from` has the earliest end. A longest frame that arrives at `t.to` has the latest
+-- end. The schedule repeats with the period, and the latest end is at most the next period's `t.from`.
 pub record ArePhases (o : Opening) (c short long : ℕ) (t : Traffic) (done : Phases) : Type 0 where
   pub first : ℕ
   pub last : ℕ
@@ -36,13 +40,15 @@ pub record ArePhases (o : Opening) (c short long : ℕ) (t : Traffic) (done : Ph
   pub to : done.to ≡ last + long
   pub through : last + long ≤ t.from + t.period
 
--- The queue has no phases: its lists don't repeat with the period, or a longest frame may end after the next arrival.
+-- Holds if the schedule doesn't repeat with the period, or a longest frame arriving at phase `t.to` ends after the next
+-- period's phase `t.from`.
 abbrev pub HaveNoPhases : Opening → ℕ → ℕ → Traffic → Type 0
 HaveNoPhases o c long t =
     repeats_with t.period o ≡ true → (last : ℕ) → IsFirst (opens o c) long t.to last → t.from + t.period < last + long
 
--- Figures in ns of a queue with phases: worst delay from bound, phases and longest wait, best from shortest wait, jitter from phases.
--- `worst` is the least of: the bound, the last end minus the first arrival phase, and the longest wait plus a longest frame.
+-- Holds if the ends of transmission have phases `done`, and the delays of `x` (in ns) follow from these phases, waits
+-- and `bound`. The worst delay is the least of three: `bound`, `done.to` - `t.from`, and the longest wait
+-- plus a longest frame.
 pub record IsTimed (o : Opening) (c short long bound : ℕ) (t : Traffic) (x : Timing) (done : Phases) : Type 0 where
   pub phases : ArePhases o c short long t done
   pub longest : ℕ
@@ -51,22 +57,22 @@ pub record IsTimed (o : Opening) (c short long bound : ℕ) (t : Traffic) (x : T
   pub is_shortest : IsShortestWait (opens o c) short t.from t.to shortest
   pub worst : x.worst ≡ min bound (min (done.to - t.from) (longest + long))
   pub best : x.best ≡ shortest + short
-  pub jitter : x.jitter ≡ done.to - done.from
 
--- Figures in ns of a queue without phases: worst delay is the bound, best a shortest frame without wait, jitter their difference.
+-- Holds if the ends of transmission have no phases, and `x` has worst delay `bound` and best delay `short`, in ns.
 pub record IsUntimed (o : Opening) (c short long bound : ℕ) (t : Traffic) (x : Timing) : Type 0 where
   pub phases : HaveNoPhases o c long t
   pub worst : x.worst ≡ bound
   pub best : x.best ≡ short
-  pub jitter : x.jitter ≡ bound - short
 
--- Figures in ns of the traffic in class `c` of the port, with phases if they exist, otherwise by the delay bound only.
+-- Holds if `x` has the worst and the best delay in ns of traffic `t` in class `c` at port `out`. IsTimed defines the
+-- figures if `x.phases` exists, otherwise IsUntimed.
 abbrev pub IsTimingAt : {A : Type 0} → PortPlan A → ℕ → ℕ → ℕ → Traffic → Timing → Type 0
 IsTimingAt out c m bound t x =
     MatchOption x.phases (IsUntimed (opening_of out.list) c (short_on out m t) (long_on out m t) bound t x)
     (IsTimed (opening_of out.list) c (short_on out m t) (long_on out m t) bound t x)
 
--- Figures in ns of the traffic of protected filter `n` in its reachable queue of class `c` at port `q`.
+-- Holds if `x` has the worst and the best delay in ns of traffic `t` of filter `n` in class `c` at port `q`.
+-- Delays count from arrival to the end of transmission, gap included.
 pub record IsTiming {A : Type 0} (p : Plan A) (n q c : ℕ) (t : Traffic) (x : Timing) : Type 0 where
   pub bound : ℕ
   pub is_bound : IsBound p n q c bound
@@ -74,12 +80,14 @@ pub record IsTiming {A : Type 0} (p : Plan A) (n q c : ℕ) (t : Traffic) (x : T
 
 -- RUNS
 
--- The copy's delay, from its offer to the end of its transmission, is at least the best and at most the worst figure.
+-- Holds if copy `y`, started at `start`, has a delay from arrival to end of transmission of at least `x.best` and at
+-- most `x.worst` ns.
 pub record TakesBetween {A : Type 0} (out : PortPlan A) (x : Timing) (y : Copy Carried) (start : ℕ) : Type 0 where
   pub best : y.at + x.best ≤ start + time_on out y.item
   pub worst : start + time_on out y.item ≤ y.at + x.worst
 
--- The copy, offered in a period between the traffic's phases, started and has left between the phases `done` of this period.
+-- Holds if copy `y` arrived between the phases of `t` in some period, and ended its transmission between the phases
+-- `done` of that period.
 pub record IsDoneBetween {A : Type 0} (out : PortPlan A) (t : Traffic) (done : Phases) (y : Copy Carried) : Type 0 where
   pub start : ℕ
   pub period_start : ℕ

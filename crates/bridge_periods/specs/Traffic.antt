@@ -5,7 +5,8 @@ use Rattle.bridge_semantics.specs.Events.{Arrived, Cleared, Event}
 use Rattle.bridge_network.specs.Latency.{IsMultiple}
 use Rattle.bridge_periods.specs.declared.traffic.Traffic.{Traffic}
 
--- The phases are in order and within the period, and the lengths are in order, from 1 to 9,216 octets.
+-- Holds if traffic `t` is valid: ordered phases within a period of at most END_OF_TIME, and ordered lengths from 1 to
+-- 9,216 octets. A phase is a time in ns from the start of a period.
 pub record IsTraffic (t : Traffic) : Type 0 where
   pub phases : t.from ≤ t.to
   pub within : t.to < t.period
@@ -14,8 +15,8 @@ pub record IsTraffic (t : Traffic) : Type 0 where
   pub lengths : t.least ≤ t.longest
   pub longest : t.longest ≤ LONGEST_FRAME
 
--- Each frame among the events, newest first, has a period of its own, and lies between the two phases and the two lengths.
--- Periods begin at multiples of the period; each ends by the start of the next frame's period, the newest by `next`.
+-- Holds if the frames among the events follow traffic `t`, each in a different period, and the newest frame's period
+-- ends by time `next`. Each frame's period ends at or before the start of the next frame's period.
 abbrev pub ComeInPeriods : Traffic → ℕ → List Event → Type 0
 ComeInPeriods t next [] = Unit {0}
 ComeInPeriods t next (Arrived a ∷ es) =
@@ -23,6 +24,7 @@ ComeInPeriods t next (Arrived a ∷ es) =
     × (t.least ≤ a.len) × (a.len ≤ t.longest) × ComeInPeriods t p es
 ComeInPeriods t next (Cleared clear n ∷ es) = ComeInPeriods t next es
 
--- The frames among the events arrive at most once in each period, between the traffic's phases and lengths.
+-- Holds if the frames among the events `es` follow traffic `t`: at most one in each period, between its phases, with an
+-- allowed length.
 abbrev pub KeepsTraffic : Traffic → List Event → Type 0
 KeepsTraffic t es = (next : ℕ) × ComeInPeriods t next es

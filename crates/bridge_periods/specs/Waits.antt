@@ -5,17 +5,20 @@ use Rattle.bridge_port.specs.Opening.{Always, Exchanged, One, Opening, opens}
 use Rattle.bridge_periods.specs.declared.traffic.Traffic.{Traffic}
 use Rattle.bridge_periods.specs.declared.wait.Waits.{Waits}
 
--- The longest wait in ns until the first fit, over all times from `from` to `to`, is `wait`, and some time attains it.
+-- Holds if `wait` ns is the longest wait until a transmission of `occ` ns fits, over all times from `from` to `to`,
+-- both included. The transmission gate is open when `opens` is true.
 pub record IsLongestWait (opens : ℕ → Bool) (occ from to wait : ℕ) : Type 0 where
   pub longest : (u s : ℕ) → from ≤ u → u ≤ to → IsFirst opens occ u s → s ≤ u + wait
   pub attained : (u : ℕ) × (from ≤ u) × (u ≤ to) × IsFirst opens occ u (u + wait)
 
--- The shortest wait in ns until the first fit, over all times from `from` to `to`, is `wait`, and some time attains it.
+-- Holds if `wait` ns is the shortest wait until a transmission of `occ` ns fits, over all times from `from` to `to`,
+-- both included. The transmission gate is open when `opens` is true.
 pub record IsShortestWait (opens : ℕ → Bool) (occ from to wait : ℕ) : Type 0 where
   pub shortest : (u s : ℕ) → from ≤ u → u ≤ to → IsFirst opens occ u s → u + wait ≤ s
   pub attained : (u : ℕ) × (from ≤ u) × (u ≤ to) × IsFirst opens occ u (u + wait)
 
--- True if the port has no list, or one list whose cycle time divides the period; false at a schedule change.
+-- True if schedule `o` is always open, or has one list whose cycle time divides `period` in ns; false with a schedule
+-- change.
 abbrev pub repeats_with : ℕ → Opening → Bool
 repeats_with period Always = true
 repeats_with period (One l) = nat_eq (period % l.cycle) 0

@@ -8,6 +8,6 @@ mod timing;
 mod traffic;
 mod wait;
 
-pub use passing::passes;
+pub use passing::{most_octets, passes};
 pub use timing::{Phases, Timing, timing_of};
 pub use traffic::Traffic;

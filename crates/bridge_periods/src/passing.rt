@@ -37,7 +37,7 @@ fn are_tagged(handle: u32, streams: &[StreamEntry]) -> bool
 }
 
 /// The most octets that the service data unit of a frame of a handle and a length may have.
-fn most_octets<A: Allocator + Copy>(plan: &Plan<A>, handle: Option<u32>, len: u32) -> u32
+pub fn most_octets<A: Allocator + Copy>(plan: &Plan<A>, handle: Option<u32>, len: u32) -> u32
     ensures { result ≡ spec.most_octets plan.now handle len }
 {
     match handle {

@@ -37,8 +37,6 @@ pub struct Timing {
     pub worst: u64,
     /// At best.
     pub best: u64,
-    /// By how much the moments at which they are done differ in their periods; without phases, by how much the times differ.
-    pub jitter: u64,
     /// The phases between which they are done, where each is done before the next one comes.
     pub phases: Option<Phases>,
 }
@@ -46,12 +44,11 @@ pub struct Timing {
 /// The figures of frames of which no phases are told.
 fn untimed(bound: u64, short: u64) -> Timing
     requires { short ≤ bound }
-    ensures { result ≡ record { worst = bound; best = short; jitter = bound - short; phases = None } }
+    ensures { result ≡ record { worst = bound; best = short; phases = None } }
 {
     Timing {
         worst: bound,
         best: short,
-        jitter: bound - short,
         phases: None,
     }
 }
@@ -89,7 +86,6 @@ fn figures<A: Allocator + Copy>(
     Timing {
         worst: bound.min((done.to - traffic.from).min(waits.longest + long)),
         best: waits.first.saturating_sub(traffic.to) + short,
-        jitter: done.to - done.from,
         phases: Some(done),
     }
 }

@@ -1,7 +1,7 @@
 -- Figures that are gathered queue by queue, and row by row.
 use Rattle.std.proofs.Common.{◌≡◌, ◌<◌, ◌≤◌, ◌+◌, ℕ, Bool, zero, suc, get_or, take, inl, inr, true, false, Result, Ok, Err, List, [], ◌∷◌, ◌++◌, length, refl, ap, sym, subst, ◌∙◌, arith}
-use Rattle.std.proofs.lemmas.List.{append-nil, append_assoc, length-take-le, take_more}
-use Rattle.std.specs.Prelude.{nat_eq, ◌||◌, IfErr, IfOk}
+use Rattle.std.proofs.lemmas.List.{append-nil, append_assoc, length-take-le, map_more, take_more}
+use Rattle.std.specs.Prelude.{nat_eq, ◌||◌, ◌≢◌, map, IfErr, IfOk}
 use Rattle.std.proofs.lemmas.Bool.{false≢true}
 use Rattle.bridge_limits.specs.Members.{In}
 use Rattle.bridge_limits.proofs.Cases.{by_bool}
@@ -14,7 +14,9 @@ use Rattle.bridge_bounds.specs.Bounds.{HasNoBound, IsBound}
 use Rattle.bridge_traffic.specs.declared.rows.TrafficRow.{TrafficRow}
 use Rattle.bridge_planning.specs.declared.bounds.QueueBound.{QueueBound}
 use Rattle.bridge_planning.specs.declared.timings.QueueTiming.{QueueTiming}
-use Rattle.bridge_planning.specs.Traffic.{AreRowTimings, AreTimingsFrom, Begins, IsRowTiming}
+use Rattle.bridge_planning.specs.declared.timings.TrafficFigures.{TrafficFigures}
+use Rattle.bridge_planning.specs.declared.timings.TrafficFigures.TheVariants as figures
+use Rattle.bridge_planning.specs.Traffic.{AreRowTimings, AreTimingsFrom, Begins, IsRowTiming, row_figures}
 
 begins_more : {X : Type 0} (P : X → Type 0) (Q R : List X → Type 0) (x : X) (xs : List X) → ((ys : List X) → Q ys → R (ys ++ x ∷ [])) → Begins P Q xs → Begins P R (xs ++ x ∷ [])
 begins_more P Q R x [] go h = absurd h
@@ -42,18 +44,30 @@ row_past p index r b (a ∷ bs) xs other h = by_bool (nat_eq a.filter r.filter)
     rw k (begins_as (IsRowTiming p index r a) (AreRowTimings p index r bs) (AreRowTimings p index r (bs ++ b ∷ [])) xs (λ ys more. row_past p index r b bs ys other more) here))
     (λ k. let past : AreRowTimings p index r bs xs = rw k at h in rw k (row_past p index r b bs xs other past))
 
+-- one item more behind some that stand before all
+pub map_behind : {X Y : Type 0} (f : X → Y) (old : List Y) (xs : List X) (i : ℕ) (d : X) (now new : List Y) → i < length xs → now ≡ old ++ map f (take i xs) → new ≡ now ++ f (get_or xs i d) ∷ [] → new ≡ old ++ map f (take (i + 1) xs)
+map_behind f old xs i d now new there so_far is =
+    is ∙ (ap (λ l. l ++ f (get_or xs i d) ∷ []) so_far ∙ (append_assoc old (map f (take i xs)) (f (get_or xs i d) ∷ []) ∙ ap (λ l. old ++ l) (sym (map_more f xs i d there))))
+
+-- the figures of queues are those of a row that has some
+pub figures_of : (row filter : ℕ) (xs : List QueueTiming) → length xs ≢ 0 → row_figures row filter xs ≡ map figures.Queue xs
+figures_of row filter [] some = absurd (some refl)
+figures_of row filter (x ∷ xs) some = refl
+
 -- one row more
-pub rows_more : {A : Type 0} (p : Plan A) (bounds : List QueueBound) (index : ℕ) (r : TrafficRow) (rs : List TrafficRow) (xs ys : List QueueTiming) → AreTimingsFrom p bounds index rs xs → AreRowTimings p (index + length rs) r bounds ys → AreTimingsFrom p bounds index (rs ++ r ∷ []) (xs ++ ys)
+pub rows_more : {A : Type 0} (p : Plan A) (bounds : List QueueBound) (index : ℕ) (r : TrafficRow) (rs : List TrafficRow) (xs : List TrafficFigures) (ys : List QueueTiming) → AreTimingsFrom p bounds index rs xs → AreRowTimings p (index + length rs) r bounds ys → AreTimingsFrom p bounds index (rs ++ r ∷ []) (xs ++ row_figures (index + length rs) r.filter ys)
 rows_more p bounds index r [] xs ys h more =
     let same : index + length {A = TrafficRow} [] ≡ index = omega arith in
-    (ys, [], ap (λ zs. zs ++ ys) h ∙ sym (append-nil ys), subst (λ (i : ℕ). AreRowTimings p i r bounds ys) same more, refl)
+    (ys, [], ap (λ zs. zs ++ row_figures (index + length {A = TrafficRow} []) r.filter ys) h ∙ (ap (λ (i : ℕ). row_figures i r.filter ys) same ∙ sym (append-nil (row_figures index r.filter ys))), subst (λ (i : ℕ). AreRowTimings p i r bounds ys) same more, refl)
 rows_more p bounds index r (a ∷ rs) xs ys h more =
     let (us, vs, e, here, rest) = h in
     let same : index + length (a ∷ rs) ≡ index + 1 + length rs = omega arith in
-    (us, vs ++ ys, ap (λ zs. zs ++ ys) e ∙ append_assoc us vs ys, here, rows_more p bounds (index + 1) r rs vs ys rest (subst (λ (i : ℕ). AreRowTimings p i r bounds ys) same more))
+    let front : List TrafficFigures = row_figures index a.filter us in
+    let back : ℕ → List TrafficFigures = λ i. row_figures i r.filter ys in
+    (us, vs ++ back (index + 1 + length rs), ap (λ zs. zs ++ back (index + length (a ∷ rs))) e ∙ (append_assoc front vs (back (index + length (a ∷ rs))) ∙ ap (λ (i : ℕ). front ++ (vs ++ back i)) same), here, rows_more p bounds (index + 1) r rs vs ys rest (subst (λ (i : ℕ). AreRowTimings p i r bounds ys) same more))
 
 -- so of the row at a place
-pub next_row : {A : Type 0} (p : Plan A) (bounds bs : List QueueBound) (rows : List TrafficRow) (k index : ℕ) (d : TrafficRow) (made more slice new : List QueueTiming) → k < length rows → index ≡ k + 1 → bs ≡ bounds → AreTimingsFrom p bounds 1 (take k rows) made → AreRowTimings p index (get_or rows k d) bs more → slice ≡ more → new ≡ made ++ slice → AreTimingsFrom p bounds 1 (take (k + 1) rows) new
+pub next_row : {A : Type 0} (p : Plan A) (bounds bs : List QueueBound) (rows : List TrafficRow) (k index : ℕ) (d : TrafficRow) (made : List TrafficFigures) (more slice : List QueueTiming) (new : List TrafficFigures) → k < length rows → index ≡ k + 1 → bs ≡ bounds → AreTimingsFrom p bounds 1 (take k rows) made → AreRowTimings p index (get_or rows k d) bs more → slice ≡ more → new ≡ made ++ row_figures index (get_or rows k d).filter slice → AreTimingsFrom p bounds 1 (take (k + 1) rows) new
 next_row p bounds bs rows k index d made more slice new before at same timings row is grown =
     let counted : length (take k rows) ≡ k = length-take-le k rows (omega (arith, before)) in
     let place : index ≡ 1 + length (take k rows) = omega (arith, at, counted) in
@@ -61,9 +75,10 @@ next_row p bounds bs rows k index d made more slice new before at same timings r
     let here : AreRowTimings p index r bounds more = subst (λ (xs : List QueueBound). AreRowTimings p index r xs more) same row in
     let there : AreRowTimings p (1 + length (take k rows)) r bounds more = subst (λ (i : ℕ). AreRowTimings p i r bounds more) place here in
     let all = rows_more p bounds 1 r (take k rows) made more timings there in
-    let longer : made ++ more ≡ new = ap (λ (xs : List QueueTiming). made ++ xs) (sym is) ∙ sym grown in
-    subst (λ (xs : List QueueTiming). AreTimingsFrom p bounds 1 (take (k + 1) rows) xs) longer
-    (subst (λ (rs : List TrafficRow). AreTimingsFrom p bounds 1 rs (made ++ more)) (sym (take_more rows k d before)) all)
+    let longer : made ++ row_figures (1 + length (take k rows)) r.filter more ≡ new =
+    ap (λ (i : ℕ). made ++ row_figures i r.filter more) (sym place) ∙ (ap (λ (xs : List QueueTiming). made ++ row_figures index r.filter xs) (sym is) ∙ sym grown) in
+    subst (λ (xs : List TrafficFigures). AreTimingsFrom p bounds 1 (take (k + 1) rows) xs) longer
+    (subst (λ (rs : List TrafficRow). AreTimingsFrom p bounds 1 rs (made ++ row_figures (1 + length (take k rows)) r.filter more)) (sym (take_more rows k d before)) all)
 
 -- A QUEUE THAT HAS A BOUND
 

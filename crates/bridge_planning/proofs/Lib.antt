@@ -2,6 +2,7 @@ pub mod Bounded
 pub mod Gathered
 pub mod Lined
 pub mod Named
+pub mod Passing
 pub mod Phased
 pub mod Placed
 pub mod Queued

@@ -131,16 +131,6 @@ not_cleared a clear m h = cc
 
 -- THE WAY
 
--- the jitter of a queue is the difference of its phases
-jitter_at : {A : Type 0} (p : Plan A) (n q c : ℕ) (t : Traffic) (x : Timing) (done : Phases) → IsTiming p n q c t x → x.phases ≡ Some done → x.jitter ≡ done.to - done.from
-jitter_at {A} p n q c t x done is some =
-    let b = is.is_bound in
-    let o = opening_of b.out.list in
-    let short = short_on b.out b.max_sdu t in
-    let long = long_on b.out b.max_sdu t in
-    let timed : IsTimed o c short long is.bound t x done = subst (λ (z : Option Phases). MatchOption z (IsUntimed o c short long is.bound t x) (IsTimed o c short long is.bound t x)) some is.is in
-    timed.jitter
-
 first_leg : {A : Type 0} (n : Network A) (lists : ℕ → ℕ → List (Copy Carried)) (leg : Leg A) (more : List (ℕ × Leg A)) → IsWay n lists leg more → IsLeg n lists leg
 first_leg n lists leg [] way = way
 first_leg n lists leg (x ∷ more) way = way.0
@@ -299,7 +289,6 @@ module _ {A : Type 0} (n : Network A) (commands : ℕ → List Input) (captures 
       let best = here.best in
       let worst = here.worst in
       let sent = here.sent in
-      let jitter = jitter_at leg.plan leg.filter leg.port leg.copy.class a.traffic x done timed.timing timed.phases in
       let r_best : r.best ≡ a.best + x.best = ap (λ (z : Course). z.best) same in
       let r_worst : r.worst ≡ min (a.later + done.to - from) (a.worst + x.worst) = ap (λ (z : Course). z.worst) same in
       record {
@@ -307,7 +296,7 @@ module _ {A : Type 0} (n : Network A) (commands : ℕ → List Input) (captures 
         multiple = b.multiple;
         from = omega (arith, early, start);
         to = omega (arith, late, start);
-        jitter = ap (λ (z : Course). z.jitter) same ∙ jitter;
+        phases = ap (λ (z : Course). z.phases) same;
         best = omega (arith, least, best, r_best);
         worst = omega (arith, most, worst, late, when, start, sent, r_worst);
       }

@@ -6,6 +6,7 @@ pub mod Printing
 pub mod Streams
 pub mod Talkers
 pub mod Telling
+pub mod Warnings
 pub mod Traffic
 pub mod TrafficText
 pub mod Ways

@@ -19,7 +19,7 @@ use Rattle.bridge_planning.specs.declared.bounds.QueueBound.{QueueBound}
 use Rattle.bridge_planning.specs.Naming.{name_at}
 use Rattle.bridge_planning.specs.Streams.{AreBoundsOf, hop_in}
 use Rattle.bridge_planning.specs.Talkers.{AreStreamLines, first_misfit}
-use Rattle.bridge_planning.specs.Telling.{AreTold}
+use Rattle.bridge_planning.specs.Warnings.{AreWarnings}
 
 -- A NETWORK OF A TEXT
 
@@ -110,7 +110,7 @@ pub record PrintsNetwork (A : Type 0) (lines told : List ℕ) (kept : Bool) : Ty
   pub accepted : first_fault network ≡ None
   pub suit : first_misfit network.plans 1 file.streams ≡ None
   pub are_lines : AreLinesOfNetwork file network lines kept
-  pub are_told : AreTold file network told
+  pub are_told : AreWarnings file network told
 
 -- a fault of the job over a network: of a file, of the network or of memory
 abbrev pub EndsNetwork : Fault → Type 0

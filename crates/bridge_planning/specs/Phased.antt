@@ -81,14 +81,14 @@ IsCourseOfWay from a leg (y ∷ more) r done =
     (x : Timing) × (d : Phases) × (passes : Bool) × IsTimedAt leg a x d × (lie_in_one (moved a x d y.0 passes).traffic ≡ true)
     × IsCourseOfWay from (moved a x d y.0 passes) y.1 more r done
 
--- a frame that came at a moment is done at another one: between these phases of a period, which are as far apart as the jitter
--- says, and between the best and the worst time after it came
+-- a frame that came at a moment is done at another one: between these phases of a period, which the figures have, and between the best and the
+-- worst time after it came
 pub record IsInCourse (period at end : ℕ) (r : Course) (done : Phases) : Type 0 where
   pub period_start : ℕ
   pub multiple : IsMultiple period period_start
   pub from : done.from + period_start ≤ end
   pub to : end ≤ done.to + period_start
-  pub jitter : r.jitter ≡ done.to - done.from
+  pub phases : r.phases ≡ done
   pub best : at + r.best ≤ end
   pub worst : end ≤ at + r.worst
 

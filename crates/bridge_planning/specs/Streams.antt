@@ -4,12 +4,13 @@ use Rattle.std.specs.List.{list_all, list_any}
 use Rattle.bridge_config.specs.Model.{Plan}
 use Rattle.bridge_courses.specs.declared.courses.Course.{Course}
 use Rattle.bridge_netfile.specs.declared.links.LinkRow.{LinkRow}
+use Rattle.bridge_netfile.specs.declared.talkers.Talker.{Talker}
 use Rattle.bridge_netfile.specs.Model.{Stream}
 use Rattle.bridge_network.specs.declared.links.StreamHop.{StreamHop}
 use Rattle.bridge_planning.specs.declared.bounds.QueueBound.{QueueBound}
 use Rattle.bridge_planning.specs.Bounds.{AreBounds}
 use Rattle.bridge_planning.specs.Traffic.{is_met}
-use Rattle.bridge_planning.specs.TrafficText.{deadline_words}
+use Rattle.bridge_planning.specs.TrafficText.{deadline_words, delay_words}
 
 -- the greater of a number and the bound of a queue, where that is one of a filter
 abbrev pub greater_bound : ℕ → ℕ → QueueBound → ℕ
@@ -66,30 +67,31 @@ abbrev pub refusal_word : Bool → List ℕ
 refusal_word true = codes ""
 refusal_word false = codes " refusable"
 
--- its figures
+-- True if the file promises no period of the talker, or the figures say that each frame of it passes.
+abbrev pub is_passing : Option Talker → Option Course → Bool
+is_passing None c = true
+is_passing (Some t) None = false
+is_passing (Some t) (Some x) = x.passes
+
+-- the figures of a stream, or its bound where there are none
 abbrev pub course_words : Option Course → ℕ → List ℕ
 course_words None bound = codes " bound " ++ decimal bound
 course_words (Some x) bound =
-    refusal_word x.passes ++ (codes " worst " ++ (decimal x.worst ++ (codes " best " ++ (decimal x.best ++ (codes " jitter " ++ decimal x.jitter)))))
+    delay_words x.worst x.best (Some x.phases)
 
 -- the line of a stream with its figures
 unfoldable pub stream_line : {A : Type 0} → List (Vec QueueBound A) → List LinkRow → Stream × Option Course → List ℕ
 stream_line bounds links r =
-    codes "stream " ++ (r.0.name ++ (course_words r.1 (stream_bound bounds links r.0.hops)
-    ++ (deadline_words r.0.deadline (worst_of r.1 (stream_bound bounds links r.0.hops)) ++ codes "\n")))
+    codes "stream " ++ (r.0.name ++ (refusal_word (is_passing r.0.talker r.1) ++ (course_words r.1 (stream_bound bounds links r.0.hops)
+    ++ (deadline_words r.0.deadline (worst_of r.1 (stream_bound bounds links r.0.hops)) ++ codes "\n"))))
 
 -- the lines of all streams
 abbrev pub stream_lines : {A : Type 0} → List (Vec QueueBound A) → List LinkRow → List (Stream × Option Course) → List ℕ
 stream_lines bounds links rows = flat_map (stream_line bounds links) rows
 
--- whether each frame passes, where that is asked
-abbrev pub is_passing : Option Course → Bool
-is_passing None = true
-is_passing (Some x) = x.passes
-
 -- whether a stream passes and meets its deadline
 abbrev pub is_kept : {A : Type 0} → List (Vec QueueBound A) → List LinkRow → Stream × Option Course → Bool
-is_kept bounds links r = is_passing r.1 && is_met r.0.deadline (worst_of r.1 (stream_bound bounds links r.0.hops))
+is_kept bounds links r = is_passing r.0.talker r.1 && is_met r.0.deadline (worst_of r.1 (stream_bound bounds links r.0.hops))
 
 -- whether all do
 abbrev pub are_kept : {A : Type 0} → List (Vec QueueBound A) → List LinkRow → List (Stream × Option Course) → Bool

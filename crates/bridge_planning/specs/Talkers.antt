@@ -6,7 +6,7 @@ use Rattle.bridge_filter.specs.declared.FilterPlan.{FilterPlan}
 use Rattle.bridge_config.specs.Model.{Plan}
 use Rattle.bridge_courses.specs.declared.courses.Course.{Course}
 use Rattle.bridge_courses.specs.declared.trees.HopQueue.{HopQueue}
-use Rattle.bridge_courses.specs.Courses.{IsCourse}
+use Rattle.bridge_courses.specs.Entering.{IsStreamCourse}
 use Rattle.bridge_netfile.specs.declared.fault.NetField.TheVariants as field
 use Rattle.bridge_netfile.specs.declared.fault.NetFault.{NetFault}
 use Rattle.bridge_netfile.specs.declared.fault.NetFault.TheVariants as net
@@ -74,7 +74,7 @@ queues_of bounds hops = flat_map (queues_at bounds) hops
 -- how long the frames of a stream take, where its talker keeps a period
 abbrev pub IsCourseOf : {A : Type 0} → List (Plan A) → List Link → List (Vec QueueBound A) → Option Talker → List StreamHop → Option Course → Type 0
 IsCourseOf plans links bounds None hops r = r ≡ None
-IsCourseOf plans links bounds (Some t) hops r = IsCourse plans links hops (queues_of bounds hops) (traffic_of t) r
+IsCourseOf plans links bounds (Some t) hops r = IsStreamCourse plans links hops (queues_of bounds hops) (traffic_of t) r
 
 -- some streams, each with its figures
 pub record AreCourses {A : Type 0} (plans : List (Plan A)) (links : List Link) (bounds : List (Vec QueueBound A)) (streams : List Stream) (rows : List (Stream × Option Course)) : Type 0 where

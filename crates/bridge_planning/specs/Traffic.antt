@@ -1,14 +1,17 @@
 -- Traffic of the protected filters of a plan: what is wrong with its rows by the plan, and the figures of each of its
 -- queues.
-use Rattle.std.specs.Prelude.{◌≡◌, ◌↔◌, ℕ, Bool, true, false, not, ◌+◌, ◌%◌, ◌&&◌, ◌++◌, List, [], ◌∷◌, Option, None, Some, nat_eq, nat_le, if◌then◌else◌}
+use Rattle.std.specs.Prelude.{◌≡◌, ◌↔◌, ℕ, Bool, true, false, not, ◌+◌, ◌%◌, ◌&&◌, ◌++◌, List, [], ◌∷◌, Option, None, Some, map, nat_eq, nat_le, if◌then◌else◌}
 use Rattle.std.specs.List.{list_all}
 use Rattle.std.specs.Map.{lookup}
+use Rattle.std.specs.Option.{is_some}
 use Rattle.bridge_cycle.specs.declared.egress.Egress.{Egress}
 use Rattle.bridge_cycle.specs.declared.egress.Egress.TheVariants as egress
 use Rattle.bridge_gate.specs.declared.schedule.GatePlan.{GatePlan}
 use Rattle.bridge_gate.specs.declared.schedule.Schedule.{Schedule}
 use Rattle.bridge_gate.specs.declared.schedule.Schedule.TheVariants as schedule
 use Rattle.bridge_filter.specs.declared.FilterPlan.{FilterPlan}
+use Rattle.bridge_port.specs.Schedule.{Copy, Started}
+use Rattle.bridge_semantics.specs.Offers.{Carried}
 use Rattle.bridge_config.specs.Model.{Plan}
 use Rattle.bridge_config.specs.Rules.{port_at}
 use Rattle.bridge_config.specs.declared.ports.PortPlan.{PortPlan}
@@ -20,12 +23,16 @@ use Rattle.bridge_netfile.specs.declared.fault.NetFault.TheVariants as net
 use Rattle.bridge_netfile.specs.declared.fault.NetPlace.{NetPlace}
 use Rattle.bridge_netfile.specs.declared.fault.NetSection.TheVariants as section
 use Rattle.bridge_periods.specs.Passing.{Passes}
-use Rattle.bridge_periods.specs.Timings.{IsTiming}
+use Rattle.bridge_periods.specs.Timings.{IsDoneBetween, IsTiming, TakesBetween}
+use Rattle.bridge_periods.specs.declared.timing.Phases.{Phases}
+use Rattle.bridge_periods.specs.declared.timing.Timing.{Timing}
 use Rattle.bridge_traffic.specs.declared.fault.TrafficFault.{TrafficFault}
 use Rattle.bridge_traffic.specs.declared.fault.TrafficFault.TheVariants as fault
 use Rattle.bridge_traffic.specs.declared.rows.TrafficRow.{TrafficRow}
 use Rattle.bridge_planning.specs.declared.bounds.QueueBound.{QueueBound}
 use Rattle.bridge_planning.specs.declared.timings.QueueTiming.{QueueTiming}
+use Rattle.bridge_planning.specs.declared.timings.TrafficFigures.{TrafficFigures}
+use Rattle.bridge_planning.specs.declared.timings.TrafficFigures.TheVariants as figures
 use Rattle.bridge_planning.specs.Bounds.{AreBounds}
 
 -- CYCLES
@@ -92,9 +99,27 @@ first_fault_from p index (r ∷ rs) = first_of (row_fault p index r) (first_faul
 
 -- FIGURES
 
--- the frames of the filter of a number pass
+-- Holds if the plan has the filter of row `r`, and this filter passes each frame of the row.
 abbrev pub RowPasses : {A : Type 0} → Plan A → TrafficRow → Type 0
 RowPasses p r = (f : FilterPlan) × (lookup (nat_eq r.filter) p.filters ≡ Some f) × Passes p f r.traffic
+
+-- True if the queue has phases: each frame has left before the next one arrives, so the queue accepts every frame.
+abbrev pub has_phases : Timing → Bool
+has_phases x = is_some x.phases
+
+-- Holds if each frame of row `r` passes its filter, and the queue with the figures `x` has phases, so it accepts the frame.
+abbrev pub PassesAt : {A : Type 0} → Plan A → TrafficRow → Timing → Type 0
+PassesAt p r x = RowPasses p r × (has_phases x ≡ true)
+
+-- Holds if copy `y` of a frame of row `r` is sent between the phases of the figures `x` in its period. Its delay is
+-- at least the best and at most the worst delay of `x`.
+pub record IsSentInTime {A : Type 0} (out : PortPlan A) (r : TrafficRow) (x : Timing) (y : Copy Carried) : Type 0 where
+  pub done : Phases
+  pub phases : x.phases ≡ Some done
+  pub start : ℕ
+  pub started : y.fate ≡ Started start
+  pub between : IsDoneBetween out r.traffic done y
+  pub times : TakesBetween out x y start
 
 -- the figures of a row in a queue
 pub record IsRowTiming {A : Type 0} (p : Plan A) (index : ℕ) (r : TrafficRow) (b : QueueBound) (x : QueueTiming) : Type 0 where
@@ -104,7 +129,7 @@ pub record IsRowTiming {A : Type 0} (p : Plan A) (index : ℕ) (r : TrafficRow) 
   pub class : x.class ≡ b.class
   pub deadline : x.deadline ≡ r.deadline
   pub timing : IsTiming p r.filter b.port b.class r.traffic x.timing
-  pub passes : (x.passes ≡ true) ↔ RowPasses p r
+  pub passes : (x.passes ≡ true) ↔ PassesAt p r x.timing
 
 -- a list begins with an element of a kind, and goes on with others
 abbrev pub Begins : {X : Type 0} → (X → Type 0) → (List X → Type 0) → List X → Type 0
@@ -122,14 +147,19 @@ AreRowTimings p index r [] xs = xs ≡ []
 AreRowTimings p index r (b ∷ bs) xs =
     Whether (nat_eq b.filter r.filter) (Begins (IsRowTiming p index r b) (AreRowTimings p index r bs) xs) (AreRowTimings p index r bs xs)
 
+-- the figures of a row: those of its queues, or that it leads nowhere if it has none
+abbrev pub row_figures : ℕ → ℕ → List QueueTiming → List TrafficFigures
+row_figures row filter [] = figures.Nowhere row filter ∷ []
+row_figures row filter (x ∷ xs) = map figures.Queue (x ∷ xs)
+
 -- those of some rows, row by row, the first of which has this index
-abbrev pub AreTimingsFrom : {A : Type 0} → Plan A → List QueueBound → ℕ → List TrafficRow → List QueueTiming → Type 0
+abbrev pub AreTimingsFrom : {A : Type 0} → Plan A → List QueueBound → ℕ → List TrafficRow → List TrafficFigures → Type 0
 AreTimingsFrom p bounds index [] xs = xs ≡ []
 AreTimingsFrom p bounds index (r ∷ rs) xs =
-    (ys zs : List QueueTiming) × (xs ≡ ys ++ zs) × AreRowTimings p index r bounds ys × AreTimingsFrom p bounds (index + 1) rs zs
+    (ys : List QueueTiming) × (zs : List TrafficFigures) × (xs ≡ row_figures index r.filter ys ++ zs) × AreRowTimings p index r bounds ys × AreTimingsFrom p bounds (index + 1) rs zs
 
 -- the figures of all rows in all queues of their filters
-abbrev pub AreTimings : {A : Type 0} → Plan A → List TrafficRow → List QueueTiming → Type 0
+abbrev pub AreTimings : {A : Type 0} → Plan A → List TrafficRow → List TrafficFigures → Type 0
 AreTimings p rows xs = (bounds : List QueueBound) × AreBounds p bounds × AreTimingsFrom p bounds 1 rows xs
 
 -- whether a deadline, where there is one, is met
@@ -141,6 +171,11 @@ is_met (Some deadline) worst = nat_le worst deadline
 abbrev pub is_kept : QueueTiming → Bool
 is_kept x = x.passes && is_met x.deadline x.timing.worst
 
--- each queue of traffic is in time
-abbrev pub are_kept : List QueueTiming → Bool
-are_kept xs = list_all is_kept xs
+-- whether a row is kept in a queue; a row that leads nowhere is not
+abbrev pub is_row_kept : TrafficFigures → Bool
+is_row_kept (figures.Queue x) = is_kept x
+is_row_kept (figures.Nowhere row filter) = false
+
+-- whether each row leads to a queue, and is kept in each of its queues
+abbrev pub are_kept : List TrafficFigures → Bool
+are_kept xs = list_all is_row_kept xs

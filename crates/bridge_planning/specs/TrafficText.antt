@@ -1,5 +1,5 @@
 -- What is printed of traffic.
-use Rattle.std.specs.Prelude.{◌≡◌, ◌⊎◌, ℕ, Bool, true, false, ◌++◌, List, Option, None, Some, Ok, Err, flat_map, codes, decimal, string_bytes, take}
+use Rattle.std.specs.Prelude.{◌≡◌, ◌⊎◌, ℕ, ◌-◌, Bool, true, false, ◌++◌, List, Option, None, Some, Ok, Err, flat_map, codes, decimal, string_bytes, take}
 use Rattle.bridge_config.specs.Model.{Plan}
 use Rattle.bridge_inputs.specs.declared.fault.RunFault.TheVariants as run
 use Rattle.bridge_netfile.specs.declared.fault.NetFault.{NetFault}
@@ -7,12 +7,15 @@ use Rattle.bridge_jobs.specs.declared.fault.Fault.{Fault}
 use Rattle.bridge_jobs.specs.declared.fault.Fault.TheVariants as fault
 use Rattle.bridge_jobs.specs.Jobs.{Accepts, EndsCheck}
 use Rattle.bridge_jobs.specs.Reading.{IsOfFile}
+use Rattle.bridge_periods.specs.declared.timing.Phases.{Phases}
 use Rattle.bridge_traffic.specs.declared.fault.TrafficFault.{TrafficFault}
 use Rattle.bridge_traffic.specs.declared.fault.TrafficFault.TheVariants as text
 use Rattle.bridge_traffic.specs.declared.rows.TrafficRow.{TrafficRow}
 use Rattle.bridge_traffic.specs.Document.{rows_of_text}
 use Rattle.bridge_traffic.specs.Faults.{traffic_line}
 use Rattle.bridge_planning.specs.declared.timings.QueueTiming.{QueueTiming}
+use Rattle.bridge_planning.specs.declared.timings.TrafficFigures.{TrafficFigures}
+use Rattle.bridge_planning.specs.declared.timings.TrafficFigures.TheVariants as figures
 use Rattle.bridge_planning.specs.Printing.{AreLinesOf}
 use Rattle.bridge_planning.specs.Traffic.{AreTimings, are_kept, first_fault_from, is_met}
 
@@ -35,17 +38,36 @@ deadline_words (Some d) worst = codes " deadline " ++ (decimal d ++ (codes " " +
 abbrev pub queue_words : QueueTiming → List ℕ
 queue_words x = codes "traffic " ++ (decimal x.row ++ (codes " filter " ++ (decimal x.filter ++ (codes " port " ++ (decimal x.port ++ (codes " class " ++ decimal x.class))))))
 
+-- the phases between which frames are done, where there are some
+abbrev pub phase_words : Option Phases → List ℕ
+phase_words None = codes ""
+phase_words (Some done) = codes " phases " ++ (decimal done.from ++ (codes ".." ++ decimal done.to))
+
+-- delays: at worst, at best, their difference, and the phases
+abbrev pub delay_words : ℕ → ℕ → Option Phases → List ℕ
+delay_words worst best phases =
+    codes " worst " ++ (decimal worst ++ (codes " best " ++ (decimal best ++ (codes " jitter " ++ (decimal (worst - best) ++ phase_words phases)))))
+
 -- its figures
 abbrev pub figure_words : QueueTiming → List ℕ
-figure_words x = codes " worst " ++ (decimal x.timing.worst ++ (codes " best " ++ (decimal x.timing.best ++ (codes " jitter " ++ decimal x.timing.jitter))))
+figure_words x = delay_words x.timing.worst x.timing.best x.timing.phases
 
 -- the line of a queue
 unfoldable pub timing_line : QueueTiming → List ℕ
 timing_line x = queue_words x ++ (codes " " ++ (passing_word x.passes ++ (figure_words x ++ (deadline_words x.deadline x.timing.worst ++ codes "\n"))))
 
+-- the line of a row that leads nowhere
+abbrev pub nowhere_line : ℕ → ℕ → List ℕ
+nowhere_line row filter = codes "traffic " ++ (decimal row ++ (codes " filter " ++ (decimal filter ++ codes " nowhere\n")))
+
+-- the line of a row in a queue, or of one that leads nowhere
+abbrev pub figures_line : TrafficFigures → List ℕ
+figures_line (figures.Queue x) = timing_line x
+figures_line (figures.Nowhere row filter) = nowhere_line row filter
+
 -- a line for each
-abbrev pub timings_text : List QueueTiming → List ℕ
-timings_text xs = flat_map timing_line xs
+abbrev pub timings_text : List TrafficFigures → List ℕ
+timings_text xs = flat_map figures_line xs
 
 -- THE JOB
 
@@ -54,12 +76,12 @@ abbrev pub ReadsRows : List ℕ → List TrafficRow → Type 0
 ReadsRows words rows = rows_of_text (take 1048577 words) ≡ Ok rows
 
 -- what is printed for an accepted plan and rows that suit it: the lines of its bounds, then those of the rows' figures; and
--- whether each frame passes and meets its deadline
+-- whether each row leads to a queue, and each frame passes and meets its deadline
 pub record AreLinesOfTraffic {A : Type 0} (p : Plan A) (rows : List TrafficRow) (lines : List ℕ) (kept : Bool) : Type 0 where
   pub suit : first_fault_from p 1 rows ≡ None
   pub bounds : List ℕ
   pub are_bounds : AreLinesOf p bounds
-  pub timings : List QueueTiming
+  pub timings : List TrafficFigures
   pub are_timings : AreTimings p rows timings
   pub lines_are : lines ≡ bounds ++ timings_text timings
   pub kept_is : kept ≡ are_kept timings

@@ -4,13 +4,14 @@
 use crate::network::{links_of, read_network, read_plans, streams_of};
 use crate::refusing::name_of;
 use crate::telling::address_words;
-use bridge_check::Accepted;
+use bridge_check::{Accepted, reach_of};
 use bridge_config::Plan;
+use bridge_filter::FilterPlan;
 use bridge_frame::Tag;
 use bridge_ident::Kind;
 use bridge_netfile::{BridgeRow, NetworkFile};
 use bridge_network::{
-    End, NetworkFault, RefusedNetwork, Stray, StreamHop, check_network, peer_of, stray_at,
+    End, Link, NetworkFault, RefusedNetwork, Stray, StreamHop, check_network, peer_of, stray_at,
 };
 use bridge_text::Text;
 use std::alloc::{Allocator, Global};
@@ -112,8 +113,135 @@ fn said_of_open(
     let mut said = Text::new(heap);
     put_hop(&mut said, path, file.bridges(), row.name(), hop, open);
     put_frame(heap, &mut said, file.bridges(), &stray, end, open);
-    put_ways(&mut said, file.bridges(), sender, hops, &stray, end, open);
+    if is_left_out(refused, hops, end, open) {
+        put_left_out(&mut said, file.bridges(), row.name(), end, open);
+    } else {
+        put_front(&mut said, "Repair", file.bridges(), end);
+    }
+    put_ways(&mut said, sender, hops, &stray, end, open);
     said.done().ok()
+}
+
+/// The filter of a number in a plan.
+fn filter_of<A: Allocator + Copy>(plan: &Plan<A>, number: u32) -> Option<FilterPlan> {
+    for (own, filter) in plan.filters() {
+        if *own == number {
+            return Some(*filter);
+        }
+    }
+    None
+}
+
+/// Whether a filter of a bridge is a hop of some stream.
+fn is_hop<A: Allocator + Copy>(streams: &[Vec<StreamHop, A>], bridge: u16, filter: u32) -> bool {
+    for hops in streams {
+        for hop in hops {
+            if hop.bridge == bridge && hop.filter == filter {
+                return true;
+            }
+        }
+    }
+    false
+}
+
+/// Whether frames of a hop of the stream may leave over the link to a port.
+fn is_fed<A: Allocator + Copy>(
+    plans: &[Accepted<A>],
+    links: &[Link],
+    hops: &[StreamHop],
+    bridge: u16,
+    port: u8,
+) -> bool {
+    let Some(end) = peer_of(links, bridge, port) else {
+        return false;
+    };
+    let Some(feeder) = plans.get(end.bridge as usize) else {
+        return false;
+    };
+    for hop in hops {
+        if hop.bridge == end.bridge {
+            if let Some(filter) = filter_of(feeder.plan(), hop.filter) {
+                if leads_to(feeder.plan(), &filter, end.port) {
+                    return true;
+                }
+            }
+        }
+    }
+    false
+}
+
+/// Whether the filter of a hop has a handle.
+fn is_of_stream<A: Allocator + Copy>(
+    plans: &[Accepted<A>],
+    hops: &[StreamHop],
+    handle: Option<u32>,
+) -> bool {
+    for hop in hops {
+        if let Some(bridge) = plans.get(hop.bridge as usize) {
+            if let Some(filter) = filter_of(bridge.plan(), hop.filter) {
+                if filter.handle == handle {
+                    return true;
+                }
+            }
+        }
+    }
+    false
+}
+
+/// Whether frames of a filter may leave by a port.
+fn leads_to<A: Allocator + Copy>(plan: &Plan<A>, filter: &FilterPlan, port: u8) -> bool {
+    let reach = reach_of(plan, filter);
+    match reach.ports.get(usize::from(port).saturating_sub(1)) {
+        Some(reaches) => *reaches,
+        None => false,
+    }
+}
+
+/// Whether the filter of the frame at the sender is likely a hop that was left out: it is protected and a hop of no stream, and it
+/// has the handle of a hop of the stream, or the stream feeds it.
+fn is_left_out(refused: &RefusedNetwork<Global>, hops: &[StreamHop], end: End, open: Open) -> bool {
+    let plans = refused.plans.as_slice();
+    let (Some(number), Some(sender)) = (open.filter, plans.get(end.bridge as usize)) else {
+        return false;
+    };
+    let Some(filter) = filter_of(sender.plan(), number) else {
+        return false;
+    };
+    if !filter.protected || is_hop(refused.streams.as_slice(), end.bridge, number) {
+        return false;
+    }
+    is_of_stream(plans, hops, filter.handle)
+        || is_fed(plans, refused.links.as_slice(), hops, end.bridge, open.from)
+}
+
+/// Adds which hop was left out, and how what follows begins.
+fn put_left_out<A: Allocator + Copy>(
+    said: &mut Text<Global>,
+    bridges: &[BridgeRow<A>],
+    stream: &str,
+    end: End,
+    open: Open,
+) {
+    said.fill(
+        "Add {a}.{0} to the `hops` of stream {b}: filter {0} of {a} is protected and belongs to no stream.\n",
+        &[u64::from(open.filter.unwrap_or(0))],
+        &[name_of(bridges, end.bridge), stream],
+    );
+    put_front(said, "Otherwise repair", bridges, end);
+}
+
+/// Adds how the list of repairs begins.
+fn put_front<A: Allocator + Copy>(
+    said: &mut Text<Global>,
+    word: &str,
+    bridges: &[BridgeRow<A>],
+    end: End,
+) {
+    said.fill(
+        "{a} the plan of {b} in one of these ways:\n",
+        &[],
+        &[word, name_of(bridges, end.bridge)],
+    );
 }
 
 /// Adds which hop takes what isn't its.
@@ -185,28 +313,36 @@ fn vlan_at<A: Allocator + Copy>(sender: &Plan<A>, from: u8, tag: Option<Tag>) ->
     }
 }
 
-/// The handle of a hop of the stream at the sender, if it has one.
-fn handle_at<A: Allocator + Copy>(
+/// The filter of the first hop of the stream at the sender.
+fn hop_filter_at<A: Allocator + Copy>(
     sender: &Plan<A>,
     hops: &[StreamHop],
     bridge: u16,
-) -> Option<u32> {
+) -> Option<FilterPlan> {
     for hop in hops {
         if hop.bridge == bridge {
-            for (number, filter) in sender.filters() {
-                if *number == hop.filter {
-                    return filter.handle;
-                }
-            }
+            return filter_of(sender, hop.filter);
         }
     }
     None
 }
 
-/// Adds the four ways to keep such frames away.
+/// The handle by which a hop of the stream at the sender takes frames of every priority, if it does.
+fn handle_at<A: Allocator + Copy>(
+    sender: &Plan<A>,
+    hops: &[StreamHop],
+    bridge: u16,
+) -> Option<u32> {
+    let filter = hop_filter_at(sender, hops, bridge)?;
+    match filter.priority {
+        None => filter.handle,
+        Some(_) => None,
+    }
+}
+
+/// Adds the ways to keep such frames away: by an entry of the stream's handle only if a filter of the stream takes every priority.
 fn put_ways<A: Allocator + Copy>(
     said: &mut Text<Global>,
-    bridges: &[BridgeRow<Global>],
     sender: &Plan<A>,
     hops: &[StreamHop],
     stray: &Stray,
@@ -218,15 +354,15 @@ fn put_ways<A: Allocator + Copy>(
     let filter = u64::from(open.filter.unwrap_or(0));
     let (first, last) = match open.filter {
         Some(_) => (
-            "Repair the plan of {a} in one of these ways:\n  close the gate of filter {0}, which then passes no frame;\n  remove port {1} from VLAN {2};\n",
+            "  close the gate of filter {0}, which then passes no frame;\n  remove port {1} from VLAN {2};\n",
             "  add a `stream` entry on port {1} with a handle for strays; its filter has a closed gate and a number below {0}.\n",
         ),
         None => (
-            "Repair the plan of {a} in one of these ways:\n  remove port {1} from VLAN {2};\n",
+            "  remove port {1} from VLAN {2};\n",
             "  add a `stream` entry on port {1} with a handle for strays; its filter has a closed gate.\n",
         ),
     };
-    said.fill(first, &[filter, from, vid], &[name_of(bridges, end.bridge)]);
+    said.fill(first, &[filter, from, vid], &[]);
     if let Some(handle) = handle_at(sender, hops, end.bridge) {
         said.fill(
             "  add a `stream` entry of handle {1} on port {0}, so that the stream's gate and meter police these frames too;\n",

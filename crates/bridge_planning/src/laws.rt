@@ -1,5 +1,23 @@
 //! Laws of the way of a frame through a network, each the contract of a function that does nothing.
-ghost use Rattle.std.specs.Prelude.{◌≡◌, ◌≤◌, ◌+◌, ℕ, List, Some, slice_get};
+ghost use Rattle.std.specs.Prelude.{◌≡◌, ◌≤◌, ◌+◌, ℕ, List, Some, nat_eq, slice_get, true};
+ghost use Rattle.std.specs.List.{list_all};
+ghost use Rattle.std.specs.Map.{lookup};
+ghost use Rattle.bridge_limits.specs.Members.{In};
+ghost use Rattle.bridge_filter.specs.declared.FilterPlan.{FilterPlan};
+ghost use Rattle.bridge_port.specs.Schedule.{Copy};
+ghost use Rattle.bridge_config.specs.declared.ports.PortPlan.{PortPlan};
+ghost use Rattle.bridge_config.specs.Model.{Plan};
+ghost use Rattle.bridge_config.specs.Rules.{IsPlan, port_at};
+ghost use Rattle.bridge_check.specs.Acceptable.{IsAcceptable};
+ghost use Rattle.bridge_semantics.specs.Events.{Event, own};
+ghost use Rattle.bridge_semantics.specs.Offers.{Carried};
+ghost use Rattle.bridge_semantics.specs.Runs.{AreWhole, IsOutcome, IsRun};
+ghost use Rattle.bridge_semantics.specs.declared.outcome.View.{View};
+ghost use Rattle.bridge_periods.specs.declared.timing.Timing.{Timing};
+ghost use Rattle.bridge_periods.specs.Passing.{passes};
+ghost use Rattle.bridge_periods.specs.Timings.{IsTiming};
+ghost use Rattle.bridge_traffic.specs.declared.rows.TrafficRow.{TrafficRow};
+ghost use Rattle.bridge_planning.specs.Traffic.{IsSentInTime, PassesAt};
 ghost use Rattle.bridge_capture.specs.Grammar.{Captured};
 ghost use Rattle.bridge_semantics.specs.Merge.{Input};
 ghost use Rattle.bridge_semantics.specs.declared.outcome.Outcome.{Outcome};
@@ -8,7 +26,7 @@ ghost use Rattle.bridge_network.specs.declared.links.StreamHop.{StreamHop};
 ghost use Rattle.bridge_network.specs.Networks.{IsNetwork, IsNetworkRun, Network};
 ghost use Rattle.bridge_periods.specs.declared.timing.Phases.{Phases};
 ghost use Rattle.bridge_periods.specs.declared.traffic.Traffic.{Traffic};
-ghost use Rattle.bridge_periods.specs.Traffic.{IsTraffic};
+ghost use Rattle.bridge_periods.specs.Traffic.{IsTraffic, KeepsTraffic};
 ghost use Rattle.bridge_courses.specs.declared.courses.Course.{Course};
 ghost use Rattle.bridge_courses.specs.declared.trees.HopQueue.{HopQueue};
 ghost use Rattle.bridge_courses.specs.Courses.{IsCourse, coming_first};
@@ -57,4 +75,39 @@ pub fn way_in_phases<A: Allocator + Copy>()
         → IsWayOf links hops queues leg more
         → IsCourse n.bridges links hops queues t (Some r)
         → KeepsCourse t leg more r }
+{}
+
+/// The word `passes` in the line of a traffic row. In a whole run of an accepted plan, where the own frames of a protected
+/// filter come as a row says whose figures in a queue pass, whatever all others send: the verdict of each of its frames is
+/// that it passes (`filter`); and each of its copies in this queue is sent, between the phases of the figures, no sooner than
+/// the best time after its frame came, and no later than the worst (`queue`).
+pub fn passing_row_is_sent<A: Allocator + Copy>()
+    ensures filter { (p : Plan A) (f : FilterPlan) (es : List Event) (lists : ℕ → List (Copy Carried)) (o : Outcome A)
+        (v : View A) (r : TrafficRow) (x : Timing)
+        → IsPlan p
+        → IsAcceptable p
+        → In (r.filter, f) p.filters
+        → f.protected ≡ true
+        → IsOutcome p es lists o
+        → lookup (nat_eq r.filter) o.filters.items ≡ Some v
+        → IsTraffic r.traffic
+        → KeepsTraffic r.traffic (own p r.filter f es)
+        → PassesAt p r x
+        → list_all passes v.verdicts.items ≡ true }
+    ensures queue { (p : Plan A) (f : FilterPlan) (es : List Event) (moments : ℕ → ℕ) (lists : ℕ → List (Copy Carried))
+        (q : ℕ) (out : PortPlan A) (y : Copy Carried) (r : TrafficRow) (x : Timing)
+        → IsPlan p
+        → IsAcceptable p
+        → In (r.filter, f) p.filters
+        → f.protected ≡ true
+        → IsRun p es moments lists
+        → AreWhole lists
+        → port_at p.ports q ≡ Some out
+        → In y (lists q)
+        → y.item.flow ≡ Some r.filter
+        → IsTraffic r.traffic
+        → KeepsTraffic r.traffic (own p r.filter f es)
+        → IsTiming p r.filter q y.class r.traffic x
+        → PassesAt p r x
+        → IsSentInTime out r x y }
 {}

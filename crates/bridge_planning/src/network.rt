@@ -5,15 +5,17 @@ ghost use Rattle.bridge_network.specs.declared.links.StreamHop.{StreamHop as Hop
 ghost use Rattle.bridge_network.specs.Refusing.{first_fault};
 ghost use Rattle.bridge_inputs.specs.declared.fault.RunFault.{RunFault};
 ghost use Rattle.bridge_jobs.specs.declared.fault.Fault.{Fault};
-ghost use Rattle.bridge_planning.specs.Telling.{AreTold};
+ghost use Rattle.bridge_planning.specs.Bounds.{IsPlaced};
+ghost use Rattle.bridge_planning.specs.Warnings.{AreWarnings};
 ghost use Rattle.bridge_planning.specs.Networks.{AreLinesOfNetwork, EndsNetwork, IsMadeOf, PrintsNetwork, RefusesNetwork, RefusesPeriods, accepted_line, hops_in, link_in};
-ghost use Rattle.bridge_planning.specs.Streams.{hop_in};
+ghost use Rattle.bridge_planning.specs.Streams.{AreBoundsOf, hop_in};
 ghost use Rattle.bridge_planning.specs.Talkers.{first_misfit};
 
+use crate::bounds::QueueBound;
 use crate::refusing::said_of_network;
 use crate::streams::{StreamLines, bounds_of_all, stream_lines};
 use crate::talkers::first_misfit as misfit_in;
-use crate::telling::told_of;
+use crate::warnings::warnings_of;
 use bridge_check::Accepted;
 use bridge_inputs::RunFault;
 use bridge_jobs::{Fault, fault_line as plan_line, fault_of_file, planned, read_at_most};
@@ -199,16 +201,16 @@ fn lines_of<A: Allocator + Copy>(
     heap: Global,
     file: &NetworkFile<A>,
     network: &Network<A>,
+    bounds: &[Vec<QueueBound, A>],
 ) -> Result<StreamLines<Global>, NoMemory>
+    requires bounds { AreBoundsOf network.now.plans bounds.now }
+    requires placed { All (λ v. All IsPlaced v.items) bounds.now }
     ensures { IfOk result (λ x. AreLinesOfNetwork file.now network.now (string_bytes x.text) x.kept) }
 {
     let Ok(line) = accepted_line(heap, file) else {
         return Err(NoMemory);
     };
-    let Ok(bounds) = bounds_of_all(alloc, network.plans()) else {
-        return Err(NoMemory);
-    };
-    let Ok(lines) = stream_lines(alloc, heap, network, &bounds, file.links(), file.streams()) else {
+    let Ok(lines) = stream_lines(alloc, heap, network, bounds, file.links(), file.streams()) else {
         return Err(NoMemory);
     };
     let StreamLines { text, kept } = lines;
@@ -360,13 +362,16 @@ fn said_of<A: Allocator + Copy>(
 ) -> Result<NetworkSaid, NoMemory>
     requires few { length network.now.plans ≤ 64 }
     ensures lines { IfOk result (λ said. AreLinesOfNetwork file.now network.now (string_bytes said.lines) said.kept) }
-    ensures told { IfOk result (λ said. AreTold file.now network.now (string_bytes said.told)) }
+    ensures told { IfOk result (λ said. AreWarnings file.now network.now (string_bytes said.told)) }
 {
-    let Ok(lines) = lines_of(alloc, heap, file, network) else {
+    let Ok(bounds) = bounds_of_all(alloc, network.plans()) else {
+        return Err(NoMemory);
+    };
+    let Ok(lines) = lines_of(alloc, heap, file, network, &bounds) else {
         return Err(NoMemory);
     };
     let StreamLines { text, kept } = lines;
-    let Ok(told) = told_of(alloc, heap, file, network) else {
+    let Ok(told) = warnings_of(alloc, heap, file, network, &bounds) else {
         return Err(NoMemory);
     };
     Ok(NetworkSaid {

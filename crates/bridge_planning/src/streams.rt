@@ -13,11 +13,11 @@ ghost use Rattle.bridge_planning.specs.Traffic.{is_met};
 use crate::bounds::{QueueBound, bounds_of};
 use crate::talkers::course_for;
 use crate::timings;
-use crate::timings::put_deadline;
+use crate::timings::{put_deadline, put_delays};
 use bridge_check::Accepted;
 use bridge_courses::Course;
 use bridge_limits::NoMemory;
-use bridge_netfile::{LinkRow, StreamRow};
+use bridge_netfile::{LinkRow, StreamRow, Talker};
 use bridge_network::Network;
 use bridge_text::Text;
 use std::alloc::Allocator;
@@ -210,13 +210,7 @@ fn put_course<B: Allocator>(text: &mut Text<B>, course: Option<Course>, bound: u
         text.put_integer(bound);
         return;
     };
-    text.put(refusal_word(course.passes));
-    text.put(" worst ");
-    text.put_integer(course.worst);
-    text.put(" best ");
-    text.put_integer(course.best);
-    text.put(" jitter ");
-    text.put_integer(course.jitter);
+    put_delays(text, course.worst, course.best, Some(course.phases));
 }
 
 /// What is said of a stream of which a frame may be refused.
@@ -226,14 +220,21 @@ fn refusal_word(passes: bool) -> &'static str
     if passes { "" } else { " refusable" }
 }
 
-/// Whether each frame of a stream passes, where that is asked, and meets its deadline.
-fn is_kept(course: Option<Course>, deadline: Option<u64>, bound: u128) -> bool
-    ensures { result ≡ (spec.is_passing course && is_met deadline (spec.worst_of course bound)) }
+/// Whether the file promises no period of a stream's talker, or the figures say that each frame of it passes.
+fn is_passing(talker: Option<Talker>, course: Option<Course>) -> bool
+    ensures { result ≡ spec.is_passing talker course }
 {
-    let passes = match course {
-        None => true,
-        Some(course) => course.passes,
-    };
+    match (talker, course) {
+        (None, _) => true,
+        (Some(_), None) => false,
+        (Some(_), Some(course)) => course.passes,
+    }
+}
+
+/// Whether each frame of a stream passes, and meets its deadline.
+fn is_kept(passes: bool, course: Option<Course>, deadline: Option<u64>, bound: u128) -> bool
+    ensures { result ≡ (passes && is_met deadline (spec.worst_of course bound)) }
+{
     passes && timings::is_met(deadline, worst_of(course, bound))
 }
 
@@ -261,12 +262,14 @@ fn put_stream<A: Allocator + Copy, B: Allocator>(
 {
     let bound = stream_bound(bounds, links, stream.hops());
     let deadline = stream.deadline();
+    let passes = is_passing(stream.talker(), course);
     text.put("stream ");
     text.put(stream.name());
+    text.put(refusal_word(passes));
     put_course(text, course, bound);
     put_deadline(text, deadline, worst_of(course, bound));
     text.put("\n");
-    is_kept(course, deadline, bound)
+    is_kept(passes, course, deadline, bound)
 }
 
 /// Whether both hold.

@@ -3,7 +3,8 @@ ghost use Rattle.std.specs.Prelude.{◌≡◌, ◌++◌, ◌∷◌, ◌≤◌, A
 ghost use Rattle.std.specs.List.{list_all};
 ghost use Rattle.std.specs.Map.{lookup};
 ghost use Rattle.std.specs.Option.{ForSome};
-ghost use Rattle.bridge_courses.specs.Courses.{IsCourse, IsQueue};
+ghost use Rattle.bridge_courses.specs.Courses.{IsQueue};
+ghost use Rattle.bridge_courses.specs.Entering.{IsStreamCourse};
 ghost use Rattle.bridge_netfile.specs.Rules.{IsTalker};
 ghost use Rattle.bridge_periods.specs.Traffic.{IsTraffic};
 ghost use Rattle.bridge_planning.specs.Streams.{hop_in};
@@ -18,7 +19,7 @@ use crate::traffic::suits;
 use bridge_bounds::filter_at;
 use bridge_check::Accepted;
 use bridge_config::Plan;
-use bridge_courses::{Course, HopQueue, course_of};
+use bridge_courses::{Course, HopQueue, stream_course};
 use bridge_limits::NoMemory;
 use bridge_netfile::{NetFault, NetField, NetPlace, NetSection, StreamRow, Talker};
 use bridge_network::{Link, StreamHop};
@@ -198,14 +199,14 @@ fn course_over<A: Allocator + Copy>(
     requires rows { All (λ v. All IsPlaced v.items) bounds.now }
     requires few { length hops.now ≤ 64 }
     requires talker { IsTalker talker.now }
-    ensures { IfOk result (IsCourse plans.now links.now hops.now (spec.queues_of bounds.now hops.now)
+    ensures { IfOk result (IsStreamCourse plans.now links.now hops.now (spec.queues_of bounds.now hops.now)
         (spec.traffic_of talker.now)) }
 {
     let Ok(queues) = queues_of(alloc, bounds, hops) else {
         return Err(NoMemory);
     };
     let traffic = traffic_of(talker);
-    Ok(course_of(plans, links, hops, &queues, &traffic))
+    Ok(stream_course(plans, links, hops, &queues, &traffic))
 }
 
 /// How long the frames of a stream take, where its talker keeps a period.

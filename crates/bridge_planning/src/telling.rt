@@ -241,7 +241,10 @@ fn sdu_in<A: Allocator + Copy>(plan: &Plan<A>, number: u32) -> Option<u32>
 }
 
 /// The plan of a bridge, where it is there.
-fn plan_at<'a, A: Allocator + Copy>(plans: &'a [Accepted<A>], bridge: u16) -> Option<&'a Plan<A>>
+pub(crate) fn plan_at<'a, A: Allocator + Copy>(
+    plans: &'a [Accepted<A>],
+    bridge: u16,
+) -> Option<&'a Plan<A>>
     ensures { option_map (λ p. p.now) result ≡ slice_get plans.now bridge }
 {
     let place = bridge as usize;
@@ -388,7 +391,7 @@ fn push_falls_in<A: Allocator + Copy>(
 /// What is told of a network of these plans that is accepted: a line for the frames of each VLAN and destination that may go
 /// round, with a port to which they may come again and again; one for each protected filter whose frames may come over a link
 /// and that is in no stream; one for each hop that lets through shorter frames alone than the hop before it.
-pub fn told_of<A: Allocator + Copy>(
+pub(crate) fn told_of<A: Allocator + Copy>(
     alloc: A,
     heap: Global,
     file: &NetworkFile<A>,

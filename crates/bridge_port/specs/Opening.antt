@@ -14,13 +14,15 @@ use Rattle.bridge_cycle.specs.declared.run.Run.{Run}
 use Rattle.bridge_cycle.specs.declared.run.Run.TheVariants.{Never}
 use Rattle.bridge_port.specs.declared.queues.TheConstants.{LARGEST_ROOM}
 
--- Schedule of a port's transmission gates: always open, one gate control list, or two lists with a schedule change.
+-- Schedule of a port's transmission gates: always open, one gate control list, or an old and a new list with a schedule
+-- change.
 pub data Opening : Type 0 where
   Always : Opening
   One : cyclic.Cyclic ℕ → Opening
   Exchanged : joined.Joined ℕ → Opening
 
--- Schedule of a port from its gate control lists; without a list (`None`) all transmission gates are always open.
+-- Schedule of a port's transmission gates from its gate control lists; all gates are always open if the port has no
+-- list (`None`).
 abbrev pub opening_of : {A : Type 0} → Option (Egress A) → Opening
 opening_of None = Always
 opening_of (Some (Cyclic l)) = One l
@@ -30,27 +32,27 @@ opening_of (Some (Joined j)) = Exchanged j
 abbrev pub list_opens : cyclic.Cyclic ℕ → ℕ → ℕ → Bool
 list_opens l c u = opens_in (cyclic.turn_at l u) c
 
--- True if the transmission gate of class `c` is open at time `u`, in ns.
+-- True if the schedule opens the transmission gate of class `c` at time `u`, in ns.
 abbrev pub opens : Opening → ℕ → ℕ → Bool
 opens Always c u = true
 opens (One l) c u = list_opens l c u
 opens (Exchanged j) c u = opens_in (joined.turn_at j u) c
 
--- True if list `l` opens class `c` for `n` ns in a row from some start time below its cycle time.
+-- True if list `l` opens class `c` for `n` ns in a row from at least one start time below its cycle time.
 abbrev pub list_ever : cyclic.Cyclic ℕ → ℕ → ℕ → Bool
 list_ever l c n = some_fits (list_opens l c) l.cycle n
 
--- True if each list, old and new by itself, opens class `c` for `n` ns in a row; always true without a list.
+-- True if each list of the schedule, by itself, opens class `c` for `n` ns in a row; always true without a list.
 abbrev pub ever : Opening → ℕ → ℕ → Bool
 ever Always c n = true
 ever (One l) c n = list_ever l c n
 ever (Exchanged j) c n = list_ever j.old c n && list_ever j.new c n
 
--- True if the port's gate control lists open a class at a time in ns; always true without a list.
+-- True for a class and a time in ns if the port's gate control lists open the class then; always true without a list.
 abbrev pub opens_of : {A : Type 0} → Option (Egress A) → ℕ → ℕ → Bool
 opens_of list = opens (opening_of list)
 
--- True if each gate control list of the port opens a class for a given time in ns; always true without a list.
+-- True for a class and a duration in ns if each gate control list has a window that long; always true without a list.
 abbrev pub ever_of : {A : Type 0} → Option (Egress A) → ℕ → ℕ → Bool
 ever_of list = ever (opening_of list)
 

@@ -11,7 +11,7 @@ pub struct Item<T> {
     pub load: T,
 }
 
-/// Reason why a port drops an item.
+/// Reason why a port drops a copy of a frame.
 #[derive(Clone, Copy, Debug, PartialEq, Eq, Error)]
 pub enum Refusal {
     /// Under a list of the port the class is open for so long at no moment.

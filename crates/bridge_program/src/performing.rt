@@ -1,5 +1,6 @@
 //! The job of the words, done over standard input and output and the files that it names.
 ghost use Rattle.std.specs.Prelude.{◌≡◌, true};
+ghost use Rattle.bridge_net_app.specs.Losing.{status_of};
 ghost use Rattle.bridge_single.specs.Left.{is_of_networks};
 
 use crate::refusing::{of_drawing, of_network, of_traffic};
@@ -9,8 +10,8 @@ use bridge_files::{MOST_TEXT, is_standard, open_noted, read_noted, text_at};
 use bridge_jobs::{Cause, Fault, NoMemory, fault_of_file};
 use bridge_net_app::{RoundsJob, RoundsSaid, rounds_noted};
 use bridge_planning::{
-    NetworkPicture, NetworkSaid, TrafficReport, bounds_job, memory_fault, network_job,
-    network_picture, traffic_job,
+    NetworkPicture, NetworkSaid, TrafficReport, bounds_job, explain_refusable, memory_fault,
+    network_job, network_picture, traffic_job,
 };
 use bridge_single::{
     Ending, Left, Performed, Wishes, of_file, of_plan, of_words, printed, refused_and_told,
@@ -206,8 +207,32 @@ fn bounds_of_rows<R: Read + Drop>(
         return Err(unexplained(memory_fault()));
     };
     match traffic_job(alloc, alloc, path, text, place, rows) {
-        Ok(TrafficReport { text, kept }) => Ok(printed(alloc, text, kept)),
+        Ok(TrafficReport { text, kept }) => {
+            let told = refusable_told(rt, plan, file, wishes.is_explained && !kept);
+            Ok(Ending {
+                told,
+                ..printed(alloc, text, kept)
+            })
+        }
         Err(fault) => Err(of_traffic(rt, plan, text, file, wishes, fault)),
+    }
+}
+
+/// Why frames of traffic may be refused, where that is asked for; nothing where it can't be told.
+fn refusable_told(
+    rt: &(impl AllocGlobal + Files),
+    plan: &str,
+    traffic: &str,
+    is_asked: bool,
+) -> String {
+    let said = if is_asked {
+        explain_refusable(rt, plan, traffic)
+    } else {
+        None
+    };
+    match said {
+        Some(said) => said,
+        None => String::new(rt.alloc()),
     }
 }
 
@@ -255,18 +280,41 @@ fn run_network(
     }
 }
 
-/// The ending of a run of a network that is done, with the rounds in which it was found where more is to be told.
-fn rounds_said(alloc: Global, said: RoundsSaid, wishes: Wishes) -> Ending {
-    let told = if wishes.is_explained {
-        rounds_told(alloc, said.rounds)
-    } else {
-        String::new(alloc)
-    };
-    let is_well = !(said.is_told && wishes.is_strict);
-    Ending {
+/// The ending of a run of a network, by the lines that are printed and told. An explanation has the rounds in which the run was found
+/// behind the told lines.
+fn rounds_said(alloc: Global, said: RoundsSaid, wishes: Wishes) -> Ending
+    ensures { result.status ≡ status_of said.is_warned said.is_lossy }
+{
+    let status = said.status();
+    let RoundsSaid {
+        line,
         told,
-        ..printed(alloc, said.line, is_well)
+        rounds,
+        is_warned: _,
+        is_lossy: _,
+    } = said;
+    match line {
+        Some(line) => Ending {
+            printed: line,
+            told: with_rounds(alloc, told, rounds, wishes.is_explained),
+            status,
+        },
+        None => Ending {
+            printed: String::new(alloc),
+            told,
+            status,
+        },
     }
+}
+
+/// Returns the told lines of a run of a network, with its rounds behind them in an explanation. If memory runs out, the rounds are
+/// left out.
+fn with_rounds(alloc: Global, told: String, rounds: u32, is_explained: bool) -> String {
+    let mut all = told;
+    if is_explained {
+        let _ = all.push_str(rounds_told(alloc, rounds).as_str());
+    }
+    all
 }
 
 /// In how many rounds a run of a network was found; nothing where there is no memory to tell it.

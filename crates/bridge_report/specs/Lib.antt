@@ -1,5 +1,6 @@
 pub mod Growth
 pub mod Words
 pub mod Section
+pub mod Losses
 pub mod Numbers
 pub mod Examples

@@ -32,17 +32,18 @@ pub record AreBegun {A : Type 0} (n : Parts A) (came : List (Incoming A)) (xs : 
   pub many : length xs ≡ length n.plans
   pub each : (b : ℕ) (p : Plan A) (c : Incoming A) (x : StationState A) → slice_get n.plans b ≡ Some p → slice_get came b ≡ Some c → slice_get xs b ≡ Some x → IsBegun p n.links b c x
 
--- The commands of bridge `b` as inputs, newest first; the empty list if the bridge is missing.
+-- The commands of the bridge with index `b` as inputs, newest first; the empty list if `came` lacks this bridge.
 abbrev pub commands_in : {A : Type 0} → List (Incoming A) → ℕ → List Input
 commands_in [] b = []
 commands_in (c ∷ came) zero = commands_of c.commands.items
 commands_in (c ∷ came) (suc b) = commands_in came b
 
--- Function `o` gives the final result of each bridge, by the bridge's index in the network.
+-- Holds if `o b` is the result of the run of each bridge `b`, an index from 0 in the list `settled`.
 abbrev pub AreOutcomes : {A : Type 0} → List (Settled A) → (ℕ → Outcome A) → Type 0
 AreOutcomes {A} settled o = (b : ℕ) (s : Settled A) → slice_get settled b ≡ Some s → o b ≡ s.outcome
 
--- A complete run of the network yields the results: every open port's capture is read to its end, every port's output is written.
+-- Holds if `settled` is the result of a complete run, open ports read their captures in `came` to the end, and all
+-- outputs are written. Field `frames` has the captured frames by bridge and port.
 pub record RunsNetwork {A : Type 0} (n : Parts A) (came : List (Incoming A)) (settled : List (Settled A)) : Type 0 where
   pub many : length settled ≡ length n.plans
   pub frames : ℕ → ℕ → List Captured
@@ -53,13 +54,15 @@ pub record RunsNetwork {A : Type 0} (n : Parts A) (came : List (Incoming A)) (se
   pub taps : (o : ℕ → Outcome A) (are : AreOutcomes settled o) (b i q : ℕ) (p : Plan A) (ports : List ℕ) (s : Settled A) (tap : MemoryDevice) → slice_get n.plans b ≡ Some p → AreNumbers p ports → slice_get ports i ≡ Some q
       → slice_get settled b ≡ Some s → slice_get s.taps.items i ≡ Some tap → tap.octets ≡ written_text ((run o are).left b q)
 
--- The hops of every stream have the records that the stream produces by itself on an idle network.
+-- Holds if the hops of every stream have the records that the stream's own inputs produce on an otherwise idle network.
+-- The statement covers each complete run (RunsNetwork) with the results `settled`.
 abbrev pub IsolatesStreams : {A : Type 0} → Parts A → List (Incoming A) → List (Settled A) → Type 0
 IsolatesStreams {A} n came settled =
     (ran : RunsNetwork n came settled) (o : ℕ → Outcome A) (stream : Vec StreamHop A) → AreOutcomes settled o → In stream n.streams
     → IsAlone (network_of n) (commands_in came) ran.frames (stream_of stream.items) (λ (h : Hop A). lookup (nat_eq h.number) (o h.bridge).filters.items)
 
--- Every complete run of the network with equal first frames and commands of a stream has equal records at its hops, whatever else arrives.
+-- Holds if a stream's hops have equal records in any two complete network runs whose outside inputs for this stream are
+-- equal. All other frames and commands may differ.
 abbrev pub OthersChangeNothing : {A : Type 0} → Parts A → List (Incoming A) → List (Settled A) → Type 0
 OthersChangeNothing {A} n came settled =
     (ran : RunsNetwork n came settled) (o : ℕ → Outcome A) → AreOutcomes settled o

@@ -41,7 +41,7 @@ pub enum RoundsFault {
     NoMemory,
 }
 
-/// Result of one bridge of a network, and the captures of its ports, by rising number.
+/// Result of one bridge of a network, and the captures of the frames that its ports sent, by rising port number.
 #[derive(Drop)]
 pub struct Settled<A: Allocator + Copy> {
     /// What its run tells.

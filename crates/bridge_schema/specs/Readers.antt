@@ -121,7 +121,7 @@ unfoldable pub numbers : ℕ → ℕ → Data → Result (List ℕ) Flaw
 numbers low high (array items) = unless (numbers_flaw low high items) (numbers_of items)
 numbers low high _ = Err flaw.WrongKind
 
--- Set `bits` with bit n - `low` added for each number n of the list.
+-- The set `bits` with each number n of the list added: bit n - `low` of the set becomes 1.
 abbrev pub set_with : ℕ → ℕ → List ℕ → ℕ
 set_with low bits [] = bits
 set_with low bits (n ∷ ns) = set_with low (bit_or bits (2 ^ (n - low))) ns
@@ -130,7 +130,7 @@ set_with low bits (n ∷ ns) = set_with low (bit_or bits (2 ^ (n - low))) ns
 unfoldable pub set_of : ℕ → ℕ → Data → Result ℕ Flaw
 set_of low high d = numbers low high d >>= λ ns. Ok (set_with low 0 ns)
 
--- True if every member of `set` is also in `all`; each bit of a set stands for one member.
+-- True if `set` is a subset of `all`; both are numbers in which each 1 bit stands for one member.
 abbrev pub is_subset : ℕ → ℕ → Bool
 is_subset set all = nat_eq (bit_and set all) set
 
@@ -143,7 +143,7 @@ ports_of all _ = Err flaw.WrongKind
 unfoldable pub eight : ℕ → ℕ → Data → Result (List ℕ) Flaw
 eight low high d = numbers low high d >>= λ ns. if nat_eq (length ns) 8 then Ok ns else Err flaw.OutOfRange
 
--- True if every number of the list is from `low` to `high`, both included; true for an empty list.
+-- True if every number of the list `ns` is at least `low` and at most `high`; true for the empty list.
 abbrev pub are_within : ℕ → ℕ → List ℕ → Bool
 are_within low high ns = list_all (λ n. nat_le low n && nat_le n high) ns
 

@@ -13,11 +13,12 @@ use Rattle.bridge_semantics.specs.Events.{Event}
 use Rattle.bridge_semantics.specs.Offers.{Carried}
 use Rattle.bridge_semantics.specs.Runs.{IsRun, IsOutcome}
 
--- The captured frame for a copy that starts at `start`: end of transmission in ns, gap included, length and octets.
+-- The captured frame for contents `item` that start at time `start` in ns: its time is the end of transmission, gap
+-- included.
 abbrev pub departure : Speed → ℕ → Carried → Captured
 departure speed start item = record { time = start + occupied item.len speed; len = item.len; octets = item.octets }
 
--- The captured frame `left` is the departure of a copy in the list that has started, at this link speed.
+-- Holds if the captured frame `left` is the departure of some started copy in the list `copies`, at this link speed.
 pub record Leaves (speed : Speed) (copies : List (Copy Carried)) (left : Captured) : Type 0 where
   pub copy : Copy Carried
   pub start : ℕ
@@ -25,11 +26,12 @@ pub record Leaves (speed : Speed) (copies : List (Copy Carried)) (left : Capture
   pub started : copy.fate ≡ Started start
   pub is : left ≡ departure speed start copy.item
 
--- Frame `a` has left before frame `b`: its end of transmission is earlier.
+-- Holds if the end of transmission of frame `a` is earlier than the end of transmission of frame `b`.
 abbrev pub LeavesBefore : Captured → Captured → Type 0
 LeavesBefore a b = a.time < b.time
 
--- The list holds exactly the departures of all copies that started at the port, by strictly rising end of transmission.
+-- Holds if `left` contains exactly the departures of all started copies in `copies`, in strictly rising order of their
+-- ends of transmission.
 pub record IsOutput (speed : Speed) (copies : List (Copy Carried)) (left : List Captured) : Type 0 where
   pub rises : Rising LeavesBefore left
   pub members : (d : Captured) → In d left ↔ Leaves speed copies d
@@ -48,7 +50,8 @@ pub record HasRun {A : Type 0} (p : Plan A) (es : List Event) (until : Option �
   pub within : (q t : ℕ) → until ≡ Some t → moments q ≤ t
   pub output : (q : ℕ) (out : PortPlan A) → port_at p.ports q ≡ Some out → IsOutput out.speed (lists q) (left q)
 
--- The events have a complete run with result `o`, and `left` lists the frames that left each port.
+-- Holds if the events `es` have a complete run with result `o`, in which each port `q` of the plan sends exactly the
+-- frames `left q`.
 pub record Ends {A : Type 0} (p : Plan A) (es : List Event) (left : ℕ → List Captured) (o : Outcome A) : Type 0 where
   pub lists : ℕ → List (Copy Carried)
   pub outcome : IsOutcome p es lists o

@@ -22,17 +22,19 @@ use Rattle.bridge_semantics.specs.declared.outcome.Outcome.{Outcome}
 use Rattle.bridge_semantics.specs.Events.{Arrival, Event, arrivals, way_of, flow_of, origins_of, own as own_events, police_of, steps}
 use Rattle.bridge_semantics.specs.Offers.{Carried, egress, offers, offered, in_class}
 
--- Departure `a` precedes `b` in a record: an earlier start, or an equal start and a lower port number.
+-- Holds if a record lists departure `a` before `b`: `a` starts earlier, or at the same time at a lower port number.
 abbrev pub DepartsBefore : Departure → Departure → Type 0
 DepartsBefore a b = (a.start < b.start) ⊎ ((a.start ≡ b.start) × (a.port < b.port))
 
--- Drop `a` precedes `b` in a record: a lower frame number, or an equal frame number and a lower port.
+-- Holds if a record lists drop `a` before `b`: `a` has a lower frame number, or the same frame number and a lower port
+-- number.
 abbrev pub DroppedBefore : Dropped → Dropped → Type 0
 DroppedBefore a b = (a.own < b.own) ⊎ ((a.own ≡ b.own) × (a.port < b.port))
 
 -- Copies lie at ports: Lies q x says that x is one of those of port q.
 
--- Departure `d` records a copy of a frame of filter `s` that started: frame number, port, start and end in ns.
+-- Holds if `d` describes one started copy of filter `s`: its frame number, its port, and its start and end (with gap)
+-- in ns.
 pub record Departs {A : Type 0} (p : Plan A) (s : ℕ) (Lies : ℕ → Copy Carried → Type 0) (d : Departure) : Type 0 where
   pub out : PortPlan A
   pub copy : Copy Carried
@@ -43,12 +45,12 @@ pub record Departs {A : Type 0} (p : Plan A) (s : ℕ) (Lies : ℕ → Copy Carr
   pub started : copy.fate ≡ Started d.start
   pub done : d.done ≡ d.start + occupied copy.item.len out.speed
 
--- The fate of a copy that a queue drops: it never fits a window, or the queue is full.
+-- The fate of a copy that a port drops for this reason: `Never` if it fits no window, `Full` if its queue was full.
 abbrev pub fate_by : Refusal → Fate
 fate_by refusal.NeverFits = Never
 fate_by refusal.Full = Full
 
--- Drop `d` records a copy of a frame of filter `s` that a queue dropped: frame number, port and reason.
+-- Holds if `d` describes one dropped copy of filter `s`: its frame number, its port and the reason of the drop.
 pub record Drops {A : Type 0} (p : Plan A) (s : ℕ) (Lies : ℕ → Copy Carried → Type 0) (d : Dropped) : Type 0 where
   pub copy : Copy Carried
   pub lies : Lies d.port copy
@@ -56,7 +58,7 @@ pub record Drops {A : Type 0} (p : Plan A) (s : ℕ) (Lies : ℕ → Copy Carrie
   pub own : copy.item.own ≡ d.own
   pub refused : copy.fate ≡ fate_by d.refusal
 
--- A copy of a frame of filter `s` has left its port, gap included, exactly `n` ns after the frame's arrival.
+-- Holds if some copy of filter `s` ends its transmission, gap included, exactly `n` ns after the copy's arrival.
 pub record Delayed {A : Type 0} (p : Plan A) (s : ℕ) (Lies : ℕ → Copy Carried → Type 0) (n : ℕ) : Type 0 where
   pub port : ℕ
   pub out : PortPlan A
@@ -68,12 +70,13 @@ pub record Delayed {A : Type 0} (p : Plan A) (s : ℕ) (Lies : ℕ → Copy Carr
   pub started : copy.fate ≡ Started start
   pub delay : n + copy.at ≡ start + occupied copy.item.len out.speed
 
--- The optional number is the greatest one with property `P`; `None` means that the property never holds.
+-- Holds if the optional number is the greatest one with property `P`; `None` means that the property never holds.
 abbrev pub IsGreatest : (ℕ → Type 0) → Option ℕ → Type 0
 IsGreatest P None = (n : ℕ) → P n → ⊥
 IsGreatest P (Some m) = P m × ((n : ℕ) → P n → n ≤ m)
 
--- The lists record exactly the departures and drops of the filter's copies, in order; `delay` is their longest delay in ns.
+-- Holds if the lists contain exactly the departures and drops of filter `s`, both in order, and `delay` is its longest
+-- delay in ns. Without departures, `delay` is `None`.
 pub record IsTold {A : Type 0} (p : Plan A) (s : ℕ) (Lies : ℕ → Copy Carried → Type 0) (departures : List Departure) (drops : List Dropped) (delay : Option ℕ) : Type 0 where
   pub departures_rise : Rising DepartsBefore departures
   pub departures_are : (d : Departure) → In d departures ↔ Departs p s Lies d
@@ -81,7 +84,8 @@ pub record IsTold {A : Type 0} (p : Plan A) (s : ℕ) (Lies : ℕ → Copy Carri
   pub drops_are : (d : Dropped) → In d drops ↔ Drops p s Lies d
   pub longest : IsGreatest (Delayed p s Lies) delay
 
--- The record `v` of filter `s` follows from these events and copies: verdicts, arrivals, counters, flags, buckets, departures, drops and delay.
+-- Holds if `v` is the exact record of filter `s` for the events `es` and the copies at the ports. `Lies q x` states
+-- that `x` is a copy at port `q`.
 pub record IsView {A : Type 0} (p : Plan A) (s : ℕ) (f : FilterPlan) (es : List Event) (Lies : ℕ → Copy Carried → Type 0) (v : View A) : Type 0 where
   pub protected : v.protected ≡ f.protected
   pub verdicts : v.verdicts.items ≡ verdicts_of s (steps p es)
@@ -91,11 +95,12 @@ pub record IsView {A : Type 0} (p : Plan A) (s : ℕ) (f : FilterPlan) (es : Lis
   pub buckets : v.buckets ≡ buckets_by (police_of p) f.meter (steps p es)
   pub told : IsTold p s Lies v.departures.items v.drops.items v.delay
 
--- Copy `x` is in the list of the copies of port `q`.
+-- Holds if copy `x` is in `lists q`, the list of the copies of port `q`.
 abbrev pub AtPort : (ℕ → List (Copy Carried)) → ℕ → Copy Carried → Type 0
 AtPort lists q x = In x (lists q)
 
--- The copies of each port are its offers and follow a lawful schedule up to the port's own time; missing ports have none.
+-- Holds if the copies `lists q` of each port `q` are exactly those offered to it, and obey its rules up to time
+-- `moments q` in ns. A missing port has no copies.
 pub record IsRun {A : Type 0} (p : Plan A) (es : List Event) (moments : ℕ → ℕ) (lists : ℕ → List (Copy Carried)) : Type 0 where
   pub offers : (q : ℕ) (out : PortPlan A) → port_at p.ports q ≡ Some out → offered (lists q) ≡ offers p out es
   pub lawful : (q : ℕ) (out : PortPlan A) → port_at p.ports q ≡ Some out → IsLawful (egress out) (moments q) (lists q)
@@ -108,34 +113,36 @@ pub record IsOnLink {A : Type 0} (out : PortPlan A) (x : Copy Carried) (u : ℕ)
   pub begun : start ≤ u
   pub going_on : u < start + occupied x.item.len out.speed
 
--- No copy waits in a queue of any port: each copy has started or was dropped.
+-- Holds if each copy at each port has started or was dropped, so that every queue is empty.
 abbrev pub AreWhole : (ℕ → List (Copy Carried)) → Type 0
 AreWhole lists = (q : ℕ) → IsWhole (lists q)
 
--- True if the frame is malformed: the bridge can't read its head and discards it.
+-- True if the forwarding result is `Malformed`: the bridge can't read the frame's header and discards the frame.
 abbrev pub is_malformed : Way → Bool
 is_malformed way.Malformed = true
 is_malformed w = false
 
--- True if the way is `Nowhere`: the frame's set of egress ports is empty, or its ingress port is missing.
+-- True if the forwarding result is `Nowhere`: the frame's set of egress ports is empty, or its ingress port is missing.
 abbrev pub is_nowhere : Way → Bool
 is_nowhere way.Nowhere = true
 is_nowhere w = false
 
--- True if the forwarding database gives the frame at least one egress port, whatever its filter decides.
+-- True if the filtering database gives the frame at least one egress port; its stream filter may still refuse the
+-- frame.
 abbrev pub is_relayed : Way → Bool
 is_relayed (way.Goes set c) = true
 is_relayed w = false
 
--- True if the frame has an egress port but matches no stream filter.
+-- True if frame `a` has an egress port and matches no stream filter.
 abbrev pub is_unfiltered : {A : Type 0} → Plan A → Arrival → Bool
 is_unfiltered p a = is_relayed (way_of p a) && is_none (flow_of p a)
 
--- The number of frames received on port `q` that pass the test.
+-- The number of frames among the events `es`, received on port `q`, for which the function `test` is true.
 abbrev pub count_frames : ℕ → (Arrival → Bool) → List Event → ℕ
 count_frames q test es = count_by (λ a. nat_eq a.port q && test a) (arrivals es)
 
--- The counts of port `q` are exact for frames received, malformed, not forwarded and unfiltered, and for copies accepted (`sent`) and dropped.
+-- Holds if `c` has the exact counts of port `q`: frames received, malformed, not forwarded and unfiltered, and copies
+-- accepted (`sent`) and dropped.
 pub record IsCount {A : Type 0} (p : Plan A) (es : List Event) (q : ℕ) (xs : List (Copy Carried)) (c : PortCount) : Type 0 where
   pub frames : c.frames ≡ count_frames q (λ a. true) es
   pub malformed : c.malformed ≡ count_frames q (λ a. is_malformed (way_of p a)) es
@@ -144,7 +151,8 @@ pub record IsCount {A : Type 0} (p : Plan A) (es : List Event) (q : ℕ) (xs : L
   pub sent : c.sent ≡ count_by (λ x. is_accepted x.fate) xs
   pub dropped : c.dropped ≡ count_by (λ x. not (is_accepted x.fate)) xs
 
--- The events have a complete run with result `o`, which holds the record of each filter and the counts of each port.
+-- Holds if the copies in `lists` form a complete run of the events `es`, and `o` contains exactly its filter records
+-- and port counts. The records rise by filter number, the counts by port number.
 pub record IsOutcome {A : Type 0} (p : Plan A) (es : List Event) (lists : ℕ → List (Copy Carried)) (o : Outcome A) : Type 0 where
   pub moments : ℕ → ℕ
   pub run : IsRun p es moments lists
@@ -156,7 +164,8 @@ pub record IsOutcome {A : Type 0} (p : Plan A) (es : List Event) (lists : ℕ �
   pub ports_are : (q : ℕ) → ((out : PortPlan A) × (port_at p.ports q ≡ Some out)) ↔ ((c : PortCount) × (lookup (nat_eq q) o.ports.items ≡ Some c))
   pub counts : (q : ℕ) (c : PortCount) → lookup (nat_eq q) o.ports.items ≡ Some c → IsCount p es q (lists q) c
 
--- The copies of each queue are the offers to it, and each queue acts as if it had the link to itself.
+-- Holds if the copies `lists q c` are those offered to class `c` at port `q`, each treated as if the queue had the port
+-- to itself. A missing port has no copies.
 pub record AreSolo {A : Type 0} (p : Plan A) (es : List Event) (lists : ℕ → ℕ → List (Copy Carried)) : Type 0 where
   pub offers : (q c : ℕ) (out : PortPlan A) → port_at p.ports q ≡ Some out → offered (lists q c) ≡ in_class c (offers p out es)
   pub solo : (q c : ℕ) (out : PortPlan A) → port_at p.ports q ≡ Some out → IsSolo (egress out) (lists q c)
@@ -168,13 +177,14 @@ pub record AreOwnQueues {A : Type 0} (p : Plan A) (n : ℕ) (f : FilterPlan) (es
   pub solo : AreSolo p (own_events p n f es) own
   pub same : (q : ℕ) (x : Copy Carried) → (In x (lists q) × (x.item.flow ≡ Some n)) ↔ ((c : ℕ) × In x (own q c))
 
--- The record `v` is the one that these events produce on an idle bridge, each queue by itself.
+-- Holds if `v` is the record of filter `s` when the bridge receives only the events `es`, and each queue has its port
+-- to itself.
 pub record IsSoloView {A : Type 0} (p : Plan A) (s : ℕ) (f : FilterPlan) (es : List Event) (v : View A) : Type 0 where
   pub lists : ℕ → ℕ → List (Copy Carried)
   pub solo : AreSolo p es lists
   pub view : IsView p s f es (λ q x. (c : ℕ) × In x (lists q c)) v
 
--- The two records are equal in every list and every number, from the verdicts to the longest delay.
+-- Holds if the records `u` and `v` are equal in every field, from the verdicts to the longest delay.
 pub record TellTheSame {A : Type 0} (u v : View A) : Type 0 where
   pub protected : u.protected ≡ v.protected
   pub verdicts : u.verdicts.items ≡ v.verdicts.items

@@ -23,18 +23,21 @@ abbrev pub numbers : List Line → List ℕ
 numbers [] = []
 numbers (line ∷ more) = line.number ∷ numbers more
 
--- The frame fits a capture record: time below 2^32 s, length below 2^32 octets, captured octets within length and snap length.
+-- Holds if frame `c` fits a packet record: time below 2^32 s, length below 2^32 octets, captured octets within length
+-- and snap length.
 pub record FitsRecord (c : Captured) : Type 0 where
   pub seconds : c.time < 2 ^ 32 * 10 ^ 9
   pub captured : length c.octets ≤ SNAP_LENGTH
   pub within : length c.octets ≤ c.len
   pub original : c.len < 2 ^ 32
 
--- A sink with known contents holds its old octets, then the capture of these frames, each of which fits its record.
+-- Holds if `new` is `old` followed by the capture of `frames`, and each frame fits a packet record. If `old` is unknown
+-- (`None`), only the second condition counts.
 abbrev pub HasWritten : Option (List ℕ) → Option (List ℕ) → List Captured → Type 0
 HasWritten old new frames = Appends old new (written_text frames) × All FitsRecord frames
 
--- Each sink with known contents holds its old octets, then the capture of the frames that left its port.
+-- Holds if the sink of each port `q` contains its old octets, then the capture of the frames `left q`. Sinks with
+-- unknown old contents are exempt.
 abbrev pub AreWritten : {W : Type 0} → (W → Option (List ℕ)) → List ℕ → List W → List W → (ℕ → List Captured) → Type 0
 AreWritten {W} contents ports olds news left = (i q : ℕ) (old new : W) → slice_get ports i ≡ Some q → slice_get olds i ≡ Some old → slice_get news i ≡ Some new → HasWritten (contents old) (contents new) (left q)
 

@@ -25,7 +25,7 @@ use Rattle.bridge_relay.specs.Relays.{RelayState, Stands}
 use Rattle.bridge_simulation.specs.Lines.{AreWritten, StopsAtHeader}
 use Rattle.bridge_simulation.specs.Taking.{IsOfCapture, StopsAmong}
 
--- The list holds exactly the numbers of the plan's ports, in rising order.
+-- Holds if the list `ports` contains exactly the port numbers of plan `p`, in rising order.
 abbrev pub AreNumbers : {A : Type 0} → Plan A → List ℕ → Type 0
 AreNumbers p ports = IsInOrder (map (λ q. q.number) p.ports) ports
 
@@ -53,7 +53,9 @@ pub record IsSetUp {G A : Type 0} (p : Plan A) (b : RelayState G A) (l : Lists A
   pub lanes : AreLanes all
   pub room : room_of all ≤ MOST_ARRIVALS
 
--- Each capture is well formed to its end, `o` is the result of all frames and commands, and the sinks hold the departures.
+-- Holds if the captures `texts` are valid to their end, `o` is the result of all frames and commands, and the sinks
+-- contain all departures. Field `frames` has each port's captured frames, `inputs` all inputs in order, and `left` the
+-- frames that left each port.
 pub record Runs {A W : Type 0} (p : Plan A) (ports : List ℕ) (commands : List Command) (texts : ℕ → List ℕ) (contents : W → Option (List ℕ)) (olds news : List W) (o : Outcome A) : Type 0 where
   pub frames : ℕ → List Captured
   pub inputs : List Input
@@ -90,13 +92,15 @@ Stops p ports commands texts rests contents has_failed olds news (run.Capture po
 Stops p ports commands texts rests contents has_failed olds news (run.Write port) = StopsAtFirst p ports texts contents has_failed olds news port ⊎ StopsAmong p texts rests commands contents ports olds news (run.Write port)
 Stops p ports commands texts rests contents has_failed olds news run.NoMemory = WantsMemory p ports texts rests olds news ⊎ StopsAmong p texts rests commands contents ports olds news run.NoMemory
 
--- Filter `n` is protected in the plan, and `v` is its record in the result `o`.
+-- Holds if plan `p` has the protected filter `f` with number `n`, and `v` is the record of this filter in the result
+-- `o`.
 pub record TellsOf {A : Type 0} (p : Plan A) (n : ℕ) (f : FilterPlan) (o : Outcome A) (v : View A) : Type 0 where
   pub listed : In (n, f) p.filters
   pub protected : f.protected ≡ true
   pub told : lookup (nat_eq n) o.filters.items ≡ Some v
 
--- The record of each protected filter is the one that its own events produce, each queue by itself on an idle bridge.
+-- Holds if each protected filter's record in `o` results from its own frames and commands only, as if each queue had
+-- its port to itself. The statement covers each run (Runs) with the result `o`.
 abbrev pub Isolates : {A W : Type 0} → Plan A → List ℕ → List Command → (ℕ → List ℕ) → (W → Option (List ℕ)) → List W → List W → Outcome A → Type 0
 Isolates {A} p ports commands texts contents olds news o =
     (ran : Runs p ports commands texts contents olds news o) (n : ℕ) (f : FilterPlan) (v : View A)
@@ -108,11 +112,12 @@ WritesFew {A} p ports commands texts contents olds news o =
     (ran : Runs p ports commands texts contents olds news o) (q : ℕ) (out : PortPlan A)
     → port_at p.ports q ≡ Some out → length (ran.left q) ≤ length (arrivals (events ran.inputs))
 
--- The own frames of the filter on each port, and its own commands, are equal in both inputs.
+-- Holds if the own frames of filter `n` on each port, and the own commands, are equal in `streams` and in `others`.
 abbrev pub HaveSameOwn : {A : Type 0} → Plan A → ℕ → FilterPlan → (ℕ → List Input) → (ℕ → List Input) → Type 0
 HaveSameOwn p n f streams others = (q : ℕ) → own_inputs p n f (streams q) ≡ own_inputs p n f (others q)
 
--- Every run of the plan with equal own frames and commands of a protected filter has an equal record of it, whatever else arrives.
+-- Holds if a protected filter has equal records in any two runs of the plan that have equal own frames and commands of
+-- this filter. All other frames and commands may differ.
 abbrev pub OthersChangeNothing : {A W : Type 0} → Plan A → List ℕ → List Command → (ℕ → List ℕ) → (W → Option (List ℕ)) → List W → List W → Outcome A → Type 0
 OthersChangeNothing {A} {W} p ports commands texts contents olds news o =
     (ran : Runs p ports commands texts contents olds news o)

@@ -1,5 +1,6 @@
 //! The job of the words, done over standard input and output and the files that it names, where it is one of one bridge.
 ghost use Rattle.std.specs.Prelude.{◌≡◌, IfOk, true};
+ghost use Rattle.bridge_app.specs.Losing as losing;
 ghost use Rattle.bridge_cli.specs.CommandLine.{HasRoom};
 ghost use Rattle.bridge_check_app.specs.Left.{LeavesBy};
 ghost use Rattle.bridge_single.specs.Left.{LeavesNetworks, is_more, is_of_networks};
@@ -8,7 +9,7 @@ use crate::ending::refused;
 use crate::looking::is_network;
 use crate::refusing::{of_words, unexplained};
 use bridge_app::{
-    Refusal, Strict, told_check_job, told_picture_job, told_picture_text, told_run_job,
+    Refusal, Strict, StrictRun, judge_run_job, told_check_job, told_picture_job, told_picture_text,
     told_wire_job,
 };
 use bridge_check_app::{Done, Ending, helped, of_said, refused_and_told};
@@ -329,7 +330,7 @@ fn run_bridge(
         is_explained,
         ..
     } = wishes;
-    let strict = told_run_job(
+    let run = judge_run_job(
         rt,
         plan,
         input,
@@ -340,7 +341,32 @@ fn run_bridge(
         is_strict,
         is_explained,
     );
-    strictly(rt.alloc(), strict, true)
+    match run {
+        Ok(run) => Ok(run_ended(rt.alloc(), run)),
+        Err(refusal) => Err(refusal),
+    }
+}
+
+/// How a run ends: the lines of lost frames stand behind the lines about the plan. If memory runs out, the lines of lost frames are
+/// left out.
+fn run_ended(alloc: Global, run: StrictRun) -> Ending
+    ensures { result.status ≡ losing.status_of run.is_warned run.is_lossy }
+{
+    let status = run.status();
+    let StrictRun {
+        line,
+        told,
+        is_warned: _,
+        lost,
+        is_lossy: _,
+    } = run;
+    let mut all = told;
+    let _ = all.push_str(lost.as_str());
+    Ending {
+        printed: text_or_none(alloc, line),
+        told: all,
+        status,
+    }
 }
 
 /// What comes of the drawing of the plan of a file, or of the part of it that the words ask for: into another file, or for `-` in

@@ -14,7 +14,7 @@ use Rattle.bridge_semantics.specs.declared.outcome.Departure.{Departure}
 use Rattle.bridge_semantics.specs.declared.outcome.Origin.{Origin}
 use Rattle.bridge_tracing.specs.declared.hops.HopRun.{HopRun}
 use Rattle.bridge_tracing.specs.declared.tracing.Root.{Root}
-use Rattle.bridge_tracing.specs.Tracing.{AddNothing, AreBegun, AreBegunAt, AreFirst, AreFirstKnown, AreFrom, AreOwn, AreSound, AreTraced, AreUnknown, IsExhausted, IsFrom, IsOver, IsPairExhausted, IsTracedEach, SenderIs, ServeFrom, due_from, is_due, joined, root_at, root_over, traced_at}
+use Rattle.bridge_tracing.specs.Tracing.{AddNothing, AreBegun, AreBegunAt, AreFirst, AreFirstKnown, AreFrom, AreOpen, AreOwn, AreSound, AreTraced, AreUnknown, HaveEach, IsExhausted, IsFrom, IsOver, IsPairExhausted, IsTracedEach, SenderIs, ServeFrom, due_from, is_due, joined, root_at, root_over, traced_at}
 
 -- the copies from the first that is due on are some of all
 pub due_in : (q delay at : ℕ) (ds : List Departure) (d : Departure) → In d (due_from q delay at ds) → In d ds
@@ -175,6 +175,31 @@ first_kept {A} hops all h mine made place q s sent roots is_h is_mine traced are
     let apart : 0 ≢ place = eqb-false 0 place e in
     are first known k o is_first (sym (set_there all place 0 made apart) ∙ is_known) came)
 
+below : (m n : ℕ) → m ≤ n → (m < n) ⊎ (m ≡ n)
+below m n l = by_bool (nat_eq m n) (λ e. inr (eqb-true m n e)) (λ e. inl (let no = eqb-false m n e in omega (arith, l, no)))
+
+-- a list that covers another one, and isn't longer, is as long
+as_long : (old new : List (Option Root)) (origins : List Origin) → length old ≡ length origins → length new ≤ length old → ((k : ℕ) → k < length old → k < length origins → k < length new) → length new ≡ length old
+as_long old new origins same within covers = elim (below (length new) (length old) within) [
+  | inl less ↦ let all = covers (length new) less (subst (λ (n : ℕ). length new < n) same less) in absurd (omega (arith, all))
+  | inr equal ↦ equal
+]
+
+-- a hop whose frames are traced has a place for each
+each_kept : {A : Type 0} (hops : List (HopRun A)) (all : List (Vec (Option Root) A)) (h : HopRun A) (mine made : Vec (Option Root) A) (place q : ℕ) (s : Sender) (sent : List Departure) (roots : List (Option Root))
+    → slice_get hops place ≡ Some h → slice_get all place ≡ Some mine → AreTraced s sent roots q h.view.now.origins.items mine.items made.items → HaveEach hops all → HaveEach hops (slice_set all place made)
+each_kept {A} hops all h mine made place q s sent roots is_h is_mine traced each i x known is_x is_known = by_bool (nat_eq i place)
+    (λ e.
+    let same : i ≡ place = eqb-true i place e in
+    let own : x ≡ h = same_Some x h (sym is_x ∙ (ap (slice_get hops) same ∙ is_h)) in
+    let here : slice_get (slice_set all place made) place ≡ Some made = set_here all place made (slice_get_within all place mine is_mine) in
+    let is_made : known ≡ made = same_Some known made (sym is_known ∙ (ap (slice_get (slice_set all place made)) same ∙ here)) in
+    let was : length mine.items ≡ length h.view.now.origins.items = each place h mine is_h is_mine in
+    let within = traced.within in
+    let long : length made.items ≡ length mine.items = as_long mine.items made.items h.view.now.origins.items was within traced.covers in
+    ap (λ (v : Vec (Option Root) A). length v.items) is_made ∙ (long ∙ (was ∙ ap (λ (z : HopRun A). length z.view.now.origins.items) (sym own))))
+    (λ e. each i x known is_x (sym (set_there all place i made (λ same. eqb-false i place e same)) ∙ is_known))
+
 pub sound_kept : {A : Type 0} (links : List Link) (hops : List (HopRun A)) (all : List (Vec (Option Root) A)) (h g : HopRun A) (mine others made : Vec (Option Root) A) (place other q : ℕ) (s : Sender)
     → slice_get hops place ≡ Some h → slice_get hops other ≡ Some g → slice_get all place ≡ Some mine → slice_get all other ≡ Some others
     → g.bridge ≡ s.from.bridge → SenderIs links hops place q s
@@ -183,6 +208,7 @@ pub sound_kept : {A : Type 0} (links : List Link) (hops : List (HopRun A)) (all 
 sound_kept links hops all h g mine others made place other q s is_h is_g is_mine is_others bridge sends traced are = record {
   from = one_traced links hops all h g mine others made place other q s is_h is_g is_mine is_others bridge sends traced are.from;
   first = first_kept hops all h mine made place q s g.view.now.departures.items others.items is_h is_mine traced are.first;
+  each = each_kept hops all h mine made place q s g.view.now.departures.items others.items is_h is_mine traced are.each;
 }
 
 -- where nothing is added nothing more is found
@@ -231,7 +257,7 @@ begun_more {A} hops all h made is_h begun are i k known r there root = elim (pus
         came = came;
         root = same_Some r (record { number = k + 1; came = o.at }) is;
       })
-      (λ e. let none : AreUnknown made.items = rw e at begun in absurd (none k r own))
+      (λ e. let fresh : AreOpen h.view.now.origins.items made.items = rw e at begun in absurd (fresh.unknown k r own))
 ]
 
 -- and each frame of the first hop is known
@@ -253,9 +279,22 @@ first_begun {A} hops all h made is_h begun are first known k o is_first is_known
       (is_x ∙ ap (λ (z : Option Root). Some z) (is ∙ ap (λ (w : Origin). Some (record { number = k + 1; came = w.at })) same))
 ]
 
+-- and has a place for each frame
+pub each_begun : {A : Type 0} (hops : List (HopRun A)) (all : List (Vec (Option Root) A)) (h : HopRun A) (made : Vec (Option Root) A) → slice_get hops (length all) ≡ Some h
+    → AreBegunAt (nat_eq (length all) 0) h.view.now.origins.items made.items → HaveEach hops all → HaveEach hops (all ++ made ∷ [])
+each_begun {A} hops all h made is_h begun are i x known is_x is_known = elim (pushed all made known i is_known) [
+  | inl before ↦ are i x known is_x before
+  | inr here ↦
+      let own : x ≡ h = same_Some x h (sym is_x ∙ (ap (slice_get hops) here.0 ∙ is_h)) in
+      let long : length made.items ≡ length h.view.now.origins.items = by_bool (nat_eq (length all) 0)
+      (λ e. let first : AreFirst h.view.now.origins.items made.items = rw e at begun in first.many)
+      (λ e. let fresh : AreOpen h.view.now.origins.items made.items = rw e at begun in fresh.many) in
+      ap (λ (v : Vec (Option Root) A). length v.items) (sym here.1) ∙ (long ∙ ap (λ (z : HopRun A). length z.view.now.origins.items) (sym own))
+]
+
 -- what is known at first is so
-pub begun_sound : {A : Type 0} (links : List Link) (hops : List (HopRun A)) (all : List (Vec (Option Root) A)) → AreBegun hops all → AreFirstKnown hops all → AreSound links hops all
-begun_sound links hops all are first = record { from = λ i k known r there root. (0, are i k known r there root); first = first }
+pub begun_sound : {A : Type 0} (links : List Link) (hops : List (HopRun A)) (all : List (Vec (Option Root) A)) → AreBegun hops all → AreFirstKnown hops all → HaveEach hops all → AreSound links hops all
+begun_sound links hops all are first each = record { from = λ i k known r there root. (0, are i k known r there root); first = first; each = each }
 
 -- what is traced through some lists is traced through the same ones
 pub traced_as : (s : Sender) {sent1 : List Departure} (sent : List Departure) {roots1 : List (Option Root)} (roots : List (Option Root)) (q : ℕ) {origins1 : List Origin} (origins : List Origin) {old1 : List (Option Root)} (old made : List (Option Root))

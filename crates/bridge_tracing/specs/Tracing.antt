@@ -157,16 +157,27 @@ AreExhausted links hops all = (i q : ℕ) → i < length hops → 1 ≤ q → q 
 abbrev pub SenderIs : {A : Type 0} → List Link → List (HopRun A) → ℕ → ℕ → Sender → Type 0
 SenderIs {A} links hops place q s = (h : HopRun A) → slice_get hops place ≡ Some h → sender (map link_of links) h.bridge q ≡ Some s
 
+-- nothing is known of any frame of a hop, each of which has a place in the list
+pub record AreOpen (origins : List Origin) (roots : List (Option Root)) : Type 0 where
+  pub many : length roots ≡ length origins
+  pub unknown : AreUnknown roots
+
 -- what is known of the frames of a hop at first, by whether it is the first one
 abbrev pub AreBegunAt : Bool → List Origin → List (Option Root) → Type 0
 AreBegunAt true origins roots = AreFirst origins roots
-AreBegunAt false origins roots = AreUnknown roots
+AreBegunAt false origins roots = AreOpen origins roots
 
 -- so of all hops
 abbrev pub AreBegun : {A : Type 0} → List (HopRun A) → List (Vec (Option Root) A) → Type 0
 AreBegun {A} hops all = (i k : ℕ) (known : Vec (Option Root) A) (r : Root) → slice_get all i ≡ Some known → slice_get known.items k ≡ Some (Some r) → IsFirst hops i k r
 
--- what is known of the frames of all hops is so, and each frame of the first one is known
+-- the lists have a place for each frame of each hop
+abbrev pub HaveEach : {A : Type 0} → List (HopRun A) → List (Vec (Option Root) A) → Type 0
+HaveEach {A} hops all = (i : ℕ) (h : HopRun A) (known : Vec (Option Root) A) → slice_get hops i ≡ Some h → slice_get all i ≡ Some known
+    → length known.items ≡ length h.view.now.origins.items
+
+-- what is known of the frames of all hops is so, each frame of the first one is known, and the lists have a place for each frame
 pub record AreSound {A : Type 0} (links : List Link) (hops : List (HopRun A)) (all : List (Vec (Option Root) A)) : Type 0 where
   pub from : AreFrom links hops all
   pub first : AreFirstKnown hops all
+  pub each : HaveEach hops all

@@ -40,7 +40,7 @@ fn no_roots<A: Allocator + Copy>(
     alloc: A,
     origins: &[Origin],
 ) -> Result<Vec<Option<Root>, A>, NoMemory>
-    ensures { IfOk result (λ roots. spec.AreUnknown roots.items) }
+    ensures { IfOk result (λ roots. spec.AreOpen origins.now roots.items) }
 {
     let mut roots = Vec::with_capacity(alloc, origins.len())?;
     for origin in origins {
@@ -73,6 +73,7 @@ fn begun<A: Allocator + Copy>(
     ensures many { IfOk result (λ all. length all.items ≡ length hops.now) }
     ensures begun { IfOk result (λ all. spec.AreBegun hops.now all.items) }
     ensures first { IfOk result (λ all. spec.AreFirstKnown hops.now all.items) }
+    ensures each { IfOk result (λ all. spec.HaveEach hops.now all.items) }
 {
     let mut all = Vec::with_capacity(alloc, hops.len())?;
     for place in 0..hops.len() {
@@ -380,8 +381,9 @@ fn trace_all<A: Allocator + Copy>(
     Ok(more)
 }
 
-/// From which frame of the first hop each frame of each hop is, hop by hop in the order of the frames: one that came over a
-/// link is of the frame that the copy is of that left the other end so much before. Nothing of a frame that came otherwise.
+/// From which frame of the first hop each frame of each hop is, hop by hop in the order of the frames, with one place for
+/// each: one that came over a link is of the frame that the copy is of that left the other end so much before. Nothing of a
+/// frame that came otherwise.
 ///
 /// The hops stand in any order but for the first. Links are followed until nothing more is found.
 pub fn roots_of<A: Allocator + Copy>(
@@ -392,6 +394,7 @@ pub fn roots_of<A: Allocator + Copy>(
     ensures many { IfOk result (λ all. length all.items ≡ length hops.now) }
     ensures from { IfOk result (λ all. spec.AreFrom links.now hops.now all.items) }
     ensures first { IfOk result (λ all. spec.AreFirstKnown hops.now all.items) }
+    ensures each { IfOk result (λ all. spec.HaveEach hops.now all.items) }
     ensures exhausted { IfOk result (λ all. spec.AreExhausted links.now hops.now all.items) }
 {
     let mut all = begun(alloc, hops)?;

@@ -1,6 +1,7 @@
 //! The rows of a text.
-ghost use Rattle.std.specs.Prelude.{◌≡◌, ◌≤◌, All, IfErr, IfOk, length};
+ghost use Rattle.std.specs.Prelude.{◌≡◌, ◌≤◌, All, IfErr, IfOk, length, nat_eq, true};
 ghost use Rattle.toml.specs.View.{items_view, table_view};
+ghost use Rattle.bridge_limits.specs.Members.{are_own};
 ghost use Rattle.bridge_netfile.specs.declared.fault.NetFault.TheVariants.{NoMemory};
 ghost use Rattle.bridge_netfile.specs.Reading.{GivesAs};
 ghost use Rattle.bridge_traffic.specs.Document as doc;
@@ -26,8 +27,9 @@ fn row_items<'a>(table: &'a Table) -> Result<&'a [Value], NetFault>
 
 /// The rows of a TOML text, or its first fault: `TooLong`, `Syntax`, an unknown key at the top, then the array as such
 /// (`NotAList`, `TooMany`), then row by row and key by key, in the order filter, period, from, to, least, longest, deadline.
-/// A phase that doesn't lie in the period, or a last one before the first, is `OutOfRange`, and so are lengths. A text
-/// without rows has none. It knows no plan. `NoMemory` comes only where a growth was refused.
+/// A period that the first phase doesn't lie in is `OutOfRange`, and so are a last phase that doesn't lie in it or comes before
+/// the first, and lengths. A row of a filter that an earlier row has is a `Duplicate`, behind all its keys. A text without
+/// rows has none. It knows no plan. `NoMemory` comes only where a growth was refused.
 ///
 /// The document is read in `heap`, the rows are made in `alloc`.
 pub fn traffic_of<A: Allocator + Copy>(
@@ -37,6 +39,7 @@ pub fn traffic_of<A: Allocator + Copy>(
 ) -> Result<Vec<TrafficRow, A>, NetFault>
     ensures reads { GivesAs (λ v. v.items) result (doc.rows_of_text text.now) }
     ensures rows { IfOk result (λ v. All IsRow v.items) }
+    ensures own { IfOk result (λ v. are_own (λ r s. nat_eq r.filter s.filter) v.items ≡ true) }
     ensures few { IfOk result (λ v. length v.items ≤ 1024) }
 {
     let document = document_of(heap, text)?;

@@ -1,11 +1,11 @@
 //! The rows of a text of traffic.
-ghost use Rattle.std.specs.Prelude.{◌≡◌, All, IfErr, IfOk};
+ghost use Rattle.std.specs.Prelude.{◌≡◌, IfErr, IfOk, false};
 ghost use Rattle.toml.specs.View.{table_view};
 ghost use Rattle.bridge_netfile.specs.declared.fault.NetFault.TheVariants.{NoMemory};
 ghost use Rattle.bridge_netfile.specs.declared.fault.NetSection.TheVariants as the_section;
 ghost use Rattle.bridge_netfile.specs.Reading.{Gives};
 ghost use Rattle.bridge_traffic.specs.Rows as spec;
-ghost use Rattle.bridge_traffic.specs.Rows.{IsRow};
+ghost use Rattle.bridge_traffic.specs.Rows.{AreRows, IsRow};
 
 use bridge_limits::{END_OF_TIME, LONGEST_FRAME};
 use bridge_netfile::{
@@ -50,6 +50,12 @@ const PERIOD: Between = Between {
     high: END_OF_TIME,
 };
 
+/// A phase of a period, in ns.
+const PHASE: Between = Between {
+    low: 0,
+    high: END_OF_TIME - 1,
+};
+
 /// The octets of a frame.
 const OCTETS: Between = Between {
     low: 1,
@@ -85,18 +91,16 @@ fn row_of(index: u32, table: &Table) -> Result<TrafficRow, NetFault>
     }
     let filter = required(table, place_of(index, NetField::Filter), &NUMBER)?;
     let period = required(table, place_of(index, NetField::Period), &PERIOD)?;
-    let last = period - 1;
-    let from = required(
-        table,
-        place_of(index, NetField::From),
-        &Between { low: 0, high: last },
-    )?;
+    let from = required(table, place_of(index, NetField::From), &PHASE)?;
+    if from >= period {
+        return Err(NetFault::OutOfRange(place_of(index, NetField::Period)));
+    }
     let to = required(
         table,
         place_of(index, NetField::To),
         &Between {
             low: from,
-            high: last,
+            high: period - 1,
         },
     )?;
     let least = required(table, place_of(index, NetField::Least), &OCTETS)?;
@@ -119,6 +123,26 @@ fn row_of(index: u32, table: &Table) -> Result<TrafficRow, NetFault>
     })
 }
 
+/// Whether one of these rows is of a filter.
+fn has_filter(rows: &[TrafficRow], filter: u32) -> bool
+    ensures { result ≡ spec.has_filter rows.now filter }
+{
+    rows.iter().any(|row| row.filter == filter)
+}
+
+/// The row of a table, by those before it and its place.
+fn row_behind(earlier: &[TrafficRow], index: u32, table: &Table) -> Result<TrafficRow, NetFault>
+    ensures reads { Gives result (spec.row_at earlier.now index (table_view table.now)) }
+    ensures own { IfOk result (λ r. spec.has_filter earlier.now r.filter ≡ false) }
+    ensures row { IfOk result IsRow }
+{
+    let row = row_of(index, table)?;
+    if has_filter(earlier, row.filter) {
+        return Err(NetFault::Duplicate(NetSection::Traffic, index));
+    }
+    Ok(row)
+}
+
 /// The section of traffic.
 #[derive(Clone, Copy)]
 pub(crate) struct Rows;
@@ -128,16 +152,16 @@ impl<A: Allocator + Copy> RowReader<A> for Rows {
 
     ghost reading = { λ _. spec.row_at };
 
-    ghost Keeps = { λ _. All IsRow };
+    ghost Keeps = { λ _. AreRows };
 
-    #[tactic(auto, using(bridge_limits::proofs::Lists::each_push))]
+    #[tactic(auto, using(crate::proofs::Own::rows_push))]
     fn read(
         &self,
         _alloc: A,
-        _earlier: &[TrafficRow],
+        earlier: &[TrafficRow],
         index: u32,
         table: &Table,
     ) -> Result<TrafficRow, NetFault> {
-        row_of(index, table)
+        row_behind(earlier, index, table)
     }
 }

@@ -5,7 +5,7 @@ use crate::captures::put_of_captures;
 use crate::command_lines::words_in;
 use crate::parts::put_of_parts;
 use crate::told_jobs::put_of_job;
-use bridge_advice::{explain_check, warn_of_plan};
+use bridge_advice::{explain_check, idle_change, warn_of_plan};
 use bridge_check::check;
 use bridge_cli::job_of;
 use bridge_config::{Plan, commands_of, plan_of};
@@ -81,7 +81,8 @@ fn put_of_check(alloc: Global, said: &mut Text<Global>, text: &str, plan: Plan<G
     match check(alloc, plan) {
         Ok(accepted) => {
             said.put("accepted\n");
-            add(said, warn_of_plan(alloc, &accepted));
+            let idle = idle_change(text.as_bytes(), accepted.plan());
+            add(said, warn_of_plan(alloc, &accepted, idle));
         }
         Err(refused) => {
             let octets = text.as_bytes();

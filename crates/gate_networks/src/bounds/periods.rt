@@ -11,7 +11,7 @@ use bridge_check::Accepted;
 use bridge_inputs::RunFault;
 use bridge_jobs::{Fault, read_at_most};
 use bridge_periods::Phases;
-use bridge_planning::{QueueTiming, timings_of};
+use bridge_planning::{QueueTiming, TrafficFigures, timings_of};
 use bridge_text::Text;
 use bridge_traffic::{TrafficRow, traffic_of};
 use std::alloc::Global;
@@ -30,10 +30,18 @@ struct Talker {
 }
 
 /// The talkers of `data/`.
-const TALKERS: [Talker; 3] = [
+const TALKERS: [Talker; 4] = [
     Talker {
         plan: "base.toml",
         traffic: "periods/base_rows.toml",
+        port: 1,
+        head: [
+            2, 0, 0, 0, 0, 0x0a, 2, 0, 0, 0, 0, 1, 0x81, 0, 0, 10, 0x88, 0xb5,
+        ],
+    },
+    Talker {
+        plan: "base.toml",
+        traffic: "periods/over_the_end.toml",
         port: 1,
         head: [
             2, 0, 0, 0, 0, 0x0a, 2, 0, 0, 0, 0, 1, 0x81, 0, 0, 10, 0x88, 0xb5,
@@ -132,21 +140,36 @@ fn tell_timings(
     talker: &Talker,
     accepted: &Accepted<Global>,
     rows: &[TrafficRow],
-    timings: &[QueueTiming],
+    timings: &[TrafficFigures],
 ) -> Result<bool, RunFault> {
     let mut are_so = !timings.is_empty();
     for timing in timings {
-        let place = timing.row.saturating_sub(1) as usize;
-        are_so = match (rows.get(place), timing.timing.phases) {
-            (Some(row), Some(phases)) => {
-                let reached = reached_by(alloc, talker, accepted, row, timing.port)?;
-                tell_reached(said, talker, timing, phases, reached);
-                reached == phases && are_so
+        are_so = match timing {
+            TrafficFigures::Queue(timing) => {
+                tell_timing(alloc, said, talker, accepted, rows, timing)? && are_so
             }
-            _ => false,
+            TrafficFigures::Nowhere { .. } => false,
         };
     }
     Ok(are_so)
+}
+
+/// Tells of a row of traffic in a queue; whether both phases are reached.
+fn tell_timing(
+    alloc: Global,
+    said: &mut Text<Global>,
+    talker: &Talker,
+    accepted: &Accepted<Global>,
+    rows: &[TrafficRow],
+    timing: &QueueTiming,
+) -> Result<bool, RunFault> {
+    let place = timing.row.saturating_sub(1) as usize;
+    let (Some(row), Some(phases)) = (rows.get(place), timing.timing.phases) else {
+        return Ok(false);
+    };
+    let reached = reached_by(alloc, talker, accepted, row, timing.port)?;
+    tell_reached(said, talker, timing, phases, reached);
+    Ok(reached == phases)
 }
 
 /// Tells of a row of traffic in a queue, and which phases a run reaches.

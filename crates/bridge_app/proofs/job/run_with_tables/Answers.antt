@@ -8,4 +8,4 @@ returns-in-Err-clause-err g c =
 
 pub returns-clause-err : goal.returns-clause-err
 returns-clause-err g c =
-    all_told_of c.in-Ok.read.0 (string_bytes c.args.plan) (option_map string_bytes c.args.commands) (string_bytes c.args.input) (string_bytes c.args.output) (option_map string_bytes c.args.tables.delays) (option_map string_bytes c.args.tables.frames) (option_map (λ s. string_bytes s.file) c.args.sketch) c.send_told-told.result c.in-Ok.ensures.accepted c.send_told-told.ensures.err
+    all_told_of c.in-Ok.read.0 (string_bytes c.args.plan) (option_map string_bytes c.args.commands) (string_bytes c.args.input) (string_bytes c.args.output) (option_map string_bytes c.args.tables.delays) (option_map string_bytes c.args.tables.frames) (option_map (λ s. string_bytes s.file) c.args.sketch) c.send_line-told.result c.in-Ok.ensures.accepted c.send_line-told.ensures.err

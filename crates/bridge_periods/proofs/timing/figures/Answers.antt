@@ -26,5 +26,4 @@ returns g c =
       is_shortest = shortest_wait (opens (opening_of c.args.lists.now) c.args.class) c.args.short c.args.traffic.now.from c.args.traffic.now.to waits.first c.requires.traffic.phases c.in-Some.ensures.waits.first;
       worst = omega (arith, worst, inner);
       best = omega (arith, best);
-      jitter = refl;
     }

@@ -1,6 +1,4 @@
 use Rattle.std.proofs.Common.{◌≤◌, All, List, length, subst, sym}
-use Rattle.bridge_planning.specs.declared.bounds.QueueBound.{QueueBound}
-use Rattle.bridge_planning.specs.Bounds.{IsPlaced}
 use Rattle.std.specs.Option.{ForSome}
 use Rattle.bridge_netfile.specs.Model.{Stream}
 use Rattle.bridge_netfile.specs.Rules.{IsTalker}
@@ -17,6 +15,3 @@ stream_lines-requires-clause-some g c =
 pub stream_lines-requires-clause-few : goal.stream_lines-requires-clause-few
 stream_lines-requires-clause-few g c =
     subst (λ (ss : List Stream). All (λ (s : Stream). length s.hops ≤ 64) ss) (sym c.streams.ensures.streams) (λ k d less. (c.streams.ensures.rules.streams.each k d less).few_hops)
-
-pub stream_lines-requires-clause-placed : goal.stream_lines-requires-clause-placed
-stream_lines-requires-clause-placed g c = subst (λ l. All (λ v. All IsPlaced v.items) l) (sym c.deref.ensures.value) c.in-Ok-bounds_of_all.ensures.placed

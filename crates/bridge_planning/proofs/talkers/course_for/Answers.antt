@@ -1,7 +1,7 @@
 use Rattle.std.proofs.Common.{◌≡◌, ◌≤◌, ap, length, map, subst, sym, refl, ◌∙◌}
 use Rattle.std.specs.Prelude.{IfOk}
 use Rattle.std.proofs.lemmas.List.{length-map}
-use Rattle.bridge_courses.specs.Courses.{IsCourse}
+use Rattle.bridge_courses.specs.Entering.{IsStreamCourse}
 use Rattle.bridge_planning.specs.Streams.{hop_in}
 use Rattle.bridge_planning.specs.Talkers.{IsCourseOf, queues_of, traffic_of}
 use Rattle.bridge_planning.proofs.talkers.course_for.Goals as goal
@@ -20,4 +20,4 @@ returns g c =
     let links = c.args.links.now in
     let bounds = c.args.bounds.now in
     subst (λ t. IfOk r (IsCourseOf plans links bounds t (map hop_in c.args.stream.now.hops))) c.in-Some.ensures
-    (subst (λ hops. IfOk r (IsCourse plans links hops (queues_of bounds hops) (traffic_of c.in-Some.talker))) (c.deref.ensures.value ∙ c.in-Ok.ensures ∙ ap (map hop_in) c.hops.ensures) c.course_over.ensures)
+    (subst (λ hops. IfOk r (IsStreamCourse plans links hops (queues_of bounds hops) (traffic_of c.in-Some.talker))) (c.deref.ensures.value ∙ c.in-Ok.ensures ∙ ap (map hop_in) c.hops.ensures) c.course_over.ensures)

@@ -1,4 +1,5 @@
-use Rattle.std.proofs.Common.{ℕ, ◌++◌, ◌∷◌, [], List, refl, sym, subst, eq-eqb}
+use Rattle.std.proofs.Common.{ℕ, ◌++◌, ◌∷◌, ◌∙◌, [], List, refl, sym, subst, eq-eqb}
+use Rattle.std.proofs.lemmas.Bool.{and_parts, and_from}
 use Rattle.bridge_filter.proofs.Owned.{differs}
 use Rattle.bridge_periods.specs.Timings.{IsTiming}
 use Rattle.bridge_planning.specs.declared.timings.QueueTiming.{QueueTiming}
@@ -27,5 +28,5 @@ returns-in_ok-push g c =
       one_more = λ bounds so_far.
           subst (λ (xs : List QueueTiming). AreRowTimings c.args.accepted.now c.args.index c.args.row.now (bounds ++ c.args.bound.now ∷ []) xs) (sym c.in_ok-push.ensures.items)
           (row_more c.args.accepted.now c.args.index c.args.row.now c.args.bound.now _ bounds c.args.made.now.items (eq-eqb c.args.bound.now.filter c.args.row.now.filter c.if-bound-row.false)
-          (record { row = refl; filter = refl; port = refl; class = refl; deadline = refl; timing = timing; passes = c.requires.passes }) so_far);
+          (record { row = refl; filter = refl; port = refl; class = refl; deadline = refl; timing = timing; passes = (λ h. let t = and_parts _ _ h in (c.requires.passes.0 t.0, sym c.is_some.ensures ∙ t.1), λ h. and_from _ _ (c.requires.passes.1 h.0) (c.is_some.ensures ∙ h.1)) }) so_far);
     }

@@ -4,8 +4,8 @@ use Rattle.std.proofs.lemmas.List.{length-append}
 use Rattle.std.proofs.lemmas.Option.{slice_get-get_or}
 use Rattle.bridge_semantics.specs.declared.outcome.Origin.{Origin}
 use Rattle.bridge_tracing.specs.declared.hops.HopRun.{HopRun}
-use Rattle.bridge_tracing.specs.Tracing.{AreBegun, AreBegunAt, AreFirstKnown}
-use Rattle.bridge_tracing.proofs.Traced.{begun_more, first_begun}
+use Rattle.bridge_tracing.specs.Tracing.{AreBegun, AreBegunAt, AreFirstKnown, HaveEach}
+use Rattle.bridge_tracing.proofs.Traced.{begun_more, each_begun, first_begun}
 use Rattle.bridge_tracing.proofs.tracing.begun.Goals as goal
 
 pub loop-place-preserved : goal.loop-place-preserved
@@ -25,4 +25,5 @@ loop-place-preserved g c =
       many = omega (arith, longer, many);
       begun = subst (AreBegun c.args.hops.now) (sym items) (begun_more c.args.hops.now c.loop-place.all.items h c.in_ok-roots.roots there own c.loop-place.invariant.begun);
       first = subst (AreFirstKnown c.args.hops.now) (sym items) (first_begun c.args.hops.now c.loop-place.all.items h c.in_ok-roots.roots there own c.loop-place.invariant.first);
+      each = subst (HaveEach c.args.hops.now) (sym items) (each_begun c.args.hops.now c.loop-place.all.items h c.in_ok-roots.roots there own c.loop-place.invariant.each);
     }

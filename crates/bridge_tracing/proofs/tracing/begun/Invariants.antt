@@ -1,5 +1,5 @@
 use Rattle.std.proofs.Common.{◌≡◌, length}
-use Rattle.bridge_tracing.specs.Tracing.{AreBegun, AreFirstKnown}
+use Rattle.bridge_tracing.specs.Tracing.{AreBegun, AreFirstKnown, HaveEach}
 use Rattle.bridge_tracing.proofs.tracing.begun.Given as goal
 
 abbrev pub invariant-loop-place : goal.invariant-loop-place
@@ -7,4 +7,5 @@ invariant-loop-place g l = record {
   many : length l.all.items ≡ l.place;
   begun : AreBegun l.hops l.all.items;
   first : AreFirstKnown l.hops l.all.items;
+  each : HaveEach l.hops l.all.items;
 }

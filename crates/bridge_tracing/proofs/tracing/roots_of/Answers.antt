@@ -8,7 +8,7 @@ use Rattle.bridge_tracing.proofs.tracing.roots_of.Goals as goal
 pub loop-init : goal.loop-init
 loop-init g c = record {
   many = c.in_ok-all.ensures.many;
-  sound = begun_sound c.args.links.now c.args.hops.now c.in_ok-all.all.items c.in_ok-all.ensures.begun c.in_ok-all.ensures.first;
+  sound = begun_sound c.args.links.now c.args.hops.now c.in_ok-all.all.items c.in_ok-all.ensures.begun c.in_ok-all.ensures.first c.in_ok-all.ensures.each;
 }
 
 pub trace_all-requires : goal.trace_all-requires
@@ -29,5 +29,6 @@ returns-then-not-branch g c =
       many = ensured.many;
       from = sound.from;
       first = sound.first;
+      each = sound.each;
       exhausted = subst (λ (v : Vec (Vec (Option Root) g.row.A.Denot) g.row.A.Denot). AreExhausted c.args.links.now c.args.hops.now v.items) (sym (ensured.same none)) (ensured.exhausted none);
     }

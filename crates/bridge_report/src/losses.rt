@@ -1,0 +1,212 @@
+//! Lost frames: how many frames a filter refused and how many copies ports dropped, by reason, and the lines about them.
+ghost use Rattle.std.specs.Prelude.{◌≡◌, IfOk, string_bytes};
+ghost use Rattle.bridge_report.specs.Losses as spec;
+ghost use Rattle.bridge_report.specs.Section.{full_in, never_in};
+ghost use Rattle.bridge_text.specs.Growth.{HasGrown};
+
+use bridge_filter::Verdict;
+use bridge_limits::NoMemory;
+use bridge_port::Refusal;
+use bridge_semantics::{Dropped, Outcome, View};
+use bridge_text::Text;
+use std::alloc::Allocator;
+
+/// Why a filter refuses a frame.
+#[derive(Clone, Copy)]
+enum Reason {
+    Blocked,
+    Oversize,
+    GateClosed,
+    ShutByRx,
+    ShutByOctets,
+    OctetsExceeded,
+    Red,
+    YellowDropped,
+}
+
+/// Numbers of refused frames and dropped copies, by reason.
+#[derive(Clone, Copy)]
+pub struct Losses {
+    pub blocked: u64,
+    pub oversize: u64,
+    pub gate_closed: u64,
+    pub shut_rx: u64,
+    pub shut_octets: u64,
+    pub octets_exceeded: u64,
+    pub red: u64,
+    pub yellow_dropped: u64,
+    pub full: u64,
+    pub never: u64,
+}
+
+/// Returns whether a frame with this verdict was refused for this reason.
+fn is_for(reason: Reason, verdict: Verdict) -> bool
+    ensures { result ≡ spec.is_for reason verdict }
+{
+    match reason {
+        Reason::Blocked => matches!(verdict, Verdict::Blocked),
+        Reason::Oversize => matches!(verdict, Verdict::Oversize),
+        Reason::GateClosed => matches!(verdict, Verdict::GateClosed),
+        Reason::ShutByRx => matches!(verdict, Verdict::ShutByRx),
+        Reason::ShutByOctets => matches!(verdict, Verdict::ShutByOctets),
+        Reason::OctetsExceeded => matches!(verdict, Verdict::OctetsExceeded),
+        Reason::Red => matches!(verdict, Verdict::Red),
+        Reason::YellowDropped => matches!(verdict, Verdict::YellowDropped),
+    }
+}
+
+/// Counts the frames that were refused for this reason.
+fn refused_for(reason: Reason, verdicts: &[Verdict]) -> u64
+    ensures { result ≡ spec.refused_for reason verdicts.now }
+{
+    verdicts.iter().filter(|v| is_for(reason, **v)).count() as u64
+}
+
+/// Counts the copies that a full queue dropped.
+fn full_in(drops: &[Dropped]) -> u64
+    ensures { result ≡ full_in drops.now }
+{
+    drops
+        .iter()
+        .filter(|d| matches!(d.refusal, Refusal::Full))
+        .count() as u64
+}
+
+/// Counts the copies that fit no window of their queue.
+fn never_in(drops: &[Dropped]) -> u64
+    ensures { result ≡ never_in drops.now }
+{
+    drops
+        .iter()
+        .filter(|d| matches!(d.refusal, Refusal::NeverFits))
+        .count() as u64
+}
+
+/// Counts the refused frames and the dropped copies of a filter.
+fn losses_of(verdicts: &[Verdict], drops: &[Dropped]) -> Losses
+    ensures { result ≡ spec.losses_of verdicts.now drops.now }
+{
+    Losses {
+        blocked: refused_for(Reason::Blocked, verdicts),
+        oversize: refused_for(Reason::Oversize, verdicts),
+        gate_closed: refused_for(Reason::GateClosed, verdicts),
+        shut_rx: refused_for(Reason::ShutByRx, verdicts),
+        shut_octets: refused_for(Reason::ShutByOctets, verdicts),
+        octets_exceeded: refused_for(Reason::OctetsExceeded, verdicts),
+        red: refused_for(Reason::Red, verdicts),
+        yellow_dropped: refused_for(Reason::YellowDropped, verdicts),
+        full: full_in(drops),
+        never: never_in(drops),
+    }
+}
+
+/// Returns the number of refused frames and dropped copies.
+fn total(losses: &Losses) -> u128
+    ensures { result ≡ spec.total losses.now }
+{
+    let refused = losses.blocked as u128 + losses.oversize as u128 + losses.gate_closed as u128;
+    let shut = losses.shut_rx as u128 + losses.shut_octets as u128;
+    let metered = losses.octets_exceeded as u128 + losses.red as u128;
+    let dropped = losses.yellow_dropped as u128 + losses.full as u128 + losses.never as u128;
+    refused + shut + metered + dropped
+}
+
+/// Puts a reason with its number, behind a comma and the place of the loss.
+fn put_counted<A: Allocator>(text: &mut Text<A>, place: &str, word: &str, count: u128)
+    ensures { HasGrown text.old (spec.counted_words place.now word.now count) text.new }
+{
+    text.put(", ");
+    text.put(place);
+    text.put(word);
+    text.put(" ");
+    text.put_integer(count);
+}
+
+/// Puts a reason with its number, behind a comma and the place of the loss. Puts nothing if the number is 0.
+pub fn put_reason<A: Allocator>(text: &mut Text<A>, place: &str, word: &str, count: u128)
+    ensures { HasGrown text.old (spec.reason_words place.now word.now count) text.new }
+{
+    if count != 0 {
+        put_counted(text, place, word, count);
+    }
+}
+
+/// Puts the reasons of all losses at a place, in the order of the tables.
+pub fn put_losses<A: Allocator>(text: &mut Text<A>, place: &str, losses: &Losses)
+    ensures { HasGrown text.old (spec.loss_words place.now losses.now) text.new }
+{
+    put_reason(text, place, "blocked", losses.blocked as u128);
+    put_reason(text, place, "oversize", losses.oversize as u128);
+    put_reason(text, place, "gate-closed", losses.gate_closed as u128);
+    put_reason(text, place, "shut-rx", losses.shut_rx as u128);
+    put_reason(text, place, "shut-octets", losses.shut_octets as u128);
+    put_reason(
+        text,
+        place,
+        "octets-exceeded",
+        losses.octets_exceeded as u128,
+    );
+    put_reason(text, place, "red", losses.red as u128);
+    put_reason(text, place, "yellow-dropped", losses.yellow_dropped as u128);
+    put_reason(text, place, "full", losses.full as u128);
+    put_reason(text, place, "never", losses.never as u128);
+}
+
+/// Puts the line of a filter that lost frames or copies.
+fn put_line<A: Allocator>(text: &mut Text<A>, filter: u32, frames: u64, losses: &Losses)
+    ensures { HasGrown text.old (spec.lost_line filter frames losses.now) text.new }
+{
+    text.put("lost: filter ");
+    text.put_integer(filter);
+    text.put(", ");
+    text.put_integer(total(losses));
+    text.put(" frames or copies of ");
+    text.put_number(frames);
+    text.put(" frames");
+    put_losses(text, "", losses);
+    text.put("\n");
+}
+
+/// Puts the line of a filter, if the filter is protected and lost a frame or a copy.
+fn put_if<A: Allocator>(
+    text: &mut Text<A>,
+    protected: bool,
+    filter: u32,
+    frames: u64,
+    losses: &Losses,
+)
+    ensures { HasGrown text.old (spec.line_if protected filter frames losses.now) text.new }
+{
+    if protected && total(losses) != 0 {
+        put_line(text, filter, frames, losses);
+    }
+}
+
+/// Puts the line of a filter by its record.
+fn put_lost<A: Allocator>(text: &mut Text<A>, filter: u32, view: &View<A>)
+    ensures { HasGrown text.old (spec.lost_lines_of filter view.now) text.new }
+{
+    let losses = losses_of(&view.verdicts, &view.drops);
+    put_if(
+        text,
+        view.protected,
+        filter,
+        view.verdicts.len() as u64,
+        &losses,
+    );
+}
+
+/// Returns one line for each protected filter that lost a frame or a copy, in the order of the filters. The line has the number of
+/// losses, the number of frames, and the number of each reason. The text is empty if no protected filter lost anything.
+pub fn lost_lines<A: Allocator + Copy>(
+    alloc: A,
+    outcome: &Outcome<A>,
+) -> Result<String<A>, NoMemory>
+    ensures { IfOk result (λ text. string_bytes text ≡ spec.lost_lines outcome.now.filters.items) }
+{
+    let mut text = Text::new(alloc);
+    for filter in &outcome.filters {
+        put_lost(&mut text, filter.0, &filter.1);
+    }
+    text.done()
+}

@@ -1,0 +1,215 @@
+//! One random network with its lines and its run.
+use crate::networks::coming::all_coming;
+use crate::networks::drawing::{bridge_text, net_text};
+use crate::networks::judging::{Seen, judge};
+use crate::networks::line::{Line, line_of};
+use crate::networks::shape::{Net, next_net};
+use crate::numbers::Numbers;
+use crate::plans::add_if;
+use bridge_check::Accepted;
+use bridge_inputs::RunFault;
+use bridge_jobs::accepted_of;
+use bridge_limits::NoMemory;
+use bridge_netfile::{NetworkFile, network_of};
+use bridge_network::Network;
+use bridge_planning::{StreamLines, bounds_of_all, stream_lines, tested};
+use bridge_rounds::{Nobody, RoundsFault, Settled, settle};
+use std::alloc::Global;
+
+/// Rounds that a network may take.
+const ROUNDS: u32 = 64;
+
+/// What is counted of networks.
+#[derive(Clone, Copy, Default)]
+pub struct Tally {
+    pub drawn: u64,
+    pub accepted: u64,
+    /// Networks for which `net check` ends with status 0.
+    pub kept: u64,
+    pub settled: u64,
+    /// Lines, by their words.
+    pub passing: u64,
+    pub refusable: u64,
+    pub bound_only: u64,
+    pub met: u64,
+    pub missed: u64,
+    pub worst_reached: u64,
+    pub best_reached: u64,
+    /// Refusable lines of whose streams a frame was lost.
+    pub lossy: u64,
+    pub frames: u64,
+    pub delivered: u64,
+    pub stray: u64,
+    pub refuted: u64,
+}
+
+/// A network of a seed with its files, if something of it is wrong.
+#[derive(Drop)]
+pub struct Tried {
+    pub plans: Vec<String>,
+    pub file: String,
+    pub lines: String,
+    pub is_wrong: bool,
+}
+
+/// The plans of all bridges, as text.
+fn texts_of(alloc: Global, numbers: &mut Numbers, net: &Net) -> Result<Vec<String>, NoMemory> {
+    let mut texts = Vec::new(alloc);
+    for bridge in 0..3u64 {
+        if bridge < net.bridges {
+            texts.push(bridge_text(alloc, numbers, net, bridge)?)?;
+        }
+    }
+    Ok(texts)
+}
+
+/// The accepted plans of texts, if each is accepted.
+fn plans_of(alloc: Global, texts: &[String]) -> Option<Vec<Accepted<Global>>> {
+    let mut plans = Vec::new(alloc);
+    for text in texts {
+        let accepted = accepted_of(alloc, alloc, text.as_bytes()).ok()?;
+        plans.push(accepted).ok()?;
+    }
+    Some(plans)
+}
+
+/// A network with the file that it is made of.
+#[derive(Drop)]
+struct Made {
+    file: NetworkFile<Global>,
+    network: Network<Global>,
+}
+
+/// The network of a file and of its plans, if it is accepted.
+fn made_of(alloc: Global, text: &str, texts: &[String]) -> Option<Made> {
+    let plans = plans_of(alloc, texts)?;
+    let file = network_of(alloc, alloc, text.as_bytes()).ok()?;
+    if plans.len() != file.bridges().len() {
+        return None;
+    }
+    let network = tested(alloc, alloc, &file, plans).ok()?;
+    Some(Made { file, network })
+}
+
+/// The lines of all streams of a network.
+fn lines_of(
+    alloc: Global,
+    file: &NetworkFile<Global>,
+    network: &Network<Global>,
+) -> Result<StreamLines<Global>, NoMemory> {
+    let Ok(bounds) = bounds_of_all(alloc, network.plans()) else {
+        return Err(NoMemory);
+    };
+    stream_lines(alloc, alloc, network, &bounds, file.links(), file.streams())
+}
+
+/// A deadline near the greatest delay of a line, or 0 for none.
+fn next_deadline(numbers: &mut Numbers, line: &Line) -> u64 {
+    let greatest = line.greatest().unwrap_or(0);
+    match numbers.below(6) {
+        0 => 0,
+        1 => greatest.saturating_sub(1),
+        2 => greatest.saturating_add(1),
+        3 => greatest / 2,
+        _ => greatest,
+    }
+}
+
+/// The deadlines of all streams, by their lines.
+fn deadlines_of(alloc: Global, numbers: &mut Numbers, text: &str) -> Result<Vec<u64>, NoMemory> {
+    let mut deadlines = Vec::new(alloc);
+    for line in text.lines() {
+        deadlines.push(next_deadline(numbers, &line_of(line)))?;
+    }
+    Ok(deadlines)
+}
+
+/// The network file with deadlines near the delays of its lines, if the network is accepted.
+fn timed_text(
+    alloc: Global,
+    numbers: &mut Numbers,
+    net: &Net,
+    texts: &[String],
+) -> Result<Option<String>, NoMemory> {
+    let first = net_text(alloc, net, &[])?;
+    let Some(made) = made_of(alloc, first.as_str(), texts) else {
+        return Ok(None);
+    };
+    let lines = lines_of(alloc, &made.file, &made.network)?;
+    let deadlines = deadlines_of(alloc, numbers, lines.text.as_str())?;
+    Ok(Some(net_text(alloc, net, &deadlines)?))
+}
+
+/// Tries the network of a seed. None if it isn't accepted.
+pub fn try_network(alloc: Global, seed: u64, tally: &mut Tally) -> Result<Option<Tried>, RunFault> {
+    match try_drawn(alloc, seed, tally) {
+        Ok(tried) => Ok(tried),
+        Err(_) => Err(RunFault::NoMemory),
+    }
+}
+
+/// Tries the network of a seed. None if it isn't accepted.
+fn try_drawn(alloc: Global, seed: u64, tally: &mut Tally) -> Result<Option<Tried>, NoMemory> {
+    let mut numbers = Numbers::of_seed(seed.wrapping_add(1_000_000));
+    let net = next_net(alloc, &mut numbers)?;
+    let plans = texts_of(alloc, &mut numbers, &net)?;
+    add_if(&mut tally.drawn, true);
+    let Some(file) = timed_text(alloc, &mut numbers, &net, &plans)? else {
+        return Ok(None);
+    };
+    let Some(made) = made_of(alloc, file.as_str(), &plans) else {
+        return Ok(None);
+    };
+    add_if(&mut tally.accepted, true);
+    let lines = lines_of(alloc, &made.file, &made.network)?;
+    add_if(&mut tally.kept, lines.kept);
+    let before = tally.refuted.saturating_add(tally.stray);
+    let coming = all_coming(alloc, &mut numbers, &net, made.network.plans())?;
+    match settle(alloc, &made.network, coming, ROUNDS, &mut Nobody) {
+        Ok(settled) => count_run(&net, &settled, lines.text.as_str(), tally),
+        Err(RoundsFault::NotSettled { .. }) => {}
+        Err(_) => return Err(NoMemory),
+    }
+    Ok(Some(Tried {
+        plans,
+        file,
+        lines: lines.text,
+        is_wrong: tally.refuted.saturating_add(tally.stray) != before,
+    }))
+}
+
+/// Counts a run that settled.
+fn count_run(net: &Net, settled: &[Settled<Global>], lines: &str, tally: &mut Tally) {
+    add_if(&mut tally.settled, true);
+    let mut index = 0usize;
+    for text in lines.lines() {
+        if let Some(route) = net.routes.get(index) {
+            let line = line_of(text);
+            let seen = judge(net, route, settled, line);
+            count_line(&line, &seen, tally);
+        }
+        index = index.saturating_add(1);
+    }
+}
+
+/// Counts a line.
+fn count_line(line: &Line, seen: &Seen, tally: &mut Tally) {
+    add_if(&mut tally.passing, line.passes());
+    add_if(
+        &mut tally.refusable,
+        line.worst.is_some() && line.is_refusable,
+    );
+    add_if(&mut tally.bound_only, line.worst.is_none());
+    add_if(&mut tally.met, line.is_met);
+    add_if(&mut tally.missed, line.deadline.is_some() && !line.is_met);
+    add_if(
+        &mut tally.worst_reached,
+        line.passes() && seen.reaches_worst,
+    );
+    add_if(&mut tally.best_reached, line.passes() && seen.reaches_best);
+    add_if(&mut tally.lossy, line.is_refusable && seen.lost > 0);
+    tally.frames = tally.frames.saturating_add(seen.frames);
+    tally.delivered = tally.delivered.saturating_add(seen.delivered);
+    tally.stray = tally.stray.saturating_add(seen.stray);
+    tally.refuted = tally.refuted.saturating_add(seen.refuted);
+}

@@ -1,0 +1,53 @@
+//! Random numbers.
+
+/// A sequence of numbers, which depends only on its seed.
+#[derive(Drop)]
+pub struct Numbers(u64);
+
+impl Numbers {
+    /// The sequence of a seed. Nearby seeds give unrelated sequences.
+    pub fn of_seed(seed: u64) -> Numbers {
+        let first = seed.wrapping_mul(11_400_714_819_323_198_485);
+        let second = (first ^ (first >> 30)).wrapping_mul(13_787_848_793_156_543_929);
+        let third = (second ^ (second >> 27)).wrapping_mul(10_723_151_780_598_845_931);
+        Numbers(third ^ (third >> 31))
+    }
+
+    /// The next number below `bound`, or 0 if `bound` is 0. `bound` should be below 2^33.
+    pub fn below(&mut self, bound: u64) -> u64 {
+        self.0 = self
+            .0
+            .wrapping_mul(6_364_136_223_846_793_005)
+            .wrapping_add(1_442_695_040_888_963_407);
+        if bound == 0 {
+            return 0;
+        }
+        (self.0 >> 31) % bound
+    }
+
+    /// The next number from `least` to `most`.
+    pub fn between(&mut self, least: u64, most: u64) -> u64 {
+        let many = most.saturating_sub(least).saturating_add(1);
+        least.saturating_add(self.below(many))
+    }
+
+    /// The next number from `least` to `most`, which is an end of this range twice in three times.
+    pub fn between_ends(&mut self, least: u64, most: u64) -> u64 {
+        match self.below(3) {
+            0 => least,
+            1 => most,
+            _ => self.between(least, most),
+        }
+    }
+
+    /// Whether an event of probability 1 in `many` happens.
+    pub fn is_one_in(&mut self, many: u64) -> bool {
+        self.below(many) == 0
+    }
+
+    /// One of some numbers, or 0 if there are none.
+    pub fn pick(&mut self, options: &[u64]) -> u64 {
+        let index = self.below(options.len() as u64);
+        options.get(index as usize).copied().unwrap_or(0)
+    }
+}
