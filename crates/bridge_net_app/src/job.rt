@@ -1,7 +1,7 @@
 //! The job of a run of a network over folders.
 ghost use Rattle.std.specs.Prelude.{◌≡◌, ◌≤◌, IfOk, IfErr, IfSome, None, Some, false, true, length, string_bytes};
 ghost use Rattle.bridge_net_app.specs.Losing.{has_lines};
-ghost use Rattle.bridge_net_app.specs.Folders.{EndsFiles, EndsRounds, IsLine, IsMostRounds, PrintsRounds, TellsRun, network_words, rounds_line};
+ghost use Rattle.bridge_net_app.specs.Folders.{EndsFiles, EndsRounds, EndsRun, IsLine, IsMostRounds, PrintsRounds, TellsRun, network_words, rounds_line};
 
 use crate::incoming::read_all;
 use crate::losing::fault_lines;
@@ -218,7 +218,7 @@ fn run_network<H: AllocGlobal + Eprint + Files>(
 ) -> Result<RunLines, Fault>
     requires few { length network.now.plans ≤ 64 }
     ensures ok { IfOk result (λ lines. TellsRun network.now file.now (string_bytes lines.line)) }
-    ensures err { IfErr result EndsRounds }
+    ensures err { IfErr result (EndsRun network.now file.now.bridges) }
 {
     let (mut taken, plans, bridges) = (taken, network.plans(), file.bridges());
     let incoming = read_all(rt, network, bridges, input, &mut taken, cause)?;
@@ -322,7 +322,7 @@ fn run_accepted<H: AllocGlobal + Eprint + Files>(
     requires few { length network.now.plans ≤ 64 }
     ensures ok { IfOk result (λ said. IfSome said.line (λ line. TellsRun network.now file.now (string_bytes line))) }
     ensures warned { IfOk result (λ said. said.is_warned ≡ true → said.line ≡ None) }
-    ensures err { IfErr result EndsRounds }
+    ensures err { IfErr result (EndsRun network.now file.now.bridges) }
 {
     let RoundsJob {
         network: _,
@@ -425,7 +425,7 @@ pub fn rounds_job<H: AllocGlobal + Eprint + Files>(
 ) -> Result<RoundsSaid, Fault>
     ensures ok { IfOk result (λ said. IfSome said.line (λ line. PrintsRounds Global (string_bytes line))) }
     ensures warned { IfOk result (λ said. said.is_warned ≡ true → said.line ≡ None) }
-    ensures err { IfErr result EndsRounds }
+    ensures err { IfErr result (EndsRounds Global (string_bytes job.network)) }
 {
     rounds_noted(rt, job, &mut None)
 }
@@ -438,7 +438,7 @@ pub fn rounds_noted<H: AllocGlobal + Eprint + Files>(
 ) -> Result<RoundsSaid, Fault>
     ensures ok { IfOk result (λ said. IfSome said.line (λ line. PrintsRounds Global (string_bytes line))) }
     ensures warned { IfOk result (λ said. said.is_warned ≡ true → said.line ≡ None) }
-    ensures err { IfErr result EndsRounds }
+    ensures err { IfErr result (EndsRounds Global (string_bytes job.network)) }
 {
     let alloc = rt.alloc();
     let copy = String::from_str(alloc, job.network.as_str())?;
