@@ -6,8 +6,8 @@ ghost use Rattle.bridge_net_app.specs.Losing.{place_words};
 ghost use Rattle.bridge_text.specs.Growth.{IsLonger};
 
 use crate::refusing::name_at;
-use crate::tables::{delays_of_all, runs_of};
-use bridge_delays::{HopLosses, counts_of, put_faults, tallies_of};
+use crate::tables::runs_of;
+use bridge_delays::{HopLosses, counts_of, delays_of_all, put_faults, tallies_of};
 use bridge_limits::NoMemory;
 use bridge_netfile::{BridgeRow, NetworkFile, StreamRow};
 use bridge_network::Link;
