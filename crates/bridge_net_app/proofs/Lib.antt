@@ -5,3 +5,4 @@ pub mod Accepted
 pub mod Measured
 pub mod Within
 pub mod Told
+pub mod Views

@@ -116,6 +116,12 @@ EndsRounds A path f =
     EndsNetwork A path f
     ⊎ ((x : file.Network) × (plans : List (Plan A)) × (n : Parts A) × IsMadeOf x plans n × (first_fault n ≡ None) × (first_misfit n.plans 1 x.streams ≡ None) × EndsRun n x.bridges f)
 
+-- Holds if the network `n` is made of the file `f` and some plans, and no test refuses it.
+pub record IsAccepted {A : Type 0} (n : Parts A) (f : file.Network) : Type 0 where
+  pub plans : List (Plan A)
+  pub made : IsMadeOf f plans n
+  pub faultless : first_fault n ≡ None
+
 -- how many bridges, links and streams a network has
 unfoldable pub network_words : file.Network → List ℕ
 network_words f = codes "bridges " ++ (decimal (length f.bridges) ++ (codes " links " ++ (decimal (length f.links) ++ (codes " streams " ++ (decimal (length f.streams) ++ codes " ")))))

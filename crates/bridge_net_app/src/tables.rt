@@ -4,7 +4,7 @@ ghost use Rattle.bridge_semantics.specs.declared.outcome.Outcome.{Outcome};
 ghost use Rattle.bridge_rounds.specs.Rounds.{AreOutcomes};
 ghost use Rattle.bridge_net_app.specs.Counted.{CountsTo};
 ghost use Rattle.bridge_net_app.specs.Folders.{EndsFiles};
-ghost use Rattle.bridge_net_app.specs.InTime.{AreRunsOf, IsRunOf};
+ghost use Rattle.bridge_net_app.specs.InTime.{AreRunsOf, HasView, HaveViews, HaveViewsOf, IsRunOf};
 ghost use Rattle.bridge_net_app.specs.Tables.{TablesStream, WriteStreams, WriteTables, hop_text};
 
 use crate::refusing::name_at;
@@ -33,23 +33,19 @@ pub(crate) struct Totals {
     pub(crate) delivered: u64,
 }
 
-/// What was told of a hop; want of memory where nothing was.
-fn run_of<'a>(
-    settled: &'a [Settled<Global>],
-    hop: (u16, u32),
-) -> Result<HopRun<'a, Global>, NoMemory>
-    ensures { IfOk result (λ run. (o : ℕ → Outcome Global) → AreOutcomes settled.now o → IsRunOf o hop run) }
+/// Returns what was told of a hop.
+fn run_of<'a>(settled: &'a [Settled<Global>], hop: (u16, u32)) -> HopRun<'a, Global>
+    requires { HasView settled.now hop }
+    ensures { (o : ℕ → Outcome Global) → AreOutcomes settled.now o → IsRunOf o hop result }
 {
     let (bridge, filter) = hop;
-    let Some(told) = settled.get(bridge as usize) else {
-        return Err(NoMemory);
-    };
+    let told = &settled[bridge as usize];
     match view_of(&told.outcome, filter) {
-        Some(view) => Ok(HopRun {
+        Some(view) => HopRun {
             bridge: bridge as usize,
             view,
-        }),
-        None => Err(NoMemory),
+        },
+        None => unreachable!(),
     }
 }
 
@@ -59,14 +55,14 @@ pub(crate) fn runs_of<'a>(
     settled: &'a [Settled<Global>],
     hops: &[(u16, u32)],
 ) -> Result<Vec<HopRun<'a, Global>>, NoMemory>
+    requires { HaveViewsOf settled.now hops.now }
     ensures many { IfOk result (λ runs. length runs.items ≡ length hops.now) }
     ensures told { IfOk result (λ runs. (o : ℕ → Outcome Global) → AreOutcomes settled.now o
         → AreRunsOf o hops.now runs.items) }
 {
     let mut runs = Vec::with_capacity(alloc, hops.len())?;
     for hop in hops {
-        let run = run_of(settled, *hop)?;
-        runs.push(run)?;
+        runs.push(run_of(settled, *hop))?;
     }
     Ok(runs)
 }
@@ -110,6 +106,7 @@ fn put_stream<V: Write, W: Write>(
     streams: &mut V,
     frames: &mut W,
 ) -> Result<Totals, TableFault>
+    requires { HaveViewsOf settled.now stream.now.hops }
     ensures { IfOk result (λ more. TablesStream links.now settled.now file.now.bridges stream.now bound more.frames more.delivered
         (V.contents streams.old) (V.contents streams.new) (W.contents frames.old) (W.contents frames.new)) }
 {
@@ -144,6 +141,7 @@ fn put_streams<V: Write, W: Write>(
     frames: &mut W,
 ) -> Result<Totals, TableFault>
     requires bounds { length bounds.now ≡ length file.now.streams }
+    requires views { HaveViews settled.now file.now.streams }
     ensures counts { IfOk result (λ all. CountsTo links.now settled.now file.now.streams 0 0 all.frames all.delivered) }
     ensures tables { OnOk result (WriteStreams links.now settled.now file.now.bridges file.now.streams bounds.now
         (V.contents streams.old) (V.contents streams.new) (W.contents frames.old) (W.contents frames.new)) }
@@ -182,6 +180,7 @@ pub(crate) fn write_tables<V: Write, W: Write>(
     frames: &mut W,
 ) -> Result<Totals, TableFault>
     requires bounds { length bounds.now ≡ length file.now.streams }
+    requires views { HaveViews settled.now file.now.streams }
     ensures counts { IfOk result (λ all. CountsTo links.now settled.now file.now.streams 0 0 all.frames all.delivered) }
     ensures tables { OnOk result (WriteTables links.now settled.now file.now bounds.now
         (V.contents streams.old) (V.contents streams.new) (W.contents frames.old) (W.contents frames.new)) }
@@ -224,6 +223,7 @@ fn put_files<F: Write + OpenFile + Drop>(
     frames: Output<F>,
 ) -> Result<Totals, TableFault>
     requires bounds { length bounds.now ≡ length file.now.streams }
+    requires views { HaveViews settled.now file.now.streams }
     ensures { IfOk result (λ all. CountsTo links.now settled.now file.now.streams 0 0 all.frames all.delivered) }
 {
     let mut streams = streams;
@@ -258,6 +258,7 @@ pub(crate) fn put_tables<F: Write + OpenFile + Drop>(
     frames: Output<F>,
 ) -> Result<Totals, Fault>
     requires bounds { length bounds.now ≡ length file.now.streams }
+    requires views { HaveViews settled.now file.now.streams }
     ensures ok { IfOk result (λ all. CountsTo links.now settled.now file.now.streams 0 0 all.frames all.delivered) }
     ensures err { IfErr result EndsFiles }
 {
