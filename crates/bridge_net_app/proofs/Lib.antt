@@ -6,3 +6,4 @@ pub mod Measured
 pub mod Within
 pub mod Told
 pub mod Views
+pub mod Lengths

@@ -4,7 +4,7 @@ use Rattle.std.specs.Prelude.{slice_get}
 use Rattle.std.specs.Map.{lookup}
 use Rattle.std.proofs.lemmas.Option.{same_Some, slice_get_within}
 use Rattle.bridge_limits.specs.Members.{In}
-use Rattle.std.proofs.lemmas.Bool.{false≢true}
+use Rattle.std.proofs.lemmas.Bool.{eq-eqb, false≢true}
 use Rattle.bridge_limits.proofs.Cases.{by_bool}
 use Rattle.bridge_limits.proofs.Lists.{there_is}
 use Rattle.bridge_filter.specs.declared.FilterPlan.{FilterPlan}
@@ -29,7 +29,7 @@ looked_up [] m x i = absurd i
 looked_up (y ∷ ys) m x i = by_bool (nat_eq m y.0)
     (λ k. (y.1, rw k refl))
     (λ k. elim i [
-      | inl e ↦ absurd (false≢true (sym k ∙ (ap (λ (z : ℕ × _). nat_eq m z.0) (sym e) ∙ nat_eq-refl m)))
+      | inl e ↦ absurd (false≢true (sym k ∙ eq-eqb m y.0 (ap (λ z. z.0) e)))
       | inr j ↦ let (z, is) = looked_up ys m x j in (z, rw k is)
     ])
 
