@@ -16,6 +16,7 @@ mod reporting;
 mod streams;
 mod talkers;
 mod telling;
+mod text_faults;
 mod tight;
 mod timings;
 mod traffic;

@@ -306,7 +306,7 @@ fn plan_in(alloc: Global, name: &str, text: &[u8]) -> Result<Accepted<Global>, F
 }
 
 /// Reads the plan of a bridge, in the folder of the network's file, if it is accepted.
-fn read_plan<H: AllocGlobal + Files>(
+pub(crate) fn read_plan<H: AllocGlobal + Files>(
     rt: &H,
     path: &str,
     bridge: &BridgeRow<Global>,
