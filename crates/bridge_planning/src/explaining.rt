@@ -1,19 +1,21 @@
 //! What is told beside the line of a network that is refused: what is wrong, and what to change; of a stream that isn't closed also a
 //! frame that is taken for its. Nothing here can fail: what can't be read again is left out.
+ghost use Rattle.std.specs.Prelude.{◌≤◌, length};
 
-use crate::network::{beside, links_of, read_network, read_plan, read_plans, streams_of};
+use crate::network::{beside, links_of, read_network, read_plan, read_plans, streams_of, tested};
 use crate::refusing::name_of;
 use crate::talkers::first_misfit;
-use crate::telling::address_words;
+use crate::telling::{address_words, push_rounds};
 use crate::text_faults::{explain_network_text, said_of};
 use bridge_check::{Accepted, reach_of};
+use bridge_circling::circulations_in;
 use bridge_config::Plan;
 use bridge_filter::FilterPlan;
 use bridge_frame::Tag;
 use bridge_ident::Kind;
 use bridge_netfile::{BridgeRow, NetworkFile};
 use bridge_network::{
-    End, Link, NetworkFault, RefusedNetwork, Stray, StreamHop, check_network, peer_of, stray_at,
+    End, Link, Network, NetworkFault, RefusedNetwork, Stray, StreamHop, check_network, peer_of, stray_at,
 };
 use bridge_text::Text;
 use std::alloc::{Allocator, Global};
@@ -51,6 +53,41 @@ fn said_of_plan<H: AllocGlobal + Files>(
         }
     }
     None
+}
+
+/// Returns a line for the frames of each VLAN and destination that may go round in the network of a file, made anew of the file and of
+/// the plans beside it.
+pub fn explain_loops<H: AllocGlobal + Files>(rt: &H, path: &str) -> Option<String> {
+    let alloc = rt.alloc();
+    let copy = String::from_str(alloc, path).ok()?;
+    let Ok(file) = read_network(rt, copy) else {
+        return None;
+    };
+    let Ok(plans) = read_plans(rt, path, file.bridges()) else {
+        return None;
+    };
+    let Ok(network) = tested(alloc, alloc, &file, plans) else {
+        return None;
+    };
+    let said = loops_of(alloc, &file, &network);
+    drop(network);
+    said
+}
+
+/// Returns these lines of a network.
+fn loops_of(
+    alloc: Global,
+    file: &NetworkFile<Global>,
+    network: &Network<Global>,
+) -> Option<String>
+    requires few { length network.now.plans ≤ 64 }
+{
+    let rows = circulations_in(alloc, network.plans(), network.links()).ok()?;
+    let mut text = String::new(alloc);
+    match push_rounds(alloc, &mut text, file.bridges(), &rows) {
+        Ok(()) => Some(text),
+        Err(_) => None,
+    }
 }
 
 /// What is told of the network of these plans, where it is refused.

@@ -25,7 +25,7 @@ mod warnings;
 pub use bounds::{QueueBound, bounds_of};
 pub use cycles::explain_traffic;
 pub use drawing::{NetworkPicture, network_picture, paths_of};
-pub use explaining::explain_network;
+pub use explaining::{explain_loops, explain_network};
 pub use network::{NetworkSaid, memory_fault, network_job, read_network, read_plans, tested};
 pub use printing::{bounds_job, bounds_text};
 pub use refusable::explain_refusable;
