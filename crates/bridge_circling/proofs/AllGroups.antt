@@ -1,5 +1,5 @@
 -- The groups that plans name: each of them is named, and none stands twice.
-use Rattle.std.proofs.Common.{◌≡◌, ◌<◌, ◌+◌, ℕ, zero, suc, true, List, [], ◌∷◌, take, length, get_or, Option, None, Some, refl, sym, subst, inl, inr, fold, arith, eq-eqb}
+use Rattle.std.proofs.Common.{◌≡◌, ◌<◌, ℕ, zero, suc, true, List, [], ◌∷◌, take, length, get_or, Option, None, Some, refl, sym, subst, inl, inr, fold, arith, eq-eqb}
 use Rattle.std.proofs.lemmas.Slice.Eq.{bytes_eq-Decides}
 use Rattle.bridge_limits.specs.Members.{In, AllAfter, Rising}
 use Rattle.bridge_limits.proofs.Cases.{by_bool}
