@@ -1,4 +1,4 @@
-use Rattle.std.proofs.Common.{◌≡◌, ◌∙◌, Option, Some, None, ap, sym, refl}
+use Rattle.std.proofs.Common.{◌∙◌, ap, sym, refl}
 use Rattle.std.specs.Prelude.{is_some}
 use Rattle.bridge_network.specs.Feeding.{tags_of}
 use Rattle.bridge_network.specs.Walking.{taken_by}
