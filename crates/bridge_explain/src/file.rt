@@ -27,7 +27,7 @@ fn sentence_of(cause: Cause) -> &'static str {
         Cause::Gzip => ": the file is missing, but {a}.gz is there. Unpack it: gunzip {a}.gz\n",
         Cause::NoFolder =>
             ": its folder doesn't exist. Create the folder, or check the spelling.\n",
-        Cause::Folder => ": a folder, but the command needs a file.\n",
+        Cause::Folder => ": this is a folder. Name a file instead.\n",
         Cause::NoFolderButFile => ": a part of the path is a file instead of a folder.\n",
         Cause::NotReadable => ": reading is not permitted.\n",
         Cause::NotWritable => ": writing is not permitted, or the disk is full.\n",
