@@ -255,7 +255,15 @@ fn run_network<H: AllocGlobal + Eprint + Files>(
             *cause = Some(Cause::NotWritable);
             let is_strict = wishes.is_strict;
             let told = put_drawn(
-                rt, file, network, output, &settled, outputs, picture, drawing, is_strict,
+                rt,
+                file,
+                network,
+                output,
+                &settled.bridges,
+                outputs,
+                picture,
+                drawing,
+                is_strict,
             );
             drop(settled);
             told
