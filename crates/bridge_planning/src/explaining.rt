@@ -30,12 +30,12 @@ pub fn explain_network<H: AllocGlobal + Files>(rt: &H, path: &str) -> Option<Str
     };
     match read_plans(rt, path, file.bridges()) {
         Ok(plans) => said_of_plans(alloc, path, &file, plans),
-        Err(_) => said_of_plan(rt, path, &file),
+        Err(_) => said_of_first_plan(rt, path, &file),
     }
 }
 
 /// Returns what is told of the first plan of a network that is refused: how to see more of it.
-fn said_of_plan<H: AllocGlobal + Files>(
+fn said_of_first_plan<H: AllocGlobal + Files>(
     rt: &H,
     path: &str,
     file: &NetworkFile<Global>,
