@@ -1,6 +1,7 @@
 #![tactic(auto)]
 //! Jobs over files: runs over folders of captures, pictures, and what is told of a fault beside its line.
 
+mod bounding;
 mod explaining;
 mod job;
 mod late;
@@ -11,6 +12,7 @@ mod strict;
 mod tables;
 mod wiring;
 
+pub use bounding::warning_of_bounds;
 pub use bridge_running::run_job;
 pub use explaining::{said_of_file, said_of_plan, said_of_unread, said_of_words};
 pub use job::{run_with_picture, run_with_tables};

@@ -1,3 +1,4 @@
+pub mod AllGroups
 pub mod Named
 pub mod Others
 pub mod Stepping

@@ -1,15 +1,13 @@
 -- Frames to destinations that no static entry names go alike.
 use Rattle.std.proofs.Common.{◌≡◌, ◌+◌, ℕ, zero, suc, false, List, [], ◌∷◌, ◌++◌, Option, None, Some, refl, ap, ap₂, inl, inr}
-use Rattle.bridge_limits.specs.Members.{In}
 use Rattle.bridge_forward.specs.Database.{entry_at}
 use Rattle.bridge_forward.specs.Forward.{is_reserved}
 use Rattle.bridge_config.specs.declared.ports.PortPlan.{PortPlan}
 use Rattle.bridge_config.specs.Model.{Plan}
 use Rattle.bridge_config.specs.Rules.{port_at}
 use Rattle.bridge_network.specs.declared.links.Link.{Link}
-use Rattle.bridge_walks.specs.declared.places.Step.{Step}
 use Rattle.bridge_circling.specs.Groups.{group_by}
-use Rattle.bridge_circling.specs.Steps.{NamesNone, all_below, outs_of, place_of, steps_at, steps_from, steps_if, steps_on, vlan_on}
+use Rattle.bridge_circling.specs.Steps.{NamesNone, all_below, outs_of, place_of, steps_from, steps_if, steps_on, vlan_on}
 
 same_outs : {A : Type 0} (p : Plan A) (address : List ℕ) (vid q : ℕ) → entry_at p.database.statics vid address ≡ None → is_reserved address ≡ false → outs_of p.database (Some address) vid q ≡ outs_of p.database None vid q
 same_outs p address vid q none relayed = rw (relayed, none) refl

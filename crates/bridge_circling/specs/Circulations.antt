@@ -1,6 +1,6 @@
 -- Which frames may go round in a network.
 use Rattle.std.specs.Prelude.{◌≡◌, ◌⊎◌, ℕ, List, [], ◌∷◌, ◌++◌, Option, None, Some}
-use Rattle.bridge_limits.specs.Members.{In}
+use Rattle.bridge_limits.specs.Members.{In, Rising}
 use Rattle.bridge_forward.specs.declared.StaticEntry.{StaticEntry}
 use Rattle.bridge_forward.specs.declared.Vlan.{Vlan}
 use Rattle.bridge_config.specs.Model.{Plan}
@@ -9,7 +9,7 @@ use Rattle.bridge_walks.specs.declared.places.Place.{Place}
 use Rattle.bridge_walks.specs.Walks.{GoesRound}
 use Rattle.bridge_circling.specs.declared.groups.Group.{Group}
 use Rattle.bridge_circling.specs.declared.circulations.Circulation.{Circulation}
-use Rattle.bridge_circling.specs.Groups.{group_by}
+use Rattle.bridge_circling.specs.Groups.{Differ}
 use Rattle.bridge_circling.specs.Steps.{steps_from}
 
 -- frames of a group may come to a port again and again, in a network of these plans and links
@@ -57,13 +57,22 @@ IsAdded plans links g rows more =
     ((x : Place) × MayGoRound plans links g x × (more ≡ rows ++ record { group = g; at = x } ∷ []))
     ⊎ (((x : Place) → ¬ MayGoRound plans links g x) × (more ≡ rows))
 
--- rows tell of some groups which may go round: each row of one of them that may come to the row's port again and again, and each group
--- that may come to any port again and again has one
+-- Statement: The circulations `c` and `d` are of different groups.
+abbrev pub DifferInGroup : Circulation → Circulation → Type 0
+DifferInGroup c d = Differ c.group d.group
+
+-- Statement: The circulations `rows` name exactly those of `groups` whose frames can come to some port again and again, each group
+-- once, with such a port.
 pub record AreOfGroups {A : Type 0} (plans : List (Plan A)) (links : List Link) (groups : List Group) (rows : List Circulation) : Type 0 where
   pub sound : (c : Circulation) → In c rows → MayGoRound plans links c.group c.at
+  pub listed : (c : Circulation) → In c rows → In c.group groups
+  pub once : Rising DifferInGroup rows
   pub told : (g : Group) (x : Place) → In g groups → MayGoRound plans links g x → HasRow rows g
 
--- the same of all groups that are named
+-- Statement: The circulations `rows` name exactly those groups named by the plans whose frames can come to some port again and again,
+-- each group once, with such a port.
 pub record AreCirculations {A : Type 0} (plans : List (Plan A)) (links : List Link) (rows : List Circulation) : Type 0 where
   pub sound : (c : Circulation) → In c rows → MayGoRound plans links c.group c.at
+  pub named : (c : Circulation) → In c rows → IsNamed plans c.group
+  pub once : Rising DifferInGroup rows
   pub told : (g : Group) (x : Place) → IsNamed plans g → MayGoRound plans links g x → HasRow rows g

@@ -1,6 +1,6 @@
 -- Which frames go one way through a network: by the VLAN that their tag names, or none, and by their destination, or any that no static
 -- entry names.
-use Rattle.std.specs.Prelude.{ℕ, Bool, true, false, ◌&&◌, nat_eq, List, [], ◌∷◌, ◌++◌, Option, None, Some, fold, if◌then◌else◌}
+use Rattle.std.specs.Prelude.{◌≢◌, ℕ, Bool, true, false, ◌&&◌, nat_eq, List, [], ◌∷◌, ◌++◌, Option, None, Some, fold, if◌then◌else◌}
 use Rattle.std.specs.List.{list_any}
 use Rattle.std.specs.Str.{bytes_eq}
 use Rattle.bridge_forward.specs.declared.StaticEntry.{StaticEntry}
@@ -27,6 +27,10 @@ is_one_destination a b = false
 -- whether two groups are one
 abbrev pub is_one_group : Group → Group → Bool
 is_one_group a b = is_one_vlan a.vlan b.vlan && is_one_destination a.destination b.destination
+
+-- Statement: The groups `g` and `h` differ in their VLAN or in their destination.
+abbrev pub Differ : Group → Group → Type 0
+Differ g h = g ≢ h
 
 -- whether a group is one of some groups
 abbrev pub has_group : List Group → Group → Bool

@@ -1,5 +1,5 @@
 -- From which port to which frames go in a network, over one link each time.
-use Rattle.std.specs.Prelude.{◌≡◌, ℕ, zero, suc, ◌+◌, Bool, List, [], ◌∷◌, ◌++◌, Option, None, Some, if◌then◌else◌}
+use Rattle.std.specs.Prelude.{◌≡◌, ℕ, zero, suc, ◌+◌, List, [], ◌∷◌, ◌++◌, Option, None, Some, if◌then◌else◌}
 use Rattle.bridge_limits.specs.Members.{In}
 use Rattle.bridge_forward.specs.Ports.{has}
 use Rattle.bridge_forward.specs.Database.{Database, entry_at, members_at}

@@ -1,7 +1,9 @@
 //! Which frames may go round in a network, and where.
 ghost use Rattle.std.specs.Prelude.{◌≡◌, ◌≤◌, IfOk, IfSome, OnOk, None, Ok, length};
+ghost use Rattle.bridge_limits.specs.Members.{Rising};
 ghost use Rattle.bridge_walks.specs.Walks.{GoesRound};
 ghost use Rattle.bridge_walks.specs.declared.places.Place.{Place as Port};
+ghost use Rattle.bridge_circling.specs.Groups.{Differ};
 ghost use Rattle.bridge_circling.specs.Steps.{steps_from};
 ghost use Rattle.bridge_circling.specs.Circulations.{AreCirculations, AreOfGroups, IsAdded};
 
@@ -63,6 +65,7 @@ fn circulations_of<A: Allocator + Copy>(
     groups: &[Group],
 ) -> Result<Vec<Circulation, A>, NoMemory>
     requires few { length plans.now ≤ 65535 }
+    requires once { Rising Differ groups.now }
     ensures { IfOk result (λ rows. AreOfGroups plans.now links.now groups.now rows.items) }
 {
     let mut rows = Vec::new(alloc);
@@ -72,10 +75,10 @@ fn circulations_of<A: Allocator + Copy>(
     Ok(rows)
 }
 
-/// Which frames may go round in a network of these plans and links: of those that a plan names, and of all others, exactly
-/// those that may come to some port again and again, each with such a port. Gates and meters may stop them all the same.
+/// Returns the groups whose frames can come to some port again and again, each group once, with such a port. The groups are those
+/// that a plan names, and all other frames. A gate or a meter may stop these frames all the same.
 ///
-/// `NoMemory` where a growth is refused.
+/// Returns `NoMemory` if an allocation fails.
 pub fn circulations_in<A: Allocator + Copy>(
     alloc: A,
     plans: &[Accepted<A>],

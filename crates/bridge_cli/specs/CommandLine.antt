@@ -61,7 +61,8 @@ picture_command = with_rule (with_rule (with_rule (with_rule (with_rule (with_ru
 
 -- `bounds PLAN`, with `--traffic FILE` if traffic is told
 abbrev pub bounds_command : App
-bounds_command = with_rule (with_rule (with_rule (new_app (codes "bounds")) (word_named (codes "plan"))) (option_named (codes "traffic"))) (flag_named (codes "explain"))
+bounds_command = with_rule (with_rule (with_rule (with_rule (new_app (codes "bounds")) (word_named (codes "plan"))) (option_named (codes "traffic")))
+    (flag_named (codes "strict"))) (flag_named (codes "explain"))
 
 -- `net check NET`, which has two words, and `net NET IN OUT`, which has three
 abbrev pub net_command : App

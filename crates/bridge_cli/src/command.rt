@@ -287,7 +287,7 @@ Statuses:
 
 const BOUNDS: Description = Description {
     name: "bounds",
-    call: "bounds PLAN [--traffic FILE]",
+    call: "bounds PLAN [--traffic FILE] [--strict]",
     about: "Print the delay bounds of protected streams",
     words: &[
         PLAN,
@@ -297,6 +297,7 @@ const BOUNDS: Description = Description {
             form: Form::Choice,
             help: "file of periodic talkers (TOML, at most 1,048,576 octets)",
         },
+        STRICT,
         EXPLAIN,
     ],
     reason: OPTIONS_ALONE,
@@ -310,7 +311,8 @@ Example:
 
 Statuses:
   0  the plan is accepted, and all traffic passes in time
-  1  the plan or the traffic is refused, or a frame may be refused, late or forwarded nowhere
+  1  the plan or the traffic is refused, or a frame may be refused, late or forwarded nowhere; with
+     --strict also if no filter is protected
   3  a file can't be opened, read or written, or memory is exhausted
   4  bad arguments",
 };
@@ -397,7 +399,7 @@ Statuses:
 
 /// The options of all commands, with what has them.
 pub const OPTIONS: &str =
-    "The options are:\n  --explain for all commands\n  --strict for check, run and net\n  --picture FILE for run and net\n  --from NS, --to NS and --ports LIST for run and picture\n  --commands FILE, --delays FILE, --frames FILE and --filters LIST for run\n  --traffic FILE for bounds\n";
+    "The options are:\n  --explain for all commands\n  --strict for check, run, bounds and net\n  --picture FILE for run and net\n  --from NS, --to NS and --ports LIST for run and picture\n  --commands FILE, --delays FILE, --frames FILE and --filters LIST for run\n  --traffic FILE for bounds\n";
 
 /// The version of the program.
 const VERSION: &str = "1.0.0";

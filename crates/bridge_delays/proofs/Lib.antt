@@ -1,3 +1,4 @@
 pub mod Counted
 pub mod Gathered
 pub mod Ways
+pub mod Tabled

@@ -5,3 +5,4 @@ pub mod Figures
 pub mod Frames
 pub mod Streams
 pub mod Losing
+pub mod Tables

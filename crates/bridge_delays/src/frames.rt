@@ -222,7 +222,7 @@ fn put_departures<A: Allocator>(
 }
 
 /// Puts the lines of what a run tells of a hop.
-fn put_view<A: Allocator + Copy>(
+pub(crate) fn put_view<A: Allocator + Copy>(
     text: &mut Text<A>,
     stream: &str,
     hop: &str,

@@ -10,6 +10,7 @@ mod hops;
 mod lines;
 mod losing;
 mod pieces;
+mod tables;
 mod tallies;
 
 pub use counting::tallies_of;
@@ -19,4 +20,5 @@ pub use frames::{FRAMES_HEADER, frame_lines};
 pub use hops::{leads_on, ways_of};
 pub use lines::{STREAMS_HEADER, delivered_of, hop_line, stream_line};
 pub use losing::{HopLosses, put_faults};
+pub use tables::{Heading, Table, TableFault, delays_of_all, put_table, write_stream};
 pub use tallies::{HopCounts, counts_of, delays_of};

@@ -176,7 +176,7 @@ fn delivered_in(ways: &[bool], departures: &[Departure]) -> usize
 }
 
 /// What a hop counts, by where its ports lead.
-fn counted_of<A: Allocator>(ways: &[bool], view: &View<A>) -> HopCounts
+pub(crate) fn counted_of<A: Allocator>(ways: &[bool], view: &View<A>) -> HopCounts
     ensures { result ≡ spec.counts_of ways.now view.now }
 {
     let verdicts = &view.verdicts;
@@ -231,7 +231,7 @@ fn push_delay<A: Allocator>(
 }
 
 /// How long the copies took that left by ports that lead on to no hop, in the order in which they left.
-fn delays_in<A: Allocator + Copy>(
+pub(crate) fn delays_in<A: Allocator + Copy>(
     alloc: A,
     ways: &[bool],
     roots: &[Option<Root>],

@@ -24,7 +24,7 @@ use Rattle.bridge_planning.specs.Networks.{IsMadeOf}
 
 -- PLACES
 
-placed : {X : Type 0} (xs : List X) (x : X) → In x xs → (k : ℕ) × (k < length xs) × (slice_get xs k ≡ Some x)
+pub placed : {X : Type 0} (xs : List X) (x : X) → In x xs → (k : ℕ) × (k < length xs) × (slice_get xs k ≡ Some x)
 placed [] x i = absurd i
 placed (y ∷ ys) x (inl e) = (zero, omega arith, ap Some (sym e))
 placed (y ∷ ys) x (inr i) = let (k, below, there) = placed ys x i in (suc k, omega (arith, below), there)

@@ -5,3 +5,5 @@ pub mod Accepted
 pub mod Measured
 pub mod Within
 pub mod Told
+pub mod Views
+pub mod Lengths

@@ -1,5 +1,6 @@
 -- Runs of networks over folders: what comes to the bridges, which faults end them, and what is printed.
-use Rattle.std.specs.Prelude.{◌≡◌, ℕ, ◌-◌, ◌^◌, List, [], ◌∷◌, ◌++◌, None, length, codes, decimal, string_bytes}
+use Rattle.std.specs.Prelude.{◌≡◌, ◌⊎◌, ℕ, ◌-◌, ◌^◌, List, [], ◌∷◌, ◌++◌, Err, None, Some, length, slice_get, codes, decimal, string_bytes}
+use Rattle.bridge_config.specs.Document.{commands_of_text}
 use Rattle.bridge_config.specs.Model.{Plan}
 use Rattle.bridge_inputs.specs.declared.fault.RunFault.{RunFault}
 use Rattle.bridge_inputs.specs.declared.fault.RunFault.TheVariants as run
@@ -9,17 +10,20 @@ use Rattle.bridge_network.specs.declared.links.Link.{Link}
 use Rattle.bridge_network.specs.Refusing.{first_fault}
 use Rattle.bridge_network.specs.Wiring.{Parts}
 use Rattle.bridge_planning.specs.Naming.{name_at}
-use Rattle.bridge_planning.specs.Networks.{IsMadeOf}
+use Rattle.bridge_planning.specs.Networks.{EndsNetwork, IsMadeOf}
 use Rattle.bridge_planning.specs.Talkers.{first_misfit}
 use Rattle.bridge_jobs.specs.declared.fault.Fault.{Fault}
 use Rattle.bridge_jobs.specs.declared.fault.Fault.TheVariants as fault
 use Rattle.bridge_jobs.specs.Lines.{line_of_run}
+use Rattle.bridge_jobs.specs.RefusedCommands.{line_of_commands}
+use Rattle.bridge_jobs.specs.Status.{status_of}
 use Rattle.bridge_rounds.specs.declared.settling.RoundsFault.{RoundsFault}
 use Rattle.bridge_rounds.specs.declared.settling.RoundsFault.TheVariants as rounds
 use Rattle.bridge_rounds.specs.declared.settling.Settled.{Settled}
 use Rattle.bridge_rounds.specs.declared.station.Incoming.{Incoming}
-use Rattle.bridge_rounds.specs.Rounds.{IsolatesStreams, OthersChangeNothing, RunsNetwork}
+use Rattle.bridge_rounds.specs.Rounds.{AreIncoming, IsolatesStreams, OthersChangeNothing, RunsNetwork, StopsSettling}
 use Rattle.bridge_rounds.specs.Stations.{IsIncoming}
+use Rattle.bridge_schema.specs.declared.fault.PlanFault.{PlanFault}
 use Rattle.bridge_circling.specs.declared.circulations.Circulation.{Circulation}
 use Rattle.bridge_circling.specs.Circulations.{AreCirculations}
 use Rattle.bridge_net_app.specs.Counted.{CountsTo}
@@ -56,20 +60,31 @@ EndsFiles (fault.File path) = Unit {0}
 EndsFiles (fault.Run e) = e ≡ run.NoMemory
 EndsFiles f = ⊥
 
--- a file failed, commands are refused, or memory ran out
-abbrev pub EndsReading : Fault → Type 0
-EndsReading (fault.File path) = Unit {0}
-EndsReading (fault.Network line) = Unit {0}
-EndsReading (fault.Run e) = e ≡ run.NoMemory
-EndsReading f = ⊥
+-- The lines of refused commands: that of the network, with the bridge's name, and the commands' own.
+unfoldable pub commands_lines : List ℕ → List ℕ → List ℕ
+commands_lines name line = codes "network refused: Commands " ++ (name ++ (codes "\n" ++ line))
 
--- a fault of the job: of a file, of the network or of commands, of the run, or of memory
-abbrev pub EndsRounds : Fault → Type 0
-EndsRounds (fault.File path) = Unit {0}
-EndsRounds (fault.Network line) = Unit {0}
-EndsRounds (fault.Rounds line) = Unit {0}
-EndsRounds (fault.Run e) = e ≡ run.NoMemory
-EndsRounds f = ⊥
+-- Holds if a fault of the program has the lines of commands to the bridge `name`, refused by the fault `e`, or memory ran out.
+abbrev pub SaysCommands : List ℕ → PlanFault → Fault → Type 0
+SaysCommands name e (fault.Network line) = (status_of (fault.Commands e) ≡ 1) × (string_bytes line ≡ commands_lines name (line_of_commands e))
+SaysCommands name e (fault.Run r) = r ≡ run.NoMemory
+SaysCommands name e f = ⊥
+
+-- Holds if the commands to a bridge of the plan `p` and this name are refused with these lines: their text has this fault.
+abbrev pub RefusesCommandsOf : {A : Type 0} → Plan A → List ℕ → List ℕ → Type 0
+RefusesCommandsOf p name lines = (text : List ℕ) × (e : PlanFault) × (commands_of_text p text ≡ Err e) × (lines ≡ commands_lines name (line_of_commands e))
+
+-- Holds if what comes to a bridge of the plan `p` and this name can't be read: a file fails, its commands are refused, or memory
+-- ran out.
+abbrev pub EndsBridge : {A : Type 0} → Plan A → List ℕ → Fault → Type 0
+EndsBridge p name (fault.File path) = Unit {0}
+EndsBridge p name (fault.Network lines) = RefusesCommandsOf p name (string_bytes lines)
+EndsBridge p name (fault.Run e) = e ≡ run.NoMemory
+EndsBridge p name f = ⊥
+
+-- Holds if what comes to one of the bridges of these plans can't be read.
+abbrev pub EndsReading : {A : Type 0} → List (Plan A) → List Bridge → Fault → Type 0
+EndsReading {A} plans bridges f = (b : ℕ) × (p : Plan A) × (slice_get plans b ≡ Some p) × EndsBridge p (name_at bridges b) f
 
 -- after how many rounds a run of a network ends that still changes, by whether there are frames that may go round
 abbrev pub rounds_by : List Circulation → ℕ
@@ -79,6 +94,33 @@ rounds_by (c ∷ cs) = 64
 -- the most rounds of a network
 abbrev pub IsMostRounds : {A : Type 0} → Parts A → ℕ → Type 0
 IsMostRounds {A} n rounds = (loops : List Circulation) × AreCirculations n.plans n.links loops × (rounds ≡ rounds_by loops)
+
+-- Holds if a run of the network `n` over what came to its bridges stopped, and `line` says so, by the names of the bridges.
+abbrev pub StopsRun : {A : Type 0} → Parts A → List Bridge → List ℕ → Type 0
+StopsRun {A} n bridges line =
+    (came : List (Incoming A)) × (rounds : ℕ) × (e : RoundsFault) × AreIncoming n.plans came × IsMostRounds n rounds × StopsSettling n came rounds e × IsStoppedLine bridges e line
+
+-- Holds if the fault `f` ends a run of the accepted network `n`: a file fails, commands are refused, the run stops, or memory ran
+-- out.
+abbrev pub EndsRun : {A : Type 0} → Parts A → List Bridge → Fault → Type 0
+EndsRun n bridges (fault.File path) = Unit {0}
+EndsRun n bridges (fault.Network lines) = EndsReading n.plans bridges (fault.Network lines)
+EndsRun n bridges (fault.Rounds line) = StopsRun n bridges (string_bytes line)
+EndsRun n bridges (fault.Run e) = e ≡ run.NoMemory
+EndsRun n bridges f = ⊥
+
+-- Holds if the fault `f` ends the run of the network file at `path`: it ends the job of `net check` over this file, or the network
+-- is accepted and the fault ends its run.
+abbrev pub EndsRounds : (A : Type 0) → List ℕ → Fault → Type 0
+EndsRounds A path f =
+    EndsNetwork A path f
+    ⊎ ((x : file.Network) × (plans : List (Plan A)) × (n : Parts A) × IsMadeOf x plans n × (first_fault n ≡ None) × (first_misfit n.plans 1 x.streams ≡ None) × EndsRun n x.bridges f)
+
+-- Holds if the network `n` is made of the file `f` and some plans, and no test refuses it.
+pub record IsAccepted {A : Type 0} (n : Parts A) (f : file.Network) : Type 0 where
+  pub plans : List (Plan A)
+  pub made : IsMadeOf f plans n
+  pub faultless : first_fault n ≡ None
 
 -- how many bridges, links and streams a network has
 unfoldable pub network_words : file.Network → List ℕ

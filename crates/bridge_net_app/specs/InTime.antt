@@ -8,7 +8,10 @@ use Rattle.bridge_check.specs.Reach.{reaches}
 use Rattle.bridge_semantics.specs.declared.outcome.Departure.{Departure}
 use Rattle.bridge_semantics.specs.declared.outcome.Origin.{Origin}
 use Rattle.bridge_semantics.specs.declared.outcome.Outcome.{Outcome}
+use Rattle.bridge_semantics.specs.declared.outcome.View.{View}
 use Rattle.bridge_bounds.specs.Bounds.{IsBound}
+use Rattle.bridge_netfile.specs.Model.{Stream}
+use Rattle.bridge_rounds.specs.declared.settling.Settled.{Settled}
 use Rattle.bridge_network.specs.Networks.{Network}
 use Rattle.bridge_network.specs.declared.links.Link.{Link}
 use Rattle.bridge_tracing.specs.declared.hops.HopRun.{HopRun}
@@ -50,6 +53,21 @@ abbrev pub GoOnce : {A : Type 0} → List Link → List (HopRun A) → ℕ → L
 GoOnce links hops i known = (k : ℕ) (r : Root) (legs : List (ℕ × ℕ)) → slice_get known k ≡ Some (Some r) → IsFromOver links hops r legs i k → GoesOnce i legs
 
 -- HOPS OF A RUN
+
+-- Holds if the run told of a hop, given by the index of its bridge and the number of its filter.
+pub record HasView {A : Type 0} (settled : List (Settled A)) (x : ℕ × ℕ) : Type 0 where
+  pub told : Settled A
+  pub there : slice_get settled x.0 ≡ Some told
+  pub view : View A
+  pub view_is : lookup (nat_eq x.1) told.outcome.filters.items ≡ Some view
+
+-- Holds if the run told of each of some hops.
+abbrev pub HaveViewsOf : {A : Type 0} → List (Settled A) → List (ℕ × ℕ) → Type 0
+HaveViewsOf settled hops = (x : ℕ × ℕ) → In x hops → HasView settled x
+
+-- Holds if the run told of each hop of some streams.
+abbrev pub HaveViews : {A : Type 0} → List (Settled A) → List Stream → Type 0
+HaveViews settled streams = (s : Stream) → In s streams → HaveViewsOf settled s.hops
 
 -- this is told of a hop of a stream: of the filter of a number, by the outcome of the bridge at a place
 pub record IsRunOf {A : Type 0} (o : ℕ → Outcome A) (x : ℕ × ℕ) (h : HopRun A) : Type 0 where

@@ -2,3 +2,4 @@ pub mod InTime
 pub mod Counted
 pub mod Folders
 pub mod Losing
+pub mod Tables

@@ -3,7 +3,7 @@ ghost use Rattle.std.specs.Prelude.{◌≡◌, IfOk, IfErr, length};
 ghost use Rattle.bridge_config.specs.Commands.{AreCommands};
 ghost use Rattle.bridge_rounds.specs.Rounds.{AreIncoming};
 ghost use Rattle.bridge_rounds.specs.Stations.{IsIncoming};
-ghost use Rattle.bridge_net_app.specs.Folders.{AllIncoming, EndsFiles, EndsReading};
+ghost use Rattle.bridge_net_app.specs.Folders.{AllIncoming, EndsBridge, EndsFiles, EndsReading};
 
 use crate::outputs::folder_of;
 use crate::refusing::{name_at, said_of_commands};
@@ -86,6 +86,22 @@ fn read_captures<H: AllocGlobal + Files>(
     Ok(captures)
 }
 
+/// Returns the commands of a text to the bridge of a plan, or the fault of the network with the name of the bridge.
+fn commands_in(
+    alloc: Global,
+    accepted: &Accepted<Global>,
+    name: &str,
+    text: &[u8],
+) -> Result<Vec<Command>, Fault>
+    ensures commands { IfOk result (λ commands. AreCommands accepted.now commands.items) }
+    ensures ends { IfErr result (EndsBridge accepted.now name.now) }
+{
+    match commands_of(alloc, alloc, text, accepted.plan()) {
+        Ok(commands) => Ok(commands),
+        Err(fault) => Err(said_of_commands(alloc, name, fault)),
+    }
+}
+
 /// The commands to a bridge in a folder, none where it has no file of them.
 fn read_commands<H: AllocGlobal + Files>(
     rt: &H,
@@ -96,7 +112,7 @@ fn read_commands<H: AllocGlobal + Files>(
     cause: &mut Option<Cause>,
 ) -> Result<Vec<Command>, Fault>
     ensures commands { IfOk result (λ commands. AreCommands accepted.now commands.items) }
-    ensures ends { IfErr result EndsReading }
+    ensures ends { IfErr result (EndsBridge accepted.now name.now) }
 {
     let alloc = rt.alloc();
     let Ok(path) = format!(in alloc; "{folder}/commands.toml") else {
@@ -109,10 +125,7 @@ fn read_commands<H: AllocGlobal + Files>(
         Ok(text) => text,
         Err(fault) => return Err(fault),
     };
-    match commands_of(alloc, alloc, &text, accepted.plan()) {
-        Ok(commands) => Ok(commands),
-        Err(fault) => Err(said_of_commands(alloc, name, fault)),
-    }
+    commands_in(alloc, accepted, name, &text)
 }
 
 /// What comes to a bridge from outside, by its folder.
@@ -127,7 +140,7 @@ fn read_bridge<H: AllocGlobal + Files>(
     cause: &mut Option<Cause>,
 ) -> Result<Incoming<Global>, Fault>
     ensures came { IfOk result (IsIncoming accepted.now) }
-    ensures ends { IfErr result EndsReading }
+    ensures ends { IfErr result (EndsBridge accepted.now name.now) }
 {
     let Ok(ports) = accepted.plan().port_numbers(rt.alloc()) else {
         return Err(memory_fault());
@@ -152,7 +165,7 @@ fn read_each<H: AllocGlobal + Files>(
     cause: &mut Option<Cause>,
 ) -> Result<Vec<Incoming<Global>>, Fault>
     ensures came { IfOk result (λ all. AllIncoming plans.now all.items) }
-    ensures ends { IfErr result EndsReading }
+    ensures ends { IfErr result (EndsReading plans.now bridges.now) }
 {
     let mut all = Vec::new(rt.alloc());
     for accepted in plans {
@@ -188,7 +201,7 @@ pub(crate) fn read_all<H: AllocGlobal + Files>(
     cause: &mut Option<Cause>,
 ) -> Result<Vec<Incoming<Global>>, Fault>
     ensures came { IfOk result (λ all. AreIncoming network.now.plans all.items) }
-    ensures ends { IfErr result EndsReading }
+    ensures ends { IfErr result (EndsReading network.now.plans bridges.now) }
 {
     let all = read_each(
         rt,

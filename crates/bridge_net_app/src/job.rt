@@ -1,7 +1,8 @@
 //! The job of a run of a network over folders.
 ghost use Rattle.std.specs.Prelude.{◌≡◌, ◌≤◌, IfOk, IfErr, IfSome, None, Some, false, true, length, string_bytes};
 ghost use Rattle.bridge_net_app.specs.Losing.{has_lines};
-ghost use Rattle.bridge_net_app.specs.Folders.{EndsFiles, EndsRounds, IsLine, IsMostRounds, PrintsRounds, TellsRun, network_words, rounds_line};
+ghost use Rattle.bridge_net_app.specs.InTime.{HaveViews};
+ghost use Rattle.bridge_net_app.specs.Folders.{EndsFiles, EndsRounds, EndsRun, IsAccepted, IsLine, IsMostRounds, PrintsRounds, TellsRun, network_words, rounds_line};
 
 use crate::incoming::read_all;
 use crate::losing::fault_lines;
@@ -93,7 +94,9 @@ fn lost_if(
     network: &Network<Global>,
     settled: &[Settled<Global>],
     is_strict: bool,
-) -> Result<String, NoMemory> {
+) -> Result<String, NoMemory>
+    requires { HaveViews settled.now file.now.streams }
+{
     if is_strict {
         fault_lines(alloc, file, network.links(), settled)
     } else {
@@ -112,6 +115,7 @@ fn put_all<H: AllocGlobal + Files>(
     outputs: Outputs<H::File>,
     is_strict: bool,
 ) -> Result<RunLines, Fault>
+    requires views { HaveViews settled.now file.now.streams }
     ensures ok { IfOk result (λ lines. IsLine network.now.links settled.now file.now (string_bytes lines.line)) }
     ensures err { IfErr result EndsFiles }
 {
@@ -163,6 +167,7 @@ fn put_drawn<H: AllocGlobal + Files>(
     drawing: Option<Output<H::File>>,
     is_strict: bool,
 ) -> Result<RunLines, Fault>
+    requires views { HaveViews settled.now file.now.streams }
     ensures ok { IfOk result (λ lines. IsLine network.now.links settled.now file.now (string_bytes lines.line)) }
     ensures err { IfErr result EndsFiles }
 {
@@ -217,8 +222,9 @@ fn run_network<H: AllocGlobal + Eprint + Files>(
     cause: &mut Option<Cause>,
 ) -> Result<RunLines, Fault>
     requires few { length network.now.plans ≤ 64 }
+    requires accepted { IsAccepted network.now file.now }
     ensures ok { IfOk result (λ lines. TellsRun network.now file.now (string_bytes lines.line)) }
-    ensures err { IfErr result EndsRounds }
+    ensures err { IfErr result (EndsRun network.now file.now.bridges) }
 {
     let (mut taken, plans, bridges) = (taken, network.plans(), file.bridges());
     let incoming = read_all(rt, network, bridges, input, &mut taken, cause)?;
@@ -249,7 +255,15 @@ fn run_network<H: AllocGlobal + Eprint + Files>(
             *cause = Some(Cause::NotWritable);
             let is_strict = wishes.is_strict;
             let told = put_drawn(
-                rt, file, network, output, &settled, outputs, picture, drawing, is_strict,
+                rt,
+                file,
+                network,
+                output,
+                &settled.bridges,
+                outputs,
+                picture,
+                drawing,
+                is_strict,
             );
             drop(settled);
             told
@@ -320,9 +334,10 @@ fn run_accepted<H: AllocGlobal + Eprint + Files>(
     cause: &mut Option<Cause>,
 ) -> Result<RoundsSaid, Fault>
     requires few { length network.now.plans ≤ 64 }
+    requires accepted { IsAccepted network.now file.now }
     ensures ok { IfOk result (λ said. IfSome said.line (λ line. TellsRun network.now file.now (string_bytes line))) }
     ensures warned { IfOk result (λ said. said.is_warned ≡ true → said.line ≡ None) }
-    ensures err { IfErr result EndsRounds }
+    ensures err { IfErr result (EndsRun network.now file.now.bridges) }
 {
     let RoundsJob {
         network: _,
@@ -425,7 +440,7 @@ pub fn rounds_job<H: AllocGlobal + Eprint + Files>(
 ) -> Result<RoundsSaid, Fault>
     ensures ok { IfOk result (λ said. IfSome said.line (λ line. PrintsRounds Global (string_bytes line))) }
     ensures warned { IfOk result (λ said. said.is_warned ≡ true → said.line ≡ None) }
-    ensures err { IfErr result EndsRounds }
+    ensures err { IfErr result (EndsRounds Global (string_bytes job.network)) }
 {
     rounds_noted(rt, job, &mut None)
 }
@@ -438,7 +453,7 @@ pub fn rounds_noted<H: AllocGlobal + Eprint + Files>(
 ) -> Result<RoundsSaid, Fault>
     ensures ok { IfOk result (λ said. IfSome said.line (λ line. PrintsRounds Global (string_bytes line))) }
     ensures warned { IfOk result (λ said. said.is_warned ≡ true → said.line ≡ None) }
-    ensures err { IfErr result EndsRounds }
+    ensures err { IfErr result (EndsRounds Global (string_bytes job.network)) }
 {
     let alloc = rt.alloc();
     let copy = String::from_str(alloc, job.network.as_str())?;

@@ -2,7 +2,16 @@
 ghost use Rattle.std.specs.Prelude.{◌≡◌, ◌≤◌, ◌+◌, ◌-◌, ℕ, Bool, List, Vec, Option, Some, None, length, slice_get};
 ghost use Rattle.bridge_limits.specs.Members.{In};
 ghost use Rattle.bridge_capture.specs.Grammar.{Captured};
+ghost use Rattle.bridge_frame.specs.Link.{occupied};
+ghost use Rattle.bridge_port.specs.Schedule.{Copy, Started};
+ghost use Rattle.bridge_config.specs.declared.command.Command.{Command};
+ghost use Rattle.bridge_config.specs.declared.ports.PortPlan.{PortPlan};
 ghost use Rattle.bridge_config.specs.Model.{Plan};
+ghost use Rattle.bridge_config.specs.Rules.{IsPlan, port_at};
+ghost use Rattle.bridge_check.specs.Acceptable.{IsAcceptable};
+ghost use Rattle.bridge_semantics.specs.Offers.{Carried};
+ghost use Rattle.bridge_bounds.specs.Bounds.{IsTightBound};
+ghost use Rattle.bridge_simulation.specs.Simulated.{Runs};
 ghost use Rattle.bridge_semantics.specs.Merge.{Input};
 ghost use Rattle.bridge_semantics.specs.declared.outcome.Departure.{Departure};
 ghost use Rattle.bridge_semantics.specs.declared.outcome.Outcome.{Outcome};
@@ -102,4 +111,20 @@ pub fn onward_goes_once<A: Allocator + Copy>()
         → ComeOnward links hops rank
         → IsFromOver links hops r legs i k
         → GoesOnce i legs }
+{}
+
+/// Each frame is out within the tight bound of its queue in a whole run of one bridge over captures: the reader of captures lets no
+/// frame through that has more captured octets than its length, so `in_time_by_octets` holds of the frames that are read.
+pub fn read_in_time_by_octets<A: Allocator + Copy, W>()
+    ensures { (p : Plan A) (ports : List ℕ) (commands : List Command) (texts : ℕ → List ℕ) (contents : W → Option (List ℕ))
+        (olds news : List W) (o : Outcome A) (n q s b : ℕ) (out : PortPlan A) (x : Copy Carried)
+        → (ran : Runs p ports commands texts contents olds news o)
+        → IsPlan p
+        → IsAcceptable p
+        → port_at p.ports q ≡ Some out
+        → In x (ran.ends.lists q)
+        → x.item.flow ≡ Some n
+        → x.fate ≡ Started s
+        → IsTightBound p n q x.class b
+        → s + occupied x.item.len out.speed ≤ x.at + b }
 {}

@@ -2,12 +2,13 @@
 ghost use Rattle.std.specs.Prelude.{◌≡◌, Bool, IfOk, List, string_bytes};
 ghost use Rattle.bridge_delays.specs.Hops.{AreWays};
 ghost use Rattle.bridge_delays.specs.Tallies as tallies;
+ghost use Rattle.bridge_net_app.specs.InTime.{HaveViews, HaveViewsOf};
 ghost use Rattle.bridge_net_app.specs.Losing.{place_words};
 ghost use Rattle.bridge_text.specs.Growth.{IsLonger};
 
 use crate::refusing::name_at;
-use crate::tables::{delays_of_all, runs_of};
-use bridge_delays::{HopLosses, counts_of, put_faults, tallies_of};
+use crate::tables::runs_of;
+use bridge_delays::{HopLosses, counts_of, delays_of_all, put_faults, tallies_of};
 use bridge_limits::NoMemory;
 use bridge_netfile::{BridgeRow, NetworkFile, StreamRow};
 use bridge_network::Link;
@@ -54,7 +55,9 @@ fn put_stream(
     links: &[Link],
     settled: &[Settled<Global>],
     stream: &StreamRow<Global>,
-) -> Result<(), NoMemory> {
+) -> Result<(), NoMemory>
+    requires { HaveViewsOf settled.now stream.now.hops }
+{
     let runs = runs_of(alloc, settled, stream.hops())?;
     let all = roots_of(alloc, links, &runs)?;
     let tallies = tallies_of(alloc, links, &runs, &all)?;
@@ -78,7 +81,9 @@ pub(crate) fn fault_lines(
     file: &NetworkFile<Global>,
     links: &[Link],
     settled: &[Settled<Global>],
-) -> Result<String, NoMemory> {
+) -> Result<String, NoMemory>
+    requires { HaveViews settled.now file.now.streams }
+{
     let mut text = Text::new(alloc);
     for stream in file.streams() {
         put_stream(alloc, &mut text, file.bridges(), links, settled, stream)?;

@@ -1,6 +1,7 @@
 //! The picture of a run of a network.
 ghost use Rattle.std.specs.Prelude.{IfErr};
 ghost use Rattle.bridge_net_app.specs.Folders.{EndsFiles};
+ghost use Rattle.bridge_net_app.specs.InTime.{HaveViews};
 
 use crate::outputs::open_output;
 use crate::tables::{hop_name, runs_of};
@@ -60,7 +61,9 @@ fn look_at_all(
     picture: &mut RunPicture,
     settled: &[Settled<Global>],
     streams: &[StreamRow<Global>],
-) -> Result<(), NoMemory> {
+) -> Result<(), NoMemory>
+    requires { HaveViews settled.now streams.now }
+{
     for stream in streams {
         let runs = runs_of(alloc, settled, stream.hops())?;
         picture.look_at(&runs);
@@ -123,7 +126,9 @@ fn add_all(
     bridges: &[BridgeRow<Global>],
     settled: &[Settled<Global>],
     streams: &[StreamRow<Global>],
-) -> Result<(), NoMemory> {
+) -> Result<(), NoMemory>
+    requires { HaveViews settled.now streams.now }
+{
     for stream in streams {
         let runs = runs_of(alloc, settled, stream.hops())?;
         let names = names_of(alloc, bridges, stream)?;
@@ -140,7 +145,9 @@ fn drawn(
     network: &Network<Global>,
     queues: &[Vec<QueueBound>],
     settled: &[Settled<Global>],
-) -> Result<String, NoMemory> {
+) -> Result<String, NoMemory>
+    requires { HaveViews settled.now file.now.streams }
+{
     let mut picture = RunPicture::new(alloc);
     look_at_all(alloc, &mut picture, settled, file.streams())?;
     add_all(
@@ -165,6 +172,7 @@ pub(crate) fn put_picture<F: Write + OpenFile + Drop>(
     path: Option<String>,
     output: Option<Output<F>>,
 ) -> Result<(), Fault>
+    requires { HaveViews settled.now file.now.streams }
     ensures { IfErr result EndsFiles }
 {
     let Some(output) = output else {

@@ -1,7 +1,7 @@
 //! The faults of a run of a network, with the names of its bridges.
 ghost use Rattle.std.specs.Prelude.{◌≡◌, IfOk, string_bytes};
 ghost use Rattle.bridge_planning.specs.Naming.{name_at};
-ghost use Rattle.bridge_net_app.specs.Folders.{EndsReading, IsCaptureLine, SaysStopped, unsettled_line};
+ghost use Rattle.bridge_net_app.specs.Folders.{IsCaptureLine, SaysCommands, SaysStopped, unsettled_line};
 
 use bridge_inputs::RunFault;
 use bridge_jobs::{Fault, fault_line};
@@ -15,10 +15,11 @@ use std::alloc::Global;
 /// The status of commands that are refused, and not for want of memory.
 const REFUSED_COMMANDS: u8 = 1;
 
-/// The fault of commands to a bridge that are refused: its line has the name of the bridge, and the commands' own line behind
-/// it. Want of memory for the commands is want of memory.
+/// Returns the fault of commands to a bridge that are refused: its line has the name of the bridge, and the commands' own line
+/// behind it. If memory ran out for the commands, it ran out for the network.
+#[tactic(auto, unfolding(crate::specs::Folders::commands_lines))]
 pub(crate) fn said_of_commands(alloc: Global, name: &str, fault: PlanFault) -> Fault
-    ensures { EndsReading result }
+    ensures { SaysCommands name.now fault result }
 {
     let Ok((line, status)) = fault_line(alloc, &Fault::Commands(fault)) else {
         return memory_fault();
@@ -85,6 +86,6 @@ pub(crate) fn said_of_run(alloc: Global, bridges: &[BridgeRow<Global>], fault: R
 pub fn explain_stopped(alloc: Global, line: &str) -> Option<String> {
     let rest = line.strip_prefix("network not settled ")?;
     format!(in alloc;
-        "After 64 rounds the input of {rest} still changes, so frames loop. `net check` names the possible loops.\n"
+        "After 64 rounds the input of {rest} still changes, so frames loop. The plans allow these loops:\n"
     ).ok()
 }

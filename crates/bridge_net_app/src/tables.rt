@@ -1,14 +1,16 @@
 //! The tables of streams and of their frames.
-ghost use Rattle.std.specs.Prelude.{◌≡◌, ℕ, IfErr, IfOk, length};
+ghost use Rattle.std.specs.Prelude.{◌≡◌, ℕ, IfErr, IfOk, OnOk, length, map, string_bytes};
 ghost use Rattle.bridge_semantics.specs.declared.outcome.Outcome.{Outcome};
 ghost use Rattle.bridge_rounds.specs.Rounds.{AreOutcomes};
-ghost use Rattle.bridge_net_app.specs.Counted.{CountsTo, IsCountOf};
+ghost use Rattle.bridge_net_app.specs.Counted.{CountsTo};
 ghost use Rattle.bridge_net_app.specs.Folders.{EndsFiles};
-ghost use Rattle.bridge_net_app.specs.InTime.{AreRunsOf, IsRunOf};
+ghost use Rattle.bridge_net_app.specs.InTime.{AreRunsOf, HasView, HaveViews, HaveViewsOf, IsRunOf};
+ghost use Rattle.bridge_net_app.specs.Tables.{TablesStream, WriteStreams, WriteTables, hop_text};
 
+use crate::refusing::name_at;
 use bridge_delays::{
-    FRAMES_HEADER, STREAMS_HEADER, counts_of, delays_of, delivered_of, figures_of, frame_lines,
-    hop_line, stream_line, tallies_of,
+    FRAMES_HEADER, Heading, STREAMS_HEADER, Table, TableFault, delivered_of, put_table, tallies_of,
+    write_stream,
 };
 use bridge_files::Output;
 use bridge_jobs::Fault;
@@ -18,7 +20,7 @@ use bridge_network::Link;
 use bridge_planning::memory_fault;
 use bridge_report::view_of;
 use bridge_rounds::Settled;
-use bridge_tracing::{HopRun, Root, Tally, roots_of};
+use bridge_tracing::{HopRun, roots_of};
 use std::alloc::Global;
 use std::fs::OpenFile;
 use std::io;
@@ -31,23 +33,19 @@ pub(crate) struct Totals {
     pub(crate) delivered: u64,
 }
 
-/// What was told of a hop; want of memory where nothing was.
-fn run_of<'a>(
-    settled: &'a [Settled<Global>],
-    hop: (u16, u32),
-) -> Result<HopRun<'a, Global>, NoMemory>
-    ensures { IfOk result (λ run. (o : ℕ → Outcome Global) → AreOutcomes settled.now o → IsRunOf o hop run) }
+/// Returns what was told of a hop.
+fn run_of<'a>(settled: &'a [Settled<Global>], hop: (u16, u32)) -> HopRun<'a, Global>
+    requires { HasView settled.now hop }
+    ensures { (o : ℕ → Outcome Global) → AreOutcomes settled.now o → IsRunOf o hop result }
 {
     let (bridge, filter) = hop;
-    let Some(told) = settled.get(bridge as usize) else {
-        return Err(NoMemory);
-    };
+    let told = &settled[bridge as usize];
     match view_of(&told.outcome, filter) {
-        Some(view) => Ok(HopRun {
+        Some(view) => HopRun {
             bridge: bridge as usize,
             view,
-        }),
-        None => Err(NoMemory),
+        },
+        None => unreachable!(),
     }
 }
 
@@ -57,14 +55,14 @@ pub(crate) fn runs_of<'a>(
     settled: &'a [Settled<Global>],
     hops: &[(u16, u32)],
 ) -> Result<Vec<HopRun<'a, Global>>, NoMemory>
+    requires { HaveViewsOf settled.now hops.now }
     ensures many { IfOk result (λ runs. length runs.items ≡ length hops.now) }
     ensures told { IfOk result (λ runs. (o : ℕ → Outcome Global) → AreOutcomes settled.now o
         → AreRunsOf o hops.now runs.items) }
 {
     let mut runs = Vec::with_capacity(alloc, hops.len())?;
     for hop in hops {
-        let run = run_of(settled, *hop)?;
-        runs.push(run)?;
+        runs.push(run_of(settled, *hop))?;
     }
     Ok(runs)
 }
@@ -74,148 +72,57 @@ pub(crate) fn hop_name(
     alloc: Global,
     bridges: &[BridgeRow<Global>],
     hop: (u16, u32),
-) -> Result<String, NoMemory> {
+) -> Result<String, NoMemory>
+    ensures { IfOk result (λ name. string_bytes name ≡ hop_text bridges.now hop) }
+{
     let (bridge, filter) = hop;
-    let name = match bridges.get(bridge as usize) {
-        Some(row) => row.name(),
-        None => "",
-    };
+    let name = name_at(bridges, bridge as usize);
     Ok(format!(in alloc; "{name}.{filter}")?)
 }
 
-/// The lines of a stream in both tables: of streams, and of frames.
-#[derive(Drop)]
-struct Lines {
-    streams: String,
-    frames: String,
-}
-
-/// The lines of the hop of a stream.
-fn lines_of_hop(
-    alloc: Global,
-    links: &[Link],
-    runs: &[HopRun<'_, Global>],
-    run: &HopRun<'_, Global>,
-    roots: &[Option<Root>],
-    stream: &str,
-    hop: &str,
-) -> Result<Lines, NoMemory> {
-    let delays = delays_of(alloc, links, runs, run, roots)?;
-    let counts = counts_of(alloc, links, runs, run)?;
-    let streams = hop_line(alloc, stream, hop, &counts, figures_of(&delays))?;
-    let frames = frame_lines(alloc, links, runs, run, roots, stream, hop)?;
-    Ok(Lines { streams, frames })
-}
-
-/// How long all copies took that a stream delivered.
-pub(crate) fn delays_of_all(
-    alloc: Global,
-    links: &[Link],
-    runs: &[HopRun<'_, Global>],
-    all: &[Vec<Option<Root>>],
-) -> Result<Vec<u64>, NoMemory> {
-    let mut delays = Vec::new(alloc);
-    for (run, roots) in runs.iter().zip(all) {
-        let more = delays_of(alloc, links, runs, run, roots)?;
-        delays.extend_from_slice(&more)?;
-    }
-    Ok(delays)
-}
-
-/// Writes the line of a stream as a whole.
-fn put_whole<F: Write + OpenFile + Drop>(
-    alloc: Global,
-    links: &[Link],
-    stream: &StreamRow<Global>,
-    bound: u128,
-    runs: &[HopRun<'_, Global>],
-    all: &[Vec<Option<Root>>],
-    tallies: &[Tally],
-    streams: &mut Output<F>,
-) -> Result<(), TableFault> {
-    let delays = delays_of_all(alloc, links, runs, all)?;
-    let line = stream_line(
-        alloc,
-        stream.name(),
-        tallies,
-        figures_of(&delays),
-        bound,
-        stream.deadline(),
-    )?;
-    put_text(streams, line.as_str(), Table::Streams)
-}
-
-/// Writes the lines of a hop of a stream into both tables.
-fn put_hop<F: Write + OpenFile + Drop>(
-    alloc: Global,
-    links: &[Link],
-    runs: &[HopRun<'_, Global>],
-    run: &HopRun<'_, Global>,
-    roots: &[Option<Root>],
-    stream: &str,
-    name: &str,
-    streams: &mut Output<F>,
-    frames: &mut Output<F>,
-) -> Result<(), TableFault> {
-    let lines = lines_of_hop(alloc, links, runs, run, roots, stream, name)?;
-    put_text(streams, lines.streams.as_str(), Table::Streams)?;
-    put_text(frames, lines.frames.as_str(), Table::Frames)
-}
-
-/// Writes the lines of the hops of a stream into both tables.
-fn put_hops<F: Write + OpenFile + Drop>(
+/// The names of some hops.
+fn hop_names(
     alloc: Global,
     bridges: &[BridgeRow<Global>],
-    links: &[Link],
-    stream: &StreamRow<Global>,
-    runs: &[HopRun<'_, Global>],
-    all: &[Vec<Option<Root>>],
-    streams: &mut Output<F>,
-    frames: &mut Output<F>,
-) -> Result<(), TableFault> {
-    for ((hop, run), roots) in stream.hops().iter().zip(runs).zip(all) {
-        let name = hop_name(alloc, bridges, *hop)?;
-        put_hop(
-            alloc,
-            links,
-            runs,
-            run,
-            roots,
-            stream.name(),
-            name.as_str(),
-            streams,
-            frames,
-        )?;
+    hops: &[(u16, u32)],
+) -> Result<Vec<String>, NoMemory>
+    ensures { IfOk result (λ names. map string_bytes names.items ≡ map (hop_text bridges.now) hops.now) }
+{
+    let mut names = Vec::with_capacity(alloc, hops.len())?;
+    for hop in hops {
+        names.push(hop_name(alloc, bridges, *hop)?)?;
     }
-    Ok(())
+    Ok(names)
 }
 
-/// Writes the lines of a stream into both tables, and adds its frames to the totals.
-fn put_stream<F: Write + OpenFile + Drop>(
+/// Writes the rows of a stream into both tables, and counts its frames.
+fn put_stream<V: Write, W: Write>(
     alloc: Global,
     file: &NetworkFile<Global>,
     links: &[Link],
     settled: &[Settled<Global>],
     stream: &StreamRow<Global>,
     bound: u128,
-    streams: &mut Output<F>,
-    frames: &mut Output<F>,
+    streams: &mut V,
+    frames: &mut W,
 ) -> Result<Totals, TableFault>
-    ensures { IfOk result (λ more. IsCountOf links.now settled.now stream.now.hops more.frames more.delivered) }
+    requires { HaveViewsOf settled.now stream.now.hops }
+    ensures { IfOk result (λ more. TablesStream links.now settled.now file.now.bridges stream.now bound more.frames more.delivered
+        (V.contents streams.old) (V.contents streams.new) (W.contents frames.old) (W.contents frames.new)) }
 {
-    let runs = runs_of(alloc, settled, stream.hops())?;
-    let all = roots_of(alloc, links, &runs)?;
-    let tallies = tallies_of(alloc, links, &runs, &all)?;
-    put_whole(alloc, links, stream, bound, &runs, &all, &tallies, streams)?;
-    put_hops(
-        alloc,
-        file.bridges(),
-        links,
-        stream,
-        &runs,
-        &all,
-        streams,
-        frames,
+    let hops = stream.hops();
+    let runs = runs_of(alloc, settled, hops)?;
+    let known = roots_of(alloc, links, &runs)?;
+    let tallies = tallies_of(alloc, links, &runs, &known)?;
+    let names = hop_names(alloc, file.bridges(), hops)?;
+    let heading = Heading {
+        name: stream.name(),
+        hops: &names,
+        bound,
+        deadline: stream.deadline(),
+    };
+    write_stream(
+        alloc, links, &runs, &known, &tallies, heading, streams, frames,
     )?;
     Ok(Totals {
         frames: tallies.len() as u64,
@@ -223,36 +130,64 @@ fn put_stream<F: Write + OpenFile + Drop>(
     })
 }
 
-/// A table.
-#[derive(Clone, Copy)]
-enum Table {
-    Streams,
-    Frames,
-}
-
-/// Why the tables aren't written.
-#[derive(Clone, Copy)]
-enum TableFault {
-    Broken(Table),
-    NoMemory,
-}
-
-impl From<NoMemory> for TableFault {
-    fn from(_: NoMemory) -> TableFault {
-        TableFault::NoMemory
+/// Writes the rows of all streams into both tables, and counts their frames.
+fn put_streams<V: Write, W: Write>(
+    alloc: Global,
+    file: &NetworkFile<Global>,
+    links: &[Link],
+    settled: &[Settled<Global>],
+    bounds: &[u128],
+    streams: &mut V,
+    frames: &mut W,
+) -> Result<Totals, TableFault>
+    requires bounds { length bounds.now ≡ length file.now.streams }
+    requires views { HaveViews settled.now file.now.streams }
+    ensures counts { IfOk result (λ all. CountsTo links.now settled.now file.now.streams 0 0 all.frames all.delivered) }
+    ensures tables { OnOk result (WriteStreams links.now settled.now file.now.bridges file.now.streams bounds.now
+        (V.contents streams.old) (V.contents streams.new) (W.contents frames.old) (W.contents frames.new)) }
+{
+    let mut totals = Totals {
+        frames: 0,
+        delivered: 0,
+    };
+    for (place, stream) in file.streams().iter().enumerate() {
+        let more = put_stream(
+            alloc,
+            file,
+            links,
+            settled,
+            stream,
+            bounds[place],
+            streams,
+            frames,
+        )?;
+        totals = Totals {
+            frames: totals.frames.saturating_add(more.frames),
+            delivered: totals.delivered.saturating_add(more.delivered),
+        };
     }
+    Ok(totals)
 }
 
-/// Writes a text into a table.
-fn put_text<F: Write + OpenFile + Drop>(
-    output: &mut Output<F>,
-    text: &str,
-    table: Table,
-) -> Result<(), TableFault> {
-    match output.write_all(text.as_bytes()) {
-        Ok(()) => Ok(()),
-        Err(_) => Err(TableFault::Broken(table)),
-    }
+/// Writes both tables: each begins with its header, and has the rows of all streams in the order of the network's file.
+pub(crate) fn write_tables<V: Write, W: Write>(
+    alloc: Global,
+    file: &NetworkFile<Global>,
+    links: &[Link],
+    settled: &[Settled<Global>],
+    bounds: &[u128],
+    streams: &mut V,
+    frames: &mut W,
+) -> Result<Totals, TableFault>
+    requires bounds { length bounds.now ≡ length file.now.streams }
+    requires views { HaveViews settled.now file.now.streams }
+    ensures counts { IfOk result (λ all. CountsTo links.now settled.now file.now.streams 0 0 all.frames all.delivered) }
+    ensures tables { OnOk result (WriteTables links.now settled.now file.now bounds.now
+        (V.contents streams.old) (V.contents streams.new) (W.contents frames.old) (W.contents frames.new)) }
+{
+    put_table(streams, STREAMS_HEADER, Table::Streams)?;
+    put_table(frames, FRAMES_HEADER, Table::Frames)?;
+    put_streams(alloc, file, links, settled, bounds, streams, frames)
 }
 
 /// Ends what is written into a table.
@@ -262,8 +197,8 @@ fn end_table<F: Write + OpenFile + Drop>(output: Output<F>) -> io::Result<()> {
     output.finish()
 }
 
-/// The file of a table in a folder.
-fn file_of(alloc: Global, folder: &str, fault: TableFault) -> Fault
+/// Returns the fault of the tables in a folder.
+fn fault_of(alloc: Global, folder: &str, fault: TableFault) -> Fault
     ensures { EndsFiles result }
 {
     let path = match fault {
@@ -277,8 +212,8 @@ fn file_of(alloc: Global, folder: &str, fault: TableFault) -> Fault
     }
 }
 
-/// Writes both tables of all streams.
-fn put_streams<F: Write + OpenFile + Drop>(
+/// Writes both tables to their files, and ends these.
+fn put_files<F: Write + OpenFile + Drop>(
     alloc: Global,
     file: &NetworkFile<Global>,
     links: &[Link],
@@ -288,32 +223,20 @@ fn put_streams<F: Write + OpenFile + Drop>(
     frames: Output<F>,
 ) -> Result<Totals, TableFault>
     requires bounds { length bounds.now ≡ length file.now.streams }
+    requires views { HaveViews settled.now file.now.streams }
     ensures { IfOk result (λ all. CountsTo links.now settled.now file.now.streams 0 0 all.frames all.delivered) }
 {
     let mut streams = streams;
     let mut frames = frames;
-    let mut totals = Totals {
-        frames: 0,
-        delivered: 0,
-    };
-    put_text(&mut streams, STREAMS_HEADER, Table::Streams)?;
-    put_text(&mut frames, FRAMES_HEADER, Table::Frames)?;
-    for (place, stream) in file.streams().iter().enumerate() {
-        let more = put_stream(
-            alloc,
-            file,
-            links,
-            settled,
-            stream,
-            bounds[place],
-            &mut streams,
-            &mut frames,
-        )?;
-        totals = Totals {
-            frames: totals.frames.saturating_add(more.frames),
-            delivered: totals.delivered.saturating_add(more.delivered),
-        };
-    }
+    let totals = write_tables(
+        alloc,
+        file,
+        links,
+        settled,
+        bounds,
+        &mut streams,
+        &mut frames,
+    )?;
     if end_table(streams).is_err() {
         return Err(TableFault::Broken(Table::Streams));
     }
@@ -335,11 +258,12 @@ pub(crate) fn put_tables<F: Write + OpenFile + Drop>(
     frames: Output<F>,
 ) -> Result<Totals, Fault>
     requires bounds { length bounds.now ≡ length file.now.streams }
+    requires views { HaveViews settled.now file.now.streams }
     ensures ok { IfOk result (λ all. CountsTo links.now settled.now file.now.streams 0 0 all.frames all.delivered) }
     ensures err { IfErr result EndsFiles }
 {
-    match put_streams(alloc, file, links, settled, bounds, streams, frames) {
+    match put_files(alloc, file, links, settled, bounds, streams, frames) {
         Ok(totals) => Ok(totals),
-        Err(fault) => Err(file_of(alloc, folder, fault)),
+        Err(fault) => Err(fault_of(alloc, folder, fault)),
     }
 }

@@ -1,5 +1,5 @@
 -- The test of what a hop hands to the next one says to which filter its frames belong there.
-use Rattle.std.proofs.Common.{◌≡◌, ℕ, Bool, true, false, ◌||◌, not, List, refl, ap, sym, ◌∙◌, subst, inl, inr, Option, Some, None, Ok}
+use Rattle.std.proofs.Common.{◌≡◌, ℕ, true, false, ◌||◌, not, List, refl, ap, sym, ◌∙◌, subst, inl, inr, Option, Some, None, Ok}
 use Rattle.std.specs.List.{list_all}
 use Rattle.std.proofs.lemmas.Bool.{and_parts, eqb-true, eq-eqb}
 use Rattle.std.proofs.lemmas.Option.{same_Some}
@@ -24,7 +24,7 @@ use Rattle.bridge_check.specs.Sending.{vid_of, priority_of}
 use Rattle.bridge_semantics.specs.declared.way.Way.{Way}
 use Rattle.bridge_semantics.specs.declared.way.Way.TheVariants.{Goes}
 use Rattle.bridge_semantics.specs.Events.{Arrival, arrival, Event, way_of, call_by, call_of, police_of, steps}
-use Rattle.bridge_semantics.specs.Offers.{Offer, leaving, offer_of_step, step_of, offer_on, offer_of, offers}
+use Rattle.bridge_semantics.specs.Offers.{Offer, leaving, offer_of_step, step_of, offer_on, offers}
 use Rattle.bridge_semantics.proofs.Safe.{IsSafe}
 use Rattle.bridge_semantics.proofs.Offering.{IsGoing, going, offered_by}
 use Rattle.bridge_network.specs.Feeding.{Sort, handles_of, flow_for, may_go, tags_of, gives_to, sort_by}

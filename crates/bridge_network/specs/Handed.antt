@@ -1,5 +1,5 @@
 -- How the code is handed what it tests of frames that one hop hands to the next. No public clause speaks of it.
-use Rattle.std.specs.Prelude.{◌≤◌, ℕ, Bool, Option}
+use Rattle.std.specs.Prelude.{◌≤◌, Bool, Option}
 use Rattle.bridge_frame.specs.declared.Tag.{Tag}
 use Rattle.bridge_ident.specs.declared.StreamEntry.{StreamEntry}
 use Rattle.bridge_config.specs.declared.ports.PortPlan.{PortPlan}

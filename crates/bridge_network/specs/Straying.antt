@@ -1,5 +1,5 @@
 -- Frames by which a stream isn't closed.
-use Rattle.std.specs.Prelude.{◌≡◌, ℕ, List, Option, None, Some, slice_get}
+use Rattle.std.specs.Prelude.{◌≡◌, ℕ, Bool, false, ◌&&◌, List, [], Option, None, Some, is_some, slice_get}
 use Rattle.bridge_config.specs.declared.ports.PortPlan.{PortPlan}
 use Rattle.bridge_config.specs.Model.{Plan}
 use Rattle.bridge_config.specs.Rules.{port_at}
@@ -12,8 +12,9 @@ use Rattle.bridge_network.specs.declared.taking.Taking.{Taking}
 use Rattle.bridge_network.specs.Networks.{End}
 use Rattle.bridge_network.specs.Accepting.{is_listed}
 use Rattle.bridge_network.specs.Finding as finding
+use Rattle.bridge_network.specs.Refusing.{handle_of, taken_at, taken_on}
 use Rattle.bridge_network.specs.Walking as walking
-use Rattle.bridge_network.specs.Wiring.{peer, stream_of}
+use Rattle.bridge_network.specs.Wiring.{Parts, peer, stream_of}
 
 -- frames that the filter of a hop takes at its port and that are asked for
 abbrev pub IsSample : {A : Type 0} → Taking A → Stray → Type 0
@@ -43,3 +44,24 @@ IsStrayAt plans links hops h port (Some next) s = IsStrayOn plans links hops h n
 -- frames that a hop takes at a port over its link, though they are of no hop of the stream
 abbrev pub IsStray : {A : Type 0} → List (Plan A) → List Link → List StreamHop → StreamHop → ℕ → Stray → Type 0
 IsStray plans links hops h port s = IsStrayAt plans links hops h port (slice_get plans h.bridge) s
+
+-- WHERE THE TEST FINDS SOME
+
+-- The parts of a network with these plans and links, without streams.
+abbrev pub wired : {A : Type 0} → List (Plan A) → List Link → Parts A
+wired plans links = record { plans = plans; links = links; streams = [] }
+
+-- True if the search for stray frames that hop `h` may accept over the link of the optional port finds an example, and the protected
+-- filter of the hop names a stream handle.
+abbrev pub has_stray_on : {A : Type 0} → List (Plan A) → List Link → List StreamHop → StreamHop → Plan A → Option (PortPlan A) → Bool
+has_stray_on plans links hops h next on = is_some (handle_of next.filters h.filter) && is_some (taken_on Strays (wired plans links) hops h next on)
+
+-- True if the hop test Closed finds stray frames for hop `h` at port `q`, if the optional plan is the plan of its bridge.
+abbrev pub has_stray_in : {A : Type 0} → List (Plan A) → List Link → List StreamHop → StreamHop → ℕ → Option (Plan A) → Bool
+has_stray_in plans links hops h q None = false
+has_stray_in plans links hops h q (Some next) = is_some (handle_of next.filters h.filter) && is_some (taken_at Strays (wired plans links) hops h next q)
+
+-- True if the hop test Closed finds stray frames for hop `h` at port `q`: over the link of this port, the hop may accept frames that belong
+-- to no hop of the stream.
+abbrev pub has_stray_at : {A : Type 0} → List (Plan A) → List Link → List StreamHop → StreamHop → ℕ → Bool
+has_stray_at plans links hops h q = has_stray_in plans links hops h q (slice_get plans h.bridge)

@@ -1,10 +1,13 @@
 //! A frame by which a stream isn't closed: a hop takes it over a link, and it is of no hop of the stream.
-ghost use Rattle.std.specs.Prelude.{◌≡◌, ℕ, true, IfSome, Some, slice_get};
+ghost use Rattle.std.specs.Prelude.{◌≡◌, ◌<◌, ◌&&◌, ℕ, true, IfSome, Some, is_some, slice_get};
 ghost use Rattle.bridge_filter.specs.Own.{is_number};
-ghost use Rattle.bridge_network.specs.Feeding.{flow_for};
-ghost use Rattle.bridge_network.specs.Walking.{IsTaking};
-ghost use Rattle.bridge_network.specs.Wiring.{end_of};
+ghost use Rattle.bridge_network.specs.Feeding.{flow_for, tags_of};
+ghost use Rattle.bridge_network.specs.Finding.{first_in, taken_link, taken_over};
+ghost use Rattle.bridge_network.specs.declared.sending.Question.TheVariants.{Strays};
+ghost use Rattle.bridge_network.specs.Walking.{IsTaking, all_taken, taken_by};
+ghost use Rattle.bridge_network.specs.Wiring.{end_of, peer, stream_of};
 ghost use Rattle.bridge_network.specs.Straying.{IsSample, IsStray, IsStrayAt, IsStrayOn, IsStrayOver};
+ghost use Rattle.bridge_network.specs.Straying.{has_stray_at, has_stray_in, has_stray_on};
 
 use crate::links::{End, Link, StreamHop, peer_of};
 use crate::rules::{handle_of, plan_at};
@@ -27,7 +30,10 @@ pub struct Stray {
 const TAGS: u8 = 17;
 
 /// The tag of a number among those that are tried.
-fn tag_at(i: u8, vid: u16) -> Option<Tag> {
+fn tag_at(i: u8, vid: u16) -> Option<Tag>
+    requires { i < 17 }
+    ensures { slice_get (tags_of vid) i ≡ Some result }
+{
     let dei = false;
     match i {
         0 => None,
@@ -48,7 +54,8 @@ impl<'a, A: Allocator + Copy> Taking<'a, A> {
     /// The first of the frames that an entry names and that are asked for.
     fn sample_named(&self, entry: &StreamEntry) -> Option<Stray>
         requires { IsTaking self.now }
-        ensures { IfSome result (IsSample self.now) }
+        ensures asked { IfSome result (IsSample self.now) }
+        ensures found { is_some result ≡ is_some (first_in (taken_by self.now entry.now) (tags_of entry.now.vid)) }
     {
         for i in 0..TAGS {
             let tag = tag_at(i, entry.vid);
@@ -59,17 +66,31 @@ impl<'a, A: Allocator + Copy> Taking<'a, A> {
         None
     }
 
+    /// The first of the frames that an entry names and that are asked for, if the entry is of the port and has the handle.
+    fn sample_of(&self, entry: &StreamEntry) -> Option<Stray>
+        requires { IsTaking self.now }
+        ensures asked { IfSome result (IsSample self.now) }
+        ensures found { is_some result ≡ is_some (first_in (taken_by self.now entry.now) (tags_of entry.now.vid)) }
+    {
+        if entry.port != self.on.number {
+            return None;
+        }
+        if entry.handle != self.handle {
+            return None;
+        }
+        self.sample_named(entry)
+    }
+
     /// The first of all frames that the filter takes there and that are asked for.
     fn sample(&self) -> Option<Stray>
         requires { IsTaking self.now }
-        ensures { IfSome result (IsSample self.now) }
+        ensures asked { IfSome result (IsSample self.now) }
+        ensures found { is_some result ≡ is_some (all_taken self.now) }
     {
         for entry in self.next.streams() {
-            if entry.port == self.on.number && entry.handle == self.handle {
-                let found = self.sample_named(entry);
-                if found.is_some() {
-                    return found;
-                }
+            let found = self.sample_of(entry);
+            if found.is_some() {
+                return found;
             }
         }
         None
@@ -88,7 +109,9 @@ fn stray_from<A: Allocator + Copy>(
     plan: &Plan<A>,
 ) -> Option<Stray>
     requires { (h k : ℕ) → is_number hop.filter (flow_for next.now (Some h) k) ≡ true → h ≡ handle }
-    ensures { IfSome result (IsStrayOver stream.now (end_of end) next.now on.now hop.filter (Some plan.now)) }
+    ensures stray { IfSome result (IsStrayOver stream.now (end_of end) next.now on.now hop.filter (Some plan.now)) }
+    ensures found { is_some result
+        ≡ is_some (taken_over Strays (Some plan.now) (stream_of stream.now) (end_of end) next.now on.now hop.filter) }
 {
     match plan.port(end.port) {
         Some(_) => {
@@ -122,8 +145,10 @@ fn stray_over<A: Allocator + Copy>(
     end: End,
 ) -> Option<Stray>
     requires { (h k : ℕ) → is_number hop.filter (flow_for next.now (Some h) k) ≡ true → h ≡ handle }
-    ensures { IfSome result (IsStrayOver stream.now (end_of end) next.now on.now hop.filter
+    ensures stray { IfSome result (IsStrayOver stream.now (end_of end) next.now on.now hop.filter
         (slice_get plans.now end.bridge)) }
+    ensures found { is_some result ≡ is_some (taken_over Strays (slice_get plans.now end.bridge) (stream_of stream.now)
+        (end_of end) next.now on.now hop.filter) }
 {
     match plan_at(plans, end.bridge) {
         Some(plan) => stray_from(stream, hop, next, on, handle, end, plan),
@@ -142,7 +167,9 @@ fn stray_on<A: Allocator + Copy>(
     handle: u32,
 ) -> Option<Stray>
     requires { (h k : ℕ) → is_number hop.filter (flow_for next.now (Some h) k) ≡ true → h ≡ handle }
-    ensures { IfSome result (IsStrayOn plans.now links.now stream.now hop next.now (Some on.now)) }
+    ensures stray { IfSome result (IsStrayOn plans.now links.now stream.now hop next.now (Some on.now)) }
+    ensures found { is_some result ≡ is_some (taken_link Strays plans.now (stream_of stream.now)
+        (peer links.now hop.bridge on.now.number) next.now on.now hop.filter) }
 {
     match peer_of(links, hop.bridge, on.number) {
         Some(end) => stray_over(plans, stream, hop, next, on, handle, end),
@@ -159,7 +186,8 @@ fn stray_in<A: Allocator + Copy>(
     next: &Plan<A>,
     on: &PortPlan<A>,
 ) -> Option<Stray>
-    ensures { IfSome result (IsStrayOn plans.now links.now stream.now hop next.now (Some on.now)) }
+    ensures stray { IfSome result (IsStrayOn plans.now links.now stream.now hop next.now (Some on.now)) }
+    ensures found { is_some result ≡ has_stray_on plans.now links.now stream.now hop next.now (Some on.now) }
 {
     let filters = next.filters();
     match handle_of(filters, hop.filter) {
@@ -177,7 +205,8 @@ fn stray_by<A: Allocator + Copy>(
     next: &Plan<A>,
     port: u8,
 ) -> Option<Stray>
-    ensures { IfSome result (IsStrayAt plans.now links.now stream.now hop port (Some next.now)) }
+    ensures stray { IfSome result (IsStrayAt plans.now links.now stream.now hop port (Some next.now)) }
+    ensures found { is_some result ≡ has_stray_in plans.now links.now stream.now hop port (Some next.now) }
 {
     match next.port(port) {
         Some(on) => stray_in(plans, links, stream, hop, next, on),
@@ -185,8 +214,8 @@ fn stray_by<A: Allocator + Copy>(
     }
 }
 
-/// Frames that a hop takes at a port over its link though they are of no hop of the stream, of those that `NotClosed` tells of;
-/// none, where the hop or something at the port's other end isn't there.
+/// Returns example frames that a hop accepts at a port over its link although they belong to no hop of the stream. Returns frames
+/// exactly if the test `NotClosed` finds such frames at this port.
 pub fn stray_at<A: Allocator + Copy>(
     plans: &[Accepted<A>],
     links: &[Link],
@@ -194,7 +223,8 @@ pub fn stray_at<A: Allocator + Copy>(
     hop: StreamHop,
     port: u8,
 ) -> Option<Stray>
-    ensures { IfSome result (IsStray plans.now links.now stream.now hop port) }
+    ensures stray { IfSome result (IsStray plans.now links.now stream.now hop port) }
+    ensures found { is_some result ≡ has_stray_at plans.now links.now stream.now hop port }
 {
     match plan_at(plans, hop.bridge) {
         Some(next) => stray_by(plans, links, stream, hop, next, port),

@@ -1,10 +1,17 @@
 -- Networks of files: what is made of their text, and what is printed.
-use Rattle.std.specs.Prelude.{◌≡◌, ◌⊎◌, ℕ, Bool, List, ◌++◌, map, length, sum_by, Option, Some, None, Vec, codes, decimal, string_bytes}
+use Rattle.std.specs.Prelude.{◌≡◌, ◌≢◌, ◌⊎◌, ℕ, Bool, List, ◌++◌, map, length, sum_by, Option, Some, None, Result, Err, Vec, codes, decimal, string_bytes}
+use Rattle.std.specs.Path.{rsplit_once}
+use Rattle.bridge_limits.specs.Members.{In}
 use Rattle.bridge_config.specs.Model.{Plan}
 use Rattle.bridge_inputs.specs.declared.fault.RunFault.TheVariants as run
 use Rattle.bridge_jobs.specs.declared.fault.Fault.{Fault}
 use Rattle.bridge_jobs.specs.declared.fault.Fault.TheVariants as fault
+use Rattle.bridge_jobs.specs.Jobs.{RefusesPlan}
+use Rattle.bridge_jobs.specs.Lines.{line_of as fault_line}
+use Rattle.bridge_jobs.specs.Status.{status_of}
 use Rattle.bridge_netfile.specs.declared.fault.NetFault.{NetFault}
+use Rattle.bridge_netfile.specs.declared.fault.NetFault.TheVariants as net
+use Rattle.bridge_netfile.specs.Document.{network_of_text}
 use Rattle.bridge_netfile.specs.declared.links.LinkRow.{LinkRow}
 use Rattle.bridge_netfile.specs.Lines.{line_of as text_line}
 use Rattle.bridge_netfile.specs.Model.{Bridge, Stream}
@@ -112,9 +119,77 @@ pub record PrintsNetwork (A : Type 0) (lines told : List ℕ) (kept : Bool) : Ty
   pub are_lines : AreLinesOfNetwork file network lines kept
   pub are_told : AreWarnings file network told
 
--- a fault of the job over a network: of a file, of the network or of memory
-abbrev pub EndsNetwork : Fault → Type 0
-EndsNetwork (fault.File path) = Unit {0}
-EndsNetwork (fault.Network line) = Unit {0}
-EndsNetwork (fault.Run e) = e ≡ run.NoMemory
-EndsNetwork e = ⊥
+-- THE FAULTS OF THE JOB
+
+-- A file in the folder of another file: the folder is what stands before the last `/` of the other path, if it has one.
+abbrev pub in_folder : Option (List ℕ × List ℕ) → List ℕ → List ℕ
+in_folder None file = file
+in_folder (Some parts) file = parts.0 ++ (codes "/" ++ file)
+
+-- The path of `file` if it is relative to the folder of the file at `path`.
+abbrev pub beside : List ℕ → List ℕ → List ℕ
+beside path file = in_folder (rsplit_once 47 path) file
+
+-- Holds if a fault of the program is the line of the text fault `e`, or that memory ran out.
+abbrev pub SaysText : NetFault → Fault → Type 0
+SaysText e (fault.Network line) = (e ≢ net.NoMemory) × (string_bytes line ≡ text_line e)
+SaysText e (fault.Run r) = r ≡ run.NoMemory
+SaysText e f = ⊥
+
+-- Holds if the network's text of at most 1,048,577 octets is refused: its first fault, by its line.
+abbrev pub RefusesText : List ℕ → Type 0
+RefusesText line = (text : List ℕ) × (e : NetFault) × (network_of_text text ≡ Err e) × (line ≡ text_line e)
+
+-- Holds if a reading of a network's text gives the fault whose line a fault of the program has, or memory ran out.
+abbrev pub RefusesTextBy : Result file.Network NetFault → Fault → Type 0
+RefusesTextBy reading (fault.Network line) = (e : NetFault) × (reading ≡ Err e) × (string_bytes line ≡ text_line e)
+RefusesTextBy reading (fault.Run r) = r ≡ run.NoMemory
+RefusesTextBy reading f = ⊥
+
+-- Holds if the file at `path` has no network: it can't be read, its text is refused, or memory ran out.
+abbrev pub EndsText : List ℕ → Fault → Type 0
+EndsText path (fault.File p) = string_bytes p ≡ path
+EndsText path (fault.Network line) = RefusesText (string_bytes line)
+EndsText path (fault.Run e) = e ≡ run.NoMemory
+EndsText path f = ⊥
+
+-- The lines of a refused plan: that of the network, with the bridge's name, and the plan's own.
+unfoldable pub plan_lines : List ℕ → List ℕ → List ℕ
+plan_lines name line = codes "network refused: Plan " ++ (name ++ (codes "\n" ++ line))
+
+-- Holds if a fault of the program has the lines of a plan of the bridge `name`, refused by the fault `e`, or memory ran out.
+abbrev pub SaysPlan : List ℕ → Fault → Fault → Type 0
+SaysPlan name e (fault.Network line) = (status_of e ≡ 1) × (string_bytes line ≡ plan_lines name (fault_line e))
+SaysPlan name e (fault.Run r) = r ≡ run.NoMemory
+SaysPlan name e f = ⊥
+
+-- Holds if the plan of the bridge `b` is refused with these lines: the text of a plan has this fault, or the plan isolates not
+-- each of its protected filters.
+abbrev pub RefusesPlanOf : (A : Type 0) → Bridge → List ℕ → Type 0
+RefusesPlanOf A b lines = (text : List ℕ) × (e : Fault) × RefusesPlan A text e × (status_of e ≡ 1) × (lines ≡ plan_lines b.name (fault_line e))
+
+-- Holds if a plan's text is refused with the lines that a fault of the program has, or memory ran out.
+abbrev pub RefusesPlanBy : (A : Type 0) → List ℕ → List ℕ → Fault → Type 0
+RefusesPlanBy A name text (fault.Network line) = (e : Fault) × RefusesPlan A text e × (status_of e ≡ 1) × (string_bytes line ≡ plan_lines name (fault_line e))
+RefusesPlanBy A name text (fault.Run r) = r ≡ run.NoMemory
+RefusesPlanBy A name text f = ⊥
+
+-- Holds if the bridge `b` of the network file at `path` has no accepted plan: the plan's file can't be read, the plan is refused,
+-- or memory ran out.
+abbrev pub EndsPlanOf : (A : Type 0) → List ℕ → Bridge → Fault → Type 0
+EndsPlanOf A path b (fault.File p) = string_bytes p ≡ beside path b.plan
+EndsPlanOf A path b (fault.Network line) = RefusesPlanOf A b (string_bytes line)
+EndsPlanOf A path b (fault.Run e) = e ≡ run.NoMemory
+EndsPlanOf A path b f = ⊥
+
+-- Holds if one of the bridges has no accepted plan.
+abbrev pub EndsPlans : (A : Type 0) → List ℕ → List Bridge → Fault → Type 0
+EndsPlans A path bridges f = (b : Bridge) × In b bridges × EndsPlanOf A path b f
+
+-- Holds if the fault `f` ends the job over the network file at `path`: the file has no network, a bridge has no accepted plan, the
+-- network is refused, or memory ran out.
+abbrev pub EndsNetwork : (A : Type 0) → List ℕ → Fault → Type 0
+EndsNetwork A path f =
+    (f ≡ fault.Run run.NoMemory)
+    ⊎ (EndsText path f
+    ⊎ ((n : file.Network) × (EndsPlans A path n.bridges f ⊎ ((plans : List (Plan A)) × RefusesNetwork n plans f))))

@@ -108,10 +108,14 @@ RefusesRows words f = (f ≡ fault.Run run.NoMemory) ⊎ ((e : NetFault) × (row
 abbrev pub RefusesTimings : {A : Type 0} → Plan A → List TrafficRow → Fault → Type 0
 RefusesTimings p rows f = (f ≡ fault.Run run.NoMemory) ⊎ ((e : TrafficFault) × (first_fault_from p 1 rows ≡ Some e) × IsSaid e f)
 
--- which fault ends the job: of the plan, of the file of traffic, of its text, or of its rows by the plan
-abbrev pub EndsTraffic : (A : Type 0) → List ℕ → List ℕ → List ℕ → List ℕ → Fault → Type 0
-EndsTraffic A path input file words f =
-    EndsCheck A path input f
-    ⊎ (IsOfFile file f
+-- Holds if the fault `f` ends the job over an accepted plan: the traffic file can't be read, its text is refused, or its rows are
+-- refused by the plan, in this order.
+abbrev pub EndsRows : {A : Type 0} → Plan A → List ℕ → List ℕ → Fault → Type 0
+EndsRows p file words f =
+    IsOfFile file f
     ⊎ (RefusesRows words f
-    ⊎ ((plan : Plan A) × (rows : List TrafficRow) × Accepts input plan × ReadsRows words rows × RefusesTimings plan rows f)))
+    ⊎ ((rows : List TrafficRow) × ReadsRows words rows × RefusesTimings p rows f))
+
+-- Holds if the fault `f` ends the job: it is a fault of the plan, or the plan is accepted and it is a fault of the traffic file.
+abbrev pub EndsTraffic : (A : Type 0) → List ℕ → List ℕ → List ℕ → List ℕ → Fault → Type 0
+EndsTraffic A path input file words f = EndsCheck A path input f ⊎ ((plan : Plan A) × Accepts input plan × EndsRows plan file words f)

@@ -1,7 +1,8 @@
-//! What is told beside the line of traffic whose period isn't a multiple of each cycle on the way of its frames: which cycles
-//! there are, and which of them it doesn't suit. Nothing here can fail: what can't be read again is left out.
+//! What is told beside the line of traffic that is refused: of a period that isn't a multiple of each cycle on the way of its frames,
+//! which cycles there are, and which of them it doesn't suit. Nothing here can fail: what can't be read again is left out.
 
 use crate::reporting::rows_from;
+use crate::text_faults::{explain_traffic_text, said_of};
 use crate::traffic::{comes_to, row_fault};
 use bridge_bounds::{filter_at, gate_at};
 use bridge_check::reach_of;
@@ -34,7 +35,7 @@ pub fn explain_traffic<H: AllocGlobal + Files>(
     };
     let said = match rows_from(alloc, alloc, file, texts) {
         Ok(rows) => said_of_rows(alloc, traffic, accepted.plan(), &rows),
-        Err(_) => None,
+        Err(_) => explain_traffic_text(rt, traffic),
     };
     drop(accepted);
     said
@@ -48,7 +49,29 @@ fn is_of_period(fault: Option<TrafficFault>) -> bool {
     }
 }
 
-/// What is told of the first row whose period doesn't suit.
+/// Returns what is told of another fault of a row: its filter isn't there, or isn't protected.
+fn said_of_fault(
+    alloc: Global,
+    file: &str,
+    index: u32,
+    row: &TrafficRow,
+    fault: &TrafficFault,
+) -> Option<String> {
+    match fault {
+        TrafficFault::Text(fault) => said_of(alloc, file, fault),
+        TrafficFault::NotProtected(_) => {
+            let mut said = Text::new(alloc);
+            said.fill(
+                "{a}: filter {1} of `traffic` {0} isn't protected, so it has no delay bound. Set `protected = true` in the plan.\n",
+                &[u64::from(index), u64::from(row.filter)],
+                &[file],
+            );
+            said.done().ok()
+        }
+    }
+}
+
+/// What is told of the first row that doesn't suit the plan.
 fn said_of_rows(
     alloc: Global,
     file: &str,
@@ -62,8 +85,8 @@ fn said_of_rows(
         if is_of_period(fault) {
             return said_of_row(alloc, file, plan, index, row);
         }
-        if fault.is_some() {
-            return None;
+        if let Some(fault) = fault {
+            return said_of_fault(alloc, file, index, row, &fault);
         }
     }
     None

@@ -52,7 +52,7 @@ pub fn paths_of(
 /// with how long each takes at most. Its faults are those of `network_job`.
 pub fn network_picture<H: AllocGlobal + Files>(rt: &H, path: &str) -> Result<NetworkPicture, Fault>
     ensures ok { IfOk result (λ picture. length (string_bytes picture.text) ≤ 2000000) }
-    ensures err { IfErr result EndsNetwork }
+    ensures err { IfErr result (EndsNetwork Global path.now) }
 {
     let alloc = rt.alloc();
     let copy = String::from_str(alloc, path)?;

@@ -1,17 +1,21 @@
-//! What is told beside the line of a network that is refused: of a stream that isn't closed the frame that is taken for its, and
-//! what keeps such frames away. Nothing here can fail: what can't be read again is left out.
+//! What is told beside the line of a network that is refused: what is wrong, and what to change; of a stream that isn't closed also a
+//! frame that is taken for its. Nothing here can fail: what can't be read again is left out.
+ghost use Rattle.std.specs.Prelude.{◌≤◌, length};
 
-use crate::network::{links_of, read_network, read_plans, streams_of};
+use crate::network::{beside, links_of, read_network, read_plan, read_plans, streams_of, tested};
 use crate::refusing::name_of;
-use crate::telling::address_words;
+use crate::talkers::first_misfit;
+use crate::telling::{address_words, push_rounds};
+use crate::text_faults::{explain_network_text, said_of};
 use bridge_check::{Accepted, reach_of};
+use bridge_circling::circulations_in;
 use bridge_config::Plan;
 use bridge_filter::FilterPlan;
 use bridge_frame::Tag;
 use bridge_ident::Kind;
 use bridge_netfile::{BridgeRow, NetworkFile};
 use bridge_network::{
-    End, Link, NetworkFault, RefusedNetwork, Stray, StreamHop, check_network, peer_of, stray_at,
+    End, Link, Network, NetworkFault, RefusedNetwork, Stray, StreamHop, check_network, peer_of, stray_at,
 };
 use bridge_text::Text;
 use std::alloc::{Allocator, Global};
@@ -21,9 +25,67 @@ use std::rt::Files;
 pub fn explain_network<H: AllocGlobal + Files>(rt: &H, path: &str) -> Option<String> {
     let alloc = rt.alloc();
     let copy = String::from_str(alloc, path).ok()?;
-    let file = read_network(rt, copy).ok()?;
+    let Ok(file) = read_network(rt, copy) else {
+        return explain_network_text(rt, path);
+    };
     match read_plans(rt, path, file.bridges()) {
         Ok(plans) => said_of_plans(alloc, path, &file, plans),
+        Err(_) => said_of_first_plan(rt, path, &file),
+    }
+}
+
+/// Returns what is told of the first plan of a network that is refused: how to see more of it.
+fn said_of_first_plan<H: AllocGlobal + Files>(
+    rt: &H,
+    path: &str,
+    file: &NetworkFile<Global>,
+) -> Option<String> {
+    for bridge in file.bridges() {
+        if read_plan(rt, path, bridge).is_err() {
+            let place = beside(rt.alloc(), path, bridge.plan()).ok()?;
+            let mut said = Text::new(rt.alloc());
+            said.fill(
+                "{a}: the plan of bridge {b} is refused. For more: tsnbridge check {c} --explain\n",
+                &[],
+                &[path, bridge.name(), place.as_str()],
+            );
+            return said.done().ok();
+        }
+    }
+    None
+}
+
+/// Returns a line for the frames of each VLAN and destination that may go round in the network of a file, made anew of the file and of
+/// the plans beside it.
+pub fn explain_loops<H: AllocGlobal + Files>(rt: &H, path: &str) -> Option<String> {
+    let alloc = rt.alloc();
+    let copy = String::from_str(alloc, path).ok()?;
+    let Ok(file) = read_network(rt, copy) else {
+        return None;
+    };
+    let Ok(plans) = read_plans(rt, path, file.bridges()) else {
+        return None;
+    };
+    let Ok(network) = tested(alloc, alloc, &file, plans) else {
+        return None;
+    };
+    let said = loops_of(alloc, &file, &network);
+    drop(network);
+    said
+}
+
+/// Returns these lines of a network.
+fn loops_of(
+    alloc: Global,
+    file: &NetworkFile<Global>,
+    network: &Network<Global>,
+) -> Option<String>
+    requires few { length network.now.plans ≤ 64 }
+{
+    let rows = circulations_in(alloc, network.plans(), network.links()).ok()?;
+    let mut text = String::new(alloc);
+    match push_rounds(alloc, &mut text, file.bridges(), &rows) {
+        Ok(()) => Some(text),
         Err(_) => None,
     }
 }
@@ -45,9 +107,39 @@ fn said_of_plans(
         return None;
     };
     match check_network(plans, links, streams) {
-        Ok(_) => None,
+        Ok(network) => match first_misfit(network.plans(), file.streams()) {
+            Some(fault) => said_of(alloc, path, &fault),
+            None => None,
+        },
         Err(refused) => said_of_refused(alloc, path, file, &refused),
     }
+}
+
+/// Returns what is told of a link that is refused, by its place, from 1.
+fn said_of_link(alloc: Global, path: &str, template: &str, link: usize) -> Option<String> {
+    let mut said = Text::new(alloc);
+    said.fill(template, &[link as u64], &[path]);
+    said.done().ok()
+}
+
+/// Returns what is told of a hop that is refused, by the places of its stream and of itself, from 1, and by the name of the hop.
+fn said_of_hop(
+    alloc: Global,
+    path: &str,
+    file: &NetworkFile<Global>,
+    template: &str,
+    stream: usize,
+    hop: usize,
+) -> Option<String> {
+    let row = file.streams().get(stream.checked_sub(1)?)?;
+    let (bridge, filter) = *row.hops().get(hop.checked_sub(1)?)?;
+    let mut said = Text::new(alloc);
+    said.fill(
+        template,
+        &[hop as u64, u64::from(filter)],
+        &[path, row.name(), name_of(file.bridges(), bridge)],
+    );
+    said.done().ok()
 }
 
 /// A stream that isn't closed: the places of its hop, with the numbers that its line has.
@@ -89,7 +181,56 @@ fn said_of_refused(
             };
             said_of_open(heap, path, file, refused, open)
         }
-        _ => None,
+        NetworkFault::Unresolved { link } => said_of_link(
+            heap,
+            path,
+            "{a}: `link` {0} of the file names a port that the bridge's plan doesn't have. Correct `one` or `other`, or add the port to the plan.\n",
+            link,
+        ),
+        NetworkFault::LinkTwice { link, .. } => said_of_link(
+            heap,
+            path,
+            "{a}: `link` {0} of the file ends at a port that has another link, or it joins a port to itself. Each port has at most one link: correct `one` or `other`.\n",
+            link,
+        ),
+        NetworkFault::SpeedsDiffer { link } => said_of_link(
+            heap,
+            path,
+            "{a}: the two ports of `link` {0} of the file have different speeds. Give both the same `mbps` in their plans.\n",
+            link,
+        ),
+        NetworkFault::NotProtected { stream, hop } => said_of_hop(
+            heap,
+            path,
+            file,
+            "{a}: hop {0} of stream {b} is filter {1} of bridge {c}, but the plan of {c} has no protected filter of this number. Correct the hop, or set `protected = true`.\n",
+            stream,
+            hop,
+        ),
+        NetworkFault::HopTwice { stream, hop } => said_of_hop(
+            heap,
+            path,
+            file,
+            "{a}: hop {0} of stream {b} (filter {1} of {c}) is a hop already, of this stream or of an earlier one. Use one filter for each stream and bridge.\n",
+            stream,
+            hop,
+        ),
+        NetworkFault::NotFed { stream, hop: 1 } => said_of_hop(
+            heap,
+            path,
+            file,
+            "{a}: hop {0} of stream {b} (filter {1} of {c}) is the talker's hop, but no port of {c} without a link has a `stream` entry with the filter's `handle`. Add this entry at the talker's port.\n",
+            stream,
+            1,
+        ),
+        NetworkFault::NotFed { stream, hop } => said_of_hop(
+            heap,
+            path,
+            file,
+            "{a}: hop {0} of stream {b} (filter {1} of {c}) accepts no frame that another hop of the stream sends over a link. Compare VLAN, address, tag, `static` entries and stream gates of this hop and the hop before it.\n",
+            stream,
+            hop,
+        ),
     }
 }
 

@@ -1,5 +1,6 @@
 //! Networks of files, from their text to their line.
 ghost use Rattle.std.specs.Prelude.{◌≡◌, ◌≤◌, ◌+◌, All, None, Vec, length, map, IfOk, IfErr, OnOk, string_bytes};
+ghost use Rattle.bridge_netfile.specs.Document.{network_of_text};
 ghost use Rattle.bridge_netfile.specs.Model.{Stream};
 ghost use Rattle.bridge_network.specs.declared.links.StreamHop.{StreamHop as Hop};
 ghost use Rattle.bridge_network.specs.Refusing.{first_fault};
@@ -7,7 +8,7 @@ ghost use Rattle.bridge_inputs.specs.declared.fault.RunFault.{RunFault};
 ghost use Rattle.bridge_jobs.specs.declared.fault.Fault.{Fault};
 ghost use Rattle.bridge_planning.specs.Bounds.{IsPlaced};
 ghost use Rattle.bridge_planning.specs.Warnings.{AreWarnings};
-ghost use Rattle.bridge_planning.specs.Networks.{AreLinesOfNetwork, EndsNetwork, IsMadeOf, PrintsNetwork, RefusesNetwork, RefusesPeriods, accepted_line, hops_in, link_in};
+ghost use Rattle.bridge_planning.specs.Networks.{AreLinesOfNetwork, EndsNetwork, EndsPlanOf, EndsPlans, EndsText, IsMadeOf, PrintsNetwork, RefusesNetwork, RefusesPeriods, RefusesPlanBy, RefusesTextBy, SaysPlan, SaysText, accepted_line, beside, hops_in, link_in};
 ghost use Rattle.bridge_planning.specs.Streams.{AreBoundsOf, hop_in};
 ghost use Rattle.bridge_planning.specs.Talkers.{first_misfit};
 
@@ -18,7 +19,7 @@ use crate::talkers::first_misfit as misfit_in;
 use crate::warnings::warnings_of;
 use bridge_check::Accepted;
 use bridge_inputs::RunFault;
-use bridge_jobs::{Fault, fault_line as plan_line, fault_of_file, planned, read_at_most};
+use bridge_jobs::{Fault, accepted_of, fault_line as plan_line, fault_of_file, read_at_most};
 use bridge_limits::NoMemory;
 use bridge_netfile::{
     BridgeRow, LinkRow, NetFault, NetworkFile, StreamRow, fault_line, network_of,
@@ -220,30 +221,38 @@ fn lines_of<A: Allocator + Copy>(
     Ok(StreamLines { text, kept })
 }
 
-/// The text of a network by the path of its file, read.
+/// Reads the network of the file at a path.
+///
+/// `File` if the file can't be read, `Network` with the line of the text's first fault, or `Run` with `NoMemory`.
 pub fn read_network<H: AllocGlobal + Files>(
     rt: &H,
     path: String,
 ) -> Result<NetworkFile<Global>, Fault>
-    ensures { IfErr result EndsNetwork }
+    ensures { IfErr result (EndsText (string_bytes path)) }
 {
     let alloc = rt.alloc();
     let Ok(reader) = fs::open(rt, path.as_str()) else {
         return Err(Fault::File(path));
     };
-    let text = match read_at_most(alloc, reader, MOST_TEXT) {
-        Ok(text) => text,
-        Err(fault) => return Err(fault_of_file(path, fault)),
-    };
-    match network_of(alloc, alloc, &text) {
+    match read_at_most(alloc, reader, MOST_TEXT) {
+        Ok(text) => network_in(alloc, &text),
+        Err(fault) => Err(fault_of_file(path, fault)),
+    }
+}
+
+/// Returns the network of a text, or its first fault.
+fn network_in(alloc: Global, text: &[u8]) -> Result<NetworkFile<Global>, Fault>
+    ensures { IfErr result (RefusesTextBy (network_of_text text.now)) }
+{
+    match network_of(alloc, alloc, text) {
         Ok(file) => Ok(file),
         Err(fault) => Err(refused_text(alloc, &fault)),
     }
 }
 
-/// The fault of a network whose text is refused.
+/// Returns the fault of a network whose text is refused.
 fn refused_text(alloc: Global, fault: &NetFault) -> Fault
-    ensures { EndsNetwork result }
+    ensures { SaysText fault.now result }
 {
     if let NetFault::NoMemory = fault {
         return memory_fault();
@@ -254,18 +263,21 @@ fn refused_text(alloc: Global, fault: &NetFault) -> Fault
     }
 }
 
-/// The path of a file that lies in the folder of another one.
-pub(crate) fn beside(alloc: Global, path: &str, file: &str) -> Result<String, AllocError> {
+/// Returns the path of a file that lies in the folder of another file.
+pub(crate) fn beside(alloc: Global, path: &str, file: &str) -> Result<String, AllocError>
+    ensures { IfOk result (λ place. string_bytes place ≡ beside path.now file.now) }
+{
     match path.rsplit_once('/') {
         Some((folder, _)) => format!(in alloc; "{folder}/{file}"),
         None => String::from_str(alloc, file),
     }
 }
 
-/// The fault of a network for a plan of it that is refused: its line has the name of the bridge, and the plan's own line
-/// behind it. Want of memory for the plan is want of memory.
+/// Returns the fault of a network for a plan of it that is refused: its line has the name of the bridge, and the plan's own
+/// line behind it. If memory ran out for the plan, it ran out for the network.
+#[tactic(auto, unfolding(crate::specs::Networks::plan_lines))]
 fn said_of_plan(alloc: Global, name: &str, fault: &Fault) -> Fault
-    ensures { EndsNetwork result }
+    ensures { SaysPlan name.now fault.now result }
 {
     let Ok((line, status)) = plan_line(alloc, fault) else {
         return memory_fault();
@@ -279,13 +291,27 @@ fn said_of_plan(alloc: Global, name: &str, fault: &Fault) -> Fault
     }
 }
 
-/// The plan of a bridge, in the folder of the network's file, where it is accepted.
-fn read_plan<H: AllocGlobal + Files>(
+/// Returns the accepted plan of a text, or the fault of the network with the name of the bridge.
+fn plan_in(alloc: Global, name: &str, text: &[u8]) -> Result<Accepted<Global>, Fault>
+    ensures { IfErr result (RefusesPlanBy Global name.now text.now) }
+{
+    match accepted_of(alloc, alloc, text) {
+        Ok(accepted) => Ok(accepted),
+        Err(fault) => {
+            let said = said_of_plan(alloc, name, &fault);
+            drop(fault);
+            Err(said)
+        }
+    }
+}
+
+/// Reads the plan of a bridge, in the folder of the network's file, if it is accepted.
+pub(crate) fn read_plan<H: AllocGlobal + Files>(
     rt: &H,
     path: &str,
     bridge: &BridgeRow<Global>,
 ) -> Result<Accepted<Global>, Fault>
-    ensures { IfErr result EndsNetwork }
+    ensures { IfErr result (EndsPlanOf Global path.now bridge.now) }
 {
     let alloc = rt.alloc();
     let Ok(place) = beside(alloc, path, bridge.plan()) else {
@@ -294,14 +320,9 @@ fn read_plan<H: AllocGlobal + Files>(
     let Ok(reader) = fs::open(rt, place.as_str()) else {
         return Err(Fault::File(place));
     };
-    match planned(alloc, alloc, place, reader) {
-        Ok(accepted) => Ok(accepted),
-        Err(Fault::File(place)) => Err(Fault::File(place)),
-        Err(fault) => {
-            let said = said_of_plan(alloc, bridge.name(), &fault);
-            drop(fault);
-            Err(said)
-        }
+    match read_at_most(alloc, reader, MOST_TEXT) {
+        Ok(text) => plan_in(alloc, bridge.name(), &text),
+        Err(fault) => Err(fault_of_file(place, fault)),
     }
 }
 
@@ -313,7 +334,7 @@ fn push_plan<H: AllocGlobal + Files>(
     plans: &mut Vec<Accepted<Global>>,
 ) -> Result<(), Fault>
     ensures more { OnOk result (length plans.new.items ≡ length plans.old.items + 1) }
-    ensures ends { IfErr result EndsNetwork }
+    ensures ends { IfErr result (EndsPlanOf Global path.now bridge.now) }
 {
     match read_plan(rt, path, bridge) {
         Ok(accepted) => match plans.push(accepted) {
@@ -324,14 +345,16 @@ fn push_plan<H: AllocGlobal + Files>(
     }
 }
 
-/// The plans of the bridges, in their order.
+/// Reads the plans of the bridges, in their order.
+///
+/// `File` of a plan that can't be read, `Network` with the lines of one that is refused, or `Run` with `NoMemory`.
 pub fn read_plans<H: AllocGlobal + Files>(
     rt: &H,
     path: &str,
     bridges: &[BridgeRow<Global>],
 ) -> Result<Vec<Accepted<Global>>, Fault>
     ensures each { IfOk result (λ plans. length plans.items ≡ length bridges.now) }
-    ensures ends { IfErr result EndsNetwork }
+    ensures ends { IfErr result (EndsPlans Global path.now bridges.now) }
 {
     let mut plans = Vec::new(rt.alloc());
     for bridge in bridges {
@@ -392,7 +415,7 @@ fn said_of<A: Allocator + Copy>(
 pub fn network_job<H: AllocGlobal + Files>(rt: &H, path: String) -> Result<NetworkSaid, Fault>
     ensures ok { IfOk result (λ said. PrintsNetwork Global (string_bytes said.lines)
         (string_bytes said.told) said.kept) }
-    ensures err { IfErr result EndsNetwork }
+    ensures err { IfErr result (EndsNetwork Global (string_bytes path)) }
 {
     let alloc = rt.alloc();
     let copy = String::from_str(alloc, path.as_str())?;

@@ -95,16 +95,16 @@ fn put_queue(said: &mut Text<Global>, plan: &Plan<Global>, row: &TrafficRow, que
         ],
         &[],
     );
-    put_reason(said, plan, &filter, &row.traffic, queue);
+    put_reason(said, plan, &filter, &row.traffic, queue.class);
 }
 
-/// Adds the first condition that fails.
-fn put_reason(
+/// Adds the first condition that fails for frames that come so to a filter, whose queue has this class.
+pub(crate) fn put_reason(
     said: &mut Text<Global>,
     plan: &Plan<Global>,
     filter: &FilterPlan,
     traffic: &Traffic,
-    queue: &QueueTiming,
+    class: u8,
 )
     requires traffic { IsTraffic traffic.now }
 {
@@ -128,7 +128,7 @@ fn put_reason(
     if passes(plan, filter, traffic) {
         return said.fill(
             "a frame may still be queued when the next one arrives, and the queue may then be full. Its class {0} must be open early enough.\n",
-            &[u64::from(queue.class)],
+            &[u64::from(class)],
             &[],
         );
     }

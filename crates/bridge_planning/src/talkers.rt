@@ -188,7 +188,7 @@ fn queues_of<A: Allocator + Copy>(
 }
 
 /// How long the frames of a talker take through some hops.
-fn course_over<A: Allocator + Copy>(
+pub(crate) fn course_over<A: Allocator + Copy>(
     alloc: A,
     plans: &[Accepted<A>],
     links: &[Link],

@@ -81,7 +81,7 @@ fn push_round<A: Allocator + Copy>(
 }
 
 /// Adds the lines of all frames that may go round.
-fn push_rounds<A: Allocator + Copy>(
+pub(crate) fn push_rounds<A: Allocator + Copy>(
     heap: Global,
     text: &mut String,
     bridges: &[BridgeRow<A>],

@@ -4,14 +4,14 @@ ghost use Rattle.bridge_net_app.specs.Losing.{status_of};
 ghost use Rattle.bridge_single.specs.Left.{is_of_networks};
 
 use crate::refusing::{of_drawing, of_network, of_traffic};
-use bridge_app::{Refusal, picture_apart, write_picture};
+use bridge_app::{Refusal, picture_apart, warning_of_bounds, write_picture};
 use bridge_cli::{Job, PictureRequest};
 use bridge_files::{MOST_TEXT, is_standard, open_noted, read_noted, text_at};
 use bridge_jobs::{Cause, Fault, NoMemory, fault_of_file};
 use bridge_net_app::{RoundsJob, RoundsSaid, rounds_noted};
 use bridge_planning::{
-    NetworkPicture, NetworkSaid, TrafficReport, bounds_job, explain_refusable, memory_fault,
-    network_job, network_picture, traffic_job,
+    NetworkPicture, NetworkSaid, TrafficReport, bounds_job, explain_refusable,
+    explain_refusable_streams, memory_fault, network_job, network_picture, traffic_job,
 };
 use bridge_single::{
     Ending, Left, Performed, Wishes, of_file, of_plan, of_words, printed, refused_and_told,
@@ -161,7 +161,7 @@ fn bounds_of_plan(
         return Err(unexplained(memory_fault()));
     };
     match bounds_job(alloc, alloc, path, text.as_slice()) {
-        Ok(text) => Ok(printed(alloc, text, true)),
+        Ok(lines) => Ok(warned(alloc, printed(alloc, lines, true), &text, wishes)),
         Err(fault) => Err(of_plan(alloc, plan.as_str(), &text, wishes, fault)),
     }
 }
@@ -207,14 +207,39 @@ fn bounds_of_rows<R: Read + Drop>(
         return Err(unexplained(memory_fault()));
     };
     match traffic_job(alloc, alloc, path, text, place, rows) {
-        Ok(TrafficReport { text, kept }) => {
+        Ok(TrafficReport { text: lines, kept }) => {
             let told = refusable_told(rt, plan, file, wishes.is_explained && !kept);
-            Ok(Ending {
+            let ending = Ending {
                 told,
-                ..printed(alloc, text, kept)
-            })
+                ..printed(alloc, lines, kept)
+            };
+            Ok(warned(alloc, ending, text, wishes))
         }
         Err(fault) => Err(of_traffic(rt, plan, text, file, wishes, fault)),
+    }
+}
+
+/// Returns the ending of bounds with the warning of a plan without a protected filter, if warnings are asked for. With strictness the
+/// warning makes the status 1.
+fn warned(alloc: Global, ending: Ending, plan: &[u8], wishes: Wishes) -> Ending {
+    if !wishes.is_explained && !wishes.is_strict {
+        return ending;
+    }
+    let warning = warning_of_bounds(alloc, plan);
+    if warning.is_empty() {
+        return ending;
+    }
+    let Ending {
+        printed,
+        told,
+        status,
+    } = ending;
+    let mut told = told;
+    let _ = told.push_str(warning.as_str());
+    Ending {
+        printed,
+        told,
+        status: if wishes.is_strict { 1 } else { status },
     }
 }
 
@@ -250,8 +275,24 @@ fn check_network(
         Err(fault) => Err(fault),
     };
     match said {
-        Ok(ending) => Ok(ending),
+        Ok(ending) => Ok(with_reasons(rt, path.as_str(), ending, wishes)),
         Err(fault) => Err(of_network(rt, path.as_str(), None, wishes, fault)),
+    }
+}
+
+/// Returns the ending of the check of a network with the reason for each stream that is refusable, if an explanation is asked for.
+fn with_reasons(
+    rt: &(impl AllocGlobal + Files),
+    path: &str,
+    ending: Ending,
+    wishes: Wishes,
+) -> Ending {
+    if !wishes.is_explained {
+        return ending;
+    }
+    match explain_refusable_streams(rt, path) {
+        Some(told) => Ending { told, ..ending },
+        None => ending,
     }
 }
 

@@ -3,7 +3,7 @@
 use bridge_app::{Refusal, said_of_file, said_of_plan, said_of_unread};
 use bridge_jobs::{Cause, Fault};
 use bridge_net_app::explain_stopped;
-use bridge_planning::{explain_network, explain_traffic};
+use bridge_planning::{explain_loops, explain_network, explain_traffic};
 use bridge_single::{Wishes, unexplained};
 use std::rt::Files;
 
@@ -39,11 +39,24 @@ pub(crate) fn of_network(
         return unexplained(fault);
     }
     let said = match &fault {
-        Fault::Rounds(line) => explain_stopped(rt.alloc(), line.as_str()),
+        Fault::Rounds(line) => said_of_stopped(rt, path, line.as_str()),
         Fault::Network(_) => explain_network(rt, path),
         fault => said_of_noted(rt, cause, fault),
     };
     Refusal { fault, said }
+}
+
+/// Returns what is told of a run that stopped, by its line: what to look at, and the loops that the plans of the network allow.
+fn said_of_stopped(
+    rt: &(impl AllocGlobal + Files),
+    path: &str,
+    line: &str,
+) -> Option<String> {
+    let said = explain_stopped(rt.alloc(), line)?;
+    match explain_loops(rt, path) {
+        Some(loops) => format!(in rt.alloc(); "{said}{loops}").ok(),
+        None => Some(said),
+    }
 }
 
 /// A fault of the picture of a network.

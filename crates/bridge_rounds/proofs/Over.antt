@@ -1,5 +1,5 @@
 -- A run of a bridge over texts in memory.
-use Rattle.std.proofs.Common.{◌≡◌, ℕ, zero, suc, true, false, ◌<◌, List, [], ◌∷◌, ◌++◌, length, nat_eq, option_map, Option, Some, None, refl, sym, ap, ◌∙◌, subst, arith}
+use Rattle.std.proofs.Common.{◌≡◌, ◌≢◌, ℕ, zero, suc, true, false, ◌<◌, List, [], ◌∷◌, ◌++◌, length, nat_eq, option_map, Option, Some, None, refl, sym, ap, ◌∙◌, subst, arith}
 use Rattle.std.specs.Prelude.{All, is_some, slice_get, if◌then◌else◌, Vec}
 use Rattle.std.proofs.lemmas.Bool.{eq-eqb}
 use Rattle.std.proofs.lemmas.Bool.Decides.{nat_tests}
@@ -9,6 +9,8 @@ use Rattle.std.proofs.lemmas.Option.{slice_get-map, slice_get_within, same_Some}
 use Rattle.bridge_limits.specs.Members.{Rising}
 use Rattle.bridge_limits.proofs.Lists.{there_is}
 use Rattle.bridge_limits.proofs.Members.{after_at}
+use Rattle.bridge_capture.specs.declared.fault.CaptureFault.{CaptureFault}
+use Rattle.bridge_capture.specs.declared.fault.CaptureFault.TheVariants as faults
 use Rattle.bridge_capture.specs.Grammar.{Records, AtEnd}
 use Rattle.bridge_capture.specs.Memory.{MemoryDevice}
 use Rattle.bridge_capture.specs.Written.{written_text}
@@ -95,14 +97,14 @@ are_rests (p ∷ ports) (t ∷ sources) r (suc i) q s at is =
 
 -- why a run stopped
 pub stops_bridge : {A : Type 0} (p : Plan A) (ports : List ℕ) (commands : List Command) (texts : List (List ℕ)) (sources olds news : List MemoryDevice) (fault : RunFault)
-    → AreNumbers p ports
+    → AreNumbers p ports → ((port : ℕ) → fault ≢ run.Capture port faults.Read)
     → ((rests : ℕ → Option (List ℕ)) → AreRests held ports rests sources → Stops p ports commands (text_by ports texts) rests held (λ d. d.is_broken) olds news fault)
     → StopsBridge p ports commands texts (of_memory fault)
-stops_bridge p ports commands texts sources olds news (run.Capture port fault) are stops =
+stops_bridge p ports commands texts sources olds news (run.Capture port fault) are unread stops =
     let rests = rest_by ports sources in
-    (rests, olds, news, stops rests (are_rests ports sources (rising_numbers ports are.rises)))
-stops_bridge p ports commands texts sources olds news (run.Write port) are stops = tt
-stops_bridge p ports commands texts sources olds news run.NoMemory are stops = tt
+    (λ e. unread port (ap (λ (f : CaptureFault). run.Capture port f) e), rests, olds, news, stops rests (are_rests ports sources (rising_numbers ports are.rises)))
+stops_bridge p ports commands texts sources olds news (run.Write port) are unread stops = tt
+stops_bridge p ports commands texts sources olds news run.NoMemory are unread stops = tt
 
 -- there are as many sources as ports
 pub sources_many : {A B : Type 0} (p : Plan A) (ports : List ℕ) (sources : List MemoryDevice) (texts : List (Vec ℕ B)) → AreNumbers p ports → taps_in sources ≡ texts_in texts → length texts ≡ length ports → length sources ≡ length p.ports

@@ -1,12 +1,14 @@
 -- Why a run of a network stopped, round by round.
-use Rattle.std.proofs.Common.{◌≡◌, ℕ, suc, ◌+◌, ◌<◌, List, sym, subst, arith}
-use Rattle.std.specs.Prelude.{IfErr, OnErr, Result, Ok, Err}
+use Rattle.std.proofs.Common.{◌≡◌, ℕ, suc, ◌+◌, ◌<◌, List, Some, nat_eq, sym, ap, ◌∙◌, subst, arith}
+use Rattle.std.specs.Prelude.{IfErr, OnErr, Result, Ok, Err, slice_get}
+use Rattle.std.proofs.lemmas.Bool.{eqb-false, eqb-true}
+use Rattle.bridge_limits.proofs.Cases.{by_bool}
 use Rattle.bridge_network.specs.Wiring.{Parts}
 use Rattle.bridge_rounds.specs.declared.settling.RoundsFault.{RoundsFault}
 use Rattle.bridge_rounds.specs.declared.settling.RoundsFault.TheVariants as fault
 use Rattle.bridge_rounds.specs.declared.station.Incoming.{Incoming}
-use Rattle.bridge_rounds.specs.Stations.{GoesOn, StationState}
-use Rattle.bridge_rounds.specs.Rounds.{AreBefore, StopsRound, StopsSettling}
+use Rattle.bridge_rounds.specs.Stations.{AreFed, GoesOn, HasCompleteRun, HaveRun, StationState}
+use Rattle.bridge_rounds.specs.Rounds.{AreBefore, AreUnsettledBefore, HaveCompleteRunsBefore, IsUnsettled, SettlesIn, StopsRound, StopsSettling}
 
 -- one round more
 pub before_more : {A : Type 0} (n : Parts A) (came : List (Incoming A)) (k b q : ℕ) (xs ys : List (StationState A)) → AreBefore n came k xs → GoesOn xs ys b q → AreBefore n came (k + 1) ys
@@ -24,6 +26,25 @@ pub stops_settling : {A : Type 0} (n : Parts A) (came : List (Incoming A)) (roun
 stops_settling n came rounds k xs (fault.Bridge b e) before less stops = (k, xs, less, before, stops)
 stops_settling n came rounds k xs (fault.NotSettled b q) before less stops = absurd stops
 stops_settling n came rounds k xs fault.NoMemory before less stops = tt
+
+-- one bridge more has a complete run
+pub complete_more : {A : Type 0} (xs : List (StationState A)) (b : ℕ) (x : StationState A) → slice_get xs b ≡ Some x → HasCompleteRun x → HaveCompleteRunsBefore xs b → HaveCompleteRunsBefore xs (b + 1)
+complete_more {A} xs b x is run before c less =
+    by_bool (nat_eq c b)
+    (λ e. (x, ap (slice_get xs) (eqb-true c b e) ∙ is, run))
+    (λ e. before c (let apart = eqb-false c b e in omega (arith, less, apart)))
+
+-- after one round more something else still comes
+pub earlier_more : {A : Type 0} (n : Parts A) (came : List (Incoming A)) (k b q : ℕ) (xs ys : List (StationState A)) → AreBefore n came k xs → GoesOn xs ys b q → AreUnsettledBefore n came k → AreUnsettledBefore n came (k + 1)
+earlier_more n came k b q xs ys before on earlier j less =
+    by_bool (nat_eq j k)
+    (λ e. (b, q, subst (λ (m : ℕ). IsUnsettled n came m b q) (sym (eqb-true j k e)) (xs, on.between, before, on.ran, on.first)))
+    (λ e. earlier j (let apart = eqb-false j k e in omega (arith, less, apart)))
+
+-- in a round nothing else was sent than had come, in none before it
+pub settles_in : {A : Type 0} (n : Parts A) (came : List (Incoming A)) (k rounds : ℕ) (xs ys : List (StationState A)) → rounds ≡ k + 1 → AreBefore n came k xs → HaveRun xs ys → AreFed ys → AreUnsettledBefore n came k → SettlesIn n came rounds
+settles_in n came k rounds xs ys number begins runs fed earlier =
+    record { last = k; number = omega (arith, number); before = xs; ran = ys; begins = begins; runs = runs; fed = fed; earlier = earlier }
 
 -- want of memory does
 pub memory_stops : {A X : Type 0} (n : Parts A) (came : List (Incoming A)) (rounds : ℕ) (r : Result X RoundsFault) → OnErr r (r ≡ Err fault.NoMemory) → IfErr r (StopsSettling n came rounds)

@@ -18,14 +18,21 @@ use Rattle.bridge_network.proofs.Chain.{alone_in}
 use Rattle.bridge_network.proofs.Once.{one_course}
 use Rattle.bridge_simulation.specs.Simulated.{AreNumbers}
 use Rattle.bridge_simulation.proofs.Beginning.{one_order}
+use Rattle.bridge_simulation.proofs.Simulating.{ports_many}
 use Rattle.bridge_network.specs.Networks.{AreTimed, Hop, IsTimed, IsNetwork, Sender, sender}
 use Rattle.bridge_network.specs.Wiring.{Parts, link_of, network_of, stream_of}
 use Rattle.bridge_rounds.specs.declared.settling.Settled.{Settled}
 use Rattle.bridge_rounds.specs.declared.station.Incoming.{Incoming}
 use Rattle.bridge_rounds.specs.Stations.{AreFed, Ground, HasRun, IsBegun, IsStation, StationState, ground, open_texts, taps_in, texts_in}
-use Rattle.bridge_rounds.specs.Rounds.{AreBegun, AreIncoming, AreOutcomes, AreSettled, IsolatesStreams, OthersChangeNothing, RunsNetwork, commands_in}
+use Rattle.bridge_rounds.specs.Rounds.{AreBegun, AreIncoming, AreOutcomes, AreSettled, HaveTaps, IsolatesStreams, OthersChangeNothing, RunsNetwork, commands_in}
 use Rattle.bridge_rounds.proofs.Fitting.{AllRan, AreOf, frames_in, left_there, network_run, none_read, open_read, tap_read}
 use Rattle.bridge_rounds.proofs.Turns.{ground_kept}
+
+-- an item of a list
+pub at_each : {X : Type 0} (P : X → Type 0) (xs : List X) → All P xs → (b : ℕ) (x : X) → slice_get xs b ≡ Some x → P x
+at_each P [] all b x is = absurd (cc)
+at_each P (y ∷ xs) all zero x is = subst P (same_Some y x is) (All-head P y xs all)
+at_each P (y ∷ xs) all (suc b) x is = at_each P xs (All-tail P y xs all) b x is
 
 -- each bridge has run
 all_ran : {A : Type 0} (xs : List (StationState A)) → All HasRun xs → ((b : ℕ) (x : StationState A) → slice_get xs b ≡ Some x → IsStation x) → AllRan xs
@@ -140,6 +147,22 @@ module _ {A : Type 0} (n : Parts A) (came : List (Incoming A)) (begun xs : List 
       let x = there_is xs b (omega (arith, within, size)) in
       (x.0, x.1, same_Some x.0.plan p (sym (plan_at b x.0 x.1) ∙ plan))
 
+  -- the captures of what left a bridge
+  taps_at : (b : ℕ) (s : Settled A) (x : StationState A) → slice_get settled b ≡ Some s → slice_get xs b ≡ Some x → taps_in s.taps.items ≡ x.taps
+  taps_at b s x told_is is =
+      let one = slice_get-map (λ (t : Settled A). taps_in t.taps.items) settled b ∙ ap (option_map (λ (t : Settled A). taps_in t.taps.items)) told_is in
+      let other = slice_get-map (λ (y : StationState A). y.taps) xs b ∙ ap (option_map (λ (y : StationState A). y.taps)) is in
+      same_Some (taps_in s.taps.items) x.taps (sym one ∙ (ap (λ (l : List (List (List ℕ))). slice_get l b) told.taps ∙ other))
+
+  -- there is one for each port of its plan
+  pub have_taps : HaveTaps n.plans settled
+  have_taps b p s plan told_is =
+      let x = station b p plan in
+      let state = kept b x.0 x.1 in
+      let own = at_each HasRun xs ran b x.0 x.1 in
+      sym (length-map s.taps.items (λ (d : MemoryDevice). d.octets))
+      ∙ (ap length (taps_at b s x.0 told_is x.1) ∙ (state.tapped own.0 own.1 ∙ (ports_many x.0.plan x.0.ports state.numbers ∙ ap (λ (z : Plan A). length z.ports) x.2)))
+
   pub runs_network : RunsNetwork n came settled
   runs_network = record {
     many = (let one = length-map settled (λ (s : Settled A). Some s.outcome) in let other = length-map xs (λ (y : StationState A). y.outcome) in let both = ap length told.outcomes in let size = many in omega (arith, one, other, both, size));
@@ -155,9 +178,7 @@ module _ {A : Type 0} (n : Parts A) (came : List (Incoming A)) (begun xs : List 
         let x = station b p plan in
         let order : x.0.ports ≡ ports = one_order p x.0.ports ports (subst (λ (z : Plan A). AreNumbers z x.0.ports) x.2 (kept b x.0 x.1).numbers) numbers in
         let here : slice_get x.0.ports i ≡ Some q = ap (λ (l : List ℕ). slice_get l i) order ∙ at in
-        let one = slice_get-map (λ (t : Settled A). taps_in t.taps.items) settled b ∙ ap (option_map (λ (t : Settled A). taps_in t.taps.items)) told_is in
-        let other = slice_get-map (λ (y : StationState A). y.taps) xs b ∙ ap (option_map (λ (y : StationState A). y.taps)) x.1 in
-        let same_taps : taps_in s.taps.items ≡ x.0.taps = same_Some (taps_in s.taps.items) x.0.taps (sym one ∙ (ap (λ (l : List (List (List ℕ))). slice_get l b) told.taps ∙ other)) in
+        let same_taps = taps_at b s x.0 told_is x.1 in
         let own : slice_get x.0.taps i ≡ Some tap.octets = ap (λ (l : List (List ℕ)). slice_get l i) (sym same_taps) ∙ (slice_get-map (λ (d : MemoryDevice). d.octets) s.taps.items i ∙ ap (option_map (λ (d : MemoryDevice). d.octets)) tap_is) in
         tap_read (network_of n) (commands_in came) xs are requested all fed network b i q x.0 tap.octets x.1 here own
         ∙ sym (ap written_text (left_there (network_of n) (commands_in came) xs are requested all fed network o (told_at o outcomes) b q));
@@ -167,12 +188,6 @@ module _ {A : Type 0} (n : Parts A) (came : List (Incoming A)) (begun xs : List 
 pub if_ok : {E X : Type 0} (P Q : X → Type 0) (r : Result X E) → IfOk r P → ((x : X) → P x → Q x) → IfOk r Q
 if_ok P Q (Ok x) p h = h x p
 if_ok P Q (Err e) p h = tt
-
--- an item of a list
-pub at_each : {X : Type 0} (P : X → Type 0) (xs : List X) → All P xs → (b : ℕ) (x : X) → slice_get xs b ≡ Some x → P x
-at_each P [] all b x is = absurd (cc)
-at_each P (y ∷ xs) all zero x is = subst P (same_Some y x is) (All-head P y xs all)
-at_each P (y ∷ xs) all (suc b) x is = at_each P xs (All-tail P y xs all) b x is
 
 commands_timed : (cs : List Command) → AreTimed (commands_of cs)
 commands_timed [] x member = absurd member

@@ -20,7 +20,7 @@ use Rattle.bridge_rounds.specs.declared.settling.RoundsFault.{RoundsFault}
 use Rattle.bridge_rounds.specs.declared.settling.RoundsFault.TheVariants as fault
 use Rattle.bridge_rounds.specs.declared.settling.Settled.{Settled}
 use Rattle.bridge_rounds.specs.declared.station.Incoming.{Incoming}
-use Rattle.bridge_rounds.specs.Stations.{AreGiven, HaveRun, IsBegun, IsFirstUnfed, IsIncoming, StationState, StopsBridge, taps_in}
+use Rattle.bridge_rounds.specs.Stations.{AreFed, AreGiven, HasCompleteRun, HaveRun, IsBegun, IsFirstUnfed, IsIncoming, StationState, StopsBridge, taps_in}
 
 -- what comes from outside can come to each bridge of these plans
 pub record AreIncoming {A : Type 0} (plans : List (Plan A)) (came : List (Incoming A)) : Type 0 where
@@ -78,9 +78,18 @@ pub record AreSettled {A : Type 0} (xs : List (StationState A)) (settled : List 
   pub outcomes : map (λ (s : Settled A). Some s.outcome) settled ≡ map (λ x. x.outcome) xs
   pub taps : map (λ (s : Settled A). taps_in s.taps.items) settled ≡ map (λ x. x.taps) xs
 
--- a round stopped: the bridge at a place over the texts that came to it in that round, or for want of memory
+-- Holds if the result of each bridge has as many captures of sent frames as the bridge's plan has ports.
+abbrev pub HaveTaps : {A : Type 0} → List (Plan A) → List (Settled A) → Type 0
+HaveTaps {A} plans settled = (b : ℕ) (p : Plan A) (s : Settled A) → slice_get plans b ≡ Some p → slice_get settled b ≡ Some s → length s.taps.items ≡ length p.ports
+
+-- Holds if each bridge of `xs` before the bridge with index `b` has a complete run over the captures that came to it.
+abbrev pub HaveCompleteRunsBefore : {A : Type 0} → List (StationState A) → ℕ → Type 0
+HaveCompleteRunsBefore {A} xs b = (c : ℕ) → c < b → (y : StationState A) × (slice_get xs c ≡ Some y) × HasCompleteRun y
+
+-- Holds if a round of the bridges `xs` stops with this fault: the named bridge stops over the captures that came to it,
+-- as the first bridge of the round, or memory runs out.
 abbrev pub StopsRound : {A : Type 0} → List (StationState A) → RoundsFault → Type 0
-StopsRound {A} xs (fault.Bridge b e) = (x : StationState A) × (slice_get xs b ≡ Some x) × StopsBridge x.plan x.ports x.commands x.texts e
+StopsRound {A} xs (fault.Bridge b e) = (x : StationState A) × (slice_get xs b ≡ Some x) × StopsBridge x.plan x.ports x.commands x.texts e × HaveCompleteRunsBefore xs b
 StopsRound xs (fault.NotSettled b q) = ⊥
 StopsRound xs fault.NoMemory = Unit {0}
 
@@ -93,6 +102,22 @@ AreBefore {A} n came (suc k) xs = (before : List (StationState A)) × (ran : Lis
 -- after a round, by its number from 0, something else still comes to a port of the bridge at a place, and to no port before it
 abbrev pub IsUnsettled : {A : Type 0} → Parts A → List (Incoming A) → ℕ → ℕ → ℕ → Type 0
 IsUnsettled {A} n came k b q = (before : List (StationState A)) × (ran : List (StationState A)) × AreBefore n came k before × HaveRun before ran × IsFirstUnfed ran b q
+
+-- Holds if after each round with an index below `k`, from 0, a link still delivers something else than its sender sent.
+abbrev pub AreUnsettledBefore : {A : Type 0} → Parts A → List (Incoming A) → ℕ → Type 0
+AreUnsettledBefore n came k = (j : ℕ) → j < k → (b : ℕ) × (q : ℕ) × IsUnsettled n came j b q
+
+-- Holds if round `rounds`, counted from 1, is the first round after which each link delivers exactly the frames that its
+-- sender sent.
+pub record SettlesIn {A : Type 0} (n : Parts A) (came : List (Incoming A)) (rounds : ℕ) : Type 0 where
+  pub last : ℕ
+  pub number : rounds ≡ suc last
+  pub before : List (StationState A)
+  pub ran : List (StationState A)
+  pub begins : AreBefore n came last before
+  pub runs : HaveRun before ran
+  pub fed : AreFed ran
+  pub earlier : AreUnsettledBefore n came last
 
 -- a run of a network of so many rounds at most stopped: in one of them a bridge did over what came to it in that round; or after the last of them something
 -- else still came to a linked port (the first port of the first bridge is named where there was no round); or memory ran out

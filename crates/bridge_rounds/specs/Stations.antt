@@ -1,5 +1,6 @@
 -- Bridges of a network between two rounds: what came to each, and what left it.
 use Rattle.std.specs.Prelude.{◌≡◌, ◌≢◌, ◌<◌, ℕ, All, Option, Some, None, is_some, option_map, nat_eq, List, [], ◌∷◌, length, map, slice_get, Vec, if◌then◌else◌}
+use Rattle.bridge_capture.specs.declared.fault.CaptureFault.TheVariants as faults
 use Rattle.bridge_capture.specs.Grammar.{Captured, Records, AtEnd}
 use Rattle.bridge_capture.specs.Memory.{MemoryDevice}
 use Rattle.bridge_capture.specs.Written.{written_text}
@@ -43,10 +44,11 @@ text_by [] texts q = []
 text_by (p ∷ ports) [] q = []
 text_by (p ∷ ports) (t ∷ texts) q = if nat_eq p q then t else text_by ports texts q
 
--- why a run of a bridge over these texts stopped, over sources and sinks in memory that never fail: at a capture, or for want of memory
+-- Holds if a run of the bridge over the captures `texts` in memory stops with this fault: a capture is refused, for
+-- another cause than a failed read, or memory runs out.
 abbrev pub StopsBridge : {A : Type 0} → Plan A → List ℕ → List Command → List (List ℕ) → RunFault → Type 0
 StopsBridge p ports commands texts (run.Capture port fault) =
-    (rests : ℕ → Option (List ℕ)) × (olds : List MemoryDevice) × (news : List MemoryDevice)
+    (fault ≢ faults.Read) × (rests : ℕ → Option (List ℕ)) × (olds : List MemoryDevice) × (news : List MemoryDevice)
     × Stops p ports commands (text_by ports texts) rests (λ d. Some d.octets) (λ d. d.is_broken) olds news (run.Capture port fault)
 StopsBridge p ports commands texts (run.Write port) = ⊥
 StopsBridge p ports commands texts run.NoMemory = Unit {0}
@@ -79,6 +81,10 @@ pub record StationState (A : Type 0) : Type 0 where
   pub texts : List (List ℕ)
   pub taps : List (List ℕ)
   pub outcome : Option (Outcome A)
+
+-- Holds if the bridge has a complete run over the captures that came to its ports.
+abbrev pub HasCompleteRun : {A : Type 0} → StationState A → Type 0
+HasCompleteRun {A} x = (taps : List (List ℕ)) × (o : Outcome A) × RunsBridge x.plan x.ports x.commands x.texts taps o
 
 -- what is kept of a bridge: there is a text of each port, and what it tells is of a run over its texts
 pub record IsStation {A : Type 0} (s : StationState A) : Type 0 where

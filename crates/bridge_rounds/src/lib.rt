@@ -6,5 +6,5 @@ mod settling;
 mod station;
 
 pub use delaying::later_text;
-pub use settling::{Nobody, RoundsFault, Settled, Watch, settle};
+pub use settling::{Nobody, RoundsFault, Settled, SettledNetwork, Watch, settle};
 pub use station::{Incoming, is_linked};

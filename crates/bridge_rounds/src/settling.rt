@@ -3,9 +3,9 @@ ghost use Rattle.std.specs.Prelude.{◌≡◌, ◌<◌, ℕ, All, Some, None, fa
 ghost use Rattle.bridge_network.specs.Checked.{AreClosed};
 ghost use Rattle.bridge_network.specs.Networks.{IsNetwork};
 ghost use Rattle.bridge_network.specs.Wiring.{network_of, sender_value};
-ghost use Rattle.bridge_rounds.specs.Stations.{AreFed, GoesOn, HasRun, IsLaterText, IsStation, StationState, ground, tap_of, texts_of};
+ghost use Rattle.bridge_rounds.specs.Stations.{AreFed, GoesOn, HasRun, HaveRun, IsLaterText, IsStation, StationState, ground, tap_of, texts_of};
 ghost use Rattle.bridge_rounds.specs.Feeding.{AreAllHanded, AreFedBut, AreFedByRun, AreHanded, AreKept, IsHanded};
-ghost use Rattle.bridge_rounds.specs.Rounds.{AreBegun, AreIncoming, AreSettled, IsolatesStreams, OthersChangeNothing, RunsNetwork, StopsRound, StopsSettling};
+ghost use Rattle.bridge_rounds.specs.Rounds.{AreBegun, AreIncoming, AreSettled, HaveTaps, IsolatesStreams, OthersChangeNothing, RunsNetwork, SettlesIn, StopsRound, StopsSettling};
 
 use crate::delaying::later_text;
 use crate::station::{Incoming, Station};
@@ -33,7 +33,8 @@ impl Watch for Nobody {
 /// Why a run of a network ends.
 #[derive(Clone, Copy, Debug, PartialEq, Eq)]
 pub enum RoundsFault {
-    /// What a bridge runs over stops it. The bridge is named by its place, from 0.
+    /// A bridge refuses a capture: the first bridge of the round that does, by its index from 0. The fault is never `Write`,
+    /// and never `Read` of a capture.
     Bridge { bridge: usize, fault: RunFault },
     /// After so many rounds something else still comes to a linked port.
     NotSettled { bridge: usize, port: u8 },
@@ -48,6 +49,16 @@ pub struct Settled<A: Allocator + Copy> {
     pub outcome: Outcome<A>,
     /// The capture of each port.
     pub taps: Vec<VecSink<A>, A>,
+}
+
+/// Result of a network run: after the last round, each link delivers exactly the frames that its sender sent.
+#[derive(Drop)]
+pub struct SettledNetwork<A: Allocator + Copy> {
+    /// The result of each bridge, in the order of the network.
+    pub bridges: Vec<Settled<A>, A>,
+    /// Number of rounds, from 1. In the last of them, nothing else was sent over any link than before; in each earlier one,
+    /// something else was.
+    pub rounds: u32,
 }
 
 /// What is sent over a link, as it comes to its other end.
@@ -275,8 +286,7 @@ fn round<A: Allocator + Copy, W: Watch>(
     requires { AreFedByRun stations.old }
     ensures ground { OnOk result (map ground stations.new ≡ map ground stations.old) }
     ensures fed { OnOk result (AreFed stations.new) }
-    ensures runs { result ≡ Ok None → All HasRun stations.new }
-    ensures kept { result ≡ Ok None → All IsStation stations.new }
+    ensures runs { result ≡ Ok None → HaveRun stations.old stations.new }
     ensures goes_on { (b q : ℕ) → result ≡ Ok (Some (b, q)) → GoesOn stations.old stations.new b q }
     ensures stops { IfErr result (StopsRound stations.old) }
 {
@@ -309,12 +319,14 @@ pub fn settle<A: Allocator + Copy, W: Watch>(
     incoming: Vec<Incoming<A>, A>,
     rounds: u32,
     watch: &mut W,
-) -> Result<Vec<Settled<A>, A>, RoundsFault>
+) -> Result<SettledNetwork<A>, RoundsFault>
     requires { AreIncoming network.now.plans incoming.items }
-    ensures ok { IfOk result (λ settled. RunsNetwork network.now incoming.items settled.items) }
-    ensures alone { IfOk result (λ settled. IsolatesStreams network.now incoming.items settled.items) }
+    ensures ok { IfOk result (λ settled. RunsNetwork network.now incoming.items settled.bridges.items) }
+    ensures alone { IfOk result (λ settled. IsolatesStreams network.now incoming.items settled.bridges.items) }
     ensures others_change_nothing { IfOk result (λ settled. OthersChangeNothing network.now incoming.items
-        settled.items) }
+        settled.bridges.items) }
+    ensures taps { IfOk result (λ settled. HaveTaps network.now.plans settled.bridges.items) }
+    ensures rounds { IfOk result (λ settled. SettlesIn network.now incoming.items settled.rounds) }
     ensures stops { IfErr result (StopsSettling network.now incoming.items rounds) }
 {
     keep_network(network);
@@ -324,7 +336,7 @@ pub fn settle<A: Allocator + Copy, W: Watch>(
     let mut last = (0usize, 0u8);
     for turn in 0..rounds {
         match round(alloc, &mut stations, turn, watch) {
-            Ok(None) => return told(alloc, stations),
+            Ok(None) => return told(alloc, stations, turn + 1),
             Ok(Some(port)) => last = port,
             Err(fault) => {
                 drop(stations);
@@ -337,17 +349,19 @@ pub fn settle<A: Allocator + Copy, W: Watch>(
     Err(RoundsFault::NotSettled { bridge, port })
 }
 
-/// What bridges tell that have run.
+/// Collects the results of the bridges after this number of rounds.
 fn told<A: Allocator + Copy>(
     alloc: A,
     stations: Vec<Station<'_, A>, A>,
-) -> Result<Vec<Settled<A>, A>, RoundsFault>
+    rounds: u32,
+) -> Result<SettledNetwork<A>, RoundsFault>
     requires { All HasRun stations.items }
-    ensures settled { IfOk result (λ all. AreSettled stations.entry.items all.items) }
+    ensures settled { IfOk result (λ all. AreSettled stations.entry.items all.bridges.items) }
+    ensures rounds { IfOk result (λ all. all.rounds ≡ rounds) }
     ensures memory { OnErr result (result ≡ Err RoundsFault.NoMemory) }
 {
     match settled_of(alloc, stations) {
-        Ok(settled) => Ok(settled),
+        Ok(bridges) => Ok(SettledNetwork { bridges, rounds }),
         Err(_) => Err(RoundsFault::NoMemory),
     }
 }

@@ -4,7 +4,7 @@ ghost use Rattle.bridge_capture.specs.Memory.{is_sure};
 ghost use Rattle.bridge_config.specs.Commands.{AreCommands};
 ghost use Rattle.bridge_simulation.specs.Simulated.{AreNumbers};
 ghost use Rattle.bridge_network.specs.Networks as networks;
-ghost use Rattle.bridge_rounds.specs.Stations.{HasRun, IsBegun, IsIncoming, IsStation, NoneCame, NoneCameBefore, RunsBridge, StopsBridge, ground, of_memory, open_texts, senders_in, taps_in, text_by, texts_in};
+ghost use Rattle.bridge_rounds.specs.Stations.{HasCompleteRun, HasRun, IsBegun, IsIncoming, IsStation, NoneCame, NoneCameBefore, RunsBridge, StopsBridge, ground, of_memory, open_texts, senders_in, taps_in, text_by, texts_in};
 ghost use Rattle.bridge_network.specs.Wiring.{link_of, sender_value};
 
 use bridge_capture::{SliceSource, VecSink};
@@ -342,6 +342,7 @@ impl<'a, A: Allocator + Copy> Station<'a, A> {
     pub(crate) fn run(&mut self, alloc: A) -> Result<bool, RunFault>
         ensures same { OnOk result ((ground self.new ≡ ground self.old) × (self.new.texts ≡ self.old.texts)) }
         ensures runs { OnOk result (HasRun self.new) }
+        ensures complete { OnOk result (HasCompleteRun self.old) }
         ensures kept { result ≡ Ok false → self.new ≡ self.old }
         ensures stops { IfErr result (StopsBridge self.old.plan self.old.ports self.old.commands self.old.texts) }
     {

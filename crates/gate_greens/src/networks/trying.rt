@@ -166,7 +166,7 @@ fn try_drawn(alloc: Global, seed: u64, tally: &mut Tally) -> Result<Option<Tried
     let before = tally.refuted.saturating_add(tally.stray);
     let coming = all_coming(alloc, &mut numbers, &net, made.network.plans())?;
     match settle(alloc, &made.network, coming, ROUNDS, &mut Nobody) {
-        Ok(settled) => count_run(&net, &settled, lines.text.as_str(), tally),
+        Ok(settled) => count_run(&net, &settled.bridges, lines.text.as_str(), tally),
         Err(RoundsFault::NotSettled { .. }) => {}
         Err(_) => return Err(NoMemory),
     }

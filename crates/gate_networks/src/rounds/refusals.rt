@@ -261,7 +261,7 @@ fn ending_of<A: Allocator + Copy>(
     requires { AreIncoming network.now.plans came.items }
 {
     match settle(alloc, network, came, ROUNDS, &mut Nobody) {
-        Ok(settled) => Ending::of(have_left(&settled), false),
+        Ok(settled) => Ending::of(have_left(&settled.bridges), false),
         Err(fault) => Ending::of(false, fault == RoundsFault::NoMemory),
     }
 }

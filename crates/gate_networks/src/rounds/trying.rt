@@ -158,7 +158,7 @@ fn seen_in(
     };
     match settle(alloc, network, came, ROUNDS, &mut Nobody) {
         Ok(settled) => {
-            judge(alloc, network, case, &settled, &mut seen)?;
+            judge(alloc, network, case, &settled.bridges, &mut seen)?;
         }
         Err(RoundsFault::NotSettled { .. }) => {
             seen.unsettled = true;
@@ -209,7 +209,7 @@ fn compare(
     let Ok(other) = settle(alloc, network, came, ROUNDS, &mut Nobody) else {
         return Ok(());
     };
-    let done = compare_hops(alloc, network, settled, &other, seen);
+    let done = compare_hops(alloc, network, settled, &other.bridges, seen);
     drop(other);
     done
 }

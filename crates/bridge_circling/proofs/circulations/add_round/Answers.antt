@@ -1,4 +1,4 @@
-use Rattle.std.proofs.Common.{◌≡◌, ap, inl, inr, refl, rules, Ok, None}
+use Rattle.std.proofs.Common.{ap, inl, inr, refl, rules, Ok}
 use Rattle.bridge_circling.specs.Circulations.{MayGoRound}
 use Rattle.bridge_circling.proofs.circulations.add_round.Goals as goal
 

@@ -5,4 +5,4 @@ pub loop-group-init : goal.loop-group-init
 loop-group-init g c = rw c.new-rows.ensures.items (told_none c.args.plans.now c.args.links.now)
 
 pub loop-group-preserved : goal.loop-group-preserved
-loop-group-preserved g c = told_next c.args.plans.now c.args.links.now c.args.groups.now c.loop-group.rows.items _ c.loop-group.group-index _ c.loop-group-test.true c.in_ok-add_round.ensures c.loop-group.invariant
+loop-group-preserved g c = told_next c.args.plans.now c.args.links.now c.args.groups.now c.loop-group.rows.items _ c.loop-group.group-index _ c.loop-group-test.true c.requires.once c.in_ok-add_round.ensures c.loop-group.invariant

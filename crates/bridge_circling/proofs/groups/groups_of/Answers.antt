@@ -1,4 +1,4 @@
-use Rattle.std.proofs.Common.{◌≡◌, ◌∙◌, [], fold, take, get_or, ap₂, sym, rules}
+use Rattle.std.proofs.Common.{◌≡◌, ◌∙◌, [], get_or, ap₂, sym}
 use Rattle.std.proofs.lemmas.List.Sums.{fold_more}
 use Rattle.bridge_circling.specs.Groups.{with_plan}
 use Rattle.bridge_circling.proofs.groups.groups_of.Goals as goal

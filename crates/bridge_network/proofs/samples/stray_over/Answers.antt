@@ -2,8 +2,8 @@ use Rattle.std.proofs.Common.{sym, refl}
 use Rattle.bridge_network.proofs.Sampled.{if_some}
 use Rattle.bridge_network.proofs.samples.stray_over.Goals as goal
 
-pub returns-in-Some : goal.returns-in-Some
-returns-in-Some g c = if_some c.stray_from.result (λ s h. rw (sym c.in-Some.ensures.plan) h) c.stray_from.ensures
+pub returns-in-Some-clause-stray : goal.returns-in-Some-clause-stray
+returns-in-Some-clause-stray g c = if_some c.stray_from.result (λ s h. rw (sym c.in-Some.ensures.plan) h) c.stray_from.ensures.stray
 
 pub plan_at-requires : goal.plan_at-requires
 plan_at-requires g c κs h = h
@@ -16,3 +16,9 @@ way_copy_out-plan g c = refl
 
 pub enum_noted-plan : goal.enum_noted-plan
 enum_noted-plan g c = refl
+
+pub returns-in-Some-clause-found : goal.returns-in-Some-clause-found
+returns-in-Some-clause-found g c = rw (sym c.in-Some.ensures.plan) c.stray_from.ensures.found
+
+pub returns-in-None-clause-found : goal.returns-in-None-clause-found
+returns-in-None-clause-found g c = rw (sym c.in-None.ensures.plan) refl

@@ -19,7 +19,7 @@ returns-clause-ok g c = λ input words told heard.
 pub returns-clause-err : goal.returns-clause-err
 returns-clause-err g c = λ input words told heard.
     err_as c.report_of-told.result (RefusesTimings c.in-Ok.accepted c.deref.result.now) _
-    (λ f h. inr (inr (inr (c.in-Ok.accepted, c.in-Ok-rows_from.rows.items, c.in-Ok.ensures.ok input told, c.in-Ok-rows_from.ensures.ok words heard, subst (λ (rows : List TrafficRow). RefusesTimings c.in-Ok.accepted rows f) c.deref.ensures.value h))))
+    (λ f h. inr (c.in-Ok.accepted, c.in-Ok.ensures.ok input told, inr (inr (c.in-Ok-rows_from.rows.items, c.in-Ok-rows_from.ensures.ok words heard, subst (λ (rows : List TrafficRow). RefusesTimings c.in-Ok.accepted rows f) c.deref.ensures.value h))))
     c.report_of-told.ensures.err
 
 pub returns-in-Err-clause-err : goal.returns-in-Err-clause-err
@@ -27,6 +27,6 @@ returns-in-Err-clause-err g c = λ input words told heard. inl (c.in-Err.ensures
 
 pub returns-in-Err-rows_from-clause-err : goal.returns-in-Err-rows_from-clause-err
 returns-in-Err-rows_from-clause-err g c = λ input words told heard. elim (c.in-Err-rows_from.ensures.err words heard) [
-  | inl file ↦ inr (inl file)
-  | inr rows ↦ inr (inr (inl rows))
+  | inl file ↦ inr (c.in-Ok.accepted, c.in-Ok.ensures.ok input told, inl file)
+  | inr rows ↦ inr (c.in-Ok.accepted, c.in-Ok.ensures.ok input told, inr (inl rows))
 ]

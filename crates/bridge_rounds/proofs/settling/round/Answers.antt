@@ -1,7 +1,6 @@
 use Rattle.std.proofs.Common.{Bool, List, Some, None, refl, sym, subst, ◌∙◌}
-use Rattle.std.specs.Prelude.{All}
 use Rattle.bridge_rounds.specs.Feeding.{AreFedBut}
-use Rattle.bridge_rounds.specs.Stations.{HasRun, IsStation}
+use Rattle.bridge_rounds.specs.Stations.{HaveRun}
 use Rattle.bridge_rounds.proofs.Handing.{fed_but}
 use Rattle.bridge_rounds.proofs.Turns.{same_ok}
 use Rattle.bridge_rounds.proofs.settling.round.Goals as goal
@@ -15,10 +14,9 @@ pub returns-in-Ok-clause-ground : goal.returns-in-Ok-clause-ground
 returns-in-Ok-clause-ground g c = c.in-Ok.ensures.given.same ∙ c.in_ok-ran.ensures.ground
 
 pub returns-in-Ok-clause-runs : goal.returns-in-Ok-clause-runs
-returns-in-Ok-clause-runs g c = λ e. subst (All HasRun) (sym (c.in-Ok.ensures.unchanged (same_ok c.in-Ok.first None _ refl e))) c.in_ok-ran.ensures.runs
-
-pub returns-in-Ok-clause-kept : goal.returns-in-Ok-clause-kept
-returns-in-Ok-clause-kept g c = λ e. subst (All IsStation) (sym (c.in-Ok.ensures.unchanged (same_ok c.in-Ok.first None _ refl e))) c.keep_all.ensures
+returns-in-Ok-clause-runs g c = λ e.
+    subst (HaveRun c.args.stations.now) (sym (c.in-Ok.ensures.unchanged (same_ok c.in-Ok.first None _ refl e)))
+    (record { same = c.in_ok-ran.ensures.ground; texts = c.in_ok-ran.ensures.texts; kept = c.keep_all.ensures; runs = c.in_ok-ran.ensures.runs })
 
 pub returns-in-Ok-clause-goes_on : goal.returns-in-Ok-clause-goes_on
 returns-in-Ok-clause-goes_on g c = λ b q e.

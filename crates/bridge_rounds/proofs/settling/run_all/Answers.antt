@@ -6,6 +6,7 @@ use Rattle.std.proofs.lemmas.Option.{slice_get-get_or}
 use Rattle.bridge_rounds.specs.Feeding.{AreKept}
 use Rattle.bridge_rounds.specs.Stations.{HasRun, ground, texts_of}
 use Rattle.bridge_rounds.proofs.Handing.{kept_more, rest_more}
+use Rattle.bridge_rounds.proofs.Stopped.{complete_more}
 use Rattle.bridge_rounds.proofs.Turns.{map_set, ran_more, stops_kept}
 use Rattle.bridge_rounds.proofs.settling.run_all.Goals as goal
 
@@ -21,7 +22,7 @@ returns-in-Err g c =
       texts = tt;
       runs = tt;
       kept = tt;
-      stops = (y, there, stops_kept c.loop-bridge.stations c.args.stations.now c.loop-bridge.bridge _ y c.in-Err.fault c.loop-bridge.invariant.ground c.loop-bridge.invariant.texts here there c.in-Err.ensures.stops);
+      stops = (y, there, stops_kept c.loop-bridge.stations c.args.stations.now c.loop-bridge.bridge _ y c.in-Err.fault c.loop-bridge.invariant.ground c.loop-bridge.invariant.texts here there c.in-Err.ensures.stops, c.loop-bridge.invariant.complete);
     }
 
 pub loop-bridge-init : goal.loop-bridge-init
@@ -31,6 +32,7 @@ loop-bridge-init g c = record {
   runs = All-nil HasRun;
   noted = ap length c.in-Ok.ensures.items;
   kept = λ b flag. let none = sym (ap (λ (l : List Bool). slice_get l b) c.in-Ok.ensures.items) ∙ flag in absurd (cc);
+  complete = λ b less. absurd (omega (arith, less));
   rest = λ b from. refl;
 }
 
@@ -49,6 +51,7 @@ loop-bridge-preserved g c =
       kept = subst (λ (l : List Bool). AreKept l c.args.stations.now (slice_set c.loop-bridge.stations c.loop-bridge.bridge c.run.new.self)) (sym c.in-Ok-push.ensures.items)
           (kept_more c.loop-bridge.all.items c.args.stations.now c.loop-bridge.stations c.loop-bridge.bridge c.in-Ok-run.ran _ c.run.new.self noted c.loop-bridge.invariant.kept c.loop-bridge.invariant.rest here c.in-Ok-run.ensures.runs
           (λ e. c.run.ensures.kept (c.in-Ok-run.is ∙ ap (λ (r : Bool). Ok r) e)));
+      complete = complete_more c.args.stations.now c.loop-bridge.bridge _ (sym (c.loop-bridge.invariant.rest c.loop-bridge.bridge (omega arith)) ∙ here) c.in-Ok-run.ensures.complete c.loop-bridge.invariant.complete;
       rest = rest_more c.args.stations.now c.loop-bridge.stations c.loop-bridge.bridge c.run.new.self c.loop-bridge.invariant.rest;
     }
 

@@ -1,6 +1,7 @@
 use Rattle.std.proofs.Common.{◌≡◌, ◌≤◌, ℕ, length, map, take}
 use Rattle.std.specs.Prelude.{All, slice_get}
 use Rattle.bridge_rounds.specs.Feeding.{AreKept}
+use Rattle.bridge_rounds.specs.Rounds.{HaveCompleteRunsBefore}
 use Rattle.bridge_rounds.specs.Stations.{HasRun, ground, texts_of}
 use Rattle.bridge_rounds.proofs.settling.run_all.Given as goal
 
@@ -11,5 +12,6 @@ invariant-loop-bridge g l = record {
   runs : All HasRun (take l.bridge l.stations);
   noted : length l.all.items ≡ l.bridge;
   kept : AreKept l.all.items l.initial.stations l.stations;
+  complete : HaveCompleteRunsBefore l.initial.stations l.bridge;
   rest : (c : ℕ) → l.bridge ≤ c → slice_get l.stations c ≡ slice_get l.initial.stations c;
 }

@@ -1,7 +1,7 @@
 use Rattle.std.proofs.Common.{◌≡◌, ◌≤◌, map}
 use Rattle.bridge_rounds.specs.declared.settling.RoundsFault.TheVariants as fault
 use Rattle.bridge_rounds.specs.Feeding.{AreFedByRun}
-use Rattle.bridge_rounds.specs.Rounds.{AreBefore, StopsSettling}
+use Rattle.bridge_rounds.specs.Rounds.{AreBefore, AreUnsettledBefore, StopsSettling}
 use Rattle.bridge_rounds.specs.Stations.{ground}
 use Rattle.bridge_rounds.proofs.settling.settle.Given as goal
 
@@ -11,5 +11,6 @@ invariant-loop-turn g l = record {
   fed : AreFedByRun l.stations.items;
   before : AreBefore l.fn.network l.fn.incoming.items l.turn l.stations.items;
   last : StopsSettling l.fn.network l.fn.incoming.items l.turn (fault.NotSettled l.last.0 l.last.1);
+  earlier : AreUnsettledBefore l.fn.network l.fn.incoming.items l.turn;
   few : l.turn ≤ l.fn.rounds;
 }

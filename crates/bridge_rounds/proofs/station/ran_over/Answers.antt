@@ -1,8 +1,11 @@
-use Rattle.std.proofs.Common.{◌≡◌, ℕ, List, [], Option, length, sym, ap, subst, ◌∙◌}
+use Rattle.std.proofs.Common.{◌≡◌, ℕ, List, [], Option, Err, true, length, sym, ap, subst, ◌∙◌}
 use Rattle.std.specs.Prelude.{All, Vec}
 use Rattle.std.proofs.lemmas.List.{length-map}
 use Rattle.bridge_limits.proofs.Lists.{lent}
-use Rattle.bridge_capture.specs.Memory.{MemoryDevice}
+use Rattle.bridge_limits.proofs.Members.{each_in}
+use Rattle.bridge_capture.specs.Memory.{MemoryDevice, is_sure}
+use Rattle.bridge_inputs.specs.Devices.{NeverFail}
+use Rattle.bridge_inputs.specs.declared.fault.RunFault.{RunFault}
 use Rattle.bridge_simulation.proofs.Simulating.{ports_many}
 use Rattle.bridge_rounds.specs.Stations.{RunsBridge, StopsBridge, taps_in, text_by, texts_in}
 use Rattle.bridge_rounds.proofs.Over.{are_texts, runs_bridge, sources_many, stops_bridge}
@@ -48,6 +51,9 @@ returns-in-Err-clause-stops g c =
     let ports = c.args.ports.now in
     let texts = texts_in c.args.texts.now in
     let are = are_texts p ports texts c.deref_mut.result.now c.requires.numbers (ap taps_in c.deref_mut.ensures.value ∙ c.in-Ok.ensures.texts) in
+    let sure : NeverFail (λ (d : MemoryDevice). is_sure d) c.deref_mut.result.now = subst (NeverFail (λ (d : MemoryDevice). is_sure d)) (sym c.deref_mut.ensures.value)
+    (λ d member. each_in (λ (d : MemoryDevice). is_sure d ≡ true) c.in-Ok.sources.items d c.in-Ok.ensures.sure member) in
     subst (StopsBridge p ports c.args.commands.now texts) (sym c.of_memory.ensures)
     (stops_bridge p ports c.args.commands.now texts c.simulate-ran.new.sources c.deref_mut-2.result.now c.simulate-ran.new.sinks c.in-Err.fault c.requires.numbers
+    (λ port e. c.in-Err.ensures.sure sure port (ap (λ (f : RunFault). Err f) e))
     (λ (rests : ℕ → Option (List ℕ)) after. c.in-Err.ensures.err ports (text_by ports texts) rests c.requires.numbers are after))

@@ -1,5 +1,4 @@
-use Rattle.std.proofs.Common.{◌&&◌, Bool, None, Option, ap, sym}
-use Rattle.std.specs.List.{list_all}
+use Rattle.std.proofs.Common.{◌&&◌, Bool, None, ap, sym}
 use Rattle.std.proofs.lemmas.List.Folds.{list_all-append}
 use Rattle.bridge_network.specs.Feeding.{tags_with}
 use Rattle.bridge_network.specs.Handed.{hands_tag}

@@ -1,7 +1,5 @@
-use Rattle.std.specs.Prelude.{slice_get}
 use Rattle.std.specs.List.{list_all}
 use Rattle.std.proofs.Common.{◌≡◌, drop}
-use Rattle.bridge_check.specs.Sending.{vid_of}
 use Rattle.bridge_network.specs.Feeding.{handles_of, sort_by}
 use Rattle.bridge_network.specs.Handing.{gives_all, is_given}
 use Rattle.bridge_network.proofs.handing.Taker.gives_all.Given as goal

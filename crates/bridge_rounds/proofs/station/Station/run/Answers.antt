@@ -3,7 +3,7 @@ use Rattle.std.proofs.lemmas.List.{length-map}
 use Rattle.bridge_config.specs.declared.command.Command.{Command}
 use Rattle.bridge_config.specs.Commands.{AreCommands}
 use Rattle.bridge_simulation.specs.Simulated.{AreNumbers}
-use Rattle.bridge_rounds.specs.Stations.{RunsBridge, StationState, StopsBridge, ground, senders_in, taps_in, texts_in}
+use Rattle.bridge_rounds.specs.Stations.{HasCompleteRun, RunsBridge, StationState, StopsBridge, ground, senders_in, taps_in, texts_in}
 use Rattle.bridge_rounds.proofs.Over.{kept_ran, some_there}
 use Rattle.bridge_rounds.proofs.station.Station.run.Goals as goal
 
@@ -29,6 +29,20 @@ invariant_of-self g c =
     (subst (λ (t : List ℕ). RunsBridge c.self.inside.accepted.now t c.deref-2.result.now (texts_in c.deref-3.result.now) (taps_in run.taps.items) run.outcome) c.deref.ensures.value c.in-Ok.ensures.runs)) in
     kept_ran c.self.inside.accepted.now c.self.inside.commands.items c.self.inside.ports.items (senders_in c.self.inside.senders.items) (texts_in c.self.inside.texts.items) run.taps.items run.outcome
     all.numbers all.commands all.sent all.texts (c.in-Ok.ensures.many ∙ ap length c.deref.ensures.value) runs
+
+pub returns-clause-complete : goal.returns-clause-complete
+returns-clause-complete g c =
+    let run = c.in-Ok.ran in
+    let runs =
+    subst (λ (t : List _). RunsBridge c.self.inside.accepted.now c.self.inside.ports.items c.self.inside.commands.items (texts_in t) (taps_in run.taps.items) run.outcome) c.deref-3.ensures.value
+    (subst (λ (t : List Command). RunsBridge c.self.inside.accepted.now c.self.inside.ports.items t (texts_in c.deref-3.result.now) (taps_in run.taps.items) run.outcome) c.deref-2.ensures.value
+    (subst (λ (t : List ℕ). RunsBridge c.self.inside.accepted.now t c.deref-2.result.now (texts_in c.deref-3.result.now) (taps_in run.taps.items) run.outcome) c.deref.ensures.value c.in-Ok.ensures.runs)) in
+    subst (λ (s : StationState g.row.A.Denot). HasCompleteRun s) c.self.view_is (taps_in run.taps.items, run.outcome, runs)
+
+pub returns-then-is_some-clause-complete : goal.returns-then-is_some-clause-complete
+returns-then-is_some-clause-complete g c =
+    let there = some_there c.self.inside.outcome (sym c.if-is_some.true ∙ c.is_some.ensures) in
+    subst (λ (s : StationState g.row.A.Denot). HasCompleteRun s) c.self.view_is (taps_in c.self.inside.taps.items, there.0, c.self.invariant.runs there.0 there.1)
 
 pub returns-clause-runs : goal.returns-clause-runs
 returns-clause-runs g c = (c.in-Ok.ran.outcome, refl)
