@@ -4,11 +4,12 @@ use Rattle.std.specs.Prelude.{IfErr, OnErr, Result, Ok, Err, slice_get}
 use Rattle.std.proofs.lemmas.Bool.{eqb-false, eqb-true}
 use Rattle.bridge_limits.proofs.Cases.{by_bool}
 use Rattle.bridge_network.specs.Wiring.{Parts}
+use Rattle.bridge_inputs.specs.declared.fault.RunFault.{RunFault}
 use Rattle.bridge_rounds.specs.declared.settling.RoundsFault.{RoundsFault}
 use Rattle.bridge_rounds.specs.declared.settling.RoundsFault.TheVariants as fault
 use Rattle.bridge_rounds.specs.declared.station.Incoming.{Incoming}
-use Rattle.bridge_rounds.specs.Stations.{AreFed, GoesOn, HasCompleteRun, HaveRun, StationState}
-use Rattle.bridge_rounds.specs.Rounds.{AreBefore, AreUnsettledBefore, HaveCompleteRunsBefore, IsUnsettled, SettlesIn, StopsRound, StopsSettling}
+use Rattle.bridge_rounds.specs.Stations.{AreFed, GoesOn, HasCompleteRun, HaveRun, StationState, StopsBridge}
+use Rattle.bridge_rounds.specs.Rounds.{AreBefore, AreUnsettledBefore, HaveCompleteRunsBefore, IsUnsettled, IsFaultAt, SettlesIn, StopsRound, StopsSettling}
 
 -- one round more
 pub before_more : {A : Type 0} (n : Parts A) (came : List (Incoming A)) (k b q : ℕ) (xs ys : List (StationState A)) → AreBefore n came k xs → GoesOn xs ys b q → AreBefore n came (k + 1) ys
@@ -26,6 +27,13 @@ pub stops_settling : {A : Type 0} (n : Parts A) (came : List (Incoming A)) (roun
 stops_settling n came rounds k xs (fault.Bridge b e) before less stops = (k, xs, less, before, stops)
 stops_settling n came rounds k xs (fault.NotSettled b q) before less stops = absurd stops
 stops_settling n came rounds k xs fault.NoMemory before less stops = tt
+
+-- the first bridge that stops stops the round
+pub stopped_at : {A : Type 0} (xs : List (StationState A)) (b : ℕ) (x : StationState A) (e : RunFault) (f : RoundsFault) → slice_get xs b ≡ Some x → StopsBridge x.plan x.ports x.commands x.texts e → HaveCompleteRunsBefore xs b → IsFaultAt b e f → StopsRound xs f
+stopped_at xs b x e (fault.Bridge c g) there stops before (same, is, some) =
+    (x, ap (slice_get xs) same ∙ there, subst (StopsBridge x.plan x.ports x.commands x.texts) (sym is) stops, some, subst (HaveCompleteRunsBefore xs) (sym same) before)
+stopped_at xs b x e (fault.NotSettled c q) there stops before is = absurd is
+stopped_at xs b x e fault.NoMemory there stops before is = tt
 
 -- one bridge more has a complete run
 pub complete_more : {A : Type 0} (xs : List (StationState A)) (b : ℕ) (x : StationState A) → slice_get xs b ≡ Some x → HasCompleteRun x → HaveCompleteRunsBefore xs b → HaveCompleteRunsBefore xs (b + 1)

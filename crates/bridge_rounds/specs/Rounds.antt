@@ -1,5 +1,5 @@
 -- Complete runs of networks by rounds.
-use Rattle.std.specs.Prelude.{◌≡◌, ◌<◌, ℕ, zero, suc, Some, None, List, [], ◌∷◌, length, map, slice_get, Vec, nat_eq}
+use Rattle.std.specs.Prelude.{◌≡◌, ◌≢◌, ◌<◌, ℕ, zero, suc, Some, None, List, [], ◌∷◌, length, map, slice_get, Vec, nat_eq}
 use Rattle.std.specs.Map.{lookup}
 use Rattle.bridge_limits.specs.Members.{In}
 use Rattle.bridge_capture.specs.Grammar.{Captured, Records, AtEnd}
@@ -16,6 +16,8 @@ use Rattle.bridge_network.specs.declared.links.StreamHop.{StreamHop}
 use Rattle.bridge_network.specs.Alone.{HaveSameFirst, IsAlone}
 use Rattle.bridge_network.specs.Networks.{Hop, IsHop, IsNetworkRun, sender}
 use Rattle.bridge_network.specs.Wiring.{Parts, link_of, network_of, stream_of}
+use Rattle.bridge_inputs.specs.declared.fault.RunFault.{RunFault}
+use Rattle.bridge_inputs.specs.declared.fault.RunFault.TheVariants as run
 use Rattle.bridge_rounds.specs.declared.settling.RoundsFault.{RoundsFault}
 use Rattle.bridge_rounds.specs.declared.settling.RoundsFault.TheVariants as fault
 use Rattle.bridge_rounds.specs.declared.settling.Settled.{Settled}
@@ -86,10 +88,17 @@ HaveTaps {A} plans settled = (b : ℕ) (p : Plan A) (s : Settled A) → slice_ge
 abbrev pub HaveCompleteRunsBefore : {A : Type 0} → List (StationState A) → ℕ → Type 0
 HaveCompleteRunsBefore {A} xs b = (c : ℕ) → c < b → (y : StationState A) × (slice_get xs c ≡ Some y) × HasCompleteRun y
 
+-- Holds if a fault of a network says that the bridge with index `b` stopped with the fault `e`. If memory ran out for the bridge, it
+-- ran out for the network.
+abbrev pub IsFaultAt : ℕ → RunFault → RoundsFault → Type 0
+IsFaultAt b e (fault.Bridge c f) = (c ≡ b) × (f ≡ e) × (f ≢ run.NoMemory)
+IsFaultAt b e (fault.NotSettled c q) = ⊥
+IsFaultAt b e fault.NoMemory = e ≡ run.NoMemory
+
 -- Holds if a round of the bridges `xs` stops with this fault: the named bridge stops over the captures that came to it,
 -- as the first bridge of the round, or memory runs out.
 abbrev pub StopsRound : {A : Type 0} → List (StationState A) → RoundsFault → Type 0
-StopsRound {A} xs (fault.Bridge b e) = (x : StationState A) × (slice_get xs b ≡ Some x) × StopsBridge x.plan x.ports x.commands x.texts e × HaveCompleteRunsBefore xs b
+StopsRound {A} xs (fault.Bridge b e) = (x : StationState A) × (slice_get xs b ≡ Some x) × StopsBridge x.plan x.ports x.commands x.texts e × (e ≢ run.NoMemory) × HaveCompleteRunsBefore xs b
 StopsRound xs (fault.NotSettled b q) = ⊥
 StopsRound xs fault.NoMemory = Unit {0}
 

@@ -5,7 +5,7 @@ ghost use Rattle.bridge_network.specs.Networks.{IsNetwork};
 ghost use Rattle.bridge_network.specs.Wiring.{network_of, sender_value};
 ghost use Rattle.bridge_rounds.specs.Stations.{AreFed, GoesOn, HasRun, HaveRun, IsLaterText, IsStation, StationState, ground, tap_of, texts_of};
 ghost use Rattle.bridge_rounds.specs.Feeding.{AreAllHanded, AreFedBut, AreFedByRun, AreHanded, AreKept, IsHanded};
-ghost use Rattle.bridge_rounds.specs.Rounds.{AreBegun, AreIncoming, AreSettled, HaveTaps, IsolatesStreams, OthersChangeNothing, RunsNetwork, SettlesIn, StopsRound, StopsSettling};
+ghost use Rattle.bridge_rounds.specs.Rounds.{AreBegun, AreIncoming, AreSettled, HaveTaps, IsFaultAt, IsolatesStreams, OthersChangeNothing, RunsNetwork, SettlesIn, StopsRound, StopsSettling};
 
 use crate::delaying::later_text;
 use crate::station::{Incoming, Station};
@@ -195,6 +195,16 @@ fn tell_begin<A: Allocator + Copy, W: Watch>(
     }
 }
 
+/// Returns the fault of a network whose bridge stopped: the bridge with its fault, or that memory ran out.
+fn fault_at(bridge: usize, fault: RunFault) -> RoundsFault
+    ensures { IsFaultAt bridge fault result }
+{
+    match fault {
+        RunFault::NoMemory => RoundsFault::NoMemory,
+        fault => RoundsFault::Bridge { bridge, fault },
+    }
+}
+
 /// Runs each bridge over what came to it, if it hasn't. Of each whether it ran.
 fn run_all<A: Allocator + Copy, W: Watch>(
     alloc: A,
@@ -215,8 +225,7 @@ fn run_all<A: Allocator + Copy, W: Watch>(
         tell_begin(stations, bridge, turn, watch);
         let ran = match stations[bridge].run(alloc) {
             Ok(ran) => ran,
-            Err(RunFault::NoMemory) => return Err(RoundsFault::NoMemory),
-            Err(fault) => return Err(RoundsFault::Bridge { bridge, fault }),
+            Err(fault) => return Err(fault_at(bridge, fault)),
         };
         let Ok(()) = all.push(ran) else {
             return Err(RoundsFault::NoMemory);

@@ -6,7 +6,7 @@ use Rattle.std.proofs.lemmas.Option.{slice_get-get_or}
 use Rattle.bridge_rounds.specs.Feeding.{AreKept}
 use Rattle.bridge_rounds.specs.Stations.{HasRun, ground, texts_of}
 use Rattle.bridge_rounds.proofs.Handing.{kept_more, rest_more}
-use Rattle.bridge_rounds.proofs.Stopped.{complete_more}
+use Rattle.bridge_rounds.proofs.Stopped.{complete_more, stopped_at}
 use Rattle.bridge_rounds.proofs.Turns.{map_set, ran_more, stops_kept}
 use Rattle.bridge_rounds.proofs.settling.run_all.Goals as goal
 
@@ -22,7 +22,9 @@ returns-in-Err g c =
       texts = tt;
       runs = tt;
       kept = tt;
-      stops = (y, there, stops_kept c.loop-bridge.stations c.args.stations.now c.loop-bridge.bridge _ y c.in-Err.fault c.loop-bridge.invariant.ground c.loop-bridge.invariant.texts here there c.in-Err.ensures.stops, c.loop-bridge.invariant.complete);
+      stops = stopped_at c.args.stations.now c.loop-bridge.bridge y c.in-Err.fault c.fault_at.result there
+          (stops_kept c.loop-bridge.stations c.args.stations.now c.loop-bridge.bridge _ y c.in-Err.fault c.loop-bridge.invariant.ground c.loop-bridge.invariant.texts here there c.in-Err.ensures.stops)
+          c.loop-bridge.invariant.complete c.fault_at.ensures;
     }
 
 pub loop-bridge-init : goal.loop-bridge-init
