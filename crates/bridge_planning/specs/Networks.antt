@@ -1,5 +1,5 @@
 -- Networks of files: what is made of their text, and what is printed.
-use Rattle.std.specs.Prelude.{◌≡◌, ◌≢◌, ◌⊎◌, ℕ, Bool, List, ◌++◌, map, length, sum_by, Option, Some, None, Result, Err, Vec, codes, decimal, string_bytes}
+use Rattle.std.specs.Prelude.{◌≡◌, ◌≢◌, ◌⊎◌, ℕ, Bool, List, ◌++◌, map, length, sum_by, option_map, Option, Some, None, Result, Err, Vec, codes, decimal, string_bytes}
 use Rattle.std.specs.Path.{rsplit_once}
 use Rattle.bridge_limits.specs.Members.{In}
 use Rattle.bridge_config.specs.Model.{Plan}
@@ -121,14 +121,18 @@ pub record PrintsNetwork (A : Type 0) (lines told : List ℕ) (kept : Bool) : Ty
 
 -- THE FAULTS OF THE JOB
 
--- A file in the folder of another file: the folder is what stands before the last `/` of the other path, if it has one.
-abbrev pub in_folder : Option (List ℕ × List ℕ) → List ℕ → List ℕ
+-- The folder of the file at `path`: what stands before the last `/` of the path, if it has one.
+abbrev pub folder_of : List ℕ → Option (List ℕ)
+folder_of path = option_map (λ (parts : List ℕ × List ℕ). parts.0) (rsplit_once 47 path)
+
+-- A file in a folder, or where no folder is named.
+abbrev pub in_folder : Option (List ℕ) → List ℕ → List ℕ
 in_folder None file = file
-in_folder (Some parts) file = parts.0 ++ (codes "/" ++ file)
+in_folder (Some folder) file = folder ++ (codes "/" ++ file)
 
 -- The path of `file` if it is relative to the folder of the file at `path`.
 abbrev pub beside : List ℕ → List ℕ → List ℕ
-beside path file = in_folder (rsplit_once 47 path) file
+beside path file = in_folder (folder_of path) file
 
 -- Holds if a fault of the program is the line of the text fault `e`, or that memory ran out.
 abbrev pub SaysText : NetFault → Fault → Type 0

@@ -1,5 +1,5 @@
 //! Networks of files, from their text to their line.
-ghost use Rattle.std.specs.Prelude.{◌≡◌, ◌≤◌, ◌+◌, All, None, Vec, length, map, IfOk, IfErr, OnOk, string_bytes};
+ghost use Rattle.std.specs.Prelude.{◌≡◌, ◌≤◌, ◌+◌, All, None, Vec, length, map, IfOk, IfErr, OnOk, option_map, string_bytes};
 ghost use Rattle.bridge_netfile.specs.Document.{network_of_text};
 ghost use Rattle.bridge_netfile.specs.Model.{Stream};
 ghost use Rattle.bridge_network.specs.declared.links.StreamHop.{StreamHop as Hop};
@@ -8,7 +8,7 @@ ghost use Rattle.bridge_inputs.specs.declared.fault.RunFault.{RunFault};
 ghost use Rattle.bridge_jobs.specs.declared.fault.Fault.{Fault};
 ghost use Rattle.bridge_planning.specs.Bounds.{IsPlaced};
 ghost use Rattle.bridge_planning.specs.Warnings.{AreWarnings};
-ghost use Rattle.bridge_planning.specs.Networks.{AreLinesOfNetwork, EndsNetwork, EndsPlanOf, EndsPlans, EndsText, IsMadeOf, PrintsNetwork, RefusesNetwork, RefusesPeriods, RefusesPlanBy, RefusesTextBy, SaysPlan, SaysText, accepted_line, beside, hops_in, link_in};
+ghost use Rattle.bridge_planning.specs.Networks.{AreLinesOfNetwork, EndsNetwork, EndsPlanOf, EndsPlans, EndsText, IsMadeOf, PrintsNetwork, RefusesNetwork, RefusesPeriods, RefusesPlanBy, RefusesTextBy, SaysPlan, SaysText, accepted_line, beside, folder_of, hops_in, link_in};
 ghost use Rattle.bridge_planning.specs.Streams.{AreBoundsOf, hop_in};
 ghost use Rattle.bridge_planning.specs.Talkers.{first_misfit};
 
@@ -263,12 +263,22 @@ fn refused_text(alloc: Global, fault: &NetFault) -> Fault
     }
 }
 
+/// Returns the folder of a file: what stands before the last `/` of its path, if it has one.
+fn folder_of(path: &str) -> Option<&str>
+    ensures { option_map (λ folder. folder.now) result ≡ folder_of path.now }
+{
+    match path.rsplit_once('/') {
+        Some((folder, _)) => Some(folder),
+        None => None,
+    }
+}
+
 /// Returns the path of a file that lies in the folder of another file.
 pub(crate) fn beside(alloc: Global, path: &str, file: &str) -> Result<String, AllocError>
     ensures { IfOk result (λ place. string_bytes place ≡ beside path.now file.now) }
 {
-    match path.rsplit_once('/') {
-        Some((folder, _)) => format!(in alloc; "{folder}/{file}"),
+    match folder_of(path) {
+        Some(folder) => format!(in alloc; "{folder}/{file}"),
         None => String::from_str(alloc, file),
     }
 }
