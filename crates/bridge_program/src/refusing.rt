@@ -1,6 +1,6 @@
 //! Faults of jobs over bounds and networks, with what is told of them where the words ask for more.
 
-use bridge_app::{Refusal, said_of_file, said_of_plan, said_of_unread};
+use bridge_app::{Refusal, said_of_file, said_of_plan, said_of_syntax, said_of_unread};
 use bridge_jobs::{Cause, Fault};
 use bridge_net_app::explain_stopped;
 use bridge_planning::{explain_loops, explain_network, explain_traffic};
@@ -20,7 +20,10 @@ pub(crate) fn of_traffic(
         return unexplained(fault);
     }
     let said = match &fault {
-        Fault::Network(_) => explain_traffic(rt, plan, traffic),
+        Fault::Network(_) => match said_of_syntax(rt, traffic) {
+            Some(said) => Some(said),
+            None => explain_traffic(rt, plan, traffic),
+        },
         Fault::File(_) => said_of_unread(rt, &fault),
         fault => said_of_plan(rt.alloc(), plan, text, None, fault),
     };
@@ -40,7 +43,10 @@ pub(crate) fn of_network(
     }
     let said = match &fault {
         Fault::Rounds(line) => said_of_stopped(rt, path, line.as_str()),
-        Fault::Network(_) => explain_network(rt, path),
+        Fault::Network(_) => match said_of_syntax(rt, path) {
+            Some(said) => Some(said),
+            None => explain_network(rt, path),
+        },
         fault => said_of_noted(rt, cause, fault),
     };
     Refusal { fault, said }
