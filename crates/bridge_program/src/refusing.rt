@@ -52,26 +52,16 @@ pub(crate) fn of_network(
     Refusal { fault, said }
 }
 
-/// Returns what is told of a run that stopped, by its line: what to look at, and the loops that the plans of the network allow.
-fn said_of_stopped(
-    rt: &(impl AllocGlobal + Files),
-    path: &str,
-    line: &str,
-) -> Option<String> {
+/// Returns what is told of a run that stopped, by its line: the port, the loops that the
+/// plans of the network allow, and a remedy.
+fn said_of_stopped(rt: &(impl AllocGlobal + Files), path: &str, line: &str) -> Option<String> {
     let said = explain_stopped(rt.alloc(), line)?;
     match explain_loops(rt, path) {
-        Some(loops) => format!(in rt.alloc(); "{said}{loops}").ok(),
+        Some(loops) => format!(in rt.alloc();
+            "{said}{loops}Remove one link of each loop from the loop's VLAN.\n"
+        ).ok(),
         None => Some(said),
     }
-}
-
-/// A fault of the picture of a network.
-pub(crate) fn of_drawing(rt: &(impl AllocGlobal + Files), wishes: Wishes, fault: Fault) -> Refusal {
-    if !wishes.is_explained {
-        return unexplained(fault);
-    }
-    let said = said_of_unread(rt, &fault);
-    Refusal { fault, said }
 }
 
 /// What is told of a file that failed, by its cause where it is noted.
