@@ -15,7 +15,8 @@ use bridge_frame::Tag;
 use bridge_ident::Kind;
 use bridge_netfile::{BridgeRow, NetworkFile};
 use bridge_network::{
-    End, Link, Network, NetworkFault, RefusedNetwork, Stray, StreamHop, check_network, peer_of, stray_at,
+    End, Link, Network, NetworkFault, RefusedNetwork, Stray, StreamHop, check_network, peer_of,
+    stray_at,
 };
 use bridge_text::Text;
 use std::alloc::{Allocator, Global};
@@ -75,11 +76,7 @@ pub fn explain_loops<H: AllocGlobal + Files>(rt: &H, path: &str) -> Option<Strin
 }
 
 /// Returns these lines of a network.
-fn loops_of(
-    alloc: Global,
-    file: &NetworkFile<Global>,
-    network: &Network<Global>,
-) -> Option<String>
+fn loops_of(alloc: Global, file: &NetworkFile<Global>, network: &Network<Global>) -> Option<String>
     requires few { length network.now.plans ≤ 64 }
 {
     let rows = circulations_in(alloc, network.plans(), network.links()).ok()?;

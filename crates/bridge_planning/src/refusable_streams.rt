@@ -71,7 +71,16 @@ fn put_streams(
     for stream in streams {
         if let Some(talker) = stream.talker() {
             if let Ok(hops) = hops_of(alloc, stream.hops()) {
-                put_stream(alloc, said, file, network, bounds, stream.name(), &hops, &talker);
+                put_stream(
+                    alloc,
+                    said,
+                    file,
+                    network,
+                    bounds,
+                    stream.name(),
+                    &hops,
+                    &talker,
+                );
             }
         }
     }
@@ -154,7 +163,11 @@ fn traffic_at(
     let end = u128::from(done.to).saturating_add(u128::from(delay));
     let period = u128::from(talker.period.max(1));
     let whole = start - start % period;
-    checked(talker, (start % period) as u64, end.saturating_sub(whole).min(u128::from(u64::MAX)) as u64)
+    checked(
+        talker,
+        (start % period) as u64,
+        end.saturating_sub(whole).min(u128::from(u64::MAX)) as u64,
+    )
 }
 
 /// Returns the frames of a talker with other phases, if these lie in one period.
