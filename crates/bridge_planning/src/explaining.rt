@@ -46,7 +46,7 @@ fn said_of_first_plan<H: AllocGlobal + Files>(
             let place = beside(rt.alloc(), path, bridge.plan()).ok()?;
             let mut said = Text::new(rt.alloc());
             said.fill(
-                "{a}: the plan of bridge {b} is refused. For more: tsnbridge check {c} --explain\n",
+                "{a}: the plan of bridge {b} is refused. Run `tsnbridge check {c} --explain`.\n",
                 &[],
                 &[path, bridge.name(), place.as_str()],
             );
@@ -208,7 +208,7 @@ fn said_of_refused(
             heap,
             path,
             file,
-            "{a}: hop {0} of stream {b} (filter {1} of {c}) is a hop already, of this stream or of an earlier one. Use one filter for each stream and bridge.\n",
+            "{a}: hop {0} of stream {b} (filter {1} of {c}) is already a hop of this stream or of an earlier one. Use one filter for each stream and bridge.\n",
             stream,
             hop,
         ),

@@ -51,7 +51,7 @@ pub(crate) fn said_of(alloc: Global, path: &str, fault: &NetFault) -> Option<Str
             said.put("the file has more than 1048576 octets. Remove comments or tables.\n")
         }
         NetFault::UnknownKey(NetSection::Top, _) => said.put(
-            "a section is unknown here. Correct its name, or give the file to the command that it is for.\n",
+            "a section is unknown. A network file has `[[bridge]]`, `[[link]]` and `[[stream]]`, and a traffic file has `[[traffic]]`.\n",
         ),
         NetFault::UnknownKey(section, index) => put_unknown(&mut said, section, index),
         NetFault::NotAList(section) => said.fill(
