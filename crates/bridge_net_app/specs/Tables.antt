@@ -1,7 +1,8 @@
 -- The tables of streams and of frames of a run of a network.
 use Rattle.std.specs.Prelude.{◌≡◌, ℕ, List, [], ◌∷◌, ◌++◌, Option, codes, decimal, map}
 use Rattle.std.specs.Io.KnownBytes.{Appends}
-use Rattle.bridge_delays.specs.declared.TheConstants.{FRAMES_HEADER, STREAMS_HEADER}
+use Rattle.bridge_delays.specs.declared.frames.TheConstants.{FRAMES_HEADER}
+use Rattle.bridge_delays.specs.declared.lines.TheConstants.{STREAMS_HEADER}
 use Rattle.bridge_delays.specs.Tables.{AreRowsOfStream, Heading}
 use Rattle.bridge_netfile.specs.Model.{Bridge, Stream}
 use Rattle.bridge_netfile.specs.Model as file
