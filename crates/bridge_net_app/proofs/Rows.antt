@@ -86,7 +86,7 @@ streams_all {A} links settled bridges streams here bounds i a0 a1 b0 b1 is many 
 
 -- two writers that were handed the headers and then the rows of all streams
 pub tables_written : {A : Type 0} (links : List Link) (settled : List (Settled A)) (f : file.Network) (bounds : List ℕ) (a0 a1 a2 b0 b1 b2 : Option (List ℕ))
-    → Appends a0 a1 STREAMS_HEADER → Appends b0 b1 FRAMES_HEADER → WriteStreams links settled f.bridges f.streams bounds a1 a2 b1 b2 → WriteTables links settled f bounds a0 a2 b0 b2
+    → Appends a0 a1 STREAMS_HEADER.now → Appends b0 b1 FRAMES_HEADER.now → WriteStreams links settled f.bridges f.streams bounds a1 a2 b1 b2 → WriteTables links settled f bounds a0 a2 b0 b2
 tables_written links settled f bounds a0 a1 a2 b0 b1 b2 first front (rows, lines, are, second, back) =
-    (STREAMS_HEADER ++ rows, FRAMES_HEADER ++ lines, record { rows = rows; lines = lines; are_rows = are; streams_are = refl; frames_are = refl },
-    Appends-trans a0 a1 a2 STREAMS_HEADER rows first second, Appends-trans b0 b1 b2 FRAMES_HEADER lines front back)
+    (STREAMS_HEADER.now ++ rows, FRAMES_HEADER.now ++ lines, record { rows = rows; lines = lines; are_rows = are; streams_are = refl; frames_are = refl },
+    Appends-trans a0 a1 a2 STREAMS_HEADER.now rows first second, Appends-trans b0 b1 b2 FRAMES_HEADER.now lines front back)
