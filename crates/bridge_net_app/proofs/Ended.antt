@@ -1,6 +1,7 @@
 -- Which faults end the reading and the run of a network.
-use Rattle.std.proofs.Common.{◌≡◌, ℕ, List, Result, Err, Some, None, Option, refl, subst, arith, inl, inr}
-use Rattle.std.specs.Prelude.{slice_get, string_bytes}
+use Rattle.std.proofs.Common.{◌≡◌, ℕ, List, Result, Ok, Err, Some, None, Option, refl, sym, subst, arith, inl, inr}
+use Rattle.std.specs.Prelude.{IfErr, slice_get, string_bytes}
+use Rattle.std.specs.Result.{IsErrAnd}
 use Rattle.bridge_config.specs.Document.{commands_of_text}
 use Rattle.bridge_config.specs.Model.{Plan}
 use Rattle.bridge_cycle.specs.declared.cyclic.ListFault.{ListFault}
@@ -24,6 +25,11 @@ use Rattle.bridge_schema.specs.declared.fault.PlanFault.{PlanFault}
 use Rattle.bridge_schema.specs.declared.fault.PlanFault.TheVariants as plan
 use Rattle.bridge_schema.specs.Readers.{Fails}
 use Rattle.bridge_net_app.specs.Folders.{EndsBridge, EndsFiles, EndsReading, EndsRounds, EndsRun, IsMostRounds, SaysCommands, SaysStopped}
+
+-- what the exit of a `?` returns
+pub goes_out : {T E : Type 0} (P : E → Type 0) (r : Result T E) (e : E) → IsErrAnd r (λ y. y ≡ e) → P e → IfErr r P
+goes_out P (Ok x) e is p = tt
+goes_out P (Err y) e is p = subst P (sym is) p
 
 -- a call's fault that isn't want of memory is the one of the reading
 fails_is : {Y : Type 0} (e : PlanFault) (read : Result Y PlanFault) → status_of_plan e ≡ 1 → Fails e read → read ≡ Err e
