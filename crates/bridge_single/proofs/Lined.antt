@@ -1,6 +1,5 @@
 -- How words end that ask for the line of a job.
 use Rattle.std.proofs.Common.{◌≡◌, ℕ, Err, IfErr, IfOk, List, Ok, Result, inl, inr, subst}
-use Rattle.bridge_limits.specs.declared.NoMemory.{NoMemory}
 use Rattle.bridge_cli.specs.declared.job.Job.{Job}
 use Rattle.bridge_jobs.specs.declared.fault.Fault.{Fault}
 use Rattle.bridge_check_app.specs.Checked.{IfEnded}
@@ -26,11 +25,11 @@ ends_of_queue a b (Ok d) same ends = tt
 ends_of_queue a b (Err f) same ends = inr (subst (λ (j : Job). queue.EndsJob j f) same ends)
 
 -- words that ask for more
-pub more_performs : (words : List (List ℕ)) (r : Result Performed NoMemory) → MayLeaveBy is_more words → IfOk r (PerformsLine words)
+pub more_performs : {E : Type 0} (words : List (List ℕ)) (r : Result Performed E) → MayLeaveBy is_more words → IfOk r (PerformsLine words)
 more_performs words (Ok (performed.Ended e)) more = inl more
 more_performs words (Ok (performed.Left left)) more = more
 more_performs words (Err f) more = tt
 
-pub more_ends : (words : List (List ℕ)) (r : Result Ending NoMemory) → MayLeaveBy is_more words → IfOk r (EndsLineUnlessMore words)
+pub more_ends : {E : Type 0} (words : List (List ℕ)) (r : Result Ending E) → MayLeaveBy is_more words → IfOk r (EndsLineUnlessMore words)
 more_ends words (Ok e) more = inl more
 more_ends words (Err f) more = tt

@@ -1,6 +1,4 @@
-use Rattle.std.proofs.Common.{IfSome, inr, map, string_bytes, subst}
-use Rattle.bridge_check_app.specs.Checked.{EndsBySome}
-use Rattle.bridge_single.specs.Said.{EndsJob, EndsSaid}
+use Rattle.std.proofs.Common.{inr, map, string_bytes}
 use Rattle.bridge_single.proofs.Lined.{more_performs}
 use Rattle.bridge_single.proofs.performing.perform.Goals as goal
 
