@@ -21,7 +21,7 @@ use Rattle.bridge_rounds.specs.declared.settling.RoundsFault.{RoundsFault}
 use Rattle.bridge_rounds.specs.declared.settling.RoundsFault.TheVariants as rounds
 use Rattle.bridge_rounds.specs.declared.settling.Settled.{Settled}
 use Rattle.bridge_rounds.specs.declared.station.Incoming.{Incoming}
-use Rattle.bridge_rounds.specs.Rounds.{AreIncoming, IsolatesStreams, OthersChangeNothing, RunsNetwork, StopsSettling}
+use Rattle.bridge_rounds.specs.Rounds.{AreIncoming, IsolatesStreams, OthersChangeNothing, RunsNetwork, SettlesIn, StopsSettling}
 use Rattle.bridge_rounds.specs.Stations.{IsIncoming}
 use Rattle.bridge_schema.specs.declared.fault.PlanFault.{PlanFault}
 use Rattle.bridge_circling.specs.declared.circulations.Circulation.{Circulation}
@@ -146,8 +146,18 @@ pub record IsSettled {A : Type 0} (n : Parts A) (came : List (Incoming A)) (sett
 abbrev pub TellsRun : {A : Type 0} → Parts A → file.Network → List ℕ → Type 0
 TellsRun {A} n f line = (came : List (Incoming A)) × (settled : List (Settled A)) × IsSettled n came settled × IsLine n.links settled f line
 
+-- Holds if a line is that of a whole run of a network, which was found in so many rounds.
+abbrev pub TellsRunIn : {A : Type 0} → Parts A → file.Network → List ℕ → ℕ → Type 0
+TellsRunIn {A} n f line rounds = (came : List (Incoming A)) × (settled : List (Settled A)) × IsSettled n came settled × IsLine n.links settled f line × SettlesIn n came rounds
+
 -- what is printed for a run: the network of a file is accepted, the periods of its talkers suit its plans, and it was run
 abbrev pub PrintsRounds : (A : Type 0) → List ℕ → Type 0
 PrintsRounds A line =
     (f : file.Network) × (plans : List (Plan A)) × (n : Parts A) × IsMadeOf f plans n × (first_fault n ≡ None) × (first_misfit n.plans 1 f.streams ≡ None)
     × TellsRun n f line
+
+-- Holds if this is printed for a run that was found in so many rounds.
+abbrev pub PrintsRoundsIn : (A : Type 0) → List ℕ → ℕ → Type 0
+PrintsRoundsIn A line rounds =
+    (f : file.Network) × (plans : List (Plan A)) × (n : Parts A) × IsMadeOf f plans n × (first_fault n ≡ None) × (first_misfit n.plans 1 f.streams ≡ None)
+    × TellsRunIn n f line rounds

@@ -2,7 +2,7 @@
 ghost use Rattle.std.specs.Prelude.{◌≡◌, ◌≤◌, IfOk, IfErr, IfSome, None, Some, false, true, length, string_bytes};
 ghost use Rattle.bridge_net_app.specs.Losing.{has_lines};
 ghost use Rattle.bridge_net_app.specs.InTime.{HaveViews};
-ghost use Rattle.bridge_net_app.specs.Folders.{EndsFiles, EndsRounds, EndsRun, IsAccepted, IsLine, IsMostRounds, PrintsRounds, TellsRun, network_words, rounds_line};
+ghost use Rattle.bridge_net_app.specs.Folders.{EndsFiles, EndsRounds, EndsRun, IsAccepted, IsLine, IsMostRounds, PrintsRounds, PrintsRoundsIn, TellsRun, TellsRunIn, network_words, rounds_line};
 
 use crate::incoming::read_all;
 use crate::losing::fault_lines;
@@ -208,7 +208,7 @@ struct Wishes {
     is_watched: bool,
 }
 
-/// Runs a network from one folder into another.
+/// Runs a network from one folder into another. Returns the lines of the run, and in how many rounds it was found.
 fn run_network<H: AllocGlobal + Eprint + Files>(
     rt: &H,
     file: &NetworkFile<Global>,
@@ -220,10 +220,11 @@ fn run_network<H: AllocGlobal + Eprint + Files>(
     teller: &mut Teller<'_, H>,
     taken: Vec<FileId>,
     cause: &mut Option<Cause>,
-) -> Result<RunLines, Fault>
+) -> Result<(RunLines, u32), Fault>
     requires few { length network.now.plans ≤ 64 }
     requires accepted { IsAccepted network.now file.now }
-    ensures ok { IfOk result (λ lines. TellsRun network.now file.now (string_bytes lines.line)) }
+    ensures ok { IfOk result (λ ran. TellsRun network.now file.now (string_bytes ran.0.line)) }
+    ensures rounds { IfOk result (λ ran. TellsRunIn network.now file.now (string_bytes ran.0.line) ran.1) }
     ensures err { IfErr result (EndsRun network.now file.now.bridges) }
 {
     let (mut taken, plans, bridges) = (taken, network.plans(), file.bridges());
@@ -253,7 +254,7 @@ fn run_network<H: AllocGlobal + Eprint + Files>(
     match settle(rt.alloc(), network, incoming, rounds, teller) {
         Ok(settled) => {
             *cause = Some(Cause::NotWritable);
-            let is_strict = wishes.is_strict;
+            let (is_strict, rounds) = (wishes.is_strict, settled.rounds);
             let told = put_drawn(
                 rt,
                 file,
@@ -266,7 +267,10 @@ fn run_network<H: AllocGlobal + Eprint + Files>(
                 is_strict,
             );
             drop(settled);
-            told
+            match told {
+                Ok(lines) => Ok((lines, rounds)),
+                Err(fault) => Err(fault),
+            }
         }
         Err(fault) => {
             drop(outputs);
@@ -336,6 +340,7 @@ fn run_accepted<H: AllocGlobal + Eprint + Files>(
     requires few { length network.now.plans ≤ 64 }
     requires accepted { IsAccepted network.now file.now }
     ensures ok { IfOk result (λ said. IfSome said.line (λ line. TellsRun network.now file.now (string_bytes line))) }
+    ensures rounds { IfOk result (λ said. IfSome said.line (λ line. TellsRunIn network.now file.now (string_bytes line) said.rounds)) }
     ensures warned { IfOk result (λ said. said.is_warned ≡ true → said.line ≡ None) }
     ensures err { IfErr result (EndsRun network.now file.now.bridges) }
 {
@@ -367,7 +372,6 @@ fn run_accepted<H: AllocGlobal + Eprint + Files>(
         rt,
         bridges: file.bridges(),
         is_wanted: false,
-        rounds: 0,
     };
     match run_network(
         rt,
@@ -381,7 +385,7 @@ fn run_accepted<H: AllocGlobal + Eprint + Files>(
         taken,
         cause,
     ) {
-        Ok(lines) => Ok(ran(lines, teller.rounds)),
+        Ok((lines, rounds)) => Ok(ran(lines, rounds)),
         Err(fault) => Err(fault),
     }
 }
@@ -392,6 +396,7 @@ fn ran(lines: RunLines, rounds: u32) -> RoundsSaid
     ensures told { result.told ≡ lines.lost }
     ensures warned { result.is_warned ≡ false }
     ensures lossy { result.is_lossy ≡ has_lines (string_bytes lines.lost) }
+    ensures rounds { result.rounds ≡ rounds }
 {
     let RunLines { line, lost } = lines;
     let is_lossy = !lost.as_str().is_empty();
@@ -439,6 +444,7 @@ pub fn rounds_job<H: AllocGlobal + Eprint + Files>(
     job: RoundsJob,
 ) -> Result<RoundsSaid, Fault>
     ensures ok { IfOk result (λ said. IfSome said.line (λ line. PrintsRounds Global (string_bytes line))) }
+    ensures rounds { IfOk result (λ said. IfSome said.line (λ line. PrintsRoundsIn Global (string_bytes line) said.rounds)) }
     ensures warned { IfOk result (λ said. said.is_warned ≡ true → said.line ≡ None) }
     ensures err { IfErr result (EndsRounds Global (string_bytes job.network)) }
 {
@@ -452,6 +458,7 @@ pub fn rounds_noted<H: AllocGlobal + Eprint + Files>(
     cause: &mut Option<Cause>,
 ) -> Result<RoundsSaid, Fault>
     ensures ok { IfOk result (λ said. IfSome said.line (λ line. PrintsRounds Global (string_bytes line))) }
+    ensures rounds { IfOk result (λ said. IfSome said.line (λ line. PrintsRoundsIn Global (string_bytes line) said.rounds)) }
     ensures warned { IfOk result (λ said. said.is_warned ≡ true → said.line ≡ None) }
     ensures err { IfErr result (EndsRounds Global (string_bytes job.network)) }
 {

@@ -7,22 +7,20 @@ use std::alloc::Global;
 /// From how many octets of captures on a run takes so long that it is told how far it is.
 const LONG: u64 = 8_388_608;
 
-/// Counts the rounds of a run, and says in which of them which bridge runs, where that is wanted.
+/// Says in which round of a run which bridge runs, where that is wanted.
 #[derive(Drop)]
 pub(crate) struct Teller<'a, H> {
     pub(crate) rt: &'a H,
     pub(crate) bridges: &'a [BridgeRow<Global>],
     pub(crate) is_wanted: bool,
-    pub(crate) rounds: u32,
 }
 
 impl<H: Eprint> Watch for Teller<'_, H> {
     fn begins(&mut self, round: u32, bridge: usize) {
-        let number = round.saturating_add(1);
-        self.rounds = number;
         if !self.is_wanted {
             return;
         }
+        let number = round.saturating_add(1);
         let name = name_at(self.bridges, bridge);
         let _ = eprint!(self.rt; "round {number}: {name}\n");
     }
