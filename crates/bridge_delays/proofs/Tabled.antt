@@ -6,10 +6,13 @@ use Rattle.std.proofs.KnownBytes.{Appends-nil, Appends-trans}
 use Rattle.std.proofs.lemmas.List.{append-nil, append_assoc, length-take, take_more}
 use Rattle.bridge_network.specs.declared.links.Link.{Link}
 use Rattle.bridge_tracing.specs.declared.hops.HopRun.{HopRun}
+use Rattle.bridge_tracing.specs.declared.tallies.Tally.{Tally}
 use Rattle.bridge_tracing.specs.declared.tracing.Root.{Root}
+use Rattle.bridge_delays.specs.Figures.{figures_of}
 use Rattle.bridge_delays.specs.Hops.{AreWays}
+use Rattle.bridge_delays.specs.Streams.{stream_line}
 use Rattle.bridge_delays.specs.Tallies.{delays_of}
-use Rattle.bridge_delays.specs.Tables.{AddDelays, AreDelays, AreRowsOfHop, AreRowsOfHops, WriteHops, WritesHop}
+use Rattle.bridge_delays.specs.Tables.{AddDelays, AreDelays, AreRowsOfHop, AreRowsOfHops, Heading, WriteHops, WriteStream, WritesHop}
 
 -- the rows of one hop more
 pub rows_more : {A : Type 0} (links : List Link) (hops : List (HopRun A)) (stream : List ℕ) (ns : List (List ℕ)) (hs : List (HopRun A)) (ks : List (Vec (Option Root) A)) (n : List ℕ) (h : HopRun A) (k : Vec (Option Root) A) (rows lines row line : List ℕ)
@@ -76,3 +79,11 @@ delays_at {A} links hops known i h d k c old new many within h_is k_is are more 
     let hops_are : take (i + 1) hops ≡ take i hops ++ h ∷ [] = take_more hops i d within ∙ ap (λ x. take i hops ++ x ∷ []) (sym h_is) in
     let known_are : take (i + 1) known ≡ take i known ++ k ∷ [] = take_more known i c known_within ∙ ap (λ x. take i known ++ x ∷ []) (sym k_is) in
     subst (λ hs. AreDelays links hops hs (take (i + 1) known) new) (sym hops_are) (subst (λ ks. AreDelays links hops (take i hops ++ h ∷ []) ks new) (sym known_are) all)
+
+-- two writers that were handed the row of a whole stream and then the rows of its hops
+pub stream_written : {A : Type 0} (links : List Link) (hops : List (HopRun A)) (known : List (Vec (Option Root) A)) (tallies : List Tally) (s : Heading) (delays line : List ℕ) (a0 a1 a2 b0 b1 : Option (List ℕ))
+    → AreDelays links hops hops known delays → line ≡ stream_line s.name tallies (figures_of delays) s.bound s.deadline → Appends a0 a1 line
+    → WriteHops links hops s.name s.hops hops known a1 a2 b0 b1 → WriteStream links hops known tallies s a0 a2 b0 b1
+stream_written links hops known tallies s delays line a0 a1 a2 b0 b1 are is first (rows, lines, all, more, frames) =
+    (line ++ rows, lines, record { delays = delays; are_delays = are; hop_rows = rows; are_hops = all; rows_are = ap (λ l. l ++ rows) is },
+    Appends-trans a0 a1 a2 line rows first more, frames)

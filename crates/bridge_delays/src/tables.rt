@@ -195,7 +195,7 @@ pub fn write_stream<A: Allocator + Copy, V: Write, W: Write>(
 ) -> Result<(), TableFault>
     requires names { length heading.hops.now ≡ length hops.now }
     requires known { length known.now ≡ length hops.now }
-    ensures { OnOk result (WriteStream links.now hops.now known.now tallies.now (heading_of {A = A} heading)
+    ensures { OnOk result (WriteStream links.now hops.now known.now tallies.now (heading_of {A = A} heading.entry)
         (V.contents streams.old) (V.contents streams.new) (W.contents frames.old) (W.contents frames.new)) }
 {
     let delays = delays_of_all(alloc, links, hops, known)?;

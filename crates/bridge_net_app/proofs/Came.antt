@@ -15,7 +15,8 @@ more_incoming [] (y ∷ ys) p c are is = absurd are
 more_incoming (x ∷ xs) [] p c are is = absurd are
 more_incoming (x ∷ xs) (y ∷ ys) p c are is = (are.0, more_incoming xs ys p c are.1 is)
 
-many : {A : Type 0} (ps : List (Plan A)) (cs : List (Incoming A)) → AllIncoming ps cs → length cs ≡ length ps
+-- as many come as there are bridges
+pub many : {A : Type 0} (ps : List (Plan A)) (cs : List (Incoming A)) → AllIncoming ps cs → length cs ≡ length ps
 many [] [] are = refl
 many [] (y ∷ ys) are = absurd are
 many (x ∷ xs) [] are = absurd are

@@ -67,8 +67,8 @@ in_front form place octets c rest e =
 
 -- ALL RECORDS
 
-AreShort : List Captured → Type 0
-abbrev AreShort cs = (c : Captured) → In c cs → length c.octets ≤ c.len
+abbrev AreShort : List Captured → Type 0
+AreShort cs = (c : Captured) → In c cs → length c.octets ≤ c.len
 
 in_reads : (form : Form) (place : Place) (octets : List ℕ) (cs : List Captured) (e : Ending) → Reads form place octets cs e → AreShort cs
 in_reads form place octets [] e reads c i = absurd i
@@ -84,8 +84,8 @@ in_text text cs e reads = in_after (header_of text) text cs e reads
 
 -- EVENTS
 
-IsShort : Event → Type 0
-abbrev IsShort (Arrived a) = length a.octets ≤ a.len
+abbrev IsShort : Event → Type 0
+IsShort (Arrived a) = length a.octets ≤ a.len
 IsShort (Cleared clear n) = Unit {0}
 
 of_commands : (cs : List Command) (x : Input) → In x (commands_of cs) → IsShort x.event

@@ -7,3 +7,5 @@ pub mod Within
 pub mod Told
 pub mod Views
 pub mod Lengths
+pub mod Ended
+pub mod Rows

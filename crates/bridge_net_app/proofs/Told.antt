@@ -26,7 +26,7 @@ runs_more {A} o stream hops x h at is are i g there = elim (pushed hops h g i th
 ]
 
 -- what counts of a stream, by its hops as three calls were handed them
-pub count_is : {A : Type 0} (links : List Link) (settled : List (Settled A)) (stream asked : List (ℕ × ℕ)) (runs runs1 runs2 : List (HopRun A)) (all all2 : List (Vec (Option Root) A)) (tallies tallies2 : List Tally) (frames delivered : ℕ)
+abbrev pub count_is : {A : Type 0} (links : List Link) (settled : List (Settled A)) (stream asked : List (ℕ × ℕ)) (runs runs1 runs2 : List (HopRun A)) (all all2 : List (Vec (Option Root) A)) (tallies tallies2 : List Tally) (frames delivered : ℕ)
     → asked ≡ stream → runs1 ≡ runs → runs2 ≡ runs → all2 ≡ all → tallies2 ≡ tallies
     → length runs ≡ length asked → ((o : ℕ → Outcome A) → AreOutcomes settled o → AreRunsOf o asked runs) → AreFrom links runs1 all → AreFirstKnown runs1 all → HaveEach runs1 all → AreExhausted links runs1 all → AreTallies links runs2 all2 tallies
     → frames ≡ length tallies → delivered ≡ delivered_of tallies2 → IsCountOf links settled stream frames delivered

@@ -34,7 +34,7 @@ looked_up (y ∷ ys) m x i = by_bool (nat_eq m y.0)
     ])
 
 -- the outcome of the bridge at a place, or another one
-outcome_or : {A : Type 0} → Option (Settled A) → Outcome A → Outcome A
+abbrev outcome_or : {A : Type 0} → Option (Settled A) → Outcome A → Outcome A
 outcome_or None o = o
 outcome_or (Some s) o = s.outcome
 

@@ -1,7 +1,8 @@
 -- The tables of streams and of frames of a run of a network.
 use Rattle.std.specs.Prelude.{◌≡◌, ℕ, List, [], ◌∷◌, ◌++◌, Option, codes, decimal, map}
 use Rattle.std.specs.Io.KnownBytes.{Appends}
-use Rattle.bridge_delays.specs.declared.TheConstants.{FRAMES_HEADER, STREAMS_HEADER}
+use Rattle.bridge_delays.specs.declared.frames.TheConstants.{FRAMES_HEADER}
+use Rattle.bridge_delays.specs.declared.lines.TheConstants.{STREAMS_HEADER}
 use Rattle.bridge_delays.specs.Tables.{AreRowsOfStream, Heading}
 use Rattle.bridge_netfile.specs.Model.{Bridge, Stream}
 use Rattle.bridge_netfile.specs.Model as file
@@ -48,8 +49,8 @@ pub record AreTables {A : Type 0} (links : List Link) (settled : List (Settled A
   pub rows : List ℕ
   pub lines : List ℕ
   pub are_rows : AreRows links settled f.bridges f.streams bounds rows lines
-  pub streams_are : streams ≡ STREAMS_HEADER ++ rows
-  pub frames_are : frames ≡ FRAMES_HEADER ++ lines
+  pub streams_are : streams ≡ STREAMS_HEADER.now ++ rows
+  pub frames_are : frames ≡ FRAMES_HEADER.now ++ lines
 
 -- Holds if two writers were handed the two tables.
 abbrev pub WriteTables : {A : Type 0} → List Link → List (Settled A) → file.Network → List ℕ → Option (List ℕ) → Option (List ℕ) → Option (List ℕ) → Option (List ℕ) → Type 0

@@ -2,7 +2,15 @@ use Rattle.std.proofs.Common.{length, ap, subst, ◌∙◌}
 use Rattle.bridge_config.specs.Model.{Plan}
 use Rattle.bridge_simulation.specs.Simulated.{AreNumbers}
 use Rattle.bridge_simulation.proofs.Simulating.{ports_many}
+use Rattle.bridge_net_app.specs.Folders.{EndsBridge}
+use Rattle.bridge_net_app.proofs.Ended.{bridge_file, goes_out}
 use Rattle.bridge_net_app.proofs.incoming.read_bridge.Goals as goal
+
+pub returns-in_err-captures-clause-ends : goal.returns-in_err-captures-clause-ends
+returns-in_err-captures-clause-ends g c =
+    let p = c.args.accepted.now in
+    let name = c.args.name.now in
+    goes_out (EndsBridge p name) c.from_residual.result _ c.from_residual.ensures.1 (bridge_file p name _ c.in_err-captures.ensures.ends)
 
 pub returns-clause-came : goal.returns-clause-came
 returns-clause-came g c =
