@@ -83,11 +83,11 @@ hop_same : {A : Type 0} (first : Bool) (ways others : List Bool) (roots more : L
 hop_same true ways others roots more ts v w same_ways same_roots same =
     ap (λ (x : List Bool). with_hop true x roots ts v) same_ways
     ∙ (ap (λ (x : List (Option Root)). with_hop true others x ts v) same_roots
-    ∙ from_view (λ os vs ds ls. with_verdicts more 1 (with_drops more (with_departures others more ts ls) ds) vs) v w same)
+    ∙ from_view {R = List Tally} (λ os vs ds ls. with_verdicts more 1 (with_drops more (with_departures others more ts ls) ds) vs) v w same)
 hop_same false ways others roots more ts v w same_ways same_roots same =
     ap (λ (x : List Bool). with_hop false x roots ts v) same_ways
     ∙ (ap (λ (x : List (Option Root)). with_hop false others x ts v) same_roots
-    ∙ from_view (λ os vs ds ls. with_taken (with_verdicts more 1 (with_drops more (with_departures others more ts ls) ds) vs) more) v w same)
+    ∙ from_view {R = List Tally} (λ os vs ds ls. with_taken (with_verdicts more 1 (with_drops more (with_departures others more ts ls) ds) vs) more) v w same)
 
 counted_once : {A : Type 0} (links : List Link) (hops gops : List (HopRun A)) → AreSameHops hops gops
     → (first : Bool) (hs gs : List (HopRun A)) (ks ls : List (Vec (Option Root) A)) (ts us vs : List Tally) → AreSameHops hs gs → contents ks ≡ contents ls
@@ -167,7 +167,7 @@ counts_same ways v w same =
 lines_same : {A : Type 0} (stream name : List ℕ) (roots : List (Option Root)) (ways : List Bool) (v w : View A) → TellTheSame v w
     → view_lines stream name roots ways v ≡ view_lines stream name roots ways w
 lines_same stream name roots ways v w same =
-    from_view (λ os vs ds ls. verdict_lines stream name roots os 1 vs ++ (drop_lines stream name roots os ds ++ departure_lines stream name roots os ways ls)) v w same
+    from_view {R = List ℕ} (λ os vs ds ls. verdict_lines stream name roots os 1 vs ++ (drop_lines stream name roots os ds ++ departure_lines stream name roots os ways ls)) v w same
 
 hop_once : {A : Type 0} (links : List Link) (hops gops : List (HopRun A)) → AreSameHops hops gops
     → (stream name : List ℕ) (h g : HopRun A) (roots more : List (Option Root)) (row other_row lines other_lines : List ℕ) → IsSameHop h g → roots ≡ more
