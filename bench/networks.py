@@ -17,7 +17,8 @@ import tempfile
 import time
 
 TOP = os.path.dirname(os.path.dirname(os.path.abspath(__file__)))
-PROGRAM = os.path.join(TOP, "crates", "tsnbridge", "out", "tsnbridge")
+BUILT = os.path.join(TOP, "crates", "tsnbridge", "out", "tsnbridge")
+PROGRAM = BUILT if os.path.exists(BUILT) else os.path.join(TOP, "release", "tsnbridge")
 ADDRESS = bytes.fromhex("91e0f000fe0a")
 HEADER = struct.pack("<IHHIIII", 0xA1B23C4D, 2, 4, 0, 0, 65535, 1)
 PLAN = """

@@ -14,7 +14,8 @@ import tempfile
 import time
 
 TOP = os.path.dirname(os.path.dirname(os.path.abspath(__file__)))
-PROGRAM = os.path.join(TOP, "crates", "tsnbridge", "out", "tsnbridge")
+BUILT = os.path.join(TOP, "crates", "tsnbridge", "out", "tsnbridge")
+PROGRAM = BUILT if os.path.exists(BUILT) else os.path.join(TOP, "release", "tsnbridge")
 HOPS = 5
 LANES = 6
 TALKERS = 16

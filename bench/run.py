@@ -19,7 +19,8 @@ import captures
 import plans
 
 TOP = os.path.dirname(os.path.dirname(os.path.abspath(__file__)))
-PROGRAM = os.path.join(TOP, "crates", "tsnbridge", "out", "tsnbridge")
+BUILT = os.path.join(TOP, "crates", "tsnbridge", "out", "tsnbridge")
+PROGRAM = BUILT if os.path.exists(BUILT) else os.path.join(TOP, "release", "tsnbridge")
 # ports, frames of each, filters of each (with four streams each, where there is more than one), entries of each list
 RUNS = [(4, 2_500, 1, 0), (4, 25_000, 1, 0), (4, 250_000, 1, 0), (8, 125_000, 1, 0), (16, 200_000, 1, 0), (4, 250_000, 255, 0), (4, 250_000, 1, 256)]
 HEADER = "| frames | program | ms | ns a frame | times `cp` | processor ns a frame | ratio | peak MiB |\n|---|---|---|---|---|---|---|---|"
@@ -128,7 +129,7 @@ def main():
     if words[:1] == ["--beside"]:
         beside, words = os.path.abspath(words[1]), words[2:]
     if not os.path.exists(PROGRAM):
-        sys.exit("run ./tsnbridge bounds examples/base.toml once first: it builds the whole program")
+        sys.exit("there is no program: rt ci builds crates/tsnbridge/out/tsnbridge")
     work = words[0] if words else tempfile.mkdtemp(prefix="tsnbridge-bench-")
     print(HEADER)
     for kind in captures.SIZES:

@@ -1,4 +1,4 @@
-//! What is told of the bounds of a plan.
+//! The warning of a plan that bounds no delay.
 
 use bridge_advice::{Advice, put_advice};
 use bridge_jobs::accepted_of;
@@ -10,7 +10,12 @@ use std::alloc::Global;
 pub fn warning_of_bounds(alloc: Global, plan: &[u8]) -> String {
     let mut said = Text::new(alloc);
     if let Ok(accepted) = accepted_of(alloc, alloc, plan) {
-        if !accepted.plan().filters().iter().any(|filter| filter.1.protected) {
+        if !accepted
+            .plan()
+            .filters()
+            .iter()
+            .any(|filter| filter.1.protected)
+        {
             put_advice(&mut said, &Advice::NoneProtected);
         }
     }

@@ -13,10 +13,11 @@ use bridge_explain::{
     explain_commands, explain_file, explain_plan, explain_run, explain_text, explain_words,
     put_unread,
 };
-use bridge_files::{capture_path, cause_of_read, is_standard, is_there};
+use bridge_files::{MOST_TEXT, capture_path, cause_of_read, is_standard, is_there};
 use bridge_inputs::RunFault;
 use bridge_jobs::{Cause, Fault, read_at_most};
 use bridge_running::Noted;
+use bridge_schema::PlanFault;
 use bridge_text::Text;
 use std::alloc::Global;
 use std::fs;
@@ -58,6 +59,17 @@ pub fn said_of_unread(rt: &(impl AllocGlobal + Files), fault: &Fault) -> Option<
         Err(error) => cause_of_read(rt, path.as_str(), &error),
     };
     explain_file(rt.alloc(), path.as_str(), cause).ok()
+}
+
+/// Returns where and why a file isn't TOML text. The file is read again. None if it is TOML, too long or not readable.
+pub fn said_of_syntax(rt: &(impl AllocGlobal + Files), path: &str) -> Option<String> {
+    let alloc = rt.alloc();
+    let reader = fs::open(rt, path).ok()?;
+    let text = read_at_most(alloc, reader, MOST_TEXT).ok()?;
+    match plan_of(alloc, alloc, &text) {
+        Err(PlanFault::Syntax) => explain_plan(alloc, path, &text, &PlanFault::Syntax).ok(),
+        _ => None,
+    }
 }
 
 /// What is told of a plan that is refused, by the path of its file and its text, or of a file that failed, by its cause.

@@ -14,7 +14,7 @@ mod wiring;
 
 pub use bounding::warning_of_bounds;
 pub use bridge_running::run_job;
-pub use explaining::{said_of_file, said_of_plan, said_of_unread, said_of_words};
+pub use explaining::{said_of_file, said_of_plan, said_of_syntax, said_of_unread, said_of_words};
 pub use job::{run_with_picture, run_with_tables};
 pub use noting::Refusal;
 pub use picturing::{

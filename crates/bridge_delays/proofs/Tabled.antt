@@ -37,9 +37,13 @@ delays_more links hops [] (j ∷ ks) h k old new many are more = absurd (omega (
 delays_more links hops (g ∷ hs) [] h k old new many are more = absurd (omega (arith, many))
 delays_more links hops (g ∷ hs) (j ∷ ks) h k old new many (ways, rest, are_ways, later, old_is) (last_ways, are_last, is) =
     let last = delays_of last_ways k.items h.view.now.departures.items in
-    let own = delays_of ways j.items g.view.now.departures.items in
-    (ways, rest ++ last, are_ways, delays_more links hops hs ks h k rest (rest ++ last) (omega (arith, many)) later (last_ways, are_last, refl),
-    is ∙ (ap (λ d. d ++ last) old_is ∙ append_assoc own rest last))
+    let own = delays_of ways j.items g.view.now.departures.items in (
+      ways,
+      rest ++ last,
+      are_ways,
+      delays_more links hops hs ks h k rest (rest ++ last) (omega (arith, many)) later (last_ways, are_last, refl),
+      is ∙ (ap (λ d. d ++ last) old_is ∙ append_assoc own rest last),
+    )
 
 -- no hop has no rows
 pub none_written : {A : Type 0} (links : List Link) (hops : List (HopRun A)) (stream : List ℕ) (a b : Option (List ℕ)) → WriteHops links hops stream [] [] [] a a b b
@@ -58,15 +62,18 @@ hops_more {A} links hops stream names known i n e h d k c a0 a1 a2 b0 b1 b2 name
     let shorter = length-take i hops in
     let shortest = length-take i known in
     let more = rows_more links hops stream (take i names) (take i hops) (take i known) n h k rows lines row line
-        (short ∙ (ap (λ m. min i m) named ∙ sym shorter)) (shortest ∙ (ap (λ m. min i m) many ∙ sym shorter)) are is in
+    (short ∙ (ap (λ m. min i m) named ∙ sym shorter)) (shortest ∙ (ap (λ m. min i m) many ∙ sym shorter)) are is in
     let names_are : take (i + 1) names ≡ take i names ++ n ∷ [] = take_more names i e names_within ∙ ap (λ x. take i names ++ x ∷ []) (sym n_is) in
     let hops_are : take (i + 1) hops ≡ take i hops ++ h ∷ [] = take_more hops i d within ∙ ap (λ x. take i hops ++ x ∷ []) (sym h_is) in
-    let known_are : take (i + 1) known ≡ take i known ++ k ∷ [] = take_more known i c known_within ∙ ap (λ x. take i known ++ x ∷ []) (sym k_is) in
-    (rows ++ row, lines ++ line,
-    subst (λ ns. AreRowsOfHops links hops stream ns (take (i + 1) hops) (take (i + 1) known) (rows ++ row) (lines ++ line)) (sym names_are)
-    (subst (λ hs. AreRowsOfHops links hops stream (take i names ++ n ∷ []) hs (take (i + 1) known) (rows ++ row) (lines ++ line)) (sym hops_are)
-    (subst (λ ks. AreRowsOfHops links hops stream (take i names ++ n ∷ []) (take i hops ++ h ∷ []) ks (rows ++ row) (lines ++ line)) (sym known_are) more)),
-    Appends-trans a0 a1 a2 rows row first second, Appends-trans b0 b1 b2 lines line front back)
+    let known_are : take (i + 1) known ≡ take i known ++ k ∷ [] = take_more known i c known_within ∙ ap (λ x. take i known ++ x ∷ []) (sym k_is) in (
+      rows ++ row,
+      lines ++ line,
+      subst (λ ns. AreRowsOfHops links hops stream ns (take (i + 1) hops) (take (i + 1) known) (rows ++ row) (lines ++ line)) (sym names_are)
+          (subst (λ hs. AreRowsOfHops links hops stream (take i names ++ n ∷ []) hs (take (i + 1) known) (rows ++ row) (lines ++ line)) (sym hops_are)
+          (subst (λ ks. AreRowsOfHops links hops stream (take i names ++ n ∷ []) (take i hops ++ h ∷ []) ks (rows ++ row) (lines ++ line)) (sym known_are) more)),
+      Appends-trans a0 a1 a2 rows row first second,
+      Appends-trans b0 b1 b2 lines line front back,
+    )
 
 -- the delays of the hops before a place, and then of the hop there
 pub delays_at : {A : Type 0} (links : List Link) (hops : List (HopRun A)) (known : List (Vec (Option Root) A)) (i : ℕ) (h d : HopRun A) (k c : Vec (Option Root) A) (old new : List ℕ)
@@ -84,6 +91,10 @@ delays_at {A} links hops known i h d k c old new many within h_is k_is are more 
 pub stream_written : {A : Type 0} (links : List Link) (hops : List (HopRun A)) (known : List (Vec (Option Root) A)) (tallies : List Tally) (s : Heading) (delays line : List ℕ) (a0 a1 a2 b0 b1 : Option (List ℕ))
     → AreDelays links hops hops known delays → line ≡ stream_line s.name tallies (figures_of delays) s.bound s.deadline → Appends a0 a1 line
     → WriteHops links hops s.name s.hops hops known a1 a2 b0 b1 → WriteStream links hops known tallies s a0 a2 b0 b1
-stream_written links hops known tallies s delays line a0 a1 a2 b0 b1 are is first (rows, lines, all, more, frames) =
-    (line ++ rows, lines, record { delays = delays; are_delays = are; hop_rows = rows; are_hops = all; rows_are = ap (λ l. l ++ rows) is },
-    Appends-trans a0 a1 a2 line rows first more, frames)
+stream_written links hops known tallies s delays line a0 a1 a2 b0 b1 are is first (rows, lines, all, more, frames) = (
+  line ++ rows,
+  lines,
+  record { delays = delays; are_delays = are; hop_rows = rows; are_hops = all; rows_are = ap (λ l. l ++ rows) is },
+  Appends-trans a0 a1 a2 line rows first more,
+  frames,
+)

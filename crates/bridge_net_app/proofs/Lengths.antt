@@ -115,6 +115,6 @@ are_within {A} p commands texts frames inputs reads others merged = each_short i
     let (c, listed, is) = in_inputs x.rank x (frames x.rank) came in
     subst (λ (y : Input). IsShort y.event) (sym is) (read_at x.rank c (port_at p.ports x.rank) refl listed)))
   where
-  read_at : (q : ℕ) (c : Captured) (o : Option (PortPlan A)) → port_at p.ports q ≡ o → In c (frames q) → length c.octets ≤ c.len
-  read_at q c None none i = absurd (subst (λ (l : List Captured). In c l) (others q none) i)
-  read_at q c (Some out) there i = in_text (texts q) (frames q) AtEnd (reads q out there) c i
+    read_at : (q : ℕ) (c : Captured) (o : Option (PortPlan A)) → port_at p.ports q ≡ o → In c (frames q) → length c.octets ≤ c.len
+    read_at q c None none i = absurd (subst (λ (l : List Captured). In c l) (others q none) i)
+    read_at q c (Some out) there i = in_text (texts q) (frames q) AtEnd (reads q out there) c i

@@ -68,11 +68,14 @@ streams_more {A} links settled bridges streams here bounds i s d b e frames deli
     let short = length-take i bounds ∙ (ap (λ m. min i m) many ∙ sym (length-take i streams)) in
     let more = rows_more links settled bridges (take i streams) (take i bounds) s b frames delivered rows lines row line short are own in
     let streams_are : take (i + 1) streams ≡ take i streams ++ s ∷ [] = take_more streams i d there ∙ ap (λ x. take i streams ++ x ∷ []) (sym item) in
-    let bounds_are : take (i + 1) bounds ≡ take i bounds ++ b ∷ [] = take_more bounds i e bound_there ∙ ap (λ x. take i bounds ++ x ∷ []) (sym b_is) in
-    (rows ++ row, lines ++ line,
-    subst (λ (ss : List Stream). AreRows links settled bridges ss (take (i + 1) bounds) (rows ++ row) (lines ++ line)) (sym streams_are)
-    (subst (λ (bs : List ℕ). AreRows links settled bridges (take i streams ++ s ∷ []) bs (rows ++ row) (lines ++ line)) (sym bounds_are) more),
-    Appends-trans a0 a1 a2 rows row first second, Appends-trans b0 b1 b2 lines line front back)
+    let bounds_are : take (i + 1) bounds ≡ take i bounds ++ b ∷ [] = take_more bounds i e bound_there ∙ ap (λ x. take i bounds ++ x ∷ []) (sym b_is) in (
+      rows ++ row,
+      lines ++ line,
+      subst (λ (ss : List Stream). AreRows links settled bridges ss (take (i + 1) bounds) (rows ++ row) (lines ++ line)) (sym streams_are)
+          (subst (λ (bs : List ℕ). AreRows links settled bridges (take i streams ++ s ∷ []) bs (rows ++ row) (lines ++ line)) (sym bounds_are) more),
+      Appends-trans a0 a1 a2 rows row first second,
+      Appends-trans b0 b1 b2 lines line front back,
+    )
 
 -- two writers that were handed the rows of all streams
 pub streams_all : {A : Type 0} (links : List Link) (settled : List (Settled A)) (bridges : List Bridge) (streams here : List Stream) (bounds : List ℕ) (i : ℕ) (a0 a1 b0 b1 : Option (List ℕ))
@@ -87,6 +90,10 @@ streams_all {A} links settled bridges streams here bounds i a0 a1 b0 b1 is many 
 -- two writers that were handed the headers and then the rows of all streams
 pub tables_written : {A : Type 0} (links : List Link) (settled : List (Settled A)) (f : file.Network) (bounds : List ℕ) (a0 a1 a2 b0 b1 b2 : Option (List ℕ))
     → Appends a0 a1 STREAMS_HEADER.now → Appends b0 b1 FRAMES_HEADER.now → WriteStreams links settled f.bridges f.streams bounds a1 a2 b1 b2 → WriteTables links settled f bounds a0 a2 b0 b2
-tables_written links settled f bounds a0 a1 a2 b0 b1 b2 first front (rows, lines, are, second, back) =
-    (STREAMS_HEADER.now ++ rows, FRAMES_HEADER.now ++ lines, record { rows = rows; lines = lines; are_rows = are; streams_are = refl; frames_are = refl },
-    Appends-trans a0 a1 a2 STREAMS_HEADER.now rows first second, Appends-trans b0 b1 b2 FRAMES_HEADER.now lines front back)
+tables_written links settled f bounds a0 a1 a2 b0 b1 b2 first front (rows, lines, are, second, back) = (
+  STREAMS_HEADER.now ++ rows,
+  FRAMES_HEADER.now ++ lines,
+  record { rows = rows; lines = lines; are_rows = are; streams_are = refl; frames_are = refl },
+  Appends-trans a0 a1 a2 STREAMS_HEADER.now rows first second,
+  Appends-trans b0 b1 b2 FRAMES_HEADER.now lines front back,
+)

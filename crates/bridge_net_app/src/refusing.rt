@@ -86,6 +86,6 @@ pub(crate) fn said_of_run(alloc: Global, bridges: &[BridgeRow<Global>], fault: R
 pub fn explain_stopped(alloc: Global, line: &str) -> Option<String> {
     let rest = line.strip_prefix("network not settled ")?;
     format!(in alloc;
-        "After 64 rounds the input of {rest} still changes, so frames loop. The plans allow these loops:\n"
+        "After 64 rounds the input of {rest} still changes. The plans allow these loops:\n"
     ).ok()
 }

@@ -1,4 +1,5 @@
 pub mod Bounded
+pub mod Folders
 pub mod Gathered
 pub mod Lined
 pub mod Named

@@ -15,7 +15,8 @@ use bridge_frame::Tag;
 use bridge_ident::Kind;
 use bridge_netfile::{BridgeRow, NetworkFile};
 use bridge_network::{
-    End, Link, Network, NetworkFault, RefusedNetwork, Stray, StreamHop, check_network, peer_of, stray_at,
+    End, Link, Network, NetworkFault, RefusedNetwork, Stray, StreamHop, check_network, peer_of,
+    stray_at,
 };
 use bridge_text::Text;
 use std::alloc::{Allocator, Global};
@@ -45,7 +46,7 @@ fn said_of_first_plan<H: AllocGlobal + Files>(
             let place = beside(rt.alloc(), path, bridge.plan()).ok()?;
             let mut said = Text::new(rt.alloc());
             said.fill(
-                "{a}: the plan of bridge {b} is refused. For more: tsnbridge check {c} --explain\n",
+                "{a}: the plan of bridge {b} is refused. Run `tsnbridge check {c} --explain`.\n",
                 &[],
                 &[path, bridge.name(), place.as_str()],
             );
@@ -75,11 +76,7 @@ pub fn explain_loops<H: AllocGlobal + Files>(rt: &H, path: &str) -> Option<Strin
 }
 
 /// Returns these lines of a network.
-fn loops_of(
-    alloc: Global,
-    file: &NetworkFile<Global>,
-    network: &Network<Global>,
-) -> Option<String>
+fn loops_of(alloc: Global, file: &NetworkFile<Global>, network: &Network<Global>) -> Option<String>
     requires few { length network.now.plans ≤ 64 }
 {
     let rows = circulations_in(alloc, network.plans(), network.links()).ok()?;
@@ -211,7 +208,7 @@ fn said_of_refused(
             heap,
             path,
             file,
-            "{a}: hop {0} of stream {b} (filter {1} of {c}) is a hop already, of this stream or of an earlier one. Use one filter for each stream and bridge.\n",
+            "{a}: hop {0} of stream {b} (filter {1} of {c}) is already a hop of this stream or of an earlier one. Use one filter for each stream and bridge.\n",
             stream,
             hop,
         ),

@@ -71,7 +71,16 @@ fn put_streams(
     for stream in streams {
         if let Some(talker) = stream.talker() {
             if let Ok(hops) = hops_of(alloc, stream.hops()) {
-                put_stream(alloc, said, file, network, bounds, stream.name(), &hops, &talker);
+                put_stream(
+                    alloc,
+                    said,
+                    file,
+                    network,
+                    bounds,
+                    stream.name(),
+                    &hops,
+                    &talker,
+                );
             }
         }
     }
@@ -154,7 +163,11 @@ fn traffic_at(
     let end = u128::from(done.to).saturating_add(u128::from(delay));
     let period = u128::from(talker.period.max(1));
     let whole = start - start % period;
-    checked(talker, (start % period) as u64, end.saturating_sub(whole).min(u128::from(u64::MAX)) as u64)
+    checked(
+        talker,
+        (start % period) as u64,
+        end.saturating_sub(whole).min(u128::from(u64::MAX)) as u64,
+    )
 }
 
 /// Returns the frames of a talker with other phases, if these lie in one period.
@@ -174,18 +187,28 @@ fn checked(talker: &Talker, from: u64, to: u64) -> Option<Traffic>
     })
 }
 
-/// Returns the delay of the link from a bridge of an earlier hop to the bridge of the hop at a place, in ns.
+/// Returns the delay of the first link between the bridges of the hop at a place and of the hop before it, in ns.
 fn delay_to(links: &[Link], hops: &[StreamHop], place: usize) -> Option<u64> {
-    let hop = hops.get(place)?;
+    let hop = hops.get(place)?.bridge;
+    let before = hops.get(place.checked_sub(1)?)?.bridge;
     for link in links {
-        if link.other.bridge == hop.bridge && is_before(hops, place, link.one.bridge) {
-            return Some(link.delay);
-        }
-        if link.one.bridge == hop.bridge && is_before(hops, place, link.other.bridge) {
+        let (one, other) = (link.one.bridge, link.other.bridge);
+        if one == hop && other == before || one == before && other == hop {
             return Some(link.delay);
         }
     }
     None
+}
+
+/// Whether each hop up to the one at a place follows the hop before it over a link, so that the figures of the stream up to a hop say
+/// when frames leave this hop.
+fn is_chain(links: &[Link], hops: &[StreamHop], place: usize) -> bool {
+    for next in 1..=place {
+        if delay_to(links, hops, next).is_none() {
+            return false;
+        }
+    }
+    true
 }
 
 /// Whether a hop before a place is at a bridge.
@@ -219,7 +242,7 @@ fn put_hop(
     let plan = accepted.plan();
     if let Some(port) = port_of_others(network.links(), place == 0, *hop, plan) {
         return said.fill(
-            "frames of other devices may also come in on port {0}.\n",
+            "frames of other devices may also come in on port {0}. Remove the `stream` entry of this port.\n",
             &[u64::from(port)],
             &[],
         );
@@ -228,10 +251,15 @@ fn put_hop(
         return said.put("another hop of the stream is at the same bridge.\n");
     }
     let Some(class) = class_of(bounds, *hop) else {
-        return said.put("its frames can enter no queue.\n");
+        return said.put("its frames can enter no queue. Correct the `static` entry or the VLAN.\n");
     };
+    if !is_chain(network.links(), hops, place) {
+        return said.put("a filter, a gate or a queue there may refuse a frame.\n");
+    }
     let Some(traffic) = traffic else {
-        return said.put("its frames may come in two periods of the talker.\n");
+        return said.put(
+            "the earliest and the latest arrival lie in different periods of the talker.\n",
+        );
     };
     if let Some(filter) = filter_at(plan.filters(), hop.filter) {
         put_condition(said, plan, &filter, &traffic, class, course.is_some());

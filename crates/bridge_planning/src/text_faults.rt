@@ -51,7 +51,7 @@ pub(crate) fn said_of(alloc: Global, path: &str, fault: &NetFault) -> Option<Str
             said.put("the file has more than 1048576 octets. Remove comments or tables.\n")
         }
         NetFault::UnknownKey(NetSection::Top, _) => said.put(
-            "a section is unknown here. Correct its name, or give the file to the command that it is for.\n",
+            "a section is unknown. A network file has `[[bridge]]`, `[[link]]` and `[[stream]]`, and a traffic file has `[[traffic]]`.\n",
         ),
         NetFault::UnknownKey(section, index) => put_unknown(&mut said, section, index),
         NetFault::NotAList(section) => said.fill(
@@ -59,10 +59,12 @@ pub(crate) fn said_of(alloc: Global, path: &str, fault: &NetFault) -> Option<Str
             &[],
             &[section.name()],
         ),
-        NetFault::Missing(NetPlace {
-            section: NetSection::Top,
-            ..
-        }) => said.put("the file has no bridge. Add a `[[bridge]]` with its `name` and `plan`.\n"),
+        NetFault::Missing(
+            NetPlace {
+                section: NetSection::Top,
+                ..
+            },
+        ) => said.put("the file has no bridge. Add a `[[bridge]]` with its `name` and `plan`.\n"),
         NetFault::Missing(place) => put_key(
             &mut said,
             "`{a}` {0} of the file lacks the key `{b}`. ",
@@ -162,7 +164,8 @@ fn wanted_of(field: NetField) -> &'static str {
     match field {
         NetField::Bridge => "Write a `[[bridge]]` for each bridge.",
         NetField::Name => "It must be 1 to 32 letters, digits, `-` or `_`, in quotation marks.",
-        NetField::Plan => "It must be the path of a plan, in quotation marks, relative to this file.",
+        NetField::Plan =>
+            "It must be the path of a plan, in quotation marks, relative to this file.",
         NetField::One | NetField::Other => {
             "It must be a bridge's name, a dot and the number of a port, such as \"first.4\"."
         }

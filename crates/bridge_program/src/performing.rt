@@ -3,7 +3,7 @@ ghost use Rattle.std.specs.Prelude.{◌≡◌, true};
 ghost use Rattle.bridge_net_app.specs.Losing.{status_of};
 ghost use Rattle.bridge_single.specs.Left.{is_of_networks};
 
-use crate::refusing::{of_drawing, of_network, of_traffic};
+use crate::refusing::{of_network, of_traffic};
 use bridge_app::{Refusal, picture_apart, warning_of_bounds, write_picture};
 use bridge_cli::{Job, PictureRequest};
 use bridge_files::{MOST_TEXT, is_standard, open_noted, read_noted, text_at};
@@ -106,7 +106,7 @@ fn draw_network(
     }
     let picture = match network_picture(rt, path.as_str()) {
         Ok(picture) => picture,
-        Err(fault) => return Err(of_drawing(rt, wishes, fault)),
+        Err(fault) => return Err(of_network(rt, path.as_str(), None, wishes, fault)),
     };
     let mut cause = None;
     match put_network(rt, picture, file, &mut cause) {

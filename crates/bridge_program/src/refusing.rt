@@ -1,6 +1,6 @@
 //! Faults of jobs over bounds and networks, with what is told of them where the words ask for more.
 
-use bridge_app::{Refusal, said_of_file, said_of_plan, said_of_unread};
+use bridge_app::{Refusal, said_of_file, said_of_plan, said_of_syntax, said_of_unread};
 use bridge_jobs::{Cause, Fault};
 use bridge_net_app::explain_stopped;
 use bridge_planning::{explain_loops, explain_network, explain_traffic};
@@ -20,7 +20,10 @@ pub(crate) fn of_traffic(
         return unexplained(fault);
     }
     let said = match &fault {
-        Fault::Network(_) => explain_traffic(rt, plan, traffic),
+        Fault::Network(_) => match said_of_syntax(rt, traffic) {
+            Some(said) => Some(said),
+            None => explain_traffic(rt, plan, traffic),
+        },
         Fault::File(_) => said_of_unread(rt, &fault),
         fault => said_of_plan(rt.alloc(), plan, text, None, fault),
     };
@@ -40,32 +43,25 @@ pub(crate) fn of_network(
     }
     let said = match &fault {
         Fault::Rounds(line) => said_of_stopped(rt, path, line.as_str()),
-        Fault::Network(_) => explain_network(rt, path),
+        Fault::Network(_) => match said_of_syntax(rt, path) {
+            Some(said) => Some(said),
+            None => explain_network(rt, path),
+        },
         fault => said_of_noted(rt, cause, fault),
     };
     Refusal { fault, said }
 }
 
-/// Returns what is told of a run that stopped, by its line: what to look at, and the loops that the plans of the network allow.
-fn said_of_stopped(
-    rt: &(impl AllocGlobal + Files),
-    path: &str,
-    line: &str,
-) -> Option<String> {
+/// Returns what is told of a run that stopped, by its line: the port, the loops that the
+/// plans of the network allow, and a remedy.
+fn said_of_stopped(rt: &(impl AllocGlobal + Files), path: &str, line: &str) -> Option<String> {
     let said = explain_stopped(rt.alloc(), line)?;
     match explain_loops(rt, path) {
-        Some(loops) => format!(in rt.alloc(); "{said}{loops}").ok(),
+        Some(loops) => format!(in rt.alloc();
+            "{said}{loops}Remove one link of each loop from the loop's VLAN.\n"
+        ).ok(),
         None => Some(said),
     }
-}
-
-/// A fault of the picture of a network.
-pub(crate) fn of_drawing(rt: &(impl AllocGlobal + Files), wishes: Wishes, fault: Fault) -> Refusal {
-    if !wishes.is_explained {
-        return unexplained(fault);
-    }
-    let said = said_of_unread(rt, &fault);
-    Refusal { fault, said }
 }
 
 /// What is told of a file that failed, by its cause where it is noted.

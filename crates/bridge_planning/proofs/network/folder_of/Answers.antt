@@ -1,13 +1,13 @@
 use Rattle.std.proofs.Common.{arith, rules}
-use Rattle.std.proofs.Paths.Parts.{rsplit_once_char}
+use Rattle.bridge_planning.proofs.Folders.{folder}
 use Rattle.bridge_planning.proofs.network.folder_of.Goals as goal
 
 pub returns-in-Some : goal.returns-in-Some
 returns-in-Some c =
-    let split = rsplit_once_char 47 c.args.path.now c.rsplit_once.result c.rsplit_once.ensures.cases (omega arith) in
-    rw (← split) (grind rules)
+    let here = folder 47 c.args.path.now c.rsplit_once.result c.rsplit_once.ensures.cases (omega arith) in
+    rw (← here) (grind rules)
 
 pub returns-in-None : goal.returns-in-None
 returns-in-None c =
-    let split = rsplit_once_char 47 c.args.path.now c.rsplit_once.result c.rsplit_once.ensures.cases (omega arith) in
-    rw (← split) (grind rules)
+    let here = folder 47 c.args.path.now c.rsplit_once.result c.rsplit_once.ensures.cases (omega arith) in
+    rw (← here) (grind rules)
