@@ -1,7 +1,7 @@
 -- What tables print of the hops of a stream depends only on their bridges, on what is told of each, and on what is known of their frames.
-use Rattle.std.proofs.Common.{◌≡◌, ℕ, zero, suc, ◌+◌, Bool, true, false, List, [], ◌∷◌, ◌++◌, Option, Some, None, length, refl, sym, ap, subst, ◌∙◌, arith}
+use Rattle.std.proofs.Common.{◌≡◌, ℕ, suc, ◌+◌, Bool, true, false, List, [], ◌∷◌, ◌++◌, Option, Some, None, length, refl, sym, ap, subst, ◌∙◌, arith}
 use Rattle.std.specs.Prelude.{◌||◌, count_by, map, nat_eq, slice_get, Vec}
-use Rattle.bridge_limits.proofs.Lists.{heads, tails, there_is}
+use Rattle.bridge_limits.proofs.Lists.{heads, tails}
 use Rattle.bridge_filter.specs.declared.Verdict.{Verdict}
 use Rattle.bridge_network.specs.Networks.{Sender, sender}
 use Rattle.bridge_network.specs.Wiring.{link_of}

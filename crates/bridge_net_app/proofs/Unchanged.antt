@@ -1,5 +1,5 @@
 -- Both tables of a run of a network are the same whatever else came.
-use Rattle.std.proofs.Common.{◌≡◌, ◌<◌, ℕ, zero, suc, List, [], ◌∷◌, ◌++◌, length, map, Option, Some, None, nat_eq, refl, sym, ap, subst, ◌∙◌, inl, inr, arith}
+use Rattle.std.proofs.Common.{◌≡◌, ◌<◌, ℕ, zero, suc, List, [], ◌∷◌, ◌++◌, length, map, Some, None, nat_eq, refl, sym, ap, subst, ◌∙◌, inl, inr, arith}
 use Rattle.std.specs.Prelude.{slice_get, Vec}
 use Rattle.std.specs.Map.{lookup}
 use Rattle.std.proofs.lemmas.Option.{same_Some, slice_get_within}
