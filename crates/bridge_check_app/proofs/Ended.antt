@@ -56,13 +56,6 @@ ends_by Ends words job done (Ok (Some e)) asks zero fails (inr failed) = inr (fa
 some_status : (f : Fault) → status_of f ≡ 0 → ⊥
 some_status f h = search rules
 
--- what is so where a job is done is so of how it ends with 0
-pub well_by : (P : Ending → Type 0) (done : Result Done Fault) (r : Result (Option Ending) NoMemory) → IfOk done (λ d. IfEnded d (λ e. e.status ≡ 0 → P e)) → IfOk r (λ ending. IfSome ending (λ e. (done ≡ Ok (done_as.Ended e)) ⊎ EndsAsFault done e)) → IfOk r (λ ending. IfSome ending (λ e. e.status ≡ 0 → P e))
-well_by P done (Err fault) well told = tt
-well_by P done (Ok None) well told = tt
-well_by P done (Ok (Some e)) well (inl is) = subst (λ (z : Result Done Fault). IfOk z (λ d. IfEnded d (λ e. e.status ≡ 0 → P e))) is well
-well_by P done (Ok (Some e)) well (inr failed) = λ zero. absurd (some_status failed.0 (sym failed.1.1.0 ∙ zero))
-
 -- what is said of a job that is done is said where the words that ask for it end with 0
 pub said_by : (Says : Job → Ending → Type 0) (words : List (List ℕ)) (job : Job) (done : Result Done Fault) (r : Result (Option Ending) NoMemory) → AsksFor words job → IfOk done (λ d. IfEnded d (Says job)) → IfOk r (λ ending. IfSome ending (λ e. (done ≡ Ok (done_as.Ended e)) ⊎ EndsAsFault done e)) → IfOk r (λ ending. IfSome ending (λ e. e.status ≡ 0 → (j : Job) × (AsksFor words j × Says j e)))
 said_by Says words job done (Err fault) asks said told = tt

@@ -10,7 +10,6 @@ use Rattle.bridge_jobs.specs.Status.{status_of}
 use Rattle.bridge_cli.specs.CommandLine.{AsksFor}
 use Rattle.bridge_cli.specs.Sketching.{NamesPart}
 use Rattle.bridge_cli.specs.declared.job.Job.{Job}
-use Rattle.bridge_cli.specs.declared.job.Job.TheVariants as job
 use Rattle.bridge_files.specs.declared.saying.Said.{Said}
 use Rattle.bridge_files.specs.declared.saying.Said.TheVariants as said
 use Rattle.bridge_check_app.specs.declared.ending.Ending.{Ending}
@@ -24,11 +23,6 @@ EndsChecked A plan f = (text : List ℕ) × EndsCheck A plan text f
 -- the line of a plan that is accepted
 abbrev pub IsAcceptedLine : List ℕ → Type 0
 IsAcceptedLine line = (text : List ℕ) × PrintsAccepted Global text line
-
--- which fault ends the job that is done here
-abbrev pub EndsJob : Job → Fault → Type 0
-EndsJob (job.Check plan) f = EndsChecked Global (string_bytes plan) f
-EndsJob _ f = ⊥
 
 -- a line with its line feed, and what is said behind it, as far as there is memory for that
 abbrev pub IsTold : List ℕ → Option (String Global) → List ℕ → Type 0

@@ -1,9 +1,7 @@
--- What is left to programs that do more than check a plan.
-use Rattle.std.specs.Prelude.{Bool, ℕ, List, ◌≡◌, ◌⊎◌, ◌||◌, false, is_some, not, true}
+-- What is left to functions that do more than print the line of a job.
+use Rattle.std.specs.Prelude.{Bool, ℕ, List, ◌≡◌, ◌⊎◌, ◌||◌, is_some, true}
 use Rattle.bridge_cli.specs.CommandLine.{AsksFor, HasRoom}
 use Rattle.bridge_cli.specs.Helping.{explains}
-use Rattle.bridge_cli.specs.declared.job.Job.{Job}
-use Rattle.bridge_cli.specs.declared.job.Job.TheVariants as job
 use Rattle.bridge_cli.specs.declared.request.Request.{Request}
 use Rattle.bridge_check_app.specs.Checked.{IsOfRefusedWords}
 use Rattle.bridge_check_app.specs.declared.asking.Asked.{Asked}
@@ -14,15 +12,6 @@ use Rattle.bridge_check_app.specs.declared.asking.Done.TheVariants as done
 -- an explanation, strictness, a picture or a table is asked for
 abbrev pub wants_more : Request → Bool
 wants_more r = r.is_explained || (r.is_strict || (is_some r.picture || (is_some r.tables.delays || is_some r.tables.frames)))
-
--- the check of a plan
-abbrev pub is_check : Job → Bool
-is_check (job.Check plan) = true
-is_check _ = false
-
--- something else is asked than the line of the check of a plan
-abbrev pub is_other : Request → Bool
-is_other r = wants_more r || not (is_check r.job)
 
 -- what words come to: what they ask for, an explanation that they want, or that they are refused
 abbrev pub IsAsked : List (List ℕ) → Asked → Type 0

@@ -1,3 +1,2 @@
 pub mod Left
 pub mod Checked
-pub mod Examples

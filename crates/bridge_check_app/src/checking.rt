@@ -1,40 +1,19 @@
 //! The check of a plan, where its line is all that is asked.
-ghost use Rattle.std.specs.Prelude.{◌≡◌, Bool, Err, None, IfErr, IfOk, IfSome, Ok, String, codes, map, string_bytes};
+ghost use Rattle.std.specs.Prelude.{◌≡◌, Bool, Err, IfErr, IfOk, Ok, String, codes, string_bytes};
 ghost use Rattle.std.specs.declared.alloc.Global.{Global};
 ghost use Rattle.bridge_cli.specs.declared.request.Request.{Request};
 ghost use Rattle.bridge_jobs.specs.Reading.{IsOfFile};
-ghost use Rattle.bridge_check_app.specs.Checked.{EndsBySome, EndsChecked, EndsJob, EndsWell, IfEnded, IsAcceptedLine};
-ghost use Rattle.bridge_check_app.specs.Left.{LeavesBy, MayLeaveBy, is_check, is_other, wants_more};
+ghost use Rattle.bridge_check_app.specs.Checked.{EndsChecked, EndsWell, IfEnded, IsAcceptedLine};
+ghost use Rattle.bridge_check_app.specs.Left.{LeavesBy, wants_more};
 
-use crate::asking::{Asked, Done, asked_of, ended_of};
-use crate::ending::{Ending, printed};
-use bridge_cli::{Job, Request};
+use crate::asking::Done;
+use crate::ending::printed;
+use bridge_cli::Request;
 use bridge_files::{MOST_TEXT, is_standard, text_at};
 use bridge_inputs::RunFault;
-use bridge_jobs::{Cause, Fault, NoMemory, ReadFault, check_job, read_at_most, standard_file};
+use bridge_jobs::{Cause, Fault, ReadFault, check_job, read_at_most, standard_file};
 use std::alloc::Global;
 use std::rt::Files;
-
-/// Checks the plan that the words after the program's name ask for, and gives what is to be said of it; words that ask for help or
-/// for the version, or that are refused, end here too. None where nothing is begun: another job is asked for, or an explanation,
-/// strictness, a picture or a table.
-///
-/// The status is 0 where the plan is accepted, that of the fault where it isn't, or of words that are refused.
-pub fn perform(
-    rt: &(impl Input + AllocGlobal + Files),
-    words: &[String],
-) -> Result<Option<Ending>, NoMemory>
-    ensures left { IfOk result (λ ending. ending ≡ None → MayLeaveBy is_other (map string_bytes words.now)) }
-    ensures well { IfOk result (λ ending. IfSome ending EndsWell) }
-    ensures ends { IfOk result (λ ending. IfSome ending (EndsBySome EndsJob (map string_bytes words.now))) }
-{
-    match asked_of(rt.alloc(), words) {
-        Ok(Asked::Wanted(request)) => ended_of(rt.alloc(), done_check(rt, request)),
-        Ok(Asked::Ended(ending)) => Ok(Some(ending)),
-        Ok(Asked::Explained) => Ok(None),
-        Err(fault) => Err(fault),
-    }
-}
 
 /// Whether more is asked than the line of a job.
 pub fn wants_more(request: &Request) -> bool
@@ -45,37 +24,6 @@ pub fn wants_more(request: &Request) -> bool
         || request.picture.is_some()
         || request.tables.delays.is_some()
         || request.tables.frames.is_some()
-}
-
-/// Whether a job is the check of a plan.
-fn is_check(job: &Job) -> bool
-    ensures { result ≡ is_check job.now }
-{
-    matches!(job, Job::Check { .. })
-}
-
-/// Whether something else is asked than the line of the check of a plan.
-fn is_other(request: &Request) -> bool
-    ensures { result ≡ is_other request.now }
-{
-    wants_more(request) || !is_check(&request.job)
-}
-
-/// Does what is asked where that is the line of the check of a plan; else it is left as it is.
-pub fn done_check(rt: &(impl Input + AllocGlobal + Files), request: Request) -> Result<Done, Fault>
-    ensures left { IfOk result (LeavesBy is_other request) }
-    ensures well { IfOk result (λ done. IfEnded done EndsWell) }
-    ensures zero { IfOk result (λ done. IfEnded done (λ e. e.status ≡ 0)) }
-    ensures err { IfErr result (EndsJob request.job) }
-{
-    if is_other(&request) {
-        return Ok(Done::Left(request));
-    }
-    let Request { job, .. } = request;
-    match job {
-        Job::Check { plan } => lined(rt.alloc(), check_file(rt, plan)),
-        _ => unreachable!(),
-    }
 }
 
 /// What comes of a job that prints its line.

@@ -8,6 +8,6 @@ mod ending;
 mod telling;
 
 pub use asking::{Asked, Done, asked_of, ended_of};
-pub use checking::{check_file, done_check, lined, perform, plan_text, wants_more};
+pub use checking::{check_file, lined, plan_text, wants_more};
 pub use ending::{Ending, helped, of_said, printed, refused_and_told};
-pub use telling::{put_printed, tell, tell_or_leave};
+pub use telling::tell;

@@ -75,6 +75,14 @@ bridge_commands p name text e (fault.File path) fails says = absurd says
 pub reading_at : {A : Type 0} (plans : List (Plan A)) (bridges : List Bridge) (b : ℕ) (p : Plan A) (name : List ℕ) (f : Fault) → slice_get plans b ≡ Some p → name ≡ name_at bridges b → EndsBridge p name f → EndsReading plans bridges f
 reading_at plans bridges b p name f there named ends = (b, p, there, subst (λ n. EndsBridge p n f) named ends)
 
+-- the plans of a network are those that are read for
+pub reading_for : {A : Type 0} (ps qs : List (Plan A)) (bridges : List Bridge) (f : Fault) → ps ≡ qs → EndsReading ps bridges f → EndsReading qs bridges f
+reading_for ps qs bridges f same ends = subst (λ (l : List (Plan _)). EndsReading l bridges f) same ends
+
+-- so does want of memory
+pub reading_memory : {A : Type 0} (plans : List (Plan A)) (bridges : List Bridge) (b : ℕ) (p : Plan A) (f : Fault) → slice_get plans b ≡ Some p → f ≡ fault.Run run.NoMemory → EndsReading plans bridges f
+reading_memory plans bridges b p f there is = (b, p, there, subst (EndsBridge p (name_at bridges b)) (sym is) refl)
+
 -- what ends the reading or the writing of a file ends the run of a network
 pub run_files : {A : Type 0} (n : Parts A) (bridges : List Bridge) (f : Fault) → EndsFiles f → EndsRun n bridges f
 run_files n bridges (fault.Text t) e = absurd e
@@ -86,6 +94,10 @@ run_files n bridges (fault.Network lines) e = absurd e
 run_files n bridges (fault.Rounds line) e = absurd e
 run_files n bridges fault.Words e = absurd e
 run_files n bridges (fault.File path) e = tt
+
+pub files_end : {A X : Type 0} (n : Parts A) (bridges : List Bridge) (r : Result X Fault) → IfErr r EndsFiles → IfErr r (EndsRun n bridges)
+files_end n bridges (Ok x) e = tt
+files_end n bridges (Err f) e = run_files n bridges f e
 
 -- so does what ends the reading of what comes to a bridge
 pub run_reading : {A : Type 0} (n : Parts A) (bridges : List Bridge) (f : Fault) → EndsReading n.plans bridges f → EndsRun n bridges f

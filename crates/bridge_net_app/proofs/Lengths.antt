@@ -1,5 +1,5 @@
 -- A frame that is read from a capture has at most as many captured octets as its length on the link.
-use Rattle.std.proofs.Common.{◌≡◌, ℕ, zero, suc, ◌+◌, ◌<◌, ◌≤◌, Bool, true, false, if◌then◌else◌, List, [], ◌∷◌, ◌++◌, length, take, drop, nat_eq, nat_lt, ◌==◌, Option, Some, None, Result, Ok, Err, refl, sym, ap, ◌∙◌, subst, arith, ⊥, inl, inr}
+use Rattle.std.proofs.Common.{◌≡◌, ℕ, zero, suc, ◌+◌, ◌<◌, ◌≤◌, Bool, true, false, if◌then◌else◌, List, [], ◌∷◌, ◌++◌, length, take, drop, nat_eq, nat_lt, ◌==◌, Option, Some, None, Result, Ok, Err, refl, sym, ap, ◌∙◌, subst, arith, inl, inr}
 use Rattle.std.proofs.lemmas.Bool.{ltb-false}
 use Rattle.bridge_limits.specs.Members.{In}
 use Rattle.bridge_limits.proofs.Cases.{by_bool}
@@ -76,7 +76,7 @@ in_reads form place octets (x ∷ xs) e (rest, is, more) c (inl same) = subst (�
 in_reads form place octets (x ∷ xs) e (rest, is, more) c (inr i) = in_reads form (after place x) rest xs e more c i
 
 in_after : (header : Result Form CaptureFault) (text : List ℕ) (cs : List Captured) (e : Ending) → ReadsAfter header text cs e → AreShort cs
-in_after (Ok form) text cs e reads = in_reads form first_place (drop 24 text) cs e reads
+in_after (Ok form) text cs e reads c i = in_reads form first_place (drop 24 text) cs e reads c i
 in_after (Err f) text cs e (none, is) c i = absurd (subst (λ (l : List Captured). In c l) none i)
 
 in_text : (text : List ℕ) (cs : List Captured) (e : Ending) → Records text cs e → AreShort cs

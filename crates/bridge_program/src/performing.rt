@@ -1,7 +1,8 @@
 //! The job of the words, done over standard input and output and the files that it names.
-ghost use Rattle.std.specs.Prelude.{◌≡◌, true};
+ghost use Rattle.std.specs.Prelude.{◌≡◌, IfOk, map, string_bytes, true};
 ghost use Rattle.bridge_net_app.specs.Losing.{status_of};
 ghost use Rattle.bridge_single.specs.Left.{is_of_networks};
+ghost use Rattle.bridge_single.specs.Said.{EndsLineUnlessMore};
 
 use crate::refusing::{of_network, of_traffic};
 use bridge_app::{Refusal, picture_apart, warning_of_bounds, write_picture};
@@ -33,7 +34,9 @@ pub fn perform<H: Input + AllocGlobal + Print + Eprint + Files>(
     rt: &H,
     words: &[String],
     is_watched: bool,
-) -> Result<Ending, NoMemory> {
+) -> Result<Ending, NoMemory>
+    ensures { IfOk result (EndsLineUnlessMore (map string_bytes words.now)) }
+{
     match bridge_single::perform(rt, words, is_watched) {
         Ok(Performed::Ended(ending)) => Ok(ending),
         Ok(Performed::Left(left)) => perform_left(rt, words, left),

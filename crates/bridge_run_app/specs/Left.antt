@@ -1,4 +1,4 @@
--- What is left to programs that do more than check a plan or run captures under it.
+-- What is left to functions that do more than check a plan or run captures under it.
 use Rattle.std.specs.Prelude.{Bool, ◌||◌, false, not, true}
 use Rattle.bridge_cli.specs.declared.job.Job.{Job}
 use Rattle.bridge_cli.specs.declared.job.Job.TheVariants as job

@@ -4,4 +4,4 @@
 
 mod performing;
 
-pub use performing::{done_run, perform};
+pub use performing::done_run;

@@ -1,36 +1,15 @@
-//! The job of the words, done over the files that it names, where it is a run or a check of which the line is all that is asked.
-ghost use Rattle.std.specs.Prelude.{◌≡◌, None, IfErr, IfOk, IfSome, map, string_bytes};
-ghost use Rattle.bridge_check_app.specs.Checked.{EndsBySome, IfEnded};
-ghost use Rattle.bridge_check_app.specs.Left.{LeavesBy, MayLeaveBy};
+//! A job, done over the files that it names, where it is a run or a check of which the line is all that is asked.
+ghost use Rattle.std.specs.Prelude.{◌≡◌, IfErr, IfOk};
+ghost use Rattle.bridge_check_app.specs.Checked.{IfEnded};
+ghost use Rattle.bridge_check_app.specs.Left.{LeavesBy};
 ghost use Rattle.bridge_run_app.specs.Left.{is_of_plan, is_other};
-ghost use Rattle.bridge_run_app.specs.Said.{EndsJob, EndsSaid, SaysOf};
+ghost use Rattle.bridge_run_app.specs.Said.{EndsJob, SaysOf};
 
-use bridge_check_app::{Asked, Done, Ending, asked_of, check_file, ended_of, lined, wants_more};
+use bridge_check_app::{Done, check_file, lined, wants_more};
 use bridge_cli::{Job, Request};
-use bridge_jobs::{Fault, NoMemory};
+use bridge_jobs::Fault;
 use bridge_running::run_job;
 use std::rt::Files;
-
-/// Does the job of the words after the program's name, and gives what is to be said of it; where they ask for help or for the
-/// version, that is printed, and it ends as for words that are refused. None where nothing is begun: another job is asked for, or
-/// an explanation, strictness, a picture or a table.
-///
-/// The status is 0 where the plan is accepted or the run is done, that of the fault where it isn't.
-pub fn perform(
-    rt: &(impl Input + AllocGlobal + Files),
-    words: &[String],
-) -> Result<Option<Ending>, NoMemory>
-    ensures left { IfOk result (λ ending. ending ≡ None → MayLeaveBy is_other (map string_bytes words.now)) }
-    ensures said { IfOk result (λ ending. IfSome ending (EndsSaid (map string_bytes words.now))) }
-    ensures ends { IfOk result (λ ending. IfSome ending (EndsBySome EndsJob (map string_bytes words.now))) }
-{
-    match asked_of(rt.alloc(), words) {
-        Ok(Asked::Wanted(request)) => ended_of(rt.alloc(), done_run(rt, request)),
-        Ok(Asked::Ended(ending)) => Ok(Some(ending)),
-        Ok(Asked::Explained) => Ok(None),
-        Err(fault) => Err(fault),
-    }
-}
 
 /// Whether a job is the check of a plan, or a run under one.
 fn is_of_plan(job: &Job) -> bool

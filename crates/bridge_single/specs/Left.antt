@@ -1,4 +1,4 @@
--- What is left to a program that knows networks.
+-- What is left to bridge_program, which knows bounds and networks.
 use Rattle.std.specs.Prelude.{◌≡◌, ◌&&◌, Bool, false, true}
 use Rattle.bridge_cli.specs.declared.job.Job.{Job}
 use Rattle.bridge_cli.specs.declared.job.Job.TheVariants as job

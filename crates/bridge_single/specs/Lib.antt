@@ -1,2 +1,3 @@
 pub mod Left
+pub mod Said
 pub mod Examples

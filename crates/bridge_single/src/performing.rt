@@ -1,18 +1,22 @@
 //! The job of the words, done over standard input and output and the files that it names, where it is one of one bridge.
-ghost use Rattle.std.specs.Prelude.{◌≡◌, IfOk, true};
+ghost use Rattle.std.specs.Prelude.{◌≡◌, None, IfErr, IfOk, IfSome, map, string_bytes, true};
 ghost use Rattle.bridge_app.specs.Losing as losing;
 ghost use Rattle.bridge_cli.specs.CommandLine.{HasRoom};
-ghost use Rattle.bridge_check_app.specs.Left.{LeavesBy};
+ghost use Rattle.bridge_check_app.specs.Checked.{EndsBySome, IfEnded};
+ghost use Rattle.bridge_check_app.specs.Left.{LeavesBy, MayLeaveBy};
 ghost use Rattle.bridge_single.specs.Left.{LeavesNetworks, is_more, is_of_networks};
+ghost use Rattle.bridge_single.specs.Said.{EndsJob, EndsSaid, PerformsLine, SaysOf};
 
 use crate::ending::refused;
 use crate::looking::is_network;
-use crate::refusing::{of_words, unexplained};
+use crate::refusing::of_words;
 use bridge_app::{
     Refusal, Strict, StrictRun, judge_run_job, told_check_job, told_picture_job, told_picture_text,
     told_wire_job,
 };
-use bridge_check_app::{Done, Ending, helped, of_said, refused_and_told};
+use bridge_check_app::{
+    Asked, Done, Ending, asked_of, ended_of, helped, of_said, refused_and_told,
+};
 use bridge_cli::{
     Job, PictureRequest, Request, TableRequest, help_of, request_of, wants_explanation,
 };
@@ -79,6 +83,41 @@ pub fn perform<H: Input + AllocGlobal + Print + Eprint + Files>(
     is_watched: bool,
 ) -> Result<Performed, NoMemory>
     ensures left { IfOk result LeavesNetworks }
+    ensures line { IfOk result (PerformsLine (map string_bytes words.now)) }
+{
+    match perform_line(rt, words) {
+        Ok(Some(ending)) => Ok(Performed::Ended(ending)),
+        Ok(None) => perform_more(rt, words, is_watched),
+        Err(fault) => Err(fault),
+    }
+}
+
+/// Does the job of the words if they ask for no more than the line of a check, of a run, or of a job over one queue, and returns how
+/// the program ends. Words that ask for help or for the version, and words that are refused, end here too. None if the words ask for
+/// more, or for an explanation: then nothing is begun.
+fn perform_line<H: Input + AllocGlobal + Print + Files>(
+    rt: &H,
+    words: &[String],
+) -> Result<Option<Ending>, NoMemory>
+    ensures left { IfOk result (λ ending. ending ≡ None → MayLeaveBy is_more (map string_bytes words.now)) }
+    ensures said { IfOk result (λ ending. IfSome ending (EndsSaid (map string_bytes words.now))) }
+    ensures ends { IfOk result (λ ending. IfSome ending (EndsBySome EndsJob (map string_bytes words.now))) }
+{
+    match asked_of(rt.alloc(), words) {
+        Ok(Asked::Wanted(request)) => ended_of(rt.alloc(), done_line(rt, request)),
+        Ok(Asked::Ended(ending)) => Ok(Some(ending)),
+        Ok(Asked::Explained) => Ok(None),
+        Err(fault) => Err(fault),
+    }
+}
+
+/// Does the job of words that ask for more than a line, or for an explanation.
+fn perform_more<H: Input + AllocGlobal + Print + Eprint + Files>(
+    rt: &H,
+    words: &[String],
+    is_watched: bool,
+) -> Result<Performed, NoMemory>
+    ensures { IfOk result LeavesNetworks }
 {
     match help_of(rt.alloc(), words) {
         Ok(None) => perform_job(rt, words, is_watched),
@@ -123,11 +162,7 @@ fn done<H: Input + AllocGlobal + Print + Eprint + Files>(
         Ok(request) => request,
         Err(fault) => return Err(of_words(rt.alloc(), words, wants_explanation(words), fault)),
     };
-    match done_line(rt, request) {
-        Ok(Done::Ended(ending)) => Ok(Performed::Ended(ending)),
-        Ok(Done::Left(request)) => done_left(rt, words, request, is_watched),
-        Err(fault) => Err(unexplained(fault)),
-    }
+    done_left(rt, words, request, is_watched)
 }
 
 /// Does what is asked where that is the line of a check, of a run, or of a job over one queue; else it is left as it is.
@@ -136,7 +171,10 @@ fn done_line<H: Input + AllocGlobal + Print + Files>(
     request: Request,
 ) -> Result<Done, Fault>
     requires { HasRoom request.job }
-    ensures { IfOk result (LeavesBy is_more request) }
+    ensures left { IfOk result (LeavesBy is_more request) }
+    ensures said { IfOk result (λ done. IfEnded done (SaysOf request.job)) }
+    ensures zero { IfOk result (λ done. IfEnded done (λ e. e.status ≡ 0)) }
+    ensures err { IfErr result (EndsJob request.job) }
 {
     match done_run(rt, request) {
         Ok(Done::Ended(ending)) => Ok(Done::Ended(ending)),

@@ -1,4 +1,4 @@
--- What is left to programs that know whole bridges.
+-- What is left to functions that know whole bridges.
 use Rattle.std.specs.Prelude.{Bool, ◌||◌, false, not, true}
 use Rattle.bridge_cli.specs.declared.job.Job.{Job}
 use Rattle.bridge_cli.specs.declared.job.Job.TheVariants as job

@@ -1,6 +1,5 @@
 -- What is said of a job over one queue that is done.
-use Rattle.std.specs.Prelude.{◌≡◌, ◌⊎◌, ℕ, List, string_bytes}
-use Rattle.bridge_cli.specs.CommandLine.{AsksFor}
+use Rattle.std.specs.Prelude.{◌⊎◌, ℕ, List, string_bytes}
 use Rattle.bridge_cli.specs.declared.job.Job.{Job}
 use Rattle.bridge_cli.specs.declared.job.Job.TheVariants as job
 use Rattle.bridge_jobs.specs.declared.fault.Fault.{Fault}
@@ -23,7 +22,3 @@ abbrev pub SaysOf : Job → Ending → Type 0
 SaysOf (job.Wire speed room input output) ending = SaysSomeCounts ending
 SaysOf job.Text ending = (text : List ℕ) × PrintsText text (string_bytes ending.printed)
 SaysOf _ ending = ⊥
-
--- where the status is 0, the words ask for such a job, of which this is said
-abbrev pub EndsSaid : List (List ℕ) → Ending → Type 0
-EndsSaid words ending = ending.status ≡ 0 → (job : Job) × (AsksFor words job × SaysOf job ending)

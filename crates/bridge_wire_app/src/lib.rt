@@ -4,4 +4,4 @@
 
 mod performing;
 
-pub use performing::{done_wire, perform};
+pub use performing::done_wire;

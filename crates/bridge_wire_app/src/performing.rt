@@ -1,42 +1,20 @@
-//! The job of the words, done over standard input and output and the files that it names, where it is one over one queue.
-ghost use Rattle.std.specs.Prelude.{◌≡◌, ℕ, Bool, Err, List, None, IfErr, IfOk, IfSome, map, string_bytes};
+//! A job, done over standard input and output and the files that it names, where it is one over one queue.
+ghost use Rattle.std.specs.Prelude.{◌≡◌, ℕ, Bool, Err, List, IfErr, IfOk};
 ghost use Rattle.bridge_cli.specs.CommandLine.{HasRoom};
 ghost use Rattle.bridge_cli.specs.declared.request.Request.{Request};
 ghost use Rattle.bridge_wiring.specs.Files.{SaysCounts};
-ghost use Rattle.bridge_check_app.specs.Checked.{EndsBySome, IfEnded};
-ghost use Rattle.bridge_check_app.specs.Left.{LeavesBy, MayLeaveBy};
+ghost use Rattle.bridge_check_app.specs.Checked.{IfEnded};
+ghost use Rattle.bridge_check_app.specs.Left.{LeavesBy};
 ghost use Rattle.bridge_wire_app.specs.Left.{is_of_queue, is_other};
-ghost use Rattle.bridge_wire_app.specs.Said.{EndsJob, EndsSaid, SaysOf, SaysSomeCounts};
+ghost use Rattle.bridge_wire_app.specs.Said.{EndsJob, SaysOf, SaysSomeCounts};
 
-use bridge_check_app::{Asked, Done, Ending, asked_of, ended_of, lined, of_said, wants_more};
+use bridge_check_app::{Done, lined, of_said, wants_more};
 use bridge_cli::{Job, Request};
 use bridge_files::Said;
-use bridge_jobs::{Fault, NoMemory};
+use bridge_jobs::Fault;
 use bridge_wiring::{text_job, wire_files};
 use std::alloc::Global;
 use std::rt::Files;
-
-/// Does the job of the words after the program's name, and gives what is to be said of it; where they ask for help or for the
-/// version, that is printed, and it ends as for words that are refused. None where nothing is begun: another job is asked for, or
-/// an explanation.
-///
-/// The status is 0 where the job is done, that of the fault where it isn't. A capture that is written to standard output goes
-/// there at once.
-pub fn perform<H: Input + AllocGlobal + Print + Files>(
-    rt: &H,
-    words: &[String],
-) -> Result<Option<Ending>, NoMemory>
-    ensures left { IfOk result (λ ending. ending ≡ None → MayLeaveBy is_other (map string_bytes words.now)) }
-    ensures said { IfOk result (λ ending. IfSome ending (EndsSaid (map string_bytes words.now))) }
-    ensures ends { IfOk result (λ ending. IfSome ending (EndsBySome EndsJob (map string_bytes words.now))) }
-{
-    match asked_of(rt.alloc(), words) {
-        Ok(Asked::Wanted(request)) => ended_of(rt.alloc(), done_wire(rt, request)),
-        Ok(Asked::Ended(ending)) => Ok(Some(ending)),
-        Ok(Asked::Explained) => Ok(None),
-        Err(fault) => Err(fault),
-    }
-}
 
 /// Whether a job is one over one queue.
 fn is_of_queue(job: &Job) -> bool

@@ -17,7 +17,7 @@ returns-in_err-came-clause-ends g c =
     let within = c.loop-accepted-test.true in
     let came : length c.loop-accepted.all.items ≡ length (take i plans) = many (take i plans) c.loop-accepted.all.items c.loop-accepted.invariant in
     let front : length (take i plans) ≡ min i (length plans) = length-take i plans in
-    let bridge : c.len-bridge.result ≡ length c.loop-accepted.all.items = c.len-bridge.ensures in
+    let bridge : c.len-bridge.result ≡ length c.loop-accepted.all.items = c.len-bridge.ensures ∙ c.loop-accepted.all.ok.0 in
     let here : c.len-bridge.result ≡ i = omega (arith, came, front, bridge, within) in
     goes_out (EndsReading plans bridges) c.from_residual.result _ c.from_residual.ensures.1
     (reading_at plans bridges i c.accepted-item.result c.name_at-name.result.now _ (slice_get_read plans (length plans) i _ refl within c.accepted-item.is) (c.name_at-name.ensures ∙ ap (name_at bridges) here) c.in_err-came.ensures.ends)
