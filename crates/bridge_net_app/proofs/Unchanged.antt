@@ -63,8 +63,7 @@ same_hops {A} o r (x ∷ xs) (h ∷ hs) (g ∷ gs) many also are others tells =
     let here : y ≡ x = sym (same_Some x y y_is) in
     let there : z ≡ x = sym (same_Some x z z_is) in
     let told : lookup (nat_eq x.1) (o x.0).filters.items ≡ Some h.view.now = subst (λ (w : ℕ × ℕ). lookup (nat_eq w.1) (o w.0).filters.items ≡ Some h.view.now) here one.view in
-    let says : lookup (nat_eq x.1) (r x.0).filters.items ≡ Some g.view.now = subst (λ (w : ℕ × ℕ). lookup (nat_eq w.1) (r w.0).filters.items ≡ Some g.view.now) there other.view in
-    (
+    let says : lookup (nat_eq x.1) (r x.0).filters.items ≡ Some g.view.now = subst (λ (w : ℕ × ℕ). lookup (nat_eq w.1) (r w.0).filters.items ≡ Some g.view.now) there other.view in (
       record {
         bridge = one.bridge ∙ (ap (λ (w : ℕ × ℕ). w.0) (here ∙ sym there) ∙ sym other.bridge);
         view = tells 0 x h.view.now g.view.now refl told says;

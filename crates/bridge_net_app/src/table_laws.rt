@@ -30,7 +30,7 @@ pub fn others_change_no_table<A: Allocator + Copy>()
         → (ran : RunsNetwork n came settled)
         → (also : RunsNetwork n other_came other)
         → ((stream : Vec StreamHop A) → In stream n.streams
-            → HaveSameFirst (network_of n) (stream_of stream.items) (commands_in came) ran.frames (commands_in other_came) also.frames)
+        → HaveSameFirst (network_of n) (stream_of stream.items) (commands_in came) ran.frames (commands_in other_came) also.frames)
         → AreTables n.links settled f bounds a b
         → AreTables n.links other f bounds c d
         → (a ≡ c) × (b ≡ d) }
