@@ -178,16 +178,16 @@ hop_once links hops gops all stream name h g roots more row other_row lines othe
     let w = g.view.now in
     let same_ways = ways_once links hops gops all h.bridge g.bridge same.bridge one.ways other.ways one.are_ways other.are_ways in (
       one.row_is
-      ∙ (ap (λ (x : List Bool). hop_line stream name (counts_of x v) (figures_of (delays_of x roots v.departures.items))) same_ways
-      ∙ (ap (λ (x : HopCounts). hop_line stream name x (figures_of (delays_of other.ways roots v.departures.items))) (counts_same other.ways v w same.view)
-      ∙ (ap (λ (x : List (Option Root)). hop_line stream name (counts_of other.ways w) (figures_of (delays_of other.ways x v.departures.items))) same_roots
-      ∙ (ap (λ (x : List Departure). hop_line stream name (counts_of other.ways w) (figures_of (delays_of other.ways more x))) same.view.departures
-      ∙ sym other.row_is)))),
+          ∙ (ap (λ (x : List Bool). hop_line stream name (counts_of x v) (figures_of (delays_of x roots v.departures.items))) same_ways
+          ∙ (ap (λ (x : HopCounts). hop_line stream name x (figures_of (delays_of other.ways roots v.departures.items))) (counts_same other.ways v w same.view)
+          ∙ (ap (λ (x : List (Option Root)). hop_line stream name (counts_of other.ways w) (figures_of (delays_of other.ways x v.departures.items))) same_roots
+          ∙ (ap (λ (x : List Departure). hop_line stream name (counts_of other.ways w) (figures_of (delays_of other.ways more x))) same.view.departures
+          ∙ sym other.row_is)))),
       one.lines_are
-      ∙ (ap (λ (x : List Bool). view_lines stream name roots x v) same_ways
-      ∙ (ap (λ (x : List (Option Root)). view_lines stream name x other.ways v) same_roots
-      ∙ (lines_same stream name more other.ways v w same.view
-      ∙ sym other.lines_are))),
+          ∙ (ap (λ (x : List Bool). view_lines stream name roots x v) same_ways
+          ∙ (ap (λ (x : List (Option Root)). view_lines stream name x other.ways v) same_roots
+          ∙ (lines_same stream name more other.ways v w same.view
+          ∙ sym other.lines_are))),
     )
 
 -- the rows of the hops are the same
@@ -220,10 +220,10 @@ stream_once links hops gops known more tallies others s rows other_rows lines ot
     let same_delays = delays_once links hops gops same hops gops known more one.delays other.delays same roots one.are_delays other.are_delays in
     let same_hops = hops_once links hops gops same s.name s.hops hops gops known more one.hop_rows other.hop_rows lines other_lines same roots one.are_hops other.are_hops in (
       one.rows_are
-      ∙ (ap (λ (x : List Tally). stream_line s.name x (figures_of one.delays) s.bound s.deadline ++ one.hop_rows) same_tallies
-      ∙ (ap (λ (x : List ℕ). stream_line s.name others (figures_of x) s.bound s.deadline ++ one.hop_rows) same_delays
-      ∙ (ap (λ (x : List ℕ). stream_line s.name others (figures_of other.delays) s.bound s.deadline ++ x) same_hops.0
-      ∙ sym other.rows_are))),
+          ∙ (ap (λ (x : List Tally). stream_line s.name x (figures_of one.delays) s.bound s.deadline ++ one.hop_rows) same_tallies
+          ∙ (ap (λ (x : List ℕ). stream_line s.name others (figures_of x) s.bound s.deadline ++ one.hop_rows) same_delays
+          ∙ (ap (λ (x : List ℕ). stream_line s.name others (figures_of other.delays) s.bound s.deadline ++ x) same_hops.0
+          ∙ sym other.rows_are))),
       same_hops.1,
     )
 
