@@ -2,3 +2,4 @@ pub mod Counted
 pub mod Gathered
 pub mod Ways
 pub mod Tabled
+pub mod Same

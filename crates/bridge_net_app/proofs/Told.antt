@@ -13,6 +13,7 @@ use Rattle.bridge_tracing.specs.declared.tallies.Tally.{Tally}
 use Rattle.bridge_tracing.specs.declared.tracing.Root.{Root}
 use Rattle.bridge_delays.specs.Counting.{AreTallies}
 use Rattle.bridge_delays.specs.Streams.{delivered_of}
+use Rattle.bridge_tracing.specs.Passes.{IsTraced, contents, traces}
 use Rattle.bridge_tracing.specs.Tracing.{AreExhausted, AreFirstKnown, AreFrom, HaveEach}
 use Rattle.bridge_net_app.specs.Counted.{CountsTo, IsCountOf, with_more}
 use Rattle.bridge_net_app.specs.InTime.{AreRunsOf, IsRunOf}
@@ -28,9 +29,9 @@ runs_more {A} o stream hops x h at is are i g there = elim (pushed hops h g i th
 -- what counts of a stream, by its hops as three calls were handed them
 abbrev pub count_is : {A : Type 0} (links : List Link) (settled : List (Settled A)) (stream asked : List (ℕ × ℕ)) (runs runs1 runs2 : List (HopRun A)) (all all2 : List (Vec (Option Root) A)) (tallies tallies2 : List Tally) (frames delivered : ℕ)
     → asked ≡ stream → runs1 ≡ runs → runs2 ≡ runs → all2 ≡ all → tallies2 ≡ tallies
-    → length runs ≡ length asked → ((o : ℕ → Outcome A) → AreOutcomes settled o → AreRunsOf o asked runs) → AreFrom links runs1 all → AreFirstKnown runs1 all → HaveEach runs1 all → AreExhausted links runs1 all → AreTallies links runs2 all2 tallies
+    → length runs ≡ length asked → ((o : ℕ → Outcome A) → AreOutcomes settled o → AreRunsOf o asked runs) → AreFrom links runs1 all → AreFirstKnown runs1 all → HaveEach runs1 all → AreExhausted links runs1 all → IsTraced links (traces runs1) (contents all) → AreTallies links runs2 all2 tallies
     → frames ≡ length tallies → delivered ≡ delivered_of tallies2 → IsCountOf links settled stream frames delivered
-count_is {A} links settled stream asked runs runs1 runs2 all all2 tallies tallies2 frames delivered is_stream is_runs1 is_runs2 is_all2 is_tallies2 many told from first each exhausted counted is_all is_kept = record {
+count_is {A} links settled stream asked runs runs1 runs2 all all2 tallies tallies2 frames delivered is_stream is_runs1 is_runs2 is_all2 is_tallies2 many told from first each exhausted traced counted is_all is_kept = record {
   hops = runs;
   known = all;
   tallies = tallies;
@@ -40,6 +41,7 @@ count_is {A} links settled stream asked runs runs1 runs2 all all2 tallies tallie
   first = subst (λ (h : List (HopRun A)). AreFirstKnown h all) is_runs1 first;
   each = subst (λ (h : List (HopRun A)). HaveEach h all) is_runs1 each;
   exhausted = subst (λ (h : List (HopRun A)). AreExhausted links h all) is_runs1 exhausted;
+  traced = subst (λ (h : List (HopRun A)). IsTraced links (traces h) (contents all)) is_runs1 traced;
   counted = subst (λ (k : List (Vec (Option Root) A)). AreTallies links runs k tallies) is_all2 (subst (λ (h : List (HopRun A)). AreTallies links h all2 tallies) is_runs2 counted);
   all = is_all;
   kept = is_kept ∙ ap delivered_of is_tallies2;

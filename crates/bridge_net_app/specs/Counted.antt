@@ -10,6 +10,7 @@ use Rattle.bridge_tracing.specs.declared.tallies.Tally.{Tally}
 use Rattle.bridge_tracing.specs.declared.tracing.Root.{Root}
 use Rattle.bridge_delays.specs.Counting.{AreTallies}
 use Rattle.bridge_delays.specs.Streams.{delivered_of}
+use Rattle.bridge_tracing.specs.Passes.{IsTraced, contents, traces}
 use Rattle.bridge_tracing.specs.Tracing.{AreExhausted, AreFirstKnown, AreFrom, HaveEach}
 use Rattle.bridge_net_app.specs.InTime.{AreRunsOf}
 
@@ -25,6 +26,7 @@ pub record IsCountOf {A : Type 0} (links : List Link) (settled : List (Settled A
   pub first : AreFirstKnown hops known
   pub each : HaveEach hops known
   pub exhausted : AreExhausted links hops known
+  pub traced : IsTraced links (traces hops) (contents known)
   pub counted : AreTallies links hops known tallies
   pub all : frames ≡ length tallies
   pub kept : delivered ≡ delivered_of tallies

@@ -9,6 +9,7 @@ mod losing;
 mod outputs;
 mod picture;
 mod refusing;
+pub mod table_laws;
 mod tables;
 mod watching;
 mod writing;

@@ -1,2 +1,3 @@
 pub mod Tracing
+pub mod Passes
 pub mod Tallies

@@ -2,6 +2,7 @@
 ghost use Rattle.std.specs.Prelude.{◌≡◌, ◌<◌, ◌≤◌, ℕ, List, false, length, IfOk, OnOk};
 ghost use Rattle.bridge_network.specs.declared.links.Link.{Link};
 ghost use Rattle.bridge_network.specs.Wiring.{sender_value};
+ghost use Rattle.bridge_tracing.specs.Passes as passes;
 ghost use Rattle.bridge_tracing.specs.Tracing as spec;
 
 use crate::hops::HopRun;
@@ -250,6 +251,9 @@ fn trace_pair<A: Allocator + Copy>(
     ensures same { IfOk result (λ more. more ≡ false → all.new ≡ all.old) }
     ensures exhausted { IfOk result (λ more. more ≡ false
         → spec.IsPairExhausted hops.now all.old.items (sender_value sender) place port other) }
+    ensures traced { OnOk result ((links : List Link) → spec.SenderIs links hops.now place port (sender_value sender)
+        → spec.AreSound links hops.now all.old.items → passes.contents all.new.items
+        ≡ passes.pair_step (passes.traces hops.now) (sender_value sender) place port other (passes.contents all.old.items)) }
 {
     if hops[other].bridge != sender.from.bridge as usize {
         return Ok(false);
@@ -298,6 +302,9 @@ fn trace_sender<A: Allocator + Copy>(
     ensures same { IfOk result (λ more. more ≡ false → all.new ≡ all.old) }
     ensures exhausted { IfOk result (λ more. more ≡ false → (j : ℕ) → j < length hops.now
         → spec.IsPairExhausted hops.now all.old.items (sender_value sender) place port j) }
+    ensures traced { OnOk result ((links : List Link) → spec.SenderIs links hops.now place port (sender_value sender)
+        → spec.AreSound links hops.now all.old.items → passes.contents all.new.items
+        ≡ passes.sender_step (passes.traces hops.now) (sender_value sender) place port (passes.contents all.old.items)) }
 {
     let mut more = false;
     for other in 0..hops.len() {
@@ -324,6 +331,8 @@ fn trace_port<A: Allocator + Copy>(
     ensures same { IfOk result (λ more. more ≡ false → all.new ≡ all.old) }
     ensures exhausted { IfOk result (λ more. more ≡ false
         → spec.IsPortExhausted links.now hops.now all.old.items place port) }
+    ensures traced { OnOk result (spec.AreSound links.now hops.now all.old.items → passes.contents all.new.items
+        ≡ passes.port_step links.now (passes.traces hops.now) place port (passes.contents all.old.items)) }
 {
     match sender_of(links, hops[place].bridge, port) {
         Some(sender) => {
@@ -350,6 +359,8 @@ fn trace_hop<A: Allocator + Copy>(
     ensures same { IfOk result (λ more. more ≡ false → all.new ≡ all.old) }
     ensures exhausted { IfOk result (λ more. more ≡ false → (q : ℕ) → 1 ≤ q → q < 17
         → spec.IsPortExhausted links.now hops.now all.old.items place q) }
+    ensures traced { OnOk result (spec.AreSound links.now hops.now all.old.items → passes.contents all.new.items
+        ≡ passes.hop_step links.now (passes.traces hops.now) place (passes.contents all.old.items)) }
 {
     let mut more = false;
     for port in 1..17u8 {
@@ -372,6 +383,8 @@ fn trace_all<A: Allocator + Copy>(
         → spec.AreSound links.now hops.now all.new.items) }
     ensures same { IfOk result (λ more. more ≡ false → all.new ≡ all.old) }
     ensures exhausted { IfOk result (λ more. more ≡ false → spec.AreExhausted links.now hops.now all.old.items) }
+    ensures traced { OnOk result (spec.AreSound links.now hops.now all.old.items → passes.contents all.new.items
+        ≡ passes.pass links.now (passes.traces hops.now) (passes.contents all.old.items)) }
 {
     let mut more = false;
     for place in 0..hops.len() {
@@ -396,6 +409,7 @@ pub fn roots_of<A: Allocator + Copy>(
     ensures first { IfOk result (λ all. spec.AreFirstKnown hops.now all.items) }
     ensures each { IfOk result (λ all. spec.HaveEach hops.now all.items) }
     ensures exhausted { IfOk result (λ all. spec.AreExhausted links.now hops.now all.items) }
+    ensures traced { IfOk result (λ all. passes.IsTraced links.now (passes.traces hops.now) (passes.contents all.items)) }
 {
     let mut all = begun(alloc, hops)?;
     for _ in 0..u64::MAX {

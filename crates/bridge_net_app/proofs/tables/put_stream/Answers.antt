@@ -27,7 +27,7 @@ returns g c =
     tabled links settled bridges s bound c.len.result c.delivered_of.result a0 a1 b0 b1
     (count_is links settled s.hops asked runs c.deref.result.now c.deref-2.result.now known c.deref-3.result.now tallies c.deref-8.result.now c.len.result c.delivered_of.result
     c.hops-hops.ensures c.deref.ensures.value c.deref-2.ensures.value c.deref-3.ensures.value c.deref-8.ensures.value
-    c.in_ok-runs.ensures.many c.in_ok-runs.ensures.told c.in_ok-known.ensures.from c.in_ok-known.ensures.first c.in_ok-known.ensures.each c.in_ok-known.ensures.exhausted c.in_ok-tallies.ensures (c.len.ensures ∙ sym c.deref-8.ensures.len ∙ ap length c.deref-8.ensures.value) c.delivered_of.ensures)
+    c.in_ok-runs.ensures.many c.in_ok-runs.ensures.told c.in_ok-known.ensures.from c.in_ok-known.ensures.first c.in_ok-known.ensures.each c.in_ok-known.ensures.exhausted c.in_ok-known.ensures.traced c.in_ok-tallies.ensures (c.len.ensures ∙ sym c.deref-8.ensures.len ∙ ap length c.deref-8.ensures.value) c.delivered_of.ensures)
     (subst (λ (z : Heading). WriteStream links runs known tallies z a0 a1 b0 b1)
     (heading_is bridges c.bridges.result.now s asked c.name.result.now names bound c.deadline.result c.bridges.ensures.bridges c.hops-hops.ensures c.name.ensures (ap (map string_bytes) c.deref-4.ensures.value ∙ c.in_ok-names.ensures) c.deadline.ensures)
     (subst (λ (t : List Tally). WriteStream links runs known t h a0 a1 b0 b1) c.deref-7.ensures.value

@@ -1,4 +1,4 @@
-use Rattle.std.proofs.Common.{◌≡◌, ◌∷◌, [], None, ap, arith, length, subst, sym, ◌∙◌}
+use Rattle.std.proofs.Common.{◌∷◌, [], None, ap, arith, length, subst, sym, ◌∙◌}
 use Rattle.std.proofs.lemmas.List.{length-append}
 use Rattle.bridge_tracing.specs.Tracing.{AreUnknown}
 use Rattle.bridge_tracing.proofs.Traced.{none_known, unknown_more}

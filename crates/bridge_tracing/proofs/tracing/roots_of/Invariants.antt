@@ -1,4 +1,6 @@
-use Rattle.std.proofs.Common.{◌≡◌, length}
+use Rattle.std.proofs.Common.{◌≡◌, ℕ, length}
+use Rattle.std.specs.Fn.{iterate}
+use Rattle.bridge_tracing.specs.Passes.{begun_of, contents, pass, traces}
 use Rattle.bridge_tracing.specs.Tracing.{AreSound}
 use Rattle.bridge_tracing.proofs.tracing.roots_of.Given as goal
 
@@ -6,4 +8,5 @@ abbrev pub invariant-loop : goal.invariant-loop
 invariant-loop g l = record {
   many : length l.all.items ≡ length l.hops;
   sound : AreSound l.links l.hops l.all.items;
+  traced : (n : ℕ) × (contents l.all.items ≡ iterate (pass l.links (traces l.hops)) n (begun_of (traces l.hops)));
 }

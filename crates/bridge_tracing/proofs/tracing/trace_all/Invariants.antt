@@ -1,4 +1,5 @@
 use Rattle.std.proofs.Common.{◌≡◌, ◌<◌, ◌≤◌, ℕ, false, length}
+use Rattle.bridge_tracing.specs.Passes.{contents, hop_step, traces, upto}
 use Rattle.bridge_tracing.specs.Tracing.{AreSound, IsPortExhausted}
 use Rattle.bridge_tracing.proofs.tracing.trace_all.Given as goal
 
@@ -8,4 +9,5 @@ invariant-loop-place g l = record {
   sound : AreSound l.links l.hops l.initial.all.items → AreSound l.links l.hops l.all.items;
   same : l.more ≡ false → l.all ≡ l.initial.all;
   exhausted : l.more ≡ false → (i q : ℕ) → i < l.place → 1 ≤ q → q < 17 → IsPortExhausted l.links l.hops l.initial.all.items i q;
+  traced : AreSound l.links l.hops l.initial.all.items → contents l.all.items ≡ upto (hop_step l.links (traces l.hops)) l.place (contents l.initial.all.items);
 }

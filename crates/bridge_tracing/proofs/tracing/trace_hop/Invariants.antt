@@ -1,4 +1,5 @@
-use Rattle.std.proofs.Common.{◌≡◌, ◌<◌, ◌≤◌, ℕ, false, length}
+use Rattle.std.proofs.Common.{◌≡◌, ◌+◌, ◌-◌, ◌<◌, ◌≤◌, ℕ, false, length}
+use Rattle.bridge_tracing.specs.Passes.{contents, port_step, traces, upto}
 use Rattle.bridge_tracing.specs.Tracing.{AreSound, IsPortExhausted}
 use Rattle.bridge_tracing.proofs.tracing.trace_hop.Given as goal
 
@@ -8,4 +9,6 @@ invariant-loop-port g l = record {
   sound : AreSound l.links l.hops l.initial.all.items → AreSound l.links l.hops l.all.items;
   same : l.more ≡ false → l.all ≡ l.initial.all;
   exhausted : l.more ≡ false → (q : ℕ) → 1 ≤ q → q < l.port → IsPortExhausted l.links l.hops l.initial.all.items l.place q;
+  traced : AreSound l.links l.hops l.initial.all.items
+      → contents l.all.items ≡ upto (λ (k : ℕ). port_step l.links (traces l.hops) l.place (k + 1)) (l.port - 1) (contents l.initial.all.items);
 }

@@ -1,10 +1,12 @@
 use Rattle.std.proofs.Common.{◌≡◌, None, Some, map, sym, ap, subst, ◌∙◌}
-use Rattle.std.specs.Prelude.{option_map}
-use Rattle.std.proofs.lemmas.Option.{get_or_from_slice_get, same_Some}
+use Rattle.std.specs.Prelude.{option_map, slice_get}
+use Rattle.std.proofs.lemmas.Option.{get_or_from_slice_get, same_Some, slice_get-get_or}
 use Rattle.bridge_network.specs.Networks.{Sender, sender}
 use Rattle.bridge_network.specs.Wiring.{link_of, sender_value}
 use Rattle.bridge_tracing.specs.declared.hops.HopRun.{HopRun}
-use Rattle.bridge_tracing.specs.Tracing.{IsPairExhausted}
+use Rattle.bridge_tracing.specs.Passes.{contents}
+use Rattle.bridge_tracing.specs.Tracing.{IsPairExhausted, SenderIs}
+use Rattle.bridge_tracing.proofs.Passes.{port_linked, port_open}
 use Rattle.bridge_tracing.proofs.tracing.trace_port.Goals as goal
 
 pub returns-in_ok-more-in-Some-clause-sound : goal.returns-in_ok-more-in-Some-clause-sound
@@ -31,3 +33,28 @@ returns-in-None-clause-exhausted g c = λ none h s is_h is_s j within.
     (get_or_from_slice_get c.args.hops.now c.args.place h c.index-hops-place.result is_h)
     (sym c.sender_of.ensures ∙ ap (option_map sender_value) c.in-None.is) in
     absurd (let bad : None ≡ Some s = sym own ∙ is_s in cc)
+
+pub returns-in_ok-more-in-Some-clause-traced : goal.returns-in_ok-more-in-Some-clause-traced
+returns-in_ok-more-in-Some-clause-traced g c = λ are.
+    let links = c.args.links.now in
+    let hops = c.args.hops.now in
+    let place = c.args.place in
+    let h = c.index-hops-place.result in
+    let s = sender_value c.in-Some.sender in
+    let is_h : slice_get hops place ≡ Some h = slice_get-get_or hops place h c.requires.place ∙ ap (λ (x : HopRun g.row.A.Denot). Some x) (sym c.index-hops-place.is) in
+    let own : sender (map link_of links) h.bridge c.args.port ≡ Some s =
+    subst (λ (y : HopRun g.row.A.Denot). sender (map link_of links) y.bridge c.args.port ≡ Some s) (sym c.index-hops-place.is) (sym c.sender_of.ensures ∙ ap (option_map sender_value) c.in-Some.is) in
+    let sends : SenderIs links hops place c.args.port s = λ x is.
+    subst (λ (y : HopRun g.row.A.Denot). sender (map link_of links) y.bridge c.args.port ≡ Some s) (same_Some h x (sym is_h ∙ is)) own in
+    c.in_ok-more-in-Some.ensures.traced links sends are ∙ port_linked links hops place c.args.port (contents c.args.all.now.items) h s is_h own
+
+pub returns-in-None-clause-traced : goal.returns-in-None-clause-traced
+returns-in-None-clause-traced g c = λ are.
+    let links = c.args.links.now in
+    let hops = c.args.hops.now in
+    let place = c.args.place in
+    let h = c.index-hops-place.result in
+    let is_h : slice_get hops place ≡ Some h = slice_get-get_or hops place h c.requires.place ∙ ap (λ (x : HopRun g.row.A.Denot). Some x) (sym c.index-hops-place.is) in
+    let own : sender (map link_of links) h.bridge c.args.port ≡ None =
+    subst (λ (y : HopRun g.row.A.Denot). sender (map link_of links) y.bridge c.args.port ≡ None) (sym c.index-hops-place.is) (sym c.sender_of.ensures ∙ ap (option_map sender_value) c.in-None.is) in
+    port_open links hops place c.args.port (contents c.args.all.now.items) h is_h own

@@ -1,8 +1,12 @@
-use Rattle.std.proofs.Common.{Option, subst, ◌∙◌, arith}
+use Rattle.std.proofs.Common.{◌≡◌, ℕ, Option, length, refl, sym, ap, subst, ◌∙◌, arith}
 use Rattle.std.specs.Prelude.{Vec}
+use Rattle.std.proofs.lemmas.List.{length-map}
 use Rattle.bridge_network.specs.Wiring.{sender_value}
+use Rattle.bridge_tracing.specs.declared.hops.HopRun.{HopRun}
 use Rattle.bridge_tracing.specs.declared.tracing.Root.{Root}
+use Rattle.bridge_tracing.specs.Passes.{contents, pair_step, trace_of, traces, upto}
 use Rattle.bridge_tracing.specs.Tracing.{IsPairExhausted}
+use Rattle.bridge_tracing.proofs.Passes.{upto_next}
 use Rattle.bridge_tracing.proofs.Traced.{one_more}
 use Rattle.bridge_tracing.proofs.tracing.trace_sender.Goals as goal
 
@@ -19,14 +23,23 @@ loop-other-preserved g c =
       exhausted = λ none. one_more (IsPairExhausted hops c.args.all.now.items s c.args.place c.args.port) c.loop-other.other
           (before.exhausted (c.either-more.ensures.one none))
           (subst (λ (v : Vec (Vec (Option Root) g.row.A.Denot) g.row.A.Denot). IsPairExhausted hops v.items s c.args.place c.args.port c.loop-other.other) (before.same (c.either-more.ensures.one none)) (here.exhausted (c.either-more.ensures.other none)));
+      traced = λ links sends are. here.traced links sends (before.sound links sends are)
+          ∙ (ap (pair_step (traces hops) s c.args.place c.args.port c.loop-other.other) (before.traced links sends are)
+          ∙ sym (upto_next (pair_step (traces hops) s c.args.place c.args.port) c.loop-other.other _ (contents c.args.all.now.items) refl));
     }
 
 pub returns : goal.returns
 returns g c =
     let end = c.loop-other-test.false in
+    let most = c.loop-other.auto.other-end in
+    let hops = c.args.hops.now in
+    let long = length-map hops (λ (h : HopRun g.row.A.Denot). trace_of h) in
+    let all : c.loop-other.other ≡ length (traces hops) = omega (arith, end, most, long) in
     record {
       many = c.loop-other.invariant.many;
       sound = c.loop-other.invariant.sound;
       same = c.loop-other.invariant.same;
       exhausted = λ none j within. c.loop-other.invariant.exhausted none j (omega (arith, within, end));
+      traced = λ links sends are. c.loop-other.invariant.traced links sends are
+          ∙ ap (λ (n : ℕ). upto (pair_step (traces hops) (sender_value c.args.sender) c.args.place c.args.port) n (contents c.args.all.now.items)) all;
     }

@@ -1,6 +1,7 @@
 use Rattle.std.proofs.Common.{◌≡◌, ◌<◌, ℕ, List, false, length}
 use Rattle.bridge_network.specs.declared.links.Link.{Link}
 use Rattle.bridge_network.specs.Wiring.{sender_value}
+use Rattle.bridge_tracing.specs.Passes.{contents, pair_step, traces, upto}
 use Rattle.bridge_tracing.specs.Tracing.{AreSound, IsPairExhausted, SenderIs}
 use Rattle.bridge_tracing.proofs.tracing.trace_sender.Given as goal
 
@@ -10,4 +11,6 @@ invariant-loop-other g l = record {
   sound : (links : List Link) → SenderIs links l.hops l.place l.port (sender_value l.sender) → AreSound links l.hops l.initial.all.items → AreSound links l.hops l.all.items;
   same : l.more ≡ false → l.all ≡ l.initial.all;
   exhausted : l.more ≡ false → (j : ℕ) → j < l.other → IsPairExhausted l.hops l.initial.all.items (sender_value l.sender) l.place l.port j;
+  traced : (links : List Link) → SenderIs links l.hops l.place l.port (sender_value l.sender) → AreSound links l.hops l.initial.all.items
+      → contents l.all.items ≡ upto (pair_step (traces l.hops) (sender_value l.sender) l.place l.port) l.other (contents l.initial.all.items);
 }
