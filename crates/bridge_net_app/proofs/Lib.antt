@@ -9,3 +9,4 @@ pub mod Views
 pub mod Lengths
 pub mod Ended
 pub mod Rows
+pub mod Losses
