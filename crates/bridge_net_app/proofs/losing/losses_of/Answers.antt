@@ -12,7 +12,7 @@ pub loop-place-preserved : goal.loop-place-preserved
 loop-place-preserved c =
     let there = c.if-place-runs.false in
     λ many. losses_at c.args.links.now c.args.runs.now c.args.bridges.now c.args.hops.now c.loop-place.place _ _ c.index-runs-place.result _ _ c.loop-place.all.items _
-        c.loop-place-test.true (omega (arith, there)) (c.loop-place.invariant many) c.in_ok-loss.ensures refl c.index-runs-place.is c.in_ok-push.ensures.items
+    c.loop-place-test.true (omega (arith, there)) (c.loop-place.invariant many) c.in_ok-loss.ensures refl c.index-runs-place.is c.in_ok-push.ensures.items
 
 pub returns : goal.returns
 returns c =
