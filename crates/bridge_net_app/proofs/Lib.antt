@@ -10,3 +10,4 @@ pub mod Lengths
 pub mod Ended
 pub mod Rows
 pub mod Unchanged
+pub mod Losses

@@ -1,6 +1,6 @@
 //! The job of a run of a network over folders.
 ghost use Rattle.std.specs.Prelude.{◌≡◌, ◌≤◌, IfOk, IfErr, IfSome, None, Some, false, true, length, string_bytes};
-ghost use Rattle.bridge_net_app.specs.Losing.{has_lines};
+ghost use Rattle.bridge_net_app.specs.Losing.{AreToldLines, PrintsRunLosses, TellsRunLosses, has_lines};
 ghost use Rattle.bridge_net_app.specs.InTime.{HaveViews};
 ghost use Rattle.bridge_net_app.specs.Folders.{EndsFiles, EndsRounds, EndsRun, IsAccepted, IsLine, IsMostRounds, PrintsRounds, PrintsRoundsIn, TellsRun, TellsRunIn, network_words, rounds_line};
 
@@ -96,6 +96,7 @@ fn lost_if(
     is_strict: bool,
 ) -> Result<String, NoMemory>
     requires { HaveViews settled.now file.now.streams }
+    ensures { IfOk result (λ lines. AreToldLines network.now.links settled.now file.now is_strict (string_bytes lines)) }
 {
     if is_strict {
         fault_lines(alloc, file, network.links(), settled)
@@ -117,6 +118,7 @@ fn put_all<H: AllocGlobal + Files>(
 ) -> Result<RunLines, Fault>
     requires views { HaveViews settled.now file.now.streams }
     ensures ok { IfOk result (λ lines. IsLine network.now.links settled.now file.now (string_bytes lines.line)) }
+    ensures lost { IfOk result (λ lines. AreToldLines network.now.links settled.now file.now is_strict (string_bytes lines.lost)) }
     ensures err { IfErr result EndsFiles }
 {
     let alloc = rt.alloc();
@@ -169,6 +171,7 @@ fn put_drawn<H: AllocGlobal + Files>(
 ) -> Result<RunLines, Fault>
     requires views { HaveViews settled.now file.now.streams }
     ensures ok { IfOk result (λ lines. IsLine network.now.links settled.now file.now (string_bytes lines.line)) }
+    ensures lost { IfOk result (λ lines. AreToldLines network.now.links settled.now file.now is_strict (string_bytes lines.lost)) }
     ensures err { IfErr result EndsFiles }
 {
     let Ok(queues) = bounds_of_all(rt.alloc(), network.plans()) else {
@@ -225,6 +228,7 @@ fn run_network<H: AllocGlobal + Eprint + Files>(
     requires accepted { IsAccepted network.now file.now }
     ensures ok { IfOk result (λ ran. TellsRun network.now file.now (string_bytes ran.0.line)) }
     ensures rounds { IfOk result (λ ran. TellsRunIn network.now file.now (string_bytes ran.0.line) ran.1) }
+    ensures lost { IfOk result (λ ran. TellsRunLosses network.now file.now wishes.is_strict (string_bytes ran.0.line) ran.1 (string_bytes ran.0.lost)) }
     ensures err { IfErr result (EndsRun network.now file.now.bridges) }
 {
     let (mut taken, plans, bridges) = (taken, network.plans(), file.bridges());
@@ -341,6 +345,8 @@ fn run_accepted<H: AllocGlobal + Eprint + Files>(
     requires accepted { IsAccepted network.now file.now }
     ensures ok { IfOk result (λ said. IfSome said.line (λ line. TellsRun network.now file.now (string_bytes line))) }
     ensures rounds { IfOk result (λ said. IfSome said.line (λ line. TellsRunIn network.now file.now (string_bytes line) said.rounds)) }
+    ensures told { IfOk result (λ said. IfSome said.line (λ line. TellsRunLosses network.now file.now job.is_strict (string_bytes line) said.rounds (string_bytes said.told))) }
+    ensures lossy { IfOk result (λ said. IfSome said.line (λ _. said.is_lossy ≡ has_lines (string_bytes said.told))) }
     ensures warned { IfOk result (λ said. said.is_warned ≡ true → said.line ≡ None) }
     ensures err { IfErr result (EndsRun network.now file.now.bridges) }
 {
@@ -445,6 +451,8 @@ pub fn rounds_job<H: AllocGlobal + Eprint + Files>(
 ) -> Result<RoundsSaid, Fault>
     ensures ok { IfOk result (λ said. IfSome said.line (λ line. PrintsRounds Global (string_bytes line))) }
     ensures rounds { IfOk result (λ said. IfSome said.line (λ line. PrintsRoundsIn Global (string_bytes line) said.rounds)) }
+    ensures told { IfOk result (λ said. IfSome said.line (λ line. PrintsRunLosses Global job.is_strict (string_bytes line) said.rounds (string_bytes said.told))) }
+    ensures lossy { IfOk result (λ said. IfSome said.line (λ _. said.is_lossy ≡ has_lines (string_bytes said.told))) }
     ensures warned { IfOk result (λ said. said.is_warned ≡ true → said.line ≡ None) }
     ensures err { IfErr result (EndsRounds Global (string_bytes job.network)) }
 {
@@ -459,6 +467,8 @@ pub fn rounds_noted<H: AllocGlobal + Eprint + Files>(
 ) -> Result<RoundsSaid, Fault>
     ensures ok { IfOk result (λ said. IfSome said.line (λ line. PrintsRounds Global (string_bytes line))) }
     ensures rounds { IfOk result (λ said. IfSome said.line (λ line. PrintsRoundsIn Global (string_bytes line) said.rounds)) }
+    ensures told { IfOk result (λ said. IfSome said.line (λ line. PrintsRunLosses Global job.is_strict (string_bytes line) said.rounds (string_bytes said.told))) }
+    ensures lossy { IfOk result (λ said. IfSome said.line (λ _. said.is_lossy ≡ has_lines (string_bytes said.told))) }
     ensures warned { IfOk result (λ said. said.is_warned ≡ true → said.line ≡ None) }
     ensures err { IfErr result (EndsRounds Global (string_bytes job.network)) }
 {

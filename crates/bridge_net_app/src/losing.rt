@@ -1,10 +1,7 @@
 //! Streams that lost frames or missed their deadlines in a run of a network.
-ghost use Rattle.std.specs.Prelude.{◌≡◌, Bool, IfOk, List, string_bytes};
-ghost use Rattle.bridge_delays.specs.Hops.{AreWays};
-ghost use Rattle.bridge_delays.specs.Tallies as tallies;
+ghost use Rattle.std.specs.Prelude.{◌≡◌, IfOk, OnOk, length, string_bytes};
 ghost use Rattle.bridge_net_app.specs.InTime.{HaveViews, HaveViewsOf};
-ghost use Rattle.bridge_net_app.specs.Losing.{place_words};
-ghost use Rattle.bridge_text.specs.Growth.{IsLonger};
+ghost use Rattle.bridge_net_app.specs.Losing.{AreFaultLines, AreLosses, IsLossOf, PutsLines, place_words};
 
 use crate::refusing::name_at;
 use crate::tables::runs_of;
@@ -30,6 +27,22 @@ fn place_of(
     Ok(format!(in alloc; "{name}.{filter} ")?)
 }
 
+/// Returns a hop of a stream with its losses.
+fn loss_of(
+    alloc: Global,
+    bridges: &[BridgeRow<Global>],
+    links: &[Link],
+    runs: &[HopRun<'_, Global>],
+    hop: (u16, u32),
+    run: &HopRun<'_, Global>,
+) -> Result<HopLosses<Global>, NoMemory>
+    ensures { IfOk result (IsLossOf links.now runs.now bridges.now hop run.now) }
+{
+    let place = place_of(alloc, bridges, hop)?;
+    let counts = counts_of(alloc, links, runs, run)?;
+    Ok(HopLosses { place, counts })
+}
+
 /// Returns each hop of a stream with its losses.
 fn losses_of(
     alloc: Global,
@@ -37,12 +50,17 @@ fn losses_of(
     links: &[Link],
     hops: &[(u16, u32)],
     runs: &[HopRun<'_, Global>],
-) -> Result<Vec<HopLosses<Global>>, NoMemory> {
+) -> Result<Vec<HopLosses<Global>>, NoMemory>
+    ensures { IfOk result (λ losses. length runs.now ≡ length hops.now
+        → AreLosses links.now runs.now bridges.now hops.now runs.now losses.items) }
+{
     let mut all = Vec::with_capacity(alloc, hops.len())?;
-    for (hop, run) in hops.iter().zip(runs) {
-        let place = place_of(alloc, bridges, *hop)?;
-        let counts = counts_of(alloc, links, runs, run)?;
-        all.push(HopLosses { place, counts })?;
+    for place in 0..hops.len() {
+        if place >= runs.len() {
+            return Ok(all);
+        }
+        let loss = loss_of(alloc, bridges, links, runs, hops[place], &runs[place])?;
+        all.push(loss)?;
     }
     Ok(all)
 }
@@ -57,11 +75,13 @@ fn put_stream(
     stream: &StreamRow<Global>,
 ) -> Result<(), NoMemory>
     requires { HaveViewsOf settled.now stream.now.hops }
+    ensures { OnOk result (PutsLines links.now settled.now bridges.now stream.now text.old text.new) }
 {
-    let runs = runs_of(alloc, settled, stream.hops())?;
+    let hops = stream.hops();
+    let runs = runs_of(alloc, settled, hops)?;
     let all = roots_of(alloc, links, &runs)?;
     let tallies = tallies_of(alloc, links, &runs, &all)?;
-    let losses = losses_of(alloc, bridges, links, stream.hops(), &runs)?;
+    let losses = losses_of(alloc, bridges, links, hops, &runs)?;
     let delays = delays_of_all(alloc, links, &runs, &all)?;
     put_faults(
         text,
@@ -83,6 +103,7 @@ pub(crate) fn fault_lines(
     settled: &[Settled<Global>],
 ) -> Result<String, NoMemory>
     requires { HaveViews settled.now file.now.streams }
+    ensures { IfOk result (λ lines. AreFaultLines links.now settled.now file.now.bridges file.now.streams (string_bytes lines)) }
 {
     let mut text = Text::new(alloc);
     for stream in file.streams() {
