@@ -1,26 +1,39 @@
 //! The warning of a plan that bounds no delay.
+ghost use Rattle.std.specs.Prelude.{IfOk};
+ghost use Rattle.bridge_app.specs.Notes.{WarnsOfBounds, WarnsOfNone};
 
 use bridge_advice::{Advice, put_advice};
-use bridge_jobs::accepted_of;
+use bridge_check::Accepted;
+use bridge_jobs::{NoMemory, accepted_of};
 use bridge_text::Text;
 use std::alloc::Global;
 
-/// Returns the warning of a plan without a protected filter, which has no delay bound, by the plan's text. The text is empty for
-/// any other plan, also for one that is refused, and if memory runs out.
-pub fn warning_of_bounds(alloc: Global, plan: &[u8]) -> String {
-    let mut said = Text::new(alloc);
-    if let Ok(accepted) = accepted_of(alloc, alloc, plan) {
-        if !accepted
-            .plan()
-            .filters()
-            .iter()
-            .any(|filter| filter.1.protected)
-        {
-            put_advice(&mut said, &Advice::NoneProtected);
+/// Returns the warning of a plan without a protected filter, which has no delay bound. None for any other plan.
+///
+/// `text` is that of an accepted plan: it is read again here, so `NoMemory` is the answer to each fault.
+pub fn bounds_warning(alloc: Global, text: &[u8]) -> Result<Option<String>, NoMemory>
+    ensures { IfOk result (WarnsOfBounds text.now) }
+{
+    match accepted_of(alloc, alloc, text) {
+        Ok(accepted) => {
+            let warning = warning_of(alloc, &accepted);
+            drop(accepted);
+            warning
         }
+        Err(_) => Err(NoMemory),
     }
-    match said.done() {
-        Ok(text) => text,
-        Err(_) => String::new(alloc),
+}
+
+/// Returns the warning of an accepted plan without a protected filter.
+fn warning_of(alloc: Global, accepted: &Accepted<Global>) -> Result<Option<String>, NoMemory>
+    ensures { IfOk result (WarnsOfNone accepted.now.filters) }
+{
+    let protected = accepted.plan().filters().iter().filter(|f| f.1.protected).count();
+    if protected > 0 {
+        return Ok(None);
     }
+    let mut said = Text::new(alloc);
+    put_advice(&mut said, &Advice::NoneProtected);
+    let warning = said.done()?;
+    Ok(Some(warning))
 }

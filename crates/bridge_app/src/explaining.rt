@@ -2,7 +2,7 @@
 //! prints.
 //!
 //! Nothing here can fail: what there is no memory for is left out.
-ghost use Rattle.std.specs.Prelude.{◌≡◌};
+ghost use Rattle.std.specs.Prelude.{◌≡◌, None, false};
 
 use crate::late::{Last, put_late};
 use crate::noting::Refusal;
@@ -104,7 +104,8 @@ pub(crate) fn refusal_of(
     noted: &Noted,
     fault: Fault,
 ) -> Refusal
-    ensures { result.fault ≡ fault }
+    ensures fault { result.fault ≡ fault }
+    ensures plain { path.now ≡ None → result.said ≡ None }
 {
     let said = match path {
         Some(path) => said_of_plan(alloc, path.as_str(), &noted.plan, noted.cause, &fault),
@@ -114,7 +115,9 @@ pub(crate) fn refusal_of(
 }
 
 /// A path, where more is to be told of a fault.
-pub(crate) fn kept_path(alloc: Global, path: &str, is_explained: bool) -> Option<String> {
+pub(crate) fn kept_path(alloc: Global, path: &str, is_explained: bool) -> Option<String>
+    ensures { is_explained ≡ false → result ≡ None }
+{
     if is_explained {
         String::from_str(alloc, path).ok()
     } else {
@@ -139,7 +142,9 @@ pub(crate) fn kept_paths(
     output: &str,
     commands: &Option<String>,
     is_explained: bool,
-) -> Option<RunPaths> {
+) -> Option<RunPaths>
+    ensures { is_explained ≡ false → result ≡ None }
+{
     let commands = match commands {
         Some(path) => path.as_str(),
         None => "",
@@ -159,7 +164,8 @@ pub(crate) fn refusal_of_run(
     noted: &Noted,
     fault: Fault,
 ) -> Refusal
-    ensures { result.fault ≡ fault }
+    ensures fault { result.fault ≡ fault }
+    ensures plain { paths.now ≡ None → result.said ≡ None }
 {
     let said = match paths {
         Some(paths) => said_of_run(rt, paths, noted, &fault),
@@ -230,7 +236,8 @@ pub(crate) fn refusal_of_wire(
     cause: Option<Cause>,
     fault: Fault,
 ) -> Refusal
-    ensures { result.fault ≡ fault }
+    ensures fault { result.fault ≡ fault }
+    ensures plain { read.now ≡ None → result.said ≡ None }
 {
     let said = match (read, written, &fault) {
         (Some(read), Some(written), Fault::Run(fault)) => {

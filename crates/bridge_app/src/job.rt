@@ -2,7 +2,7 @@
 ghost use Rattle.std.specs.Prelude.{◌≡◌, ◌⊎◌, IfOk, IfErr, option_map, string_bytes};
 ghost use Rattle.bridge_config.specs.Commands.{AreCommands};
 ghost use Rattle.bridge_running.specs.Files.{PrintsRun};
-ghost use Rattle.bridge_app.specs.Files.{EndsDrawn, EndsTabled, EndsTold, IsOfShowing, IsOfTables};
+ghost use Rattle.bridge_app.specs.Files.{EndsTabled, IsOfShowing, IsOfTables};
 ghost use Rattle.bridge_app.specs.Losing.{TellsLost, lost_if};
 
 use crate::late::{Last, last_of};
@@ -17,61 +17,10 @@ use bridge_inputs::RunFault;
 use bridge_jobs::{Cause, Fault};
 use bridge_limits::NoMemory;
 use bridge_report::{lost_lines, summary};
-use bridge_running::{Noted, read_job, send, take_standard};
+use bridge_running::{send, take_standard};
 use bridge_semantics::Outcome;
 use std::alloc::Global;
 use std::rt::Files;
-
-/// What is printed for a run as by `run_job`, and where one is asked for a picture of the run, in a file that is none of the run's:
-/// it is made behind the report, before the line is told, and changes nothing else. `File` of the picture comes last among the
-/// faults.
-pub fn run_with_picture<H: AllocGlobal + Files>(
-    rt: &H,
-    plan: String,
-    input: String,
-    output: String,
-    commands: Option<String>,
-    sketch: Option<PictureRequest>,
-) -> Result<String, Fault>
-    ensures ok { IfOk result (λ line. PrintsRun Global (string_bytes line)) }
-    ensures err { IfErr result (EndsDrawn Global (string_bytes plan) (option_map string_bytes commands)
-        (string_bytes input) (string_bytes output) (option_map (λ s. string_bytes s.file) sketch)) }
-{
-    let none = TableRequest {
-        delays: None,
-        frames: None,
-    };
-    run_with_tables(rt, plan, input, output, commands, none, sketch)
-}
-
-/// The same, and the tables that are asked for, each in a file that is none of the run's: they are made behind the report and
-/// before the picture, that of delays before that of frames, and change nothing else. `File` of one that is a file of the run
-/// comes before the run; else `File` of each comes in this order: of the report, of the table of delays, of that of frames, of
-/// the picture.
-pub fn run_with_tables<H: AllocGlobal + Files>(
-    rt: &H,
-    plan: String,
-    input: String,
-    output: String,
-    commands: Option<String>,
-    tables: TableRequest,
-    sketch: Option<PictureRequest>,
-) -> Result<String, Fault>
-    ensures ok { IfOk result (λ line. PrintsRun Global (string_bytes line)) }
-    ensures err { IfErr result (EndsTold Global (string_bytes plan) (option_map string_bytes commands)
-        (string_bytes input) (string_bytes output) (option_map string_bytes tables.delays)
-        (option_map string_bytes tables.frames) (option_map (λ s. string_bytes s.file) sketch)) }
-{
-    let mut taken = Vec::new(rt.alloc());
-    let mut noted = Noted::new(rt.alloc());
-    let (accepted, orders) = match read_job(rt, plan, commands, &mut taken, &mut noted) {
-        Ok(read) => read,
-        Err(fault) => return Err(fault),
-    };
-    let told = send_line(rt, &accepted, &orders, input, output, taken, tables, sketch);
-    drop(accepted);
-    told
-}
 
 /// Lines of a run that is done.
 #[derive(Drop)]
@@ -82,31 +31,6 @@ pub(crate) struct RunLines {
     pub(crate) lost: String,
     /// Whether a loss is a fault and a protected filter lost a frame or a copy.
     pub(crate) is_lossy: bool,
-}
-
-/// Returns the line that sums a run up under an accepted plan, as by `send_told`.
-fn send_line<H: AllocGlobal + Files>(
-    rt: &H,
-    accepted: &Accepted<Global>,
-    orders: &[Command],
-    input: String,
-    output: String,
-    taken: Vec<FileId>,
-    tables: TableRequest,
-    sketch: Option<PictureRequest>,
-) -> Result<String, Fault>
-    requires commands { AreCommands accepted.now orders.now }
-    ensures ok { IfOk result (λ line. PrintsRun Global (string_bytes line)) }
-    ensures err { IfErr result (EndsTabled accepted.now (string_bytes input) (string_bytes output)
-        (option_map string_bytes tables.delays) (option_map string_bytes tables.frames)
-        (option_map (λ s. string_bytes s.file) sketch)) }
-{
-    match send_told(
-        rt, accepted, orders, input, output, taken, tables, sketch, false, &mut None, &mut None,
-    ) {
-        Ok(lines) => Ok(lines.line),
-        Err(fault) => Err(fault),
-    }
 }
 
 /// What is printed for a run under an accepted plan from one folder into another, with the tables and the picture that are

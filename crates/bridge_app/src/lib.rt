@@ -12,14 +12,9 @@ mod strict;
 mod tables;
 mod wiring;
 
-pub use bounding::warning_of_bounds;
-pub use bridge_running::run_job;
+pub use bounding::bounds_warning;
 pub use explaining::{said_of_file, said_of_plan, said_of_syntax, said_of_unread, said_of_words};
-pub use job::{run_with_picture, run_with_tables};
 pub use noting::Refusal;
-pub use picturing::{
-    picture_apart, picture_job, picture_part_job, picture_text, told_picture_job,
-    told_picture_text, write_picture,
-};
-pub use strict::{Strict, StrictRun, judge_run_job, strict_run_job, told_check_job};
+pub use picturing::{picture_apart, told_picture_job, told_picture_text, write_picture};
+pub use strict::{CheckedPlan, StrictRun, judge_run_job, told_check_job};
 pub use wiring::told_wire_job;

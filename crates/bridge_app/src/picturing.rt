@@ -1,5 +1,5 @@
 //! Pictures as files.
-ghost use Rattle.std.specs.Prelude.{ℕ, IfErr, List, codes, string_bytes};
+ghost use Rattle.std.specs.Prelude.{◌≡◌, ℕ, IfErr, List, None, codes, false, string_bytes};
 ghost use Rattle.bridge_app.specs.Files.{EndsPicture, IsOfPicture};
 
 use crate::explaining::{kept_path, refusal_of};
@@ -18,30 +18,10 @@ use std::io;
 use std::io::Write;
 use std::rt::Files;
 
-/// Draws the plan of a file into another file, which is written anew. The plan may isolate its protected filters or not.
+/// Draws the plan of a file, or the part of it that is asked for, into another file, which is written anew. The plan may isolate its
+/// protected filters or not.
 ///
-/// Faults in this order: PLAN opened and read, its text; `File` of FILE where it can't be opened, made or written, or is
-/// the file PLAN.
-pub fn picture_job<H: AllocGlobal + Files>(rt: &H, plan: String, file: String) -> Result<(), Fault>
-    ensures { IfErr result (EndsPicture Global (string_bytes plan) (string_bytes file)) }
-{
-    picture_part_job(rt, plan, file, None)
-}
-
-/// The same of the part of the plan that is asked for, where one is.
-pub fn picture_part_job<H: AllocGlobal + Files>(
-    rt: &H,
-    plan: String,
-    file: String,
-    sketch: Option<PictureRequest>,
-) -> Result<(), Fault>
-    ensures { IfErr result (EndsPicture Global (string_bytes plan) (string_bytes file)) }
-{
-    let mut noted = Noted::new(rt.alloc());
-    draw_noted(rt, plan, file, sketch, &mut noted)
-}
-
-/// The same, with what is told of a fault, where that is asked for.
+/// Faults in this order: PLAN opened and read, its text; `File` of FILE if it can't be opened, made or written, or is the file PLAN.
 pub fn told_picture_job<H: AllocGlobal + Files>(
     rt: &H,
     plan: String,
@@ -49,7 +29,8 @@ pub fn told_picture_job<H: AllocGlobal + Files>(
     sketch: Option<PictureRequest>,
     is_explained: bool,
 ) -> Result<(), Refusal>
-    ensures { IfErr result (λ refusal. EndsPicture Global (string_bytes plan) (string_bytes file) refusal.fault) }
+    ensures err { IfErr result (λ refusal. EndsPicture Global (string_bytes plan) (string_bytes file) refusal.fault) }
+    ensures plain { IfErr result (λ refusal. is_explained ≡ false → refusal.said ≡ None) }
 {
     let path = kept_path(rt.alloc(), plan.as_str(), is_explained);
     let mut noted = Noted::new(rt.alloc());
@@ -77,28 +58,17 @@ fn draw_noted<H: AllocGlobal + Files>(
     put_picture(rt, file, &taken, &mut noted.cause, text.as_str())
 }
 
-/// The picture of the plan of a file, or of the part of it that is asked for, for standard output, whose path is `-`.
+/// Draws the plan of a file, or the part of it that is asked for, for standard output, whose path is `-`.
 ///
-/// Faults in this order: PLAN opened and read, its text; `File` of `-` where standard output goes into the file PLAN.
-pub fn picture_text<H: AllocGlobal + Files>(
-    rt: &H,
-    plan: String,
-    sketch: Option<PictureRequest>,
-) -> Result<String, Fault>
-    ensures { IfErr result (EndsPicture Global (string_bytes plan) (codes "-")) }
-{
-    let mut noted = Noted::new(rt.alloc());
-    text_noted(rt, plan, sketch, &mut noted)
-}
-
-/// The same, with what is told of a fault, where that is asked for.
+/// Faults in this order: PLAN opened and read, its text; `File` of `-` if standard output goes into the file PLAN.
 pub fn told_picture_text<H: AllocGlobal + Files>(
     rt: &H,
     plan: String,
     sketch: Option<PictureRequest>,
     is_explained: bool,
 ) -> Result<String, Refusal>
-    ensures { IfErr result (λ refusal. EndsPicture Global (string_bytes plan) (codes "-") refusal.fault) }
+    ensures err { IfErr result (λ refusal. EndsPicture Global (string_bytes plan) (codes "-") refusal.fault) }
+    ensures plain { IfErr result (λ refusal. is_explained ≡ false → refusal.said ≡ None) }
 {
     let path = kept_path(rt.alloc(), plan.as_str(), is_explained);
     let mut noted = Noted::new(rt.alloc());

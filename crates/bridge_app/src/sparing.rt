@@ -125,6 +125,9 @@ pub(crate) fn spare_files<H: AllocGlobal + Files>(
     ensures { IfErr result (λ f. IsOfShowing (option_map (λ s. string_bytes s.file) sketch.now) f
         ⊎ IsOfTables (option_map string_bytes tables.now.delays) (option_map string_bytes tables.now.frames) f) }
 {
+    if tables.delays.is_none() && tables.frames.is_none() && sketch.is_none() {
+        return Ok(());
+    }
     let Ok(files) = files_of_run(rt, accepted, input, output, taken) else {
         return Err(Fault::Run(RunFault::NoMemory));
     };

@@ -1,5 +1,5 @@
 //! Jobs over a plan of which more is told than their line: its warnings, which may be a fault, or what there is to say of a fault.
-ghost use Rattle.std.specs.Prelude.{◌≡◌, ◌⊎◌, ℕ, IfOk, IfErr, IfSome, List, None, codes, option_map, string_bytes, true};
+ghost use Rattle.std.specs.Prelude.{◌≡◌, ℕ, [], IfOk, IfErr, IfSome, List, None, false, option_map, string_bytes, true};
 ghost use Rattle.bridge_config.specs.Commands.{AreCommands};
 ghost use Rattle.bridge_jobs.specs.Accepting.{accepted_line};
 ghost use Rattle.bridge_jobs.specs.Jobs.{EndsCheck, PrintsAccepted};
@@ -7,6 +7,7 @@ ghost use Rattle.bridge_check_app.specs.Checked.{EndsChecked};
 ghost use Rattle.bridge_running.specs.Files.{PrintsRun};
 ghost use Rattle.bridge_app.specs.Files.{EndsTabled, EndsTold};
 ghost use Rattle.bridge_app.specs.Losing.{TellsLost};
+ghost use Rattle.bridge_app.specs.Notes.{AreNotes};
 
 use crate::explaining::{kept_path, kept_paths, refusal_of_run, said_of_plan, warned_of};
 use crate::job::send_told;
@@ -24,14 +25,14 @@ use bridge_running::{Noted, read_job};
 use std::alloc::Global;
 use std::rt::Files;
 
-/// What a job over a plan comes to for which a warning is a fault.
+/// The check of an accepted plan, as the program prints it.
 #[derive(Drop)]
-pub struct Strict {
-    /// What it prints, if it is done.
-    pub line: Option<String>,
-    /// What is told on standard error: the warnings of the plan, or all that is to be said of it.
-    pub told: String,
-    /// Whether there is a warning.
+pub struct CheckedPlan {
+    /// The line that counts the protected filters.
+    pub line: String,
+    /// Lines on standard error: a complete explanation if one is asked for, else the plan's warnings if a warning is a fault.
+    pub notes: String,
+    /// Whether the plan has a warning. It is looked for only if a warning is a fault or an explanation is asked for.
     pub is_warned: bool,
 }
 
@@ -66,67 +67,91 @@ impl StrictRun {
     }
 }
 
-/// What is told of a plan that is accepted, and whether there is a warning: with an explanation all that is to be said
-/// of it, otherwise the warnings alone. `idle` is the line of a change of schedules that changes nothing.
-fn told_of(
+/// Returns the lines on standard error about an accepted plan, and whether the plan has a warning: a complete explanation if one is
+/// asked for, else the warnings if a warning is a fault. Otherwise nothing is looked for. `idle` is the line of a schedule change that
+/// changes nothing.
+fn notes_of(
     alloc: Global,
     accepted: &Accepted<Global>,
     idle: Option<usize>,
+    is_strict: bool,
     is_explained: bool,
-) -> Result<(String, bool), NoMemory> {
+) -> Result<(String, bool), NoMemory>
+    ensures { IfOk result (λ notes. AreNotes is_strict is_explained (string_bytes notes.0) notes.1) }
+{
+    if !is_strict && !is_explained {
+        return Ok((String::new(alloc), false));
+    }
     let warnings = warnings_of(alloc, accepted, idle)?;
-    let is_warned = !warnings.is_empty();
+    let is_warned = !warnings.as_str().is_empty();
     if !is_explained {
         return Ok((warnings, is_warned));
     }
-    let told = warn_of_plan(alloc, accepted, idle)?;
-    Ok((told, is_warned))
+    let notes = warn_of_plan(alloc, accepted, idle)?;
+    Ok((notes, is_warned))
 }
 
-/// What the check of a plan comes to that is accepted.
-fn checked_strictly(
+/// Returns the line of a schedule change of the plan that changes nothing, by the plan's text. It is looked for only if a warning is a
+/// fault or an explanation is asked for.
+fn idle_line(
+    text: &[u8],
+    accepted: &Accepted<Global>,
+    is_strict: bool,
+    is_explained: bool,
+) -> Option<usize> {
+    if is_strict || is_explained {
+        idle_change(text, accepted.plan())
+    } else {
+        None
+    }
+}
+
+/// Returns the check of an accepted plan, as the program prints it.
+fn check_of_accepted(
     alloc: Global,
     accepted: &Accepted<Global>,
     text: &[u8],
+    is_strict: bool,
     is_explained: bool,
-) -> Result<Strict, NoMemory>
-    ensures { IfOk result (λ strict. IfSome strict.line (λ line.
-        string_bytes line ≡ accepted_line accepted.now.filters)) }
+) -> Result<CheckedPlan, NoMemory>
+    ensures line { IfOk result (λ checked. string_bytes checked.line ≡ accepted_line accepted.now.filters) }
+    ensures notes { IfOk result (λ checked. AreNotes is_strict is_explained (string_bytes checked.notes) checked.is_warned) }
 {
     let line = check_line(alloc, accepted)?;
-    let idle = idle_change(text, accepted.plan());
-    let (told, is_warned) = told_of(alloc, accepted, idle, is_explained)?;
-    Ok(Strict {
-        line: Some(line),
-        told,
+    let idle = idle_line(text, accepted, is_strict, is_explained);
+    let (notes, is_warned) = notes_of(alloc, accepted, idle, is_strict, is_explained)?;
+    Ok(CheckedPlan {
+        line,
+        notes,
         is_warned,
     })
 }
 
-/// What is printed and told for the plan of a file, or of standard input for `-`, as by `check_job`, with its warnings. All of it
-/// comes of one reading, so the file may be a pipe.
+/// Checks the plan at a path, or of standard input if the path is `-`. The plan is read once, so it may be a pipe.
 ///
-/// Faults in the order of `check_job`: the file opened and read, its text, the check of the plan.
+/// Faults in this order: the file opened and read, its text, the check of the plan.
 pub fn told_check_job<H: Input + AllocGlobal + Files>(
     rt: &H,
     plan: &str,
+    is_strict: bool,
     is_explained: bool,
-) -> Result<Strict, Refusal>
-    ensures ok { IfOk result (λ strict. IfSome strict.line (λ line. (text : List ℕ)
-        × PrintsAccepted Global text (string_bytes line))) }
+) -> Result<CheckedPlan, Refusal>
+    ensures ok { IfOk result (λ checked. (text : List ℕ) × PrintsAccepted Global text (string_bytes checked.line)) }
+    ensures notes { IfOk result (λ checked. AreNotes is_strict is_explained (string_bytes checked.notes) checked.is_warned) }
     ensures err { IfErr result (λ refusal. EndsChecked Global plan.now refusal.fault) }
+    ensures plain { IfErr result (λ refusal. is_explained ≡ false → refusal.said ≡ None) }
 {
     let mut cause = None;
     match plan_text(rt, plan, &mut cause) {
-        Ok(text) => match strict_check(rt.alloc(), plan, &text, is_explained) {
-            Ok(strict) => Ok(strict),
+        Ok(text) => match check_text(rt.alloc(), plan, &text, is_strict, is_explained) {
+            Ok(checked) => Ok(checked),
             Err(fault) => Err(refused(rt.alloc(), plan, &text, cause, fault, is_explained)),
         },
         Err(fault) => Err(refused(rt.alloc(), plan, &[], cause, fault, is_explained)),
     }
 }
 
-/// A fault of a check, with what is told of it, where that is asked for.
+/// Returns the failure of a check, with its explanation if one is asked for.
 fn refused(
     alloc: Global,
     path: &str,
@@ -135,7 +160,8 @@ fn refused(
     fault: Fault,
     is_explained: bool,
 ) -> Refusal
-    ensures { result.fault ≡ fault }
+    ensures fault { result.fault ≡ fault }
+    ensures plain { is_explained ≡ false → result.said ≡ None }
 {
     let said = if is_explained {
         said_of_plan(alloc, path, text, cause, &fault)
@@ -145,10 +171,16 @@ fn refused(
     Refusal { fault, said }
 }
 
-/// What is printed and told for the plan of a text, by the path of its file.
-fn strict_check(alloc: Global, path: &str, text: &[u8], is_explained: bool) -> Result<Strict, Fault>
-    ensures ok { IfOk result (λ strict. IfSome strict.line (λ line.
-        PrintsAccepted Global text.now (string_bytes line))) }
+/// Checks the plan of a text, by the path of its file.
+fn check_text(
+    alloc: Global,
+    path: &str,
+    text: &[u8],
+    is_strict: bool,
+    is_explained: bool,
+) -> Result<CheckedPlan, Fault>
+    ensures ok { IfOk result (λ checked. PrintsAccepted Global text.now (string_bytes checked.line)) }
+    ensures notes { IfOk result (λ checked. AreNotes is_strict is_explained (string_bytes checked.notes) checked.is_warned) }
     ensures err { IfErr result (EndsCheck Global path.now text.now) }
 {
     let Ok(path) = String::from_str(alloc, path) else {
@@ -158,55 +190,21 @@ fn strict_check(alloc: Global, path: &str, text: &[u8], is_explained: bool) -> R
         Ok(accepted) => accepted,
         Err(fault) => return Err(fault),
     };
-    let checked = checked_strictly(alloc, &accepted, text, is_explained);
+    let checked = check_of_accepted(alloc, &accepted, text, is_strict, is_explained);
     drop(accepted);
     match checked {
-        Ok(strict) => Ok(strict),
+        Ok(checked) => Ok(checked),
         Err(NoMemory) => Err(Fault::Run(RunFault::NoMemory)),
     }
 }
 
-/// What a run under the plan of a file comes to, as by `run_with_tables`, where there is no warning of the plan; where there
-/// is one nothing is run, and no file is opened but those of the plan and of the commands.
+/// Runs captures through the bridge of a plan, and writes the tables and the picture that are asked for. If a warning is a fault and the
+/// plan has one, nothing runs, and no file is opened except the plan's and the commands'.
 ///
-/// Faults in the order of `run_with_tables`.
-pub fn strict_run_job<H: AllocGlobal + Files>(
-    rt: &H,
-    plan: String,
-    input: String,
-    output: String,
-    commands: Option<String>,
-    tables: TableRequest,
-    sketch: Option<PictureRequest>,
-    is_explained: bool,
-) -> Result<StrictRun, Fault>
-    ensures ok { IfOk result (λ strict. IfSome strict.line (λ line. PrintsRun Global (string_bytes line))) }
-    ensures warned { IfOk result (λ strict. strict.is_warned ≡ true → strict.line ≡ None) }
-    ensures lost { IfOk result (λ strict. IfSome strict.line (λ line. TellsLost Global true (string_bytes line)
-        (string_bytes strict.lost) strict.is_lossy)) }
-    ensures err { IfErr result (EndsTold Global (string_bytes plan) (option_map string_bytes commands)
-        (string_bytes input) (string_bytes output) (option_map string_bytes tables.delays)
-        (option_map string_bytes tables.frames) (option_map (λ s. string_bytes s.file) sketch)) }
-{
-    match judge_run_job(
-        rt,
-        plan,
-        input,
-        output,
-        commands,
-        tables,
-        sketch,
-        true,
-        is_explained,
-    ) {
-        Ok(strict) => Ok(strict),
-        Err(refusal) => Err(refusal.fault),
-    }
-}
-
-/// What a run under the plan of a file comes to: as by `strict_run_job` where a warning is a fault, else as by `run_with_tables`,
-/// with what there is to say of the plan and of the folder that is read. What is told of it, or of its fault, comes of the one
-/// reading of the plan and of the commands, which may be pipes.
+/// An explanation comes of the one reading of the plan and of the commands, so both may be pipes.
+///
+/// Faults in this order: PLAN opened and read, its text; the commands opened and read, their text; the check of the plan; each capture
+/// of IN opened by rising port; the outputs opened or made; the run; the report, the table of delays, that of frames, and the picture.
 pub fn judge_run_job<H: AllocGlobal + Files>(
     rt: &H,
     plan: String,
@@ -220,11 +218,15 @@ pub fn judge_run_job<H: AllocGlobal + Files>(
 ) -> Result<StrictRun, Refusal>
     ensures ok { IfOk result (λ strict. IfSome strict.line (λ line. PrintsRun Global (string_bytes line))) }
     ensures warned { IfOk result (λ strict. strict.is_warned ≡ true → strict.line ≡ None) }
+    ensures left { IfOk result (λ strict. strict.line ≡ None → (strict.is_warned ≡ true) × (is_strict ≡ true)) }
+    ensures none { IfOk result (λ strict. strict.line ≡ None → string_bytes strict.lost ≡ []) }
+    ensures notes { IfOk result (λ strict. AreNotes is_strict is_explained (string_bytes strict.told) strict.is_warned) }
     ensures lost { IfOk result (λ strict. IfSome strict.line (λ line. TellsLost Global is_strict (string_bytes line)
         (string_bytes strict.lost) strict.is_lossy)) }
     ensures err { IfErr result (λ refusal. EndsTold Global (string_bytes plan) (option_map string_bytes commands)
         (string_bytes input) (string_bytes output) (option_map string_bytes tables.delays)
         (option_map string_bytes tables.frames) (option_map (λ s. string_bytes s.file) sketch) refusal.fault) }
+    ensures plain { IfErr result (λ refusal. is_explained ≡ false → refusal.said ≡ None) }
 {
     let paths = kept_paths(
         rt.alloc(),
@@ -273,6 +275,9 @@ fn run_noted<H: AllocGlobal + Files>(
 ) -> Result<StrictRun, Fault>
     ensures ok { IfOk result (λ strict. IfSome strict.line (λ line. PrintsRun Global (string_bytes line))) }
     ensures warned { IfOk result (λ strict. strict.is_warned ≡ true → strict.line ≡ None) }
+    ensures left { IfOk result (λ strict. strict.line ≡ None → (strict.is_warned ≡ true) × (wishes.is_strict ≡ true)) }
+    ensures none { IfOk result (λ strict. strict.line ≡ None → string_bytes strict.lost ≡ []) }
+    ensures notes { IfOk result (λ strict. AreNotes wishes.is_strict wishes.is_explained (string_bytes strict.told) strict.is_warned) }
     ensures lost { IfOk result (λ strict. IfSome strict.line (λ line. TellsLost Global wishes.is_strict (string_bytes line)
         (string_bytes strict.lost) strict.is_lossy)) }
     ensures err { IfErr result (EndsTold Global (string_bytes plan) (option_map string_bytes commands)
@@ -285,7 +290,12 @@ fn run_noted<H: AllocGlobal + Files>(
         Err(fault) => return Err(fault),
     };
     let wishes = Wishes {
-        idle: idle_change(&noted.plan, accepted.plan()),
+        idle: idle_line(
+            &noted.plan,
+            &accepted,
+            wishes.is_strict,
+            wishes.is_explained,
+        ),
         ..wishes
     };
     noted.plan = Vec::new(rt.alloc());
@@ -322,6 +332,9 @@ fn send_by<H: AllocGlobal + Files>(
     requires commands { AreCommands accepted.now orders.now }
     ensures ok { IfOk result (λ strict. IfSome strict.line (λ line. PrintsRun Global (string_bytes line))) }
     ensures warned { IfOk result (λ strict. strict.is_warned ≡ true → strict.line ≡ None) }
+    ensures left { IfOk result (λ strict. strict.line ≡ None → (strict.is_warned ≡ true) × (wishes.is_strict ≡ true)) }
+    ensures none { IfOk result (λ strict. strict.line ≡ None → string_bytes strict.lost ≡ []) }
+    ensures notes { IfOk result (λ strict. AreNotes wishes.is_strict wishes.is_explained (string_bytes strict.told) strict.is_warned) }
     ensures lost { IfOk result (λ strict. IfSome strict.line (λ line. TellsLost Global wishes.is_strict (string_bytes line)
         (string_bytes strict.lost) strict.is_lossy)) }
     ensures err { IfErr result (EndsTabled accepted.now (string_bytes input) (string_bytes output)
@@ -368,7 +381,9 @@ fn told_behind(
     folder: &Option<String>,
     idle: Option<usize>,
     last: Option<Last>,
-) -> String {
+) -> String
+    ensures { folder.now ≡ None → string_bytes result ≡ [] }
+{
     let told = match folder {
         Some(folder) => warned_of(rt, accepted, orders, folder.as_str(), idle, last),
         None => None,
@@ -396,13 +411,17 @@ fn send_strictly<H: AllocGlobal + Files>(
     requires commands { AreCommands accepted.now orders.now }
     ensures ok { IfOk result (λ strict. IfSome strict.line (λ line. PrintsRun Global (string_bytes line))) }
     ensures warned { IfOk result (λ strict. strict.is_warned ≡ true → strict.line ≡ None) }
+    ensures left { IfOk result (λ strict. strict.line ≡ None → strict.is_warned ≡ true) }
+    ensures none { IfOk result (λ strict. strict.line ≡ None → string_bytes strict.lost ≡ []) }
+    ensures notes { IfOk result (λ strict. AreNotes true wishes.is_explained (string_bytes strict.told) strict.is_warned) }
     ensures lost { IfOk result (λ strict. IfSome strict.line (λ line. TellsLost Global true (string_bytes line)
         (string_bytes strict.lost) strict.is_lossy)) }
     ensures err { IfErr result (EndsTabled accepted.now (string_bytes input) (string_bytes output)
         (option_map string_bytes tables.delays) (option_map string_bytes tables.frames)
         (option_map (λ s. string_bytes s.file) sketch)) }
 {
-    let Ok((told, is_warned)) = told_of(rt.alloc(), accepted, wishes.idle, wishes.is_explained)
+    let Ok((told, is_warned)) =
+        notes_of(rt.alloc(), accepted, wishes.idle, true, wishes.is_explained)
     else {
         return Err(Fault::Run(RunFault::NoMemory));
     };

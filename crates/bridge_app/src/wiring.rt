@@ -1,5 +1,5 @@
 //! The job of `wire`, with what is told of its fault.
-ghost use Rattle.std.specs.Prelude.{◌≤◌, IfErr, IfOk, string_bytes};
+ghost use Rattle.std.specs.Prelude.{◌≡◌, ◌≤◌, IfErr, IfOk, None, false, string_bytes};
 ghost use Rattle.bridge_wiring.specs.Files.{EndsWiring, SaysCounts};
 
 use crate::explaining::{kept_path, refusal_of_wire};
@@ -10,7 +10,8 @@ use bridge_port::LARGEST_ROOM;
 use bridge_wiring::wire_noted;
 use std::rt::Files;
 
-/// The job of `wire_files`, with what is told of a fault, where that is asked for.
+/// Sends one capture through one queue of 1 to 4096 frames, from a file or standard input into another file or standard output. A
+/// failure has its explanation if one is asked for.
 pub fn told_wire_job<H: Input + AllocGlobal + Print + Files>(
     rt: &H,
     speed: Speed,
@@ -22,6 +23,7 @@ pub fn told_wire_job<H: Input + AllocGlobal + Print + Files>(
     requires room { (1 ≤ room) × (room ≤ LARGEST_ROOM) }
     ensures ok { IfOk result (SaysCounts (string_bytes output)) }
     ensures err { IfErr result (λ refusal. EndsWiring (string_bytes input) (string_bytes output) refusal.fault) }
+    ensures plain { IfErr result (λ refusal. is_explained ≡ false → refusal.said ≡ None) }
 {
     let read = kept_path(rt.alloc(), input.as_str(), is_explained);
     let written = kept_path(rt.alloc(), output.as_str(), is_explained);

@@ -1,13 +1,10 @@
 #![tactic(auto)]
-//! The check of a plan that says no more than its line: on standard output, on standard error, and by a status. All else that is
-//! asked is left, so no crate of frames that come and leave is below this one.
+//! What the program prints, and its exit status: the output of a command that is done, and of a failure. Every command uses this crate.
 
-mod asking;
-mod checking;
-mod ending;
+mod output;
+mod plan_text;
 mod telling;
 
-pub use asking::{Asked, Done, asked_of, ended_of};
-pub use checking::{check_file, lined, plan_text, wants_more};
-pub use ending::{Ending, helped, of_said, printed, refused_and_told};
+pub use output::{Output, print_text, report_fault};
+pub use plan_text::plan_text;
 pub use telling::tell;

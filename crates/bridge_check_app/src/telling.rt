@@ -1,20 +1,21 @@
-//! What is said of a job on standard error, and its status.
+//! The end of the program: standard error and the exit status.
 ghost use Rattle.std.specs.Prelude.{◌≡◌, IfErr, IfOk};
 ghost use Rattle.std.specs.Process.{exit_status};
 
-use crate::ending::Ending;
+use crate::output::Output;
 use bridge_jobs::NoMemory;
 use std::process::ExitCode;
 
-/// Tells what is to be told of a job on standard error, and gives its status.
-pub fn tell(rt: &impl Eprint, ending: Result<Ending, NoMemory>) -> ExitCode
-    ensures status { IfOk ending (λ said. exit_status result ≡ said.status) }
-    ensures memory { IfErr ending (λ _. exit_status result ≡ 3) }
+/// Prints the text for standard error, and returns the exit status. If memory ran out for the output, the line is `no memory` and the
+/// status 3.
+pub fn tell(rt: &impl Eprint, output: Result<Output, NoMemory>) -> ExitCode
+    ensures status { IfOk output (λ o. exit_status result ≡ o.status) }
+    ensures memory { IfErr output (λ _. exit_status result ≡ 3) }
 {
-    match ending {
-        Ok(ending) => {
-            let _ = rt.eprint(ending.told.as_str());
-            ExitCode::from(ending.status)
+    match output {
+        Ok(output) => {
+            let _ = rt.eprint(output.stderr.as_str());
+            ExitCode::from(output.status)
         }
         Err(NoMemory) => {
             let _ = eprintln!(rt; "no memory");

@@ -11,3 +11,4 @@ pub mod Ended
 pub mod Rows
 pub mod Unchanged
 pub mod Losses
+pub mod Warned

@@ -10,6 +10,7 @@ use Rattle.bridge_network.specs.Wiring.{Parts}
 use Rattle.bridge_planning.specs.Naming.{name_at}
 use Rattle.bridge_planning.specs.Networks.{IsMadeOf}
 use Rattle.bridge_planning.specs.Talkers.{first_misfit}
+use Rattle.bridge_planning.specs.Warnings.{AreWarnings}
 use Rattle.bridge_rounds.specs.declared.settling.Settled.{Settled}
 use Rattle.bridge_rounds.specs.declared.station.Incoming.{Incoming}
 use Rattle.bridge_rounds.specs.Rounds.{SettlesIn}
@@ -85,3 +86,17 @@ abbrev pub PrintsRunLosses : (A : Type 0) → Bool → List ℕ → ℕ → List
 PrintsRunLosses A strict line rounds told =
     (f : file.Network) × (plans : List (Plan A)) × (n : Parts A) × IsMadeOf f plans n × (first_fault n ≡ None) × (first_misfit n.plans 1 f.streams ≡ None)
     × TellsRunLosses n f strict line rounds told
+
+-- Holds if `text` has the warnings of `net check` on a network if a warning is a fault, else nothing.
+abbrev pub AreWarningsIf : {A : Type 0} → Bool → file.Network → Parts A → List ℕ → Type 0
+AreWarningsIf true f n text = AreWarnings f n text
+AreWarningsIf false f n text = text ≡ []
+
+-- Holds if `text` has the warnings of `net check` on a network, and there is one.
+abbrev pub TellsWarnings : {A : Type 0} → Parts A → file.Network → List ℕ → Type 0
+TellsWarnings n f text = AreWarnings f n text × (has_lines text ≡ true)
+
+-- Holds if `text` has the warnings of some accepted network, and there is one.
+abbrev pub PrintsWarnings : (A : Type 0) → List ℕ → Type 0
+PrintsWarnings A text =
+    (f : file.Network) × (plans : List (Plan A)) × (n : Parts A) × IsMadeOf f plans n × (first_fault n ≡ None) × (first_misfit n.plans 1 f.streams ≡ None) × TellsWarnings n f text

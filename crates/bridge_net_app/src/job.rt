@@ -1,6 +1,6 @@
 //! The job of a run of a network over folders.
 ghost use Rattle.std.specs.Prelude.{◌≡◌, ◌≤◌, IfOk, IfErr, IfSome, None, Some, false, true, length, string_bytes};
-ghost use Rattle.bridge_net_app.specs.Losing.{AreToldLines, PrintsRunLosses, TellsRunLosses, has_lines};
+ghost use Rattle.bridge_net_app.specs.Losing.{AreToldLines, AreWarningsIf, PrintsRunLosses, PrintsWarnings, TellsRunLosses, TellsWarnings, has_lines};
 ghost use Rattle.bridge_net_app.specs.InTime.{HaveViews};
 ghost use Rattle.bridge_net_app.specs.Folders.{EndsFiles, EndsRounds, EndsRun, IsAccepted, IsLine, IsMostRounds, PrintsRounds, PrintsRoundsIn, TellsRun, TellsRunIn, network_words, rounds_line};
 
@@ -324,6 +324,7 @@ fn warnings_if(
     is_strict: bool,
 ) -> Result<String, NoMemory>
     requires few { length network.now.plans ≤ 64 }
+    ensures { IfOk result (λ text. AreWarningsIf is_strict file.now network.now (string_bytes text)) }
 {
     if !is_strict {
         return Ok(String::new(alloc));
@@ -348,6 +349,7 @@ fn run_accepted<H: AllocGlobal + Eprint + Files>(
     ensures told { IfOk result (λ said. IfSome said.line (λ line. TellsRunLosses network.now file.now job.is_strict (string_bytes line) said.rounds (string_bytes said.told))) }
     ensures lossy { IfOk result (λ said. IfSome said.line (λ _. said.is_lossy ≡ has_lines (string_bytes said.told))) }
     ensures warned { IfOk result (λ said. said.is_warned ≡ true → said.line ≡ None) }
+    ensures idle { IfOk result (λ said. said.line ≡ None → (said.is_warned ≡ true) × ((job.is_strict ≡ true) × TellsWarnings network.now file.now (string_bytes said.told))) }
     ensures err { IfErr result (EndsRun network.now file.now.bridges) }
 {
     let RoundsJob {
@@ -361,7 +363,7 @@ fn run_accepted<H: AllocGlobal + Eprint + Files>(
     let Ok(warnings) = warnings_if(rt.alloc(), file, network, is_strict) else {
         return Err(memory_fault());
     };
-    if !warnings.is_empty() {
+    if !warnings.as_str().is_empty() {
         return Ok(RoundsSaid {
             line: None,
             told: warnings,
@@ -444,22 +446,7 @@ pub struct RoundsJob {
 ///
 /// Faults in this order: those of `network_job`; what comes to each bridge; the folders and files that are written; the run,
 /// `Rounds` of a capture, or where frames may go round and something still changes after 64 rounds; then the writing. What the outputs hold stays until
-/// the run is done.
-pub fn rounds_job<H: AllocGlobal + Eprint + Files>(
-    rt: &H,
-    job: RoundsJob,
-) -> Result<RoundsSaid, Fault>
-    ensures ok { IfOk result (λ said. IfSome said.line (λ line. PrintsRounds Global (string_bytes line))) }
-    ensures rounds { IfOk result (λ said. IfSome said.line (λ line. PrintsRoundsIn Global (string_bytes line) said.rounds)) }
-    ensures told { IfOk result (λ said. IfSome said.line (λ line. PrintsRunLosses Global job.is_strict (string_bytes line) said.rounds (string_bytes said.told))) }
-    ensures lossy { IfOk result (λ said. IfSome said.line (λ _. said.is_lossy ≡ has_lines (string_bytes said.told))) }
-    ensures warned { IfOk result (λ said. said.is_warned ≡ true → said.line ≡ None) }
-    ensures err { IfErr result (EndsRounds Global (string_bytes job.network)) }
-{
-    rounds_noted(rt, job, &mut None)
-}
-
-/// The same, and the cause of a file that fails is noted, but for those of the network and of its plans.
+/// the run is done. The cause of a file that fails is noted, except for the network's and its plans'.
 pub fn rounds_noted<H: AllocGlobal + Eprint + Files>(
     rt: &H,
     job: RoundsJob,
@@ -470,6 +457,7 @@ pub fn rounds_noted<H: AllocGlobal + Eprint + Files>(
     ensures told { IfOk result (λ said. IfSome said.line (λ line. PrintsRunLosses Global job.is_strict (string_bytes line) said.rounds (string_bytes said.told))) }
     ensures lossy { IfOk result (λ said. IfSome said.line (λ _. said.is_lossy ≡ has_lines (string_bytes said.told))) }
     ensures warned { IfOk result (λ said. said.is_warned ≡ true → said.line ≡ None) }
+    ensures idle { IfOk result (λ said. said.line ≡ None → (said.is_warned ≡ true) × ((job.is_strict ≡ true) × PrintsWarnings Global (string_bytes said.told))) }
     ensures err { IfErr result (EndsRounds Global (string_bytes job.network)) }
 {
     let alloc = rt.alloc();

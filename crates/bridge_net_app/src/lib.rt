@@ -14,5 +14,5 @@ mod tables;
 mod watching;
 mod writing;
 
-pub use job::{RoundsJob, RoundsSaid, rounds_job, rounds_noted};
+pub use job::{RoundsJob, RoundsSaid, rounds_noted};
 pub use refusing::explain_stopped;

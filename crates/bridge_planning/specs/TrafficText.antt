@@ -119,3 +119,29 @@ EndsRows p file words f =
 -- Holds if the fault `f` ends the job: it is a fault of the plan, or the plan is accepted and it is a fault of the traffic file.
 abbrev pub EndsTraffic : (A : Type 0) → List ℕ → List ℕ → List ℕ → List ℕ → Fault → Type 0
 EndsTraffic A path input file words f = EndsCheck A path input f ⊎ ((plan : Plan A) × Accepts input plan × EndsRows plan file words f)
+
+-- THE TEXTS THAT WERE READ
+
+-- Holds if `lines` and `kept` are those of the plan of the text `input` and of the traffic of the text `words`, which was read whole.
+pub record PrintsRows (A : Type 0) (input words lines : List ℕ) (kept : Bool) : Type 0 where
+  pub plan : Plan A
+  pub accepts : Accepts input plan
+  pub rows : List TrafficRow
+  pub reads : rows_of_text words ≡ Ok rows
+  pub are_lines : AreLinesOfTraffic plan rows lines kept
+
+-- Holds if the fault `f` says why the traffic of the text `words` gives no rows, or memory ran out.
+abbrev pub RefusesWords : List ℕ → Fault → Type 0
+RefusesWords words f = (f ≡ fault.Run run.NoMemory) ⊎ ((e : NetFault) × (rows_of_text words ≡ Err e) × IsSaid (text.Text e) f)
+
+-- Holds if the fault `f` ends the job over an accepted plan: the traffic file can't be read, its text `words` is refused, or its rows
+-- are refused by the plan.
+abbrev pub EndsWords : {A : Type 0} → Plan A → List ℕ → List ℕ → Fault → Type 0
+EndsWords p file words f =
+    IsOfFile file f
+    ⊎ (RefusesWords words f
+    ⊎ ((rows : List TrafficRow) × (rows_of_text words ≡ Ok rows) × RefusesTimings p rows f))
+
+-- Holds if the fault `f` ends the job: it is a fault of the plan, or the plan is accepted and it is a fault of the traffic file.
+abbrev pub EndsTexts : (A : Type 0) → List ℕ → List ℕ → List ℕ → List ℕ → Fault → Type 0
+EndsTexts A path input file words f = EndsCheck A path input f ⊎ ((plan : Plan A) × Accepts input plan × EndsWords plan file words f)

@@ -1,9 +1,10 @@
 //! The job over a plan and the traffic that its talkers send.
-ghost use Rattle.std.specs.Prelude.{◌≡◌, ◌⊎◌, ◌≤◌, All, IfErr, IfOk, List, Some, length, string_bytes, take, ℕ, None};
+ghost use Rattle.std.specs.Prelude.{◌≡◌, ◌⊎◌, ◌≤◌, All, IfErr, IfOk, List, Ok, Some, length, string_bytes, take, ℕ, None};
 ghost use Rattle.bridge_jobs.specs.Reading.{IsOfFile};
 ghost use Rattle.bridge_traffic.specs.Rows.{IsRow};
 ghost use Rattle.bridge_planning.specs.Traffic.{first_fault_from};
-ghost use Rattle.bridge_planning.specs.TrafficText.{AreLinesOfTraffic, EndsTraffic, IsSaid, PrintsTraffic, ReadsRows, RefusesRows, RefusesTimings};
+ghost use Rattle.bridge_traffic.specs.Document.{rows_of_text};
+ghost use Rattle.bridge_planning.specs.TrafficText.{AreLinesOfTraffic, EndsTexts, EndsTraffic, IsSaid, PrintsRows, PrintsTraffic, ReadsRows, RefusesRows, RefusesTimings, RefusesWords};
 
 use crate::printing::lines_of;
 use crate::timings::{are_kept, timings_of, timings_text};
@@ -49,6 +50,8 @@ fn rows_in<A: Allocator + Copy>(
     ensures rows { IfOk result (λ rows. All IsRow rows.items) }
     ensures few { IfOk result (λ rows. length rows.items ≤ 1024) }
     ensures err { (words : List ℕ) → text.now ≡ take 1048577 words → IfErr result (RefusesRows words) }
+    ensures read { IfOk result (λ rows. rows_of_text text.now ≡ Ok rows.items) }
+    ensures refused { IfErr result (RefusesWords text.now) }
 {
     match traffic_of(alloc, heap, text) {
         Ok(rows) => Ok(rows),
@@ -69,6 +72,8 @@ pub(crate) fn rows_from<R: Read + Drop, A: Allocator + Copy>(
     ensures few { IfOk result (λ rows. length rows.items ≤ 1024) }
     ensures err { (words : List ℕ) → R.remaining reader ≡ Some words
         → IfErr result (λ f. IsOfFile (string_bytes path) f ⊎ RefusesRows words f) }
+    ensures read { IfOk result (λ rows. (words : List ℕ) × (rows_of_text words ≡ Ok rows.items)) }
+    ensures refused { IfErr result (λ f. IsOfFile (string_bytes path) f ⊎ ((words : List ℕ) × RefusesWords words f)) }
 {
     match read_at_most(heap, reader, MOST_TEXT) {
         Ok(text) => rows_in(alloc, heap, &text),
@@ -139,6 +144,10 @@ pub fn traffic_job<R: Read + Drop, S: Read + Drop, A: Allocator + Copy>(
         → IfOk result (λ r. PrintsTraffic A input words (string_bytes r.text) r.kept) }
     ensures err { (input words : List ℕ) → R.remaining reader ≡ Some input → S.remaining traffic ≡ Some words
         → IfErr result (EndsTraffic A (string_bytes path) input (string_bytes file) words) }
+    ensures read { (input : List ℕ) → R.remaining reader ≡ Some input
+        → IfOk result (λ r. (words : List ℕ) × PrintsRows A input words (string_bytes r.text) r.kept) }
+    ensures refused { (input : List ℕ) → R.remaining reader ≡ Some input
+        → IfErr result (λ f. (words : List ℕ) × EndsTexts A (string_bytes path) input (string_bytes file) words f) }
 {
     let accepted = match planned(alloc, heap, path, reader) {
         Ok(accepted) => accepted,

@@ -1,8 +1,10 @@
 #![tactic(auto)]
-//! What the program does, from its words to what it says: on standard output, on standard error, and by its status.
+//! The program: from its words to what it prints and to its exit status.
 
-mod performing;
+mod bounds;
+mod networks;
+mod program;
 mod refusing;
 
-pub use bridge_single::{Ending, refused};
-pub use performing::perform;
+pub use bridge_check_app::Output;
+pub use program::perform;

@@ -1,4 +1,5 @@
-//! Faults of jobs over bounds and networks, with what is told of them where the words ask for more.
+//! Failures of bounds and of networks, each with its explanation if the words ask for one.
+ghost use Rattle.std.specs.Prelude.{◌≡◌, None, false};
 
 use bridge_app::{Refusal, said_of_file, said_of_plan, said_of_syntax, said_of_unread};
 use bridge_jobs::{Cause, Fault};
@@ -15,7 +16,10 @@ pub(crate) fn of_traffic(
     traffic: &str,
     wishes: Wishes,
     fault: Fault,
-) -> Refusal {
+) -> Refusal
+    ensures fault { result.fault ≡ fault }
+    ensures plain { wishes.is_explained ≡ false → result.said ≡ None }
+{
     if !wishes.is_explained {
         return unexplained(fault);
     }
@@ -37,7 +41,10 @@ pub(crate) fn of_network(
     cause: Option<Cause>,
     wishes: Wishes,
     fault: Fault,
-) -> Refusal {
+) -> Refusal
+    ensures fault { result.fault ≡ fault }
+    ensures plain { wishes.is_explained ≡ false → result.said ≡ None }
+{
     if !wishes.is_explained {
         return unexplained(fault);
     }

@@ -1,11 +1,11 @@
 //! The job of a run over a folder of captures.
 ghost use Rattle.std.specs.Prelude.{◌≡◌, IfOk, IfErr, length, option_map, string_bytes};
 ghost use Rattle.bridge_config.specs.Commands.{AreCommands};
-ghost use Rattle.bridge_running.specs.Files.{EndsReading, EndsRun, EndsSending, IsAcceptedPlan, IsOfOutputs, IsOfReport, PrintsRun};
+ghost use Rattle.bridge_running.specs.Files.{EndsReading, EndsSending, IsAcceptedPlan, IsOfOutputs, IsOfReport};
 
 use crate::noting::Noted;
 use crate::running::run_over;
-use crate::sparing::{take_outputs, take_standard};
+use crate::sparing::take_outputs;
 use bridge_check::Accepted;
 use bridge_config::Command;
 use bridge_files::{
@@ -14,71 +14,12 @@ use bridge_files::{
 };
 use bridge_inputs::RunFault;
 use bridge_jobs::{Cause, Fault, commanded, fault_of_file, plan_from};
-use bridge_report::{ReportFault, summary, write_report};
+use bridge_report::{ReportFault, write_report};
 use bridge_semantics::Outcome;
 use std::alloc::Global;
 use std::fs::OpenFile;
 use std::io::Write;
 use std::rt::Files;
-
-/// What is printed for a run under the plan of a file: the captures of a folder go through the bridge with the commands of
-/// another file, if there is one, what left each port is written into another folder, which is there already, and the
-/// report of all filters beside it.
-///
-/// Faults in this order: PLAN opened and read, its text; the commands opened and read, their text; the check of the plan;
-/// each capture of IN opened by rising port; `File` of OUT where it is the folder IN; each capture of OUT opened or made by
-/// rising port, then the report, `File` of one that is a file that is read, an output before it, or the file into which
-/// standard output goes; the run; the report made and written. What the outputs hold stays until they are written.
-pub fn run_job<H: AllocGlobal + Files>(
-    rt: &H,
-    plan: String,
-    input: String,
-    output: String,
-    commands: Option<String>,
-) -> Result<String, Fault>
-    ensures ok { IfOk result (λ line. PrintsRun Global (string_bytes line)) }
-    ensures err { IfErr result (EndsRun Global (string_bytes plan) (option_map string_bytes commands)
-        (string_bytes input) (string_bytes output)) }
-{
-    let mut taken = Vec::new(rt.alloc());
-    let mut noted = Noted::new(rt.alloc());
-    let (accepted, orders) = match read_job(rt, plan, commands, &mut taken, &mut noted) {
-        Ok(read) => read,
-        Err(fault) => return Err(fault),
-    };
-    let line = sum_up(rt, &accepted, &orders, input.as_str(), output, taken);
-    drop(accepted);
-    line
-}
-
-/// What is printed for a run under an accepted plan from one folder into another. No output is one of the files that are taken.
-fn sum_up<H: AllocGlobal + Files>(
-    rt: &H,
-    accepted: &Accepted<Global>,
-    orders: &[Command],
-    input: &str,
-    output: String,
-    taken: Vec<FileId>,
-) -> Result<String, Fault>
-    requires commands { AreCommands accepted.now orders.now }
-    ensures ok { IfOk result (λ line. PrintsRun Global (string_bytes line)) }
-    ensures err { IfErr result (EndsSending accepted.now input.now (string_bytes output)) }
-{
-    let mut taken = taken;
-    if take_standard(rt, &mut taken).is_err() {
-        return Err(Fault::Run(RunFault::NoMemory));
-    }
-    let outcome = match send(rt, accepted, orders, input, output, &mut taken, &mut None) {
-        Ok(outcome) => outcome,
-        Err(fault) => return Err(fault),
-    };
-    let line = summary(rt.alloc(), &outcome);
-    drop(outcome);
-    match line {
-        Ok(line) => Ok(line),
-        Err(_) => Err(Fault::Run(RunFault::NoMemory)),
-    }
-}
 
 /// What a run under an accepted plan from one folder into another tells, once its report is written. No output is one of the
 /// files that are taken, and each is one of them then. The cause of a file that fails is noted.

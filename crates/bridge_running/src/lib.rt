@@ -8,7 +8,7 @@ mod running;
 mod sparing;
 mod transfer;
 
-pub use job::{read_job, run_job, send};
+pub use job::{read_job, send};
 pub use noting::Noted;
 pub use running::{Halted, run_over};
 pub use sparing::{regular_at, take_standard};

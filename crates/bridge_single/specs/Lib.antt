@@ -1,3 +1,1 @@
-pub mod Left
-pub mod Said
-pub mod Examples
+pub mod Outputs

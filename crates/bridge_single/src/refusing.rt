@@ -1,17 +1,28 @@
-//! Faults of jobs, with what is told of them where the words ask for more.
+//! Failures of commands, each with its explanation if the words ask for one.
+ghost use Rattle.std.specs.Prelude.{◌≡◌, IfOk, None, false, map, string_bytes};
+ghost use Rattle.bridge_cli.specs.Helping.{explains};
+ghost use Rattle.bridge_check_app.specs.Outputs.{Reports};
 
-use crate::performing::Wishes;
+use crate::wishes::Wishes;
 use bridge_app::{Refusal, said_of_file, said_of_plan, said_of_words};
-use bridge_jobs::{Cause, Fault};
+use bridge_check_app::{Output, report_fault};
+use bridge_cli::wants_explanation;
+use bridge_jobs::{Cause, Fault, NoMemory};
 use std::alloc::Global;
 
-/// A fault of which no more is told.
-pub fn unexplained(fault: Fault) -> Refusal {
+/// Returns a failure without an explanation.
+pub fn unexplained(fault: Fault) -> Refusal
+    ensures fault { result.fault ≡ fault }
+    ensures plain { result.said ≡ None }
+{
     Refusal { fault, said: None }
 }
 
-/// A fault of words, or of standard input.
-pub fn of_words(alloc: Global, words: &[String], is_explained: bool, fault: Fault) -> Refusal {
+/// Returns the failure of words, or of standard input or output.
+pub fn of_words(alloc: Global, words: &[String], is_explained: bool, fault: Fault) -> Refusal
+    ensures fault { result.fault ≡ fault }
+    ensures plain { is_explained ≡ false → result.said ≡ None }
+{
     if !is_explained {
         return unexplained(fault);
     }
@@ -19,8 +30,11 @@ pub fn of_words(alloc: Global, words: &[String], is_explained: bool, fault: Faul
     Refusal { fault, said }
 }
 
-/// A fault of a file, by its cause.
-pub fn of_file(alloc: Global, cause: Option<Cause>, wishes: Wishes, fault: Fault) -> Refusal {
+/// Returns the failure of a file, by its cause.
+pub fn of_file(alloc: Global, cause: Option<Cause>, wishes: Wishes, fault: Fault) -> Refusal
+    ensures fault { result.fault ≡ fault }
+    ensures plain { wishes.is_explained ≡ false → result.said ≡ None }
+{
     if !wishes.is_explained {
         return unexplained(fault);
     }
@@ -28,11 +42,30 @@ pub fn of_file(alloc: Global, cause: Option<Cause>, wishes: Wishes, fault: Fault
     Refusal { fault, said }
 }
 
-/// A fault of a plan, by the path of its file and its text.
-pub fn of_plan(alloc: Global, path: &str, text: &[u8], wishes: Wishes, fault: Fault) -> Refusal {
+/// Returns the failure of a plan, by the path of its file and its text.
+pub fn of_plan(alloc: Global, path: &str, text: &[u8], wishes: Wishes, fault: Fault) -> Refusal
+    ensures fault { result.fault ≡ fault }
+    ensures plain { wishes.is_explained ≡ false → result.said ≡ None }
+{
     if !wishes.is_explained {
         return unexplained(fault);
     }
     let said = said_of_plan(alloc, path, text, None, &fault);
     Refusal { fault, said }
+}
+
+/// Returns the output of words that are refused, or whose output can't be printed.
+pub fn report_words(
+    alloc: Global,
+    words: &[String],
+    fault: &Fault,
+) -> Result<Output, NoMemory>
+    ensures { IfOk result (Reports (explains (map string_bytes words.now)) fault.now) }
+{
+    let said = if wants_explanation(words) {
+        said_of_words(alloc, words, fault)
+    } else {
+        None
+    };
+    report_fault(alloc, fault, said)
 }

@@ -21,27 +21,11 @@ use std::{fs, io};
 /// Standard input, as the system names it among its files.
 const STANDARD_INPUT: &str = "/dev/stdin";
 
-/// What is said for a capture that went through one queue of a room of frames (1 to 4096) into another one, each by the
-/// path of its file or `-` for standard input and output.
+/// Sends one capture through one queue of `room` frames (1 to 4096). IN and OUT are each the path of a file, or `-` for standard input
+/// and output. The cause of a file that fails is noted.
 ///
-/// Faults in this order: IN opened, OUT opened or made, `File` of OUT where it is the file IN, the run. What OUT held stays
-/// until the first look at IN succeeded. Where OUT is `-`, the counts are noted, and standard output that fails is `File`
-/// of `-`.
-pub fn wire_files<H: Input + AllocGlobal + Print + Files>(
-    rt: &H,
-    speed: Speed,
-    room: u16,
-    input: String,
-    output: String,
-) -> Result<Said, Fault>
-    requires room { (1 ≤ room) × (room ≤ LARGEST_ROOM) }
-    ensures ok { IfOk result (SaysCounts (string_bytes output)) }
-    ensures err { IfErr result (EndsWiring (string_bytes input) (string_bytes output)) }
-{
-    wire_noted(rt, speed, room, input, output, &mut None)
-}
-
-/// The same, and the cause of a file that fails is noted.
+/// Faults in this order: IN opened, OUT opened or made, `File` of OUT if it is the file IN, the run. What OUT held stays until the first
+/// look at IN succeeded. If OUT is `-`, the counts are for standard error, and standard output that fails is `File` of `-`.
 pub fn wire_noted<H: Input + AllocGlobal + Print + Files>(
     rt: &H,
     speed: Speed,

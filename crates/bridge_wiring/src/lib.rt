@@ -9,6 +9,6 @@ mod text;
 
 pub use captures::{Halted, through};
 pub use counts::wire_line;
-pub use files::{wire_files, wire_noted, wire_over};
+pub use files::{wire_noted, wire_over};
 pub use jobs::{text_job, wire_job};
 pub use text::wire_text;

@@ -1,9 +1,12 @@
 #![tactic(auto)]
-//! The program: it does the job of its words, says what is to be said of it, and ends with its status.
+//! The program tsnbridge: it does what its words ask for, prints the output, and ends with the exit status.
+ghost use Rattle.std.specs.Prelude.{IfOk, map, string_bytes};
+ghost use Rattle.bridge_program.specs.Program.{IsPrinted};
 
+use bridge_check_app::tell;
 use bridge_jobs::{NoMemory, end, words_of};
-use bridge_program::{Ending, perform};
-use bridge_single::{put_printed, tell};
+use bridge_program::{Output, perform};
+use bridge_single::put_stdout;
 use std::io::IsTerminal;
 use std::process::ExitCode;
 use std::rt::Files;
@@ -11,19 +14,21 @@ use std::rt::Files;
 fn main(rt: HostRuntime) -> ExitCode {
     let is_watched = rt.stderr().is_terminal();
     match words_of(&rt) {
-        Ok(words) => tell(&rt, done(&rt, &words, is_watched)),
+        Ok(words) => tell(&rt, run(&rt, &words, is_watched)),
         Err(fault) => end(&rt, &fault),
     }
 }
 
-/// Does the job of the words, and prints what is to be printed of it.
-fn done<H: Input + AllocGlobal + Print + Eprint + Files>(
+/// Does what the words ask for, and prints the text for standard output.
+fn run<H: Input + AllocGlobal + Print + Eprint + Files>(
     rt: &H,
     words: &[String],
     is_watched: bool,
-) -> Result<Ending, NoMemory> {
+) -> Result<Output, NoMemory>
+    ensures { IfOk result (IsPrinted (map string_bytes words.now)) }
+{
     match perform(rt, words, is_watched) {
-        Ok(ending) => put_printed(rt, words, ending),
+        Ok(output) => put_stdout(rt, words, output),
         Err(fault) => Err(fault),
     }
 }

@@ -1,0 +1,3 @@
+pub mod Bounds
+pub mod Networks
+pub mod Program

@@ -1,0 +1,22 @@
+//! Whether a file describes a network.
+use bridge_files::{MOST_TEXT, is_there};
+use bridge_jobs::read_at_most;
+use std::fs;
+use std::rt::Files;
+
+/// Whether the file of a path holds the text of a network: one of its lines begins with `[[bridge]]`. What can't be read twice, as
+/// a pipe, isn't looked at.
+pub fn is_network<H: AllocGlobal + Files>(rt: &H, path: &str) -> bool {
+    if !is_there(rt, path) {
+        return false;
+    }
+    let Ok(reader) = fs::open(rt, path) else {
+        return false;
+    };
+    let Ok(text) = read_at_most(rt.alloc(), reader, MOST_TEXT) else {
+        return false;
+    };
+    text.as_slice()
+        .split(|octet| *octet == b'\n')
+        .any(|line| line.starts_with(b"[[bridge]]"))
+}

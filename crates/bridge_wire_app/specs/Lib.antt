@@ -1,3 +1,0 @@
-pub mod Left
-pub mod Said
-pub mod Examples
