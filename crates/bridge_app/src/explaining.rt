@@ -13,9 +13,9 @@ use bridge_explain::{
     explain_commands, explain_file, explain_plan, explain_run, explain_text, explain_words,
     put_unread,
 };
-use bridge_files::{MOST_TEXT, capture_path, cause_of_read, is_standard, is_there};
+use bridge_files::{capture_path, cause_of_read, is_standard, is_there};
 use bridge_inputs::RunFault;
-use bridge_jobs::{Cause, Fault, read_at_most};
+use bridge_jobs::{Cause, Fault, read_at_most, read_text};
 use bridge_running::Noted;
 use bridge_schema::PlanFault;
 use bridge_text::Text;
@@ -65,7 +65,7 @@ pub fn said_of_unread(rt: &(impl AllocGlobal + Files), fault: &Fault) -> Option<
 pub fn said_of_syntax(rt: &(impl AllocGlobal + Files), path: &str) -> Option<String> {
     let alloc = rt.alloc();
     let reader = fs::open(rt, path).ok()?;
-    let text = read_at_most(alloc, reader, MOST_TEXT).ok()?;
+    let text = read_text(alloc, reader).ok()?;
     match plan_of(alloc, alloc, &text) {
         Err(PlanFault::Syntax) => explain_plan(alloc, path, &text, &PlanFault::Syntax).ok(),
         _ => None,

@@ -2,9 +2,9 @@
 ghost use Rattle.std.specs.Prelude.{IfErr, codes};
 ghost use Rattle.bridge_jobs.specs.Reading.{IsOfFile};
 
-use bridge_files::{MOST_TEXT, is_standard, text_at};
+use bridge_files::{is_standard, text_at};
 use bridge_inputs::RunFault;
-use bridge_jobs::{Cause, Fault, ReadFault, read_at_most, standard_file};
+use bridge_jobs::{Cause, Fault, ReadFault, read_text, standard_file};
 use std::alloc::Global;
 use std::rt::Files;
 
@@ -19,7 +19,7 @@ pub fn plan_text<H: Input + AllocGlobal + Files>(
     if !is_standard(plan) {
         return text_at(rt, plan, cause);
     }
-    match read_at_most(rt.alloc(), rt.reader(), MOST_TEXT) {
+    match read_text(rt.alloc(), rt.reader()) {
         Ok(text) => Ok(text),
         Err(fault) => {
             *cause = Some(Cause::Standard);

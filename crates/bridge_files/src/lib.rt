@@ -16,4 +16,4 @@ pub use output::{
 };
 pub use paths::{capture_path, report_path};
 pub use saying::{Said, is_standard};
-pub use taking::{MOST_TEXT, open_noted, open_taken, read_noted, take_text, text_at};
+pub use taking::{open_noted, open_taken, read_noted, take_text, text_at};

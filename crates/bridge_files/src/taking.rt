@@ -6,14 +6,11 @@ ghost use Rattle.bridge_files.specs.Taken.{BeginWith};
 use crate::cause::cause_of_read;
 use crate::output::{FileId, add_file, file_of};
 use bridge_inputs::RunFault;
-use bridge_jobs::{Cause, Fault, ReadFault, fault_of_file};
+use bridge_jobs::{Cause, Fault, MOST_TEXT, ReadFault, fault_of_file};
 use std::alloc::Global;
 use std::fs;
 use std::io::{ErrorKind, Read};
 use std::rt::Files;
-
-/// The most octets of a plan, of commands or of traffic that are read: one more than they may have.
-pub const MOST_TEXT: u64 = 1_048_577;
 
 /// Opens a file; none where it can't be opened, and its cause is noted.
 pub fn open_noted<H: Files>(rt: &H, path: &str, cause: &mut Option<Cause>) -> Option<H::File> {
@@ -44,7 +41,7 @@ pub fn open_taken<H: Files>(
     }
 }
 
-/// The octets of the reader of a file, as far as `most` of them. Where it fails the cause is noted.
+/// Reads at most `most` octets of a file that is open. The cause of a failure is noted.
 pub fn read_noted<R: Read + Drop>(
     rt: &(impl AllocGlobal + Files),
     path: &str,

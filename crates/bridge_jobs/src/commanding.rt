@@ -8,14 +8,11 @@ ghost use Rattle.bridge_jobs.specs.Commanding.{EndsCommanded, EndsCommands, Tell
 use crate::accepting::checked;
 use crate::fault::Fault;
 use crate::jobs::fault_of_file;
-use crate::reading::read_at_most;
+use crate::reading::read_text;
 use bridge_check::Accepted;
 use bridge_config::{Command, Plan, commands_of};
 use std::alloc::{Allocator, Global};
 use std::io::Read;
-
-/// The most octets of commands that are read: one more than they may have.
-const MOST_COMMANDS: u64 = 1_048_577;
 
 /// A plan where it isolates each of its protected filters, with the commands of a reader, by the path of its file; without
 /// a file there are no commands.
@@ -88,7 +85,7 @@ fn commands_from<R: Read + Drop, A: Allocator + Copy>(
         → IfErr result (EndsCommands plan.now (string_bytes path) input) }
     ensures only { IfErr result (λ fault. (input : List ℕ) × EndsCommands plan.now (string_bytes path) input fault) }
 {
-    match read_at_most(alloc, reader, MOST_COMMANDS) {
+    match read_text(alloc, reader) {
         Ok(text) => match commands_of(alloc, heap, &text, plan) {
             Ok(commands) => Ok(commands),
             Err(fault) => Err(Fault::Commands(fault)),

@@ -6,15 +6,12 @@ ghost use Rattle.bridge_jobs.specs.Reading.{IsOfFile, IsOfStandardFile};
 
 use crate::accepting::{check_line, checked};
 use crate::fault::Fault;
-use crate::reading::{ReadFault, read_at_most};
+use crate::reading::{ReadFault, read_text};
 use bridge_check::Accepted;
 use bridge_config::{Plan, plan_of};
 use bridge_inputs::RunFault;
 use std::alloc::{Allocator, Global};
 use std::io::Read;
-
-/// The most octets of a plan that are read: one more than a plan may have.
-const MOST_PLAN: u64 = 1_048_577;
 
 /// The plan of a reader, by the path of its file, where it isolates each of its protected filters.
 ///
@@ -53,7 +50,7 @@ pub fn plan_from<R: Read + Drop, A: Allocator + Copy>(
     ensures read { IfOk result (λ plan. (input : List ℕ) × (plan_of_text input ≡ Ok plan)) }
     ensures only { IfErr result (λ fault. (input : List ℕ) × EndsPlan A (string_bytes path) input fault) }
 {
-    match read_at_most(alloc, reader, MOST_PLAN) {
+    match read_text(alloc, reader) {
         Ok(text) => match plan_of(alloc, heap, &text) {
             Ok(plan) => Ok(plan),
             Err(fault) => Err(Fault::Plan(fault)),

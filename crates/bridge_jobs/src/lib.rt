@@ -22,4 +22,4 @@ pub use fault::{Fault, TextFault};
 pub use host::{end, print, words_of};
 pub use jobs::{check_job, fault_of_file, plan_from, planned, standard_file};
 pub use line::fault_line;
-pub use reading::{ReadFault, read_at_most};
+pub use reading::{MOST_TEXT, ReadFault, read_at_most, read_text};

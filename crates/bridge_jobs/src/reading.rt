@@ -6,6 +6,10 @@ ghost use Rattle.bridge_jobs.specs.Reading.{read_fault_of};
 use std::alloc::Allocator;
 use std::io::{Error, ErrorKind, Read};
 
+/// The most octets that are read of a plan, of commands, of traffic and of a network: one more than each may have, so that a longer text
+/// is refused and not cut.
+pub const MOST_TEXT: u64 = 1_048_577;
+
 /// Why the octets of a reader are not there.
 #[derive(Clone, Copy)]
 pub enum ReadFault {
@@ -29,6 +33,17 @@ pub fn read_at_most<R: Read + Drop, A: Allocator>(
         Ok(_) => Ok(text),
         Err(error) => Err(read_fault(&error)),
     }
+}
+
+/// Reads a text: at most `MOST_TEXT` octets of a reader. A plan, commands, traffic and a network are read by it.
+pub fn read_text<R: Read + Drop, A: Allocator>(
+    alloc: A,
+    reader: R,
+) -> Result<Vec<u8, A>, ReadFault>
+    ensures { (octets : List ℕ) → R.remaining reader ≡ Some octets
+        → IfOk result (λ text. text.items ≡ take MOST_TEXT octets) }
+{
+    read_at_most(alloc, reader, MOST_TEXT)
 }
 
 /// What an error of a reader is.

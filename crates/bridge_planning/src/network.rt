@@ -19,7 +19,7 @@ use crate::talkers::first_misfit as misfit_in;
 use crate::warnings::warnings_of;
 use bridge_check::Accepted;
 use bridge_inputs::RunFault;
-use bridge_jobs::{Fault, accepted_of, fault_line as plan_line, fault_of_file, read_at_most};
+use bridge_jobs::{Fault, accepted_of, fault_line as plan_line, fault_of_file, read_text};
 use bridge_limits::NoMemory;
 use bridge_netfile::{
     BridgeRow, LinkRow, NetFault, NetworkFile, StreamRow, fault_line, network_of,
@@ -31,9 +31,6 @@ use std::rt::Files;
 
 /// The status of a plan that is refused, and not for want of memory.
 const REFUSED: u8 = 1;
-
-/// The most octets of a network's text that are read: one more than it may have.
-const MOST_TEXT: u64 = 1_048_577;
 
 /// The links of a network, by the places of their bridges.
 pub(crate) fn links_of<A: Allocator + Copy>(
@@ -234,7 +231,7 @@ pub fn read_network<H: AllocGlobal + Files>(
     let Ok(reader) = fs::open(rt, path.as_str()) else {
         return Err(Fault::File(path));
     };
-    match read_at_most(alloc, reader, MOST_TEXT) {
+    match read_text(alloc, reader) {
         Ok(text) => network_in(alloc, &text),
         Err(fault) => Err(fault_of_file(path, fault)),
     }
@@ -330,7 +327,7 @@ pub(crate) fn read_plan<H: AllocGlobal + Files>(
     let Ok(reader) = fs::open(rt, place.as_str()) else {
         return Err(Fault::File(place));
     };
-    match read_at_most(alloc, reader, MOST_TEXT) {
+    match read_text(alloc, reader) {
         Ok(text) => plan_in(alloc, bridge.name(), &text),
         Err(fault) => Err(fault_of_file(place, fault)),
     }

@@ -11,15 +11,12 @@ use crate::timings::{are_kept, timings_of, timings_text};
 use crate::traffic::traffic_fault;
 use bridge_check::Accepted;
 use bridge_inputs::RunFault;
-use bridge_jobs::{Fault, fault_of_file, planned, read_at_most};
+use bridge_jobs::{Fault, fault_of_file, planned, read_text};
 use bridge_limits::NoMemory;
 use bridge_netfile::NetFault;
 use bridge_traffic::{TrafficFault, TrafficRow, fault_line, traffic_of};
 use std::alloc::{Allocator, Global};
 use std::io::Read;
-
-/// The most octets of a text of traffic that are read: one more than it may have.
-const MOST_TEXT: u64 = 1_048_577;
 
 /// What is printed of a plan and its traffic.
 #[derive(Drop)]
@@ -75,7 +72,7 @@ pub(crate) fn rows_from<R: Read + Drop, A: Allocator + Copy>(
     ensures read { IfOk result (λ rows. (words : List ℕ) × (rows_of_text words ≡ Ok rows.items)) }
     ensures refused { IfErr result (λ f. IsOfFile (string_bytes path) f ⊎ ((words : List ℕ) × RefusesWords words f)) }
 {
-    match read_at_most(heap, reader, MOST_TEXT) {
+    match read_text(heap, reader) {
         Ok(text) => rows_in(alloc, heap, &text),
         Err(fault) => Err(fault_of_file(path, fault)),
     }

@@ -7,8 +7,8 @@ ghost use Rattle.bridge_program.specs.Bounds.{FailsTraffic, IsBoundsOutput, IsTr
 use crate::refusing::of_traffic;
 use bridge_app::bounds_warning;
 use bridge_check_app::Output;
-use bridge_files::{MOST_TEXT, open_noted, read_noted, text_at};
-use bridge_jobs::{Fault, NoMemory, fault_of_file};
+use bridge_files::{open_noted, read_noted, text_at};
+use bridge_jobs::{Fault, MOST_TEXT, NoMemory, fault_of_file};
 use bridge_planning::{TrafficReport, bounds_job, explain_refusable, memory_fault, traffic_job};
 use bridge_single::{Refusal, Wishes, of_file, of_plan, status_if, unexplained};
 use std::alloc::Global;

@@ -1,6 +1,7 @@
 -- What the commands of one bridge print, with which status they end, and which faults can end them.
 use Rattle.std.specs.Prelude.{◌≡◌, ◌⊎◌, ◌++◌, ◌&&◌, ℕ, Bool, true, false, not, List, [], None, Option, Some, String, option_map, string_bytes}
 use Rattle.std.specs.declared.alloc.Global.{Global}
+use Rattle.std.specs.Io.KnownBytes.{Appends}
 use Rattle.bridge_jobs.specs.declared.fault.Fault.{Fault}
 use Rattle.bridge_jobs.specs.Jobs.{PrintsAccepted}
 use Rattle.bridge_jobs.specs.Reading.{IsOfStandardFile}
@@ -85,3 +86,8 @@ IsPictureOutput path output = (text : List ℕ) × (IsStandard path ⊎ (text �
 -- Holds if the program reports that standard input or output failed.
 abbrev pub IsStandardFailure : Bool → Output → Type 0
 IsStandardFailure explained output = (f : Fault) × IsOfStandardFile f × Reports explained f output
+
+-- Holds if `done` is the output whose text for standard output the writer has now, or the report that the writer failed.
+abbrev pub IsPut : {W : Type 0} → (W → Option (List ℕ)) → W → Bool → Output → Output → Option W → Type 0
+IsPut contents old explained output done None = IsStandardFailure explained done
+IsPut contents old explained output done (Some new) = (done ≡ output) × Appends (contents old) (contents new) (string_bytes output.stdout)

@@ -1,6 +1,6 @@
 //! Whether a file describes a network.
-use bridge_files::{MOST_TEXT, is_there};
-use bridge_jobs::read_at_most;
+use bridge_files::is_there;
+use bridge_jobs::read_text;
 use std::fs;
 use std::rt::Files;
 
@@ -13,7 +13,7 @@ pub fn is_network<H: AllocGlobal + Files>(rt: &H, path: &str) -> bool {
     let Ok(reader) = fs::open(rt, path) else {
         return false;
     };
-    let Ok(text) = read_at_most(rt.alloc(), reader, MOST_TEXT) else {
+    let Ok(text) = read_text(rt.alloc(), reader) else {
         return false;
     };
     text.as_slice()

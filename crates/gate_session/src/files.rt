@@ -127,3 +127,19 @@ pub fn double<H: Files>(rt: &H, said: &mut Text<Global>, word: &str, rest: &str)
         said.give_up();
     }
 }
+
+/// Writes a file's text with a comment behind it into another file, so that this has `NUMBER` octets: `pad NUMBER FILE FILE`.
+pub fn pad<H: AllocGlobal + Files>(rt: &H, said: &mut Text<Global>, rest: &str) {
+    let (number, files) = pair_of(said, rest);
+    let (from, to) = pair_of(said, files);
+    let Ok(number) = number.parse::<usize>() else {
+        return said.give_up();
+    };
+    let mut octets = octets_of(rt, said, from);
+    if octets.len() > number || octets.resize(number, b'#').is_err() {
+        return said.give_up();
+    }
+    if fs::write(rt, to, &octets).is_err() {
+        said.give_up();
+    }
+}

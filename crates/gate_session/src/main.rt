@@ -10,9 +10,9 @@ mod pipes;
 mod sections;
 
 use bridge_jobs::words_of;
-use bridge_program::{Ending, perform};
+use bridge_program::{Output, perform};
 use bridge_text::Text;
-use files::{change, count, double, first, holding, octets, octets_of, pair_of, same, show};
+use files::{change, count, double, first, holding, octets, octets_of, pad, pair_of, same, show};
 use pipes::put_pipe;
 use sections::compare;
 use std::alloc::Global;
@@ -82,6 +82,7 @@ fn look<H: Input + AllocGlobal + Print + Eprint + Files>(
         "compare" => compare(rt, said, rest),
         "folder" | "remove" => change(rt, said, word, rest),
         "link" | "copy" => double(rt, said, word, rest),
+        "pad" => pad(rt, said, rest),
         "pipe" => pipe(rt, said, rest),
         _ => said.give_up(),
     }
@@ -110,19 +111,19 @@ fn job<H: Input + AllocGlobal + Print + Eprint + Files>(
 ) {
     let words = words_in(rt.alloc(), said, line);
     match perform(rt, &words, false) {
-        Ok(ending) => tell(said, &ending),
+        Ok(output) => tell(said, &output),
         Err(_) => said.give_up(),
     }
 }
 
-/// Tells what is said of a job.
-fn tell(said: &mut Text<Global>, ending: &Ending) {
-    said.put(ending.printed.as_str());
-    for line in ending.told.as_str().lines() {
+/// Adds the output of a command: standard output, each line of standard error behind `! `, and the exit status if it isn't 0.
+fn tell(said: &mut Text<Global>, output: &Output) {
+    said.put(output.stdout.as_str());
+    for line in output.stderr.as_str().lines() {
         said.fill("! {a}\n", &[], &[line]);
     }
-    if ending.status != 0 {
-        said.fill("status {0}\n", &[ending.status as u64], &[]);
+    if output.status != 0 {
+        said.fill("status {0}\n", &[output.status as u64], &[]);
     }
 }
 
