@@ -7,12 +7,20 @@ use bridge_limits::NoMemory;
 use bridge_text::{Text, behind};
 use std::alloc::{Allocator, Global};
 
+/// What is said of a file or a folder whose path is empty.
+const EMPTY_PATH: &str =
+    "A path is empty. Name the file or the folder, for example . for the current folder.\n";
+
 /// Why a file can't be opened, made, read or written, by what was found of it. It begins with the path of the file.
 pub fn explain_file(alloc: Global, path: &str, cause: Cause) -> Result<String, NoMemory>
     ensures { IfOk result (λ said. BeginsWith path.now (string_bytes said)) }
 {
     let mut said = Text::new(alloc);
-    said.fill(sentence_of(cause), &[], &[path]);
+    if path.is_empty() {
+        said.put(EMPTY_PATH);
+    } else {
+        said.fill(sentence_of(cause), &[], &[path]);
+    }
     behind(alloc, path, said)
 }
 

@@ -4,6 +4,7 @@
 
 mod cause;
 mod files;
+mod folders;
 mod output;
 mod paths;
 mod saying;
@@ -11,6 +12,7 @@ mod taking;
 
 pub use cause::{cause_of_capture, cause_of_read, cause_of_write, is_there};
 pub use files::{add_files, create_all, is_same_folder, open_all, output_apart};
+pub use folders::test_folders;
 pub use output::{
     FileId, Output, add_file, are_same, file_at, file_of, files_at, is_one_of, output_at,
 };

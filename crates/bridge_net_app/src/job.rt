@@ -1,5 +1,6 @@
 //! The job of a run of a network over folders.
 ghost use Rattle.std.specs.Prelude.{◌≡◌, ◌≤◌, IfOk, IfErr, IfSome, None, Some, false, true, length, string_bytes};
+ghost use Rattle.bridge_files.specs.Folders.{HavePaths};
 ghost use Rattle.bridge_net_app.specs.Losing.{AreToldLines, AreWarningsIf, PrintsRunLosses, PrintsWarnings, TellsRunLosses, TellsWarnings, has_lines};
 ghost use Rattle.bridge_net_app.specs.InTime.{HaveViews};
 ghost use Rattle.bridge_net_app.specs.Folders.{EndsFiles, EndsRounds, EndsRun, IsAccepted, IsLine, IsMostRounds, PrintsRounds, PrintsRoundsIn, TellsRun, TellsRunIn, network_words, rounds_line};
@@ -13,7 +14,7 @@ use crate::tables::put_tables;
 use crate::watching::{Teller, is_long};
 use crate::writing::put_bridges;
 use bridge_circling::circulations_in;
-use bridge_files::{FileId, Output, files_at};
+use bridge_files::{FileId, Output, files_at, test_folders};
 use bridge_jobs::{Cause, Fault};
 use bridge_limits::NoMemory;
 use bridge_netfile::NetworkFile;
@@ -211,7 +212,8 @@ struct Wishes {
     is_watched: bool,
 }
 
-/// Runs a network from one folder into another. Returns the lines of the run, and in how many rounds it was found.
+/// Runs a network from one folder into another, if both have a path. Returns the lines of the run, and in how many rounds it was
+/// found.
 fn run_network<H: AllocGlobal + Eprint + Files>(
     rt: &H,
     file: &NetworkFile<Global>,
@@ -229,9 +231,11 @@ fn run_network<H: AllocGlobal + Eprint + Files>(
     ensures ok { IfOk result (λ ran. TellsRun network.now file.now (string_bytes ran.0.line)) }
     ensures rounds { IfOk result (λ ran. TellsRunIn network.now file.now (string_bytes ran.0.line) ran.1) }
     ensures lost { IfOk result (λ ran. TellsRunLosses network.now file.now wishes.is_strict (string_bytes ran.0.line) ran.1 (string_bytes ran.0.lost)) }
+    ensures named { IfOk result (λ _. HavePaths input.now output.now) }
     ensures err { IfErr result (EndsRun network.now file.now.bridges) }
 {
     let (mut taken, plans, bridges) = (taken, network.plans(), file.bridges());
+    test_folders(rt.alloc(), input, output, cause)?;
     let incoming = read_all(rt, network, bridges, input, &mut taken, cause)?;
     let outputs = match open_outputs(rt, plans, bridges, input, output, &mut taken, cause) {
         Ok(outputs) => outputs,
@@ -348,6 +352,7 @@ fn run_accepted<H: AllocGlobal + Eprint + Files>(
     ensures rounds { IfOk result (λ said. IfSome said.line (λ line. TellsRunIn network.now file.now (string_bytes line) said.rounds)) }
     ensures told { IfOk result (λ said. IfSome said.line (λ line. TellsRunLosses network.now file.now job.is_strict (string_bytes line) said.rounds (string_bytes said.told))) }
     ensures lossy { IfOk result (λ said. IfSome said.line (λ _. said.is_lossy ≡ has_lines (string_bytes said.told))) }
+    ensures named { IfOk result (λ said. IfSome said.line (λ _. HavePaths (string_bytes job.input) (string_bytes job.output))) }
     ensures warned { IfOk result (λ said. said.is_warned ≡ true → said.line ≡ None) }
     ensures idle { IfOk result (λ said. said.line ≡ None → (said.is_warned ≡ true) × ((job.is_strict ≡ true) × TellsWarnings network.now file.now (string_bytes said.told))) }
     ensures err { IfErr result (EndsRun network.now file.now.bridges) }
@@ -444,9 +449,10 @@ pub struct RoundsJob {
 ///
 /// If a warning is a fault and the network has one, nothing runs, and no file is opened except the network's and its plans'.
 ///
-/// Faults in this order: those of `network_job`; what comes to each bridge; the folders and files that are written; the run,
-/// `Rounds` of a capture, or where frames may go round and something still changes after 64 rounds; then the writing. What the outputs hold stays until
-/// the run is done. The cause of a file that fails is noted, except for the network's and its plans'.
+/// Faults in this order: those of `network_job`; `File` of the empty path if IN or OUT is empty; what comes to each bridge; the
+/// folders and files that are written; the run, `Rounds` of a capture, or where frames may go round and something still changes after
+/// 64 rounds; then the writing. What the outputs hold stays until the run is done. The cause of a file that fails is noted, except for
+/// the network's and its plans'.
 pub fn rounds_noted<H: AllocGlobal + Eprint + Files>(
     rt: &H,
     job: RoundsJob,
@@ -456,6 +462,7 @@ pub fn rounds_noted<H: AllocGlobal + Eprint + Files>(
     ensures rounds { IfOk result (λ said. IfSome said.line (λ line. PrintsRoundsIn Global (string_bytes line) said.rounds)) }
     ensures told { IfOk result (λ said. IfSome said.line (λ line. PrintsRunLosses Global job.is_strict (string_bytes line) said.rounds (string_bytes said.told))) }
     ensures lossy { IfOk result (λ said. IfSome said.line (λ _. said.is_lossy ≡ has_lines (string_bytes said.told))) }
+    ensures named { IfOk result (λ said. IfSome said.line (λ _. HavePaths (string_bytes job.input) (string_bytes job.output))) }
     ensures warned { IfOk result (λ said. said.is_warned ≡ true → said.line ≡ None) }
     ensures idle { IfOk result (λ said. said.line ≡ None → (said.is_warned ≡ true) × ((job.is_strict ≡ true) × PrintsWarnings Global (string_bytes said.told))) }
     ensures err { IfErr result (EndsRounds Global (string_bytes job.network)) }

@@ -1,5 +1,5 @@
 -- Which fault ends a run over files.
-use Rattle.std.proofs.Common.{◌≡◌, ℕ, List, [], Option, Some, None, Result, Ok, Err, IfErr, inl, inr, ap, sym, subst}
+use Rattle.std.proofs.Common.{◌≡◌, ℕ, List, [], Option, Some, None, Result, Ok, Err, IfErr, IfOk, inl, inr, ap, sym, subst}
 use Rattle.bridge_limits.proofs.Options.{some_is_none}
 use Rattle.bridge_config.specs.Model.{Plan}
 use Rattle.bridge_jobs.specs.declared.fault.Fault.{Fault}
@@ -9,6 +9,7 @@ use Rattle.bridge_jobs.specs.Commanding.{EndsCommanded}
 use Rattle.bridge_jobs.specs.Reading.{IsOfFile}
 use Rattle.bridge_running.specs.Files.{EndsReading, EndsRun, EndsSending, IsAcceptedPlan, IsOfOutputs, IsOfReport, IsPlanOfText}
 use Rattle.bridge_files.specs.Files.{IsOfCaptures}
+use Rattle.bridge_files.specs.Folders.{HavePaths, LackPath}
 
 -- a capture or the report that failed is an output
 pub capture_told : (folder ports : List ℕ) (f : Fault) → IsOfCaptures folder ports f → IsOfOutputs folder ports f
@@ -21,32 +22,50 @@ report_told folder ports (fault.File path) h = inr h
 report_told folder ports (fault.Run f) h = h
 report_told folder ports f h = absurd h
 
-input_fails : {A : Type 0} (p : Plan A) (input output ports : List ℕ) (f : Fault) → AreNumbers p ports → IsOfCaptures input ports f → EndsSending p input output f
-input_fails p input output ports (fault.File path) own h = inl (ports, own, inl h)
-input_fails p input output ports (fault.Run f) own h = tt
-input_fails p input output ports f own h = absurd h
+input_fails : {A : Type 0} (p : Plan A) (input output ports : List ℕ) (f : Fault) → HavePaths input output → AreNumbers p ports → IsOfCaptures input ports f → EndsSending p input output f
+input_fails p input output ports (fault.File path) named own h = inr (named, inl (ports, own, inl h))
+input_fails p input output ports (fault.Run f) named own h = tt
+input_fails p input output ports f named own h = absurd h
 
-output_fails : {A : Type 0} (p : Plan A) (input output ports : List ℕ) (f : Fault) → AreNumbers p ports → IsOfOutputs output ports f → EndsSending p input output f
-output_fails p input output ports (fault.File path) own h = elim h [ inl capture ↦ inl (ports, own, inr capture) | inr report ↦ inr (inr report) ]
-output_fails p input output ports (fault.Run f) own h = tt
-output_fails p input output ports f own h = absurd h
+output_fails : {A : Type 0} (p : Plan A) (input output ports : List ℕ) (f : Fault) → HavePaths input output → AreNumbers p ports → IsOfOutputs output ports f → EndsSending p input output f
+output_fails p input output ports (fault.File path) named own h = elim h [ inl capture ↦ inr (named, inl (ports, own, inr capture)) | inr report ↦ inr (named, inr (inr report)) ]
+output_fails p input output ports (fault.Run f) named own h = tt
+output_fails p input output ports f named own h = absurd h
 
-report_fails : {A : Type 0} (p : Plan A) (input output : List ℕ) (f : Fault) → IsOfReport output f → EndsSending p input output f
-report_fails p input output (fault.File path) h = inr (inr h)
-report_fails p input output (fault.Run f) h = tt
-report_fails p input output f h = absurd h
+report_fails : {A : Type 0} (p : Plan A) (input output : List ℕ) (f : Fault) → HavePaths input output → IsOfReport output f → EndsSending p input output f
+report_fails p input output (fault.File path) named h = inr (named, inr (inr h))
+report_fails p input output (fault.Run f) named h = tt
+report_fails p input output f named h = absurd h
+
+lack_fails : {A : Type 0} (p : Plan A) (input output : List ℕ) (f : Fault) → LackPath input output f → EndsSending p input output f
+lack_fails p input output (fault.File path) h = inl h
+lack_fails p input output f h = absurd h
+
+-- a folder without a path
+pub lack_ends : {A : Type 0} (p : Plan A) (input output folder : List ℕ) (f : Fault) → folder ≡ output → LackPath input folder f → EndsSending p input output f
+lack_ends p input output folder f here h = lack_fails p input output f (subst (λ d. LackPath input d f) here h)
+
+-- what is so anyway is so where there is a value
+pub where_named : {X E : Type 0} (P : Type 0) (r : Result X E) → P → IfOk r (λ _. P)
+where_named P (Ok x) h = h
+where_named P (Err f) h = tt
+
+-- two facts of a value
+pub both_ok : {X E : Type 0} (P Q : X → Type 0) (r : Result X E) → IfOk r P → IfOk r Q → IfOk r (λ x. P x × Q x)
+both_ok P Q (Ok x) p q = (p, q)
+both_ok P Q (Err f) p q = tt
 
 -- the same by what the folder and the list of the ports are
-pub input_ends : {A : Type 0} (p : Plan A) (input output ports folder listed : List ℕ) (f : Fault) → AreNumbers p ports → folder ≡ input → listed ≡ ports → IsOfCaptures folder listed f → EndsSending p input output f
-input_ends p input output ports folder listed f own here there h =
-    input_fails p input output ports f own (subst (λ l. IsOfCaptures input l f) there (subst (λ d. IsOfCaptures d listed f) here h))
+pub input_ends : {A : Type 0} (p : Plan A) (input output ports folder listed : List ℕ) (f : Fault) → HavePaths input output → AreNumbers p ports → folder ≡ input → listed ≡ ports → IsOfCaptures folder listed f → EndsSending p input output f
+input_ends p input output ports folder listed f named own here there h =
+    input_fails p input output ports f named own (subst (λ l. IsOfCaptures input l f) there (subst (λ d. IsOfCaptures d listed f) here h))
 
-pub output_ends : {A : Type 0} (p : Plan A) (input output ports folder listed : List ℕ) (f : Fault) → AreNumbers p ports → folder ≡ output → listed ≡ ports → IsOfOutputs folder listed f → EndsSending p input output f
-output_ends p input output ports folder listed f own here there h =
-    output_fails p input output ports f own (subst (λ l. IsOfOutputs output l f) there (subst (λ d. IsOfOutputs d listed f) here h))
+pub output_ends : {A : Type 0} (p : Plan A) (input output ports folder listed : List ℕ) (f : Fault) → HavePaths input output → AreNumbers p ports → folder ≡ output → listed ≡ ports → IsOfOutputs folder listed f → EndsSending p input output f
+output_ends p input output ports folder listed f named own here there h =
+    output_fails p input output ports f named own (subst (λ l. IsOfOutputs output l f) there (subst (λ d. IsOfOutputs d listed f) here h))
 
-pub report_ends : {A : Type 0} (p : Plan A) (input output folder : List ℕ) (f : Fault) → folder ≡ output → IsOfReport folder f → EndsSending p input output f
-report_ends p input output folder f here h = report_fails p input output f (subst (λ d. IsOfReport d f) here h)
+pub report_ends : {A : Type 0} (p : Plan A) (input output folder : List ℕ) (f : Fault) → HavePaths input output → folder ≡ output → IsOfReport folder f → EndsSending p input output f
+report_ends p input output folder f named here h = report_fails p input output f named (subst (λ d. IsOfReport d f) here h)
 
 -- a plan, or commands, that can't be opened
 pub plan_not_opened : (A : Type 0) (plan : List ℕ) (commands : Option (List ℕ)) (f : Fault) → IsOfFile plan f → EndsReading A plan commands f

@@ -11,6 +11,7 @@ use Rattle.bridge_summary.specs.Summary.{summary_of}
 use Rattle.bridge_semantics.specs.declared.outcome.Outcome.{Outcome}
 use Rattle.bridge_simulation.specs.Simulated.{AreNumbers}
 use Rattle.bridge_files.specs.Files.{IsCapture}
+use Rattle.bridge_files.specs.Folders.{HavePaths, LackPath}
 use Rattle.bridge_files.specs.Paths.{report_path}
 
 -- the report of a folder failed, or memory was refused
@@ -43,11 +44,16 @@ EndsReading A plan commands f =
 abbrev pub IsCaptureOfRun : {A : Type 0} → Plan A → List ℕ → List ℕ → List ℕ → Type 0
 IsCaptureOfRun p input output path = (ports : List ℕ) × AreNumbers p ports × (IsCapture input ports path ⊎ IsCapture output ports path)
 
--- which fault ends a run under a plan from one folder into another: that of a file, of the folder that is written (where it is the
--- one that is read), of the report, or of the run itself
+-- which file ends a run under a plan from one folder into another: a capture, the folder that is written (where it is the one that
+-- is read), or the report
+abbrev pub IsFileOfRun : {A : Type 0} → Plan A → List ℕ → List ℕ → List ℕ → Type 0
+IsFileOfRun p input output path = IsCaptureOfRun p input output path ⊎ ((path ≡ output) ⊎ (path ≡ report_path output))
+
+-- which fault ends a run under a plan from one folder into another: if a folder has an empty path, that of the file of the empty
+-- path; else that of a file of the run, or of the run itself
 abbrev pub EndsSending : {A : Type 0} → Plan A → List ℕ → List ℕ → Fault → Type 0
 EndsSending p input output (fault.File path) =
-    IsCaptureOfRun p input output (string_bytes path) ⊎ ((string_bytes path ≡ output) ⊎ (string_bytes path ≡ report_path output))
+    LackPath input output (fault.File path) ⊎ (HavePaths input output × IsFileOfRun p input output (string_bytes path))
 EndsSending p input output (fault.Run f) = Unit {0}
 EndsSending p input output f = ⊥
 

@@ -1,6 +1,7 @@
 //! The job of a run over a folder of captures.
 ghost use Rattle.std.specs.Prelude.{◌≡◌, IfOk, IfErr, length, option_map, string_bytes};
 ghost use Rattle.bridge_config.specs.Commands.{AreCommands};
+ghost use Rattle.bridge_files.specs.Folders.{HavePaths};
 ghost use Rattle.bridge_running.specs.Files.{EndsReading, EndsSending, IsAcceptedPlan, IsOfOutputs, IsOfReport};
 
 use crate::noting::Noted;
@@ -10,7 +11,7 @@ use bridge_check::Accepted;
 use bridge_config::Command;
 use bridge_files::{
     FileId, Output, add_file, add_files, create_all, file_at, is_one_of, is_same_folder, open_all,
-    output_apart, report_path, take_text,
+    output_apart, report_path, take_text, test_folders,
 };
 use bridge_inputs::RunFault;
 use bridge_jobs::{Cause, Fault, commanded, fault_of_file, plan_from};
@@ -22,7 +23,8 @@ use std::io::Write;
 use std::rt::Files;
 
 /// What a run under an accepted plan from one folder into another tells, once its report is written. No output is one of the
-/// files that are taken, and each is one of them then. The cause of a file that fails is noted.
+/// files that are taken, and each is one of them then. The cause of a file that fails is noted. A folder with an empty path ends
+/// the run before a file of a folder is opened.
 pub fn send<H: AllocGlobal + Files>(
     rt: &H,
     accepted: &Accepted<Global>,
@@ -33,6 +35,27 @@ pub fn send<H: AllocGlobal + Files>(
     cause: &mut Option<Cause>,
 ) -> Result<Outcome<Global>, Fault>
     requires commands { AreCommands accepted.now orders.now }
+    ensures named { IfOk result (λ _. HavePaths input.now (string_bytes output)) }
+    ensures err { IfErr result (EndsSending accepted.now input.now (string_bytes output)) }
+{
+    match test_folders(rt.alloc(), input, output.as_str(), cause) {
+        Ok(()) => send_named(rt, accepted, orders, input, output, taken, cause),
+        Err(fault) => Err(fault),
+    }
+}
+
+/// What a run under an accepted plan between two folders tells that have a path.
+fn send_named<H: AllocGlobal + Files>(
+    rt: &H,
+    accepted: &Accepted<Global>,
+    orders: &[Command],
+    input: &str,
+    output: String,
+    taken: &mut Vec<FileId>,
+    cause: &mut Option<Cause>,
+) -> Result<Outcome<Global>, Fault>
+    requires commands { AreCommands accepted.now orders.now }
+    requires named { HavePaths input.now (string_bytes output) }
     ensures { IfErr result (EndsSending accepted.now input.now (string_bytes output)) }
 {
     let Ok(ports) = accepted.plan().port_numbers(rt.alloc()) else {

@@ -10,7 +10,7 @@ returns-in-Err-clause-err g c =
 pub returns-in-Err-send-clause-err : goal.returns-in-Err-send-clause-err
 returns-in-Err-send-clause-err g c =
     sent_tabled c.args.accepted.now (string_bytes c.args.input) (string_bytes c.args.output) (option_map string_bytes c.args.tables.delays) (option_map string_bytes c.args.tables.frames) (option_map (λ s. string_bytes s.file) c.args.sketch) c.in-Err-send.fault
-    (subst (λ i. EndsSending c.args.accepted.now i (string_bytes c.args.output) c.in-Err-send.fault) c.as_str-3.ensures.value c.in-Err-send.ensures)
+    (subst (λ i. EndsSending c.args.accepted.now i (string_bytes c.args.output) c.in-Err-send.fault) c.as_str-3.ensures.value c.in-Err-send.ensures.err)
 
 pub returns-clause-err : goal.returns-clause-err
 returns-clause-err g c =
