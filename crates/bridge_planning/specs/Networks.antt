@@ -1,5 +1,5 @@
 -- Networks of files: what is made of their text, and what is printed.
-use Rattle.std.specs.Prelude.{◌≡◌, ◌≢◌, ◌⊎◌, ℕ, Bool, List, ◌++◌, map, length, sum_by, option_map, Option, Some, None, Result, Err, Vec, codes, decimal, string_bytes}
+use Rattle.std.specs.Prelude.{◌≡◌, ◌≢◌, ◌⊎◌, ◌==◌, ℕ, Bool, List, ◌++◌, if◌then◌else◌, map, slice_index, length, sum_by, option_map, Option, Some, None, Result, Err, Vec, codes, decimal, string_bytes}
 use Rattle.std.specs.Path.{rsplit_once}
 use Rattle.bridge_limits.specs.Members.{In}
 use Rattle.bridge_config.specs.Model.{Plan}
@@ -130,9 +130,13 @@ abbrev pub in_folder : Option (List ℕ) → List ℕ → List ℕ
 in_folder None file = file
 in_folder (Some folder) file = folder ++ (codes "/" ++ file)
 
--- The path of `file` if it is relative to the folder of the file at `path`.
+-- Holds if a path is absolute: its first octet is `/`.
+abbrev pub is_absolute : List ℕ → Bool
+is_absolute path = slice_index path 0 == 47
+
+-- The path of `file`: the same if it is absolute; else it is relative to the folder of the file at `path`.
 abbrev pub beside : List ℕ → List ℕ → List ℕ
-beside path file = in_folder (folder_of path) file
+beside path file = if is_absolute file then file else in_folder (folder_of path) file
 
 -- Holds if a fault of the program is the line of the text fault `e`, or that memory ran out.
 abbrev pub SaysText : NetFault → Fault → Type 0

@@ -8,7 +8,7 @@ ghost use Rattle.bridge_inputs.specs.declared.fault.RunFault.{RunFault};
 ghost use Rattle.bridge_jobs.specs.declared.fault.Fault.{Fault};
 ghost use Rattle.bridge_planning.specs.Bounds.{IsPlaced};
 ghost use Rattle.bridge_planning.specs.Warnings.{AreWarnings};
-ghost use Rattle.bridge_planning.specs.Networks.{AreLinesOfNetwork, EndsNetwork, EndsPlanOf, EndsPlans, EndsText, IsMadeOf, PrintsNetwork, RefusesNetwork, RefusesPeriods, RefusesPlanBy, RefusesTextBy, SaysPlan, SaysText, accepted_line, beside, folder_of, hops_in, link_in};
+ghost use Rattle.bridge_planning.specs.Networks.{AreLinesOfNetwork, EndsNetwork, EndsPlanOf, EndsPlans, EndsText, IsMadeOf, PrintsNetwork, RefusesNetwork, RefusesPeriods, RefusesPlanBy, RefusesTextBy, SaysPlan, SaysText, accepted_line, beside, folder_of, hops_in, is_absolute, link_in};
 ghost use Rattle.bridge_planning.specs.Streams.{AreBoundsOf, hop_in};
 ghost use Rattle.bridge_planning.specs.Talkers.{first_misfit};
 
@@ -270,10 +270,20 @@ fn folder_of(path: &str) -> Option<&str>
     }
 }
 
-/// Returns the path of a file that lies in the folder of another file.
+/// Whether a path is absolute: it begins with `/`.
+fn is_absolute(path: &str) -> bool
+    ensures { result ≡ is_absolute path.now }
+{
+    path.starts_with('/')
+}
+
+/// Returns the path of a file by its path in another file: an absolute path as it is, else the path in the folder of the other file.
 pub(crate) fn beside(alloc: Global, path: &str, file: &str) -> Result<String, AllocError>
     ensures { IfOk result (λ place. string_bytes place ≡ beside path.now file.now) }
 {
+    if is_absolute(file) {
+        return String::from_str(alloc, file);
+    }
     match folder_of(path) {
         Some(folder) => format!(in alloc; "{folder}/{file}"),
         None => String::from_str(alloc, file),
@@ -312,7 +322,7 @@ fn plan_in(alloc: Global, name: &str, text: &[u8]) -> Result<Accepted<Global>, F
     }
 }
 
-/// Reads the plan of a bridge, in the folder of the network's file, if it is accepted.
+/// Reads the plan of a bridge, if it is accepted. Its path is absolute, or relative to the folder of the network's file.
 pub(crate) fn read_plan<H: AllocGlobal + Files>(
     rt: &H,
     path: &str,
