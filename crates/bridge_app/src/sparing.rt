@@ -4,10 +4,9 @@ ghost use Rattle.bridge_app.specs.Files.{IsOfShowing, IsOfTable, IsOfTables};
 
 use bridge_check::Accepted;
 use bridge_cli::{PictureRequest, TableRequest};
-use bridge_files::{FileId, add_file, capture_path, is_one_of, report_path};
+use bridge_files::{FileId, add_file, capture_path, is_one_of, regular_at, report_path};
 use bridge_inputs::RunFault;
 use bridge_jobs::{Cause, Fault, NoMemory};
-use bridge_running::regular_at;
 use std::alloc::Global;
 use std::rt::Files;
 

@@ -8,6 +8,7 @@ mod folders;
 mod output;
 mod paths;
 mod saying;
+mod sparing;
 mod taking;
 
 pub use cause::{cause_of_capture, cause_of_read, cause_of_write, is_there};
@@ -18,4 +19,5 @@ pub use output::{
 };
 pub use paths::{capture_path, report_path};
 pub use saying::{Said, is_standard};
+pub use sparing::{regular_at, take_outputs, take_standard};
 pub use taking::{open_noted, open_taken, read_noted, take_text, text_at};

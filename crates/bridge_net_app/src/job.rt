@@ -14,7 +14,7 @@ use crate::tables::put_tables;
 use crate::watching::{Teller, is_long};
 use crate::writing::put_bridges;
 use bridge_circling::circulations_in;
-use bridge_files::{FileId, Output, files_at, test_folders};
+use bridge_files::{FileId, Output, files_at, take_standard, test_folders};
 use bridge_jobs::{Cause, Fault};
 use bridge_limits::NoMemory;
 use bridge_netfile::NetworkFile;
@@ -439,13 +439,22 @@ pub struct RoundsJob {
     pub is_watched: bool,
 }
 
+/// Returns the files of some paths, and the file into which standard output goes, if it is a regular one: no output may be one of
+/// them.
+fn taken_at<H: AllocGlobal + Files>(rt: &H, paths: &[String]) -> Result<Vec<FileId>, NoMemory> {
+    let mut taken = files_at(rt, paths)?;
+    take_standard(rt, &mut taken)?;
+    Ok(taken)
+}
+
 /// What is printed for a run of the network of a file whose plans lie beside it, where it is accepted: the captures of the open
 /// ports go through the whole network, with the commands of each bridge; what left each port of each bridge is written, a
 /// report of each bridge, the tables of the streams, and a picture, where one is asked for.
 ///
 /// From the folder IN are read `BRIDGE/PORT.pcap` of each open port and `BRIDGE/commands.toml` where it is there; into the folder
 /// OUT are written `BRIDGE/PORT.pcap` of each port, `BRIDGE/report.txt`, `streams.csv` and `frames.csv`. Folders of OUT are
-/// made where they aren't there.
+/// made where they aren't there. An output that is a file that is read, another output, or the file into which standard output
+/// goes, is `File` of its path.
 ///
 /// If a warning is a fault and the network has one, nothing runs, and no file is opened except the network's and its plans'.
 ///
@@ -475,7 +484,7 @@ pub fn rounds_noted<H: AllocGlobal + Eprint + Files>(
         drop(plans);
         return Err(memory_fault());
     };
-    let Ok(taken) = files_at(rt, &paths) else {
+    let Ok(taken) = taken_at(rt, &paths) else {
         drop(plans);
         return Err(memory_fault());
     };

@@ -6,7 +6,7 @@ use crate::refusing::name_at;
 use bridge_check::Accepted;
 use bridge_files::{
     FileId, Output, add_file, cause_of_write, create_all, file_at, is_one_of, output_apart,
-    report_path,
+    report_path, take_outputs,
 };
 use bridge_jobs::{Cause, Fault};
 use bridge_netfile::BridgeRow;
@@ -99,21 +99,6 @@ pub(crate) fn open_output<H: AllocGlobal + Files>(
     }
 }
 
-/// Adds files that are written to those that are taken.
-fn add_outputs<F: Write + OpenFile + Drop>(
-    taken: &mut Vec<FileId>,
-    outputs: &[Output<F>],
-) -> Result<(), Fault>
-    ensures { IfErr result EndsFiles }
-{
-    for output in outputs {
-        if add_file(taken, output.id()).is_err() {
-            return Err(memory_fault());
-        }
-    }
-    Ok(())
-}
-
 /// Opens a table in a folder to be written anew.
 fn open_table<H: AllocGlobal + Files>(
     rt: &H,
@@ -130,7 +115,7 @@ fn open_table<H: AllocGlobal + Files>(
     }
 }
 
-/// Opens the captures and the report of a bridge to be written anew, in its folder.
+/// Opens the captures and the report of a bridge to be written anew, in its folder. No two of them are one file.
 fn open_bridge<H: AllocGlobal + Files>(
     rt: &H,
     accepted: &Accepted<Global>,
@@ -144,7 +129,7 @@ fn open_bridge<H: AllocGlobal + Files>(
         return Err(memory_fault());
     };
     let taps = create_all(rt, folder, &ports, taken, cause)?;
-    add_outputs(taken, &taps)?;
+    take_outputs(rt, folder, &ports, taken, cause)?;
     let Ok(path) = report_path(rt.alloc(), folder) else {
         return Err(memory_fault());
     };

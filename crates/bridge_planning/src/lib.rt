@@ -2,6 +2,7 @@
 //! What a planner asks of plans beside a run: how long frames may take, whatever their talker sends or where it keeps a
 //! period, and whether a network of bridges isolates its streams.
 
+mod again;
 mod bounds;
 mod cycles;
 mod drawing;
@@ -22,6 +23,7 @@ mod timings;
 mod traffic;
 mod warnings;
 
+pub use again::{can_read_network_again, can_read_traffic_again};
 pub use bounds::{QueueBound, bounds_of};
 pub use cycles::explain_traffic;
 pub use drawing::{NetworkPicture, network_picture, paths_of};

@@ -9,7 +9,9 @@ use bridge_app::bounds_warning;
 use bridge_check_app::Output;
 use bridge_files::{open_noted, read_noted, text_at};
 use bridge_jobs::{Fault, MOST_TEXT, NoMemory, fault_of_file};
-use bridge_planning::{TrafficReport, bounds_job, explain_refusable, memory_fault, traffic_job};
+use bridge_planning::{
+    TrafficReport, bounds_job, can_read_traffic_again, explain_refusable, memory_fault, traffic_job,
+};
 use bridge_single::{Refusal, Wishes, of_file, of_plan, status_if, unexplained};
 use std::alloc::Global;
 use std::io::Read;
@@ -158,7 +160,8 @@ fn bound_rows<R: Read + Drop>(
     Ok(output_of(lines, kept, notes, warning, wishes))
 }
 
-/// Returns why frames of the traffic may be refused, if that is asked for. The text is empty otherwise, and if memory runs out.
+/// Returns why frames of the traffic may be refused, if that is asked for. The text is empty otherwise, if memory runs out, and if a file
+/// is a pipe, which can't be read again.
 fn reasons_of(
     rt: &(impl AllocGlobal + Files),
     plan: &str,
@@ -167,7 +170,7 @@ fn reasons_of(
 ) -> String
     ensures { is_asked ≡ false → string_bytes result ≡ [] }
 {
-    let reasons = if is_asked {
+    let reasons = if is_asked && can_read_traffic_again(rt, plan, traffic) {
         explain_refusable(rt, plan, traffic)
     } else {
         None

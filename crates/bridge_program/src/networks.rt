@@ -15,7 +15,7 @@ use bridge_files::is_standard;
 use bridge_jobs::{Cause, Fault, NoMemory};
 use bridge_net_app::{RoundsJob, RoundsSaid, rounds_noted};
 use bridge_planning::{
-    NetworkPicture, NetworkSaid, explain_refusable_streams, memory_fault, network_job,
+    NetworkPicture, NetworkSaid, can_read_network_again, explain_refusable_streams, memory_fault, network_job,
     network_picture,
 };
 use bridge_single::{Refusal, Wishes, line_or_nothing, of_file, status_if, unexplained};
@@ -47,12 +47,12 @@ pub(crate) fn check_network(
     }
 }
 
-/// Returns the reason for each refusable stream of a network, if an explanation is asked for. The text is empty otherwise, and if
-/// memory runs out.
+/// Returns the reason for each refusable stream of a network, if an explanation is asked for. The text is empty otherwise, if memory runs
+/// out, and if a file is a pipe, which can't be read again.
 fn reasons_of(rt: &(impl AllocGlobal + Files), path: &str, is_asked: bool) -> String
     ensures { is_asked ≡ false → string_bytes result ≡ [] }
 {
-    let reasons = if is_asked {
+    let reasons = if is_asked && can_read_network_again(rt, path) {
         explain_refusable_streams(rt, path)
     } else {
         None

@@ -4,11 +4,13 @@ ghost use Rattle.std.specs.Prelude.{◌≡◌, None, false};
 use bridge_app::{Refusal, said_of_file, said_of_plan, said_of_syntax, said_of_unread};
 use bridge_jobs::{Cause, Fault};
 use bridge_net_app::explain_stopped;
-use bridge_planning::{explain_loops, explain_network, explain_traffic};
+use bridge_planning::{
+    can_read_network_again, can_read_traffic_again, explain_loops, explain_network, explain_traffic,
+};
 use bridge_single::{Wishes, unexplained};
 use std::rt::Files;
 
-/// A fault of a plan and of traffic, by their paths and the text of the plan.
+/// A fault of a plan and of traffic, by their paths and the text of the plan. What can't be read again, as a pipe, isn't explained.
 pub(crate) fn of_traffic(
     rt: &(impl AllocGlobal + Files),
     plan: &str,
@@ -24,6 +26,7 @@ pub(crate) fn of_traffic(
         return unexplained(fault);
     }
     let said = match &fault {
+        Fault::Network(_) if !can_read_traffic_again(rt, plan, traffic) => None,
         Fault::Network(_) => match said_of_syntax(rt, traffic) {
             Some(said) => Some(said),
             None => explain_traffic(rt, plan, traffic),
@@ -34,7 +37,8 @@ pub(crate) fn of_traffic(
     Refusal { fault, said }
 }
 
-/// A fault of a network, by the path of its file, with the cause of a file that failed where it is noted.
+/// A fault of a network, by the path of its file, with the cause of a file that failed where it is noted. A network that can't be read
+/// again, as from a pipe, isn't explained.
 pub(crate) fn of_network(
     rt: &(impl AllocGlobal + Files),
     path: &str,
@@ -49,6 +53,7 @@ pub(crate) fn of_network(
         return unexplained(fault);
     }
     let said = match &fault {
+        Fault::Rounds(_) | Fault::Network(_) if !can_read_network_again(rt, path) => None,
         Fault::Rounds(line) => said_of_stopped(rt, path, line.as_str()),
         Fault::Network(_) => match said_of_syntax(rt, path) {
             Some(said) => Some(said),

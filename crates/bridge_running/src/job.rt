@@ -6,12 +6,11 @@ ghost use Rattle.bridge_running.specs.Files.{EndsReading, EndsSending, IsAccepte
 
 use crate::noting::Noted;
 use crate::running::run_over;
-use crate::sparing::take_outputs;
 use bridge_check::Accepted;
 use bridge_config::Command;
 use bridge_files::{
     FileId, Output, add_file, add_files, create_all, file_at, is_one_of, is_same_folder, open_all,
-    output_apart, report_path, take_text, test_folders,
+    output_apart, report_path, take_outputs, take_text, test_folders,
 };
 use bridge_inputs::RunFault;
 use bridge_jobs::{Cause, Fault, commanded, fault_of_file, plan_from};

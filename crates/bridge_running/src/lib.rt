@@ -5,10 +5,8 @@
 mod job;
 mod noting;
 mod running;
-mod sparing;
 mod transfer;
 
 pub use job::{read_job, send};
 pub use noting::Noted;
 pub use running::{Halted, run_over};
-pub use sparing::{regular_at, take_standard};

@@ -1,9 +1,10 @@
-//! Files that a run would write over what it wrote or reads: two outputs that are one file, an output into which the line of the
-//! run goes too.
+//! Files that a command would write over what it wrote or reads: two outputs that are one file, an output into which standard output
+//! goes too.
 ghost use Rattle.std.specs.Prelude.{IfErr};
 ghost use Rattle.bridge_files.specs.Files.{IsOfCaptures};
 
-use bridge_files::{FileId, add_file, capture_path, file_at, is_one_of};
+use crate::output::{FileId, add_file, file_at, is_one_of};
+use crate::paths::capture_path;
 use bridge_inputs::RunFault;
 use bridge_jobs::{Cause, Fault, NoMemory};
 use std::fs;
@@ -41,7 +42,7 @@ fn take_new(rt: &impl Files, path: &str, taken: &mut Vec<FileId>) -> Result<bool
 
 /// Takes the captures of ports in a folder, which are there already. The first that is one of those taken, as where it is
 /// the same file as one before it, is `File` of its path.
-pub(crate) fn take_outputs<H: AllocGlobal + Files>(
+pub fn take_outputs<H: AllocGlobal + Files>(
     rt: &H,
     folder: &str,
     ports: &[u8],

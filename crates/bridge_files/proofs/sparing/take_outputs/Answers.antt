@@ -1,6 +1,6 @@
 use Rattle.std.proofs.Common.{length, ◌<◌, rules}
 use Rattle.bridge_files.proofs.Failed.{index_in}
-use Rattle.bridge_running.proofs.sparing.take_outputs.Goals as goal
+use Rattle.bridge_files.proofs.sparing.take_outputs.Goals as goal
 
 pub returns-then-not-is_new : goal.returns-then-not-is_new
 returns-then-not-is_new g c =
