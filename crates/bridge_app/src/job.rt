@@ -1,6 +1,7 @@
 //! The job of a run over a folder of captures, with the tables and the picture that are asked for beside it.
 ghost use Rattle.std.specs.Prelude.{◌≡◌, ◌⊎◌, IfOk, IfErr, option_map, string_bytes};
 ghost use Rattle.bridge_config.specs.Commands.{AreCommands};
+ghost use Rattle.bridge_files.specs.Folders.{HavePaths};
 ghost use Rattle.bridge_running.specs.Files.{PrintsRun};
 ghost use Rattle.bridge_app.specs.Files.{EndsTabled, IsOfShowing, IsOfTables};
 ghost use Rattle.bridge_app.specs.Losing.{TellsLost, lost_if};
@@ -51,6 +52,7 @@ pub(crate) fn send_told<H: AllocGlobal + Files>(
     last: &mut Option<Last>,
 ) -> Result<RunLines, Fault>
     requires commands { AreCommands accepted.now orders.now }
+    ensures named { IfOk result (λ _. HavePaths (string_bytes input) (string_bytes output)) }
     ensures ok { IfOk result (λ lines. PrintsRun Global (string_bytes lines.line)) }
     ensures lost { IfOk result (λ lines. TellsLost Global is_strict (string_bytes lines.line) (string_bytes lines.lost)
         lines.is_lossy) }

@@ -4,6 +4,7 @@ ghost use Rattle.bridge_config.specs.Commands.{AreCommands};
 ghost use Rattle.bridge_jobs.specs.Accepting.{accepted_line};
 ghost use Rattle.bridge_jobs.specs.Jobs.{EndsCheck, PrintsAccepted};
 ghost use Rattle.bridge_check_app.specs.Checked.{EndsChecked};
+ghost use Rattle.bridge_files.specs.Folders.{HavePaths};
 ghost use Rattle.bridge_running.specs.Files.{PrintsRun};
 ghost use Rattle.bridge_app.specs.Files.{EndsTabled, EndsTold};
 ghost use Rattle.bridge_app.specs.Losing.{TellsLost};
@@ -217,6 +218,7 @@ pub fn judge_run_job<H: AllocGlobal + Files>(
     is_explained: bool,
 ) -> Result<StrictRun, Refusal>
     ensures ok { IfOk result (λ strict. IfSome strict.line (λ line. PrintsRun Global (string_bytes line))) }
+    ensures named { IfOk result (λ strict. IfSome strict.line (λ _. HavePaths (string_bytes input) (string_bytes output))) }
     ensures warned { IfOk result (λ strict. strict.is_warned ≡ true → strict.line ≡ None) }
     ensures left { IfOk result (λ strict. strict.line ≡ None → (strict.is_warned ≡ true) × (is_strict ≡ true)) }
     ensures none { IfOk result (λ strict. strict.line ≡ None → string_bytes strict.lost ≡ []) }
@@ -274,6 +276,7 @@ fn run_noted<H: AllocGlobal + Files>(
     noted: &mut Noted,
 ) -> Result<StrictRun, Fault>
     ensures ok { IfOk result (λ strict. IfSome strict.line (λ line. PrintsRun Global (string_bytes line))) }
+    ensures named { IfOk result (λ strict. IfSome strict.line (λ _. HavePaths (string_bytes input) (string_bytes output))) }
     ensures warned { IfOk result (λ strict. strict.is_warned ≡ true → strict.line ≡ None) }
     ensures left { IfOk result (λ strict. strict.line ≡ None → (strict.is_warned ≡ true) × (wishes.is_strict ≡ true)) }
     ensures none { IfOk result (λ strict. strict.line ≡ None → string_bytes strict.lost ≡ []) }
@@ -331,6 +334,7 @@ fn send_by<H: AllocGlobal + Files>(
 ) -> Result<StrictRun, Fault>
     requires commands { AreCommands accepted.now orders.now }
     ensures ok { IfOk result (λ strict. IfSome strict.line (λ line. PrintsRun Global (string_bytes line))) }
+    ensures named { IfOk result (λ strict. IfSome strict.line (λ _. HavePaths (string_bytes input) (string_bytes output))) }
     ensures warned { IfOk result (λ strict. strict.is_warned ≡ true → strict.line ≡ None) }
     ensures left { IfOk result (λ strict. strict.line ≡ None → (strict.is_warned ≡ true) × (wishes.is_strict ≡ true)) }
     ensures none { IfOk result (λ strict. strict.line ≡ None → string_bytes strict.lost ≡ []) }
@@ -410,6 +414,7 @@ fn send_strictly<H: AllocGlobal + Files>(
 ) -> Result<StrictRun, Fault>
     requires commands { AreCommands accepted.now orders.now }
     ensures ok { IfOk result (λ strict. IfSome strict.line (λ line. PrintsRun Global (string_bytes line))) }
+    ensures named { IfOk result (λ strict. IfSome strict.line (λ _. HavePaths (string_bytes input) (string_bytes output))) }
     ensures warned { IfOk result (λ strict. strict.is_warned ≡ true → strict.line ≡ None) }
     ensures left { IfOk result (λ strict. strict.line ≡ None → strict.is_warned ≡ true) }
     ensures none { IfOk result (λ strict. strict.line ≡ None → string_bytes strict.lost ≡ []) }

@@ -13,12 +13,12 @@ use Rattle.bridge_cli.specs.declared.job.Job.{Job}
 use Rattle.bridge_cli.specs.declared.request.Request.{Request}
 use Rattle.bridge_check_app.specs.Outputs.{Reports}
 use Rattle.bridge_check_app.specs.declared.output.Output.{Output}
-use Rattle.bridge_program.specs.Program.{IsOutput, IsOutputOf, IsRequest, PerformsRequest, RefusesWords}
+use Rattle.bridge_program.specs.Program.{IsOutput, IsOutputOf, IsRequest, MissesHelp, PerformsRequest, RefusesWords}
 
 -- the fault of words refuses them
-pub refuses_words : (words : List Text) (f : Fault) → IsOfWords f → (f ≡ fault.Words → (job : Job) → AsksFor words job → NamesPart words) → RefusesWords words f
-refuses_words words f (inl is) none = subst (RefusesWords words) (sym is) (none is)
-refuses_words words f (inr is) none = subst (RefusesWords words) (sym is) refl
+pub refuses_words : (words : List Text) (f : Fault) → MissesHelp words → IsOfWords f → (f ≡ fault.Words → (job : Job) → AsksFor words job → NamesPart words) → RefusesWords words f
+refuses_words words f missed (inl is) none = subst (RefusesWords words) (sym is) (missed, none is)
+refuses_words words f missed (inr is) none = subst (RefusesWords words) (sym is) refl
 
 -- words that are refused
 pub refused : (words : List Text) (f : Fault) (r : Result Output NoMemory) → RefusesWords words f → IfOk r (Reports (explains words) f) → IfOk r (IsOutput words)
@@ -41,7 +41,7 @@ four_is_zero h = search rules
 
 -- Status 0 means that the words ask for a command, and that it is done: no refusal and no failure ends with 0.
 pub zero_is_done : (words : List Text) (output : Output) → IsOutput words output → output.status ≡ 0 → (r : Request) × IsRequest words r × PerformsRequest r output
-zero_is_done words output (inl help) zero = absurd (four_is_zero (sym help.1.1.1.1 ∙ zero))
+zero_is_done words output (inl help) zero = absurd (four_is_zero (sym help.1.1.1.1.1 ∙ zero))
 zero_is_done words output (inr (inl refused)) zero = absurd (some_status refused.0 (sym refused.1.1.1.1.1.1 ∙ zero))
 zero_is_done words output (inr (inr (r, (is, inl done)))) zero = (r, (is, done))
 zero_is_done words output (inr (inr (r, (is, inr failed)))) zero = absurd (some_status failed.0 (sym failed.1.1.1.1.1.1 ∙ zero))

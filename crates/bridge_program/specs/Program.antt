@@ -1,12 +1,13 @@
 -- The program, from its words to what it prints and to its exit status.
 use Rattle.std.specs.Prelude.{◌≡◌, ◌⊎◌, ℕ, Bool, true, false, List, [], None, Option, Some, codes, is_some, option_map, string_bytes}
 use Rattle.std.specs.declared.alloc.Global.{Global}
-use Rattle.clap.specs.Words.{Row, Text, subcommand_of}
+use Rattle.std.specs.List.{list_any}
+use Rattle.clap.specs.Words.{Row, Text, fault_of, subcommand_of}
 use Rattle.bridge_inputs.specs.declared.fault.RunFault.TheVariants as run
 use Rattle.bridge_jobs.specs.declared.fault.Fault.{Fault}
 use Rattle.bridge_jobs.specs.declared.fault.Fault.TheVariants as fault
 use Rattle.bridge_cli.specs.CommandLine.{AsksFor, HasRoom, commands}
-use Rattle.bridge_cli.specs.Helping.{explains, is_strict}
+use Rattle.bridge_cli.specs.Helping.{AsksForHelp, IsHelp, explains, is_help_word, is_strict}
 use Rattle.bridge_cli.specs.Sketching.{AsksForPart, AsksForSketch, NamesPart}
 use Rattle.bridge_cli.specs.Tabling.{AsksForTables}
 use Rattle.bridge_cli.specs.declared.job.Job.{Job}
@@ -35,10 +36,14 @@ pub record IsRequest (words : List Text) (r : Request) : Type 0 where
   pub explained : r.is_explained ≡ explains words
   pub strict : r.is_strict ≡ is_strict words
 
--- Holds if the fault `f` refuses the words: they ask for no command, except that they may name a part of a run or of a plan; or memory
--- ran out for them.
+-- Holds if the words don't ask for help or for the version: one of them may be such a word, but `clap` has another answer to them.
+abbrev pub MissesHelp : List Text → Type 0
+MissesHelp words = list_any is_help_word words ≡ true → ¬ AsksForHelp (fault_of commands words)
+
+-- Holds if the fault `f` refuses the words: they ask neither for help nor for a command, except that they may name a part of a run or of
+-- a plan; or memory ran out for them.
 abbrev pub RefusesWords : List Text → Fault → Type 0
-RefusesWords words fault.Words = (job : Job) → AsksFor words job → NamesPart words
+RefusesWords words fault.Words = MissesHelp words × ((job : Job) → AsksFor words job → NamesPart words)
 RefusesWords words (fault.Run f) = f ≡ run.NoMemory
 RefusesWords words f = ⊥
 
@@ -49,7 +54,7 @@ abbrev pub PerformsJob : Job → Bool → Bool → Output → Type 0
 PerformsJob job.Text strict explained output = IsTextOutput output
 PerformsJob (job.Wire speed room input file) strict explained output = IsWireOutput (string_bytes file) output
 PerformsJob (job.Check plan) strict explained output = IsCheckOutput strict explained output
-PerformsJob (job.Run plan input folder commands) strict explained output = IsRunOutput strict explained output
+PerformsJob (job.Run plan input folder commands) strict explained output = IsRunOutput (string_bytes input) (string_bytes folder) strict explained output
 PerformsJob (job.Picture plan file) strict explained output = IsPictureOutput (string_bytes file) output
 PerformsJob (job.Bounds plan traffic) strict explained output = PerformsBounds (is_some traffic) strict explained output
 PerformsJob (job.Network network) strict explained output = IsNetworkOutput strict explained output
@@ -96,9 +101,10 @@ FailsRequest r f = FailsJob r.job r f
 abbrev pub IsOutputOf : Request → Output → Type 0
 IsOutputOf r output = PerformsRequest r output ⊎ ((f : Fault) × FailsRequest r f × Reports r.is_explained f output)
 
--- Holds if the program prints its help or its version, and nothing on standard error: the words ask for no command. The status is 4.
+-- Holds if the program prints its help or its version, and nothing on standard error: the words ask for that and for no command. The
+-- status is 4, that of words that ask for no command.
 abbrev pub IsHelpOutput : List Text → Output → Type 0
-IsHelpOutput words output = ((job : Job) → ¬ AsksFor words job) × ((text : List ℕ) × Prints text [] 4 output)
+IsHelpOutput words output = IsHelp (fault_of commands words) × (((job : Job) → ¬ AsksFor words job) × ((text : List ℕ) × Prints text [] 4 output))
 
 -- Holds if the program reports why it refuses the words.
 abbrev pub IsRefusal : List Text → Output → Type 0

@@ -3,7 +3,7 @@ ghost use Rattle.std.specs.Prelude.{[], ◌≡◌, IfErr, IfOk, None, false, is_
 ghost use Rattle.bridge_cli.specs.CommandLine.{HasRoom};
 ghost use Rattle.bridge_check_app.specs.Outputs.{Prints};
 ghost use Rattle.bridge_single.specs.Outputs.{IsPictureOutput};
-ghost use Rattle.bridge_program.specs.Program.{FailsPicture, FailsRequest, IsOutput, IsOutputOf, PerformsRequest};
+ghost use Rattle.bridge_program.specs.Program.{FailsPicture, FailsRequest, IsOutput, IsOutputOf, MissesHelp, PerformsRequest};
 
 use crate::bounds::{bound_plan, bound_traffic};
 use crate::networks::{check_network, draw_network, run_network};
@@ -56,6 +56,7 @@ fn perform_request<H: Input + AllocGlobal + Print + Eprint + Files>(
     words: &[String],
     is_watched: bool,
 ) -> Result<Output, NoMemory>
+    requires { MissesHelp (map string_bytes words.now) }
     ensures { IfOk result (IsOutput (map string_bytes words.now)) }
 {
     match request_of(rt.alloc(), words) {

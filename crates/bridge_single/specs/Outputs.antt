@@ -5,6 +5,7 @@ use Rattle.std.specs.Io.KnownBytes.{Appends}
 use Rattle.bridge_jobs.specs.declared.fault.Fault.{Fault}
 use Rattle.bridge_jobs.specs.Jobs.{PrintsAccepted}
 use Rattle.bridge_jobs.specs.Reading.{IsOfStandardFile}
+use Rattle.bridge_files.specs.Folders.{HavePaths}
 use Rattle.bridge_files.specs.Said.{IsStandard}
 use Rattle.bridge_wiring.specs.Jobs.{EndsText, IsCountsLine, PrintsText}
 use Rattle.bridge_running.specs.Files.{PrintsRun}
@@ -45,11 +46,11 @@ IsCheckOutput strict explained output =
 
 -- RUN
 
--- Holds if the program prints the line of a run, the lines about its plan, and the lines of lost frames if a loss is a fault. The status
--- is 1 exactly if there is a line of lost frames.
-abbrev pub IsDoneRun : Bool → Bool → Output → Type 0
-IsDoneRun strict explained output =
-    (line : List ℕ) × (notes : List ℕ) × (lost : List ℕ) × (lossy : Bool) × PrintsRun Global line × AreNotes strict explained notes false
+-- Holds if the program prints the line of a run between two folders that have a path, the lines about its plan, and the lines of lost
+-- frames if a loss is a fault. The status is 1 exactly if there is a line of lost frames.
+abbrev pub IsDoneRun : List ℕ → List ℕ → Bool → Bool → Output → Type 0
+IsDoneRun input folder strict explained output =
+    (line : List ℕ) × (notes : List ℕ) × (lost : List ℕ) × (lossy : Bool) × PrintsRun Global line × HavePaths input folder × AreNotes strict explained notes false
     × TellsLost Global strict line lost lossy × Prints line (notes ++ lost) (status_of false lossy) output
 
 -- Holds if nothing ran since the plan has a warning, and a warning is a fault: no line, and the status is 1.
@@ -57,8 +58,8 @@ abbrev pub IsIdleRun : Bool → Bool → Output → Type 0
 IsIdleRun strict explained output = (strict ≡ true) × ((notes : List ℕ) × AreNotes strict explained notes true × Prints [] notes 1 output)
 
 -- Holds if the program prints the output of a run, by whether a warning and a loss are faults and whether an explanation is asked for.
-abbrev pub IsRunOutput : Bool → Bool → Output → Type 0
-IsRunOutput strict explained output = IsDoneRun strict explained output ⊎ IsIdleRun strict explained output
+abbrev pub IsRunOutput : List ℕ → List ℕ → Bool → Bool → Output → Type 0
+IsRunOutput input folder strict explained output = IsDoneRun input folder strict explained output ⊎ IsIdleRun strict explained output
 
 -- The line of a run, if it ran.
 abbrev pub line_if : Option (String Global) → List ℕ

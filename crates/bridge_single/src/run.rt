@@ -36,7 +36,7 @@ pub fn run_bridge<H: AllocGlobal + Files>(
     job: RunJob,
     wishes: Wishes,
 ) -> Result<Output, Refusal>
-    ensures ok { IfOk result (IsRunOutput wishes.is_strict wishes.is_explained) }
+    ensures ok { IfOk result (IsRunOutput (string_bytes job.input) (string_bytes job.output) wishes.is_strict wishes.is_explained) }
     ensures fails { IfErr result (λ refusal. FailsRun job refusal.fault) }
     ensures plain { IfErr result (λ refusal. wishes.is_explained ≡ false → refusal.said ≡ None) }
 {
