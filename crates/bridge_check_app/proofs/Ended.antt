@@ -20,8 +20,8 @@ pub not_checked : (A : Type 0) (plan : List ℕ) (f : Fault) → IsOfFile plan f
 not_checked A plan f h = ([], of_file A plan f h)
 
 reported_with : (explained : Bool) (f : Fault) (explanation : Option (String Global)) (output : Output) → (explained ≡ false → explanation ≡ None) → ReportsFault f explanation output → Reports explained f output
-reported_with explained f None output plain told = ([], ((λ _. refl), (told.0, told.1)))
-reported_with explained f (Some s) output plain told = (told.1.0.0, ((λ is. absurd (some_is_none s (plain is))), (told.0, (told.1.0.1, told.1.1))))
+reported_with explained f None output plain told = ([], (λ _. refl), (told.0, told.1, told.2))
+reported_with explained f (Some s) output plain told = (told.1.0, (λ is. absurd (some_is_none s (plain is))), (told.0, told.1.1, told.2))
 
 -- a failure is reported, with an explanation only if one is asked for
 pub reported : (explained : Bool) (f : Fault) (explanation : Option (String Global)) (r : Result Output NoMemory) → (explained ≡ false → explanation ≡ None) → IfOk r (ReportsFault f explanation) → IfOk r (Reports explained f)

@@ -22,12 +22,12 @@ refuses_words words f missed (inr is) none = subst (RefusesWords words) (sym is)
 
 -- words that are refused
 pub refused : (words : List Text) (f : Fault) (r : Result Output NoMemory) → RefusesWords words f → IfOk r (Reports (explains words) f) → IfOk r (IsOutput words)
-refused words f (Ok output) refuses reports = inr (inl (f, (refuses, reports)))
+refused words f (Ok output) refuses reports = inr (inl (f, refuses, reports))
 refused words f (Err e) refuses reports = tt
 
 -- the output of what the words ask for
 pub asked : (words : List Text) (request : Request) (r : Result Output NoMemory) → IsRequest words request → IfOk r (IsOutputOf request) → IfOk r (IsOutput words)
-asked words request (Ok output) is of = inr (inr (request, (is, of)))
+asked words request (Ok output) is of = inr (inr (request, is, of))
 asked words request (Err e) is of = tt
 
 -- no fault has the status 0
@@ -41,7 +41,7 @@ four_is_zero h = search rules
 
 -- Status 0 means that the words ask for a command, and that it is done: no refusal and no failure ends with 0.
 pub zero_is_done : (words : List Text) (output : Output) → IsOutput words output → output.status ≡ 0 → (r : Request) × IsRequest words r × PerformsRequest r output
-zero_is_done words output (inl help) zero = absurd (four_is_zero (sym help.1.1.1.1.1 ∙ zero))
-zero_is_done words output (inr (inl refused)) zero = absurd (some_status refused.0 (sym refused.1.1.1.1.1.1 ∙ zero))
-zero_is_done words output (inr (inr (r, (is, inl done)))) zero = (r, (is, done))
-zero_is_done words output (inr (inr (r, (is, inr failed)))) zero = absurd (some_status failed.0 (sym failed.1.1.1.1.1.1 ∙ zero))
+zero_is_done words output (inl help) zero = absurd (four_is_zero (sym help.1.1.1.2 ∙ zero))
+zero_is_done words output (inr (inl refused)) zero = absurd (some_status refused.0 (sym refused.2.2.2 ∙ zero))
+zero_is_done words output (inr (inr (r, is, inl done))) zero = (r, is, done)
+zero_is_done words output (inr (inr (r, is, inr failed))) zero = absurd (some_status failed.0 (sym failed.2.2.2 ∙ zero))

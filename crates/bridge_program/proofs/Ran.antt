@@ -26,10 +26,10 @@ ran_by : (strict explained warned lossy : Bool) (rounds : ℕ) (line : Option (S
     → IsNetworkRunOutput strict explained output
 ran_by strict explained true lossy rounds (Some l) told output prints loses warned idle is = absurd (some_is_none l (warned refl))
 ran_by strict explained false lossy rounds (Some l) told output prints loses warned idle is =
-    inl (string_bytes l, (told, (rounds, (prints, (is.0, (some_rounds told (string_bytes output.stderr) explained is.1.0, is.1.1 ∙ ap (λ (b : Bool). status_of false b) loses))))))
+    inl (string_bytes l, told, rounds, prints, is.0, some_rounds told (string_bytes output.stderr) explained is.1, is.2 ∙ ap (λ (b : Bool). status_of false b) loses)
 ran_by strict explained false lossy rounds None told output prints loses warned idle is = absurd (false≢true (idle refl).0)
 ran_by strict explained true lossy rounds None told output prints loses warned idle is =
-    inr ((idle refl).1.0, (told, ((idle refl).1.1, (is.0, (plain_rounds told (string_bytes output.stderr) explained is.1.0, is.1.1)))))
+    inr ((idle refl).1.0, (told, (idle refl).1.1, (is.0, plain_rounds told (string_bytes output.stderr) explained is.1, is.2)))
 
 -- the output of a run of a network, by the clauses of the run
 pub ran : (strict explained : Bool) (s : RoundsSaid) (output : Output)

@@ -22,10 +22,10 @@ ran_by : (input folder : List ℕ) (strict explained warned lossy : Bool) (line 
     → IfSome line (λ l. TellsLost Global strict (string_bytes l) lost lossy)
     → Prints (line_if line) (told ++ lost) (status_of warned lossy) output → IsRunOutput input folder strict explained output
 ran_by input folder strict explained true lossy (Some l) told lost output prints named warned left none notes loses is = absurd (some_is_none l (warned refl))
-ran_by input folder strict explained false lossy (Some l) told lost output prints named warned left none notes loses is = inl (string_bytes l, (told, (lost, (lossy, (prints, (named, (notes, (loses, is))))))))
+ran_by input folder strict explained false lossy (Some l) told lost output prints named warned left none notes loses is = inl (string_bytes l, told, lost, lossy, prints, named, notes, loses, is)
 ran_by input folder strict explained false lossy None told lost output prints named warned left none notes loses is = absurd (false≢true (left refl).0)
 ran_by input folder strict explained true lossy None told lost output prints named warned left none notes loses is =
-    inr ((left refl).1, (told, (notes, (is.0, (is.1.0 ∙ ap (λ (x : List ℕ). told ++ x) (none refl) ∙ append-nil told, is.1.1)))))
+    inr ((left refl).1, (told, notes, (is.0, is.1 ∙ ap (λ (x : List ℕ). told ++ x) (none refl) ∙ append-nil told, is.2)))
 
 -- the output of a run, by the clauses of the run
 pub ran : (input folder : List ℕ) (strict explained : Bool) (r : StrictRun) (output : Output)
