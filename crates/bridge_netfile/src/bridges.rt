@@ -8,6 +8,7 @@ ghost use Rattle.bridge_netfile.specs.Rules as rules;
 ghost use Rattle.bridge_netfile.specs.Sections as sections;
 
 use crate::fault::{NetFault, NetField, NetPlace, NetSection};
+use crate::keys::BRIDGE_KEYS;
 use crate::reading::{are_known, name_at, text_at};
 use crate::rows::RowReader;
 use std::alloc::Allocator;
@@ -81,7 +82,7 @@ fn bridge_of<A: Allocator + Copy>(
     ensures own { IfOk result (λ b. rules.has_bridge earlier.now b.name ≡ false) }
     ensures name { IfOk result (λ b. is_name b.name ≡ true) }
 {
-    if !are_known(table, &[NetField::Name, NetField::Plan]) {
+    if !are_known(table, &BRIDGE_KEYS) {
         return Err(NetFault::UnknownKey(NetSection::Bridge, index));
     }
     let name = match name_at(table, of_bridge(index, NetField::Name)) {

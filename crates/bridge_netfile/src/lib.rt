@@ -4,6 +4,7 @@
 
 mod bridges;
 mod fault;
+mod keys;
 mod lines;
 mod links;
 mod names;
@@ -15,10 +16,16 @@ mod talkers;
 
 pub use bridges::BridgeRow;
 pub use fault::{NetFault, NetField, NetPlace, NetSection};
+pub use keys::{
+    BRIDGE_KEYS, DEADLINE, DELAY, FIRST_PORT, LAST_PORT, LINK_KEYS, LONGEST_NAME, MOST_HOPS,
+    MOST_OCTETS, NetAllowed, OCTETS, PERIOD, PHASE, STREAM_KEYS, TALKER_KEYS, TRAFFIC_KEYS,
+    allowed_at, fields_of,
+};
 pub use lines::{fault_line, refusal_line};
 pub use links::LinkRow;
+pub use names::is_in_form;
 pub use network::{NetworkFile, are_sections, document_of, network_of};
 pub use reading::{are_known, optional, required};
-pub use rows::{RowReader, items_of, read_rows};
+pub use rows::{RowReader, items_of, limit_of, read_rows};
 pub use streams::StreamRow;
 pub use talkers::Talker;

@@ -9,15 +9,13 @@ ghost use Rattle.bridge_netfile.specs.Sections as sections;
 
 use crate::bridges::BridgeRow;
 use crate::fault::{NetFault, NetField, NetPlace, NetSection};
+use crate::keys::{DELAY, FIRST_PORT, LAST_PORT, LINK_KEYS};
 use crate::names::end_of;
 use crate::reading::{are_known, default_to, required};
 use crate::rows::RowReader;
-use bridge_schema::{Between, Flaw, Kind};
+use bridge_schema::{Flaw, Kind};
 use std::alloc::Allocator;
 use toml::{Table, Value};
-
-/// The longest time for which a frame is under way over a link, in ns.
-const LONGEST_DELAY: u64 = 1_000_000_000;
 
 /// A full-duplex link between two ports.
 #[derive(Clone, Copy)]
@@ -47,7 +45,12 @@ impl<'a, A: Allocator + Copy> Kind for PortOf<'a, A> {
     #[tactic(auto, unfolding(crate::specs::Sections::port_text))]
     fn read(&self, value: &Value) -> Result<(u16, u8), Flaw> {
         match value {
-            Value::String(text) => match end_of(self.bridges, 1, 16, text.as_str()) {
+            Value::String(text) => match end_of(
+                self.bridges,
+                FIRST_PORT,
+                LAST_PORT,
+                text.as_str(),
+            ) {
                 Ok((bridge, port)) => Ok((bridge, port as u8)),
                 Err(flaw) => Err(flaw),
             },
@@ -79,7 +82,7 @@ fn link_of<A: Allocator + Copy>(
     ensures link { IfOk result (rules.IsLink (length bridges.now)) }
     ensures takes_no_memory { IfErr result (λ e. ¬ (e ≡ NoMemory)) }
 {
-    if !are_known(table, &[NetField::One, NetField::Other, NetField::Delay]) {
+    if !are_known(table, &LINK_KEYS) {
         return Err(NetFault::UnknownKey(NetSection::Link, index));
     }
     let ports = PortOf { bridges };
@@ -91,11 +94,7 @@ fn link_of<A: Allocator + Copy>(
         Ok(other) => other,
         Err(fault) => return Err(fault),
     };
-    let delays = Between {
-        low: 0,
-        high: LONGEST_DELAY,
-    };
-    let delay = match default_to(0, table, of_link(index, NetField::Delay), &delays) {
+    let delay = match default_to(0, table, of_link(index, NetField::Delay), &DELAY) {
         Ok(delay) => delay,
         Err(fault) => return Err(fault),
     };

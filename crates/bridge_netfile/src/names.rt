@@ -4,11 +4,9 @@ ghost use Rattle.std.specs.List.{list_all};
 ghost use Rattle.bridge_netfile.specs.Names as spec;
 
 use crate::bridges::BridgeRow;
+use crate::keys::LONGEST_NAME;
 use bridge_schema::Flaw;
 use std::alloc::Allocator;
-
-/// The most octets of a name.
-const LONGEST_NAME: usize = 32;
 
 /// Whether a character may stand in a name: a letter, a digit, a hyphen or an underscore.
 fn is_of_name(c: u8) -> bool
@@ -56,7 +54,7 @@ fn named_in(text: &str, low: u32, high: u32) -> Option<(&str, u32)>
 }
 
 /// Whether a text names a port or a filter of some bridge: a text, a dot, and a number from `low` to `high`.
-pub(crate) fn is_in_form(text: &str, low: u32, high: u32) -> bool
+pub fn is_in_form(text: &str, low: u32, high: u32) -> bool
     ensures { result ≡ spec.is_in_form low high text.now }
 {
     named_in(text, low, high).is_some()

@@ -10,15 +10,13 @@ ghost use Rattle.bridge_netfile.specs.Rules as rules;
 
 use crate::bridges::{BridgeRow, Bridges};
 use crate::fault::{NetFault, NetField, NetPlace, NetSection};
+use crate::keys::MOST_OCTETS;
 use crate::links::{LinkRow, Links};
 use crate::rows::{items_of, read_rows};
 use crate::streams::{StreamRow, Streams};
 use std::alloc::{Allocator, Global};
 use std::marker::Model;
 use toml::{Table, Value};
-
-/// The most octets of a text.
-const MOST_OCTETS: usize = 1_048_576;
 
 /// The text of a network, read. It comes from `network_of` alone, and keeps the rules of networks.
 #[derive(Drop)]

@@ -15,7 +15,7 @@ use std::alloc::Allocator;
 use toml::{Table, Value};
 
 /// The most instances of a section.
-fn limit_of(section: NetSection) -> usize
+pub fn limit_of(section: NetSection) -> usize
     ensures { result ≡ spec.limit_of section }
 {
     match section {

@@ -14,33 +14,18 @@ ghost use Rattle.std.specs.Option.{ForSome};
 
 use crate::bridges::BridgeRow;
 use crate::fault::{NetFault, NetField, NetPlace, NetSection};
+use crate::keys::{DEADLINE, MOST_HOPS, STREAM_KEYS};
 use crate::names::{end_of, is_in_form};
 use crate::reading::{are_known, flawed, name_at, optional};
 use crate::rows::RowReader;
 use crate::talkers::{Talker, talker_in};
-use bridge_limits::END_OF_TIME;
-use bridge_schema::{Between, Flaw, value_at};
+use bridge_schema::{Flaw, value_at};
 use std::alloc::Allocator;
 use std::marker::Model;
 use toml::{Table, Value};
 
 /// The largest number of a filter.
 const LARGEST_NUMBER: u32 = u32::MAX;
-
-/// The keys of a stream.
-const KEYS: [NetField; 8] = [
-    NetField::Name,
-    NetField::Hops,
-    NetField::Period,
-    NetField::From,
-    NetField::To,
-    NetField::Least,
-    NetField::Longest,
-    NetField::Deadline,
-];
-
-/// The most hops of a stream.
-const MOST_HOPS: usize = 64;
 
 /// A stream of a network. Contracts see all of it.
 #[derive(Drop)]
@@ -258,11 +243,7 @@ fn deadline_in(index: u32, table: &Table) -> Result<Option<u64>, NetFault>
         (between 0 END_OF_TIME) (table_view table.now)) }
     ensures soon { IfOk result (λ x. ForSome x (λ d. d ≤ END_OF_TIME)) }
 {
-    let times = Between {
-        low: 0,
-        high: END_OF_TIME,
-    };
-    optional(table, of_stream(index, NetField::Deadline), &times)
+    optional(table, of_stream(index, NetField::Deadline), &DEADLINE)
 }
 
 /// The stream of a table, by those before it, where these are the bridges.
@@ -279,7 +260,7 @@ fn stream_of<A: Allocator + Copy>(
     ensures own { IfOk result (λ s. rules.has_stream earlier.now s.name ≡ false) }
     ensures stream { IfOk result (rules.IsStream (length bridges.now)) }
 {
-    if !are_known(table, &KEYS) {
+    if !are_known(table, &STREAM_KEYS) {
         return Err(NetFault::UnknownKey(NetSection::Stream, index));
     }
     let name = match name_at(table, of_stream(index, NetField::Name)) {

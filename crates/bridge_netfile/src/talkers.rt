@@ -9,8 +9,8 @@ ghost use Rattle.bridge_netfile.specs.Rules.{IsTalker};
 ghost use Rattle.bridge_netfile.specs.Sections as sections;
 
 use crate::fault::{NetFault, NetField, NetPlace, NetSection};
+use crate::keys::{OCTETS, PERIOD, PHASE, TALKER_KEYS};
 use crate::reading::required;
-use bridge_limits::{END_OF_TIME, LONGEST_FRAME};
 use bridge_schema::{Between, value_at};
 use toml::{Table, Value};
 
@@ -29,33 +29,6 @@ pub struct Talker {
     /// The octets of the longest one.
     pub longest: u32,
 }
-
-/// The keys of what a talker keeps to.
-const KEYS: [NetField; 5] = [
-    NetField::Period,
-    NetField::From,
-    NetField::To,
-    NetField::Least,
-    NetField::Longest,
-];
-
-/// A period, in ns.
-const PERIOD: Between = Between {
-    low: 1,
-    high: END_OF_TIME,
-};
-
-/// A phase of a period, in ns.
-const PHASE: Between = Between {
-    low: 0,
-    high: END_OF_TIME - 1,
-};
-
-/// The octets of a frame.
-const OCTETS: Between = Between {
-    low: 1,
-    high: LONGEST_FRAME as u64,
-};
 
 /// Whether there is a value.
 fn is_there(value: Option<&Value>) -> bool
@@ -106,7 +79,7 @@ fn talker_of(index: u32, table: &Table) -> Result<Talker, NetFault>
     let least = required(table, at(NetField::Least), &OCTETS)?;
     let longer = Between {
         low: least,
-        high: LONGEST_FRAME as u64,
+        high: OCTETS.high,
     };
     let longest = required(table, at(NetField::Longest), &longer)?;
     Ok(Talker {
@@ -124,7 +97,7 @@ pub(crate) fn talker_in(index: u32, table: &Table) -> Result<Option<Talker>, Net
     ensures talker { IfOk result (λ t. ForSome t IsTalker) }
     ensures takes_no_memory { IfErr result (λ e. ¬ (e ≡ NoMemory)) }
 {
-    if !has_any(table, &KEYS) {
+    if !has_any(table, &TALKER_KEYS) {
         return Ok(None);
     }
     let talker = talker_of(index, table)?;

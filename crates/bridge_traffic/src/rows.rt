@@ -7,12 +7,12 @@ ghost use Rattle.bridge_netfile.specs.Reading.{Gives};
 ghost use Rattle.bridge_traffic.specs.Rows as spec;
 ghost use Rattle.bridge_traffic.specs.Rows.{AreRows, IsRow};
 
-use bridge_limits::{END_OF_TIME, LONGEST_FRAME};
 use bridge_netfile::{
-    NetFault, NetField, NetPlace, NetSection, RowReader, are_known, optional, required,
+    DEADLINE, NetFault, NetField, NetPlace, NetSection, OCTETS, PERIOD, PHASE, RowReader,
+    TRAFFIC_KEYS, are_known, optional, required,
 };
 use bridge_periods::Traffic;
-use bridge_schema::Between;
+use bridge_schema::{Between, NUMBER};
 use std::alloc::Allocator;
 use toml::Table;
 
@@ -26,47 +26,6 @@ pub struct TrafficRow {
     /// How long one may take at most in each queue, in ns from when it came until it is done.
     pub deadline: Option<u64>,
 }
-
-/// The keys of a row.
-const KEYS: [NetField; 7] = [
-    NetField::Filter,
-    NetField::Period,
-    NetField::From,
-    NetField::To,
-    NetField::Least,
-    NetField::Longest,
-    NetField::Deadline,
-];
-
-/// The number of a filter.
-const NUMBER: Between = Between {
-    low: 0,
-    high: 4_294_967_295,
-};
-
-/// A period, in ns.
-const PERIOD: Between = Between {
-    low: 1,
-    high: END_OF_TIME,
-};
-
-/// A phase of a period, in ns.
-const PHASE: Between = Between {
-    low: 0,
-    high: END_OF_TIME - 1,
-};
-
-/// The octets of a frame.
-const OCTETS: Between = Between {
-    low: 1,
-    high: LONGEST_FRAME as u64,
-};
-
-/// A length of time, in ns.
-const TIME: Between = Between {
-    low: 0,
-    high: END_OF_TIME,
-};
 
 /// The place of a key of a row, by the row's place.
 fn place_of(index: u32, field: NetField) -> NetPlace
@@ -86,7 +45,7 @@ fn row_of(index: u32, table: &Table) -> Result<TrafficRow, NetFault>
     ensures row { IfOk result IsRow }
     ensures takes_no_memory { IfErr result (λ e. ¬ (e ≡ NoMemory)) }
 {
-    if !are_known(table, &KEYS) {
+    if !are_known(table, &TRAFFIC_KEYS) {
         return Err(NetFault::UnknownKey(NetSection::Traffic, index));
     }
     let filter = required(table, place_of(index, NetField::Filter), &NUMBER)?;
@@ -106,10 +65,10 @@ fn row_of(index: u32, table: &Table) -> Result<TrafficRow, NetFault>
     let least = required(table, place_of(index, NetField::Least), &OCTETS)?;
     let longer = Between {
         low: least,
-        high: LONGEST_FRAME as u64,
+        high: OCTETS.high,
     };
     let longest = required(table, place_of(index, NetField::Longest), &longer)?;
-    let deadline = optional(table, place_of(index, NetField::Deadline), &TIME)?;
+    let deadline = optional(table, place_of(index, NetField::Deadline), &DEADLINE)?;
     Ok(TrafficRow {
         filter: filter as u32,
         traffic: Traffic {
