@@ -7,6 +7,7 @@ ghost use Rattle.std.specs.Prelude.{◌≡◌, None, false};
 use crate::late::{Last, put_late};
 use crate::noting::Refusal;
 use bridge_advice::{explain_check, warn_of_plan};
+use bridge_capture::{Capture, CaptureFault, MAX_RECORDS, ReadAhead};
 use bridge_check::{Accepted, CheckFault};
 use bridge_config::{Command, plan_of};
 use bridge_explain::{
@@ -15,9 +16,8 @@ use bridge_explain::{
 };
 use bridge_files::{capture_path, cause_of_read, is_standard, is_there};
 use bridge_inputs::RunFault;
-use bridge_jobs::{Cause, Fault, read_at_most, read_text};
+use bridge_jobs::{Cause, Fault, read_at_most};
 use bridge_running::Noted;
-use bridge_schema::PlanFault;
 use bridge_text::Text;
 use std::alloc::Global;
 use std::fs;
@@ -59,17 +59,6 @@ pub fn said_of_unread(rt: &(impl AllocGlobal + Files), fault: &Fault) -> Option<
         Err(error) => cause_of_read(rt, path.as_str(), &error),
     };
     explain_file(rt.alloc(), path.as_str(), cause).ok()
-}
-
-/// Returns where and why a file isn't TOML text. The file is read again. None if it is TOML, too long or not readable.
-pub fn said_of_syntax(rt: &(impl AllocGlobal + Files), path: &str) -> Option<String> {
-    let alloc = rt.alloc();
-    let reader = fs::open(rt, path).ok()?;
-    let text = read_text(alloc, reader).ok()?;
-    match plan_of(alloc, alloc, &text) {
-        Err(PlanFault::Syntax) => explain_plan(alloc, path, &text, &PlanFault::Syntax).ok(),
-        _ => None,
-    }
 }
 
 /// What is told of a plan that is refused, by the path of its file and its text, or of a file that failed, by its cause.
@@ -247,6 +236,34 @@ pub(crate) fn refusal_of_wire(
         _ => None,
     };
     Refusal { fault, said }
+}
+
+/// Returns why the capture of a file is refused, found by reading the file again. None if it isn't refused then, or is no regular file.
+pub fn said_of_capture_at(rt: &(impl AllocGlobal + Files), path: &str) -> Option<String> {
+    let fault = capture_fault(rt, path)?;
+    said_of_capture(rt, path, &RunFault::Capture { port: 1, fault })
+}
+
+/// The fault of the capture of a file.
+fn capture_fault<H: AllocGlobal + Files>(rt: &H, path: &str) -> Option<CaptureFault> {
+    if !fs::metadata(rt, path).ok()?.is_file() {
+        return None;
+    }
+    let reader = fs::open(rt, path).ok()?;
+    let mut source = ReadAhead::new(rt.alloc(), reader).ok()?;
+    let mut capture = match Capture::begin(&mut source) {
+        Ok(capture) => capture,
+        Err(fault) => return Some(fault),
+    };
+    let mut octets = Vec::new(rt.alloc());
+    for _record in 0..=MAX_RECORDS {
+        match capture.read_into(&mut octets, &mut source) {
+            Ok(Some(_)) => {}
+            Ok(None) => return None,
+            Err(fault) => return Some(fault),
+        }
+    }
+    None
 }
 
 /// What is told of a capture that is refused, or not read, by its first octets, where they can be read again.

@@ -13,7 +13,9 @@ mod tables;
 mod wiring;
 
 pub use bounding::bounds_warning;
-pub use explaining::{said_of_file, said_of_plan, said_of_syntax, said_of_unread, said_of_words};
+pub use explaining::{
+    said_of_capture_at, said_of_file, said_of_plan, said_of_unread, said_of_words,
+};
 pub use noting::Refusal;
 pub use picturing::{picture_apart, told_picture_job, told_picture_text, write_picture};
 pub use strict::{CheckedPlan, StrictRun, judge_run_job, told_check_job};

@@ -1,14 +1,13 @@
 //! The lists of ports and gates, entry by entry.
 
-use crate::document::{Source, items_in, number_in, put_place, table_of, value_of};
+use crate::document::{Source, put_place, table_of, value_of};
 use crate::faults::put_allowed;
-use crate::text::{Said, fill_one};
-use crate::value::{first_of, put_is};
 use bridge_cycle::{CyclicList, LONGEST_CYCLE, ListFault, MOST_ENTRIES};
 use bridge_schema::{
     Allowed, Between, Field, Key, Kind, LENGTH, ListKeys, Presence, Section, Switch, entry_keys,
     lists_of,
 };
+use bridge_values::{Said, fill_one, first_of, items_in, number_in, put_is};
 use std::alloc::Global;
 use toml::{Table, Value};
 

@@ -1,15 +1,15 @@
 //! The sentences on each fault of a plan or of commands.
 
-use crate::document::{Source, items_of, number_in, put_place, put_too_many, table_of, value_of};
+use crate::document::{Source, items_of, put_place, table_of, value_of};
 use crate::entries::{put_items, put_list};
 use crate::strays::{key_among, put_stray, put_top_key};
-use crate::text::{Said, fill_one};
-use crate::value::{first_of, put_is};
 use bridge_config::limit_of;
 use bridge_cycle::LONGEST_CYCLE;
-use bridge_places::{put_position, top_position};
 use bridge_schema::{
     Allowed, Between, Field, Key, Place, PlanFault, Section, entry_keys, keys_of, own_key,
+};
+use bridge_values::{
+    Said, fill_one, first_of, number_in, put_is, put_no_list, put_too_many, twin_of,
 };
 use std::alloc::Global;
 use toml::{Table, Value};
@@ -22,13 +22,18 @@ pub(crate) fn put_fault(alloc: Global, said: &mut Said, source: Source<'_>, faul
     match *fault {
         PlanFault::UnknownKey(Section::Top, _) => put_top_key(alloc, said, source),
         PlanFault::UnknownKey(section, index) => put_stray(alloc, said, source, section, index),
-        PlanFault::NotAList(section) => put_no_list(said, source, section.name()),
+        PlanFault::NotAList(section) => put_no_list(said, source.document(), section.name()),
         PlanFault::Missing(place)
         | PlanFault::WrongKind(place)
         | PlanFault::OutOfRange(place)
         | PlanFault::Unresolved(place) => put_at(said, source, place),
         PlanFault::Duplicate(section, index) => put_duplicate(said, source, section, index),
-        PlanFault::TooMany(section) => put_too_many(said, source, section, limit_of(section)),
+        PlanFault::TooMany(section) => put_too_many(
+            said,
+            source.document(),
+            section.name(),
+            limit_of(section),
+        ),
         PlanFault::BadList(section, index, fault) => put_list(
             alloc, said, source, section, index, fault,
         ),
@@ -39,15 +44,6 @@ pub(crate) fn put_fault(alloc: Global, said: &mut Said, source: Source<'_>, faul
             ": the text can't be read.\n",
         ),
     }
-}
-
-/// Adds that a section is no array of tables.
-fn put_no_list(said: &mut Said, source: Source<'_>, name: &str) {
-    put_position(said, top_position(source.text, name));
-    let value = source.document.get(name);
-    put_is(said, "`{a}` is ", 0, name, value, "absent");
-    let advice = "It must be an array of tables: write `[[{a}]]` above the keys of each.\n";
-    fill_one(said, advice, 0, name);
 }
 
 /// Adds what stands at a key of an instance, and what may stand there.
@@ -205,49 +201,28 @@ fn put_may(said: &mut Said, source: Source<'_>, allowed: Allowed) {
     said.put(".\n");
 }
 
-/// Whether two values are one number or one address.
-fn is_same(one: Option<&Value>, other: Option<&Value>) -> bool {
-    match (one, other) {
-        (Some(Value::Integer(one)), Some(Value::Integer(other))) => *one == *other,
-        (Some(Value::String(one)), Some(Value::String(other))) => {
-            one.as_str().eq_ignore_ascii_case(other.as_str())
-        }
-        _ => false,
-    }
-}
-
-/// The place, from 1, of the first of some tables that has the same at one key, and at another one if there is one, as a
-/// table; 0 where none has.
-fn twin_of(items: &[Value], table: Option<&Table>, key: Field, more: Option<Field>) -> usize {
-    let mut place = 0usize;
-    for item in items {
-        place = place.saturating_add(1);
-        let one = item.as_table();
-        let is_twin = match more {
-            Some(more) => is_same(value_of(one, more), value_of(table, more)),
-            None => true,
-        };
-        if is_twin && is_same(value_of(one, key), value_of(table, key)) {
-            return place;
-        }
-    }
-    0
-}
-
 /// Adds which earlier instance an instance of a section repeats.
 fn put_duplicate(said: &mut Said, source: Source<'_>, section: Section, index: u32) {
-    let (more, keys) = match section {
-        Section::Static => (Some(Field::Address), "`vid` and `address`"),
-        Section::Vlan => (None, "`vid`"),
-        _ => (None, "`number`"),
-    };
+    let (own, address) = (own_key(section).key(), Field::Address.key());
     let table = table_of(source.document, section, index);
     let items = items_of(source.document, section);
-    let twin = twin_of(items, table, own_key(section), more);
+    let (twin, keys) = match section {
+        Section::Static => (
+            twin_of(items, table, &[own, address], false),
+            "`vid` and `address`",
+        ),
+        Section::Vlan => (twin_of(items, table, &[own], false), "`vid`"),
+        _ => (twin_of(items, table, &[own], false), "`number`"),
+    };
     put_place(said, source, section, index, None);
+    put_twin(said, section.name(), twin, keys);
+}
+
+/// Adds the place of the earlier instance of a section that has the same at some keys.
+pub(crate) fn put_twin(said: &mut Said, section: &str, twin: u64, keys: &str) {
     said.fill(
         "`{a}` {0} of the file has the same {b}. Each `{a}` needs a {b} of its own.\n",
-        &[twin as u64],
-        &[section.name(), keys],
+        &[twin],
+        &[section, keys],
     );
 }

@@ -1,14 +1,11 @@
 //! Keys that may not stand where they do.
 
-use crate::document::{Source, items_in, items_of, put_place, table_of};
-use crate::nearest::nearest_name;
-use crate::text::{Said, fill_one};
-use crate::value::put_key;
-use bridge_places::{put_position, top_position};
+use crate::document::{Source, items_of, put_place, table_of};
 use bridge_schema::{
     COMMAND_SECTIONS, Field, Hindrance, Key, PLAN_SECTIONS, Section, entry_keys, hindrance_of,
     keys_of, lists_of,
 };
+use bridge_values::{KEYS, Said, fill_one, items_in, put_key, put_nearest, put_stray_section};
 use std::alloc::Global;
 use toml::{Table, Value};
 
@@ -22,48 +19,16 @@ pub(crate) fn key_among(keys: &'static [Key], name: &str) -> Option<&'static Key
     None
 }
 
-/// Adds the nearest of the names of some sections and keys, or all where none is near.
-fn put_nearest(
-    alloc: Global,
-    said: &mut Said,
-    word: &str,
-    sections: &'static [Section],
-    keys: &'static [Key],
-) {
+/// Adds the nearest of some keys to a word, or all where none is near.
+fn put_nearest_key(alloc: Global, said: &mut Said, word: &str, keys: &'static [Key]) {
     let (mut names, mut is_refused) = (Vec::new(alloc), false);
-    for section in sections {
-        is_refused |= names.push(section.name()).is_err();
-    }
     for key in keys {
         is_refused |= names.push(key.0.key()).is_err();
     }
     if is_refused {
         said.give_up();
     }
-    match nearest_name(alloc, said, "", word, &names) {
-        Some(name) => fill_one(said, "The nearest key is `{a}`.\n", 0, name),
-        None => put_all(said, &names),
-    }
-}
-
-/// Adds all of some names.
-fn put_all(said: &mut Said, names: &[&'static str]) {
-    let mut template = "The keys are `{a}`";
-    for name in names {
-        fill_one(said, template, 0, *name);
-        template = ", `{a}`";
-    }
-    said.put(".\n");
-}
-
-/// Whether a name is that of one of some sections.
-fn is_section(sections: &[Section], name: &str) -> bool {
-    for section in sections {
-        if section.name() == name {
-            return true;
-        }
-    }
-    false
+    put_nearest(alloc, said, word, &names, KEYS);
 }
 
 /// Adds which key of the top is none, and the nearest.
@@ -73,16 +38,14 @@ pub(crate) fn put_top_key(alloc: Global, said: &mut Said, source: Source<'_>) {
     } else {
         &PLAN_SECTIONS
     };
-    for (key, _) in source.document.iter() {
-        let key = key.as_str();
-        if !is_section(sections, key) {
-            put_position(said, top_position(source.text, key));
-            put_key(said, key);
-            said.put(" isn't a section.\n");
-            return put_nearest(alloc, said, key, sections, &[]);
-        }
+    let (mut names, mut is_refused) = (Vec::new(alloc), false);
+    for section in sections {
+        is_refused |= names.push(section.name()).is_err();
     }
-    said.put(": all top-level keys are known.\n");
+    if is_refused {
+        said.give_up();
+    }
+    put_stray_section(alloc, said, source.document(), &names);
 }
 
 /// The first key of a table that may not stand there, of those that may.
@@ -153,7 +116,7 @@ fn put_in_lists(
             put_key(said, key);
             let template = ", in entry {0} of `{a}`, isn't a key of entries.\n";
             fill_one(said, template, number, list);
-            return put_nearest(alloc, said, key, &[], keys);
+            return put_nearest_key(alloc, said, key, keys);
         }
     }
     put_place(said, source, section, index, None);
@@ -194,7 +157,7 @@ fn put_in_table(
         Some(Hindrance::NoChange) => said.put(" needs a `[[change]]` in the plan.\n"),
         None => {
             fill_one(said, " isn't a key of `{a}`.\n", 0, section.name());
-            put_nearest(alloc, said, key, &[], keys);
+            put_nearest_key(alloc, said, key, keys);
         }
     }
 }

@@ -2,13 +2,12 @@
 ghost use Rattle.std.specs.Prelude.{IfOk, codes, string_bytes};
 ghost use Rattle.bridge_text.specs.Named.{BeginsWith};
 
-use crate::nearest::nearest_name;
-use crate::text::{Said, fill_one, fill_two};
-use crate::value::put_text;
+use crate::text::fill_two;
 use bridge_cli::OPTIONS;
 use bridge_limits::NoMemory;
 use bridge_manual::{Call, call_of, command_names, has_value, option_names};
 use bridge_text::{Text, behind};
+use bridge_values::{Said, fill_one, nearest_name, put_text};
 use std::alloc::Global;
 
 /// Whether a word is an option, and of what name.

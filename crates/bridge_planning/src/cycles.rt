@@ -1,181 +1,282 @@
-//! What is told beside the line of traffic that is refused: of a period that isn't a multiple of each cycle on the way of its frames,
-//! which cycles there are, and which of them it doesn't suit. Nothing here can fail: what can't be read again is left out.
+//! What is told beside the line of traffic that is refused by its plan, and of a talker whose period doesn't suit the plans of a network:
+//! which filter or which cycles are there, and what to change. Nothing here can fail: what can't be read again is left out.
 
-use crate::reporting::rows_from;
-use crate::text_faults::{explain_traffic_text, said_of};
+use crate::hop_faults::put_protected;
+use crate::texts::{NetworkText, text_of};
 use crate::traffic::{comes_to, row_fault};
 use bridge_bounds::{filter_at, gate_at};
-use bridge_check::reach_of;
+use bridge_check::{Accepted, reach_of};
 use bridge_config::Plan;
 use bridge_cycle::{Egress, Timeline};
 use bridge_filter::FilterPlan;
 use bridge_gate::Schedule;
 use bridge_jobs::planned;
-use bridge_netfile::{NetFault, NetField};
+use bridge_netfile::{NetFault, NetField, NetSection, document_of};
+use bridge_places::put_position;
 use bridge_text::Text;
-use bridge_traffic::{TrafficFault, TrafficRow};
+use bridge_traffic::{TrafficFault, TrafficRow, traffic_of};
+use bridge_values::{Document, Instance};
 use std::alloc::Global;
 use std::fs;
 use std::rt::Files;
 
-/// What is told of the traffic of a file that is refused, by the plan of another one, made anew of both.
+/// Traffic of a file for the plan of another one.
+#[derive(Clone, Copy)]
+struct TrafficText<'a> {
+    /// The path of the file.
+    path: &'a str,
+    /// Its text with its document.
+    document: Document<'a>,
+    /// The path of the plan.
+    plan: &'a str,
+}
+
+/// Returns why the traffic of a file is refused by the plan of another one, made anew of both. The text of the traffic is accepted.
 pub fn explain_traffic<H: AllocGlobal + Files>(
     rt: &H,
     plan: &str,
     traffic: &str,
 ) -> Option<String> {
     let alloc = rt.alloc();
+    let octets = text_of(rt, traffic)?;
+    let text = str::from_utf8(&octets).ok()?;
+    let Ok(table) = document_of(alloc, &octets) else {
+        return None;
+    };
+    let Ok(rows) = traffic_of(alloc, alloc, &octets) else {
+        return None;
+    };
     let path = String::from_str(alloc, plan).ok()?;
-    let file = String::from_str(alloc, traffic).ok()?;
     let reader = fs::open(rt, plan).ok()?;
-    let texts = fs::open(rt, traffic).ok()?;
     let accepted = match planned(alloc, alloc, path, reader) {
         Ok(accepted) => accepted,
         Err(_) => return None,
     };
-    let said = match rows_from(alloc, alloc, file, texts) {
-        Ok(rows) => said_of_rows(alloc, traffic, accepted.plan(), &rows),
-        Err(_) => explain_traffic_text(rt, traffic),
+    let asked = TrafficText {
+        path: traffic,
+        document: Document {
+            text,
+            table: &table,
+        },
+        plan,
     };
+    let said = said_of_rows(alloc, asked, accepted.plan(), &rows);
     drop(accepted);
     said
 }
 
-/// Whether the fault of a row is its period, which doesn't suit some cycle.
-fn is_of_period(fault: Option<TrafficFault>) -> bool {
-    match fault {
-        Some(TrafficFault::Text(NetFault::OutOfRange(place))) => place.field == NetField::Period,
-        _ => false,
-    }
-}
-
-/// Returns what is told of another fault of a row: its filter isn't there, or isn't protected.
-fn said_of_fault(
-    alloc: Global,
-    file: &str,
-    index: u32,
-    row: &TrafficRow,
-    fault: &TrafficFault,
-) -> Option<String> {
-    match fault {
-        TrafficFault::Text(fault) => said_of(alloc, file, fault),
-        TrafficFault::NotProtected(_) => {
-            let mut said = Text::new(alloc);
-            said.fill(
-                "{a}: filter {1} of `traffic` {0} isn't protected, so it has no delay bound. Set `protected = true` in the plan.\n",
-                &[u64::from(index), u64::from(row.filter)],
-                &[file],
-            );
-            said.done().ok()
-        }
-    }
+/// Adds the path of the file of traffic, and where a key of a row stands, by the place of the row, from 1.
+fn put_place(said: &mut Text<Global>, asked: TrafficText<'_>, index: u32, field: NetField) {
+    let row = Instance {
+        document: asked.document,
+        section: NetSection::Traffic.name(),
+        index,
+    };
+    said.put(asked.path);
+    put_position(said, row.position(Some(field.key())));
 }
 
 /// What is told of the first row that doesn't suit the plan.
 fn said_of_rows(
     alloc: Global,
-    file: &str,
+    asked: TrafficText<'_>,
     plan: &Plan<Global>,
     rows: &[TrafficRow],
 ) -> Option<String> {
     let mut index: u32 = 0;
     for row in rows {
         index = index.saturating_add(1);
-        let fault = row_fault(plan, index, row);
-        if is_of_period(fault) {
-            return said_of_row(alloc, file, plan, index, row);
-        }
-        if let Some(fault) = fault {
-            return said_of_fault(alloc, file, index, row, &fault);
+        match row_fault(plan, index, row) {
+            None => {}
+            Some(TrafficFault::Text(NetFault::OutOfRange(_))) => {
+                return said_of_row(alloc, asked, plan, index, row);
+            }
+            Some(_) => return said_of_filter(alloc, asked, plan, index, row.filter),
         }
     }
     None
 }
 
-/// Adds a cycle, and whether the period suits it.
-fn put_cycle(said: &mut Text<Global>, what: &str, number: u32, cycle: u64, period: u64) {
-    let template = if cycle > 0 && period % cycle == 0 {
-        "{a} {0} has a cycle of {1} ns.\n"
-    } else {
-        "{a} {0} has a cycle of {1} ns, and the period isn't a multiple of it.\n"
+/// What is told of a row whose filter the plan doesn't have or doesn't protect.
+fn said_of_filter(
+    alloc: Global,
+    asked: TrafficText<'_>,
+    plan: &Plan<Global>,
+    index: u32,
+    number: u32,
+) -> Option<String> {
+    let (template, remedy) = match filter_at(plan.filters(), number) {
+        Some(_) => (
+            "`filter` of `traffic` {0} is {1}, but the plan {a} doesn't protect this filter, so it has no delay bound.\n",
+            "Correct the number, or set `protected = true` in the filter.\n",
+        ),
+        None => (
+            "`filter` of `traffic` {0} is {1}, but the plan {a} has no filter {1}.\n",
+            "Correct the number, or add the filter to the plan.\n",
+        ),
     };
-    said.fill(template, &[u64::from(number), cycle], &[what]);
+    let mut said = Text::new(alloc);
+    put_place(&mut said, asked, index, NetField::Filter);
+    said.fill(
+        template,
+        &[u64::from(index), u64::from(number)],
+        &[asked.plan],
+    );
+    put_protected(alloc, &mut said, plan.filters());
+    said.put(remedy);
+    said.done().ok()
 }
 
-/// Adds the cycles of a gate.
-fn put_gate(said: &mut Text<Global>, plan: &Plan<Global>, number: u32, period: u64) {
-    let Some(gate) = gate_at(plan.gates(), number) else {
-        return;
-    };
-    match &gate.schedule {
-        Schedule::Fixed { lets: _, ipv: _ } => {}
-        Schedule::Cyclic(list) => put_cycle(said, "Gate", number, list.cycle(), period),
-        Schedule::Joined(joined) => {
-            let (old, new) = joined.lists();
-            put_cycle(said, "Gate", number, old.cycle(), period);
-            put_cycle(
-                said,
-                "After the schedule change, gate",
-                number,
-                new.cycle(),
-                period,
-            );
+/// The cycles on a route that were told, with the period that has to be a multiple of each.
+#[derive(Clone, Copy)]
+struct Cycles<'a> {
+    /// The period, in ns.
+    period: u64,
+    /// The name of the bridge; empty for a plan by itself.
+    bridge: &'a str,
+    /// One of the cycles that is a multiple of each other one so far, in ns; 1 before any, and 0 if none is.
+    common: u64,
+}
+
+impl<'a> Cycles<'a> {
+    /// Takes a cycle, and adds it with whether the period suits it.
+    fn put_cycle(&mut self, said: &mut Text<Global>, what: &str, number: u32, cycle: u64) {
+        let common = self.common;
+        self.common = if common == 0 || cycle == 0 {
+            0
+        } else if common % cycle == 0 {
+            common
+        } else if cycle % common == 0 {
+            cycle
+        } else {
+            0
+        };
+        let link = if self.bridge.is_empty() { "" } else { " of " };
+        let template = if cycle > 0 && self.period % cycle == 0 {
+            "{a} {0}{b}{c} has a cycle of {1} ns.\n"
+        } else {
+            "{a} {0}{b}{c} has a cycle of {1} ns, and the period isn't a multiple of it.\n"
+        };
+        said.fill(
+            template,
+            &[u64::from(number), cycle],
+            &[what, link, self.bridge],
+        );
+    }
+
+    /// Adds the cycles of a gate.
+    fn put_gate(&mut self, said: &mut Text<Global>, plan: &Plan<Global>, number: u32) {
+        let Some(gate) = gate_at(plan.gates(), number) else {
+            return;
+        };
+        match &gate.schedule {
+            Schedule::Fixed { lets: _, ipv: _ } => {}
+            Schedule::Cyclic(list) => self.put_cycle(said, "Gate", number, list.cycle()),
+            Schedule::Joined(joined) => {
+                let (old, new) = joined.lists();
+                self.put_cycle(said, "Gate", number, old.cycle());
+                self.put_cycle(said, "After the schedule change, gate", number, new.cycle());
+            }
         }
+    }
+
+    /// Adds the cycles of a port.
+    fn put_port(&mut self, said: &mut Text<Global>, plan: &Plan<Global>, number: u8) {
+        let Some(port) = plan.port(number) else {
+            return;
+        };
+        let number = number as u32;
+        match &port.list {
+            None => {}
+            Some(Egress::Cyclic(list)) => self.put_cycle(said, "Port", number, list.cycle()),
+            Some(Egress::Joined(joined)) => {
+                let (old, new) = joined.lists();
+                self.put_cycle(said, "Port", number, old.cycle());
+                self.put_cycle(said, "After the schedule change, port", number, new.cycle());
+            }
+        }
+    }
+
+    /// Adds the cycles of the ports to which frames of a filter come.
+    fn put_ports(&mut self, said: &mut Text<Global>, plan: &Plan<Global>, filter: &FilterPlan) {
+        let reach = reach_of(plan, filter);
+        for place in 0..16u8 {
+            if comes_to(plan, filter, &reach, place + 1) {
+                self.put_port(said, plan, place + 1);
+            }
+        }
+    }
+
+    /// Adds the cycles on the route of the frames of a filter.
+    fn put_route(&mut self, said: &mut Text<Global>, plan: &Plan<Global>, number: u32) {
+        if let Some(filter) = filter_at(plan.filters(), number) {
+            self.put_gate(said, plan, filter.gate);
+            self.put_ports(said, plan, &filter);
+        }
+    }
+
+    /// Adds which periods suit all cycles that were told.
+    fn put_remedy(self, said: &mut Text<Global>) {
+        if self.common == 0 {
+            return said.put("Use a common multiple of these cycles.\n");
+        }
+        said.fill("Use a multiple of {0} ns.\n", &[self.common], &[]);
     }
 }
 
-/// Adds the cycles of a port.
-fn put_port(said: &mut Text<Global>, plan: &Plan<Global>, number: u8, period: u64) {
-    let Some(port) = plan.port(number) else {
-        return;
-    };
-    let number = number as u32;
-    match &port.list {
-        None => {}
-        Some(Egress::Cyclic(list)) => put_cycle(said, "Port", number, list.cycle(), period),
-        Some(Egress::Joined(joined)) => {
-            let (old, new) = joined.lists();
-            put_cycle(said, "Port", number, old.cycle(), period);
-            put_cycle(
-                said,
-                "After the schedule change, port",
-                number,
-                new.cycle(),
-                period,
-            );
-        }
-    }
-}
-
-/// Adds the cycles of the ports to which frames of a filter come.
-fn put_ports(said: &mut Text<Global>, plan: &Plan<Global>, filter: &FilterPlan, period: u64) {
-    let reach = reach_of(plan, filter);
-    for place in 0..16u8 {
-        if comes_to(plan, filter, &reach, place + 1) {
-            put_port(said, plan, place + 1, period);
-        }
-    }
-}
-
-/// What is told of a row.
+/// What is told of a row whose period isn't a multiple of each cycle on the route of its filter.
 fn said_of_row(
     alloc: Global,
-    file: &str,
+    asked: TrafficText<'_>,
     plan: &Plan<Global>,
     index: u32,
     row: &TrafficRow,
 ) -> Option<String> {
     let mut said = Text::new(alloc);
-    let period = row.traffic.period;
-    let number = row.filter;
+    put_place(&mut said, asked, index, NetField::Period);
     said.fill(
-        "{a}: the period of traffic {0} is {1} ns. It must be a multiple of each cycle on the route of filter {2}.\n",
-        &[u64::from(index), period, u64::from(number)],
-        &[file],
+        "`period` of `traffic` {0} is {1} ns. It must be a multiple of each cycle on the route of filter {2}:\n",
+        &[u64::from(index), row.traffic.period, u64::from(row.filter)],
+        &[],
     );
-    if let Some(filter) = filter_at(plan.filters(), number) {
-        put_gate(&mut said, plan, filter.gate, period);
-        put_ports(&mut said, plan, &filter, period);
+    let mut cycles = Cycles {
+        period: row.traffic.period,
+        bridge: "",
+        common: 1,
+    };
+    cycles.put_route(&mut said, plan, row.filter);
+    cycles.put_remedy(&mut said);
+    said.done().ok()
+}
+
+/// Returns what is told of a stream whose period isn't a multiple of each cycle on its route, by its place, from 1.
+pub(crate) fn said_of_period(
+    alloc: Global,
+    asked: NetworkText<'_>,
+    plans: &[Accepted<Global>],
+    index: u32,
+) -> Option<String> {
+    let row = asked.file.streams().get((index as usize).wrapping_sub(1))?;
+    let period = row.talker()?.period;
+    let mut said = Text::new(alloc);
+    let key = NetField::Period.key();
+    asked.put_place(&mut said, NetSection::Stream, index as usize, Some(key));
+    said.fill(
+        "`period` of stream \"{a}\" is {0} ns. It must be a multiple of each cycle on the stream's route:\n",
+        &[period],
+        &[row.name()],
+    );
+    let mut cycles = Cycles {
+        period,
+        bridge: "",
+        common: 1,
+    };
+    for (place, filter) in row.hops() {
+        if let (Some(bridge), Some(accepted)) = (asked.bridge(*place), plans.get(*place as usize)) {
+            cycles.bridge = bridge.name();
+            cycles.put_route(&mut said, accepted.plan(), *filter);
+        }
     }
+    cycles.put_remedy(&mut said);
     said.done().ok()
 }

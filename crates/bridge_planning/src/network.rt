@@ -278,7 +278,7 @@ fn is_absolute(path: &str) -> bool
 }
 
 /// Returns the path of a file by its path in another file: an absolute path as it is, else the path in the folder of the other file.
-pub(crate) fn beside(alloc: Global, path: &str, file: &str) -> Result<String, AllocError>
+pub fn beside(alloc: Global, path: &str, file: &str) -> Result<String, AllocError>
     ensures { IfOk result (λ place. string_bytes place ≡ beside path.now file.now) }
 {
     if is_absolute(file) {

@@ -2,6 +2,7 @@
 //! The program: from its words to what it prints and to its exit status.
 
 mod bounds;
+mod explaining;
 mod networks;
 mod program;
 mod refusing;

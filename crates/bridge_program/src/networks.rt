@@ -8,7 +8,7 @@ ghost use Rattle.bridge_net_app.specs.Folders.{EndsRounds};
 ghost use Rattle.bridge_single.specs.Outputs.{IsPictureOutput};
 ghost use Rattle.bridge_program.specs.Networks.{FailsNetworkPicture, IsNetworkOutput, IsNetworkRunOutput, IsOutputOfCheck, IsOutputOfRun, IsWithRounds};
 
-use crate::refusing::of_network;
+use crate::refusing::{of_network, of_rounds};
 use bridge_app::{picture_apart, write_picture};
 use bridge_check_app::{Output, print_text};
 use bridge_files::is_standard;
@@ -98,10 +98,13 @@ pub(crate) fn run_network(
     let Ok(path) = String::from_str(rt.alloc(), job.network.as_str()) else {
         return Err(unexplained(memory_fault()));
     };
+    let Ok(input) = String::from_str(rt.alloc(), job.input.as_str()) else {
+        return Err(unexplained(memory_fault()));
+    };
     let mut cause = None;
     match rounds_noted(rt, job, &mut cause) {
         Ok(said) => Ok(output_of_run(rt.alloc(), said, wishes)),
-        Err(fault) => Err(of_network(rt, path.as_str(), cause, wishes, fault)),
+        Err(fault) => Err(of_rounds(rt, path.as_str(), input.as_str(), cause, wishes, fault)),
     }
 }
 

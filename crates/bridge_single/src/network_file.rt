@@ -1,6 +1,7 @@
 //! Whether a file describes a network.
 use bridge_files::is_there;
 use bridge_jobs::read_text;
+use bridge_values::is_network_text;
 use std::fs;
 use std::rt::Files;
 
@@ -16,7 +17,5 @@ pub fn is_network<H: AllocGlobal + Files>(rt: &H, path: &str) -> bool {
     let Ok(text) = read_text(rt.alloc(), reader) else {
         return false;
     };
-    text.as_slice()
-        .split(|octet| *octet == b'\n')
-        .any(|line| line.starts_with(b"[[bridge]]"))
+    is_network_text(text.as_slice())
 }

@@ -1,0 +1,77 @@
+//! Files that are read again for an explanation.
+
+use bridge_jobs::read_at_most;
+use bridge_netfile::{BridgeRow, NetSection, NetworkFile};
+use bridge_places::{Position, put_position};
+use bridge_text::Text;
+use bridge_values::{Document, Instance};
+use std::alloc::Global;
+use std::fs;
+use std::rt::Files;
+
+/// The most octets of a text that are read: one more than it may have.
+const MOST_TEXT: u64 = 1_048_577;
+
+/// Returns the octets of a file, at most so many as are needed to see that it is too long.
+pub fn text_of<H: AllocGlobal + Files>(rt: &H, path: &str) -> Option<Vec<u8>> {
+    let reader = fs::open(rt, path).ok()?;
+    match read_at_most(rt.alloc(), reader, MOST_TEXT) {
+        Ok(text) => Some(text),
+        Err(_) => None,
+    }
+}
+
+/// A network of a file, with its text.
+#[derive(Clone, Copy)]
+pub(crate) struct NetworkText<'a> {
+    /// The path of the file.
+    pub path: &'a str,
+    /// Its text with its document.
+    pub document: Document<'a>,
+    /// The network.
+    pub file: &'a NetworkFile<Global>,
+}
+
+impl<'a> NetworkText<'a> {
+    /// Returns the bridge at a place, from 0.
+    pub(crate) fn bridge(self, place: u16) -> Option<&'a BridgeRow<Global>> {
+        self.file.bridges().get(place as usize)
+    }
+
+    /// Adds the path of the file, and where a key of an instance stands, or its header; the place is counted from 1.
+    pub(crate) fn put_place(
+        self,
+        said: &mut Text<Global>,
+        section: NetSection,
+        index: usize,
+        key: Option<&str>,
+    ) {
+        said.put(self.path);
+        put_position(said, self.position(section, index, key));
+    }
+
+    /// Returns where a key of an instance stands, or its header, by its place from 1.
+    fn position(self, section: NetSection, index: usize, key: Option<&str>) -> Option<Position> {
+        let instance = Instance {
+            document: self.document,
+            section: section.name(),
+            index: u32::try_from(index).ok()?,
+        };
+        instance.position(key)
+    }
+}
+
+/// Adds numbers with commas between them: the first sixteen, and two points if there are more.
+pub(crate) fn put_numbers(said: &mut Text<Global>, numbers: &[u64]) {
+    let mut template = "{0}";
+    for number in numbers.iter().take(MOST_NUMBERS) {
+        said.fill(template, &[*number], &[]);
+        template = ", {0}";
+    }
+    if numbers.len() > MOST_NUMBERS {
+        said.put(", ..");
+    }
+}
+
+/// The most numbers that are listed.
+const MOST_NUMBERS: usize = 16;
