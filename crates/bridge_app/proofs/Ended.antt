@@ -62,10 +62,3 @@ pub all_told_of : {A X : Type 0} (p : Plan A) (plan : List ℕ) (commands : Opti
 all_told_of p plan commands input output delays frames file (Ok line) ok h = tt
 all_told_of p plan commands input output delays frames file (Err f) ok (inl h) = inl (shown_drawn p plan commands input output file f ok h)
 all_told_of p plan commands input output delays frames file (Err f) ok (inr h) = inr h
-
--- a run without tables
-pub none_told : (A : Type 0) {X : Type 0} (plan : List ℕ) (commands : Option (List ℕ)) (input output : List ℕ) (file : Option (List ℕ)) (r : Result X Fault) → IfErr r (EndsTold A plan commands input output None None file) → IfErr r (EndsDrawn A plan commands input output file)
-none_told A plan commands input output file (Ok line) h = tt
-none_told A plan commands input output file (Err f) (inl h) = h
-none_told A plan commands input output file (Err f) (inr (inl h)) = absurd h
-none_told A plan commands input output file (Err f) (inr (inr h)) = absurd h
