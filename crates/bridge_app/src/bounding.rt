@@ -28,7 +28,12 @@ pub fn bounds_warning(alloc: Global, text: &[u8]) -> Result<Option<String>, NoMe
 fn warning_of(alloc: Global, accepted: &Accepted<Global>) -> Result<Option<String>, NoMemory>
     ensures { IfOk result (WarnsOfNone accepted.now.filters) }
 {
-    let protected = accepted.plan().filters().iter().filter(|f| f.1.protected).count();
+    let protected = accepted
+        .plan()
+        .filters()
+        .iter()
+        .filter(|f| f.1.protected)
+        .count();
     if protected > 0 {
         return Ok(None);
     }

@@ -425,9 +425,13 @@ fn send_strictly<H: AllocGlobal + Files>(
         (option_map string_bytes tables.delays) (option_map string_bytes tables.frames)
         (option_map (λ s. string_bytes s.file) sketch)) }
 {
-    let Ok((told, is_warned)) =
-        notes_of(rt.alloc(), accepted, wishes.idle, true, wishes.is_explained)
-    else {
+    let Ok((told, is_warned)) = notes_of(
+        rt.alloc(),
+        accepted,
+        wishes.idle,
+        true,
+        wishes.is_explained,
+    ) else {
         return Err(Fault::Run(RunFault::NoMemory));
     };
     if is_warned {

@@ -36,10 +36,7 @@ pub fn read_at_most<R: Read + Drop, A: Allocator>(
 }
 
 /// Reads a text: at most `MOST_TEXT` octets of a reader. A plan, commands, traffic and a network are read by it.
-pub fn read_text<R: Read + Drop, A: Allocator>(
-    alloc: A,
-    reader: R,
-) -> Result<Vec<u8, A>, ReadFault>
+pub fn read_text<R: Read + Drop, A: Allocator>(alloc: A, reader: R) -> Result<Vec<u8, A>, ReadFault>
     ensures { (octets : List ℕ) → R.remaining reader ≡ Some octets
         → IfOk result (λ text. text.items ≡ take MOST_TEXT octets) }
 {

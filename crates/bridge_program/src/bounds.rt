@@ -37,12 +37,7 @@ pub(crate) fn bound_plan(
 }
 
 /// Prints the delay bounds of the plan of a text, by the path of its file.
-fn bound_text(
-    alloc: Global,
-    plan: String,
-    text: &[u8],
-    wishes: Wishes,
-) -> Result<Output, Refusal>
+fn bound_text(alloc: Global, plan: String, text: &[u8], wishes: Wishes) -> Result<Output, Refusal>
     ensures ok { IfOk result (IsBoundsOutput wishes.is_strict wishes.is_explained) }
     ensures fails { IfErr result (λ refusal. EndsChecked Global (string_bytes plan) refusal.fault) }
     ensures plain { IfErr result (λ refusal. wishes.is_explained ≡ false → refusal.said ≡ None) }
@@ -62,11 +57,7 @@ fn bound_text(
 
 /// Returns the warning of a plan without a protected filter, by the text of the accepted plan. Nothing is looked for unless warnings
 /// are faults or an explanation is asked for.
-fn warning_if(
-    alloc: Global,
-    text: &[u8],
-    wishes: Wishes,
-) -> Result<Option<String>, NoMemory>
+fn warning_if(alloc: Global, text: &[u8], wishes: Wishes) -> Result<Option<String>, NoMemory>
     ensures { IfOk result (WarnsBy wishes.is_strict wishes.is_explained text.now) }
 {
     if wishes.is_strict || wishes.is_explained {
@@ -146,28 +137,29 @@ fn bound_rows<R: Read + Drop>(
     let Ok(place) = String::from_str(alloc, file.as_str()) else {
         return Err(unexplained(memory_fault()));
     };
-    let TrafficReport { text: lines, kept } =
-        match traffic_job(alloc, alloc, path, text, place, rows) {
-            Ok(report) => report,
-            Err(fault) => {
-                return Err(of_traffic(rt, plan.as_str(), text, file.as_str(), wishes, fault));
-            }
-        };
+    let TrafficReport { text: lines, kept } = match traffic_job(
+        alloc, alloc, path, text, place, rows,
+    ) {
+        Ok(report) => report,
+        Err(fault) => {
+            return Err(of_traffic(rt, plan.as_str(), text, file.as_str(), wishes, fault));
+        }
+    };
     let Ok(warning) = warning_if(alloc, text, wishes) else {
         return Err(unexplained(memory_fault()));
     };
-    let notes = reasons_of(rt, plan.as_str(), file.as_str(), wishes.is_explained && !kept);
+    let notes = reasons_of(
+        rt,
+        plan.as_str(),
+        file.as_str(),
+        wishes.is_explained && !kept,
+    );
     Ok(output_of(lines, kept, notes, warning, wishes))
 }
 
 /// Returns why frames of the traffic may be refused, if that is asked for. The text is empty otherwise, if memory runs out, and if a file
 /// is a pipe, which can't be read again.
-fn reasons_of(
-    rt: &(impl AllocGlobal + Files),
-    plan: &str,
-    traffic: &str,
-    is_asked: bool,
-) -> String
+fn reasons_of(rt: &(impl AllocGlobal + Files), plan: &str, traffic: &str, is_asked: bool) -> String
     ensures { is_asked ≡ false → string_bytes result ≡ [] }
 {
     let reasons = if is_asked && can_read_traffic_again(rt, plan, traffic) {

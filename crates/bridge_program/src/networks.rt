@@ -15,8 +15,8 @@ use bridge_files::is_standard;
 use bridge_jobs::{Cause, Fault, NoMemory};
 use bridge_net_app::{RoundsJob, RoundsSaid, rounds_noted};
 use bridge_planning::{
-    NetworkPicture, NetworkSaid, can_read_network_again, explain_refusable_streams, memory_fault, network_job,
-    network_picture,
+    NetworkPicture, NetworkSaid, can_read_network_again, explain_refusable_streams, memory_fault,
+    network_job, network_picture,
 };
 use bridge_single::{Refusal, Wishes, line_or_nothing, of_file, status_if, unexplained};
 use std::alloc::Global;
@@ -64,11 +64,7 @@ fn reasons_of(rt: &(impl AllocGlobal + Files), path: &str, is_asked: bool) -> St
 }
 
 /// Returns the output of the check of an accepted network: its lines with its warnings, and the reasons of refusable streams.
-fn output_of_check(
-    said: NetworkSaid,
-    reasons: String,
-    wishes: Wishes,
-) -> Result<Output, NoMemory>
+fn output_of_check(said: NetworkSaid, reasons: String, wishes: Wishes) -> Result<Output, NoMemory>
     ensures { IfOk result (IsOutputOfCheck said wishes.is_strict reasons) }
 {
     let NetworkSaid { lines, told, kept } = said;

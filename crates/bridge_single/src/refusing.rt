@@ -55,11 +55,7 @@ pub fn of_plan(alloc: Global, path: &str, text: &[u8], wishes: Wishes, fault: Fa
 }
 
 /// Returns the output of words that are refused, or whose output can't be printed.
-pub fn report_words(
-    alloc: Global,
-    words: &[String],
-    fault: &Fault,
-) -> Result<Output, NoMemory>
+pub fn report_words(alloc: Global, words: &[String], fault: &Fault) -> Result<Output, NoMemory>
     ensures { IfOk result (Reports (explains (map string_bytes words.now)) fault.now) }
 {
     let said = if wants_explanation(words) {

@@ -34,13 +34,16 @@ returns-in-Err-rows_from-clause-err g c = λ input words told heard. elim (c.in-
 pub returns-clause-read : goal.returns-clause-read
 returns-clause-read g c = λ input told.
     ok_as c.report_of-told.result (λ r. AreLinesOfTraffic c.in-Ok.accepted c.deref.result.now (string_bytes r.text) r.kept) _
-    (λ r h. (c.in-Ok-rows_from.ensures.read.0, record {
-      plan = c.in-Ok.accepted;
-      accepts = c.in-Ok.ensures.ok input told;
-      rows = c.in-Ok-rows_from.rows.items;
-      reads = c.in-Ok-rows_from.ensures.read.1;
-      are_lines = subst (λ (rows : List TrafficRow). AreLinesOfTraffic c.in-Ok.accepted rows (string_bytes r.text) r.kept) c.deref.ensures.value h;
-    }))
+    (λ r h. (
+      c.in-Ok-rows_from.ensures.read.0,
+      record {
+        plan = c.in-Ok.accepted;
+        accepts = c.in-Ok.ensures.ok input told;
+        rows = c.in-Ok-rows_from.rows.items;
+        reads = c.in-Ok-rows_from.ensures.read.1;
+        are_lines = subst (λ (rows : List TrafficRow). AreLinesOfTraffic c.in-Ok.accepted rows (string_bytes r.text) r.kept) c.deref.ensures.value h;
+      },
+    ))
     c.report_of-told.ensures.ok
 
 pub returns-clause-refused : goal.returns-clause-refused
