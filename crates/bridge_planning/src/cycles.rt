@@ -19,6 +19,7 @@ use bridge_values::{Document, Instance};
 use std::alloc::Global;
 use std::fs;
 use std::rt::Files;
+use toml::Table;
 
 /// Traffic of a file for the plan of another one.
 #[derive(Clone, Copy)]
@@ -52,17 +53,25 @@ pub fn explain_traffic<H: AllocGlobal + Files>(
         Ok(accepted) => accepted,
         Err(_) => return None,
     };
-    let asked = TrafficText {
-        path: traffic,
-        document: Document {
-            text,
-            table: &table,
-        },
-        plan,
-    };
+    let asked = traffic_text(plan, traffic, text, &table);
     let said = said_of_rows(alloc, asked, accepted.plan(), &rows);
     drop(accepted);
     said
+}
+
+/// Returns the traffic of a file, by its path, its text and its document, for the plan of a path.
+fn traffic_text<'a>(
+    plan: &'a str,
+    path: &'a str,
+    text: &'a str,
+    table: &'a Table,
+) -> TrafficText<'a> {
+    let document = Document { text, table };
+    TrafficText {
+        path,
+        document,
+        plan,
+    }
 }
 
 /// Adds the path of the file of traffic, and where a key of a row stands, by the place of the row, from 1.

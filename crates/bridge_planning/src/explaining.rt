@@ -17,6 +17,7 @@ use bridge_network::{Network, NetworkFault, RefusedNetwork, check_network};
 use bridge_values::Document;
 use std::alloc::Global;
 use std::rt::Files;
+use toml::Table;
 
 /// Returns why the network of a file is refused whose text and plans are accepted, made anew of the file and of its plans.
 pub fn explain_network<H: AllocGlobal + Files>(rt: &H, path: &str) -> Option<String> {
@@ -32,16 +33,22 @@ pub fn explain_network<H: AllocGlobal + Files>(rt: &H, path: &str) -> Option<Str
     let Ok(plans) = read_plans(rt, path, file.bridges()) else {
         return None;
     };
-    let document = Document {
-        text,
-        table: &table,
-    };
-    let asked = NetworkText {
+    said_of_plans(alloc, network_text(path, text, &table, &file), plans)
+}
+
+/// Returns the network of a file, by its path, with its text and its document.
+fn network_text<'a>(
+    path: &'a str,
+    text: &'a str,
+    table: &'a Table,
+    file: &'a NetworkFile<Global>,
+) -> NetworkText<'a> {
+    let document = Document { text, table };
+    NetworkText {
         path,
         document,
-        file: &file,
-    };
-    said_of_plans(alloc, asked, plans)
+        file,
+    }
 }
 
 /// Returns a line for the frames of each VLAN and destination that may go round in the network of a file, made anew of the file and of

@@ -71,10 +71,11 @@ fn put_end(
     end: End,
 ) {
     asked.put_place(said, NetSection::Link, place, Some(field.key()));
+    said.fill("`{a}` of `link` {0} is ", &[place as u64], &[field.key()]);
     said.fill(
-        "`{a}` of `link` {0} is \"{b}.{1}\", ",
-        &[place as u64, u64::from(end.port)],
-        &[field.key(), name_at(asked, end)],
+        "\"{a}.{0}\", ",
+        &[u64::from(end.port)],
+        &[name_at(asked, end)],
     );
 }
 

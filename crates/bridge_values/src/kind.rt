@@ -86,8 +86,8 @@ fn sentence_of(kind: FileKind) -> &'static str {
     }
 }
 
-/// Adds what a file describes and which command takes it, if it isn't what is wanted, behind the path of the file. The path stands
-/// again behind it.
+/// Adds what a file describes and which command takes it, if another kind of file is wanted. The text begins with the path of the
+/// file, which is added again at its end.
 pub fn put_other_kind(said: &mut Said, path: &str, text: &[u8], wanted: FileKind) {
     if let Some(kind) = kind_of(text) {
         if kind != wanted {

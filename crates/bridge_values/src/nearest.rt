@@ -52,6 +52,8 @@ pub fn nearest_name<'a>(
 pub struct Listing {
     /// The sentence on the nearest name.
     pub nearest: &'static str,
+    /// The sentence on the only name.
+    pub only: &'static str,
     /// The start of the list of all names, with the first.
     pub first: &'static str,
     /// A further name of the list.
@@ -61,6 +63,7 @@ pub struct Listing {
 /// Keys of a table.
 pub const KEYS: Listing = Listing {
     nearest: "The nearest key is `{a}`.\n",
+    only: "The only key is `{a}`.\n",
     first: "The keys are `{a}`",
     next: ", `{a}`",
 };
@@ -68,6 +71,7 @@ pub const KEYS: Listing = Listing {
 /// Sections of a file.
 pub const SECTIONS: Listing = Listing {
     nearest: "The nearest section is `{a}`.\n",
+    only: "The only section is `{a}`.\n",
     first: "The sections are `{a}`",
     next: ", `{a}`",
 };
@@ -75,6 +79,7 @@ pub const SECTIONS: Listing = Listing {
 /// Bridges of a network, by their names.
 pub const BRIDGES: Listing = Listing {
     nearest: "The nearest bridge is \"{a}\".\n",
+    only: "The only bridge is \"{a}\".\n",
     first: "The bridges are \"{a}\"",
     next: ", \"{a}\"",
 };
@@ -89,6 +94,9 @@ pub fn put_nearest(alloc: Global, said: &mut Said, word: &str, names: &[&str], l
 
 /// Adds all of some names, the first sixteen of them.
 fn put_all(said: &mut Said, names: &[&str], listing: Listing) {
+    if let [name] = names {
+        return fill_one(said, listing.only, 0, *name);
+    }
     let mut is_first = true;
     for name in names.iter().take(MOST_NAMES) {
         if is_first {
