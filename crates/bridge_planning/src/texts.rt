@@ -63,10 +63,13 @@ impl<'a> NetworkText<'a> {
 
 /// Adds numbers with commas between them: the first sixteen, and two points if there are more.
 pub(crate) fn put_numbers(said: &mut Text<Global>, numbers: &[u64]) {
-    let mut template = "{0}";
+    let mut is_first = true;
     for number in numbers.iter().take(MOST_NUMBERS) {
-        said.fill(template, &[*number], &[]);
-        template = ", {0}";
+        if !is_first {
+            said.put(", ");
+        }
+        said.put_number(*number);
+        is_first = false;
     }
     if numbers.len() > MOST_NUMBERS {
         said.put(", ..");
