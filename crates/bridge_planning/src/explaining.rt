@@ -5,21 +5,24 @@ ghost use Rattle.std.specs.Prelude.{◌≤◌, length};
 use crate::cycles::said_of_period;
 use crate::hop_faults::said_of_hop;
 use crate::link_faults::said_of_link;
-use crate::network::{links_of, read_network, read_plans, streams_of, tested};
+use crate::network::{beside, links_of, read_network, read_plans, streams_of, tested};
 use crate::open_streams::said_of_open;
 use crate::talkers::first_misfit;
 use crate::telling::push_rounds;
 use crate::texts::{NetworkText, text_of};
 use bridge_check::Accepted;
 use bridge_circling::circulations_in;
-use bridge_netfile::{NetFault, NetworkFile, document_of, network_of};
+use bridge_jobs::Fault;
+use bridge_netfile::{NetFault, NetField, NetSection, NetworkFile, document_of, network_of};
 use bridge_network::{Network, NetworkFault, RefusedNetwork, check_network};
-use bridge_values::Document;
+use bridge_text::Text;
+use bridge_values::{Document, put_text};
 use std::alloc::Global;
 use std::rt::Files;
 use toml::Table;
 
-/// Returns why the network of a file is refused whose text and plans are accepted, made anew of the file and of its plans.
+/// Returns why the network of a file is refused whose text is accepted, made anew of the file and of its plans: where it names a plan that
+/// can't be read, else what its tests say.
 pub fn explain_network<H: AllocGlobal + Files>(rt: &H, path: &str) -> Option<String> {
     let alloc = rt.alloc();
     let octets = text_of(rt, path)?;
@@ -30,10 +33,31 @@ pub fn explain_network<H: AllocGlobal + Files>(rt: &H, path: &str) -> Option<Str
     let Ok(file) = network_of(alloc, alloc, &octets) else {
         return None;
     };
-    let Ok(plans) = read_plans(rt, path, file.bridges()) else {
-        return None;
-    };
-    said_of_plans(alloc, network_text(path, text, &table, &file), plans)
+    let asked = network_text(path, text, &table, &file);
+    match read_plans(rt, path, file.bridges()) {
+        Ok(plans) => said_of_plans(alloc, asked, plans),
+        Err(Fault::File(place)) => said_of_path(alloc, asked, place.as_str()),
+        Err(_) => None,
+    }
+}
+
+/// Returns which bridge of a network has its plan at a path, and where the file says so.
+fn said_of_path(alloc: Global, asked: NetworkText<'_>, plan: &str) -> Option<String> {
+    let mut index = 0usize;
+    for bridge in asked.file.bridges() {
+        index = index.saturating_add(1);
+        let place = beside(alloc, asked.path, bridge.plan()).ok()?;
+        if place.as_str() == plan {
+            let key = NetField::Plan.key();
+            let mut said = Text::new(alloc);
+            asked.put_place(&mut said, NetSection::Bridge, index, Some(key));
+            said.fill("`plan` of bridge {a} is ", &[], &[bridge.name()]);
+            put_text(&mut said, bridge.plan());
+            said.put(":\n");
+            return said.done().ok();
+        }
+    }
+    None
 }
 
 /// Returns the network of a file, by its path, with its text and its document.

@@ -1,6 +1,6 @@
 //! Files that are read again for an explanation.
 
-use bridge_jobs::read_at_most;
+use bridge_jobs::read_text;
 use bridge_netfile::{BridgeRow, NetSection, NetworkFile};
 use bridge_places::{Position, put_position};
 use bridge_text::Text;
@@ -9,16 +9,13 @@ use std::alloc::Global;
 use std::fs;
 use std::rt::Files;
 
-/// The most octets of a text that are read: one more than it may have.
-const MOST_TEXT: u64 = 1_048_577;
-
-/// Returns the octets of a file, at most so many as are needed to see that it is too long.
+/// Reads the text of a file again. None for a pipe, which can't be read again, and for a file that can't be read.
 pub fn text_of<H: AllocGlobal + Files>(rt: &H, path: &str) -> Option<Vec<u8>> {
-    let reader = fs::open(rt, path).ok()?;
-    match read_at_most(rt.alloc(), reader, MOST_TEXT) {
-        Ok(text) => Some(text),
-        Err(_) => None,
+    if !fs::metadata(rt, path).ok()?.is_file() {
+        return None;
     }
+    let reader = fs::open(rt, path).ok()?;
+    read_text(rt.alloc(), reader).ok()
 }
 
 /// A network of a file, with its text.
@@ -65,9 +62,7 @@ impl<'a> NetworkText<'a> {
 pub(crate) fn put_numbers(said: &mut Text<Global>, numbers: &[u64]) {
     let mut is_first = true;
     for number in numbers.iter().take(MOST_NUMBERS) {
-        if !is_first {
-            said.put(", ");
-        }
+        said.put_comma(is_first);
         said.put_number(*number);
         is_first = false;
     }

@@ -4,7 +4,7 @@ ghost use Rattle.std.specs.Prelude.{◌≡◌, None, false};
 use crate::explaining::{said_of_network, said_of_stopped_run, said_of_traffic};
 use bridge_app::{Refusal, said_of_file, said_of_plan, said_of_unread};
 use bridge_jobs::{Cause, Fault};
-use bridge_planning::{can_read_network_again, can_read_traffic_again};
+use bridge_planning::{can_read_network_again, can_read_traffic_again, explain_network};
 use bridge_single::{Wishes, unexplained};
 use std::rt::Files;
 
@@ -67,19 +67,25 @@ pub(crate) fn of_rounds(
         Fault::Rounds(_) | Fault::Network(_) if !can_read_network_again(rt, path) => None,
         Fault::Rounds(line) => said_of_stopped_run(rt, path, input, line.as_str()),
         Fault::Network(line) => said_of_network(rt, path, input, line.as_str()),
-        fault => said_of_noted(rt, cause, fault),
+        fault => said_of_noted(rt, path, cause, fault),
     };
     Refusal { fault, said }
 }
 
-/// What is told of a file that failed, by its cause where it is noted.
+/// What is told of a file that failed, by its cause where it is noted. It isn't noted of a network and of its plans, by the path of its
+/// file: of a plan, where the file names it is told before.
 fn said_of_noted(
     rt: &(impl AllocGlobal + Files),
+    path: &str,
     cause: Option<Cause>,
     fault: &Fault,
 ) -> Option<String> {
-    if cause.is_none() {
-        return said_of_unread(rt, fault);
+    if cause.is_some() {
+        return said_of_file(rt.alloc(), fault, cause);
     }
-    said_of_file(rt.alloc(), fault, cause)
+    let said = said_of_unread(rt, fault)?;
+    match explain_network(rt, path) {
+        Some(named) => format!(in rt.alloc(); "{named}{said}").ok(),
+        None => Some(said),
+    }
 }
