@@ -72,8 +72,8 @@ pub(crate) fn of_rounds(
     Refusal { fault, said }
 }
 
-/// What is told of a file that failed, by its cause where it is noted. It isn't noted of a network and of its plans, by the path of its
-/// file: of a plan, where the file names it is told before.
+/// Returns why a file of a network can't be read or written. The cause is noted except for the network's file and the plans: for a plan,
+/// the place where the network's file names it comes first.
 fn said_of_noted(
     rt: &(impl AllocGlobal + Files),
     path: &str,
@@ -84,6 +84,9 @@ fn said_of_noted(
         return said_of_file(rt.alloc(), fault, cause);
     }
     let said = said_of_unread(rt, fault)?;
+    if !can_read_network_again(rt, path) {
+        return Some(said);
+    }
     match explain_network(rt, path) {
         Some(named) => format!(in rt.alloc(); "{named}{said}").ok(),
         None => Some(said),
