@@ -39,7 +39,7 @@ pub(crate) fn said_of_hop(
         hop,
         bridge: asked.bridge(hop.bridge)?,
     };
-    let accepted = refused.plans.get(hop.bridge as usize)?;
+    let accepted = accepted_at(refused, hop.bridge)?;
     let mut said = Text::new(alloc);
     put_hop(&mut said, asked, found);
     match refused.fault {
@@ -51,6 +51,11 @@ pub(crate) fn said_of_hop(
         _ => put_filters(alloc, &mut said, accepted.plan(), found),
     }
     said.done().ok()
+}
+
+/// Returns the plan of the bridge at a place, from 0.
+fn accepted_at(refused: &RefusedNetwork<Global>, bridge: u16) -> Option<&Accepted<Global>> {
+    refused.plans.get(bridge as usize)
 }
 
 /// The name of a stream at a place, from 1.
