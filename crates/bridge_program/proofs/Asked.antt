@@ -1,5 +1,5 @@
 -- Words and their faults.
-use Rattle.std.proofs.Common.{◌≡◌, ◌⊎◌, ℕ, Err, IfErr, IfOk, List, Ok, Result, inl, inr, refl, rules, subst, sym, ◌∙◌}
+use Rattle.std.proofs.Common.{◌≡◌, ◌⊎◌, ℕ, Bool, false, Err, Global, IfErr, IfOk, List, None, Ok, Option, Result, String, inl, inr, refl, rules, subst, sym, ◌∙◌}
 use Rattle.clap.specs.Words.{Text}
 use Rattle.bridge_limits.specs.declared.NoMemory.{NoMemory}
 use Rattle.bridge_jobs.specs.declared.fault.Fault.{Fault}
@@ -11,9 +11,10 @@ use Rattle.bridge_cli.specs.Helping.{explains}
 use Rattle.bridge_cli.specs.Sketching.{NamesPart}
 use Rattle.bridge_cli.specs.declared.job.Job.{Job}
 use Rattle.bridge_cli.specs.declared.request.Request.{Request}
-use Rattle.bridge_check_app.specs.Outputs.{Reports}
+use Rattle.bridge_check_app.specs.Outputs.{Reports, ReportsFault}
+use Rattle.bridge_check_app.proofs.Ended.{reported}
 use Rattle.bridge_check_app.specs.declared.output.Output.{Output}
-use Rattle.bridge_program.specs.Program.{IsOutput, IsOutputOf, IsRequest, MissesHelp, PerformsRequest, RefusesWords}
+use Rattle.bridge_program.specs.Program.{FailsRequest, IsOutput, IsOutputOf, IsRequest, MissesHelp, PerformsRequest, RefusesWords}
 
 -- the fault of words refuses them
 pub refuses_words : (words : List Text) (f : Fault) → MissesHelp words → IsOfWords f → (f ≡ fault.Words → (job : Job) → AsksFor words job → NamesPart words) → RefusesWords words f
@@ -25,6 +26,11 @@ pub refused : (words : List Text) (f : Fault) (r : Result Output NoMemory) → R
 refused words f (Ok output) refuses reports = inr (inl (f, refuses, reports))
 refused words f (Err e) refuses reports = tt
 
+-- a command that fails
+pub failed : (request : Request) (f : Fault) (said : Option (String Global)) (r : Result Output NoMemory) → FailsRequest request f → (request.is_explained ≡ false → said ≡ None) → IfOk r (ReportsFault f said) → IfOk r (IsOutputOf request)
+failed request f said (Ok output) fails plain told = inr (f, fails, reported request.is_explained f said (Ok output) plain told)
+failed request f said (Err e) fails plain told = tt
+
 -- the output of what the words ask for
 pub asked : (words : List Text) (request : Request) (r : Result Output NoMemory) → IsRequest words request → IfOk r (IsOutputOf request) → IfOk r (IsOutput words)
 asked words request (Ok output) is of = inr (inr (request, is, of))
@@ -34,14 +40,11 @@ asked words request (Err e) is of = tt
 some_status : (f : Fault) → status_of f ≡ 0 → ⊥
 some_status f h = search rules
 
-four_is_zero : 4 ≡ 0 → ⊥
-four_is_zero h = search rules
-
 -- A LAW FOR READERS
 
 -- Status 0 means that the words ask for a command, and that it is done: no refusal and no failure ends with 0.
 pub zero_is_done : (words : List Text) (output : Output) → IsOutput words output → output.status ≡ 0 → (r : Request) × IsRequest words r × PerformsRequest r output
-zero_is_done words output (inl help) zero = absurd (four_is_zero (sym help.1.1.1.2 ∙ zero))
+zero_is_done words output (inl help) zero = absurd (some_status fault.Words (sym help.1.1.1.2 ∙ zero))
 zero_is_done words output (inr (inl refused)) zero = absurd (some_status refused.0 (sym refused.2.2.2 ∙ zero))
 zero_is_done words output (inr (inr (r, is, inl done))) zero = (r, is, done)
 zero_is_done words output (inr (inr (r, is, inr failed))) zero = absurd (some_status failed.0 (sym failed.2.2.2 ∙ zero))

@@ -49,6 +49,11 @@ RefusesWords words f = ⊥
 
 -- A COMMAND THAT IS DONE
 
+-- Holds if the program prints what `bounds` prints if it is done, by whether traffic is given.
+abbrev pub PerformsBounds : Bool → Bool → Bool → Output → Type 0
+PerformsBounds true strict explained output = IsTrafficOutput strict explained output
+PerformsBounds false strict explained output = IsBoundsOutput strict explained output
+
 -- Holds if the program prints what this command prints if it is done, by whether `--strict` and `--explain` are given.
 abbrev pub PerformsJob : Job → Bool → Bool → Output → Type 0
 PerformsJob job.Text strict explained output = IsTextOutput output
@@ -59,11 +64,6 @@ PerformsJob (job.Picture plan file) strict explained output = IsPictureOutput (s
 PerformsJob (job.Bounds plan traffic) strict explained output = PerformsBounds (is_some traffic) strict explained output
 PerformsJob (job.Network network) strict explained output = IsNetworkOutput strict explained output
 PerformsJob (job.RunNetwork network input folder picture) strict explained output = IsNetworkRunOutput strict explained output
-
--- The same of `bounds`, by whether traffic is given.
-abbrev pub PerformsBounds : Bool → Bool → Bool → Output → Type 0
-PerformsBounds true strict explained output = IsTrafficOutput strict explained output
-PerformsBounds false strict explained output = IsBoundsOutput strict explained output
 
 -- Holds if the program prints what the command of a request prints if it is done.
 abbrev pub PerformsRequest : Request → Output → Type 0

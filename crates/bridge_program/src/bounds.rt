@@ -1,5 +1,5 @@
 //! The command `bounds`: the delay bounds of a plan, and the traffic of its talkers.
-ghost use Rattle.std.specs.Prelude.{[], ◌≡◌, IfErr, IfOk, None, false, is_some, string_bytes};
+ghost use Rattle.std.specs.Prelude.{[], ◌≡◌, ◌&&◌, IfErr, IfOk, None, false, is_some, not, string_bytes};
 ghost use Rattle.std.specs.declared.alloc.Global.{Global};
 ghost use Rattle.bridge_check_app.specs.Checked.{EndsChecked};
 ghost use Rattle.bridge_program.specs.Bounds.{FailsTraffic, IsBoundsOutput, IsTrafficOutput, WarnsBy, status_by};
@@ -148,26 +148,25 @@ fn bound_rows<R: Read + Drop>(
     let Ok(warning) = warning_if(alloc, text, wishes) else {
         return Err(unexplained(memory_fault()));
     };
-    let notes = reasons_of(
-        rt,
-        plan.as_str(),
-        file.as_str(),
-        wishes.is_explained && !kept,
-    );
+    let notes = reasons_of(rt, plan.as_str(), file.as_str(), wishes.is_explained, kept);
     Ok(output_of(lines, kept, notes, warning, wishes))
 }
 
-/// Returns why frames of the traffic may be refused, if that is asked for. The text is empty otherwise, if memory runs out, and if a file
-/// is a pipe, which can't be read again.
-fn reasons_of(rt: &(impl AllocGlobal + Files), plan: &str, traffic: &str, is_asked: bool) -> String
-    ensures { is_asked ≡ false → string_bytes result ≡ [] }
+/// Returns why frames of traffic that isn't kept may be refused, if an explanation is asked for. The text is empty otherwise, if memory
+/// runs out, and if a file is a pipe, which can't be read again.
+fn reasons_of(
+    rt: &(impl AllocGlobal + Files),
+    plan: &str,
+    traffic: &str,
+    is_explained: bool,
+    is_kept: bool,
+) -> String
+    ensures { is_explained && not is_kept ≡ false → string_bytes result ≡ [] }
 {
-    let reasons = if is_asked && can_read_traffic_again(rt, plan, traffic) {
-        explain_refusable(rt, plan, traffic)
-    } else {
-        None
-    };
-    match reasons {
+    if !is_explained || is_kept || !can_read_traffic_again(rt, plan, traffic) {
+        return String::new(rt.alloc());
+    }
+    match explain_refusable(rt, plan, traffic) {
         Some(reasons) => reasons,
         None => String::new(rt.alloc()),
     }

@@ -1,7 +1,7 @@
 //! The program: what its words ask for, and the command that does it.
 ghost use Rattle.std.specs.Prelude.{[], ◌≡◌, IfErr, IfOk, None, false, is_some, map, string_bytes};
 ghost use Rattle.bridge_cli.specs.CommandLine.{HasRoom};
-ghost use Rattle.bridge_check_app.specs.Outputs.{Prints};
+ghost use Rattle.bridge_check_app.specs.Outputs.{Prints, ReportsFault};
 ghost use Rattle.bridge_single.specs.Outputs.{IsPictureOutput};
 ghost use Rattle.bridge_program.specs.Program.{FailsPicture, FailsRequest, IsOutput, IsOutputOf, MissesHelp, PerformsRequest};
 
@@ -77,8 +77,16 @@ fn output_of<H: Input + AllocGlobal + Print + Eprint + Files>(
 {
     match run_request(rt, words, request, is_watched) {
         Ok(output) => Ok(output),
-        Err(Refusal { fault, said }) => report_fault(rt.alloc(), &fault, said),
+        Err(refusal) => report_refusal(rt.alloc(), refusal),
     }
+}
+
+/// Returns the output of a command that failed: the line of its fault, and the explanation behind it.
+fn report_refusal(alloc: Global, refusal: Refusal) -> Result<Output, NoMemory>
+    ensures { IfOk result (ReportsFault refusal.fault refusal.said) }
+{
+    let Refusal { fault, said } = refusal;
+    report_fault(alloc, &fault, said)
 }
 
 /// Runs the command of a request.
