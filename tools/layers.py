@@ -885,6 +885,20 @@ class Code:
             stop(f"crates/{crate}: {'::'.join(module)}::{name} is private, and another crate needs it")
         made[new, path] = again
 
+    def open_members(self, made):
+        """Makes the fields and methods of types public that another part of a split crate reads now."""
+        for item in self.outside:
+            crate, module, names = item
+            if crate not in SPLITS or not module or not names:
+                continue
+            new = self.moves.module_to(crate, module)[0]
+            others = [text for (old, path), text in self.tree.files.items() if old == crate and path.startswith("src/") and path.endswith(".rt") and self.moves.path_to(old, path)[0] != new]
+            used = {name for text in others for found in re.findall(rf"\.(\w+)|\b{names[0]}::(\w+)", text) for name in found if name}
+            block = re.compile(rf"^(?:(?:pub(?:\([^)]*\))? )?struct {names[0]}\b|impl\b[^{{\n]*\b{names[0]}\b).*?^\}}", re.M | re.S)
+            for (to, path), text in list(made.items()):
+                if to == new and path.endswith(".rt") and "pub(crate)" in text:
+                    made[to, path] = block.sub(lambda it: re.sub(r"^( +)pub\(crate\) ((?:const )?(?:fn )?(\w+))", lambda at: f"{at[1]}pub {at[2]}" if at[3] in used else at[0], it[0], flags=re.M), text)
+
     def all(self):
         """Returns the new files: (new crate, path) -> text, and (new crate, path) -> (old crate, path) of those that are only moved."""
         made, moved = {}, {}
@@ -923,6 +937,7 @@ class Code:
         for (new, (crate, module, names)) in self.names:
             if crate in tree.listed and module and new in self.composed and moves.module_to(crate, module)[0] == new:
                 self.open_item(made, crate, module, names[0])
+        self.open_members(made)
         return made, moved
 
 

@@ -142,7 +142,7 @@ class Crate:
 class Repository:
     def __init__(self, top):
         self.top = pathlib.Path(top).resolve()
-        self.listed = {}
+        self.listed, self.looks = {}, set()
         for line in read(self.top / "crates.txt").split("\n"):
             if line.strip() and not line.startswith("#"):
                 name, _, deps = line.partition(":")
@@ -484,8 +484,29 @@ class Repository:
             for it in ready:
                 del left[it]
 
+    def members(self):
+        """Finds files that may call a method that only the crate of its type may call: by name, so some of them call another one."""
+        closed, opened = collections.defaultdict(set), collections.defaultdict(set)
+        for crate, made in self.crates.items():
+            for module, path in made.modules.items():
+                text = read(path)
+                for name in made.items[module]:
+                    for block in re.findall(rf"^(?:(?:pub(?:\([^)]*\))? )?struct {name}\b|impl\b(?![^{{\n]* for )[^{{\n]*\b{name}\b).*?^\}}", text, re.M | re.S):
+                        closed[name] |= {(crate, it) for it in re.findall(r"^ +pub\(crate\) (?:const )?(?:fn )?(\w+)", block, re.M)}
+                        opened[name] |= set(re.findall(r"^ +pub (?:const )?(?:fn )?(\w+)", block, re.M))
+        for crate, made in self.crates.items():
+            for module, path in made.modules.items():
+                code = re.sub(r"^\s*//.*$", "", re.sub(r"\{[^{}\n]*→[^{}\n]*\}|^    (?:requires|ensures) .*$|^ghost .*$", "", read(path), flags=re.M), flags=re.M)
+                imported = {name: to for _, _, found in made.uses[module] for to, name in found}
+                known = {member for name, to in imported.items() for member in opened.get(to[-1], ())}
+                for name, to in imported.items():
+                    for home, member in closed.get(to[-1], ()):
+                        if to[0] == home != crate and member not in known and re.search(rf"\.{member}\(|\b{name}::{member}\b", code):
+                            self.looks.add(f"{path.name}: may read {member} of {to[-1]}, which only the type's crate may")
+
     def all(self):
         self.circles()
+        self.members()
         for crate, made in self.crates.items():
             for module, path in made.modules.items():
                 self.code(crate, module, path)
@@ -562,7 +583,10 @@ def main():
         print(f"names of proofs/ that differ only in case: {', '.join(SAME)}")
     if len(sys.argv) == 3:
         other = Repository(sys.argv[2])
+        other.members()
         del WRONG[len(before):]
+        for it in sorted(made.looks - other.looks):
+            wrong(it)
         then, lines_then = other.counts()
         for what in then:
             if then[what] != found[what]:
