@@ -1059,6 +1059,11 @@ class Pages:
             return "/".join([new, "proofs", name, *parts[2:]])
         return f"{self.moves.crate_of[crate]}/{whole}"
 
+    def file(self, found):
+        """Returns the crate and the file of definitions that a page names as `(crate, File)`."""
+        crate, file = found.groups()
+        return ", ".join(self.moves.to(crate, "specs", file)) if (crate, file) in self.tree.specs else found[0]
+
     def word(self, line, found):
         """Returns the new name of a crate that a line names. A split crate has that of the names that the line has of it."""
         crate = found[1]
@@ -1091,6 +1096,7 @@ class Pages:
         known = "|".join(sorted(self.tree.listed, key=len, reverse=True))
         line = re.sub(rf"\b({known})::(\w+)", self.handed, line)
         line = re.sub(rf"(?<![\w.-])({known})/(src|specs|proofs|must-fail)/([\w/+.-]*\w)", self.path, line)
+        line = re.sub(rf"(?<=\()({known}), (\w+)(?=\))", self.file, line)
         marked = line
         line = re.sub(rf"(?<![\w.-])({known})\b(?![(\w])", lambda it: self.word(marked, it), line)
         if line != before:

@@ -507,12 +507,36 @@ class Repository:
     def all(self):
         self.circles()
         self.members()
+        self.pages()
         for crate, made in self.crates.items():
             for module, path in made.modules.items():
                 self.code(crate, module, path)
             self.folders(crate)
             self.edits(crate)
             self.roots(crate)
+
+    def pages(self):
+        """Tests that the files and crates which pages and tools name are there."""
+        forms = ["README.md", "docs/*.md", "examples/*/README.md", "crates/*/README.md", "tools/*", "bench/*"]
+        names = "|".join(sorted(set(self.crates) | OLD, key=len, reverse=True))
+        for path in sorted(path for form in forms for path in self.top.glob(form) if path.is_file() and "layers" not in path.name):
+            where, text = str(path.relative_to(self.top)), read(path)
+            own = path.parts[-2] if path.name == "README.md" and path.parts[-3] == "crates" else None
+            for number, line in enumerate(text.split("\n"), 1):
+                for crate, file in re.findall(rf"(?<![\w.-])({names})/((?:src|specs|proofs|must-fail)/[\w/+.-]*\w)", line):
+                    folder = self.top / "crates" / crate
+                    if path.suffix == ".md" and not any((folder / (file + ending)).exists() for ending in ("", ".antt", ".rt")):
+                        wrong(f"{where}:{number}: there is no {crate}/{file}")
+                for file in re.findall(r"`((?:src|specs|proofs)/[\w/.-]+)`", re.sub(r"`crates/[^`]*`.*", "", line)) if own else ():
+                    near = [own, *re.findall(rf"\b({names})\b", line)]
+                    if not any((self.top / "crates" / crate / file).exists() for crate in near):
+                        wrong(f"{where}:{number}: there is no {own}/{file}")
+                for crate in re.findall(rf"(?<![\w./-])({names})(?![\w(])", line):
+                    if crate not in self.crates:
+                        wrong(f"{where}:{number}: there is no crate {crate}")
+                for crate, file in re.findall(rf"\(({names}), ([A-Z]\w*)\)", line):
+                    if crate in self.crates and file not in self.crates[crate].specs:
+                        wrong(f"{where}:{number}: {crate} has no definitions {file}")
 
     # -- counts
 
