@@ -7,7 +7,9 @@
 The tables below say which crates become which, which modules leave a crate that is split, and what files are named whose names
 would meet in one crate. All else follows from the sources: the tool reads each `use`, path and import, and resolves it to the
 item that it means. It stops before it writes anything if a name is unknown, if two files meet, or if crates would need each other.
-At its end it lays out the code (`rt fmt`) and makes the pages that tools make (DEFINITIONS, COMMANDS, FORMATS, listings).
+At its end it lays out the code (`rt fmt`), makes the pages that tools make (DEFINITIONS, COMMANDS, FORMATS, listings), and runs
+verify_layers.py, if that is beside it: each path, import, folder of proofs and edit names something that is there. It proves nothing.
+It prints what it decided (note) and the lines of pages that a person has to read (read).
 """
 import collections
 import os
@@ -58,8 +60,8 @@ gate_cases gate_parts fixture_alloc test_memory""".split())
 SPLITS = {
     "bridge_planning": {
         "net_latency": ["bounds", "tight", "cycles", "printing", "timings", "traffic", "reporting", "refusable", "text_faults", "laws",
-                        "talkers", "streams", "refusable_streams"],
-        "net_check": ["network", "refusing", "telling", "explaining", "warnings"],
+                        "talkers", "streams"],
+        "net_check": ["network", "refusing", "telling", "explaining", "warnings", "refusable_streams"],
         "app_networks": ["drawing"],
     },
 }
@@ -683,16 +685,13 @@ class Code:
         return self.moves.crate_of[crate] not in self.composed or path[1] in self.tree.items[crate, ()]
 
     def through(self, crate, here, path):
-        """Returns a path by which a crate that is only handed on stays: that of the same crate, under its new name, if it still hands the item out."""
+        """Returns the item that a path of another crate means, and the path by which the new crate of that one hands it out, if it does."""
         item = self.tree.resolve(path[0], path[1:])
-        new = self.moves.crate_of[path[0]]
-        for length in range(1, len(path)):
-            if path[length] in self.tree.roots[path[0]].hands and length == 1:
-                handed = self.tree.follow(path[0], (), self.tree.roots[path[0]].hands[path[1]], [], ())
-                if handed[0] in self.tree.listed and self.moves.module_to(handed[0], handed[1])[0] == new and new != here:
-                    break
-                if new != here and (new, handed) in self.names:
-                    return item, [new, self.names[new, handed], *path[2:]]
+        new, hands = self.moves.crate_of[path[0]], self.tree.roots[path[0]].hands
+        if new != here and len(path) > 1 and path[1] in hands:
+            handed = self.tree.follow(path[0], (), hands[path[1]], [], ())
+            if (new, handed) in self.names:
+                return item, [new, self.names[new, handed], *path[2:]]
         return item, None
 
     def new_use(self, crate, module, here, use):
@@ -833,7 +832,7 @@ class Code:
                     continue
                 path = [*self.moves.module_to(crate, module)[1], *names]
             else:
-                path = self.new_path(new, new, ["crate"], item) if False else self.handed_path(new, item)
+                path = self.handed_path(new, item)
             uses.add(f"pub use {'::'.join(path)}{f' as {name}' if path[-1] != name else ''};\n")
         with_items = [old for old in olds if self.tree.roots[old].has_items]
         if len(with_items) > 1:
@@ -1077,6 +1076,7 @@ class Pages:
             there = [new for name in re.findall(r"\w+", words) for new in [self.where.get((crate, name))] if new]
             if there and len(set.union(*there)) == 1:
                 return next(iter(there[0]))
+        self.is_guess = True
         return self.moves.crate_of[crate]
 
     def handed(self, found):
@@ -1092,7 +1092,7 @@ class Pages:
         return f"{self.moves.crate_of[crate]}::{name}"
 
     def line(self, name, number, line):
-        before = line
+        before, self.is_guess = line, False
         known = "|".join(sorted(self.tree.listed, key=len, reverse=True))
         line = re.sub(rf"\b({known})::(\w+)", self.handed, line)
         line = re.sub(rf"(?<![\w.-])({known})/(src|specs|proofs|must-fail)/([\w/+.-]*\w)", self.path, line)
@@ -1101,9 +1101,8 @@ class Pages:
         line = re.sub(rf"(?<![\w.-])({known})\b(?![(\w])", lambda it: self.word(marked, it), line)
         if line != before:
             line = together(line)
-            for old in SPLITS:
-                if re.search(rf"(?<!\w){old}(?![\w/:])", marked):
-                    self.to_read.append(f"{name}:{number}: names {old}, which is split: {line.strip()[:240]}")
+            if self.is_guess:
+                self.to_read.append(f"{name}:{number}: names {' or '.join(SPLITS)}, which is split, for no function of it: {line.strip()[:240]}")
             olds = collections.defaultdict(set)
             for old in re.findall(rf"(?<!\w)({known})(?!\w)", before):
                 olds[self.moves.crate_of[old]].add(old)
@@ -1327,6 +1326,9 @@ def main():
     for tool in ("definitions", "keys", "listings", "commands"):
         if (tree.top / "tools" / tool).is_file():
             fine &= run(tree.top, f"tools/{tool}")
+    verify = pathlib.Path(__file__).resolve().parent / "verify_layers.py"
+    if verify.is_file():
+        fine &= run(tree.top, sys.executable, verify, tree.top)
     print(f"layers: {'done' if fine else 'written, with the failures above'}")
     sys.exit(0 if fine else 1)
 
