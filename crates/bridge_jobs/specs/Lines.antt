@@ -1,5 +1,6 @@
 -- What the program says of each fault, without a line feed.
 use Rattle.std.specs.Prelude.{ℕ, List, ◌++◌, codes, decimal, string_bytes}
+use Rattle.bridge_text.specs.Escaped.{escaped}
 use Rattle.bridge_capture.specs.declared.fault.CaptureFault.{CaptureFault}
 use Rattle.bridge_capture.specs.declared.fault.CaptureFault.TheVariants as capture
 use Rattle.bridge_inputs.specs.declared.fault.RunFault.{RunFault}
@@ -56,9 +57,9 @@ line_of_text text.NotHex = codes "text refused: NotHex"
 line_of_text text.TooLong = codes "text refused: TooLong"
 line_of_text (text.Run f) = line_of_run f
 
--- a file that can't be opened, made, read or written
+-- a file that can't be opened, made, read or written, by its path with control characters escaped
 abbrev pub not_there : List ℕ → List ℕ
-not_there path = codes "file " ++ path
+not_there path = codes "file " ++ escaped path
 
 -- the line of a fault
 abbrev pub line_of : Fault → List ℕ

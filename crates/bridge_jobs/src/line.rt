@@ -130,10 +130,10 @@ fn put_unwritten<A: Allocator>(text: &mut Text<A>, port: u8)
     text.put(" not written");
 }
 
-/// Puts that a file can't be opened, made, read or written.
+/// Puts that a file can't be opened, made, read or written. Its path may have a line feed, and stays on the line.
 fn put_file<A: Allocator>(text: &mut Text<A>, path: &str)
     ensures { HasGrown text.old (not_there path.now) text.new }
 {
     text.put("file ");
-    text.put(path);
+    text.put_escaped(path);
 }

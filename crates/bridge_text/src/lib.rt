@@ -6,5 +6,5 @@ mod named;
 mod text;
 
 pub use bridge_limits::NoMemory;
-pub use named::{behind, of_file};
+pub use named::{behind, escape_text, of_file};
 pub use text::Text;

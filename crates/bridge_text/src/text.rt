@@ -1,5 +1,8 @@
 //! A text that grows at its end.
-ghost use Rattle.std.specs.Prelude.{◌≡◌, [], IfErr, IfOk, IfSome, None, Some, decimal, length, string_bytes};
+ghost use Rattle.std.specs.Prelude.{◌≡◌, ◌<◌, [], ◌∷◌, IfErr, IfOk, IfSome, None, Some, decimal, encode_utf8, length, string_bytes};
+ghost use Rattle.std.specs.Char.{digit_char};
+ghost use Rattle.std.specs.Char.Escape.{escape_unicode};
+ghost use Rattle.bridge_text.specs.Escaped.{escaped, escaped_letter};
 ghost use Rattle.bridge_text.specs.Growth.{HasGrown, IsLonger};
 
 use bridge_limits::NoMemory;
@@ -85,6 +88,69 @@ impl<A: Allocator> Text<A> {
         };
         if is_refused {
             self.held = None;
+        }
+    }
+
+    /// Puts a character at the end.
+    fn put_char(&mut self, letter: char)
+        ensures { HasGrown self.old (encode_utf8 letter) self.new }
+    {
+        let is_refused = match &mut self.held {
+            Some(held) => held.push(letter).is_err(),
+            None => false,
+        };
+        if is_refused {
+            self.held = None;
+        }
+    }
+
+    /// Puts a digit of a hexadecimal number at the end.
+    fn put_digit(&mut self, digit: u8)
+        requires { digit < 16 }
+        ensures { HasGrown self.old (digit_char digit ∷ []) self.new }
+    {
+        let letter = if digit < 10 {
+            b'0' + digit
+        } else {
+            b'a' + (digit - 10)
+        };
+        self.put_char(letter as char);
+    }
+
+    /// Puts the escape of a control character at the end by its code: `\u{`, the code in hexadecimal, `}`.
+    fn put_code(&mut self, code: u8)
+        ensures { HasGrown self.old (escape_unicode code) self.new }
+    {
+        self.put("\\u{");
+        if code >= 16 {
+            self.put_digit(code / 16);
+        }
+        self.put_digit(code % 16);
+        self.put("}");
+    }
+
+    /// Puts a character at the end, a control character by its escape.
+    fn put_letter(&mut self, letter: char)
+        ensures { HasGrown self.old (escaped_letter letter) self.new }
+    {
+        if !letter.is_control() {
+            return self.put_char(letter);
+        }
+        match letter {
+            '\t' => self.put("\\t"),
+            '\n' => self.put("\\n"),
+            '\r' => self.put("\\r"),
+            _ => self.put_code(letter as u8),
+        }
+    }
+
+    /// Puts a piece at the end that stays on one line: control characters are escaped as Rust escapes them, such as a line feed by
+    /// `\n` and an escape character by `\u{1b}`. Paths in lines and in explanations are put so.
+    pub fn put_escaped(&mut self, piece: &str)
+        ensures { HasGrown self.old (escaped piece.now) self.new }
+    {
+        for letter in piece.chars() {
+            self.put_letter(letter);
         }
     }
 
