@@ -1,8 +1,7 @@
 //! A text that grows at its end.
 ghost use Rattle.std.specs.Prelude.{◌≡◌, ◌<◌, [], ◌∷◌, IfErr, IfOk, IfSome, None, Some, decimal, encode_utf8, length, string_bytes};
 ghost use Rattle.std.specs.Char.{digit_char};
-ghost use Rattle.std.specs.Char.Escape.{escape_unicode};
-ghost use Rattle.bridge_text.specs.Escaped.{escaped, escaped_letter};
+ghost use Rattle.bridge_text.specs.Escaped.{control_escape, escaped, escaped_letter, hexadecimal};
 ghost use Rattle.bridge_text.specs.Growth.{HasGrown, IsLonger};
 
 use bridge_limits::NoMemory;
@@ -109,39 +108,48 @@ impl<A: Allocator> Text<A> {
         requires { digit < 16 }
         ensures { HasGrown self.old (digit_char digit ∷ []) self.new }
     {
-        let letter = if digit < 10 {
-            b'0' + digit
-        } else {
-            b'a' + (digit - 10)
-        };
-        self.put_char(letter as char);
+        self.put_char(digit_letter(digit) as char);
     }
 
-    /// Puts the escape of a control character at the end by its code: `\u{`, the code in hexadecimal, `}`.
-    fn put_code(&mut self, code: u8)
-        ensures { HasGrown self.old (escape_unicode code) self.new }
+    /// Puts a code below 256 in hexadecimal at the end.
+    fn put_hexadecimal(&mut self, code: u8)
+        ensures { HasGrown self.old (hexadecimal code) self.new }
     {
-        self.put("\\u{");
-        if code >= 16 {
-            self.put_digit(code / 16);
+        if code < 16 {
+            return self.put_digit(code);
         }
+        self.put_digit(code / 16);
         self.put_digit(code % 16);
-        self.put("}");
+    }
+
+    /// Puts the escape of a control character at the end, by its code.
+    fn put_control(&mut self, code: u8)
+        ensures { HasGrown self.old (control_escape code) self.new }
+    {
+        match code {
+            b'\t' => self.put("\\t"),
+            b'\n' => self.put("\\n"),
+            b'\r' => self.put("\\r"),
+            _ => {
+                self.put("\\u{");
+                self.put_hexadecimal(code);
+                self.put("}");
+            }
+        }
     }
 
     /// Puts a character at the end, a control character by its escape.
     fn put_letter(&mut self, letter: char)
         ensures { HasGrown self.old (escaped_letter letter) self.new }
     {
-        if !letter.is_control() {
-            return self.put_char(letter);
+        let code = letter as u32;
+        if code < 32 {
+            return self.put_control(code as u8);
         }
-        match letter {
-            '\t' => self.put("\\t"),
-            '\n' => self.put("\\n"),
-            '\r' => self.put("\\r"),
-            _ => self.put_code(letter as u8),
+        if code >= 127 && code < 160 {
+            return self.put_control(code as u8);
         }
+        self.put_char(letter);
     }
 
     /// Puts a piece at the end that stays on one line: control characters are escaped as Rust escapes them, such as a line feed by
@@ -215,5 +223,18 @@ impl<A: Allocator> Text<A> {
             Some(text) => Ok(text),
             None => Err(NoMemory),
         }
+    }
+}
+
+/// Returns the octet of a hexadecimal digit.
+fn digit_letter(digit: u8) -> u8
+    requires { digit < 16 }
+    ensures letter { result ≡ digit_char digit }
+    ensures ascii { result < 128 }
+{
+    if digit < 10 {
+        b'0' + digit
+    } else {
+        b'a' + (digit - 10)
     }
 }
