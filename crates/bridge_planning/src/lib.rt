@@ -8,6 +8,7 @@ mod cycles;
 mod drawing;
 mod explaining;
 mod hop_faults;
+mod hops;
 pub mod laws;
 mod link_faults;
 mod network;

@@ -13,6 +13,7 @@ ghost use Rattle.bridge_planning.specs.Streams.{AreBoundsOf, hop_in};
 ghost use Rattle.bridge_planning.specs.Talkers.{first_misfit};
 
 use crate::bounds::QueueBound;
+use crate::hops::hops_of;
 use crate::refusing::said_of_network;
 use crate::streams::{StreamLines, bounds_of_all, stream_lines};
 use crate::talkers::first_misfit as misfit_in;
@@ -55,26 +56,6 @@ pub(crate) fn links_of<A: Allocator + Copy>(
         };
     }
     Ok(links)
-}
-
-/// The hops of a stream.
-pub(crate) fn hops_of<A: Allocator + Copy>(
-    alloc: A,
-    rows: &[(u16, u32)],
-) -> Result<Vec<StreamHop, A>, NoMemory>
-    ensures { IfOk result (λ hops. hops.items ≡ map hop_in rows.now) }
-{
-    let mut hops = Vec::new(alloc);
-    for row in rows {
-        let hop = StreamHop {
-            bridge: row.0,
-            filter: row.1,
-        };
-        let Ok(()) = hops.push(hop) else {
-            return Err(NoMemory);
-        };
-    }
-    Ok(hops)
 }
 
 /// The streams of a network.

@@ -7,7 +7,8 @@ ghost use Rattle.bridge_periods.specs.Traffic.{IsTraffic};
 ghost use Rattle.bridge_planning.specs.Bounds.{IsPlaced};
 
 use crate::bounds::QueueBound;
-use crate::network::{hops_of, read_network, read_plans, tested};
+use crate::hops::hops_of;
+use crate::network::{read_network, read_plans, tested};
 use crate::refusable::put_reason;
 use crate::refusing::name_of;
 use crate::streams::{bounds_of_all, rows_at};

@@ -13,7 +13,7 @@ ghost use Rattle.bridge_planning.specs.Bounds.{IsPlaced};
 ghost use Rattle.bridge_planning.specs.Talkers.{IsCourseOf};
 
 use crate::bounds::QueueBound;
-use crate::network::hops_of;
+use crate::hops::hops_of;
 use crate::streams::rows_at;
 use crate::traffic::suits;
 use bridge_bounds::filter_at;

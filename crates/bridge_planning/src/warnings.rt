@@ -5,7 +5,7 @@ ghost use Rattle.bridge_planning.specs.Warnings as spec;
 ghost use Rattle.bridge_planning.specs.Warnings.{AreWarnings, entering_line, nowhere_line};
 
 use crate::bounds::QueueBound;
-use crate::network::hops_of;
+use crate::hops::hops_of;
 use crate::refusing::name_of;
 use crate::streams::rows_at;
 use crate::telling::{plan_at, told_of};
